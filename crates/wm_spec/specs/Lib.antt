@@ -1,0 +1,6 @@
+pub mod Lines
+pub mod Reading
+pub mod Grammar
+pub mod State
+pub mod Texts
+pub mod Step
