@@ -15,8 +15,10 @@ use Rattle.wm_base.specs.Key.{key_order}
 use Rattle.wm_base.specs.Period.{Span}
 use Rattle.wm_spec.specs.Lines.{fits_line}
 use Rattle.wm_spec.specs.Grammar.{Line, Connect, Run, Statement, Create, Enable, Insert, Select, line_of, is_remark}
-use Rattle.wm_spec.specs.State.{State, Session, Table, Entry}
-use Rattle.wm_spec.specs.Texts.{Answer, Nothing, Fine, Done, Listing, Refused}
+pub use Rattle.wm_spec.specs.State.{State, fresh}
+use Rattle.wm_spec.specs.State.{Session, Table, Entry}
+pub use Rattle.wm_spec.specs.Texts.{Answer, answer_text}
+use Rattle.wm_spec.specs.Texts.{Nothing, Fine, Done, Listing, Refused}
 
 abbrev pub not_built : Answer
 not_built = Refused (Limit Wm099)
@@ -46,7 +48,7 @@ create name key_column value_column s = made s.table
 -- what is done with the table of this name, or that there is none
 abbrev pub with_table : State → Option Table → List ℕ → (Table → State × Answer) → State × Answer
 with_table s None name act = (s, no_table name)
-with_table s (Some table) name act = if bytes_eq table.name name then act table else (s, no_table name)
+with_table s (Some table) name act = if bytes_eq name table.name then act table else (s, no_table name)
 
 -- EnableVersioning makes a table ready for rows, once
 abbrev pub enable : List ℕ → State → State × Answer
@@ -86,7 +88,7 @@ run_statement (Select name) s = listing name s
 -- the session of this name is open
 abbrev pub is_open : List ℕ → Option Session → Bool
 is_open name None = false
-is_open name (Some session) = bytes_eq session.name name
+is_open name (Some session) = bytes_eq name session.name
 
 abbrev pub run_line : Option Line → State → State × Answer
 run_line None s = (s, not_built)

@@ -1,6 +1,6 @@
 -- Answers, and the bytes that each one is said in.
 use Rattle.std.specs.Prelude.{ℕ, List, [], ◌∷◌, ◌++◌, length, map, if◌then◌else◌, cond, ◌==◌, codes, Option, None, Some}
-use Rattle.std.specs.List.{flat_map, join_with_byte}
+use Rattle.std.specs.List.{flat_map}
 use Rattle.std.specs.Fmt.{decimal, signed_decimal}
 use Rattle.wm_base.specs.Period.{Span}
 use Rattle.wm_base.specs.declared.value.Value.{Value}
@@ -8,8 +8,11 @@ use Rattle.wm_base.specs.declared.value.Value.TheVariants
 use Rattle.wm_base.specs.declared.row.Row.{Row}
 use Rattle.wm_base.specs.declared.refusal.Refusal.{Refusal}
 use Rattle.wm_base.specs.declared.refusal.Refusal.TheVariants.{Form, Cell, Limit}
+use Rattle.wm_base.specs.declared.refusal.FormRefusal.{FormRefusal}
 use Rattle.wm_base.specs.declared.refusal.FormRefusal.TheVariants.{Wm010}
+use Rattle.wm_base.specs.declared.refusal.CellRefusal.{CellRefusal}
 use Rattle.wm_base.specs.declared.refusal.CellRefusal.TheVariants.{Wm060}
+use Rattle.wm_base.specs.declared.refusal.LimitRefusal.{LimitRefusal}
 use Rattle.wm_base.specs.declared.refusal.LimitRefusal.TheVariants.{Wm099}
 
 pub data Answer : Type 0 where
@@ -21,9 +24,13 @@ pub data Answer : Type 0 where
   Listing : (rows : List Row) → Answer
   Refused : (refusal : Refusal) → Answer
 
--- a text between quotes, each quote in it doubled
+-- a byte of a text between quotes: a quote stands twice
+abbrev pub doubled : ℕ → List ℕ
+doubled b = if b == 39 then 39 ∷ 39 ∷ [] else b ∷ []
+
+-- a text between quotes
 unfoldable pub quoted : List ℕ → List ℕ
-quoted text = 39 ∷ flat_map (λ b. if b == 39 then 39 ∷ 39 ∷ [] else b ∷ []) text ++ 39 ∷ []
+quoted text = codes "'" ++ (flat_map doubled text ++ codes "'")
 
 -- a time as its count of seconds: no line of today prints one
 unfoldable pub time_text : ℕ → List ℕ
@@ -40,36 +47,46 @@ value_text (TheVariants.Text t) = quoted t
 value_text (TheVariants.Time i) = time_text i
 value_text (TheVariants.Span p) = period_text p
 
--- values joined by bars
-unfoldable pub values_text : List Value → List ℕ
-values_text values = join_with_byte 124 (map value_text values)
+-- values, each behind a separator
+abbrev pub more : List ℕ → List Value → List ℕ
+more separator [] = []
+more separator (v ∷ vs) = separator ++ (value_text v ++ more separator vs)
 
--- a row, one on a line
+-- values with a separator between
+abbrev pub joined : List ℕ → List Value → List ℕ
+joined separator [] = []
+joined separator (v ∷ vs) = value_text v ++ more separator vs
+
+-- a row: its values with bars between, on a line of its own
 unfoldable pub row_text : Row → List ℕ
-row_text row = values_text row.values ++ codes "\n"
-
--- the values behind the first of a key, a comma and a blank before each
-abbrev pub more_text : List Value → List ℕ
-more_text [] = []
-more_text (v ∷ vs) = codes ", " ++ (value_text v ++ more_text vs)
+row_text row = joined (codes "|") row.values ++ codes "\n"
 
 -- a key: its one value, or its values in brackets
-abbrev pub key_text : List Value → List ℕ
-key_text [] = []
-key_text (v ∷ []) = value_text v
-key_text (v ∷ w ∷ vs) = codes "(" ++ (value_text v ++ (more_text (w ∷ vs) ++ codes ")"))
+unfoldable pub key_text : List Value → List ℕ
+key_text key = if length key == 1 then joined (codes ", ") key else codes "(" ++ (joined (codes ", ") key ++ codes ")")
 
 -- a blank and the period, where there is one
 abbrev pub perhaps_period : Option Span → List ℕ
 perhaps_period None = []
 perhaps_period (Some p) = codes " " ++ period_text p
 
-abbrev pub refusal_text : Refusal → List ℕ
-refusal_text (Form (Wm010 table)) = codes "WM-010 no table " ++ table
-refusal_text (Cell (Wm060 key period)) = codes "WM-060 key there " ++ (key_text key ++ perhaps_period period)
-refusal_text (Limit Wm099) = codes "WM-099 not built yet"
+abbrev pub form_text : FormRefusal → List ℕ
+form_text (Wm010 table) = codes "WM-010 no table " ++ table
 
-abbrev pub answer_text : Answer → List ℕ
+abbrev pub cell_text : CellRefusal → List ℕ
+cell_text (Wm060 key period) = codes "WM-060 key there " ++ (key_text key ++ perhaps_period period)
+
+abbrev pub limit_text : LimitRefusal → List ℕ
+limit_text Wm099 = codes "WM-099 not built yet"
+
+-- the text of a refusal, without the LF behind it
+abbrev pub refusal_text : Refusal → List ℕ
+refusal_text (Form refusal) = form_text refusal
+refusal_text (Cell refusal) = cell_text refusal
+refusal_text (Limit refusal) = limit_text refusal
+
+-- the bytes of an answer: each of its lines ends with LF
+unfoldable pub answer_text : Answer → List ℕ
 answer_text Nothing = []
 answer_text Fine = codes "OK\n"
 answer_text (Done count) = codes "DONE " ++ (decimal count ++ codes "\n")

@@ -1,10 +1,13 @@
 //! What stands at the front of a line: words, marks and numbers.
-ghost use Rattle.std.specs.Prelude.{◌≡◌, ℕ, List, Option, length, map, take, IsSome, IfSome, ◌+◌, ◌*◌, ◌<◌, ◌^◌};
+ghost use Rattle.std.specs.Prelude.{◌≡◌, ℕ, List, Option, length, map, take, IfOk, IsSome, IfSome, ◌+◌, ◌*◌, ◌<◌, ◌^◌};
 ghost use Rattle.std.specs.Option.{option_map, option_copied};
 ghost use Rattle.std.specs.List.{take_while};
 ghost use Rattle.std.specs.Str.{bytes_eq};
 ghost use Rattle.std.specs.Char.{to_ascii_uppercase, is_ascii_digit};
 ghost use Rattle.wm_spec.specs.Reading.{is_blank, is_name_byte, run_of, skip, is_spent, begins_word, word_at, keyword_at, behind, mark_at, value_from, digits_at, integer_at};
+
+use std::alloc::Global;
+use wm_base::{Memory, Name};
 
 /// Whether the byte is a space or a tab.
 fn is_blank(byte: u8) -> bool
@@ -134,4 +137,12 @@ pub fn is_same_word(word: &[u8], other: &[u8]) -> bool
         }
         _ => false,
     }
+}
+
+/// The capitals that the word means.
+pub fn capitals_of(alloc: Global, word: &[u8]) -> Result<Name, Memory>
+    ensures { IfOk result (λ name. name ≡ map to_ascii_uppercase word.now) }
+{
+    let capitals: Vec<u8> = word.iter().map(|byte| byte.to_ascii_uppercase()).collect(alloc)?;
+    Ok(Name::from_vec(capitals))
 }

@@ -1,0 +1,43 @@
+//! The session that is open.
+ghost use Rattle.std.specs.Prelude.{◌≡◌, IfOk};
+ghost use Rattle.std.specs.Str.{bytes_eq};
+ghost use Rattle.wm_engine.specs.Views.{folded};
+
+use crate::read::word::{capitals_of, is_word};
+use std::alloc::Global;
+use std::marker::Model;
+use wm_base::{Memory, Name};
+
+/// Somebody who is connected, under the name that lines begin with.
+#[derive(Drop)]
+pub struct Session {
+    name: Name,
+    user: Name,
+}
+
+impl Model for Session {
+    ghost use Rattle.wm_spec.specs.State.{Session as SessionState};
+
+    ghost Value = { SessionState };
+
+    ghost view = { λ s. record { name = s.name; user = s.user } };
+}
+
+impl Session {
+    /// A session of this name for this user.
+    pub fn new(alloc: Global, name: &[u8], user: &[u8]) -> Result<Session, Memory>
+        ensures { IfOk result (λ session. session ≡ record { name = folded name.now; user = folded user.now }) }
+    {
+        Ok(Session {
+            name: capitals_of(alloc, name)?,
+            user: capitals_of(alloc, user)?,
+        })
+    }
+
+    /// Whether the word is the session's name.
+    pub fn is_named(&self, name: &[u8]) -> bool
+        ensures { result ≡ bytes_eq (folded name.now) self.now.name }
+    {
+        is_word(name, self.name.as_bytes())
+    }
+}
