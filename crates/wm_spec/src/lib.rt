@@ -1,0 +1,2 @@
+//! The definitions of the product, which contracts of the other crates cite. It has no code.
+#![tactic(auto)]
