@@ -86,9 +86,9 @@ capped-held_more counts held b rest no_lf other = by_length (nat_lt (length held
       let long : 16385 ≤ length held = ltb-false (length held) 16385 is in
       ap (capped counts) (sym (append_assoc held (b ∷ []) rest))
       ∙ capped_long counts (held ++ b ∷ []) (take 16385 held ++ 0 ∷ []) rest
-          (HasNoLf-append held (b ∷ []) no_lf (other, tt)) (HasNoLf-append (take 16385 held) (0 ∷ []) (HasNoLf-take 16385 held no_lf) (refl, tt))
-          (omega (arith, long, length-append held (b ∷ [])))
-          (omega (arith, length-append (take 16385 held) (0 ∷ []), length-take-le 16385 held long))
+      (HasNoLf-append held (b ∷ []) no_lf (other, tt)) (HasNoLf-append (take 16385 held) (0 ∷ []) (HasNoLf-take 16385 held no_lf) (refl, tt))
+      (omega (arith, long, length-append held (b ∷ [])))
+      (omega (arith, length-append (take 16385 held) (0 ∷ []), length-take-le 16385 held long))
 
 pub HasNoLf-held_more : (held : List ℕ) (b : ℕ) → HasNoLf held → (b == 10) ≡ false → HasNoLf (held_more held b)
 HasNoLf-held_more held b no_lf other = cond_both (nat_lt (length held) 16385) (held ++ b ∷ []) (take 16385 held ++ 0 ∷ []) HasNoLf

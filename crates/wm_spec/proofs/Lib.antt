@@ -1,1 +1,3 @@
 pub mod Cutting
+pub mod Running
+pub mod Steps
