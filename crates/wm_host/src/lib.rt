@@ -1,0 +1,8 @@
+//! The loop over a script: it cuts the bytes of a source into lines, hands each to the engine and says
+//! the answer.
+#![tactic(auto)]
+
+mod line;
+mod say;
+
+mod stop;
