@@ -1,2 +1,3 @@
 pub mod Held
+pub mod Hosting
 pub mod Saying

@@ -2,6 +2,7 @@
 //! the answer.
 #![tactic(auto)]
 
+mod host;
 mod line;
 mod say;
 
