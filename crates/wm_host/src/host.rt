@@ -1,6 +1,6 @@
 //! What takes the bytes of a script one by one, and answers each line as it ends.
-ghost use Rattle.std.specs.Prelude.{◌≡◌, ◌+◌, ◌^◌, ◌<◌, ◌≤◌, List, [], ◌∷◌, length, OnOk, OnErr, IsErrOf};
-ghost use Rattle.wm_spec.specs.Lines.{HasNoLf};
+ghost use Rattle.std.specs.Prelude.{◌≡◌, ◌+◌, ◌^◌, ◌<◌, ◌≤◌, List, [], ◌∷◌, length, OnOk, OnErr, IsErrOf, true};
+ghost use Rattle.wm_spec.specs.Lines.{HasNoLf, capped};
 ghost use Rattle.wm_spec.specs.Step.{fresh};
 ghost use Rattle.wm_station.specs.Cause.{Rises};
 ghost use Rattle.wm_host.specs.Hosting.{Answers, Unanswered, Says, Breaks, Finishes, Halts};
@@ -47,5 +47,50 @@ impl Host {
         self.line.clear();
         self.lines += 1;
         Ok(())
+    }
+
+    fn take_byte<P: Station>(&mut self, alloc: Global, station: &mut P, byte: u8) -> Result<(), Stop>
+        requires room { self.old.lines + 1 < 2 ^ 64 }
+        requires no_lf { HasNoLf self.old.line }
+        ensures ok { OnOk result (Says P.tells (P.history station.old) (P.history station.new) self.old (byte ∷ []) self.new) }
+        ensures err { OnErr result (Breaks P.tells (P.history station.old) (P.history station.new) self.old (byte ∷ []) self.new) }
+        ensures later { P.say_faults station.old ≤ P.say_faults station.new }
+        ensures failed { IsErrOf result SayFault → Rises (P.say_faults station.old) (P.say_faults station.new) }
+    {
+        if byte == b'\n' {
+            return self.end_line(alloc, station);
+        }
+        self.line.push(byte)?;
+        Ok(())
+    }
+
+    /// Takes a piece of the script, and answers each line that ends in it.
+    pub(crate) fn feed<P: Station>(&mut self, alloc: Global, station: &mut P, bytes: &[u8]) -> Result<(), Stop>
+        requires room { self.old.lines + length bytes.now < 2 ^ 64 }
+        requires no_lf { HasNoLf self.old.line }
+        ensures ok { OnOk result (Says P.tells (P.history station.old) (P.history station.new) self.old bytes.now self.new) }
+        ensures err { OnErr result (Breaks P.tells (P.history station.old) (P.history station.new) self.old bytes.now self.new) }
+        ensures later { P.say_faults station.old ≤ P.say_faults station.new }
+        ensures failed { IsErrOf result SayFault → Rises (P.say_faults station.old) (P.say_faults station.new) }
+    {
+        for byte in bytes {
+            self.take_byte(alloc, station, *byte)?;
+        }
+        Ok(())
+    }
+
+    /// Answers the last line at the end of the script, where no LF ended it.
+    pub(crate) fn finish<P: Station>(&mut self, alloc: Global, station: &mut P) -> Result<(), Stop>
+        requires room { self.old.lines + 1 < 2 ^ 64 }
+        requires no_lf { HasNoLf self.old.line }
+        ensures ok { OnOk result (Finishes P.tells (P.history station.old) (P.history station.new) self.old (capped true self.old.line) self.new) }
+        ensures err { OnErr result (Halts P.tells (P.history station.old) (P.history station.new) self.old (capped true self.old.line) self.new) }
+        ensures later { P.say_faults station.old ≤ P.say_faults station.new }
+        ensures failed { IsErrOf result SayFault → Rises (P.say_faults station.old) (P.say_faults station.new) }
+    {
+        if self.line.is_empty() {
+            return Ok(());
+        }
+        self.end_line(alloc, station)
     }
 }
