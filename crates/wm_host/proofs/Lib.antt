@@ -1,3 +1,5 @@
+pub mod Causes
 pub mod Held
 pub mod Hosting
+pub mod Past
 pub mod Saying

@@ -1,3 +1,4 @@
 pub mod Cause
 pub mod Hosting
 pub mod Saying
+pub mod Script

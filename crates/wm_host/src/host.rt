@@ -1,8 +1,9 @@
 //! What takes the bytes of a script one by one, and answers each line as it ends.
-ghost use Rattle.std.specs.Prelude.{◌≡◌, ◌+◌, ◌^◌, ◌<◌, ◌≤◌, List, [], ◌∷◌, length, OnOk, OnErr, IsErrOf, true};
+ghost use Rattle.std.specs.Prelude.{◌≡◌, ◌+◌, ◌^◌, ◌<◌, ◌≤◌, List, [], ◌∷◌, length, OnOk, OnErr, IsErrOf, IfErr, true};
 ghost use Rattle.wm_spec.specs.Lines.{HasNoLf, capped};
 ghost use Rattle.wm_spec.specs.Step.{fresh};
 ghost use Rattle.wm_station.specs.Cause.{Rises};
+ghost use Rattle.wm_host.specs.Cause.{IsOfAnswers};
 ghost use Rattle.wm_host.specs.Hosting.{Answers, Unanswered, Says, Breaks, Finishes, Halts};
 ghost use Rattle.wm_host.specs.declared.stop.Stop.TheVariants.{SayFault};
 
@@ -41,6 +42,7 @@ impl Host {
         ensures err { OnErr result (Unanswered P.tells (P.history station.old) (P.history station.new) self.old self.new) }
         ensures later { P.say_faults station.old ≤ P.say_faults station.new }
         ensures failed { IsErrOf result SayFault → Rises (P.say_faults station.old) (P.say_faults station.new) }
+        ensures answering { IfErr result IsOfAnswers }
     {
         let answer = self.engine.line(alloc, self.line.line())?;
         say_all(station, answer.as_slice())?;
@@ -56,6 +58,7 @@ impl Host {
         ensures err { OnErr result (Breaks P.tells (P.history station.old) (P.history station.new) self.old (byte ∷ []) self.new) }
         ensures later { P.say_faults station.old ≤ P.say_faults station.new }
         ensures failed { IsErrOf result SayFault → Rises (P.say_faults station.old) (P.say_faults station.new) }
+        ensures answering { IfErr result IsOfAnswers }
     {
         if byte == b'\n' {
             return self.end_line(alloc, station);
@@ -72,6 +75,7 @@ impl Host {
         ensures err { OnErr result (Breaks P.tells (P.history station.old) (P.history station.new) self.old bytes.now self.new) }
         ensures later { P.say_faults station.old ≤ P.say_faults station.new }
         ensures failed { IsErrOf result SayFault → Rises (P.say_faults station.old) (P.say_faults station.new) }
+        ensures answering { IfErr result IsOfAnswers }
     {
         for byte in bytes {
             self.take_byte(alloc, station, *byte)?;
@@ -87,6 +91,7 @@ impl Host {
         ensures err { OnErr result (Halts P.tells (P.history station.old) (P.history station.new) self.old (capped true self.old.line) self.new) }
         ensures later { P.say_faults station.old ≤ P.say_faults station.new }
         ensures failed { IsErrOf result SayFault → Rises (P.say_faults station.old) (P.say_faults station.new) }
+        ensures answering { IfErr result IsOfAnswers }
     {
         if self.line.is_empty() {
             return Ok(());

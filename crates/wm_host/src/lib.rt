@@ -5,5 +5,6 @@
 mod host;
 mod line;
 mod say;
+mod script;
 
 mod stop;

@@ -1,7 +1,8 @@
 //! Saying the whole of an answer.
-ghost use Rattle.std.specs.Prelude.{◌≡◌, ◌≤◌, List, IfOk, OnOk, OnErr, IsErrOf};
+ghost use Rattle.std.specs.Prelude.{◌≡◌, ◌≤◌, List, IfErr, OnOk, OnErr, IsErrOf};
 ghost use Rattle.wm_spec.specs.Running.{IsPart};
 ghost use Rattle.wm_station.specs.Cause.{Rises};
+ghost use Rattle.wm_host.specs.Cause.{IsOfAnswers};
 ghost use Rattle.wm_host.specs.Saying.{OnlySaid, SaidPart};
 ghost use Rattle.wm_host.specs.declared.stop.Stop.TheVariants.{SayFault};
 
@@ -14,6 +15,7 @@ pub(crate) fn say_all<P: Station>(station: &mut P, bytes: &[u8]) -> Result<(), S
     ensures part { OnErr result (SaidPart P.tells (P.history station.old) (P.history station.new) bytes.now) }
     ensures later { P.say_faults station.old ≤ P.say_faults station.new }
     ensures failed { IsErrOf result SayFault → Rises (P.say_faults station.old) (P.say_faults station.new) }
+    ensures answering { IfErr result IsOfAnswers }
 {
     let mut rest = bytes;
     while !rest.is_empty() {
