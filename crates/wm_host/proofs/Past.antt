@@ -134,8 +134,3 @@ past_limit source_tells tells script left rest into old new from to taken n empt
   lines = rw (ap (take (2 ^ 30)) (so_far.script_is s) ∙ take_at so_far.past left (2 ^ 30) (so_far.size ∙ full))
       (past_ended source_tells tells script left old new from to taken empty so_far);
 }
-
-pub past_within : (source_tells tells : Type 0) (script left : List ℕ) (old new : History) (from to : Host) (taken : ℕ)
-    → Past source_tells tells script left old new from to taken → (source_tells → left ≡ []) → taken ≤ 2 ^ 30 → source_tells → length script ≤ 2 ^ 30
-past_within source_tells tells script left old new from to taken so_far end within s =
-    omega (arith, ap length (so_far.script_is s), length-append so_far.past left, ap length (end s), so_far.size)
