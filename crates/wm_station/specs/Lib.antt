@@ -1,0 +1,5 @@
+pub mod Cause
+pub mod History
+pub mod Moments
+pub mod Recorded
+pub mod Replay
