@@ -14,5 +14,5 @@ not_of_limit (Ok x) answering is = cc
 not_of_limit (Err stop) answering is = let same : stop ≡ InputLimit = cc in subst IsOfAnswers same answering
 
 -- a `?` hands the error on as it is
-pub handed_on : {T : Type 0} (result : Result T Stop) (y stop : Stop) → result ≡ Err y → y ≡ stop → IsOfAnswers stop → IfErr result IsOfAnswers
-handed_on result y stop is same answering = rw is (subst IsOfAnswers (sym same) answering)
+pub handed_on : {T : Type 0} (result : Result T Stop) (stop : Stop) → (y : Stop) × (result ≡ Err y) × (y ≡ stop) → IsOfAnswers stop → IfErr result IsOfAnswers
+handed_on result stop handed answering = rw handed.1 (subst IsOfAnswers (sym handed.2) answering)

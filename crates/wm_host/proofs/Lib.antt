@@ -3,3 +3,4 @@ pub mod Held
 pub mod Hosting
 pub mod Past
 pub mod Saying
+pub mod WordLists

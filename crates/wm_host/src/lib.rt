@@ -8,3 +8,4 @@ mod say;
 mod script;
 
 mod stop;
+mod words;

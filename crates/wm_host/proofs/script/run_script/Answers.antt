@@ -67,18 +67,21 @@ returns-in_err-feed-clause-err g c =
 
 pub returns-in_err-feed-clause-taken : goal.returns-in_err-feed-clause-taken
 returns-in_err-feed-clause-taken g c = λ s is.
-    let p = err_from_is_err_and c.from_residual-in_err-feed.result c.from_residual-in_err-feed.ensures.1 in
-    absurd (not_of_source c.from_residual-in_err-feed.result (handed_on c.from_residual-in_err-feed.result p.0 c.in_err-feed.field-0.0 p.1 p.2 c.in_err-feed.ensures.answering) is)
+    absurd (not_of_source c.from_residual-in_err-feed.result 
+      (handed_on c.from_residual-in_err-feed.result c.in_err-feed.field-0.0 (err_from_is_err_and c.from_residual-in_err-feed.result c.from_residual-in_err-feed.ensures.1) c.in_err-feed.ensures.answering)
+      is)
 
 pub returns-in_err-feed-clause-limit : goal.returns-in_err-feed-clause-limit
 returns-in_err-feed-clause-limit g c = λ s is.
-    let p = err_from_is_err_and c.from_residual-in_err-feed.result c.from_residual-in_err-feed.ensures.1 in
-    absurd (not_of_limit c.from_residual-in_err-feed.result (handed_on c.from_residual-in_err-feed.result p.0 c.in_err-feed.field-0.0 p.1 p.2 c.in_err-feed.ensures.answering) is)
+    absurd (not_of_limit c.from_residual-in_err-feed.result 
+      (handed_on c.from_residual-in_err-feed.result c.in_err-feed.field-0.0 (err_from_is_err_and c.from_residual-in_err-feed.result c.from_residual-in_err-feed.ensures.1) c.in_err-feed.ensures.answering)
+      is)
 
 pub returns-in_err-feed-clause-source_failed : goal.returns-in_err-feed-clause-source_failed
 returns-in_err-feed-clause-source_failed g c = λ is.
-    let p = err_from_is_err_and c.from_residual-in_err-feed.result c.from_residual-in_err-feed.ensures.1 in
-    absurd (not_of_source c.from_residual-in_err-feed.result (handed_on c.from_residual-in_err-feed.result p.0 c.in_err-feed.field-0.0 p.1 p.2 c.in_err-feed.ensures.answering) is)
+    absurd (not_of_source c.from_residual-in_err-feed.result 
+      (handed_on c.from_residual-in_err-feed.result c.in_err-feed.field-0.0 (err_from_is_err_and c.from_residual-in_err-feed.result c.from_residual-in_err-feed.ensures.1) c.in_err-feed.ensures.answering)
+      is)
 
 pub pieces-preserved : goal.pieces-preserved
 pieces-preserved g c = record {
