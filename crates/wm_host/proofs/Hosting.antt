@@ -1,12 +1,12 @@
 -- Laws on what the host did with a piece of the script.
-use Rattle.std.proofs.Common.{ℕ, ◌≡◌, ◌<◌, ◌≤◌, ◌+◌, ◌==◌, Bool, true, false, List, [], ◌∷◌, ◌++◌, length, get_or, take, drop, refl, ap, sym, subst, ◌∙◌, ◌⊎◌, inl, inr, append_assoc, append-nil, length-append, arith}
+use Rattle.std.proofs.Common.{ℕ, ◌≡◌, ◌<◌, ◌+◌, true, List, [], ◌∷◌, ◌++◌, length, get_or, take, drop, refl, ap, sym, subst, ◌∙◌, inr, length-append, arith}
 use Rattle.std.proofs.lemmas.Bool.{ne_eqb}
 use Rattle.std.proofs.lemmas.List.{take_more, take-append-drop}
 use Rattle.wm_station.specs.History.{History}
 use Rattle.wm_spec.specs.Lines.{cap, capped, without_cr, HasNoLf, held_more}
 use Rattle.wm_spec.specs.Step.{State, step, answer_text}
-use Rattle.wm_spec.specs.Running.{answer, transcript, after, IsPart, StopsIn, Stopped, Standing, Ran, Cut}
-use Rattle.wm_spec.proofs.Running.{step-cap, transcript-append, transcript-single, ran_none, ran_byte, ran_line, ran_more, ran_then_cut, cut_longer, cut_before, cut_within, stopped_before, stopped_within}
+use Rattle.wm_spec.specs.Running.{answer, transcript, IsPart, StopsIn, Standing, Ran, Cut}
+use Rattle.wm_spec.proofs.Running.{step-cap, transcript-append, transcript-single, ran_none, ran_byte, ran_line, ran_more, ran_then_cut, cut_longer, cut_before, cut_within, stopped_within}
 use Rattle.wm_spec.proofs.Cutting.{HasNoLf-held_more, capped_last}
 use Rattle.wm_host.specs.Saying.{OnlySaid, SaidPart}
 use Rattle.wm_host.specs.Hosting.{standing, line_of, Answers, Unanswered, Says, Breaks, Finishes, Halts}

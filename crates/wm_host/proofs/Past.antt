@@ -1,10 +1,10 @@
 -- Laws on a script of which the host has taken a part.
-use Rattle.std.proofs.Common.{ℕ, ◌≡◌, ◌<◌, ◌≤◌, ◌+◌, ◌^◌, Bool, true, false, List, [], ◌∷◌, ◌++◌, length, take, drop, refl, ap, sym, subst, ◌∙◌, append_assoc, append-nil, length-append, arith}
+use Rattle.std.proofs.Common.{ℕ, ◌≡◌, ◌≤◌, ◌+◌, ◌^◌, true, false, List, [], ◌++◌, length, take, refl, ap, sym, subst, ◌∙◌, append_assoc, append-nil, length-append, arith}
 use Rattle.std.proofs.lemmas.List.{take_at, length-take-le}
 use Rattle.wm_station.specs.History.{History}
 use Rattle.wm_spec.specs.Lines.{capped, HasNoLf}
 use Rattle.wm_spec.specs.Step.{State}
-use Rattle.wm_spec.specs.Running.{transcript, after, Stopped, Standing, Ran, Cut}
+use Rattle.wm_spec.specs.Running.{transcript, Stopped}
 use Rattle.wm_spec.proofs.Running.{transcript-append, ran_lines, ran_ended_lines, stopped_after}
 use Rattle.wm_host.specs.Saying.{OnlySaid}
 use Rattle.wm_host.specs.Hosting.{standing, Says, Breaks, Finishes, Halts}

@@ -1,8 +1,7 @@
 -- Laws on what was said over a stretch of a run.
-use Rattle.std.proofs.Common.{ℕ, ◌≡◌, ◌<◌, ◌≤◌, List, [], ◌∷◌, ◌++◌, length, take, drop, refl, ap, sym, subst, ◌∙◌, ◌⊎◌, inl, inr, append_assoc, append-nil, arith, length-drop}
+use Rattle.std.proofs.Common.{ℕ, ◌≡◌, ◌<◌, List, [], ◌∷◌, ◌++◌, length, take, drop, refl, ap, sym, subst, ◌∙◌, inl, inr, append_assoc, append-nil}
 use Rattle.std.proofs.lemmas.List.{take-append-drop}
-use Rattle.wm_station.specs.History.{History, Begin, Wrote, Synced, Said, now, said, Leaves, MayHaveSaid}
-use Rattle.wm_spec.specs.Running.{IsPart}
+use Rattle.wm_station.specs.History.{History, Said, now, said, Leaves, MayHaveSaid}
 use Rattle.wm_host.specs.Saying.{after_says, said_by, OnlySaid, SaidPart}
 
 after_says-append : (h : History) (xs ys : List (List ℕ × ℕ)) → after_says h (xs ++ ys) ≡ after_says (after_says h xs) ys

@@ -1,5 +1,5 @@
 -- Lists of words that are too short or too long.
-use Rattle.std.proofs.Common.{◌≡◌, ℕ, ◌<◌, ◌≤◌, Bool, false, List, [], ◌∷◌, length, refl, arith}
+use Rattle.std.proofs.Common.{◌≡◌, ℕ, ◌<◌, ◌≤◌, false, List, [], ◌∷◌, length, refl, arith}
 use Rattle.wm_host.specs.Words.{are_words}
 
 pub are_words-short : (words : List (List ℕ)) → length words < 2 → false ≡ are_words words

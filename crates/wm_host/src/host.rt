@@ -41,6 +41,7 @@ impl Host {
         ensures ok { OnOk result (Answers P.tells (P.history station.old) (P.history station.new) self.old self.new) }
         ensures err { OnErr result (Unanswered P.tells (P.history station.old) (P.history station.new) self.old self.new) }
         ensures later { P.say_faults station.old ≤ P.say_faults station.new }
+        ensures quiet { P.disk_faults station.new ≡ P.disk_faults station.old }
         ensures failed { IsErrOf result SayFault → Rises (P.say_faults station.old) (P.say_faults station.new) }
         ensures answering { IfErr result IsOfAnswers }
     {
@@ -57,6 +58,7 @@ impl Host {
         ensures ok { OnOk result (Says P.tells (P.history station.old) (P.history station.new) self.old (byte ∷ []) self.new) }
         ensures err { OnErr result (Breaks P.tells (P.history station.old) (P.history station.new) self.old (byte ∷ []) self.new) }
         ensures later { P.say_faults station.old ≤ P.say_faults station.new }
+        ensures quiet { P.disk_faults station.new ≡ P.disk_faults station.old }
         ensures failed { IsErrOf result SayFault → Rises (P.say_faults station.old) (P.say_faults station.new) }
         ensures answering { IfErr result IsOfAnswers }
     {
@@ -74,6 +76,7 @@ impl Host {
         ensures ok { OnOk result (Says P.tells (P.history station.old) (P.history station.new) self.old bytes.now self.new) }
         ensures err { OnErr result (Breaks P.tells (P.history station.old) (P.history station.new) self.old bytes.now self.new) }
         ensures later { P.say_faults station.old ≤ P.say_faults station.new }
+        ensures quiet { P.disk_faults station.new ≡ P.disk_faults station.old }
         ensures failed { IsErrOf result SayFault → Rises (P.say_faults station.old) (P.say_faults station.new) }
         ensures answering { IfErr result IsOfAnswers }
     {
@@ -90,6 +93,7 @@ impl Host {
         ensures ok { OnOk result (Finishes P.tells (P.history station.old) (P.history station.new) self.old (capped true self.old.line) self.new) }
         ensures err { OnErr result (Halts P.tells (P.history station.old) (P.history station.new) self.old (capped true self.old.line) self.new) }
         ensures later { P.say_faults station.old ≤ P.say_faults station.new }
+        ensures quiet { P.disk_faults station.new ≡ P.disk_faults station.old }
         ensures failed { IsErrOf result SayFault → Rises (P.say_faults station.old) (P.say_faults station.new) }
         ensures answering { IfErr result IsOfAnswers }
     {

@@ -14,6 +14,7 @@ pub(crate) fn say_all<P: Station>(station: &mut P, bytes: &[u8]) -> Result<(), S
     ensures said { P.tells → OnOk result (OnlySaid (P.history station.old) (P.history station.new) bytes.now) }
     ensures part { OnErr result (SaidPart P.tells (P.history station.old) (P.history station.new) bytes.now) }
     ensures later { P.say_faults station.old ≤ P.say_faults station.new }
+    ensures quiet { P.disk_faults station.new ≡ P.disk_faults station.old }
     ensures failed { IsErrOf result SayFault → Rises (P.say_faults station.old) (P.say_faults station.new) }
     ensures answering { IfErr result IsOfAnswers }
 {

@@ -37,6 +37,7 @@ pub(crate) fn run_script<S: Source, P: Station>(
     ensures source_later { S.faults source.old ≤ S.faults source.new }
     ensures source_failed { IsErrOf result SourceFault → Rises (S.faults source.old) (S.faults source.new) }
     ensures say_later { P.say_faults station.old ≤ P.say_faults station.new }
+    ensures quiet { P.disk_faults station.new ≡ P.disk_faults station.old }
     ensures say_failed { IsErrOf result SayFault → Rises (P.say_faults station.old) (P.say_faults station.new) }
 {
     let mut piece = [0; PIECE_BYTES];

@@ -1,4 +1,4 @@
-use Rattle.std.proofs.Common.{ℕ, ◌-◌, ◌<◌, length, arith, ◌∙◌}
+use Rattle.std.proofs.Common.{◌-◌, length, arith, ◌∙◌}
 use Rattle.wm_host.proofs.Held.{without_cr-ends, without_cr-other, without_cr-empty}
 use Rattle.wm_host.proofs.line.without_final_cr.Goals.{else-count-gt0-via-then-count-gt0+else-line-count-eq13, else-count-gt0-via-else-count-gt0}
 use Rattle.wm_host.proofs.line.without_final_cr.Goals as goal

@@ -1,4 +1,4 @@
-use Rattle.std.proofs.Common.{ℕ, ◌≡◌, ◌<◌, ◌==◌, Bool, true, false, List, length, take, refl, arith, sym, ◌∙◌, subst}
+use Rattle.std.proofs.Common.{arith, ◌∙◌}
 use Rattle.std.proofs.lemmas.Result.{err_from_is_err_and}
 use Rattle.wm_host.proofs.Saying.{front_more, front_failed, said_failed, said_none}
 use Rattle.wm_host.proofs.Held.{more_of_test}
@@ -21,4 +21,5 @@ pub loop-rest-preserved : goal.loop-rest-preserved
 loop-rest-preserved g c = record {
   front = front_more g.P.Station.tells _ _ _ c.args.bytes.now c.loop-rest.rest.now c.split_at.result.1.now c.in_ok-count.count c.loop-rest.invariant.front c.in_ok-count.ensures.said c.split_at.ensures.back;
   later = omega (arith, c.loop-rest.invariant.later, c.in_ok-count.ensures.cause.later);
+  quiet = c.in_ok-count.ensures.quiet ∙ c.loop-rest.invariant.quiet;
 }

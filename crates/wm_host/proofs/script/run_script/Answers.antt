@@ -1,4 +1,4 @@
-use Rattle.std.proofs.Common.{◌≡◌, ◌≤◌, ℕ, length, arith, ◌∙◌, sym}
+use Rattle.std.proofs.Common.{refl, arith, ◌∙◌}
 use Rattle.std.proofs.lemmas.List.{length-take}
 use Rattle.std.proofs.lemmas.Result.{err_from_is_err_and, on_ok_weaker, on_err_weaker}
 use Rattle.wm_host.proofs.Past.{past_begun, past_more, past_finished, past_halted, past_broken, past_stopped, past_taken, past_limit}
@@ -11,6 +11,7 @@ pieces-init g c = record {
   within = omega arith;
   source_later = omega arith;
   say_later = omega arith;
+  quiet = refl;
 }
 
 pub returns-in_err-count-clause-err : goal.returns-in_err-count-clause-err
@@ -90,4 +91,5 @@ pieces-preserved g c = record {
   within = omega (arith, c.in_ok-count.ensures.within, length-take c.clamp-room.result c.pieces.piece);
   source_later = omega (arith, c.pieces.invariant.source_later, c.in_ok-count.ensures.cause.later);
   say_later = omega (arith, c.pieces.invariant.say_later, c.in_ok-feed.ensures.later);
+  quiet = c.in_ok-feed.ensures.quiet ∙ c.pieces.invariant.quiet;
 }

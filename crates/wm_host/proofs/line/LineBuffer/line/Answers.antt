@@ -1,5 +1,3 @@
-use Rattle.std.proofs.Common.{◌∙◌, ap}
-use Rattle.wm_spec.specs.Lines.{cap}
 use Rattle.wm_host.proofs.Held.{cap-over}
 use Rattle.wm_host.proofs.line.LineBuffer.line.Goals as goal
 
