@@ -4,3 +4,4 @@ pub mod Grammar
 pub mod State
 pub mod Texts
 pub mod Step
+pub mod Running

@@ -1,0 +1,6 @@
+pub mod Causes
+pub mod Held
+pub mod Hosting
+pub mod Past
+pub mod Saying
+pub mod WordLists

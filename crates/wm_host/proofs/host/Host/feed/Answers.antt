@@ -1,0 +1,26 @@
+use Rattle.std.proofs.Common.{arith, refl, ◌∙◌}
+use Rattle.std.proofs.lemmas.Result.{err_from_is_err_and}
+use Rattle.wm_host.proofs.Hosting.{says_begun, says_next, breaks_next}
+use Rattle.wm_host.proofs.host.Host.feed.Goals as goal
+
+pub loop-byte-init : goal.loop-byte-init
+loop-byte-init g c = record {
+  says = says_begun g.P.Station.tells _ c.args.self.now c.requires.no_lf;
+  later = omega arith;
+  quiet = refl;
+}
+
+pub returns-in_err-take_byte-clause-err : goal.returns-in_err-take_byte-clause-err
+returns-in_err-take_byte-clause-err g c =
+    let p = err_from_is_err_and c.from_residual.result c.from_residual.ensures.1 in
+    rw p.1
+    (breaks_next g.P.Station.tells _ _ _ c.args.self.now c.loop-byte.self c.take_byte.new.self c.args.bytes.now c.loop-byte.byte-index c.loop-byte-test.true
+      c.loop-byte.invariant.says c.in_err-take_byte.ensures.err)
+
+pub loop-byte-preserved : goal.loop-byte-preserved
+loop-byte-preserved g c = record {
+  says = says_next g.P.Station.tells _ _ _ c.args.self.now c.loop-byte.self c.take_byte.new.self c.args.bytes.now c.loop-byte.byte-index c.loop-byte-test.true
+      c.loop-byte.invariant.says c.in_ok-take_byte.ensures.ok;
+  later = omega (arith, c.loop-byte.invariant.later, c.in_ok-take_byte.ensures.later);
+  quiet = c.in_ok-take_byte.ensures.quiet ∙ c.loop-byte.invariant.quiet;
+}

@@ -1,0 +1,21 @@
+use Rattle.std.proofs.lemmas.Result.{err_from_is_err_and, on_ok_weaker, on_err_weaker}
+use Rattle.std.proofs.Common.{◌∷◌, []}
+use Rattle.wm_host.proofs.Hosting.{says_line, breaks_line, says_byte, breaks_before}
+use Rattle.wm_host.proofs.host.Host.take_byte.Goals as goal
+
+pub returns-then-byte-eq10-clause-ok : goal.returns-then-byte-eq10-clause-ok
+returns-then-byte-eq10-clause-ok g c =
+    on_ok_weaker c.end_line.result (says_line g.P.Station.tells _ _ c.args.self.now c.end_line.new.self c.args.byte c.if-byte-eq10.true c.requires.no_lf) c.end_line.ensures.ok
+
+pub returns-then-byte-eq10-clause-err : goal.returns-then-byte-eq10-clause-err
+returns-then-byte-eq10-clause-err g c =
+    on_err_weaker c.end_line.result (breaks_line g.P.Station.tells _ _ c.args.self.now c.end_line.new.self c.args.byte c.if-byte-eq10.true c.requires.no_lf) c.end_line.ensures.err
+
+pub returns-in_err-push-clause-err : goal.returns-in_err-push-clause-err
+returns-in_err-push-clause-err g c =
+    let p = err_from_is_err_and c.from_residual.result c.from_residual.ensures.1 in
+    rw p.1 (breaks_before g.P.Station.tells _ c.args.self.now (c.args.byte ∷ []) c.push.new.self)
+
+pub returns-clause-ok : goal.returns-clause-ok
+returns-clause-ok g c =
+    says_byte g.P.Station.tells _ c.args.self.now c.args.byte c.push.new.self c.if-byte-eq10.false c.requires.no_lf c.in_ok-push.ensures.ok

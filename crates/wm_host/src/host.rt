@@ -1,0 +1,105 @@
+//! What takes the bytes of a script one by one, and answers each line as it ends.
+ghost use Rattle.std.specs.Prelude.{◌≡◌, ◌+◌, ◌^◌, ◌<◌, ◌≤◌, List, [], ◌∷◌, length, OnOk, OnErr, IsErrOf, IfErr, true};
+ghost use Rattle.wm_spec.specs.Lines.{HasNoLf, capped};
+ghost use Rattle.wm_spec.specs.Step.{fresh};
+ghost use Rattle.wm_station.specs.Cause.{Rises};
+ghost use Rattle.wm_host.specs.Cause.{IsOfAnswers};
+ghost use Rattle.wm_host.specs.Hosting.{Answers, Unanswered, Says, Breaks, Finishes, Halts};
+ghost use Rattle.wm_host.specs.declared.stop.Stop.TheVariants.{SayFault};
+
+use crate::line::LineBuffer;
+use crate::say::say_all;
+use crate::stop::Stop;
+use std::alloc::Global;
+use wm_engine::Engine;
+use wm_station::Station;
+
+/// The engine, what is held of the line that has not ended yet, and how many lines were answered whole.
+#[derive(Drop)]
+pub(crate) struct Host {
+    engine: Engine,
+    line: LineBuffer,
+    pub(crate) lines: u64,
+}
+
+impl Host {
+    pub(crate) fn fresh(alloc: Global, limit: u32) -> Host
+        ensures state { result.engine ≡ fresh limit }
+        ensures held { result.line ≡ [] }
+        ensures none { result.lines ≡ 0 }
+    {
+        Host {
+            engine: Engine::fresh(alloc, limit),
+            line: LineBuffer::new(alloc),
+            lines: 0,
+        }
+    }
+
+    /// Runs the line that is held, and says its answer.
+    fn end_line<P: Station>(&mut self, alloc: Global, station: &mut P) -> Result<(), Stop>
+        requires { self.old.lines + 1 < 2 ^ 64 }
+        ensures ok { OnOk result (Answers P.tells (P.history station.old) (P.history station.new) self.old self.new) }
+        ensures err { OnErr result (Unanswered P.tells (P.history station.old) (P.history station.new) self.old self.new) }
+        ensures later { P.say_faults station.old ≤ P.say_faults station.new }
+        ensures quiet { P.disk_faults station.new ≡ P.disk_faults station.old }
+        ensures failed { IsErrOf result SayFault → Rises (P.say_faults station.old) (P.say_faults station.new) }
+        ensures answering { IfErr result IsOfAnswers }
+    {
+        let answer = self.engine.line(alloc, self.line.line())?;
+        say_all(station, answer.as_slice())?;
+        self.line.clear();
+        self.lines += 1;
+        Ok(())
+    }
+
+    fn take_byte<P: Station>(&mut self, alloc: Global, station: &mut P, byte: u8) -> Result<(), Stop>
+        requires room { self.old.lines + 1 < 2 ^ 64 }
+        requires no_lf { HasNoLf self.old.line }
+        ensures ok { OnOk result (Says P.tells (P.history station.old) (P.history station.new) self.old (byte ∷ []) self.new) }
+        ensures err { OnErr result (Breaks P.tells (P.history station.old) (P.history station.new) self.old (byte ∷ []) self.new) }
+        ensures later { P.say_faults station.old ≤ P.say_faults station.new }
+        ensures quiet { P.disk_faults station.new ≡ P.disk_faults station.old }
+        ensures failed { IsErrOf result SayFault → Rises (P.say_faults station.old) (P.say_faults station.new) }
+        ensures answering { IfErr result IsOfAnswers }
+    {
+        if byte == b'\n' {
+            return self.end_line(alloc, station);
+        }
+        self.line.push(byte)?;
+        Ok(())
+    }
+
+    /// Takes a piece of the script, and answers each line that ends in it.
+    pub(crate) fn feed<P: Station>(&mut self, alloc: Global, station: &mut P, bytes: &[u8]) -> Result<(), Stop>
+        requires room { self.old.lines + length bytes.now < 2 ^ 64 }
+        requires no_lf { HasNoLf self.old.line }
+        ensures ok { OnOk result (Says P.tells (P.history station.old) (P.history station.new) self.old bytes.now self.new) }
+        ensures err { OnErr result (Breaks P.tells (P.history station.old) (P.history station.new) self.old bytes.now self.new) }
+        ensures later { P.say_faults station.old ≤ P.say_faults station.new }
+        ensures quiet { P.disk_faults station.new ≡ P.disk_faults station.old }
+        ensures failed { IsErrOf result SayFault → Rises (P.say_faults station.old) (P.say_faults station.new) }
+        ensures answering { IfErr result IsOfAnswers }
+    {
+        for byte in bytes {
+            self.take_byte(alloc, station, *byte)?;
+        }
+        Ok(())
+    }
+
+    /// Answers the last line at the end of the script, where no LF ended it.
+    pub(crate) fn finish<P: Station>(&mut self, alloc: Global, station: &mut P) -> Result<(), Stop>
+        requires room { self.old.lines + 1 < 2 ^ 64 }
+        requires no_lf { HasNoLf self.old.line }
+        ensures ok { OnOk result (Finishes P.tells (P.history station.old) (P.history station.new) self.old (capped true self.old.line) self.new) }
+        ensures err { OnErr result (Halts P.tells (P.history station.old) (P.history station.new) self.old (capped true self.old.line) self.new) }
+        ensures later { P.say_faults station.old ≤ P.say_faults station.new }
+        ensures quiet { P.disk_faults station.new ≡ P.disk_faults station.old }
+        ensures failed { IsErrOf result SayFault → Rises (P.say_faults station.old) (P.say_faults station.new) }
+        ensures answering { IfErr result IsOfAnswers }
+    {
+        if self.line.is_empty() {
+            return Ok(());
+        }
+        self.end_line(alloc, station)
+    }
+}

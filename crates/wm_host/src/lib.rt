@@ -1,0 +1,11 @@
+//! The loop over a script: it cuts the bytes of a source into lines, hands each to the engine and says
+//! the answer.
+#![tactic(auto)]
+
+mod host;
+mod line;
+mod say;
+mod script;
+
+mod stop;
+mod words;
