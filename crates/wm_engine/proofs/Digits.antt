@@ -47,6 +47,7 @@ value_from-below n (d ∷ ds) e =
     and_true : (a b : Bool) → (a && b) ≡ true → (a ≡ true) × (b ≡ true)
     and_true true b e = (refl, e)
     and_true false b e = absurd (false≢true e)
+
     moved : (a b c : ℕ) → c ≡ b * 10 → a * c ≡ (10 * a) * b
     moved a b c e = rw e (sym (mul_assoc a b 10) ∙ mul_comm (a * b) 10 ∙ sym (mul_assoc 10 a b))
 

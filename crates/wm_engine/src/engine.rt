@@ -7,8 +7,8 @@ ghost use Rattle.wm_engine.specs.Views.{folded, planned, changed, statement_view
 
 use crate::answer::Answer;
 use crate::change::Change;
-use crate::print::print;
 use crate::plan::{Planned, entry_of, key_of, key_there, no_table, not_built};
+use crate::print::print;
 use crate::read::form::{is_remark, line_of};
 use crate::read::tree::{Line, Statement};
 use crate::session::Session;
@@ -66,7 +66,13 @@ impl Engine {
     }
 
     /// Makes the one table that may be there.
-    fn create(&self, alloc: Global, name: &[u8], key: &[u8], value: &[u8]) -> Result<Planned<'_>, Memory>
+    fn create(
+        &self,
+        alloc: Global,
+        name: &[u8],
+        key: &[u8],
+        value: &[u8],
+    ) -> Result<Planned<'_>, Memory>
         ensures { IfOk result (λ p. planned p self.now ≡ create (folded name.now) (folded key.now) (folded value.now) self.now) }
     {
         if let Some(_) = &self.table {
@@ -99,7 +105,13 @@ impl Engine {
     }
 
     /// Adds a row under a key that is not there, while changes are left.
-    fn add_row(&self, alloc: Global, name: &[u8], key: i64, value: i64) -> Result<Planned<'_>, Memory>
+    fn add_row(
+        &self,
+        alloc: Global,
+        name: &[u8],
+        key: i64,
+        value: i64,
+    ) -> Result<Planned<'_>, Memory>
         ensures { IfOk result (λ p. planned p self.now ≡ add_row (folded name.now) key value self.now) }
     {
         if (self.limit as u64) < self.next_stamp {
@@ -174,7 +186,11 @@ impl Engine {
             None => Ok(Planned::answered(not_built())),
             Some(Line::Connect { session, user }) => self.connect(alloc, session, user),
             Some(Line::Run { session, statement }) => {
-                if self.is_open(session) { self.run_statement(alloc, statement) } else { Ok(Planned::answered(not_built())) }
+                if self.is_open(session) {
+                    self.run_statement(alloc, statement)
+                } else {
+                    Ok(Planned::answered(not_built()))
+                }
             }
         }
     }
@@ -228,8 +244,7 @@ impl Engine {
 
     /// Runs a line and gives the bytes of its answer. Where memory runs out, nothing has changed.
     pub fn line(&mut self, alloc: Global, line: &[u8]) -> Result<Bytes, Memory>
-        ensures state { OnOk result (self.new ≡ (step self.old line.now).0) }
-        ensures answer { IfOk result (λ bytes. bytes ≡ answer_text (step self.old line.now).1) }
+        ensures ok { IfOk result (λ bytes. (self.new ≡ (step self.old line.now).0) × (bytes ≡ answer_text (step self.old line.now).1)) }
         ensures err { OnErr result (self.new ≡ self.old) }
     {
         let (change, bytes) = self.answered(alloc, line)?;

@@ -27,7 +27,10 @@ impl<'a> Planned<'a> {
         ensures change { result.change ≡ Keep }
         ensures answer { result.answer ≡ answer.entry }
     {
-        Planned { change: Change::Keep, answer }
+        Planned {
+            change: Change::Keep,
+            answer,
+        }
     }
 }
 

@@ -8,7 +8,9 @@ ghost use Rattle.wm_engine.specs.Views.{answer_view, rows_of};
 use crate::answer::Answer;
 use crate::entry::Entry;
 use std::alloc::Global;
-use wm_base::{Bytes, CellRefusal, FormRefusal, Key, LimitRefusal, Memory, Name, Period, Refusal, Row, Value};
+use wm_base::{
+    Bytes, CellRefusal, FormRefusal, Key, LimitRefusal, Memory, Name, Period, Refusal, Row, Value,
+};
 
 /// Adds a number in decimal.
 fn push_count(alloc: Global, out: &mut Bytes, count: u64) -> Result<(), Memory>
@@ -30,7 +32,11 @@ fn push_number(alloc: Global, out: &mut Bytes, number: i64) -> Result<(), Memory
 fn push_doubled(out: &mut Bytes, byte: u8) -> Result<(), Memory>
     ensures { OnOk result (out.new ≡ out.old ++ doubled byte) }
 {
-    if byte == b'\'' { out.append(b"''") } else { out.push(byte) }
+    if byte == b'\'' {
+        out.append(b"''")
+    } else {
+        out.push(byte)
+    }
 }
 
 /// Adds the bytes of a text between quotes.
@@ -87,7 +93,12 @@ fn push_value(alloc: Global, out: &mut Bytes, value: &Value) -> Result<(), Memor
 }
 
 /// Adds values, each behind a separator.
-fn push_more(alloc: Global, out: &mut Bytes, separator: &[u8], values: &[Value]) -> Result<(), Memory>
+fn push_more(
+    alloc: Global,
+    out: &mut Bytes,
+    separator: &[u8],
+    values: &[Value],
+) -> Result<(), Memory>
     ensures { OnOk result (out.new ≡ out.old ++ more separator.now values.now) }
 {
     for value in values {
@@ -98,7 +109,12 @@ fn push_more(alloc: Global, out: &mut Bytes, separator: &[u8], values: &[Value])
 }
 
 /// Adds values with a separator between.
-fn push_joined(alloc: Global, out: &mut Bytes, separator: &[u8], values: &[Value]) -> Result<(), Memory>
+fn push_joined(
+    alloc: Global,
+    out: &mut Bytes,
+    separator: &[u8],
+    values: &[Value],
+) -> Result<(), Memory>
     ensures { OnOk result (out.new ≡ out.old ++ joined separator.now values.now) }
 {
     match values {
@@ -143,7 +159,11 @@ fn push_rows(alloc: Global, out: &mut Bytes, entries: &[Entry]) -> Result<(), Me
 }
 
 /// Adds a blank and the period, where there is one.
-fn push_perhaps_period(alloc: Global, out: &mut Bytes, period: &Option<Period>) -> Result<(), Memory>
+fn push_perhaps_period(
+    alloc: Global,
+    out: &mut Bytes,
+    period: &Option<Period>,
+) -> Result<(), Memory>
     ensures { OnOk result (out.new ≡ out.old ++ perhaps_period period.now) }
 {
     match period {
@@ -164,7 +184,13 @@ fn push_named(out: &mut Bytes, words: &[u8], name: &Name) -> Result<(), Memory>
 }
 
 /// Adds words and a key, with its period where there is one.
-fn push_keyed(alloc: Global, out: &mut Bytes, words: &[u8], key: &Key, period: &Option<Period>) -> Result<(), Memory>
+fn push_keyed(
+    alloc: Global,
+    out: &mut Bytes,
+    words: &[u8],
+    key: &Key,
+    period: &Option<Period>,
+) -> Result<(), Memory>
     ensures { OnOk result (out.new ≡ out.old ++ (words.now ++ (key_text key.now ++ perhaps_period period.now))) }
 {
     out.append(words)?;

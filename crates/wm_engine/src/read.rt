@@ -1,7 +1,7 @@
 //! Reading a line of today's forms. Nothing is copied: names are slices of the line.
 
-pub mod tree;
 pub mod form;
 mod names;
 mod number;
+pub mod tree;
 pub mod word;

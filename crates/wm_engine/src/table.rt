@@ -97,5 +97,8 @@ fn place_of(key: &Key, entries: &[Entry]) -> usize
     ensures place { result ≡ length (take_while (λ (e : EntryState). is_lt (key_order e.key key.now)) entries.now) }
     ensures within { result ≤ length entries.now }
 {
-    entries.iter().take_while(|entry| entry.key.compare(key).is_lt()).count()
+    entries
+        .iter()
+        .take_while(|entry| entry.key.compare(key).is_lt())
+        .count()
 }

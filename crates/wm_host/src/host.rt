@@ -29,7 +29,7 @@ impl Host {
         ensures none { result.lines ≡ 0 }
     {
         Host {
-            engine: Engine::fresh(alloc, limit),
+            engine: Engine::fresh(limit),
             line: LineBuffer::new(alloc),
             lines: 0,
         }

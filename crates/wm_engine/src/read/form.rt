@@ -51,7 +51,11 @@ fn create(text: &[u8]) -> Option<(Statement<'_>, &[u8])>
     let rest = mark(b',', rest)?;
     let (value, rest) = number_column(rest)?;
     let rest = mark(b')', rest)?;
-    if is_same_word(key, value) { None } else { Some((Statement::Create { table, key, value }, rest)) }
+    if is_same_word(key, value) {
+        None
+    } else {
+        Some((Statement::Create { table, key, value }, rest))
+    }
 }
 
 /// `EXECUTE DBMS_WM.EnableVersioning`
@@ -154,7 +158,11 @@ fn connect_line(text: &[u8]) -> Option<Line<'_>>
     let rest = keyword(b"CONNECT", text)?;
     let (session, rest) = name(rest)?;
     let (user, rest) = name(rest)?;
-    if is_spent(rest) { Some(Line::Connect { session, user }) } else { None }
+    if is_spent(rest) {
+        Some(Line::Connect { session, user })
+    } else {
+        None
+    }
 }
 
 /// `session: statement`
@@ -165,7 +173,11 @@ fn run_line(text: &[u8]) -> Option<Line<'_>>
     let (session, rest) = name(text)?;
     let rest = mark(b':', rest)?;
     let (statement, rest) = statement(rest)?;
-    if is_ended(rest) { Some(Line::Run { session, statement }) } else { None }
+    if is_ended(rest) {
+        Some(Line::Run { session, statement })
+    } else {
+        None
+    }
 }
 
 /// What the line says, where it is of a form.

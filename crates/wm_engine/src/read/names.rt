@@ -12,13 +12,62 @@ use crate::read::word::{begins_word, behind, is_word, mark, word};
 
 /// The words that are no names.
 const RESERVED: [&[u8]; 56] = [
-    b"CONNECT", b"DISCONNECT", b"AT", b"CREATE", b"TABLE", b"PRIMARY", b"KEY", b"NOT", b"NULL",
-    b"CONSTRAINT", b"NUMBER", b"INTEGER", b"VARCHAR2", b"DATE", b"TIMESTAMP", b"INSERT", b"INTO",
-    b"VALUES", b"UPDATE", b"SET", b"WHERE", b"DELETE", b"FROM", b"SELECT", b"DISTINCT", b"INNER",
-    b"JOIN", b"ON", b"GROUP", b"BY", b"ORDER", b"AS", b"COUNT", b"SUM", b"MIN", b"MAX", b"ASC",
-    b"DESC", b"VALIDFROM", b"VALIDTILL", b"WM_VALID", b"SYSDATE", b"DBMS_WM", b"UNTIL_CHANGED",
-    b"TO_DATE", b"WMSYS", b"WM_PERIOD", b"OR", b"AND", b"IS", b"IN", b"BETWEEN", b"EXECUTE", b"EXEC",
-    b"TRUE", b"FALSE",
+    b"CONNECT",
+    b"DISCONNECT",
+    b"AT",
+    b"CREATE",
+    b"TABLE",
+    b"PRIMARY",
+    b"KEY",
+    b"NOT",
+    b"NULL",
+    b"CONSTRAINT",
+    b"NUMBER",
+    b"INTEGER",
+    b"VARCHAR2",
+    b"DATE",
+    b"TIMESTAMP",
+    b"INSERT",
+    b"INTO",
+    b"VALUES",
+    b"UPDATE",
+    b"SET",
+    b"WHERE",
+    b"DELETE",
+    b"FROM",
+    b"SELECT",
+    b"DISTINCT",
+    b"INNER",
+    b"JOIN",
+    b"ON",
+    b"GROUP",
+    b"BY",
+    b"ORDER",
+    b"AS",
+    b"COUNT",
+    b"SUM",
+    b"MIN",
+    b"MAX",
+    b"ASC",
+    b"DESC",
+    b"VALIDFROM",
+    b"VALIDTILL",
+    b"WM_VALID",
+    b"SYSDATE",
+    b"DBMS_WM",
+    b"UNTIL_CHANGED",
+    b"TO_DATE",
+    b"WMSYS",
+    b"WM_PERIOD",
+    b"OR",
+    b"AND",
+    b"IS",
+    b"IN",
+    b"BETWEEN",
+    b"EXECUTE",
+    b"EXEC",
+    b"TRUE",
+    b"FALSE",
 ];
 
 /// Whether the word is no name.
@@ -42,7 +91,11 @@ pub fn name(text: &[u8]) -> Option<(&[u8], &[u8])>
     ensures { option_map (λ p. (folded p.0.now, p.1.now)) result ≡ name_at text.now }
 {
     let (word, rest) = word(text)?;
-    if is_reserved(word) { None } else { Some((word, rest)) }
+    if is_reserved(word) {
+        None
+    } else {
+        Some((word, rest))
+    }
 }
 
 /// Whether the name ends in this, which is in capitals.
@@ -85,7 +138,11 @@ pub fn table(text: &[u8]) -> Option<(&[u8], &[u8])>
     ensures { option_map (λ p. (folded p.0.now, p.1.now)) result ≡ table_at text.now }
 {
     let (name, rest) = name(text)?;
-    if is_table_name(name) { Some((name, rest)) } else { None }
+    if is_table_name(name) {
+        Some((name, rest))
+    } else {
+        None
+    }
 }
 
 /// A column's name, and what is left behind it.
@@ -94,7 +151,11 @@ pub fn column(text: &[u8]) -> Option<(&[u8], &[u8])>
     ensures { option_map (λ p. (folded p.0.now, p.1.now)) result ≡ column_at text.now }
 {
     let (word, rest) = word(text)?;
-    if is_column_name(word) && !is_taken(word) { Some((word, rest)) } else { None }
+    if is_column_name(word) && !is_taken(word) {
+        Some((word, rest))
+    } else {
+        None
+    }
 }
 
 /// A word that begins right here.
@@ -112,5 +173,9 @@ pub fn quoted_table(text: &[u8]) -> Option<(&[u8], &[u8])>
     let text = mark(b'\'', text)?;
     let (name, rest) = word_here(text)?;
     let rest = behind(b'\'', rest)?;
-    if is_table_name(name) { Some((name, rest)) } else { None }
+    if is_table_name(name) {
+        Some((name, rest))
+    } else {
+        None
+    }
 }

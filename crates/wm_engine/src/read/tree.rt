@@ -10,7 +10,9 @@ pub enum Statement<'a> {
         value: &'a [u8],
     },
     /// `EXECUTE DBMS_WM.EnableVersioning('table')`
-    Enable { table: &'a [u8] },
+    Enable {
+        table: &'a [u8],
+    },
     /// `INSERT INTO table VALUES (key, value)`
     Insert {
         table: &'a [u8],
@@ -18,14 +20,19 @@ pub enum Statement<'a> {
         value: i64,
     },
     /// `SELECT * FROM table`
-    Select { table: &'a [u8] },
+    Select {
+        table: &'a [u8],
+    },
 }
 
 /// A line of today's forms that is no remark.
 #[derive(Clone, Copy)]
 pub enum Line<'a> {
     /// `CONNECT session user`
-    Connect { session: &'a [u8], user: &'a [u8] },
+    Connect {
+        session: &'a [u8],
+        user: &'a [u8],
+    },
     /// `session: statement`
     Run {
         session: &'a [u8],

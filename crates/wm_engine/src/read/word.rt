@@ -76,7 +76,11 @@ pub fn word(text: &[u8]) -> Option<(&[u8], &[u8])>
     ensures { option_map (λ p. (map to_ascii_uppercase p.0.now, p.1.now)) result ≡ word_at text.now }
 {
     let text = skip(text);
-    if begins_word(text) { Some(text.split_at(name_count(text))) } else { None }
+    if begins_word(text) {
+        Some(text.split_at(name_count(text)))
+    } else {
+        None
+    }
 }
 
 /// Whether the word means this one, which is in capitals.
@@ -98,7 +102,11 @@ pub fn keyword<'a>(capitals: &[u8], text: &'a [u8]) -> Option<&'a [u8]>
     ensures { option_copied result ≡ keyword_at capitals.now text.now }
 {
     let (word, rest) = word(text)?;
-    if is_word(word, capitals) { Some(rest) } else { None }
+    if is_word(word, capitals) {
+        Some(rest)
+    } else {
+        None
+    }
 }
 
 /// What is left behind this byte, where the text begins with it.
@@ -143,6 +151,9 @@ pub fn is_same_word(word: &[u8], other: &[u8]) -> bool
 pub fn capitals_of(alloc: Global, word: &[u8]) -> Result<Name, Memory>
     ensures { IfOk result (λ name. name ≡ map to_ascii_uppercase word.now) }
 {
-    let capitals: Vec<u8> = word.iter().map(|byte| byte.to_ascii_uppercase()).collect(alloc)?;
+    let capitals: Vec<u8> = word
+        .iter()
+        .map(|byte| byte.to_ascii_uppercase())
+        .collect(alloc)?;
     Ok(Name::from_vec(capitals))
 }
