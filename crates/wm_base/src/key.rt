@@ -1,0 +1,69 @@
+ghost use Rattle.std.specs.Prelude.{◌≡◌, ◌↔◌, ◌∷◌, [], IsTrue, IfOk};
+ghost use Rattle.wm_base.specs.Key.{key_order};
+
+use crate::memory::Memory;
+use crate::value::Value;
+use crate::values::Values;
+use std::alloc::Global;
+use std::cmp::Ordering;
+use std::marker::Model;
+
+/// The key of a row: a value for each key column.
+#[derive(Drop)]
+pub struct Key {
+    values: Values,
+}
+
+impl Model for Key {
+    ghost use Rattle.std.specs.Prelude.{List};
+    ghost use Rattle.wm_base.specs.declared.value.Value.{Value as OneValue};
+
+    ghost Value = { List OneValue };
+
+    ghost view = { λ k. k.values };
+}
+
+impl Key {
+    /// The key of one column.
+    pub fn single(alloc: Global, value: Value) -> Result<Key, Memory>
+        ensures { IfOk result (λ key. key ≡ value ∷ []) }
+    {
+        let mut values = Values::new(alloc);
+        values.push(value)?;
+        Ok(Key { values })
+    }
+
+    /// The key that has these values, in order of the key columns.
+    pub fn from_values(values: Values) -> Key
+        ensures { result ≡ values }
+    {
+        Key { values }
+    }
+
+    pub fn values(&self) -> &[Value]
+        ensures { result.now ≡ self.now }
+    {
+        self.values.as_slice()
+    }
+
+    pub fn copy(&self, alloc: Global) -> Result<Key, Memory>
+        ensures { IfOk result (λ key. key ≡ self.now) }
+    {
+        Ok(Key {
+            values: self.values.copy(alloc)?,
+        })
+    }
+
+    /// The order of keys: value by value, a front before what it begins.
+    pub fn compare(&self, q: &Key) -> Ordering
+        ensures { result ≡ key_order self.now q.now }
+    {
+        self.values().cmp(q.values())
+    }
+
+    pub fn equals(&self, q: &Key) -> bool
+        ensures { IsTrue result ↔ (self.now ≡ q.now) }
+    {
+        self.compare(q).is_eq()
+    }
+}
