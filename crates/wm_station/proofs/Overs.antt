@@ -1,5 +1,5 @@
 -- What a write in place does to a file.
-use Rattle.std.proofs.Common.{◌≡◌, ℕ, ◌+◌, ◌-◌, ◌<◌, ◌≤◌, max, ⊎_elim, inl, inr, List, [], ◌∷◌, ◌++◌, length, take, drop, replicate, refl, sym, ◌∙◌, ap, arith, length-append}
+use Rattle.std.proofs.Common.{◌≡◌, ℕ, ◌+◌, ◌-◌, ◌<◌, ◌≤◌, max, ⊎_elim, inl, inr, List, [], ◌∷◌, ◌++◌, length, take, drop, replicate, refl, sym, ◌∙◌, ap, subst, arith, length-append}
 use Rattle.std.proofs.lemmas.List.{length-drop, length-replicate, take-append-le, drop-append-le, drop-take, drop-drop, take-take, take_at, drop_at, length-take-le}
 use Rattle.wm_station.specs.History.{History, Wrote, now, stretch, Torn, Written, DidWrite, MayHaveWritten}
 use Rattle.wm_station.specs.Replay.{padded, over}
@@ -83,3 +83,7 @@ did_write at bytes old new told = record { image = over at bytes (now old); told
 pub may_have_written : (at n : ℕ) (bytes : List ℕ) (old new : History) → length bytes ≤ n → new ≡ Wrote old at n (over at bytes (now old)) → MayHaveWritten at n old new
 may_have_written at n bytes old new within told =
     inr (over at bytes (now old), told, Torn-Written at n at bytes (now old) (over at bytes (now old)) (omega arith) (omega arith) (over-Written at bytes (now old)))
+
+-- these bytes at a place within a range
+pub over_within : (at n place : ℕ) (bytes old new : List ℕ) → at ≤ place → place + length bytes ≤ at + n → new ≡ over place bytes old → Torn at n old new
+over_within at n place bytes old new from till same = subst (λ (l : List ℕ). Torn at n old l) (sym same) (Torn-Written at n place bytes old (over place bytes old) from till (over-Written place bytes old))

@@ -1,7 +1,7 @@
 -- How what is said of a run goes on over one call more, and over one run after another.
-use Rattle.std.proofs.Common.{◌≡◌, ℕ, ◌≤◌, suc, ◌⊎◌, ⊎_elim, inl, inr, List, ◌++◌, length, take, sym, subst, arith}
-use Rattle.wm_station.specs.History.{History, Begin, Wrote, Synced, Said, now, said, moment, Leaves, Since}
-use Rattle.wm_station.specs.Moments.{During}
+use Rattle.std.proofs.Common.{◌≡◌, ℕ, ◌≤◌, suc, ◌⊎◌, ⊎_elim, inl, inr, List, ◌++◌, length, take, refl, sym, ◌∙◌, subst, arith}
+use Rattle.wm_station.specs.History.{History, Begin, Wrote, Synced, Said, Torn, Written, DidWrite, MayHaveWritten, now, said, moment, Leaves, Since}
+use Rattle.wm_station.specs.Moments.{Holds, During, Silent, Ended}
 
 -- no moment of a history is later than its last
 pub Since-le : (h : History) (t : ℕ) (c s : List ℕ) → Since h t c s → t ≤ moment h
@@ -105,4 +105,75 @@ weaken old new P Q to during = record {
   later = during.later;
   each = λ c s since. to c s (during.each c s since);
   before = λ t c s le since. ⊎_elim (λ was. inl was) (λ now. inr (to c s now)) (during.before t c s le since);
+}
+
+-- A run in which nothing was said so far: each crash since its start leaves what has T, and now P holds of what a read
+-- gives and of each file that a crash may leave.
+pub record Stage (start h : History) (T P : List ℕ → Type 0) : Type 0 where
+  pub during : During start h (Silent start T)
+  pub holds : Holds h P
+  pub quiet : said h ≡ said start
+
+pub begun : (h : History) (T P : List ℕ → Type 0) → Holds h P → ((c : List ℕ) → P c → T c) → Stage h h T P
+begun h T P holds to = record {
+  during = during_begun h (Silent h T) (λ c left. (to c (holds.left c left), refl));
+  holds = holds;
+  quiet = refl;
+}
+
+pub wrote : (start h : History) (at n : ℕ) (image : List ℕ) (T P Q : List ℕ → Type 0) → Stage start h T P → Torn at n (now h) image → ((d c : List ℕ) → P d → Torn at n d c → Q c) → ((c : List ℕ) → Q c → T c) → Stage start (Wrote h at n image) T Q
+wrote start h at n image T P Q stage torn keeps to = record {
+  during = during_wrote start h at n image (Silent start T) stage.during (λ c left. (to c (after c left), stage.quiet));
+  holds = record { here = keeps (now h) image stage.holds.here torn; left = after };
+  quiet = stage.quiet;
+}
+  where
+    after : (c : List ℕ) → Leaves (Wrote h at n image) c → Q c
+    after c left = keeps left.0 c (stage.holds.left left.0 left.1) left.2
+
+-- a write that succeeded is no more than one that was cut short
+pub Torn-done : (at : ℕ) (bytes old new : List ℕ) → Written at bytes old new → Torn at (length bytes) old new
+Torn-done at bytes old new done = record {
+  same = done.same;
+  no_shorter = grind (arith, done.size, done.nothing);
+  no_longer = grind (arith, done.size, done.nothing);
+}
+
+pub did_write : (start h new : History) (at : ℕ) (bytes : List ℕ) (T P Q : List ℕ → Type 0) → Stage start h T P → DidWrite at bytes h new → ((d c : List ℕ) → P d → Torn at (length bytes) d c → Q c) → ((c : List ℕ) → Q c → T c) → Stage start new T Q
+did_write start h new at bytes T P Q stage did keeps to =
+    subst (λ (v : History). Stage start v T Q) (sym did.told)
+    (wrote start h at (length bytes) did.image T P Q stage (Torn-done at bytes (now h) did.image did.written) keeps to)
+
+pub synced : (start h : History) (T P Q : List ℕ → Type 0) → Stage start h T P → Q (now h) → T (now h) → Stage start (Synced h) T Q
+synced start h T P Q stage here to = record {
+  during = during_synced start h (Silent start T) stage.during (to, stage.quiet);
+  holds = record { here = here; left = λ c same. subst Q (sym same) here };
+  quiet = stage.quiet;
+}
+
+pub ended : (start h : History) (T P : List ℕ → Type 0) → Stage start h T P → ((c : List ℕ) → P c → T c) → Ended start h T
+ended start h T P stage to = record { during = stage.during; here = to (now h) stage.holds.here; quiet = stage.quiet }
+
+-- after a write that failed
+pub may_have_written : (start h new : History) (at n : ℕ) (T P Q : List ℕ → Type 0) → Stage start h T P → MayHaveWritten at n h new → ((c : List ℕ) → P c → T c) → ((d c : List ℕ) → P d → Torn at n d c → Q c) → ((c : List ℕ) → Q c → T c) → Ended start new T
+may_have_written start h new at n T P Q stage (inl same) from keeps to = subst (λ (v : History). Ended start v T) (sym same) (ended start h T P stage from)
+may_have_written start h new at n T P Q stage (inr did) from keeps to =
+    subst (λ (v : History). Ended start v T) (sym did.1)
+    (ended start (Wrote h at n did.0) T Q (wrote start h at n did.0 T P Q stage did.2 keeps to) to)
+
+pub weaker : (start h : History) (T U : List ℕ → Type 0) → ((c : List ℕ) → T c → U c) → Ended start h T → Ended start h U
+weaker start h T U to run = record {
+  during = weaken start h (Silent start T) (Silent start U) (λ c s silent. (to c silent.0, silent.1)) run.during;
+  here = to (now h) run.here;
+  quiet = run.quiet;
+}
+
+-- one run in which nothing was said after another
+pub joined : (start middle new : History) (T : List ℕ → Type 0) → Ended start middle T → Ended middle new T → Ended start new T
+joined start middle new T first second = record {
+  during = weaken start new (λ c s. Silent start T c s ⊎ Silent middle T c s) (Silent start T)
+      (λ c s either. ⊎_elim (λ one. one) (λ two. (two.0, two.1 ∙ first.quiet)) either)
+      (followed start middle new (Silent start T) (Silent middle T) first.during second.during);
+  here = second.here;
+  quiet = second.quiet ∙ first.quiet;
 }

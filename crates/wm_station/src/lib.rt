@@ -12,6 +12,7 @@ mod recording;
 mod source;
 mod station;
 mod stream_source;
+mod tear;
 
 pub use failing::{Failing, Faults};
 pub use fault::{DiskFailed, SayFailed, SourceFailed};
@@ -24,3 +25,7 @@ pub use recording::{Call, Recording};
 pub use source::Source;
 pub use station::Station;
 pub use stream_source::StreamSource;
+pub use tear::Tear;
+
+#[cfg(test)]
+mod tests;

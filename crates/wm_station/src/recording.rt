@@ -1,9 +1,11 @@
 //! A file in memory, and the record of all that was done to it and said.
-ghost use Rattle.std.specs.Prelude.{◌≡◌, ◌+◌, ◌≤◌, [], ◌∷◌, ◌++◌, length, IfOk, OnOk, OnErr, is_ok, if◌then◌else◌};
-ghost use Rattle.wm_station.specs.History.{History, now, stretch, Begin, Wrote, Synced, Said};
+ghost use Rattle.std.specs.Prelude.{◌≡◌, ◌+◌, ◌<◌, ◌≤◌, [], ◌∷◌, ◌++◌, length, IfOk, OnOk, OnErr, is_ok, if◌then◌else◌};
+ghost use Rattle.wm_station.specs.History.{History, now, said, stretch, Leaves, Begin, Wrote, Synced, Said};
 ghost use Rattle.wm_station.specs.Replay.{over, replay, after};
 ghost use Rattle.wm_station.specs.declared.recording.Call.TheVariants.{Sync};
 
+use crate::Tear;
+use crate::tear::step;
 use std::alloc::{AllocError, Global};
 
 /// A call that did something.
@@ -31,7 +33,7 @@ pub struct Recording {
 }
 
 impl Recording {
-    ghost use Rattle.wm_station.specs.Recorded.{history_of};
+    ghost use Rattle.wm_station.specs.Recorded.{history_of, history_at};
 
     /// A file that holds these bytes.
     pub fn new(alloc: Global, start: Vec<u8>) -> Result<Self, AllocError>
@@ -58,6 +60,35 @@ impl Recording {
         ensures { result.now ≡ now (history_of self.now) }
     {
         &self.image
+    }
+
+    /// The bytes said.
+    pub fn said(&self) -> Result<Vec<u8>, AllocError>
+        ensures { IfOk result (λ bytes. bytes.items ≡ said (history_of self.now)) }
+    {
+        let mut bytes = Vec::new(self.alloc);
+        for call in &self.calls {
+            if let Call::Say { piece, count } = call {
+                let count = piece.len().min(*count as usize);
+                bytes.extend_from_slice(&piece[..count])?;
+            }
+        }
+        Ok(bytes)
+    }
+
+    /// A file that a crash after so many calls may leave. Of each write since the last sync it has what its
+    /// tear says; they are used in order, and again from the first on where there are fewer than calls.
+    pub fn crash_image(&self, calls: usize, tears: &[Tear]) -> Result<Vec<u8>, AllocError>
+        requires { 0 < length tears.now }
+        ensures { IfOk result (λ file. Leaves (history_at self.now calls) file.items) }
+    {
+        let mut image = self.start.as_slice().to_vec(self.alloc)?;
+        let mut left = self.start.as_slice().to_vec(self.alloc)?;
+        for i in 0..calls.min(self.calls.len()) {
+            let tear = tears[i % tears.len()];
+            step(self.alloc, &self.calls[i], tear, &mut image, &mut left)?;
+        }
+        Ok(left)
     }
 
     /// Fills `into` with the bytes from `at` on.
@@ -130,7 +161,7 @@ fn write_and_keep(
 }
 
 // Writes the bytes in place, after zeros where the file is shorter.
-fn put(image: &mut Vec<u8>, at: usize, bytes: &[u8]) -> Result<(), AllocError>
+pub(crate) fn put(image: &mut Vec<u8>, at: usize, bytes: &[u8]) -> Result<(), AllocError>
     ensures ok { OnOk result (image.new.items ≡ over at bytes.now image.old.items) }
     ensures err { OnErr result (image.new.items ≡ image.old.items) }
 {

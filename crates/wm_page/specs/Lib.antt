@@ -1,0 +1,4 @@
+pub mod Batch
+pub mod Entries
+pub mod Fields
+pub mod Pages
