@@ -5,7 +5,7 @@ use std::alloc::Global;
 use std::marker::Model;
 
 /// A list of bytes that grows at its end.
-#[derive(Drop)]
+#[derive(Debug, Drop)]
 pub struct Bytes {
     bytes: Vec<u8>,
 }

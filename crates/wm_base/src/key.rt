@@ -9,7 +9,7 @@ use std::cmp::Ordering;
 use std::marker::Model;
 
 /// The key of a row: a value for each key column.
-#[derive(Drop)]
+#[derive(Debug, Drop)]
 pub struct Key {
     values: Values,
 }

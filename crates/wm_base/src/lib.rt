@@ -13,6 +13,8 @@ pub mod period;
 pub mod refusal;
 pub mod row;
 pub mod stamp;
+#[cfg(test)]
+mod tests;
 pub mod text;
 pub mod truth;
 pub mod value;

@@ -1,4 +1,4 @@
-ghost use Rattle.std.specs.Prelude.{◌≡◌, ℕ, ◌<◌, ◌≤◌, ◌↔◌, IsTrue, IsSome, IfSome, SomeIff};
+ghost use Rattle.std.specs.Prelude.{◌≡◌, ℕ, ◌<◌, ◌≤◌, ◌↔◌, IsTrue, IsSome, IfSome};
 ghost use Rattle.wm_base.specs.Period.{Span, covers, overlaps, contains, meets, equals, before, after, shared, always, span_order};
 ghost use Rattle.wm_base.specs.declared.instant.TheConstants.{END};
 

@@ -5,7 +5,7 @@ use crate::values::Values;
 use std::alloc::Global;
 
 /// The values of a row, one for each column of its table or listing.
-#[derive(Drop)]
+#[derive(Debug, Drop)]
 pub struct Row {
     pub values: Values,
 }

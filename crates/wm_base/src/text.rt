@@ -8,7 +8,7 @@ use std::cmp::Ordering;
 use std::marker::Model;
 
 /// A text that does not change, as its bytes. That they are UTF-8 is not asked here.
-#[derive(Drop)]
+#[derive(Debug, Drop)]
 pub struct Text {
     bytes: Vec<u8>,
 }

@@ -9,7 +9,7 @@ use std::alloc::Global;
 use std::cmp::Ordering;
 
 /// A value of a row, a key or a condition.
-#[derive(Drop)]
+#[derive(Debug, Drop)]
 pub enum Value {
     Null,
     Num(i64),
@@ -43,6 +43,15 @@ impl Value {
             (Value::Span(p), Value::Span(r)) => p.equals(r),
             _ => false,
         }
+    }
+
+    /// Whether the two may be compared: NULL is of every type.
+    pub fn has_type_of(&self, q: &Value) -> bool
+        ensures { result ≡ same_type self.now q.now }
+    {
+        let place = self.type_place();
+        let other_place = q.type_place();
+        place == 0 || other_place == 0 || place == other_place
     }
 
     /// How two values of one type compare, or None exactly where one is NULL.

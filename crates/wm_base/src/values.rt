@@ -6,7 +6,7 @@ use std::alloc::Global;
 use std::marker::Model;
 
 /// A list of values.
-#[derive(Drop)]
+#[derive(Debug, Drop)]
 pub struct Values {
     list: Vec<Value>,
 }
