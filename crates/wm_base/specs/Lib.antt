@@ -3,3 +3,5 @@ pub mod Period
 pub mod Value
 pub mod Key
 pub mod Orders
+pub mod Trees
+pub mod Views

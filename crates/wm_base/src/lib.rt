@@ -16,6 +16,7 @@ pub mod stamp;
 #[cfg(test)]
 mod tests;
 pub mod text;
+pub mod tree;
 pub mod truth;
 pub mod value;
 mod value_order;

@@ -36,7 +36,7 @@ answered_part tells old new from line bytes piece state same ran is said = recor
   part = said.part;
   stops = inr (
     subst (λ (whole : List ℕ). IsPart said.part whole) (is ∙ ran.1 ∙ ap (λ r. answer_text r.1) (ran_line_of from line same)) said.is_part,
-    ran.0 ∙ ap (λ r. r.0) (ran_line_of from line same)
+    ran.0 ∙ ap (λ r. r.0) (ran_line_of from line same),
   );
   lines = refl;
   only = said.only;
@@ -53,6 +53,7 @@ says_line tells old new from to byte lf no_lf answers = record {
 } where
   there : record { state = (step from.engine (line_of from)).0; held = [] } ≡ standing to
   there = ap (λ (s : State). record { state = s; held = [] }) (sym answers.state) ∙ ap (λ (held : List ℕ). record { state = to.engine; held = held }) (sym answers.held)
+
   ran : Ran (standing from) (10 ∷ []) (line_of from ∷ []) (standing to)
   ran = subst (λ (at : Standing). Ran (standing from) (10 ∷ []) (line_of from ∷ []) at) there (ran_line (standing from) no_lf)
 
@@ -160,4 +161,4 @@ pub breaks_next : (tells : Type 0) (first middle last : History) (a b c : Host) 
 breaks_next tells first middle last a b c bytes i within one stop =
     subst (λ (all : List ℕ). Breaks tells first last a all c) (ap (λ (front : List ℕ). front ++ drop (i + 1) bytes) (sym (take_more bytes i 0 within)) ∙ take-append-drop (i + 1) bytes)
     (breaks_longer tells first last a c (take i bytes ++ get_or bytes i 0 ∷ []) (drop (i + 1) bytes)
-      (says_then_breaks tells first middle last a b c (take i bytes) (get_or bytes i 0 ∷ []) one stop))
+    (says_then_breaks tells first middle last a b c (take i bytes) (get_or bytes i 0 ∷ []) one stop))

@@ -1,4 +1,5 @@
 pub mod Causes
+pub mod Ending
 pub mod Held
 pub mod Hosting
 pub mod Past

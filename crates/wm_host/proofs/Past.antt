@@ -1,16 +1,18 @@
 -- Laws on a script of which the host has taken a part.
 use Rattle.std.proofs.Common.{ℕ, ◌≡◌, ◌≤◌, ◌+◌, ◌^◌, true, false, List, [], ◌++◌, length, take, refl, ap, sym, subst, ◌∙◌, append_assoc, append-nil, length-append, arith}
+use Rattle.std.specs.Prelude.{Result, Ok, Err, OnOk, OnErr}
 use Rattle.std.proofs.lemmas.List.{take_at, length-take-le}
 use Rattle.wm_station.specs.History.{History}
 use Rattle.wm_spec.specs.Lines.{capped, HasNoLf}
 use Rattle.wm_spec.specs.Step.{State}
 use Rattle.wm_spec.specs.Running.{transcript, Stopped}
 use Rattle.wm_spec.proofs.Running.{transcript-append, ran_lines, ran_ended_lines, stopped_after}
-use Rattle.wm_host.specs.Saying.{OnlySaid}
+use Rattle.wm_host.specs.Saying.{OnlySaid, OnlySays}
 use Rattle.wm_host.specs.Hosting.{standing, Says, Breaks, Finishes, Halts}
 use Rattle.wm_host.specs.Script.{AnswersTaken, AnswersToLimit}
 use Rattle.wm_host.specs.declared.host.Host.{Host}
-use Rattle.wm_host.proofs.Saying.{said_more}
+use Rattle.wm_host.specs.declared.stop.Stop.{Stop}
+use Rattle.wm_host.proofs.Saying.{said_more, says_only, says_only_more}
 use Rattle.wm_host.proofs.Hosting.{says_begun, says_more, says_then_breaks, breaks_before}
 
 -- the bytes taken so far, where the source tells its script, and what the host did with them
@@ -134,3 +136,16 @@ past_limit source_tells tells script left rest into old new from to taken n empt
   lines = rw (ap (take (2 ^ 30)) (so_far.script_is s) ∙ take_at so_far.past left (2 ^ 30) (so_far.size ∙ full))
       (past_ended source_tells tells script left old new from to taken empty so_far);
 }
+
+-- nothing but says, where the last line was answered, and where a piece was not
+pub past_only_finish : (source_tells tells : Type 0) (script left : List ℕ) (first middle last : History) (a b c : Host) (taken : ℕ) (lines : List (List ℕ)) (result : Result (Unit {0}) Stop)
+    → Past source_tells tells script left first middle a b taken → OnOk result (Finishes tells middle last b lines c) → OnErr result (Halts tells middle last b lines c) → tells → OnlySays first last
+past_only_finish source_tells tells script left first middle last a b c taken lines (Ok x) so_far ok err t =
+    says_only_more (says_only (so_far.says.only t)) (says_only (ok.only t))
+past_only_finish source_tells tells script left first middle last a b c taken lines (Err stop) so_far ok err t =
+    says_only_more (says_only (so_far.says.only t)) (says_only (err.only t))
+
+pub past_only_broken : (source_tells tells : Type 0) (script left bytes : List ℕ) (first middle last : History) (a b c : Host) (taken : ℕ)
+    → Past source_tells tells script left first middle a b taken → Breaks tells middle last b bytes c → tells → OnlySays first last
+past_only_broken source_tells tells script left bytes first middle last a b c taken so_far breaks t =
+    says_only_more (says_only (so_far.says.only t)) (says_only (breaks.only t))

@@ -1,5 +1,7 @@
 pub mod Cause
 pub mod Hosting
+pub mod Outcome
 pub mod Saying
 pub mod Script
+pub mod Status
 pub mod Words

@@ -24,3 +24,7 @@ pub record SaidPart (tells : Type 0) (old new : History) (bytes : List ℕ) : Ty
   pub part : List ℕ
   pub is_part : IsPart part bytes
   pub only : tells → OnlySaid old new part
+
+-- the station did nothing but say
+abbrev pub OnlySays : History → History → Type 0
+OnlySays old new = (calls : List (List ℕ × ℕ)) × (new ≡ after_says old calls)

@@ -1,7 +1,7 @@
 //! What takes the bytes of a script one by one, and answers each line as it ends.
 ghost use Rattle.std.specs.Prelude.{◌≡◌, ◌+◌, ◌^◌, ◌<◌, ◌≤◌, List, [], ◌∷◌, length, OnOk, OnErr, IsErrOf, IfErr, true};
 ghost use Rattle.wm_spec.specs.Lines.{HasNoLf, capped};
-ghost use Rattle.wm_spec.specs.Step.{fresh};
+ghost use Rattle.wm_spec.specs.State.{fresh};
 ghost use Rattle.wm_station.specs.Cause.{Rises};
 ghost use Rattle.wm_host.specs.Cause.{IsOfAnswers};
 ghost use Rattle.wm_host.specs.Hosting.{Answers, Unanswered, Says, Breaks, Finishes, Halts};
@@ -52,7 +52,12 @@ impl Host {
         Ok(())
     }
 
-    fn take_byte<P: Station>(&mut self, alloc: Global, station: &mut P, byte: u8) -> Result<(), Stop>
+    fn take_byte<P: Station>(
+        &mut self,
+        alloc: Global,
+        station: &mut P,
+        byte: u8,
+    ) -> Result<(), Stop>
         requires room { self.old.lines + 1 < 2 ^ 64 }
         requires no_lf { HasNoLf self.old.line }
         ensures ok { OnOk result (Says P.tells (P.history station.old) (P.history station.new) self.old (byte ∷ []) self.new) }
@@ -70,7 +75,12 @@ impl Host {
     }
 
     /// Takes a piece of the script, and answers each line that ends in it.
-    pub(crate) fn feed<P: Station>(&mut self, alloc: Global, station: &mut P, bytes: &[u8]) -> Result<(), Stop>
+    pub(crate) fn feed<P: Station>(
+        &mut self,
+        alloc: Global,
+        station: &mut P,
+        bytes: &[u8],
+    ) -> Result<(), Stop>
         requires room { self.old.lines + length bytes.now < 2 ^ 64 }
         requires no_lf { HasNoLf self.old.line }
         ensures ok { OnOk result (Says P.tells (P.history station.old) (P.history station.new) self.old bytes.now self.new) }

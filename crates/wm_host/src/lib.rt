@@ -2,10 +2,17 @@
 //! the answer.
 #![tactic(auto)]
 
+mod command;
+mod ended;
 mod host;
 mod line;
 mod say;
 mod script;
-
 mod stop;
 mod words;
+
+pub use command::run;
+pub use ended::{Ended, Place};
+
+#[cfg(test)]
+mod tests;

@@ -3,6 +3,7 @@ ghost use Rattle.std.specs.Prelude.{◌≡◌, ◌^◌, ◌≤◌, List, [], len
 ghost use Rattle.wm_spec.specs.Lines.{capped};
 ghost use Rattle.wm_station.specs.Cause.{Rises};
 ghost use Rattle.wm_host.specs.Hosting.{Finishes, Halts};
+ghost use Rattle.wm_host.specs.Saying.{OnlySays};
 ghost use Rattle.wm_host.specs.Script.{AnswersTaken, AnswersToLimit};
 ghost use Rattle.wm_host.specs.declared.stop.Stop.TheVariants.{InputLimit, SayFault, SourceFault};
 
@@ -34,6 +35,7 @@ pub(crate) fn run_script<S: Source, P: Station>(
     ensures taken { S.tells → IsErrOf result SourceFault → AnswersTaken P.tells (P.history station.old) (P.history station.new) host.old host.new (S.left source.old) (S.left source.new) }
     ensures limit { S.tells → IsErrOf result InputLimit → AnswersToLimit P.tells (P.history station.old) (P.history station.new) host.old host.new (S.left source.old) }
 
+    ensures disk { P.tells → OnlySays (P.history station.old) (P.history station.new) }
     ensures source_later { S.faults source.old ≤ S.faults source.new }
     ensures source_failed { IsErrOf result SourceFault → Rises (S.faults source.old) (S.faults source.new) }
     ensures say_later { P.say_faults station.old ≤ P.say_faults station.new }

@@ -1,7 +1,6 @@
 //! Numbers in pages, with their highest byte first.
 ghost use Rattle.std.specs.Prelude.{◌≡◌, ◌+◌, ◌≤◌, length};
-ghost use Rattle.byteorder.specs.Endian.{big_bytes};
-ghost use Rattle.wm_page.specs.Fields.{number_at, short_at, with_bytes};
+ghost use Rattle.wm_page.specs.Fields.{number_at, short_at, eight_bytes, two_bytes, with_bytes};
 
 use byteorder::{BigEndian, ByteOrder};
 
@@ -24,20 +23,20 @@ pub fn read_short(bytes: &[u8], at: usize) -> u16
 }
 
 /// Writes the number into the eight bytes from `at` on.
-#[tactic(auto, unfolding(crate::specs::Fields::number_at))]
+#[tactic(auto, unfolding(crate::specs::Fields::number_at, crate::specs::Fields::eight_bytes))]
 pub fn write_number(bytes: &mut [u8], at: usize, number: u64)
     requires { at + 8 ≤ length bytes.old }
-    ensures bytes { bytes.new ≡ with_bytes bytes.old at (big_bytes 8 number) }
+    ensures bytes { bytes.new ≡ with_bytes bytes.old at (eight_bytes number) }
     ensures reads { number_at bytes.new at ≡ number }
 {
     BigEndian::write_u64(&mut bytes[at..at + 8], number);
 }
 
 /// Writes the number into the two bytes from `at` on.
-#[tactic(auto, unfolding(crate::specs::Fields::short_at))]
+#[tactic(auto, unfolding(crate::specs::Fields::short_at, crate::specs::Fields::two_bytes))]
 pub fn write_short(bytes: &mut [u8], at: usize, number: u16)
     requires { at + 2 ≤ length bytes.old }
-    ensures bytes { bytes.new ≡ with_bytes bytes.old at (big_bytes 2 number) }
+    ensures bytes { bytes.new ≡ with_bytes bytes.old at (two_bytes number) }
     ensures reads { short_at bytes.new at ≡ number }
 {
     BigEndian::write_u16(&mut bytes[at..at + 2], number);

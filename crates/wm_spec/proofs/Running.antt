@@ -1,7 +1,7 @@
 -- Laws on runs over lines and over pieces of input.
-use Rattle.std.proofs.Common.{ℕ, ◌≡◌, ◌+◌, ◌==◌, Bool, true, false, cond, inl, inr, List, [], ◌∷◌, ◌++◌, length, map, take, drop, refl, ap, sym, subst, ◌∙◌, append_assoc, append-nil, length-append, arith}
+use Rattle.std.proofs.Common.{◌≤◌, ℕ, ◌≡◌, ◌+◌, ◌==◌, Bool, true, false, cond, inl, inr, List, [], ◌∷◌, ◌++◌, length, map, take, drop, refl, ap, sym, subst, ◌∙◌, append_assoc, append-nil, length-append, arith}
 use Rattle.std.proofs.Math.Seq.{take-append-add, drop-append-add}
-use Rattle.std.proofs.lemmas.List.{length-map, take-map, drop-map, take-append-drop}
+use Rattle.std.proofs.lemmas.List.{length-map, take-map, drop-map, take-append-drop, take_all, drop_all}
 use Rattle.wm_spec.specs.Lines.{fits_line, too_long, cap, capped, without_cr, HasNoLf, held_more}
 use Rattle.wm_spec.specs.Step.{State, step, answer_text}
 use Rattle.wm_spec.specs.Running.{answer, transcript, after, IsPart, StopsIn, Stopped, Standing, Ran, Cut}
@@ -190,3 +190,12 @@ ran_ended_lines a b xs d nothing no_lf ran =
     ∙ ran.cut false []
     ∙ ap (λ (ls : List (List ℕ)). d ++ ls) (ap (capped false) (append-nil b.held) ∙ capped_not_ended b.held no_lf)
     ∙ append-nil d
+
+-- a run that answered all of the lines
+pub stopped_all : (s : State) (lines : List (List ℕ)) → Stopped s lines (transcript s lines) (length lines) (after s lines)
+stopped_all s lines = record {
+  within = omega arith;
+  part = [];
+  out_is = ap (transcript s) (sym (take_all (length lines) lines (omega arith))) ∙ sym (append-nil (transcript s (take (length lines) lines)));
+  next = let all : length lines ≤ length lines = omega arith in rw (take_all, drop_all) (refl, refl);
+}

@@ -5,3 +5,4 @@ pub mod State
 pub mod Texts
 pub mod Step
 pub mod Running
+pub mod Records

@@ -3,7 +3,7 @@ ghost use Rattle.std.specs.Prelude.{◌≡◌};
 ghost use Rattle.wm_station.specs.declared.fault.DiskFailed.TheVariants.{Memory};
 ghost use Rattle.wm_station.specs.declared.fault.SayFailed.TheVariants.{Memory as Unsaid};
 
-use std::alloc::AllocError;
+use std::alloc::{AllocError, AllocFailed};
 use thiserror::Error;
 
 /// The source of a script gave no bytes.
@@ -46,5 +46,13 @@ impl From<AllocError> for SayFailed {
 
     fn from(_: AllocError) -> Self {
         SayFailed::Memory
+    }
+}
+
+impl<T: Drop> From<AllocFailed<T>> for DiskFailed {
+    ghost from_gives = { λ _ e. e ≡ Memory };
+
+    fn from(_: AllocFailed<T>) -> Self {
+        DiskFailed::Memory
     }
 }

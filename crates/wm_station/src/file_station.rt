@@ -39,6 +39,19 @@ impl<F: Read + Write + Seek + OpenFile, W: Write> FileStation<F, W> {
             say_faults: 0,
         }
     }
+
+    /// A station that has no file: each call on the disk fails. Answers go to `out`.
+    pub fn without_file(out: W) -> Self
+        ensures disk { ⟦<FileStation<F, W> as Station>⟧.disk_faults result ≡ 0 }
+        ensures say { ⟦<FileStation<F, W> as Station>⟧.say_faults result ≡ 0 }
+    {
+        FileStation {
+            file: None,
+            out,
+            disk_faults: 0,
+            say_faults: 0,
+        }
+    }
 }
 
 impl<F: Read + Write + Seek + OpenFile, W: Write> Station for FileStation<F, W> {

@@ -9,6 +9,6 @@ returns-then-line-count-eq13 c =
 
 pub returns-else-count-gt0 : goal.returns-else-count-gt0
 returns-else-count-gt0 c = elim c.else-count-gt0.branch [
-  else-count-gt0-via-then-count-gt0+else-line-count-eq13 w ↦ without_cr-other c.args.line.now (length c.args.line.now - 1) (omega arith) w.if-line-count-eq13.false
+  | else-count-gt0-via-then-count-gt0+else-line-count-eq13 w ↦ without_cr-other c.args.line.now (length c.args.line.now - 1) (omega arith) w.if-line-count-eq13.false
   | else-count-gt0-via-else-count-gt0 w ↦ without_cr-empty c.args.line.now (omega arith)
-  ]
+]

@@ -9,13 +9,13 @@ returns-in_err-count-clause-part g c =
     let p = err_from_is_err_and c.from_residual.result c.from_residual.ensures.1 in
     rw p.1
     (front_failed g.P.Station.tells _ _ _ c.args.bytes.now c.loop-rest.rest.now c.loop-rest.invariant.front
-      (λ t. said_failed _ _ c.loop-rest.rest.now (c.in_err-count.ensures.unsaid t)) (more_of_test _ c.loop-rest.rest.now c.is_empty.ensures c.loop-rest-test.true))
+    (λ t. said_failed _ _ c.loop-rest.rest.now (c.in_err-count.ensures.unsaid t)) (more_of_test _ c.loop-rest.rest.now c.is_empty.ensures c.loop-rest-test.true))
 
 pub returns-then-count-eq0-clause-part : goal.returns-then-count-eq0-clause-part
 returns-then-count-eq0-clause-part g c =
     front_failed g.P.Station.tells _ _ _ c.args.bytes.now c.loop-rest.rest.now c.loop-rest.invariant.front
-      (λ t. said_none _ _ c.loop-rest.rest.now c.in_ok-count.count c.if-count-eq0.true (c.in_ok-count.ensures.said t))
-      (more_of_test _ c.loop-rest.rest.now c.is_empty.ensures c.loop-rest-test.true)
+    (λ t. said_none _ _ c.loop-rest.rest.now c.in_ok-count.count c.if-count-eq0.true (c.in_ok-count.ensures.said t))
+    (more_of_test _ c.loop-rest.rest.now c.is_empty.ensures c.loop-rest-test.true)
 
 pub loop-rest-preserved : goal.loop-rest-preserved
 loop-rest-preserved g c = record {

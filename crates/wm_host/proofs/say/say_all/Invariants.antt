@@ -6,7 +6,7 @@ abbrev pub invariant-loop-rest : goal.invariant-loop-rest
 invariant-loop-rest g l = record {
   front : SaidFront g.P.Station.tells (g.P.Station.history l.initial.station) (g.P.Station.history l.station) l.bytes l.rest;
   later : g.P.Station.say_faults l.initial.station ≤ g.P.Station.say_faults l.station;
-  quiet : g.P.Station.disk_faults l.station ≡ g.P.Station.disk_faults l.initial.station
+  quiet : g.P.Station.disk_faults l.station ≡ g.P.Station.disk_faults l.initial.station;
 }
 
 abbrev pub decreases-loop-rest : goal.decreases-loop-rest

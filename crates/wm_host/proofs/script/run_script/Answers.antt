@@ -1,7 +1,7 @@
 use Rattle.std.proofs.Common.{refl, arith, ◌∙◌}
 use Rattle.std.proofs.lemmas.List.{length-take}
 use Rattle.std.proofs.lemmas.Result.{err_from_is_err_and, on_ok_weaker, on_err_weaker}
-use Rattle.wm_host.proofs.Past.{past_begun, past_more, past_finished, past_halted, past_broken, past_stopped, past_taken, past_limit}
+use Rattle.wm_host.proofs.Past.{past_begun, past_more, past_finished, past_halted, past_broken, past_stopped, past_taken, past_limit, past_only_finish, past_only_broken}
 use Rattle.wm_host.proofs.Causes.{not_of_source, not_of_limit, handed_on}
 use Rattle.wm_host.proofs.script.run_script.Goals as goal
 
@@ -19,7 +19,7 @@ returns-in_err-count-clause-err g c =
     let p = err_from_is_err_and c.from_residual.result c.from_residual.ensures.1 in
     rw p.1
     (past_stopped g.S.Source.tells g.P.Station.tells (g.S.Source.left c.args.source.now) (g.S.Source.left c.pieces.source) _ _ c.args.host.now c.pieces.host c.pieces.taken
-      c.requires.held c.pieces.invariant.past)
+    c.requires.held c.pieces.invariant.past)
 
 pub returns-in_err-count-clause-taken : goal.returns-in_err-count-clause-taken
 returns-in_err-count-clause-taken g c = λ s _.
@@ -30,14 +30,14 @@ pub returns-then-count-eq0-clause-ok : goal.returns-then-count-eq0-clause-ok
 returns-then-count-eq0-clause-ok g c = λ s.
     on_ok_weaker c.finish.result
     (λ finishes. past_finished g.S.Source.tells g.P.Station.tells (g.S.Source.left c.args.source.now) (g.S.Source.left c.pieces.source) _ _ _ c.args.host.now c.pieces.host c.finish.new.self c.pieces.taken
-      c.requires.held c.pieces.invariant.past (λ s'. c.in_ok-count.ensures.end s' c.if-count-eq0.true (omega (arith, length-take c.clamp-room.result c.pieces.piece))) finishes s)
+    c.requires.held c.pieces.invariant.past (λ s'. c.in_ok-count.ensures.end s' c.if-count-eq0.true (omega (arith, length-take c.clamp-room.result c.pieces.piece))) finishes s)
     c.finish.ensures.ok
 
 pub returns-then-count-eq0-clause-err : goal.returns-then-count-eq0-clause-err
 returns-then-count-eq0-clause-err g c = λ s.
     on_err_weaker c.finish.result
     (λ halts. past_halted g.S.Source.tells g.P.Station.tells (g.S.Source.left c.args.source.now) (g.S.Source.left c.pieces.source) _ _ _ c.args.host.now c.pieces.host c.finish.new.self c.pieces.taken
-      c.requires.held c.pieces.invariant.past (λ s'. c.in_ok-count.ensures.end s' c.if-count-eq0.true (omega (arith, length-take c.clamp-room.result c.pieces.piece))) halts s)
+    c.requires.held c.pieces.invariant.past (λ s'. c.in_ok-count.ensures.end s' c.if-count-eq0.true (omega (arith, length-take c.clamp-room.result c.pieces.piece))) halts s)
     c.finish.ensures.err
 
 pub returns-then-count-eq0-clause-taken : goal.returns-then-count-eq0-clause-taken
@@ -64,25 +64,25 @@ returns-in_err-feed-clause-err g c =
     let p = err_from_is_err_and c.from_residual-in_err-feed.result c.from_residual-in_err-feed.ensures.1 in
     rw p.1
     (past_broken g.S.Source.tells g.P.Station.tells (g.S.Source.left c.args.source.now) (g.S.Source.left c.pieces.source) (g.S.Source.left c.take.new.self) c.take.new.into _ _ _ c.args.host.now c.pieces.host c.feed.new.self c.pieces.taken c.in_ok-count.count
-      c.requires.held c.pieces.invariant.past c.in_ok-count.ensures.taken c.in_err-feed.ensures.err)
+    c.requires.held c.pieces.invariant.past c.in_ok-count.ensures.taken c.in_err-feed.ensures.err)
 
 pub returns-in_err-feed-clause-taken : goal.returns-in_err-feed-clause-taken
 returns-in_err-feed-clause-taken g c = λ s is.
-    absurd (not_of_source c.from_residual-in_err-feed.result 
-      (handed_on c.from_residual-in_err-feed.result c.in_err-feed.field-0.0 (err_from_is_err_and c.from_residual-in_err-feed.result c.from_residual-in_err-feed.ensures.1) c.in_err-feed.ensures.answering)
-      is)
+    absurd (not_of_source c.from_residual-in_err-feed.result
+    (handed_on c.from_residual-in_err-feed.result c.in_err-feed.field-0.0 (err_from_is_err_and c.from_residual-in_err-feed.result c.from_residual-in_err-feed.ensures.1) c.in_err-feed.ensures.answering)
+    is)
 
 pub returns-in_err-feed-clause-limit : goal.returns-in_err-feed-clause-limit
 returns-in_err-feed-clause-limit g c = λ s is.
-    absurd (not_of_limit c.from_residual-in_err-feed.result 
-      (handed_on c.from_residual-in_err-feed.result c.in_err-feed.field-0.0 (err_from_is_err_and c.from_residual-in_err-feed.result c.from_residual-in_err-feed.ensures.1) c.in_err-feed.ensures.answering)
-      is)
+    absurd (not_of_limit c.from_residual-in_err-feed.result
+    (handed_on c.from_residual-in_err-feed.result c.in_err-feed.field-0.0 (err_from_is_err_and c.from_residual-in_err-feed.result c.from_residual-in_err-feed.ensures.1) c.in_err-feed.ensures.answering)
+    is)
 
 pub returns-in_err-feed-clause-source_failed : goal.returns-in_err-feed-clause-source_failed
 returns-in_err-feed-clause-source_failed g c = λ is.
-    absurd (not_of_source c.from_residual-in_err-feed.result 
-      (handed_on c.from_residual-in_err-feed.result c.in_err-feed.field-0.0 (err_from_is_err_and c.from_residual-in_err-feed.result c.from_residual-in_err-feed.ensures.1) c.in_err-feed.ensures.answering)
-      is)
+    absurd (not_of_source c.from_residual-in_err-feed.result
+    (handed_on c.from_residual-in_err-feed.result c.in_err-feed.field-0.0 (err_from_is_err_and c.from_residual-in_err-feed.result c.from_residual-in_err-feed.ensures.1) c.in_err-feed.ensures.answering)
+    is)
 
 pub pieces-preserved : goal.pieces-preserved
 pieces-preserved g c = record {
@@ -93,3 +93,13 @@ pieces-preserved g c = record {
   say_later = omega (arith, c.pieces.invariant.say_later, c.in_ok-feed.ensures.later);
   quiet = c.in_ok-feed.ensures.quiet ∙ c.pieces.invariant.quiet;
 }
+
+pub returns-then-count-eq0-clause-disk : goal.returns-then-count-eq0-clause-disk
+returns-then-count-eq0-clause-disk g c =
+    past_only_finish g.S.Source.tells g.P.Station.tells (g.S.Source.left c.args.source.now) (g.S.Source.left c.pieces.source) _ _ _ c.args.host.now c.pieces.host c.finish.new.self c.pieces.taken _ c.finish.result
+    c.pieces.invariant.past c.finish.ensures.ok c.finish.ensures.err
+
+pub returns-in_err-feed-clause-disk : goal.returns-in_err-feed-clause-disk
+returns-in_err-feed-clause-disk g c =
+    past_only_broken g.S.Source.tells g.P.Station.tells (g.S.Source.left c.args.source.now) (g.S.Source.left c.pieces.source) _ _ _ _ c.args.host.now c.pieces.host c.feed.new.self c.pieces.taken
+    c.pieces.invariant.past c.in_err-feed.ensures.err

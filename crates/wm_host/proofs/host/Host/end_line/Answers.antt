@@ -7,9 +7,9 @@ returns-in_err-say_all-clause-err g c =
     let p = err_from_is_err_and c.from_residual-in_err-say_all.result c.from_residual-in_err-say_all.ensures.1 in
     rw p.1
     (answered_part g.P.Station.tells _ _ c.args.self.now c.line.result.now c.in_ok-answer.answer c.as_slice.result.now c.line-2.new.self
-      c.line.ensures c.in_ok-answer.ensures.ok c.as_slice.ensures c.in_err-say_all.ensures.part)
+    c.line.ensures c.in_ok-answer.ensures.ok c.as_slice.ensures c.in_err-say_all.ensures.part)
 
 pub returns-clause-ok : goal.returns-clause-ok
 returns-clause-ok g c =
     answered g.P.Station.tells _ _ c.args.self.now c.line.result.now c.in_ok-answer.answer c.as_slice.result.now c.clear.new.self c.line-2.new.self
-      c.line.ensures c.in_ok-answer.ensures.ok c.as_slice.ensures c.clear.ensures c.in_ok-say_all.ensures.said
+    c.line.ensures c.in_ok-answer.ensures.ok c.as_slice.ensures c.clear.ensures c.in_ok-say_all.ensures.said

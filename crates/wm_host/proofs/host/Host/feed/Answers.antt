@@ -15,7 +15,7 @@ returns-in_err-take_byte-clause-err g c =
     let p = err_from_is_err_and c.from_residual.result c.from_residual.ensures.1 in
     rw p.1
     (breaks_next g.P.Station.tells _ _ _ c.args.self.now c.loop-byte.self c.take_byte.new.self c.args.bytes.now c.loop-byte.byte-index c.loop-byte-test.true
-      c.loop-byte.invariant.says c.in_err-take_byte.ensures.err)
+    c.loop-byte.invariant.says c.in_err-take_byte.ensures.err)
 
 pub loop-byte-preserved : goal.loop-byte-preserved
 loop-byte-preserved g c = record {

@@ -6,5 +6,5 @@ abbrev pub invariant-loop-byte : goal.invariant-loop-byte
 invariant-loop-byte g l = record {
   says : Says g.P.Station.tells (g.P.Station.history l.initial.station) (g.P.Station.history l.station) l.fn.self (take l.byte-index l.bytes) l.self;
   later : g.P.Station.say_faults l.initial.station ≤ g.P.Station.say_faults l.station;
-  quiet : g.P.Station.disk_faults l.station ≡ g.P.Station.disk_faults l.initial.station
+  quiet : g.P.Station.disk_faults l.station ≡ g.P.Station.disk_faults l.initial.station;
 }

@@ -1,0 +1,69 @@
+//! The program: `wm STORE WORDS..`. A script comes from standard input, answers go to standard output.
+#![tactic(auto)]
+
+use std::fs::File;
+use std::io::{ErrorKind, Stdout};
+use std::process::ExitCode;
+use std::{env, io};
+use wm_host::{Ended, Place, run};
+use wm_station::{FileStation, StreamSource};
+
+/// The first argument is the program's name, and the second the store's path.
+const WORDS_BEGIN: usize = 2;
+
+fn main(rt: HostRuntime) -> ExitCode {
+    let ended = match arguments(&rt) {
+        Ok(arguments) => play(&rt, &arguments),
+        Err(error) if error.kind() == ErrorKind::OutOfMemory => ended(10),
+        Err(_) => ended(2),
+    };
+    complain(&rt, &ended);
+    ExitCode::from(ended.status)
+}
+
+/// The end of a run that did not begin.
+fn ended(status: u8) -> Ended {
+    Ended {
+        status,
+        lines: 0,
+        place: Place::Nowhere,
+    }
+}
+
+/// The arguments in order. One that is not UTF-8 is an error.
+fn arguments(rt: &HostRuntime) -> io::Result<Vec<String>> {
+    let mut arguments = Vec::new(rt.alloc());
+    for argument in env::args(rt)? {
+        arguments.push(argument)?;
+    }
+    Ok(arguments)
+}
+
+/// Runs the words behind the path.
+fn play(rt: &HostRuntime, arguments: &[String]) -> Ended {
+    if arguments.len() < WORDS_BEGIN {
+        return ended(2);
+    }
+    let mut source = StreamSource::new(rt.stdin());
+    let mut station: FileStation<File, Stdout> = FileStation::without_file(rt.stdout());
+    run(
+        rt.alloc(),
+        &arguments[WORDS_BEGIN..],
+        &mut source,
+        &mut station,
+    )
+}
+
+/// Says on standard error why the run ended, where it did not end well.
+fn complain(rt: &HostRuntime, ended: &Ended) {
+    let text = match ended.status {
+        2 => "wm: usage",
+        3 => "wm: source fault",
+        4 => "wm: say fault",
+        9 => "wm: input limit",
+        10 => "wm: out of memory",
+        _ => return,
+    };
+    // Nobody is left to tell where standard error fails too.
+    let _ = rt.eprintln(text);
+}

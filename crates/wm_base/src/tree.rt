@@ -1,0 +1,10 @@
+//! The trees of the lines.
+
+pub mod column;
+pub mod cond;
+pub mod constant;
+pub mod expr;
+pub mod line;
+pub mod operand;
+pub mod query;
+pub mod statement;

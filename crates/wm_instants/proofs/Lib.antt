@@ -1,0 +1,4 @@
+pub mod FormLemmas
+pub mod CivilLemmas
+pub mod JoinedLemmas
+pub mod TextLemmas

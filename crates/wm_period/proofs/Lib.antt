@@ -1,0 +1,6 @@
+pub mod Cells
+pub mod Order
+pub mod Over
+pub mod JoinLaws
+pub mod Canonical
+pub mod Search

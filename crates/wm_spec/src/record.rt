@@ -1,0 +1,34 @@
+//! The records of a store: one struct for each kind, and the lists of them that a store gives and takes.
+
+pub mod batch;
+pub mod cell_range;
+pub mod column;
+pub mod counters;
+pub mod piece;
+pub mod row;
+pub mod space;
+pub mod stored;
+pub mod table;
+pub mod version;
+
+pub use batch::{Batch, Change, Changes};
+pub use cell_range::CellRange;
+pub use column::{ColumnKind, TableColumn, TableColumns};
+pub use counters::Counters;
+pub use piece::PieceRecord;
+pub use row::RowRecord;
+pub use space::{FreezeMode, Space};
+pub use stored::{Records, Stored};
+pub use table::Table;
+pub use version::Version;
+
+/// A record of the store.
+#[derive(Drop)]
+pub enum Record {
+    Counters(Counters),
+    Table(Table),
+    Space(Space),
+    Version(Version),
+    Row(RowRecord),
+    Piece(PieceRecord),
+}

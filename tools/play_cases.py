@@ -1,0 +1,138 @@
+#!/usr/bin/env python3
+"""play_cases.py PROGRAM FILE-OR-FOLDER..
+
+Plays case files through the program, each on a store file of its own in a fresh folder. A line of a case is
+
+    $ WORDS     a command: the words behind the store's path, split as a shell splits them
+    < TEXT      a line of its input, with LF          <- TEXT    its last line, without LF
+    <* N C      a line of N times the character C     <x HEX     a line given in hexadecimal
+    > TEXT      a line of its output, with LF         >? REGEX   a line that the expression matches
+    = N         its status (0 where there is none)    ! TEXT     its line on standard error
+    @ cut N | poke OFFSET HEX | new | save NAME | load NAME      done to the store file between commands
+
+and a comment begins with '#'. The output of a command is its '>' lines and nothing beside.
+"""
+import re
+import shlex
+import shutil
+import subprocess
+import sys
+import tempfile
+from pathlib import Path
+
+SECONDS = 60
+
+
+class Command:
+    def __init__(self, at, words):
+        self.at, self.words = at, words
+        self.input, self.output = b"", []
+        self.status, self.complaint = 0, None
+
+    def take(self, mark, rest):
+        if mark == b"<":
+            self.input += rest + b"\n"
+        elif mark == b"<-":
+            self.input += rest
+        elif mark == b"<*":
+            count, char = rest.split(b" ", 1)
+            self.input += int(count) * char + b"\n"
+        elif mark == b"<x":
+            self.input += bytes.fromhex(rest.decode()) + b"\n"
+        elif mark in (b">", b">?"):
+            self.output.append((mark, rest))
+        elif mark == b"=":
+            self.status = int(rest)
+        elif mark == b"!":
+            self.complaint = rest
+        else:
+            raise ValueError(f"no such line: {mark!r}")
+
+    def difference(self, program, store):
+        """What the program did otherwise, or None."""
+        call = [*program, str(store), *self.words]
+        done = subprocess.run(call, input=self.input, capture_output=True, timeout=SECONDS)
+        said = done.stdout.split(b"\n")
+        if said.pop() != b"":
+            return f"the output ends without LF: {done.stdout[-80:]!r}"
+        for place in range(max(len(said), len(self.output))):
+            want = self.output[place] if place < len(self.output) else None
+            got = said[place] if place < len(said) else None
+            if want is None or got is None or not fits(want, got):
+                return f"output line {place + 1} is {got!r}, and {want and want[1]!r} is wanted"
+        if done.returncode != self.status:
+            return f"the status is {done.returncode}, and {self.status} is wanted"
+        if self.complaint is not None and done.stderr != self.complaint + b"\n":
+            return f"standard error has {done.stderr[:200]!r}, and {self.complaint!r} is wanted"
+        return None
+
+
+def fits(want, got):
+    mark, text = want
+    return text == got if mark == b">" else re.fullmatch(text, got) is not None
+
+
+def read_case(path):
+    """The commands of a case, and the '@' lines as lists of words, in order."""
+    steps = []
+    for at, line in enumerate(path.read_bytes().split(b"\n"), 1):
+        if not line or line.startswith(b"#"):
+            continue
+        mark, _, rest = line.partition(b" ")
+        if mark == b"$":
+            steps.append(Command(at, shlex.split(rest.decode())))
+        elif mark == b"@":
+            steps.append(rest.decode().split())
+        else:
+            steps[-1].take(mark, rest)
+    return steps
+
+
+def change(store, words):
+    kind, rest = words[0], words[1:]
+    if kind == "cut":
+        store.write_bytes(store.read_bytes()[: int(rest[0])])
+    elif kind == "poke":
+        at, new = int(rest[0]), bytes.fromhex(rest[1])
+        old = store.read_bytes().ljust(at, b"\0")
+        store.write_bytes(old[:at] + new + old[at + len(new):])
+    elif kind == "new":
+        store.unlink(missing_ok=True)
+    elif kind in ("save", "load"):
+        kept = store.with_name("kept-" + rest[0])
+        shutil.copyfile(*((store, kept) if kind == "save" else (kept, store)))
+    else:
+        raise ValueError(f"no such change: {kind}")
+
+
+def play(program, path):
+    """The first difference of a case, or None."""
+    with tempfile.TemporaryDirectory() as folder:
+        store = Path(folder) / "s.wm"
+        for step in read_case(path):
+            if isinstance(step, list):
+                change(store, step)
+                continue
+            why = step.difference(program, store)
+            if why is not None:
+                return f"{path}:{step.at}: {why}"
+    return None
+
+
+def main():
+    if len(sys.argv) < 3:
+        sys.exit(__doc__)
+    program = [str(Path(word).resolve()) if "/" in word else word for word in shlex.split(sys.argv[1])]
+    paths = [Path(word) for word in sys.argv[2:]]
+    cases = [case for path in paths for case in (sorted(path.rglob("*.case")) if path.is_dir() else [path])]
+    failed = 0
+    for case in cases:
+        why = play(program, case)
+        if why is not None:
+            failed += 1
+            print(why)
+    print(f"{len(cases) - failed} passed, {failed} failed")
+    sys.exit(1 if failed or not cases else 0)
+
+
+main()
