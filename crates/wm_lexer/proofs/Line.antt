@@ -63,13 +63,20 @@ drop_here b bs kind n h = ap (λ (x : List ℕ). drop n x) h.is ∙ ap (λ (k : 
 pub begin_token : (t : Token) (ts : List Token) (b : ℕ) (bs : List ℕ) → is_blank b ≡ false → t.kind ≡ (token_from b bs).0 → t.till ≡ t.from + (token_from b bs).1
     → AreTokens t.till (drop (token_from b bs).1 (b ∷ bs)) ts → AreTokens t.from (b ∷ bs) (t ∷ ts)
 begin_token t ts b bs blank kind till others =
-    let h = here b bs blank in
-    ([], h.word, h.rest, h.is, refl, omega arith, omega (arith, till, h.size), subst (λ (k : TokenKind). IsNext k h.word h.rest) (sym kind) h.next,
-      subst (λ (x : List ℕ). AreTokens t.till x ts) (drop_here b bs (token_from b bs).0 (token_from b bs).1 h) others)
+    let h = here b bs blank in (
+      [],
+      h.word,
+      h.rest,
+      h.is,
+      refl,
+      omega arith,
+      omega (arith, till, h.size),
+      subst (λ (k : TokenKind). IsNext k h.word h.rest) (sym kind) h.next,
+      subst (λ (x : List ℕ). AreTokens t.till x ts) (drop_here b bs (token_from b bs).0 (token_from b bs).1 h) others,
+    )
 
 pub fits_here : (b : ℕ) (bs : List ℕ) → is_blank b ≡ false → (token_from b bs).1 ≤ length (b ∷ bs)
 fits_here b bs blank = let h = here b bs blank in omega (arith, h.size, ap length h.is, length-append h.word h.rest)
-
 
 -- ---- the loop over a line
 
@@ -86,7 +93,7 @@ lex_starts line =
       fits = omega (arith, ap length s.is, length-append s.blanks (skipped line));
       starts = λ b bs e. skipped_head line b bs e;
       goes_on = λ ts a.
-        subst (λ (x : List ℕ). AreTokens 0 x ts) (sym s.is)
+          subst (λ (x : List ℕ). AreTokens 0 x ts) (sym s.is)
           (begin_blanks ts 0 s.blanks (skipped line) s.pass (subst (λ (n : ℕ). AreTokens n (skipped line) ts) (omega (arith, ap length s.is, length-append s.blanks (skipped line))) a));
     }
 
@@ -103,10 +110,10 @@ lex_goes_on line tokens b bs t l kind from till =
       fits = omega (arith, l.fits, size, skip);
       starts = λ c cs e. skipped_head after c cs e;
       goes_on = λ ts a.
-        let place : length line - length (skipped after) ≡ t.till + length s.blanks = omega (arith, l.fits, size, skip, fits, from, till) in
-        let rest : AreTokens t.till after ts = subst (λ (x : List ℕ). AreTokens t.till x ts) (sym s.is) (begin_blanks ts t.till s.blanks (skipped after) s.pass (subst (λ (n : ℕ). AreTokens n (skipped after) ts) place a)) in
-        let whole = begin_token t ts b bs blank kind till rest in
-        subst (λ (x : List Token). AreTokens 0 line x) (sym (append_assoc tokens (t ∷ []) ts)) (l.goes_on (t ∷ ts) (subst (λ (n : ℕ). AreTokens n (b ∷ bs) (t ∷ ts)) from whole));
+          let place : length line - length (skipped after) ≡ t.till + length s.blanks = omega (arith, l.fits, size, skip, fits, from, till) in
+          let rest : AreTokens t.till after ts = subst (λ (x : List ℕ). AreTokens t.till x ts) (sym s.is) (begin_blanks ts t.till s.blanks (skipped after) s.pass (subst (λ (n : ℕ). AreTokens n (skipped after) ts) place a)) in
+          let whole = begin_token t ts b bs blank kind till rest in
+          subst (λ (x : List Token). AreTokens 0 line x) (sym (append_assoc tokens (t ∷ []) ts)) (l.goes_on (t ∷ ts) (subst (λ (n : ℕ). AreTokens n (b ∷ bs) (t ∷ ts)) from whole));
     }
 
 pub lex_ends : (line : List ℕ) (tokens : List Token) → Lexes line tokens [] → AreTokens 0 line tokens

@@ -96,7 +96,6 @@ Begun Text b = b ≡ 39
 Begun Mark b = In mark_heads b
 Begun Bad b = ⊥
 
-
 abbrev HeadsIn : List (List ℕ) → Type 0
 HeadsIn [] = Unit {0}
 HeadsIn ([] ∷ ws) = ⊥
@@ -236,6 +235,7 @@ quoted_len (b ∷ c ∷ w) r q =
   where
     two : b ≡ 39 → c ≡ 39 → text_rest false (w ++ r) ≡ Some (length w) → text_rest false (b ∷ c ∷ (w ++ r)) ≡ Some (length (b ∷ c ∷ w))
     two e k rec = rw (e, k, rec) (ap (λ (n : ℕ). Some n) (omega arith))
+
     one : b ≢ 39 → text_rest false (c ∷ (w ++ r)) ≡ Some (length (c ∷ w)) → text_rest false (b ∷ c ∷ (w ++ r)) ≡ Some (length (b ∷ c ∷ w))
     one ne rec = go (b == 39) refl
       where
@@ -244,7 +244,6 @@ quoted_len (b ∷ c ∷ w) r q =
         go false e = ap (plus 1) rec ∙ ap (λ (n : ℕ). Some n) (omega arith)
 
 -- ---- marks
-
 
 abbrev Limited : List ℕ → List (List ℕ) → Type 0
 Limited v [] = Unit {0}
@@ -256,9 +255,37 @@ one_or_two true = omega arith
 one_or_two false = omega arith
 
 marks_limited : (v : List ℕ) → Limited v marks
-marks_limited v =
-    (le_refl 1, (le_refl 1, (le_refl 1, (le_refl 1, (le_refl 1, (le_refl 1, (le_refl 1, (le_refl 1, (le_refl 1, (one_or_two (next_is 62 v),
-    (le_refl 2, (le_refl 2, (one_or_two (next_is 62 v || next_is 61 v), (le_refl 2, (one_or_two (next_is 61 v), (le_refl 2, (le_refl 2, tt)))))))))))))))))
+marks_limited v = (
+  le_refl 1,
+  (
+    le_refl 1,
+    (
+      le_refl 1,
+      (
+        le_refl 1,
+        (
+          le_refl 1,
+          (
+            le_refl 1,
+            (
+              le_refl 1,
+              (
+                le_refl 1,
+                (
+                  le_refl 1,
+                  (
+                    one_or_two (next_is 62 v),
+                    (le_refl 2, (le_refl 2, (one_or_two (next_is 62 v || next_is 61 v), (le_refl 2, (one_or_two (next_is 61 v), (le_refl 2, (le_refl 2, tt))))))),
+                  ),
+                ),
+              ),
+            ),
+          ),
+        ),
+      ),
+    ),
+  ),
+)
 
 mark_limit : (ws : List (List ℕ)) (b : ℕ) (us v : List ℕ) → Limited v ws → Among ws (b ∷ us) → length (b ∷ us) ≤ mark_len b (us ++ v)
 mark_limit [] b us v l m = absurd m
@@ -334,7 +361,7 @@ module _ (b : ℕ) (bs : List ℕ) where
       → MarkSplit b bs (cond z (cond (next_is 61 bs) 2 1) (cond (b == 33) (cond (next_is 61 bs) 2 0) 0))
   is_more true h l =
       one_byte_more 62 61 (eqb-true b 62 h) (inr (inr (inr (inr (inr (inr (inr (inr (inr (inr (inr (inr (inr (inr (inl refl)))))))))))))))
-        (inr (inr (inr (inr (inr (inr (inr (inr (inr (inr (inr (inr (inr (inr (inr (inl refl)))))))))))))))) (next_is 61 bs) refl
+      (inr (inr (inr (inr (inr (inr (inr (inr (inr (inr (inr (inr (inr (inr (inr (inl refl)))))))))))))))) (next_is 61 bs) refl
   is_more false h l = is_bang (b == 33) refl l
 
   is_less : (z : Bool) → (b == 60) ≡ z → 1 ≤ cond z (cond (next_is 62 bs || next_is 61 bs) 2 1) (cond (b == 62) (cond (next_is 61 bs) 2 1) (cond (b == 33) (cond (next_is 61 bs) 2 0) 0))
@@ -347,7 +374,7 @@ module _ (b : ℕ) (bs : List ℕ) where
       → MarkSplit b bs (cond z (cond (next_is 62 bs) 2 1) (cond (b == 60) (cond (next_is 62 bs || next_is 61 bs) 2 1) (cond (b == 62) (cond (next_is 61 bs) 2 1) (cond (b == 33) (cond (next_is 61 bs) 2 0) 0))))
   is_equals true h l =
       one_byte_more 61 62 (eqb-true b 61 h) (inr (inr (inr (inr (inr (inr (inr (inr (inr (inl refl))))))))))
-        (inr (inr (inr (inr (inr (inr (inr (inr (inr (inr (inr (inr (inr (inr (inr (inr (inl refl))))))))))))))))) (next_is 62 bs) refl
+      (inr (inr (inr (inr (inr (inr (inr (inr (inr (inr (inr (inr (inr (inr (inr (inr (inl refl))))))))))))))))) (next_is 62 bs) refl
   is_equals false h l = is_less (b == 60) refl l
 
   -- where some mark begins, that many bytes are one
@@ -523,14 +550,16 @@ here b bs blank = by_letter (is_ascii_alphabetic b) refl
         → Here b bs (cond {A = TokenKind × ℕ} z (quoted (text_len bs) (length bs)) (marked (mark_len b bs))).0 (cond {A = TokenKind × ℕ} z (quoted (text_len bs) (length bs)) (marked (mark_len b bs))).1
     by_quote true l d e = text_here b bs blank (eqb-true b 39 e) (text_len bs) refl
     by_quote false l d e = mark_here b bs blank l d e (mark_len b bs) refl (mark_len b bs == 0) refl
+
     by_digit : (z : Bool) → is_ascii_alphabetic b ≡ false → is_ascii_digit b ≡ z
         → Here b bs (cond {A = TokenKind × ℕ} z (Int, length (take_while is_ascii_digit bs) + 1) (cond (b == 39) (quoted (text_len bs) (length bs)) (marked (mark_len b bs)))).0
-            (cond {A = TokenKind × ℕ} z (Int, length (take_while is_ascii_digit bs) + 1) (cond (b == 39) (quoted (text_len bs) (length bs)) (marked (mark_len b bs)))).1
+        (cond {A = TokenKind × ℕ} z (Int, length (take_while is_ascii_digit bs) + 1) (cond (b == 39) (quoted (text_len bs) (length bs)) (marked (mark_len b bs)))).1
     by_digit true l e = int_here b bs e
     by_digit false l e = by_quote (b == 39) l e refl
+
     by_letter : (z : Bool) → is_ascii_alphabetic b ≡ z
         → Here b bs (cond {A = TokenKind × ℕ} z (Id, length (take_while is_word_byte bs) + 1) (cond (is_ascii_digit b) (Int, length (take_while is_ascii_digit bs) + 1) (cond (b == 39) (quoted (text_len bs) (length bs)) (marked (mark_len b bs))))).0
-            (cond {A = TokenKind × ℕ} z (Id, length (take_while is_word_byte bs) + 1) (cond (is_ascii_digit b) (Int, length (take_while is_ascii_digit bs) + 1) (cond (b == 39) (quoted (text_len bs) (length bs)) (marked (mark_len b bs))))).1
+        (cond {A = TokenKind × ℕ} z (Id, length (take_while is_word_byte bs) + 1) (cond (is_ascii_digit b) (Int, length (take_while is_ascii_digit bs) + 1) (cond (b == 39) (quoted (text_len bs) (length bs)) (marked (mark_len b bs))))).1
     by_letter true e = id_here b bs e
     by_letter false e = by_digit (is_ascii_digit b) e refl
 
@@ -542,15 +571,19 @@ some_byte b bs = by_letter (is_ascii_alphabetic b)
     of_mark : (n : ℕ) (z : Bool) → (n == 0) ≡ z → 1 ≤ (cond {A = TokenKind × ℕ} z (Bad, 1) (Mark, n)).1
     of_mark n true e = omega arith
     of_mark n false e = some_mark n e
+
     of_text : (o : Option ℕ) → 1 ≤ (quoted o (length bs)).1
     of_text (Some n) = omega arith
     of_text None = omega arith
+
     by_quote : (z : Bool) → 1 ≤ (cond {A = TokenKind × ℕ} z (quoted (text_len bs) (length bs)) (marked (mark_len b bs))).1
     by_quote true = of_text (text_len bs)
     by_quote false = of_mark (mark_len b bs) (mark_len b bs == 0) refl
+
     by_digit : (z : Bool) → 1 ≤ (cond {A = TokenKind × ℕ} z (Int, length (take_while is_ascii_digit bs) + 1) (cond {A = TokenKind × ℕ} (b == 39) (quoted (text_len bs) (length bs)) (marked (mark_len b bs)))).1
     by_digit true = omega arith
     by_digit false = by_quote (b == 39)
+
     by_letter : (z : Bool) → 1 ≤ (cond {A = TokenKind × ℕ} z (Id, length (take_while is_word_byte bs) + 1) (cond {A = TokenKind × ℕ} (is_ascii_digit b) (Int, length (take_while is_ascii_digit bs) + 1) (cond {A = TokenKind × ℕ} (b == 39) (quoted (text_len bs) (length bs)) (marked (mark_len b bs))))).1
     by_letter true = omega arith
     by_letter false = by_digit (is_ascii_digit b)

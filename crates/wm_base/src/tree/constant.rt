@@ -22,10 +22,7 @@ pub enum Const {
     /// The moment of the line.
     Sysdate,
     /// A period; that its first end is below its second is not asked here.
-    Span {
-        from: PeriodEnd,
-        till: PeriodEnd,
-    },
+    Span { from: PeriodEnd, till: PeriodEnd },
 }
 
 /// A list of constants.
