@@ -3,6 +3,7 @@
 #![tactic(auto)]
 
 pub mod bytes;
+pub mod columns;
 pub mod fault;
 pub mod instant;
 pub mod key;
@@ -23,6 +24,7 @@ mod value_order;
 pub mod values;
 
 pub use bytes::Bytes;
+pub use columns::{Column, Columns};
 pub use fault::{Damage, MakeFault, OpenFault, StoreFault};
 pub use instant::{END, Instant};
 pub use key::Key;

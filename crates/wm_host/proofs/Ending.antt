@@ -9,7 +9,7 @@ use Rattle.wm_spec.specs.Running.{transcript, after, Stopped}
 use Rattle.wm_spec.proofs.Running.{transcript-cap, Stopped-cap, stopped_all, stopped_before, stopped_front}
 use Rattle.wm_host.specs.Hosting.{Finishes, Halts}
 use Rattle.wm_host.specs.Script.{AnswersTaken}
-use Rattle.wm_host.specs.Outcome.{Says, SaysFront, AnswersSome, AnswersEnded, answers_to}
+use Rattle.wm_host.specs.Outcome.{HasSaid, HasSaidFront, AnswersSome, AnswersEnded, answers_to}
 use Rattle.wm_host.specs.Status.{status_of, status_number}
 use Rattle.wm_host.specs.declared.host.Host.{Host}
 use Rattle.wm_host.specs.declared.ended.Status.{Status}
@@ -40,7 +40,7 @@ at_limit (Err InputLimit) status number is of nine = refl
 at_limit (Err Memory) status number is of nine = absurd (omega (arith, is, ap status_number of, nine))
 
 -- all of the lines were answered
-pub says_all : (tells : Type 0) (old new : History) (from to : Host) (ls : List (List ℕ)) → from.engine ≡ fresh 1000 → Finishes tells old new from (map cap ls) to → tells → Says old new (answers_to ls)
+pub says_all : (tells : Type 0) (old new : History) (from to : Host) (ls : List (List ℕ)) → from.engine ≡ fresh 1000 → Finishes tells old new from (map cap ls) to → tells → HasSaid old new (answers_to ls)
 says_all tells old new from to ls begin finishes t =
     said-only old new (transcript from.engine (map cap ls)) (finishes.only t)
     ∙ ap (λ (out : List ℕ). said old ++ out) (ap (λ (s : State). transcript s (map cap ls)) begin ∙ transcript-cap (fresh 1000) ls)
@@ -85,7 +85,7 @@ answers_none history ls = record {
   stopped = stopped_before (fresh 1000) ls;
 }
 
-pub front_of_answers : (old new : History) (ls : List (List ℕ)) (count : ℕ) → AnswersSome old new ls count → SaysFront old new (answers_to ls)
+pub front_of_answers : (old new : History) (ls : List (List ℕ)) (count : ℕ) → AnswersSome old new ls count → HasSaidFront old new (answers_to ls)
 front_of_answers old new ls count some = record {
   front = some.out;
   says = some.says;

@@ -17,6 +17,12 @@ use Rattle.wm_host.proofs.Saying.{said_nothing, said_more}
 ran_line_of : (from : Host) (line : List ℕ) → cap line ≡ cap (without_cr from.line) → step from.engine line ≡ step from.engine (line_of from)
 ran_line_of from line same = sym (step-cap from.engine line) ∙ ap (step from.engine) same
 
+-- the bytes that are said for it
+pub answered_bytes : (from : Host) (line bytes piece : List ℕ) (state : State)
+    → cap line ≡ cap (without_cr from.line) → (state ≡ (step from.engine line).0) × (bytes ≡ answer_text (step from.engine line).1)
+    → piece ≡ bytes → piece ≡ answer from.engine (line_of from)
+answered_bytes from line bytes piece state same ran is = is ∙ ran.1 ∙ ap (λ r. answer_text r.1) (ran_line_of from line same)
+
 pub answered : (tells : Type 0) (old new : History) (from : Host) (line bytes piece held : List ℕ) (state : State)
     → cap line ≡ cap (without_cr from.line) → (state ≡ (step from.engine line).0) × (bytes ≡ answer_text (step from.engine line).1)
     → piece ≡ bytes → held ≡ [] → (tells → OnlySaid old new piece)
@@ -25,7 +31,7 @@ answered tells old new from line bytes piece held state same ran is empty only =
   state = ran.0 ∙ ap (λ r. r.0) (ran_line_of from line same);
   held = empty;
   lines = refl;
-  only = λ t. subst (λ (out : List ℕ). OnlySaid old new out) (is ∙ ran.1 ∙ ap (λ r. answer_text r.1) (ran_line_of from line same)) (only t);
+  only = λ t. subst (λ (out : List ℕ). OnlySaid old new out) (answered_bytes from line bytes piece state same ran is) (only t);
 }
 
 pub answered_part : (tells : Type 0) (old new : History) (from : Host) (line bytes piece : List ℕ) (state : State)
@@ -35,7 +41,7 @@ pub answered_part : (tells : Type 0) (old new : History) (from : Host) (line byt
 answered_part tells old new from line bytes piece state same ran is said = record {
   part = said.part;
   stops = inr (
-    subst (λ (whole : List ℕ). IsPart said.part whole) (is ∙ ran.1 ∙ ap (λ r. answer_text r.1) (ran_line_of from line same)) said.is_part,
+    subst (λ (whole : List ℕ). IsPart said.part whole) (answered_bytes from line bytes piece state same ran is) said.is_part,
     ran.0 ∙ ap (λ r. r.0) (ran_line_of from line same),
   );
   lines = refl;

@@ -1,4 +1,5 @@
 pub mod Causes
+pub mod Crashing
 pub mod Ending
 pub mod Held
 pub mod Hosting

@@ -1,5 +1,5 @@
 -- Laws on a script of which the host has taken a part.
-use Rattle.std.proofs.Common.{ℕ, ◌≡◌, ◌≤◌, ◌+◌, ◌^◌, true, false, List, [], ◌++◌, length, take, refl, ap, sym, subst, ◌∙◌, append_assoc, append-nil, length-append, arith}
+use Rattle.std.proofs.Common.{◌⊎◌, ⊎_elim, ℕ, ◌≡◌, ◌≤◌, ◌+◌, ◌^◌, true, false, List, [], ◌++◌, length, take, refl, ap, sym, subst, ◌∙◌, append_assoc, append-nil, length-append, arith}
 use Rattle.std.specs.Prelude.{Result, Ok, Err, OnOk, OnErr}
 use Rattle.std.proofs.lemmas.List.{take_at, length-take-le}
 use Rattle.wm_station.specs.History.{History}
@@ -9,6 +9,10 @@ use Rattle.wm_spec.specs.Running.{transcript, Stopped}
 use Rattle.wm_spec.proofs.Running.{transcript-append, ran_lines, ran_ended_lines, stopped_after}
 use Rattle.wm_host.specs.Saying.{OnlySaid, OnlySays}
 use Rattle.wm_host.specs.Hosting.{standing, Says, Breaks, Finishes, Halts}
+use Rattle.wm_station.specs.Moments.{During}
+use Rattle.wm_station.proofs.Steps.{followed, weaken}
+use Rattle.wm_host.specs.Crash.{CrashRuns, CrashAnswers}
+use Rattle.wm_host.proofs.Crashing.{crash_runs_begun, crash_runs_more, crash_answers_front, crash_answers_behind}
 use Rattle.wm_host.specs.Script.{AnswersTaken, AnswersToLimit}
 use Rattle.wm_host.specs.declared.host.Host.{Host}
 use Rattle.wm_host.specs.declared.stop.Stop.{Stop}
@@ -21,6 +25,7 @@ pub record Past (source_tells tells : Type 0) (script left : List ℕ) (old new 
   pub script_is : source_tells → script ≡ past ++ left
   pub size : length past ≡ taken
   pub says : Says tells old new from past to
+  pub crash : tells → During old new (CrashRuns old from past)
 
 pub past_begun : (source_tells tells : Type 0) (script : List ℕ) (history : History) (host : Host) → host.line ≡ [] → Past source_tells tells script script history history host host 0
 past_begun source_tells tells script history host none = record {
@@ -28,16 +33,18 @@ past_begun source_tells tells script history host none = record {
   script_is = λ s. refl;
   size = refl;
   says = says_begun tells history host (subst HasNoLf (sym none) tt);
+  crash = λ t. crash_runs_begun history host [];
 }
 
 pub past_more : (source_tells tells : Type 0) (script left rest into : List ℕ) (first middle last : History) (a b c : Host) (taken n : ℕ)
     → Past source_tells tells script left first middle a b taken → n ≤ length into → (source_tells → left ≡ take n into ++ rest)
-    → Says tells middle last b (take n into) c → Past source_tells tells script rest first last a c (taken + n)
-past_more source_tells tells script left rest into first middle last a b c taken n so_far within next says = record {
+    → Says tells middle last b (take n into) c → (tells → During middle last (CrashRuns middle b (take n into))) → Past source_tells tells script rest first last a c (taken + n)
+past_more source_tells tells script left rest into first middle last a b c taken n so_far within next says crash = record {
   past = so_far.past ++ take n into;
   script_is = λ s. so_far.script_is s ∙ ap (λ (l : List ℕ). so_far.past ++ l) (next s) ∙ sym (append_assoc so_far.past (take n into) rest);
   size = omega (arith, so_far.size, length-append so_far.past (take n into), length-take-le n into within);
   says = says_more tells first middle last a b c so_far.past (take n into) so_far.says says;
+  crash = λ t. crash_runs_more tells first middle last a b so_far.past (take n into) so_far.says t (so_far.crash t) (crash t);
 }
 
 -- what was answered before, and the lines answered at the end of the script
@@ -149,3 +156,31 @@ pub past_only_broken : (source_tells tells : Type 0) (script left bytes : List �
     → Past source_tells tells script left first middle a b taken → Breaks tells middle last b bytes c → tells → OnlySays first last
 past_only_broken source_tells tells script left bytes first middle last a b c taken so_far breaks t =
     says_only_more (says_only (so_far.says.only t)) (says_only (breaks.only t))
+
+-- a crash, up to each of the places where a run ends
+pub past_crash : (source_tells tells : Type 0) (script left : List ℕ) (old new : History) (from to : Host) (taken : ℕ) → from.line ≡ []
+    → Past source_tells tells script left old new from to taken → source_tells → tells → During old new (CrashAnswers old from.engine (capped true script))
+past_crash source_tells tells script left old new from to taken empty so_far s t =
+    weaken old new (CrashRuns old from so_far.past) (CrashAnswers old from.engine (capped true script))
+    (λ file after. crash_answers_front old from script so_far.past left file after empty (so_far.script_is s)) (so_far.crash t)
+
+pub past_crash_finish : (source_tells tells : Type 0) (script left : List ℕ) (first middle last : History) (a b : Host) (taken : ℕ) → a.line ≡ []
+    → Past source_tells tells script left first middle a b taken → (source_tells → left ≡ []) → (tells → During middle last (CrashAnswers middle b.engine (capped true b.line)))
+    → source_tells → tells → During first last (CrashAnswers first a.engine (capped true script))
+past_crash_finish source_tells tells script left first middle last a b taken empty so_far end crash s t =
+    weaken first last (λ file after. CrashAnswers first a.engine (capped true script) file after ⊎ CrashAnswers middle b.engine (capped true b.line) file after) (CrashAnswers first a.engine (capped true script))
+    (λ file after. ⊎_elim (λ was. was) (λ now.
+    subst (λ (lines : List (List ℕ)). CrashAnswers first a.engine lines file after)
+    (sym (lines_at_end tells script left so_far.past first middle a b empty (so_far.script_is s) (end s) so_far.says))
+    (crash_answers_behind tells first middle a b so_far.past (capped true b.line) file after so_far.says t now)))
+    (followed first middle last (CrashAnswers first a.engine (capped true script)) (CrashAnswers middle b.engine (capped true b.line))
+    (past_crash source_tells tells script left first middle a b taken empty so_far s t) (crash t))
+
+pub past_crash_broken : (source_tells tells : Type 0) (script left rest into : List ℕ) (first middle last : History) (a b : Host) (taken n : ℕ) → a.line ≡ []
+    → Past source_tells tells script left first middle a b taken → (source_tells → left ≡ take n into ++ rest) → (tells → During middle last (CrashRuns middle b (take n into)))
+    → source_tells → tells → During first last (CrashAnswers first a.engine (capped true script))
+past_crash_broken source_tells tells script left rest into first middle last a b taken n empty so_far next crash s t =
+    weaken first last (CrashRuns first a (so_far.past ++ take n into)) (CrashAnswers first a.engine (capped true script))
+    (λ file after. crash_answers_front first a script (so_far.past ++ take n into) rest file after empty
+    (so_far.script_is s ∙ ap (λ (l : List ℕ). so_far.past ++ l) (next s) ∙ sym (append_assoc so_far.past (take n into) rest)))
+    (crash_runs_more tells first middle last a b so_far.past (take n into) so_far.says t (so_far.crash t) (crash t))

@@ -1,4 +1,5 @@
 pub mod Cause
+pub mod Crash
 pub mod Hosting
 pub mod Outcome
 pub mod Saying

@@ -2,8 +2,11 @@
 ghost use Rattle.std.specs.Prelude.{◌≡◌, ◌^◌, ◌<◌, ◌≤◌, ◌↔◌, ◌==◌, List, [], ◌∷◌, length, map, take, string_bytes, false, true};
 ghost use Rattle.std.specs.List.{list_any};
 ghost use Rattle.wm_spec.specs.Lines.{lines, ended_lines};
+ghost use Rattle.wm_spec.specs.State.{fresh};
 ghost use Rattle.wm_station.specs.Cause.{Rises};
-ghost use Rattle.wm_host.specs.Outcome.{Says, SaysFront, AnswersSome, AnswersEnded, answers_to};
+ghost use Rattle.wm_station.specs.Moments.{During};
+ghost use Rattle.wm_host.specs.Crash.{CrashAnswers};
+ghost use Rattle.wm_host.specs.Outcome.{HasSaid, HasSaidFront, AnswersSome, AnswersEnded, answers_to};
 ghost use Rattle.wm_host.specs.Saying.{OnlySays};
 ghost use Rattle.wm_host.specs.Words.{are_words};
 ghost use Rattle.wm_host.specs.declared.ended.Place.TheVariants.{Nowhere};
@@ -32,7 +35,7 @@ pub fn run<S: Source, P: Station>(
     ensures untouched { result.status ≡ 2 → (source.new ≡ source.old) × (station.new ≡ station.old) × (result.lines ≡ 0) }
 
     // Status 0: all lines were answered, and the script is at its end.
-    ensures done { result.status ≡ 0 → S.tells → P.tells → Says (P.history station.old) (P.history station.new) (answers_to (lines (S.left source.old))) }
+    ensures done { result.status ≡ 0 → S.tells → P.tells → HasSaid (P.history station.old) (P.history station.new) (answers_to (lines (S.left source.old))) }
     ensures all { result.status ≡ 0 → S.tells → result.lines ≡ length (lines (S.left source.old)) }
     ensures end { result.status ≡ 0 → S.tells → S.left source.new ≡ [] }
     ensures within { result.status ≡ 0 → S.tells → length (S.left source.old) ≤ 2 ^ 30 }
@@ -40,12 +43,15 @@ pub fn run<S: Source, P: Station>(
     // Status 3: the lines that LF ended in the bytes taken were answered. Status 9: those in the first 2^30.
     ensures ended { result.status ≡ 3 → S.tells → P.tells → AnswersEnded (P.history station.old) (P.history station.new) (S.left source.old) (S.left source.new) result.lines }
     ensures limit { result.status ≡ 9 → S.tells → 2 ^ 30 < length (S.left source.old) }
-    ensures to_limit { result.status ≡ 9 → S.tells → P.tells → Says (P.history station.old) (P.history station.new) (answers_to (ended_lines (take (2 ^ 30) (S.left source.old)))) }
+    ensures to_limit { result.status ≡ 9 → S.tells → P.tells → HasSaid (P.history station.old) (P.history station.new) (answers_to (ended_lines (take (2 ^ 30) (S.left source.old)))) }
     ensures counted_to_limit { result.status ≡ 9 → S.tells → result.lines ≡ length (ended_lines (take (2 ^ 30) (S.left source.old))) }
 
     // Whatever the status: a front of the answers was said, and lines are those that were answered whole.
-    ensures front { S.tells → P.tells → SaysFront (P.history station.old) (P.history station.new) (answers_to (lines (S.left source.old))) }
+    ensures front { S.tells → P.tells → HasSaidFront (P.history station.old) (P.history station.new) (answers_to (lines (S.left source.old))) }
     ensures counted { S.tells → P.tells → AnswersSome (P.history station.old) (P.history station.new) (lines (S.left source.old)) result.lines }
+
+    // A crash at any moment leaves the file as one before the run could, with so much of the answers said.
+    ensures crash { S.tells → P.tells → During (P.history station.old) (P.history station.new) (CrashAnswers (P.history station.old) (fresh 1000) (lines (S.left source.old))) }
 
     // Statuses 3 and 4 come only where a count of faults rose.
     ensures source { result.status ≡ 3 → Rises (S.faults source.old) (S.faults source.new) }

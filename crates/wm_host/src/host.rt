@@ -1,10 +1,13 @@
 //! What takes the bytes of a script one by one, and answers each line as it ends.
 ghost use Rattle.std.specs.Prelude.{◌≡◌, ◌+◌, ◌^◌, ◌<◌, ◌≤◌, List, [], ◌∷◌, length, OnOk, OnErr, IsErrOf, IfErr, true};
 ghost use Rattle.wm_spec.specs.Lines.{HasNoLf, capped};
+ghost use Rattle.wm_spec.specs.Running.{answer};
 ghost use Rattle.wm_spec.specs.State.{fresh};
 ghost use Rattle.wm_station.specs.Cause.{Rises};
+ghost use Rattle.wm_station.specs.Moments.{During};
 ghost use Rattle.wm_host.specs.Cause.{IsOfAnswers};
-ghost use Rattle.wm_host.specs.Hosting.{Answers, Unanswered, Says, Breaks, Finishes, Halts};
+ghost use Rattle.wm_host.specs.Crash.{CrashSays, CrashRuns, CrashAnswers};
+ghost use Rattle.wm_host.specs.Hosting.{line_of, Answers, Unanswered, Says, Breaks, Finishes, Halts};
 ghost use Rattle.wm_host.specs.declared.stop.Stop.TheVariants.{SayFault};
 
 use crate::line::LineBuffer;
@@ -40,6 +43,7 @@ impl Host {
         requires { self.old.lines + 1 < 2 ^ 64 }
         ensures ok { OnOk result (Answers P.tells (P.history station.old) (P.history station.new) self.old self.new) }
         ensures err { OnErr result (Unanswered P.tells (P.history station.old) (P.history station.new) self.old self.new) }
+        ensures crash { P.tells → During (P.history station.old) (P.history station.new) (CrashSays (P.history station.old) (answer self.old.engine (line_of self.old))) }
         ensures later { P.say_faults station.old ≤ P.say_faults station.new }
         ensures quiet { P.disk_faults station.new ≡ P.disk_faults station.old }
         ensures failed { IsErrOf result SayFault → Rises (P.say_faults station.old) (P.say_faults station.new) }
@@ -62,6 +66,7 @@ impl Host {
         requires no_lf { HasNoLf self.old.line }
         ensures ok { OnOk result (Says P.tells (P.history station.old) (P.history station.new) self.old (byte ∷ []) self.new) }
         ensures err { OnErr result (Breaks P.tells (P.history station.old) (P.history station.new) self.old (byte ∷ []) self.new) }
+        ensures crash { P.tells → During (P.history station.old) (P.history station.new) (CrashRuns (P.history station.old) self.old (byte ∷ [])) }
         ensures later { P.say_faults station.old ≤ P.say_faults station.new }
         ensures quiet { P.disk_faults station.new ≡ P.disk_faults station.old }
         ensures failed { IsErrOf result SayFault → Rises (P.say_faults station.old) (P.say_faults station.new) }
@@ -85,6 +90,7 @@ impl Host {
         requires no_lf { HasNoLf self.old.line }
         ensures ok { OnOk result (Says P.tells (P.history station.old) (P.history station.new) self.old bytes.now self.new) }
         ensures err { OnErr result (Breaks P.tells (P.history station.old) (P.history station.new) self.old bytes.now self.new) }
+        ensures crash { P.tells → During (P.history station.old) (P.history station.new) (CrashRuns (P.history station.old) self.old bytes.now) }
         ensures later { P.say_faults station.old ≤ P.say_faults station.new }
         ensures quiet { P.disk_faults station.new ≡ P.disk_faults station.old }
         ensures failed { IsErrOf result SayFault → Rises (P.say_faults station.old) (P.say_faults station.new) }
@@ -102,6 +108,7 @@ impl Host {
         requires no_lf { HasNoLf self.old.line }
         ensures ok { OnOk result (Finishes P.tells (P.history station.old) (P.history station.new) self.old (capped true self.old.line) self.new) }
         ensures err { OnErr result (Halts P.tells (P.history station.old) (P.history station.new) self.old (capped true self.old.line) self.new) }
+        ensures crash { P.tells → During (P.history station.old) (P.history station.new) (CrashAnswers (P.history station.old) self.old.engine (capped true self.old.line)) }
         ensures later { P.say_faults station.old ≤ P.say_faults station.new }
         ensures quiet { P.disk_faults station.new ≡ P.disk_faults station.old }
         ensures failed { IsErrOf result SayFault → Rises (P.say_faults station.old) (P.say_faults station.new) }

@@ -2,7 +2,9 @@
 ghost use Rattle.std.specs.Prelude.{◌≡◌, ◌≤◌, List, IfErr, OnOk, OnErr, IsErrOf};
 ghost use Rattle.wm_spec.specs.Running.{IsPart};
 ghost use Rattle.wm_station.specs.Cause.{Rises};
+ghost use Rattle.wm_station.specs.Moments.{During};
 ghost use Rattle.wm_host.specs.Cause.{IsOfAnswers};
+ghost use Rattle.wm_host.specs.Crash.{CrashSays};
 ghost use Rattle.wm_host.specs.Saying.{OnlySaid, SaidPart};
 ghost use Rattle.wm_host.specs.declared.stop.Stop.TheVariants.{SayFault};
 
@@ -13,6 +15,7 @@ use wm_station::Station;
 pub(crate) fn say_all<P: Station>(station: &mut P, bytes: &[u8]) -> Result<(), Stop>
     ensures said { P.tells → OnOk result (OnlySaid (P.history station.old) (P.history station.new) bytes.now) }
     ensures part { OnErr result (SaidPart P.tells (P.history station.old) (P.history station.new) bytes.now) }
+    ensures crash { P.tells → During (P.history station.old) (P.history station.new) (CrashSays (P.history station.old) bytes.now) }
     ensures later { P.say_faults station.old ≤ P.say_faults station.new }
     ensures quiet { P.disk_faults station.new ≡ P.disk_faults station.old }
     ensures failed { IsErrOf result SayFault → Rises (P.say_faults station.old) (P.say_faults station.new) }

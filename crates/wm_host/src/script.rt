@@ -2,6 +2,8 @@
 ghost use Rattle.std.specs.Prelude.{◌≡◌, ◌^◌, ◌≤◌, List, [], length, true, OnOk, OnErr, IsErrOf};
 ghost use Rattle.wm_spec.specs.Lines.{capped};
 ghost use Rattle.wm_station.specs.Cause.{Rises};
+ghost use Rattle.wm_station.specs.Moments.{During};
+ghost use Rattle.wm_host.specs.Crash.{CrashAnswers};
 ghost use Rattle.wm_host.specs.Hosting.{Finishes, Halts};
 ghost use Rattle.wm_host.specs.Saying.{OnlySays};
 ghost use Rattle.wm_host.specs.Script.{AnswersTaken, AnswersToLimit};
@@ -35,6 +37,7 @@ pub(crate) fn run_script<S: Source, P: Station>(
     ensures taken { S.tells → IsErrOf result SourceFault → AnswersTaken P.tells (P.history station.old) (P.history station.new) host.old host.new (S.left source.old) (S.left source.new) }
     ensures limit { S.tells → IsErrOf result InputLimit → AnswersToLimit P.tells (P.history station.old) (P.history station.new) host.old host.new (S.left source.old) }
 
+    ensures crash { S.tells → P.tells → During (P.history station.old) (P.history station.new) (CrashAnswers (P.history station.old) host.old.engine (capped true (S.left source.old))) }
     ensures disk { P.tells → OnlySays (P.history station.old) (P.history station.new) }
     ensures source_later { S.faults source.old ≤ S.faults source.new }
     ensures source_failed { IsErrOf result SourceFault → Rises (S.faults source.old) (S.faults source.new) }

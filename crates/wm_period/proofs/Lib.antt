@@ -4,3 +4,4 @@ pub mod Over
 pub mod JoinLaws
 pub mod Canonical
 pub mod Search
+pub mod PeriodLaws

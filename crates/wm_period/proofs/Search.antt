@@ -1,14 +1,14 @@
 -- Looking for the piece that covers an instant by halving.
-use Rattle.std.proofs.Common.{◌≡◌, ◌<◌, ◌≤◌, ℕ, ◌+◌, Bool, true, false, ◌&&◌, leb, ltb, List, [], ◌∷◌, ◌++◌, length, get_or, take, drop, Option, Some, None, refl, sym, ap, ◌∙◌, subst, arith, zero, suc}
+use Rattle.std.proofs.Common.{◌≡◌, ◌<◌, ◌≤◌, ℕ, ◌+◌, true, List, [], ◌∷◌, ◌++◌, length, get_or, take, drop, Some, None, refl, sym, ap, ◌∙◌, subst, arith}
 use Rattle.std.proofs.lemmas.Bool.Decides.{nat_tests}
 use Rattle.std.proofs.lemmas.List.{take-append-drop, drop_more, take_more, drop_all}
 use Rattle.std.specs.Bool.{then_some}
 use Rattle.std.specs.Option.{option_or}
-use Rattle.wm_base.specs.Period.{Span, covers}
+use Rattle.wm_base.specs.Period.{covers}
 use Rattle.wm_base.specs.declared.instant.TheConstants.{END}
 use Rattle.wm_period.proofs.Cells.{held_at-append}
-use Rattle.wm_period.proofs.Order.{Between-append, Between-ends, held_at-past, held_at-early}
-use Rattle.wm_period.specs.Pieces.{Held, held, held_at, Between}
+use Rattle.wm_period.proofs.Order.{Between-append, held_at-past, held_at-early}
+use Rattle.wm_period.specs.Pieces.{held, held_at, Between}
 use Rattle.wm_period.specs.declared.piece.Piece.{Piece}
 
 -- a piece with what lies before it and behind it

@@ -3,10 +3,12 @@
 
 mod joining;
 mod parts;
+pub mod periods;
 pub mod piece;
 pub mod pieces;
 #[cfg(test)]
 mod tests;
 
+pub use periods::Periods;
 pub use piece::Piece;
 pub use pieces::Pieces;

@@ -1,4 +1,4 @@
-use crate::{Piece, Pieces};
+use crate::{Periods, Piece, Pieces};
 use std::alloc::Global;
 use std::process::Abort;
 use std::test::Fail;
@@ -99,5 +99,20 @@ fn pieces_are_erased_laid_over_and_joined(rt: HostRuntime) -> Result<(), Fail> {
     assert_are(&rt, &both, &[(0, 5, 1), (50, 60, 2)]);
     assert_eq!(rt; both.covering(period.till()).is_some(), true);
     assert_eq!(rt; both.copy(alloc)?.covering(period.from()), None);
+    Ok(())
+}
+
+#[test]
+fn periods_that_meet_are_one(rt: HostRuntime) -> Result<(), Fail> {
+    let alloc = rt.alloc();
+    let mut periods = Periods::new(alloc);
+    let first = piece(0, 5, 0).ok_or("from below till")?.period;
+    periods.push(&first)?;
+    let next = Period::new(first.till(), Instant::new(9).ok_or("an instant")?).ok_or(
+        "from below till",
+    )?;
+    periods.push(&next)?;
+    let both = piece(0, 9, 0).ok_or("from below till")?.period;
+    assert_eq!(rt; periods.list(), [both].as_slice());
     Ok(())
 }

@@ -1,4 +1,6 @@
 pub mod Cutting
 pub mod Running
 pub mod Steps
+pub mod Lists
+pub mod Stretches
 mod Samples

@@ -6,3 +6,8 @@ pub mod Texts
 pub mod Step
 pub mod Running
 pub mod Records
+pub mod Lists
+pub mod Stretches
+pub mod Operands
+pub mod Conditions
+pub mod Expressions

@@ -1,6 +1,6 @@
 -- Small readers: what stands at the front of a line, and what is left behind it.
-use Rattle.std.specs.Prelude.{ℕ, ◌+◌, ◌-◌, ◌*◌, ◌<◌, List, [], ◌∷◌, ◌++◌, Bool, true, false, ◌&&◌, ◌||◌, not, ◌==◌, nat_lt, nat_le, length, take, drop, map, if◌then◌else◌, cond, Option, None, Some, codes, ℤ, pos, neg_ℤ}
-use Rattle.std.specs.List.{take_while, list_any}
+use Rattle.std.specs.Prelude.{ℕ, ◌+◌, ◌-◌, ◌*◌, List, [], ◌∷◌, Bool, false, ◌&&◌, ◌||◌, ◌==◌, nat_lt, nat_le, length, take, drop, map, if◌then◌else◌, Option, None, Some, ℤ, pos, neg_ℤ}
+use Rattle.std.specs.List.{take_while}
 use Rattle.std.specs.Str.{bytes_eq}
 use Rattle.std.specs.Char.{to_ascii_uppercase, is_ascii_digit, is_ascii_alphabetic, is_ascii_alphanumeric}
 

@@ -1,5 +1,5 @@
 -- The state between two lines.
-use Rattle.std.specs.Prelude.{ℕ, List, [], Bool, Option, None, ℤ}
+use Rattle.std.specs.Prelude.{ℕ, List, Bool, Option, None}
 use Rattle.wm_base.specs.declared.value.Value.{Value}
 use Rattle.wm_base.specs.declared.row.Row.{Row}
 

@@ -1,10 +1,8 @@
 -- One line: the state that it leaves, and its answer.
-use Rattle.std.specs.Prelude.{ℕ, ◌+◌, List, [], ◌∷◌, ◌++◌, Bool, true, false, not, ◌&&◌, nat_lt, if◌then◌else◌, cond, length, map, insert, Option, None, Some, ℤ}
+use Rattle.std.specs.Prelude.{ℕ, ◌+◌, List, [], ◌∷◌, Bool, true, false, not, nat_lt, if◌then◌else◌, length, map, insert, Option, None, Some, ℤ}
 use Rattle.std.specs.List.{take_while, list_any}
 use Rattle.wm_base.specs.declared.value.Value.{Value}
 use Rattle.wm_base.specs.declared.value.Value.TheVariants.{Num}
-use Rattle.wm_base.specs.declared.row.Row.{Row}
-use Rattle.wm_base.specs.declared.refusal.Refusal.{Refusal}
 use Rattle.wm_base.specs.declared.refusal.Refusal.TheVariants.{Form, Cell, Limit}
 use Rattle.wm_base.specs.declared.refusal.FormRefusal.TheVariants.{Wm010}
 use Rattle.wm_base.specs.declared.refusal.CellRefusal.TheVariants.{Wm060}

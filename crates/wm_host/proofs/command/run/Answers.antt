@@ -1,5 +1,9 @@
 use Rattle.std.proofs.Common.{◌^◌, take}
 use Rattle.wm_spec.specs.Lines.{lines, ended_lines}
+use Rattle.wm_spec.specs.State.{fresh}
+use Rattle.wm_station.proofs.Steps.{weaken}
+use Rattle.wm_host.specs.Crash.{CrashAnswers}
+use Rattle.wm_host.proofs.Crashing.{crash_answers_begun, crash_answers_cap}
 use Rattle.wm_host.proofs.Ending.{at_done, at_source, at_limit, says_all, answers_at_end, answers_none, front_of_answers, answers_ended}
 use Rattle.wm_host.proofs.command.run.Goals as goal
 
@@ -31,3 +35,12 @@ pub returns-clause-front : goal.returns-clause-front
 returns-clause-front g c = λ s t.
     front_of_answers (g.P.Station.history c.args.station.now) (g.P.Station.history c.run_script-run.new.station) (lines (g.S.Source.left c.args.source.now)) c.run_script-run.new.host.lines
     (returns-clause-counted g c s t)
+
+pub returns-then-not-are_run_words-clause-crash : goal.returns-then-not-are_run_words-clause-crash
+returns-then-not-are_run_words-clause-crash g c = λ s t. crash_answers_begun (g.P.Station.history c.args.station.now) (fresh 1000) (lines (g.S.Source.left c.args.source.now))
+
+pub returns-clause-crash : goal.returns-clause-crash
+returns-clause-crash g c = λ s t.
+    weaken _ _ _ (CrashAnswers (g.P.Station.history c.args.station.now) (fresh 1000) (lines (g.S.Source.left c.args.source.now)))
+    (λ file after. crash_answers_cap (g.P.Station.history c.args.station.now) c.fresh-host.result (fresh 1000) (lines (g.S.Source.left c.args.source.now)) file after c.fresh-host.ensures.state)
+    (c.run_script-run.ensures.crash s t)

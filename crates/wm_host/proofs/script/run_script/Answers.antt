@@ -1,7 +1,7 @@
 use Rattle.std.proofs.Common.{refl, arith, ◌∙◌}
 use Rattle.std.proofs.lemmas.List.{length-take}
 use Rattle.std.proofs.lemmas.Result.{err_from_is_err_and, on_ok_weaker, on_err_weaker}
-use Rattle.wm_host.proofs.Past.{past_begun, past_more, past_finished, past_halted, past_broken, past_stopped, past_taken, past_limit, past_only_finish, past_only_broken}
+use Rattle.wm_host.proofs.Past.{past_begun, past_more, past_finished, past_halted, past_broken, past_stopped, past_taken, past_limit, past_only_finish, past_only_broken, past_crash, past_crash_finish, past_crash_broken}
 use Rattle.wm_host.proofs.Causes.{not_of_source, not_of_limit, handed_on}
 use Rattle.wm_host.proofs.script.run_script.Goals as goal
 
@@ -87,7 +87,7 @@ returns-in_err-feed-clause-source_failed g c = λ is.
 pub pieces-preserved : goal.pieces-preserved
 pieces-preserved g c = record {
   past = past_more g.S.Source.tells g.P.Station.tells (g.S.Source.left c.args.source.now) (g.S.Source.left c.pieces.source) (g.S.Source.left c.take.new.self) c.take.new.into _ _ _ c.args.host.now c.pieces.host c.feed.new.self c.pieces.taken c.in_ok-count.count
-      c.pieces.invariant.past (omega (arith, c.in_ok-count.ensures.within)) c.in_ok-count.ensures.taken c.in_ok-feed.ensures.ok;
+      c.pieces.invariant.past (omega (arith, c.in_ok-count.ensures.within)) c.in_ok-count.ensures.taken c.in_ok-feed.ensures.ok c.in_ok-feed.ensures.crash;
   within = omega (arith, c.in_ok-count.ensures.within, length-take c.clamp-room.result c.pieces.piece);
   source_later = omega (arith, c.pieces.invariant.source_later, c.in_ok-count.ensures.cause.later);
   say_later = omega (arith, c.pieces.invariant.say_later, c.in_ok-feed.ensures.later);
@@ -103,3 +103,23 @@ pub returns-in_err-feed-clause-disk : goal.returns-in_err-feed-clause-disk
 returns-in_err-feed-clause-disk g c =
     past_only_broken g.S.Source.tells g.P.Station.tells (g.S.Source.left c.args.source.now) (g.S.Source.left c.pieces.source) _ _ _ _ c.args.host.now c.pieces.host c.feed.new.self c.pieces.taken
     c.pieces.invariant.past c.in_err-feed.ensures.err
+
+pub returns-in_err-count-clause-crash : goal.returns-in_err-count-clause-crash
+returns-in_err-count-clause-crash g c =
+    past_crash g.S.Source.tells g.P.Station.tells (g.S.Source.left c.args.source.now) (g.S.Source.left c.pieces.source) _ _ c.args.host.now c.pieces.host c.pieces.taken
+    c.requires.held c.pieces.invariant.past
+
+pub returns-then-count-eq0-clause-crash : goal.returns-then-count-eq0-clause-crash
+returns-then-count-eq0-clause-crash g c =
+    past_crash_finish g.S.Source.tells g.P.Station.tells (g.S.Source.left c.args.source.now) (g.S.Source.left c.pieces.source) _ _ _ c.args.host.now c.pieces.host c.pieces.taken
+    c.requires.held c.pieces.invariant.past (λ s'. c.in_ok-count.ensures.end s' c.if-count-eq0.true (omega (arith, length-take c.clamp-room.result c.pieces.piece))) c.finish.ensures.crash
+
+pub returns-then-taken-eq-INPUT_LIMIT-clause-crash : goal.returns-then-taken-eq-INPUT_LIMIT-clause-crash
+returns-then-taken-eq-INPUT_LIMIT-clause-crash g c =
+    past_crash g.S.Source.tells g.P.Station.tells (g.S.Source.left c.args.source.now) (g.S.Source.left c.pieces.source) _ _ c.args.host.now c.pieces.host c.pieces.taken
+    c.requires.held c.pieces.invariant.past
+
+pub returns-in_err-feed-clause-crash : goal.returns-in_err-feed-clause-crash
+returns-in_err-feed-clause-crash g c =
+    past_crash_broken g.S.Source.tells g.P.Station.tells (g.S.Source.left c.args.source.now) (g.S.Source.left c.pieces.source) (g.S.Source.left c.take.new.self) c.take.new.into _ _ _ c.args.host.now c.pieces.host c.pieces.taken c.in_ok-count.count
+    c.requires.held c.pieces.invariant.past c.in_ok-count.ensures.taken c.in_err-feed.ensures.crash

@@ -1,4 +1,4 @@
-use Rattle.std.proofs.Common.{rules, ◌≡◌, ◌<◌, ◌≤◌, ◌+◌, true, sym, arith}
+use Rattle.std.proofs.Common.{rules, ◌≡◌, ◌<◌, ◌≤◌, true, sym, arith}
 use Rattle.wm_base.specs.Period.{covers}
 use Rattle.wm_period.proofs.Search.{looking_left, looking_right, looking_all, found_there}
 use Rattle.wm_period.proofs.pieces.find.Goals as goal

@@ -1,0 +1,6 @@
+pub mod Loop
+pub mod Exact
+pub mod ExactFields
+pub mod ExactValues
+pub mod ExactRecords
+pub mod Appending

@@ -1,0 +1,134 @@
+-- The one spelling of each record: a byte for its kind, and its fields in order.
+use Rattle.std.specs.Prelude.{ℕ, List, [], ◌∷◌}
+use Rattle.wm_spec.specs.declared.record.Record.{Record}
+use Rattle.wm_spec.specs.declared.record.Record.TheVariants as records
+use Rattle.wm_spec.specs.declared.record.counters.Counters.{Counters}
+use Rattle.wm_spec.specs.declared.record.table.Table.{Table}
+use Rattle.wm_spec.specs.declared.record.column.TableColumn.{TableColumn}
+use Rattle.wm_spec.specs.declared.record.space.Space.{Space}
+use Rattle.wm_spec.specs.declared.record.version.Version.{Version}
+use Rattle.wm_spec.specs.declared.record.row.RowRecord.{RowRecord}
+use Rattle.wm_spec.specs.declared.record.piece.PieceRecord.{PieceRecord}
+use Rattle.wm_codec.specs.Format.{Format, ◌▸◌, fields, counted}
+use Rattle.wm_codec.specs.Fields.{u8, u16, u32, u64, flag, text, kind, column_kind, freeze_mode, value, cell_range}
+
+abbrev pub counters : Format Counters
+counters = fields
+    (λ c. (c.next_stamp, (c.last_moment, (c.limit, (c.next_version, c.work)))))
+    (λ p. record { next_stamp = p.0; last_moment = p.1.0; limit = p.1.1.0; next_version = p.1.1.1.0; work = p.1.1.1.1 })
+    (u64 ▸ u64 ▸ u32 ▸ u64 ▸ u64)
+
+abbrev pub column : Format TableColumn
+column = fields
+    (λ c. (c.name, (c.kind, (c.size, c.not_null))))
+    (λ p. record { name = p.0; kind = p.1.0; size = p.1.1.0; not_null = p.1.1.1 })
+    (text ▸ column_kind ▸ u16 ▸ flag)
+
+abbrev pub table : Format Table
+table = fields
+    (λ t. (t.number, (t.name, (t.versioned, (t.valid, (t.history, (t.has_key, (t.key_column, t.columns))))))))
+    (λ p. record {
+      number = p.0;
+      name = p.1.0;
+      versioned = p.1.1.0;
+      valid = p.1.1.1.0;
+      history = p.1.1.1.1.0;
+      has_key = p.1.1.1.1.1.0;
+      key_column = p.1.1.1.1.1.1.0;
+      columns = p.1.1.1.1.1.1.1;
+    })
+    (u16 ▸ text ▸ flag ▸ flag ▸ flag ▸ flag ▸ u8 ▸ counted column)
+
+abbrev pub space : Format Space
+space = fields
+    (λ s. (
+      s.number,
+      (
+        s.name,
+        (
+          s.parent,
+          (
+            s.born,
+            (
+              s.birth_version,
+              (
+                s.birth_place,
+                (
+                  s.base_version,
+                  (
+                    s.from,
+                    (
+                      s.log_length,
+                      (s.rebases, (s.next_place, (s.next_implicit, (s.freeze, s.writer)))),
+                    ),
+                  ),
+                ),
+              ),
+            ),
+          ),
+        ),
+      ),
+    ))
+    (λ p. record {
+      number = p.0;
+      name = p.1.0;
+      parent = p.1.1.0;
+      born = p.1.1.1.0;
+      birth_version = p.1.1.1.1.0;
+      birth_place = p.1.1.1.1.1.0;
+      base_version = p.1.1.1.1.1.1.0;
+      from = p.1.1.1.1.1.1.1.0;
+      log_length = p.1.1.1.1.1.1.1.1.0;
+      rebases = p.1.1.1.1.1.1.1.1.1.0;
+      next_place = p.1.1.1.1.1.1.1.1.1.1.0;
+      next_implicit = p.1.1.1.1.1.1.1.1.1.1.1.0;
+      freeze = p.1.1.1.1.1.1.1.1.1.1.1.1.0;
+      writer = p.1.1.1.1.1.1.1.1.1.1.1.1.1;
+    })
+    (u32 ▸ text ▸ u32 ▸ u64 ▸ u64 ▸ u32 ▸ u64 ▸ u64 ▸ u64 ▸ u32 ▸ u32 ▸ u32 ▸ freeze_mode ▸ text)
+
+abbrev pub version : Format Version
+version = fields
+    (λ v. (v.number, (v.space, v.parent)))
+    (λ p. record { number = p.0; space = p.1.0; parent = p.1.1 })
+    (u64 ▸ u32 ▸ u64)
+
+abbrev pub row : Format RowRecord
+row = fields
+    (λ r. (r.stamp, (r.table, r.values)))
+    (λ p. record { stamp = p.0; table = p.1.0; values = p.1.1 })
+    (u64 ▸ u16 ▸ counted value)
+
+abbrev pub piece : Format PieceRecord
+piece = fields
+    (λ p. (p.version, (p.cells, (p.stamp, (p.kind, p.gone)))))
+    (λ p. record { version = p.0; cells = p.1.0; stamp = p.1.1.0; kind = p.1.1.1.0; gone = p.1.1.1.1 })
+    (u64 ▸ cell_range ▸ u64 ▸ kind ▸ flag)
+
+-- the bytes of a record
+unfoldable pub spelling : Record → List ℕ
+spelling (records.Counters r) = 1 ∷ counters.spell r
+spelling (records.Table r) = 2 ∷ table.spell r
+spelling (records.Space r) = 3 ∷ space.spell r
+spelling (records.Version r) = 4 ∷ version.spell r
+spelling (records.Row r) = 6 ∷ row.spell r
+spelling (records.Piece r) = 7 ∷ piece.spell r
+
+-- what is asked of a record so that it has a spelling: its texts and lists are short enough, no text among its
+-- values is empty, none of them is a period, and a key has one value
+abbrev pub CanSpell : Record → Type 0
+CanSpell (records.Counters r) = counters.CanSpell r
+CanSpell (records.Table r) = table.CanSpell r
+CanSpell (records.Space r) = space.CanSpell r
+CanSpell (records.Version r) = version.CanSpell r
+CanSpell (records.Row r) = row.CanSpell r
+CanSpell (records.Piece r) = piece.CanSpell r
+
+-- a record that has a spelling: that, and each number fits its bytes
+unfoldable pub HasSpelling : Record → Type 0
+HasSpelling (records.Counters r) = counters.Fits r
+HasSpelling (records.Table r) = table.Fits r
+HasSpelling (records.Space r) = space.Fits r
+HasSpelling (records.Version r) = version.Fits r
+HasSpelling (records.Row r) = row.Fits r
+HasSpelling (records.Piece r) = piece.Fits r

@@ -1,0 +1,17 @@
+//! Records as bytes: each record has one spelling, and the bytes that spell one are read as it.
+#![tactic(auto)]
+
+mod fault;
+mod lists;
+mod numbers;
+mod put;
+pub mod read;
+mod records;
+mod values;
+pub mod write;
+
+pub use read::decode;
+pub use write::encode;
+
+#[cfg(test)]
+mod tests;

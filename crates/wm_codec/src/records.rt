@@ -1,0 +1,146 @@
+ghost use Rattle.std.specs.Prelude.{◌≡◌};
+ghost use Rattle.wm_codec.specs.Spelling.{counters, table, space, version, row, piece};
+ghost use Rattle.wm_codec.specs.Reading.{Gives};
+
+use crate::fault::ReadFault;
+use crate::lists::{columns_of, values_of};
+use crate::numbers::{u8_at, u16_at, u32_at, u64_at};
+use crate::values::{cell_range_of, flag_at, freeze_mode_at, kind_at, text_of};
+use std::alloc::Global;
+use wm_spec::record::{Counters, PieceRecord, RowRecord, Space, Table, Version};
+
+pub fn counters_at(bytes: &[u8]) -> Result<(Counters, &[u8]), ReadFault>
+    ensures { Gives (λ x. (x.0, x.1.now)) result (counters.read bytes.now) }
+{
+    let (next_stamp, rest) = u64_at(bytes)?;
+    let (last_moment, rest) = u64_at(rest)?;
+    let (limit, rest) = u32_at(rest)?;
+    let (next_version, rest) = u64_at(rest)?;
+    let (work, rest) = u64_at(rest)?;
+    Ok((
+        Counters {
+            next_stamp,
+            last_moment,
+            limit,
+            next_version,
+            work,
+        },
+        rest,
+    ))
+}
+
+pub fn table_of(alloc: Global, bytes: &[u8]) -> Result<(Table, &[u8]), ReadFault>
+    ensures { Gives (λ x. (x.0, x.1.now)) result (table.read bytes.now) }
+{
+    let (number, rest) = u16_at(bytes)?;
+    let (name, rest) = text_of(alloc, rest)?;
+    let (versioned, rest) = flag_at(rest)?;
+    let (valid, rest) = flag_at(rest)?;
+    let (history, rest) = flag_at(rest)?;
+    let (has_key, rest) = flag_at(rest)?;
+    let (key_column, rest) = u8_at(rest)?;
+    let (columns, rest) = columns_of(alloc, rest)?;
+    Ok((
+        Table {
+            number,
+            name,
+            versioned,
+            valid,
+            history,
+            has_key,
+            key_column,
+            columns,
+        },
+        rest,
+    ))
+}
+
+pub fn space_of(alloc: Global, bytes: &[u8]) -> Result<(Space, &[u8]), ReadFault>
+    ensures { Gives (λ x. (x.0, x.1.now)) result (space.read bytes.now) }
+{
+    let (number, rest) = u32_at(bytes)?;
+    let (name, rest) = text_of(alloc, rest)?;
+    let (parent, rest) = u32_at(rest)?;
+    let (born, rest) = u64_at(rest)?;
+    let (birth_version, rest) = u64_at(rest)?;
+    let (birth_place, rest) = u32_at(rest)?;
+    let (base_version, rest) = u64_at(rest)?;
+    let (from, rest) = u64_at(rest)?;
+    let (log_length, rest) = u64_at(rest)?;
+    let (rebases, rest) = u32_at(rest)?;
+    let (next_place, rest) = u32_at(rest)?;
+    let (next_implicit, rest) = u32_at(rest)?;
+    let (freeze, rest) = freeze_mode_at(rest)?;
+    let (writer, rest) = text_of(alloc, rest)?;
+    Ok((
+        Space {
+            number,
+            name,
+            parent,
+            born,
+            birth_version,
+            birth_place,
+            base_version,
+            from,
+            log_length,
+            rebases,
+            next_place,
+            next_implicit,
+            freeze,
+            writer,
+        },
+        rest,
+    ))
+}
+
+pub fn version_at(bytes: &[u8]) -> Result<(Version, &[u8]), ReadFault>
+    ensures { Gives (λ x. (x.0, x.1.now)) result (version.read bytes.now) }
+{
+    let (number, rest) = u64_at(bytes)?;
+    let (space, rest) = u32_at(rest)?;
+    let (parent, rest) = u64_at(rest)?;
+    Ok((
+        Version {
+            number,
+            space,
+            parent,
+        },
+        rest,
+    ))
+}
+
+pub fn row_of(alloc: Global, bytes: &[u8]) -> Result<(RowRecord, &[u8]), ReadFault>
+    ensures { Gives (λ x. (x.0, x.1.now)) result (row.read bytes.now) }
+{
+    let (stamp, rest) = u64_at(bytes)?;
+    let (table, rest) = u16_at(rest)?;
+    let (values, rest) = values_of(alloc, rest)?;
+    Ok((
+        RowRecord {
+            stamp,
+            table,
+            values,
+        },
+        rest,
+    ))
+}
+
+pub fn piece_of(alloc: Global, bytes: &[u8]) -> Result<(PieceRecord, &[u8]), ReadFault>
+    ensures { Gives (λ x. (x.0, x.1.now)) result (piece.read bytes.now) }
+{
+    let (version, rest) = u64_at(bytes)?;
+    let (cells, rest) = cell_range_of(alloc, rest)?;
+    let (stamp, rest) = u64_at(rest)?;
+    let (kind, rest) = kind_at(rest)?;
+    let (gone, rest) = flag_at(rest)?;
+    Ok((
+        PieceRecord {
+            version,
+            cells,
+            stamp,
+            kind,
+            gone,
+        },
+        rest,
+    ))
+}

@@ -1,0 +1,19 @@
+//! Conditions and expressions over the rows of given columns: whether a condition is typed, how true it is, and the
+//! value of an expression.
+#![tactic(auto)]
+
+mod compare;
+pub mod conditions;
+pub mod copies;
+pub mod expressions;
+pub mod fault;
+mod names;
+mod operands;
+mod owned;
+mod seen;
+mod types;
+
+pub use conditions::truth;
+pub use expressions::value;
+pub use fault::ValueFault;
+pub use types::typed;

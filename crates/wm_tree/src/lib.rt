@@ -1,0 +1,14 @@
+//! The tree of versions: each version stands under the one from which it was made.
+#![tactic(auto)]
+
+mod numbers;
+pub mod path;
+mod place;
+#[cfg(test)]
+mod tests;
+pub mod tree;
+pub mod version;
+
+pub use path::Path;
+pub use tree::Tree;
+pub use version::Version;
