@@ -128,7 +128,7 @@ times_takes item exact (suc n) bytes rest xs fits e =
     rw (flat_map-cons item.spell first.0.0 others.0.0) (t.0 ∙ ap (λ t. item.spell first.0.0 ++ t) u.0 ∙ sym (append_assoc (item.spell first.0.0) (flat_map item.spell others.0.0) others.0.1)) in
     subst (λ p. (bytes ≡ flat_map item.spell p.0 ++ p.1) × (length p.0 ≡ suc n) × AllByRecursion item.Fits p.0) (some_is (first.0.0 ∷ others.0.0, others.0.1) (xs, rest) others.2) (parts, ap suc u.1, (t.1, u.2))
 
-times_again : {A : Type 0} (item : Format A) → IsExact item → (xs : List A) (rest : List ℕ) → AllByRecursion item.Fits xs → times item (length xs) (flat_map item.spell xs ++ rest) ≡ Some (xs, rest)
+pub times_again : {A : Type 0} (item : Format A) → IsExact item → (xs : List A) (rest : List ℕ) → AllByRecursion item.Fits xs → times item (length xs) (flat_map item.spell xs ++ rest) ≡ Some (xs, rest)
 times_again item exact [] rest fits = refl
 times_again item exact (x ∷ xs) rest fits =
     rw (flat_map-cons item.spell x xs, append_assoc (item.spell x) (flat_map item.spell xs) rest, exact.again x (flat_map item.spell xs ++ rest) fits.0, times_again item exact xs rest fits.1) refl

@@ -1,10 +1,10 @@
 //! Records as bytes: each record has one spelling, and the bytes that spell one are read as it.
 #![tactic(auto)]
 
-mod fault;
+pub mod fault;
 mod lists;
-mod numbers;
-mod put;
+pub mod numbers;
+pub mod put;
 pub mod read;
 mod records;
 mod values;

@@ -28,11 +28,11 @@ const ROW: &[u8] =
 const PIECE: &[u8] =
     b"\x07\0\0\0\0\0\0\0\x02\0\x05\x01\0\0\0\0\0\0\0\x01\0\0\0\0\0\0\0\0\0\0\0\x49\x77\x86\x38\x80\0\0\0\0\0\0\0\x07\x02\x01";
 
-fn spelled(alloc: Global, record: &Record) -> Result<Bytes, Memory>
-    requires { CanSpell record.now }
+fn spelled(alloc: Global, what: &Record) -> Result<Bytes, Memory>
+    requires { CanSpell what.now }
 {
     let mut into = Bytes::new(alloc);
-    encode(alloc, record, &mut into)?;
+    encode(alloc, what, &mut into)?;
     Ok(into)
 }
 

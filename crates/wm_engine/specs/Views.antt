@@ -1,10 +1,10 @@
 -- What the borrowed trees of a line mean.
-use Rattle.std.specs.Prelude.{ℕ, List, map, Option, Some, None, true}
+use Rattle.std.specs.Prelude.{ℕ, List, map, Some, true}
 use Rattle.std.specs.Option.{option_map}
 use Rattle.std.specs.Char.{to_ascii_uppercase}
 use Rattle.wm_spec.specs.Grammar as grammar
 use Rattle.wm_base.specs.declared.row.Row.{Row}
-use Rattle.wm_spec.specs.State.{State, Session, Table, Entry}
+use Rattle.wm_spec.specs.State.{State, Table, Entry}
 use Rattle.wm_spec.specs.Step.{with_entry}
 use Rattle.wm_spec.specs.Texts as texts
 use Rattle.wm_engine.specs.declared.answer.Answer.{Answer}

@@ -1,4 +1,5 @@
 ghost use Rattle.std.specs.Prelude.{◌≡◌};
+ghost use Rattle.wm_base.specs.Truth.{truth_and, truth_or};
 ghost use Rattle.wm_base.specs.Views.{cond_view};
 ghost use Rattle.wm_spec.specs.Conditions.{truth_of, truth_in as truth_of_values};
 
@@ -16,12 +17,13 @@ pub fn truth(cond: &Cond, columns: &Columns, row: &Row) -> Truth
     truth_in(cond, columns.as_slice(), row.values.as_slice())
 }
 
+#[cycle(truths)]
 fn truth_in(cond: &Cond, columns: &[Column], row: &[Value]) -> Truth
     ensures { result ≡ truth_of_values (cond_view cond.now) columns.now row.now }
 {
     match cond {
-        Cond::Or(left, right) => truth_in(left, columns, row).or(truth_in(right, columns, row)),
-        Cond::And(left, right) => truth_in(left, columns, row).and(truth_in(right, columns, row)),
+        Cond::Or(left, right) => truth_with_or(left, truth_in(right, columns, row), columns, row),
+        Cond::And(left, right) => truth_with_and(left, truth_in(right, columns, row), columns, row),
         Cond::Not(inner) => truth_in(inner, columns, row).not(),
         Cond::Compare { left, cmp, right } => {
             let left = operand_seen(left, columns, row);
@@ -53,4 +55,34 @@ fn truth_in(cond: &Cond, columns: &[Column], row: &[Value]) -> Truth
             )
         }
     }
+}
+
+/// How true the condition is, or what stands behind it. A chain of OR nests to the left, and is gone down in a loop.
+#[cycle(truths)]
+#[tactic(auto, using(crate::proofs::Logic::or_assoc))]
+fn truth_with_or(cond: &Cond, behind: Truth, columns: &[Column], row: &[Value]) -> Truth
+    ensures { result ≡ truth_or (truth_of_values (cond_view cond.now) columns.now row.now) behind }
+{
+    let mut truth = behind;
+    let mut rest = cond;
+    'chain: while let Cond::Or(left, right) = rest {
+        truth = truth_in(right, columns, row).or(truth);
+        rest = left;
+    }
+    truth_in(rest, columns, row).or(truth)
+}
+
+/// How true the condition is together with what stands behind it, likewise.
+#[cycle(truths)]
+#[tactic(auto, using(crate::proofs::Logic::and_assoc))]
+fn truth_with_and(cond: &Cond, behind: Truth, columns: &[Column], row: &[Value]) -> Truth
+    ensures { result ≡ truth_and (truth_of_values (cond_view cond.now) columns.now row.now) behind }
+{
+    let mut truth = behind;
+    let mut rest = cond;
+    'chain: while let Cond::And(left, right) = rest {
+        truth = truth_in(right, columns, row).and(truth);
+        rest = left;
+    }
+    truth_in(rest, columns, row).and(truth)
 }

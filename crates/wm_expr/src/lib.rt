@@ -7,13 +7,19 @@ pub mod conditions;
 pub mod copies;
 pub mod expressions;
 pub mod fault;
+mod fitting;
 mod names;
 mod operands;
 mod owned;
+mod periods;
 mod seen;
+#[cfg(test)]
+mod tests;
 mod types;
 
 pub use conditions::truth;
 pub use expressions::value;
 pub use fault::ValueFault;
+pub use fitting::fits;
+pub use periods::has_no_empty_period;
 pub use types::typed;

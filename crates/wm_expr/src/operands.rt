@@ -1,11 +1,12 @@
 ghost use Rattle.std.specs.Prelude.{◌≡◌, option_map};
-ghost use Rattle.wm_spec.specs.Operands.{value_at as named_value, suffixed, end_seconds, span_between, constant_value, period_of, period_at, holds as operator_holds, tested, operand_value};
+ghost use Rattle.wm_spec.specs.Operands.{value_at as named_value, suffixed, constant_value, period_of, period_at, holds as operator_holds, tested, operand_value};
 ghost use Rattle.wm_expr.specs.Seen.{seen_value, ends_span};
 
 use crate::names::found_at;
+use crate::periods::seconds_of;
 use crate::seen::Seen;
 use wm_base::tree::column::Suffix;
-use wm_base::tree::constant::{Const, PeriodEnd};
+use wm_base::tree::constant::Const;
 use wm_base::tree::operand::{Operand, Operator, Per};
 use wm_base::{Column, Name, Value};
 
@@ -46,15 +47,6 @@ fn at_end(suffix: Option<Suffix>, value: Seen<'_>) -> Seen<'_>
         (Some(Suffix::ValidFrom), Seen::Ends(from, _)) => Seen::Moment(from),
         (Some(Suffix::ValidTill), Seen::Ends(_, till)) => Seen::Moment(till),
         _ => Seen::Nothing,
-    }
-}
-
-fn seconds_of(end: &PeriodEnd) -> u64
-    ensures { result ≡ end_seconds end.now }
-{
-    match end {
-        PeriodEnd::Time(instant) => instant.seconds(),
-        PeriodEnd::Sysdate => 0,
     }
 }
 

@@ -1,4 +1,4 @@
-ghost use Rattle.std.specs.Prelude.{◌≡◌};
+ghost use Rattle.std.specs.Prelude.{◌≡◌, ◌&&◌, is_some};
 ghost use Rattle.std.specs.List.{list_all};
 ghost use Rattle.wm_base.specs.Views.{cond_view};
 ghost use Rattle.wm_spec.specs.Conditions.{typed as typed_for, typed_in, may_compare as comparable, is_one_type as one_type};
@@ -95,6 +95,13 @@ fn may_compare_all(kind: Option<u8>, list: &[Const]) -> bool
     list.iter().all(|constant| may_compare(kind, Some(constant_kind(constant))))
 }
 
+/// Whether an operand of that kind is there, and may be compared with each constant.
+fn is_list_typed(kind: Option<u8>, list: &[Const]) -> bool
+    ensures { result ≡ (is_some kind && list_all (λ constant. comparable kind (Some (kind_of_constant constant))) list.now) }
+{
+    kind.is_some() && may_compare_all(kind, list)
+}
+
 /// Whether the condition is typed for the columns: each column that it names is one of them, the one of that name where
 /// no source is named, and the operands of each comparison have one type, which is not that of periods. NULL is of
 /// every type.
@@ -105,31 +112,38 @@ pub fn typed(cond: &Cond, columns: &Columns) -> bool
     is_typed(cond, columns.as_slice())
 }
 
+/// Goes down a chain of OR and AND, which nests to the left, in a loop.
 fn is_typed(cond: &Cond, columns: &[Column]) -> bool
     ensures { result ≡ typed_in (cond_view cond.now) columns.now }
 {
-    match cond {
-        Cond::Or(left, right) => is_typed(left, columns) && is_typed(right, columns),
-        Cond::And(left, right) => is_typed(left, columns) && is_typed(right, columns),
-        Cond::Not(inner) => is_typed(inner, columns),
-        Cond::Compare { left, right, .. } => may_compare(
-            operand_kind(left, columns),
-            operand_kind(right, columns),
-        ),
-        Cond::IsNull { what, .. } => operand_kind(what, columns).is_some(),
-        Cond::OneOf { what, list, .. } => {
-            let kind = operand_kind(what, columns);
-            kind.is_some() && may_compare_all(kind, list.as_slice())
-        }
-        Cond::Between {
-            what,
-            low,
-            high,
-            ..
-        } => {
-            let kind = operand_kind(what, columns);
-            may_compare(kind, operand_kind(low, columns))
-                && may_compare(kind, operand_kind(high, columns))
+    let mut rest = cond;
+    loop {
+        match rest {
+            Cond::Or(left, right) | Cond::And(left, right) => {
+                if !is_typed(right, columns) {
+                    return false;
+                }
+                rest = left;
+            }
+            Cond::Not(inner) => return is_typed(inner, columns),
+            Cond::Compare { left, right, .. } => {
+                return may_compare(operand_kind(left, columns), operand_kind(right, columns));
+            }
+            Cond::IsNull { what, .. } => return operand_kind(what, columns).is_some(),
+            Cond::OneOf { what, list, .. } => return is_list_typed(
+                operand_kind(what, columns),
+                list.as_slice(),
+            ),
+            Cond::Between {
+                what,
+                low,
+                high,
+                ..
+            } => {
+                let kind = operand_kind(what, columns);
+                return may_compare(kind, operand_kind(low, columns))
+                    && may_compare(kind, operand_kind(high, columns));
+            }
         }
     }
 }

@@ -102,15 +102,22 @@ no_date y m d h mi s zy zm zd zh zmi zs signs isnt =
     false_from_ne_true (is_date y m d && is_clock h mi s) (λ e. let both = both_true (is_date y m d) (is_clock h mi s) e in isnt' (date_from y m d both.0, clock_from h mi s both.1)) in
     rw none refl
 
+-- the instant of a date and a time that the library has
+pub named_date : (y m d h mi s : ℕ) → 0 < y → IsDate (pos y) (pos m) (pos d) × IsTime (pos h) (pos mi) (pos s) (pos 0) → (shown : DateTime)
+    → shown.date.year ≡ pos y → shown.date.month ≡ m → shown.date.day ≡ d → shown.time.hour ≡ h → shown.time.minute ≡ mi → shown.time.second ≡ s
+    → instant_at y m d h mi s ≡ Ok (days_behind shown.date * 86_400 + time_seconds shown.time)
+named_date y m d h mi s low is shown year month day hour minute second =
+    let real = real_date y m d h mi s low is in
+    rw (real, year, month, day, hour, minute, second) refl
+
 pub some_date : (y m d h mi s : ℕ) (zy zm zd zh zmi zs : ℤ) → Signs y m d h mi s zy zm zd zh zmi zs → 0 < y → IsDate zy zm zd × IsTime zh zmi zs (pos 0) → (shown : DateTime) → IsYmd zy zm zd shown.date × IsHms zh zmi zs (pos 0) shown.time
     → instant_at y m d h mi s ≡ Ok (days_behind shown.date * 86_400 + time_seconds shown.time)
 some_date y m d h mi s zy zm zd zh zmi zs signs low is shown parts =
     let is' = rw (signs.year, signs.month, signs.day, signs.hour, signs.minute, signs.second) at is in
-    let real = real_date y m d h mi s low is' in
     let year : shown.date.year ≡ pos y = cc in
     let month : shown.date.month ≡ m = cc in
     let day : shown.date.day ≡ d = cc in
     let hour : shown.time.hour ≡ h = cc in
     let minute : shown.time.minute ≡ mi = cc in
     let second : shown.time.second ≡ s = cc in
-    rw (real, year, month, day, hour, minute, second) refl
+    named_date y m d h mi s low is' shown year month day hour minute second

@@ -62,6 +62,8 @@ pub record DateAt (d : Date) (at : ℕ) : Type 0 where
   pub year : d.year ≡ pos (year_of at)
   pub month : d.month ≡ month_of at
   pub day : d.day ≡ day_of at
+  pub low : pos 1 ≤ℤ d.year
+  pub days : epoch_day d ≡ neg_ℤ (pos 719_162) +ℤ pos (at / 86_400)
 
 -- each year from 1 on begins on the first day or after it
 year_begins : (y : ℕ) → 1 ≤ y → neg_ℤ (pos 719_162) ≤ℤ days_from_civil (pos y) 1 1
@@ -125,7 +127,7 @@ shown_at shown first nanos at high begins length is =
     let year = natural shown.date.year (omega (arith, signed_arith)) in
     let date = rw year at (civil shown.date) in
     let numbers = date_numbers (unsigned_abs shown.date.year) shown.date.month shown.date.day at (omega (arith, signed_arith, low, year)) date (ap (λ y. days_from_civil y shown.date.month shown.date.day) (sym year) ∙ day) in
-    (record { year = year ∙ ap pos numbers.0; month = numbers.1; day = numbers.2 }, split.1)
+    (record { year = year ∙ ap pos numbers.0; month = numbers.1; day = numbers.2; low = low; days = day }, split.1)
 
 -- the library has every moment
 pub has_moment : (first : DateTime) (nanos : ℤ) (at : ℕ) → at < END → civil_nanos first ≡ days_from_civil (pos 1) 1 1 *ℤ pos 86_400_000_000_000 → nanos ≡ pos (at * 1_000_000_000) → IsCivilNanos (civil_nanos first +ℤ nanos)

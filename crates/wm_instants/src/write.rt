@@ -1,5 +1,7 @@
-ghost use Rattle.std.specs.Prelude.{◌≡◌, ◌+◌, ◌/◌, ◌%◌, ◌<◌, ◌++◌, pos, ◌≤ℤ◌, unsigned_abs, OnOk, OnErr, codes};
+ghost use Rattle.std.specs.Prelude.{◌≡◌, ◌+◌, ◌/◌, ◌%◌, ◌<◌, ◌++◌, pos, neg_ℤ, ◌+ℤ◌, ◌≤ℤ◌, unsigned_abs, Ok, OnOk, OnErr, codes};
+ghost use Rattle.jiff_core.specs.Date.{epoch_day};
 ghost use Rattle.jiff_core.specs.Time.{time_seconds};
+ghost use Rattle.wm_instants.specs.Instants.{instant_of};
 ghost use Rattle.wm_instants.specs.Texts.{year_of, month_of, day_of, second_of_day, date_text, clock_text, instant_text};
 
 use crate::civil::beginning;
@@ -14,6 +16,8 @@ fn datetime_at(at: Instant) -> DateTime
     ensures month { result.date.month ≡ month_of at }
     ensures day { result.date.day ≡ day_of at }
     ensures seconds { time_seconds result.time ≡ second_of_day at }
+    ensures low { pos 1 ≤ℤ result.date.year }
+    ensures days { epoch_day result.date ≡ neg_ℤ (pos 719_162) +ℤ pos (at / 86_400) }
 {
     let Ok(shown) = beginning().checked_add(Duration::from_secs(at.seconds())) else {
         unreachable!()
@@ -72,6 +76,9 @@ fn text_of(shown: DateTime) -> [u8; 19]
 pub fn write_instant(at: Instant, into: &mut Bytes) -> Result<(), Memory>
     ensures ok { OnOk result (into.new ≡ into.old ++ instant_text at) }
     ensures err { OnErr result (into.new ≡ into.old) }
+
+    // What is written for a moment is read as it.
+    ensures read_back { at < END → instant_of (instant_text at) ≡ Ok at }
 {
     if at.seconds() == END {
         into.append(b"UNTIL_CHANGED")

@@ -1,4 +1,4 @@
-ghost use Rattle.std.specs.Prelude.{◌≡◌, ℕ, ◌<◌, ◌≤◌, ◌↔◌, IsTrue, IsNone, IfSome, length, drop};
+ghost use Rattle.std.specs.Prelude.{◌≡◌, ◌<◌, ◌≤◌, ◌↔◌, IsTrue, IsNone, IfSome, length, drop};
 ghost use Rattle.wm_base.specs.Period.{meets};
 ghost use Rattle.wm_period.specs.Pieces.{part_in, held, IsApart, JoinsFirst};
 

@@ -2,7 +2,11 @@
 #![tactic(auto)]
 
 pub mod judge;
+pub mod once;
 pub mod row_test;
+#[cfg(test)]
+mod tests;
 
 pub use judge::Judge;
+pub use once::keeps;
 pub use row_test::RowTest;

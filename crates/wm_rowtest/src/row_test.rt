@@ -38,6 +38,20 @@ impl<F: Fn(&Row) -> Truth + Judge> RowTest<F> {
         })
     }
 
+    /// The condition.
+    pub fn cond(&self) -> &Cond
+        ensures { result.now ≡ self.now.cond }
+    {
+        &self.cond
+    }
+
+    /// The columns whose rows it judges.
+    pub fn columns(&self) -> &Columns
+        ensures { result.now ≡ self.now.columns }
+    {
+        &self.columns
+    }
+
     /// Whether the condition is true on the row: where it is false or unknown, the row is not kept.
     pub fn keep(&self, row: &Row) -> bool
         requires { fits self.now.columns row.now ≡ true }

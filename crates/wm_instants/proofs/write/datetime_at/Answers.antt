@@ -25,3 +25,9 @@ returns-clause-day c = (shown c).0.day
 
 pub returns-clause-seconds : goal.returns-clause-seconds
 returns-clause-seconds c = (shown c).1
+
+pub returns-clause-low : goal.returns-clause-low
+returns-clause-low c = (shown c).0.low
+
+pub returns-clause-days : goal.returns-clause-days
+returns-clause-days c = (shown c).0.days

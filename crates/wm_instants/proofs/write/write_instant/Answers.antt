@@ -1,5 +1,6 @@
 use Rattle.std.proofs.Common.{arith, ◌∙◌, ap, sym, ◌++◌}
 use Rattle.wm_instants.specs.Texts.{instant_text}
+use Rattle.wm_instants.proofs.ReadBack.{reads_back}
 use Rattle.wm_instants.proofs.TextLemmas.{text_at, text_end}
 use Rattle.wm_instants.proofs.write.write_instant.Goals as goal
 
@@ -12,3 +13,8 @@ pub returns-else-seconds-eq-END-clause-ok : goal.returns-else-seconds-eq-END-cla
 returns-else-seconds-eq-END-clause-ok c =
     let text = c.text_of.ensures ∙ text_at c.datetime_at.result c.args.at (omega arith) c.datetime_at.ensures.year c.datetime_at.ensures.month c.datetime_at.ensures.day c.datetime_at.ensures.seconds in
     rw (← text) c.append-else-seconds-eq-END.ensures.ok
+
+pub returns-else-seconds-eq-END-clause-read_back : goal.returns-else-seconds-eq-END-clause-read_back
+returns-else-seconds-eq-END-clause-read_back c = λ high.
+    let d = c.datetime_at.ensures in
+    reads_back c.datetime_at.result c.args.at high d.low d.year d.month d.day d.seconds d.days
