@@ -13,8 +13,6 @@ mod operands;
 mod owned;
 mod periods;
 mod seen;
-#[cfg(test)]
-mod tests;
 mod types;
 
 pub use conditions::truth;

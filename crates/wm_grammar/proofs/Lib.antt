@@ -1,0 +1,10 @@
+pub mod Lists
+pub mod Laws
+pub mod Whole
+pub mod Loops
+pub mod Scans
+pub mod OperandLaws
+pub mod ExpressionLaws
+pub mod QueryLaws
+pub mod CallLaws
+pub mod StatementLaws

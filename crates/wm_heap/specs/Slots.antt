@@ -1,0 +1,29 @@
+-- The records of a page: the number of its slots in two bytes, and the slots; what follows means nothing.
+use Rattle.std.specs.Prelude.{◌≡◌, ℕ, ◌+◌, ◌-◌, ◌<◌, ◌≤◌, ◌^◌, List, ◌++◌, length, replicate, Option}
+use Rattle.std.specs.Int.{w16, w64, to_be_bytes}
+use Rattle.std.specs.List.{flat_map, AllByRecursion}
+use Rattle.std.specs.Option.{option_and_then, option_map}
+use Rattle.wm_codec.specs.Format.{Format, ◌▸◌, fields, times}
+use Rattle.wm_codec.specs.Fields.{u16, u64, text}
+use Rattle.wm_heap.specs.declared.slot.Slot.{Slot}
+
+-- a slot: the id of a record, two bytes of length, and so many bytes
+abbrev pub slot : Format Slot
+slot = fields (λ s. (s.id, s.bytes)) (λ p. record { id = p.0; bytes = p.1 }) (u64 ▸ text)
+
+-- the slots of a page, None where they run past its end
+unfoldable pub slots_of : List ℕ → Option (List Slot)
+slots_of page = option_and_then (λ count. option_map (λ x. x.0) (times slot count.0 count.1)) (u16.read page)
+
+-- the bytes of slots, with their number before them
+abbrev pub slots_bytes : List Slot → List ℕ
+slots_bytes slots = u16.spell (length slots) ++ flat_map slot.spell slots
+
+-- a page has room for the slots
+pub record FitPage (slots : List Slot) : Type 0 where
+  pub short : AllByRecursion slot.CanSpell slots
+  pub room : length (slots_bytes slots) ≤ 4096
+
+-- the page of slots: zeros stand behind them
+unfoldable pub page_of : List Slot → List ℕ
+page_of slots = slots_bytes slots ++ replicate (4096 - length (slots_bytes slots)) 0

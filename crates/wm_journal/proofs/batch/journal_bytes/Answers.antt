@@ -1,0 +1,37 @@
+use Rattle.std.proofs.Common.{◌≡◌, ℕ, ◌-◌, ◌*◌, List, [], ◌∷◌, ◌++◌, length, take, replicate, refl, sym, ◌∙◌, ap, subst, arith}
+use Rattle.std.proofs.lemmas.List.{take_all}
+use Rattle.wm_page.specs.Batch.{entries}
+use Rattle.wm_page.specs.declared.write.PageWrite.{PageWrite}
+use Rattle.wm_journal.specs.Disk.{directory_pages}
+use Rattle.wm_journal.specs.Writes.{numbers_of, images_of, journal_bytes}
+use Rattle.wm_journal.proofs.ReadBack.{length-numbers_of}
+use Rattle.wm_journal.proofs.batch.journal_bytes.Goals as goal
+
+length-entries : (ws : List PageWrite) → length (entries ws) ≡ length ws
+length-entries [] = refl
+length-entries (w ∷ ws) = omega (arith, length-entries ws)
+
+-- the numbers, filled up to whole pages, and the images
+bytes_made : (es : List (ℕ × List ℕ)) (n size : ℕ) (numbers filled whole : List ℕ) → n ≡ length es → numbers ≡ [] ++ numbers_of es → size ≡ length numbers → filled ≡ take (directory_pages n * 4096) numbers ++ replicate (directory_pages n * 4096 - size) 0 → whole ≡ filled ++ images_of es → whole ≡ journal_bytes es
+unfolding journal_bytes
+bytes_made es n size numbers filled whole count first long second third =
+    let eight : size ≡ length es * 8 = omega (arith, ap length first, length-numbers_of es) in
+    let all : take (directory_pages n * 4096) numbers ≡ numbers = take_all (directory_pages n * 4096) numbers (omega (arith, length-numbers_of es)) in
+    let amount : directory_pages n * 4096 - size ≡ directory_pages (length es) * 4096 - length es * 8 = omega arith in
+    let pad : replicate (directory_pages n * 4096 - size) 0 ≡ replicate (directory_pages (length es) * 4096 - length es * 8) 0 = ap (λ (k : ℕ). replicate k 0) amount in
+    let base : take (directory_pages n * 4096) numbers ≡ numbers_of es = all ∙ first in
+    third ∙ ap (λ (l : List ℕ). l ++ images_of es) (second ∙ ap (λ (l : List ℕ). l ++ replicate (directory_pages n * 4096 - size) 0) base ∙ ap (λ (l : List ℕ). numbers_of es ++ l) pad)
+
+pub returns : goal.returns
+returns c =
+    let pages : List PageWrite = c.args.pages.now in
+    let n = length pages in
+    let size = c.put_numbers.new.bytes.len in
+    let count : n ≡ length (entries pages) = sym (length-entries pages) in
+    let numbers : c.put_numbers.new.bytes.items ≡ [] ++ numbers_of (entries pages) = c.in_ok-put_numbers.ensures ∙ ap (λ (l : List ℕ). l ++ numbers_of (entries pages)) c.new-bytes.ensures.items in
+    let pages_taken : c.div_ceil.result ≡ directory_pages n = omega (arith, c.div_ceil.ensures) in
+    let numbers_items : List ℕ = c.put_numbers.new.bytes.items in
+    let long : size ≡ length numbers_items = c.put_numbers.new.bytes.ok.0 in
+    let filled : c.resize.new.self.items ≡ take (directory_pages n * 4096) numbers_items ++ replicate (directory_pages n * 4096 - size) 0 =
+    subst (λ (k : ℕ). c.resize.new.self.items ≡ take (k * 4096) numbers_items ++ replicate (k * 4096 - size) 0) pages_taken c.in_ok-resize.ensures.items in
+    bytes_made (entries pages) n size numbers_items c.resize.new.self.items c.put_images.new.bytes.items count numbers long filled c.in_ok-put_images.ensures

@@ -1,0 +1,5 @@
+pub mod Disk
+pub mod Header
+pub mod Opening
+pub mod Store
+pub mod Writes

@@ -1,0 +1,14 @@
+//! The journal of pages: a change of several pages is kept whole or not at all, through every crash.
+#![tactic(auto)]
+
+mod batch;
+mod device;
+mod format;
+mod header;
+mod journal;
+mod replay;
+
+pub use journal::Journal;
+
+#[cfg(test)]
+mod tests;

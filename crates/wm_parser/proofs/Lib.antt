@@ -1,0 +1,5 @@
+pub mod Peeking
+pub mod Numbers
+pub mod Listing
+pub mod Ending
+pub mod Arguments
