@@ -2,11 +2,11 @@
 use Rattle.std.specs.Prelude.{ℕ, List, map, Some, true}
 use Rattle.std.specs.Option.{option_map}
 use Rattle.std.specs.Char.{to_ascii_uppercase}
-use Rattle.wm_spec.specs.Grammar as grammar
+use Rattle.wm_model.specs.Grammar as grammar
 use Rattle.wm_base.specs.declared.row.Row.{Row}
-use Rattle.wm_spec.specs.State.{State, Table, Entry}
-use Rattle.wm_spec.specs.Step.{with_entry}
-use Rattle.wm_spec.specs.Texts as texts
+use Rattle.wm_model.specs.State.{State, Table, Entry}
+use Rattle.wm_model.specs.Step.{with_entry}
+use Rattle.wm_model.specs.Texts as texts
 use Rattle.wm_engine.specs.declared.answer.Answer.{Answer}
 use Rattle.wm_engine.specs.declared.answer.Answer.TheVariants.{Nothing, Fine, Done, Listing, Refused}
 use Rattle.wm_engine.specs.declared.change.Change.{Change}

@@ -1,8 +1,8 @@
 //! The state between two lines, and what a line does to it.
 ghost use Rattle.std.specs.Prelude.{◌≡◌, IfOk, OnOk, OnErr, None, Some};
 ghost use Rattle.std.specs.Option.{option_map};
-ghost use Rattle.wm_spec.specs.State.{fresh};
-ghost use Rattle.wm_spec.specs.Step.{step, answer_text, connect, create, enable, add_row, listing, is_open, run_statement, run_line};
+ghost use Rattle.wm_model.specs.State.{fresh};
+ghost use Rattle.wm_model.specs.Step.{step, answer_text, connect, create, enable, add_row, listing, is_open, run_statement, run_line};
 ghost use Rattle.wm_engine.specs.Views.{folded, planned, changed, statement_view, line_view};
 
 use crate::answer::Answer;
@@ -30,7 +30,7 @@ pub struct Engine {
 }
 
 impl Model for Engine {
-    ghost use Rattle.wm_spec.specs.State.{State};
+    ghost use Rattle.wm_model.specs.State.{State};
 
     ghost Value = { State };
 
@@ -39,7 +39,7 @@ impl Model for Engine {
 
 impl Engine {
     /// An empty store that takes this many changes.
-    #[tactic(auto, unfolding(wm_spec::specs::State::fresh))]
+    #[tactic(auto, unfolding(wm_model::specs::State::fresh))]
     pub fn fresh(limit: u32) -> Engine
         ensures { result ≡ fresh limit }
     {
@@ -196,7 +196,7 @@ impl Engine {
     }
 
     /// What a line does and answers.
-    #[tactic(auto, unfolding(wm_spec::specs::Step::step))]
+    #[tactic(auto, unfolding(wm_model::specs::Step::step))]
     fn plan(&self, alloc: Global, line: &[u8]) -> Result<Planned<'_>, Memory>
         ensures { IfOk result (λ p. planned p self.now ≡ step self.now line.now) }
     {

@@ -12,7 +12,7 @@ pub struct Entry {
 }
 
 impl Model for Entry {
-    ghost use Rattle.wm_spec.specs.State.{Entry as EntryState};
+    ghost use Rattle.wm_model.specs.State.{Entry as EntryState};
 
     ghost Value = { EntryState };
 

@@ -2,7 +2,7 @@
 ghost use Rattle.std.specs.Prelude.{◌≡◌, ◌++◌, List, length, codes, map, IfOk, OnOk, OnErr};
 ghost use Rattle.std.specs.List.{flat_map};
 ghost use Rattle.std.specs.Fmt.{decimal, signed_decimal};
-ghost use Rattle.wm_spec.specs.Texts.{doubled, quoted, time_text, period_text, value_text, more, joined, row_text, key_text, perhaps_period, form_text, cell_text, limit_text, refusal_text, answer_text};
+ghost use Rattle.wm_model.specs.Texts.{doubled, quoted, time_text, period_text, value_text, more, joined, row_text, key_text, perhaps_period, form_text, cell_text, limit_text, refusal_text, answer_text};
 ghost use Rattle.wm_engine.specs.Views.{answer_view, rows_of};
 
 use crate::answer::Answer;
@@ -50,7 +50,7 @@ fn push_doubled_all(out: &mut Bytes, text: &[u8]) -> Result<(), Memory>
 }
 
 /// Adds a text between quotes.
-#[tactic(auto, unfolding(wm_spec::specs::Texts::quoted))]
+#[tactic(auto, unfolding(wm_model::specs::Texts::quoted))]
 fn push_quoted(out: &mut Bytes, text: &[u8]) -> Result<(), Memory>
     ensures { OnOk result (out.new ≡ out.old ++ quoted text.now) }
 {
@@ -60,7 +60,7 @@ fn push_quoted(out: &mut Bytes, text: &[u8]) -> Result<(), Memory>
 }
 
 /// Adds a time as its count of seconds: no line of today prints one.
-#[tactic(auto, unfolding(wm_spec::specs::Texts::time_text))]
+#[tactic(auto, unfolding(wm_model::specs::Texts::time_text))]
 fn push_time(alloc: Global, out: &mut Bytes, seconds: u64) -> Result<(), Memory>
     ensures { OnOk result (out.new ≡ out.old ++ time_text seconds) }
 {
@@ -68,7 +68,7 @@ fn push_time(alloc: Global, out: &mut Bytes, seconds: u64) -> Result<(), Memory>
 }
 
 /// Adds a period with its ends.
-#[tactic(auto, unfolding(wm_spec::specs::Texts::period_text))]
+#[tactic(auto, unfolding(wm_model::specs::Texts::period_text))]
 fn push_period(alloc: Global, out: &mut Bytes, period: &Period) -> Result<(), Memory>
     ensures { OnOk result (out.new ≡ out.old ++ period_text period.now) }
 {
@@ -127,7 +127,7 @@ fn push_joined(
 }
 
 /// Adds a row on a line of its own.
-#[tactic(auto, unfolding(wm_spec::specs::Texts::row_text))]
+#[tactic(auto, unfolding(wm_model::specs::Texts::row_text))]
 fn push_row(alloc: Global, out: &mut Bytes, row: &Row) -> Result<(), Memory>
     ensures { OnOk result (out.new ≡ out.old ++ row_text row.now) }
 {
@@ -136,7 +136,7 @@ fn push_row(alloc: Global, out: &mut Bytes, row: &Row) -> Result<(), Memory>
 }
 
 /// Adds a key: its one value, or its values in brackets.
-#[tactic(auto, unfolding(wm_spec::specs::Texts::key_text))]
+#[tactic(auto, unfolding(wm_model::specs::Texts::key_text))]
 fn push_key(alloc: Global, out: &mut Bytes, key: &Key) -> Result<(), Memory>
     ensures { OnOk result (out.new ≡ out.old ++ key_text key.now) }
 {
@@ -248,7 +248,7 @@ fn push_counted(alloc: Global, out: &mut Bytes, word: &[u8], count: u64) -> Resu
 }
 
 /// Adds an answer.
-#[tactic(auto, unfolding(wm_spec::specs::Texts::answer_text))]
+#[tactic(auto, unfolding(wm_model::specs::Texts::answer_text))]
 fn push_answer(alloc: Global, out: &mut Bytes, answer: &Answer<'_>) -> Result<(), Memory>
     ensures { OnOk result (out.new ≡ out.old ++ answer_text (answer_view answer.now)) }
 {

@@ -4,8 +4,8 @@ ghost use Rattle.std.specs.Str.{bytes_eq};
 ghost use Rattle.std.specs.List.{take_while};
 ghost use Rattle.std.specs.Ordering.{is_lt};
 ghost use Rattle.wm_base.specs.Key.{key_order};
-ghost use Rattle.wm_spec.specs.State.{Entry as EntryState};
-ghost use Rattle.wm_spec.specs.Step.{holds_key, with_entry};
+ghost use Rattle.wm_model.specs.State.{Entry as EntryState};
+ghost use Rattle.wm_model.specs.Step.{holds_key, with_entry};
 ghost use Rattle.wm_engine.specs.Views.{folded};
 
 use crate::entry::Entry;
@@ -25,7 +25,7 @@ pub struct Table {
 }
 
 impl Model for Table {
-    ghost use Rattle.wm_spec.specs.State.{Table as TableState};
+    ghost use Rattle.wm_model.specs.State.{Table as TableState};
 
     ghost Value = { TableState };
 

@@ -4,11 +4,11 @@ use Rattle.std.proofs.lemmas.List.{take-append-drop, take_more}
 use Rattle.wm_station.specs.History.{History, Said, said, MayHaveSaid}
 use Rattle.wm_station.specs.Moments.{During}
 use Rattle.wm_station.proofs.Steps.{during_begun, during_said, followed, weaken}
-use Rattle.wm_spec.specs.Lines.{cap, capped, without_cr, HasNoLf}
-use Rattle.wm_spec.specs.Step.{State, step}
-use Rattle.wm_spec.specs.Running.{answer, transcript, Stopped}
-use Rattle.wm_spec.proofs.Cutting.{capped_last}
-use Rattle.wm_spec.proofs.Running.{transcript-single, after-single, ran_line, ran_then_cut, cut_longer, cut_before, cut_within, stopped_before, stopped_within, stopped_after, Stopped-cap}
+use Rattle.wm_model.specs.Lines.{cap, capped, without_cr, HasNoLf}
+use Rattle.wm_model.specs.Step.{State, step}
+use Rattle.wm_model.specs.Running.{answer, transcript, Stopped}
+use Rattle.wm_model.proofs.Cutting.{capped_last}
+use Rattle.wm_model.proofs.Running.{transcript-single, after-single, ran_line, ran_then_cut, cut_longer, cut_before, cut_within, stopped_before, stopped_within, stopped_after, Stopped-cap}
 use Rattle.wm_host.specs.Hosting.{standing, line_of, Says}
 use Rattle.wm_host.specs.declared.host.Host.{Host}
 use Rattle.wm_host.specs.Crash.{CrashSays, CrashRuns, CrashAnswers}

@@ -3,10 +3,10 @@ use Rattle.std.proofs.Common.{ℕ, ◌≡◌, List, [], ◌++◌, length, map, r
 use Rattle.std.specs.Prelude.{Result, Ok, Err, OnOk, OnErr}
 use Rattle.std.proofs.lemmas.List.{length-map}
 use Rattle.wm_station.specs.History.{History, said}
-use Rattle.wm_spec.specs.Lines.{cap, ended_lines}
-use Rattle.wm_spec.specs.State.{State, fresh}
-use Rattle.wm_spec.specs.Running.{transcript, after, Stopped}
-use Rattle.wm_spec.proofs.Running.{transcript-cap, Stopped-cap, stopped_all, stopped_before, stopped_front}
+use Rattle.wm_model.specs.Lines.{cap, ended_lines}
+use Rattle.wm_model.specs.State.{State, fresh}
+use Rattle.wm_model.specs.Running.{transcript, after, Stopped}
+use Rattle.wm_model.proofs.Running.{transcript-cap, Stopped-cap, stopped_all, stopped_before, stopped_front}
 use Rattle.wm_host.specs.Hosting.{Finishes, Halts}
 use Rattle.wm_host.specs.Script.{AnswersTaken}
 use Rattle.wm_host.specs.Outcome.{HasSaid, HasSaidFront, AnswersSome, AnswersEnded, answers_to}

@@ -2,8 +2,8 @@
 use Rattle.std.proofs.Common.{ℕ, zero, suc, ◌≡◌, ◌≢◌, ◌<◌, ◌==◌, nat_lt, Bool, true, false, cond, List, [], ◌∷◌, ◌++◌, length, get_or, take, refl, ap, sym, ◌∙◌, length-append, arith}
 use Rattle.std.proofs.lemmas.List.{take_at, take_all}
 use Rattle.std.proofs.lemmas.Bool.{cond-true, cond-false, eq-eqb, ne_eqb, le-ltb, false≢true}
-use Rattle.wm_spec.specs.Lines.{cap, without_cr, held_more}
-use Rattle.wm_spec.proofs.Cutting.{cap-long, cap-without_cr-long}
+use Rattle.wm_model.specs.Lines.{cap, without_cr, held_more}
+use Rattle.wm_model.proofs.Cutting.{cap-long, cap-without_cr-long}
 
 -- the line of which n bytes stand before a CR
 pub without_cr-ends : (line : List ℕ) (n : ℕ) → length line ≡ suc n → get_or line n 0 ≡ 13 → take n line ≡ without_cr line

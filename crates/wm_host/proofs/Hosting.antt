@@ -3,11 +3,11 @@ use Rattle.std.proofs.Common.{ℕ, ◌≡◌, ◌<◌, ◌+◌, true, List, [], 
 use Rattle.std.proofs.lemmas.Bool.{ne_eqb}
 use Rattle.std.proofs.lemmas.List.{take_more, take-append-drop}
 use Rattle.wm_station.specs.History.{History}
-use Rattle.wm_spec.specs.Lines.{cap, capped, without_cr, HasNoLf, held_more}
-use Rattle.wm_spec.specs.Step.{State, step, answer_text}
-use Rattle.wm_spec.specs.Running.{answer, transcript, IsPart, StopsIn, Standing, Ran, Cut}
-use Rattle.wm_spec.proofs.Running.{step-cap, transcript-append, transcript-single, ran_none, ran_byte, ran_line, ran_more, ran_then_cut, cut_longer, cut_before, cut_within, stopped_within}
-use Rattle.wm_spec.proofs.Cutting.{HasNoLf-held_more, capped_last}
+use Rattle.wm_model.specs.Lines.{cap, capped, without_cr, HasNoLf, held_more}
+use Rattle.wm_model.specs.Step.{State, step, answer_text}
+use Rattle.wm_model.specs.Running.{answer, transcript, IsPart, StopsIn, Standing, Ran, Cut}
+use Rattle.wm_model.proofs.Running.{step-cap, transcript-append, transcript-single, ran_none, ran_byte, ran_line, ran_more, ran_then_cut, cut_longer, cut_before, cut_within, stopped_within}
+use Rattle.wm_model.proofs.Cutting.{HasNoLf-held_more, capped_last}
 use Rattle.wm_host.specs.Saying.{OnlySaid, SaidPart}
 use Rattle.wm_host.specs.Hosting.{standing, line_of, Answers, Unanswered, Says, Breaks, Finishes, Halts}
 use Rattle.wm_host.specs.declared.host.Host.{Host}

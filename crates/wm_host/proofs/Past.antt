@@ -3,10 +3,10 @@ use Rattle.std.proofs.Common.{◌⊎◌, ⊎_elim, ℕ, ◌≡◌, ◌≤◌, �
 use Rattle.std.specs.Prelude.{Result, Ok, Err, OnOk, OnErr}
 use Rattle.std.proofs.lemmas.List.{take_at, length-take-le}
 use Rattle.wm_station.specs.History.{History}
-use Rattle.wm_spec.specs.Lines.{capped, HasNoLf}
-use Rattle.wm_spec.specs.Step.{State}
-use Rattle.wm_spec.specs.Running.{transcript, Stopped}
-use Rattle.wm_spec.proofs.Running.{transcript-append, ran_lines, ran_ended_lines, stopped_after}
+use Rattle.wm_model.specs.Lines.{capped, HasNoLf}
+use Rattle.wm_model.specs.Step.{State}
+use Rattle.wm_model.specs.Running.{transcript, Stopped}
+use Rattle.wm_model.proofs.Running.{transcript-append, ran_lines, ran_ended_lines, stopped_after}
 use Rattle.wm_host.specs.Saying.{OnlySaid, OnlySays}
 use Rattle.wm_host.specs.Hosting.{standing, Says, Breaks, Finishes, Halts}
 use Rattle.wm_station.specs.Moments.{During}

@@ -2,8 +2,8 @@
 -- touched, with this said.
 use Rattle.std.specs.Prelude.{ℕ, ◌≡◌, List, ◌++◌}
 use Rattle.wm_station.specs.History.{History, said, Leaves}
-use Rattle.wm_spec.specs.Step.{State}
-use Rattle.wm_spec.specs.Running.{Stopped, Cut}
+use Rattle.wm_model.specs.Step.{State}
+use Rattle.wm_model.specs.Running.{Stopped, Cut}
 use Rattle.wm_host.specs.Hosting.{standing}
 use Rattle.wm_host.specs.declared.host.Host.{Host}
 

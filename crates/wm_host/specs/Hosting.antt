@@ -1,9 +1,9 @@
 -- What the host did with a piece of the script, and what it said.
 use Rattle.std.specs.Prelude.{ℕ, ◌≡◌, ◌+◌, List, [], ◌∷◌, length}
 use Rattle.wm_station.specs.History.{History}
-use Rattle.wm_spec.specs.Lines.{cap, without_cr, HasNoLf}
-use Rattle.wm_spec.specs.Step.{step}
-use Rattle.wm_spec.specs.Running.{answer, transcript, StopsIn, Stopped, Standing, Ran, Cut}
+use Rattle.wm_model.specs.Lines.{cap, without_cr, HasNoLf}
+use Rattle.wm_model.specs.Step.{step}
+use Rattle.wm_model.specs.Running.{answer, transcript, StopsIn, Stopped, Standing, Ran, Cut}
 use Rattle.wm_host.specs.Saying.{OnlySaid}
 use Rattle.wm_host.specs.declared.host.Host.{Host}
 

@@ -1,9 +1,9 @@
 -- What a run did with a script, whose lines are answered from an empty store with room for 1,000 changes.
 use Rattle.std.specs.Prelude.{ℕ, ◌≡◌, List, ◌++◌, length}
 use Rattle.wm_station.specs.History.{History, said}
-use Rattle.wm_spec.specs.Lines.{ended_lines}
-use Rattle.wm_spec.specs.State.{State, fresh}
-use Rattle.wm_spec.specs.Running.{transcript, Stopped}
+use Rattle.wm_model.specs.Lines.{ended_lines}
+use Rattle.wm_model.specs.State.{State, fresh}
+use Rattle.wm_model.specs.Running.{transcript, Stopped}
 
 -- these bytes were said, and no others
 abbrev pub HasSaid : History → History → List ℕ → Type 0

@@ -1,7 +1,7 @@
 -- What was said over a stretch of a run.
 use Rattle.std.specs.Prelude.{ℕ, ◌≡◌, List, [], ◌∷◌, ◌++◌, take}
 use Rattle.wm_station.specs.History.{History, Said}
-use Rattle.wm_spec.specs.Running.{IsPart}
+use Rattle.wm_model.specs.Running.{IsPart}
 
 -- the history behind these calls of say, each a piece and how many of its bytes were said
 abbrev pub after_says : History → List (List ℕ × ℕ) → History

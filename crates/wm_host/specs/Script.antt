@@ -1,7 +1,7 @@
 -- What the host did with a whole script.
 use Rattle.std.specs.Prelude.{ℕ, ◌≡◌, ◌^◌, ◌<◌, false, List, ◌++◌, length, take}
 use Rattle.wm_station.specs.History.{History}
-use Rattle.wm_spec.specs.Lines.{capped}
+use Rattle.wm_model.specs.Lines.{capped}
 use Rattle.wm_host.specs.Hosting.{Finishes}
 use Rattle.wm_host.specs.declared.host.Host.{Host}
 

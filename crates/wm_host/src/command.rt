@@ -1,8 +1,8 @@
 //! The commands of the program.
 ghost use Rattle.std.specs.Prelude.{◌≡◌, ◌^◌, ◌<◌, ◌≤◌, ◌↔◌, ◌==◌, List, [], ◌∷◌, length, map, take, string_bytes, false, true};
 ghost use Rattle.std.specs.List.{list_any};
-ghost use Rattle.wm_spec.specs.Lines.{lines, ended_lines};
-ghost use Rattle.wm_spec.specs.State.{fresh};
+ghost use Rattle.wm_model.specs.Lines.{lines, ended_lines};
+ghost use Rattle.wm_model.specs.State.{fresh};
 ghost use Rattle.wm_station.specs.Cause.{Rises};
 ghost use Rattle.wm_station.specs.Moments.{During};
 ghost use Rattle.wm_host.specs.Crash.{CrashAnswers};

@@ -1,8 +1,8 @@
 //! What takes the bytes of a script one by one, and answers each line as it ends.
 ghost use Rattle.std.specs.Prelude.{◌≡◌, ◌+◌, ◌^◌, ◌<◌, ◌≤◌, List, [], ◌∷◌, length, OnOk, OnErr, IsErrOf, IfErr, true};
-ghost use Rattle.wm_spec.specs.Lines.{HasNoLf, capped};
-ghost use Rattle.wm_spec.specs.Running.{answer};
-ghost use Rattle.wm_spec.specs.State.{fresh};
+ghost use Rattle.wm_model.specs.Lines.{HasNoLf, capped};
+ghost use Rattle.wm_model.specs.Running.{answer};
+ghost use Rattle.wm_model.specs.State.{fresh};
 ghost use Rattle.wm_station.specs.Cause.{Rises};
 ghost use Rattle.wm_station.specs.Moments.{During};
 ghost use Rattle.wm_host.specs.Cause.{IsOfAnswers};

@@ -1,6 +1,6 @@
 //! What is held of a line until its end has come.
 ghost use Rattle.std.specs.Prelude.{◌≡◌, ◌↔◌, ◌<◌, List, [], IsTrue, OnOk, OnErr};
-ghost use Rattle.wm_spec.specs.Lines.{cap, without_cr, held_more};
+ghost use Rattle.wm_model.specs.Lines.{cap, without_cr, held_more};
 ghost use Rattle.wm_host.specs.declared.line.TheConstants.{HELD_BYTES};
 
 use std::alloc::Global;

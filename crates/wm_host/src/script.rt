@@ -1,6 +1,6 @@
 //! The loop over the source of a script.
 ghost use Rattle.std.specs.Prelude.{◌≡◌, ◌^◌, ◌≤◌, List, [], length, true, OnOk, OnErr, IsErrOf};
-ghost use Rattle.wm_spec.specs.Lines.{capped};
+ghost use Rattle.wm_model.specs.Lines.{capped};
 ghost use Rattle.wm_station.specs.Cause.{Rises};
 ghost use Rattle.wm_station.specs.Moments.{During};
 ghost use Rattle.wm_host.specs.Crash.{CrashAnswers};

@@ -1,10 +1,3 @@
-pub mod Lines
-pub mod Reading
-pub mod Grammar
-pub mod State
-pub mod Texts
-pub mod Step
-pub mod Running
 pub mod Records
 pub mod Lists
 pub mod Stretches

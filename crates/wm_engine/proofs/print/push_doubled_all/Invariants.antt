@@ -1,6 +1,6 @@
 use Rattle.std.proofs.Common.{◌≡◌, ◌++◌, drop}
 use Rattle.std.specs.List.{flat_map}
-use Rattle.wm_spec.specs.Texts.{doubled}
+use Rattle.wm_model.specs.Texts.{doubled}
 use Rattle.wm_engine.proofs.print.push_doubled_all.Given as goal
 
 -- what is written, and what is left to write

@@ -1,5 +1,5 @@
 use Rattle.std.proofs.Common.{◌≡◌, ◌++◌, drop}
-use Rattle.wm_spec.specs.Texts.{more}
+use Rattle.wm_model.specs.Texts.{more}
 use Rattle.wm_engine.proofs.print.push_more.Given as goal
 
 -- what is written, and what is left to write

@@ -1,6 +1,6 @@
 use Rattle.std.proofs.Common.{◌^◌, take}
-use Rattle.wm_spec.specs.Lines.{lines, ended_lines}
-use Rattle.wm_spec.specs.State.{fresh}
+use Rattle.wm_model.specs.Lines.{lines, ended_lines}
+use Rattle.wm_model.specs.State.{fresh}
 use Rattle.wm_station.proofs.Steps.{weaken}
 use Rattle.wm_host.specs.Crash.{CrashAnswers}
 use Rattle.wm_host.proofs.Crashing.{crash_answers_begun, crash_answers_cap}

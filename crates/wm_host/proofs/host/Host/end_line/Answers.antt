@@ -1,7 +1,7 @@
 use Rattle.std.proofs.lemmas.Result.{err_from_is_err_and}
 use Rattle.std.proofs.Common.{ℕ, List, subst}
 use Rattle.wm_station.specs.Moments.{During}
-use Rattle.wm_spec.specs.Running.{answer}
+use Rattle.wm_model.specs.Running.{answer}
 use Rattle.wm_host.specs.Hosting.{line_of}
 use Rattle.wm_host.specs.Crash.{CrashSays}
 use Rattle.wm_host.proofs.Crashing.{crash_says_begun}

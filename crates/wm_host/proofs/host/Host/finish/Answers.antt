@@ -2,7 +2,7 @@ use Rattle.std.proofs.Common.{refl, true}
 use Rattle.std.proofs.lemmas.Bool.{iff_false}
 use Rattle.std.proofs.lemmas.Result.{on_ok_weaker, on_err_weaker}
 use Rattle.wm_station.proofs.Steps.{weaken}
-use Rattle.wm_spec.specs.Lines.{capped}
+use Rattle.wm_model.specs.Lines.{capped}
 use Rattle.wm_host.specs.Crash.{CrashAnswers}
 use Rattle.wm_host.proofs.Crashing.{crash_answers_begun, crash_answers_line}
 use Rattle.wm_host.proofs.Hosting.{finishes_nothing, finishes_line, halts_line}

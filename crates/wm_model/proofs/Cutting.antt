@@ -2,7 +2,7 @@
 use Rattle.std.proofs.Common.{ℕ, zero, suc, ◌≡◌, ◌<◌, ◌≤◌, ◌+◌, ◌==◌, nat_lt, Bool, true, false, cond, List, [], ◌∷◌, ◌++◌, length, map, take, refl, ap, sym, ◌∙◌, append_assoc, append-nil, length-append, arith}
 use Rattle.std.proofs.lemmas.List.{length-take-le}
 use Rattle.std.proofs.lemmas.Bool.{cond_both, cond-true, cond-false, lt-leb, le-leb, ltb-false}
-use Rattle.wm_spec.specs.Lines.{parts, before_first, without_cr, fits_line, too_long, cap, capped, HasNoLf, held_more}
+use Rattle.wm_model.specs.Lines.{parts, before_first, without_cr, fits_line, too_long, cap, capped, HasNoLf, held_more}
 
 -- bytes that stand before the first of the parts
 abbrev pub before_all : Bool → List ℕ → List (List ℕ) → List (List ℕ)

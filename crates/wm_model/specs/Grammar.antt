@@ -2,7 +2,7 @@
 use Rattle.std.specs.Prelude.{ℕ, ◌-◌, List, [], ◌∷◌, Bool, false, ◌&&◌, ◌||◌, not, nat_le, length, take, drop, if◌then◌else◌, Option, None, Some, codes, ℤ}
 use Rattle.std.specs.List.{list_any}
 use Rattle.std.specs.Str.{bytes_eq}
-use Rattle.wm_spec.specs.Reading.{Reader, ◌>>=◌, or_else, is_spent, skip, word_at, keyword_at, mark_at, behind, begins_word, integer_at}
+use Rattle.wm_model.specs.Reading.{Reader, ◌>>=◌, or_else, is_spent, skip, word_at, keyword_at, mark_at, behind, begins_word, integer_at}
 
 pub data Statement : Type 0 where
   -- CREATE TABLE table (key NUMBER PRIMARY KEY, value NUMBER)

@@ -11,12 +11,12 @@ use Rattle.std.specs.Str.{bytes_eq}
 use Rattle.std.specs.Ordering.{is_lt, is_eq}
 use Rattle.wm_base.specs.Key.{key_order}
 use Rattle.wm_base.specs.Period.{Span}
-use Rattle.wm_spec.specs.Lines.{fits_line}
-use Rattle.wm_spec.specs.Grammar.{Line, Connect, Run, Statement, Create, Enable, Insert, Select, line_of, is_remark}
-pub use Rattle.wm_spec.specs.State.{State, fresh}
-use Rattle.wm_spec.specs.State.{Session, Table, Entry}
-pub use Rattle.wm_spec.specs.Texts.{Answer, answer_text}
-use Rattle.wm_spec.specs.Texts.{Nothing, Fine, Done, Listing, Refused}
+use Rattle.wm_model.specs.Lines.{fits_line}
+use Rattle.wm_model.specs.Grammar.{Line, Connect, Run, Statement, Create, Enable, Insert, Select, line_of, is_remark}
+pub use Rattle.wm_model.specs.State.{State, fresh}
+use Rattle.wm_model.specs.State.{Session, Table, Entry}
+pub use Rattle.wm_model.specs.Texts.{Answer, answer_text}
+use Rattle.wm_model.specs.Texts.{Nothing, Fine, Done, Listing, Refused}
 
 abbrev pub not_built : Answer
 not_built = Refused (Limit Wm099)

@@ -2,13 +2,13 @@
 use Rattle.std.specs.Prelude.{◌≡◌, List, ℕ, ◌++◌, codes}
 use Rattle.std.specs.Fmt.{digits}
 use Rattle.std.proofs.Common.{refl}
-use Rattle.wm_spec.specs.Lines.{lines}
-use Rattle.wm_spec.specs.Reading.{skip, is_spent, word_at, keyword_at, mark_at, digits_at, integer_at}
-use Rattle.wm_spec.specs.Grammar.{line_of, connect_line, run_line, name_at, is_reserved, is_taken, is_table_name, is_column_name, table_at, column_at, number_column_at, key_column_at, create_table_at, create_at, quoted_table_at, enable_call_at, enable_at, insert_table_at, insert_at, select_at, statement_at, is_ended, is_remark}
-use Rattle.wm_spec.specs.State.{fresh}
-use Rattle.wm_spec.specs.Texts.{row_text, key_text, answer_text}
-use Rattle.wm_spec.specs.Step.{step}
-use Rattle.wm_spec.specs.Running.{transcript}
+use Rattle.wm_model.specs.Lines.{lines}
+use Rattle.wm_model.specs.Reading.{skip, is_spent, word_at, keyword_at, mark_at, digits_at, integer_at}
+use Rattle.wm_model.specs.Grammar.{line_of, connect_line, run_line, name_at, is_reserved, is_taken, is_table_name, is_column_name, table_at, column_at, number_column_at, key_column_at, create_table_at, create_at, quoted_table_at, enable_call_at, enable_at, insert_table_at, insert_at, select_at, statement_at, is_ended, is_remark}
+use Rattle.wm_model.specs.State.{fresh}
+use Rattle.wm_model.specs.Texts.{row_text, key_text, answer_text}
+use Rattle.wm_model.specs.Step.{step}
+use Rattle.wm_model.specs.Running.{transcript}
 
 -- a session, a table, two rows, and the rows by key; then what is refused
 script : List ℕ

@@ -1,7 +1,7 @@
 -- What a run over lines says, where it stands between two bytes, and where it may stop.
 use Rattle.std.specs.Prelude.{ℕ, ◌≡◌, ◌<◌, ◌≤◌, Bool, true, ◌⊎◌, List, [], ◌∷◌, ◌++◌, length, take, drop}
-use Rattle.wm_spec.specs.Lines.{capped}
-use Rattle.wm_spec.specs.Step.{State, step, answer_text}
+use Rattle.wm_model.specs.Lines.{capped}
+use Rattle.wm_model.specs.Step.{State, step, answer_text}
 
 -- what the line is answered
 abbrev pub answer : State → List ℕ → List ℕ

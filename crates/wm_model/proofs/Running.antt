@@ -2,11 +2,11 @@
 use Rattle.std.proofs.Common.{◌≤◌, ℕ, ◌≡◌, ◌+◌, ◌==◌, Bool, true, false, cond, inl, inr, List, [], ◌∷◌, ◌++◌, length, map, take, drop, refl, ap, sym, subst, ◌∙◌, append_assoc, append-nil, length-append, arith}
 use Rattle.std.proofs.Math.Seq.{take-append-add, drop-append-add}
 use Rattle.std.proofs.lemmas.List.{length-map, take-map, drop-map, take-append-drop, take_all, drop_all}
-use Rattle.wm_spec.specs.Lines.{fits_line, too_long, cap, capped, without_cr, HasNoLf, held_more}
-use Rattle.wm_spec.specs.Step.{State, step, answer_text}
-use Rattle.wm_spec.specs.Running.{answer, transcript, after, IsPart, StopsIn, Stopped, Standing, Ran, Cut}
-use Rattle.wm_spec.proofs.Cutting.{capped-held_more, capped_ended, capped_not_ended}
-use Rattle.wm_spec.proofs.Steps.{step_long}
+use Rattle.wm_model.specs.Lines.{fits_line, too_long, cap, capped, without_cr, HasNoLf, held_more}
+use Rattle.wm_model.specs.Step.{State, step, answer_text}
+use Rattle.wm_model.specs.Running.{answer, transcript, after, IsPart, StopsIn, Stopped, Standing, Ran, Cut}
+use Rattle.wm_model.proofs.Cutting.{capped-held_more, capped_ended, capped_not_ended}
+use Rattle.wm_model.proofs.Steps.{step_long}
 
 pub transcript-append : (s : State) (xs ys : List (List ℕ)) → transcript s (xs ++ ys) ≡ transcript s xs ++ transcript (after s xs) ys
 unfolding transcript after

@@ -1,0 +1,4 @@
+pub mod Cutting
+pub mod Running
+pub mod Steps
+mod Samples
