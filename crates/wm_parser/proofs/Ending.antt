@@ -9,7 +9,7 @@ use Rattle.wm_grammar.specs.Statements.{line}
 use Rattle.wm_grammar.specs.StatementReaders.{line_at}
 use Rattle.wm_grammar.proofs.Whole.{all_exact, all_complete}
 use Rattle.wm_grammar.proofs.StatementLaws.{line_exact}
-use Rattle.wm_parser.specs.Cursor.{no_more}
+use Rattle.wm_terms.specs.Cursor.{no_more}
 
 pub ended_all : {A : Type 0} (x : A) (ts : List Symbol) → no_more ts ≡ true → ended x ts ≡ Ok x
 ended_all x [] e = refl

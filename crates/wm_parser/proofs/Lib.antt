@@ -1,5 +1,2 @@
-pub mod Peeking
-pub mod Numbers
-pub mod Listing
 pub mod Ending
 pub mod Arguments

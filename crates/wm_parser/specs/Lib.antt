@@ -1,3 +1,1 @@
-pub mod Cursor
-pub mod Telling
 pub mod Parsing

@@ -4,8 +4,8 @@ use Rattle.wm_grammar.specs.Symbols.{Symbol}
 use Rattle.wm_grammar.specs.Scanned.{symbols_of}
 use Rattle.wm_grammar.specs.Forms.{Form}
 use Rattle.wm_grammar.specs.Faults.{Fault}
-use Rattle.wm_parser.specs.declared.error.ParseError.{ParseError}
-use Rattle.wm_parser.specs.declared.error.ParseError.TheVariants as errors
+use Rattle.wm_terms.specs.declared.error.ParseError.{ParseError}
+use Rattle.wm_terms.specs.declared.error.ParseError.TheVariants as errors
 use Rattle.wm_parser.specs.declared.fault.ParseFault.{ParseFault}
 use Rattle.wm_parser.specs.declared.fault.ParseFault.TheVariants as faults
 

@@ -5,13 +5,13 @@ ghost use Rattle.wm_grammar.specs.ExpressionReaders.{expr_at};
 ghost use Rattle.wm_grammar.specs.Queries.{some_aggregate, has_aggregate, is_aggregate, is_alone, room};
 ghost use Rattle.wm_grammar.specs.QueryReaders.{next_at, list_of_at, filter_at, other_aggregate_at, counted_at, query_item_at, out_at, projection_at, source_at, joined_at, next_source_at, separators, source_list_at, grouping_at, direction_at, order_key_at, order_at, ordering_at, query_at};
 ghost use Rattle.wm_grammar.specs.Symbols.{next_in};
-ghost use Rattle.wm_parser.specs.Telling.{Told};
+ghost use Rattle.wm_terms.specs.Telling.{Told};
 
-use crate::conditions::condition;
-use crate::cursor::Cursor;
-use crate::error::ParseError;
-use crate::expressions::expr;
-use crate::operands::column;
+use wm_terms::conditions::condition;
+use wm_terms::cursor::Cursor;
+use wm_terms::error::ParseError;
+use wm_terms::expressions::expr;
+use wm_terms::operands::column;
 use std::alloc::Global;
 use wm_base::tree::column::{Col, Cols};
 use wm_base::tree::cond::Cond;
@@ -330,7 +330,7 @@ fn ordering(cursor: &mut Cursor, alloc: Global) -> Result<Orders, ParseError>
 }
 
 /// Whether another source follows, where so many may still come.
-#[tactic(auto, using(crate::proofs::Listing::none_next))]
+#[tactic(auto, using(wm_terms::proofs::Listing::none_next))]
 fn source_follows(cursor: &Cursor, room: u8) -> bool
     ensures { result ≡ next_in (separators room) cursor.now }
 {

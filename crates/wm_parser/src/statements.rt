@@ -6,12 +6,12 @@ ghost use Rattle.wm_grammar.specs.ExpressionReaders.{expr_at};
 ghost use Rattle.wm_grammar.specs.QueryReaders.{next_at, list_of_at};
 ghost use Rattle.wm_grammar.specs.Statements.{also, is_key, keyed_by};
 ghost use Rattle.wm_grammar.specs.StatementReaders.{no_scale_at, size_at, precision_at, column_type_at, column_option_at, option_sorts, column_options_at, column_item_at, key_columns_at, create_item_at, next_item_at, create_items_at, create_at, name_list_at, insert_at, set_at, update_at, delete_at};
-ghost use Rattle.wm_parser.specs.Telling.{Told};
+ghost use Rattle.wm_terms.specs.Telling.{Told};
 
-use crate::cursor::Cursor;
-use crate::error::ParseError;
-use crate::expressions::expr;
-use crate::operands::{name, plain_name};
+use wm_terms::cursor::Cursor;
+use wm_terms::error::ParseError;
+use wm_terms::expressions::expr;
+use wm_terms::operands::{name, plain_name};
 use crate::queries::filter;
 use std::alloc::Global;
 use wm_base::Name;
@@ -95,7 +95,7 @@ fn column_option(cursor: &mut Cursor, primary: bool, not_null: bool) -> Result<b
 }
 
 /// Whether an option follows, where these have been given.
-#[tactic(auto, using(crate::proofs::Listing::none_next))]
+#[tactic(auto, using(wm_terms::proofs::Listing::none_next))]
 fn option_follows(cursor: &Cursor, primary: bool, not_null: bool) -> bool
     ensures { result ≡ next_in (option_sorts primary not_null) cursor.now }
 {

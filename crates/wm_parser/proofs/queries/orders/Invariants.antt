@@ -1,6 +1,6 @@
 use Rattle.std.proofs.Common.{length}
 use Rattle.wm_grammar.specs.QueryReaders.{next_at, list_of_at, order_at}
-use Rattle.wm_parser.proofs.Listing.{Lists}
+use Rattle.wm_terms.proofs.Listing.{Lists}
 use Rattle.wm_parser.proofs.queries.orders.Given as goal
 
 abbrev pub invariant-items : goal.invariant-items

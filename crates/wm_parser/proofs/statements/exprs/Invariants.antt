@@ -2,7 +2,7 @@ use Rattle.std.proofs.Common.{length}
 use Rattle.wm_base.specs.Views.{exprs_view}
 use Rattle.wm_grammar.specs.QueryReaders.{next_at, list_of_at}
 use Rattle.wm_grammar.specs.ExpressionReaders.{expr_at}
-use Rattle.wm_parser.proofs.Listing.{Lists}
+use Rattle.wm_terms.proofs.Listing.{Lists}
 use Rattle.wm_parser.proofs.statements.exprs.Given as goal
 
 abbrev pub invariant-items : goal.invariant-items

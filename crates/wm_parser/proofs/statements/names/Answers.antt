@@ -5,7 +5,7 @@ use Rattle.wm_grammar.specs.Sorts as sorts
 use Rattle.wm_grammar.proofs.Laws.{mark_exact, then_exact}
 use Rattle.wm_grammar.proofs.Loops.{takes_one}
 use Rattle.wm_grammar.proofs.OperandLaws.{name_exact}
-use Rattle.wm_parser.proofs.Listing.{lists_on}
+use Rattle.wm_terms.proofs.Listing.{lists_on}
 use Rattle.wm_parser.proofs.statements.names.Goals as goal
 
 pub items-smaller : goal.items-smaller

@@ -1,7 +1,7 @@
 use Rattle.std.proofs.Common.{length}
 use Rattle.wm_grammar.specs.QueryReaders.{next_at, list_of_at}
 use Rattle.wm_grammar.specs.OperandReaders.{name_at}
-use Rattle.wm_parser.proofs.Listing.{Lists}
+use Rattle.wm_terms.proofs.Listing.{Lists}
 use Rattle.wm_parser.proofs.statements.names.Given as goal
 
 abbrev pub invariant-items : goal.invariant-items

@@ -1,0 +1,3 @@
+pub mod Peeking
+pub mod Numbers
+pub mod Listing

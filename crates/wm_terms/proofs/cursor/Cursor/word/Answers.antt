@@ -1,0 +1,8 @@
+use Rattle.std.proofs.Common.{ap, ◌∙◌}
+use Rattle.wm_grammar.specs.Sorts.{code_of}
+use Rattle.wm_terms.specs.Cursor.{next_text}
+use Rattle.wm_terms.proofs.Peeking.{word_is}
+use Rattle.wm_terms.proofs.cursor.Cursor.word.Goals as goal
+
+pub returns : goal.returns
+returns c = word_is c.self.inside.rest.now (code_of c.self.inside.next) c.self.inside.size c.self.invariant.peeks ∙ ap next_text c.self.view_is
