@@ -1,0 +1,81 @@
+-- The records of a store, a list for each kind, in the order in which they stand; and what is looked up in them.
+use Rattle.std.specs.Prelude.{ℕ, Bool, ◌==◌, if◌then◌else◌, List, [], ◌∷◌, map, Option, Some, None}
+use Rattle.std.specs.List.{filter_map}
+use Rattle.wm_spec.specs.declared.record.Record.{Record}
+use Rattle.wm_spec.specs.declared.record.Record.TheVariants as records
+use Rattle.wm_spec.specs.declared.record.counters.Counters.{Counters}
+use Rattle.wm_spec.specs.declared.record.table.Table.{Table}
+use Rattle.wm_spec.specs.declared.record.space.Space.{Space}
+use Rattle.wm_spec.specs.declared.record.version.Version.{Version}
+use Rattle.wm_spec.specs.declared.record.row.RowRecord.{RowRecord}
+use Rattle.wm_spec.specs.declared.record.piece.PieceRecord.{PieceRecord}
+use Rattle.wm_spec.specs.declared.record.stored.Stored.{Stored}
+
+pub record Parts : Type 0 where
+  pub counters : List Counters
+  pub tables : List Table
+  pub spaces : List Space
+  pub versions : List Version
+  pub rows : List RowRecord
+  pub pieces : List PieceRecord
+
+abbrev pub as_counters : Record → Option Counters
+as_counters (records.Counters r) = Some r
+as_counters _ = None
+
+abbrev pub as_table : Record → Option Table
+as_table (records.Table r) = Some r
+as_table _ = None
+
+abbrev pub as_space : Record → Option Space
+as_space (records.Space r) = Some r
+as_space _ = None
+
+abbrev pub as_version : Record → Option Version
+as_version (records.Version r) = Some r
+as_version _ = None
+
+abbrev pub as_row : Record → Option RowRecord
+as_row (records.Row r) = Some r
+as_row _ = None
+
+abbrev pub as_piece : Record → Option PieceRecord
+as_piece (records.Piece r) = Some r
+as_piece _ = None
+
+-- each kind of record, in the order in which the records stand
+abbrev pub parts_in : List Record → Parts
+parts_in all = record {
+  counters = filter_map as_counters all;
+  tables = filter_map as_table all;
+  spaces = filter_map as_space all;
+  versions = filter_map as_version all;
+  rows = filter_map as_row all;
+  pieces = filter_map as_piece all;
+}
+
+unfoldable pub parts_of : List Stored → Parts
+parts_of stored = parts_in (map (λ (s : Stored). s.record) stored)
+
+-- ---- what is looked up
+
+-- the first that passes a test
+abbrev pub first : {A : Type 0} → (A → Bool) → List A → Option A
+first test [] = None
+first test (x ∷ xs) = if test x then Some x else first test xs
+
+-- the table of a number
+abbrev pub table_of : List Table → ℕ → Option Table
+table_of tables number = first (λ (t : Table). t.number == number) tables
+
+-- the workspace of a number
+abbrev pub space_of : List Space → ℕ → Option Space
+space_of spaces number = first (λ (s : Space). s.number == number) spaces
+
+-- the version of a number
+abbrev pub version_of : List Version → ℕ → Option Version
+version_of versions number = first (λ (v : Version). v.number == number) versions
+
+-- the row of a stamp
+abbrev pub row_of : List RowRecord → ℕ → Option RowRecord
+row_of rows stamp = first (λ (r : RowRecord). r.stamp == stamp) rows

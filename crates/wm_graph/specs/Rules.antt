@@ -1,0 +1,205 @@
+-- The rules over all records. A store whose records break one is damaged, though each record is in order by itself.
+use Rattle.std.specs.Prelude.{ℕ, ◌+◌, ◌^◌, Bool, true, false, not, ◌&&◌, ◌||◌, ◌==◌, nat_lt, nat_le, if◌then◌else◌, List, [], ◌∷◌, length, slice_get, Option, Some, None, is_some, codes}
+use Rattle.std.specs.List.{list_any, list_all}
+use Rattle.std.specs.Option.{option_and_then, option_map_or}
+use Rattle.std.specs.Ordering.{is_eq}
+use Rattle.std.specs.Str.{bytes_eq}
+use Rattle.wm_base.specs.Key.{key_order}
+use Rattle.wm_base.specs.Value.{type_place, weight_of}
+use Rattle.wm_base.specs.declared.instant.TheConstants.{END}
+use Rattle.wm_base.specs.declared.value.Value.{Value}
+use Rattle.wm_base.specs.declared.value.Value.TheVariants as values
+use Rattle.wm_spec.specs.declared.record.counters.Counters.{Counters}
+use Rattle.wm_spec.specs.declared.record.table.Table.{Table}
+use Rattle.wm_spec.specs.declared.record.column.TableColumn.{TableColumn}
+use Rattle.wm_spec.specs.declared.record.column.ColumnKind.{ColumnKind}
+use Rattle.wm_spec.specs.declared.record.column.ColumnKind.TheVariants as kinds
+use Rattle.wm_spec.specs.declared.record.space.Space.{Space}
+use Rattle.wm_spec.specs.declared.record.version.Version.{Version}
+use Rattle.wm_spec.specs.declared.record.row.RowRecord.{RowRecord}
+use Rattle.wm_spec.specs.declared.record.cell_range.CellRange.{CellRange}
+use Rattle.wm_spec.specs.declared.record.piece.PieceRecord.{PieceRecord}
+use Rattle.wm_graph.specs.Parts.{Parts, table_of, space_of, version_of, row_of}
+
+-- no two of the list are the same
+abbrev pub differ : {A : Type 0} → (A → A → Bool) → List A → Bool
+differ same [] = true
+differ same (x ∷ xs) = not (list_any (same x) xs) && differ same xs
+
+-- a name, a user or a writer
+abbrev pub is_short : List ℕ → Bool
+is_short name = nat_le (length name) 30
+
+-- ---- counters
+
+-- a store takes 1 to 1,048,576 changes and has given no more stamps than that; each line that adds a version has added
+-- to the work
+abbrev pub are_counters : Counters → Bool
+are_counters c =
+    (nat_le 1 c.limit && nat_le c.limit 1048576)
+    && (nat_le 1 c.next_stamp && nat_le c.next_stamp (c.limit + 1))
+    && (nat_lt c.last_moment END && (nat_le c.work (2 ^ 62) && nat_le c.next_version (c.work + 2)))
+
+-- ---- tables
+
+abbrev pub same_column : TableColumn → TableColumn → Bool
+same_column c d = bytes_eq c.name d.name
+
+-- 1 to 32 columns of different names; the key is one of them, and a table in workspaces has one
+abbrev pub is_table : Table → Bool
+is_table t =
+    (nat_le 1 (length t.columns) && nat_le (length t.columns) 32)
+    && (differ same_column t.columns && (is_short t.name && list_all (λ (c : TableColumn). is_short c.name) t.columns))
+    && ((if t.has_key then nat_lt t.key_column (length t.columns) else true) && (if t.versioned then t.has_key else true))
+
+-- at most 256, whose numbers and names differ
+abbrev pub are_tables : List Table → Bool
+are_tables tables =
+    nat_le (length tables) 256
+    && (differ (λ (t u : Table). t.number == u.number) tables && (differ (λ (t u : Table). bytes_eq t.name u.name) tables && list_all is_table tables))
+
+-- ---- workspaces
+
+abbrev pub live : List ℕ
+live = codes "LIVE"
+
+-- LIVE has the number 0; every other workspace has a parent of a smaller number
+abbrev pub is_space : List Space → Space → Bool
+is_space spaces s =
+    (if s.number == 0 then bytes_eq s.name live else (nat_lt s.parent s.number && is_some (space_of spaces s.parent)))
+    && (is_short s.name && is_short s.writer)
+    && (nat_le 1 s.next_place && (nat_le 1 s.next_implicit && nat_le s.log_length (2 ^ 62)))
+
+-- at most 1,024, whose numbers and names differ, LIVE among them
+abbrev pub are_spaces : List Space → Bool
+are_spaces spaces =
+    (nat_le (length spaces) 1024 && is_some (space_of spaces 0))
+    && (differ (λ (s t : Space). s.number == t.number) spaces && (differ (λ (s t : Space). bytes_eq s.name t.name) spaces && list_all (is_space spaces) spaces))
+
+-- ---- versions
+
+-- the version is there, and is one of the workspace
+abbrev pub is_version_of : List Version → ℕ → ℕ → Bool
+is_version_of versions number space = option_map_or (λ (v : Version). v.space == space) (version_of versions number) false
+
+-- the parent of a version is there, is older, and is a version of its workspace or of that one's parent
+abbrev pub stands_under : Parts → Space → Version → Bool
+stands_under p s v =
+    nat_lt v.parent v.number
+    && (is_version_of p.versions v.parent v.space || is_version_of p.versions v.parent s.parent)
+
+-- a version of a workspace that is there: version 1, which stands alone under none, or one under its parent
+abbrev pub is_version : Parts → ℕ → Version → Bool
+is_version p next v =
+    nat_lt v.number next
+    && option_map_or (λ (s : Space). if v.parent == 0 then v.number == 1 else stands_under p s v) (space_of p.spaces v.space) false
+
+-- each workspace has a version; what it was born from and what it sees under its own are versions of its parent, but for
+-- LIVE, which was born from version 1 and sees nothing under its own
+abbrev pub has_versions : Parts → Space → Bool
+has_versions p s =
+    list_any (λ (v : Version). v.space == s.number) p.versions
+    && (if s.number == 0 then (s.birth_version == 1) && (s.base_version == 0)
+        else is_version_of p.versions s.birth_version s.parent && is_version_of p.versions s.base_version s.parent)
+
+abbrev pub are_versions : Parts → ℕ → Bool
+are_versions p next =
+    differ (λ (v w : Version). v.number == w.number) p.versions
+    && (list_all (is_version p next) p.versions && list_all (has_versions p) p.spaces)
+
+-- ---- rows
+
+-- the type of a column's values, as values have it
+abbrev pub type_of : ColumnKind → ℕ
+type_of kinds.Number = 1
+type_of kinds.Text = 2
+type_of kinds.Time = 3
+
+-- NULL, or a value of the column's type; a text has at most as many bytes as the column says
+abbrev pub fits_column : TableColumn → Value → Bool
+fits_column c values.Null = true
+fits_column c (values.Text t) = (type_of c.kind == 2) && nat_le (length t) c.size
+fits_column c v = type_place v == type_of c.kind
+
+-- a value for each column
+abbrev pub fit_columns : List TableColumn → List Value → Bool
+fit_columns [] [] = true
+fit_columns (c ∷ cs) (v ∷ vs) = fits_column c v && fit_columns cs vs
+fit_columns _ _ = false
+
+-- what values weigh together
+abbrev pub weight : List Value → ℕ
+weight [] = 0
+weight (v ∷ vs) = weight_of v + weight vs
+
+-- the key of a row: its value in the key column
+abbrev pub key_of : Table → List Value → Option (List Value)
+key_of t row = option_and_then (λ v. if t.has_key then Some (v ∷ []) else None) (slice_get row t.key_column)
+
+-- a key weighs at most 200, where there is one
+abbrev pub is_light_key : Option (List Value) → Bool
+is_light_key None = true
+is_light_key (Some key) = nat_le (weight key) 200
+
+-- the values of a row of the table: one for each column, no more than 2,000 together, and a key of at most 200
+abbrev pub is_row_of : List Value → Table → Bool
+is_row_of row t = fit_columns t.columns row && (nat_le (weight row) 2000 && is_light_key (key_of t row))
+
+-- a row of a table that is there, with a stamp that was given
+abbrev pub is_row : List Table → ℕ → RowRecord → Bool
+is_row tables next r = nat_lt r.stamp next && option_map_or (is_row_of r.values) (table_of tables r.table) false
+
+abbrev pub are_rows : Parts → ℕ → Bool
+are_rows p next = differ (λ (r q : RowRecord). r.stamp == q.stamp) p.rows && list_all (is_row p.tables next) p.rows
+
+-- ---- cells and pieces
+
+-- one value of the key column's type, which is not NULL, and of a weight of at most 200
+abbrev pub is_key_of : List Value → Table → Bool
+is_key_of (v ∷ []) t =
+    nat_le (weight_of v) 200
+    && (t.has_key && option_map_or (λ (c : TableColumn). type_place v == type_of c.kind) (slice_get t.columns t.key_column) false)
+is_key_of _ t = false
+
+-- cells of a table that is there, over a period
+abbrev pub are_cells : List Table → CellRange → Bool
+are_cells tables c = (nat_lt c.from c.till && nat_le c.till END) && option_map_or (is_key_of c.key) (table_of tables c.table) false
+
+-- the row of a stamp, where it is one of this table and key
+abbrev pub has_row : Parts → CellRange → ℕ → Bool
+has_row p c stamp = option_map_or is_it (row_of p.rows stamp) false
+  where
+    same_key : Option (List Value) → Bool
+    same_key None = false
+    same_key (Some key) = is_eq (key_order key c.key)
+
+    is_it : RowRecord → Bool
+    is_it r = (r.table == c.table) && same_key (option_and_then (λ t. key_of t r.values) (table_of p.tables c.table))
+
+-- a piece of a version that is there, on cells of a table, with a stamp that was given; where it is not gone its row is there
+abbrev pub is_piece : Parts → ℕ → PieceRecord → Bool
+is_piece p next x =
+    is_some (version_of p.versions x.version)
+    && (are_cells p.tables x.cells && (nat_lt x.stamp next && (x.gone || has_row p x.cells x.stamp)))
+
+-- two pieces of one version, table and key whose periods overlap
+abbrev pub collide : PieceRecord → PieceRecord → Bool
+collide x y =
+    ((x.version == y.version) && ((x.cells.table == y.cells.table) && is_eq (key_order x.cells.key y.cells.key)))
+    && (nat_lt x.cells.from y.cells.till && nat_lt y.cells.from x.cells.till)
+
+abbrev pub are_pieces : Parts → ℕ → Bool
+are_pieces p next = differ collide p.pieces && list_all (is_piece p next) p.pieces
+
+-- ---- all of them
+
+-- what the rules ask of all records but the counters, of which there is one
+abbrev pub keep_rules_with : Parts → List Counters → Bool
+keep_rules_with p (c ∷ []) =
+    are_counters c
+    && (are_tables p.tables && (are_spaces p.spaces && (are_versions p c.next_version && (are_rows p c.next_stamp && are_pieces p c.next_stamp))))
+keep_rules_with p _ = false
+
+-- the records keep every rule
+unfoldable pub keep_rules : Parts → Bool
+keep_rules p = keep_rules_with p p.counters

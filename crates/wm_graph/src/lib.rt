@@ -1,0 +1,2 @@
+//! The rules over all records of a store.
+#![tactic(auto)]
