@@ -1,2 +1,4 @@
 pub mod Ending
 pub mod Arguments
+pub mod Keyed
+pub mod Scanning

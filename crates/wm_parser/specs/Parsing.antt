@@ -1,13 +1,15 @@
 -- What the parser says of a whole line.
-use Rattle.std.specs.Prelude.{◌≡◌, ℕ, ◌+◌, ◌-◌, List, length, Result, Ok, Err}
+use Rattle.std.specs.Prelude.{◌≡◌, ℕ, ◌+◌, ◌-◌, List, length, Option, Some, None, Result, Ok, Err}
+use Rattle.wm_base.specs.Trees.{Line}
 use Rattle.wm_grammar.specs.Symbols.{Symbol}
 use Rattle.wm_grammar.specs.Scanned.{symbols_of}
-use Rattle.wm_grammar.specs.Forms.{Form}
 use Rattle.wm_grammar.specs.Faults.{Fault}
+use Rattle.wm_grammar.specs.Statements.{line}
 use Rattle.wm_terms.specs.declared.error.ParseError.{ParseError}
 use Rattle.wm_terms.specs.declared.error.ParseError.TheVariants as errors
 use Rattle.wm_parser.specs.declared.fault.ParseFault.{ParseFault}
 use Rattle.wm_parser.specs.declared.fault.ParseFault.TheVariants as faults
+use Rattle.wm_parser.specs.Literals.{bad_literal}
 
 abbrev pub FailsAll : {Y : Type 0} → ParseError → Result Y ℕ → Type 0
 FailsAll errors.Memory read = Unit {0}
@@ -22,7 +24,19 @@ Tells view (Err e) read = FailsAll e read
 abbrev pub column_of : List ℕ → ℕ → ℕ
 column_of line left = length line - left + 1
 
--- the fault is at the first symbol that no form continues
-abbrev pub IsFault : {A : Type 0} → Form A → List ℕ → ParseFault → Type 0
-IsFault f line faults.Memory = Unit {0}
-IsFault f line (faults.Syntax column) = (left : ℕ) × Fault f (symbols_of line) left × (column ≡ column_of line left)
+-- the line is one of the grammar, and this is its tree
+abbrev pub IsLine : List ℕ → Line → Type 0
+IsLine text tree = (line 64).Whole (symbols_of text) tree
+
+-- at this column is the first symbol that no form continues
+abbrev pub IsSyntax : List ℕ → ℕ → Type 0
+IsSyntax text column = (left : ℕ) × Fault (line 64) (symbols_of text) left × (column ≡ column_of text left)
+
+-- the line is one of the grammar, and at this column is its first literal out of range
+abbrev pub IsLiteral : List ℕ → ℕ → Type 0
+IsLiteral text column = (tree : Line) × (left : ℕ) × IsLine text tree × (bad_literal text ≡ Some left) × (column ≡ column_of text left)
+
+abbrev pub IsFault : List ℕ → ParseFault → Type 0
+IsFault text (faults.Syntax column) = IsSyntax text column
+IsFault text (faults.Literal column) = IsLiteral text column
+IsFault text faults.Memory = Unit {0}

@@ -345,3 +345,46 @@ fn room_for(aggregate: bool) -> u8
 {
     if aggregate { 0 } else { 3 }
 }
+
+/// The sources of a query, with an aggregate before them or none.
+#[tactic(auto, unfolding(wm_grammar::specs::QueryReaders::source_list_at))]
+fn source_list(cursor: &mut Cursor, alloc: Global, aggregate: bool) -> Result<Srcs, ParseError>
+    ensures { Told (λ v. srcs_view v.items) result cursor.new (source_list_at 64 aggregate cursor.old) }
+{
+    let first = source(cursor, alloc)?;
+    let mut list = Vec::new(alloc);
+    list.push(first)?;
+    let mut room = room_for(aggregate);
+    'items: while source_follows(cursor, room) {
+        let next = next_source(cursor, alloc, room)?;
+        list.push(next)?;
+        room = room.saturating_sub(1);
+    }
+    Ok(list)
+}
+
+/// A query.
+#[tactic(auto, unfolding(wm_grammar::specs::QueryReaders::query_at))]
+pub fn query(cursor: &mut Cursor, alloc: Global) -> Result<Query, ParseError>
+    ensures { Told query_view result cursor.new (query_at 64 cursor.old) }
+{
+    cursor.mark(Sort::Select)?;
+    let distinct = cursor.is(Sort::Distinct);
+    if distinct {
+        cursor.mark(Sort::Distinct)?;
+    }
+    let projection = projection(cursor, alloc)?;
+    cursor.mark(Sort::From)?;
+    let sources = source_list(cursor, alloc, has_aggregate(&projection))?;
+    let filter = filter(cursor, alloc)?;
+    let groups = grouping(cursor, alloc, is_alone(sources.as_slice()))?;
+    let orders = ordering(cursor, alloc)?;
+    Ok(Query {
+        distinct,
+        projection,
+        sources,
+        filter,
+        groups,
+        orders,
+    })
+}

@@ -176,6 +176,86 @@ fn keyed_by(keyed: bool, item: &CreateItem) -> bool
     keyed || is_key(item)
 }
 
+/// PRIMARY KEY and NOT NULL behind a column, in a table that has a key or has none yet: what has been given then.
+#[tactic(auto, unfolding(wm_grammar::specs::StatementReaders::column_options_at))]
+fn column_options(cursor: &mut Cursor, keyed: bool) -> Result<(bool, bool), ParseError>
+    ensures { Told (λ g. g) result cursor.new (column_options_at keyed cursor.old) }
+{
+    let mut given = (keyed, false);
+    'options: while option_follows(cursor, given.0, given.1) {
+        let key = column_option(cursor, given.0, given.1)?;
+        given = also(given, key);
+    }
+    Ok(given)
+}
+
+#[tactic(auto, unfolding(wm_grammar::specs::StatementReaders::column_item_at))]
+fn column_item(cursor: &mut Cursor, alloc: Global, keyed: bool) -> Result<CreateItem, ParseError>
+    ensures { Told (λ i. i) result cursor.new (column_item_at keyed cursor.old) }
+{
+    let name = plain_name(cursor, alloc)?;
+    let of = column_type(cursor)?;
+    let (key, not_null) = column_options(cursor, keyed)?;
+    Ok(CreateItem::Column {
+        name,
+        of,
+        primary: !keyed && key,
+        not_null,
+    })
+}
+
+/// An item, in a table that has a key or has none yet.
+#[tactic(auto, unfolding(wm_grammar::specs::StatementReaders::create_item_at))]
+fn create_item(cursor: &mut Cursor, alloc: Global, keyed: bool) -> Result<CreateItem, ParseError>
+    ensures { Told (λ i. i) result cursor.new (create_item_at keyed cursor.old) }
+{
+    if cursor.is_any(&[Sort::Id, Sort::Validfrom, Sort::Validtill]) {
+        return column_item(cursor, alloc, keyed);
+    }
+    let mut constraint = None;
+    if cursor.is(Sort::Constraint) {
+        cursor.mark(Sort::Constraint)?;
+        constraint = Some(cursor.name(alloc, Sort::Id)?);
+    }
+    key_columns(cursor, alloc, keyed, constraint)
+}
+
+fn next_item(cursor: &mut Cursor, alloc: Global, keyed: bool) -> Result<CreateItem, ParseError>
+    ensures { Told (λ i. i) result cursor.new (next_item_at keyed cursor.old) }
+{
+    cursor.mark(Sort::Comma)?;
+    create_item(cursor, alloc, keyed)
+}
+
+#[tactic(auto, unfolding(wm_grammar::specs::StatementReaders::create_items_at))]
+fn create_items(cursor: &mut Cursor, alloc: Global) -> Result<CreateItems, ParseError>
+    ensures { Told (λ l. l) result cursor.new (create_items_at cursor.old) }
+{
+    let first = create_item(cursor, alloc, false)?;
+    let mut keyed = is_key(&first);
+    let mut list = Vec::new(alloc);
+    list.push(first)?;
+    'items: while cursor.is(Sort::Comma) {
+        let next = next_item(cursor, alloc, keyed)?;
+        keyed = keyed_by(keyed, &next);
+        list.push(next)?;
+    }
+    Ok(CreateItems::from_vec(list))
+}
+
+#[tactic(auto, unfolding(wm_grammar::specs::StatementReaders::create_at))]
+pub fn create(cursor: &mut Cursor, alloc: Global) -> Result<Statement, ParseError>
+    ensures { Told statement_view result cursor.new (create_at cursor.old) }
+{
+    cursor.mark(Sort::Create)?;
+    cursor.mark(Sort::Table)?;
+    let table = cursor.name(alloc, Sort::Id)?;
+    cursor.mark(Sort::Open)?;
+    let items = create_items(cursor, alloc)?;
+    cursor.mark(Sort::Close)?;
+    Ok(Statement::Create { table, items })
+}
+
 fn next_name(cursor: &mut Cursor, alloc: Global) -> Result<Name, ParseError>
     ensures { Told (λ n. n) result cursor.new (next_at name_at cursor.old) }
 {

@@ -73,3 +73,7 @@ no_byte n le = go (n == 0) refl
 pub end_is : (rest : List ℕ) (code size : ℕ) → Peeks rest code size → (size == 0) ≡ no_more (scanned rest)
 end_is [] code size p = ap (λ (n : ℕ). n == 0) p.1 ∙ sym (ap no_more scanned_none)
 end_is (b ∷ bs) code size p = ap (λ (n : ℕ). n == 0) p.1 ∙ no_byte (token_from b bs).1 (some_byte b bs) ∙ sym (ap no_more (scanned_one b bs))
+
+pub sort_is : (rest : List ℕ) (code size : ℕ) → Peeks rest code size → code ≡ next_sort (scanned rest)
+sort_is [] code size p = p.0 ∙ sym (ap next_sort scanned_none)
+sort_is (b ∷ bs) code size p = p.0 ∙ sym (ap next_sort (scanned_one b bs))

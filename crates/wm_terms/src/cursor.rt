@@ -85,9 +85,28 @@ impl<'a> Cursor<'a> {
         self.next.code() == sort.code()
     }
 
+    /// The sort of the next symbol, `End` where none is left.
+    pub fn sort(&self) -> Sort
+        ensures { code_of result ≡ next_sort self.now }
+    {
+        self.next
+    }
+
+    /// A second cursor at the same place.
+    pub fn fork(&self) -> Cursor<'a>
+        ensures { result ≡ self.now }
+    {
+        Cursor {
+            rest: self.rest,
+            next: self.next,
+            size: self.size,
+        }
+    }
+
     /// The bytes of the next symbol, none at the end.
     pub fn word(&self) -> &'a [u8]
-        ensures { result.now ≡ next_text self.now }
+        ensures value { result.now ≡ next_text self.now }
+        ensures small { length result.now < 2 ^ 32 }
     {
         let rest: &'a [u8] = self.rest;
         &rest[..self.size]

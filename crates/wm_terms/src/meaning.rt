@@ -1,4 +1,4 @@
-ghost use Rattle.std.specs.Prelude.{◌≡◌, ◌≤◌, ◌<◌, ◌^◌, length, IfOk, MatchOption, bytes_eq, if◌then◌else◌, nat_le, ◌&&◌, ◌==◌};
+ghost use Rattle.std.specs.Prelude.{◌≡◌, ◌≤◌, ◌<◌, ◌^◌, length, IfOk, IfSome, Some, None, bytes_eq, if◌then◌else◌, nat_le, ◌&&◌, ◌==◌};
 ghost use Rattle.std.specs.List.{list_all};
 ghost use Rattle.wm_grammar.specs.Meaning.{number_of, greatest, between, unquoted, instant_for, mask_of, operator_of};
 
@@ -8,21 +8,33 @@ use wm_base::{Instant, Memory};
 use wm_grammar::is_word;
 use wm_instants::{DateForm, read_in};
 
-/// The number of the digits; one that is above the greatest integer is 0.
+/// The number of the digits, unless it is above the greatest integer.
 #[tactic(auto, unfolding(wm_grammar::specs::Meaning::number_of))]
-pub fn int_of(digits: &[u8]) -> u64
-    ensures value { result ≡ (if nat_le (number_of digits.now) greatest then number_of digits.now else 0) }
-    ensures bound { result ≤ greatest }
+pub fn number_within(digits: &[u8]) -> Option<u64>
+    ensures value { result ≡ (if nat_le (number_of digits.now) greatest then Some (number_of digits.now) else None) }
+    ensures bound { IfSome result (λ n. n ≤ greatest) }
 {
     let mut number: u64 = 0;
     for b in digits {
         let digit = u64::from(b.saturating_sub(b'0'));
         if number > (i64::MAX as u64 - digit) / 10 {
-            return 0;
+            return None;
         }
         number = 10 * number + digit;
     }
-    number
+    Some(number)
+}
+
+/// The number of the digits; one that is above the greatest integer is 0.
+#[tactic(auto, using(crate::proofs::Numbers::some_within, crate::proofs::Numbers::none_within))]
+pub fn int_of(digits: &[u8]) -> u64
+    ensures value { result ≡ (if nat_le (number_of digits.now) greatest then number_of digits.now else 0) }
+    ensures bound { result ≤ greatest }
+{
+    match number_within(digits) {
+        Some(number) => number,
+        None => 0,
+    }
 }
 
 /// The bytes between the quotes of a text.

@@ -4,5 +4,5 @@ use Rattle.wm_terms.specs.Cursor.{next_text}
 use Rattle.wm_terms.proofs.Peeking.{word_is}
 use Rattle.wm_terms.proofs.cursor.Cursor.word.Goals as goal
 
-pub returns : goal.returns
-returns c = word_is c.self.inside.rest.now (code_of c.self.inside.next) c.self.inside.size c.self.invariant.peeks ∙ ap next_text c.self.view_is
+pub returns-clause-value : goal.returns-clause-value
+returns-clause-value c = word_is c.self.inside.rest.now (code_of c.self.inside.next) c.self.inside.size c.self.invariant.peeks ∙ ap next_text c.self.view_is

@@ -1,6 +1,6 @@
 use Rattle.std.proofs.Common.{◌∙◌}
 use Rattle.wm_terms.proofs.Numbers.{too_large}
-use Rattle.wm_terms.proofs.meaning.int_of.Goals as goal
+use Rattle.wm_terms.proofs.meaning.number_within.Goals as goal
 
 pub returns-then-number-digit-clause-value : goal.returns-then-number-digit-clause-value
 returns-then-number-digit-clause-value c =

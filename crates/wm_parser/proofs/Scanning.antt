@@ -1,0 +1,76 @@
+-- Going over the symbols of a line.
+use Rattle.std.proofs.Common.{◌≡◌, ℕ, zero, suc, ◌+◌, ◌≤◌, ◌<◌, Bool, true, false, cond, leb, List, [], ◌∷◌, length, refl, sym, ap, ◌∙◌, arith, Option, Some, None}
+use Rattle.std.specs.Prelude.{not, ◌==◌, ◌&&◌, nat_le}
+use Rattle.std.proofs.lemmas.Bool.{leb-true, eqb-true}
+use Rattle.wm_lexer.specs.Scanning.{skipped}
+use Rattle.wm_grammar.specs.Symbols.{Symbol, left_of}
+use Rattle.wm_grammar.specs.Sorts as sorts
+use Rattle.wm_grammar.specs.Meaning.{number_of, greatest}
+use Rattle.wm_grammar.specs.Scanned.{scan, scanned, symbols_of}
+use Rattle.wm_grammar.proofs.Scans.{skipped_shorter}
+use Rattle.wm_terms.specs.Cursor.{behind, no_more}
+use Rattle.wm_terms.proofs.Numbers.{no_number}
+use Rattle.wm_parser.specs.Literals.{Before, open_after, after, first_from}
+
+scan_short : (n : ℕ) (bytes : List ℕ) → length (scan n bytes) ≤ n
+unfolding scan
+scan_short zero bytes = omega arith
+scan_short (suc n) [] = omega arith
+scan_short (suc n) (b ∷ bs) = omega (arith, scan_short n)
+
+-- there are no more symbols than bytes
+pub few_symbols : (bytes : List ℕ) → length (symbols_of bytes) ≤ length bytes
+unfolding scanned
+few_symbols bytes = omega (arith, scan_short (length (skipped bytes)) (skipped bytes), skipped_shorter bytes)
+
+pub some_left : (ts : List Symbol) → no_more ts ≡ false → 1 ≤ length ts
+some_left [] e = absurd cc
+some_left (t ∷ ts) e = omega arith
+
+pub behind_less : (ts : List Symbol) → no_more ts ≡ false → length (behind ts) < length ts
+behind_less [] e = absurd cc
+behind_less (t ∷ ts) e = omega arith
+
+pub open_grows : (open sort : ℕ) → open_after open sort ≤ open + 1
+open_grows open sort = go (sort == sorts.OPEN) (sort == sorts.CLOSE)
+  where
+    go : (a b : Bool) → cond a (open + 1) (cond b (Rattle.std.specs.Prelude.◌-◌ open 1) open) ≤ open + 1
+    go true b = omega arith
+    go false true = omega arith
+    go false false = omega arith
+
+module _ (test : Before → List Symbol → Bool) (b : Before) where
+  pub passed : (ts : List Symbol) → no_more ts ≡ false → test b ts ≡ false → first_from test b ts ≡ first_from test (after b ts) (behind ts)
+  passed [] e f = absurd cc
+  passed (t ∷ ts) e f = ap (λ (z : Bool). cond z (Some t.left) (first_from test (after b (t ∷ ts)) ts)) f
+
+  pub stopped : (ts : List Symbol) → no_more ts ≡ false → test b ts ≡ true → first_from test b ts ≡ Some (left_of ts)
+  stopped [] e f = absurd cc
+  stopped (t ∷ ts) e f = ap (λ (z : Bool). cond z (Some t.left) (first_from test (after b (t ∷ ts)) ts)) f
+
+  pub ended : (ts : List Symbol) → no_more ts ≡ true → first_from test b ts ≡ None
+  ended [] e = refl
+  ended (t ∷ ts) e = absurd cc
+
+-- what a number that was looked for says of its size
+pub great_some : (n m : ℕ) → Some n ≡ cond (leb m greatest) (Some m) no_number → false ≡ not (leb m greatest)
+great_some n m e = go (leb m greatest) e
+  where
+    go : (z : Bool) → Some n ≡ cond z (Some m) no_number → false ≡ not z
+    go true e = refl
+    go false e = absurd cc
+
+pub great_none : (m : ℕ) → no_number ≡ cond (leb m greatest) (Some m) no_number → true ≡ not (leb m greatest)
+great_none m e = go (leb m greatest) e
+  where
+    go : (z : Bool) → no_number ≡ cond z (Some m) no_number → true ≡ not z
+    go true e = absurd cc
+    go false e = refl
+
+pub no_size_is : (m : ℕ) → (cond (nat_le 1 m && nat_le m 2000) m 0 == 0) ≡ not (nat_le 1 m && nat_le m 2000)
+no_size_is zero = refl
+no_size_is (suc n) = go (nat_le (suc n) 2000)
+  where
+    go : (z : Bool) → (cond z (suc n) 0 == 0) ≡ not z
+    go true = refl
+    go false = refl

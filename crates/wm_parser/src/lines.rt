@@ -1,0 +1,102 @@
+ghost use Rattle.std.specs.Prelude.{◌≡◌, ◌<◌, ◌^◌, List, length};
+ghost use Rattle.wm_base.specs.Views.{statement_view, line_view};
+ghost use Rattle.wm_grammar.specs.Scanned.{symbols_of};
+ghost use Rattle.wm_grammar.specs.Faults.{all_of};
+ghost use Rattle.wm_grammar.specs.StatementReaders.{statement_at, run_at, line_at};
+ghost use Rattle.wm_terms.specs.Telling.{Told};
+ghost use Rattle.wm_parser.specs.Parsing.{Tells};
+
+use crate::calls::call;
+use crate::queries::query;
+use crate::statements::{create, delete, insert, update};
+use std::alloc::Global;
+use wm_base::Name;
+use wm_base::tree::line::Line;
+use wm_base::tree::statement::Statement;
+use wm_grammar::Sort;
+use wm_terms::cursor::Cursor;
+use wm_terms::error::ParseError;
+use wm_terms::operands::instant;
+
+#[tactic(auto, unfolding(wm_grammar::specs::StatementReaders::statement_at))]
+fn statement(cursor: &mut Cursor, alloc: Global) -> Result<Statement, ParseError>
+    ensures { Told statement_view result cursor.new (statement_at 64 cursor.old) }
+{
+    if cursor.is(Sort::Create) {
+        return create(cursor, alloc);
+    }
+    if cursor.is(Sort::Insert) {
+        return insert(cursor, alloc);
+    }
+    if cursor.is(Sort::Update) {
+        return update(cursor, alloc);
+    }
+    if cursor.is(Sort::Delete) {
+        return delete(cursor, alloc);
+    }
+    if cursor.is(Sort::Select) {
+        let found = query(cursor, alloc)?;
+        return Ok(Statement::Select(found));
+    }
+    call(cursor, alloc)
+}
+
+/// What follows the name of a session.
+#[tactic(auto, unfolding(wm_grammar::specs::StatementReaders::run_at))]
+fn run(cursor: &mut Cursor, alloc: Global, session: Name) -> Result<Line, ParseError>
+    ensures { Told line_view result cursor.new (run_at 64 session cursor.old) }
+{
+    cursor.mark(Sort::Colon)?;
+    let statement = statement(cursor, alloc)?;
+    if cursor.is(Sort::Semicolon) {
+        cursor.mark(Sort::Semicolon)?;
+    }
+    Ok(Line::Run { session, statement })
+}
+
+/// A line; CONNECT, DISCONNECT and AT before a `:` name a session.
+#[tactic(auto, unfolding(wm_grammar::specs::StatementReaders::line_at))]
+fn line(cursor: &mut Cursor, alloc: Global) -> Result<Line, ParseError>
+    ensures { Told line_view result cursor.new (line_at 64 cursor.old) }
+{
+    if cursor.is(Sort::Connect) {
+        let word = cursor.name(alloc, Sort::Connect)?;
+        if cursor.is(Sort::Colon) {
+            return run(cursor, alloc, word);
+        }
+        let session = cursor.name(alloc, Sort::Id)?;
+        let user = cursor.name(alloc, Sort::Id)?;
+        return Ok(Line::Connect { session, user });
+    }
+    if cursor.is(Sort::Disconnect) {
+        let word = cursor.name(alloc, Sort::Disconnect)?;
+        if cursor.is(Sort::Colon) {
+            return run(cursor, alloc, word);
+        }
+        let session = cursor.name(alloc, Sort::Id)?;
+        return Ok(Line::Disconnect { session });
+    }
+    if cursor.is(Sort::At) {
+        let word = cursor.name(alloc, Sort::At)?;
+        if cursor.is(Sort::Colon) {
+            return run(cursor, alloc, word);
+        }
+        let moment = instant(cursor)?;
+        return Ok(Line::At(moment));
+    }
+    let session = cursor.name(alloc, Sort::Id)?;
+    run(cursor, alloc, session)
+}
+
+/// The line that the bytes are, all of them.
+pub fn line_in(alloc: Global, bytes: &[u8]) -> Result<Line, ParseError>
+    requires { length bytes.now < 2 ^ 32 }
+    ensures { Tells line_view result (all_of (line_at 64 (symbols_of bytes.now))) }
+{
+    let mut cursor = Cursor::new(bytes);
+    let found = line(&mut cursor, alloc)?;
+    if cursor.is_at_end() {
+        return Ok(found);
+    }
+    Err(cursor.fault())
+}

@@ -1,0 +1,50 @@
+ghost use Rattle.std.specs.Prelude.{◌≡◌, ◌≤◌, List, length, IfOk, IfErr, MatchResult, None};
+ghost use Rattle.wm_base.specs.Trees.{Line as Tree};
+ghost use Rattle.wm_base.specs.Views.{line_view};
+ghost use Rattle.wm_parser.specs.Literals.{bad_literal};
+ghost use Rattle.wm_parser.specs.Parsing.{column_of, IsLine, IsFault};
+
+use crate::fault::ParseFault;
+use crate::lines::line_in;
+use crate::literals::bad_literal;
+use std::alloc::Global;
+use wm_base::tree::line::Line;
+use wm_terms::error::ParseError;
+
+/// The column, from 1, of a symbol from which so many bytes of the line are left.
+fn column_of(line: &[u8], left: usize) -> u32
+    requires { length line.now ≤ 16384 }
+    ensures { result ≡ column_of line.now left }
+{
+    (line.len().saturating_sub(left) + 1) as u32
+}
+
+/// The tree of a line.
+///
+/// `Syntax` tells of a line that is in no form of the grammar, and `Literal` of one that is, but in which a literal is out of range.
+pub fn parse(alloc: Global, line: &[u8]) -> Result<Line, ParseFault>
+    requires { length line.now ≤ 16384 }
+    // The line is one of the grammar, stands for this tree, and has no literal out of range.
+    ensures found { IfOk result (λ tree. IsLine line.now (line_view tree) × (bad_literal line.now ≡ None)) }
+    // Such a line is parsed to its tree, unless memory runs out.
+    ensures complete { (tree : Tree) → IsLine line.now tree → bad_literal line.now ≡ None → MatchResult result (λ t. line_view t ≡ tree) (λ e. e ≡ ParseFault.Memory) }
+    // A fault is at the first token that no form continues or, in a line of the grammar, at its first literal out of range.
+    ensures fault { IfErr result (λ e. IsFault line.now e) }
+{
+    let tree = match line_in(alloc, line) {
+        Ok(tree) => tree,
+        Err(ParseError::Syntax(left)) => {
+            let column = column_of(line, left);
+            return Err(ParseFault::Syntax { column });
+        }
+        Err(ParseError::Memory) => return Err(ParseFault::Memory),
+    };
+    match bad_literal(alloc, line) {
+        Ok(None) => Ok(tree),
+        Ok(Some(left)) => {
+            let column = column_of(line, left);
+            Err(ParseFault::Literal { column })
+        }
+        Err(_) => Err(ParseFault::Memory),
+    }
+}
