@@ -6,7 +6,7 @@ use Rattle.wm_model.specs.Grammar as grammar
 use Rattle.wm_base.specs.declared.row.Row.{Row}
 use Rattle.wm_model.specs.State.{State, Table, Entry}
 use Rattle.wm_model.specs.Step.{with_entry}
-use Rattle.wm_model.specs.Texts as texts
+use Rattle.wm_print.specs.Texts as texts
 use Rattle.wm_engine.specs.declared.answer.Answer.{Answer}
 use Rattle.wm_engine.specs.declared.answer.Answer.TheVariants.{Nothing, Fine, Done, Listing, Refused}
 use Rattle.wm_engine.specs.declared.change.Change.{Change}

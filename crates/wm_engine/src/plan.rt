@@ -1,7 +1,7 @@
 //! What a line does, worked out before anything changes.
 ghost use Rattle.std.specs.Prelude.{◌≡◌, [], ◌∷◌, IfOk, None, Some};
 ghost use Rattle.wm_model.specs.State.{State};
-ghost use Rattle.wm_model.specs.Texts as texts;
+ghost use Rattle.wm_print.specs.Texts as texts;
 ghost use Rattle.wm_base.specs.declared.value.Value.TheVariants.{Num};
 ghost use Rattle.wm_engine.specs.Views.{folded, answer_view};
 ghost use Rattle.wm_engine.specs.declared.change.Change.TheVariants.{Keep};

@@ -2,6 +2,5 @@ pub mod Lines
 pub mod Reading
 pub mod Grammar
 pub mod State
-pub mod Texts
 pub mod Step
 pub mod Running

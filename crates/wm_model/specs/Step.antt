@@ -15,8 +15,8 @@ use Rattle.wm_model.specs.Lines.{fits_line}
 use Rattle.wm_model.specs.Grammar.{Line, Connect, Run, Statement, Create, Enable, Insert, Select, line_of, is_remark}
 pub use Rattle.wm_model.specs.State.{State, fresh}
 use Rattle.wm_model.specs.State.{Session, Table, Entry}
-pub use Rattle.wm_model.specs.Texts.{Answer, answer_text}
-use Rattle.wm_model.specs.Texts.{Nothing, Fine, Done, Listing, Refused}
+pub use Rattle.wm_print.specs.Texts.{Answer, answer_text}
+use Rattle.wm_print.specs.Texts.{Nothing, Fine, Done, Listing, Refused}
 
 abbrev pub not_built : Answer
 not_built = Refused (Limit Wm099)

@@ -1,6 +1,6 @@
 use Rattle.std.proofs.Common.{◌≡◌, ◌++◌, drop}
 use Rattle.std.specs.List.{flat_map}
-use Rattle.wm_model.specs.Texts.{row_text}
+use Rattle.wm_print.specs.Texts.{row_text}
 use Rattle.wm_engine.specs.Views.{rows_of}
 use Rattle.wm_engine.proofs.print.push_rows.Given as goal
 

@@ -1,6 +1,6 @@
 use Rattle.std.proofs.Common.{◌≡◌, ◌++◌, drop}
-use Rattle.wm_model.specs.Texts.{more}
-use Rattle.wm_engine.proofs.print.push_more.Given as goal
+use Rattle.wm_print.specs.Values.{more}
+use Rattle.wm_print.proofs.value.push_more.Given as goal
 
 -- what is written, and what is left to write
 abbrev pub invariant-loop-value : goal.invariant-loop-value

@@ -1,7 +1,7 @@
 use Rattle.std.proofs.Common.{◌≡◌, ◌++◌, drop}
 use Rattle.std.specs.List.{flat_map}
-use Rattle.wm_model.specs.Texts.{doubled}
-use Rattle.wm_engine.proofs.print.push_doubled_all.Given as goal
+use Rattle.wm_print.specs.Values.{doubled}
+use Rattle.wm_print.proofs.value.push_doubled_all.Given as goal
 
 -- what is written, and what is left to write
 abbrev pub invariant-loop-byte : goal.invariant-loop-byte

@@ -1,0 +1,17 @@
+//! The bytes of answers: rows and their count, what was done, and the text of each refusal.
+#![tactic(auto)]
+
+mod answer;
+mod cells;
+mod forms;
+mod limits;
+mod refusal;
+mod spaces;
+#[cfg(test)]
+mod tests;
+mod value;
+mod words;
+
+pub use answer::{print_done, print_refusal, print_rows, push_done, push_row, push_row_count};
+pub use refusal::push_refusal;
+pub use value::{push_key, push_value};
