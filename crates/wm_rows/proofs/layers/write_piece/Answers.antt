@@ -1,0 +1,29 @@
+use Rattle.std.proofs.Common.{rules, ◌≡◌, ℕ, ◌==◌, ◌&&◌, [], Some, None, nat_eq, unwrap_or, if◌then◌else◌, IfOk, OnOk, OnErr, ◌+◌, ◌-◌, ◌*◌, ◌<◌, ◌≤◌, length, ◌/◌, ◌%◌, Bool, true, false, nat_lt, List, ◌∷◌, ◌++◌, slice_index_or, slice_set, bit_and, bit_or, Fits, w8, w32, w64, Bor, MutBor}
+use Rattle.std.specs.Bool.{then_some}
+use Rattle.std.specs.List.{list_any}
+use Rattle.std.specs.Option.{option_copied, option_or}
+use Rattle.wm_base.specs.Period.{covers}
+use Rattle.wm_period.specs.Pieces.{held, held_at, put_in}
+use Rattle.wm_rows.specs.Rows.{group_of, groups_in, pieces_in, layers_of, is_same, nearest, seen_in, own_in}
+use Rattle.wm_rows.specs.declared.row_key.RowKey.{RowKey as Row}
+use Rattle.wm_rows.proofs.layers.write_piece.Goals as goal
+
+-- src/layers.rt:42:9
+pub returns-in-Some-clause-groups : goal.returns-in-Some-clause-groups
+returns-in-Some-clause-groups c = ?
+
+-- src/layers.rt:42:9
+pub returns-in-Some-clause-cells : goal.returns-in-Some-clause-cells
+returns-in-Some-clause-cells c = ?
+
+-- src/layers.rt:42:9
+pub returns-in-Some-clause-err : goal.returns-in-Some-clause-err
+returns-in-Some-clause-err c = ?
+
+-- src/layers.rt:30:1
+pub returns-clause-groups : goal.returns-clause-groups
+returns-clause-groups c = ?
+
+-- src/layers.rt:30:1
+pub returns-clause-cells : goal.returns-clause-cells
+returns-clause-cells c = ?

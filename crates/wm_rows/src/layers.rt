@@ -1,0 +1,98 @@
+//! What all versions store: a layer for each.
+
+ghost use Rattle.std.specs.Prelude.{◌≡◌, ℕ, ◌==◌, ◌&&◌, [], Some, None, nat_eq, unwrap_or, if◌then◌else◌, IfOk, OnOk, OnErr};
+ghost use Rattle.std.specs.Bool.{then_some};
+ghost use Rattle.std.specs.List.{list_any};
+ghost use Rattle.std.specs.Option.{option_copied, option_or};
+ghost use Rattle.wm_base.specs.Period.{covers};
+ghost use Rattle.wm_period.specs.Pieces.{held, held_at, put_in};
+ghost use Rattle.wm_rows.specs.Rows.{group_of, groups_in, pieces_in, layers_of, is_same, nearest, seen_in, own_in};
+ghost use Rattle.wm_rows.specs.declared.row_key.RowKey.{RowKey as Row};
+
+use crate::layer::{Layer, lay_under, put_piece};
+use crate::row_key::RowKey;
+use std::alloc::Global;
+use std::collections::BTreeMap;
+use wm_base::Memory;
+use wm_period::{Piece, Pieces};
+use wm_tree::Tree;
+
+pub type Layers = BTreeMap<u64, Layer>;
+
+/// The pieces that a version stores of a row.
+pub fn group<'a>(layers: &'a Layers, version: u64, row: &RowKey) -> Option<&'a Pieces>
+    ensures { option_copied result ≡ group_of (layers_of layers.now.entries) version row.now }
+{
+    layers.get(&version)?.get(row)
+}
+
+/// Puts a piece over the others that a version stores of its row.
+pub fn write_piece(
+    alloc: Global,
+    layers: &mut Layers,
+    version: u64,
+    row: RowKey,
+    piece: Piece,
+) -> Result<(), Memory>
+    ensures groups { OnOk result ((v : ℕ) (q : Row) → group_of (layers_of layers.new.entries) v q ≡ (if (version == v) && is_same row q then Some (put_in piece (pieces_in (groups_in (layers_of layers.old.entries) version) row)) else group_of (layers_of layers.old.entries) v q)) }
+    ensures cells { OnOk result ((t : ℕ) → held_at (put_in piece (pieces_in (groups_in (layers_of layers.old.entries) version) row)) t ≡ option_or (then_some (covers piece.period t) (held piece)) (held_at (pieces_in (groups_in (layers_of layers.old.entries) version) row) t)) }
+    ensures err { OnErr result (layers_of layers.new.entries ≡ layers_of layers.old.entries) }
+{
+    if let Some(layer) = layers.get_mut(&version) {
+        return put_piece(alloc, layer, row, piece);
+    }
+    let mut layer = BTreeMap::new(alloc);
+    put_piece(alloc, &mut layer, row, piece)?;
+    layers.insert(version, layer)?;
+    Ok(())
+}
+
+/// What a version holds of a row: the pieces of the versions on its path, each under those nearer to it.
+pub fn seen_pieces(
+    alloc: Global,
+    layers: &Layers,
+    tree: &Tree,
+    version: u64,
+    row: &RowKey,
+) -> Result<Pieces, Memory>
+    ensures { IfOk result (λ seen. (t : ℕ) → held_at seen t ≡ seen_in tree.now.versions (layers_of layers.now.entries) version row.now t) }
+{
+    let mut seen = Pieces::new(alloc);
+    for version in tree.path(version) {
+        if let Some(pieces) = group(layers, version, row) {
+            seen = Pieces::over(alloc, pieces, &seen)?;
+        }
+    }
+    Ok(seen)
+}
+
+/// What is held on the path of a version above a base version.
+pub fn own_layer(
+    alloc: Global,
+    layers: &Layers,
+    tree: &Tree,
+    version: u64,
+    base: u64,
+) -> Result<Layer, Memory>
+    ensures { IfOk result (λ own. (row : Row) (t : ℕ) → held_at (pieces_in own.entries row) t ≡ own_in tree.now.versions (layers_of layers.now.entries) version base row t) }
+{
+    let mut own = BTreeMap::new(alloc);
+    for version in tree.path(version) {
+        if version == base {
+            return Ok(own);
+        }
+        if let Some(layer) = layers.get(&version) {
+            lay_under(alloc, &mut own, layer)?;
+        }
+    }
+    Ok(own)
+}
+
+/// Drops what some versions store.
+pub fn drop_layers(layers: &mut Layers, versions: &[u64])
+    ensures { (v : ℕ) → groups_in (layers_of layers.new.entries) v ≡ (if list_any (nat_eq v) versions.now then [] else groups_in (layers_of layers.old.entries) v) }
+{
+    for version in versions {
+        let _ = layers.remove(version);
+    }
+}

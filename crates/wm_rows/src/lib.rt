@@ -1,0 +1,10 @@
+//! What each version of a store holds. A version stores the pieces that were written in it, and what it
+//! holds at a cell is the nearest piece on its path, so that versions share what stands below them.
+#![tactic(auto)]
+
+mod layer;
+mod layers;
+pub mod row_key;
+mod row_order;
+
+pub use row_key::RowKey;
