@@ -1,4 +1,3 @@
 pub mod Ending
 pub mod Arguments
 pub mod Keyed
-pub mod Scanning

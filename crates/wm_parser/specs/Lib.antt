@@ -1,3 +1,1 @@
-pub mod Literals
-pub mod Places
 pub mod Parsing

@@ -9,7 +9,7 @@ use Rattle.wm_terms.specs.declared.error.ParseError.{ParseError}
 use Rattle.wm_terms.specs.declared.error.ParseError.TheVariants as errors
 use Rattle.wm_parser.specs.declared.fault.ParseFault.{ParseFault}
 use Rattle.wm_parser.specs.declared.fault.ParseFault.TheVariants as faults
-use Rattle.wm_parser.specs.Literals.{bad_literal}
+use Rattle.wm_literals.specs.Literals.{bad_literal}
 
 abbrev pub FailsAll : {Y : Type 0} → ParseError → Result Y ℕ → Type 0
 FailsAll errors.Memory read = Unit {0}

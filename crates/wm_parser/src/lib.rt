@@ -4,10 +4,8 @@
 mod calls;
 pub mod fault;
 mod lines;
-mod literals;
 mod parameters;
 mod parsing;
-mod place;
 mod queries;
 mod statements;
 

@@ -1,12 +1,12 @@
 ghost use Rattle.std.specs.Prelude.{◌≡◌, ◌≤◌, List, length, IfOk, IfErr, MatchResult, None};
 ghost use Rattle.wm_base.specs.Trees.{Line as Tree};
 ghost use Rattle.wm_base.specs.Views.{line_view};
-ghost use Rattle.wm_parser.specs.Literals.{bad_literal};
+ghost use Rattle.wm_literals.specs.Literals.{bad_literal};
 ghost use Rattle.wm_parser.specs.Parsing.{column_of, IsLine, IsFault};
 
 use crate::fault::ParseFault;
 use crate::lines::line_in;
-use crate::literals::bad_literal;
+use wm_literals::bad_literal;
 use std::alloc::Global;
 use wm_base::tree::line::Line;
 use wm_terms::error::ParseError;

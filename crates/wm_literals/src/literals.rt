@@ -2,8 +2,8 @@ ghost use Rattle.std.specs.Prelude.{◌≡◌, ◌+◌, ◌<◌, ◌^◌, ◌==�
 ghost use Rattle.wm_grammar.specs.Sorts.{code_of};
 ghost use Rattle.wm_grammar.specs.Meaning.{between, mask_of};
 ghost use Rattle.wm_terms.specs.Cursor.{next_sort, next_text, behind, no_more};
-ghost use Rattle.wm_parser.specs.Literals.{too_great, no_size, no_date, nothing, open_after, all_parameters, names_procedure, slots_after, named_after, after, date_form, is_bad, is_clause_slot, takes_clause, bad_within, is_bad_clause, is_bad_in_line, bad_literal};
-ghost use Rattle.wm_parser.specs.Places.{before};
+ghost use Rattle.wm_literals.specs.Literals.{too_great, no_size, no_date, nothing, depth_after, all_parameters, names_procedure, slots_after, named_after, after, date_form, is_bad, is_clause_slot, takes_clause, bad_within, is_bad_clause, is_bad_in_line, bad_literal};
+ghost use Rattle.wm_literals.specs.Places.{before};
 
 use crate::place::Place;
 use std::alloc::Global;
@@ -60,22 +60,22 @@ fn beginning() -> Place
         last: Sort::End,
         second: Sort::End,
         named: false,
-        open: 0,
+        depth: 0,
         slots: &[],
     }
 }
 
-fn open_after(open: u32, sort: Sort) -> u32
-    requires { open + 1 < 2 ^ 32 }
-    ensures { result ≡ open_after open (code_of sort) }
+fn depth_after(depth: u32, sort: Sort) -> u32
+    requires { depth + 1 < 2 ^ 32 }
+    ensures { result ≡ depth_after depth (code_of sort) }
 {
     if is_sort(sort, Sort::Open) {
-        return open + 1;
+        return depth + 1;
     }
     if is_sort(sort, Sort::Close) {
-        return open.saturating_sub(1);
+        return depth.saturating_sub(1);
     }
-    open
+    depth
 }
 
 fn all_parameters(procedure: Option<Procedure>) -> &'static [Parameter]
@@ -104,7 +104,6 @@ fn without_first(slots: &'static [Parameter]) -> &'static [Parameter]
 }
 
 /// The parameters of the place behind the next symbol, and of those behind it.
-#[tactic(auto, using(crate::proofs::Scanning::sort_next))]
 fn slots_after(place: &Place, cursor: &Cursor) -> &'static [Parameter]
     ensures { result.now ≡ slots_after (before place.now) cursor.now }
 {
@@ -112,7 +111,7 @@ fn slots_after(place: &Place, cursor: &Cursor) -> &'static [Parameter]
     if names_procedure(place, sort) {
         return all_parameters(procedure_of(cursor.word()));
     }
-    if is_sort(sort, Sort::Comma) && place.open == 1 {
+    if is_sort(sort, Sort::Comma) && place.depth == 1 {
         return without_first(place.slots);
     }
     place.slots
@@ -129,14 +128,14 @@ fn named_after(place: &Place, cursor: &Cursor) -> bool
 
 /// The place behind the next symbol.
 fn after(place: &Place, cursor: &Cursor) -> Place
-    requires { place.now.open + 1 < 2 ^ 32 }
+    requires { place.now.depth + 1 < 2 ^ 32 }
     ensures { before result ≡ after (before place.now) cursor.now }
 {
     Place {
         last: cursor.sort(),
         second: place.last,
         named: named_after(place, cursor),
-        open: open_after(place.open, cursor.sort()),
+        depth: depth_after(place.depth, cursor.sort()),
         slots: slots_after(place, cursor),
     }
 }
@@ -201,7 +200,8 @@ fn takes_clause(place: &Place) -> bool
         return place.named;
     }
     (is_sort(place.last, Sort::Open) || is_sort(place.last, Sort::Comma))
-        && (place.open == 1 && is_clause_slot(place.slots))
+        && place.depth == 1
+        && is_clause_slot(place.slots)
 }
 
 /// Whether some literal of a condition is out of range.

@@ -10,7 +10,7 @@ pub struct Place {
     /// Whether the last word is where_clause, and at most `=>` stands behind it.
     pub named: bool,
     /// How many parentheses are open.
-    pub open: u32,
+    pub depth: u32,
     /// In a call, the parameters of this place and of those behind it.
     pub slots: &'static [Parameter],
 }

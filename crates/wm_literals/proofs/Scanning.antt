@@ -1,5 +1,5 @@
 -- Going over the symbols of a line.
-use Rattle.std.proofs.Common.{◌≡◌, ℕ, zero, suc, ◌+◌, ◌≤◌, ◌<◌, Bool, true, false, cond, leb, List, [], ◌∷◌, length, refl, sym, ap, ◌∙◌, arith, Option, Some, None}
+use Rattle.std.proofs.Common.{◌≡◌, ℕ, zero, suc, ◌+◌, ◌-◌, ◌≤◌, ◌<◌, Bool, true, false, cond, leb, List, [], ◌∷◌, length, refl, sym, ap, ◌∙◌, arith, Option, Some, None}
 use Rattle.std.specs.Prelude.{not, ◌==◌, ◌&&◌, nat_le}
 use Rattle.std.proofs.lemmas.Bool.{leb-true, eqb-true}
 use Rattle.wm_lexer.specs.Scanning.{skipped}
@@ -10,7 +10,7 @@ use Rattle.wm_grammar.specs.Scanned.{scan, scanned, symbols_of}
 use Rattle.wm_grammar.proofs.Scans.{skipped_shorter}
 use Rattle.wm_terms.specs.Cursor.{behind, no_more}
 use Rattle.wm_terms.proofs.Numbers.{no_number}
-use Rattle.wm_parser.specs.Literals.{Before, open_after, after, first_from}
+use Rattle.wm_literals.specs.Literals.{Before, depth_after, after, first_from}
 
 scan_short : (n : ℕ) (bytes : List ℕ) → length (scan n bytes) ≤ n
 unfolding scan
@@ -31,10 +31,10 @@ pub behind_less : (ts : List Symbol) → no_more ts ≡ false → length (behind
 behind_less [] e = absurd cc
 behind_less (t ∷ ts) e = omega arith
 
-pub open_grows : (open sort : ℕ) → open_after open sort ≤ open + 1
-open_grows open sort = go (sort == sorts.OPEN) (sort == sorts.CLOSE)
+pub depth_grows : (depth sort : ℕ) → depth_after depth sort ≤ depth + 1
+depth_grows depth sort = go (sort == sorts.OPEN) (sort == sorts.CLOSE)
   where
-    go : (a b : Bool) → cond a (open + 1) (cond b (Rattle.std.specs.Prelude.◌-◌ open 1) open) ≤ open + 1
+    go : (a b : Bool) → cond a (depth + 1) (cond b (depth - 1) depth) ≤ depth + 1
     go true b = omega arith
     go false true = omega arith
     go false false = omega arith

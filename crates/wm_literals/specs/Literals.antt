@@ -41,14 +41,14 @@ pub record Before : Type 0 where
   pub last : ℕ  -- the sort of the symbol before it
   pub second : ℕ  -- the sort of the one before that
   pub named : Bool  -- the last word is where_clause, and at most "=>" stands behind it
-  pub open : ℕ  -- how many parentheses are open
+  pub depth : ℕ  -- how many parentheses are open
   pub slots : List Parameter  -- in a call, the parameters of this place and of those behind it
 
 abbrev pub nothing : Before
-nothing = record { last = sorts.END; second = sorts.END; named = false; open = 0; slots = [] }
+nothing = record { last = sorts.END; second = sorts.END; named = false; depth = 0; slots = [] }
 
-abbrev pub open_after : ℕ → ℕ → ℕ
-open_after open sort = if sort == sorts.OPEN then open + 1 else (if sort == sorts.CLOSE then open - 1 else open)
+abbrev pub depth_after : ℕ → ℕ → ℕ
+depth_after depth sort = if sort == sorts.OPEN then depth + 1 else (if sort == sorts.CLOSE then depth - 1 else depth)
 
 abbrev pub all_parameters : Option Procedure → List Parameter
 all_parameters None = []
@@ -56,20 +56,20 @@ all_parameters (Some p) = parameters_of p
 
 -- the next symbol is the name of a procedure
 abbrev pub names_procedure : Before → ℕ → Bool
-names_procedure b sort = (sort == sorts.ID) && ((b.last == sorts.DOT) && (b.second == sorts.DBMS_WM))
+names_procedure b sort = ((sort == sorts.ID) && (b.last == sorts.DOT)) && (b.second == sorts.DBMS_WM)
 
 -- the name of a procedure brings its parameters, and a comma between arguments passes one of them
 abbrev pub slots_after : Before → List Symbol → List Parameter
 slots_after b ts =
     if names_procedure b (next_sort ts) then all_parameters (procedure_of (next_text ts)) else
-    (if (next_sort ts == sorts.COMMA) && (b.open == 1) then drop 1 b.slots else b.slots)
+    (if (next_sort ts == sorts.COMMA) && (b.depth == 1) then drop 1 b.slots else b.slots)
 
 abbrev pub named_after : Before → List Symbol → Bool
 named_after b ts = if next_sort ts == sorts.ARROW then b.named else str_eq_ignore_ascii_case (next_text ts) (codes "WHERE_CLAUSE")
 
 -- what stands before the symbol behind the next one
 abbrev pub after : Before → List Symbol → Before
-after b ts = record { last = next_sort ts; second = b.last; named = named_after b ts; open = open_after b.open (next_sort ts); slots = slots_after b ts }
+after b ts = record { last = next_sort ts; second = b.last; named = named_after b ts; depth = depth_after b.depth (next_sort ts); slots = slots_after b ts }
 
 -- ---- the next literal
 
@@ -92,7 +92,7 @@ is_clause_slot (p ∷ ps) = is_same p parameters.WhereClause
 
 -- a text here is that of a where_clause, by its name or by its place
 abbrev pub takes_clause : Before → Bool
-takes_clause b = if b.last == sorts.ARROW then b.named else (((b.last == sorts.OPEN) || (b.last == sorts.COMMA)) && ((b.open == 1) && is_clause_slot b.slots))
+takes_clause b = if b.last == sorts.ARROW then b.named else ((((b.last == sorts.OPEN) || (b.last == sorts.COMMA)) && (b.depth == 1)) && is_clause_slot b.slots)
 
 -- ---- the first literal
 

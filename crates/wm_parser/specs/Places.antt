@@ -1,7 +1,0 @@
--- What a place in memory knows of the symbols before it.
-use Rattle.wm_grammar.specs.Sorts.{code_of}
-use Rattle.wm_parser.specs.declared.place.Place.{Place}
-use Rattle.wm_parser.specs.Literals.{Before}
-
-abbrev pub before : Place → Before
-before p = record { last = code_of p.last; second = code_of p.second; named = p.named; open = p.open; slots = p.slots.now }
