@@ -1,2 +1,5 @@
 pub mod Parts
 pub mod Rules
+pub mod Lookups
+pub mod Order
+pub mod Indexing

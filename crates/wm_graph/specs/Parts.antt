@@ -1,6 +1,6 @@
 -- The records of a store, a list for each kind, in the order in which they stand; and what is looked up in them.
-use Rattle.std.specs.Prelude.{ℕ, Bool, ◌==◌, if◌then◌else◌, List, [], ◌∷◌, map, Option, Some, None}
-use Rattle.std.specs.List.{filter_map}
+use Rattle.std.specs.Prelude.{ℕ, Bool, ◌==◌, List, map, Option, Some, None}
+use Rattle.std.specs.List.{filter_map, find, list_any}
 use Rattle.wm_spec.specs.declared.record.Record.{Record}
 use Rattle.wm_spec.specs.declared.record.Record.TheVariants as records
 use Rattle.wm_spec.specs.declared.record.counters.Counters.{Counters}
@@ -57,25 +57,24 @@ parts_in all = record {
 unfoldable pub parts_of : List Stored → Parts
 parts_of stored = parts_in (map (λ (s : Stored). s.record) stored)
 
--- ---- what is looked up
-
--- the first that passes a test
-abbrev pub first : {A : Type 0} → (A → Bool) → List A → Option A
-first test [] = None
-first test (x ∷ xs) = if test x then Some x else first test xs
+-- ---- what is looked up: the first of a number, where there is one
 
 -- the table of a number
 abbrev pub table_of : List Table → ℕ → Option Table
-table_of tables number = first (λ (t : Table). t.number == number) tables
+table_of tables number = find (λ (t : Table). t.number == number) tables
 
 -- the workspace of a number
 abbrev pub space_of : List Space → ℕ → Option Space
-space_of spaces number = first (λ (s : Space). s.number == number) spaces
+space_of spaces number = find (λ (s : Space). s.number == number) spaces
 
 -- the version of a number
 abbrev pub version_of : List Version → ℕ → Option Version
-version_of versions number = first (λ (v : Version). v.number == number) versions
+version_of versions number = find (λ (v : Version). v.number == number) versions
 
 -- the row of a stamp
 abbrev pub row_of : List RowRecord → ℕ → Option RowRecord
-row_of rows stamp = first (λ (r : RowRecord). r.stamp == stamp) rows
+row_of rows stamp = find (λ (r : RowRecord). r.stamp == stamp) rows
+
+-- whether a workspace has a version
+abbrev pub has_version : List Version → ℕ → Bool
+has_version versions space = list_any (λ (v : Version). v.space == space) versions

@@ -1,6 +1,6 @@
 -- The rules over all records. A store whose records break one is damaged, though each record is in order by itself.
 use Rattle.std.specs.Prelude.{ℕ, ◌+◌, ◌^◌, Bool, true, false, not, ◌&&◌, ◌||◌, ◌==◌, nat_lt, nat_le, if◌then◌else◌, List, [], ◌∷◌, length, slice_get, Option, Some, None, is_some, codes}
-use Rattle.std.specs.List.{list_any, list_all}
+use Rattle.std.specs.List.{list_any, list_all, sum_by}
 use Rattle.std.specs.Option.{option_and_then, option_map_or}
 use Rattle.std.specs.Ordering.{is_eq}
 use Rattle.std.specs.Str.{bytes_eq}
@@ -19,7 +19,7 @@ use Rattle.wm_spec.specs.declared.record.version.Version.{Version}
 use Rattle.wm_spec.specs.declared.record.row.RowRecord.{RowRecord}
 use Rattle.wm_spec.specs.declared.record.cell_range.CellRange.{CellRange}
 use Rattle.wm_spec.specs.declared.record.piece.PieceRecord.{PieceRecord}
-use Rattle.wm_graph.specs.Parts.{Parts, table_of, space_of, version_of, row_of}
+use Rattle.wm_graph.specs.Parts.{Parts, table_of, space_of, version_of, row_of, has_version}
 
 -- no two of the list are the same
 abbrev pub differ : {A : Type 0} → (A → A → Bool) → List A → Bool
@@ -64,9 +64,12 @@ abbrev pub live : List ℕ
 live = codes "LIVE"
 
 -- LIVE has the number 0; every other workspace has a parent of a smaller number
-abbrev pub is_space : List Space → Space → Bool
+abbrev pub is_placed : (ℕ → Option Space) → Space → Bool
+is_placed spaces s = if s.number == 0 then bytes_eq s.name live else nat_lt s.parent s.number && is_some (spaces s.parent)
+
+abbrev pub is_space : (ℕ → Option Space) → Space → Bool
 is_space spaces s =
-    (if s.number == 0 then bytes_eq s.name live else (nat_lt s.parent s.number && is_some (space_of spaces s.parent)))
+    is_placed spaces s
     && (is_short s.name && is_short s.writer)
     && (nat_le 1 s.next_place && (nat_le 1 s.next_implicit && nat_le s.log_length (2 ^ 62)))
 
@@ -74,38 +77,39 @@ is_space spaces s =
 abbrev pub are_spaces : List Space → Bool
 are_spaces spaces =
     (nat_le (length spaces) 1024 && is_some (space_of spaces 0))
-    && (differ (λ (s t : Space). s.number == t.number) spaces && (differ (λ (s t : Space). bytes_eq s.name t.name) spaces && list_all (is_space spaces) spaces))
+    && (differ (λ (s t : Space). s.number == t.number) spaces && (differ (λ (s t : Space). bytes_eq s.name t.name) spaces && list_all (is_space (space_of spaces)) spaces))
 
 -- ---- versions
 
 -- the version is there, and is one of the workspace
-abbrev pub is_version_of : List Version → ℕ → ℕ → Bool
-is_version_of versions number space = option_map_or (λ (v : Version). v.space == space) (version_of versions number) false
+abbrev pub is_version_of : (ℕ → Option Version) → ℕ → ℕ → Bool
+is_version_of versions number space = option_map_or (λ (v : Version). v.space == space) (versions number) false
 
 -- the parent of a version is there, is older, and is a version of its workspace or of that one's parent
-abbrev pub stands_under : Parts → Space → Version → Bool
-stands_under p s v =
+abbrev pub stands_under : (ℕ → Option Version) → Version → Space → Bool
+stands_under versions v s =
     nat_lt v.parent v.number
-    && (is_version_of p.versions v.parent v.space || is_version_of p.versions v.parent s.parent)
+    && (is_version_of versions v.parent v.space || is_version_of versions v.parent s.parent)
 
 -- a version of a workspace that is there: version 1, which stands alone under none, or one under its parent
-abbrev pub is_version : Parts → ℕ → Version → Bool
-is_version p next v =
+abbrev pub is_version : (ℕ → Option Space) → (ℕ → Option Version) → ℕ → Version → Bool
+is_version spaces versions next v =
     nat_lt v.number next
-    && option_map_or (λ (s : Space). if v.parent == 0 then v.number == 1 else stands_under p s v) (space_of p.spaces v.space) false
+    && option_map_or (λ (s : Space). if v.parent == 0 then v.number == 1 else stands_under versions v s) (spaces v.space) false
 
 -- each workspace has a version; what it was born from and what it sees under its own are versions of its parent, but for
 -- LIVE, which was born from version 1 and sees nothing under its own
-abbrev pub has_versions : Parts → Space → Bool
-has_versions p s =
-    list_any (λ (v : Version). v.space == s.number) p.versions
+abbrev pub has_versions : (ℕ → Bool) → (ℕ → Option Version) → Space → Bool
+has_versions has versions s =
+    has s.number
     && (if s.number == 0 then (s.birth_version == 1) && (s.base_version == 0)
-        else is_version_of p.versions s.birth_version s.parent && is_version_of p.versions s.base_version s.parent)
+        else is_version_of versions s.birth_version s.parent && is_version_of versions s.base_version s.parent)
 
 abbrev pub are_versions : Parts → ℕ → Bool
 are_versions p next =
     differ (λ (v w : Version). v.number == w.number) p.versions
-    && (list_all (is_version p next) p.versions && list_all (has_versions p) p.spaces)
+    && (list_all (is_version (space_of p.spaces) (version_of p.versions) next) p.versions
+        && list_all (has_versions (has_version p.versions) (version_of p.versions)) p.spaces)
 
 -- ---- rows
 
@@ -129,8 +133,7 @@ fit_columns _ _ = false
 
 -- what values weigh together
 abbrev pub weight : List Value → ℕ
-weight [] = 0
-weight (v ∷ vs) = weight_of v + weight vs
+weight = sum_by weight_of
 
 -- the key of a row: its value in the key column
 abbrev pub key_of : Table → List Value → Option (List Value)
@@ -146,41 +149,44 @@ abbrev pub is_row_of : List Value → Table → Bool
 is_row_of row t = fit_columns t.columns row && (nat_le (weight row) 2000 && is_light_key (key_of t row))
 
 -- a row of a table that is there, with a stamp that was given
-abbrev pub is_row : List Table → ℕ → RowRecord → Bool
-is_row tables next r = nat_lt r.stamp next && option_map_or (is_row_of r.values) (table_of tables r.table) false
+abbrev pub is_row : (ℕ → Option Table) → ℕ → RowRecord → Bool
+is_row tables next r = nat_lt r.stamp next && option_map_or (is_row_of r.values) (tables r.table) false
 
 abbrev pub are_rows : Parts → ℕ → Bool
-are_rows p next = differ (λ (r q : RowRecord). r.stamp == q.stamp) p.rows && list_all (is_row p.tables next) p.rows
+are_rows p next = differ (λ (r q : RowRecord). r.stamp == q.stamp) p.rows && list_all (is_row (table_of p.tables) next) p.rows
 
 -- ---- cells and pieces
 
--- one value of the key column's type, which is not NULL, and of a weight of at most 200
-abbrev pub is_key_of : List Value → Table → Bool
-is_key_of (v ∷ []) t =
+-- a value of the key column's type, which is not NULL, and of a weight of at most 200
+abbrev pub is_key_value : Value → Table → Bool
+is_key_value v t =
     nat_le (weight_of v) 200
     && (t.has_key && option_map_or (λ (c : TableColumn). type_place v == type_of c.kind) (slice_get t.columns t.key_column) false)
+
+-- one such value
+abbrev pub is_key_of : List Value → Table → Bool
+is_key_of (v ∷ []) t = is_key_value v t
 is_key_of _ t = false
 
 -- cells of a table that is there, over a period
-abbrev pub are_cells : List Table → CellRange → Bool
-are_cells tables c = (nat_lt c.from c.till && nat_le c.till END) && option_map_or (is_key_of c.key) (table_of tables c.table) false
+abbrev pub are_cells : (ℕ → Option Table) → CellRange → Bool
+are_cells tables c = (nat_lt c.from c.till && nat_le c.till END) && option_map_or (is_key_of c.key) (tables c.table) false
 
--- the row of a stamp, where it is one of this table and key
-abbrev pub has_row : Parts → CellRange → ℕ → Bool
-has_row p c stamp = option_map_or is_it (row_of p.rows stamp) false
-  where
-    same_key : Option (List Value) → Bool
-    same_key None = false
-    same_key (Some key) = is_eq (key_order key c.key)
+-- the key of a row is this one
+abbrev pub is_key : List Value → Option (List Value) → Bool
+is_key key None = false
+is_key key (Some k) = is_eq (key_order k key)
 
-    is_it : RowRecord → Bool
-    is_it r = (r.table == c.table) && same_key (option_and_then (λ t. key_of t r.values) (table_of p.tables c.table))
+-- a row of the table of these cells that has their key
+abbrev pub is_row_at : (ℕ → Option Table) → CellRange → RowRecord → Bool
+is_row_at tables c r = (r.table == c.table) && is_key c.key (option_and_then (λ t. key_of t r.values) (tables c.table))
 
 -- a piece of a version that is there, on cells of a table, with a stamp that was given; where it is not gone its row is there
-abbrev pub is_piece : Parts → ℕ → PieceRecord → Bool
-is_piece p next x =
-    is_some (version_of p.versions x.version)
-    && (are_cells p.tables x.cells && (nat_lt x.stamp next && (x.gone || has_row p x.cells x.stamp)))
+abbrev pub is_piece : (ℕ → Option Table) → (ℕ → Option Version) → (ℕ → Option RowRecord) → ℕ → PieceRecord → Bool
+is_piece tables versions rows next x =
+    is_some (versions x.version)
+    && (are_cells tables x.cells
+        && (nat_lt x.stamp next && (x.gone || option_map_or (is_row_at tables x.cells) (rows x.stamp) false)))
 
 -- two pieces of one version, table and key whose periods overlap
 abbrev pub collide : PieceRecord → PieceRecord → Bool
@@ -189,7 +195,7 @@ collide x y =
     && (nat_lt x.cells.from y.cells.till && nat_lt y.cells.from x.cells.till)
 
 abbrev pub are_pieces : Parts → ℕ → Bool
-are_pieces p next = differ collide p.pieces && list_all (is_piece p next) p.pieces
+are_pieces p next = differ collide p.pieces && list_all (is_piece (table_of p.tables) (version_of p.versions) (row_of p.rows) next) p.pieces
 
 -- ---- all of them
 

@@ -1,2 +1,23 @@
-//! The rules over all records of a store.
+//! The rules over all records of a store: a store whose records break one is damaged, though each record is in
+//! order by itself.
 #![tactic(auto)]
+
+mod cells;
+mod columns;
+mod counters;
+mod index;
+mod indexes;
+mod keeps;
+mod kinds;
+mod names;
+mod overlaps;
+mod pieces;
+mod rows;
+mod spaces;
+mod tables;
+#[cfg(test)]
+mod tests;
+mod versions;
+mod weights;
+
+pub use keeps::keeps_rules;

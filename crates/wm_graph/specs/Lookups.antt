@@ -1,0 +1,38 @@
+-- What references refer to, and what indexes find.
+use Rattle.std.specs.Prelude.{ℕ, ◌++◌, List, [], ◌∷◌, map, Option, option_map}
+use Rattle.std.specs.BTreeMap.{is_at}
+use Rattle.std.specs.Map.{lookup}
+use Rattle.std.specs.Ordering.{nat_cmp}
+use Rattle.wm_graph.specs.Parts.{Parts}
+use Rattle.wm_spec.specs.declared.record.Record.{Record}
+use Rattle.wm_spec.specs.declared.record.Record.TheVariants as records
+use Rattle.wm_graph.specs.declared.kinds.Kinds.{Kinds}
+use denote.Ref.{Bor}
+
+-- what references refer to
+abbrev pub referred : {A : Type 0} → List (Bor A) → List A
+referred {A} references = map (λ (r : Bor A). r.now) references
+
+-- what an index has for a number
+abbrev pub found : {A : Type 0} → List (ℕ × Bor A) → ℕ → Option A
+found {A} entries number = option_map (λ (r : Bor A). r.now) (lookup (is_at (nat_cmp number)) entries)
+
+-- the records that were collected
+abbrev pub collected : Kinds → Parts
+collected k = record {
+  counters = referred k.counters.items;
+  tables = referred k.tables.items;
+  spaces = referred k.spaces.items;
+  versions = referred k.versions.items;
+  rows = referred k.rows.items;
+  pieces = referred k.pieces.items;
+}
+
+-- the parts with one more record, behind those of its kind
+abbrev pub added : Parts → Record → Parts
+added p (records.Counters r) = record p { counters = p.counters ++ r ∷ [] }
+added p (records.Table r) = record p { tables = p.tables ++ r ∷ [] }
+added p (records.Space r) = record p { spaces = p.spaces ++ r ∷ [] }
+added p (records.Version r) = record p { versions = p.versions ++ r ∷ [] }
+added p (records.Row r) = record p { rows = p.rows ++ r ∷ [] }
+added p (records.Piece r) = record p { pieces = p.pieces ++ r ∷ [] }

@@ -1,0 +1,103 @@
+ghost use Rattle.std.specs.Prelude.{◌≡◌, ◌∷◌, [], IfOk};
+ghost use Rattle.wm_graph.specs.Indexing.{IndexesOf};
+ghost use Rattle.wm_graph.specs.Lookups.{collected};
+ghost use Rattle.wm_graph.specs.Parts.{parts_of};
+ghost use Rattle.wm_graph.specs.Rules.{are_tables, are_spaces, are_versions, are_rows, are_pieces, keep_rules, keep_rules_with};
+
+use crate::indexes::{self, Indexes};
+use crate::kinds::Kinds;
+use crate::{counters, overlaps, pieces, rows, spaces, tables, versions};
+use std::alloc::Global;
+use wm_base::Memory;
+use wm_spec::record::{Counters, Records};
+
+/// Whether the records keep every rule over all of them.
+pub fn keeps_rules(alloc: Global, records: &Records) -> Result<bool, Memory>
+    ensures { IfOk result (λ kept. kept ≡ keep_rules (parts_of records.now)) }
+{
+    let kinds = Kinds::of(alloc, records.as_slice())?;
+    let kept = match kinds.counters.as_slice() {
+        [counters] => keep_rules_with(alloc, &kinds, counters)?,
+        _ => false,
+    };
+    Ok(kept)
+}
+
+/// Whether the records of each kind keep the rules, where these are the counters.
+fn keep_rules_with(alloc: Global, kinds: &Kinds, counters: &Counters) -> Result<bool, Memory>
+    ensures { IfOk result (λ kept. kept ≡ keep_rules_with (collected kinds.now) (counters.now ∷ [])) }
+{
+    let indexes = indexes::indexes_of(alloc, kinds)?;
+    if !counters::are_counters(counters)
+        || !tables_keep(&indexes, kinds)
+        || !spaces_keep(&indexes, kinds)
+        || !versions_keep(&indexes, kinds, counters.next_version)
+        || !rows_keep(&indexes, kinds, counters.next_stamp)
+    {
+        return Ok(false);
+    }
+    let kept = pieces_keep(alloc, &indexes, kinds, counters.next_stamp)?;
+    Ok(kept)
+}
+
+/// Whether the tables keep their rules.
+fn tables_keep(indexes: &Indexes, kinds: &Kinds) -> bool
+    requires { IndexesOf (collected kinds.now) indexes.now }
+    ensures { result ≡ are_tables (collected kinds.now).tables }
+{
+    indexes.tables.differ && tables::are_tables(kinds.tables.as_slice())
+}
+
+/// Whether the workspaces keep theirs.
+fn spaces_keep(indexes: &Indexes, kinds: &Kinds) -> bool
+    requires { IndexesOf (collected kinds.now) indexes.now }
+    ensures { result ≡ are_spaces (collected kinds.now).spaces }
+{
+    indexes.spaces.differ && spaces::are_spaces(&indexes.spaces.index, kinds.spaces.as_slice())
+}
+
+/// Whether the versions keep theirs, where the next one is to have this number.
+fn versions_keep(indexes: &Indexes, kinds: &Kinds, next: u64) -> bool
+    requires { IndexesOf (collected kinds.now) indexes.now }
+    ensures { result ≡ are_versions (collected kinds.now) next }
+{
+    let spaces = &indexes.spaces.index;
+    let versions = &indexes.versions.index;
+    indexes.versions.differ
+        && kinds
+            .versions
+            .iter()
+            .all(|version| versions::is_version(spaces, versions, next, version))
+        && kinds
+            .spaces
+            .iter()
+            .all(|space| versions::has_versions(&indexes.having, versions, space))
+}
+
+/// Whether the rows keep theirs, where the next stamp is this one.
+fn rows_keep(indexes: &Indexes, kinds: &Kinds, next: u64) -> bool
+    requires { IndexesOf (collected kinds.now) indexes.now }
+    ensures { result ≡ are_rows (collected kinds.now) next }
+{
+    let tables = &indexes.tables.index;
+    indexes.rows.differ && kinds.rows.iter().all(|row| rows::is_row(tables, next, row))
+}
+
+/// Whether the pieces keep theirs, where the next stamp is this one.
+fn pieces_keep(alloc: Global, indexes: &Indexes, kinds: &Kinds, next: u64) -> Result<bool, Memory>
+    requires { IndexesOf (collected kinds.now) indexes.now }
+    ensures { IfOk result (λ kept. kept ≡ are_pieces (collected kinds.now) next) }
+{
+    let tables = &indexes.tables.index;
+    let versions = &indexes.versions.index;
+    let rows = &indexes.rows.index;
+    if !kinds
+        .pieces
+        .iter()
+        .all(|piece| pieces::is_piece(tables, versions, rows, next, piece))
+    {
+        return Ok(false);
+    }
+    let apart = overlaps::are_apart(alloc, kinds.pieces.as_slice())?;
+    Ok(apart)
+}

@@ -1,0 +1,34 @@
+ghost use Rattle.std.specs.Prelude.{◌≡◌, false};
+ghost use Rattle.std.specs.Option.{option_map_or};
+ghost use Rattle.wm_graph.specs.Lookups.{found};
+ghost use Rattle.wm_graph.specs.Rules.{is_piece, is_row_at};
+
+use crate::cells;
+use crate::index::{self, Index};
+use wm_spec::record::{CellRange, PieceRecord, RowRecord, Table, Version};
+
+/// Whether the row of the stamp is there, in the table and with the key of the cells.
+fn has_row(tables: &Index<Table>, rows: &Index<RowRecord>, cells: &CellRange, stamp: u64) -> bool
+    ensures { result ≡ option_map_or (is_row_at (found tables.now.entries) cells.now) (found rows.now.entries stamp) false }
+{
+    match index::look(rows, stamp) {
+        Some(row) => cells::is_row_at(tables, cells, row),
+        None => false,
+    }
+}
+
+/// Whether the piece has a version, cells, a stamp and a row as it is to have them.
+pub fn is_piece(
+    tables: &Index<Table>,
+    versions: &Index<Version>,
+    rows: &Index<RowRecord>,
+    next: u64,
+    piece: &PieceRecord,
+) -> bool
+    ensures { result ≡ is_piece (found tables.now.entries) (found versions.now.entries) (found rows.now.entries) next piece.now }
+{
+    index::look(versions, piece.version).is_some()
+        && cells::are_cells(tables, &piece.cells)
+        && piece.stamp < next
+        && (piece.gone || has_row(tables, rows, &piece.cells, piece.stamp))
+}

@@ -1,0 +1,59 @@
+ghost use Rattle.std.specs.Prelude.{◌≡◌, ◌∷◌, []};
+ghost use Rattle.std.specs.Option.{option_copied, option_map};
+ghost use Rattle.wm_graph.specs.Lookups.{found};
+ghost use Rattle.wm_graph.specs.Rules.{key_of, is_light_key, is_row_of, is_row};
+
+use crate::columns;
+use crate::index::{self, Index};
+use crate::weights;
+use wm_base::Value;
+use wm_spec::record::{RowRecord, Table};
+
+/// The most that the values of a row weigh together.
+const HEAVIEST_ROW: u64 = 2_000;
+
+/// The most that a key weighs.
+pub const HEAVIEST_KEY: u64 = 200;
+
+/// The value of a row in the key column, where the table has one.
+pub fn key_value<'a>(table: &Table, values: &'a [Value]) -> Option<&'a Value>
+    ensures { option_map (λ v. v ∷ []) (option_copied result) ≡ key_of table.now values.now }
+{
+    if table.has_key {
+        values.get(usize::from(table.key_column))
+    } else {
+        None
+    }
+}
+
+/// Whether the key of a row, where it has one, is not too heavy.
+fn has_light_key(table: &Table, values: &[Value]) -> bool
+    ensures { result ≡ is_light_key (key_of table.now values.now) }
+{
+    match key_value(table, values) {
+        Some(key) => key.weight() <= HEAVIEST_KEY,
+        None => true,
+    }
+}
+
+/// Whether these may be the values of a row of the table.
+fn is_row_of(table: &Table, values: &[Value]) -> bool
+    ensures { result ≡ is_row_of values.now table.now }
+{
+    columns::fit_columns(table.columns.as_slice(), values)
+        && weights::weigh_at_most(values, HEAVIEST_ROW)
+        && has_light_key(table, values)
+}
+
+/// Whether the row has a stamp that was given and values for its table, which is there.
+pub fn is_row(tables: &Index<Table>, next: u64, row: &RowRecord) -> bool
+    ensures { result ≡ is_row (found tables.now.entries) next row.now }
+{
+    if row.stamp >= next {
+        return false;
+    }
+    match index::look(tables, u64::from(row.table)) {
+        Some(table) => is_row_of(table, row.values.as_slice()),
+        None => false,
+    }
+}

@@ -1,0 +1,46 @@
+ghost use Rattle.std.specs.Prelude.{◌≡◌, ◌&&◌, nat_le, length, is_some};
+ghost use Rattle.std.specs.List.{list_all};
+ghost use Rattle.std.specs.Str.{bytes_eq};
+ghost use Rattle.wm_graph.specs.Lookups.{found, referred};
+ghost use Rattle.wm_graph.specs.Rules.{differ, is_placed, is_space};
+
+use crate::counters::MOST_WORK;
+use crate::index::{self, Index};
+use crate::names;
+use wm_spec::record::Space;
+
+/// The most workspaces of a store.
+const MOST_SPACES: usize = 1024;
+
+/// Whether it is LIVE, where it has the number 0, and has a parent of a smaller number, where it has another.
+fn has_parent(spaces: &Index<Space>, space: &Space) -> bool
+    ensures { result ≡ is_placed (found spaces.now.entries) space.now }
+{
+    if space.number == 0 {
+        space.name.as_bytes() == b"LIVE".as_slice()
+    } else {
+        space.parent < space.number && index::look(spaces, u64::from(space.parent)).is_some()
+    }
+}
+
+/// Whether the workspace is in order among the others.
+fn is_space(spaces: &Index<Space>, space: &Space) -> bool
+    ensures { result ≡ is_space (found spaces.now.entries) space.now }
+{
+    has_parent(spaces, space)
+        && names::is_short(&space.name)
+        && names::is_short(&space.writer)
+        && 1 <= space.next_place
+        && 1 <= space.next_implicit
+        && space.log_length <= MOST_WORK
+}
+
+/// Whether there are not too many workspaces, LIVE is there, their names differ and each is in order among the others.
+pub fn are_spaces(index: &Index<Space>, spaces: &[&Space]) -> bool
+    ensures { result ≡ ((nat_le (length (referred spaces.now)) 1024 && is_some (found index.now.entries 0)) && (differ (λ s t. bytes_eq s.name t.name) (referred spaces.now) && list_all (is_space (found index.now.entries)) (referred spaces.now))) }
+{
+    spaces.len() <= MOST_SPACES
+        && index::look(index, 0).is_some()
+        && names::names_differ(spaces)
+        && spaces.iter().all(|space| is_space(index, space))
+}

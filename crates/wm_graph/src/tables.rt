@@ -1,0 +1,46 @@
+ghost use Rattle.std.specs.Prelude.{◌≡◌, ◌&&◌, nat_le, length};
+ghost use Rattle.std.specs.List.{list_all};
+ghost use Rattle.std.specs.Str.{bytes_eq};
+ghost use Rattle.wm_graph.specs.Lookups.{referred};
+ghost use Rattle.wm_graph.specs.Rules.{differ, is_short, is_table};
+
+use crate::names;
+use wm_spec::record::{Table, TableColumn};
+
+/// The most tables of a store.
+const MOST_TABLES: usize = 256;
+
+/// The most columns of a table.
+const MOST_COLUMNS: usize = 32;
+
+/// Whether the names of the columns are short.
+fn names_are_short(columns: &[TableColumn]) -> bool
+    ensures { result ≡ list_all (λ c. is_short c.name) columns.now }
+{
+    columns.iter().all(|column| names::is_short(&column.name))
+}
+
+/// Whether the table is in order by itself.
+fn is_table(table: &Table) -> bool
+    ensures { result ≡ is_table table.now }
+{
+    let columns = table.columns.as_slice();
+    let count = columns.len();
+    if count < 1 || count > MOST_COLUMNS {
+        return false;
+    }
+    names::names_differ(columns)
+        && names::is_short(&table.name)
+        && names_are_short(columns)
+        && (!table.has_key || usize::from(table.key_column) < count)
+        && (!table.versioned || table.has_key)
+}
+
+/// Whether there are not too many tables, their names differ and each is in order by itself.
+pub fn are_tables(tables: &[&Table]) -> bool
+    ensures { result ≡ (nat_le (length (referred tables.now)) 256 && (differ (λ t u. bytes_eq t.name u.name) (referred tables.now) && list_all is_table (referred tables.now))) }
+{
+    tables.len() <= MOST_TABLES
+        && names::names_differ(tables)
+        && tables.iter().all(|table| is_table(table))
+}
