@@ -1,3 +1,5 @@
 pub mod Lookups
 pub mod Laying
 pub mod Paths
+pub mod Writing
+pub mod Listing

@@ -92,3 +92,18 @@ lookup-layers_of test (e ∷ es) =
 pub groups_in-layers_of : (layers : List (ℕ × BTreeMap RowKey (List Piece))) (version : ℕ)
     → groups_in (layers_of layers) version ≡ unwrap_or (option_map (λ layer. layer.entries) (lookup (is_at (nat_cmp version)) layers)) []
 groups_in-layers_of layers version = ap (λ (o : Option Groups). unwrap_or o []) (lookup-layers_of (is_at (nat_cmp version)) layers)
+
+-- what a version stores, where the map has a layer of it, and where it has none
+pub groups_in-some : (layers : List (ℕ × BTreeMap RowKey (List Piece))) (version : ℕ) (layer : BTreeMap RowKey (List Piece)) → lookup (is_at (nat_cmp version)) layers ≡ Some layer
+    → groups_in (layers_of layers) version ≡ layer.entries
+groups_in-some layers version layer is =
+    groups_in-layers_of layers version ∙ ap (λ (o : Option (BTreeMap RowKey (List Piece))). unwrap_or (option_map (λ m. m.entries) o) []) is
+
+pub groups_in-none : (layers : List (ℕ × BTreeMap RowKey (List Piece))) (version : ℕ) → lookup (is_at (nat_cmp version)) layers ≡ None → groups_in (layers_of layers) version ≡ []
+groups_in-none layers version is =
+    groups_in-layers_of layers version ∙ ap (λ (o : Option (BTreeMap RowKey (List Piece))). unwrap_or (option_map (λ m. m.entries) o) []) is
+
+pub groups_in-same : (new old : List (ℕ × BTreeMap RowKey (List Piece))) (version : ℕ) → lookup (is_at (nat_cmp version)) new ≡ lookup (is_at (nat_cmp version)) old
+    → groups_in (layers_of new) version ≡ groups_in (layers_of old) version
+groups_in-same new old version is =
+    groups_in-layers_of new version ∙ ap (λ (o : Option (BTreeMap RowKey (List Piece))). unwrap_or (option_map (λ m. m.entries) o) []) is ∙ sym (groups_in-layers_of old version)

@@ -1,12 +1,12 @@
 //! What all versions store: a layer for each.
 
-ghost use Rattle.std.specs.Prelude.{◌≡◌, ℕ, ◌==◌, ◌&&◌, [], Some, None, nat_eq, unwrap_or, if◌then◌else◌, IfOk, OnOk, OnErr};
+ghost use Rattle.std.specs.Prelude.{◌≡◌, ℕ, ◌==◌, ◌&&◌, [], Some, nat_eq, if◌then◌else◌, IfOk, OnOk, OnErr};
 ghost use Rattle.std.specs.Bool.{then_some};
 ghost use Rattle.std.specs.List.{list_any};
 ghost use Rattle.std.specs.Option.{option_copied, option_or};
 ghost use Rattle.wm_base.specs.Period.{covers};
 ghost use Rattle.wm_period.specs.Pieces.{held, held_at, put_in};
-ghost use Rattle.wm_rows.specs.Rows.{group_of, groups_in, pieces_in, layers_of, is_same, nearest, seen_in, own_in};
+ghost use Rattle.wm_rows.specs.Rows.{group_of, groups_in, pieces_in, layers_of, is_same, stored, seen_in, own_in};
 ghost use Rattle.wm_rows.specs.declared.row_key.RowKey.{RowKey as Row};
 
 use crate::layer::{Layer, lay_under, put_piece};
@@ -66,6 +66,21 @@ pub fn seen_pieces(
     Ok(seen)
 }
 
+/// Lays what a version stores under what stands.
+fn lay_version_under(
+    alloc: Global,
+    upper: &mut Layer,
+    layers: &Layers,
+    version: u64,
+) -> Result<(), Memory>
+    ensures { OnOk result ((row : Row) (t : ℕ) → held_at (pieces_in upper.new.entries row) t ≡ option_or (held_at (pieces_in upper.old.entries row) t) (stored (layers_of layers.now.entries) version row t)) }
+{
+    match layers.get(&version) {
+        Some(layer) => lay_under(alloc, upper, layer),
+        None => Ok(()),
+    }
+}
+
 /// What is held on the path of a version above a base version.
 pub fn own_layer(
     alloc: Global,
@@ -81,9 +96,7 @@ pub fn own_layer(
         if version == base {
             return Ok(own);
         }
-        if let Some(layer) = layers.get(&version) {
-            lay_under(alloc, &mut own, layer)?;
-        }
+        lay_version_under(alloc, &mut own, layers, version)?;
     }
     Ok(own)
 }

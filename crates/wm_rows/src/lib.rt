@@ -4,7 +4,11 @@
 
 mod layer;
 mod layers;
+pub mod own;
 pub mod row_key;
 mod row_order;
+pub mod rows;
 
+pub use own::{OwnPiece, OwnPieces};
 pub use row_key::RowKey;
+pub use rows::Rows;

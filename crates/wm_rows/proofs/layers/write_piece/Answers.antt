@@ -1,29 +1,62 @@
-use Rattle.std.proofs.Common.{rules, ◌≡◌, ℕ, ◌==◌, ◌&&◌, [], Some, None, nat_eq, unwrap_or, if◌then◌else◌, IfOk, OnOk, OnErr, ◌+◌, ◌-◌, ◌*◌, ◌<◌, ◌≤◌, length, ◌/◌, ◌%◌, Bool, true, false, nat_lt, List, ◌∷◌, ◌++◌, slice_index_or, slice_set, bit_and, bit_or, Fits, w8, w32, w64, Bor, MutBor}
+use Rattle.std.proofs.Common.{◌≡◌, ℕ, ◌&&◌, cond, eqb, List, Some, refl, sym, ap, ◌∙◌, subst}
+use Rattle.std.specs.BTreeMap.{BTreeMap, is_at}
 use Rattle.std.specs.Bool.{then_some}
-use Rattle.std.specs.List.{list_any}
-use Rattle.std.specs.Option.{option_copied, option_or}
+use Rattle.std.specs.Map.{lookup}
+use Rattle.std.specs.Option.{option_copied_mut, option_or}
+use Rattle.std.specs.Ordering.{nat_cmp}
+use Rattle.std.specs.Prelude.{OnOk}
 use Rattle.wm_base.specs.Period.{covers}
 use Rattle.wm_period.specs.Pieces.{held, held_at, put_in}
-use Rattle.wm_rows.specs.Rows.{group_of, groups_in, pieces_in, layers_of, is_same, nearest, seen_in, own_in}
-use Rattle.wm_rows.specs.declared.row_key.RowKey.{RowKey as Row}
+use Rattle.wm_period.specs.declared.piece.Piece.{Piece}
+use Rattle.wm_rows.proofs.Lookups.{groups_in-some, groups_in-none}
+use Rattle.wm_rows.proofs.Writing.{on_ok, on_err, write_told, write_kept}
+use Rattle.wm_rows.specs.Rows.{Groups, groups_in, group_in, group_of, pieces_in, layers_of, is_same}
+use Rattle.wm_rows.specs.declared.row_key.RowKey.{RowKey}
 use Rattle.wm_rows.proofs.layers.write_piece.Goals as goal
 
--- src/layers.rt:42:9
+-- the layer that is written
+there : (c : goal.After-layers-in-Some-1) → lookup (is_at (nat_cmp c.args.version)) c.args.layers.now.entries ≡ Some c.in-Some.layer.now
+there c = sym c.get_mut.ensures.value ∙ ap option_copied_mut c.in-Some.is
+
+was : (c : goal.After-layers-in-Some-1) → groups_in (layers_of c.args.layers.now.entries) c.args.version ≡ c.in-Some.layer.now.entries
+was c = groups_in-some c.args.layers.now.entries c.args.version c.in-Some.layer.now (there c)
+
 pub returns-in-Some-clause-groups : goal.returns-in-Some-clause-groups
-returns-in-Some-clause-groups c = ?
+returns-in-Some-clause-groups c =
+    on_ok c.put_piece.result
+    (λ (wrote : (q : RowKey) → group_in c.put_piece.new.layer.entries q ≡ cond (is_same c.args.row q) (Some (put_in c.args.piece (pieces_in c.in-Some.layer.now.entries c.args.row))) (group_in c.in-Some.layer.now.entries q)).
+    λ v q.
+    write_told c.args.layers.now.entries (c.get_mut.follows.lender c.put_piece.new.layer).entries c.args.version c.args.row c.in-Some.layer.now.entries c.put_piece.new.layer
+    (put_in c.args.piece (pieces_in c.in-Some.layer.now.entries c.args.row)) (was c) ((c.get_mut.follows.holds c.put_piece.new.layer).3 (rw (there c) refl)).0 wrote v q
+    ∙ ap (λ (g : Groups). cond (eqb c.args.version v && is_same c.args.row q) (Some (put_in c.args.piece (pieces_in g c.args.row))) (group_of (layers_of c.args.layers.now.entries) v q)) (sym (was c)))
+    c.put_piece.ensures.groups
 
--- src/layers.rt:42:9
 pub returns-in-Some-clause-cells : goal.returns-in-Some-clause-cells
-returns-in-Some-clause-cells c = ?
+returns-in-Some-clause-cells c =
+    let P : Groups → Type 0 = λ g. OnOk c.put_piece.result ((t : ℕ) → held_at (put_in c.args.piece (pieces_in g c.args.row)) t ≡ option_or (then_some (covers c.args.piece.period t) (held c.args.piece)) (held_at (pieces_in g c.args.row) t)) in
+    subst P (sym (was c)) c.put_piece.ensures.cells
 
--- src/layers.rt:42:9
 pub returns-in-Some-clause-err : goal.returns-in-Some-clause-err
-returns-in-Some-clause-err c = ?
+returns-in-Some-clause-err c =
+    on_err c.put_piece.result
+    (λ same. write_kept c.args.layers.now.entries (c.get_mut.follows.lender c.put_piece.new.layer).entries c.args.version c.in-Some.layer.now c.put_piece.new.layer (there c)
+    (c.get_mut.follows.holds c.put_piece.new.layer).0 same)
+    c.put_piece.ensures.err
 
--- src/layers.rt:30:1
 pub returns-clause-groups : goal.returns-clause-groups
-returns-clause-groups c = ?
+returns-clause-groups c = λ v q.
+    let none : groups_in (layers_of c.args.layers.now.entries) c.args.version ≡ c.new-layer.result.entries =
+    groups_in-none c.args.layers.now.entries c.args.version (sym c.get_mut.ensures.value ∙ ap option_copied_mut c.in_default.is) ∙ sym c.new-layer.ensures.empty in
+    let put : (n : ℕ) → lookup (is_at (nat_cmp n)) c.insert.new.self.entries ≡ cond (is_at (nat_cmp c.args.version) n) (Some c.put_piece-2.new.layer) (lookup (is_at (nat_cmp n)) c.args.layers.now.entries) =
+    λ n. c.in_ok-insert.ensures.updates.0 n
+    ∙ ap (λ (m : BTreeMap ℕ (BTreeMap RowKey (List Piece))). cond (is_at (nat_cmp c.args.version) n) (Some c.put_piece-2.new.layer) (lookup (is_at (nat_cmp n)) m.entries)) c.get_mut.follows.holds-at-none in
+    write_told c.args.layers.now.entries c.insert.new.self.entries c.args.version c.args.row c.new-layer.result.entries c.put_piece-2.new.layer
+    (put_in c.args.piece (pieces_in c.new-layer.result.entries c.args.row)) none put c.in_ok-put_piece.ensures.groups v q
+    ∙ ap (λ (g : Groups). cond (eqb c.args.version v && is_same c.args.row q) (Some (put_in c.args.piece (pieces_in g c.args.row))) (group_of (layers_of c.args.layers.now.entries) v q)) (sym none)
 
--- src/layers.rt:30:1
 pub returns-clause-cells : goal.returns-clause-cells
-returns-clause-cells c = ?
+returns-clause-cells c =
+    let none : groups_in (layers_of c.args.layers.now.entries) c.args.version ≡ c.new-layer.result.entries =
+    groups_in-none c.args.layers.now.entries c.args.version (sym c.get_mut.ensures.value ∙ ap option_copied_mut c.in_default.is) ∙ sym c.new-layer.ensures.empty in
+    let P : Groups → Type 0 = λ g. (t : ℕ) → held_at (put_in c.args.piece (pieces_in g c.args.row)) t ≡ option_or (then_some (covers c.args.piece.period t) (held c.args.piece)) (held_at (pieces_in g c.args.row) t) in
+    subst P (sym none) c.in_ok-put_piece.ensures.cells
