@@ -1,3 +1,4 @@
 pub mod Peeking
 pub mod Numbers
 pub mod Listing
+pub mod Texts
