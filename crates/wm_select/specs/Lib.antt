@@ -1,0 +1,5 @@
+pub mod Tuples
+pub mod Sorting
+pub mod Aggregates
+pub mod Query
+pub mod Joining

@@ -1,0 +1,6 @@
+//! Queries: the tuples that the conditions keep, in groups, projected, each once, and in order.
+#![tactic(auto)]
+
+mod agree;
+mod buckets;
+mod pair;
