@@ -1,3 +1,4 @@
+pub mod Maps
 pub mod Lookups
 pub mod Laying
 pub mod Paths

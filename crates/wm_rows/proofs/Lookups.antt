@@ -1,24 +1,24 @@
--- Rows and versions looked up.
-use Rattle.std.proofs.Common.{◌≡◌, ℕ, Bool, true, false, cond, eqb, List, [], ◌∷◌, Option, Some, None, refl, sym, ap, ◌∙◌, ◌⊎◌, inl, inr}
-use Rattle.std.proofs.lemmas.Bool.{cases_Bool, cases_eq, eq-eqb, ne_eqb}
-use Rattle.std.proofs.lemmas.Cmp.{eq_by_cmp_equiv, nat_cmp_total, tied_itself}
+-- Rows looked up.
+use Rattle.std.proofs.Common.{◌≡◌, ℕ, Bool, true, false, cond, ◌&&◌, eqb, List, ◌∷◌, Option, Some, None, refl, sym, ap, ◌∙◌, ◌⊎◌, inl, inr}
+use Rattle.std.proofs.lemmas.Bool.{cases_Bool}
+use Rattle.std.proofs.lemmas.Cmp.{eq_by_cmp_equiv, tied_itself}
 use Rattle.std.proofs.lemmas.Map.{lookup-none}
 use Rattle.std.proofs.lemmas.Map.Entries.{none_past_head}
 use Rattle.std.proofs.lemmas.Map.Keys.{IsDistinct-from_sorted}
 use Rattle.std.proofs.lemmas.Map.Lookups.{exact_unsigned, CmpEqualImpliesEq}
-use Rattle.std.specs.BTreeMap.{BTreeMap, is_at}
+use Rattle.std.specs.BTreeMap.{is_at}
 use Rattle.std.specs.Cmp.{Equal-is}
 use Rattle.std.specs.List.Sorted.{IsStrictlySortedBy}
-use Rattle.std.specs.Map.{lookup, keys_of}
-use Rattle.std.specs.Option.{option_map, unwrap_or}
+use Rattle.std.specs.Map.{keys_of}
 use Rattle.std.specs.Ordering.{nat_cmp, ordering_then, is_eq}
 use Rattle.std.specs.declared.cmp.Ordering.{Ordering}
 use Rattle.std.specs.declared.cmp.Ordering.TheVariants.{Less, Equal, Greater}
 use Rattle.wm_base.specs.Key.{key_order}
 use Rattle.wm_base.specs.Orders.{key_order-equal}
 use Rattle.wm_period.specs.declared.piece.Piece.{Piece}
+use Rattle.wm_rows.proofs.Maps.{is_at-number}
 use Rattle.wm_rows.specs.RowOrder.{row_order_total}
-use Rattle.wm_rows.specs.Rows.{Groups, Layers, row_order, is_same, group_in, pieces_in, groups_in, layers_of}
+use Rattle.wm_rows.specs.Rows.{Groups, row_order, is_same, group_in}
 use Rattle.wm_rows.specs.declared.row_key.RowKey.{RowKey}
 
 -- ---- rows
@@ -64,46 +64,11 @@ group_in-past row pieces rest order =
     lookup-none (is_at (row_order row)) rest
     (none_past_head (eq_by_cmp_equiv row_order_total) row (row, pieces) rest (IsDistinct-from_sorted row_order (keys_of ((row, pieces) ∷ rest)) order) (is_same-itself row))
 
--- ---- versions
+is_eq-then : (a b : Ordering) → is_eq (ordering_then a b) ≡ (is_eq a && is_eq b)
+is_eq-then Less b = refl
+is_eq-then Equal b = refl
+is_eq-then Greater b = refl
 
--- a test for `Equal` is a test for the same number
-pub is_at-number : (m n : ℕ) → is_at (nat_cmp m) n ≡ eqb m n
-is_at-number m n = by_number (cases_eq m n)
-  where
-    by_number : (m ≡ n) ⊎ (m ≡ n → ⊥) → is_at (nat_cmp m) n ≡ eqb m n
-    by_number (inl same) = rw same (ap is_eq (tied_itself nat_cmp_total n) ∙ sym (eq-eqb n n refl))
-    by_number (inr apart) = no_tie (cases_Bool (is_at (nat_cmp m) n)) ∙ sym (ne_eqb m n apart)
-      where
-        no_tie : (is_at (nat_cmp m) n ≡ true) ⊎ (is_at (nat_cmp m) n ≡ false) → is_at (nat_cmp m) n ≡ false
-        no_tie (inl tie) = absurd (apart (exact_unsigned m n ((Equal-is (nat_cmp m n)).0 tie)))
-        no_tie (inr e) = e
-
-map_cond : {A B : Type 0} (f : A → B) (b : Bool) (x : A) (o : Option A) → cond b (Some (f x)) (option_map f o) ≡ option_map f (cond b (Some x) o)
-map_cond f true x o = refl
-map_cond f false x o = refl
-
--- a look-up in what the map tells
-pub lookup-layers_of : (test : ℕ → Bool) (layers : List (ℕ × BTreeMap RowKey (List Piece))) → lookup test (layers_of layers) ≡ option_map (λ layer. layer.entries) (lookup test layers)
-lookup-layers_of test [] = refl
-lookup-layers_of test (e ∷ es) =
-    ap (cond (test e.0) (Some e.1.entries)) (lookup-layers_of test es)
-    ∙ map_cond (λ (layer : BTreeMap RowKey (List Piece)). layer.entries) (test e.0) e.1 (lookup test es)
-
-pub groups_in-layers_of : (layers : List (ℕ × BTreeMap RowKey (List Piece))) (version : ℕ)
-    → groups_in (layers_of layers) version ≡ unwrap_or (option_map (λ layer. layer.entries) (lookup (is_at (nat_cmp version)) layers)) []
-groups_in-layers_of layers version = ap (λ (o : Option Groups). unwrap_or o []) (lookup-layers_of (is_at (nat_cmp version)) layers)
-
--- what a version stores, where the map has a layer of it, and where it has none
-pub groups_in-some : (layers : List (ℕ × BTreeMap RowKey (List Piece))) (version : ℕ) (layer : BTreeMap RowKey (List Piece)) → lookup (is_at (nat_cmp version)) layers ≡ Some layer
-    → groups_in (layers_of layers) version ≡ layer.entries
-groups_in-some layers version layer is =
-    groups_in-layers_of layers version ∙ ap (λ (o : Option (BTreeMap RowKey (List Piece))). unwrap_or (option_map (λ m. m.entries) o) []) is
-
-pub groups_in-none : (layers : List (ℕ × BTreeMap RowKey (List Piece))) (version : ℕ) → lookup (is_at (nat_cmp version)) layers ≡ None → groups_in (layers_of layers) version ≡ []
-groups_in-none layers version is =
-    groups_in-layers_of layers version ∙ ap (λ (o : Option (BTreeMap RowKey (List Piece))). unwrap_or (option_map (λ m. m.entries) o) []) is
-
-pub groups_in-same : (new old : List (ℕ × BTreeMap RowKey (List Piece))) (version : ℕ) → lookup (is_at (nat_cmp version)) new ≡ lookup (is_at (nat_cmp version)) old
-    → groups_in (layers_of new) version ≡ groups_in (layers_of old) version
-groups_in-same new old version is =
-    groups_in-layers_of new version ∙ ap (λ (o : Option (BTreeMap RowKey (List Piece))). unwrap_or (option_map (λ m. m.entries) o) []) is ∙ sym (groups_in-layers_of old version)
+-- two rows are one where their tables and their keys are
+pub is_same-parts : (p q : RowKey) → is_same p q ≡ (eqb p.table q.table && is_eq (key_order p.key q.key))
+is_same-parts p q = is_eq-then (nat_cmp p.table q.table) (key_order p.key q.key) ∙ ap (λ b. b && is_eq (key_order p.key q.key)) (is_at-number p.table q.table)

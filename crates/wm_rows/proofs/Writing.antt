@@ -2,20 +2,24 @@
 use Rattle.std.proofs.Common.{◌≡◌, ◌+◌, ◌<◌, ℕ, Bool, true, false, cond, ◌&&◌, ◌||◌, nat_eq, eqb, List, [], ◌∷◌, get_or, take, length, Option, Some, None, Result, Ok, Err, refl, sym, ap, ◌∙◌, subst, ◌⊎◌, inl, inr}
 use Rattle.std.proofs.lemmas.Bool.{cases_eq, eq-eqb, ne_eqb}
 use Rattle.std.proofs.lemmas.List.Folds.{list_any_more}
-use Rattle.std.proofs.lemmas.Map.Steps.{set_value_same}
 use Rattle.std.specs.BTreeMap.{BTreeMap, is_at}
 use Rattle.std.specs.Bool.{then_some}
 use Rattle.std.specs.List.{list_any}
-use Rattle.std.specs.Map.{lookup, set_value}
-use Rattle.std.specs.Option.{option_or, option_map, unwrap_or}
+use Rattle.std.specs.Map.{lookup}
+use Rattle.std.specs.Option.{option_or, unwrap_or}
 use Rattle.std.specs.Ordering.{nat_cmp}
 use Rattle.std.specs.Prelude.{OnOk, OnErr}
 use Rattle.wm_base.specs.Period.{covers}
 use Rattle.wm_period.specs.Pieces.{Held, held, held_at, put_in}
 use Rattle.wm_period.specs.declared.piece.Piece.{Piece}
-use Rattle.wm_rows.proofs.Lookups.{cases_row, is_same-itself, is_at-number, lookup-layers_of, groups_in-layers_of, groups_in-some, groups_in-same}
-use Rattle.wm_rows.specs.Rows.{Groups, Layers, is_same, group_in, group_of, pieces_in, groups_in, layers_of, stored}
+use Rattle.wm_rows.proofs.Lookups.{cases_row, is_same-itself}
+use Rattle.wm_rows.proofs.Maps.{is_at-number, entries_or_none, map_at-maps_of}
+use Rattle.wm_rows.proofs.Paths.{nearest-kept}
+use Rattle.wm_rows.specs.Maps.{maps_of}
+use Rattle.wm_rows.specs.Rows.{Groups, Layers, is_same, group_of, pieces_in, groups_in, stored, seen_in}
 use Rattle.wm_rows.specs.declared.row_key.RowKey.{RowKey}
+use Rattle.wm_tree.specs.Versions.{path_in}
+use Rattle.wm_tree.specs.declared.version.Version.{Version}
 
 -- ---- results
 
@@ -28,44 +32,6 @@ on_err (Ok x) f p = tt
 on_err (Err e) f p = f p
 
 -- ---- one layer written
-
-pub write_told : (old next : List (ℕ × BTreeMap RowKey (List Piece))) (version : ℕ) (row : RowKey) (groups : Groups) (layer : BTreeMap RowKey (List Piece)) (new : List Piece)
-    → groups_in (layers_of old) version ≡ groups
-    → ((v : ℕ) → lookup (is_at (nat_cmp v)) next ≡ cond (is_at (nat_cmp version) v) (Some layer) (lookup (is_at (nat_cmp v)) old))
-    → ((q : RowKey) → group_in layer.entries q ≡ cond (is_same row q) (Some new) (group_in groups q))
-    → (v : ℕ) (q : RowKey) → group_of (layers_of next) v q ≡ cond (eqb version v && is_same row q) (Some new) (group_of (layers_of old) v q)
-write_told old next version row groups layer new was put wrote v q = by_version (cases_eq version v)
-  where
-    by_version : (version ≡ v) ⊎ (version ≡ v → ⊥) → group_of (layers_of next) v q ≡ cond (eqb version v && is_same row q) (Some new) (group_of (layers_of old) v q)
-    by_version (inl here) =
-        let test : eqb version v ≡ true = eq-eqb version v here in
-        let there : groups_in (layers_of next) v ≡ layer.entries =
-        groups_in-some next v layer (put v ∙ ap (λ b. cond b (Some layer) (lookup (is_at (nat_cmp v)) old)) (is_at-number version v ∙ test)) in
-        ap (λ (g : Groups). group_in g q) there ∙ wrote q
-        ∙ ap (λ (g : Groups). cond (is_same row q) (Some new) (group_in g q)) (sym was ∙ ap (groups_in (layers_of old)) here)
-        ∙ ap (λ b. cond (b && is_same row q) (Some new) (group_of (layers_of old) v q)) (sym test)
-    by_version (inr away) =
-        let test : eqb version v ≡ false = ne_eqb version v away in
-        ap (λ (g : Groups). group_in g q)
-        (groups_in-same next old v (put v ∙ ap (λ b. cond b (Some layer) (lookup (is_at (nat_cmp v)) old)) (is_at-number version v ∙ test)))
-        ∙ ap (λ b. cond (b && is_same row q) (Some new) (group_of (layers_of old) v q)) (sym test)
-
-set_cond : (b : Bool) (k : ℕ) (layer w : BTreeMap RowKey (List Piece)) (es fs : List (ℕ × BTreeMap RowKey (List Piece))) (gs : Layers) → layers_of fs ≡ gs
-    → layers_of (cond b ((k, w) ∷ es) ((k, layer) ∷ fs)) ≡ cond b ((k, w.entries) ∷ layers_of es) ((k, layer.entries) ∷ gs)
-set_cond true k layer w es fs gs e = refl
-set_cond false k layer w es fs gs e = ap (λ (l : Layers). (k, layer.entries) ∷ l) e
-
-layers_of-set_value : (test : ℕ → Bool) (es : List (ℕ × BTreeMap RowKey (List Piece))) (w : BTreeMap RowKey (List Piece)) → layers_of (set_value test es w) ≡ set_value test (layers_of es) w.entries
-layers_of-set_value test [] w = refl
-layers_of-set_value test (e ∷ es) w = set_cond (test e.0) e.0 e.1 w es (set_value test es w) (set_value test (layers_of es) w.entries) (layers_of-set_value test es w)
-
--- a layer written back with the groups that it had changes nothing
-pub write_kept : (old next : List (ℕ × BTreeMap RowKey (List Piece))) (version : ℕ) (layer w : BTreeMap RowKey (List Piece)) → lookup (is_at (nat_cmp version)) old ≡ Some layer
-    → next ≡ set_value (is_at (nat_cmp version)) old w → w.entries ≡ layer.entries → layers_of next ≡ layers_of old
-write_kept old next version layer w was put same =
-    ap layers_of put ∙ layers_of-set_value (is_at (nat_cmp version)) old w
-    ∙ set_value_same (is_at (nat_cmp version)) (layers_of old) w.entries
-    (lookup-layers_of (is_at (nat_cmp version)) old ∙ ap (option_map (λ (m : BTreeMap RowKey (List Piece)). m.entries)) was ∙ ap (λ (g : Groups). Some g) (sym same))
 
 -- what is stored at each moment, once a piece is put over the others that a version stores of a row
 pub stored-written : (old new : Layers) (version : ℕ) (row : RowKey) (piece : Piece)
@@ -90,9 +56,17 @@ stored-written old new version row piece groups cells v q t = by_place (cases_eq
     by_place (inl here) (inr apart) = elsewhere (rw (eq-eqb version v here) apart)
     by_place (inr away) same = elsewhere (ap (λ b. b && is_same row q) (ne_eqb version v away))
 
+-- a version that does not stand on the written one sees what it saw
+pub seen-written : (old new : Layers) (version : ℕ) (row : RowKey) (pieces : List Piece)
+    → ((v : ℕ) (q : RowKey) → group_of new v q ≡ cond (eqb version v && is_same row q) (Some pieces) (group_of old v q))
+    → (tree : List Version) (v : ℕ) (q : RowKey) (t : ℕ) → list_any (nat_eq version) (path_in tree v) ≡ false → seen_in tree new v q t ≡ seen_in tree old v q t
+seen-written old new version row pieces groups tree v q t off =
+    nearest-kept new old (path_in tree v) version q t off
+    (λ w away. ap (λ (o : Option (List Piece)). held_at (unwrap_or o []) t) (groups w q ∙ ap (λ b. cond (b && is_same row q) (Some pieces) (group_of old w q)) (ne_eqb version w away)))
+
 -- ---- layers dropped
 
-drop_cond : (b : Bool) (o : Option (BTreeMap RowKey (List Piece))) → unwrap_or (option_map (λ m. m.entries) (cond b None o)) [] ≡ cond b [] (unwrap_or (option_map (λ m. m.entries) o) [])
+drop_cond : (b : Bool) (o : Option (BTreeMap RowKey (List Piece))) → entries_or_none (cond b None o) ≡ cond b [] (entries_or_none o)
 drop_cond true o = refl
 drop_cond false o = refl
 
@@ -109,18 +83,18 @@ eqb-symm m n = by_number (cases_eq m n)
     by_number (inr other) = ne_eqb m n other ∙ sym (ne_eqb n m (λ e. other (sym e)))
 
 pub drop_more : (old now next : List (ℕ × BTreeMap RowKey (List Piece))) (versions : List ℕ) (i v : ℕ) → i < length versions
-    → groups_in (layers_of now) v ≡ cond (list_any (nat_eq v) (take i versions)) [] (groups_in (layers_of old) v)
+    → groups_in (maps_of now) v ≡ cond (list_any (nat_eq v) (take i versions)) [] (groups_in (maps_of old) v)
     → lookup (is_at (nat_cmp v)) next ≡ cond (is_at (nat_cmp (get_or versions i 0)) v) None (lookup (is_at (nat_cmp v)) now)
-    → groups_in (layers_of next) v ≡ cond (list_any (nat_eq v) (take (i + 1) versions)) [] (groups_in (layers_of old) v)
+    → groups_in (maps_of next) v ≡ cond (list_any (nat_eq v) (take (i + 1) versions)) [] (groups_in (maps_of old) v)
 drop_more old now next versions i v within so_far put =
     let test : is_at (nat_cmp (get_or versions i 0)) v ≡ eqb v (get_or versions i 0) = is_at-number (get_or versions i 0) v ∙ eqb-symm (get_or versions i 0) v in
-    groups_in-layers_of next v
-    ∙ ap (λ (o : Option (BTreeMap RowKey (List Piece))). unwrap_or (option_map (λ m. m.entries) o) []) put
+    map_at-maps_of next v
+    ∙ ap entries_or_none put
     ∙ drop_cond (is_at (nat_cmp (get_or versions i 0)) v) (lookup (is_at (nat_cmp v)) now)
-    ∙ ap (cond (is_at (nat_cmp (get_or versions i 0)) v) []) (sym (groups_in-layers_of now v) ∙ so_far)
-    ∙ cond_twice (list_any (nat_eq v) (take i versions)) (is_at (nat_cmp (get_or versions i 0)) v) (groups_in (layers_of old) v)
-    ∙ ap (λ b. cond (list_any (nat_eq v) (take i versions) || b) [] (groups_in (layers_of old) v)) test
-    ∙ ap (λ b. cond b [] (groups_in (layers_of old) v)) (sym (list_any_more (nat_eq v) versions i 0 within))
+    ∙ ap (cond (is_at (nat_cmp (get_or versions i 0)) v) []) (sym (map_at-maps_of now v) ∙ so_far)
+    ∙ cond_twice (list_any (nat_eq v) (take i versions)) (is_at (nat_cmp (get_or versions i 0)) v) (groups_in (maps_of old) v)
+    ∙ ap (λ b. cond (list_any (nat_eq v) (take i versions) || b) [] (groups_in (maps_of old) v)) test
+    ∙ ap (λ b. cond b [] (groups_in (maps_of old) v)) (sym (list_any_more (nat_eq v) versions i 0 within))
 
 -- what is stored, where the groups of some versions are dropped
 pub stored-dropped : (old new : Layers) (dropped : Bool) (v : ℕ) (row : RowKey) (t : ℕ) → groups_in new v ≡ cond dropped [] (groups_in old v) → stored new v row t ≡ cond dropped None (stored old v row t)

@@ -1,3 +1,5 @@
+pub mod Maps
 pub mod Rows
 pub mod RowOrder
 pub mod Own
+pub mod Counts

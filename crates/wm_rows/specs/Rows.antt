@@ -1,13 +1,15 @@
 -- What versions store and see.
-use Rattle.std.specs.Prelude.{ℕ, ◌==◌, Bool, if◌then◌else◌, List, [], ◌∷◌, map, Option, None, unwrap_or}
-use Rattle.std.specs.BTreeMap.{BTreeMap, is_at}
+use Rattle.std.specs.Prelude.{ℕ, ◌≢◌, ◌==◌, Bool, if◌then◌else◌, List, [], ◌∷◌, Option, None, unwrap_or}
+use Rattle.std.specs.BTreeMap.{is_at}
 use Rattle.std.specs.Map.{lookup}
 use Rattle.std.specs.Option.{option_or}
 use Rattle.std.specs.Ordering.{nat_cmp, ordering_then, is_eq}
 use Rattle.std.specs.declared.cmp.Ordering.{Ordering}
 use Rattle.wm_base.specs.Key.{key_order}
+use Rattle.wm_base.specs.declared.value.Value.{Value}
 use Rattle.wm_period.specs.Pieces.{Held, held_at}
 use Rattle.wm_period.specs.declared.piece.Piece.{Piece}
+use Rattle.wm_rows.specs.Maps.{map_at}
 use Rattle.wm_rows.specs.declared.row_key.RowKey.{RowKey}
 use Rattle.wm_tree.specs.Versions.{path_in}
 use Rattle.wm_tree.specs.declared.version.Version.{Version}
@@ -38,7 +40,7 @@ pieces_in groups row = unwrap_or (group_in groups row) []
 
 -- what a version stores
 abbrev pub groups_in : Layers → ℕ → Groups
-groups_in layers version = unwrap_or (lookup (is_at (nat_cmp version)) layers) []
+groups_in layers version = map_at layers version
 
 -- the pieces of a row that a version stores, where it stores some
 abbrev pub group_of : Layers → ℕ → RowKey → Option (List Piece)
@@ -66,6 +68,6 @@ above base (version ∷ versions) = (if version == base then [] else version ∷
 abbrev pub own_in : List Version → Layers → ℕ → ℕ → RowKey → ℕ → Option Held
 own_in tree layers version base row t = nearest layers (above base (path_in tree version)) row t
 
--- what a map of the layers tells
-abbrev pub layers_of : List (ℕ × BTreeMap RowKey (List Piece)) → Layers
-layers_of layers = map (λ layer. (layer.0, layer.1.entries)) layers
+-- some version stores pieces of a key
+abbrev pub IsStored : Layers → ℕ → List Value → Type 0
+IsStored layers table key = (version : ℕ) × (pieces_in (groups_in layers version) (record { table = table; key = key }) ≢ [])

@@ -6,7 +6,8 @@ ghost use Rattle.std.specs.List.{list_any};
 ghost use Rattle.std.specs.Option.{option_copied, option_or};
 ghost use Rattle.wm_base.specs.Period.{covers};
 ghost use Rattle.wm_period.specs.Pieces.{held, held_at, put_in};
-ghost use Rattle.wm_rows.specs.Rows.{group_of, groups_in, pieces_in, layers_of, is_same, stored, seen_in, own_in};
+ghost use Rattle.wm_rows.specs.Rows.{group_of, groups_in, pieces_in, is_same, stored, seen_in, own_in};
+ghost use Rattle.wm_rows.specs.Maps.{maps_of};
 ghost use Rattle.wm_rows.specs.declared.row_key.RowKey.{RowKey as Row};
 
 use crate::layer::{Layer, lay_under, put_piece};
@@ -21,7 +22,7 @@ pub type Layers = BTreeMap<u64, Layer>;
 
 /// The pieces that a version stores of a row.
 pub fn group<'a>(layers: &'a Layers, version: u64, row: &RowKey) -> Option<&'a Pieces>
-    ensures { option_copied result ≡ group_of (layers_of layers.now.entries) version row.now }
+    ensures { option_copied result ≡ group_of (maps_of layers.now.entries) version row.now }
 {
     layers.get(&version)?.get(row)
 }
@@ -34,9 +35,9 @@ pub fn write_piece(
     row: RowKey,
     piece: Piece,
 ) -> Result<(), Memory>
-    ensures groups { OnOk result ((v : ℕ) (q : Row) → group_of (layers_of layers.new.entries) v q ≡ (if (version == v) && is_same row q then Some (put_in piece (pieces_in (groups_in (layers_of layers.old.entries) version) row)) else group_of (layers_of layers.old.entries) v q)) }
-    ensures cells { OnOk result ((t : ℕ) → held_at (put_in piece (pieces_in (groups_in (layers_of layers.old.entries) version) row)) t ≡ option_or (then_some (covers piece.period t) (held piece)) (held_at (pieces_in (groups_in (layers_of layers.old.entries) version) row) t)) }
-    ensures err { OnErr result (layers_of layers.new.entries ≡ layers_of layers.old.entries) }
+    ensures groups { OnOk result ((v : ℕ) (q : Row) → group_of (maps_of layers.new.entries) v q ≡ (if (version == v) && is_same row q then Some (put_in piece (pieces_in (groups_in (maps_of layers.old.entries) version) row)) else group_of (maps_of layers.old.entries) v q)) }
+    ensures cells { OnOk result ((t : ℕ) → held_at (put_in piece (pieces_in (groups_in (maps_of layers.old.entries) version) row)) t ≡ option_or (then_some (covers piece.period t) (held piece)) (held_at (pieces_in (groups_in (maps_of layers.old.entries) version) row) t)) }
+    ensures err { OnErr result (maps_of layers.new.entries ≡ maps_of layers.old.entries) }
 {
     if let Some(layer) = layers.get_mut(&version) {
         return put_piece(alloc, layer, row, piece);
@@ -55,7 +56,7 @@ pub fn seen_pieces(
     version: u64,
     row: &RowKey,
 ) -> Result<Pieces, Memory>
-    ensures { IfOk result (λ seen. (t : ℕ) → held_at seen t ≡ seen_in tree.now.versions (layers_of layers.now.entries) version row.now t) }
+    ensures { IfOk result (λ seen. (t : ℕ) → held_at seen t ≡ seen_in tree.now.versions (maps_of layers.now.entries) version row.now t) }
 {
     let mut seen = Pieces::new(alloc);
     for version in tree.path(version) {
@@ -73,7 +74,7 @@ fn lay_version_under(
     layers: &Layers,
     version: u64,
 ) -> Result<(), Memory>
-    ensures { OnOk result ((row : Row) (t : ℕ) → held_at (pieces_in upper.new.entries row) t ≡ option_or (held_at (pieces_in upper.old.entries row) t) (stored (layers_of layers.now.entries) version row t)) }
+    ensures { OnOk result ((row : Row) (t : ℕ) → held_at (pieces_in upper.new.entries row) t ≡ option_or (held_at (pieces_in upper.old.entries row) t) (stored (maps_of layers.now.entries) version row t)) }
 {
     match layers.get(&version) {
         Some(layer) => lay_under(alloc, upper, layer),
@@ -89,7 +90,7 @@ pub fn own_layer(
     version: u64,
     base: u64,
 ) -> Result<Layer, Memory>
-    ensures { IfOk result (λ own. (row : Row) (t : ℕ) → held_at (pieces_in own.entries row) t ≡ own_in tree.now.versions (layers_of layers.now.entries) version base row t) }
+    ensures { IfOk result (λ own. (row : Row) (t : ℕ) → held_at (pieces_in own.entries row) t ≡ own_in tree.now.versions (maps_of layers.now.entries) version base row t) }
 {
     let mut own = BTreeMap::new(alloc);
     for version in tree.path(version) {
@@ -103,7 +104,7 @@ pub fn own_layer(
 
 /// Drops what some versions store.
 pub fn drop_layers(layers: &mut Layers, versions: &[u64])
-    ensures { (v : ℕ) → groups_in (layers_of layers.new.entries) v ≡ (if list_any (nat_eq v) versions.now then [] else groups_in (layers_of layers.old.entries) v) }
+    ensures { (v : ℕ) → groups_in (maps_of layers.new.entries) v ≡ (if list_any (nat_eq v) versions.now then [] else groups_in (maps_of layers.old.entries) v) }
 {
     for version in versions {
         let _ = layers.remove(version);

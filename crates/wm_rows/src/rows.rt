@@ -27,11 +27,12 @@ pub struct Rows {
 }
 
 impl Model for Rows {
-    ghost use Rattle.wm_rows.specs.Rows.{Layers as Stored, layers_of};
+    ghost use Rattle.wm_rows.specs.Maps.{maps_of};
+    ghost use Rattle.wm_rows.specs.Rows.{Layers as Stored};
 
     ghost Value = { Stored };
 
-    ghost view = { λ r. layers_of r.layers.entries };
+    ghost view = { λ r. maps_of r.layers.entries };
 }
 
 impl Rows {

@@ -3,7 +3,7 @@ use Rattle.std.specs.Option.{option_copied, option_or}
 use Rattle.std.specs.Prelude.{OnOk}
 use Rattle.wm_period.specs.Pieces.{held_at}
 use Rattle.wm_rows.proofs.Laying.{option_or-none}
-use Rattle.wm_rows.proofs.Lookups.{groups_in-some, groups_in-none}
+use Rattle.wm_rows.proofs.Maps.{map_at-some, map_at-none}
 use Rattle.wm_rows.specs.Rows.{Groups, pieces_in}
 use Rattle.wm_rows.specs.declared.row_key.RowKey.{RowKey}
 use Rattle.wm_rows.proofs.layers.lay_version_under.Goals as goal
@@ -11,10 +11,10 @@ use Rattle.wm_rows.proofs.layers.lay_version_under.Goals as goal
 pub returns-in-Some : goal.returns-in-Some
 returns-in-Some c =
     let P : Groups → Type 0 = λ g. OnOk c.lay_under.result ((row : RowKey) (t : ℕ) → held_at (pieces_in c.lay_under.new.upper.entries row) t ≡ option_or (held_at (pieces_in c.args.upper.now.entries row) t) (held_at (pieces_in g row) t)) in
-    subst P (sym (groups_in-some c.args.layers.now.entries c.args.version c.in-Some.layer.now (sym c.get.ensures.value ∙ ap option_copied c.in-Some.is))) c.lay_under.ensures
+    subst P (sym (map_at-some c.args.layers.now.entries c.args.version c.in-Some.layer.now (sym c.get.ensures.value ∙ ap option_copied c.in-Some.is))) c.lay_under.ensures
 
 pub returns-in-None : goal.returns-in-None
 returns-in-None c = λ row t.
     sym (option_or-none (held_at (pieces_in c.args.upper.now.entries row) t))
     ∙ ap (λ (g : Groups). option_or (held_at (pieces_in c.args.upper.now.entries row) t) (held_at (pieces_in g row) t))
-    (sym (groups_in-none c.args.layers.now.entries c.args.version (sym c.get.ensures.value ∙ ap option_copied c.in-None.is)))
+    (sym (map_at-none c.args.layers.now.entries c.args.version (sym c.get.ensures.value ∙ ap option_copied c.in-None.is)))

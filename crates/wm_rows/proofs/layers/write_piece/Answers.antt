@@ -8,9 +8,10 @@ use Rattle.std.specs.Prelude.{OnOk}
 use Rattle.wm_base.specs.Period.{covers}
 use Rattle.wm_period.specs.Pieces.{held, held_at, put_in}
 use Rattle.wm_period.specs.declared.piece.Piece.{Piece}
-use Rattle.wm_rows.proofs.Lookups.{groups_in-some, groups_in-none}
-use Rattle.wm_rows.proofs.Writing.{on_ok, on_err, write_told, write_kept}
-use Rattle.wm_rows.specs.Rows.{Groups, groups_in, group_in, group_of, pieces_in, layers_of, is_same}
+use Rattle.wm_rows.proofs.Maps.{map_at-some, map_at-none, write_told, write_kept}
+use Rattle.wm_rows.proofs.Writing.{on_ok, on_err}
+use Rattle.wm_rows.specs.Maps.{maps_of}
+use Rattle.wm_rows.specs.Rows.{Groups, groups_in, group_in, group_of, pieces_in, is_same, row_order}
 use Rattle.wm_rows.specs.declared.row_key.RowKey.{RowKey}
 use Rattle.wm_rows.proofs.layers.write_piece.Goals as goal
 
@@ -18,17 +19,17 @@ use Rattle.wm_rows.proofs.layers.write_piece.Goals as goal
 there : (c : goal.After-layers-in-Some-1) → lookup (is_at (nat_cmp c.args.version)) c.args.layers.now.entries ≡ Some c.in-Some.layer.now
 there c = sym c.get_mut.ensures.value ∙ ap option_copied_mut c.in-Some.is
 
-was : (c : goal.After-layers-in-Some-1) → groups_in (layers_of c.args.layers.now.entries) c.args.version ≡ c.in-Some.layer.now.entries
-was c = groups_in-some c.args.layers.now.entries c.args.version c.in-Some.layer.now (there c)
+was : (c : goal.After-layers-in-Some-1) → groups_in (maps_of c.args.layers.now.entries) c.args.version ≡ c.in-Some.layer.now.entries
+was c = map_at-some c.args.layers.now.entries c.args.version c.in-Some.layer.now (there c)
 
 pub returns-in-Some-clause-groups : goal.returns-in-Some-clause-groups
 returns-in-Some-clause-groups c =
     on_ok c.put_piece.result
     (λ (wrote : (q : RowKey) → group_in c.put_piece.new.layer.entries q ≡ cond (is_same c.args.row q) (Some (put_in c.args.piece (pieces_in c.in-Some.layer.now.entries c.args.row))) (group_in c.in-Some.layer.now.entries q)).
     λ v q.
-    write_told c.args.layers.now.entries (c.get_mut.follows.lender c.put_piece.new.layer).entries c.args.version c.args.row c.in-Some.layer.now.entries c.put_piece.new.layer
-    (put_in c.args.piece (pieces_in c.in-Some.layer.now.entries c.args.row)) (was c) ((c.get_mut.follows.holds c.put_piece.new.layer).3 (rw (there c) refl)).0 wrote v q
-    ∙ ap (λ (g : Groups). cond (eqb c.args.version v && is_same c.args.row q) (Some (put_in c.args.piece (pieces_in g c.args.row))) (group_of (layers_of c.args.layers.now.entries) v q)) (sym (was c)))
+    write_told row_order c.args.layers.now.entries (c.get_mut.follows.lender c.put_piece.new.layer).entries c.args.version c.args.row c.in-Some.layer.now.entries c.put_piece.new.layer
+    (Some (put_in c.args.piece (pieces_in c.in-Some.layer.now.entries c.args.row))) (was c) ((c.get_mut.follows.holds c.put_piece.new.layer).3 (rw (there c) refl)).0 wrote v q
+    ∙ ap (λ (g : Groups). cond (eqb c.args.version v && is_same c.args.row q) (Some (put_in c.args.piece (pieces_in g c.args.row))) (group_of (maps_of c.args.layers.now.entries) v q)) (sym (was c)))
     c.put_piece.ensures.groups
 
 pub returns-in-Some-clause-cells : goal.returns-in-Some-clause-cells
@@ -45,18 +46,18 @@ returns-in-Some-clause-err c =
 
 pub returns-clause-groups : goal.returns-clause-groups
 returns-clause-groups c = λ v q.
-    let none : groups_in (layers_of c.args.layers.now.entries) c.args.version ≡ c.new-layer.result.entries =
-    groups_in-none c.args.layers.now.entries c.args.version (sym c.get_mut.ensures.value ∙ ap option_copied_mut c.in_default.is) ∙ sym c.new-layer.ensures.empty in
+    let none : groups_in (maps_of c.args.layers.now.entries) c.args.version ≡ c.new-layer.result.entries =
+    map_at-none c.args.layers.now.entries c.args.version (sym c.get_mut.ensures.value ∙ ap option_copied_mut c.in_default.is) ∙ sym c.new-layer.ensures.empty in
     let put : (n : ℕ) → lookup (is_at (nat_cmp n)) c.insert.new.self.entries ≡ cond (is_at (nat_cmp c.args.version) n) (Some c.put_piece-2.new.layer) (lookup (is_at (nat_cmp n)) c.args.layers.now.entries) =
     λ n. c.in_ok-insert.ensures.updates.0 n
     ∙ ap (λ (m : BTreeMap ℕ (BTreeMap RowKey (List Piece))). cond (is_at (nat_cmp c.args.version) n) (Some c.put_piece-2.new.layer) (lookup (is_at (nat_cmp n)) m.entries)) c.get_mut.follows.holds-at-none in
-    write_told c.args.layers.now.entries c.insert.new.self.entries c.args.version c.args.row c.new-layer.result.entries c.put_piece-2.new.layer
-    (put_in c.args.piece (pieces_in c.new-layer.result.entries c.args.row)) none put c.in_ok-put_piece.ensures.groups v q
-    ∙ ap (λ (g : Groups). cond (eqb c.args.version v && is_same c.args.row q) (Some (put_in c.args.piece (pieces_in g c.args.row))) (group_of (layers_of c.args.layers.now.entries) v q)) (sym none)
+    write_told row_order c.args.layers.now.entries c.insert.new.self.entries c.args.version c.args.row c.new-layer.result.entries c.put_piece-2.new.layer
+    (Some (put_in c.args.piece (pieces_in c.new-layer.result.entries c.args.row))) none put c.in_ok-put_piece.ensures.groups v q
+    ∙ ap (λ (g : Groups). cond (eqb c.args.version v && is_same c.args.row q) (Some (put_in c.args.piece (pieces_in g c.args.row))) (group_of (maps_of c.args.layers.now.entries) v q)) (sym none)
 
 pub returns-clause-cells : goal.returns-clause-cells
 returns-clause-cells c =
-    let none : groups_in (layers_of c.args.layers.now.entries) c.args.version ≡ c.new-layer.result.entries =
-    groups_in-none c.args.layers.now.entries c.args.version (sym c.get_mut.ensures.value ∙ ap option_copied_mut c.in_default.is) ∙ sym c.new-layer.ensures.empty in
+    let none : groups_in (maps_of c.args.layers.now.entries) c.args.version ≡ c.new-layer.result.entries =
+    map_at-none c.args.layers.now.entries c.args.version (sym c.get_mut.ensures.value ∙ ap option_copied_mut c.in_default.is) ∙ sym c.new-layer.ensures.empty in
     let P : Groups → Type 0 = λ g. (t : ℕ) → held_at (put_in c.args.piece (pieces_in g c.args.row)) t ≡ option_or (then_some (covers c.args.piece.period t) (held c.args.piece)) (held_at (pieces_in g c.args.row) t) in
     subst P (sym none) c.in_ok-put_piece.ensures.cells
