@@ -1,1 +1,5 @@
 mod Samples
+pub mod Finding
+pub mod Collecting
+pub mod Fitting
+pub mod Neighbours

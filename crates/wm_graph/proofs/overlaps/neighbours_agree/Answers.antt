@@ -1,0 +1,6 @@
+use Rattle.std.proofs.Common.{arith}
+use Rattle.wm_graph.proofs.Neighbours.{all_agree}
+use Rattle.wm_graph.proofs.overlaps.neighbours_agree.Goals as goal
+
+pub returns : goal.returns
+returns c = all_agree c.args.pieces.now c.loop-place.place (omega arith) c.loop-place.invariant
