@@ -1,6 +1,7 @@
 //! Rows dealt out into buckets, so that those of one value lie together.
-ghost use Rattle.std.specs.Prelude.{◌≡◌, ◌<◌, ◌^◌, [], option_copied, unwrap_or, replicate, length, IfOk};
-ghost use Rattle.wm_select.specs.Joining.{mix_bytes, mix_of, bucket_of, cell, AreDealt};
+ghost use Rattle.std.specs.Prelude.{◌≡◌, ℕ, ◌<◌, List, [], option_copied, unwrap_or, length, slice_index_or, IfOk};
+ghost use Rattle.wm_base.specs.declared.row.Row.{Row as RowOf};
+ghost use Rattle.wm_select.specs.Joining.{mix_bytes, mix_of, bucket_of, AreDealt};
 
 use crate::agree::cell;
 use std::alloc::Global;
@@ -44,10 +45,11 @@ pub fn bucket_of(count: usize, value: Option<&Value>) -> usize
 }
 
 fn empty_buckets(alloc: Global, count: usize) -> Result<Vec<RowList>, Memory>
-    ensures { IfOk result (λ buckets. buckets.items ≡ replicate count []) }
+    ensures count { IfOk result (λ buckets. length buckets.items ≡ count) }
+    ensures empty { IfOk result (λ buckets. (bucket : ℕ) (d : List RowOf) → bucket < count → slice_index_or buckets.items bucket d ≡ []) }
 {
     let mut buckets = Vec::with_capacity(alloc, count)?;
-    for _ in 0..count {
+    'filling: while buckets.len() < count {
         buckets.push(RowList::new(alloc))?;
     }
     Ok(buckets)

@@ -2,5 +2,9 @@
 #![tactic(auto)]
 
 mod agree;
+mod beside;
 mod buckets;
+mod condition;
+mod found;
 mod pair;
+mod source;
