@@ -25,7 +25,7 @@ joined p q = record {
 parts_last : (xs : List Record) (x : Record) → parts_in (xs ++ x ∷ []) ≡ added (parts_in xs) x
 parts_last xs x =
     simp (filter_map-append as_counters xs (x ∷ []), filter_map-append as_table xs (x ∷ []), filter_map-append as_space xs (x ∷ []), filter_map-append as_version xs (x ∷ []), filter_map-append as_row xs (x ∷ []), filter_map-append as_piece xs (x ∷ []))
-        (of x)
+    (of x)
   where
     of : (y : Record) → joined (parts_in xs) (parts_in (y ∷ [])) ≡ added (parts_in xs) y
     of (records.Counters r) = simp append-nil

@@ -1,7 +1,6 @@
 -- Items that are found by their numbers, and whether these differ.
 use Rattle.std.proofs.Common.{◌≡◌, ℕ, ◌+◌, ◌<◌, ◌≤◌, ◌==◌, Bool, true, false, not, ◌&&◌, ◌||◌, if◌then◌else◌, List, [], ◌∷◌, ◌++◌, length, map, Option, Some, None, is_some, option_map, refl, sym, ap, ◌∙◌, arith, take, get_or}
 use Rattle.std.proofs.lemmas.Bool.Decides.{nat_tests, Decides-eqb}
-use Rattle.std.proofs.lemmas.List.{take_more, map-append}
 use Rattle.std.proofs.lemmas.List.Folds.{find-append, list_any-append}
 use Rattle.std.specs.BTreeMap.{is_at}
 use Rattle.std.specs.BTreeSet.{BTreeSet, contains}
@@ -9,15 +8,12 @@ use Rattle.std.specs.List.{find, list_any}
 use Rattle.std.specs.Map.{lookup}
 use Rattle.std.specs.Option.{option_or}
 use Rattle.std.specs.Ordering.{nat_cmp}
+use Rattle.wm_graph.proofs.Referring.{referred_more}
 use Rattle.wm_graph.specs.Lookups.{referred, found}
 use Rattle.wm_graph.specs.Parts.{has_version}
 use Rattle.wm_graph.specs.Rules.{differ}
 use Rattle.wm_spec.specs.declared.record.version.Version.{Version}
 use denote.Ref.{Bor}
-
--- one more reference
-pub referred_more : {A : Type 0} (xs : List (Bor A)) (i : ℕ) (d : Bor A) → i < length xs → referred (take (i + 1) xs) ≡ referred (take i xs) ++ (get_or xs i d).now ∷ []
-referred_more {A} xs i d h = rw (take_more xs i d h) (map-append (λ (r : Bor A). r.now) (take i xs) (get_or xs i d ∷ []))
 
 -- a number is found where it is equal
 pub at_nat : (a b : ℕ) → is_at (nat_cmp a) b ≡ (a == b)
@@ -71,9 +67,9 @@ same_number number items entries differs k x f is =
 pub finds_again : {A : Type 0} (number : A → ℕ) (items : List A) (entries : List (ℕ × Bor A)) (differs : Bool) (k : ℕ) (x : A) → Finds number items entries differs → k ≡ number x → has entries k ≡ true → Finds number (items ++ x ∷ []) entries false
 finds_again {A} number items entries differs k x f is there = record {
   finds = λ n.
-    f.finds n
-    ∙ kept (number x == n) (find (λ y. number y == n) items) (λ e. ap is_some (sym (f.finds n)) ∙ found_has entries n ∙ ap (λ m. has entries m) (sym (is ∙ (Decides-eqb (number x) n).0 e)) ∙ there)
-    ∙ sym (find-append (λ y. number y == n) items (x ∷ []));
+      f.finds n
+      ∙ kept (number x == n) (find (λ y. number y == n) items) (λ e. ap is_some (sym (f.finds n)) ∙ found_has entries n ∙ ap (λ m. has entries m) (sym (is ∙ (Decides-eqb (number x) n).0 e)) ∙ there)
+      ∙ sym (find-append (λ y. number y == n) items (x ∷ []));
   differ = sym (differ_more (λ y z. number y == number z) items x ∙ ap (λ b. differ (λ y z. number y == number z) items && not b) (same_number number items entries differs k x f is ∙ there) ∙ false_last (differ (λ y z. number y == number z) items));
 }
   where
@@ -91,10 +87,10 @@ finds_again {A} number items entries differs k x f is there = record {
 pub finds_more : {A : Type 0} (number : A → ℕ) (items : List A) (entries new : List (ℕ × Bor A)) (differs : Bool) (k : ℕ) (x : Bor A) → Finds number items entries differs → k ≡ number x.now → has entries k ≡ false → ((n : ℕ) → lookup (is_at (nat_cmp n)) new ≡ (if is_at (nat_cmp k) n then Some x else lookup (is_at (nat_cmp n)) entries)) → Finds number (items ++ x.now ∷ []) new differs
 finds_more {A} number items entries new differs k x f is fresh update = record {
   finds = λ n.
-    ap (option_map (λ (r : Bor A). r.now)) (update n ∙ ap (λ b. if b then Some x else lookup (is_at (nat_cmp n)) entries) (at_nat k n ∙ ap (λ m. m == n) is))
-    ∙ added (number x.now == n) (lookup (is_at (nat_cmp n)) entries) (λ e. ap (λ m. has entries m) (sym (is ∙ (Decides-eqb (number x.now) n).0 e)) ∙ fresh)
-    ∙ ap (λ o. option_or o (if number x.now == n then Some x.now else None)) (f.finds n)
-    ∙ sym (find-append (λ y. number y == n) items (x.now ∷ []));
+      ap (option_map (λ (r : Bor A). r.now)) (update n ∙ ap (λ b. if b then Some x else lookup (is_at (nat_cmp n)) entries) (at_nat k n ∙ ap (λ m. m == n) is))
+      ∙ added (number x.now == n) (lookup (is_at (nat_cmp n)) entries) (λ e. ap (λ m. has entries m) (sym (is ∙ (Decides-eqb (number x.now) n).0 e)) ∙ fresh)
+      ∙ ap (λ o. option_or o (if number x.now == n then Some x.now else None)) (f.finds n)
+      ∙ sym (find-append (λ y. number y == n) items (x.now ∷ []));
   differ = sym (differ_more (λ y z. number y == number z) items x.now ∙ ap (λ b. differ (λ y z. number y == number z) items && not b) (same_number number items entries differs k x.now f is ∙ fresh) ∙ true_last (differ (λ y z. number y == number z) items) ∙ sym f.differ);
 }
   where
@@ -123,7 +119,7 @@ turn_more number xs i entries new differs k x within at f is fresh update =
 pub spaces_more : (xs : List (Bor Version)) (i : ℕ) (d : Bor Version) (old new : BTreeSet ℕ) → i < length xs → ((n : ℕ) → contains nat_cmp old n ≡ has_version (referred (take i xs)) n) → ((n : ℕ) → contains nat_cmp new n ≡ (if is_at (nat_cmp (get_or xs i d).now.space) n then true else contains nat_cmp old n)) → (n : ℕ) → contains nat_cmp new n ≡ has_version (referred (take (i + 1) xs)) n
 spaces_more xs i d old new within before update n =
     rw (referred_more xs i d within, list_any-append (λ (v : Version). v.space == n) (referred (take i xs)) ((get_or xs i d).now ∷ []), update n, at_nat (get_or xs i d).now.space n)
-        (rw (before n) (one_more ((get_or xs i d).now.space == n) (has_version (referred (take i xs)) n)))
+    (rw (before n) (one_more ((get_or xs i d).now.space == n) (has_version (referred (take i xs)) n)))
   where
     one_more : (b c : Bool) → (if b then true else c) ≡ (c || (b || false))
     one_more true true = refl

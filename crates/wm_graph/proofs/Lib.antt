@@ -1,4 +1,5 @@
 mod Samples
+pub mod Referring
 pub mod Finding
 pub mod Collecting
 pub mod Fitting

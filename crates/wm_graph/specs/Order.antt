@@ -10,7 +10,7 @@ use Rattle.wm_spec.specs.declared.record.piece.PieceRecord.{PieceRecord}
 abbrev pub group_order : PieceRecord → PieceRecord → Ordering
 group_order =
     then_cmp (on (λ (p : PieceRecord). p.version) nat_cmp)
-        (then_cmp (on (λ (p : PieceRecord). p.cells.table) nat_cmp) (on (λ (p : PieceRecord). p.cells.key) key_order))
+    (then_cmp (on (λ (p : PieceRecord). p.cells.table) nat_cmp) (on (λ (p : PieceRecord). p.cells.key) key_order))
 
 -- by version, table and key, and then by the beginning
 abbrev pub piece_order : PieceRecord → PieceRecord → Ordering

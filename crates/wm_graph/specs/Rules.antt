@@ -103,13 +103,13 @@ abbrev pub has_versions : (ℕ → Bool) → (ℕ → Option Version) → Space 
 has_versions has versions s =
     has s.number
     && (if s.number == 0 then (s.birth_version == 1) && (s.base_version == 0)
-        else is_version_of versions s.birth_version s.parent && is_version_of versions s.base_version s.parent)
+    else is_version_of versions s.birth_version s.parent && is_version_of versions s.base_version s.parent)
 
 abbrev pub are_versions : Parts → ℕ → Bool
 are_versions p next =
     differ (λ (v w : Version). v.number == w.number) p.versions
     && (list_all (is_version (space_of p.spaces) (version_of p.versions) next) p.versions
-        && list_all (has_versions (has_version p.versions) (version_of p.versions)) p.spaces)
+    && list_all (has_versions (has_version p.versions) (version_of p.versions)) p.spaces)
 
 -- ---- rows
 
@@ -186,7 +186,7 @@ abbrev pub is_piece : (ℕ → Option Table) → (ℕ → Option Version) → (�
 is_piece tables versions rows next x =
     is_some (versions x.version)
     && (are_cells tables x.cells
-        && (nat_lt x.stamp next && (x.gone || option_map_or (is_row_at tables x.cells) (rows x.stamp) false)))
+    && (nat_lt x.stamp next && (x.gone || option_map_or (is_row_at tables x.cells) (rows x.stamp) false)))
 
 -- two pieces of one version, table and key whose periods overlap
 abbrev pub collide : PieceRecord → PieceRecord → Bool

@@ -61,17 +61,15 @@ fn versions_keep(indexes: &Indexes, kinds: &Kinds, next: u64) -> bool
     requires { IndexesOf (collected kinds.now) indexes.now }
     ensures { result ≡ are_versions (collected kinds.now) next }
 {
-    let spaces = &indexes.spaces.index;
-    let versions = &indexes.versions.index;
+    let index = &indexes.versions.index;
     indexes.versions.differ
-        && kinds
-            .versions
-            .iter()
-            .all(|version| versions::is_version(spaces, versions, next, version))
-        && kinds
-            .spaces
-            .iter()
-            .all(|space| versions::has_versions(&indexes.having, versions, space))
+        && versions::each_is_version(
+            &indexes.spaces.index,
+            index,
+            next,
+            kinds.versions.as_slice(),
+        )
+        && versions::each_has_versions(&indexes.having, index, kinds.spaces.as_slice())
 }
 
 /// Whether the rows keep theirs, where the next stamp is this one.
@@ -79,8 +77,7 @@ fn rows_keep(indexes: &Indexes, kinds: &Kinds, next: u64) -> bool
     requires { IndexesOf (collected kinds.now) indexes.now }
     ensures { result ≡ are_rows (collected kinds.now) next }
 {
-    let tables = &indexes.tables.index;
-    indexes.rows.differ && kinds.rows.iter().all(|row| rows::is_row(tables, next, row))
+    indexes.rows.differ && rows::each_is_row(&indexes.tables.index, next, kinds.rows.as_slice())
 }
 
 /// Whether the pieces keep theirs, where the next stamp is this one.
@@ -90,14 +87,10 @@ fn pieces_keep(alloc: Global, indexes: &Indexes, kinds: &Kinds, next: u64) -> Re
 {
     let tables = &indexes.tables.index;
     let versions = &indexes.versions.index;
-    let rows = &indexes.rows.index;
-    if !kinds
-        .pieces
-        .iter()
-        .all(|piece| pieces::is_piece(tables, versions, rows, next, piece))
-    {
+    let list = kinds.pieces.as_slice();
+    if !pieces::each_is_piece(tables, versions, &indexes.rows.index, next, list) {
         return Ok(false);
     }
-    let apart = overlaps::are_apart(alloc, kinds.pieces.as_slice())?;
+    let apart = overlaps::are_apart(alloc, list)?;
     Ok(apart)
 }

@@ -52,7 +52,9 @@ pub fn is_short(name: &Name) -> bool
 fn is_named<T: Named>(name: &Name, items: &[T]) -> bool
     ensures { result ≡ list_any (λ x. bytes_eq name.now (T.name_of x)) items.now }
 {
-    items.iter().any(|item| item.name().as_bytes() == name.as_bytes())
+    items
+        .iter()
+        .any(|item| item.name().as_bytes() == name.as_bytes())
 }
 
 /// Whether no two items have one name. Each is compared with each, so there are to be few.

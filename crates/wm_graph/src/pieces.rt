@@ -1,6 +1,7 @@
 ghost use Rattle.std.specs.Prelude.{◌≡◌, false};
 ghost use Rattle.std.specs.Option.{option_map_or};
-ghost use Rattle.wm_graph.specs.Lookups.{found};
+ghost use Rattle.std.specs.List.{list_all};
+ghost use Rattle.wm_graph.specs.Lookups.{found, referred};
 ghost use Rattle.wm_graph.specs.Rules.{is_piece, is_row_at};
 
 use crate::cells;
@@ -18,7 +19,7 @@ fn has_row(tables: &Index<Table>, rows: &Index<RowRecord>, cells: &CellRange, st
 }
 
 /// Whether the piece has a version, cells, a stamp and a row as it is to have them.
-pub fn is_piece(
+fn is_piece(
     tables: &Index<Table>,
     versions: &Index<Version>,
     rows: &Index<RowRecord>,
@@ -31,4 +32,22 @@ pub fn is_piece(
         && cells::are_cells(tables, &piece.cells)
         && piece.stamp < next
         && (piece.gone || has_row(tables, rows, &piece.cells, piece.stamp))
+}
+
+/// Whether each piece has a version, cells, a stamp and a row as it is to have them.
+pub fn each_is_piece(
+    tables: &Index<Table>,
+    versions: &Index<Version>,
+    rows: &Index<RowRecord>,
+    next: u64,
+    pieces: &[&PieceRecord],
+) -> bool
+    ensures { result ≡ list_all (is_piece (found tables.now.entries) (found versions.now.entries) (found rows.now.entries) next) (referred pieces.now) }
+{
+    for piece in pieces {
+        if !is_piece(tables, versions, rows, next, piece) {
+            return false;
+        }
+    }
+    true
 }

@@ -1,11 +1,11 @@
 ghost use Rattle.std.specs.Prelude.{◌≡◌, ◌∷◌, []};
 ghost use Rattle.std.specs.Option.{option_copied, option_map};
-ghost use Rattle.wm_graph.specs.Lookups.{found};
+ghost use Rattle.std.specs.List.{list_all};
+ghost use Rattle.wm_graph.specs.Lookups.{found, referred};
 ghost use Rattle.wm_graph.specs.Rules.{key_of, is_light_key, is_row_of, is_row};
 
-use crate::columns;
 use crate::index::{self, Index};
-use crate::weights;
+use crate::{columns, weights};
 use wm_base::Value;
 use wm_spec::record::{RowRecord, Table};
 
@@ -46,7 +46,7 @@ fn is_row_of(table: &Table, values: &[Value]) -> bool
 }
 
 /// Whether the row has a stamp that was given and values for its table, which is there.
-pub fn is_row(tables: &Index<Table>, next: u64, row: &RowRecord) -> bool
+fn is_row(tables: &Index<Table>, next: u64, row: &RowRecord) -> bool
     ensures { result ≡ is_row (found tables.now.entries) next row.now }
 {
     if row.stamp >= next {
@@ -56,4 +56,16 @@ pub fn is_row(tables: &Index<Table>, next: u64, row: &RowRecord) -> bool
         Some(table) => is_row_of(table, row.values.as_slice()),
         None => false,
     }
+}
+
+/// Whether each row has a stamp that was given and values for its table, which is there.
+pub fn each_is_row(tables: &Index<Table>, next: u64, rows: &[&RowRecord]) -> bool
+    ensures { result ≡ list_all (is_row (found tables.now.entries) next) (referred rows.now) }
+{
+    for row in rows {
+        if !is_row(tables, next, row) {
+            return false;
+        }
+    }
+    true
 }

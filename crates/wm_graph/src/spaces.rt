@@ -35,12 +35,33 @@ fn is_space(spaces: &Index<Space>, space: &Space) -> bool
         && space.log_length <= MOST_WORK
 }
 
+/// Whether each workspace is in order among the others.
+fn each_is_space(index: &Index<Space>, spaces: &[&Space]) -> bool
+    ensures { result ≡ list_all (is_space (found index.now.entries)) (referred spaces.now) }
+{
+    for space in spaces {
+        if !is_space(index, space) {
+            return false;
+        }
+    }
+    true
+}
+
+/// Whether the names of the workspaces differ.
+#[tactic(auto, using(crate::proofs::Referring::differ_referred))]
+fn names_differ(spaces: &[&Space]) -> bool
+    ensures { result ≡ differ (λ s t. bytes_eq s.name t.name) (referred spaces.now) }
+{
+    names::names_differ(spaces)
+}
+
 /// Whether there are not too many workspaces, LIVE is there, their names differ and each is in order among the others.
+#[tactic(auto, using(crate::proofs::Referring::length_referred))]
 pub fn are_spaces(index: &Index<Space>, spaces: &[&Space]) -> bool
     ensures { result ≡ ((nat_le (length (referred spaces.now)) 1024 && is_some (found index.now.entries 0)) && (differ (λ s t. bytes_eq s.name t.name) (referred spaces.now) && list_all (is_space (found index.now.entries)) (referred spaces.now))) }
 {
     spaces.len() <= MOST_SPACES
         && index::look(index, 0).is_some()
-        && names::names_differ(spaces)
-        && spaces.iter().all(|space| is_space(index, space))
+        && names_differ(spaces)
+        && each_is_space(index, spaces)
 }

@@ -36,11 +36,30 @@ fn is_table(table: &Table) -> bool
         && (!table.versioned || table.has_key)
 }
 
+/// Whether each table is in order by itself.
+fn each_is_table(tables: &[&Table]) -> bool
+    ensures { result ≡ list_all is_table (referred tables.now) }
+{
+    for table in tables {
+        if !is_table(table) {
+            return false;
+        }
+    }
+    true
+}
+
+/// Whether the names of the tables differ.
+#[tactic(auto, using(crate::proofs::Referring::differ_referred))]
+fn names_differ(tables: &[&Table]) -> bool
+    ensures { result ≡ differ (λ t u. bytes_eq t.name u.name) (referred tables.now) }
+{
+    names::names_differ(tables)
+}
+
 /// Whether there are not too many tables, their names differ and each is in order by itself.
+#[tactic(auto, using(crate::proofs::Referring::length_referred))]
 pub fn are_tables(tables: &[&Table]) -> bool
     ensures { result ≡ (nat_le (length (referred tables.now)) 256 && (differ (λ t u. bytes_eq t.name u.name) (referred tables.now) && list_all is_table (referred tables.now))) }
 {
-    tables.len() <= MOST_TABLES
-        && names::names_differ(tables)
-        && tables.iter().all(|table| is_table(table))
+    tables.len() <= MOST_TABLES && names_differ(tables) && each_is_table(tables)
 }

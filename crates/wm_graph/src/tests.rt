@@ -39,7 +39,13 @@ fn a_fresh_store(rt: HostRuntime) -> Result<(), Fail> {
 #[test]
 fn what_stands_beside(rt: HostRuntime) -> Result<(), Fail> {
     let alloc = rt.alloc();
-    assert!(rt; kept_with(alloc, 10, Record::Piece(store::piece(alloc, 1, (10, 20), 3)?))?);
+    assert!(rt;
+        kept_with(
+            alloc,
+            10,
+            Record::Piece(store::piece(alloc, 1, (10, 20), 3)?)
+        )?
+    );
     assert!(rt; kept_with(alloc, 10, Record::Row(store::row(alloc, 4, 7)?))?);
     Ok(())
 }

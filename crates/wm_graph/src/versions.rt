@@ -39,11 +39,17 @@ fn stands_under(versions: &Index<Version>, version: &Version, space: &Space) -> 
 {
     let parent = version.parent;
     parent < version.number
-        && (is_version_of(versions, parent, version.space) || is_version_of(versions, parent, space.parent))
+        && (is_version_of(versions, parent, version.space)
+            || is_version_of(versions, parent, space.parent))
 }
 
 /// Whether the version was given, is of a workspace that is there, and stands where it may.
-pub fn is_version(spaces: &Index<Space>, versions: &Index<Version>, next: u64, version: &Version) -> bool
+fn is_version(
+    spaces: &Index<Space>,
+    versions: &Index<Version>,
+    next: u64,
+    version: &Version,
+) -> bool
     ensures { result ≡ is_version (found spaces.now.entries) (found versions.now.entries) next version.now }
 {
     if version.number >= next {
@@ -60,7 +66,7 @@ pub fn is_version(spaces: &Index<Space>, versions: &Index<Version>, next: u64, v
 }
 
 /// Whether the workspace has a version, and those that it was made from and stands on are there.
-pub fn has_versions(having: &BTreeSet<u32>, versions: &Index<Version>, space: &Space) -> bool
+fn has_versions(having: &BTreeSet<u32>, versions: &Index<Version>, space: &Space) -> bool
     ensures { result ≡ has_versions (contains nat_cmp having.now) (found versions.now.entries) space.now }
 {
     if !having.contains(&space.number) {
@@ -72,4 +78,37 @@ pub fn has_versions(having: &BTreeSet<u32>, versions: &Index<Version>, space: &S
         is_version_of(versions, space.birth_version, space.parent)
             && is_version_of(versions, space.base_version, space.parent)
     }
+}
+
+/// Whether each version is given, has its workspace and stands where it may.
+pub fn each_is_version(
+    spaces: &Index<Space>,
+    index: &Index<Version>,
+    next: u64,
+    versions: &[&Version],
+) -> bool
+    ensures { result ≡ list_all (is_version (found spaces.now.entries) (found index.now.entries) next) (referred versions.now) }
+{
+    for version in versions {
+        if !is_version(spaces, index, next, version) {
+            return false;
+        }
+    }
+    true
+}
+
+/// Whether each workspace has a version, and those that it was made from and stands on.
+pub fn each_has_versions(
+    having: &BTreeSet<u32>,
+    versions: &Index<Version>,
+    spaces: &[&Space],
+) -> bool
+    ensures { result ≡ list_all (has_versions (contains nat_cmp having.now) (found versions.now.entries)) (referred spaces.now) }
+{
+    for space in spaces {
+        if !has_versions(having, versions, space) {
+            return false;
+        }
+    }
+    true
 }

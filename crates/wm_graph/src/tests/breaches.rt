@@ -26,12 +26,54 @@ fn counters(rt: HostRuntime) -> Result<(), Fail> {
     refuse(&rt, alloc, BEHIND, Record::Counters(store::counters()))?;
     let good = store::counters();
     refuse_counters(&rt, alloc, Counters { limit: 0, ..good })?;
-    refuse_counters(&rt, alloc, Counters { limit: 1_048_577, ..good })?;
-    refuse_counters(&rt, alloc, Counters { next_stamp: 0, ..good })?;
-    refuse_counters(&rt, alloc, Counters { next_stamp: 1002, ..good })?;
-    refuse_counters(&rt, alloc, Counters { last_moment: END, ..good })?;
-    refuse_counters(&rt, alloc, Counters { work: (1 << 62) + 1, ..good })?;
-    refuse_counters(&rt, alloc, Counters { next_version: 23, ..good })?;
+    refuse_counters(
+        &rt,
+        alloc,
+        Counters {
+            limit: 1_048_577,
+            ..good
+        },
+    )?;
+    refuse_counters(
+        &rt,
+        alloc,
+        Counters {
+            next_stamp: 0,
+            ..good
+        },
+    )?;
+    refuse_counters(
+        &rt,
+        alloc,
+        Counters {
+            next_stamp: 1002,
+            ..good
+        },
+    )?;
+    refuse_counters(
+        &rt,
+        alloc,
+        Counters {
+            last_moment: END,
+            ..good
+        },
+    )?;
+    refuse_counters(
+        &rt,
+        alloc,
+        Counters {
+            work: (1 << 62) + 1,
+            ..good
+        },
+    )?;
+    refuse_counters(
+        &rt,
+        alloc,
+        Counters {
+            next_version: 23,
+            ..good
+        },
+    )?;
     Ok(())
 }
 
@@ -42,9 +84,23 @@ fn refuse_table(rt: &impl Abort, alloc: Global, table: Table) -> Result<(), Fail
 #[test]
 fn tables(rt: HostRuntime) -> Result<(), Fail> {
     let alloc = rt.alloc();
-    refuse(&rt, alloc, BEHIND, Record::Table(store::table(alloc, 1, "OTHER")?))?;
-    refuse(&rt, alloc, BEHIND, Record::Table(store::table(alloc, 2, "DUB")?))?;
-    refuse_table(&rt, alloc, store::table(alloc, 1, "A2345678901234567890123456789_1")?)?;
+    refuse(
+        &rt,
+        alloc,
+        BEHIND,
+        Record::Table(store::table(alloc, 1, "OTHER")?),
+    )?;
+    refuse(
+        &rt,
+        alloc,
+        BEHIND,
+        Record::Table(store::table(alloc, 2, "DUB")?),
+    )?;
+    refuse_table(
+        &rt,
+        alloc,
+        store::table(alloc, 1, "A2345678901234567890123456789_1")?,
+    )?;
     let mut range = store::table(alloc, 1, "DUB")?;
     range.key_column = 2;
     refuse_table(&rt, alloc, range)?;
@@ -63,16 +119,23 @@ fn columns(rt: HostRuntime) -> Result<(), Fail> {
     none.versioned = false;
     refuse(&rt, alloc, BEHIND, Record::Table(none))?;
     let mut twice = store::table(alloc, 2, "TWICE")?;
-    twice.columns.push(column(alloc, "ID", ColumnKind::Time, 0)?)?;
+    twice
+        .columns
+        .push(column(alloc, "ID", ColumnKind::Time, 0)?)?;
     refuse(&rt, alloc, BEHIND, Record::Table(twice))?;
     let mut long = store::table(alloc, 2, "LONG")?;
-    long.columns
-        .push(column(alloc, "A2345678901234567890123456789_1", ColumnKind::Time, 0)?)?;
+    long.columns.push(column(
+        alloc,
+        "A2345678901234567890123456789_1",
+        ColumnKind::Time,
+        0,
+    )?)?;
     refuse(&rt, alloc, BEHIND, Record::Table(long))?;
     let mut many = store::table(alloc, 2, "MANY")?;
     for number in 0..31u8 {
         let called = format!(in alloc; "C{number}")?;
-        many.columns.push(column(alloc, called.as_str(), ColumnKind::Number, 0)?)?;
+        many.columns
+            .push(column(alloc, called.as_str(), ColumnKind::Number, 0)?)?;
     }
     refuse(&rt, alloc, BEHIND, Record::Table(many))?;
     Ok(())
@@ -91,7 +154,11 @@ fn names_of_workspaces(rt: HostRuntime) -> Result<(), Fail> {
     let alloc = rt.alloc();
     refuse_space(&rt, alloc, store::space(alloc, 0, "W")?)?;
     refuse_space(&rt, alloc, store::space(alloc, 1, "LIVE")?)?;
-    refuse_space(&rt, alloc, store::space(alloc, 1, "W2345678901234567890123456789_1")?)?;
+    refuse_space(
+        &rt,
+        alloc,
+        store::space(alloc, 1, "W2345678901234567890123456789_1")?,
+    )?;
     let mut written = store::space(alloc, 1, "W")?;
     written.writer = name(alloc, "U2345678901234567890123456789_1")?;
     refuse_space(&rt, alloc, written)?;
@@ -122,8 +189,20 @@ fn workspaces(rt: HostRuntime) -> Result<(), Fail> {
     Ok(())
 }
 
-fn refuse_version(rt: &impl Abort, alloc: Global, place: usize, number: u64, space: u32, parent: u64) -> Result<(), Fail> {
-    refuse(rt, alloc, place, Record::Version(store::version(number, space, parent)))
+fn refuse_version(
+    rt: &impl Abort,
+    alloc: Global,
+    place: usize,
+    number: u64,
+    space: u32,
+    parent: u64,
+) -> Result<(), Fail> {
+    refuse(
+        rt,
+        alloc,
+        place,
+        Record::Version(store::version(number, space, parent)),
+    )
 }
 
 #[test]
@@ -209,7 +288,12 @@ fn pieces(rt: HostRuntime) -> Result<(), Fail> {
     let mut absent = store::piece(alloc, 1, (0, 10), 1)?;
     absent.version = 7;
     refuse_piece(&rt, alloc, absent)?;
-    refuse(&rt, alloc, BEHIND, Record::Piece(store::piece(alloc, 1, (9, 20), 1)?))?;
+    refuse(
+        &rt,
+        alloc,
+        BEHIND,
+        Record::Piece(store::piece(alloc, 1, (9, 20), 1)?),
+    )?;
     refuse_piece(&rt, alloc, store::piece(alloc, 1, (0, 10), 4)?)?;
     refuse_piece(&rt, alloc, store::piece(alloc, 2, (0, 10), 1)?)?;
     refuse_piece(&rt, alloc, store::piece(alloc, 1, (0, 10), 5)?)?;

@@ -4,8 +4,8 @@ use crate::keeps_rules;
 use std::alloc::Global;
 use wm_base::{Key, Kind, Memory, Name, Text, Value, Values};
 use wm_spec::record::{
-    CellRange, ColumnKind, Counters, FreezeMode, PieceRecord, Record, Records, RowRecord, Space, Stored, Table, TableColumn, TableColumns,
-    Version,
+    CellRange, ColumnKind, Counters, FreezeMode, PieceRecord, Record, Records, RowRecord, Space,
+    Stored, Table, TableColumn, TableColumns, Version,
 };
 
 pub fn counters() -> Counters {
@@ -22,7 +22,12 @@ pub fn name(alloc: Global, name: &str) -> Result<Name, Memory> {
     Text::copy_of(alloc, name.as_bytes())
 }
 
-pub fn column(alloc: Global, column: &str, kind: ColumnKind, size: u16) -> Result<TableColumn, Memory> {
+pub fn column(
+    alloc: Global,
+    column: &str,
+    kind: ColumnKind,
+    size: u16,
+) -> Result<TableColumn, Memory> {
     Ok(TableColumn {
         name: name(alloc, column)?,
         kind,

@@ -14,6 +14,6 @@ loop-column-preserved c = fitting_more c.loop-column.invariant c.in-Some.ensures
 pub returns : goal.returns
 returns c =
     elim c.in-None.ensures.steps [
-      inl s ↦ fitting_all c.loop-column.invariant s.1.0
-    | inr s ↦ fitting_all c.loop-column.invariant (omega (arith, c.loop-column.invariant.as_many, s.1.0))
+      | inl s ↦ fitting_all c.loop-column.invariant s.1.0
+      | inr s ↦ fitting_all c.loop-column.invariant (omega (arith, c.loop-column.invariant.as_many, s.1.0))
     ]
