@@ -4,3 +4,5 @@ pub mod Laying
 pub mod Paths
 pub mod Writing
 pub mod Listing
+pub mod Counting
+pub mod Times

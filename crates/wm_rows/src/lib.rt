@@ -2,6 +2,8 @@
 //! holds at a cell is the nearest piece on its path, so that versions share what stands below them.
 #![tactic(auto)]
 
+mod counts;
+pub mod keys;
 mod layer;
 mod layers;
 pub mod own;
@@ -9,6 +11,7 @@ pub mod row_key;
 mod row_order;
 pub mod rows;
 
+pub use keys::Keys;
 pub use own::{OwnPiece, OwnPieces};
 pub use row_key::RowKey;
 pub use rows::Rows;
