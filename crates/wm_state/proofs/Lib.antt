@@ -1,0 +1,5 @@
+pub mod Nearest
+pub mod Changing
+pub mod ById
+pub mod Batches
+pub mod Standing

@@ -1,0 +1,50 @@
+-- What becomes of the records, told by what is looked up in them.
+use Rattle.std.specs.Prelude.{ℕ, ◌≡◌, ◌+◌, Bool, true, false, ◌==◌, if◌then◌else◌, List, [], ◌∷◌, Option, None, Some, is_some}
+use Rattle.std.specs.Bool.{then_some}
+use Rattle.std.specs.Option.{option_or, option_map}
+use Rattle.wm_graph.specs.Parts.{Parts, row_of, space_of}
+use Rattle.wm_period.specs.Pieces.{Held}
+use Rattle.wm_spec.specs.Lists.{Entry, Cell, told_of, covers}
+use Rattle.wm_spec.specs.declared.record.piece.PieceRecord.{PieceRecord}
+use Rattle.wm_spec.specs.declared.record.row.RowRecord.{RowRecord}
+use Rattle.wm_spec.specs.declared.record.space.Space.{Space}
+use Rattle.wm_tree.specs.Versions.{version_in}
+use Rattle.wm_tree.specs.declared.version.Version.{Version as Node}
+use Rattle.wm_state.specs.Standing.{held_of, stored_at, newest_first, latest}
+
+-- no version stands under this one
+abbrev pub IsLeaf : ℕ → List Node → Type 0
+IsLeaf version [] = Unit {0}
+IsLeaf version (x ∷ older) = ((x.parent == version) ≡ false) × IsLeaf version older
+
+-- a version has these pieces over what it had, and every other version what it had
+abbrev pub AreLaid : ℕ → Entry → List PieceRecord → List PieceRecord → Type 0
+AreLaid version e old new =
+    (v : ℕ) (c : Cell) → stored_at new v c ≡ (if v == version then option_or (then_some (covers e c) (held_of (told_of e))) (stored_at old v c) else stored_at old v c)
+
+-- the workspace's record with a longer log, and every other one as it was
+abbrev pub longer : Space → Space
+longer s = record s { log_length = s.log_length + 1 }
+
+-- the version is one of these
+abbrev pub is_there : ℕ → List Node → Bool
+is_there version [] = false
+is_there version (x ∷ older) = if x.number == version then true else is_there version older
+
+-- the newest version of a workspace is there, is no other workspace's newest one, and is not what it sees under its own
+pub record IsApart (p : Parts) (n : ℕ) : Type 0 where
+  pub there : is_there (latest p n) (newest_first p.versions) ≡ true
+  pub others : (m : ℕ) → (m == n) ≡ false → is_some (space_of p.spaces m) ≡ true → (latest p m == latest p n) ≡ false
+  pub above : (r : Space) → space_of p.spaces n ≡ Some r → (latest p n == r.base_version) ≡ false
+
+-- an entry was written into the newest version of a workspace, which nothing stands under, and its row beside the others
+pub record Wrote (p q : Parts) (n : ℕ) (e : Entry) : Type 0 where
+  pub leaf : IsLeaf (latest p n) (newest_first p.versions)
+  pub apart : IsApart p n
+  pub tables : q.tables ≡ p.tables
+  pub versions : q.versions ≡ p.versions
+  pub here : space_of q.spaces n ≡ option_map longer (space_of p.spaces n)
+  pub elsewhere : (m : ℕ) → (m == n) ≡ false → space_of q.spaces m ≡ space_of p.spaces m
+  pub pieces : AreLaid (latest p n) e p.pieces q.pieces
+  pub rows_kept : (stamp : ℕ) (r : RowRecord) → row_of p.rows stamp ≡ Some r → row_of q.rows stamp ≡ Some r
+  pub row_new : (row : _) → e.row ≡ Some row → option_map (λ (r : RowRecord). r.values) (row_of q.rows e.stamp) ≡ Some row.values

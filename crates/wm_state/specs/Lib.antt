@@ -1,0 +1,4 @@
+pub mod State
+pub mod ById
+pub mod Standing
+pub mod Effects

@@ -1,0 +1,173 @@
+-- Records that stand for a state. The records have one set of pieces, found through the paths of versions; the state has a
+-- whole list for each workspace.
+use Rattle.std.specs.Prelude.{ℕ, ◌≡◌, Bool, true, ◌&&◌, ◌==◌, nat_le, nat_lt, if◌then◌else◌, List, [], ◌∷◌, map, length, is_none, is_some, Option, None, Some}
+use Rattle.std.specs.Bool.{then_some}
+use Rattle.std.specs.Option.{option_or, option_map}
+use Rattle.std.specs.Ordering.{is_eq}
+use Rattle.wm_base.specs.Key.{key_order}
+use Rattle.wm_base.specs.declared.row.Row.{Row}
+use Rattle.wm_base.specs.declared.value.Value.{Value}
+use Rattle.wm_base.specs.declared.stamp.Stamp.{Stamp}
+use Rattle.wm_graph.specs.Parts.{Parts, row_of, space_of}
+use Rattle.wm_graph.specs.Rules.{keep_rules}
+use Rattle.wm_period.specs.Pieces.{Held}
+use Rattle.wm_spec.specs.Lists.{Entry, Cell, Told, told, touched}
+use Rattle.wm_spec.specs.declared.record.counters.Counters.{Counters}
+use Rattle.wm_spec.specs.declared.record.piece.PieceRecord.{PieceRecord}
+use Rattle.wm_spec.specs.declared.record.row.RowRecord.{RowRecord}
+use Rattle.wm_spec.specs.declared.record.space.FreezeMode.{FreezeMode}
+use Rattle.wm_spec.specs.declared.record.space.Space.{Space}
+use Rattle.wm_spec.specs.declared.record.table.Table.{Table}
+use Rattle.wm_spec.specs.declared.record.version.Version.{Version}
+use Rattle.wm_tree.specs.Versions.{grow, latest_in}
+use Rattle.wm_tree.specs.declared.version.Version.{Version as Node}
+use Rattle.wm_state.specs.State.{State, Workspace, content, workspace_of}
+
+-- ---- what versions hold
+
+-- what an entry says of a cell, but for the row itself
+abbrev pub held_of : Told → Held
+held_of t = record { stamp = let s : Stamp = record { number = t.stamp } in s; kind = t.kind; gone = is_none t.row }
+
+-- what a piece says of each of its cells
+abbrev pub held_by : PieceRecord → Held
+held_by x = record { stamp = let s : Stamp = record { number = x.stamp } in s; kind = x.kind; gone = x.gone }
+
+-- the piece is the version's own, and covers the cell
+abbrev pub covers_at : PieceRecord → ℕ → Cell → Bool
+covers_at x version c =
+    (x.version == version)
+    && (((x.cells.table == c.table) && is_eq (key_order x.cells.key c.key)) && (nat_le x.cells.from c.time && nat_lt c.time x.cells.till))
+
+-- what a version itself has at a cell
+abbrev pub stored_at : List PieceRecord → ℕ → Cell → Option Held
+stored_at [] version c = None
+stored_at (x ∷ xs) version c = option_or (then_some (covers_at x version c) (held_by x)) (stored_at xs version c)
+
+-- the versions, the newest first
+abbrev pub node_of : Version → Node
+node_of v = record { number = v.number; space = v.space; parent = v.parent }
+
+abbrev pub newest_first : List Version → List Node
+newest_first [] = []
+newest_first (v ∷ vs) = grow (node_of v) (newest_first vs)
+
+-- what a version holds at a cell: what the nearest version on its path has there. A parent is older than what stands under it
+abbrev pub seen_at : List PieceRecord → List Node → ℕ → Cell → Option Held
+seen_at pieces [] version c = None
+seen_at pieces (x ∷ older) version c =
+    if x.number == version then option_or (stored_at pieces version c) (seen_at pieces older x.parent c) else seen_at pieces older version c
+
+-- the same without the versions from base on
+abbrev pub own_at : List PieceRecord → List Node → ℕ → ℕ → Cell → Option Held
+own_at pieces [] base version c = None
+own_at pieces (x ∷ older) base version c =
+    if version == base then None
+    else (if x.number == version then option_or (stored_at pieces version c) (own_at pieces older base x.parent c) else own_at pieces older base version c)
+
+-- the newest version of a workspace
+abbrev pub latest : Parts → ℕ → ℕ
+latest p space = latest_in (newest_first p.versions) space
+
+-- what the newest version of a workspace holds at a cell
+abbrev pub shown : Parts → ℕ → Cell → Option Held
+shown p space c = seen_at p.pieces (newest_first p.versions) (latest p space) c
+
+-- what the newest version of a workspace holds at a cell above a base
+abbrev pub owned : Parts → ℕ → ℕ → Cell → Option Held
+owned p base space c = own_at p.pieces (newest_first p.versions) base (latest p space) c
+
+-- ---- the clauses
+
+-- what the record of a workspace and the workspace itself have in common
+pub record SpaceFields : Type 0 where
+  pub name : List ℕ
+  pub parent : ℕ
+  pub born : ℕ
+  pub birth_place : ℕ
+  pub from : ℕ
+  pub log_length : ℕ
+  pub rebases : ℕ
+  pub next_place : ℕ
+  pub next_implicit : ℕ
+  pub freeze : FreezeMode
+  pub writer : List ℕ
+
+abbrev pub fields_of : Space → SpaceFields
+fields_of s = record {
+  name = s.name;
+  parent = s.parent;
+  born = s.born;
+  birth_place = s.birth_place;
+  from = s.from;
+  log_length = s.log_length;
+  rebases = s.rebases;
+  next_place = s.next_place;
+  next_implicit = s.next_implicit;
+  freeze = s.freeze;
+  writer = s.writer;
+}
+
+abbrev pub fields_in : Workspace → SpaceFields
+fields_in w = record {
+  name = w.name;
+  parent = w.parent;
+  born = w.born;
+  birth_place = w.birth_place;
+  from = w.from;
+  log_length = length w.lists.log;
+  rebases = w.rebases;
+  next_place = w.next_place;
+  next_implicit = w.next_implicit;
+  freeze = w.freeze;
+  writer = w.writer;
+}
+
+-- the tables by number, which is the order of their making
+abbrev pub place_table : Table → List Table → List Table
+place_table t [] = t ∷ []
+place_table t (u ∷ us) = if nat_lt u.number t.number then u ∷ place_table t us else t ∷ u ∷ us
+
+abbrev pub by_number : List Table → List Table
+by_number [] = []
+by_number (t ∷ ts) = place_table t (by_number ts)
+
+-- the one record of counters says what the state counts
+pub record CountersStand (p : Parts) (s : State) : Type 0 where
+  pub counters : Counters
+  pub one : p.counters ≡ counters ∷ []
+  pub next_stamp : counters.next_stamp ≡ s.next_stamp
+  pub last_moment : counters.last_moment ≡ s.last_moment
+  pub limit : counters.limit ≡ s.limit
+  pub work : counters.work ≡ s.work
+
+-- the records of tables, by number, are the tables
+pub record TablesStand (p : Parts) (s : State) : Type 0 where
+  pub same : by_number p.tables ≡ s.tables
+
+-- each workspace has a record of its fields, and there is no other
+pub record SpacesStand (p : Parts) (s : State) : Type 0 where
+  pub same : (n : ℕ) → option_map fields_of (space_of p.spaces n) ≡ option_map fields_in (workspace_of s.spaces n)
+
+-- the newest version of a workspace holds at each cell what its content holds
+pub record LatestStand (p : Parts) (s : State) : Type 0 where
+  pub told : (n : ℕ) (w : Workspace) → workspace_of s.spaces n ≡ Some w → (c : Cell) → shown p n c ≡ option_map held_of (told (content w) c)
+
+-- what stands above the base of a workspace covers the cells of its own changes, and no others
+pub record OwnStand (p : Parts) (s : State) : Type 0 where
+  pub covered : (n : ℕ) (w : Workspace) (r : Space) → workspace_of s.spaces n ≡ Some w → space_of p.spaces n ≡ Some r → (c : Cell) → is_some (owned p r.base_version n c) ≡ touched w.lists.own c
+
+-- the row of each entry that a workspace holds at a cell stands under its stamp
+pub record RowsStand (p : Parts) (s : State) : Type 0 where
+  pub there : (n : ℕ) (w : Workspace) → workspace_of s.spaces n ≡ Some w → (c : Cell) (t : Told) (row : Row) → told (content w) c ≡ Some t → t.row ≡ Some row
+      → option_map (λ (r : RowRecord). r.values) (row_of p.rows t.stamp) ≡ Some row.values
+
+-- the records keep every rule and stand for the state
+pub record Stands (p : Parts) (s : State) : Type 0 where
+  pub rules : keep_rules p ≡ true
+  pub counters : CountersStand p s
+  pub tables : TablesStand p s
+  pub spaces : SpacesStand p s
+  pub latest : LatestStand p s
+  pub own : OwnStand p s
+  pub rows : RowsStand p s

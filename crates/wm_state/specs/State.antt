@@ -1,0 +1,114 @@
+-- The state between two lines. Each workspace has whole lists of its own: no version, no piece, no page is known here.
+use Rattle.std.specs.Prelude.{ℕ, ◌==◌, if◌then◌else◌, List, [], ◌∷◌, ◌++◌, max, length, Option, Some, None, codes}
+use Rattle.wm_graph.specs.Parts.{first}
+use Rattle.wm_spec.specs.Lists.{Entry}
+use Rattle.wm_spec.specs.declared.record.space.FreezeMode.{FreezeMode}
+use Rattle.wm_spec.specs.declared.record.space.FreezeMode.TheVariants.{Free}
+use Rattle.wm_spec.specs.declared.record.table.Table.{Table}
+
+-- at_birth: what the workspace was born with; base: its copy of its parent's content; own: its changes that are not merged;
+-- log: all its changes
+pub record Contents : Type 0 where
+  pub at_birth : List Entry
+  pub base : List Entry
+  pub own : List Entry
+  pub log : List Entry
+
+-- parent is 0 in LIVE, whose number is 0; from: the length of the parent's log when base was taken
+pub record Workspace : Type 0 where
+  pub number : ℕ
+  pub name : List ℕ
+  pub parent : ℕ
+  pub born : ℕ
+  pub birth_place : ℕ
+  pub lists : Contents
+  pub from : ℕ
+  pub rebases : ℕ
+  pub next_place : ℕ
+  pub next_implicit : ℕ
+  pub freeze : FreezeMode
+  pub writer : List ℕ
+
+pub record Session : Type 0 where
+  pub name : List ℕ
+  pub user : List ℕ
+
+-- tables in the order of their making; workspaces by number; sessions in the order of CONNECT; next_stamp: the stamp that the
+-- next change gets; limit: the greatest stamp that a change may get; last_moment: that of the last line that changed a
+-- durable part; work: what these lines have counted; moment: now
+pub record State : Type 0 where
+  pub tables : List Table
+  pub spaces : List Workspace
+  pub sessions : List Session
+  pub next_stamp : ℕ
+  pub last_moment : ℕ
+  pub limit : ℕ
+  pub work : ℕ
+  pub moment : ℕ
+
+-- what stands in a workspace
+abbrev pub content : Workspace → List Entry
+content w = w.lists.base ++ w.lists.own
+
+-- a workspace with nothing in it, as LIVE is in a fresh store
+abbrev pub empty_lists : Contents
+empty_lists = record { at_birth = []; base = []; own = []; log = [] }
+
+abbrev pub fresh_live : Workspace
+fresh_live = record {
+  number = 0;
+  name = codes "LIVE";
+  parent = 0;
+  born = 0;
+  birth_place = 0;
+  lists = empty_lists;
+  from = 0;
+  rebases = 0;
+  next_place = 1;
+  next_implicit = 1;
+  freeze = Free;
+  writer = [];
+}
+
+-- a store that takes this many changes, before its first line
+unfoldable pub fresh : ℕ → State
+fresh limit = record { tables = []; spaces = fresh_live ∷ []; sessions = []; next_stamp = 1; last_moment = 0; limit = limit; work = 0; moment = 0 }
+
+-- what is left of a state without its sessions
+unfoldable pub durable : State → State
+durable s = record s { sessions = [] }
+
+-- where a run begins at a moment: without sessions, and not before the last moment of the store
+unfoldable pub begin : State → ℕ → State
+begin s now = record s { sessions = []; moment = max now s.last_moment }
+
+-- ---- what is looked up
+
+-- the workspace of a number
+abbrev pub workspace_of : List Workspace → ℕ → Option Workspace
+workspace_of spaces number = first (λ (w : Workspace). w.number == number) spaces
+
+-- the workspaces with a change to the one of this number
+abbrev pub with_space : ℕ → (Workspace → Workspace) → List Workspace → List Workspace
+with_space number act [] = []
+with_space number act (w ∷ ws) = if w.number == number then act w ∷ ws else w ∷ with_space number act ws
+
+-- the content of the workspace of this number
+abbrev pub content_of : List Workspace → ℕ → List Entry
+content_of spaces number = of (workspace_of spaces number)
+  where
+    of : Option Workspace → List Entry
+    of None = []
+    of (Some w) = content w
+
+-- how many entries the log of the workspace of this number has
+abbrev pub log_length : List Workspace → ℕ → ℕ
+log_length spaces number = of (workspace_of spaces number)
+  where
+    of : Option Workspace → ℕ
+    of None = 0
+    of (Some w) = length w.lists.log
+
+-- a workspace with more entries in what it changed, and in its log
+abbrev pub with_entries : List Entry → Workspace → Workspace
+with_entries es w = record w { lists = record w.lists { own = w.lists.own ++ es; log = w.lists.log ++ es } }
