@@ -1,3 +1,4 @@
 pub mod JoinLemmas
 pub mod KeptLemmas
 pub mod FoundLemmas
+pub mod ProductLemmas
