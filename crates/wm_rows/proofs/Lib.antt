@@ -6,3 +6,4 @@ pub mod Writing
 pub mod Listing
 pub mod Counting
 pub mod Times
+pub mod Counted

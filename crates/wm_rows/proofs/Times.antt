@@ -51,7 +51,7 @@ maps_of-remove_entry test (e ∷ es) = remove_cases (test e.0) e es (remove_entr
 -- ---- one row of one layer
 
 stores-here : (row : RowKey) (groups : Groups) (pieces : List Piece) → group_in groups row ≡ Some pieces → stores row groups ≡ 1
-stores-here row groups pieces is = ap (λ (o : Option (List Piece)). cond (is_some o) 1 0) is
+stores-here row groups pieces is = ap (λ (o : Option (List Piece)). cond {A = ℕ} (is_some o) 1 0) is
 
 -- a row more, where it was not there
 stores_put : (next was : Groups) (row : RowKey) (pieces : List Piece) → ((q : RowKey) → group_in next q ≡ cond (is_same row q) (Some pieces) (group_in was q))
@@ -69,10 +69,12 @@ stores_put next was row pieces put q = by_row (cases_row row q)
         ∙ ap (λ b. stores row was + cond (b && is_none (group_in was row)) 1 0) (sym (is_same-itself row))
 
     by_row : (row ≡ q) ⊎ (is_same row q ≡ false) → stores q next ≡ stores q was + cond (is_same row q && is_none (group_in was row)) 1 0
-    by_row (inl same) = subst (λ r. stores r next ≡ stores r was + cond (is_same row r && is_none (group_in was row)) 1 0) same here
+    by_row (inl same) =
+        let P : RowKey → Type 0 = λ r. stores r next ≡ stores r was + cond (is_same row r && is_none (group_in was row)) 1 0 in
+        subst P same here
     by_row (inr apart) =
-        let as_was : stores q next ≡ stores q was = ap (λ (o : Option (List Piece)). cond (is_some o) 1 0) (put q ∙ ap (λ b. cond b (Some pieces) (group_in was q)) apart) in
-        let nothing : cond (is_same row q && is_none (group_in was row)) 1 0 ≡ 0 = ap (λ b. cond (b && is_none (group_in was row)) 1 0) apart in
+        let as_was : stores q next ≡ stores q was = ap (λ (o : Option (List Piece)). cond {A = ℕ} (is_some o) 1 0) (put q ∙ ap (λ b. cond b (Some pieces) (group_in was q)) apart) in
+        let nothing : ◌≡◌ {A = ℕ} (cond (is_same row q && is_none (group_in was row)) 1 0) 0 = ap (λ b. cond {A = ℕ} (b && is_none (group_in was row)) 1 0) apart in
         omega (arith, as_was, nothing)
 
 -- ---- a layer changed
@@ -119,7 +121,7 @@ times_removed old next version layer there removed q =
 stores-le : (q : RowKey) (groups : Groups) → stores q groups ≤ 1
 stores-le q groups = by_test (is_some (group_in groups q))
   where
-    by_test : (b : Bool) → cond b 1 0 ≤ 1
+    by_test : (b : Bool) → cond {A = ℕ} b 1 0 ≤ 1
     by_test true = omega arith
     by_test false = omega arith
 
@@ -147,7 +149,7 @@ times-some (e ∷ rest) version row some = by_number (cases_Bool (is_at (nat_cmp
   where
     by_number : (is_at (nat_cmp version) e.0 ≡ true) ⊎ (is_at (nat_cmp version) e.0 ≡ false) → (IsSome (group_of rest version row) → 0 < times rest row) → 0 < times (e ∷ rest) row
     by_number (inl here) later =
-        let one : stores row e.1 ≡ 1 = ap (λ b. cond b 1 0) (subst (λ (g : Groups). IsSome (group_in g row)) (groups-first version e rest here) some) in
+        let one : stores row e.1 ≡ 1 = ap (λ b. cond {A = ℕ} b 1 0) (subst (λ (g : Groups). IsSome (group_in g row)) (groups-first version e rest here) some) in
         omega (arith, times-cons e rest row, one)
     by_number (inr away) later =
         let less : 0 < times rest row = later (subst (λ (g : Groups). IsSome (group_in g row)) (groups-later version e rest away) some) in
@@ -171,7 +173,7 @@ some-times (e ∷ rest) row order counted = by_test (cases_Bool (is_some (group_
     by_test : (is_some (group_in e.1 row) ≡ true) ⊎ (is_some (group_in e.1 row) ≡ false) → (0 < times rest row → (version : ℕ) × IsSome (group_of rest version row)) → (version : ℕ) × IsSome (group_of (e ∷ rest) version row)
     by_test (inl some) later = (e.0, subst (λ (g : Groups). IsSome (group_in g row)) (sym (groups-first e.0 e rest itself)) some)
     by_test (inr none) later =
-        let nothing : stores row e.1 ≡ 0 = ap (λ b. cond b 1 0) none in
+        let nothing : stores row e.1 ≡ 0 = ap (λ b. cond {A = ℕ} b 1 0) none in
         let left : 0 < times rest row = omega (arith, counted, times-cons e rest row, nothing) in
         let found = later left in
         (found.0, other found.0 found.1 (cases_Bool (is_at (nat_cmp found.0) e.0)))
