@@ -4,3 +4,6 @@ pub mod Finding
 pub mod Collecting
 pub mod Fitting
 pub mod Neighbours
+pub mod IndexLemmas
+pub mod Permuted
+pub mod Apart
