@@ -6,4 +6,5 @@ pub mod Writing
 pub mod Listing
 pub mod Counting
 pub mod Times
-pub mod Counted
+pub mod CountLaws
+pub mod Dropping

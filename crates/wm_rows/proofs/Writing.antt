@@ -13,7 +13,7 @@ use Rattle.wm_base.specs.Period.{covers}
 use Rattle.wm_period.specs.Pieces.{Held, held, held_at, put_in}
 use Rattle.wm_period.specs.declared.piece.Piece.{Piece}
 use Rattle.wm_rows.proofs.Lookups.{cases_row, is_same-itself}
-use Rattle.wm_rows.proofs.Maps.{is_at-number, entries_or_none, map_at-maps_of}
+use Rattle.wm_rows.proofs.Maps.{is_at-number, entries_or_none, map_at-maps_of, map_at-none}
 use Rattle.wm_rows.proofs.Paths.{nearest-kept}
 use Rattle.wm_rows.specs.Maps.{maps_of}
 use Rattle.wm_rows.specs.Rows.{Groups, Layers, is_same, group_of, pieces_in, groups_in, stored, seen_in}
@@ -66,10 +66,6 @@ seen-written old new version row pieces groups tree v q t off =
 
 -- ---- layers dropped
 
-drop_cond : (b : Bool) (o : Option (BTreeMap RowKey (List Piece))) → entries_or_none (cond b None o) ≡ cond b [] (entries_or_none o)
-drop_cond true o = refl
-drop_cond false o = refl
-
 cond_twice : (a b : Bool) (g : Groups) → cond b [] (cond a [] g) ≡ cond (a || b) [] g
 cond_twice true true g = refl
 cond_twice true false g = refl
@@ -82,19 +78,38 @@ eqb-symm m n = by_number (cases_eq m n)
     by_number (inl same) = eq-eqb m n same ∙ sym (eq-eqb n m (sym same))
     by_number (inr other) = ne_eqb m n other ∙ sym (ne_eqb n m (λ e. other (sym e)))
 
-pub drop_more : (old now next : List (ℕ × BTreeMap RowKey (List Piece))) (versions : List ℕ) (i v : ℕ) → i < length versions
-    → groups_in (maps_of now) v ≡ cond (list_any (nat_eq v) (take i versions)) [] (groups_in (maps_of old) v)
-    → lookup (is_at (nat_cmp v)) next ≡ cond (is_at (nat_cmp (get_or versions i 0)) v) None (lookup (is_at (nat_cmp v)) now)
-    → groups_in (maps_of next) v ≡ cond (list_any (nat_eq v) (take (i + 1) versions)) [] (groups_in (maps_of old) v)
+pub drop_more : (old now next : Layers) (versions : List ℕ) (i v : ℕ) → i < length versions
+    → groups_in now v ≡ cond (list_any (nat_eq v) (take i versions)) [] (groups_in old v)
+    → groups_in next v ≡ cond (eqb (get_or versions i 0) v) [] (groups_in now v)
+    → groups_in next v ≡ cond (list_any (nat_eq v) (take (i + 1) versions)) [] (groups_in old v)
 drop_more old now next versions i v within so_far put =
-    let test : is_at (nat_cmp (get_or versions i 0)) v ≡ eqb v (get_or versions i 0) = is_at-number (get_or versions i 0) v ∙ eqb-symm (get_or versions i 0) v in
-    map_at-maps_of next v
-    ∙ ap entries_or_none put
-    ∙ drop_cond (is_at (nat_cmp (get_or versions i 0)) v) (lookup (is_at (nat_cmp v)) now)
-    ∙ ap (cond (is_at (nat_cmp (get_or versions i 0)) v) []) (sym (map_at-maps_of now v) ∙ so_far)
-    ∙ cond_twice (list_any (nat_eq v) (take i versions)) (is_at (nat_cmp (get_or versions i 0)) v) (groups_in (maps_of old) v)
-    ∙ ap (λ b. cond (list_any (nat_eq v) (take i versions) || b) [] (groups_in (maps_of old) v)) test
-    ∙ ap (λ b. cond b [] (groups_in (maps_of old) v)) (sym (list_any_more (nat_eq v) versions i 0 within))
+    put
+    ∙ ap (cond (eqb (get_or versions i 0) v) []) so_far
+    ∙ cond_twice (list_any (nat_eq v) (take i versions)) (eqb (get_or versions i 0) v) (groups_in old v)
+    ∙ ap (λ b. cond (list_any (nat_eq v) (take i versions) || b) [] (groups_in old v)) (eqb-symm (get_or versions i 0) v)
+    ∙ ap (λ b. cond b [] (groups_in old v)) (sym (list_any_more (nat_eq v) versions i 0 within))
+
+-- the groups of each other version are as before
+pub drop_one : (old next : List (ℕ × BTreeMap RowKey (List Piece))) (version v : ℕ) → lookup (is_at (nat_cmp v)) next ≡ cond (is_at (nat_cmp version) v) None (lookup (is_at (nat_cmp v)) old)
+    → groups_in (maps_of next) v ≡ cond (eqb version v) [] (groups_in (maps_of old) v)
+drop_one old next version v put =
+    map_at-maps_of next v ∙ ap entries_or_none put ∙ drop_cond (is_at (nat_cmp version) v) (lookup (is_at (nat_cmp v)) old)
+    ∙ ap (λ b. cond b [] (entries_or_none (lookup (is_at (nat_cmp v)) old))) (is_at-number version v)
+    ∙ ap (cond (eqb version v) []) (sym (map_at-maps_of old v))
+  where
+    drop_cond : (b : Bool) (o : Option (BTreeMap RowKey (List Piece))) → entries_or_none (cond b None o) ≡ cond b [] (entries_or_none o)
+    drop_cond true o = refl
+    drop_cond false o = refl
+
+-- nothing is dropped where the version stores nothing
+pub drop_none : (layers : List (ℕ × BTreeMap RowKey (List Piece))) (version v : ℕ) → lookup (is_at (nat_cmp version)) layers ≡ None
+    → groups_in (maps_of layers) v ≡ cond (eqb version v) [] (groups_in (maps_of layers) v)
+drop_none layers version v none = by_number (cases_eq version v)
+  where
+    by_number : (version ≡ v) ⊎ (version ≡ v → ⊥) → groups_in (maps_of layers) v ≡ cond (eqb version v) [] (groups_in (maps_of layers) v)
+    by_number (inl here) =
+        ap (groups_in (maps_of layers)) (sym here) ∙ map_at-none layers version none ∙ ap (λ b. cond b [] (groups_in (maps_of layers) v)) (sym (eq-eqb version v here))
+    by_number (inr away) = ap (λ b. cond b [] (groups_in (maps_of layers) v)) (sym (ne_eqb version v away))
 
 -- what is stored, where the groups of some versions are dropped
 pub stored-dropped : (old new : Layers) (dropped : Bool) (v : ℕ) (row : RowKey) (t : ℕ) → groups_in new v ≡ cond dropped [] (groups_in old v) → stored new v row t ≡ cond dropped None (stored old v row t)

@@ -1,11 +1,14 @@
 //! What all versions store: a layer for each.
 
-ghost use Rattle.std.specs.Prelude.{◌≡◌, ℕ, ◌==◌, ◌&&◌, [], Some, nat_eq, if◌then◌else◌, IfOk, OnOk, OnErr};
+ghost use Rattle.std.specs.Prelude.{◌≡◌, ℕ, ◌==◌, ◌&&◌, ◌+◌, ◌<◌, ◌^◌, Some, is_none, if◌then◌else◌, IfOk, OnOk, OnErr};
 ghost use Rattle.std.specs.Bool.{then_some};
-ghost use Rattle.std.specs.List.{list_any};
+ghost use Rattle.std.specs.List.Sorted.{IsStrictlySortedBy};
+ghost use Rattle.std.specs.Map.{keys_of};
 ghost use Rattle.std.specs.Option.{option_copied, option_or};
+ghost use Rattle.std.specs.Ordering.{nat_cmp};
 ghost use Rattle.wm_base.specs.Period.{covers};
 ghost use Rattle.wm_period.specs.Pieces.{held, held_at, put_in};
+ghost use Rattle.wm_rows.specs.Counts.{times};
 ghost use Rattle.wm_rows.specs.Rows.{group_of, groups_in, pieces_in, is_same, stored, seen_in, own_in};
 ghost use Rattle.wm_rows.specs.Maps.{maps_of};
 ghost use Rattle.wm_rows.specs.declared.row_key.RowKey.{RowKey as Row};
@@ -27,6 +30,16 @@ pub fn group<'a>(layers: &'a Layers, version: u64, row: &RowKey) -> Option<&'a P
     layers.get(&version)?.get(row)
 }
 
+/// Whether a version stores nothing of a row.
+pub fn is_new(layers: &Layers, version: u64, row: &RowKey) -> bool
+    ensures value { result ≡ is_none (group_of (maps_of layers.now.entries) version row.now) }
+    // there is room to count one more
+    ensures few { times (maps_of layers.now.entries) row.now < 2 ^ 63 }
+{
+    let _count = layers.len();
+    group(layers, version, row).is_none()
+}
+
 /// Puts a piece over the others that a version stores of its row.
 pub fn write_piece(
     alloc: Global,
@@ -37,6 +50,8 @@ pub fn write_piece(
 ) -> Result<(), Memory>
     ensures groups { OnOk result ((v : ℕ) (q : Row) → group_of (maps_of layers.new.entries) v q ≡ (if (version == v) && is_same row q then Some (put_in piece (pieces_in (groups_in (maps_of layers.old.entries) version) row)) else group_of (maps_of layers.old.entries) v q)) }
     ensures cells { OnOk result ((t : ℕ) → held_at (put_in piece (pieces_in (groups_in (maps_of layers.old.entries) version) row)) t ≡ option_or (then_some (covers piece.period t) (held piece)) (held_at (pieces_in (groups_in (maps_of layers.old.entries) version) row) t)) }
+    ensures times { OnOk result ((q : Row) → times (maps_of layers.new.entries) q ≡ times (maps_of layers.old.entries) q + (if is_same row q && is_none (group_of (maps_of layers.old.entries) version row) then 1 else 0)) }
+    ensures order { OnOk result (IsStrictlySortedBy nat_cmp (keys_of (maps_of layers.new.entries))) }
     ensures err { OnErr result (maps_of layers.new.entries ≡ maps_of layers.old.entries) }
 {
     if let Some(layer) = layers.get_mut(&version) {
@@ -100,13 +115,4 @@ pub fn own_layer(
         lay_version_under(alloc, &mut own, layers, version)?;
     }
     Ok(own)
-}
-
-/// Drops what some versions store.
-pub fn drop_layers(layers: &mut Layers, versions: &[u64])
-    ensures { (v : ℕ) → groups_in (maps_of layers.new.entries) v ≡ (if list_any (nat_eq v) versions.now then [] else groups_in (maps_of layers.old.entries) v) }
-{
-    for version in versions {
-        let _ = layers.remove(version);
-    }
 }

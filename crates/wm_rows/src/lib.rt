@@ -2,6 +2,7 @@
 //! holds at a cell is the nearest piece on its path, so that versions share what stands below them.
 #![tactic(auto)]
 
+mod counted;
 mod counts;
 pub mod keys;
 mod layer;

@@ -1,16 +1,22 @@
-ghost use Rattle.std.specs.Prelude.{◌≡◌, ℕ, ◌==◌, ◌&&◌, false, nat_eq, List, [], None, if◌then◌else◌, IsOk, IfOk, OnOk, OnErr};
+ghost use Rattle.std.specs.Prelude.{◌≡◌, ℕ, ◌==◌, ◌&&◌, ◌↔◌, false, nat_eq, List, Contains, [], None, if◌then◌else◌, IsOk, IfOk, OnOk, OnErr};
 ghost use Rattle.std.specs.Bool.{then_some};
 ghost use Rattle.std.specs.List.{list_any};
+ghost use Rattle.std.specs.List.Sorted.{IsStrictlySortedBy};
 ghost use Rattle.std.specs.Option.{option_or, IsSomeAnd};
+ghost use Rattle.wm_base.specs.Key.{key_order};
 ghost use Rattle.wm_base.specs.Period.{covers};
+ghost use Rattle.wm_base.specs.declared.value.Value.{Value};
 ghost use Rattle.wm_period.specs.Pieces.{held, held_at};
 ghost use Rattle.wm_rows.specs.Own.{own_at};
-ghost use Rattle.wm_rows.specs.Rows.{is_same, stored, seen_in, own_in};
+ghost use Rattle.wm_rows.specs.Rows.{IsStored, is_same, stored, seen_in, own_in};
 ghost use Rattle.wm_rows.specs.declared.row_key.RowKey.{RowKey as Row};
 ghost use Rattle.wm_tree.specs.Versions.{IsTree, version_in, path_in};
 ghost use Rattle.wm_tree.specs.declared.version.Version.{Version};
 
-use crate::layers::{Layers, drop_layers, own_layer, seen_pieces, write_piece};
+use crate::counted::{drop_all_counted, write_counted};
+use crate::counts::{Counts, counted_keys};
+use crate::keys::Keys;
+use crate::layers::{Layers, own_layer, seen_pieces};
 use crate::own::OwnPieces;
 use crate::row_key::RowKey;
 use std::alloc::Global;
@@ -24,15 +30,19 @@ use wm_tree::Tree;
 #[derive(Drop)]
 pub struct Rows {
     layers: Layers,
+    counts: Counts,
 }
 
 impl Model for Rows {
     ghost use Rattle.wm_rows.specs.Maps.{maps_of};
+    ghost use Rattle.wm_rows.specs.Counts.{Counted};
     ghost use Rattle.wm_rows.specs.Rows.{Layers as Stored};
 
     ghost Value = { Stored };
 
     ghost view = { λ r. maps_of r.layers.entries };
+
+    ghost invariant = { λ r. Counted (maps_of r.layers.entries) (maps_of r.counts.entries) };
 }
 
 impl Rows {
@@ -42,6 +52,7 @@ impl Rows {
     {
         Rows {
             layers: BTreeMap::new(alloc),
+            counts: BTreeMap::new(alloc),
         }
     }
 
@@ -88,8 +99,15 @@ impl Rows {
         ensures elsewhere { OnOk result ((tree : List Version) (v : ℕ) (row : Row) (t : ℕ) → list_any (nat_eq version) (path_in tree v) ≡ false → seen_in tree self.new v row t ≡ seen_in tree self.old v row t) }
         ensures err { OnErr result (self.new ≡ self.old) }
     {
-        let row = RowKey::of(alloc, table, key)?;
-        write_piece(alloc, &mut self.layers, version, row, piece)
+        write_counted(
+            alloc,
+            &mut self.layers,
+            &mut self.counts,
+            version,
+            table,
+            key,
+            piece,
+        )
     }
 
     /// Lets `to`, which holds nothing yet, hold what `version` does. Nothing is stored for it: `to` sees
@@ -105,10 +123,21 @@ impl Rows {
         Ok(())
     }
 
+    /// The keys of a table of which some version stores pieces, each once.
+    pub fn keys(&self, alloc: Global, table: u16) -> Result<Keys, Memory>
+        ensures ascending { IfOk result (λ keys. IsStrictlySortedBy key_order keys) }
+        ensures stored { IfOk result (λ keys. (key : List Value) → Contains keys key ↔ IsStored self.now table key) }
+    {
+        let keys = counted_keys(alloc, &self.counts, table)?;
+        Ok(Keys::from_vec(keys))
+    }
+
     /// Drops what some versions store.
+    ///
+    /// It takes no memory.
     pub fn drop_versions(&mut self, versions: &[u64])
         ensures { (v : ℕ) (row : Row) (t : ℕ) → stored self.new v row t ≡ (if list_any (nat_eq v) versions.now then None else stored self.old v row t) }
     {
-        drop_layers(&mut self.layers, versions);
+        drop_all_counted(&mut self.layers, &mut self.counts, versions);
     }
 }

@@ -1,5 +1,6 @@
-use Rattle.std.proofs.Common.{◌≡◌, ℕ, ◌&&◌, cond, eqb, List, Some, refl, sym, ap, ◌∙◌, subst}
-use Rattle.std.specs.BTreeMap.{BTreeMap, is_at}
+use Rattle.std.proofs.Common.{◌≡◌, ◌+◌, ℕ, ◌&&◌, cond, eqb, List, Some, None, is_none, refl, sym, ap, ◌∙◌, subst}
+use Rattle.std.specs.BTreeMap.{BTreeMap, is_at, insert_entry}
+use Rattle.std.specs.List.Sorted.{IsStrictlySortedBy}
 use Rattle.std.specs.Bool.{then_some}
 use Rattle.std.specs.Map.{lookup}
 use Rattle.std.specs.Option.{option_copied_mut, option_or}
@@ -9,7 +10,9 @@ use Rattle.wm_base.specs.Period.{covers}
 use Rattle.wm_period.specs.Pieces.{held, held_at, put_in}
 use Rattle.wm_period.specs.declared.piece.Piece.{Piece}
 use Rattle.wm_rows.proofs.Maps.{map_at-some, map_at-none, write_told, write_kept}
+use Rattle.wm_rows.proofs.Times.{keys_of-maps_of, times_set, times_insert}
 use Rattle.wm_rows.proofs.Writing.{on_ok, on_err}
+use Rattle.wm_rows.specs.Counts.{times}
 use Rattle.wm_rows.specs.Maps.{maps_of}
 use Rattle.wm_rows.specs.Rows.{Groups, groups_in, group_in, group_of, pieces_in, is_same, row_order}
 use Rattle.wm_rows.specs.declared.row_key.RowKey.{RowKey}
@@ -61,3 +64,34 @@ returns-clause-cells c =
     map_at-none c.args.layers.now.entries c.args.version (sym c.get_mut.ensures.value ∙ ap option_copied_mut c.in_default.is) ∙ sym c.new-layer.ensures.empty in
     let P : Groups → Type 0 = λ g. (t : ℕ) → held_at (put_in c.args.piece (pieces_in g c.args.row)) t ≡ option_or (then_some (covers c.args.piece.period t) (held c.args.piece)) (held_at (pieces_in g c.args.row) t) in
     subst P (sym none) c.in_ok-put_piece.ensures.cells
+
+pub returns-in-Some-clause-times : goal.returns-in-Some-clause-times
+returns-in-Some-clause-times c =
+    on_ok c.put_piece.result
+    (λ (wrote : (q : RowKey) → group_in c.put_piece.new.layer.entries q ≡ cond (is_same c.args.row q) (Some (put_in c.args.piece (pieces_in c.in-Some.layer.now.entries c.args.row))) (group_in c.in-Some.layer.now.entries q)).
+    λ q.
+    times_set c.args.layers.now.entries (c.get_mut.follows.lender c.put_piece.new.layer).entries c.args.version c.args.row c.in-Some.layer.now c.put_piece.new.layer
+    (put_in c.args.piece (pieces_in c.in-Some.layer.now.entries c.args.row)) (there c) (c.get_mut.follows.holds c.put_piece.new.layer).0 wrote q
+    ∙ ap (λ (g : Groups). times (maps_of c.args.layers.now.entries) q + cond (is_same c.args.row q && is_none (group_in g c.args.row)) 1 0) (sym (was c)))
+    c.put_piece.ensures.groups
+
+pub returns-in-Some-clause-order : goal.returns-in-Some-clause-order
+returns-in-Some-clause-order c =
+    on_ok c.put_piece.result
+    (λ _. subst (λ l. IsStrictlySortedBy nat_cmp l) (sym (keys_of-maps_of (c.get_mut.follows.lender c.put_piece.new.layer).entries)) (c.get_mut.follows.holds c.put_piece.new.layer).4)
+    c.put_piece.ensures.groups
+
+pub returns-clause-times : goal.returns-clause-times
+returns-clause-times c = λ q.
+    let absent : lookup (is_at (nat_cmp c.args.version)) c.args.layers.now.entries ≡ None = sym c.get_mut.ensures.value ∙ ap option_copied_mut c.in_default.is in
+    let none : groups_in (maps_of c.args.layers.now.entries) c.args.version ≡ c.new-layer.result.entries =
+    map_at-none c.args.layers.now.entries c.args.version absent ∙ sym c.new-layer.ensures.empty in
+    let set : c.insert.new.self.entries ≡ insert_entry nat_cmp c.args.layers.now.entries c.args.version c.put_piece-2.new.layer =
+    c.in_ok-insert.ensures.entries
+    ∙ ap (λ (m : BTreeMap ℕ (BTreeMap RowKey (List Piece))). insert_entry nat_cmp m.entries c.args.version c.put_piece-2.new.layer) c.get_mut.follows.holds-at-none in
+    times_insert c.args.layers.now.entries c.insert.new.self.entries c.args.version c.args.row c.new-layer.result.entries c.put_piece-2.new.layer
+    (put_in c.args.piece (pieces_in c.new-layer.result.entries c.args.row)) absent set c.get_mut.ensures.ordered c.new-layer.ensures.empty c.in_ok-put_piece.ensures.groups q
+    ∙ ap (λ (g : Groups). times (maps_of c.args.layers.now.entries) q + cond (is_same c.args.row q && is_none (group_in g c.args.row)) 1 0) (sym none)
+
+pub returns-clause-order : goal.returns-clause-order
+returns-clause-order c = subst (λ l. IsStrictlySortedBy nat_cmp l) (sym (keys_of-maps_of c.insert.new.self.entries)) c.in_ok-insert.ensures.ordered
