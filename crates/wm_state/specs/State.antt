@@ -1,6 +1,6 @@
 -- The state between two lines. Each workspace has whole lists of its own: no version, no piece, no page is known here.
 use Rattle.std.specs.Prelude.{ℕ, ◌==◌, if◌then◌else◌, List, [], ◌∷◌, ◌++◌, max, length, Option, Some, None, codes}
-use Rattle.wm_graph.specs.Parts.{first}
+use Rattle.std.specs.List.{find}
 use Rattle.wm_spec.specs.Lists.{Entry}
 use Rattle.wm_spec.specs.declared.record.space.FreezeMode.{FreezeMode}
 use Rattle.wm_spec.specs.declared.record.space.FreezeMode.TheVariants.{Free}
@@ -86,7 +86,7 @@ begin s now = record s { sessions = []; moment = max now s.last_moment }
 
 -- the workspace of a number
 abbrev pub workspace_of : List Workspace → ℕ → Option Workspace
-workspace_of spaces number = first (λ (w : Workspace). w.number == number) spaces
+workspace_of spaces number = find (λ (w : Workspace). w.number == number) spaces
 
 -- the workspaces with a change to the one of this number
 abbrev pub with_space : ℕ → (Workspace → Workspace) → List Workspace → List Workspace
