@@ -8,7 +8,7 @@ pub mod copies;
 pub mod expressions;
 pub mod fault;
 mod fitting;
-mod names;
+pub mod names;
 mod operands;
 mod owned;
 mod periods;

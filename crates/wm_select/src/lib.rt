@@ -5,6 +5,7 @@ mod agree;
 mod beside;
 mod buckets;
 mod condition;
+mod equalities;
 mod found;
 mod pair;
 mod source;
