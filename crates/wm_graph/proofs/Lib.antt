@@ -7,3 +7,4 @@ pub mod Neighbours
 pub mod IndexLemmas
 pub mod Permuted
 pub mod Apart
+pub mod Keeping

@@ -16,10 +16,18 @@ pub fn keeps_rules(alloc: Global, records: &Records) -> Result<bool, Memory>
     ensures { IfOk result (λ kept. kept ≡ keep_rules (parts_of records.now)) }
 {
     let kinds = Kinds::of(alloc, records.as_slice())?;
-    let kept = match kinds.counters.as_slice() {
-        [counters] => keep_rules_with(alloc, &kinds, counters)?,
-        _ => false,
-    };
+    let kept = keep_rules(alloc, &kinds)?;
+    Ok(kept)
+}
+
+/// Whether the records of each kind keep the rules.
+fn keep_rules(alloc: Global, kinds: &Kinds) -> Result<bool, Memory>
+    ensures { IfOk result (λ kept. kept ≡ keep_rules (collected kinds.now)) }
+{
+    if kinds.counters.len() != 1 {
+        return Ok(false);
+    }
+    let kept = keep_rules_with(alloc, kinds, kinds.counters[0])?;
     Ok(kept)
 }
 
