@@ -4,3 +4,4 @@ pub mod FoundLemmas
 pub mod ProductLemmas
 pub mod EqualLemmas
 pub mod SourceLemmas
+pub mod FitLemmas

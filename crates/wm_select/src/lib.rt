@@ -7,5 +7,6 @@ mod buckets;
 mod condition;
 mod equalities;
 mod found;
+mod kept;
 mod pair;
 mod source;
