@@ -1,3 +1,4 @@
 pub mod Ending
 pub mod Arguments
 pub mod Keyed
+pub mod Clauses

@@ -12,5 +12,5 @@ items-smaller c = takes_one (next_source_exact 64 c.items.room) refl c.items.cur
 
 pub items-preserved : goal.items-preserved
 items-preserved c =
-    sources_on c.items.room c.saturating_sub.result (srcs_view c.items.list.items) (srcs_view c.push-in-items.new.self.items) c.items.cursor c.next_source.new.cursor (source_list_at 64 c.args.aggregate c.args.cursor.now) (src_view c.in_ok-next.next)
-    c.saturating_sub.ensures (seen_push src_view c.items.list.items c.push-in-items.new.self.items c.in_ok-next.next c.in_ok-push-2.ensures.items) c.items-test.ensures c.in_ok-next.ensures c.items.invariant
+    sources_on c.items.room c.saturating_sub-room.result (srcs_view c.items.list.items) (srcs_view c.push-in-items.new.self.items) c.items.cursor c.next_source.new.cursor (source_list_at 64 c.args.aggregate c.args.cursor.now) (src_view c.in_ok-next.next)
+    c.saturating_sub-room.ensures (seen_push src_view c.items.list.items c.push-in-items.new.self.items c.in_ok-next.next c.in_ok-push-2.ensures.items) c.items-test.ensures c.in_ok-next.ensures c.items.invariant

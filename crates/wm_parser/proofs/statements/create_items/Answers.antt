@@ -10,5 +10,5 @@ items-smaller c = takes_one (next_item_exact c.items.keyed) refl c.items.cursor 
 
 pub items-preserved : goal.items-preserved
 items-preserved c =
-    items_on c.items.keyed c.keyed_by.result c.items.list.items c.push-in-items.new.self.items c.items.cursor c.next_item.new.cursor (create_items_at c.args.cursor.now) c.in_ok-next.next c.keyed_by.ensures c.in_ok-push-2.ensures.items
+    items_on c.items.keyed c.keyed_by-keyed.result c.items.list.items c.push-in-items.new.self.items c.items.cursor c.next_item.new.cursor (create_items_at c.args.cursor.now) c.in_ok-next.next c.keyed_by-keyed.ensures c.in_ok-push-2.ensures.items
     c.items-test.ensures c.in_ok-next.ensures c.items.invariant
