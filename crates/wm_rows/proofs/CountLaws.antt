@@ -1,6 +1,7 @@
 -- Layers and the counts of their keys, changed together.
-use Rattle.std.proofs.Common.{◌≡◌, ◌≢◌, ◌↔◌, ◌<◌, ◌≤◌, ◌+◌, ◌-◌, ℕ, Bool, true, false, cond, ◌&&◌, eqb, List, [], ◌∷◌, ◌++◌, Option, Some, None, is_some, is_none, Result, Ok, Err, refl, sym, ap, ◌∙◌, subst, arith, ◌⊎◌, inl, inr}
+use Rattle.std.proofs.Common.{◌≡◌, ◌↔◌, ◌<◌, ◌≤◌, ◌+◌, ◌-◌, ℕ, Bool, true, false, cond, ◌&&◌, eqb, leb, ltb, List, [], Option, Some, None, is_some, is_none, Result, Ok, Err, refl, sym, ap, ◌∙◌, subst, arith, ◌⊎◌, inl, inr}
 use Rattle.std.proofs.lemmas.Bool.{cases_eq, cases_Bool, cases_lt, eq-eqb, ne_eqb, lt-ltb, le-ltb}
+use Rattle.std.proofs.lemmas.Bool.Decides.{nat_tests}
 use Rattle.std.proofs.lemmas.Cmp.{eq_by_cmp_equiv}
 use Rattle.std.proofs.lemmas.Map.Views.{Contains-keys_from_lookup, IsSome-lookup_from_Contains, tells_apart}
 use Rattle.std.specs.BTreeMap.{is_at}
@@ -8,21 +9,21 @@ use Rattle.std.specs.Bool.{then_some}
 use Rattle.std.specs.List.{Contains}
 use Rattle.std.specs.List.Sorted.{IsStrictlySortedBy}
 use Rattle.std.specs.Map.{lookup, keys_of}
-use Rattle.std.specs.Option.{IsSome, unwrap_or}
+use Rattle.std.specs.Option.{IsSome, option_or, unwrap_or}
 use Rattle.std.specs.Ordering.{nat_cmp, is_eq}
 use Rattle.std.specs.Prelude.{OnOk, OnErr}
 use Rattle.wm_base.specs.Key.{key_order}
 use Rattle.wm_base.specs.Orders.{key_order_total, key_order-equal}
 use Rattle.wm_base.specs.declared.value.Value.{Value}
-use Rattle.wm_base.specs.declared.instant.TheConstants.{END}
-use Rattle.wm_period.specs.Pieces.{put_in, parts_in}
+use Rattle.wm_base.specs.Period.{covers}
+use Rattle.wm_period.specs.Pieces.{held, held_at, put_in}
 use Rattle.wm_period.specs.declared.piece.Piece.{Piece}
 use Rattle.wm_rows.proofs.Counting.{positive-some, count-positive, positive_itself}
 use Rattle.wm_rows.proofs.Lookups.{cases_row, is_same-itself, is_same-parts}
 use Rattle.wm_rows.proofs.Times.{times-some, some-times}
-use Rattle.wm_rows.specs.Counts.{Counts, Counted, entry_at, count_at, positive, stores, times}
+use Rattle.wm_rows.specs.Counts.{Counts, Counted, HasTime, entry_at, count_at, positive, stores, times}
 use Rattle.wm_rows.specs.Maps.{map_at}
-use Rattle.wm_rows.specs.Rows.{Groups, Layers, IsStored, is_same, group_in, group_of, groups_in, pieces_in}
+use Rattle.wm_rows.specs.Rows.{Groups, Layers, IsStored, is_same, group_in, group_of, groups_in}
 use Rattle.wm_rows.specs.declared.row_key.RowKey.{RowKey}
 
 -- what holds whether a call succeeds or fails
@@ -42,33 +43,44 @@ counted_positive layers counts table key counted = positive_itself (times layers
 
 -- ---- a piece written
 
-some_apart : (xs ys : List Piece) (p : Piece) → xs ++ p ∷ ys ≢ []
-some_apart [] ys p e = cc
-some_apart (x ∷ xs) ys p e = cc
+covers-first : (x y : ℕ) → x < y → (leb x x && ltb x y) ≡ true
+covers-first x y less = grind (arith, nat_tests)
 
--- pieces with one put over them are some
-pub put_in-some : (p : Piece) (ps : List Piece) → put_in p ps ≢ []
-put_in-some p ps = some_apart (parts_in 0 p.period.from ps) (parts_in p.period.till END ps) p
+-- with a piece put over them, pieces hold something when the piece begins
+pub written_time : (piece : Piece) (pieces : List Piece) → piece.period.from < piece.period.till
+    → ((t : ℕ) → held_at (put_in piece pieces) t ≡ option_or (then_some (covers piece.period t) (held piece)) (held_at pieces t)) → HasTime (put_in piece pieces)
+written_time piece pieces long cells = (
+  piece.period.from,
+  subst IsSome
+  (sym (cells piece.period.from
+  ∙ ap (λ b. option_or (then_some b (held piece)) (held_at pieces piece.period.from)) (covers-first piece.period.from piece.period.till long)))
+  refl,
+)
 
-full_written : (old new : Layers) (version : ℕ) (row : RowKey) (pieces : List Piece) → ((v : ℕ) (q : RowKey) → group_of old v q ≢ Some []) → pieces ≢ []
+full_written : (old new : Layers) (version : ℕ) (row : RowKey) (pieces : List Piece) → ((v : ℕ) (q : RowKey) (ps : List Piece) → group_of old v q ≡ Some ps → HasTime ps) → HasTime pieces
     → ((v : ℕ) (q : RowKey) → group_of new v q ≡ cond (eqb version v && is_same row q) (Some pieces) (group_of old v q))
-    → (v : ℕ) (q : RowKey) → group_of new v q ≢ Some []
-full_written old new version row pieces full some groups v q = by_test (eqb version v && is_same row q) (groups v q)
+    → (v : ℕ) (q : RowKey) (ps : List Piece) → group_of new v q ≡ Some ps → HasTime ps
+full_written old new version row pieces full time groups v q ps there = by_test (eqb version v && is_same row q) (groups v q)
   where
-    by_test : (b : Bool) → group_of new v q ≡ cond b (Some pieces) (group_of old v q) → group_of new v q ≢ Some []
-    by_test true is empty = some (let e : Some pieces ≡ Some [] = sym is ∙ empty in cc)
-    by_test false is empty = full v q (sym is ∙ empty)
+    same_pieces : (a b : List Piece) → Some a ≡ Some b → a ≡ b
+    same_pieces a b e = cc
+
+    by_test : (b : Bool) → group_of new v q ≡ cond b (Some pieces) (group_of old v q) → HasTime ps
+    by_test true is =
+        let P : List Piece → Type 0 = λ l. (t : ℕ) × IsSome (held_at l t) in
+        subst P (same_pieces pieces ps (sym is ∙ there)) time
+    by_test false is = full v q ps (sym is ∙ there)
 
 -- a version that stores the row already is not counted again
 pub counted_kept : (old new : Layers) (counts : Counts) (version : ℕ) (row : RowKey) (pieces : List Piece) → Counted old counts → is_none (group_of old version row) ≡ false
     → ((q : RowKey) → times new q ≡ times old q + cond (is_same row q && is_none (group_of old version row)) 1 0)
-    → IsStrictlySortedBy nat_cmp (keys_of new) → pieces ≢ []
+    → IsStrictlySortedBy nat_cmp (keys_of new) → HasTime pieces
     → ((v : ℕ) (q : RowKey) → group_of new v q ≡ cond (eqb version v && is_same row q) (Some pieces) (group_of old v q))
     → Counted new counts
-counted_kept old new counts version row pieces counted there more order some groups = record {
+counted_kept old new counts version row pieces counted there more order time groups = record {
   exact = λ t k. counted.exact t k ∙ ap positive (sym (same (record { table = t; key = k })));
   order = order;
-  full = full_written old new version row pieces counted.full some groups;
+  full = full_written old new version row pieces counted.full time groups;
 }
   where
     nothing : (b : Bool) → ◌≡◌ {A = ℕ} (cond (b && false) 1 0) 0
@@ -84,13 +96,13 @@ counted_kept old new counts version row pieces counted there more order some gro
 pub counted_more : (old new : Layers) (counts next : Counts) (version : ℕ) (row : RowKey) (pieces : List Piece) → Counted old counts → is_none (group_of old version row) ≡ true
     → ((t : ℕ) (k : List Value) → entry_at next t k ≡ cond (eqb row.table t && is_eq (key_order row.key k)) (Some (count_at counts row.table row.key + 1)) (entry_at counts t k))
     → ((q : RowKey) → times new q ≡ times old q + cond (is_same row q && is_none (group_of old version row)) 1 0)
-    → IsStrictlySortedBy nat_cmp (keys_of new) → pieces ≢ []
+    → IsStrictlySortedBy nat_cmp (keys_of new) → HasTime pieces
     → ((v : ℕ) (q : RowKey) → group_of new v q ≡ cond (eqb version v && is_same row q) (Some pieces) (group_of old v q))
     → Counted new next
-counted_more old new counts next version row pieces counted absent counts_more more order some groups = record {
+counted_more old new counts next version row pieces counted absent counts_more more order time groups = record {
   exact = λ t k. by_row t k (cases_row row (record { table = t; key = k }));
   order = order;
-  full = full_written old new version row pieces counted.full some groups;
+  full = full_written old new version row pieces counted.full time groups;
 }
   where
     at : (t : ℕ) (k : List Value) → entry_at next t k ≡ cond (is_same row (record { table = t; key = k })) (Some (count_at counts row.table row.key + 1)) (entry_at counts t k)
@@ -170,12 +182,12 @@ counted_dropped old new counts next version layer counted less order groups posi
       let now : count_at next t k ≡ times new q = omega (arith, was, less q, lowered t k) in
       positives t k ∙ ap positive now;
   order = order;
-  full = λ v q. by_test v q (eqb version v) (groups v);
+  full = λ v q ps there. by_test v q ps (eqb version v) (groups v) there;
 }
   where
-    by_test : (v : ℕ) (q : RowKey) (b : Bool) → groups_in new v ≡ cond b [] (groups_in old v) → group_of new v q ≢ Some []
-    by_test v q true is empty = let none : None ≡ Some [] = sym (ap (λ (g : Groups). group_in g q) is) ∙ empty in cc
-    by_test v q false is empty = counted.full v q (sym (ap (λ (g : Groups). group_in g q) is) ∙ empty)
+    by_test : (v : ℕ) (q : RowKey) (ps : List Piece) (b : Bool) → groups_in new v ≡ cond b [] (groups_in old v) → group_of new v q ≡ Some ps → HasTime ps
+    by_test v q ps true is there = absurd (let none : None ≡ Some ps = sym (ap (λ (g : Groups). group_in g q) is) ∙ there in cc)
+    by_test v q ps false is there = counted.full v q ps (sym (ap (λ (g : Groups). group_in g q) is) ∙ there)
 
 -- enough versions are counted for each row of a layer
 pub enough : (old new : Layers) (counts : Counts) (layer : Groups) → Counted old counts → ((q : RowKey) → times new q + stores q layer ≡ times old q)
@@ -197,15 +209,15 @@ positive_some n some = by_number (cases_lt 0 n)
 some_positive : (n : ℕ) → 0 < n → IsSome (positive n)
 some_positive n some = ap (λ b. is_some (then_some b n)) (lt-ltb 0 n some)
 
-some_pieces : (o : Option (List Piece)) → IsSome o → o ≢ Some [] → unwrap_or o [] ≢ []
-some_pieces None some full = cc
-some_pieces (Some ps) some full = λ empty. full (ap (λ (l : List Piece). Some l) empty)
+some_time : (o : Option (List Piece)) → IsSome o → ((ps : List Piece) → o ≡ Some ps → HasTime ps) → HasTime (unwrap_or o [])
+some_time None some full = cc
+some_time (Some ps) some full = full ps refl
 
-pieces_some : (o : Option (List Piece)) → unwrap_or o [] ≢ [] → IsSome o
-pieces_some None some = absurd (some refl)
-pieces_some (Some ps) some = refl
+time_some : (o : Option (List Piece)) (t : ℕ) → IsSome (held_at (unwrap_or o []) t) → IsSome o
+time_some None t some = cc
+time_some (Some ps) t some = refl
 
--- the keys with a count are those of which some version stores pieces
+-- the keys with a count are those of which some version stores something
 pub keys_stored : (layers : Layers) (counts : Counts) (table : ℕ) (key : List Value) → Counted layers counts → Contains (keys_of (map_at counts table)) key ↔ IsStored layers table key
 keys_stored layers counts table key counted =
     let row : RowKey = record { table = table; key = key } in
@@ -214,9 +226,10 @@ keys_stored layers counts table key counted =
   let some : IsSome (entry_at counts table key) = IsSome-lookup_from_Contains (eq_by_cmp_equiv key_order_total) key (map_at counts table) among in
   let counts' : IsSome (positive (times layers row)) = subst IsSome (counted.exact table key) some in
   let found = some-times layers row counted.order (positive_some (times layers row) counts') in
-  (found.0, some_pieces (group_of layers found.0 row) found.1 (counted.full found.0 row))),
+  let time = some_time (group_of layers found.0 row) found.1 (counted.full found.0 row) in
+  (found.0, time.0, time.1)),
   (λ stored.
-  let some : IsSome (group_of layers stored.0 row) = pieces_some (group_of layers stored.0 row) stored.1 in
+  let some : IsSome (group_of layers stored.0 row) = time_some (group_of layers stored.0 row) stored.1 stored.2 in
   let counts' : IsSome (positive (times layers row)) = some_positive (times layers row) (times-some layers stored.0 row some) in
   Contains-keys_from_lookup (tells_apart key_order-equal) key (map_at counts table) (subst IsSome (sym (counted.exact table key)) counts')),
 )

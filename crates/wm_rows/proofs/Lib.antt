@@ -8,3 +8,5 @@ pub mod Counting
 pub mod Times
 pub mod CountLaws
 pub mod Dropping
+pub mod EntryLaws
+pub mod Bases

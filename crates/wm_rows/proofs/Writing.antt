@@ -6,19 +6,21 @@ use Rattle.std.specs.BTreeMap.{BTreeMap, is_at}
 use Rattle.std.specs.Bool.{then_some}
 use Rattle.std.specs.List.{list_any}
 use Rattle.std.specs.Map.{lookup}
-use Rattle.std.specs.Option.{option_or, unwrap_or}
+use Rattle.std.specs.Option.{IsSome, option_or, unwrap_or}
 use Rattle.std.specs.Ordering.{nat_cmp}
 use Rattle.std.specs.Prelude.{OnOk, OnErr}
 use Rattle.wm_base.specs.Period.{covers}
 use Rattle.wm_period.specs.Pieces.{Held, held, held_at, put_in}
 use Rattle.wm_period.specs.declared.piece.Piece.{Piece}
+use Rattle.wm_rows.proofs.Laying.{option_or_assoc}
 use Rattle.wm_rows.proofs.Lookups.{cases_row, is_same-itself}
 use Rattle.wm_rows.proofs.Maps.{is_at-number, entries_or_none, map_at-maps_of, map_at-none}
 use Rattle.wm_rows.proofs.Paths.{nearest-kept}
 use Rattle.wm_rows.specs.Maps.{maps_of}
-use Rattle.wm_rows.specs.Rows.{Groups, Layers, is_same, group_of, pieces_in, groups_in, stored, seen_in}
+use Rattle.wm_rows.specs.Rows.{Groups, Layers, is_same, group_of, pieces_in, groups_in, stored, nearest, seen_in}
 use Rattle.wm_rows.specs.declared.row_key.RowKey.{RowKey}
-use Rattle.wm_tree.specs.Versions.{path_in}
+use Rattle.wm_tree.proofs.Paths.{path_in-there, not_on_path, found}
+use Rattle.wm_tree.specs.Versions.{IsTree, version_in, path_in}
 use Rattle.wm_tree.specs.declared.version.Version.{Version}
 
 -- ---- results
@@ -31,9 +33,9 @@ pub on_ok2 : {A E P Q R : Type 0} (r : Result A E) → (P → Q → R) → OnOk 
 on_ok2 (Ok x) f p q = f p q
 on_ok2 (Err e) f p q = tt
 
-pub on_ok3 : {A E P Q R S : Type 0} (r : Result A E) → (P → Q → R → S) → OnOk r P → OnOk r Q → OnOk r R → OnOk r S
-on_ok3 (Ok x) f p q s = f p q s
-on_ok3 (Err e) f p q s = tt
+pub on_ok4 : {A E P Q R S T : Type 0} (r : Result A E) → (P → Q → R → S → T) → OnOk r P → OnOk r Q → OnOk r R → OnOk r S → OnOk r T
+on_ok4 (Ok x) f p q r s = f p q r s
+on_ok4 (Err e) f p q r s = tt
 
 pub on_err : {A E P Q : Type 0} (r : Result A E) → (P → Q) → OnErr r P → OnErr r Q
 on_err (Ok x) f p = tt
@@ -71,6 +73,27 @@ pub seen-written : (old new : Layers) (version : ℕ) (row : RowKey) (pieces : L
 seen-written old new version row pieces groups tree v q t off =
     nearest-kept new old (path_in tree v) version q t off
     (λ w away. ap (λ (o : Option (List Piece)). held_at (unwrap_or o []) t) (groups w q ∙ ap (λ b. cond (b && is_same row q) (Some pieces) (group_of old w q)) (ne_eqb version w away)))
+
+-- the written version sees the piece over what it saw
+pub seen-here : (old new : Layers) (version : ℕ) (row : RowKey) (piece : Piece)
+    → ((v : ℕ) (q : RowKey) → group_of new v q ≡ cond (eqb version v && is_same row q) (Some (put_in piece (pieces_in (groups_in old version) row))) (group_of old v q))
+    → ((t : ℕ) → held_at (put_in piece (pieces_in (groups_in old version) row)) t ≡ option_or (then_some (covers piece.period t) (held piece)) (held_at (pieces_in (groups_in old version) row) t))
+    → (tree : List Version) (q : RowKey) (t : ℕ) → IsTree tree → IsSome (version_in tree version)
+    → seen_in tree new version q t ≡ option_or (then_some (is_same row q && covers piece.period t) (held piece)) (seen_in tree old version q t)
+seen-here old new version row piece groups cells tree q t is there = by_version (version_in tree version) refl there
+  where
+    by_version : (o : Option Version) → version_in tree version ≡ o → IsSome o → seen_in tree new version q t ≡ option_or (then_some (is_same row q && covers piece.period t) (held piece)) (seen_in tree old version q t)
+    by_version None e some = cc
+    by_version (Some x) e some =
+        let path : path_in tree version ≡ version ∷ path_in tree x.parent = path_in-there tree version x is e in
+        let off : list_any (nat_eq version) (path_in tree x.parent) ≡ false = not_on_path tree x.parent version is (found tree version x is e).parent in
+        ap (λ (l : List ℕ). nearest new l q t) path
+        ∙ ap (λ (o : Option Held). option_or o (nearest new (path_in tree x.parent) q t)) (stored-written old new version row piece groups cells version q t)
+        ∙ ap (λ b. option_or (option_or (then_some ((b && is_same row q) && covers piece.period t) (held piece)) (stored old version q t)) (nearest new (path_in tree x.parent) q t)) (eq-eqb version version refl)
+        ∙ option_or_assoc (then_some (is_same row q && covers piece.period t) (held piece)) (stored old version q t) (nearest new (path_in tree x.parent) q t)
+        ∙ ap (λ (o : Option Held). option_or (then_some (is_same row q && covers piece.period t) (held piece)) (option_or (stored old version q t) o))
+        (seen-written old new version row (put_in piece (pieces_in (groups_in old version) row)) groups tree x.parent q t off)
+        ∙ ap (λ (l : List ℕ). option_or (then_some (is_same row q && covers piece.period t) (held piece)) (nearest old l q t)) (sym path)
 
 -- ---- layers dropped
 

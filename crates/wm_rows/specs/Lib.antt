@@ -3,3 +3,4 @@ pub mod Rows
 pub mod RowOrder
 pub mod Own
 pub mod Counts
+pub mod Entries

@@ -1,5 +1,5 @@
 -- What versions store and see.
-use Rattle.std.specs.Prelude.{ℕ, ◌≢◌, ◌==◌, Bool, if◌then◌else◌, List, [], ◌∷◌, Option, None, unwrap_or}
+use Rattle.std.specs.Prelude.{ℕ, ◌==◌, Bool, if◌then◌else◌, List, [], ◌∷◌, Option, None, IsSome, unwrap_or}
 use Rattle.std.specs.BTreeMap.{is_at}
 use Rattle.std.specs.Map.{lookup}
 use Rattle.std.specs.Option.{option_or}
@@ -68,6 +68,6 @@ above base (version ∷ versions) = (if version == base then [] else version ∷
 abbrev pub own_in : List Version → Layers → ℕ → ℕ → RowKey → ℕ → Option Held
 own_in tree layers version base row t = nearest layers (above base (path_in tree version)) row t
 
--- some version stores pieces of a key
+-- some version stores something of a key at some moment
 abbrev pub IsStored : Layers → ℕ → List Value → Type 0
-IsStored layers table key = (version : ℕ) × (pieces_in (groups_in layers version) (record { table = table; key = key }) ≢ [])
+IsStored layers table key = (version : ℕ) × (t : ℕ) × IsSome (stored layers version (record { table = table; key = key }) t)

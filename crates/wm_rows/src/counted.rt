@@ -34,6 +34,7 @@ pub fn write_counted(
     ensures cells { OnOk result ((t : ℕ) → held_at (put_in piece (pieces_in (groups_in (maps_of layers.old.entries) version) (record { table = table; key = key.now }))) t ≡ option_or (then_some (covers piece.period t) (held piece)) (held_at (pieces_in (groups_in (maps_of layers.old.entries) version) (record { table = table; key = key.now })) t)) }
     ensures err { OnErr result (maps_of layers.new.entries ≡ maps_of layers.old.entries) }
 {
+    let _order = piece.period.from();
     let row = RowKey::of(alloc, table, key)?;
     if !is_new(layers, version, &row) {
         return write_piece(alloc, layers, version, row, piece);

@@ -1,10 +1,10 @@
 //! What all versions store: a layer for each.
 
-ghost use Rattle.std.specs.Prelude.{◌≡◌, ℕ, ◌==◌, ◌&&◌, ◌+◌, ◌<◌, ◌^◌, Some, is_none, if◌then◌else◌, IfOk, OnOk, OnErr};
+ghost use Rattle.std.specs.Prelude.{◌≡◌, ℕ, ◌==◌, ◌&&◌, ◌+◌, ◌<◌, ◌^◌, Some, is_none, if◌then◌else◌, IsTrue, IfSome, IfOk, OnOk, OnErr};
 ghost use Rattle.std.specs.Bool.{then_some};
 ghost use Rattle.std.specs.List.Sorted.{IsStrictlySortedBy};
 ghost use Rattle.std.specs.Map.{keys_of};
-ghost use Rattle.std.specs.Option.{option_copied, option_or};
+ghost use Rattle.std.specs.Option.{option_copied, option_map, option_or};
 ghost use Rattle.std.specs.Ordering.{nat_cmp};
 ghost use Rattle.wm_base.specs.Period.{covers};
 ghost use Rattle.wm_period.specs.Pieces.{held, held_at, put_in};
@@ -17,7 +17,7 @@ use crate::layer::{Layer, lay_under, put_piece};
 use crate::row_key::RowKey;
 use std::alloc::Global;
 use std::collections::BTreeMap;
-use wm_base::Memory;
+use wm_base::{Instant, Memory};
 use wm_period::{Piece, Pieces};
 use wm_tree::Tree;
 
@@ -80,6 +80,33 @@ pub fn seen_pieces(
         }
     }
     Ok(seen)
+}
+
+/// The piece that a version stores of a row at an instant.
+fn piece_at(layers: &Layers, version: u64, row: &RowKey, at: Instant) -> Option<Piece>
+    ensures held { option_map held result ≡ stored (maps_of layers.now.entries) version row.now at }
+    ensures covers { IfSome result (λ piece. IsTrue (covers piece.period at)) }
+{
+    group(layers, version, row)?.covering(at)
+}
+
+/// What a version holds of a row at an instant: the piece of the nearest version on its path that has one.
+pub fn seen_piece(
+    layers: &Layers,
+    tree: &Tree,
+    version: u64,
+    row: &RowKey,
+    at: Instant,
+) -> Option<Piece>
+    ensures held { option_map held result ≡ seen_in tree.now.versions (maps_of layers.now.entries) version row.now at }
+    ensures covers { IfSome result (λ piece. IsTrue (covers piece.period at)) }
+{
+    for version in tree.path(version) {
+        if let Some(piece) = piece_at(layers, version, row, at) {
+            return Some(piece);
+        }
+    }
+    None
 }
 
 /// Lays what a version stores under what stands.

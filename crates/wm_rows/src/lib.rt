@@ -5,12 +5,15 @@
 mod counted;
 mod counts;
 pub mod keys;
+pub mod laws;
 mod layer;
 mod layers;
 pub mod own;
 pub mod row_key;
 mod row_order;
 pub mod rows;
+#[cfg(test)]
+mod tests;
 
 pub use keys::Keys;
 pub use own::{OwnPiece, OwnPieces};

@@ -1,8 +1,8 @@
-ghost use Rattle.std.specs.Prelude.{◌≡◌, ℕ, ◌==◌, ◌&&◌, ◌↔◌, false, nat_eq, List, Contains, [], None, if◌then◌else◌, IsOk, IfOk, OnOk, OnErr};
+ghost use Rattle.std.specs.Prelude.{◌≡◌, ℕ, ◌==◌, ◌&&◌, ◌↔◌, false, nat_eq, List, Contains, [], None, if◌then◌else◌, IsTrue, IsSome, IfSome, IsOk, IfOk, OnOk, OnErr};
 ghost use Rattle.std.specs.Bool.{then_some};
 ghost use Rattle.std.specs.List.{list_any};
 ghost use Rattle.std.specs.List.Sorted.{IsStrictlySortedBy};
-ghost use Rattle.std.specs.Option.{option_or, IsSomeAnd};
+ghost use Rattle.std.specs.Option.{option_map, option_or, IsSomeAnd};
 ghost use Rattle.wm_base.specs.Key.{key_order};
 ghost use Rattle.wm_base.specs.Period.{covers};
 ghost use Rattle.wm_base.specs.declared.value.Value.{Value};
@@ -16,13 +16,13 @@ ghost use Rattle.wm_tree.specs.declared.version.Version.{Version};
 use crate::counted::{drop_all_counted, write_counted};
 use crate::counts::{Counts, counted_keys};
 use crate::keys::Keys;
-use crate::layers::{Layers, own_layer, seen_pieces};
+use crate::layers::{Layers, own_layer, seen_piece, seen_pieces};
 use crate::own::OwnPieces;
 use crate::row_key::RowKey;
 use std::alloc::Global;
 use std::collections::BTreeMap;
 use std::marker::Model;
-use wm_base::{Key, Memory};
+use wm_base::{Instant, Key, Memory};
 use wm_period::{Piece, Pieces};
 use wm_tree::Tree;
 
@@ -71,6 +71,16 @@ impl Rows {
         seen_pieces(alloc, &self.layers, tree, version, &row)
     }
 
+    /// What a version holds of a row at one instant, or None where it holds nothing there.
+    ///
+    /// It takes no memory. It is found in as many look-ups as the path has versions, at most.
+    pub fn seen_at(&self, tree: &Tree, version: u64, row: &RowKey, at: Instant) -> Option<Piece>
+        ensures held { option_map held result ≡ seen_in tree.now.versions self.now version row.now at }
+        ensures covers { IfSome result (λ piece. IsTrue (covers piece.period at)) }
+    {
+        seen_piece(&self.layers, tree, version, row, at)
+    }
+
     /// What a version holds that stands above a base version on its path, for all rows.
     pub fn own(
         &self,
@@ -95,6 +105,8 @@ impl Rows {
         piece: Piece,
     ) -> Result<(), Memory>
         ensures ok { OnOk result ((v : ℕ) (row : Row) (t : ℕ) → stored self.new v row t ≡ option_or (then_some (((version == v) && is_same (record { table = table; key = key.now }) row) && covers piece.period t) (held piece)) (stored self.old v row t)) }
+        // the version sees the piece over what it saw
+        ensures here { OnOk result ((tree : List Version) (row : Row) (t : ℕ) → IsTree tree → IsSome (version_in tree version) → seen_in tree self.new version row t ≡ option_or (then_some (is_same (record { table = table; key = key.now }) row && covers piece.period t) (held piece)) (seen_in tree self.old version row t)) }
         // a version that does not stand on the written one sees what it saw
         ensures elsewhere { OnOk result ((tree : List Version) (v : ℕ) (row : Row) (t : ℕ) → list_any (nat_eq version) (path_in tree v) ≡ false → seen_in tree self.new v row t ≡ seen_in tree self.old v row t) }
         ensures err { OnErr result (self.new ≡ self.old) }

@@ -4,8 +4,8 @@ use Rattle.wm_base.specs.Key.{key_order}
 use Rattle.wm_base.specs.declared.value.Value.{Value}
 use Rattle.wm_period.specs.Pieces.{put_in}
 use Rattle.wm_period.specs.declared.piece.Piece.{Piece}
-use Rattle.wm_rows.proofs.CountLaws.{either_way, counted_kept, counted_more, counted_back, put_in-some}
-use Rattle.wm_rows.proofs.Writing.{on_ok3, on_err}
+use Rattle.wm_rows.proofs.CountLaws.{either_way, counted_kept, counted_more, counted_back, written_time}
+use Rattle.wm_rows.proofs.Writing.{on_ok4, on_err}
 use Rattle.wm_rows.specs.Counts.{Counted, entry_at, count_at}
 use Rattle.wm_rows.specs.Maps.{maps_of}
 use Rattle.wm_rows.specs.Rows.{Layers, groups_in, pieces_in}
@@ -16,12 +16,12 @@ pub returns-then-not-is_new-clause-counted : goal.returns-then-not-is_new-clause
 returns-then-not-is_new-clause-counted c =
     let put : List Piece = put_in c.args.piece (pieces_in (groups_in (maps_of c.args.layers.now.entries) c.args.version) c.in_ok-row.row) in
     either_way c.write_piece.result
-    (on_ok3 c.write_piece.result
-    (λ times order groups.
+    (on_ok4 c.write_piece.result
+    (λ times order groups cells.
     counted_kept (maps_of c.args.layers.now.entries) (maps_of c.write_piece.new.layers.entries) (maps_of c.args.counts.now.entries) c.args.version c.in_ok-row.row put c.requires
     (sym c.is_new.ensures.value ∙ c.if-not-is_new.true) times order
-    (put_in-some c.args.piece (pieces_in (groups_in (maps_of c.args.layers.now.entries) c.args.version) c.in_ok-row.row)) groups)
-    c.write_piece.ensures.times c.write_piece.ensures.order c.write_piece.ensures.groups)
+    (written_time c.args.piece (pieces_in (groups_in (maps_of c.args.layers.now.entries) c.args.version) c.in_ok-row.row) c.from-order.ensures.order cells) groups)
+    c.write_piece.ensures.times c.write_piece.ensures.order c.write_piece.ensures.groups c.write_piece.ensures.cells)
     (on_err c.write_piece.result
     (λ (same : maps_of c.write_piece.new.layers.entries ≡ maps_of c.args.layers.now.entries). subst (λ (l : Layers). Counted l (maps_of c.args.counts.now.entries)) (sym same) c.requires)
     c.write_piece.ensures.err)
@@ -41,5 +41,5 @@ returns-clause-counted c =
     (sym c.is_new.ensures.value ∙ c.if-not-is_new.false)
     (subst P (sym c.in_ok-row.ensures) c.in_ok-count_more.ensures.ok)
     c.in_default.ensures.times c.in_default.ensures.order
-    (put_in-some c.args.piece (pieces_in (groups_in (maps_of c.args.layers.now.entries) c.args.version) c.in_ok-row.row))
+    (written_time c.args.piece (pieces_in (groups_in (maps_of c.args.layers.now.entries) c.args.version) c.in_ok-row.row) c.from-order.ensures.order c.in_default.ensures.cells)
     c.in_default.ensures.groups

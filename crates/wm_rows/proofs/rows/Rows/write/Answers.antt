@@ -1,15 +1,15 @@
 use Rattle.std.proofs.Common.{◌≡◌, ◌&&◌, false, ℕ, List, eqb, nat_eq, subst}
 use Rattle.std.specs.Bool.{then_some}
 use Rattle.std.specs.List.{list_any}
-use Rattle.std.specs.Option.{option_or}
+use Rattle.std.specs.Option.{IsSome, option_or}
 use Rattle.std.specs.Prelude.{OnOk}
 use Rattle.wm_base.specs.Period.{covers}
 use Rattle.wm_period.specs.Pieces.{held, held_at, put_in}
-use Rattle.wm_rows.proofs.Writing.{on_ok, on_ok2, stored-written, seen-written}
+use Rattle.wm_rows.proofs.Writing.{on_ok, on_ok2, stored-written, seen-here, seen-written}
 use Rattle.wm_rows.specs.Maps.{maps_of}
 use Rattle.wm_rows.specs.Rows.{Layers, group_of, groups_in, pieces_in, is_same, stored, seen_in}
 use Rattle.wm_rows.specs.declared.row_key.RowKey.{RowKey}
-use Rattle.wm_tree.specs.Versions.{path_in}
+use Rattle.wm_tree.specs.Versions.{IsTree, version_in, path_in}
 use Rattle.wm_tree.specs.declared.version.Version.{Version}
 use Rattle.wm_rows.proofs.rows.Rows.write.Goals as goal
 
@@ -25,6 +25,16 @@ returns-clause-ok c =
     subst P c.self.view_is
     (on_ok2 c.write_counted.result
     (stored-written (maps_of c.self.inside.layers.entries) (maps_of c.write_counted.new.layers.entries) c.args.version (row c) c.args.piece)
+    c.write_counted.ensures.groups c.write_counted.ensures.cells)
+
+pub returns-clause-here : goal.returns-clause-here
+unfolding row
+returns-clause-here c =
+    let P : Layers → Type 0 = λ s. OnOk c.write_counted.result ((tree : List Version) (q : RowKey) (t : ℕ) → IsTree tree → IsSome (version_in tree c.args.version)
+        → seen_in tree (maps_of c.write_counted.new.layers.entries) c.args.version q t ≡ option_or (then_some (is_same (row c) q && covers c.args.piece.period t) (held c.args.piece)) (seen_in tree s c.args.version q t)) in
+    subst P c.self.view_is
+    (on_ok2 c.write_counted.result
+    (seen-here (maps_of c.self.inside.layers.entries) (maps_of c.write_counted.new.layers.entries) c.args.version (row c) c.args.piece)
     c.write_counted.ensures.groups c.write_counted.ensures.cells)
 
 pub returns-clause-elsewhere : goal.returns-clause-elsewhere
