@@ -3,3 +3,8 @@ pub mod Changing
 pub mod ById
 pub mod Batches
 pub mod Standing
+pub mod Tests
+pub mod Inserting
+pub mod Laying
+pub mod Newest
+pub mod Apart
