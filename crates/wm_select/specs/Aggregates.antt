@@ -1,5 +1,5 @@
 -- Aggregates of the values that an expression has on the rows of a group. NULL is skipped.
-use Rattle.std.specs.Prelude.{ℕ, Bool, not, if◌then◌else◌, List, [], ◌∷◌, length, filter, Option, Some, option_map, ℤ, pos, ◌+ℤ◌, unwrap_or}
+use Rattle.std.specs.Prelude.{ℕ, Bool, not, ◌==◌, if◌then◌else◌, List, [], ◌∷◌, length, filter, Option, Some, None, option_map, ℤ, pos, ◌+ℤ◌, unwrap_or}
 use Rattle.std.specs.Ordering.{is_lt, is_gt}
 use Rattle.wm_base.specs.declared.tree.query.Agg.{Agg}
 use Rattle.wm_base.specs.declared.tree.query.Agg.TheVariants as aggs
@@ -19,8 +19,7 @@ total (v ∷ vs) = unwrap_or (number_of v) (pos 0) +ℤ total vs
 
 -- the sum where it is in range, NULL of nothing
 abbrev pub sum_of : List Value → Option Value
-sum_of [] = Some values.Null
-sum_of (v ∷ vs) = option_map number_value (in_range (total (v ∷ vs)))
+sum_of vs = if length vs == 0 then Some values.Null else option_map number_value (in_range (total vs))
 
 -- the least of a value and others
 abbrev pub least_from : Value → List Value → Value
@@ -46,3 +45,13 @@ aggregated aggs.Count vs = Some (values.Num (pos (length (present vs))))
 aggregated aggs.Sum vs = sum_of (present vs)
 aggregated aggs.Min vs = Some (least (present vs))
 aggregated aggs.Max vs = Some (greatest (present vs))
+
+-- the least of others beside one that is the least so far, where there is one
+abbrev pub least_beside : Option Value → List Value → Value
+least_beside None vs = least vs
+least_beside (Some v) vs = least_from v vs
+
+-- the greatest, likewise
+abbrev pub greatest_beside : Option Value → List Value → Value
+greatest_beside None vs = greatest vs
+greatest_beside (Some v) vs = greatest_from v vs

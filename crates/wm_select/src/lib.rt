@@ -1,12 +1,15 @@
 //! Queries: the tuples that the conditions keep, in groups, projected, each once, and in order.
 #![tactic(auto)]
 
+mod aggregates;
 mod agree;
 mod beside;
 mod buckets;
 mod condition;
 mod equalities;
 mod found;
+mod items;
 mod kept;
 mod pair;
+mod shown;
 mod source;

@@ -1,0 +1,172 @@
+//! What a query shows for a group of tuples.
+ghost use Rattle.std.specs.Prelude.{◌≡◌, true, map, IfOk};
+ghost use Rattle.std.specs.Result.{IsErrOf};
+ghost use Rattle.wm_base.specs.declared.row.Row.{Row as RowOf};
+ghost use Rattle.wm_base.specs.Trees.{Aggregate, Outs, Out as OutTree};
+ghost use Rattle.wm_base.specs.Views.{expr_view, item_view, outs_view, projection_view};
+ghost use Rattle.wm_spec.specs.Expressions.{value_of, has_no_empty_period};
+ghost use Rattle.wm_select.specs.Query.{all_there, first_row, item_value, projected, shown_of, item_lasts, projection_lasts};
+
+use crate::aggregates::aggregated;
+use crate::shown::Shown;
+use std::alloc::Global;
+use wm_base::tree::expr::Expr;
+use wm_base::tree::query::{Agg, Item, Out, Projection};
+use wm_base::{Columns, Memory, Row, RowList, Value, Values};
+use wm_expr::{ValueFault, value};
+
+/// The values of an expression on the rows.
+fn values_of(
+    alloc: Global,
+    expr: &Expr,
+    columns: &Columns,
+    rows: &[Row],
+) -> Result<Vec<Value>, ValueFault>
+    requires { has_no_empty_period (expr_view expr.now) ≡ true }
+    ensures ok { IfOk result (λ values. all_there (map (λ (row : RowOf). value_of (expr_view expr.now) columns.now row) rows.now) ≡ Some values.items) }
+    ensures out_of_range { IsErrOf result ValueFault.OutOfRange → all_there (map (λ (row : RowOf). value_of (expr_view expr.now) columns.now row) rows.now) ≡ None }
+{
+    let mut values = Vec::new(alloc);
+    for row in rows {
+        let value = value(alloc, expr, columns, row)?;
+        values.push(value).map_err(|_| ValueFault::Memory)?;
+    }
+    Ok(values)
+}
+
+/// A copy of the row that stands for the group: its first, and that of no columns where it is empty.
+fn first_row(alloc: Global, group: &[Row]) -> Result<Row, Memory>
+    ensures { IfOk result (λ row. row ≡ first_row group.now) }
+{
+    match group {
+        [row, ..] => row.copy(alloc),
+        [] => Ok(Row {
+            values: Values::new(alloc),
+        }),
+    }
+}
+
+/// The value of an expression on the row that stands for the group.
+fn plain_value(
+    alloc: Global,
+    expr: &Expr,
+    columns: &Columns,
+    group: &[Row],
+) -> Result<Value, ValueFault>
+    requires { has_no_empty_period (expr_view expr.now) ≡ true }
+    ensures ok { IfOk result (λ value. value_of (expr_view expr.now) columns.now (first_row group.now) ≡ Some value) }
+    ensures out_of_range { IsErrOf result ValueFault.OutOfRange → value_of (expr_view expr.now) columns.now (first_row group.now) ≡ None }
+{
+    let row = first_row(alloc, group).map_err(|_| ValueFault::Memory)?;
+    value(alloc, expr, columns, &row)
+}
+
+/// The aggregate of an expression on the rows of the group.
+fn aggregate_value(
+    alloc: Global,
+    agg: Agg,
+    expr: &Expr,
+    columns: &Columns,
+    group: &[Row],
+) -> Result<Value, ValueFault>
+    requires { has_no_empty_period (expr_view expr.now) ≡ true }
+    ensures ok { IfOk result (λ value. item_value (Aggregate agg (expr_view expr.now)) columns.now group.now ≡ Some value) }
+    ensures out_of_range { IsErrOf result ValueFault.OutOfRange → item_value (Aggregate agg (expr_view expr.now)) columns.now group.now ≡ None }
+{
+    let values = values_of(alloc, expr, columns, group)?;
+    aggregated(alloc, agg, values.as_slice())
+}
+
+/// The value of an item for the group.
+fn item_value(
+    alloc: Global,
+    item: &Item,
+    columns: &Columns,
+    group: &[Row],
+) -> Result<Value, ValueFault>
+    requires { item_lasts (item_view item.now) ≡ true }
+    ensures ok { IfOk result (λ value. item_value (item_view item.now) columns.now group.now ≡ Some value) }
+    ensures out_of_range { IsErrOf result ValueFault.OutOfRange → item_value (item_view item.now) columns.now group.now ≡ None }
+{
+    match item {
+        Item::Expr(expr) => plain_value(alloc, expr, columns, group),
+        Item::CountAll => Ok(Value::Num(group.len() as i64)),
+        Item::Agg { agg, of } => aggregate_value(alloc, *agg, of, columns, group),
+    }
+}
+
+/// The values of the items for the group.
+fn item_values(
+    alloc: Global,
+    outs: &[Out],
+    columns: &Columns,
+    group: &[Row],
+) -> Result<Vec<Value>, ValueFault>
+    requires { projection_lasts (Outs (outs_view outs.now)) ≡ true }
+    ensures ok { IfOk result (λ values. all_there (map (λ (o : OutTree). item_value o.item columns.now group.now) (outs_view outs.now)) ≡ Some values.items) }
+    ensures out_of_range { IsErrOf result ValueFault.OutOfRange → all_there (map (λ (o : OutTree). item_value o.item columns.now group.now) (outs_view outs.now)) ≡ None }
+{
+    let mut values = Vec::new(alloc);
+    for out in outs {
+        let value = item_value(alloc, &out.item, columns, group)?;
+        values.push(value).map_err(|_| ValueFault::Memory)?;
+    }
+    Ok(values)
+}
+
+/// The row that the answer shows for the group.
+fn projected(
+    alloc: Global,
+    projection: &Projection,
+    columns: &Columns,
+    group: &[Row],
+) -> Result<Row, ValueFault>
+    requires { projection_lasts (projection_view projection.now) ≡ true }
+    ensures ok { IfOk result (λ row. projected (projection_view projection.now) columns.now group.now ≡ Some row) }
+    ensures out_of_range { IsErrOf result ValueFault.OutOfRange → projected (projection_view projection.now) columns.now group.now ≡ None }
+{
+    match projection {
+        Projection::All => first_row(alloc, group).map_err(|_| ValueFault::Memory),
+        Projection::Outs(outs) => {
+            let values = item_values(alloc, outs.as_slice(), columns, group)?;
+            Ok(Row {
+                values: Values::from_vec(values),
+            })
+        }
+    }
+}
+
+/// What is shown for the group, with the tuple that stands for it.
+fn shown_of(
+    alloc: Global,
+    projection: &Projection,
+    columns: &Columns,
+    group: &[Row],
+) -> Result<Shown, ValueFault>
+    requires { projection_lasts (projection_view projection.now) ≡ true }
+    ensures ok { IfOk result (λ shown. shown_of (projection_view projection.now) columns.now group.now ≡ Some shown) }
+    ensures out_of_range { IsErrOf result ValueFault.OutOfRange → shown_of (projection_view projection.now) columns.now group.now ≡ None }
+{
+    let row = projected(alloc, projection, columns, group)?;
+    let tuple = first_row(alloc, group).map_err(|_| ValueFault::Memory)?;
+    Ok(Shown { tuple, row })
+}
+
+/// What is shown for each group.
+pub fn all_shown(
+    alloc: Global,
+    projection: &Projection,
+    columns: &Columns,
+    groups: &[RowList],
+) -> Result<Vec<Shown>, ValueFault>
+    requires { projection_lasts (projection_view projection.now) ≡ true }
+    ensures ok { IfOk result (λ shown. all_there (map (shown_of (projection_view projection.now) columns.now) groups.now) ≡ Some shown.items) }
+    ensures out_of_range { IsErrOf result ValueFault.OutOfRange → all_there (map (shown_of (projection_view projection.now) columns.now) groups.now) ≡ None }
+{
+    let mut shown = Vec::new(alloc);
+    for group in groups {
+        let one = shown_of(alloc, projection, columns, group.as_slice())?;
+        shown.push(one).map_err(|_| ValueFault::Memory)?;
+    }
+    Ok(shown)
+}
