@@ -112,7 +112,7 @@ versions_kept p front back a q next old new same e =
 
 -- ---- rows
 
-new_stamp : (p : Parts) (next : ℕ) → are_rows p next ≡ true → list_any (λ (r : RowRecord). r.stamp == next) p.rows ≡ false
+pub new_stamp : (p : Parts) (next : ℕ) → are_rows p next ≡ true → list_any (λ (r : RowRecord). r.stamp == next) p.rows ≡ false
 new_stamp p next e =
     let h = both (differ (λ (r q : RowRecord). r.stamp == q.stamp) p.rows) (list_all (is_row (table_of p.tables) next) p.rows) e in
     none_if (is_row (table_of p.tables) next) (λ (r : RowRecord). r.stamp == next)

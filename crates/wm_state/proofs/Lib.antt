@@ -8,3 +8,6 @@ pub mod Inserting
 pub mod Laying
 pub mod Newest
 pub mod Apart
+pub mod Inserted
+pub mod Tables
+pub mod Enabling

@@ -1,5 +1,5 @@
 -- The state between two lines. Each workspace has whole lists of its own: no version, no piece, no page is known here.
-use Rattle.std.specs.Prelude.{ℕ, ◌==◌, if◌then◌else◌, List, [], ◌∷◌, ◌++◌, max, length, Option, Some, None, codes}
+use Rattle.std.specs.Prelude.{ℕ, true, ◌==◌, if◌then◌else◌, List, [], ◌∷◌, ◌++◌, max, length, Option, Some, None, codes}
 use Rattle.std.specs.List.{find}
 use Rattle.wm_spec.specs.Lists.{Entry}
 use Rattle.wm_spec.specs.declared.record.space.FreezeMode.{FreezeMode}
@@ -112,3 +112,8 @@ log_length spaces number = of (workspace_of spaces number)
 -- a workspace with more entries in what it changed, and in its log
 abbrev pub with_entries : List Entry → Workspace → Workspace
 with_entries es w = record w { lists = record w.lists { own = w.lists.own ++ es; log = w.lists.log ++ es } }
+
+-- the tables with the one of this number ready for rows
+abbrev pub enabled : ℕ → List Table → List Table
+enabled number [] = []
+enabled number (t ∷ ts) = if t.number == number then record t { versioned = true } ∷ ts else t ∷ enabled number ts
