@@ -52,9 +52,9 @@ pub written_time : (piece : Piece) (pieces : List Piece) → piece.period.from <
 written_time piece pieces long cells = (
   piece.period.from,
   subst IsSome
-  (sym (cells piece.period.from
-  ∙ ap (λ b. option_or (then_some b (held piece)) (held_at pieces piece.period.from)) (covers-first piece.period.from piece.period.till long)))
-  refl,
+      (sym (cells piece.period.from
+      ∙ ap (λ b. option_or (then_some b (held piece)) (held_at pieces piece.period.from)) (covers-first piece.period.from piece.period.till long)))
+      refl,
 )
 
 full_written : (old new : Layers) (version : ℕ) (row : RowKey) (pieces : List Piece) → ((v : ℕ) (q : RowKey) (ps : List Piece) → group_of old v q ≡ Some ps → HasTime ps) → HasTime pieces
@@ -220,16 +220,15 @@ time_some (Some ps) t some = refl
 -- the keys with a count are those of which some version stores something
 pub keys_stored : (layers : Layers) (counts : Counts) (table : ℕ) (key : List Value) → Counted layers counts → Contains (keys_of (map_at counts table)) key ↔ IsStored layers table key
 keys_stored layers counts table key counted =
-    let row : RowKey = record { table = table; key = key } in
-    (
-  (λ among.
-  let some : IsSome (entry_at counts table key) = IsSome-lookup_from_Contains (eq_by_cmp_equiv key_order_total) key (map_at counts table) among in
-  let counts' : IsSome (positive (times layers row)) = subst IsSome (counted.exact table key) some in
-  let found = some-times layers row counted.order (positive_some (times layers row) counts') in
-  let time = some_time (group_of layers found.0 row) found.1 (counted.full found.0 row) in
-  (found.0, time.0, time.1)),
-  (λ stored.
-  let some : IsSome (group_of layers stored.0 row) = time_some (group_of layers stored.0 row) stored.1 stored.2 in
-  let counts' : IsSome (positive (times layers row)) = some_positive (times layers row) (times-some layers stored.0 row some) in
-  Contains-keys_from_lookup (tells_apart key_order-equal) key (map_at counts table) (subst IsSome (sym (counted.exact table key)) counts')),
-)
+    let row : RowKey = record { table = table; key = key } in (
+      (λ among.
+          let some : IsSome (entry_at counts table key) = IsSome-lookup_from_Contains (eq_by_cmp_equiv key_order_total) key (map_at counts table) among in
+          let counts' : IsSome (positive (times layers row)) = subst IsSome (counted.exact table key) some in
+          let found = some-times layers row counted.order (positive_some (times layers row) counts') in
+          let time = some_time (group_of layers found.0 row) found.1 (counted.full found.0 row) in
+          (found.0, time.0, time.1)),
+      (λ stored.
+          let some : IsSome (group_of layers stored.0 row) = time_some (group_of layers stored.0 row) stored.1 stored.2 in
+          let counts' : IsSome (positive (times layers row)) = some_positive (times layers row) (times-some layers stored.0 row some) in
+          Contains-keys_from_lookup (tells_apart key_order-equal) key (map_at counts table) (subst IsSome (sym (counted.exact table key)) counts')),
+    )

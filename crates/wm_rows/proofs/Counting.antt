@@ -135,8 +135,7 @@ uncounting_more start counts next layer rest left row so is enough took = record
     away t k apart =
         let same : entry_at next t k ≡ entry_at counts t k = took_same t k ∙ ap (λ b. cond b (positive (count_at counts row.table row.key - 1)) (entry_at counts t k)) apart in
         let q : RowKey = record { table = t; key = k } in
-        let others : among q rest ≡ among q left = ap (among q) is ∙ among-other q row left (is_same-symm q row ∙ apart) in
-        (
+        let others : among q rest ≡ among q left = ap (among q) is ∙ among-other q row left (is_same-symm q row ∙ apart) in (
           same ∙ so.positives t k ∙ ap (λ (o : Option ℕ). positive (unwrap_or o 0)) (sym same),
           ap (λ (o : Option ℕ). unwrap_or o 0 + stores q layer) same ∙ so.less t k ∙ ap (λ n. count_at start t k + n) others,
         )

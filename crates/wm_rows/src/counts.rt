@@ -39,12 +39,7 @@ fn set_count(keys: &mut KeyCounts, key: Key, count: u64) -> Result<(), Memory>
 }
 
 /// Counts one version more that stores pieces of a key.
-pub fn count_more(
-    alloc: Global,
-    counts: &mut Counts,
-    table: u16,
-    key: &Key,
-) -> Result<(), Memory>
+pub fn count_more(alloc: Global, counts: &mut Counts, table: u16, key: &Key) -> Result<(), Memory>
     requires { count_at (maps_of counts.old.entries) table key.now < 2 ^ 63 }
     ensures ok { OnOk result ((t : ℕ) (k : List Value) → entry_at (maps_of counts.new.entries) t k ≡ (if (table == t) && is_eq (key_order key.now k) then Some (count_at (maps_of counts.old.entries) table key.now + 1) else entry_at (maps_of counts.old.entries) t k)) }
     ensures err { OnErr result (maps_of counts.new.entries ≡ maps_of counts.old.entries) }

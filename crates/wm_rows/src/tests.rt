@@ -48,7 +48,11 @@ fn assert_seen(
 ) -> Result<(), Memory> {
     for (version, number, wanted) in table {
         let seen = rows.seen(alloc, tree, *version, 1, &key(alloc, *number)?)?;
-        assert_eq!(rt; seen.list().len(), wanted.len(), "version {version}, key {number}");
+        assert_eq!(rt;
+            seen.list().len(),
+            wanted.len(),
+            "version {version}, key {number}"
+        );
         for (piece, wanted) in seen.list().iter().zip(*wanted) {
             assert_eq!(rt; ends(piece), *wanted, "version {version}, key {number}");
         }

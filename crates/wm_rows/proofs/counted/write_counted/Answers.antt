@@ -35,7 +35,7 @@ returns-in-Err-clause-counted c =
 pub returns-clause-counted : goal.returns-clause-counted
 returns-clause-counted c =
     let P : RowKey → Type 0 = λ r. (t : ℕ) (k : List Value) → entry_at (maps_of c.count_more.new.counts.entries) t k
-        ≡ cond (eqb r.table t && is_eq (key_order r.key k)) (Some (count_at (maps_of c.args.counts.now.entries) r.table r.key + 1)) (entry_at (maps_of c.args.counts.now.entries) t k) in
+    ≡ cond (eqb r.table t && is_eq (key_order r.key k)) (Some (count_at (maps_of c.args.counts.now.entries) r.table r.key + 1)) (entry_at (maps_of c.args.counts.now.entries) t k) in
     counted_more (maps_of c.args.layers.now.entries) (maps_of c.write_piece-2.new.layers.entries) (maps_of c.args.counts.now.entries) (maps_of c.count_more.new.counts.entries) c.args.version c.in_ok-row.row
     (put_in c.args.piece (pieces_in (groups_in (maps_of c.args.layers.now.entries) c.args.version) c.in_ok-row.row)) c.requires
     (sym c.is_new.ensures.value ∙ c.if-not-is_new.false)

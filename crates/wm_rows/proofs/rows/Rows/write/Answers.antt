@@ -21,7 +21,7 @@ pub returns-clause-ok : goal.returns-clause-ok
 unfolding row
 returns-clause-ok c =
     let P : Layers → Type 0 = λ s. OnOk c.write_counted.result ((v : ℕ) (q : RowKey) (t : ℕ)
-        → stored (maps_of c.write_counted.new.layers.entries) v q t ≡ option_or (then_some ((eqb c.args.version v && is_same (row c) q) && covers c.args.piece.period t) (held c.args.piece)) (stored s v q t)) in
+    → stored (maps_of c.write_counted.new.layers.entries) v q t ≡ option_or (then_some ((eqb c.args.version v && is_same (row c) q) && covers c.args.piece.period t) (held c.args.piece)) (stored s v q t)) in
     subst P c.self.view_is
     (on_ok2 c.write_counted.result
     (stored-written (maps_of c.self.inside.layers.entries) (maps_of c.write_counted.new.layers.entries) c.args.version (row c) c.args.piece)
@@ -31,7 +31,7 @@ pub returns-clause-here : goal.returns-clause-here
 unfolding row
 returns-clause-here c =
     let P : Layers → Type 0 = λ s. OnOk c.write_counted.result ((tree : List Version) (q : RowKey) (t : ℕ) → IsTree tree → IsSome (version_in tree c.args.version)
-        → seen_in tree (maps_of c.write_counted.new.layers.entries) c.args.version q t ≡ option_or (then_some (is_same (row c) q && covers c.args.piece.period t) (held c.args.piece)) (seen_in tree s c.args.version q t)) in
+    → seen_in tree (maps_of c.write_counted.new.layers.entries) c.args.version q t ≡ option_or (then_some (is_same (row c) q && covers c.args.piece.period t) (held c.args.piece)) (seen_in tree s c.args.version q t)) in
     subst P c.self.view_is
     (on_ok2 c.write_counted.result
     (seen-here (maps_of c.self.inside.layers.entries) (maps_of c.write_counted.new.layers.entries) c.args.version (row c) c.args.piece)
@@ -41,7 +41,7 @@ pub returns-clause-elsewhere : goal.returns-clause-elsewhere
 unfolding row
 returns-clause-elsewhere c =
     let P : Layers → Type 0 = λ s. OnOk c.write_counted.result ((tree : List Version) (v : ℕ) (q : RowKey) (t : ℕ)
-        → list_any (nat_eq c.args.version) (path_in tree v) ≡ false → seen_in tree (maps_of c.write_counted.new.layers.entries) v q t ≡ seen_in tree s v q t) in
+    → list_any (nat_eq c.args.version) (path_in tree v) ≡ false → seen_in tree (maps_of c.write_counted.new.layers.entries) v q t ≡ seen_in tree s v q t) in
     subst P c.self.view_is
     (on_ok c.write_counted.result
     (seen-written (maps_of c.self.inside.layers.entries) (maps_of c.write_counted.new.layers.entries) c.args.version (row c)
