@@ -1,6 +1,7 @@
 -- What a text is as a where_clause.
-use Rattle.std.proofs.Common.{◌≡◌, ℕ, Bool, true, false, cond, List, [], ◌∷◌, length, refl, sym, ap, ◌∙◌, arith, Option, Some, None, Result, Ok, Err}
+use Rattle.std.proofs.Common.{◌≡◌, ℕ, Bool, true, false, cond, List, [], ◌∷◌, length, refl, sym, ap, subst, ◌∙◌, arith, Option, Some, None, Result, Ok, Err}
 use Rattle.std.specs.Prelude.{◌==◌, ◌||◌}
+
 use Rattle.std.proofs.lemmas.Bool.{eqb-true}
 use Rattle.wm_base.specs.declared.tree.constant.Const.TheVariants as consts
 use Rattle.wm_base.specs.declared.tree.statement.ArgValue.{ArgValue}
@@ -16,6 +17,9 @@ use Rattle.wm_grammar.specs.ExpressionReaders.{condition_at}
 use Rattle.wm_grammar.specs.Calls.{condition_of, clause_by, clause_in, clause}
 use Rattle.wm_grammar.specs.CallReaders.{clause_at}
 use Rattle.wm_terms.specs.Cursor.{next_text, behind}
+use Rattle.wm_terms.specs.Telling.{Fails}
+use Rattle.wm_terms.specs.declared.error.ParseError.{ParseError}
+use Rattle.wm_terms.specs.declared.error.ParseError.TheVariants as errors
 
 abbrev pub Value : Type 0
 Value = ArgValue × Option Cond
@@ -52,3 +56,21 @@ clause_full ts bytes c e same some read = takes ts (Some (values.Const (consts.T
 
 pub clause_bad : (ts : List Symbol) (bytes : List ℕ) (n : ℕ) → next_in (sorts.TEXT ∷ []) ts ≡ true → bytes ≡ unquoted (next_text ts) → (length bytes == 0) ≡ false → all_of (condition_at 64 (symbols_of bytes)) ≡ Err n → clause_at ts ≡ Err (left_of ts)
 clause_bad ts bytes n e same some read = takes ts None e (ap clause_in (sym same) ∙ read_in bytes (Err n) some read)
+
+-- ---- what a function that reads a where_clause tells
+
+abbrev pub Read : Type 0
+Read = Result (Value × List Symbol) ℕ
+
+pub at_advanced : (ts : List Symbol) (v : Value) (now : List Symbol) → now ≡ behind ts → clause_at ts ≡ Ok (v, behind ts) → clause_at ts ≡ Ok (v, now)
+at_advanced ts v now e r = r ∙ ap (λ (x : List Symbol). Ok (v, x)) (sym e)
+
+pub at_text : (ts : List Symbol) (bytes text : List ℕ) (c : Cond) (now : List Symbol) → text ≡ bytes → now ≡ behind ts → clause_at ts ≡ Ok ((values.Const (consts.Text bytes), Some c), behind ts) → clause_at ts ≡ Ok ((values.Const (consts.Text text), Some c), now)
+at_text ts bytes text c now t e r = at_advanced ts (values.Const (consts.Text text), Some c) now e (r ∙ ap (λ (x : List ℕ). Ok ((values.Const (consts.Text x), Some c), behind ts)) (sym t))
+
+pub at_fault : (ts : List Symbol) (e : ParseError) → e ≡ errors.Syntax (left_of ts) → clause_at ts ≡ Err (left_of ts) → Fails e (clause_at ts)
+at_fault ts e same r = subst (λ (x : ParseError). Fails x (clause_at ts)) (sym same) r
+
+-- what is read of the bytes
+pub read_same : (read bytes : List ℕ) (o : Result Cond ℕ) → read ≡ bytes → all_of (condition_at 64 (symbols_of read)) ≡ o → all_of (condition_at 64 (symbols_of bytes)) ≡ o
+read_same read bytes o e r = subst (λ (x : List ℕ). all_of (condition_at 64 (symbols_of x)) ≡ o) e r

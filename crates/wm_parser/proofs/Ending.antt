@@ -1,5 +1,5 @@
 -- Symbols that are left at the end.
-use Rattle.std.proofs.Common.{◌≡◌, ℕ, true, false, List, [], ◌∷◌, refl, sym, subst, Result, Ok, Err}
+use Rattle.std.proofs.Common.{◌≡◌, ℕ, true, false, List, [], ◌∷◌, refl, sym, ap, subst, ◌∙◌, Option, Some, None, Result, Ok, Err}
 use Rattle.std.specs.Prelude.{MatchResult}
 use Rattle.wm_base.specs.Trees.{Line}
 use Rattle.wm_grammar.specs.Symbols.{Symbol, left_of}
@@ -7,9 +7,16 @@ use Rattle.wm_grammar.specs.Scanned.{symbols_of}
 use Rattle.wm_grammar.specs.Faults.{Fault, ended, all_of}
 use Rattle.wm_grammar.specs.Statements.{line}
 use Rattle.wm_grammar.specs.StatementReaders.{line_at}
-use Rattle.wm_grammar.proofs.Whole.{all_exact, all_complete}
+use Rattle.wm_grammar.proofs.Whole.{all_exact, all_complete, fault_not_whole}
 use Rattle.wm_grammar.proofs.StatementLaws.{line_exact}
 use Rattle.wm_terms.specs.Cursor.{no_more}
+use Rattle.wm_parser.proofs.Unique.{one_fault}
+use Rattle.wm_literals.specs.Literals.{bad_literal}
+use Rattle.wm_parser.specs.Parsing.{column_of, IsLine, IsSyntax, IsLiteral}
+
+-- no literal
+abbrev pub none : Option ℕ
+none = None
 
 pub ended_all : {A : Type 0} (x : A) (ts : List Symbol) → no_more ts ≡ true → ended x ts ≡ Ok x
 ended_all x [] e = refl
@@ -37,3 +44,38 @@ one_tree text read tree e w = let k : all_of (line_at 64 (symbols_of text)) ≡ 
 -- where a fault is read, there is none
 pub no_tree : (text : List ℕ) (left : ℕ) (tree : Line) → all_of (line_at 64 (symbols_of text)) ≡ Err left → (line 64).Whole (symbols_of text) tree → ⊥
 no_tree text left tree e w = let k : all_of (line_at 64 (symbols_of text)) ≡ Ok tree = line_complete text tree w in cc
+
+pub syntax_is : (text : List ℕ) (left column : ℕ) → all_of (line_at 64 (symbols_of text)) ≡ Err left → column ≡ column_of text left → IsSyntax text column
+syntax_is text left column e c = (left, line_bad text left e, c)
+
+pub literal_is : (text : List ℕ) (tree : Line) (left column : ℕ) → all_of (line_at 64 (symbols_of text)) ≡ Ok tree → Some left ≡ bad_literal text → column ≡ column_of text left → IsLiteral text column
+literal_is text tree left column e b c = (tree, left, line_found text tree e, sym b, c)
+
+pub found_is : (text : List ℕ) (tree : Line) → all_of (line_at 64 (symbols_of text)) ≡ Ok tree → none ≡ bad_literal text → IsLine text tree × (bad_literal text ≡ none)
+found_is text tree e b = (line_found text tree e, sym b)
+
+-- a literal out of range is not none
+pub some_literal : (text : List ℕ) (left : ℕ) → Some left ≡ bad_literal text → bad_literal text ≡ none → ⊥
+some_literal text left b n = let k : Some left ≡ none = b ∙ n in cc
+
+-- a line has one column at which it is refused
+pub same_column : (text : List ℕ) (left read column : ℕ) → all_of (line_at 64 (symbols_of text)) ≡ Err left → read ≡ column_of text left → IsSyntax text column → read ≡ column
+same_column text left read column e c s = c ∙ ap (λ (n : ℕ). column_of text n) (one_fault (line_exact 64).orderly (symbols_of text) left s.0 (line_bad text left e) s.1) ∙ sym s.2
+
+-- a line of the grammar has no token that no form continues
+pub no_syntax : (text : List ℕ) (tree : Line) (column : ℕ) → all_of (line_at 64 (symbols_of text)) ≡ Ok tree → IsSyntax text column → ⊥
+no_syntax text tree column e s = fault_not_whole (line_exact 64).orderly (symbols_of text) s.0 tree s.1 (line_found text tree e)
+
+pub no_literal_tree : (text : List ℕ) (left column : ℕ) → all_of (line_at 64 (symbols_of text)) ≡ Err left → IsLiteral text column → ⊥
+no_literal_tree text left column e l = no_tree text left l.0 e l.2
+
+pub no_literal : (text : List ℕ) (column : ℕ) → none ≡ bad_literal text → IsLiteral text column → ⊥
+no_literal text column b l = some_literal text l.1 (sym l.3) (sym b)
+
+pub same_literal : (text : List ℕ) (left read column : ℕ) → Some left ≡ bad_literal text → read ≡ column_of text left → IsLiteral text column → read ≡ column
+same_literal text left read column b c l =
+    let same : left ≡ l.1 = some_is left l.1 (b ∙ l.3) in
+    c ∙ ap (λ (n : ℕ). column_of text n) same ∙ sym l.4
+  where
+    some_is : (n m : ℕ) → Some n ≡ Some m → n ≡ m
+    some_is n m e = cc

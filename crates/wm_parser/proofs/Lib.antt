@@ -1,3 +1,4 @@
+pub mod Unique
 pub mod Ending
 pub mod Arguments
 pub mod Keyed

@@ -1,5 +1,5 @@
 -- What the parser says of a whole line.
-use Rattle.std.specs.Prelude.{◌≡◌, ℕ, ◌+◌, ◌-◌, List, length, Option, Some, None, Result, Ok, Err}
+use Rattle.std.specs.Prelude.{◌≡◌, ◌⊎◌, ℕ, ◌+◌, ◌-◌, List, length, Option, Some, None, Result, Ok, Err}
 use Rattle.wm_base.specs.Trees.{Line}
 use Rattle.wm_grammar.specs.Symbols.{Symbol}
 use Rattle.wm_grammar.specs.Scanned.{symbols_of}
@@ -40,3 +40,8 @@ abbrev pub IsFault : List ℕ → ParseFault → Type 0
 IsFault text (faults.Syntax column) = IsSyntax text column
 IsFault text (faults.Literal column) = IsLiteral text column
 IsFault text faults.Memory = Unit {0}
+
+-- the answer is this fault, unless memory ran out
+abbrev pub Refuses : {X : Type 0} → Result X ParseFault → ParseFault → Type 0
+Refuses (Ok x) fault = ⊥
+Refuses (Err e) fault = (e ≡ fault) ⊎ (e ≡ faults.Memory)

@@ -4,6 +4,7 @@ ghost use Rattle.wm_grammar.specs.Scanned.{symbols_of};
 ghost use Rattle.wm_grammar.specs.Faults.{all_of};
 ghost use Rattle.wm_grammar.specs.StatementReaders.{statement_at, run_at, line_at};
 ghost use Rattle.wm_terms.specs.Telling.{Told};
+ghost use Rattle.wm_parser.specs.Lines.{names_at, connect_at, disconnect_at, moment_at, session_at};
 ghost use Rattle.wm_parser.specs.Parsing.{Tells};
 
 use crate::calls::call;
@@ -54,38 +55,69 @@ fn run(cursor: &mut Cursor, alloc: Global, session: Name) -> Result<Line, ParseE
     Ok(Line::Run { session, statement })
 }
 
+/// The names behind CONNECT.
+fn names(cursor: &mut Cursor, alloc: Global) -> Result<Line, ParseError>
+    ensures { Told line_view result cursor.new (names_at cursor.old) }
+{
+    let session = cursor.name(alloc, Sort::Id)?;
+    let user = cursor.name(alloc, Sort::Id)?;
+    Ok(Line::Connect { session, user })
+}
+
+fn connect(cursor: &mut Cursor, alloc: Global) -> Result<Line, ParseError>
+    ensures { Told line_view result cursor.new (connect_at cursor.old) }
+{
+    let word = cursor.name(alloc, Sort::Connect)?;
+    if cursor.is(Sort::Colon) {
+        return run(cursor, alloc, word);
+    }
+    names(cursor, alloc)
+}
+
+fn disconnect(cursor: &mut Cursor, alloc: Global) -> Result<Line, ParseError>
+    ensures { Told line_view result cursor.new (disconnect_at cursor.old) }
+{
+    let word = cursor.name(alloc, Sort::Disconnect)?;
+    if cursor.is(Sort::Colon) {
+        return run(cursor, alloc, word);
+    }
+    let session = cursor.name(alloc, Sort::Id)?;
+    Ok(Line::Disconnect { session })
+}
+
+fn moment(cursor: &mut Cursor, alloc: Global) -> Result<Line, ParseError>
+    ensures { Told line_view result cursor.new (moment_at cursor.old) }
+{
+    let word = cursor.name(alloc, Sort::At)?;
+    if cursor.is(Sort::Colon) {
+        return run(cursor, alloc, word);
+    }
+    let at = instant(cursor)?;
+    Ok(Line::At(at))
+}
+
+fn session(cursor: &mut Cursor, alloc: Global) -> Result<Line, ParseError>
+    ensures { Told line_view result cursor.new (session_at cursor.old) }
+{
+    let name = cursor.name(alloc, Sort::Id)?;
+    run(cursor, alloc, name)
+}
+
 /// A line; CONNECT, DISCONNECT and AT before a `:` name a session.
 #[tactic(auto, unfolding(wm_grammar::specs::StatementReaders::line_at))]
 fn line(cursor: &mut Cursor, alloc: Global) -> Result<Line, ParseError>
     ensures { Told line_view result cursor.new (line_at 64 cursor.old) }
 {
     if cursor.is(Sort::Connect) {
-        let word = cursor.name(alloc, Sort::Connect)?;
-        if cursor.is(Sort::Colon) {
-            return run(cursor, alloc, word);
-        }
-        let session = cursor.name(alloc, Sort::Id)?;
-        let user = cursor.name(alloc, Sort::Id)?;
-        return Ok(Line::Connect { session, user });
+        return connect(cursor, alloc);
     }
     if cursor.is(Sort::Disconnect) {
-        let word = cursor.name(alloc, Sort::Disconnect)?;
-        if cursor.is(Sort::Colon) {
-            return run(cursor, alloc, word);
-        }
-        let session = cursor.name(alloc, Sort::Id)?;
-        return Ok(Line::Disconnect { session });
+        return disconnect(cursor, alloc);
     }
     if cursor.is(Sort::At) {
-        let word = cursor.name(alloc, Sort::At)?;
-        if cursor.is(Sort::Colon) {
-            return run(cursor, alloc, word);
-        }
-        let moment = instant(cursor)?;
-        return Ok(Line::At(moment));
+        return moment(cursor, alloc);
     }
-    let session = cursor.name(alloc, Sort::Id)?;
-    run(cursor, alloc, session)
+    session(cursor, alloc)
 }
 
 /// The line that the bytes are, all of them.

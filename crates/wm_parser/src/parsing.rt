@@ -1,8 +1,8 @@
-ghost use Rattle.std.specs.Prelude.{◌≡◌, ◌≤◌, List, length, IfOk, IfErr, MatchResult, None};
+ghost use Rattle.std.specs.Prelude.{◌≡◌, ℕ, ◌≤◌, List, length, IfOk, IfErr, MatchResult, None};
 ghost use Rattle.wm_base.specs.Trees.{Line as Tree};
 ghost use Rattle.wm_base.specs.Views.{line_view};
 ghost use Rattle.wm_literals.specs.Literals.{bad_literal};
-ghost use Rattle.wm_parser.specs.Parsing.{column_of, IsLine, IsFault};
+ghost use Rattle.wm_parser.specs.Parsing.{column_of, IsLine, IsSyntax, IsLiteral, IsFault, Refuses};
 
 use crate::fault::ParseFault;
 use crate::lines::line_in;
@@ -30,6 +30,10 @@ pub fn parse(alloc: Global, line: &[u8]) -> Result<Line, ParseFault>
     ensures complete { (tree : Tree) → IsLine line.now tree → bad_literal line.now ≡ None → MatchResult result (λ t. line_view t ≡ tree) (λ e. e ≡ ParseFault.Memory) }
     // A fault is at the first token that no form continues or, in a line of the grammar, at its first literal out of range.
     ensures fault { IfErr result (λ e. IsFault line.now e) }
+    // Where a token is one that no form continues, the line is refused at its column, unless memory runs out.
+    ensures syntax { (column : ℕ) → IsSyntax line.now column → Refuses result (ParseFault.Syntax column) }
+    // So is a line of the grammar in which a literal is out of range.
+    ensures literal { (column : ℕ) → IsLiteral line.now column → Refuses result (ParseFault.Literal column) }
 {
     let tree = match line_in(alloc, line) {
         Ok(tree) => tree,
