@@ -1,1 +1,9 @@
+pub mod Finding
+pub mod Getting
+pub mod Loading
 pub mod Pages
+pub mod Pending
+pub mod Planning
+pub mod Sizes
+pub mod Standing
+pub mod Upto

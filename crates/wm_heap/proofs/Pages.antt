@@ -2,7 +2,7 @@
 use Rattle.std.proofs.Common.{◌≡◌, ℕ, suc, ◌+◌, ◌-◌, ◌<◌, ◌≤◌, ◌^◌, List, [], ◌∷◌, ◌++◌, length, take, replicate, refl, sym, ap, ◌∙◌, append_assoc, arith, Option, Some}
 use Rattle.std.specs.List.{flat_map, AllByRecursion}
 use Rattle.std.specs.Option.{option_and_then, option_map}
-use Rattle.std.proofs.lemmas.List.{length-append, take-replicate}
+use Rattle.std.proofs.lemmas.List.{length-append, length-replicate, take-replicate}
 use Rattle.std.proofs.lemmas.List.Concat.{flat_map-cons}
 use Rattle.wm_codec.specs.Format.{times}
 use Rattle.wm_codec.specs.Fields.{u16}
@@ -10,18 +10,17 @@ use Rattle.wm_codec.proofs.Exact.{IsExact, pair_exact, fields_exact}
 use Rattle.wm_codec.proofs.ExactFields.{u16_exact, u64_exact, text_exact}
 use Rattle.wm_codec.proofs.ExactValues.{times_again}
 use Rattle.wm_heap.specs.declared.slot.Slot.{Slot}
-use Rattle.wm_heap.specs.Slots.{slot, slots_bytes, page_of, slots_of}
+use Rattle.wm_heap.specs.Slots.{slot, slots_bytes, page_of, slots_of, used}
+use Rattle.wm_heap.proofs.Sizes.{length-slots_bytes, used-least}
 
--- each slot has a byte at least
-as_many : (slots : List Slot) → length slots ≤ length (flat_map slot.spell slots)
-as_many [] = omega arith
-as_many (s ∷ slots) =
-    let one = ap length (flat_map-cons slot.spell s slots) ∙ length-append (slot.spell s) (flat_map slot.spell slots) in
-    omega (arith, as_many slots, one)
-
--- so their number fits two bytes where a page has room for them
-pub count_fits : (slots : List Slot) → length (slots_bytes slots) ≤ 4096 → length slots < 2 ^ 16
-count_fits slots room = omega (arith, as_many slots, length-append (u16.spell (length slots)) (flat_map slot.spell slots))
+-- the number of slots that a page has room for fits two bytes
+pub count_fits : (slots : List Slot) → used slots ≤ 4096 → length slots < 2 ^ 16
+count_fits [] room = omega arith
+count_fits (s ∷ slots) room = let least = used-least slots in let more = many slots in omega arith
+  where
+    many : (slots : List Slot) → length slots ≤ used slots
+    many [] = omega arith
+    many (s ∷ slots) = omega (arith, many slots)
 
 -- the number, the slots and the zeros are the page
 pub is_page : (slots : List Slot) (start counted filled page zeros : List ℕ) (n len : ℕ) → start ≡ [] → counted ≡ start ++ u16.spell n → n ≡ length slots → filled ≡ counted ++ flat_map slot.spell slots → len ≡ length filled
@@ -30,6 +29,17 @@ unfolding page_of
 is_page slots start counted filled page zeros n len empty number number_is all len_is zeros_are whole =
     let bytes : filled ≡ slots_bytes slots = all ∙ ap (λ t. t ++ flat_map slot.spell slots) (number ∙ ap (λ s. s ++ u16.spell n) empty ∙ ap u16.spell number_is) in
     whole ∙ ap (λ z. filled ++ z) (zeros_are ∙ ap (λ k. replicate (4096 - k) 0) (len_is ∙ ap length bytes)) ∙ ap (λ t. t ++ replicate (4096 - length (slots_bytes slots)) 0) bytes
+
+-- what was put so far has room
+pub filled_fits : (slots : List Slot) (start counted filled : List ℕ) (n : ℕ) → start ≡ [] → counted ≡ start ++ u16.spell n → n ≡ length slots → filled ≡ counted ++ flat_map slot.spell slots → used slots ≤ 4096 → length filled ≤ 4096
+filled_fits slots start counted filled n empty number number_is all room =
+    let bytes : filled ≡ slots_bytes slots = all ∙ ap (λ t. t ++ flat_map slot.spell slots) (number ∙ ap (λ s. s ++ u16.spell n) empty ∙ ap u16.spell number_is) in
+    omega (arith, ap length bytes, length-slots_bytes slots)
+
+-- a page of slots is whole
+pub length-page_of : (slots : List Slot) → used slots ≤ 4096 → length (page_of slots) ≡ 4096
+unfolding page_of
+length-page_of slots room = omega (arith, length-append (slots_bytes slots) (replicate (4096 - length (slots_bytes slots)) 0), length-replicate {A = ℕ}, length-slots_bytes slots)
 
 slot_exact : IsExact slot
 slot_exact = fields_exact _ _ _ (λ b. refl) (λ a. refl) (pair_exact _ _ u64_exact text_exact)

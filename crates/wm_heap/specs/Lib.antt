@@ -1,1 +1,8 @@
+pub mod Asking
+pub mod Blobs
+pub mod Content
+pub mod Draft
+pub mod Loading
+pub mod Places
+pub mod Plan
 pub mod Slots

@@ -1,5 +1,5 @@
 -- The records of a page: the number of its slots in two bytes, and the slots; what follows means nothing.
-use Rattle.std.specs.Prelude.{◌≡◌, ℕ, ◌+◌, ◌-◌, ◌<◌, ◌≤◌, ◌^◌, List, ◌++◌, length, replicate, Option}
+use Rattle.std.specs.Prelude.{◌≡◌, ℕ, ◌+◌, ◌-◌, ◌<◌, ◌≤◌, ◌^◌, List, [], ◌∷◌, ◌++◌, length, replicate, Option}
 use Rattle.std.specs.Int.{w16, w64, to_be_bytes}
 use Rattle.std.specs.List.{flat_map, AllByRecursion}
 use Rattle.std.specs.Option.{option_and_then, option_map}
@@ -19,11 +19,11 @@ slots_of page = option_and_then (λ count. option_map (λ x. x.0) (times slot co
 abbrev pub slots_bytes : List Slot → List ℕ
 slots_bytes slots = u16.spell (length slots) ++ flat_map slot.spell slots
 
--- a page has room for the slots
-pub record FitPage (slots : List Slot) : Type 0 where
-  pub short : AllByRecursion slot.CanSpell slots
-  pub room : length (slots_bytes slots) ≤ 4096
-
 -- the page of slots: zeros stand behind them
 unfoldable pub page_of : List Slot → List ℕ
 page_of slots = slots_bytes slots ++ replicate (4096 - length (slots_bytes slots)) 0
+
+-- how many bytes of a page the slots take
+abbrev pub used : List Slot → ℕ
+used [] = 2
+used (s ∷ slots) = 10 + length s.bytes + used slots

@@ -1,4 +1,6 @@
-ghost use Rattle.std.specs.Prelude.{◌≡◌, ◌∷◌, [], ◌++◌, length, OnOk, OnErr};
+ghost use Rattle.std.specs.Prelude.{◌≡◌, ◌+◌, ◌<◌, ◌≤◌, false, IsTrue, ◌∷◌, [], ◌++◌, length, filter, not, ◌==◌, Some, OnOk, OnErr, IfOk};
+ghost use Rattle.wm_heap.specs.Slots.{used};
+ghost use Rattle.wm_heap.specs.Content.{bytes_at};
 
 use std::alloc::Global;
 use std::marker::Model;
@@ -56,4 +58,75 @@ impl Slots {
         self.list.push(slot)?;
         Ok(())
     }
+
+    /// The same slots once more.
+    pub fn copy(&self, alloc: Global) -> Result<Slots, Memory>
+        ensures { IfOk result (λ slots. slots ≡ self.now) }
+    {
+        let mut slots = Slots::new(alloc);
+        for slot in self.as_slice() {
+            slots.push(slot_of(alloc, slot.id, &slot.bytes)?)?;
+        }
+        Ok(slots)
+    }
+
+    /// The slots but those of an id.
+    pub fn without(&self, alloc: Global, id: u64) -> Result<Slots, Memory>
+        ensures { IfOk result (λ slots. slots ≡ filter (λ s. not (s.id == id)) self.now) }
+    {
+        let mut slots = Slots::new(alloc);
+        for slot in self.as_slice() {
+            if slot.id != id {
+                slots.push(slot_of(alloc, slot.id, &slot.bytes)?)?;
+            }
+        }
+        Ok(slots)
+    }
+
+    /// The bytes under an id.
+    pub fn find(&self, alloc: Global, id: u64) -> Result<Option<Bytes>, Memory>
+        ensures { IfOk result (λ found. found ≡ bytes_at self.now id) }
+    {
+        for slot in self.as_slice() {
+            if slot.id == id {
+                return Ok(Some(copy_of(alloc, &slot.bytes)?));
+            }
+        }
+        Ok(None)
+    }
+
+    /// Whether a page has room for them and a slot of so many bytes.
+    pub fn fit_with(&self, len: usize) -> bool
+        ensures yes { IsTrue result → used self.now + 10 + len ≤ 4096 }
+        ensures no { result ≡ false → 4096 < used self.now + 10 + len }
+    {
+        if len > 4084 {
+            return false;
+        }
+        let mut left = 4084 - len;
+        for slot in self.as_slice() {
+            let need = 10 + slot.bytes.len();
+            if need > left {
+                return false;
+            }
+            left -= need;
+        }
+        true
+    }
+}
+
+fn copy_of(alloc: Global, bytes: &Bytes) -> Result<Bytes, Memory>
+    ensures { IfOk result (λ copy. copy ≡ bytes.now) }
+{
+    let mut copy = Bytes::new(alloc);
+    copy.append(bytes.as_slice())?;
+    Ok(copy)
+}
+
+/// A slot with a copy of the bytes.
+pub fn slot_of(alloc: Global, id: u64, bytes: &Bytes) -> Result<Slot, Memory>
+    ensures { IfOk result (λ slot. slot ≡ record { id = id; bytes = bytes.now }) }
+{
+    let bytes = copy_of(alloc, bytes)?;
+    Ok(Slot { id, bytes })
 }

@@ -1,8 +1,8 @@
-ghost use Rattle.std.specs.Prelude.{◌≡◌, ◌++◌, IfOk, OnOk};
+ghost use Rattle.std.specs.Prelude.{◌≡◌, ◌≤◌, ◌++◌, length, Some, IfOk, OnOk};
 ghost use Rattle.std.specs.List.{AllByRecursion};
 ghost use Rattle.wm_codec.specs.Fields.{text};
 ghost use Rattle.wm_codec.specs.Writing.{Appends, AppendsEach};
-ghost use Rattle.wm_heap.specs.Slots.{slot, slots_bytes, page_of, FitPage};
+ghost use Rattle.wm_heap.specs.Slots.{slot, slots_bytes, slots_of, page_of, used};
 
 use crate::slot::{Slot, Slots};
 use std::alloc::Global;
@@ -40,8 +40,10 @@ fn put_each_slot(into: &mut Bytes, slots: &[Slot]) -> Result<(), Memory>
 
 /// The bytes of a page that holds the slots.
 pub fn write_slots(alloc: Global, slots: &Slots) -> Result<Bytes, Memory>
-    requires { FitPage slots.now }
-    ensures { IfOk result (λ page. page ≡ page_of slots.now) }
+    requires { used slots.now ≤ 4096 }
+    ensures page { IfOk result (λ page. page ≡ page_of slots.now) }
+    ensures size { IfOk result (λ page. length page ≡ 4096) }
+    ensures again { OnOk result (slots_of (page_of slots.now) ≡ Some slots.now) }
 {
     let mut page = Bytes::new(alloc);
     put_u16(&mut page, slots.len() as u16)?;

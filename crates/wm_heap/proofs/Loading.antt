@@ -1,0 +1,200 @@
+-- How the ids of a page get their places, one slot after another.
+use Rattle.std.proofs.Common.{◌≡◌, ℕ, zero, suc, ◌+◌, ◌-◌, ◌<◌, ◌≤◌, ◌⊎◌, inl, inr, max, Bool, true, false, cond, ◌||◌, eqb, ltb, List, [], ◌∷◌, ◌++◌, length, get_or, take, drop, Option, Some, None, is_some, unwrap_or, refl, sym, ap, subst, ◌∙◌, arith}
+use Rattle.std.specs.Option.{option_or}
+use Rattle.std.proofs.lemmas.Bool.{cases_lt, lt-ltb, eqb-true}
+use Rattle.std.proofs.lemmas.List.{drop_more, take_more, length-append}
+use Rattle.wm_base.specs.declared.fault.Damage.{Damage}
+use Rattle.wm_base.specs.declared.fault.OpenFault.{OpenFault}
+use Rattle.wm_base.specs.declared.fault.OpenFault.TheVariants as faults
+use Rattle.wm_heap.specs.declared.heap.Heap.{Heap}
+use Rattle.wm_heap.specs.Asking.{Finds, FindsTwice}
+use Rattle.wm_heap.specs.Loading.{LoadsPage}
+use Rattle.wm_heap.specs.Slots.{slots_of}
+use Rattle.wm_heap.specs.Places.{at, ids_on, ids_of, place_of, IsPlaced, IsHeapOf}
+use Rattle.wm_heap.proofs.Upto.{is_in-placed, fault_found, IsPlaced-none, IsPlaced-page}
+use Rattle.wm_heap.specs.declared.slot.Slot.{Slot}
+use Rattle.wm_heap.specs.Content.{bytes_at, is_twice, slots_in, is_in, damage_in, damage_on, fault_in}
+use Rattle.wm_heap.proofs.Finding.{bytes_at-append, is_twice-same}
+
+-- the first i slots have their places, and those behind them are tested as all would have been at first
+pub record Placing (old now : ℕ → Option ℕ) (page : ℕ) (slots : List Slot) (i : ℕ) : Type 0 where
+  pub rest : is_twice (λ id. is_some (now id)) (drop i slots) ≡ is_twice (λ id. is_some (old id)) slots
+  pub placed : (id : ℕ) → now id ≡ cond (is_some (bytes_at (take i slots) id)) (Some page) (old id)
+
+pub placing_none : (old now : ℕ → Option ℕ) (page : ℕ) (slots : List Slot) → ((id : ℕ) → now id ≡ old id) → Placing old now page slots 0
+placing_none old now page slots same = record {
+  rest = is_twice-same (λ id. is_some (now id)) (λ id. is_some (old id)) slots (λ id. ap is_some (same id));
+  placed = λ id. same id;
+}
+
+-- an id that has no place is none that stands twice, and the next ones are tested with it
+pub twice_next : (old new : ℕ → Option ℕ) (page : ℕ) (s : Slot) (slots : List Slot) → is_some (old s.id) ≡ false → ((j : ℕ) → new j ≡ cond (eqb j s.id) (Some page) (old j))
+    → is_twice (λ j. is_some (new j)) slots ≡ is_twice (λ j. is_some (old j)) (s ∷ slots)
+twice_next old new page s slots free set =
+    is_twice-same (λ j. is_some (new j)) (λ j. eqb s.id j || is_some (old j)) slots (λ j. ap is_some (set j) ∙ by_tests j (eqb j s.id) refl (eqb s.id j) refl) ∙ rw free refl
+  where
+    by_tests : (j : ℕ) (b : Bool) → eqb j s.id ≡ b → (d : Bool) → eqb s.id j ≡ d → is_some (cond b (Some page) (old j)) ≡ (d || is_some (old j))
+    by_tests j true e true f = refl
+    by_tests j true e false f = absurd (let same = eqb-true j s.id e in grind (arith, same, f))
+    by_tests j false e true f = absurd (let same = eqb-true s.id j f in grind (arith, same, e))
+    by_tests j false e false f = refl
+
+pub placing_more : (old now new : ℕ → Option ℕ) (page : ℕ) (slots : List Slot) (i : ℕ) (s : Slot) → i < length slots → s ≡ get_or slots i s → Placing old now page slots i → is_some (now s.id) ≡ false
+    → ((j : ℕ) → new j ≡ cond (eqb j s.id) (Some page) (now j)) → Placing old new page slots (i + 1)
+placing_more old now new page slots i s within is placing free set =
+    let at_i : drop i slots ≡ s ∷ drop (i + 1) slots = drop_more slots i s within ∙ ap (λ x. x ∷ drop (i + 1) slots) (sym is) in
+    let up_to : take (i + 1) slots ≡ take i slots ++ s ∷ [] = take_more slots i s within ∙ ap (λ x. take i slots ++ x ∷ []) (sym is) in
+    record {
+      rest = twice_next now new page s (drop (i + 1) slots) free set ∙ ap (λ l. is_twice (λ j. is_some (now j)) l) (sym at_i) ∙ placing.rest;
+      placed = λ id. set id ∙ ap (λ o. cond (eqb id s.id) (Some page) o) (placing.placed id) ∙ sym (ap (λ l. cond (is_some (bytes_at l id)) (Some page) (old id)) up_to ∙ placed_by id);
+    }
+  where
+    by_tests : (id : ℕ) (o : Option (List ℕ)) (b : Bool) → eqb id s.id ≡ b → (d : Bool) → eqb s.id id ≡ d → cond (is_some (option_or o (cond d (Some s.bytes) None))) (Some page) (old id) ≡ cond b (Some page) (cond (is_some o) (Some page) (old id))
+    by_tests id (Some x) true e d f = refl
+    by_tests id (Some x) false e d f = refl
+    by_tests id None true e true f = refl
+    by_tests id None true e false f = absurd (let same = eqb-true id s.id e in grind (arith, same, f))
+    by_tests id None false e true f = absurd (let same = eqb-true s.id id f in grind (arith, same, e))
+    by_tests id None false e false f = refl
+
+    placed_by : (id : ℕ) → cond (is_some (bytes_at (take i slots ++ s ∷ []) id)) (Some page) (old id) ≡ cond (eqb id s.id) (Some page) (cond (is_some (bytes_at (take i slots) id)) (Some page) (old id))
+    placed_by id = ap (λ o. cond (is_some o) (Some page) (old id)) (bytes_at-append (take i slots) (s ∷ []) id) ∙ by_tests id (bytes_at (take i slots) id) (eqb id s.id) refl (eqb s.id id) refl
+
+-- ---- one page after another
+
+-- the pages before this one passed each test, and their ids have their places
+pub record Loaded (held : ℕ → List ℕ) (in_file : ℕ) (places : List (ℕ × ℕ)) (ids : List (List ℕ)) (page : ℕ) : Type 0 where
+  pub placed : IsPlaced (slots_in held) page (at places)
+  pub there : (p : ℕ) → 2 ≤ p → p < page → is_some (slots_of (held p)) ≡ true
+  pub none : fault_in held in_file (page - 2) ≡ None
+  pub ids_are : (p : ℕ) → 2 ≤ p → p < page → ids_on ids p ≡ ids_of (slots_in held p)
+
+pub loaded_none : (held : ℕ → List ℕ) (in_file : ℕ) (places : List (ℕ × ℕ)) (ids : List (List ℕ)) → places ≡ [] → Loaded held in_file places ids 2
+loaded_none held in_file places ids empty = record {
+  placed = IsPlaced-none (slots_in held) (at places) (λ id. ap (λ l. at l id) empty);
+  there = λ p from till. absurd (omega arith);
+  none = refl;
+  ids_are = λ p from till. absurd (omega arith);
+}
+
+damage-same : (seen other : ℕ → Bool) (page : ℕ) (whole : Bool) (o : Option (List Slot)) → ((id : ℕ) → seen id ≡ other id) → damage_on seen page whole o ≡ damage_on other page whole o
+damage-same seen other page false o same = refl
+damage-same seen other page true None same = refl
+damage-same seen other page true (Some slots) same = rw (is_twice-same seen other slots same) refl
+
+-- what a page is tested with is what has a place
+tested : (held : ℕ → List ℕ) (in_file n : ℕ) (places : List (ℕ × ℕ)) (ids : List (List ℕ)) → Loaded held in_file places ids (n + 2)
+    → damage_on (is_in (slots_in held) n) (n + 2) (ltb (n + 2) in_file) (slots_of (held (n + 2))) ≡ damage_on (λ id. is_some (at places id)) (n + 2) (ltb (n + 2) in_file) (slots_of (held (n + 2)))
+tested held in_file n places ids loaded =
+    damage-same (is_in (slots_in held) n) (λ id. is_some (at places id)) (n + 2) (ltb (n + 2) in_file) (slots_of (held (n + 2))) (λ id. is_in-placed (slots_in held) n (at places) id loaded.placed)
+
+get-front : (ids : List (List ℕ)) (x : List ℕ) (i : ℕ) → i < length ids → get_or (ids ++ x ∷ []) i [] ≡ get_or ids i []
+get-front [] x i low = absurd (omega arith)
+get-front (y ∷ ids) x zero low = refl
+get-front (y ∷ ids) x (suc i) low = get-front ids x i (omega arith)
+
+get-last : (ids : List (List ℕ)) (x : List ℕ) → get_or (ids ++ x ∷ []) (length ids) [] ≡ x
+get-last [] x = refl
+get-last (y ∷ ids) x = get-last ids x
+
+loaded_at : (held : ℕ → List ℕ) (in_file n : ℕ) (places new : List (ℕ × ℕ)) (ids now : List (List ℕ)) → length ids ≡ n → n + 2 < in_file → Loaded held in_file places ids (n + 2) → LoadsPage held (n + 2) places new ids now → Loaded held in_file new now (n + 3)
+loaded_at held in_file n places new ids now len whole loaded page = record {
+  placed = subst (λ k. IsPlaced (slots_in held) k (at new)) (let e : n + 2 + 1 ≡ n + 3 = omega arith in e) (IsPlaced-page (slots_in held) (n + 2) (at places) (at new) loaded.placed (omega arith) page.apart page.placed);
+  there = λ p from till. there_by p (cases_lt p (n + 2)) from till;
+  none = none_by;
+  ids_are = λ p from till. ids_by p (cases_lt p (n + 2)) from till;
+}
+  where
+    there_by : (p : ℕ) → (p < n + 2) ⊎ (n + 2 ≤ p) → 2 ≤ p → p < n + 3 → is_some (slots_of (held p)) ≡ true
+    there_by p (inl less) from till = loaded.there p from less
+    there_by p (inr more) from till = let same : n + 2 ≡ p = omega arith in subst (λ q. is_some (slots_of (held q)) ≡ true) same page.there
+
+    no_damage : (o : Option (List Slot)) → slots_of (held (n + 2)) ≡ o → is_some o ≡ true → damage_on (λ id. is_some (at places id)) (n + 2) true o ≡ None
+    no_damage None e some = absurd cc
+    no_damage (Some ss) e some =
+        let is : slots_in held (n + 2) ≡ ss = ap (λ o. unwrap_or o []) e in
+        let never : is_twice (λ id. is_some (at places id)) ss ≡ false = subst (λ l. is_twice (λ id. is_some (at places id)) l ≡ false) is page.apart in
+        rw never refl
+
+    sound_here : damage_on (is_in (slots_in held) n) (n + 2) (ltb (n + 2) in_file) (slots_of (held (n + 2))) ≡ None
+    sound_here =
+        tested held in_file n places ids loaded ∙ (let t : ltb (n + 2) in_file ≡ true = lt-ltb (n + 2) in_file whole in rw t (no_damage (slots_of (held (n + 2))) refl page.there))
+
+    none_by : fault_in held in_file (n + 3 - 2) ≡ None
+    none_by =
+        let before : fault_in held in_file n ≡ None = (let e : n + 2 - 2 ≡ n = omega arith in subst (λ k. fault_in held in_file k ≡ None) e loaded.none) in
+        let next : n + 3 - 2 ≡ suc n = omega arith in
+        rw (next, before) sound_here
+
+    ids_by : (p : ℕ) → (p < n + 2) ⊎ (n + 2 ≤ p) → 2 ≤ p → p < n + 3 → ids_on now p ≡ ids_of (slots_in held p)
+    ids_by p (inl less) from till = ap (λ l. ids_on l p) page.ids ∙ get-front ids (ids_of (slots_in held (n + 2))) (p - 2) (omega arith) ∙ loaded.ids_are p from less
+    ids_by p (inr more) from till =
+        let same : p ≡ n + 2 = omega arith in
+        let index : p - 2 ≡ length ids = omega arith in
+        ap (λ l. ids_on l p) page.ids ∙ ap (λ k. get_or (ids ++ ids_of (slots_in held (n + 2)) ∷ []) k []) index ∙ get-last ids (ids_of (slots_in held (n + 2))) ∙ ap (λ k. ids_of (slots_in held k)) (sym same)
+
+pub loaded_more : (held : ℕ → List ℕ) (in_file page : ℕ) (places new : List (ℕ × ℕ)) (ids now : List (List ℕ)) → 2 ≤ page → length ids ≡ page - 2 → page < in_file → Loaded held in_file places ids page → LoadsPage held page places new ids now → Loaded held in_file new now (page + 1)
+loaded_more held in_file page places new ids now from len whole loaded loads =
+    let n = page - 2 in
+    let is : page ≡ n + 2 = omega arith in
+    let next : n + 3 ≡ page + 1 = omega arith in
+    subst (λ k. Loaded held in_file new now k) next
+    (loaded_at held in_file n places new ids now len (omega arith) (subst (λ k. Loaded held in_file places ids k) is loaded) (subst (λ k. LoadsPage held k places new ids now) is loads))
+
+found_at : (held : ℕ → List ℕ) (in_file n m : ℕ) (places : List (ℕ × ℕ)) (ids : List (List ℕ)) (e : OpenFault) → n < m → Loaded held in_file places ids (n + 2)
+    → Finds e (damage_on (λ id. is_some (at places id)) (n + 2) (ltb (n + 2) in_file) (slots_of (held (n + 2)))) → Finds e (fault_in held in_file m)
+found_at held in_file n m places ids faults.Disk lt loaded finds = tt
+found_at held in_file n m places ids faults.NotStore lt loaded finds = absurd finds
+found_at held in_file n m places ids faults.Memory lt loaded finds = tt
+found_at held in_file n m places ids (faults.Damaged p kind) lt loaded finds =
+    let before : fault_in held in_file n ≡ None = (let e : n + 2 - 2 ≡ n = omega arith in subst (λ k. fault_in held in_file k ≡ None) e loaded.none) in
+    fault_found held in_file n m (at places) (p, kind) lt before (tested held in_file n places ids loaded ∙ finds)
+
+-- the fault of a page is the fault of the store
+pub loaded_fault : (held : ℕ → List ℕ) (in_file page count : ℕ) (places : List (ℕ × ℕ)) (ids : List (List ℕ)) (e : OpenFault) → 2 ≤ page → page < count → Loaded held in_file places ids page
+    → Finds e (damage_on (λ id. is_some (at places id)) page (ltb page in_file) (slots_of (held page))) → Finds e (fault_in held in_file (count - 2))
+loaded_fault held in_file page count places ids e from till loaded finds =
+    let n = page - 2 in
+    let is : page ≡ n + 2 = omega arith in
+    found_at held in_file n (count - 2) places ids e (omega arith) (subst (λ k. Loaded held in_file places ids k) is loaded)
+    (subst (λ k. Finds e (damage_on (λ id. is_some (at places id)) k (ltb k in_file) (slots_of (held k)))) is finds)
+
+-- all pages
+pub loaded_all : (heap : Heap) (held : ℕ → List ℕ) (in_file page count : ℕ) → count ≤ page → page ≤ max 2 count → length heap.ids.items ≡ page - 2 → Loaded held in_file heap.places.entries heap.ids.items page
+    → IsHeapOf heap held count × (fault_in held in_file (count - 2) ≡ None)
+loaded_all heap held in_file page count end few len loaded =
+    (
+      record {
+        pages = omega arith;
+        slots = λ p from till. loaded.there p from (omega arith);
+        placed = by_size (cases_lt count 2);
+        ids = λ p from till. loaded.ids_are p from (omega arith);
+      },
+      let same : page - 2 ≡ count - 2 = omega arith in
+      subst (λ k. fault_in held in_file k ≡ None) same loaded.none,
+    )
+  where
+    by_size : (count < 2) ⊎ (2 ≤ count) → IsPlaced (slots_in held) count (place_of heap)
+    by_size (inr enough) = let same : page ≡ count = omega arith in subst (λ k. IsPlaced (slots_in held) k (place_of heap)) same loaded.placed
+    by_size (inl less) = record {
+      there = λ id p e. absurd (let t = loaded.placed.there id p e in let a = t.0 in let b = t.1 in omega arith);
+      only = λ id p from till here. absurd (omega arith);
+      once = λ p from till. absurd (omega arith);
+    }
+
+-- ---- as the calls say it
+
+pub finds_twice : (e : OpenFault) (page in_file : ℕ) (seen : ℕ → Bool) (o : Option (List Slot)) (slots : List Slot) → FindsTwice e page (is_twice seen slots) → page < in_file → o ≡ Some slots → Finds e (damage_on seen page (ltb page in_file) o)
+finds_twice faults.Disk page in_file seen o slots finds whole is = absurd finds
+finds_twice faults.NotStore page in_file seen o slots finds whole is = absurd finds
+finds_twice faults.Memory page in_file seen o slots finds whole is = tt
+finds_twice (faults.Damaged p kind) page in_file seen o slots finds whole is =
+    let t : ltb page in_file ≡ true = lt-ltb page in_file whole in
+    rw (t, is, finds.2, finds.0, finds.1) refl
+
+pub whole_more : (page in_file : ℕ) → ((p : ℕ) → 2 ≤ p → p < page → p < in_file) → page < in_file → (p : ℕ) → 2 ≤ p → p < page + 1 → p < in_file
+whole_more page in_file before here p from till = by_case (cases_lt p page)
+  where
+    by_case : (p < page) ⊎ (page ≤ p) → p < in_file
+    by_case (inl less) = before p from less
+    by_case (inr more) = omega arith

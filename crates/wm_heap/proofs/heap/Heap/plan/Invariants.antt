@@ -1,0 +1,13 @@
+use Rattle.std.proofs.Common.{◌≡◌, ◌≤◌}
+use Rattle.wm_heap.proofs.Planning.{Going, Telling}
+use Rattle.wm_heap.proofs.heap.Heap.plan.Given as goal
+
+abbrev pub invariant-loop-blob : goal.invariant-loop-blob
+invariant-loop-blob g l = record {
+  going : Going l.fn.self l.self l.changed.entries l.fn.batch l.blob-index;
+  told : g.G.Pages.tells → g.G.Pages.held l.pages ≡ g.G.Pages.held l.fn.pages;
+  in_use : g.G.Pages.in_use l.pages ≡ g.G.Pages.in_use l.fn.pages;
+  in_file : g.G.Pages.in_file l.pages ≡ g.G.Pages.in_file l.fn.pages;
+  later : g.G.Pages.faults l.fn.pages ≤ g.G.Pages.faults l.pages;
+  telling : g.G.Pages.tells → Telling l.self l.changed.entries (g.G.Pages.held l.fn.pages) (g.G.Pages.in_use l.fn.pages) (g.G.Pages.in_file l.fn.pages) l.fn.batch l.blob-index;
+}

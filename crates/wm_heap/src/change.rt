@@ -1,0 +1,181 @@
+//! One change of a heap: what is under an id is put where there is room, or taken out.
+ghost use Rattle.std.specs.Prelude.{◌≡◌, ℕ, ◌<◌, ◌≤◌, true, false, ◌||◌, ◌==◌, if◌then◌else◌, ◌++◌, ◌∷◌, [], length, Some, None, is_some, OnOk, IsErrOf, IfSome};
+ghost use Rattle.wm_base.specs.declared.fault.StoreFault.TheVariants as faults;
+ghost use Rattle.wm_heap.specs.Asking.{StoreCause};
+ghost use Rattle.wm_heap.specs.Draft.{HasRoom, Stands, Puts, Goes, Done};
+ghost use Rattle.wm_heap.specs.Places.{place_of, page_count};
+
+use crate::blob::Blob;
+use crate::draft::{Changed, slots_by_now};
+use crate::heap::Heap;
+use crate::ids::ids_of_slots;
+use crate::places::{clear_page_of, page_of as place_in, set_page_of};
+use crate::slot::{Slots, slot_of};
+use std::alloc::Global;
+use wm_base::{Bytes, Memory, StoreFault};
+use wm_page::Pages;
+
+impl Heap {
+    /// Puts these slots on a page, or on a new page behind the last.
+    fn set_slots(
+        &mut self,
+        alloc: Global,
+        changed: &mut Changed,
+        page: u64,
+        slots: Slots,
+    ) -> Result<(), Memory>
+        requires from { 2 ≤ page }
+        requires till { page ≤ page_count self.old }
+        ensures ok { OnOk result ((id : ℕ) → Puts page slots id (place_of self.old id) self.old self.new changed.old.entries changed.new.entries) }
+        ensures places { self.new.places ≡ self.old.places }
+    {
+        let ids = ids_of_slots(alloc, slots.as_slice())?;
+        let at = (page - 2) as usize;
+        if at < self.ids.len() {
+            self.ids[at] = ids;
+        } else {
+            self.ids.push(ids)?;
+        }
+        changed.insert(page, slots)?;
+        Ok(())
+    }
+
+    /// Puts bytes under an id behind the slots of a page, which have none under it.
+    fn put_behind(
+        &mut self,
+        alloc: Global,
+        changed: &mut Changed,
+        page: u64,
+        slots: Slots,
+        id: u64,
+        bytes: &Bytes,
+    ) -> Result<(), Memory>
+        requires from { 2 ≤ page }
+        requires till { page ≤ page_count self.old }
+        ensures { OnOk result (Puts page (slots ++ (record { id = id; bytes = bytes.now }) ∷ []) id (Some page) self.old self.new changed.old.entries changed.new.entries) }
+    {
+        let mut slots = slots;
+        slots.push(slot_of(alloc, id, bytes)?)?;
+        self.set_slots(alloc, changed, page, slots)?;
+        set_page_of(&mut self.places, id, page)?;
+        Ok(())
+    }
+
+    /// Puts bytes under an id that has none: on the last page, or on a new one.
+    fn add<G: Pages>(
+        &mut self,
+        alloc: Global,
+        changed: &mut Changed,
+        pages: &mut G,
+        id: u64,
+        bytes: &Bytes,
+    ) -> Result<(), StoreFault>
+        requires room { HasRoom changed.old.entries }
+        requires small { length bytes.now ≤ 4084 }
+        requires absent { place_of self.old id ≡ None }
+        requires stands { G.tells → Stands self.old changed.old.entries (G.held pages.old) (G.in_use pages.old) (G.in_file pages.old) }
+        ensures goes { OnOk result (Goes self.old self.new changed.old.entries changed.new.entries id true) }
+        ensures done { G.tells → OnOk result (Done self.old self.new changed.old.entries changed.new.entries (G.held pages.old) (G.in_use pages.old) (G.in_file pages.old) id (Some bytes.now)) }
+        ensures told { G.tells → G.held pages.new ≡ G.held pages.old }
+        ensures in_use { G.in_use pages.new ≡ G.in_use pages.old }
+        ensures in_file { G.in_file pages.new ≡ G.in_file pages.old }
+        ensures cause { StoreCause (G.faults pages.old) (G.faults pages.new) result }
+        ensures sound { G.tells → IsErrOf result faults.Changed → ⊥ }
+    {
+        let last = self.page_count() - 1;
+        if last >= 2 {
+            let slots = slots_by_now(alloc, changed, pages, last)?;
+            if slots.fit_with(bytes.len()) {
+                self.put_behind(alloc, changed, last, slots, id, bytes)?;
+                return Ok(());
+            }
+        }
+        self.put_behind(alloc, changed, last + 1, Slots::new(alloc), id, bytes)?;
+        Ok(())
+    }
+
+    /// Takes out what is under an id of a page.
+    fn take_out(
+        &mut self,
+        alloc: Global,
+        changed: &mut Changed,
+        page: u64,
+        slots: Slots,
+        id: u64,
+    ) -> Result<(), Memory>
+        requires from { 2 ≤ page }
+        requires till { page ≤ page_count self.old }
+        ensures { OnOk result (Puts page slots id None self.old self.new changed.old.entries changed.new.entries) }
+    {
+        self.set_slots(alloc, changed, page, slots)?;
+        clear_page_of(&mut self.places, id);
+        Ok(())
+    }
+
+    /// Puts or drops what is under an id of a page: on the same page where there is room.
+    fn change_on<G: Pages>(
+        &mut self,
+        alloc: Global,
+        changed: &mut Changed,
+        pages: &mut G,
+        page: u64,
+        blob: &Blob,
+    ) -> Result<(), StoreFault>
+        requires room { HasRoom changed.old.entries }
+        requires small { IfSome blob.now.bytes (λ bytes. length bytes ≤ 4084) }
+        requires here { place_of self.old blob.now.id ≡ Some page }
+        requires stands { G.tells → Stands self.old changed.old.entries (G.held pages.old) (G.in_use pages.old) (G.in_file pages.old) }
+        ensures goes { OnOk result (Goes self.old self.new changed.old.entries changed.new.entries blob.now.id true) }
+        ensures done { G.tells → OnOk result (Done self.old self.new changed.old.entries changed.new.entries (G.held pages.old) (G.in_use pages.old) (G.in_file pages.old) blob.now.id blob.now.bytes) }
+        ensures told { G.tells → G.held pages.new ≡ G.held pages.old }
+        ensures in_use { G.in_use pages.new ≡ G.in_use pages.old }
+        ensures in_file { G.in_file pages.new ≡ G.in_file pages.old }
+        ensures cause { StoreCause (G.faults pages.old) (G.faults pages.new) result }
+        ensures sound { G.tells → IsErrOf result faults.Changed → ⊥ }
+    {
+        if page < 2 || page >= self.page_count() {
+            return Err(StoreFault::Changed);
+        }
+        let slots = slots_by_now(alloc, changed, pages, page)?;
+        let slots = slots.without(alloc, blob.id)?;
+        let Some(bytes) = &blob.bytes else {
+            self.take_out(alloc, changed, page, slots, blob.id)?;
+            return Ok(());
+        };
+        if slots.fit_with(bytes.len()) {
+            self.put_behind(alloc, changed, page, slots, blob.id, bytes)?;
+            return Ok(());
+        }
+        self.take_out(alloc, changed, page, slots, blob.id)?;
+        self.add(alloc, changed, pages, blob.id, bytes)?;
+        Ok(())
+    }
+
+    /// Puts or drops what is under an id.
+    pub(crate) fn change<G: Pages>(
+        &mut self,
+        alloc: Global,
+        changed: &mut Changed,
+        pages: &mut G,
+        blob: &Blob,
+    ) -> Result<(), StoreFault>
+        requires room { HasRoom changed.old.entries }
+        requires small { IfSome blob.now.bytes (λ bytes. length bytes ≤ 4084) }
+        requires stands { G.tells → Stands self.old changed.old.entries (G.held pages.old) (G.in_use pages.old) (G.in_file pages.old) }
+        ensures goes { OnOk result (Goes self.old self.new changed.old.entries changed.new.entries blob.now.id (is_some blob.now.bytes || is_some (place_of self.old blob.now.id))) }
+        ensures done { G.tells → OnOk result (Done self.old self.new changed.old.entries changed.new.entries (G.held pages.old) (G.in_use pages.old) (G.in_file pages.old) blob.now.id blob.now.bytes) }
+        ensures told { G.tells → G.held pages.new ≡ G.held pages.old }
+        ensures in_use { G.in_use pages.new ≡ G.in_use pages.old }
+        ensures in_file { G.in_file pages.new ≡ G.in_file pages.old }
+        ensures cause { StoreCause (G.faults pages.old) (G.faults pages.new) result }
+        ensures sound { G.tells → IsErrOf result faults.Changed → ⊥ }
+    {
+        match place_in(&self.places, blob.id) {
+            Some(page) => self.change_on(alloc, changed, pages, page, blob),
+            None => match &blob.bytes {
+                Some(bytes) => self.add(alloc, changed, pages, blob.id, bytes),
+                None => Ok(()),
+            },
+        }
+    }
+}

@@ -1,0 +1,29 @@
+//! The page of each id.
+ghost use Rattle.std.specs.Prelude.{◌≡◌, ℕ, Some, None, ◌==◌, if◌then◌else◌, OnOk, OnErr};
+ghost use Rattle.wm_heap.specs.Places.{at};
+
+use std::collections::BTreeMap;
+use wm_base::Memory;
+
+pub type Places = BTreeMap<u64, u64>;
+
+/// The page that an id is on.
+pub fn page_of(places: &Places, id: u64) -> Option<u64>
+    ensures { result ≡ at places.now.entries id }
+{
+    places.get(&id).copied()
+}
+
+pub fn set_page_of(places: &mut Places, id: u64, page: u64) -> Result<(), Memory>
+    ensures ok { OnOk result ((j : ℕ) → at places.new.entries j ≡ (if j == id then Some page else at places.old.entries j)) }
+    ensures err { OnErr result (places.new.entries ≡ places.old.entries) }
+{
+    places.insert(id, page)?;
+    Ok(())
+}
+
+pub fn clear_page_of(places: &mut Places, id: u64)
+    ensures { (j : ℕ) → at places.new.entries j ≡ (if j == id then None else at places.old.entries j) }
+{
+    let _ = places.remove(&id);
+}
