@@ -5,3 +5,5 @@ pub mod ProductLemmas
 pub mod EqualLemmas
 pub mod SourceLemmas
 pub mod FitLemmas
+pub mod TotalLemmas
+pub mod ItemLemmas

@@ -1,9 +1,9 @@
 //! Aggregates of the values that an expression has on the rows of a group.
-ghost use Rattle.std.specs.Prelude.{◌≡◌, ℤ, IfOk, length, option_map, unwrap_or, option_copied, SomeIff, FitsSigned};
+ghost use Rattle.std.specs.Prelude.{◌≡◌, ℤ, ◌≤◌, IfOk, length, option_map, unwrap_or, option_copied, pos, SomeIff, FitsSigned};
 ghost use Rattle.std.specs.Int.{w64};
 ghost use Rattle.std.specs.Result.{IsErrOf};
 ghost use Rattle.wm_spec.specs.Conditions.{is_null as null};
-ghost use Rattle.wm_spec.specs.Expressions.{number_value, in_range as range};
+ghost use Rattle.wm_spec.specs.Expressions.{number_of as number_of_value, number_value, in_range as range};
 ghost use Rattle.wm_select.specs.Aggregates.{present, total, sum_of, least, greatest, least_beside, greatest_beside, aggregated};
 
 use std::alloc::Global;
@@ -19,7 +19,8 @@ fn is_null(value: &Value) -> bool
 
 /// How many of the values are not NULL.
 fn present_count(values: &[Value]) -> usize
-    ensures { result ≡ length (present values.now) }
+    ensures count { result ≡ length (present values.now) }
+    ensures small { result ≤ length values.now }
 {
     values.iter().filter(|value| !is_null(value)).count()
 }
@@ -68,15 +69,24 @@ fn copy_or_null(alloc: Global, value: Option<&Value>) -> Result<Value, Memory>
     }
 }
 
+/// The number that the value is, and 0 where it is none.
+fn number(value: &Value) -> i64
+    ensures { result ≡ unwrap_or (number_of_value value.now) (pos 0) }
+{
+    match value {
+        Value::Num(number) => *number,
+        _ => 0,
+    }
+}
+
 /// The sum of the numbers among the values. So many numbers of 64 bits have a sum of less than 128.
+#[tactic(auto, using(crate::proofs::TotalLemmas::total_more))]
 fn total(values: &[Value]) -> i128
     ensures { result ≡ total (present values.now) }
 {
     let mut total = 0i128;
     for value in values {
-        if let Value::Num(number) = value {
-            total += *number as i128;
-        }
+        total += number(value) as i128;
     }
     total
 }
@@ -103,13 +113,23 @@ fn sum(values: &[Value]) -> Result<Value, ValueFault>
     in_range(i64::try_from(total(values)).ok())
 }
 
+/// How many of the values are not NULL, as a value.
+fn count_value(values: &[Value]) -> Value
+    ensures { result ≡ Value.Num (pos (length (present values.now))) }
+{
+    let all = values.len();
+    let count = present_count(values);
+    prove!(count <= all);
+    Value::Num(count as i64)
+}
+
 /// What the aggregate makes of the values.
 pub fn aggregated(alloc: Global, agg: Agg, values: &[Value]) -> Result<Value, ValueFault>
     ensures ok { IfOk result (λ value. aggregated agg values.now ≡ Some value) }
     ensures out_of_range { IsErrOf result ValueFault.OutOfRange → aggregated agg values.now ≡ None }
 {
     match agg {
-        Agg::Count => Ok(Value::Num(present_count(values) as i64)),
+        Agg::Count => Ok(count_value(values)),
         Agg::Sum => sum(values),
         Agg::Min => copy_or_null(alloc, least(values)).map_err(|_| ValueFault::Memory),
         Agg::Max => copy_or_null(alloc, greatest(values)).map_err(|_| ValueFault::Memory),
