@@ -10,16 +10,16 @@ use Rattle.wm_state.specs.ById.{place_by_id, by_id, AllAbove, Ascend, perhaps_be
 
 -- ---- what is found
 
-record_at-here : (s : Stored) (ss : List Stored) (id : ℕ) → s.id ≡ id → record_at (s ∷ ss) id ≡ Some s.record
+pub record_at-here : (s : Stored) (ss : List Stored) (id : ℕ) → s.id ≡ id → record_at (s ∷ ss) id ≡ Some s.record
 unfolding record_at
 record_at-here s ss id e = rw (eq-eqb _ _ e) refl
 
-record_at-away : (s : Stored) (ss : List Stored) (id : ℕ) → s.id ≢ id → record_at (s ∷ ss) id ≡ record_at ss id
+pub record_at-away : (s : Stored) (ss : List Stored) (id : ℕ) → s.id ≢ id → record_at (s ∷ ss) id ≡ record_at ss id
 unfolding record_at
 record_at-away s ss id e = rw (ne_eqb _ _ e) refl
 
 -- nothing is found below all ids
-record_at-below : (ss : List Stored) (low id : ℕ) → AllAbove low ss → id ≡ low → record_at ss id ≡ None
+pub record_at-below : (ss : List Stored) (low id : ℕ) → AllAbove low ss → id ≡ low → record_at ss id ≡ None
 unfolding record_at
 record_at-below [] low id above e = refl
 record_at-below (s ∷ ss) low id above e = rw (ne_eqb s.id id (λ h. omega (arith, above.0, h, e))) (record_at-below ss low id above.1 e)
@@ -84,7 +84,7 @@ Ascend-place s (t ∷ ts) fresh sorted = by_test (nat_lt t.id s.id) refl (cases_
 none_some : {A : Type 0} (r : A) (o : Option A) → o ≡ None → o ≡ Some r → ⊥
 none_some r o none some = cc
 
-record_at-none : (id : ℕ) → record_at [] id ≡ None
+pub record_at-none : (id : ℕ) → record_at [] id ≡ None
 unfolding record_at
 record_at-none id = refl
 

@@ -13,13 +13,11 @@ use Rattle.wm_spec.specs.declared.record.piece.PieceRecord.{PieceRecord}
 use Rattle.wm_spec.specs.declared.record.row.RowRecord.{RowRecord}
 use Rattle.wm_spec.specs.declared.record.table.Table.{Table}
 use Rattle.wm_state.specs.State.{State, enabled}
+use Rattle.wm_state.specs.Batches.{ready}
 use Rattle.wm_state.specs.Standing.{by_number, place_table, CountersStand, TablesStand, Stands}
 use Rattle.wm_state.proofs.Tests.{bool_apart, both, and_true, not_true, either_false, all_if, all_swap, all_middle, differ_swap, find_swap}
 use Rattle.wm_state.proofs.Apart.{Ruled, ruled}
 use Rattle.wm_state.proofs.Standing.{Retabled, Stands-retabled}
-
-abbrev pub ready : Table → Table
-ready t = record t { versioned = true }
 
 -- the records with one table ready, and other counters
 abbrev pub readied : Parts → Counters → List Table → Table → List Table → Parts

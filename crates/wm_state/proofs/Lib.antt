@@ -11,3 +11,7 @@ pub mod Apart
 pub mod Inserted
 pub mod Tables
 pub mod Enabling
+pub mod ByKind
+pub mod Planning
+pub mod Dropping
+pub mod Planned

@@ -2,3 +2,4 @@ pub mod State
 pub mod ById
 pub mod Standing
 pub mod Effects
+pub mod Batches

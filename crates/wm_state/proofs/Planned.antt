@@ -1,0 +1,248 @@
+-- The records stand for the state after the batches that lines make.
+use Rattle.std.proofs.Common.{◌≡◌, ◌≢◌, ℕ, ◌<◌, ◌+◌, ◌==◌, nat_lt, Bool, true, false, not, cond, if◌then◌else◌, List, [], ◌∷◌, ◌++◌, map, Option, Some, None, refl, sym, ap, subst, ◌∙◌, ◌⊎◌, inl, inr, arith}
+use Rattle.std.proofs.lemmas.Bool.{cases_eq, eq-eqb, ne_eqb}
+use Rattle.std.specs.List.{filter, filter_map}
+use Rattle.wm_base.specs.declared.row.Row.{Row}
+use Rattle.wm_graph.specs.Parts.{Parts, parts_of, as_table, as_space}
+use Rattle.wm_graph.specs.Rules.{are_counters, is_table}
+use Rattle.wm_spec.specs.Lists.{Entry}
+use Rattle.wm_spec.specs.Records.{record_at}
+use Rattle.wm_spec.specs.declared.record.Record.{Record}
+use Rattle.wm_spec.specs.declared.record.Record.TheVariants as records
+use Rattle.wm_spec.specs.declared.record.stored.Stored.{Stored}
+use Rattle.wm_spec.specs.declared.record.batch.Change.{Change}
+use Rattle.wm_spec.specs.declared.record.counters.Counters.{Counters}
+use Rattle.wm_spec.specs.declared.record.piece.PieceRecord.{PieceRecord}
+use Rattle.wm_spec.specs.declared.record.row.RowRecord.{RowRecord}
+use Rattle.wm_spec.specs.declared.record.space.Space.{Space}
+use Rattle.wm_spec.specs.declared.record.table.Table.{Table}
+use Rattle.wm_state.specs.ById.{Ascend, set_at, applied}
+use Rattle.wm_state.specs.Batches.{put, drop_one, create_batch, enable_batch, insert_batch, ready}
+use Rattle.wm_state.specs.Effects.{longer}
+use Rattle.wm_state.specs.State.{State, enabled}
+use Rattle.wm_state.specs.Standing.{CountersStand, Stands}
+use Rattle.wm_state.proofs.ById.{Ascend-set, record_at-set}
+use Rattle.wm_state.proofs.ByKind.{kinds, stored, Split, split_of, set-split, AllUnder, set-behind}
+use Rattle.wm_state.proofs.Planning.{recounted, parts-counted, parts-tabled, tables-split, parts-spaced, spaces-split, parts-more_row, parts-more_piece, parts-filtered, keeps, parts-created}
+use Rattle.wm_state.proofs.Dropping.{AreDropped, dropped, is_dropped}
+use Rattle.wm_state.proofs.Enabling.{readied, Stands-readied}
+use Rattle.wm_state.proofs.Inserting.{inserted, MayInsert}
+use Rattle.wm_state.proofs.Inserted.{MayWrite, Stands-inserted}
+use Rattle.wm_state.proofs.Laying.{is_out}
+use Rattle.wm_state.proofs.Standing.{appended}
+use Rattle.wm_state.proofs.Tables.{created, Stands-created}
+
+-- ---- counters
+
+-- the counters in their place
+counted : (ss : List Stored) (id : ℕ) (old new : Counters) → Ascend ss → record_at ss id ≡ Some (records.Counters old) → (parts_of ss).counters ≡ old ∷ []
+    → parts_of (set_at id (Some (records.Counters new)) ss) ≡ recounted (parts_of ss) new
+counted ss id old new sorted found one = by_split (split_of ss id (records.Counters old) found)
+  where
+    by_split : Split ss id (records.Counters old) → parts_of (set_at id (Some (records.Counters new)) ss) ≡ recounted (parts_of ss) new
+    by_split s =
+        ap parts_of (ap (set_at id (Some (records.Counters new))) s.is ∙ set-split s.front s.back id (records.Counters old) (records.Counters new) (subst (λ xs. Ascend xs) s.is sorted))
+        ∙ parts-counted s.front s.back id old new (subst (λ xs. (parts_of xs).counters ≡ old ∷ []) s.is one)
+        ∙ ap (λ xs. recounted (parts_of xs) new) (sym s.is)
+
+-- a record of another kind is found as before
+found_still : (ss : List Stored) (counters_id id : ℕ) (old new : Counters) (r : Record) → Ascend ss → record_at ss counters_id ≡ Some (records.Counters old) → record_at ss id ≡ Some r
+    → ((c : Counters) → r ≡ records.Counters c → ⊥) → record_at (set_at counters_id (Some (records.Counters new)) ss) id ≡ Some r
+found_still ss counters_id id old new r sorted counters found other =
+    record_at-set counters_id (Some (records.Counters new)) ss sorted id ∙ by_id (cases_eq id counters_id)
+  where
+    some_record : (a b : Record) → Some a ≡ Some b → a ≡ b
+    some_record a b h = cc
+
+    by_id : (id ≡ counters_id) ⊎ (id ≢ counters_id) → (if id == counters_id then Some (records.Counters new) else record_at ss id) ≡ Some r
+    by_id (inl same) = absurd (other old (some_record r (records.Counters old) (sym found ∙ ap (record_at ss) same ∙ counters)))
+    by_id (inr apart) = rw (ne_eqb _ _ apart) found
+
+-- ---- a table becomes ready
+
+pub record Readied (ss : List Stored) (cs : List Change) (new : Counters) (t : Table) : Type 0 where
+  pub front : List Table
+  pub back : List Table
+  pub old : (parts_of ss).tables ≡ front ++ t ∷ back
+  pub is : parts_of (applied cs ss) ≡ readied (parts_of ss) new front t back
+
+parts-readied : (ss : List Stored) (counters_id id : ℕ) (old new : Counters) (t : Table) → Ascend ss → record_at ss counters_id ≡ Some (records.Counters old) → (parts_of ss).counters ≡ old ∷ []
+    → record_at ss id ≡ Some (records.Table t) → Readied ss (enable_batch counters_id new id t) new t
+parts-readied ss counters_id id old new t sorted counters one found =
+    by_split (split_of first id (records.Table t) (found_still ss counters_id id old new (records.Table t) sorted counters found (λ c e. cc)))
+  where
+    first : List Stored
+    first = set_at counters_id (Some (records.Counters new)) ss
+
+    parts : parts_of first ≡ recounted (parts_of ss) new
+    parts = counted ss counters_id old new sorted counters one
+
+    by_split : Split first id (records.Table t) → Readied ss (enable_batch counters_id new id t) new t
+    by_split s =
+        let tables : (parts_of first).tables ≡ kinds as_table s.front ++ t ∷ kinds as_table s.back = ap (λ xs. (parts_of xs).tables) s.is ∙ tables-split s.front s.back id t in
+        record {
+          front = kinds as_table s.front;
+          back = kinds as_table s.back;
+          old = sym (ap (λ (p : Parts). p.tables) parts) ∙ tables;
+          is =
+              ap parts_of (ap (set_at id (Some (records.Table (ready t)))) s.is ∙ set-split s.front s.back id (records.Table t) (records.Table (ready t)) (subst (λ xs. Ascend xs) s.is (Ascend-set counters_id (Some (records.Counters new)) ss sorted)))
+              ∙ parts-tabled s.front s.back id t (ready t)
+              ∙ ap (λ xs. record (parts_of xs) { tables = kinds as_table s.front ++ ready t ∷ kinds as_table s.back }) (sym s.is)
+              ∙ ap (λ (p : Parts). record p { tables = kinds as_table s.front ++ ready t ∷ kinds as_table s.back }) parts;
+        }
+
+-- ---- a row is written
+
+pub record Inserted (ss : List Stored) (cs : List Change) (new : Counters) (a : Space) (keep : PieceRecord → Bool) (r : RowRecord) (x : PieceRecord) : Type 0 where
+  pub front : List Space
+  pub back : List Space
+  pub old : (parts_of ss).spaces ≡ front ++ a ∷ back
+  pub is : parts_of (applied cs ss) ≡ inserted (parts_of ss) new front a back keep r x
+
+AllUnder-filter : (n : ℕ) (keep : Stored → Bool) (ss : List Stored) → AllUnder n ss → AllUnder n (filter keep ss)
+AllUnder-filter n keep [] under = tt
+AllUnder-filter n keep (s ∷ ss) under = by_test (keep s) (AllUnder-filter n keep ss under.1)
+  where
+    by_test : (b : Bool) → AllUnder n (filter keep ss) → AllUnder n (cond b (s ∷ filter keep ss) (filter keep ss))
+    by_test true rest = (under.0, rest)
+    by_test false rest = rest
+
+AllUnder-put : (n : ℕ) (front back : List Stored) (id : ℕ) (r q : Record) → AllUnder n (front ++ stored id r ∷ back) → AllUnder n (front ++ stored id q ∷ back)
+AllUnder-put n [] back id r q under = under
+AllUnder-put n (x ∷ front) back id r q under = (under.0, AllUnder-put n front back id r q under.1)
+
+AllUnder-next : (n : ℕ) (ss : List Stored) (r : Record) → AllUnder n ss → AllUnder (n + 1) (ss ++ stored n r ∷ [])
+AllUnder-next n [] r under = (omega arith, tt)
+AllUnder-next n (s ∷ ss) r under = (omega (arith, under.0), AllUnder-next n ss r under.1)
+
+applied-append : (xs ys : List Change) (ss : List Stored) → applied (xs ++ ys) ss ≡ applied ys (applied xs ss)
+applied-append [] ys ss = refl
+applied-append (x ∷ xs) ys ss = applied-append xs ys (set_at x.id x.becomes ss)
+
+AllUnder-set : (n : ℕ) (ss : List Stored) (id : ℕ) (r q : Record) → Ascend ss → record_at ss id ≡ Some r → AllUnder n ss → AllUnder n (set_at id (Some q) ss)
+AllUnder-set n ss id r q sorted found under = by_split (split_of ss id r found)
+  where
+    by_split : Split ss id r → AllUnder n (set_at id (Some q) ss)
+    by_split s = subst (λ xs. AllUnder n xs)
+        (sym (ap (set_at id (Some q)) s.is ∙ set-split s.front s.back id r q (subst (λ xs. Ascend xs) s.is sorted)))
+        (AllUnder-put n s.front s.back id r q (subst (λ xs. AllUnder n xs) s.is under))
+
+-- what is dropped is dropped still once a record that is no piece took the place of one that is none
+dropped-still : (test : PieceRecord → Bool) (ids : List ℕ) (ss : List Stored) (id : ℕ) (r q : Record) → Ascend ss → record_at ss id ≡ Some r → keeps test r ≡ true → keeps test q ≡ true
+    → AreDropped (keeps test) ids ss → AreDropped (keeps test) ids (set_at id (Some q) ss)
+dropped-still test ids ss id r q sorted found kept_r kept_q are other x there = by_id (cases_eq other id) (sym (record_at-set id (Some q) ss sorted other) ∙ there)
+  where
+    some_record : (a b : Record) → Some a ≡ Some b → a ≡ b
+    some_record a b h = cc
+
+    by_id : (other ≡ id) ⊎ (other ≢ id) → (if other == id then Some q else record_at ss other) ≡ Some x → is_dropped ids other ≡ not (keeps test x)
+    by_id (inl same) e =
+        let is : q ≡ x = some_record q x (sym (ap (λ b. if b then Some q else record_at ss other) (eq-eqb _ _ same)) ∙ e) in
+        are other r (ap (record_at ss) same ∙ found) ∙ ap not (kept_r ∙ sym kept_q ∙ ap (keeps test) is)
+    by_id (inr apart) e = are other x (sym (ap (λ b. if b then Some q else record_at ss other) (ne_eqb _ _ apart)) ∙ e)
+
+parts-inserted : (ss : List Stored) (counters_id space_id : ℕ) (old new : Counters) (a : Space) (test : PieceRecord → Bool) (ids : List ℕ) (id : ℕ) (r : RowRecord) (x : PieceRecord) → Ascend ss
+    → record_at ss counters_id ≡ Some (records.Counters old) → (parts_of ss).counters ≡ old ∷ [] → record_at ss space_id ≡ Some (records.Space a) → AreDropped (keeps test) ids ss → AllUnder id ss
+    → Inserted ss (insert_batch counters_id new space_id a ids id r x) new a test r x
+parts-inserted ss counters_id space_id old new a test ids id r x sorted counters one space are under =
+    by_split (split_of first space_id (records.Space a) space_still)
+  where
+    first : List Stored
+    first = set_at counters_id (Some (records.Counters new)) ss
+
+    second : List Stored
+    second = set_at space_id (Some (records.Space (longer a))) first
+
+    third : List Stored
+    third = filter (λ (s : Stored). keeps test s.record) second
+
+    sorted_first : Ascend first
+    sorted_first = Ascend-set counters_id (Some (records.Counters new)) ss sorted
+
+    sorted_second : Ascend second
+    sorted_second = Ascend-set space_id (Some (records.Space (longer a))) first sorted_first
+
+    space_still : record_at first space_id ≡ Some (records.Space a)
+    space_still = found_still ss counters_id space_id old new (records.Space a) sorted counters space (λ c e. cc)
+
+    dropped_first : AreDropped (keeps test) ids first
+    dropped_first = dropped-still test ids ss counters_id (records.Counters old) (records.Counters new) sorted counters refl refl are
+
+    dropped_second : applied (map drop_one ids) second ≡ third
+    dropped_second = dropped (keeps test) ids second sorted_second (dropped-still test ids first space_id (records.Space a) (records.Space (longer a)) sorted_first space_still refl refl dropped_first)
+
+    under_third : AllUnder id third
+    under_third = AllUnder-filter id (λ (s : Stored). keeps test s.record) second
+        (AllUnder-set id first space_id (records.Space a) (records.Space (longer a)) sorted_first space_still
+        (AllUnder-set id ss counters_id (records.Counters old) (records.Counters new) sorted counters under))
+
+    all : applied (insert_batch counters_id new space_id a ids id r x) ss ≡ (third ++ stored id (records.Row r) ∷ []) ++ stored (id + 1) (records.Piece x) ∷ []
+    all =
+        applied-append (map drop_one ids) (put id (records.Row r) ∷ put (id + 1) (records.Piece x) ∷ []) second
+        ∙ ap (λ xs. set_at (id + 1) (Some (records.Piece x)) (set_at id (Some (records.Row r)) xs)) dropped_second
+        ∙ ap (set_at (id + 1) (Some (records.Piece x))) (set-behind third id (records.Row r) under_third)
+        ∙ set-behind (third ++ stored id (records.Row r) ∷ []) (id + 1) (records.Piece x) (AllUnder-next id third (records.Row r) under_third)
+
+    parts_first : parts_of first ≡ recounted (parts_of ss) new
+    parts_first = counted ss counters_id old new sorted counters one
+
+    by_split : Split first space_id (records.Space a) → Inserted ss (insert_batch counters_id new space_id a ids id r x) new a test r x
+    by_split s =
+        let spaces : (parts_of first).spaces ≡ kinds as_space s.front ++ a ∷ kinds as_space s.back = ap (λ xs. (parts_of xs).spaces) s.is ∙ spaces-split s.front s.back space_id a in
+        let parts_second : parts_of second ≡ record (recounted (parts_of ss) new) { spaces = kinds as_space s.front ++ longer a ∷ kinds as_space s.back } =
+            ap parts_of (ap (set_at space_id (Some (records.Space (longer a)))) s.is ∙ set-split s.front s.back space_id (records.Space a) (records.Space (longer a)) (subst (λ xs. Ascend xs) s.is sorted_first))
+            ∙ parts-spaced s.front s.back space_id a (longer a)
+            ∙ ap (λ xs. record (parts_of xs) { spaces = kinds as_space s.front ++ longer a ∷ kinds as_space s.back }) (sym s.is)
+            ∙ ap (λ (p : Parts). record p { spaces = kinds as_space s.front ++ longer a ∷ kinds as_space s.back }) parts_first in
+        record {
+          front = kinds as_space s.front;
+          back = kinds as_space s.back;
+          old = sym (ap (λ (p : Parts). p.spaces) parts_first) ∙ spaces;
+          is =
+              ap parts_of all
+              ∙ parts-more_piece (third ++ stored id (records.Row r) ∷ []) (id + 1) x
+              ∙ ap (λ (p : Parts). record p { pieces = p.pieces ++ x ∷ [] }) (parts-more_row third id r)
+              ∙ ap (λ (p : Parts). record p { rows = p.rows ++ r ∷ []; pieces = p.pieces ++ x ∷ [] }) (parts-filtered second test)
+              ∙ ap (λ (p : Parts). record p { rows = p.rows ++ r ∷ []; pieces = filter test p.pieces ++ x ∷ [] }) parts_second;
+        }
+
+-- ---- the laws of the three batches
+
+-- a table was made, where there was none
+pub plan_created : (ss : List Stored) (counters_id id : ℕ) (old new : Counters) (t : Table) (s u : State) → Stands (parts_of ss) s → Ascend ss → record_at ss counters_id ≡ Some (records.Counters old)
+    → (parts_of ss).counters ≡ old ∷ [] → (parts_of ss).tables ≡ [] → s.tables ≡ [] → AllUnder id ss → are_counters new ≡ true → new.next_version ≡ old.next_version → is_table t ≡ true
+    → u.spaces ≡ s.spaces → u.tables ≡ t ∷ [] → CountersStand (created (parts_of ss) new t) u → Stands (parts_of (applied (create_batch counters_id new id t) ss)) u
+plan_created ss counters_id id old new t s u st sorted counters one no_tables none under counts versions is spaces tables stands =
+    subst (λ p. Stands p u) (sym (parts-created ss counters_id id old new t sorted counters one no_tables under))
+    (Stands-created (parts_of ss) new t s u st none counts (λ c is_one. versions ∙ ap (λ (k : Counters). k.next_version) (only old c (sym one ∙ is_one))) is spaces tables stands)
+  where
+    only : (a b : Counters) → (a ∷ []) ≡ (b ∷ []) → a ≡ b
+    only a b h = cc
+
+-- a table became ready
+pub plan_readied : (ss : List Stored) (counters_id id : ℕ) (old new : Counters) (t : Table) (s u : State) → Stands (parts_of ss) s → Ascend ss → record_at ss counters_id ≡ Some (records.Counters old)
+    → (parts_of ss).counters ≡ old ∷ [] → record_at ss id ≡ Some (records.Table t) → t.has_key ≡ true → are_counters new ≡ true → new.next_version ≡ old.next_version → new.next_stamp ≡ old.next_stamp
+    → u.spaces ≡ s.spaces → u.tables ≡ enabled t.number s.tables → ((front back : List Table) → CountersStand (readied (parts_of ss) new front t back) u)
+    → Stands (parts_of (applied (enable_batch counters_id new id t) ss)) u
+plan_readied ss counters_id id old new t s u st sorted counters one found key counts versions stamps spaces tables stands =
+    let r = parts-readied ss counters_id id old new t sorted counters one found in
+    subst (λ p. Stands p u) (sym r.is)
+    (Stands-readied (parts_of ss) new r.front t r.back s u st r.old key counts
+        (λ c is_one. let same : old ≡ c = only old c (sym one ∙ is_one) in (versions ∙ ap (λ (k : Counters). k.next_version) same, stamps ∙ ap (λ (k : Counters). k.next_stamp) same))
+        spaces tables (stands r.front r.back))
+  where
+    only : (a b : Counters) → (a ∷ []) ≡ (b ∷ []) → a ≡ b
+    only a b h = cc
+
+-- a row was written
+pub plan_inserted : (ss : List Stored) (counters_id space_id : ℕ) (old new : Counters) (a : Space) (ids : List ℕ) (id : ℕ) (r : RowRecord) (x : PieceRecord) (n : ℕ) (e : Entry) (row : Row) (s u : State)
+    → Stands (parts_of ss) s → Ascend ss → record_at ss counters_id ≡ Some (records.Counters old) → (parts_of ss).counters ≡ old ∷ [] → record_at ss space_id ≡ Some (records.Space a)
+    → AreDropped (keeps (is_out x.version e.table e.key)) ids ss → AllUnder id ss
+    → ((front back : List Space) → (parts_of ss).spaces ≡ front ++ a ∷ back → MayInsert (parts_of ss) old new front a back (is_out x.version e.table e.key) r x)
+    → MayWrite (parts_of ss) n e row a r x → u.spaces ≡ appended n e s.spaces → u.tables ≡ s.tables
+    → ((front back : List Space) → CountersStand (inserted (parts_of ss) new front a back (is_out x.version e.table e.key) r x) u)
+    → Stands (parts_of (applied (insert_batch counters_id new space_id a ids id r x) ss)) u
+plan_inserted ss counters_id space_id old new a ids id r x n e row s u st sorted counters one space are under may w spaces tables stands =
+    let i = parts-inserted ss counters_id space_id old new a (is_out x.version e.table e.key) ids id r x sorted counters one space are under in
+    subst (λ p. Stands p u) (sym i.is)
+    (Stands-inserted (parts_of ss) old new i.front a i.back r x n e row s u st (may i.front i.back i.old) w spaces tables (stands i.front i.back))

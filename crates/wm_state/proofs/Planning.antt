@@ -1,0 +1,210 @@
+-- The parts of the records after the batches that lines make.
+use Rattle.std.proofs.Common.{◌≡◌, ◌≢◌, ℕ, ◌<◌, ◌+◌, ◌==◌, nat_lt, Bool, true, false, not, cond, List, [], ◌∷◌, ◌++◌, map, Option, Some, None, refl, sym, ap, subst, ◌∙◌, ◌⊎◌, inl, inr, arith}
+use Rattle.std.proofs.lemmas.Bool.{cases_eq, eq-eqb, ne_eqb}
+use Rattle.std.specs.List.{filter, filter_map}
+use Rattle.wm_graph.specs.Parts.{Parts, parts_of, parts_in, as_counters, as_table, as_space, as_version, as_row, as_piece}
+use Rattle.wm_spec.specs.Records.{record_at}
+use Rattle.wm_spec.specs.declared.record.Record.{Record}
+use Rattle.wm_spec.specs.declared.record.Record.TheVariants as records
+use Rattle.wm_spec.specs.declared.record.stored.Stored.{Stored}
+use Rattle.wm_spec.specs.declared.record.batch.Change.{Change}
+use Rattle.wm_spec.specs.declared.record.counters.Counters.{Counters}
+use Rattle.wm_spec.specs.declared.record.piece.PieceRecord.{PieceRecord}
+use Rattle.wm_spec.specs.declared.record.row.RowRecord.{RowRecord}
+use Rattle.wm_spec.specs.declared.record.space.Space.{Space}
+use Rattle.wm_spec.specs.declared.record.table.Table.{Table}
+use Rattle.wm_spec.specs.declared.record.version.Version.{Version}
+use Rattle.wm_state.specs.ById.{Ascend, set_at, applied}
+use Rattle.wm_state.specs.Batches.{put, create_batch, enable_batch, insert_batch, ready}
+use Rattle.wm_state.proofs.ById.{Ascend-set}
+use Rattle.wm_state.proofs.ByKind.{kinds, stored, Split, split_of, set-split, AllUnder, set-behind, kinds-same, kinds-one, kinds-more, kinds-no_more, kinds-kept, kinds-filter}
+use Rattle.wm_state.proofs.Tables.{created}
+use Rattle.wm_state.proofs.Enabling.{readied}
+
+-- the parts, kind by kind
+abbrev made : List Counters → List Table → List Space → List Version → List RowRecord → List PieceRecord → Parts
+made c t s v r p = record { counters = c; tables = t; spaces = s; versions = v; rows = r; pieces = p }
+
+parts_are : (ss : List Stored) → parts_of ss ≡ made (kinds as_counters ss) (kinds as_table ss) (kinds as_space ss) (kinds as_version ss) (kinds as_row ss) (kinds as_piece ss)
+unfolding parts_of
+parts_are ss = refl
+
+made_same : {c d : List Counters} {t u : List Table} {s x : List Space} {v w : List Version} {r q : List RowRecord} {p o : List PieceRecord} → c ≡ d → t ≡ u → s ≡ x → v ≡ w → r ≡ q → p ≡ o → made c t s v r p ≡ made d u x w q o
+made_same a b e f g h = rw (a, b, e, f, g, h) refl
+
+alone : {A : Type 0} (xs ys : List A) (a b : A) → xs ++ a ∷ ys ≡ b ∷ [] → (xs ≡ []) × (ys ≡ [])
+alone [] [] a b e = (refl, refl)
+alone [] (y ∷ ys) a b e = cc
+alone (x ∷ []) ys a b e = cc
+alone (x ∷ y ∷ xs) ys a b e = cc
+
+-- the one record of counters is in its place
+counters-put : (front back : List Stored) (id : ℕ) (old new : Counters) → kinds as_counters (front ++ stored id (records.Counters old) ∷ back) ≡ old ∷ []
+    → kinds as_counters (front ++ stored id (records.Counters new) ∷ back) ≡ new ∷ []
+counters-put front back id old new one =
+    let h = alone (kinds as_counters front) (kinds as_counters back) old old (sym (kinds-one as_counters front back id (records.Counters old) old refl) ∙ one) in
+    kinds-one as_counters front back id (records.Counters new) new refl ∙ rw (h.0, h.1) refl
+
+AllUnder-put : (n : ℕ) (front back : List Stored) (id : ℕ) (r q : Record) → AllUnder n (front ++ stored id r ∷ back) → AllUnder n (front ++ stored id q ∷ back)
+AllUnder-put n [] back id r q under = under
+AllUnder-put n (x ∷ front) back id r q under = (under.0, AllUnder-put n front back id r q under.1)
+
+-- the counters change, and all else stands
+abbrev pub recounted : Parts → Counters → Parts
+recounted p c = record p { counters = c ∷ [] }
+
+-- ---- one record changes
+
+pub parts-counted : (front back : List Stored) (id : ℕ) (old new : Counters) → (parts_of (front ++ stored id (records.Counters old) ∷ back)).counters ≡ old ∷ []
+    → parts_of (front ++ stored id (records.Counters new) ∷ back) ≡ recounted (parts_of (front ++ stored id (records.Counters old) ∷ back)) new
+unfolding parts_of
+parts-counted front back id old new one = made_same
+    (counters-put front back id old new one)
+    (kinds-same as_table front back id (records.Counters old) (records.Counters new) refl refl)
+    (kinds-same as_space front back id (records.Counters old) (records.Counters new) refl refl)
+    (kinds-same as_version front back id (records.Counters old) (records.Counters new) refl refl)
+    (kinds-same as_row front back id (records.Counters old) (records.Counters new) refl refl)
+    (kinds-same as_piece front back id (records.Counters old) (records.Counters new) refl refl)
+
+pub parts-tabled : (front back : List Stored) (id : ℕ) (t u : Table)
+    → parts_of (front ++ stored id (records.Table u) ∷ back) ≡ record (parts_of (front ++ stored id (records.Table t) ∷ back)) { tables = kinds as_table front ++ u ∷ kinds as_table back }
+unfolding parts_of
+parts-tabled front back id t u = made_same
+    (kinds-same as_counters front back id (records.Table t) (records.Table u) refl refl)
+    (kinds-one as_table front back id (records.Table u) u refl)
+    (kinds-same as_space front back id (records.Table t) (records.Table u) refl refl)
+    (kinds-same as_version front back id (records.Table t) (records.Table u) refl refl)
+    (kinds-same as_row front back id (records.Table t) (records.Table u) refl refl)
+    (kinds-same as_piece front back id (records.Table t) (records.Table u) refl refl)
+
+pub tables-split : (front back : List Stored) (id : ℕ) (t : Table) → (parts_of (front ++ stored id (records.Table t) ∷ back)).tables ≡ kinds as_table front ++ t ∷ kinds as_table back
+unfolding parts_of
+tables-split front back id t = kinds-one as_table front back id (records.Table t) t refl
+
+pub parts-spaced : (front back : List Stored) (id : ℕ) (a b : Space)
+    → parts_of (front ++ stored id (records.Space b) ∷ back) ≡ record (parts_of (front ++ stored id (records.Space a) ∷ back)) { spaces = kinds as_space front ++ b ∷ kinds as_space back }
+unfolding parts_of
+parts-spaced front back id a b = made_same
+    (kinds-same as_counters front back id (records.Space a) (records.Space b) refl refl)
+    (kinds-same as_table front back id (records.Space a) (records.Space b) refl refl)
+    (kinds-one as_space front back id (records.Space b) b refl)
+    (kinds-same as_version front back id (records.Space a) (records.Space b) refl refl)
+    (kinds-same as_row front back id (records.Space a) (records.Space b) refl refl)
+    (kinds-same as_piece front back id (records.Space a) (records.Space b) refl refl)
+
+pub spaces-split : (front back : List Stored) (id : ℕ) (a : Space) → (parts_of (front ++ stored id (records.Space a) ∷ back)).spaces ≡ kinds as_space front ++ a ∷ kinds as_space back
+unfolding parts_of
+spaces-split front back id a = kinds-one as_space front back id (records.Space a) a refl
+
+pub parts-more_table : (ss : List Stored) (id : ℕ) (t : Table) → parts_of (ss ++ stored id (records.Table t) ∷ []) ≡ record (parts_of ss) { tables = (parts_of ss).tables ++ t ∷ [] }
+unfolding parts_of
+parts-more_table ss id t = made_same
+    (kinds-no_more as_counters ss id (records.Table t) refl)
+    (kinds-more as_table ss id (records.Table t) t refl)
+    (kinds-no_more as_space ss id (records.Table t) refl)
+    (kinds-no_more as_version ss id (records.Table t) refl)
+    (kinds-no_more as_row ss id (records.Table t) refl)
+    (kinds-no_more as_piece ss id (records.Table t) refl)
+
+pub parts-more_row : (ss : List Stored) (id : ℕ) (r : RowRecord) → parts_of (ss ++ stored id (records.Row r) ∷ []) ≡ record (parts_of ss) { rows = (parts_of ss).rows ++ r ∷ [] }
+unfolding parts_of
+parts-more_row ss id r = made_same
+    (kinds-no_more as_counters ss id (records.Row r) refl)
+    (kinds-no_more as_table ss id (records.Row r) refl)
+    (kinds-no_more as_space ss id (records.Row r) refl)
+    (kinds-no_more as_version ss id (records.Row r) refl)
+    (kinds-more as_row ss id (records.Row r) r refl)
+    (kinds-no_more as_piece ss id (records.Row r) refl)
+
+pub parts-more_piece : (ss : List Stored) (id : ℕ) (x : PieceRecord) → parts_of (ss ++ stored id (records.Piece x) ∷ []) ≡ record (parts_of ss) { pieces = (parts_of ss).pieces ++ x ∷ [] }
+unfolding parts_of
+parts-more_piece ss id x = made_same
+    (kinds-no_more as_counters ss id (records.Piece x) refl)
+    (kinds-no_more as_table ss id (records.Piece x) refl)
+    (kinds-no_more as_space ss id (records.Piece x) refl)
+    (kinds-no_more as_version ss id (records.Piece x) refl)
+    (kinds-no_more as_row ss id (records.Piece x) refl)
+    (kinds-more as_piece ss id (records.Piece x) x refl)
+
+-- a record is kept but for the pieces that a test lets go
+abbrev pub keeps : (PieceRecord → Bool) → Record → Bool
+keeps test (records.Piece x) = test x
+keeps test r = true
+
+pub parts-filtered : (ss : List Stored) (test : PieceRecord → Bool) → parts_of (filter (λ (s : Stored). keeps test s.record) ss) ≡ record (parts_of ss) { pieces = filter test (parts_of ss).pieces }
+unfolding parts_of
+parts-filtered ss test = made_same
+    (kinds-kept as_counters (λ (s : Stored). keeps test s.record) (λ s a. of_counters s.record a) ss)
+    (kinds-kept as_table (λ (s : Stored). keeps test s.record) (λ s a. of_table s.record a) ss)
+    (kinds-kept as_space (λ (s : Stored). keeps test s.record) (λ s a. of_space s.record a) ss)
+    (kinds-kept as_version (λ (s : Stored). keeps test s.record) (λ s a. of_version s.record a) ss)
+    (kinds-kept as_row (λ (s : Stored). keeps test s.record) (λ s a. of_row s.record a) ss)
+    (kinds-filter as_piece (λ (s : Stored). keeps test s.record) test (λ s a. of_piece s.record a) ss)
+  where
+    of_counters : (r : Record) (a : Counters) → as_counters r ≡ Some a → keeps test r ≡ true
+    of_counters (records.Piece x) a e = cc
+    of_counters (records.Counters x) a e = refl
+    of_counters (records.Table x) a e = cc
+    of_counters (records.Space x) a e = cc
+    of_counters (records.Version x) a e = cc
+    of_counters (records.Row x) a e = cc
+
+    of_table : (r : Record) (a : Table) → as_table r ≡ Some a → keeps test r ≡ true
+    of_table (records.Piece x) a e = cc
+    of_table (records.Table x) a e = refl
+    of_table (records.Counters x) a e = cc
+    of_table (records.Space x) a e = cc
+    of_table (records.Version x) a e = cc
+    of_table (records.Row x) a e = cc
+
+    of_space : (r : Record) (a : Space) → as_space r ≡ Some a → keeps test r ≡ true
+    of_space (records.Piece x) a e = cc
+    of_space (records.Space x) a e = refl
+    of_space (records.Table x) a e = cc
+    of_space (records.Counters x) a e = cc
+    of_space (records.Version x) a e = cc
+    of_space (records.Row x) a e = cc
+
+    of_version : (r : Record) (a : Version) → as_version r ≡ Some a → keeps test r ≡ true
+    of_version (records.Piece x) a e = cc
+    of_version (records.Version x) a e = refl
+    of_version (records.Table x) a e = cc
+    of_version (records.Counters x) a e = cc
+    of_version (records.Space x) a e = cc
+    of_version (records.Row x) a e = cc
+
+    of_row : (r : Record) (a : RowRecord) → as_row r ≡ Some a → keeps test r ≡ true
+    of_row (records.Piece x) a e = cc
+    of_row (records.Row x) a e = refl
+    of_row (records.Table x) a e = cc
+    of_row (records.Counters x) a e = cc
+    of_row (records.Space x) a e = cc
+    of_row (records.Version x) a e = cc
+
+    some_piece : (x a : PieceRecord) → Some x ≡ Some a → x ≡ a
+    some_piece x a h = cc
+
+    of_piece : (r : Record) (a : PieceRecord) → as_piece r ≡ Some a → keeps test r ≡ test a
+    of_piece (records.Piece x) a e = ap test (some_piece x a e)
+    of_piece (records.Row x) a e = cc
+    of_piece (records.Table x) a e = cc
+    of_piece (records.Counters x) a e = cc
+    of_piece (records.Space x) a e = cc
+    of_piece (records.Version x) a e = cc
+
+-- ---- a table is made
+
+pub parts-created : (ss : List Stored) (counters_id id : ℕ) (old new : Counters) (t : Table) → Ascend ss → record_at ss counters_id ≡ Some (records.Counters old) → (parts_of ss).counters ≡ old ∷ []
+    → (parts_of ss).tables ≡ [] → AllUnder id ss → parts_of (applied (create_batch counters_id new id t) ss) ≡ created (parts_of ss) new t
+parts-created ss counters_id id old new t sorted found one none under = by_split (split_of ss counters_id (records.Counters old) found)
+  where
+    by_split : Split ss counters_id (records.Counters old) → parts_of (set_at id (Some (records.Table t)) (set_at counters_id (Some (records.Counters new)) ss)) ≡ created (parts_of ss) new t
+    by_split s =
+        let first : set_at counters_id (Some (records.Counters new)) ss ≡ s.front ++ stored counters_id (records.Counters new) ∷ s.back =
+            ap (set_at counters_id (Some (records.Counters new))) s.is ∙ set-split s.front s.back counters_id (records.Counters old) (records.Counters new) (subst (λ xs. Ascend xs) s.is sorted) in
+        let second : set_at id (Some (records.Table t)) (s.front ++ stored counters_id (records.Counters new) ∷ s.back) ≡ (s.front ++ stored counters_id (records.Counters new) ∷ s.back) ++ stored id (records.Table t) ∷ [] =
+            set-behind (s.front ++ stored counters_id (records.Counters new) ∷ s.back) id (records.Table t) (AllUnder-put id s.front s.back counters_id (records.Counters old) (records.Counters new) (subst (λ xs. AllUnder id xs) s.is under)) in
+        ap parts_of (ap (set_at id (Some (records.Table t))) first ∙ second)
+        ∙ parts-more_table (s.front ++ stored counters_id (records.Counters new) ∷ s.back) id t
+        ∙ ap (λ (p : Parts). record p { tables = p.tables ++ t ∷ [] }) (parts-counted s.front s.back counters_id old new (subst (λ xs. (parts_of xs).counters ≡ old ∷ []) s.is one) ∙ ap (λ xs. recounted (parts_of xs) new) (sym s.is))
+        ∙ ap (λ ts. record (parts_of ss) { counters = new ∷ []; tables = ts ++ t ∷ [] }) none
