@@ -21,7 +21,7 @@ use denote.Ref.{Bor}
 group_order_total : IsTotalOrder group_order
 group_order_total =
     then_total (on_total (λ (p : PieceRecord). p.version) nat_cmp_total)
-        (then_total (on_total (λ (p : PieceRecord). p.cells.table) nat_cmp_total) (on_total (λ (p : PieceRecord). p.cells.key) key_order_total))
+    (then_total (on_total (λ (p : PieceRecord). p.cells.table) nat_cmp_total) (on_total (λ (p : PieceRecord). p.cells.key) key_order_total))
 
 piece_order_total : IsTotalOrder piece_order
 piece_order_total = then_total group_order_total (on_total (λ (p : PieceRecord). p.cells.from) nat_cmp_total)
@@ -160,7 +160,7 @@ neighbours_tell (x ∷ (y ∷ ys)) up all =
     let first = both_true (lasts x) (list_all lasts (y ∷ ys)) all in
     let second = both_true (lasts y) (list_all lasts ys) first.1 in
     by_test (collide x y) refl (neighbours_tell (y ∷ ys) up.1 first.1)
-        (λ near. none_far x y ys (below_nat y.cells.from y.cells.till second.0) up.0.0 up.1.0 near)
+    (λ near. none_far x y ys (below_nat y.cells.from y.cells.till second.0) up.0.0 up.1.0 near)
   where
     by_test : (b : Bool) → collide x y ≡ b → neighbours_agree (y ∷ ys) ≡ differ collide (y ∷ ys) → (collide x y ≡ false → list_any (collide x) ys ≡ false) → (not b && neighbours_agree (y ∷ ys)) ≡ (not (b || list_any (collide x) ys) && differ collide (y ∷ ys))
     by_test true e rest far = refl
@@ -174,9 +174,10 @@ each_in_order x (y ∷ ys) h = (h zero y (omega arith), each_in_order x ys (λ j
 
 rises : (xs : List (Bor PieceRecord)) → ((i j : ℕ) (d : Bor PieceRecord) → i ≤ j → j < length xs → InOrder (get_or xs i d).now (get_or xs j d).now) → Rises (referred xs)
 rises [] far = tt
-rises (x ∷ xs) far =
-    ( each_in_order x.now xs (λ j d within. far zero (suc j) d (omega arith) (omega (arith, within)))
-    , rises xs (λ i j d below within. far (suc i) (suc j) d (omega (arith, below)) (omega (arith, within))) )
+rises (x ∷ xs) far = (
+  each_in_order x.now xs (λ j d within. far zero (suc j) d (omega arith) (omega (arith, within))),
+  rises xs (λ i j d below within. far (suc i) (suc j) d (omega (arith, below)) (omega (arith, within))),
+)
 
 -- a reference stands before another
 abbrev pub stands_before : Bor PieceRecord → Bor PieceRecord → Bool
@@ -190,6 +191,6 @@ pub sorted_tell : (pieces sorted : List (Bor PieceRecord)) → IsPermutation pie
 sorted_tell pieces sorted moved up all =
     let same = IsPermutation-map (λ (r : Bor PieceRecord). r.now) pieces sorted moved in
     neighbours_tell (referred sorted)
-        (rises sorted (λ i j d below within. sorted_far stands_before stands_before_ranks sorted up i j d below within))
-        (sym (all_permuted lasts (referred pieces) (referred sorted) same) ∙ all)
+    (rises sorted (λ i j d below within. sorted_far stands_before stands_before_ranks sorted up i j d below within))
+    (sym (all_permuted lasts (referred pieces) (referred sorted) same) ∙ all)
     ∙ sym (differ_permuted collide collide_turned (referred pieces) (referred sorted) same)

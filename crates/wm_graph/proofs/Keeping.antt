@@ -32,9 +32,6 @@ versions_told p i next versions spaces o all others =
 pub two_held : (a b c : Bool) → a ≡ true → b ≡ true → c ≡ (a && (b && c))
 two_held a b c first second = rw (first, second) refl
 
-pub pieces_told : (p : Parts) (i : Indexes) (next : ℕ) (pieces : List PieceRecord) → IndexesOf p i → pieces ≡ p.pieces → (differ collide pieces && list_all (is_piece (found i.tables.index.entries) (found i.versions.index.entries) (found i.rows.index.entries) next) pieces) ≡ are_pieces p next
-pieces_told p i next pieces o all = λ k. differ collide (all k) && list_all (is_piece (o.tables k) (o.versions k) (o.rows k) next) (all k)
-
 both_true : (a b : Bool) → (a && b) ≡ true → (a ≡ true) × (b ≡ true)
 both_true true b e = (refl, e)
 both_true false b e = cc

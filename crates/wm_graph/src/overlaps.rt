@@ -15,12 +15,14 @@ use wm_spec::record::PieceRecord;
 fn piece_order(piece: &PieceRecord, other: &PieceRecord) -> Ordering
     ensures { result ≡ piece_order piece.now other.now }
 {
-    let group = piece
+    let cells = &piece.cells;
+    let others = &other.cells;
+    piece
         .version
         .cmp(&other.version)
-        .then(piece.cells.table.cmp(&other.cells.table))
-        .then(piece.cells.key.compare(&other.cells.key));
-    group.then(piece.cells.from.cmp(&other.cells.from))
+        .then_with(|| cells.table.cmp(&others.table))
+        .then_with(|| cells.key.compare(&others.key))
+        .then_with(|| cells.from.cmp(&others.from))
 }
 
 /// Whether the two are of one version, table and key, and overlap.

@@ -1,5 +1,5 @@
 use Rattle.std.proofs.Common.{sym, ◌∙◌}
-use Rattle.wm_graph.proofs.Keeping.{pieces_told, pieces_last}
+use Rattle.wm_graph.proofs.Keeping.{pieces_last}
 use Rattle.wm_graph.specs.Lookups.{found, collected, referred}
 use Rattle.wm_graph.proofs.keeps.pieces_keep.Goals as goal
 

@@ -10,5 +10,5 @@ pub returns : goal.returns
 returns c =
     let moved : IsPermutation c.args.pieces.now c.sort_by.new.self.items = rw (← c.in_ok-sorted.ensures.items) c.in_ok-sort_by.ensures.permutation in
     let up : IsSortedBy stands_before c.sort_by.new.self.items =
-      c.in_ok-sort_by.ensures.sorted stands_before stands_before_ranks (always_returns_same _ _ _ (λ a r f k. search rules)) in
+    c.in_ok-sort_by.ensures.sorted stands_before stands_before_ranks (always_returns_same _ _ _ (λ a r f k. search rules)) in
     c.neighbours_agree-apart.ensures ∙ ap (λ l. neighbours_agree (referred l)) c.as_slice.ensures.value ∙ sorted_tell c.args.pieces.now c.sort_by.new.self.items moved up c.requires
