@@ -1,4 +1,5 @@
 pub mod Finding
+pub mod First
 pub mod Getting
 pub mod Loading
 pub mod Pages

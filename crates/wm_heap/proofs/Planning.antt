@@ -8,7 +8,9 @@ use Rattle.std.specs.declared.cmp.Ordering.{Ordering}
 use Rattle.std.specs.declared.cmp.Ordering.TheVariants.{Less, Equal, Greater}
 use Rattle.std.specs.Map.{keys_of}
 use Rattle.std.proofs.lemmas.Bool.{cases_lt, lt-ltb, le-ltb, ltb-true, ltb-false, eqb-true}
-use Rattle.std.proofs.lemmas.List.{drop_more}
+use Rattle.std.proofs.lemmas.List.{drop_more, drop_all}
+use Rattle.wm_page.specs.declared.write.PageWrite.{PageWrite}
+use Rattle.wm_page.specs.Batch.{entries}
 use Rattle.wm_spec.specs.Records.{ids_differ}
 use Rattle.wm_page.specs.Entries.{is_named, found, no_page_twice}
 use Rattle.wm_page.specs.Fields.{number_at}
@@ -331,3 +333,35 @@ changed_is heap changed held in_use in_file before blobs i end none telling agai
     by_place : (id : ℕ) (o : Option ℕ) → place_of heap id ≡ o → option_and_then (λ p. bytes_at (slots_in (laid (paged before (page_count heap) changed) held) p) id) o ≡ option_and_then (λ p. bytes_at (slots_now changed held p) id) o
     by_place id None e = refl
     by_place id (Some p) e = ap (λ xs. bytes_at xs id) (slots_are p (placed.there id p e).0)
+
+-- ---- as the calls say it
+
+length-entries : (ws : List PageWrite) → length (entries ws) ≡ length ws
+length-entries [] = refl
+length-entries (w ∷ ws) = omega (arith, length-entries ws)
+
+-- at the end nothing is left to change
+all_gone : (b : Bool) (blobs : List Blob) (there : ℕ → Bool) → blobs ≡ [] → (b && not (change_something there blobs)) ≡ b
+all_gone b [] there none = by_case b
+  where
+    by_case : (b : Bool) → (b && true) ≡ b
+    by_case true = refl
+    by_case false = refl
+all_gone b (x ∷ blobs) there none = absurd (let f = ap length none in omega (arith, f))
+
+pub planned : (old heap : Heap) (changed : List (ℕ × List Slot)) (blobs : List Blob) (i before count : ℕ) (pages : List PageWrite) → before ≡ page_count old → count ≡ page_count heap → entries pages ≡ paged before count changed → (before < count → number_at (root_of count) 0 ≡ count) → length blobs ≤ i → Going old heap changed blobs i
+    → IsPlan (page_count old) (page_count heap) (entries pages) × (eqb (length pages) 0 ≡ not (change_something (λ id. is_some (place_of old id)) blobs))
+planned old heap changed blobs i before count pages before_is count_is pages_are reads end going =
+    let none : drop i blobs ≡ [] = drop_all i blobs end in
+    let here : entries pages ≡ paged (page_count old) (page_count heap) changed = pages_are ∙ ap (λ n. paged n count changed) before_is ∙ ap (λ n. paged (page_count old) n changed) count_is in
+    let root : page_count old < page_count heap → number_at (root_of (page_count heap)) 0 ≡ page_count heap = λ more. subst (λ n. number_at (root_of n) 0 ≡ n) count_is (reads (omega arith)) in
+    (
+      subst (λ es. IsPlan (page_count old) (page_count heap) es) (sym here) (plan_is (page_count old) (page_count heap) changed going.grows root (omega arith)),
+      ap (λ n. eqb n 0) (sym (length-entries pages) ∙ ap length here) ∙ paged_none (page_count old) (page_count heap) changed going.grows
+      ∙ sym (all_gone (eqb (length changed) 0) (drop i blobs) (λ id. is_some (place_of old id)) none) ∙ going.nothing,
+    )
+
+pub planned_told : (heap : Heap) (changed : List (ℕ × List Slot)) (held : ℕ → List ℕ) (in_use in_file : ℕ) (blobs : List Blob) (i before count : ℕ) (pages : List PageWrite) → count ≡ page_count heap → entries pages ≡ paged before count changed → length blobs ≤ i → ReadsAgain changed
+    → Telling heap changed held in_use in_file blobs i → IsChanged heap blobs (entries pages) held in_use
+planned_told heap changed held in_use in_file blobs i before count pages count_is pages_are end again telling =
+    subst (λ es. IsChanged heap blobs es held in_use) (sym (pages_are ∙ ap (λ n. paged before n changed) count_is)) (changed_is heap changed held in_use in_file before blobs i end (drop_all i blobs end) telling again)

@@ -1,0 +1,56 @@
+use Rattle.std.proofs.Common.{◌≡◌, ℕ, ◌+◌, ◌-◌, ◌<◌, ◌≤◌, length, get_or, List, refl, sym, ap, subst, ◌∙◌, arith}
+use Rattle.wm_page.specs.Batch.{entries}
+use Rattle.wm_heap.specs.Draft.{Done}
+use Rattle.wm_heap.proofs.Standing.{at_pages}
+use Rattle.wm_heap.proofs.Planning.{going_begun, going_on, telling_begun, telling_on, planned, planned_told}
+use Rattle.wm_heap.proofs.heap.Heap.plan.Goals as goal
+
+pub loop-blob-init : goal.loop-blob-init
+loop-blob-init g c = record {
+  going = going_begun c.args.self.now c.new-changed.result.entries c.args.batch.now c.new-changed.ensures.empty c.requires.once c.requires.small;
+  told = λ t. refl;
+  in_use = refl;
+  in_file = refl;
+  later = omega arith;
+  telling = λ t. telling_begun c.args.self.now c.new-changed.result.entries (g.G.Pages.held c.args.pages.now) (g.G.Pages.in_use c.args.pages.now) (g.G.Pages.in_file c.args.pages.now) c.args.batch.now c.new-changed.ensures.empty (c.requires.heap t) (c.requires.whole t);
+}
+
+pub loop-blob-preserved : goal.loop-blob-preserved
+loop-blob-preserved g c =
+    let inv = c.loop-blob.invariant in
+    let did = c.in_ok-change.ensures in
+    let items = c.as_slice-blob-items.ensures in
+    let within : c.loop-blob.blob-index < length c.args.batch.now = subst (λ bs. c.loop-blob.blob-index < length bs) items c.loop-blob-test.true in
+    let is = c.blob-item.is ∙ ap (λ bs. get_or bs c.loop-blob.blob-index c.blob-item.result) items in
+    record {
+      going = going_on c.args.self.now c.loop-blob.self c.change.new.self c.loop-blob.changed.entries c.change.new.changed.entries c.args.batch.now c.loop-blob.blob-index c.blob-item.result within is inv.going did.goes;
+      told = λ t. did.told t ∙ inv.told t;
+      in_use = did.in_use ∙ inv.in_use;
+      in_file = did.in_file ∙ inv.in_file;
+      later = omega (arith, inv.later, did.cause.later);
+      telling = λ t.
+          telling_on c.loop-blob.self c.change.new.self c.loop-blob.changed.entries c.change.new.changed.entries (g.G.Pages.held c.args.pages.now) (g.G.Pages.in_use c.args.pages.now) (g.G.Pages.in_file c.args.pages.now) c.args.batch.now c.loop-blob.blob-index c.blob-item.result within is inv.going.once (inv.telling t)
+          (at_pages (λ h u f. Done c.loop-blob.self c.change.new.self c.loop-blob.changed.entries c.change.new.changed.entries h u f c.blob-item.result.id c.blob-item.result.bytes) (g.G.Pages.held c.args.pages.now) (g.G.Pages.held c.loop-blob.pages) (g.G.Pages.in_use c.args.pages.now) (g.G.Pages.in_use c.loop-blob.pages) (g.G.Pages.in_file c.args.pages.now) (g.G.Pages.in_file c.loop-blob.pages)
+          (inv.told t) inv.in_use inv.in_file (did.done t));
+    }
+
+pub returns-clause-plan : goal.returns-clause-plan
+returns-clause-plan g c =
+    let inv = c.loop-blob.invariant in
+    let done = c.in_ok-batch.ensures in
+    let end : length c.args.batch.now ≤ c.loop-blob.blob-index = subst (λ bs. length bs ≤ c.loop-blob.blob-index) c.as_slice-blob-items.ensures c.loop-blob-test.false in
+    (planned c.args.self.now c.loop-blob.self c.loop-blob.changed.entries c.args.batch.now c.loop-blob.blob-index c.page_count-before.result c.page_count.result c.in_ok-batch.batch.pages c.page_count-before.ensures c.page_count.ensures done.pages done.root end inv.going).0
+
+pub returns-clause-nothing : goal.returns-clause-nothing
+returns-clause-nothing g c =
+    let inv = c.loop-blob.invariant in
+    let done = c.in_ok-batch.ensures in
+    let end : length c.args.batch.now ≤ c.loop-blob.blob-index = subst (λ bs. length bs ≤ c.loop-blob.blob-index) c.as_slice-blob-items.ensures c.loop-blob-test.false in
+    (planned c.args.self.now c.loop-blob.self c.loop-blob.changed.entries c.args.batch.now c.loop-blob.blob-index c.page_count-before.result c.page_count.result c.in_ok-batch.batch.pages c.page_count-before.ensures c.page_count.ensures done.pages done.root end inv.going).1
+
+pub returns-clause-changed : goal.returns-clause-changed
+returns-clause-changed g c = λ t.
+    let inv = c.loop-blob.invariant in
+    let done = c.in_ok-batch.ensures in
+    let end : length c.args.batch.now ≤ c.loop-blob.blob-index = subst (λ bs. length bs ≤ c.loop-blob.blob-index) c.as_slice-blob-items.ensures c.loop-blob-test.false in
+    planned_told c.loop-blob.self c.loop-blob.changed.entries (g.G.Pages.held c.args.pages.now) (g.G.Pages.in_use c.args.pages.now) (g.G.Pages.in_file c.args.pages.now) c.args.batch.now c.loop-blob.blob-index c.page_count-before.result c.page_count.result c.in_ok-batch.batch.pages c.page_count.ensures done.pages end done.again (inv.telling t)
