@@ -7,3 +7,4 @@ pub mod SourceLemmas
 pub mod FitLemmas
 pub mod TotalLemmas
 pub mod ItemLemmas
+pub mod SortLemmas

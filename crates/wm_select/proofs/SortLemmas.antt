@@ -1,0 +1,143 @@
+-- A list is determined by being in order and keeping what the order does not tell apart as it stood: a stable sort is `sorted`.
+use Rattle.std.proofs.Common.{◌≡◌, ℕ, zero, suc, ◌+◌, ◌<◌, ◌≤◌, Bool, true, false, not, ◌&&◌, if◌then◌else◌, List, [], ◌∷◌, length, filter, get_or, add-one, arith, refl, sym, ap, subst, ◌∙◌}
+use Rattle.std.proofs.Math.Bool.{false≢true}
+use Rattle.std.proofs.lemmas.Bool.{and_parts, and_from, not-true}
+use Rattle.std.proofs.lemmas.Cmp.{nat_cmp_total, on_total, then_total, back_total, lists_total}
+use Rattle.std.proofs.lemmas.List.Sorted.{sorted_far}
+use Rattle.std.specs.Cmp.{IsStrictWeakOrder, IsTotalOrder}
+use Rattle.std.specs.List.Sorted.{IsSortedBy, IsStableBy, ties}
+use Rattle.std.specs.declared.cmp.Ordering.{Ordering}
+use Rattle.std.specs.declared.cmp.Ordering.TheVariants.{Less, Equal, Greater}
+use Rattle.wm_base.specs.Orders.{value_order_total}
+use Rattle.wm_base.specs.declared.value.Value.{Value}
+use Rattle.wm_select.specs.Sorting.{ascending, null_place, directed, by_directions, first_value, other_values, left_to_right, placed, sorted}
+
+-- ---- the orders are total
+
+pub ascending_total : IsTotalOrder ascending
+ascending_total = then_total (on_total null_place nat_cmp_total) value_order_total
+
+directed_total : (descending : Bool) → IsTotalOrder (directed descending)
+directed_total true = back_total ascending_total
+directed_total false = ascending_total
+
+always_equal : IsTotalOrder (λ (vs ws : List Value). Equal)
+always_equal = record { antisymm = λ vs ws. refl; trans = λ vs ws us p q. cc; congr = λ vs ws us p. refl }
+
+pub by_directions_total : (directions : List Bool) → IsTotalOrder (by_directions directions)
+by_directions_total [] = always_equal
+by_directions_total (d ∷ ds) = then_total (on_total first_value (directed_total d)) (on_total other_values (by_directions_total ds))
+
+pub left_to_right_total : IsTotalOrder left_to_right
+left_to_right_total = lists_total ascending_total
+
+-- ---- lists in order
+
+-- none of the others stands before the element
+abbrev Above : {X : Type 0} → (X → X → Bool) → X → List X → Type 0
+Above lt y [] = Unit {0}
+Above lt y (z ∷ zs) = (lt z y ≡ false) × Above lt y zs
+
+abbrev Rises : {X : Type 0} → (X → X → Bool) → List X → Type 0
+Rises lt [] = Unit {0}
+Rises lt (y ∷ ys) = Above lt y ys × Rises lt ys
+
+above_each : {X : Type 0} (lt : X → X → Bool) (y : X) (zs : List X) → ((k : ℕ) (d : X) → k < length zs → lt (get_or zs k d) y ≡ false) → Above lt y zs
+above_each lt y [] each = tt
+above_each lt y (z ∷ zs) each = (each 0 z (omega arith), above_each lt y zs (λ k d h. each (suc k) d (omega (arith, h))))
+
+sorted_tail : {X : Type 0} (lt : X → X → Bool) (y : X) (ys : List X) → IsSortedBy lt (y ∷ ys) → IsSortedBy lt ys
+sorted_tail lt y ys up k d low h =
+    let next : lt (get_or (y ∷ ys) (suc k + 1) d) (get_or (y ∷ ys) (suc k) d) ≡ false = up (suc k) d (omega arith) (let inside : k + 1 < length ys = h in omega (arith, inside)) in
+    subst (λ n. lt (get_or (y ∷ ys) n d) (get_or ys k d) ≡ false) (let e : suc k + 1 ≡ suc (k + 1) = omega arith in e) next
+
+rises_from : {X : Type 0} (lt : X → X → Bool) → IsStrictWeakOrder lt → (ys : List X) → IsSortedBy lt ys → Rises lt ys
+rises_from lt o [] up = tt
+rises_from lt o (y ∷ ys) up =
+    (above_each lt y ys (λ k d h. sorted_far lt o (y ∷ ys) up 0 (suc k) d (omega arith) (omega (arith, h))), rises_from lt o ys (sorted_tail lt y ys up))
+
+above_chain : {X : Type 0} (lt : X → X → Bool) → IsStrictWeakOrder lt → (x z : X) (zs : List X) → Above lt z zs → lt z x ≡ false → Above lt x zs
+above_chain lt o x z [] above e = tt
+above_chain lt o x z (w ∷ ws) above e = (o.chain w z x above.0 e, above_chain lt o x z ws above.1 e)
+
+above_placed : {X : Type 0} (lt : X → X → Bool) (x y : X) (zs : List X) → lt x y ≡ false → Above lt y zs → Above lt y (placed lt x zs)
+above_placed lt x y [] e above = (e, tt)
+above_placed {X} lt x y (z ∷ zs) e above = by_test (lt z x) refl (above_placed lt x y zs e above.1)
+  where
+    by_test : (b : Bool) → lt z x ≡ b → Above lt y (placed lt x zs) → Above lt y (placed lt x (z ∷ zs))
+    by_test true t rest = rw t (above.0, rest)
+    by_test false t rest = rw t (e, (above.0, above.1))
+
+rises_placed : {X : Type 0} (lt : X → X → Bool) → IsStrictWeakOrder lt → (x : X) (ys : List X) → Rises lt ys → Rises lt (placed lt x ys)
+rises_placed lt o x [] rises = (tt, tt)
+rises_placed {X} lt o x (y ∷ ys) rises = by_test (lt y x) refl (rises_placed lt o x ys rises.1)
+  where
+    by_test : (b : Bool) → lt y x ≡ b → Rises lt (placed lt x ys) → Rises lt (placed lt x (y ∷ ys))
+    by_test true t rest = rw t (above_placed lt x y ys (o.one_way y x t) rises.0, rest)
+    by_test false t rest = rw t ((t, above_chain lt o x y ys rises.0 t), (rises.0, rises.1))
+
+rises_sorted : {X : Type 0} (lt : X → X → Bool) → IsStrictWeakOrder lt → (xs : List X) → Rises lt (sorted lt xs)
+rises_sorted lt o [] = tt
+rises_sorted lt o (x ∷ xs) = rises_placed lt o x (sorted lt xs) (rises_sorted lt o xs)
+
+-- ---- what the order does not tell apart
+
+not_before_itself : {X : Type 0} (lt : X → X → Bool) → IsStrictWeakOrder lt → (x : X) → lt x x ≡ false
+not_before_itself {X} lt o x = by_test (lt x x) refl
+  where
+    by_test : (b : Bool) → lt x x ≡ b → lt x x ≡ false
+    by_test true e = o.one_way x x e
+    by_test false e = e
+
+ties_itself : {X : Type 0} (lt : X → X → Bool) → IsStrictWeakOrder lt → (x : X) → ties lt x x ≡ true
+ties_itself lt o x = rw (not_before_itself lt o x)
+
+-- what ties with one element does not stand before another that ties with it
+tied_apart : {X : Type 0} (lt : X → X → Bool) → IsStrictWeakOrder lt → (w x y : X) → ties lt w y ≡ true → ties lt w x ≡ true → lt y x ≡ false
+tied_apart lt o w x y ey ex =
+    let py = and_parts (not (lt w y)) (not (lt y w)) ey in
+    let px = and_parts (not (lt w x)) (not (lt x w)) ex in
+    o.chain y w x (not-true (lt y w) py.1) (not-true (lt w x) px.0)
+
+filter_placed : {X : Type 0} (lt : X → X → Bool) → IsStrictWeakOrder lt → (w x : X) (ys : List X) → filter (ties lt w) (placed lt x ys) ≡ filter (ties lt w) (x ∷ ys)
+filter_placed lt o w x [] = refl
+filter_placed {X} lt o w x (y ∷ ys) = by_test (lt y x) refl (filter_placed lt o w x ys)
+  where
+    by_ties : (a b : Bool) → ties lt w y ≡ a → ties lt w x ≡ b → lt y x ≡ true → filter (ties lt w) (placed lt x ys) ≡ filter (ties lt w) (x ∷ ys) → filter (ties lt w) (y ∷ placed lt x ys) ≡ filter (ties lt w) (x ∷ y ∷ ys)
+    by_ties true true ey ex t rest = absurd (false≢true (sym (tied_apart lt o w x y ey ex) ∙ t))
+    by_ties true false ey ex t rest =
+        let short : filter (ties lt w) (x ∷ ys) ≡ filter (ties lt w) ys = rw ex in
+        let one : filter (ties lt w) (y ∷ placed lt x ys) ≡ y ∷ filter (ties lt w) (placed lt x ys) = rw ey in
+        let other : filter (ties lt w) (x ∷ y ∷ ys) ≡ y ∷ filter (ties lt w) ys = rw (ex, ey) in
+        one ∙ ap (λ zs. y ∷ zs) (rest ∙ short) ∙ sym other
+    by_ties false b ey ex t rest =
+        let one : filter (ties lt w) (y ∷ placed lt x ys) ≡ filter (ties lt w) (placed lt x ys) = rw ey in
+        let inner : filter (ties lt w) (y ∷ ys) ≡ filter (ties lt w) ys = rw ey in
+        one ∙ rest ∙ same_front b ex (sym inner)
+      where
+        same_front : (b : Bool) → ties lt w x ≡ b → filter (ties lt w) ys ≡ filter (ties lt w) (y ∷ ys) → filter (ties lt w) (x ∷ ys) ≡ filter (ties lt w) (x ∷ y ∷ ys)
+        same_front true ex e = let one : filter (ties lt w) (x ∷ ys) ≡ x ∷ filter (ties lt w) ys = rw ex in let other : filter (ties lt w) (x ∷ y ∷ ys) ≡ x ∷ filter (ties lt w) (y ∷ ys) = rw ex in one ∙ ap (λ zs. x ∷ zs) e ∙ sym other
+        same_front false ex e = let one : filter (ties lt w) (x ∷ ys) ≡ filter (ties lt w) ys = rw ex in let other : filter (ties lt w) (x ∷ y ∷ ys) ≡ filter (ties lt w) (y ∷ ys) = rw ex in one ∙ e ∙ sym other
+
+    by_test : (b : Bool) → lt y x ≡ b → filter (ties lt w) (placed lt x ys) ≡ filter (ties lt w) (x ∷ ys) → filter (ties lt w) (placed lt x (y ∷ ys)) ≡ filter (ties lt w) (x ∷ y ∷ ys)
+    by_test true t rest = let front : placed lt x (y ∷ ys) ≡ y ∷ placed lt x ys = rw t in ap (λ zs. filter (ties lt w) zs) front ∙ by_ties (ties lt w y) (ties lt w x) refl refl t rest
+    by_test false t rest = let front : placed lt x (y ∷ ys) ≡ x ∷ y ∷ ys = rw t in ap (λ zs. filter (ties lt w) zs) front
+
+filter_sorted : {X : Type 0} (lt : X → X → Bool) → IsStrictWeakOrder lt → (w : X) (xs : List X) → filter (ties lt w) (sorted lt xs) ≡ filter (ties lt w) xs
+filter_sorted lt o w [] = refl
+filter_sorted {X} lt o w (x ∷ xs) = filter_placed lt o w x (sorted lt xs) ∙ same_behind (ties lt w x) refl (filter_sorted lt o w xs)
+  where
+    same_behind : (b : Bool) → ties lt w x ≡ b → filter (ties lt w) (sorted lt xs) ≡ filter (ties lt w) xs → filter (ties lt w) (x ∷ sorted lt xs) ≡ filter (ties lt w) (x ∷ xs)
+    same_behind true e rest = rw e (ap (λ zs. x ∷ zs) rest)
+    same_behind false e rest = rw e rest
+
+-- ---- one order
+
+-- the first that passes a test, of elements above one, does not stand before it
+above_filter : {X : Type 0} (lt : X → X → Bool) (p : X → Bool) (z y : X) (zs rest : List X) → Above lt z zs → filter p zs ≡ y ∷ rest → lt y z ≡ false
+above_filter lt p z y [] rest above e = cc
+above_filter {X} lt p z y (w ∷ ws) rest above e = by_test (p w) refl (above_filter lt p z y ws rest above.1)
+  where
+    by_test : (b : Bool) → p w ≡ b → (filter p ws ≡ y ∷ rest → lt y z ≡ false) → lt y z ≡ false
+    by_test true t next = let head : w ∷ filter p ws ≡ y ∷ rest = sym (rw t) ∙ e in let same : w ≡ y = cc in subst (λ v. lt v z ≡ false) same above.0
+    by_test false t next = next (let skip : filter p (w ∷ ws) ≡ filter p ws = rw t in sym skip ∙ e)
