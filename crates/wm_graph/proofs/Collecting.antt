@@ -1,9 +1,7 @@
 -- Records that are collected by their kind, one by one.
-use Rattle.std.proofs.Common.{◌≡◌, ℕ, ◌+◌, ◌<◌, ◌≤◌, List, [], ◌∷◌, ◌++◌, length, map, Option, refl, sym, ap, ◌∙◌, take, get_or}
+use Rattle.std.proofs.Common.{◌≡◌, ℕ, ◌+◌, ◌<◌, ◌≤◌, List, [], ◌∷◌, ◌++◌, length, map, sym, ap, ◌∙◌, take, get_or}
 use Rattle.std.proofs.lemmas.List.{take_more, map-append, append-nil, take_all}
 use Rattle.std.proofs.lemmas.List.Elements.{filter_map-append}
-use Rattle.std.specs.List.{filter_map}
-use Rattle.std.specs.Option.{option_to_list}
 use Rattle.wm_graph.specs.Lookups.{added}
 use Rattle.wm_graph.specs.Parts.{Parts, parts_in, parts_of, as_counters, as_table, as_space, as_version, as_row, as_piece}
 use Rattle.wm_spec.specs.declared.record.Record.{Record}

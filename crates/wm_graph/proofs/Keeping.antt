@@ -1,15 +1,14 @@
 -- The rules, as the code asks them of indexes and of references.
-use Rattle.std.proofs.Common.{◌≡◌, ◌≢◌, ℕ, ◌^◌, Bool, true, false, ◌&&◌, nat_lt, nat_le, List, [], ◌∷◌, length, Option, is_some, refl, sym, ap, ◌∙◌, arith, get_or}
+use Rattle.std.proofs.Common.{◌≡◌, ◌≢◌, ℕ, Bool, true, false, ◌&&◌, nat_lt, nat_le, List, [], ◌∷◌, length, Option, is_some, refl, sym, ap, ◌∙◌, arith, get_or}
 use Rattle.std.specs.BTreeSet.{contains}
 use Rattle.std.specs.List.{list_all}
-use Rattle.std.specs.Option.{option_map_or}
 use Rattle.std.specs.Ordering.{nat_cmp}
 use Rattle.std.specs.Str.{bytes_eq}
 use Rattle.wm_base.specs.declared.instant.TheConstants.{END}
 use Rattle.wm_graph.specs.Indexing.{IndexesOf}
 use Rattle.wm_graph.specs.Lookups.{found, referred}
 use Rattle.wm_graph.specs.Parts.{Parts}
-use Rattle.wm_graph.specs.Rules.{differ, is_space, are_spaces, is_version, has_versions, are_versions, is_row, are_rows, is_piece, are_pieces, keep_rules, keep_rules_with, collide, are_cells, is_key_of, is_row_at}
+use Rattle.wm_graph.specs.Rules.{differ, is_space, are_spaces, is_version, has_versions, are_versions, is_piece, keep_rules, keep_rules_with, are_cells}
 use Rattle.wm_graph.specs.declared.indexes.Indexes.{Indexes}
 use Rattle.wm_spec.specs.declared.record.counters.Counters.{Counters}
 use Rattle.wm_spec.specs.declared.record.space.Space.{Space}

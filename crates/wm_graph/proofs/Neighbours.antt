@@ -1,7 +1,6 @@
 -- Pieces side by side.
-use Rattle.std.proofs.Common.{◌≡◌, ℕ, ◌+◌, ◌-◌, ◌≤◌, Bool, true, List, [], ◌∷◌, length, refl, sym, ◌∙◌, arith, drop}
+use Rattle.std.proofs.Common.{◌≡◌, ℕ, ◌-◌, ◌≤◌, true, List, [], ◌∷◌, length, refl, sym, ◌∙◌, arith, drop}
 use Rattle.std.proofs.lemmas.List.{length-drop}
-use Rattle.std.proofs.lemmas.List.{length-map}
 use Rattle.wm_graph.specs.Lookups.{referred}
 use Rattle.wm_graph.specs.Order.{neighbours_agree}
 use Rattle.wm_spec.specs.declared.record.piece.PieceRecord.{PieceRecord}

@@ -7,7 +7,7 @@ ghost use Rattle.wm_graph.specs.Lookups.{found, referred};
 ghost use Rattle.wm_graph.specs.Rules.{differ};
 
 use std::alloc::Global;
-use std::collections::{BTreeMap, BTreeSet};
+use std::collections::BTreeMap;
 use wm_base::Memory;
 use wm_spec::record::{RowRecord, Space, Table, Version};
 

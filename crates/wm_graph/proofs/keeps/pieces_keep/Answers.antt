@@ -1,6 +1,6 @@
 use Rattle.std.proofs.Common.{sym, ◌∙◌}
 use Rattle.wm_graph.proofs.Keeping.{pieces_last}
-use Rattle.wm_graph.specs.Lookups.{found, collected, referred}
+use Rattle.wm_graph.specs.Lookups.{found, referred}
 use Rattle.wm_graph.proofs.keeps.pieces_keep.Goals as goal
 
 pub are_apart-requires : goal.are_apart-requires

@@ -1,7 +1,5 @@
-use Rattle.std.proofs.Common.{arith, ◌∙◌, ◌≤◌, length, ap, map}
-use Rattle.std.proofs.lemmas.List.{take_all}
+use Rattle.std.proofs.Common.{arith}
 use Rattle.wm_graph.proofs.Collecting.{collected_more, collected_all}
-use Rattle.wm_graph.specs.Parts.{parts_of}
 use Rattle.wm_graph.proofs.kinds.Kinds.of.Goals as goal
 
 pub loop-stored-preserved : goal.loop-stored-preserved
