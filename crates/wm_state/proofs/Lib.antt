@@ -15,3 +15,5 @@ pub mod ByKind
 pub mod Planning
 pub mod Dropping
 pub mod Planned
+pub mod Listing
+pub mod Listed

@@ -3,3 +3,4 @@ pub mod ById
 pub mod Standing
 pub mod Effects
 pub mod Batches
+pub mod Listing

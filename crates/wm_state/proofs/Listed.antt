@@ -1,0 +1,153 @@
+-- A listing of the records is the listing of the state.
+use Rattle.std.proofs.Common.{◌≡◌, ◌≢◌, ℕ, ◌<◌, ◌≤◌, ◌==◌, ◌&&◌, ◌||◌, nat_lt, nat_le, Bool, true, false, not, cond, if◌then◌else◌, List, [], ◌∷◌, ◌++◌, map, Option, Some, None, is_some, is_none, refl, sym, ap, subst, ◌∙◌, arith}
+use Rattle.std.proofs.lemmas.List.Elements.{filter_map-append}
+use Rattle.std.specs.Bool.{then_some}
+use Rattle.std.specs.List.{list_any, filter_map}
+use Rattle.std.specs.Option.{option_or, option_map, option_and_then}
+use Rattle.std.specs.Ordering.{is_eq}
+use Rattle.wm_base.specs.Key.{key_order}
+use Rattle.wm_base.specs.declared.row.Row.{Row}
+use Rattle.wm_base.specs.declared.value.Value.{Value}
+use Rattle.wm_graph.specs.Parts.{Parts, row_of}
+use Rattle.wm_period.specs.Pieces.{Held}
+use Rattle.wm_spec.specs.Lists.{Entry, Cell, Told, told, stamp_at, standing_stamp}
+use Rattle.wm_spec.specs.Stretches.{Stretch, value_at, AreMaximal, rows, rows_from, rows_of_key, keys}
+use Rattle.wm_spec.specs.declared.record.piece.PieceRecord.{PieceRecord}
+use Rattle.wm_spec.specs.declared.record.row.RowRecord.{RowRecord}
+use Rattle.wm_spec.proofs.Stretches.{value-rows, AreMaximal-rows}
+use Rattle.wm_tree.specs.declared.version.Version.{Version as Node}
+use Rattle.wm_state.specs.State.{State, Workspace, content, workspace_of}
+use Rattle.wm_state.specs.Standing.{held_of, held_by, covers_at, stored_at, seen_at, newest_first, latest, shown, Stands}
+use Rattle.wm_state.specs.Listing.{standing, stamp_shown, KeysAscend, is_key_in, AreRowsOf, listed, row_on, row_with, is_unwritten, IsListing, Groups, keys_of, joined, AreAllRowsOf}
+use Rattle.wm_state.proofs.Listing.{one_rows, rows_of, Covers, listed_same, first-listed, keys-ascend, no_rows_of, first-held, behind-held, either_false}
+use Rattle.wm_state.proofs.Tests.{bool_apart, both}
+
+-- ---- a key of which there is no piece
+
+unstored : (pieces : List PieceRecord) (table : ℕ) (key : List Value) (t v : ℕ) → is_unwritten pieces table key → stored_at pieces v (record { table = table; key = key; time = t }) ≡ None
+unstored [] table key t v none = refl
+unstored (x ∷ xs) table key t v none =
+    let h = either_false ((x.cells.table == table) && is_eq (key_order x.cells.key key)) (list_any (λ (x : PieceRecord). (x.cells.table == table) && is_eq (key_order x.cells.key key)) xs) none in
+    rw (uncovered (x.version == v) ((x.cells.table == table) && is_eq (key_order x.cells.key key)) (nat_le x.cells.from t && nat_lt t x.cells.till) h.0, unstored xs table key t v h.1) refl
+  where
+    uncovered : (a b c : Bool) → b ≡ false → (a && (b && c)) ≡ false
+    uncovered true b c e = rw e refl
+    uncovered false b c e = refl
+
+unseen : (pieces : List PieceRecord) (c : Cell) → ((v : ℕ) → stored_at pieces v c ≡ None) → (nodes : List Node) (v : ℕ) → seen_at pieces nodes v c ≡ None
+unseen pieces c none [] v = refl
+unseen pieces c none (x ∷ older) v = by_number (x.number == v) (unseen pieces c none older x.parent) (unseen pieces c none older v)
+  where
+    by_number : (b : Bool) → seen_at pieces older x.parent c ≡ None → seen_at pieces older v c ≡ None → cond b (option_or (stored_at pieces v c) (seen_at pieces older x.parent c)) (seen_at pieces older v c) ≡ None
+    by_number true up along = rw (none v, up) refl
+    by_number false up along = along
+
+unshown : (p : Parts) (space table : ℕ) (key : List Value) (t : ℕ) → is_unwritten p.pieces table key → stamp_shown p space table key t ≡ None
+unshown p space table key t none = ap (option_and_then standing) (unseen p.pieces (record { table = table; key = key; time = t }) (λ v. unstored p.pieces table key t v none) (newest_first p.versions) (latest p space))
+
+-- ---- what is shown is what the content holds
+
+stamp_same : (o : Option Told) → option_and_then standing (option_map held_of o) ≡ option_and_then standing_stamp o
+stamp_same None = refl
+stamp_same (Some t) = by_row t.row
+  where
+    nothing : Option ℕ
+    nothing = None
+
+    by_row : (r : Option Row) → (if is_none r then nothing else Some t.stamp) ≡ then_some (is_some r) t.stamp
+    by_row None = refl
+    by_row (Some row) = refl
+
+pub shown_is : (p : Parts) (s : State) (n : ℕ) (w : Workspace) → Stands p s → workspace_of s.spaces n ≡ Some w → (table : ℕ) (key : List Value) (t : ℕ) → stamp_shown p n table key t ≡ stamp_at (content w) table key t
+shown_is p s n w st is table key t =
+    ap (option_and_then standing) (st.latest.told n w is (record { table = table; key = key; time = t })) ∙ stamp_same (told (content w) (record { table = table; key = key; time = t }))
+
+-- ---- the rows themselves
+
+-- the row of a stamp is the row that is held
+row_there : (p : Parts) (s : State) (n : ℕ) (w : Workspace) → Stands p s → workspace_of s.spaces n ≡ Some w → (table : ℕ) (place : List Value × Stretch) → stamp_at (content w) table place.0 place.1.from ≡ Some place.1.stamp
+    → row_with p place ≡ row_on (content w) table place
+row_there p s n w st is table place held = by_told (told (content w) c) refl held
+  where
+    c : Cell
+    c = record { table = table; key = place.0; time = place.1.from }
+
+    some_number : (a b : ℕ) → Some a ≡ Some b → a ≡ b
+    some_number a b h = cc
+
+    some_values : {A : Type 0} (a b : A) → Some a ≡ Some b → a ≡ b
+    some_values a b h = cc
+
+    none_number : (b : ℕ) → (let nothing : Option ℕ = None in nothing) ≡ Some b → ⊥
+    none_number b h = cc
+
+    by_told : (o : Option Told) → told (content w) c ≡ o → option_and_then standing_stamp o ≡ Some place.1.stamp → row_with p place ≡ option_and_then (λ (t : Told). t.row) (told (content w) c)
+    by_told None e h = absurd (none_number place.1.stamp h)
+    by_told (Some t) e h = by_row t.row refl h
+      where
+        by_row : (r : Option Row) → t.row ≡ r → then_some (is_some r) t.stamp ≡ Some place.1.stamp → row_with p place ≡ option_and_then (λ (t : Told). t.row) (told (content w) c)
+        by_row None none g = absurd (none_number place.1.stamp g)
+        by_row (Some row) some g = ap (λ k. option_map to_row (row_of p.rows k)) (sym (some_number t.stamp place.1.stamp g)) ∙ by_record (row_of p.rows t.stamp) (st.rows.there n w is c t row e some) ∙ sym (ap (option_and_then (λ (t : Told). t.row)) e ∙ some)
+          where
+            to_row : RowRecord → Row
+            to_row r = record { values = r.values }
+
+            by_record : (o : Option RowRecord) → option_map (λ (r : RowRecord). r.values) o ≡ Some row.values → option_map to_row o ≡ Some row
+            by_record None there = cc
+            by_record (Some r) there = ap (λ v. let made : Row = record { values = v } in Some made) (some_values r.values row.values there)
+
+-- what two functions give of lists, where they give the same of the first
+step_same : {X : Type 0} (f g : X → Option Row) (a : X) (l : List X) → f a ≡ g a → filter_map f l ≡ filter_map g l → filter_map f (a ∷ l) ≡ filter_map g (a ∷ l)
+step_same f g a l e rest = by_some (g a) refl
+  where
+    by_some : (o : Option Row) → g a ≡ o → filter_map f (a ∷ l) ≡ filter_map g (a ∷ l)
+    by_some None h = rw (e ∙ h, h) rest
+    by_some (Some row) h = rw (e ∙ h, h) (ap (λ (rows : List Row). row ∷ rows) rest)
+
+rows_there : (p : Parts) (s : State) (n : ℕ) (w : Workspace) → Stands p s → workspace_of s.spaces n ≡ Some w → (table : ℕ) (key : List Value) (ss : List Stretch) (low : ℕ) → AreMaximal low ss
+    → ((t : ℕ) → low ≤ t → value_at ss t ≡ stamp_at (content w) table key t)
+    → filter_map (row_with p) (map (λ x. (key, x)) ss) ≡ filter_map (row_on (content w) table) (map (λ x. (key, x)) ss)
+rows_there p s n w st is table key [] low max held = refl
+rows_there p s n w st is table key (x ∷ xs) low max held =
+    step_same (row_with p) (row_on (content w) table) (key, x) (map (λ x. (key, x)) xs)
+    (row_there p s n w st is table (key, x) (sym (held x.from max.0) ∙ first-held low x xs x.from max (omega arith) max.1))
+    (rows_there p s n w st is table key xs x.till max.3 (λ t le. sym (behind-held x xs t le) ∙ held t (omega (arith, max.0, max.1, le))))
+
+all_there : (p : Parts) (s : State) (n : ℕ) (w : Workspace) → Stands p s → workspace_of s.spaces n ≡ Some w → (table : ℕ) (ks : List (List Value))
+    → filter_map (row_with p) (listed (rows_of_key (content w) table) ks) ≡ filter_map (row_on (content w) table) (listed (rows_of_key (content w) table) ks)
+all_there p s n w st is table [] = refl
+all_there p s n w st is table (k ∷ ks) =
+    filter_map-append (row_with p) (map (λ x. (k, x)) (rows_of_key (content w) table k)) (listed (rows_of_key (content w) table) ks)
+    ∙ ap (λ rs. rs ++ filter_map (row_with p) (listed (rows_of_key (content w) table) ks))
+        (rows_there p s n w st is table k (rows_of_key (content w) table k) 0 (AreMaximal-rows (content w) table k) (λ t le. value-rows (content w) table k t))
+    ∙ ap (λ rs. filter_map (row_on (content w) table) (map (λ x. (k, x)) (rows_of_key (content w) table k)) ++ rs) (all_there p s n w st is table ks)
+    ∙ sym (filter_map-append (row_on (content w) table) (map (λ x. (k, x)) (rows_of_key (content w) table k)) (listed (rows_of_key (content w) table) ks))
+
+-- ---- the listing
+
+covered : (f : List Value → List Stretch) (xs ys : List (List Value)) → ((k : List Value) → is_key_in k ys ≡ false → f k ≡ []) → Covers f xs ys
+covered f [] ys none = tt
+covered f (x ∷ xs) ys none = (none x, covered f xs ys none)
+
+pub listing_is : (p : Parts) (s : State) (n : ℕ) (w : Workspace) (table : ℕ) (out : List Row) → Stands p s → workspace_of s.spaces n ≡ Some w → IsListing p n table out
+    → out ≡ filter_map (row_on (content w) table) (rows (content w) table)
+listing_is p s n w table out st is l =
+    l.are
+    ∙ ap (filter_map (row_with p))
+        (joined_is l.groups l.held
+        ∙ listed_same (rows_of_key (content w) table) (keys_of l.groups) (keys (content w) table) l.ascend (keys-ascend (content w) table)
+            (covered (rows_of_key (content w) table) (keys_of l.groups) (keys (content w) table) (no_rows_of (content w) table))
+            (covered (rows_of_key (content w) table) (keys (content w) table) (keys_of l.groups) (λ k out. no_rows k (l.whole k out))))
+    ∙ all_there p s n w st is table (keys (content w) table)
+    ∙ ap (filter_map (row_on (content w) table)) (sym (first-listed (content w) table (keys (content w) table)))
+  where
+    -- a key of which there is no piece has no rows
+    no_rows : (k : List Value) → is_unwritten p.pieces table k → rows_of_key (content w) table k ≡ []
+    no_rows k none = one_rows (rows_of_key (content w) table k) [] 0 (AreMaximal-rows (content w) table k) tt
+        (λ t le. value-rows (content w) table k t ∙ sym (shown_is p s n w st is table k t) ∙ unshown p n table k t none)
+
+    joined_is : (gs : Groups) → AreAllRowsOf p n table gs → joined gs ≡ listed (rows_of_key (content w) table) (keys_of gs)
+    joined_is [] held = refl
+    joined_is (g ∷ gs) held =
+        ap (λ ss. map (λ s. (g.0, s)) ss ++ joined gs) (rows_of p n table g.0 (content w) g.1 (shown_is p s n w st is table g.0) held.0)
+        ∙ ap (λ rest. map (λ s. (g.0, s)) (rows_of_key (content w) table g.0) ++ rest) (joined_is gs held.1)

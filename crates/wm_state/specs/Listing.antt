@@ -1,0 +1,85 @@
+-- What it takes to list the rows of a table.
+use Rattle.std.specs.Prelude.{ℕ, ◌≡◌, Bool, false, ◌&&◌, ◌==◌, List, [], ◌∷◌, ◌++◌, map, Option, Some, None, if◌then◌else◌}
+use Rattle.std.specs.List.{list_any, filter_map}
+use Rattle.std.specs.Option.{option_and_then, option_map}
+use Rattle.std.specs.Ordering.{is_eq}
+use Rattle.std.specs.declared.cmp.Ordering.TheVariants.{Less}
+use Rattle.wm_base.specs.Key.{key_order}
+use Rattle.wm_base.specs.declared.row.Row.{Row}
+use Rattle.wm_base.specs.declared.value.Value.{Value}
+use Rattle.wm_period.specs.Pieces.{Held}
+use Rattle.wm_spec.specs.Lists.{Entry, Cell, Told, told}
+use Rattle.wm_spec.specs.Stretches.{Stretch, AreMaximal, value_at}
+use Rattle.wm_graph.specs.Parts.{Parts, row_of}
+use Rattle.wm_spec.specs.declared.record.piece.PieceRecord.{PieceRecord}
+use Rattle.wm_spec.specs.declared.record.row.RowRecord.{RowRecord}
+use Rattle.wm_state.specs.Standing.{shown}
+
+-- the stamp of a row that stands, and none of one that is gone
+abbrev pub standing : Held → Option ℕ
+standing h = let nothing : Option ℕ = None in if h.gone then nothing else Some h.stamp.number
+
+-- the stamp of the row that the newest version of a workspace holds for a key at a moment
+abbrev pub stamp_shown : Parts → ℕ → ℕ → List Value → ℕ → Option ℕ
+stamp_shown p space table key t = option_and_then standing (shown p space (record { table = table; key = key; time = t }))
+
+-- the key comes before all of these
+abbrev pub ComesBefore : List Value → List (List Value) → Type 0
+ComesBefore key [] = Unit {0}
+ComesBefore key (k ∷ ks) = (key_order key k ≡ Less) × ComesBefore key ks
+
+-- the keys ascend, each once
+abbrev pub KeysAscend : List (List Value) → Type 0
+KeysAscend [] = Unit {0}
+KeysAscend (k ∷ ks) = ComesBefore k ks × KeysAscend ks
+
+-- the key is one of these
+abbrev pub is_key_in : List Value → List (List Value) → Bool
+is_key_in key keys = list_any (λ k. is_eq (key_order k key)) keys
+
+-- the stretches of a key are the longest on which the newest version of a workspace holds a row of one stamp
+pub record AreRowsOf (p : Parts) (space table : ℕ) (key : List Value) (ss : List Stretch) : Type 0 where
+  pub maximal : AreMaximal 0 ss
+  pub held : (t : ℕ) → value_at ss t ≡ stamp_shown p space table key t
+
+-- what a function lists for each key, with the key, one key after another
+abbrev pub listed : (List Value → List Stretch) → List (List Value) → List (List Value × Stretch)
+listed f [] = []
+listed f (k ∷ ks) = map (λ s. (k, s)) (f k) ++ listed f ks
+
+-- the row that a list holds on a stretch of a key
+abbrev pub row_on : List Entry → ℕ → List Value × Stretch → Option Row
+row_on es table place = option_and_then (λ (t : Told). t.row) (told es (record { table = table; key = place.0; time = place.1.from }))
+
+-- the row of a stamp
+abbrev pub row_with : Parts → List Value × Stretch → Option Row
+row_with p place = option_map (λ (r : RowRecord). let row : Row = record { values = r.values } in row) (row_of p.rows place.1.stamp)
+
+-- no piece is of the table and the key
+abbrev pub is_unwritten : List PieceRecord → ℕ → List Value → Type 0
+is_unwritten pieces table key = list_any (λ (x : PieceRecord). (x.cells.table == table) && is_eq (key_order x.cells.key key)) pieces ≡ false
+
+-- keys, each with the stretches of its rows
+abbrev pub Groups : Type 0
+Groups = List (List Value × List Stretch)
+
+abbrev pub keys_of : Groups → List (List Value)
+keys_of groups = map (λ g. g.0) groups
+
+-- the stretches with their keys, one key after another
+abbrev pub joined : Groups → List (List Value × Stretch)
+joined [] = []
+joined (g ∷ gs) = map (λ s. (g.0, s)) g.1 ++ joined gs
+
+abbrev pub AreAllRowsOf : Parts → ℕ → ℕ → Groups → Type 0
+AreAllRowsOf p space table [] = Unit {0}
+AreAllRowsOf p space table (g ∷ gs) = AreRowsOf p space table g.0 g.1 × AreAllRowsOf p space table gs
+
+-- the rows of a table that the newest version of a workspace holds, by key and from
+pub record IsListing (p : Parts) (space table : ℕ) (rows : List Row) : Type 0 where
+  pub groups : Groups
+  pub ascend : KeysAscend (keys_of groups)
+  -- a key of which there is a piece is one of the keys
+  pub whole : (k : List Value) → is_key_in k (keys_of groups) ≡ false → is_unwritten p.pieces table k
+  pub held : AreAllRowsOf p space table groups
+  pub are : rows ≡ filter_map (row_with p) (joined groups)
