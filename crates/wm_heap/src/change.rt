@@ -77,6 +77,8 @@ impl Heap {
         ensures goes { OnOk result (Goes self.old self.new changed.old.entries changed.new.entries id true) }
         ensures done { G.tells → OnOk result (Done self.old self.new changed.old.entries changed.new.entries (G.held pages.old) (G.in_use pages.old) (G.in_file pages.old) id (Some bytes.now)) }
         ensures told { G.tells → G.held pages.new ≡ G.held pages.old }
+        ensures past { G.tells → G.past pages.new ≡ G.past pages.old }
+        ensures source { G.source pages.new ≡ G.source pages.old }
         ensures in_use { G.in_use pages.new ≡ G.in_use pages.old }
         ensures in_file { G.in_file pages.new ≡ G.in_file pages.old }
         ensures cause { StoreCause (G.faults pages.old) (G.faults pages.new) result }
@@ -128,6 +130,8 @@ impl Heap {
         ensures goes { OnOk result (Goes self.old self.new changed.old.entries changed.new.entries blob.now.id true) }
         ensures done { G.tells → OnOk result (Done self.old self.new changed.old.entries changed.new.entries (G.held pages.old) (G.in_use pages.old) (G.in_file pages.old) blob.now.id blob.now.bytes) }
         ensures told { G.tells → G.held pages.new ≡ G.held pages.old }
+        ensures past { G.tells → G.past pages.new ≡ G.past pages.old }
+        ensures source { G.source pages.new ≡ G.source pages.old }
         ensures in_use { G.in_use pages.new ≡ G.in_use pages.old }
         ensures in_file { G.in_file pages.new ≡ G.in_file pages.old }
         ensures cause { StoreCause (G.faults pages.old) (G.faults pages.new) result }
@@ -165,6 +169,8 @@ impl Heap {
         ensures goes { OnOk result (Goes self.old self.new changed.old.entries changed.new.entries blob.now.id (is_some blob.now.bytes || is_some (place_of self.old blob.now.id))) }
         ensures done { G.tells → OnOk result (Done self.old self.new changed.old.entries changed.new.entries (G.held pages.old) (G.in_use pages.old) (G.in_file pages.old) blob.now.id blob.now.bytes) }
         ensures told { G.tells → G.held pages.new ≡ G.held pages.old }
+        ensures past { G.tells → G.past pages.new ≡ G.past pages.old }
+        ensures source { G.source pages.new ≡ G.source pages.old }
         ensures in_use { G.in_use pages.new ≡ G.in_use pages.old }
         ensures in_file { G.in_file pages.new ≡ G.in_file pages.old }
         ensures cause { StoreCause (G.faults pages.old) (G.faults pages.new) result }

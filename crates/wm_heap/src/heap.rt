@@ -50,6 +50,8 @@ impl Heap {
         ensures bytes { G.tells → IfOk result (λ bytes. bytes ≡ bytes_at (content (G.held pages.old) (G.in_use pages.old)) id) }
         ensures there { IfOk result (λ bytes. is_some bytes ≡ is_some (place_of self.now id)) }
         ensures told { G.tells → G.held pages.new ≡ G.held pages.old }
+        ensures past { G.tells → G.past pages.new ≡ G.past pages.old }
+        ensures source { G.source pages.new ≡ G.source pages.old }
         ensures in_use { G.in_use pages.new ≡ G.in_use pages.old }
         ensures in_file { G.in_file pages.new ≡ G.in_file pages.old }
         ensures cause { StoreCause (G.faults pages.old) (G.faults pages.new) result }
@@ -92,6 +94,8 @@ impl Heap {
         ensures nothing { IfOk result (λ b. (length b.pages == 0) ≡ not (change_something (λ id. is_some (place_of self.old id)) batch.now)) }
         ensures changed { G.tells → IfOk result (λ b. IsChanged self.new batch.now (entries b.pages) (G.held pages.old) (G.in_use pages.old)) }
         ensures told { G.tells → G.held pages.new ≡ G.held pages.old }
+        ensures past { G.tells → G.past pages.new ≡ G.past pages.old }
+        ensures source { G.source pages.new ≡ G.source pages.old }
         ensures in_use { G.in_use pages.new ≡ G.in_use pages.old }
         ensures in_file { G.in_file pages.new ≡ G.in_file pages.old }
         ensures cause { StoreCause (G.faults pages.old) (G.faults pages.new) result }

@@ -31,6 +31,8 @@ fn load_slots<G: Pages>(alloc: Global, pages: &mut G, page: u64) -> Result<Slots
     ensures fault { G.tells → IfErr result (λ e. (seen : ℕ → Bool) → Finds e (damage_on seen page (nat_lt page (G.in_file pages.old)) (slots_of (G.held pages.old page)))) }
     ensures store { IsErrOf result faults.NotStore → ⊥ }
     ensures told { G.tells → G.held pages.new ≡ G.held pages.old }
+    ensures past { G.tells → G.past pages.new ≡ G.past pages.old }
+    ensures source { G.source pages.new ≡ G.source pages.old }
     ensures in_use { G.in_use pages.new ≡ G.in_use pages.old }
     ensures in_file { G.in_file pages.new ≡ G.in_file pages.old }
     ensures cause { OpenCause (G.faults pages.old) (G.faults pages.new) result }
@@ -89,6 +91,8 @@ fn load_page<G: Pages>(
     ensures fault { G.tells → IfErr result (λ e. Finds e (damage_on (λ id. is_some (at places.old.entries id)) page (nat_lt page (G.in_file pages.old)) (slots_of (G.held pages.old page)))) }
     ensures store { IsErrOf result faults.NotStore → ⊥ }
     ensures told { G.tells → G.held pages.new ≡ G.held pages.old }
+    ensures past { G.tells → G.past pages.new ≡ G.past pages.old }
+    ensures source { G.source pages.new ≡ G.source pages.old }
     ensures in_use { G.in_use pages.new ≡ G.in_use pages.old }
     ensures in_file { G.in_file pages.new ≡ G.in_file pages.old }
     ensures cause { OpenCause (G.faults pages.old) (G.faults pages.new) result }
@@ -109,6 +113,8 @@ impl Heap {
         ensures fault { G.tells → IfErr result (λ e. Finds e (fault_of (G.held pages.old) (G.in_use pages.old) (G.in_file pages.old))) }
         ensures store { IsErrOf result faults.NotStore → ⊥ }
         ensures told { G.tells → G.held pages.new ≡ G.held pages.old }
+        ensures past { G.tells → G.past pages.new ≡ G.past pages.old }
+        ensures source { G.source pages.new ≡ G.source pages.old }
         ensures in_use { G.in_use pages.new ≡ G.in_use pages.old }
         ensures in_file { G.in_file pages.new ≡ G.in_file pages.old }
         ensures cause { OpenCause (G.faults pages.old) (G.faults pages.new) result }

@@ -20,6 +20,8 @@ pub fn stored_slots<G: Pages>(
     ensures value { G.tells → IfOk result (λ slots. slots ≡ slots_in (G.held pages.old) page) }
     ensures room { IfOk result (λ slots. used slots ≤ 4096) }
     ensures told { G.tells → G.held pages.new ≡ G.held pages.old }
+    ensures past { G.tells → G.past pages.new ≡ G.past pages.old }
+    ensures source { G.source pages.new ≡ G.source pages.old }
     ensures in_use { G.in_use pages.new ≡ G.in_use pages.old }
     ensures in_file { G.in_file pages.new ≡ G.in_file pages.old }
     ensures cause { StoreCause (G.faults pages.old) (G.faults pages.new) result }

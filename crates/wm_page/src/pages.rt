@@ -1,5 +1,5 @@
 //! Who reads pages.
-ghost use Rattle.std.specs.Prelude.{◌≡◌, ℕ, ◌<◌, List, length, OnOk};
+ghost use Rattle.std.specs.Prelude.{◌≡◌, ℕ, ◌<◌, List, [], length, OnOk};
 ghost use Rattle.wm_page.specs.Pages.{PagesCause};
 
 use thiserror::Error;
@@ -31,6 +31,12 @@ pub trait Pages {
     /// How often the disk has failed, up to the last value of a u64.
     ghost faults: { Self → ℕ };
 
+    /// What it reads from, by a name. A reader that is lent a device tells by it that it still has that device.
+    ghost source: { Self → ℕ } = { λ _. 0 };
+
+    /// What was done so far to what it reads from, spelled in numbers. Nothing is known of it where the pages are not told.
+    ghost past: { Self → List ℕ } = { λ _. [] };
+
     /// Fills `into` with a page.
     fn page(&mut self, number: u64, into: &mut [u8]) -> Result<(), PagesFailed>
         requires in_use { number < in_use self.old }
@@ -38,6 +44,8 @@ pub trait Pages {
         requires size { length into.old ≡ 4096 }
         ensures bytes { tells → OnOk result (into.new ≡ held self.old number) }
         ensures told { tells → held self.new ≡ held self.old }
+        ensures past { tells → past self.new ≡ past self.old }
+        ensures source { source self.new ≡ source self.old }
         ensures in_use { in_use self.new ≡ in_use self.old }
         ensures in_file { in_file self.new ≡ in_file self.old }
         ensures cause { PagesCause (faults self.old) (faults self.new) result };

@@ -8,6 +8,8 @@ invariant-loop-page g l = record {
   len : length l.ids.items ≡ l.page - 2;
   whole : (p : ℕ) → 2 ≤ p → p < l.page → p < g.G.Pages.in_file l.fn.pages;
   told : g.G.Pages.tells → g.G.Pages.held l.pages ≡ g.G.Pages.held l.fn.pages;
+  past : g.G.Pages.tells → g.G.Pages.past l.pages ≡ g.G.Pages.past l.fn.pages;
+  source : g.G.Pages.source l.pages ≡ g.G.Pages.source l.fn.pages;
   in_use : g.G.Pages.in_use l.pages ≡ g.G.Pages.in_use l.fn.pages;
   in_file : g.G.Pages.in_file l.pages ≡ g.G.Pages.in_file l.fn.pages;
   later : g.G.Pages.faults l.fn.pages ≤ g.G.Pages.faults l.pages;

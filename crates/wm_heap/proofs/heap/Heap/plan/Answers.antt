@@ -9,6 +9,8 @@ pub loop-blob-init : goal.loop-blob-init
 loop-blob-init g c = record {
   going = going_begun c.args.self.now c.new-changed.result.entries c.args.batch.now c.new-changed.ensures.empty c.requires.once c.requires.small;
   told = λ t. refl;
+  past = λ t. refl;
+  source = refl;
   in_use = refl;
   in_file = refl;
   later = omega arith;
@@ -25,6 +27,8 @@ loop-blob-preserved g c =
     record {
       going = going_on c.args.self.now c.loop-blob.self c.change.new.self c.loop-blob.changed.entries c.change.new.changed.entries c.args.batch.now c.loop-blob.blob-index c.blob-item.result within is inv.going did.goes;
       told = λ t. did.told t ∙ inv.told t;
+      past = λ t. did.past t ∙ inv.past t;
+      source = did.source ∙ inv.source;
       in_use = did.in_use ∙ inv.in_use;
       in_file = did.in_file ∙ inv.in_file;
       later = omega (arith, inv.later, did.cause.later);

@@ -6,6 +6,8 @@ abbrev pub invariant-loop-blob : goal.invariant-loop-blob
 invariant-loop-blob g l = record {
   going : Going l.fn.self l.self l.changed.entries l.fn.batch l.blob-index;
   told : g.G.Pages.tells → g.G.Pages.held l.pages ≡ g.G.Pages.held l.fn.pages;
+  past : g.G.Pages.tells → g.G.Pages.past l.pages ≡ g.G.Pages.past l.fn.pages;
+  source : g.G.Pages.source l.pages ≡ g.G.Pages.source l.fn.pages;
   in_use : g.G.Pages.in_use l.pages ≡ g.G.Pages.in_use l.fn.pages;
   in_file : g.G.Pages.in_file l.pages ≡ g.G.Pages.in_file l.fn.pages;
   later : g.G.Pages.faults l.fn.pages ≤ g.G.Pages.faults l.pages;
