@@ -9,26 +9,39 @@ use Rattle.wm_grammar.specs.Calls.{first_some, gathered, one_more}
 use Rattle.wm_grammar.specs.CallReaders.{next_arg_at}
 use Rattle.wm_grammar.proofs.CallLaws.{next_arg_exact}
 use Rattle.wm_grammar.proofs.Loops.{Going, going_on, takes_one}
+use Rattle.wm_parser.specs.Gathering.{Grown}
 
 abbrev pub Found : Type 0
 Found = List Arg × Option Cond
 
-abbrev pub Gathers : Procedure → List Arg → Option Cond → List Symbol → Result (Found × List Symbol) ℕ → Type 0
-Gathers procedure list condition now all = Going {S = List Arg} {B = Arg × Option Cond} {R = Found} one_more (λ _. sorts.COMMA ∷ []) (next_arg_at procedure) gathered list (list, condition) now all
+-- all that is read is what was gathered so far, and the arguments behind further commas
+abbrev pub Goes : Procedure → Found → List Symbol → Result (Found × List Symbol) ℕ → Type 0
+Goes procedure found now all = Going {S = List Arg} {B = Arg × Option Cond} {R = Found} one_more (λ _. sorts.COMMA ∷ []) (next_arg_at procedure) gathered found.0 found now all
 
-abbrev pub Reads : Procedure → List Arg → List Symbol → Arg → Option Cond → List Symbol → Type 0
-Reads procedure args now x other rest = next_arg_at procedure args now ≡ Ok ((x, other), rest)
+pub args_less : (procedure : Procedure) (old new : Found) (now rest : List Symbol) → Grown procedure old new now rest → length rest < length now
+args_less procedure old new now rest g = takes_one (next_arg_exact procedure old.0) refl now (g.arg, g.condition) rest g.reads
 
-pub reads_behind : (procedure : Procedure) (a b : List Arg) (now : List Symbol) (x : Arg) (other : Option Cond) (rest : List Symbol) → a ≡ b → Reads procedure a now x other rest → Reads procedure b now x other rest
-reads_behind procedure a b now x other rest e r = subst (λ (z : List Arg). Reads procedure z now x other rest) e r
+pub args_on : (procedure : Procedure) (old new : Found) (now rest : List Symbol) (all : Result (Found × List Symbol) ℕ) → true ≡ next_in (sorts.COMMA ∷ []) now → Grown procedure old new now rest → Goes procedure old now all → Goes procedure new rest all
+args_on procedure old new now rest all t w g =
+    let stepped : Going {S = List Arg} {B = Arg × Option Cond} {R = Found} one_more (λ _. sorts.COMMA ∷ []) (next_arg_at procedure) gathered (old.0 ++ w.arg ∷ []) (old.0 ++ w.arg ∷ [], first_some old.1 w.condition) rest all
+    = going_on {S = List Arg} {B = Arg × Option Cond} {R = Found} one_more (λ _. sorts.COMMA ∷ []) (next_arg_at procedure) gathered old.0 old now all (w.arg, w.condition) rest (old.0 ++ w.arg ∷ [], first_some old.1 w.condition) (sym t) w.reads
+    (args_less procedure old new now rest w) (λ xs. refl) g in
+    moved procedure (old.0 ++ w.arg ∷ []) new.0 (first_some old.1 w.condition) new.1 rest all (sym w.list) (sym w.first) stepped
+  where
+    moved : (procedure : Procedure) (a b : List Arg) (x y : Option Cond) (rest : List Symbol) (all : Result (Found × List Symbol) ℕ) → a ≡ b → x ≡ y
+        → Going {S = List Arg} {B = Arg × Option Cond} {R = Found} one_more (λ _. sorts.COMMA ∷ []) (next_arg_at procedure) gathered a (a, x) rest all
+        → Going {S = List Arg} {B = Arg × Option Cond} {R = Found} one_more (λ _. sorts.COMMA ∷ []) (next_arg_at procedure) gathered b (b, y) rest all
+    moved procedure a b x y rest all e f g =
+        subst (λ (z : List Arg). Going {S = List Arg} {B = Arg × Option Cond} {R = Found} one_more (λ _. sorts.COMMA ∷ []) (next_arg_at procedure) gathered z (z, y) rest all) e
+        (subst (λ (z : Option Cond). Going {S = List Arg} {B = Arg × Option Cond} {R = Found} one_more (λ _. sorts.COMMA ∷ []) (next_arg_at procedure) gathered a (a, z) rest all) f g)
 
-pub args_less : (procedure : Procedure) (args : List Arg) (now : List Symbol) (x : Arg) (other : Option Cond) (rest : List Symbol) → Reads procedure args now x other rest → length rest < length now
-args_less procedure args now x other rest r = takes_one (next_arg_exact procedure args) refl now (x, other) rest r
-
-pub args_on : (procedure : Procedure) (list more : List Arg) (condition found : Option Cond) (now rest : List Symbol) (all : Result (Found × List Symbol) ℕ) (x : Arg) (other : Option Cond) → more ≡ list ++ x ∷ [] → found ≡ first_some condition other
-    → true ≡ next_in (sorts.COMMA ∷ []) now → Reads procedure list now x other rest → Gathers procedure list condition now all → Gathers procedure more found rest all
-args_on procedure list more condition found now rest all x other grew kept t r g =
-    let stepped : Gathers procedure (list ++ x ∷ []) (first_some condition other) rest all
-    = going_on {S = List Arg} {B = Arg × Option Cond} {R = Found} one_more (λ _. sorts.COMMA ∷ []) (next_arg_at procedure) gathered list (list, condition) now all (x, other) rest (list ++ x ∷ [], first_some condition other) (sym t) r
-    (args_less procedure list now x other rest r) (λ xs. refl) g in
-    subst (λ (z : List Arg). Gathers procedure z found rest all) (sym grew) (subst (λ (z : Option Cond). Gathers procedure (list ++ x ∷ []) z rest all) (sym kept) stepped)
+-- an argument that is read behind a list is gathered with it
+pub grown : (procedure : Procedure) (old new : Found) (list : List Arg) (now rest : List Symbol) (x : Arg) (other : Option Cond) → list ≡ old.0 → next_arg_at procedure list now ≡ Ok ((x, other), rest) → new.0 ≡ old.0 ++ x ∷ [] → new.1 ≡ first_some old.1 other
+    → Grown procedure old new now rest
+grown procedure old new list now rest x other e r l f = record {
+  arg = x;
+  condition = other;
+  reads = subst (λ (z : List Arg). next_arg_at procedure z now ≡ Ok ((x, other), rest)) e r;
+  list = l;
+  first = f;
+}

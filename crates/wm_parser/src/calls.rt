@@ -1,4 +1,4 @@
-ghost use Rattle.std.specs.Prelude.{◌≡◌, ◌≢◌, ◌<◌, ◌^◌, List, length};
+ghost use Rattle.std.specs.Prelude.{◌≡◌, ◌≢◌, ◌<◌, ◌^◌, List, [], None, length};
 ghost use Rattle.wm_base.specs.Views.{cond_view, filter_view, statement_view};
 ghost use Rattle.wm_grammar.specs.Calls.{first_some};
 ghost use Rattle.wm_grammar.specs.Sorts.{code_of};
@@ -7,6 +7,7 @@ ghost use Rattle.wm_grammar.specs.Faults.{all_of};
 ghost use Rattle.wm_grammar.specs.ExpressionReaders.{condition_at};
 ghost use Rattle.wm_grammar.specs.CallReaders.{constant_but_text_at, clause_at, value_by_at, value_for_at, parameter_at, parameter_name_at, placed_at, arg_at, next_arg_at, arguments_at, parenthesis_at, arguments_of_at, procedure_name_at, package_call_at, call_at};
 ghost use Rattle.wm_terms.specs.Telling.{Told};
+ghost use Rattle.wm_parser.specs.Gathering.{gathered_view, first_at, Gathers};
 ghost use Rattle.wm_parser.specs.Parsing.{Tells};
 
 use crate::parameters::{next_place, open_parameter};
@@ -220,35 +221,74 @@ fn next_arg(
     arg(cursor, alloc, procedure, args)
 }
 
-/// The first of two, where there is one.
-fn first_some(first: Option<Cond>, second: Option<Cond>) -> Option<Cond>
-    ensures { filter_view result ≡ first_some (filter_view first) (filter_view second) }
+/// Arguments, and the condition of the where_clause among them.
+#[derive(Drop)]
+struct Gathered {
+    list: Vec<Arg>,
+    condition: Option<Cond>,
+}
+
+/// No arguments.
+fn none_gathered(alloc: Global) -> Gathered
+    ensures { gathered_view result ≡ ([], None) }
 {
-    match first {
-        Some(found) => Some(found),
-        None => second,
+    Gathered {
+        list: Vec::new(alloc),
+        condition: None,
     }
 }
 
-/// Arguments, at least one, and the condition of the where_clause among them.
+/// Keeps the first of two, where there is one.
+fn keep_first(kept: &mut Option<Cond>, other: Option<Cond>)
+    ensures { filter_view kept.new ≡ first_some (filter_view kept.old) (filter_view other) }
+{
+    if kept.is_none() {
+        *kept = other;
+    }
+}
+
+fn first_argument(
+    cursor: &mut Cursor,
+    alloc: Global,
+    procedure: Procedure,
+) -> Result<Gathered, ParseError>
+    ensures { Told gathered_view result cursor.new (first_at procedure cursor.old) }
+{
+    let (first, condition) = arg(cursor, alloc, procedure, &[])?;
+    let mut list = Vec::new(alloc);
+    list.push(first)?;
+    Ok(Gathered { list, condition })
+}
+
+/// One more argument, behind a comma.
+fn gather(
+    cursor: &mut Cursor,
+    alloc: Global,
+    procedure: Procedure,
+    gathered: &mut Gathered,
+) -> Result<(), ParseError>
+    ensures { Gathers result procedure (gathered_view gathered.old) (gathered_view gathered.new) cursor.old cursor.new }
+{
+    let (next, other) = next_arg(cursor, alloc, procedure, gathered.list.as_slice())?;
+    gathered.list.push(next)?;
+    keep_first(&mut gathered.condition, other);
+    Ok(())
+}
+
+/// Arguments, at least one.
 #[tactic(auto, unfolding(wm_grammar::specs::CallReaders::arguments_at))]
 fn arguments(
     cursor: &mut Cursor,
     alloc: Global,
     procedure: Procedure,
-) -> Result<(Args, Option<Cond>), ParseError>
-    ensures { Told (λ p. (p.0, filter_view p.1)) result cursor.new (arguments_at procedure cursor.old) }
+) -> Result<Gathered, ParseError>
+    ensures { Told gathered_view result cursor.new (arguments_at procedure cursor.old) }
 {
-    let (first, found) = arg(cursor, alloc, procedure, &[])?;
-    let mut condition = found;
-    let mut list = Vec::new(alloc);
-    list.push(first)?;
+    let mut gathered = first_argument(cursor, alloc, procedure)?;
     'items: while cursor.is(Sort::Comma) {
-        let (next, other) = next_arg(cursor, alloc, procedure, list.as_slice())?;
-        list.push(next)?;
-        condition = first_some(condition, other);
+        gather(cursor, alloc, procedure, &mut gathered)?;
     }
-    Ok((Args::from_vec(list), condition))
+    Ok(gathered)
 }
 
 /// Arguments or none, behind their parenthesis.
@@ -257,16 +297,16 @@ fn parenthesis(
     cursor: &mut Cursor,
     alloc: Global,
     procedure: Procedure,
-) -> Result<(Args, Option<Cond>), ParseError>
-    ensures { Told (λ p. (p.0, filter_view p.1)) result cursor.new (parenthesis_at procedure cursor.old) }
+) -> Result<Gathered, ParseError>
+    ensures { Told gathered_view result cursor.new (parenthesis_at procedure cursor.old) }
 {
     if cursor.is(Sort::Close) {
         cursor.mark(Sort::Close)?;
-        return Ok((Args::from_vec(Vec::new(alloc)), None));
+        return Ok(none_gathered(alloc));
     }
-    let (args, condition) = arguments(cursor, alloc, procedure)?;
+    let gathered = arguments(cursor, alloc, procedure)?;
     cursor.mark(Sort::Close)?;
-    Ok((args, condition))
+    Ok(gathered)
 }
 
 #[tactic(auto, unfolding(wm_grammar::specs::CallReaders::arguments_of_at))]
@@ -274,14 +314,14 @@ fn arguments_of(
     cursor: &mut Cursor,
     alloc: Global,
     procedure: Procedure,
-) -> Result<(Args, Option<Cond>), ParseError>
-    ensures { Told (λ p. (p.0, filter_view p.1)) result cursor.new (arguments_of_at procedure cursor.old) }
+) -> Result<Gathered, ParseError>
+    ensures { Told gathered_view result cursor.new (arguments_of_at procedure cursor.old) }
 {
     if cursor.is(Sort::Open) {
         cursor.mark(Sort::Open)?;
         return parenthesis(cursor, alloc, procedure);
     }
-    Ok((Args::from_vec(Vec::new(alloc)), None))
+    Ok(none_gathered(alloc))
 }
 
 fn procedure_name(cursor: &mut Cursor, alloc: Global) -> Result<(Name, Procedure), ParseError>
@@ -306,7 +346,8 @@ fn package_call(cursor: &mut Cursor, alloc: Global) -> Result<Statement, ParseEr
     cursor.mark(Sort::DbmsWm)?;
     cursor.mark(Sort::Dot)?;
     let (name, procedure) = procedure_name(cursor, alloc)?;
-    let (args, condition) = arguments_of(cursor, alloc, procedure)?;
+    let Gathered { list, condition } = arguments_of(cursor, alloc, procedure)?;
+    let args = Args::from_vec(list);
     Ok(Statement::Call {
         procedure: name,
         args,
