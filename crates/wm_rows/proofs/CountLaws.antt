@@ -18,7 +18,7 @@ use Rattle.wm_base.specs.declared.value.Value.{Value}
 use Rattle.wm_base.specs.Period.{covers}
 use Rattle.wm_period.specs.Pieces.{held, held_at, put_in}
 use Rattle.wm_period.specs.declared.piece.Piece.{Piece}
-use Rattle.wm_rows.proofs.Counting.{positive-some, count-positive, positive_itself}
+use Rattle.wm_rows.proofs.Counting.{positive-some, count-positive}
 use Rattle.wm_rows.proofs.Lookups.{cases_row, is_same-itself, is_same-parts}
 use Rattle.wm_rows.proofs.Times.{times-some, some-times}
 use Rattle.wm_rows.specs.Counts.{Counts, Counted, HasTime, entry_at, count_at, positive, stores, times}
@@ -36,10 +36,6 @@ either_way (Err e) ok err = err
 -- the count of a row
 pub count-times : (layers : Layers) (counts : Counts) (row : RowKey) → Counted layers counts → count_at counts row.table row.key ≡ times layers row
 count-times layers counts row counted = ap (λ (o : Option ℕ). unwrap_or o 0) (counted.exact row.table row.key) ∙ count-positive (times layers row)
-
--- no count is 0
-pub counted_positive : (layers : Layers) (counts : Counts) (table : ℕ) (key : List Value) → Counted layers counts → entry_at counts table key ≡ positive (count_at counts table key)
-counted_positive layers counts table key counted = positive_itself (times layers (record { table = table; key = key })) (entry_at counts table key) (counted.exact table key)
 
 -- ---- a piece written
 

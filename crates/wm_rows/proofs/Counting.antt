@@ -31,10 +31,6 @@ count-positive n = by_number (cases_lt 0 n)
     by_number (inl some) = ap (λ b. unwrap_or (then_some b n) 0) (lt-ltb 0 n some)
     by_number (inr none) = let zero' : n ≡ 0 = omega arith in ap (λ b. unwrap_or (then_some b n) 0) (le-ltb 0 n none) ∙ sym zero'
 
--- a count that is some is the count
-pub positive_itself : (n : ℕ) (o : Option ℕ) → o ≡ positive n → o ≡ positive (unwrap_or o 0)
-positive_itself n o is = is ∙ ap positive (sym (ap (λ (p : Option ℕ). unwrap_or p 0) is ∙ count-positive n))
-
 cond_none : (b : Bool) → (let n : Option ℕ = None in n) ≡ cond b None None
 cond_none true = refl
 cond_none false = refl
@@ -64,17 +60,6 @@ sorted_none R = tt
 abbrev pub among : RowKey → List RowKey → ℕ
 among row rows = cond (list_any (is_at (row_order row)) rows) 1 0
 
-some-any : {K X : Type 0} (test : K → Bool) (es : List (K × X)) → is_some (lookup test es) ≡ list_any test (keys_of es)
-some-any test [] = refl
-some-any {K} {X} test (e ∷ es) = by_test (test e.0) (some-any test es)
-  where
-    by_test : (b : Bool) → is_some (lookup test es) ≡ list_any test (keys_of es) → is_some (cond b (Some e.1) (lookup test es)) ≡ (b || list_any test (keys_of es))
-    by_test true rest = refl
-    by_test false rest = rest
-
-pub among-keys : (row : RowKey) (groups : Groups) → among row (keys_of groups) ≡ stores row groups
-among-keys row groups = ap (λ b. cond b 1 0) (sym (some-any (is_at (row_order row)) groups))
-
 among-first : (row : RowKey) (rows : List RowKey) → among row (row ∷ rows) ≡ 1
 among-first row rows = ap (λ b. cond (b || list_any (is_at (row_order row)) rows) 1 0) (is_same-itself row)
 
@@ -94,14 +79,6 @@ pub record Uncounting (start counts : Counts) (layer : Groups) (rest : List RowK
   pub positives : (t : ℕ) (k : List Value) → entry_at counts t k ≡ positive (count_at counts t k)
   pub less : (t : ℕ) (k : List Value) → count_at counts t k + stores (record { table = t; key = k }) layer ≡ count_at start t k + among (record { table = t; key = k }) rest
   pub order : IsStrictlySortedBy row_order rest
-
-pub uncounting_none : (start : Counts) (layer : Groups) → ((t : ℕ) (k : List Value) → entry_at start t k ≡ positive (count_at start t k)) → IsStrictlySortedBy row_order (keys_of layer)
-    → Uncounting start start layer (keys_of layer)
-uncounting_none start layer positives order = record {
-  positives = positives;
-  less = λ t k. ap (λ n. count_at start t k + n) (sym (among-keys (record { table = t; key = k }) layer));
-  order = order;
-}
 
 pub uncounting_more : (start counts next : Counts) (layer : Groups) (rest left : List RowKey) (row : RowKey) → Uncounting start counts layer rest → rest ≡ row ∷ left
     → ((t : ℕ) (k : List Value) → stores (record { table = t; key = k }) layer ≤ count_at start t k)
@@ -146,10 +123,3 @@ uncounting_more start counts next layer rest left row so is enough took = record
         let P : RowKey → Type 0 = λ r. (entry_at next r.table r.key ≡ positive (count_at next r.table r.key)) × (count_at next r.table r.key + stores r layer ≡ count_at start r.table r.key + among r left) in
         subst P same here
     both t k (inr apart) = away t k apart
-
-pub uncounting_all : (start counts : Counts) (layer : Groups) (rest : List RowKey) → Uncounting start counts layer rest → rest ≡ []
-    → (t : ℕ) (k : List Value) → count_at counts t k + stores (record { table = t; key = k }) layer ≡ count_at start t k
-uncounting_all start counts layer rest so none t k =
-    let q : RowKey = record { table = t; key = k } in
-    let nothing : among q rest ≡ 0 = ap (among q) none in
-    omega (arith, so.less t k, nothing)

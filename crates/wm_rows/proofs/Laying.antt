@@ -23,16 +23,6 @@ pub record Laying (upper start lower rest : Groups) : Type 0 where
   pub same : (row : RowKey) (t : ℕ) → option_or (held_at (pieces_in upper row) t) (held_at (pieces_in rest row) t) ≡ option_or (held_at (pieces_in start row) t) (held_at (pieces_in lower row) t)
   pub order : IsStrictlySortedBy row_order (keys_of rest)
 
-pub laying_none : (start lower : Groups) → IsStrictlySortedBy row_order (keys_of lower) → Laying start start lower lower
-laying_none start lower order = record { same = λ row t. refl; order = order }
-
-pub laying_all : (upper start lower rest : Groups) → Laying upper start lower rest → rest ≡ []
-    → (row : RowKey) (t : ℕ) → held_at (pieces_in upper row) t ≡ option_or (held_at (pieces_in start row) t) (held_at (pieces_in lower row) t)
-laying_all upper start lower rest so none row t =
-    sym (option_or-none (held_at (pieces_in upper row) t))
-    ∙ ap (λ (l : Groups). option_or (held_at (pieces_in upper row) t) (held_at (pieces_in l row) t)) (sym none)
-    ∙ so.same row t
-
 pub laying_more : (upper next start lower rest left : Groups) (k : RowKey) (pieces both : List Piece) → Laying upper start lower rest → rest ≡ (k, pieces) ∷ left
     → ((q : RowKey) → group_in next q ≡ cond (is_same k q) (Some both) (group_in upper q))
     → ((t : ℕ) → held_at both t ≡ option_or (held_at (pieces_in upper k) t) (held_at pieces t))

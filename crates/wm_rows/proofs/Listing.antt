@@ -28,30 +28,6 @@ pub record Flattening (all rest : Groups) (list : List OwnPiece) : Type 0 where
   pub same : list ++ own_list rest ≡ own_list all
   pub order : AllInOrder rest → AllInOrder all
 
-pub flattening_none : (all : Groups) → Flattening all all []
-flattening_none all = record { same = refl; order = λ order. order }
-
-pub flattening_more : (all rest left : Groups) (list next : List OwnPiece) (row : RowKey) (pieces : List Piece) → Flattening all rest list → rest ≡ (row, pieces) ∷ left
-    → next ≡ list ++ map (own_piece row) pieces → Between 0 pieces END → Flattening all left next
-flattening_more all rest left list next row pieces so is pushed between = record {
-  same =
-      ap (λ (l : List OwnPiece). l ++ own_list left) pushed
-      ∙ append_assoc list (map (own_piece row) pieces) (own_list left)
-      ∙ ap (λ (g : Groups). list ++ own_list g) (sym is)
-      ∙ so.same;
-  order = λ order. so.order (rw is (between, order));
-}
-
-append_nil : (xs : List OwnPiece) → xs ++ [] ≡ xs
-append_nil [] = refl
-append_nil (x ∷ xs) = ap (λ (l : List OwnPiece). x ∷ l) (append_nil xs)
-
-pub flattening_all : (all rest : Groups) (list : List OwnPiece) → Flattening all rest list → rest ≡ [] → (list ≡ own_list all) × AllInOrder all
-flattening_all all rest list so none = (
-  sym (append_nil list) ∙ ap (λ (g : Groups). list ++ own_list g) (sym none) ∙ so.same,
-  so.order (rw none tt),
-)
-
 -- ---- what the list holds
 
 own_at-append : (ps qs : List OwnPiece) (row : RowKey) (t : ℕ) → own_at (ps ++ qs) row t ≡ option_or (own_at ps row t) (own_at qs row t)

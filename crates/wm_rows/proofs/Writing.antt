@@ -71,8 +71,8 @@ pub seen-written : (old new : Layers) (version : ℕ) (row : RowKey) (pieces : L
     → ((v : ℕ) (q : RowKey) → group_of new v q ≡ cond (eqb version v && is_same row q) (Some pieces) (group_of old v q))
     → (tree : List Version) (v : ℕ) (q : RowKey) (t : ℕ) → list_any (nat_eq version) (path_in tree v) ≡ false → seen_in tree new v q t ≡ seen_in tree old v q t
 seen-written old new version row pieces groups tree v q t off =
-    nearest-kept new old (path_in tree v) version q t off
-    (λ w away. ap (λ (o : Option (List Piece)). held_at (unwrap_or o []) t) (groups w q ∙ ap (λ b. cond (b && is_same row q) (Some pieces) (group_of old w q)) (ne_eqb version w away)))
+    nearest-kept new old (path_in tree v) (nat_eq version) q t off
+    (λ w away. ap (λ (o : Option (List Piece)). held_at (unwrap_or o []) t) (groups w q ∙ ap (λ b. cond (b && is_same row q) (Some pieces) (group_of old w q)) away))
 
 -- the written version sees the piece over what it saw
 pub seen-here : (old new : Layers) (version : ℕ) (row : RowKey) (piece : Piece)
@@ -97,29 +97,6 @@ seen-here old new version row piece groups cells tree q t is there = by_version 
 
 -- ---- layers dropped
 
-cond_twice : (a b : Bool) (g : Groups) → cond b [] (cond a [] g) ≡ cond (a || b) [] g
-cond_twice true true g = refl
-cond_twice true false g = refl
-cond_twice false b g = refl
-
-eqb-symm : (m n : ℕ) → eqb m n ≡ eqb n m
-eqb-symm m n = by_number (cases_eq m n)
-  where
-    by_number : (m ≡ n) ⊎ (m ≡ n → ⊥) → eqb m n ≡ eqb n m
-    by_number (inl same) = eq-eqb m n same ∙ sym (eq-eqb n m (sym same))
-    by_number (inr other) = ne_eqb m n other ∙ sym (ne_eqb n m (λ e. other (sym e)))
-
-pub drop_more : (old now next : Layers) (versions : List ℕ) (i v : ℕ) → i < length versions
-    → groups_in now v ≡ cond (list_any (nat_eq v) (take i versions)) [] (groups_in old v)
-    → groups_in next v ≡ cond (eqb (get_or versions i 0) v) [] (groups_in now v)
-    → groups_in next v ≡ cond (list_any (nat_eq v) (take (i + 1) versions)) [] (groups_in old v)
-drop_more old now next versions i v within so_far put =
-    put
-    ∙ ap (cond (eqb (get_or versions i 0) v) []) so_far
-    ∙ cond_twice (list_any (nat_eq v) (take i versions)) (eqb (get_or versions i 0) v) (groups_in old v)
-    ∙ ap (λ b. cond (list_any (nat_eq v) (take i versions) || b) [] (groups_in old v)) (eqb-symm (get_or versions i 0) v)
-    ∙ ap (λ b. cond b [] (groups_in old v)) (sym (list_any_more (nat_eq v) versions i 0 within))
-
 -- the groups of each other version are as before
 pub drop_one : (old next : List (ℕ × BTreeMap RowKey (List Piece))) (version v : ℕ) → lookup (is_at (nat_cmp v)) next ≡ cond (is_at (nat_cmp version) v) None (lookup (is_at (nat_cmp v)) old)
     → groups_in (maps_of next) v ≡ cond (eqb version v) [] (groups_in (maps_of old) v)
@@ -132,20 +109,9 @@ drop_one old next version v put =
     drop_cond true o = refl
     drop_cond false o = refl
 
--- nothing is dropped where the version stores nothing
-pub drop_none : (layers : List (ℕ × BTreeMap RowKey (List Piece))) (version v : ℕ) → lookup (is_at (nat_cmp version)) layers ≡ None
-    → groups_in (maps_of layers) v ≡ cond (eqb version v) [] (groups_in (maps_of layers) v)
-drop_none layers version v none = by_number (cases_eq version v)
-  where
-    by_number : (version ≡ v) ⊎ (version ≡ v → ⊥) → groups_in (maps_of layers) v ≡ cond (eqb version v) [] (groups_in (maps_of layers) v)
-    by_number (inl here) =
-        ap (groups_in (maps_of layers)) (sym here) ∙ map_at-none layers version none ∙ ap (λ b. cond b [] (groups_in (maps_of layers) v)) (sym (eq-eqb version v here))
-    by_number (inr away) = ap (λ b. cond b [] (groups_in (maps_of layers) v)) (sym (ne_eqb version v away))
-
--- what is stored, where the groups of some versions are dropped
-pub stored-dropped : (old new : Layers) (dropped : Bool) (v : ℕ) (row : RowKey) (t : ℕ) → groups_in new v ≡ cond dropped [] (groups_in old v) → stored new v row t ≡ cond dropped None (stored old v row t)
-stored-dropped old new dropped v row t is = ap (λ (g : Groups). held_at (pieces_in g row) t) is ∙ by_test dropped
-  where
-    by_test : (b : Bool) → held_at (pieces_in (cond b [] (groups_in old v)) row) t ≡ cond b None (stored old v row t)
-    by_test true = refl
-    by_test false = refl
+-- a version that stands on no dropped one sees what it saw
+pub seen-dropped : (old new : Layers) (versions : List ℕ) → ((v : ℕ) → groups_in new v ≡ cond (list_any (nat_eq v) versions) [] (groups_in old v))
+    → (tree : List Version) (v : ℕ) (row : RowKey) (t : ℕ) → list_any (λ w. list_any (nat_eq w) versions) (path_in tree v) ≡ false → seen_in tree new v row t ≡ seen_in tree old v row t
+seen-dropped old new versions groups tree v row t off =
+    nearest-kept new old (path_in tree v) (λ w. list_any (nat_eq w) versions) row t off
+    (λ w kept. ap (λ (g : Groups). held_at (pieces_in g row) t) (groups w ∙ ap (λ b. cond b [] (groups_in old w)) kept))

@@ -32,7 +32,10 @@ pub fn put_piece(alloc: Global, layer: &mut Layer, row: RowKey, piece: Piece) ->
     ensures cells { OnOk result ((t : ℕ) → held_at (put_in piece (pieces_in layer.old.entries row)) t ≡ option_or (then_some (covers piece.period t) (held piece)) (held_at (pieces_in layer.old.entries row) t)) }
     ensures err { OnErr result (layer.new.entries ≡ layer.old.entries) }
 {
-    let mut pieces = copy_of(alloc, layer, &row)?;
+    if let Some(pieces) = layer.get_mut(&row) {
+        return pieces.put(alloc, piece);
+    }
+    let mut pieces = Pieces::new(alloc);
     pieces.put(alloc, piece)?;
     layer.insert(row, pieces)?;
     Ok(())

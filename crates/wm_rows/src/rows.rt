@@ -148,7 +148,9 @@ impl Rows {
     ///
     /// It takes no memory.
     pub fn drop_versions(&mut self, versions: &[u64])
-        ensures { (v : ℕ) (row : Row) (t : ℕ) → stored self.new v row t ≡ (if list_any (nat_eq v) versions.now then None else stored self.old v row t) }
+        ensures stored { (v : ℕ) (row : Row) (t : ℕ) → stored self.new v row t ≡ (if list_any (nat_eq v) versions.now then None else stored self.old v row t) }
+        // a version that stands on no dropped one sees what it saw
+        ensures elsewhere { (tree : List Version) (v : ℕ) (row : Row) (t : ℕ) → list_any (λ w. list_any (nat_eq w) versions.now) (path_in tree v) ≡ false → seen_in tree self.new v row t ≡ seen_in tree self.old v row t }
     {
         drop_all_counted(&mut self.layers, &mut self.counts, versions);
     }
