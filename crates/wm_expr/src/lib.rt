@@ -10,7 +10,7 @@ pub mod fault;
 mod fitting;
 pub mod names;
 mod operands;
-mod owned;
+pub mod owned;
 mod periods;
 mod seen;
 mod types;

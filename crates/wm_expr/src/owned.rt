@@ -28,7 +28,7 @@ fn copy_at_end(
 }
 
 /// A copy of the value of the row at the column.
-fn column_value(
+pub fn column_value(
     alloc: Global,
     col: &Col,
     columns: &[Column],

@@ -141,3 +141,62 @@ above_filter {X} lt p z y (w ∷ ws) rest above e = by_test (p w) refl (above_fi
     by_test : (b : Bool) → p w ≡ b → (filter p ws ≡ y ∷ rest → lt y z ≡ false) → lt y z ≡ false
     by_test true t next = let head : w ∷ filter p ws ≡ y ∷ rest = sym (rw t) ∙ e in let same : w ≡ y = cc in subst (λ v. lt v z ≡ false) same above.0
     by_test false t next = next (let skip : filter p (w ∷ ws) ≡ filter p ws = rw t in sym skip ∙ e)
+
+heads_one : {X : Type 0} (lt : X → X → Bool) → IsStrictWeakOrder lt → (y z : X) (ys zs : List X) → Above lt y ys → Above lt z zs → ((w : X) → filter (ties lt w) (y ∷ ys) ≡ filter (ties lt w) (z ∷ zs)) → y ≡ z
+heads_one {X} lt o y z ys zs above_y above_z alike = by_tests (lt y z) (lt z y) refl refl
+  where
+    of_y : filter (ties lt y) (y ∷ ys) ≡ y ∷ filter (ties lt y) ys
+    of_y = rw (ties_itself lt o y)
+
+    of_z : filter (ties lt z) (z ∷ zs) ≡ z ∷ filter (ties lt z) zs
+    of_z = rw (ties_itself lt o z)
+
+    by_tests : (a b : Bool) → lt y z ≡ a → lt z y ≡ b → y ≡ z
+    by_tests false false a b =
+        let tied : ties lt y z ≡ true = rw (a, b) in
+        let front : filter (ties lt y) (z ∷ zs) ≡ z ∷ filter (ties lt y) zs = rw tied in
+        let both : y ∷ filter (ties lt y) ys ≡ z ∷ filter (ties lt y) zs = sym of_y ∙ alike y ∙ front in
+        cc
+    by_tests true b a eb =
+        let apart : ties lt y z ≡ false = rw a in
+        let skip : filter (ties lt y) (z ∷ zs) ≡ filter (ties lt y) zs = rw apart in
+        let has : filter (ties lt y) zs ≡ y ∷ filter (ties lt y) ys = sym skip ∙ sym (alike y) ∙ of_y in
+        absurd (false≢true (sym (above_filter lt (ties lt y) z y zs (filter (ties lt y) ys) above_z has) ∙ a))
+    by_tests false true a b =
+        let apart : ties lt z y ≡ false = rw b in
+        let skip : filter (ties lt z) (y ∷ ys) ≡ filter (ties lt z) ys = rw apart in
+        let has : filter (ties lt z) ys ≡ z ∷ filter (ties lt z) zs = sym skip ∙ alike z ∙ of_z in
+        absurd (false≢true (sym (above_filter lt (ties lt z) y z ys (filter (ties lt z) zs) above_y has) ∙ b))
+
+tails_alike : {X : Type 0} (lt : X → X → Bool) (w y : X) (ys zs : List X) → filter (ties lt w) (y ∷ ys) ≡ filter (ties lt w) (y ∷ zs) → filter (ties lt w) ys ≡ filter (ties lt w) zs
+tails_alike {X} lt w y ys zs e = by_test (ties lt w y) refl
+  where
+    by_test : (b : Bool) → ties lt w y ≡ b → filter (ties lt w) ys ≡ filter (ties lt w) zs
+    by_test true t =
+        let one : filter (ties lt w) (y ∷ ys) ≡ y ∷ filter (ties lt w) ys = rw t in
+        let other : filter (ties lt w) (y ∷ zs) ≡ y ∷ filter (ties lt w) zs = rw t in
+        let both : y ∷ filter (ties lt w) ys ≡ y ∷ filter (ties lt w) zs = sym one ∙ e ∙ other in
+        cc
+    by_test false t =
+        let one : filter (ties lt w) (y ∷ ys) ≡ filter (ties lt w) ys = rw t in
+        let other : filter (ties lt w) (y ∷ zs) ≡ filter (ties lt w) zs = rw t in
+        sym one ∙ e ∙ other
+
+one_order : {X : Type 0} (lt : X → X → Bool) → IsStrictWeakOrder lt → (ys zs : List X) → Rises lt ys → Rises lt zs → ((w : X) → filter (ties lt w) ys ≡ filter (ties lt w) zs) → ys ≡ zs
+one_order lt o [] [] up down alike = refl
+one_order lt o [] (z ∷ zs) up down alike =
+    let of_z : filter (ties lt z) (z ∷ zs) ≡ z ∷ filter (ties lt z) zs = rw (ties_itself lt o z) in
+    let none : [] ≡ z ∷ filter (ties lt z) zs = alike z ∙ of_z in
+    cc
+one_order lt o (y ∷ ys) [] up down alike =
+    let of_y : filter (ties lt y) (y ∷ ys) ≡ y ∷ filter (ties lt y) ys = rw (ties_itself lt o y) in
+    let none : y ∷ filter (ties lt y) ys ≡ [] = sym of_y ∙ alike y in
+    cc
+one_order lt o (y ∷ ys) (z ∷ zs) up down alike =
+    let head : y ≡ z = heads_one lt o y z ys zs up.0 down.0 alike in
+    let tail : ys ≡ zs = one_order lt o ys zs up.1 down.1 (λ w. tails_alike lt w y ys zs (subst (λ v. filter (ties lt w) (y ∷ ys) ≡ filter (ties lt w) (v ∷ zs)) (sym head) (alike w))) in
+    λ i. head i ∷ tail i
+
+-- what is in order, and keeps what the order does not tell apart as it stood, is `sorted`
+pub sorted_is : {X : Type 0} (lt : X → X → Bool) → IsStrictWeakOrder lt → (xs ys : List X) → IsSortedBy lt ys → IsStableBy lt xs ys → ys ≡ sorted lt xs
+sorted_is lt o xs ys up stable = one_order lt o ys (sorted lt xs) (rises_from lt o ys up) (rises_sorted lt o xs) (λ w. stable w ∙ sym (filter_sorted lt o w xs))

@@ -59,6 +59,10 @@ abbrev pub changes : {X : Type 0} → (X → X → Bool) → List X → List X
 changes same [] = []
 changes same (x ∷ xs) = x ∷ changes_from same x xs
 
+-- the values of one go before those of another, each in its direction
+abbrev pub goes_by : {X : Type 0} → List Bool → (X → List Value) → X → X → Bool
+goes_by directions key x y = is_lt (by_directions directions (key x) (key y))
+
 -- the values of one stand before those of another
 abbrev pub stands_before : {X : Type 0} → (X → List Value) → X → X → Bool
 stands_before key x y = is_lt (left_to_right (key x) (key y))

@@ -10,6 +10,8 @@ mod equalities;
 mod found;
 mod items;
 mod kept;
+mod keyed;
+mod order;
 mod pair;
 mod shown;
 mod source;

@@ -11,7 +11,7 @@ loop-value-preserved c =
     let values = c.args.values.now in
     let rest : List Value = drop (c.loop-value.value-index + 1) values in
     let front : drop c.loop-value.value-index values ≡ c.value-item.result ∷ rest =
-        drop_more values c.loop-value.value-index c.value-item.result c.loop-value-test.true ∙ ap (λ (v : Value). v ∷ rest) (sym c.value-item.is) in
+    drop_more values c.loop-value.value-index c.value-item.result c.loop-value-test.true ∙ ap (λ (v : Value). v ∷ rest) (sym c.value-item.is) in
     let one : total (present (drop c.loop-value.value-index values)) ≡ c.number.result +ℤ total (present rest) =
-        ap (λ (vs : List Value). total (present vs)) front ∙ total_more c.value-item.result rest ∙ ap (λ (n : ℤ). n +ℤ total (present rest)) (sym c.number.ensures) in
+    ap (λ (vs : List Value). total (present vs)) front ∙ total_more c.value-item.result rest ∙ ap (λ (n : ℤ). n +ℤ total (present rest)) (sym c.number.ensures) in
     record { sum = omega (arith, ints, one); low = omega (arith, ints); high = omega (arith, ints) }
