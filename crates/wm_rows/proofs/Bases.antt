@@ -1,9 +1,8 @@
 -- Paths through a base version.
-use Rattle.std.proofs.Common.{◌≡◌, ◌≢◌, ◌<◌, ℕ, Bool, true, false, cond, ◌||◌, nat_eq, eqb, List, [], ◌∷◌, ◌++◌, Option, refl, sym, ap, ◌∙◌, subst, arith, ◌⊎◌, inl, inr}
+use Rattle.std.proofs.Common.{◌≡◌, ◌≢◌, ◌<◌, ℕ, true, false, cond, ◌||◌, nat_eq, eqb, List, [], ◌∷◌, ◌++◌, refl, sym, ap, ◌∙◌, subst, arith, ◌⊎◌, inl, inr}
 use Rattle.std.proofs.lemmas.Bool.{cases_eq, eq-eqb, ne_eqb, eqb-true, or_cases}
 use Rattle.std.specs.List.{list_any}
 use Rattle.std.specs.Option.{option_or}
-use Rattle.wm_period.specs.Pieces.{Held}
 use Rattle.wm_rows.proofs.Laying.{option_or_assoc}
 use Rattle.wm_rows.specs.Rows.{Layers, stored, nearest, above, seen_in, own_in}
 use Rattle.wm_rows.specs.declared.row_key.RowKey.{RowKey}

@@ -1,5 +1,5 @@
 -- Layers dropped one after another.
-use Rattle.std.proofs.Common.{◌≡◌, ◌<◌, ◌+◌, ℕ, cond, nat_eq, eqb, List, [], get_or, take, length, refl}
+use Rattle.std.proofs.Common.{◌≡◌, ℕ, cond, nat_eq, List, [], take}
 use Rattle.std.specs.List.{list_any}
 use Rattle.wm_rows.specs.Counts.{Counts, Counted}
 use Rattle.wm_rows.specs.Rows.{Layers, groups_in}

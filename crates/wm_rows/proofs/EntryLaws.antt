@@ -9,7 +9,7 @@ use Rattle.wm_period.specs.Pieces.{Held, held_at, put_in, Between}
 use Rattle.wm_period.specs.declared.piece.Piece.{Piece}
 use Rattle.wm_rows.proofs.Laying.{option_or-none, option_or_assoc}
 use Rattle.wm_rows.specs.Entries.{piece_of, with_entries, pieces_of, held_of, HavePeriods}
-use Rattle.wm_spec.specs.Lists.{Entry, Told, told, told_of, is_of, has_time, covers}
+use Rattle.wm_spec.specs.Lists.{Entry, Told, told, told_of, is_of, has_time}
 
 map_or : (a b : Option Told) → option_map held_of (option_or a b) ≡ option_or (option_map held_of a) (option_map held_of b)
 map_or None b = refl

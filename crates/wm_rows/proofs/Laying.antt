@@ -1,10 +1,10 @@
 -- Groups laid under others, one after another.
-use Rattle.std.proofs.Common.{◌≡◌, ℕ, Bool, true, false, cond, List, [], ◌∷◌, Option, Some, None, refl, sym, ap, ◌∙◌, subst, ◌⊎◌, inl, inr}
+use Rattle.std.proofs.Common.{◌≡◌, ℕ, false, cond, List, [], ◌∷◌, Option, Some, None, refl, sym, ap, ◌∙◌, subst, ◌⊎◌, inl, inr}
 use Rattle.std.proofs.lemmas.Map.Keys.{sorted_tail}
 use Rattle.std.specs.List.Sorted.{IsStrictlySortedBy}
 use Rattle.std.specs.Map.{keys_of}
 use Rattle.std.specs.Option.{option_or, unwrap_or}
-use Rattle.wm_period.specs.Pieces.{Held, held_at}
+use Rattle.wm_period.specs.Pieces.{held_at}
 use Rattle.wm_period.specs.declared.piece.Piece.{Piece}
 use Rattle.wm_rows.proofs.Lookups.{cases_row, is_same-itself, is_same-symm, group_in-first, group_in-other, group_in-past}
 use Rattle.wm_rows.specs.Rows.{Groups, row_order, is_same, group_in, pieces_in}

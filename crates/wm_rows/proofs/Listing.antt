@@ -1,7 +1,6 @@
 -- The pieces of many rows in one list.
-use Rattle.std.proofs.Common.{◌≡◌, ◌<◌, ◌≤◌, ℕ, Bool, true, false, cond, ◌&&◌, ◌||◌, leb, List, [], ◌∷◌, ◌++◌, map, get_or, take, length, ◌+◌, Option, Some, None, refl, sym, ap, ◌∙◌, subst, append_assoc, arith, ◌⊎◌, inl, inr}
+use Rattle.std.proofs.Common.{◌≡◌, ◌≤◌, ℕ, Bool, true, false, ◌&&◌, ◌||◌, leb, List, [], ◌∷◌, ◌++◌, map, Option, None, refl, sym, ap, ◌∙◌, subst, ◌⊎◌, inl, inr}
 use Rattle.std.proofs.lemmas.Bool.{le-leb}
-use Rattle.std.proofs.lemmas.List.{take_more}
 use Rattle.std.proofs.lemmas.Map.Keys.{sorted_head, sorted_tail}
 use Rattle.std.specs.Bool.{then_some}
 use Rattle.std.specs.List.{AllByRecursion}
@@ -17,7 +16,7 @@ use Rattle.wm_period.specs.declared.piece.Piece.{Piece}
 use Rattle.wm_rows.proofs.Laying.{option_or-none, option_or_assoc}
 use Rattle.wm_rows.proofs.Lookups.{cases_row, is_same-itself, is_same-symm, group_in-first, group_in-other, group_in-past}
 use Rattle.wm_rows.specs.Own.{own_piece, row_of, own_list, own_at, precedes, GoesBefore, IsInOrder, AllInOrder}
-use Rattle.wm_rows.specs.Rows.{Groups, row_order, is_same, group_in, pieces_in}
+use Rattle.wm_rows.specs.Rows.{Groups, row_order, is_same, pieces_in}
 use Rattle.wm_rows.specs.declared.own.OwnPiece.{OwnPiece}
 use Rattle.wm_rows.specs.declared.row_key.RowKey.{RowKey}
 

@@ -1,12 +1,11 @@
 -- What is stored along a path.
-use Rattle.std.proofs.Common.{◌≡◌, ℕ, Bool, true, false, cond, ◌||◌, nat_eq, eqb, List, [], ◌∷◌, Option, Some, None, refl, sym, ap, ◌∙◌, ◌⊎◌, inl, inr}
-use Rattle.std.proofs.lemmas.Bool.{cases_eq, eq-eqb, ne_eqb, or_parts}
+use Rattle.std.proofs.Common.{◌≡◌, ℕ, Bool, false, cond, List, [], ◌∷◌, Option, refl, ap, ◌∙◌}
+use Rattle.std.proofs.lemmas.Bool.{ne_eqb, or_parts}
 use Rattle.std.specs.List.{list_any}
 use Rattle.std.specs.Option.{option_or}
 use Rattle.wm_period.specs.Pieces.{Held, held_at}
 use Rattle.wm_period.specs.declared.piece.Piece.{Piece}
-use Rattle.wm_rows.proofs.Laying.{option_or-none, option_or_assoc}
-use Rattle.wm_rows.specs.Rows.{Groups, Layers, groups_in, pieces_in, stored, nearest, above}
+use Rattle.wm_rows.specs.Rows.{Groups, Layers, pieces_in, stored, nearest, above}
 use Rattle.wm_rows.specs.declared.row_key.RowKey.{RowKey}
 
 -- where a walk along a path stands: over what is gathered of a row, the rest of the path is still to come

@@ -1,7 +1,6 @@
 -- Layers in which one is written or some are dropped.
-use Rattle.std.proofs.Common.{◌≡◌, ◌+◌, ◌<◌, ℕ, Bool, true, false, cond, ◌&&◌, ◌||◌, nat_eq, eqb, List, [], ◌∷◌, get_or, take, length, Option, Some, None, Result, Ok, Err, refl, sym, ap, ◌∙◌, subst, ◌⊎◌, inl, inr}
+use Rattle.std.proofs.Common.{◌≡◌, ℕ, Bool, true, false, cond, ◌&&◌, nat_eq, eqb, List, [], ◌∷◌, Option, Some, None, Result, Ok, Err, refl, sym, ap, ◌∙◌, ◌⊎◌, inl, inr}
 use Rattle.std.proofs.lemmas.Bool.{cases_eq, eq-eqb, ne_eqb}
-use Rattle.std.proofs.lemmas.List.Folds.{list_any_more}
 use Rattle.std.specs.BTreeMap.{BTreeMap, is_at}
 use Rattle.std.specs.Bool.{then_some}
 use Rattle.std.specs.List.{list_any}
@@ -14,7 +13,7 @@ use Rattle.wm_period.specs.Pieces.{Held, held, held_at, put_in}
 use Rattle.wm_period.specs.declared.piece.Piece.{Piece}
 use Rattle.wm_rows.proofs.Laying.{option_or_assoc}
 use Rattle.wm_rows.proofs.Lookups.{cases_row, is_same-itself}
-use Rattle.wm_rows.proofs.Maps.{is_at-number, entries_or_none, map_at-maps_of, map_at-none}
+use Rattle.wm_rows.proofs.Maps.{is_at-number, entries_or_none, map_at-maps_of}
 use Rattle.wm_rows.proofs.Paths.{nearest-kept}
 use Rattle.wm_rows.specs.Maps.{maps_of}
 use Rattle.wm_rows.specs.Rows.{Groups, Layers, is_same, group_of, pieces_in, groups_in, stored, nearest, seen_in}

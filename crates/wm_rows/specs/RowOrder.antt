@@ -1,5 +1,4 @@
 -- The order of rows is total, and rows that it finds equal are one.
-use Rattle.std.specs.Prelude.{◌≡◌, ℕ, List, refl}
 use Rattle.std.proofs.lemmas.Cmp.{nat_cmp_total, on_total, then_total}
 use Rattle.std.specs.Cmp.{IsTotalOrder}
 use Rattle.wm_base.specs.Orders.{key_order_total}

@@ -1,14 +1,10 @@
-use Rattle.std.proofs.Common.{◌≡◌, ◌+◌, ℕ, Some, List, sym, ◌∙◌, subst}
-use Rattle.std.specs.BTreeMap.{is_at}
+use Rattle.std.proofs.Common.{sym, ◌∙◌, subst}
 use Rattle.std.specs.List.Sorted.{IsStrictlySortedBy}
-use Rattle.std.specs.Map.{lookup}
 use Rattle.std.specs.Ordering.{nat_cmp}
 use Rattle.wm_rows.proofs.CountLaws.{counted_dropped, enough}
 use Rattle.wm_rows.proofs.Times.{keys_of-maps_of, times_removed}
 use Rattle.wm_rows.proofs.Writing.{drop_one}
-use Rattle.wm_rows.specs.Counts.{stores, times}
 use Rattle.wm_rows.specs.Maps.{maps_of}
-use Rattle.wm_rows.specs.declared.row_key.RowKey.{RowKey}
 use Rattle.wm_rows.proofs.counted.drop_counted.Goals as goal
 
 pub returns-in_default-clause-groups : goal.returns-in_default-clause-groups

@@ -7,7 +7,7 @@ use Rattle.wm_base.specs.Key.{key_order}
 use Rattle.wm_base.specs.declared.value.Value.{Value}
 use Rattle.wm_rows.proofs.Counting.{less_none}
 use Rattle.wm_rows.proofs.Maps.{map_at-some, map_at-none, write_told}
-use Rattle.wm_rows.specs.Counts.{entry_at, count_at, positive}
+use Rattle.wm_rows.specs.Counts.{entry_at, positive}
 use Rattle.wm_rows.specs.Maps.{maps_of, map_at}
 use Rattle.wm_rows.proofs.counts.count_less.Goals as goal
 

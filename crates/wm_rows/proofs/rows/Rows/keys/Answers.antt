@@ -1,4 +1,4 @@
-use Rattle.std.proofs.Common.{◌≡◌, ◌↔◌, List, sym, ◌∙◌, subst}
+use Rattle.std.proofs.Common.{◌↔◌, List, sym, ◌∙◌, subst}
 use Rattle.std.specs.List.{Contains}
 use Rattle.wm_base.specs.declared.value.Value.{Value}
 use Rattle.wm_rows.proofs.CountLaws.{keys_stored}

@@ -4,10 +4,10 @@ use Rattle.std.specs.List.{list_any}
 use Rattle.std.specs.Option.{IsSome, option_or}
 use Rattle.std.specs.Prelude.{OnOk}
 use Rattle.wm_base.specs.Period.{covers}
-use Rattle.wm_period.specs.Pieces.{held, held_at, put_in}
+use Rattle.wm_period.specs.Pieces.{held, put_in}
 use Rattle.wm_rows.proofs.Writing.{on_ok, on_ok2, stored-written, seen-here, seen-written}
 use Rattle.wm_rows.specs.Maps.{maps_of}
-use Rattle.wm_rows.specs.Rows.{Layers, group_of, groups_in, pieces_in, is_same, stored, seen_in}
+use Rattle.wm_rows.specs.Rows.{Layers, groups_in, pieces_in, is_same, stored, seen_in}
 use Rattle.wm_rows.specs.declared.row_key.RowKey.{RowKey}
 use Rattle.wm_tree.specs.Versions.{IsTree, version_in, path_in}
 use Rattle.wm_tree.specs.declared.version.Version.{Version}
