@@ -8,3 +8,4 @@ pub mod FitLemmas
 pub mod TotalLemmas
 pub mod ItemLemmas
 pub mod SortLemmas
+pub mod KeyLemmas

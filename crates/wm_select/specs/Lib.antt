@@ -3,3 +3,4 @@ pub mod Sorting
 pub mod Aggregates
 pub mod Query
 pub mod Joining
+pub mod Keys

@@ -1,5 +1,5 @@
 -- How values are put in order, a stable sort, and a list without repeats.
-use Rattle.std.specs.Prelude.{ℕ, Bool, true, false, if◌then◌else◌, List, [], ◌∷◌}
+use Rattle.std.specs.Prelude.{ℕ, Bool, true, false, if◌then◌else◌, List, [], ◌∷◌, Option, None, Some}
 use Rattle.std.specs.Ordering.{nat_cmp, ordering_then, is_lt, is_eq}
 use Rattle.std.specs.declared.cmp.Ordering.{Ordering}
 use Rattle.std.specs.declared.cmp.Ordering.TheVariants.{Equal}
@@ -49,15 +49,20 @@ abbrev pub sorted : {X : Type 0} → (X → X → Bool) → List X → List X
 sorted lt [] = []
 sorted lt (x ∷ xs) = placed lt x (sorted lt xs)
 
--- the elements behind one, without those that are the same as the one before
+-- the elements behind one that stays, without those that are the same as the last that stays
 abbrev pub changes_from : {X : Type 0} → (X → X → Bool) → X → List X → List X
 changes_from same x [] = []
-changes_from same x (y ∷ ys) = if same x y then changes_from same y ys else y ∷ changes_from same y ys
+changes_from same x (y ∷ ys) = if same x y then changes_from same x ys else y ∷ changes_from same y ys
 
--- the elements that are not the same as the one before
+-- the elements that are not the same as the last one that stays
 abbrev pub changes : {X : Type 0} → (X → X → Bool) → List X → List X
 changes same [] = []
 changes same (x ∷ xs) = x ∷ changes_from same x xs
+
+-- the same, behind the last one that stays, where there is one
+abbrev pub changes_behind : {X : Type 0} → (X → X → Bool) → Option X → List X → List X
+changes_behind same None xs = changes same xs
+changes_behind same (Some x) xs = changes_from same x xs
 
 -- the values of one go before those of another, each in its direction
 abbrev pub goes_by : {X : Type 0} → List Bool → (X → List Value) → X → X → Bool

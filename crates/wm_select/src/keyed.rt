@@ -1,8 +1,22 @@
-use wm_base::Values;
+ghost use Rattle.std.specs.Prelude.{◌≡◌, IfOk};
 
-/// Something that is put in order by values of its own.
+use std::alloc::Global;
+use wm_base::{Memory, Row, Values};
+
+/// A row that is put in order by values of its own.
 #[derive(Debug, Drop)]
-pub struct Keyed<T> {
+pub struct Keyed {
     pub keys: Values,
-    pub item: T,
+    pub row: Row,
+}
+
+impl Keyed {
+    pub fn copy(&self, alloc: Global) -> Result<Keyed, Memory>
+        ensures { IfOk result (λ keyed. keyed ≡ self.now) }
+    {
+        Ok(Keyed {
+            keys: self.keys.copy(alloc)?,
+            row: self.row.copy(alloc)?,
+        })
+    }
 }

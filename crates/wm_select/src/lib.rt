@@ -6,6 +6,7 @@ mod agree;
 mod beside;
 mod buckets;
 mod condition;
+mod distinct;
 mod equalities;
 mod found;
 mod items;

@@ -1,8 +1,10 @@
 //! How lists of values are put in order.
-ghost use Rattle.std.specs.Prelude.{◌≡◌, OnOk};
-ghost use Rattle.wm_select.specs.Sorting.{null_place, ascending, directed, first_value, other_values, by_directions, left_to_right, sorted, goes_by, stands_before};
+ghost use Rattle.std.specs.Prelude.{◌≡◌, IfOk, OnOk};
+ghost use Rattle.wm_select.specs.declared.keyed.Keyed.{Keyed as KeyedRow};
+ghost use Rattle.wm_select.specs.Sorting.{null_place, ascending, directed, first_value, other_values, by_directions, left_to_right, sorted, goes_by, stands_before, has_values_of, changes, changes_behind};
 
 use crate::keyed::Keyed;
+use std::alloc::Global;
 use std::cmp::Ordering;
 use wm_base::{Memory, Value};
 
@@ -93,8 +95,8 @@ pub fn left_to_right(one: &[Value], other: &[Value]) -> Ordering
 }
 
 /// Puts the rows in order by their keys, each value in its direction. What the keys do not tell apart stays as it stood.
-pub fn sort_directed<T>(directions: &[bool], rows: &mut Vec<Keyed<T>>) -> Result<(), Memory>
-    ensures { OnOk result (rows.new.items ≡ sorted (goes_by directions.now (λ row. row.keys)) rows.old.items) }
+pub fn sort_directed(directions: &[bool], rows: &mut Vec<Keyed>) -> Result<(), Memory>
+    ensures { OnOk result (rows.new.items ≡ sorted (goes_by directions.now (λ (row : KeyedRow). row.keys)) rows.old.items) }
 {
     rows.sort_by(|one, other| {
         by_directions(directions, one.keys.as_slice(), other.keys.as_slice())
@@ -103,9 +105,34 @@ pub fn sort_directed<T>(directions: &[bool], rows: &mut Vec<Keyed<T>>) -> Result
 }
 
 /// Puts the rows in order by their keys, from left to right. What the keys do not tell apart stays as it stood.
-pub fn sort_ascending<T>(rows: &mut Vec<Keyed<T>>) -> Result<(), Memory>
-    ensures { OnOk result (rows.new.items ≡ sorted (stands_before (λ row. row.keys)) rows.old.items) }
+pub fn sort_ascending(rows: &mut Vec<Keyed>) -> Result<(), Memory>
+    ensures { OnOk result (rows.new.items ≡ sorted (stands_before (λ (row : KeyedRow). row.keys)) rows.old.items) }
 {
     rows.sort_by(|one, other| left_to_right(one.keys.as_slice(), other.keys.as_slice()))?;
     Ok(())
+}
+
+/// Whether the two have the same keys.
+pub fn has_keys_of(one: &Keyed, other: &Keyed) -> bool
+    ensures { result ≡ has_values_of (λ (row : KeyedRow). row.keys) one.now other.now }
+{
+    left_to_right(one.keys.as_slice(), other.keys.as_slice()).is_eq()
+}
+
+/// Copies of the rows whose keys differ from those of the last one that is copied.
+pub fn changes(alloc: Global, rows: &[Keyed]) -> Result<Vec<Keyed>, Memory>
+    ensures { IfOk result (λ kept. kept.items ≡ changes (has_values_of (λ (row : KeyedRow). row.keys)) rows.now) }
+{
+    let mut kept = Vec::new(alloc);
+    let mut last: Option<&Keyed> = None;
+    for row in rows {
+        match last {
+            Some(one) if has_keys_of(one, row) => {}
+            _ => {
+                kept.push(row.copy(alloc)?)?;
+                last = Some(row);
+            }
+        }
+    }
+    Ok(kept)
 }

@@ -1,0 +1,25 @@
+-- Rows with the values that put them in order.
+use Rattle.std.specs.Prelude.{List}
+use Rattle.wm_base.specs.declared.columns.Column.{Column}
+use Rattle.wm_base.specs.declared.row.Row.{Row}
+use Rattle.wm_base.specs.declared.tree.column.Col.{Col}
+use Rattle.wm_base.specs.Trees.{Query}
+use Rattle.wm_select.specs.declared.keyed.Keyed.{Keyed}
+use Rattle.wm_select.specs.declared.shown.Shown.{Shown}
+use Rattle.wm_select.specs.Query.{group_values, order_values}
+
+-- a tuple, by the row that it shows
+abbrev pub keyed_by_row : Shown → Keyed
+keyed_by_row s = record { keys = s.row.values; row = s.tuple }
+
+-- and back
+abbrev pub shown_by_row : Keyed → Shown
+shown_by_row k = record { tuple = k.row; row = record { values = k.keys } }
+
+-- a tuple, by its values at the columns of GROUP BY
+abbrev pub keyed_by_group : List Col → List Column → Row → Keyed
+keyed_by_group cols columns row = record { keys = group_values cols columns row; row = row }
+
+-- a row that is shown, by what ORDER BY says
+abbrev pub keyed_by_order : Query → List Column → Shown → Keyed
+keyed_by_order query columns s = record { keys = order_values query columns s; row = s.row }
