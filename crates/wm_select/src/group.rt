@@ -1,0 +1,187 @@
+//! What each row of an answer is made of.
+ghost use Rattle.std.specs.Prelude.{◌≡◌, [], ◌∷◌, map, filter, IfOk};
+ghost use Rattle.std.specs.List.{list_any};
+ghost use Rattle.wm_base.specs.declared.row.Row.{Row as RowOf};
+ghost use Rattle.wm_base.specs.Trees.{Out as OutTree};
+ghost use Rattle.wm_base.specs.Views.{item_view, outs_view, projection_view, query_view};
+ghost use Rattle.wm_select.specs.declared.keyed.Keyed.{Keyed as KeyedRow};
+ghost use Rattle.wm_select.specs.Sorting.{has_values_of, distinct_by};
+ghost use Rattle.wm_select.specs.Query.{group_values, in_groups, is_aggregate, has_aggregate, is_grouped, groups_of};
+ghost use Rattle.wm_select.specs.Keys.{keyed_by_group};
+
+use crate::keyed::Keyed;
+use crate::order::{changes, has_keys_of, sort_ascending};
+use std::alloc::Global;
+use wm_base::tree::column::Col;
+use wm_base::tree::query::{Item, Out, Projection, Query};
+use wm_base::{Column, Columns, Memory, Row, RowList, Value, Values};
+use wm_expr::owned::column_value;
+
+/// The values of a row at the columns of GROUP BY.
+fn group_values(
+    alloc: Global,
+    cols: &[Col],
+    columns: &[Column],
+    row: &[Value],
+) -> Result<Vec<Value>, Memory>
+    ensures { IfOk result (λ values. values.items ≡ group_values cols.now columns.now (record { values = row.now })) }
+{
+    let mut values = Vec::with_capacity(alloc, cols.len())?;
+    for col in cols {
+        values.push(column_value(alloc, col, columns, row)?)?;
+    }
+    Ok(values)
+}
+
+/// A row with its values at the columns of GROUP BY.
+fn keyed(alloc: Global, cols: &[Col], columns: &Columns, row: &Row) -> Result<Keyed, Memory>
+    ensures { IfOk result (λ keyed. keyed ≡ keyed_by_group cols.now columns.now row.now) }
+{
+    let values = group_values(alloc, cols, columns.as_slice(), row.values.as_slice())?;
+    Ok(Keyed {
+        keys: Values::from_vec(values),
+        row: row.copy(alloc)?,
+    })
+}
+
+fn all_keyed(
+    alloc: Global,
+    cols: &[Col],
+    columns: &Columns,
+    rows: &[Row],
+) -> Result<Vec<Keyed>, Memory>
+    ensures { IfOk result (λ all. all.items ≡ map (keyed_by_group cols.now columns.now) rows.now) }
+{
+    let mut all = Vec::with_capacity(alloc, rows.len())?;
+    for row in rows {
+        all.push(keyed(alloc, cols, columns, row)?)?;
+    }
+    Ok(all)
+}
+
+/// The rows of one list of values for each such list, in ascending order of the lists.
+#[tactic(auto, using(crate::proofs::KeyLemmas::distinct_keyed))]
+fn firsts(
+    alloc: Global,
+    cols: &[Col],
+    columns: &Columns,
+    rows: &[Row],
+) -> Result<Vec<Keyed>, Memory>
+    ensures { IfOk result (λ firsts. firsts.items ≡ map (keyed_by_group cols.now columns.now) (distinct_by (group_values cols.now columns.now) rows.now)) }
+{
+    let mut all = all_keyed(alloc, cols, columns, rows)?;
+    sort_ascending(&mut all)?;
+    let firsts = changes(alloc, all.as_slice())?;
+    Ok(firsts)
+}
+
+/// Copies of the rows that have the same values as one of them.
+fn members(alloc: Global, first: &Keyed, all: &[Keyed]) -> Result<RowList, Memory>
+    ensures { IfOk result (λ rows. rows ≡ map (λ (row : KeyedRow). row.row) (filter (has_values_of (λ (row : KeyedRow). row.keys) first.now) all.now)) }
+{
+    let mut rows = RowList::new(alloc);
+    for row in all {
+        if has_keys_of(first, row) {
+            rows.push(row.row.copy(alloc)?)?;
+        }
+    }
+    Ok(rows)
+}
+
+/// The members of each group.
+fn all_members(alloc: Global, firsts: &[Keyed], all: &[Keyed]) -> Result<Vec<RowList>, Memory>
+    ensures { IfOk result (λ groups. groups.items ≡ map (λ (first : KeyedRow). map (λ (row : KeyedRow). row.row) (filter (has_values_of (λ (row : KeyedRow). row.keys) first) all.now)) firsts.now) }
+{
+    let mut groups = Vec::with_capacity(alloc, firsts.len())?;
+    for first in firsts {
+        groups.push(members(alloc, first, all)?)?;
+    }
+    Ok(groups)
+}
+
+/// The groups of the rows: with GROUP BY one for each list of its values, in ascending order, else one of all rows.
+fn in_groups(
+    alloc: Global,
+    cols: &[Col],
+    columns: &Columns,
+    rows: RowList,
+) -> Result<Vec<RowList>, Memory>
+    ensures { IfOk result (λ groups. groups.items ≡ in_groups cols.now columns.now rows) }
+{
+    if cols.is_empty() {
+        let mut groups = Vec::new(alloc);
+        groups.push(rows)?;
+        return Ok(groups);
+    }
+    let firsts = firsts(alloc, cols, columns, rows.as_slice())?;
+    let all = all_keyed(alloc, cols, columns, rows.as_slice())?;
+    let groups = all_members(alloc, firsts.as_slice(), all.as_slice())?;
+    Ok(groups)
+}
+
+/// Each row as a group of its own.
+fn alone(alloc: Global, rows: &[Row]) -> Result<Vec<RowList>, Memory>
+    ensures { IfOk result (λ groups. groups.items ≡ map (λ (row : RowOf). row ∷ []) rows.now) }
+{
+    let mut groups = Vec::with_capacity(alloc, rows.len())?;
+    for row in rows {
+        let mut group = RowList::new(alloc);
+        group.push(row.copy(alloc)?)?;
+        groups.push(group)?;
+    }
+    Ok(groups)
+}
+
+fn is_aggregate(item: &Item) -> bool
+    ensures { result ≡ is_aggregate (item_view item.now) }
+{
+    match item {
+        Item::Expr(_) => false,
+        Item::CountAll | Item::Agg { .. } => true,
+    }
+}
+
+fn any_aggregate(outs: &[Out]) -> bool
+    ensures { result ≡ list_any (λ (o : OutTree). is_aggregate o.item) (outs_view outs.now) }
+{
+    for out in outs {
+        if is_aggregate(&out.item) {
+            return true;
+        }
+    }
+    false
+}
+
+fn has_aggregate(projection: &Projection) -> bool
+    ensures { result ≡ has_aggregate (projection_view projection.now) }
+{
+    match projection {
+        Projection::All => false,
+        Projection::Outs(outs) => any_aggregate(outs.as_slice()),
+    }
+}
+
+/// Whether the query has GROUP BY or an aggregate.
+fn is_grouped(query: &Query) -> bool
+    ensures { result ≡ is_grouped (query_view query.now) }
+{
+    !query.groups.as_slice().is_empty() || has_aggregate(&query.projection)
+}
+
+/// What each row of the answer is made of: a group, or one tuple where the query has no groups.
+pub fn groups_of(
+    alloc: Global,
+    query: &Query,
+    columns: &Columns,
+    rows: RowList,
+) -> Result<Vec<RowList>, Memory>
+    ensures { IfOk result (λ groups. groups.items ≡ groups_of (query_view query.now) columns.now rows) }
+{
+    if is_grouped(query) {
+        let groups = in_groups(alloc, query.groups.as_slice(), columns, rows)?;
+        Ok(groups)
+    } else {
+        let groups = alone(alloc, rows.as_slice())?;
+        Ok(groups)
+    }
+}
