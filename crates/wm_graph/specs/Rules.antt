@@ -42,6 +42,7 @@ are_counters c =
 
 -- ---- tables
 
+-- two columns of one name
 abbrev pub same_column : TableColumn → TableColumn → Bool
 same_column c d = bytes_eq c.name d.name
 
@@ -60,6 +61,7 @@ are_tables tables =
 
 -- ---- workspaces
 
+-- the name of the workspace in which all others stand
 abbrev pub live : List ℕ
 live = codes "LIVE"
 
@@ -67,6 +69,7 @@ live = codes "LIVE"
 abbrev pub is_placed : (ℕ → Option Space) → Space → Bool
 is_placed spaces s = if s.number == 0 then bytes_eq s.name live else nat_lt s.parent s.number && is_some (spaces s.parent)
 
+-- a workspace among the others: its names are short, and it has counted no more than it may
 abbrev pub is_space : (ℕ → Option Space) → Space → Bool
 is_space spaces s =
     is_placed spaces s
@@ -105,6 +108,7 @@ has_versions has versions s =
     && (if s.number == 0 then (s.birth_version == 1) && (s.base_version == 0)
     else is_version_of versions s.birth_version s.parent && is_version_of versions s.base_version s.parent)
 
+-- versions of different numbers, each in order, and each workspace has its own
 abbrev pub are_versions : Parts → ℕ → Bool
 are_versions p next =
     differ (λ (v w : Version). v.number == w.number) p.versions
@@ -152,6 +156,7 @@ is_row_of row t = fit_columns t.columns row && (nat_le (weight row) 2000 && is_l
 abbrev pub is_row : (ℕ → Option Table) → ℕ → RowRecord → Bool
 is_row tables next r = nat_lt r.stamp next && option_map_or (is_row_of r.values) (tables r.table) false
 
+-- rows of different stamps, each in order
 abbrev pub are_rows : Parts → ℕ → Bool
 are_rows p next = differ (λ (r q : RowRecord). r.stamp == q.stamp) p.rows && list_all (is_row (table_of p.tables) next) p.rows
 
@@ -194,6 +199,7 @@ collide x y =
     ((x.version == y.version) && ((x.cells.table == y.cells.table) && is_eq (key_order x.cells.key y.cells.key)))
     && (nat_lt x.cells.from y.cells.till && nat_lt y.cells.from x.cells.till)
 
+-- pieces of which no two collide, each in order
 abbrev pub are_pieces : Parts → ℕ → Bool
 are_pieces p next = differ collide p.pieces && list_all (is_piece (table_of p.tables) (version_of p.versions) (row_of p.rows) next) p.pieces
 

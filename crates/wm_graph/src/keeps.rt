@@ -11,7 +11,7 @@ use std::alloc::Global;
 use wm_base::Memory;
 use wm_spec::record::{Counters, Records};
 
-/// Whether the records keep every rule over all of them.
+/// Whether the records keep every rule over all of them. The one error is that memory ran out.
 pub fn keeps_rules(alloc: Global, records: &Records) -> Result<bool, Memory>
     ensures { IfOk result (λ kept. kept ≡ keep_rules (parts_of records.now)) }
 {
