@@ -17,7 +17,7 @@ use Rattle.wm_state.proofs.Tests.{bool_apart, both, not_true, either_false}
 use Rattle.wm_state.proofs.Newest.{Descend, numbers_differ, Descend-newest, version_in-newest, has-newest, IsNewest, newest_there}
 
 -- what is found passes the test, and is one of the list
-found-passes : {A : Type 0} (P Q : A → Bool) (xs : List A) (x : A) → find P xs ≡ Some x → list_all Q xs ≡ true → (P x ≡ true) × (Q x ≡ true)
+pub found-passes : {A : Type 0} (P Q : A → Bool) (xs : List A) (x : A) → find P xs ≡ Some x → list_all Q xs ≡ true → (P x ≡ true) × (Q x ≡ true)
 found-passes P Q [] x e all = cc
 found-passes {A = A} P Q (y ∷ ys) x e all = by_test (P y) refl (both (Q y) (list_all Q ys) all) (found-passes P Q ys x)
   where
@@ -78,7 +78,7 @@ newest_of p rules n s is =
     (has-newest p.versions n ∙ ap (has_version p.versions) (sym (eqb-true s.number n h.0)) ∙ (both (has_version p.versions s.number) _ h.1).0)
 
 -- it is the version of a record
-newest_record : (p : Parts) → keep_rules p ≡ true → (n : ℕ) (s : Space) → space_of p.spaces n ≡ Some s → (v : Version) × (version_of p.versions (latest p n) ≡ Some v) × (v.space ≡ n)
+pub newest_record : (p : Parts) → keep_rules p ≡ true → (n : ℕ) (s : Space) → space_of p.spaces n ≡ Some s → (v : Version) × (version_of p.versions (latest p n) ≡ Some v) × (v.space ≡ n)
 newest_record p rules n s is =
     let r = ruled p rules in
     let v = ruled_versions p r.counters.next_version r.versions in

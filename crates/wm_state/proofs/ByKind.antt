@@ -1,5 +1,5 @@
 -- What a change of one record makes of the records of each kind.
-use Rattle.std.proofs.Common.{◌≡◌, ◌≢◌, ℕ, ◌<◌, ◌≤◌, ◌==◌, nat_lt, Bool, true, false, not, cond, if◌then◌else◌, List, [], ◌∷◌, ◌++◌, map, Option, Some, None, is_some, refl, sym, ap, ◌∙◌, ◌⊎◌, inl, inr, append_assoc, append-nil, arith}
+use Rattle.std.proofs.Common.{◌≡◌, ◌≢◌, ℕ, ◌<◌, ◌≤◌, ◌==◌, nat_lt, Bool, true, false, not, cond, if◌then◌else◌, List, [], ◌∷◌, ◌++◌, map, Option, Some, None, is_some, refl, sym, ap, subst, ◌∙◌, ◌⊎◌, inl, inr, append_assoc, append-nil, arith}
 use Rattle.std.proofs.lemmas.Bool.{cases_eq, eq-eqb, ne_eqb, eqb-true}
 use Rattle.std.proofs.lemmas.List.{map-append}
 use Rattle.std.proofs.lemmas.List.Elements.{filter_map-append}
@@ -9,6 +9,7 @@ use Rattle.wm_spec.specs.Records.{record_at, change_at}
 use Rattle.wm_spec.specs.declared.record.Record.{Record}
 use Rattle.wm_spec.specs.declared.record.stored.Stored.{Stored}
 use Rattle.wm_spec.specs.declared.record.batch.Change.{Change}
+use Rattle.wm_state.specs.Batches.{AllUnder}
 use Rattle.wm_state.specs.ById.{AllAbove, Ascend, perhaps_before, set_at, applied}
 use Rattle.wm_state.proofs.ById.{record_at-here, record_at-away, record_at-none}
 
@@ -59,11 +60,6 @@ set-split (x ∷ front) back id r q sorted =
   where
     not_less : (a b : ℕ) → a < b → nat_lt b a ≡ false
     not_less a b lt = grind (arith, lt)
-
--- all ids are below
-abbrev pub AllUnder : ℕ → List Stored → Type 0
-AllUnder id [] = Unit {0}
-AllUnder id (s ∷ ss) = (s.id < id) × AllUnder id ss
 
 -- a record of a greater id comes behind all others
 pub set-behind : (ss : List Stored) (id : ℕ) (q : Record) → AllUnder id ss → set_at id (Some q) ss ≡ ss ++ stored id q ∷ []
@@ -129,3 +125,14 @@ kinds-kept {A = A} as_kind keep kept (s ∷ ss) = by_kind (as_kind s.record) ref
     by_kind None e false h rest = rw (h, e) rest
     by_kind (Some a) e true h rest = rw (h, e) (ap (λ xs. a ∷ xs) rest)
     by_kind (Some a) e false h rest = absurd (bool_apart (sym (kept s a e) ∙ h))
+
+-- a record that is found has an id below
+pub under_found : (n : ℕ) (ss : List Stored) (id : ℕ) (r : Record) → AllUnder n ss → record_at ss id ≡ Some r → id < n
+under_found n ss id r under found = by_split (split_of ss id r found)
+  where
+    under_middle : (front back : List Stored) → AllUnder n (front ++ stored id r ∷ back) → id < n
+    under_middle [] back u = u.0
+    under_middle (x ∷ front) back u = under_middle front back u.1
+
+    by_split : Split ss id r → id < n
+    by_split s = under_middle s.front s.back (subst (λ xs. AllUnder n xs) s.is under)

@@ -7,13 +7,9 @@ use Rattle.wm_spec.specs.declared.record.Record.{Record}
 use Rattle.wm_spec.specs.declared.record.stored.Stored.{Stored}
 use Rattle.wm_spec.specs.declared.record.batch.Change.{Change}
 use Rattle.wm_state.specs.ById.{AllAbove, Ascend, set_at, applied}
-use Rattle.wm_state.specs.Batches.{drop_one}
+use Rattle.wm_state.specs.Batches.{drop_one, is_dropped, AreDropped}
 use Rattle.wm_state.proofs.ById.{one_order, record_at-set, Ascend-set, record_at-here, record_at-away, record_at-none, record_at-below}
 use Rattle.wm_state.proofs.Batches.{Ascend-applied}
-
--- the id is one of those that are dropped
-abbrev pub is_dropped : List ℕ → ℕ → Bool
-is_dropped ids id = list_any (λ d. d == id) ids
 
 record_at-dropped : (ids : List ℕ) (ss : List Stored) → Ascend ss → (id : ℕ) → record_at (applied (map drop_one ids) ss) id ≡ cond (is_dropped ids id) None (record_at ss id)
 record_at-dropped [] ss sorted id = refl
@@ -67,10 +63,6 @@ record_at-filter keep (s ∷ ss) sorted id = by_test (keep s.record) refl (cases
     by_test false e (inl here) rest =
         rest ∙ ap (kept keep) (record_at-below ss s.id id sorted.0 (sym here)) ∙ sym (ap (λ b. cond b (Some s.record) None) e) ∙ sym (ap (kept keep) (record_at-here s ss id here))
     by_test false e (inr away) rest = rest ∙ sym (ap (kept keep) (record_at-away s ss id away))
-
--- the ids are those of the records that a test does not keep
-abbrev pub AreDropped : (Record → Bool) → List ℕ → List Stored → Type 0
-AreDropped keep ids ss = (id : ℕ) (r : Record) → record_at ss id ≡ Some r → is_dropped ids id ≡ not (keep r)
 
 pub dropped : (keep : Record → Bool) (ids : List ℕ) (ss : List Stored) → Ascend ss → AreDropped keep ids ss → applied (map drop_one ids) ss ≡ filter (λ (s : Stored). keep s.record) ss
 dropped keep ids ss sorted are =

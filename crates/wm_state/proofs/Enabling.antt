@@ -89,7 +89,7 @@ pieces_ready p q front back t next old new rows versions pieces e =
         (all_if (is_piece (table_of p.tables) (version_of p.versions) (row_of p.rows) next) (is_piece (table_of (front ++ ready t ∷ back)) (version_of p.versions) (row_of p.rows) next)
             (λ x is. piece_same front back t (version_of p.versions) (row_of p.rows) next x ∙ ap (λ ts. is_piece (table_of ts) (version_of p.versions) (row_of p.rows) next x) (sym old) ∙ is) p.pieces h.1))
 
-keep-readied : (p : Parts) (new : Counters) (front : List Table) (t : Table) (back : List Table) → keep_rules p ≡ true → p.tables ≡ front ++ t ∷ back → t.has_key ≡ true → are_counters new ≡ true
+pub keep-readied : (p : Parts) (new : Counters) (front : List Table) (t : Table) (back : List Table) → keep_rules p ≡ true → p.tables ≡ front ++ t ∷ back → t.has_key ≡ true → are_counters new ≡ true
     → ((c : Counters) → p.counters ≡ c ∷ [] → (new.next_version ≡ c.next_version) × (new.next_stamp ≡ c.next_stamp)) → keep_rules (readied p new front t back) ≡ true
 unfolding keep_rules
 keep-readied p new front t back rules old key counted same =

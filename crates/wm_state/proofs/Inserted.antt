@@ -15,10 +15,11 @@ use Rattle.wm_spec.specs.declared.record.row.RowRecord.{RowRecord}
 use Rattle.wm_spec.specs.declared.record.space.Space.{Space}
 use Rattle.wm_state.specs.State.{State}
 use Rattle.wm_state.specs.Standing.{held_of, held_by, newest_first, latest, CountersStand, Stands}
+use Rattle.wm_state.specs.Batches.{is_out}
 use Rattle.wm_state.specs.Effects.{IsLeaf, IsApart, AreLaid, longer, Wrote}
 use Rattle.wm_state.proofs.Tests.{bool_apart, both, not_true, either_false, all_if, find_push, find_new}
 use Rattle.wm_state.proofs.Inserting.{inserted, MayInsert, keep-inserted, new_stamp}
-use Rattle.wm_state.proofs.Laying.{is_in, is_out, EndInTime, laid-over}
+use Rattle.wm_state.proofs.Laying.{EndInTime, laid-over}
 use Rattle.wm_state.proofs.Apart.{Ruled, ruled, apart_of}
 use Rattle.wm_state.proofs.Standing.{appended, Stands-wrote}
 

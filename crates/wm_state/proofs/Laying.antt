@@ -13,6 +13,7 @@ use Rattle.wm_period.specs.Pieces.{Held}
 use Rattle.wm_spec.specs.Lists.{Entry, Cell, told_of, covers}
 use Rattle.wm_spec.specs.declared.record.piece.PieceRecord.{PieceRecord}
 use Rattle.wm_state.specs.Standing.{held_of, held_by, covers_at, stored_at}
+use Rattle.wm_state.specs.Batches.{is_in, is_out}
 use Rattle.wm_state.specs.Effects.{AreLaid}
 use Rattle.wm_state.proofs.Tests.{bool_apart, both, and_true}
 
@@ -21,14 +22,6 @@ key_same k l e = (key_order-decides k l (key_order k l) (is_eq (key_order k l)) 
 
 pub key_itself : (k : List Value) → is_eq (key_order k k) ≡ true
 key_itself k = (key_order-decides k k (key_order k k) (is_eq (key_order k k)) refl refl).1 refl
-
--- the piece is of this version, table and key
-abbrev pub is_in : ℕ → ℕ → List Value → PieceRecord → Bool
-is_in version table key y = (y.version == version) && ((y.cells.table == table) && is_eq (key_order y.cells.key key))
-
--- a piece is not of them
-abbrev pub is_out : ℕ → ℕ → List Value → PieceRecord → Bool
-is_out version table key y = not (is_in version table key y)
 
 -- a cell of the version, the table and the key
 abbrev here : ℕ → ℕ → List Value → ℕ → Cell → Bool

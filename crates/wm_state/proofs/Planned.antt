@@ -17,18 +17,17 @@ use Rattle.wm_spec.specs.declared.record.row.RowRecord.{RowRecord}
 use Rattle.wm_spec.specs.declared.record.space.Space.{Space}
 use Rattle.wm_spec.specs.declared.record.table.Table.{Table}
 use Rattle.wm_state.specs.ById.{Ascend, set_at, applied}
-use Rattle.wm_state.specs.Batches.{put, drop_one, create_batch, enable_batch, insert_batch, ready}
+use Rattle.wm_state.specs.Batches.{keeps, is_out, is_dropped, AreDropped, AllUnder, put, drop_one, create_batch, enable_batch, insert_batch, ready}
 use Rattle.wm_state.specs.Effects.{longer}
 use Rattle.wm_state.specs.State.{State, enabled}
 use Rattle.wm_state.specs.Standing.{CountersStand, Stands}
 use Rattle.wm_state.proofs.ById.{Ascend-set, record_at-set}
-use Rattle.wm_state.proofs.ByKind.{kinds, stored, Split, split_of, set-split, AllUnder, set-behind}
-use Rattle.wm_state.proofs.Planning.{recounted, parts-counted, parts-tabled, tables-split, parts-spaced, spaces-split, parts-more_row, parts-more_piece, parts-filtered, keeps, parts-created}
-use Rattle.wm_state.proofs.Dropping.{AreDropped, dropped, is_dropped}
+use Rattle.wm_state.proofs.ByKind.{kinds, stored, Split, split_of, set-split, set-behind}
+use Rattle.wm_state.proofs.Planning.{recounted, parts-counted, parts-tabled, tables-split, parts-spaced, spaces-split, parts-more_row, parts-more_piece, parts-filtered, parts-created}
+use Rattle.wm_state.proofs.Dropping.{dropped}
 use Rattle.wm_state.proofs.Enabling.{readied, Stands-readied}
 use Rattle.wm_state.proofs.Inserting.{inserted, MayInsert}
 use Rattle.wm_state.proofs.Inserted.{MayWrite, Stands-inserted}
-use Rattle.wm_state.proofs.Laying.{is_out}
 use Rattle.wm_state.proofs.Standing.{appended}
 use Rattle.wm_state.proofs.Tables.{created, Stands-created}
 
@@ -66,7 +65,7 @@ pub record Readied (ss : List Stored) (cs : List Change) (new : Counters) (t : T
   pub old : (parts_of ss).tables ≡ front ++ t ∷ back
   pub is : parts_of (applied cs ss) ≡ readied (parts_of ss) new front t back
 
-parts-readied : (ss : List Stored) (counters_id id : ℕ) (old new : Counters) (t : Table) → Ascend ss → record_at ss counters_id ≡ Some (records.Counters old) → (parts_of ss).counters ≡ old ∷ []
+pub parts-readied : (ss : List Stored) (counters_id id : ℕ) (old new : Counters) (t : Table) → Ascend ss → record_at ss counters_id ≡ Some (records.Counters old) → (parts_of ss).counters ≡ old ∷ []
     → record_at ss id ≡ Some (records.Table t) → Readied ss (enable_batch counters_id new id t) new t
 parts-readied ss counters_id id old new t sorted counters one found =
     by_split (split_of first id (records.Table t) (found_still ss counters_id id old new (records.Table t) sorted counters found (λ c e. cc)))
@@ -141,7 +140,7 @@ dropped-still test ids ss id r q sorted found kept_r kept_q are other x there = 
         are other r (ap (record_at ss) same ∙ found) ∙ ap not (kept_r ∙ sym kept_q ∙ ap (keeps test) is)
     by_id (inr apart) e = are other x (sym (ap (λ b. if b then Some q else record_at ss other) (ne_eqb _ _ apart)) ∙ e)
 
-parts-inserted : (ss : List Stored) (counters_id space_id : ℕ) (old new : Counters) (a : Space) (test : PieceRecord → Bool) (ids : List ℕ) (id : ℕ) (r : RowRecord) (x : PieceRecord) → Ascend ss
+pub parts-inserted : (ss : List Stored) (counters_id space_id : ℕ) (old new : Counters) (a : Space) (test : PieceRecord → Bool) (ids : List ℕ) (id : ℕ) (r : RowRecord) (x : PieceRecord) → Ascend ss
     → record_at ss counters_id ≡ Some (records.Counters old) → (parts_of ss).counters ≡ old ∷ [] → record_at ss space_id ≡ Some (records.Space a) → AreDropped (keeps test) ids ss → AllUnder id ss
     → Inserted ss (insert_batch counters_id new space_id a ids id r x) new a test r x
 parts-inserted ss counters_id space_id old new a test ids id r x sorted counters one space are under =

@@ -15,9 +15,9 @@ use Rattle.wm_spec.specs.declared.record.space.Space.{Space}
 use Rattle.wm_spec.specs.declared.record.table.Table.{Table}
 use Rattle.wm_spec.specs.declared.record.version.Version.{Version}
 use Rattle.wm_state.specs.ById.{Ascend, set_at, applied}
-use Rattle.wm_state.specs.Batches.{put, create_batch, enable_batch, insert_batch, ready}
+use Rattle.wm_state.specs.Batches.{keeps, AllUnder, put, create_batch, enable_batch, insert_batch, ready}
 use Rattle.wm_state.proofs.ById.{Ascend-set}
-use Rattle.wm_state.proofs.ByKind.{kinds, stored, Split, split_of, set-split, AllUnder, set-behind, kinds-same, kinds-one, kinds-more, kinds-no_more, kinds-kept, kinds-filter}
+use Rattle.wm_state.proofs.ByKind.{kinds, stored, Split, split_of, set-split, set-behind, kinds-same, kinds-one, kinds-more, kinds-no_more, kinds-kept, kinds-filter}
 use Rattle.wm_state.proofs.Tables.{created}
 use Rattle.wm_state.proofs.Enabling.{readied}
 
@@ -125,11 +125,6 @@ parts-more_piece ss id x = made_same
     (kinds-no_more as_version ss id (records.Piece x) refl)
     (kinds-no_more as_row ss id (records.Piece x) refl)
     (kinds-more as_piece ss id (records.Piece x) x refl)
-
--- a record is kept but for the pieces that a test lets go
-abbrev pub keeps : (PieceRecord → Bool) → Record → Bool
-keeps test (records.Piece x) = test x
-keeps test r = true
 
 pub parts-filtered : (ss : List Stored) (test : PieceRecord → Bool) → parts_of (filter (λ (s : Stored). keeps test s.record) ss) ≡ record (parts_of ss) { pieces = filter test (parts_of ss).pieces }
 unfolding parts_of

@@ -44,7 +44,7 @@ no_pieces p next none e =
         (and_false (nat_lt x.cells.from x.cells.till && nat_le x.cells.till END) _ (ap (λ ts. option_map_or (is_key_of x.cells.key) (table_of ts x.cells.table) false) none))))
     p.pieces h.1
 
-keep-created : (p : Parts) (new : Counters) (t : Table) → keep_rules p ≡ true → p.tables ≡ [] → are_counters new ≡ true → ((c : Counters) → p.counters ≡ c ∷ [] → new.next_version ≡ c.next_version)
+pub keep-created : (p : Parts) (new : Counters) (t : Table) → keep_rules p ≡ true → p.tables ≡ [] → are_counters new ≡ true → ((c : Counters) → p.counters ≡ c ∷ [] → new.next_version ≡ c.next_version)
     → is_table t ≡ true → keep_rules (created p new t) ≡ true
 unfolding keep_rules
 keep-created p new t rules none counted versions is =
@@ -67,7 +67,7 @@ place-some t (u ∷ us) e = by_test (nat_lt u.number t.number) e
     by_test true h = cc
     by_test false h = cc
 
-by_number-none : (ts : List Table) → by_number ts ≡ [] → ts ≡ []
+pub by_number-none : (ts : List Table) → by_number ts ≡ [] → ts ≡ []
 by_number-none [] e = refl
 by_number-none (t ∷ ts) e = absurd (place-some t (by_number ts) e)
 

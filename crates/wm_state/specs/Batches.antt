@@ -1,5 +1,11 @@
 -- The batches that lines make, as changes of records.
-use Rattle.std.specs.Prelude.{ℕ, ◌+◌, true, List, [], ◌∷◌, ◌++◌, map, Option, Some, None}
+use Rattle.std.specs.Prelude.{ℕ, ◌≡◌, ◌+◌, ◌<◌, ◌==◌, ◌&&◌, Bool, true, not, List, [], ◌∷◌, ◌++◌, map, Option, Some, None}
+use Rattle.std.specs.List.{list_any}
+use Rattle.std.specs.Ordering.{is_eq}
+use Rattle.wm_base.specs.Key.{key_order}
+use Rattle.wm_base.specs.declared.value.Value.{Value}
+use Rattle.wm_spec.specs.Records.{record_at}
+use Rattle.wm_spec.specs.declared.record.stored.Stored.{Stored}
 use Rattle.wm_spec.specs.declared.record.Record.{Record}
 use Rattle.wm_spec.specs.declared.record.Record.TheVariants as records
 use Rattle.wm_spec.specs.declared.record.batch.Change.{Change}
@@ -34,3 +40,31 @@ abbrev pub insert_batch : ℕ → Counters → ℕ → Space → List ℕ → �
 insert_batch counters_id counters space_id space dropped id row piece =
     put counters_id (records.Counters counters) ∷ put space_id (records.Space (longer space))
     ∷ map drop_one dropped ++ put id (records.Row row) ∷ put (id + 1) (records.Piece piece) ∷ []
+
+-- ---- what goes, and where new records come
+
+-- the piece is of this version, table and key
+abbrev pub is_in : ℕ → ℕ → List Value → PieceRecord → Bool
+is_in version table key y = (y.version == version) && ((y.cells.table == table) && is_eq (key_order y.cells.key key))
+
+-- a piece is not of them
+abbrev pub is_out : ℕ → ℕ → List Value → PieceRecord → Bool
+is_out version table key y = not (is_in version table key y)
+
+-- a record is kept but for the pieces that a test lets go
+abbrev pub keeps : (PieceRecord → Bool) → Record → Bool
+keeps test (records.Piece x) = test x
+keeps test r = true
+
+-- the id is one of those that are dropped
+abbrev pub is_dropped : List ℕ → ℕ → Bool
+is_dropped ids id = list_any (λ d. d == id) ids
+
+-- the ids are those of the records that a test does not keep
+abbrev pub AreDropped : (Record → Bool) → List ℕ → List Stored → Type 0
+AreDropped keep ids ss = (id : ℕ) (r : Record) → record_at ss id ≡ Some r → is_dropped ids id ≡ not (keep r)
+
+-- all ids are below
+abbrev pub AllUnder : ℕ → List Stored → Type 0
+AllUnder id [] = Unit {0}
+AllUnder id (s ∷ ss) = (s.id < id) × AllUnder id ss
