@@ -1,6 +1,8 @@
 -- Symbols that are left at the end.
-use Rattle.std.proofs.Common.{◌≡◌, ℕ, true, false, List, [], ◌∷◌, refl, sym, ap, subst, ◌∙◌, Option, Some, None, Result, Ok, Err}
-use Rattle.std.specs.Prelude.{MatchResult}
+use Rattle.std.proofs.Common.{◌≡◌, ℕ, true, false, List, [], ◌∷◌, refl, sym, ap, subst, ◌∙◌, inl, inr, Option, Some, None, Result, Ok, Err}
+use Rattle.std.specs.Prelude.{MatchResult, IfOk, IfErr}
+use Rattle.wm_base.specs.declared.tree.line.Line.{Line as LineNode}
+use Rattle.wm_base.specs.Views.{line_view}
 use Rattle.wm_base.specs.Trees.{Line}
 use Rattle.wm_grammar.specs.Symbols.{Symbol, left_of}
 use Rattle.wm_grammar.specs.Scanned.{symbols_of}
@@ -12,7 +14,9 @@ use Rattle.wm_grammar.proofs.StatementLaws.{line_exact}
 use Rattle.wm_terms.specs.Cursor.{no_more}
 use Rattle.wm_parser.proofs.Unique.{one_fault}
 use Rattle.wm_literals.specs.Literals.{bad_literal}
-use Rattle.wm_parser.specs.Parsing.{column_of, IsLine, IsSyntax, IsLiteral}
+use Rattle.wm_parser.specs.declared.fault.ParseFault.{ParseFault}
+use Rattle.wm_parser.specs.Parsing.{column_of, judged, IsLine, IsSyntax, IsLiteral, IsFault, Refuses}
+use Rattle.wm_parser.specs.declared.fault.ParseFault.TheVariants as faults
 
 -- no literal
 abbrev pub none : Option ℕ
@@ -79,3 +83,47 @@ same_literal text left read column b c l =
   where
     some_is : (n m : ℕ) → Some n ≡ Some m → n ≡ m
     some_is n m e = cc
+
+pub syntax_same : (read column : ℕ) → read ≡ column → faults.Syntax read ≡ faults.Syntax column
+syntax_same read column e = ap (λ (n : ℕ). faults.Syntax n) e
+
+pub literal_same : (read column : ℕ) → read ≡ column → faults.Literal read ≡ faults.Literal column
+literal_same read column e = ap (λ (n : ℕ). faults.Literal n) e
+
+-- ---- what is said of a line that is read to the end
+
+abbrev pub Judged : List ℕ → Result LineNode ParseFault → Type 0
+Judged text result =
+    IfOk result (λ tree. IsLine text (line_view tree) × (bad_literal text ≡ none))
+    × ((tree : Line) → IsLine text tree → bad_literal text ≡ none → MatchResult result (λ t. line_view t ≡ tree) (λ e. e ≡ faults.Memory))
+    × IfErr result (λ e. IsFault text e)
+    × ((column : ℕ) → IsSyntax text column → Refuses result (faults.Syntax column))
+    × ((column : ℕ) → IsLiteral text column → Refuses result (faults.Literal column))
+
+judged_of : (text : List ℕ) (tree : LineNode) (bad : Option ℕ) → all_of (line_at 64 (symbols_of text)) ≡ Ok (line_view tree) → bad ≡ bad_literal text → Judged text (judged text tree bad)
+judged_of text tree None e b = (
+  found_is text (line_view tree) e b,
+  λ other w n. one_tree text (line_view tree) other e w,
+  tt,
+  λ column s. no_syntax text (line_view tree) column e s,
+  λ column l. no_literal text column b l
+)
+judged_of text tree (Some left) e b = (
+  tt,
+  λ other w n. absurd (some_literal text left b n),
+  literal_is text (line_view tree) left (column_of text left) e b refl,
+  λ column s. absurd (no_syntax text (line_view tree) column e s),
+  λ column l. inl (literal_same (column_of text left) column (same_literal text left (column_of text left) column b refl l))
+)
+
+pub judged_is : (text : List ℕ) (tree : LineNode) (bad : Option ℕ) (result : Result LineNode ParseFault) → all_of (line_at 64 (symbols_of text)) ≡ Ok (line_view tree) → bad ≡ bad_literal text → result ≡ judged text tree bad → Judged text result
+judged_is text tree bad result e b r = subst (λ (x : Result LineNode ParseFault). Judged text x) (sym r) (judged_of text tree bad e b)
+
+pub refused_is : (text : List ℕ) (left column : ℕ) → all_of (line_at 64 (symbols_of text)) ≡ Err left → column ≡ column_of text left → Judged text (Err (faults.Syntax column))
+refused_is text left column e c = (
+  tt,
+  λ tree w n. absurd (no_tree text left tree e w),
+  syntax_is text left column e c,
+  λ other s. inl (syntax_same column other (same_column text left column other e c s)),
+  λ other l. absurd (no_literal_tree text left other e l)
+)

@@ -1,4 +1,5 @@
 pub mod Unique
+pub mod Passing
 pub mod Ending
 pub mod Arguments
 pub mod Keyed

@@ -1,11 +1,19 @@
--- What reads the lines that begin with CONNECT, DISCONNECT or AT.
-use Rattle.std.specs.Prelude.{ℕ, List, [], ◌∷◌}
+-- What reads the ends of lines, and those that begin with CONNECT, DISCONNECT or AT.
+use Rattle.std.specs.Prelude.{ℕ, Bool, true, false, List, [], ◌∷◌, Option, Some, None}
 use Rattle.wm_base.specs.Trees.{Line}
 use Rattle.wm_base.specs.Trees as trees
 use Rattle.wm_grammar.specs.Sorts as sorts
-use Rattle.wm_grammar.specs.Reading.{Reader, gives_at, ◌>>=◌, choose_at}
+use Rattle.wm_grammar.specs.Reading.{Reader, gives_at, mark_at, ◌>>=◌, choose_at, optional_at}
 use Rattle.wm_grammar.specs.OperandReaders.{id_at, word_at, instant_at}
 use Rattle.wm_grammar.specs.StatementReaders.{run_at}
+
+-- [";"]
+abbrev pub semicolon_at : Reader (Option (Unit {0}))
+semicolon_at = optional_at (sorts.SEMICOLON ∷ []) (mark_at sorts.SEMICOLON)
+
+abbrev pub some_if : Bool → Option (Unit {0})
+some_if true = Some tt
+some_if false = None
 
 -- the names of a session and a user
 abbrev pub names_at : Reader Line

@@ -1,5 +1,6 @@
 -- What the parser says of a whole line.
 use Rattle.std.specs.Prelude.{◌≡◌, ◌⊎◌, ℕ, ◌+◌, ◌-◌, List, length, Option, Some, None, Result, Ok, Err}
+use Rattle.wm_base.specs.declared.tree.line.Line.{Line as LineNode}
 use Rattle.wm_base.specs.Trees.{Line}
 use Rattle.wm_grammar.specs.Symbols.{Symbol}
 use Rattle.wm_grammar.specs.Scanned.{symbols_of}
@@ -23,6 +24,11 @@ Tells view (Err e) read = FailsAll e read
 -- the column, from 1, of a symbol from which so many bytes of the line are left
 abbrev pub column_of : List ℕ → ℕ → ℕ
 column_of line left = length line - left + 1
+
+-- the tree, or the fault of the first literal out of range
+abbrev pub judged : List ℕ → LineNode → Option ℕ → Result LineNode ParseFault
+judged line tree None = Ok tree
+judged line tree (Some left) = Err (faults.Literal (column_of line left))
 
 -- the line is one of the grammar, and this is its tree
 abbrev pub IsLine : List ℕ → Line → Type 0

@@ -1,10 +1,10 @@
-ghost use Rattle.std.specs.Prelude.{◌≡◌, ◌<◌, ◌^◌, List, length};
+ghost use Rattle.std.specs.Prelude.{◌≡◌, ◌<◌, ◌^◌, List, length, Ok};
 ghost use Rattle.wm_base.specs.Views.{statement_view, line_view};
 ghost use Rattle.wm_grammar.specs.Scanned.{symbols_of};
-ghost use Rattle.wm_grammar.specs.Faults.{all_of};
+ghost use Rattle.wm_grammar.specs.Faults.{ended, all_of};
 ghost use Rattle.wm_grammar.specs.StatementReaders.{statement_at, run_at, line_at};
 ghost use Rattle.wm_terms.specs.Telling.{Told};
-ghost use Rattle.wm_parser.specs.Lines.{names_at, connect_at, disconnect_at, moment_at, session_at};
+ghost use Rattle.wm_parser.specs.Lines.{semicolon_at, some_if, names_at, connect_at, disconnect_at, moment_at, session_at};
 ghost use Rattle.wm_parser.specs.Parsing.{Tells};
 
 use crate::calls::call;
@@ -42,6 +42,18 @@ fn statement(cursor: &mut Cursor, alloc: Global) -> Result<Statement, ParseError
     call(cursor, alloc)
 }
 
+/// Passes a `;`, and says whether one stood there.
+#[tactic(auto, using(crate::proofs::Passing::semicolon_passed, crate::proofs::Passing::no_semicolon))]
+fn skip_semicolon(cursor: &mut Cursor) -> bool
+    ensures { semicolon_at cursor.old ≡ Ok (some_if result, cursor.new) }
+{
+    if cursor.is(Sort::Semicolon) {
+        cursor.advance();
+        return true;
+    }
+    false
+}
+
 /// What follows the name of a session.
 #[tactic(auto, unfolding(wm_grammar::specs::StatementReaders::run_at))]
 fn run(cursor: &mut Cursor, alloc: Global, session: Name) -> Result<Line, ParseError>
@@ -49,9 +61,7 @@ fn run(cursor: &mut Cursor, alloc: Global, session: Name) -> Result<Line, ParseE
 {
     cursor.mark(Sort::Colon)?;
     let statement = statement(cursor, alloc)?;
-    if cursor.is(Sort::Semicolon) {
-        cursor.mark(Sort::Semicolon)?;
-    }
+    let _ended = skip_semicolon(cursor);
     Ok(Line::Run { session, statement })
 }
 
@@ -120,6 +130,16 @@ fn line(cursor: &mut Cursor, alloc: Global) -> Result<Line, ParseError>
     session(cursor, alloc)
 }
 
+/// A line, where no symbol is left behind it.
+fn finished(cursor: &Cursor, found: Line) -> Result<Line, ParseError>
+    ensures { Tells line_view result (ended (line_view found) cursor.now) }
+{
+    if cursor.is_at_end() {
+        return Ok(found);
+    }
+    Err(cursor.fault())
+}
+
 /// The line that the bytes are, all of them.
 pub fn line_in(alloc: Global, bytes: &[u8]) -> Result<Line, ParseError>
     requires { length bytes.now < 2 ^ 32 }
@@ -127,8 +147,5 @@ pub fn line_in(alloc: Global, bytes: &[u8]) -> Result<Line, ParseError>
 {
     let mut cursor = Cursor::new(bytes);
     let found = line(&mut cursor, alloc)?;
-    if cursor.is_at_end() {
-        return Ok(found);
-    }
-    Err(cursor.fault())
+    finished(&cursor, found)
 }

@@ -2,7 +2,7 @@ ghost use Rattle.std.specs.Prelude.{◌≡◌, ℕ, ◌≤◌, List, length, IfO
 ghost use Rattle.wm_base.specs.Trees.{Line as Tree};
 ghost use Rattle.wm_base.specs.Views.{line_view};
 ghost use Rattle.wm_literals.specs.Literals.{bad_literal};
-ghost use Rattle.wm_parser.specs.Parsing.{column_of, IsLine, IsSyntax, IsLiteral, IsFault, Refuses};
+ghost use Rattle.wm_parser.specs.Parsing.{column_of, judged, IsLine, IsSyntax, IsLiteral, IsFault, Refuses};
 
 use crate::fault::ParseFault;
 use crate::lines::line_in;
@@ -17,6 +17,20 @@ fn column_of(line: &[u8], left: usize) -> u32
     ensures { result ≡ column_of line.now left }
 {
     (line.len().saturating_sub(left) + 1) as u32
+}
+
+/// The tree, or the fault of the first literal out of range, from which so many bytes are left.
+fn in_range(line: &[u8], tree: Line, bad: Option<usize>) -> Result<Line, ParseFault>
+    requires { length line.now ≤ 16384 }
+    ensures { result ≡ judged line.now tree bad }
+{
+    match bad {
+        Some(left) => {
+            let column = column_of(line, left);
+            Err(ParseFault::Literal { column })
+        }
+        None => Ok(tree),
+    }
 }
 
 /// The tree of a line.
@@ -35,20 +49,16 @@ pub fn parse(alloc: Global, line: &[u8]) -> Result<Line, ParseFault>
     // So is a line of the grammar in which a literal is out of range.
     ensures literal { (column : ℕ) → IsLiteral line.now column → Refuses result (ParseFault.Literal column) }
 {
-    let tree = match line_in(alloc, line) {
-        Ok(tree) => tree,
+    let bad = match bad_literal(alloc, line) {
+        Ok(bad) => bad,
+        Err(_) => return Err(ParseFault::Memory),
+    };
+    match line_in(alloc, line) {
+        Ok(tree) => in_range(line, tree, bad),
         Err(ParseError::Syntax(left)) => {
             let column = column_of(line, left);
-            return Err(ParseFault::Syntax { column });
+            Err(ParseFault::Syntax { column })
         }
-        Err(ParseError::Memory) => return Err(ParseFault::Memory),
-    };
-    match bad_literal(alloc, line) {
-        Ok(None) => Ok(tree),
-        Ok(Some(left)) => {
-            let column = column_of(line, left);
-            Err(ParseFault::Literal { column })
-        }
-        Err(_) => Err(ParseFault::Memory),
+        Err(ParseError::Memory) => Err(ParseFault::Memory),
     }
 }
