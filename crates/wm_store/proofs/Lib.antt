@@ -1,0 +1,7 @@
+pub mod Committing
+pub mod Freshly
+pub mod Opening
+pub mod Pasts
+pub mod Reading
+pub mod Slotwise
+pub mod Storing

@@ -1,0 +1,96 @@
+-- One slot after another is read, and one change after another is spelled.
+use Rattle.std.proofs.Common.{◌≡◌, ℕ, zero, suc, ◌+◌, ◌-◌, ◌<◌, ◌≤◌, ◌↔◌, Bool, true, false, cond, List, [], ◌∷◌, ◌++◌, length, get_or, take, drop, map, Option, Some, None, is_some, IfSome, refl, sym, ap, subst, ◌∙◌, append_assoc, arith}
+use Rattle.std.specs.Option.{option_map, option_and_then}
+use Rattle.std.proofs.lemmas.List.{take_more, drop_more, take-append-drop, append-nil}
+use Rattle.wm_base.specs.declared.fault.Damage.{Damage}
+use Rattle.wm_base.specs.declared.fault.Damage.TheVariants as damages
+use Rattle.wm_base.specs.declared.fault.OpenFault.{OpenFault}
+use Rattle.wm_base.specs.declared.fault.OpenFault.TheVariants as faults
+use Rattle.wm_spec.specs.declared.record.Record.{Record}
+use Rattle.wm_spec.specs.declared.record.stored.Stored.{Stored}
+use Rattle.wm_spec.specs.declared.record.batch.Change.{Change}
+use Rattle.wm_codec.specs.Reading.{record_of}
+use Rattle.wm_codec.specs.Spelling.{CanSpell, HasSpelling, spelling}
+use Rattle.wm_codec.proofs.Exact.{IsBytes}
+use Rattle.wm_codec.proofs.ExactRecords.{record_takes, record_again}
+use Rattle.wm_heap.specs.declared.blob.Blob.{Blob}
+use Rattle.wm_heap.specs.declared.slot.Slot.{Slot}
+use Rattle.wm_heap.specs.Asking.{Finds}
+use Rattle.wm_store.specs.Answers.{FindsUnread}
+use Rattle.wm_store.specs.Opened.{stored_at, records_in, are_records}
+use Rattle.wm_store.specs.Spelled.{FitPages, HaveSpellings, blob_of, blobs_of}
+use Rattle.wm_store.proofs.Reading.{records_in-append, are_records-append, are_records-bad}
+
+-- what is decoded is the record that the bytes spell
+pub decoded : (found : Option Record) (bytes : List ℕ) → IsBytes bytes → ((it : Record) → (found ≡ Some it) ↔ (HasSpelling it × (bytes ≡ spelling it))) → found ≡ record_of bytes
+decoded (Some r) bytes fits iff = let t = (iff r).0 refl in sym (ap record_of t.1 ∙ record_again r t.0)
+decoded None bytes fits iff = by_case (record_of bytes) refl
+  where
+    by_case : (o : Option Record) → record_of bytes ≡ o → None ≡ o
+    by_case None e = refl
+    by_case (Some r) e = (iff r).1 (record_takes bytes r fits e)
+
+-- the records so far
+pub record ReadSlots (old now : List Stored) (slots : List Slot) : Type 0 where
+  pub are : are_records slots ≡ true
+  pub read : now ≡ old ++ records_in slots
+
+pub read_none : (old : List Stored) → ReadSlots old old []
+read_none old = record { are = refl; read = sym (append-nil old) }
+
+pub read_slot : (old now new : List Stored) (slots : List Slot) (i : ℕ) (s : Slot) (r : Record) → i < length slots → s ≡ get_or slots i s → ReadSlots old now (take i slots) → Some r ≡ record_of s.bytes → new ≡ now ++ stored_at s.id (Some r) → ReadSlots old new (take (i + 1) slots)
+read_slot old now new slots i s r within is read found pushed =
+    let up_to : take (i + 1) slots ≡ take i slots ++ s ∷ [] = take_more slots i s within ∙ ap (λ x. take i slots ++ x ∷ []) (sym is) in
+    subst (λ l. ReadSlots old new l) (sym up_to)
+    (record {
+      are = are_records-append (take i slots) (s ∷ []) read.are (rw (← found) refl);
+      read =
+          pushed ∙ ap (λ l. l ++ stored_at s.id (Some r)) read.read ∙ append_assoc old (records_in (take i slots)) (stored_at s.id (Some r))
+          ∙ ap (λ l. old ++ l) (ap (λ l. records_in (take i slots) ++ l) (sym (append-nil (stored_at s.id (Some r))) ∙ ap (λ o. stored_at s.id o ++ []) found) ∙ sym (records_in-append (take i slots) (s ∷ [])));
+    })
+
+pub bad_slot : (slots : List Slot) (i : ℕ) (s : Slot) → i < length slots → s ≡ get_or slots i s → record_of s.bytes ≡ None → are_records slots ≡ false
+bad_slot slots i s within is none =
+    let at_i : drop i slots ≡ s ∷ drop (i + 1) slots = drop_more slots i s within ∙ ap (λ x. x ∷ drop (i + 1) slots) (sym is) in
+    let all : take i slots ++ s ∷ drop (i + 1) slots ≡ slots = ap (λ l. take i slots ++ l) (sym at_i) ∙ take-append-drop i slots in
+    ap are_records (sym all) ∙ are_records-bad (take i slots) (drop (i + 1) slots) s none
+
+-- nothing that was looked for was found
+pub finds_nothing : (e : OpenFault) (found : Option (ℕ × Damage)) → Finds e None → Finds e found
+finds_nothing faults.Disk found finds = tt
+finds_nothing faults.NotStore found finds = absurd finds
+finds_nothing faults.Memory found finds = tt
+finds_nothing (faults.Damaged p kind) found finds = absurd cc
+
+-- ---- changes spelled
+
+HaveSpellings-push : (changes : List Change) (c : Change) → HaveSpellings changes → IfSome c.becomes (λ r. HasSpelling r × (length (spelling r) ≤ 4084)) → HaveSpellings (changes ++ c ∷ [])
+HaveSpellings-push [] c all one = (one, tt)
+HaveSpellings-push (d ∷ changes) c all one = (all.0, HaveSpellings-push changes c all.1 one)
+
+blobs_of-push : (changes : List Change) (c : Change) → blobs_of (changes ++ c ∷ []) ≡ blobs_of changes ++ blob_of c ∷ []
+blobs_of-push [] c = refl
+blobs_of-push (d ∷ changes) c = ap (λ l. blob_of d ∷ l) (blobs_of-push changes c)
+
+pub record Spelling (blobs : List Blob) (changes : List Change) (i : ℕ) : Type 0 where
+  pub fit : FitPages (drop i changes)
+  pub blobs_are : blobs ≡ blobs_of (take i changes)
+  pub spelled : HaveSpellings (take i changes)
+
+pub spell_fits : (changes : List Change) (i : ℕ) (c : Change) → i < length changes → c ≡ get_or changes i c → FitPages (drop i changes) → IfSome c.becomes (λ r. CanSpell r × (length (spelling r) ≤ 4084))
+spell_fits changes i c within is fit =
+    let at_i : drop i changes ≡ c ∷ drop (i + 1) changes = drop_more changes i c within ∙ ap (λ x. x ∷ drop (i + 1) changes) (sym is) in
+    let all : FitPages (c ∷ drop (i + 1) changes) = subst FitPages at_i fit in
+    all.0
+
+pub spell_more : (blobs new : List Blob) (changes : List Change) (i : ℕ) (c : Change) (b : Blob) → i < length changes → c ≡ get_or changes i c → Spelling blobs changes i → b ≡ blob_of c → new ≡ blobs ++ b ∷ []
+    → IfSome c.becomes (λ r. HasSpelling r × (length (spelling r) ≤ 4084)) → Spelling new changes (i + 1)
+spell_more blobs new changes i c b within is so_far b_is pushed one =
+    let at_i : drop i changes ≡ c ∷ drop (i + 1) changes = drop_more changes i c within ∙ ap (λ x. x ∷ drop (i + 1) changes) (sym is) in
+    let up_to : take (i + 1) changes ≡ take i changes ++ c ∷ [] = take_more changes i c within ∙ ap (λ x. take i changes ++ x ∷ []) (sym is) in
+    let all : FitPages (c ∷ drop (i + 1) changes) = subst FitPages at_i so_far.fit in
+    record {
+      fit = all.1;
+      blobs_are = pushed ∙ ap (λ l. l ++ b ∷ []) so_far.blobs_are ∙ ap (λ x. blobs_of (take i changes) ++ x ∷ []) b_is ∙ sym (blobs_of-push (take i changes) c) ∙ ap blobs_of (sym up_to);
+      spelled = subst HaveSpellings (sym up_to) (HaveSpellings-push (take i changes) c so_far.spelled one);
+    }

@@ -1,0 +1,15 @@
+use Rattle.std.proofs.Common.{◌≡◌, ◌≤◌, max}
+use Rattle.wm_store.proofs.Reading.{Read}
+use Rattle.wm_store.proofs.records.read_records.Given as goal
+
+abbrev pub invariant-loop-page : goal.invariant-loop-page
+invariant-loop-page g l = record {
+  few : l.page ≤ max 2 l.page-end;
+  told : g.G.Pages.tells → g.G.Pages.held l.pages ≡ g.G.Pages.held l.fn.pages;
+  past : g.G.Pages.tells → g.G.Pages.past l.pages ≡ g.G.Pages.past l.fn.pages;
+  source : g.G.Pages.source l.pages ≡ g.G.Pages.source l.fn.pages;
+  in_use : g.G.Pages.in_use l.pages ≡ g.G.Pages.in_use l.fn.pages;
+  in_file : g.G.Pages.in_file l.pages ≡ g.G.Pages.in_file l.fn.pages;
+  later : g.G.Pages.faults l.fn.pages ≤ g.G.Pages.faults l.pages;
+  read : g.G.Pages.tells → Read (g.G.Pages.held l.fn.pages) l.page l.records;
+}

@@ -1,0 +1,81 @@
+use Rattle.std.proofs.Common.{◌≡◌, ℕ, ◌≤◌, ◌<◌, List, [], refl, sym, ap, subst, ◌∙◌}
+use Rattle.wm_spec.specs.declared.record.stored.Stored.{Stored}
+use Rattle.wm_page.specs.Batch.{entries}
+use Rattle.wm_station.specs.History.{now}
+use Rattle.wm_station.specs.Moments.{Ended}
+use Rattle.wm_journal.specs.Disk.{page}
+use Rattle.wm_journal.specs.Store.{OldOrNew, over}
+use Rattle.wm_heap.specs.Blobs.{AreBlobs, AreSmall}
+use Rattle.wm_heap.specs.Places.{page_count}
+use Rattle.wm_store.specs.Spelled.{HaveSpellings, blobs_of}
+use Rattle.wm_store.specs.Stores.{OldOrAfter}
+use Rattle.wm_store.proofs.Committing.{blobs_once, blobs_small}
+use Rattle.wm_store.proofs.Storing.{as_planned, before_plan, takes_pages, takes_root, takes_grown, store_after, held_after, store_same, held_same, kept_same, run_from, old_or_after}
+use Rattle.wm_store.proofs.store.Store.commit.Goals as goal
+
+pub returns-in_err-blobs-clause-any_moment : goal.returns-in_err-blobs-clause-any_moment
+returns-in_err-blobs-clause-any_moment g c = λ t old held.
+    kept_same (g.P.Station.history c.args.station.now) (g.P.Station.history c.args.station.now) c.args.self.now.journal c.args.batch.now.changes old refl (c.requires.store t).rests (subst (λ n. 3 ≤ n) c.count-count.ensures.value c.count-count.ensures.enough) held.opens
+
+pub plan_over-requires-clause-once : goal.plan_over-requires-clause-once
+plan_over-requires-clause-once g c = subst AreBlobs (sym (c.in_ok-blobs.ensures.blobs ∙ ap blobs_of c.as_slice.ensures)) (blobs_once c.args.batch.now.changes c.requires.changes)
+
+pub plan_over-requires-clause-small : goal.plan_over-requires-clause-small
+plan_over-requires-clause-small g c = subst AreSmall (sym c.in_ok-blobs.ensures.blobs) (blobs_small c.as_slice.result.now c.in_ok-blobs.ensures.spelled)
+
+pub returns-in_err-pages-clause-any_moment : goal.returns-in_err-pages-clause-any_moment
+returns-in_err-pages-clause-any_moment g c = λ t old held.
+    kept_same (g.P.Station.history c.args.station.now) (g.P.Station.history c.plan_over.new.station) c.args.self.now.journal c.args.batch.now.changes old (c.in_err-pages.ensures.told t) (c.requires.store t).rests (subst (λ n. 3 ≤ n) c.count-count.ensures.value c.count-count.ensures.enough) held.opens
+
+pub returns-then-is_empty-clause-store : goal.returns-then-is_empty-clause-store
+returns-then-is_empty-clause-store g c = λ t.
+    store_same (g.P.Station.history c.args.station.now) (g.P.Station.history c.plan_over.new.station) (record { journal = c.args.self.now.journal; heap = c.plan_over.new.heap }) c.args.batch.now.changes (entries c.in_ok-pages.pages.pages) (c.requires.store t).opens.0
+    (c.in_ok-pages.ensures.told t) (ap entries (c.is_empty.ensures.0 c.if-is_empty.true)) (as_planned (g.P.Station.history c.args.station.now) c.args.self.now.heap c.plan_over.new.heap c.args.self.now.journal c.count-count.result c.page_count.result c.args.batch.now.changes c.as_slice.result.now c.in_ok-blobs.blobs (entries c.in_ok-pages.pages.pages)
+    (c.requires.store t).rests c.count-count.ensures.enough c.count-count.ensures.value c.page_count.ensures c.if-page_count-count.false c.in_ok-pages.ensures.plan c.in_ok-blobs.ensures.spelled c.as_slice.ensures c.in_ok-blobs.ensures.blobs (c.in_ok-pages.ensures.changed t)) (c.requires.store t).opens.1
+
+pub returns-then-is_empty-clause-held : goal.returns-then-is_empty-clause-held
+returns-then-is_empty-clause-held g c = λ t old held.
+    held_same (g.P.Station.history c.args.station.now) (g.P.Station.history c.plan_over.new.station) c.args.self.now.journal c.plan_over.new.heap c.args.batch.now.changes (entries c.in_ok-pages.pages.pages) old
+    (c.in_ok-pages.ensures.told t) (ap entries (c.is_empty.ensures.0 c.if-is_empty.true)) (as_planned (g.P.Station.history c.args.station.now) c.args.self.now.heap c.plan_over.new.heap c.args.self.now.journal c.count-count.result c.page_count.result c.args.batch.now.changes c.as_slice.result.now c.in_ok-blobs.blobs (entries c.in_ok-pages.pages.pages)
+    (c.requires.store t).rests c.count-count.ensures.enough c.count-count.ensures.value c.page_count.ensures c.if-page_count-count.false c.in_ok-pages.ensures.plan c.in_ok-blobs.ensures.spelled c.as_slice.ensures c.in_ok-blobs.ensures.blobs (c.in_ok-pages.ensures.changed t)) held.opens
+
+pub returns-then-is_empty-clause-any_moment : goal.returns-then-is_empty-clause-any_moment
+returns-then-is_empty-clause-any_moment g c = λ t old held.
+    kept_same (g.P.Station.history c.args.station.now) (g.P.Station.history c.plan_over.new.station) c.args.self.now.journal c.args.batch.now.changes old (c.in_ok-pages.ensures.told t) (c.requires.store t).rests (subst (λ n. 3 ≤ n) c.count-count.ensures.value c.count-count.ensures.enough) held.opens
+
+pub commit-requires-clause-pages : goal.commit-requires-clause-pages
+commit-requires-clause-pages g c = takes_pages c.args.self.now.journal (page_count c.plan_over.new.heap) (entries c.in_ok-pages.pages.pages) (before_plan c.args.self.now.journal c.count-count.result c.page_count.result (page_count c.args.self.now.heap) (page_count c.plan_over.new.heap) (entries c.in_ok-pages.pages.pages) c.count-count.ensures.value c.page_count.ensures c.if-page_count-count.false c.in_ok-pages.ensures.plan)
+
+pub commit-requires-clause-root : goal.commit-requires-clause-root
+commit-requires-clause-root g c = takes_root c.args.self.now.journal (page_count c.plan_over.new.heap) (entries c.in_ok-pages.pages.pages) (subst (λ n. 3 ≤ n) c.count-count.ensures.value c.count-count.ensures.enough) (before_plan c.args.self.now.journal c.count-count.result c.page_count.result (page_count c.args.self.now.heap) (page_count c.plan_over.new.heap) (entries c.in_ok-pages.pages.pages) c.count-count.ensures.value c.page_count.ensures c.if-page_count-count.false c.in_ok-pages.ensures.plan)
+
+pub commit-requires-clause-grown : goal.commit-requires-clause-grown
+commit-requires-clause-grown g c = takes_grown c.args.self.now.journal (page_count c.plan_over.new.heap) (entries c.in_ok-pages.pages.pages) (before_plan c.args.self.now.journal c.count-count.result c.page_count.result (page_count c.args.self.now.heap) (page_count c.plan_over.new.heap) (entries c.in_ok-pages.pages.pages) c.count-count.ensures.value c.page_count.ensures c.if-page_count-count.false c.in_ok-pages.ensures.plan)
+
+pub returns-clause-store : goal.returns-clause-store
+returns-clause-store g c = λ t.
+    store_after (g.P.Station.history c.args.station.now) (g.P.Station.history c.commit.new.station) c.args.self.now.journal (record { journal = c.commit.new.self; heap = c.plan_over.new.heap }) c.args.batch.now.changes (entries c.in_ok-pages.pages.pages) (c.requires.store t).opens.0
+    (as_planned (g.P.Station.history c.args.station.now) c.args.self.now.heap c.plan_over.new.heap c.args.self.now.journal c.count-count.result c.page_count.result c.args.batch.now.changes c.as_slice.result.now c.in_ok-blobs.blobs (entries c.in_ok-pages.pages.pages)
+    (c.requires.store t).rests c.count-count.ensures.enough c.count-count.ensures.value c.page_count.ensures c.if-page_count-count.false c.in_ok-pages.ensures.plan c.in_ok-blobs.ensures.spelled c.as_slice.ensures c.in_ok-blobs.ensures.blobs (c.in_ok-pages.ensures.changed t)) (c.requires.store t).opens.1 c.in_ok-commit.ensures.count (c.in_ok-commit.ensures.rests t)
+    (subst (λ h. (p : ℕ) → 1 ≤ p → p < c.commit.new.self → page (now (g.P.Station.history c.commit.new.station)) p ≡ over (entries c.in_ok-pages.pages.pages) (page (now h)) p) (c.in_ok-pages.ensures.told t) (c.in_ok-commit.ensures.pages t))
+
+pub returns-clause-held : goal.returns-clause-held
+returns-clause-held g c = λ t old held.
+    held_after (g.P.Station.history c.args.station.now) (g.P.Station.history c.commit.new.station) c.args.self.now.journal c.commit.new.self c.plan_over.new.heap c.args.batch.now.changes (entries c.in_ok-pages.pages.pages) old
+    (as_planned (g.P.Station.history c.args.station.now) c.args.self.now.heap c.plan_over.new.heap c.args.self.now.journal c.count-count.result c.page_count.result c.args.batch.now.changes c.as_slice.result.now c.in_ok-blobs.blobs (entries c.in_ok-pages.pages.pages)
+    (c.requires.store t).rests c.count-count.ensures.enough c.count-count.ensures.value c.page_count.ensures c.if-page_count-count.false c.in_ok-pages.ensures.plan c.in_ok-blobs.ensures.spelled c.as_slice.ensures c.in_ok-blobs.ensures.blobs (c.in_ok-pages.ensures.changed t)) held.opens c.in_ok-commit.ensures.count (c.in_ok-commit.ensures.rests t)
+    (subst (λ h. (p : ℕ) → 1 ≤ p → p < c.commit.new.self → page (now (g.P.Station.history c.commit.new.station)) p ≡ over (entries c.in_ok-pages.pages.pages) (page (now h)) p) (c.in_ok-pages.ensures.told t) (c.in_ok-commit.ensures.pages t))
+
+pub returns-clause-any_moment : goal.returns-clause-any_moment
+returns-clause-any_moment g c = λ t old held.
+    old_or_after (g.P.Station.history c.args.station.now) (g.P.Station.history c.commit.new.station) c.args.self.now.journal (page_count c.plan_over.new.heap) c.plan_over.new.heap c.args.batch.now.changes (entries c.in_ok-pages.pages.pages) old
+    (as_planned (g.P.Station.history c.args.station.now) c.args.self.now.heap c.plan_over.new.heap c.args.self.now.journal c.count-count.result c.page_count.result c.args.batch.now.changes c.as_slice.result.now c.in_ok-blobs.blobs (entries c.in_ok-pages.pages.pages)
+    (c.requires.store t).rests c.count-count.ensures.enough c.count-count.ensures.value c.page_count.ensures c.if-page_count-count.false c.in_ok-pages.ensures.plan c.in_ok-blobs.ensures.spelled c.as_slice.ensures c.in_ok-blobs.ensures.blobs (c.in_ok-pages.ensures.changed t)) held.opens
+    (subst (λ h. Ended h (g.P.Station.history c.commit.new.station) (OldOrNew (page (now h)) c.args.self.now.journal (entries c.in_ok-pages.pages.pages))) (c.in_ok-pages.ensures.told t) (c.in_ok-commit.ensures.any_moment t))
+
+pub returns-in_err-commit-clause-any_moment : goal.returns-in_err-commit-clause-any_moment
+returns-in_err-commit-clause-any_moment g c = λ t old held.
+    old_or_after (g.P.Station.history c.args.station.now) (g.P.Station.history c.commit.new.station) c.args.self.now.journal (page_count c.plan_over.new.heap) c.plan_over.new.heap c.args.batch.now.changes (entries c.in_ok-pages.pages.pages) old
+    (as_planned (g.P.Station.history c.args.station.now) c.args.self.now.heap c.plan_over.new.heap c.args.self.now.journal c.count-count.result c.page_count.result c.args.batch.now.changes c.as_slice.result.now c.in_ok-blobs.blobs (entries c.in_ok-pages.pages.pages)
+    (c.requires.store t).rests c.count-count.ensures.enough c.count-count.ensures.value c.page_count.ensures c.if-page_count-count.false c.in_ok-pages.ensures.plan c.in_ok-blobs.ensures.spelled c.as_slice.ensures c.in_ok-blobs.ensures.blobs (c.in_ok-pages.ensures.changed t)) held.opens
+    (subst (λ h. Ended h (g.P.Station.history c.commit.new.station) (OldOrNew (page (now h)) c.args.self.now.journal (entries c.in_ok-pages.pages.pages))) (c.in_ok-pages.ensures.told t) (c.in_err-commit.ensures.any_moment t))

@@ -1,0 +1,6 @@
+pub mod Answers
+pub mod Fresh
+pub mod Opened
+pub mod Past
+pub mod Spelled
+pub mod Stores

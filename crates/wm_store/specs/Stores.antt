@@ -1,0 +1,21 @@
+-- A store and the station under it.
+use Rattle.std.specs.Prelude.{◌≡◌, ℕ, ◌⊎◌, List, Ok}
+use Rattle.wm_spec.specs.declared.record.stored.Stored.{Stored}
+use Rattle.wm_spec.specs.declared.record.batch.Change.{Change}
+use Rattle.wm_spec.specs.Records.{AfterBatch}
+use Rattle.wm_station.specs.History.{History, now}
+use Rattle.wm_journal.specs.Disk.{page}
+use Rattle.wm_journal.specs.Store.{IsAtRest}
+use Rattle.wm_heap.specs.Places.{IsHeapOf}
+use Rattle.wm_store.specs.Opened.{opened, Held}
+use Rattle.wm_store.specs.declared.store.Store.{Store}
+
+-- the station holds a store, now and after a crash, and this is its page count and its heap
+pub record IsStoreOf (store : Store) (h : History) : Type 0 where
+  pub rests : IsAtRest h store.journal
+  pub heap : IsHeapOf store.heap (page (now h)) store.journal
+  pub opens : (rs : List Stored) × (opened (now h) ≡ Ok rs)
+
+-- the file holds the old records, or those after the batch
+abbrev pub OldOrAfter : List Stored → List Change → List ℕ → Type 0
+OldOrAfter old changes file = Held old file ⊎ ((new : List Stored) × AfterBatch old changes new × Held new file)

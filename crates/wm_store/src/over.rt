@@ -1,0 +1,89 @@
+//! The heap over the pages of a station.
+ghost use Rattle.std.specs.Prelude.{◌≡◌, ℕ, ◌*◌, ◌/◌, ◌<◌, ◌≤◌, ◌==◌, not, length, is_some, Ok, IfOk, IfErr, OnOk, IsErrOf};
+ghost use Rattle.wm_base.specs.declared.fault.OpenFault.TheVariants as opening;
+ghost use Rattle.wm_base.specs.declared.fault.StoreFault.TheVariants as storing;
+ghost use Rattle.wm_page.specs.Batch.{entries};
+ghost use Rattle.wm_station.specs.Cause.{Rises};
+ghost use Rattle.wm_station.specs.History.{now};
+ghost use Rattle.wm_journal.specs.Disk.{page};
+ghost use Rattle.wm_heap.specs.Blobs.{AreBlobs, AreSmall, change_something};
+ghost use Rattle.wm_heap.specs.Places.{place_of, page_count, IsHeapOf};
+ghost use Rattle.wm_heap.specs.Plan.{IsPlan, IsChanged};
+ghost use Rattle.wm_store.specs.Answers.{FindsIn};
+ghost use Rattle.wm_store.specs.Opened.{pages_opened};
+
+use crate::records::read_records;
+use crate::station_pages::{StationPages, whole_pages};
+use std::alloc::Global;
+use wm_base::{OpenFault, StoreFault};
+use wm_heap::{Blobs, Heap};
+use wm_page::PageBatch;
+use wm_spec::record::Records;
+use wm_station::{DiskFailed, Station};
+
+/// The heap and the records of a store with so many pages, whose station is at rest.
+#[tactic(auto, using(crate::proofs::Pasts::past_injective))]
+pub fn load_over<P: Station>(
+    alloc: Global,
+    station: &mut P,
+    count: u64,
+) -> Result<(Heap, Records), OpenFault>
+    requires { 3 ≤ count }
+    ensures heap { P.tells → IfOk result (λ r. IsHeapOf r.0 (page (now (P.history station.old))) count) }
+    ensures size { P.tells → OnOk result (count * 4096 ≤ length (now (P.history station.old))) }
+    ensures records { P.tells → IfOk result (λ r. pages_opened (page (now (P.history station.old))) count (length (now (P.history station.old)) / 4096) ≡ Ok r.1) }
+    ensures fault { P.tells → IfErr result (λ e. FindsIn e (pages_opened (page (now (P.history station.old))) count (length (now (P.history station.old)) / 4096))) }
+    ensures store { IsErrOf result opening.NotStore → ⊥ }
+    ensures told { P.tells → P.history station.new ≡ P.history station.old }
+    ensures later { P.disk_faults station.old ≤ P.disk_faults station.new }
+    ensures disk { IsErrOf result opening.Disk → Rises (P.disk_faults station.old) (P.disk_faults station.new) }
+{
+    let whole = match whole_pages(station) {
+        Ok(whole) => whole,
+        Err(DiskFailed::Failed) => return Err(OpenFault::Disk),
+        Err(DiskFailed::Memory) => return Err(OpenFault::Memory),
+    };
+    let mut pages = StationPages {
+        station,
+        count,
+        whole,
+    };
+    let heap = Heap::load(alloc, &mut pages)?;
+    let records = read_records(alloc, &mut pages)?;
+    Ok((heap, records))
+}
+
+/// The pages that change the heap of a store with so many pages, whose station is at rest.
+#[tactic(auto, using(crate::proofs::Pasts::past_injective))]
+pub fn plan_over<P: Station>(
+    alloc: Global,
+    station: &mut P,
+    heap: &mut Heap,
+    count: u64,
+    blobs: &Blobs,
+) -> Result<PageBatch, StoreFault>
+    requires once { AreBlobs blobs.now }
+    requires small { AreSmall blobs.now }
+    requires heap { P.tells → IsHeapOf heap.old (page (now (P.history station.old))) count }
+    requires size { P.tells → count * 4096 ≤ length (now (P.history station.old)) }
+    ensures plan { IfOk result (λ b. IsPlan (page_count heap.old) (page_count heap.new) (entries b.pages)) }
+    ensures nothing { IfOk result (λ b. (length b.pages == 0) ≡ not (change_something (λ id. is_some (place_of heap.old id)) blobs.now)) }
+    ensures changed { P.tells → IfOk result (λ b. IsChanged heap.new blobs.now (entries b.pages) (page (now (P.history station.old))) count) }
+    ensures told { P.tells → P.history station.new ≡ P.history station.old }
+    ensures later { P.disk_faults station.old ≤ P.disk_faults station.new }
+    ensures disk { IsErrOf result storing.Disk → Rises (P.disk_faults station.old) (P.disk_faults station.new) }
+    ensures sound { P.tells → IsErrOf result storing.Changed → ⊥ }
+{
+    let whole = match whole_pages(station) {
+        Ok(whole) => whole,
+        Err(DiskFailed::Failed) => return Err(StoreFault::Disk),
+        Err(DiskFailed::Memory) => return Err(StoreFault::Memory),
+    };
+    let mut pages = StationPages {
+        station,
+        count,
+        whole,
+    };
+    let batch = heap.plan(alloc, &mut pages, blobs)?;
+    Ok(batch)
+}

@@ -1,0 +1,119 @@
+//! A store: its records, and how they change.
+ghost use Rattle.std.specs.Prelude.{◌≡◌, ℕ, ◌*◌, ◌/◌, ◌<◌, ◌≤◌, ◌⊎◌, true, false, List, length, Ok, Err, IfOk, IfErr, OnOk, IsErrOf};
+ghost use Rattle.wm_base.specs.declared.fault.MakeFault.TheVariants as making;
+ghost use Rattle.wm_base.specs.declared.fault.OpenFault.TheVariants as opening;
+ghost use Rattle.wm_base.specs.declared.fault.StoreFault.TheVariants as storing;
+ghost use Rattle.wm_spec.specs.Records.{AreChanges, AfterBatch};
+ghost use Rattle.wm_spec.specs.declared.record.stored.Stored.{Stored};
+ghost use Rattle.wm_station.specs.Cause.{Rises};
+ghost use Rattle.wm_station.specs.History.{now, said, Leaves};
+ghost use Rattle.wm_station.specs.Moments.{Holds, During, Ended};
+ghost use Rattle.wm_journal.specs.Disk.{is_made};
+ghost use Rattle.wm_store.specs.Answers.{SaysOf};
+ghost use Rattle.wm_store.specs.Fresh.{fresh_records};
+ghost use Rattle.wm_store.specs.Opened.{opened, Held, SaysAs};
+ghost use Rattle.wm_store.specs.Spelled.{FitPages};
+
+use crate::blobs::spell_changes;
+use crate::fresh::fresh;
+use crate::over::{load_over, plan_over};
+use std::alloc::Global;
+use wm_base::{MakeFault, OpenFault, StoreFault};
+use wm_heap::Heap;
+use wm_journal::Journal;
+use wm_spec::record::{Batch, Records};
+use wm_station::Station;
+
+/// Where the records of a store stand. They are read from its station and changed there.
+#[derive(Drop)]
+pub struct Store {
+    pub(crate) journal: Journal,
+    pub(crate) heap: Heap,
+}
+
+impl Store {
+    ghost use Rattle.wm_store.specs.Stores.{IsStoreOf, OldOrAfter};
+
+    /// Makes a store of a file that holds none, which takes `limit` changes. It then holds three records: counters, the
+    /// workspace LIVE, and its version. What a crash within the call leaves, or an error but Exists, is not said.
+    pub fn make<P: Station>(
+        alloc: Global,
+        station: &mut P,
+        limit: u32,
+    ) -> Result<Store, MakeFault>
+        requires some { 1 ≤ limit }
+        requires most { limit ≤ 1048576 }
+        ensures held { P.tells → OnOk result (Holds (P.history station.new) (Held (fresh_records limit))) }
+        ensures store { P.tells → IfOk result (λ s. IsStoreOf s (P.history station.new)) }
+        ensures durable { P.tells → OnOk result ((c : List ℕ) → Leaves (P.history station.new) c → c ≡ now (P.history station.new)) }
+        ensures quiet { P.tells → said (P.history station.new) ≡ said (P.history station.old) }
+        ensures exists { P.tells → IsErrOf result making.Exists → (is_made (now (P.history station.old)) ≡ true) × (P.history station.new ≡ P.history station.old) }
+        ensures absent { P.tells → OnOk result (is_made (now (P.history station.old)) ≡ false) }
+        ensures later { P.disk_faults station.old ≤ P.disk_faults station.new }
+        ensures disk { IsErrOf result making.Disk → Rises (P.disk_faults station.old) (P.disk_faults station.new) }
+    {
+        let changes = fresh(alloc, limit)?;
+        let blobs = spell_changes(alloc, changes.as_slice())?;
+        let (heap, pages) = Heap::first(alloc, &blobs)?;
+        let journal = Journal::make(station, &pages)?;
+        Ok(Store { journal, heap })
+    }
+
+    /// Opens a store that a crash may have left, and gives its records, in the order in which they stand.
+    pub fn open<P: Station>(
+        alloc: Global,
+        station: &mut P,
+    ) -> Result<(Store, Records), OpenFault>
+        // What each answer says of the file as it was.
+        ensures records { P.tells → IfOk result (λ r. Held r.1 (now (P.history station.old))) }
+        ensures fault { P.tells → IfErr result (λ e. SaysOf e (now (P.history station.old))) }
+
+        // The file then says what it said, and so does each that a crash leaves.
+        ensures held { P.tells → IfOk result (λ r. Holds (P.history station.new) (Held r.1)) }
+        ensures store { P.tells → IfOk result (λ r. IsStoreOf r.0 (P.history station.new)) }
+        ensures same { P.tells → SaysAs (now (P.history station.old)) (now (P.history station.new)) }
+        ensures any_moment { P.tells → During (P.history station.old) (P.history station.new) (λ c s. (Leaves (P.history station.old) c ⊎ SaysAs (now (P.history station.old)) c) × (s ≡ said (P.history station.old))) }
+        ensures quiet { P.tells → said (P.history station.new) ≡ said (P.history station.old) }
+
+        ensures later { P.disk_faults station.old ≤ P.disk_faults station.new }
+        ensures disk { IsErrOf result opening.Disk → Rises (P.disk_faults station.old) (P.disk_faults station.new) }
+    {
+        let journal = Journal::open(alloc, station)?;
+        let (heap, records) = load_over(alloc, station, journal.count())?;
+        Ok((Store { journal, heap }, records))
+    }
+
+    /// Changes the records as the batch says, all or nothing. After an error the store is to be opened again: then it
+    /// holds the old records or those after the batch.
+    pub fn commit<P: Station>(
+        &mut self,
+        alloc: Global,
+        station: &mut P,
+        batch: &Batch,
+    ) -> Result<(), StoreFault>
+        requires changes { AreChanges batch.now.changes }
+        requires fit { FitPages batch.now.changes }
+        requires store { P.tells → IsStoreOf self.old (P.history station.old) }
+        ensures store { P.tells → OnOk result (IsStoreOf self.new (P.history station.new)) }
+        ensures held { P.tells → OnOk result ((old : List Stored) → Held old (now (P.history station.old)) → (new : List Stored) × AfterBatch old batch.now.changes new × Holds (P.history station.new) (Held new)) }
+
+        // A crash at any moment of the call, and a read after it, finds the old records or those after the batch.
+        ensures any_moment { P.tells → (old : List Stored) → Held old (now (P.history station.old)) → Ended (P.history station.old) (P.history station.new) (OldOrAfter old batch.now.changes) }
+
+        ensures later { P.disk_faults station.old ≤ P.disk_faults station.new }
+        ensures disk { IsErrOf result storing.Disk → Rises (P.disk_faults station.old) (P.disk_faults station.new) }
+        ensures not_changed { P.tells → IsErrOf result storing.Changed → ⊥ }
+    {
+        let count = self.journal.count();
+        if self.heap.page_count() != count {
+            return Err(StoreFault::Changed);
+        }
+        let blobs = spell_changes(alloc, batch.changes.as_slice())?;
+        let pages = plan_over(alloc, station, &mut self.heap, count, &blobs)?;
+        if pages.pages.is_empty() {
+            return Ok(());
+        }
+        self.journal.commit(alloc, station, &pages)?;
+        Ok(())
+    }
+}
