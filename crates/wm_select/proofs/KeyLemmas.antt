@@ -1,5 +1,6 @@
 -- Rows with their keys are put in order as the rows are, and without repeats as the rows are.
-use Rattle.std.proofs.Common.{◌≡◌, Bool, true, false, if◌then◌else◌, List, [], ◌∷◌, map, filter, refl, sym, ap, ◌∙◌}
+use Rattle.std.proofs.Common.{◌≡◌, ◌==◌, length, Bool, true, false, if◌then◌else◌, List, [], ◌∷◌, map, filter, refl, sym, ap, ◌∙◌}
+use Rattle.std.proofs.Math.Bool.{false≢true}
 use Rattle.std.specs.Ordering.{is_eq}
 use Rattle.wm_base.specs.declared.columns.Column.{Column}
 use Rattle.wm_base.specs.declared.row.Row.{Row}
@@ -8,9 +9,9 @@ use Rattle.wm_base.specs.declared.value.Value.{Value}
 use Rattle.wm_base.specs.Trees.{Query}
 use Rattle.wm_select.specs.declared.keyed.Keyed.{Keyed}
 use Rattle.wm_select.specs.declared.shown.Shown.{Shown}
-use Rattle.wm_select.specs.Query.{goes_before, order_values, directions_of, group_values}
+use Rattle.wm_select.specs.Query.{goes_before, order_values, directions_of, group_values, in_groups}
 use Rattle.wm_select.specs.Sorting.{placed, sorted, changes_from, changes, goes_by, stands_before, has_values_of, distinct_by}
-use Rattle.wm_select.specs.Keys.{keyed_by_row, shown_by_row, keyed_by_group, keyed_by_order}
+use Rattle.wm_select.specs.Keys.{keyed_by_row, shown_by_row, keyed_by_group, keyed_by_order, members_of}
 
 placed_map : {X Y : Type 0} (f : X → Y) (lt : X → X → Bool) (gt : Y → Y → Bool) → ((a b : X) → gt (f a) (f b) ≡ lt a b) → (x : X) (xs : List X) → placed gt (f x) (map f xs) ≡ map f (placed lt x xs)
 placed_map f lt gt same x [] = refl
@@ -86,3 +87,15 @@ filter_map_keyed {X} f back same p (x ∷ xs) = by_test (p (f x)) refl (filter_m
 -- the rows that have the values of one, from rows with their values
 pub members_keyed : (cols : List Col) (columns : List Column) (rows : List Row) (first : Row) → map (λ (k : Keyed). k.row) (filter (has_values_of (λ (k : Keyed). k.keys) (keyed_by_group cols columns first)) (map (keyed_by_group cols columns) rows)) ≡ filter (has_values_of (group_values cols columns) first) rows
 members_keyed cols columns rows first = filter_map_keyed (keyed_by_group cols columns) (λ (k : Keyed). k.row) (λ x. refl) (has_values_of (λ (k : Keyed). k.keys) (keyed_by_group cols columns first)) rows
+
+each_members : (cols : List Col) (columns : List Column) (rows firsts : List Row) → map (members_of (map (keyed_by_group cols columns) rows)) (map (keyed_by_group cols columns) firsts) ≡ map (λ (first : Row). filter (has_values_of (group_values cols columns) first) rows) firsts
+each_members cols columns rows [] = refl
+each_members cols columns rows (first ∷ firsts) =
+    let head : members_of (map (keyed_by_group cols columns) rows) (keyed_by_group cols columns first) ≡ filter (has_values_of (group_values cols columns) first) rows = members_keyed cols columns rows first in
+    let tail : map (members_of (map (keyed_by_group cols columns) rows)) (map (keyed_by_group cols columns) firsts) ≡ map (λ (f : Row). filter (has_values_of (group_values cols columns) f) rows) firsts = each_members cols columns rows firsts in
+    λ i. head i ∷ tail i
+
+-- the groups of GROUP BY
+pub groups_keyed : (cols : List Col) (columns : List Column) (rows : List Row) → (length cols == 0) ≡ false → map (members_of (map (keyed_by_group cols columns) rows)) (map (keyed_by_group cols columns) (distinct_by (group_values cols columns) rows)) ≡ in_groups cols columns rows
+groups_keyed [] columns rows e = absurd (false≢true (sym e))
+groups_keyed (col ∷ cols) columns rows e = each_members (col ∷ cols) columns rows (distinct_by (group_values (col ∷ cols) columns) rows)

@@ -1,11 +1,12 @@
 -- Rows with the values that put them in order.
-use Rattle.std.specs.Prelude.{List}
+use Rattle.std.specs.Prelude.{List, map, filter}
 use Rattle.wm_base.specs.declared.columns.Column.{Column}
 use Rattle.wm_base.specs.declared.row.Row.{Row}
 use Rattle.wm_base.specs.declared.tree.column.Col.{Col}
 use Rattle.wm_base.specs.Trees.{Query}
 use Rattle.wm_select.specs.declared.keyed.Keyed.{Keyed}
 use Rattle.wm_select.specs.declared.shown.Shown.{Shown}
+use Rattle.wm_select.specs.Sorting.{has_values_of}
 use Rattle.wm_select.specs.Query.{group_values, order_values}
 
 -- a tuple, by the row that it shows
@@ -23,3 +24,7 @@ keyed_by_group cols columns row = record { keys = group_values cols columns row;
 -- a row that is shown, by what ORDER BY says
 abbrev pub keyed_by_order : Query → List Column → Shown → Keyed
 keyed_by_order query columns s = record { keys = order_values query columns s; row = s.row }
+
+-- the rows that have the keys of one
+abbrev pub members_of : List Keyed → Keyed → List Row
+members_of all first = map (λ (k : Keyed). k.row) (filter (has_values_of (λ (k : Keyed). k.keys) first) all)

@@ -1,13 +1,12 @@
 //! What each row of an answer is made of.
-ghost use Rattle.std.specs.Prelude.{◌≡◌, [], ◌∷◌, map, filter, IfOk};
+ghost use Rattle.std.specs.Prelude.{◌≡◌, [], ◌∷◌, map, IfOk};
 ghost use Rattle.std.specs.List.{list_any};
 ghost use Rattle.wm_base.specs.declared.row.Row.{Row as RowOf};
 ghost use Rattle.wm_base.specs.Trees.{Out as OutTree};
 ghost use Rattle.wm_base.specs.Views.{item_view, outs_view, projection_view, query_view};
-ghost use Rattle.wm_select.specs.declared.keyed.Keyed.{Keyed as KeyedRow};
-ghost use Rattle.wm_select.specs.Sorting.{has_values_of, distinct_by};
+ghost use Rattle.wm_select.specs.Sorting.{distinct_by};
 ghost use Rattle.wm_select.specs.Query.{group_values, in_groups, is_aggregate, has_aggregate, is_grouped, groups_of};
-ghost use Rattle.wm_select.specs.Keys.{keyed_by_group};
+ghost use Rattle.wm_select.specs.Keys.{keyed_by_group, members_of};
 
 use crate::keyed::Keyed;
 use crate::order::{changes, has_keys_of, sort_ascending};
@@ -77,7 +76,7 @@ fn firsts(
 
 /// Copies of the rows that have the same values as one of them.
 fn members(alloc: Global, first: &Keyed, all: &[Keyed]) -> Result<RowList, Memory>
-    ensures { IfOk result (λ rows. rows ≡ map (λ (row : KeyedRow). row.row) (filter (has_values_of (λ (row : KeyedRow). row.keys) first.now) all.now)) }
+    ensures { IfOk result (λ rows. rows ≡ members_of all.now first.now) }
 {
     let mut rows = RowList::new(alloc);
     for row in all {
@@ -90,7 +89,7 @@ fn members(alloc: Global, first: &Keyed, all: &[Keyed]) -> Result<RowList, Memor
 
 /// The members of each group.
 fn all_members(alloc: Global, firsts: &[Keyed], all: &[Keyed]) -> Result<Vec<RowList>, Memory>
-    ensures { IfOk result (λ groups. groups.items ≡ map (λ (first : KeyedRow). map (λ (row : KeyedRow). row.row) (filter (has_values_of (λ (row : KeyedRow). row.keys) first) all.now)) firsts.now) }
+    ensures { IfOk result (λ groups. groups.items ≡ map (members_of all.now) firsts.now) }
 {
     let mut groups = Vec::with_capacity(alloc, firsts.len())?;
     for first in firsts {
@@ -100,6 +99,7 @@ fn all_members(alloc: Global, firsts: &[Keyed], all: &[Keyed]) -> Result<Vec<Row
 }
 
 /// The groups of the rows: with GROUP BY one for each list of its values, in ascending order, else one of all rows.
+#[tactic(auto, using(crate::proofs::KeyLemmas::groups_keyed))]
 fn in_groups(
     alloc: Global,
     cols: &[Col],

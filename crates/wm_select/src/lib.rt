@@ -3,11 +3,14 @@
 
 mod aggregates;
 mod agree;
+mod answer;
+mod asked;
 mod beside;
 mod buckets;
 mod condition;
 mod distinct;
 mod equalities;
+mod fault;
 mod found;
 mod group;
 mod items;
@@ -18,3 +21,9 @@ mod order_by;
 mod pair;
 mod shown;
 mod source;
+#[cfg(test)]
+mod tests;
+
+pub use answer::select;
+pub use asked::{columns_of, projection_lasts, rows_fit, where_of};
+pub use fault::SelectFault;

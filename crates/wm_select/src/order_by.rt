@@ -2,7 +2,8 @@
 ghost use Rattle.std.specs.Prelude.{◌≡◌, map, option_map, unwrap_or, IfOk};
 ghost use Rattle.std.specs.List.{position};
 ghost use Rattle.wm_base.specs.declared.tree.query.Order.{Order as OrderOf};
-ghost use Rattle.wm_base.specs.Trees.{Out as OutTree};
+ghost use Rattle.wm_base.specs.declared.tree.query.Out.{Out as OutNode};
+ghost use Rattle.wm_base.specs.Trees.{Outs};
 ghost use Rattle.wm_base.specs.Views.{outs_view, projection_view, query_view};
 ghost use Rattle.wm_select.specs.declared.keyed.Keyed.{Keyed as KeyedRow};
 ghost use Rattle.wm_select.specs.declared.shown.Shown.{Shown as ShownRow};
@@ -30,24 +31,29 @@ fn has_name(name: &[u8], alias: &Option<Name>) -> bool
 
 /// The place of the first item that AS gives this name.
 fn place_of_name(name: &[u8], outs: &[Out]) -> Option<usize>
-    ensures { result ≡ position (λ (o : OutTree). has_name name.now o.alias) (outs_view outs.now) }
+    ensures { result ≡ position (λ (o : OutNode). has_name name.now o.alias) outs.now }
 {
     outs.iter().position(|out| has_name(name, &out.alias))
 }
 
 /// The place of the first item that AS gives the name of the column, which names no source and no end of a period.
+fn item_named(outs: &[Out], col: &Col) -> Option<usize>
+    ensures { result ≡ named_item (Outs (outs_view outs.now)) col.now }
+{
+    if col.source.is_none() && col.suffix.is_none() {
+        place_of_name(col.name.as_bytes(), outs)
+    } else {
+        None
+    }
+}
+
+/// The same, where the query has items.
 fn named_item(projection: &Projection, col: &Col) -> Option<usize>
     ensures { result ≡ named_item (projection_view projection.now) col.now }
 {
     match projection {
         Projection::All => None,
-        Projection::Outs(outs) => {
-            if col.source.is_none() && col.suffix.is_none() {
-                place_of_name(col.name.as_bytes(), outs.as_slice())
-            } else {
-                None
-            }
-        }
+        Projection::Outs(outs) => item_named(outs.as_slice(), col),
     }
 }
 

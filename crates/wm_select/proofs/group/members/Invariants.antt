@@ -1,7 +1,6 @@
-use Rattle.std.proofs.Common.{◌≡◌, map, filter, take}
-use Rattle.wm_select.specs.declared.keyed.Keyed.{Keyed}
-use Rattle.wm_select.specs.Sorting.{has_values_of}
+use Rattle.std.proofs.Common.{◌≡◌, take}
+use Rattle.wm_select.specs.Keys.{members_of}
 use Rattle.wm_select.proofs.group.members.Given as goal
 
 abbrev pub invariant-loop-row : goal.invariant-loop-row
-invariant-loop-row l = l.rows ≡ map (λ (row : Keyed). row.row) (filter (has_values_of (λ (row : Keyed). row.keys) l.first) (take l.row-index l.all))
+invariant-loop-row l = l.rows ≡ members_of (take l.row-index l.all) l.first
