@@ -1,7 +1,7 @@
 -- In records that keep the rules, the newest version of a workspace is no other workspace's, and not what it sees under its own.
-use Rattle.std.proofs.Common.{◌≡◌, ◌≢◌, ℕ, ◌<◌, ◌==◌, nat_lt, nat_le, Bool, true, false, not, ◌&&◌, ◌||◌, cond, if◌then◌else◌, List, [], ◌∷◌, Option, Some, None, is_some, refl, sym, ap, ◌∙◌, ◌⊎◌, inl, inr, length, arith}
-use Rattle.std.proofs.lemmas.Bool.{cases_eq, eq-eqb, ne_eqb, eqb-true}
-use Rattle.std.specs.List.{list_all, list_any, find}
+use Rattle.std.proofs.Common.{◌≡◌, ℕ, ◌==◌, nat_lt, nat_le, Bool, true, false, ◌&&◌, cond, if◌then◌else◌, List, [], ◌∷◌, Option, Some, None, is_some, refl, sym, ap, ◌∙◌, length, arith}
+use Rattle.std.proofs.lemmas.Bool.{eq-eqb, ne_eqb, eqb-true}
+use Rattle.std.specs.List.{list_all, find}
 use Rattle.std.specs.Option.{option_map, option_map_or}
 use Rattle.std.specs.Str.{bytes_eq}
 use Rattle.wm_graph.specs.Parts.{Parts, space_of, version_of, has_version}
@@ -9,12 +9,12 @@ use Rattle.wm_graph.specs.Rules.{keep_rules, keep_rules_with, are_counters, are_
 use Rattle.wm_spec.specs.declared.record.counters.Counters.{Counters}
 use Rattle.wm_spec.specs.declared.record.space.Space.{Space}
 use Rattle.wm_spec.specs.declared.record.version.Version.{Version}
-use Rattle.wm_tree.specs.Versions.{version_in, latest_in}
+use Rattle.wm_tree.specs.Versions.{version_in}
 use Rattle.wm_tree.specs.declared.version.Version.{Version as Node}
 use Rattle.wm_state.specs.Standing.{node_of, newest_first, latest}
-use Rattle.wm_state.specs.Effects.{is_there, IsApart}
-use Rattle.wm_state.proofs.Tests.{bool_apart, both, not_true, either_false}
-use Rattle.wm_state.proofs.Newest.{Descend, numbers_differ, Descend-newest, version_in-newest, has-newest, IsNewest, newest_there}
+use Rattle.wm_state.specs.Effects.{IsApart}
+use Rattle.wm_state.proofs.Tests.{bool_apart, both}
+use Rattle.wm_state.proofs.Newest.{numbers_differ, Descend-newest, version_in-newest, has-newest, IsNewest, newest_there}
 
 -- what is found passes the test, and is one of the list
 pub found-passes : {A : Type 0} (P Q : A → Bool) (xs : List A) (x : A) → find P xs ≡ Some x → list_all Q xs ≡ true → (P x ≡ true) × (Q x ≡ true)
@@ -152,7 +152,7 @@ apart_of p rules n s is = record {
         by_live false e h some a = ne_eqb _ _ (λ same.
             let base = (both (is_version_of (version_of p.versions) s.birth_version s.parent) (is_version_of (version_of p.versions) s.base_version s.parent) h).1 in
             let parent : a.0.space ≡ s.parent =
-                eqb-true _ _ (sym (ap (λ (o : Option Version). option_map_or (λ (v : Version). v.space == s.parent) o false) (ap (version_of p.versions) (sym same) ∙ a.1)) ∙ base) in
+            eqb-true _ _ (sym (ap (λ (o : Option Version). option_map_or (λ (v : Version). v.space == s.parent) o false) (ap (version_of p.versions) (sym same) ∙ a.1)) ∙ base) in
             let number : s.number ≡ n = eqb-true _ _ (found-passes (λ (x : Space). x.number == n) (λ x. true) p.spaces s is (all_true p.spaces)).0 in
             let below = (both (nat_lt s.parent s.number) (is_some (space_of p.spaces s.parent)) (sym (ap (λ b. if b then bytes_eq s.name live else nat_lt s.parent s.number && is_some (space_of p.spaces s.parent)) e) ∙ placed)).0 in
             not_below s.parent s.number below (number ∙ sym a.2 ∙ parent))

@@ -1,8 +1,8 @@
 -- What a store holds after a batch, in the order of the ids, is what the batch makes of what it held.
-use Rattle.std.proofs.Common.{◌≡◌, ◌≢◌, ℕ, ◌==◌, ◌||◌, if◌then◌else◌, Bool, true, false, cond, List, [], ◌∷◌, map, Option, Some, None, refl, sym, ap, ◌∙◌, ◌⊎◌, inl, inr}
+use Rattle.std.proofs.Common.{◌≡◌, ◌≢◌, ℕ, ◌==◌, if◌then◌else◌, false, List, [], ◌∷◌, map, Option, Some, None, refl, sym, ap, ◌∙◌, ◌⊎◌, inl, inr}
 use Rattle.std.proofs.lemmas.Bool.{cases_eq, eq-eqb, ne_eqb}
 use Rattle.std.specs.List.{list_any}
-use Rattle.wm_spec.specs.Records.{record_at, change_at, ids_differ, AreRecords, AreChanges, AfterBatch}
+use Rattle.wm_spec.specs.Records.{record_at, change_at, ids_differ, AreRecords, AreChanges}
 use Rattle.wm_spec.specs.declared.record.Record.{Record}
 use Rattle.wm_spec.specs.declared.record.stored.Stored.{Stored}
 use Rattle.wm_spec.specs.declared.record.batch.Change.{Change}
@@ -61,4 +61,4 @@ pub after_batch : (old new : List Stored) (cs : List Change) → AreRecords old 
 after_batch old new cs are_old are_new are after =
     one_order (by_id new) (applied cs (by_id old)) (Ascend-by_id new are_new) (Ascend-applied cs (by_id old) (Ascend-by_id old are_old))
     (λ id. record_at-by_id new are_new id ∙ after id ∙ ap (over_it (change_at cs id)) (sym (record_at-by_id old are_old id))
-        ∙ sym (record_at-applied cs (by_id old) are (Ascend-by_id old are_old) id))
+    ∙ sym (record_at-applied cs (by_id old) are (Ascend-by_id old are_old) id))

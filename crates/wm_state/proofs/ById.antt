@@ -1,12 +1,11 @@
 -- Records in the order of their ids are determined by what is found under each id.
-use Rattle.std.proofs.Common.{◌≡◌, ◌≢◌, ℕ, ◌<◌, ◌==◌, nat_lt, Bool, true, false, cond, ◌||◌, if◌then◌else◌, List, [], ◌∷◌, map, Option, Some, None, refl, sym, ap, ◌∙◌, ◌⊎◌, inl, inr, ⊎_elim, arith}
-use Rattle.std.proofs.lemmas.Bool.{cases_eq, eq-eqb, ne_eqb, eqb-true}
+use Rattle.std.proofs.Common.{◌≡◌, ◌≢◌, ℕ, ◌<◌, ◌==◌, nat_lt, Bool, true, false, cond, ◌||◌, if◌then◌else◌, List, [], ◌∷◌, map, Option, Some, None, refl, sym, ap, ◌∙◌, ◌⊎◌, inl, inr, arith}
+use Rattle.std.proofs.lemmas.Bool.{cases_eq, eq-eqb, ne_eqb}
 use Rattle.std.specs.List.{list_any}
-use Rattle.wm_spec.specs.Records.{record_at, change_at, ids_differ, AreRecords, AreChanges, AfterBatch}
+use Rattle.wm_spec.specs.Records.{record_at, ids_differ, AreRecords}
 use Rattle.wm_spec.specs.declared.record.Record.{Record}
 use Rattle.wm_spec.specs.declared.record.stored.Stored.{Stored}
-use Rattle.wm_spec.specs.declared.record.batch.Change.{Change}
-use Rattle.wm_state.specs.ById.{place_by_id, by_id, AllAbove, Ascend, perhaps_before, set_at, applied}
+use Rattle.wm_state.specs.ById.{place_by_id, by_id, AllAbove, Ascend, perhaps_before, set_at}
 
 -- ---- what is found
 

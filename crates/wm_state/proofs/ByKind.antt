@@ -1,16 +1,14 @@
 -- What a change of one record makes of the records of each kind.
-use Rattle.std.proofs.Common.{◌≡◌, ◌≢◌, ℕ, ◌<◌, ◌≤◌, ◌==◌, nat_lt, Bool, true, false, not, cond, if◌then◌else◌, List, [], ◌∷◌, ◌++◌, map, Option, Some, None, is_some, refl, sym, ap, subst, ◌∙◌, ◌⊎◌, inl, inr, append_assoc, append-nil, arith}
-use Rattle.std.proofs.lemmas.Bool.{cases_eq, eq-eqb, ne_eqb, eqb-true}
+use Rattle.std.proofs.Common.{◌≡◌, ◌≢◌, ℕ, ◌<◌, nat_lt, Bool, true, false, List, [], ◌∷◌, ◌++◌, map, Option, Some, None, refl, sym, ap, subst, ◌∙◌, ◌⊎◌, inl, inr, append-nil, arith}
+use Rattle.std.proofs.lemmas.Bool.{cases_eq, eq-eqb, ne_eqb}
 use Rattle.std.proofs.lemmas.List.{map-append}
 use Rattle.std.proofs.lemmas.List.Elements.{filter_map-append}
-use Rattle.std.specs.List.{filter, filter_map, list_all}
-use Rattle.wm_graph.specs.Parts.{Parts, parts_of, parts_in, as_counters, as_table, as_space, as_version, as_row, as_piece}
-use Rattle.wm_spec.specs.Records.{record_at, change_at}
+use Rattle.std.specs.List.{filter, filter_map}
+use Rattle.wm_spec.specs.Records.{record_at}
 use Rattle.wm_spec.specs.declared.record.Record.{Record}
 use Rattle.wm_spec.specs.declared.record.stored.Stored.{Stored}
-use Rattle.wm_spec.specs.declared.record.batch.Change.{Change}
 use Rattle.wm_state.specs.Batches.{AllUnder}
-use Rattle.wm_state.specs.ById.{AllAbove, Ascend, perhaps_before, set_at, applied}
+use Rattle.wm_state.specs.ById.{AllAbove, Ascend, set_at}
 use Rattle.wm_state.proofs.ById.{record_at-here, record_at-away, record_at-none}
 
 -- the records of a kind

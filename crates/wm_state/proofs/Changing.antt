@@ -1,9 +1,9 @@
 -- A workspace that was changed, among the others.
-use Rattle.std.proofs.Common.{◌≡◌, ◌≢◌, ℕ, Bool, true, false, cond, List, [], ◌∷◌, ◌++◌, Option, Some, None, refl, sym, ap, ◌∙◌, ◌==◌, append_assoc, ◌⊎◌, inl, inr}
+use Rattle.std.proofs.Common.{◌≡◌, ◌≢◌, ℕ, Bool, true, false, cond, List, [], ◌∷◌, ◌++◌, Option, None, refl, sym, ap, ◌∙◌, ◌==◌, append_assoc, ◌⊎◌, inl, inr}
 use Rattle.std.proofs.lemmas.Bool.{cases_eq, eq-eqb, ne_eqb}
 use Rattle.std.specs.Bool.{then_some}
 use Rattle.std.specs.Option.{option_or, option_map}
-use Rattle.wm_spec.specs.Lists.{Entry, Cell, Told, told, told_of, covers}
+use Rattle.wm_spec.specs.Lists.{Entry, Cell, told, told_of, covers}
 use Rattle.wm_spec.proofs.Lists.{told-push}
 use Rattle.wm_state.specs.State.{Workspace, content, workspace_of, with_space, with_entries}
 

@@ -1,12 +1,12 @@
 -- The records with one table ready for rows.
-use Rattle.std.proofs.Common.{◌≡◌, ◌≢◌, ℕ, ◌<◌, ◌==◌, nat_lt, nat_le, Bool, true, false, not, ◌&&◌, ◌||◌, cond, if◌then◌else◌, List, [], ◌∷◌, ◌++◌, Option, Some, None, is_some, refl, sym, ap, subst, ◌∙◌, ◌⊎◌, inl, inr, length, length-append, arith}
-use Rattle.std.proofs.lemmas.Bool.{cases_eq, eq-eqb, ne_eqb, eqb-true}
-use Rattle.std.specs.List.{list_all, list_any, find}
+use Rattle.std.proofs.Common.{◌≡◌, ◌≢◌, ℕ, ◌==◌, nat_lt, nat_le, Bool, true, false, not, ◌&&◌, cond, if◌then◌else◌, List, [], ◌∷◌, ◌++◌, Option, Some, None, refl, sym, ap, ◌∙◌, ◌⊎◌, inl, inr, length, length-append}
+use Rattle.std.proofs.lemmas.Bool.{cases_eq, eq-eqb, ne_eqb}
+use Rattle.std.specs.List.{list_all, list_any}
 use Rattle.std.specs.Option.{option_map_or, option_and_then}
 use Rattle.std.specs.Str.{bytes_eq}
 use Rattle.wm_base.specs.declared.value.Value.{Value}
-use Rattle.wm_graph.specs.Parts.{Parts, table_of, space_of, version_of, row_of}
-use Rattle.wm_graph.specs.Rules.{keep_rules, are_counters, are_tables, is_table, are_spaces, are_versions, are_rows, is_row, is_row_of, are_pieces, is_piece, is_row_at, are_cells, is_key_of, is_key_value, key_of, is_key, collide, differ}
+use Rattle.wm_graph.specs.Parts.{Parts, table_of, version_of, row_of}
+use Rattle.wm_graph.specs.Rules.{keep_rules, are_counters, are_tables, is_table, are_spaces, are_versions, are_rows, is_row, is_row_of, are_pieces, is_piece, is_row_at, is_key_of, key_of, is_key, collide, differ}
 use Rattle.wm_spec.specs.declared.record.cell_range.CellRange.{CellRange}
 use Rattle.wm_spec.specs.declared.record.counters.Counters.{Counters}
 use Rattle.wm_spec.specs.declared.record.piece.PieceRecord.{PieceRecord}
@@ -14,10 +14,10 @@ use Rattle.wm_spec.specs.declared.record.row.RowRecord.{RowRecord}
 use Rattle.wm_spec.specs.declared.record.table.Table.{Table}
 use Rattle.wm_state.specs.State.{State, enabled}
 use Rattle.wm_state.specs.Batches.{ready}
-use Rattle.wm_state.specs.Standing.{by_number, place_table, CountersStand, TablesStand, Stands}
+use Rattle.wm_state.specs.Standing.{by_number, place_table, CountersStand, Stands}
 use Rattle.wm_state.proofs.Tests.{bool_apart, both, and_true, not_true, either_false, all_if, all_swap, all_middle, differ_swap, find_swap}
-use Rattle.wm_state.proofs.Apart.{Ruled, ruled}
-use Rattle.wm_state.proofs.Standing.{Retabled, Stands-retabled}
+use Rattle.wm_state.proofs.Apart.{ruled}
+use Rattle.wm_state.proofs.Standing.{Stands-retabled}
 
 -- the records with one table ready, and other counters
 abbrev pub readied : Parts → Counters → List Table → Table → List Table → Parts
@@ -39,8 +39,8 @@ tables_ready front back t key e =
     and_true (nat_le (length (front ++ ready t ∷ back)) 256) _ (ap (λ n. nat_le n 256) (length-append front (ready t ∷ back) ∙ sym (length-append front (t ∷ back))) ∙ h.0)
     (and_true (differ (λ (t u : Table). t.number == u.number) (front ++ ready t ∷ back)) _ (differ_swap (λ (t u : Table). t.number == u.number) t (ready t) (λ x. refl) (λ x. refl) front back ∙ g.0)
     (and_true (differ (λ (t u : Table). bytes_eq t.name u.name) (front ++ ready t ∷ back)) (list_all is_table (front ++ ready t ∷ back))
-        (differ_swap (λ (t u : Table). bytes_eq t.name u.name) t (ready t) (λ x. refl) (λ x. refl) front back ∙ k.0)
-        (all_swap is_table is_table t (ready t) front back (λ x is. is) (table_ready t key (all_middle is_table t front back k.1)) k.1)))
+    (differ_swap (λ (t u : Table). bytes_eq t.name u.name) t (ready t) (λ x. refl) (λ x. refl) front back ∙ k.0)
+    (all_swap is_table is_table t (ready t) front back (λ x is. is) (table_ready t key (all_middle is_table t front back k.1)) k.1)))
 
 -- what is asked of a table that is found is asked alike
 ask_same : {B : Type 0} (f : Table → B) (d : B) (front back : List Table) (t : Table) → f (ready t) ≡ f t → (n : ℕ) → option_map_or f (table_of (front ++ ready t ∷ back) n) d ≡ option_map_or f (table_of (front ++ t ∷ back) n) d
@@ -66,8 +66,8 @@ rows_ready p q front back t next old new rows e =
     let h = both (differ (λ (r q : RowRecord). r.stamp == q.stamp) p.rows) (list_all (is_row (table_of p.tables) next) p.rows) e in
     rw (rows, new)
     (and_true (differ (λ (r q : RowRecord). r.stamp == q.stamp) p.rows) (list_all (is_row (table_of (front ++ ready t ∷ back)) next) p.rows) h.0
-        (all_if (is_row (table_of p.tables) next) (is_row (table_of (front ++ ready t ∷ back)) next)
-            (λ r is. ap (λ b. nat_lt r.stamp next && b) (ask_same (is_row_of r.values) false front back t refl r.table) ∙ ap (λ ts. is_row (table_of ts) next r) (sym old) ∙ is) p.rows h.1))
+    (all_if (is_row (table_of p.tables) next) (is_row (table_of (front ++ ready t ∷ back)) next)
+    (λ r is. ap (λ b. nat_lt r.stamp next && b) (ask_same (is_row_of r.values) false front back t refl r.table) ∙ ap (λ ts. is_row (table_of ts) next r) (sym old) ∙ is) p.rows h.1))
 
 row_at_same : (front back : List Table) (t : Table) (c : CellRange) (r : RowRecord) → is_row_at (table_of (front ++ ready t ∷ back)) c r ≡ is_row_at (table_of (front ++ t ∷ back)) c r
 row_at_same front back t c r = ap (λ o. (r.table == c.table) && is_key c.key o) (key_same front back t r.values c.table)
@@ -86,8 +86,8 @@ pieces_ready p q front back t next old new rows versions pieces e =
     let h = both (differ collide p.pieces) (list_all (is_piece (table_of p.tables) (version_of p.versions) (row_of p.rows) next) p.pieces) e in
     rw (pieces, rows, versions, new)
     (and_true (differ collide p.pieces) (list_all (is_piece (table_of (front ++ ready t ∷ back)) (version_of p.versions) (row_of p.rows) next) p.pieces) h.0
-        (all_if (is_piece (table_of p.tables) (version_of p.versions) (row_of p.rows) next) (is_piece (table_of (front ++ ready t ∷ back)) (version_of p.versions) (row_of p.rows) next)
-            (λ x is. piece_same front back t (version_of p.versions) (row_of p.rows) next x ∙ ap (λ ts. is_piece (table_of ts) (version_of p.versions) (row_of p.rows) next x) (sym old) ∙ is) p.pieces h.1))
+    (all_if (is_piece (table_of p.tables) (version_of p.versions) (row_of p.rows) next) (is_piece (table_of (front ++ ready t ∷ back)) (version_of p.versions) (row_of p.rows) next)
+    (λ x is. piece_same front back t (version_of p.versions) (row_of p.rows) next x ∙ ap (λ ts. is_piece (table_of ts) (version_of p.versions) (row_of p.rows) next x) (sym old) ∙ is) p.pieces h.1))
 
 pub keep-readied : (p : Parts) (new : Counters) (front : List Table) (t : Table) (back : List Table) → keep_rules p ≡ true → p.tables ≡ front ++ t ∷ back → t.has_key ≡ true → are_counters new ≡ true
     → ((c : Counters) → p.counters ≡ c ∷ [] → (new.next_version ≡ c.next_version) × (new.next_stamp ≡ c.next_stamp)) → keep_rules (readied p new front t back) ≡ true
@@ -101,8 +101,8 @@ keep-readied p new front t back rules old key counted same =
     (and_true (are_spaces p.spaces) _ r.spaces
     (and_true (are_versions q new.next_version) _ (ap (are_versions q) c.0 ∙ r.versions)
     (and_true (are_rows q new.next_stamp) (are_pieces q new.next_stamp)
-        (ap (are_rows q) c.1 ∙ rows_ready p q front back t r.counters.next_stamp old refl refl r.rows)
-        (ap (are_pieces q) c.1 ∙ pieces_ready p q front back t r.counters.next_stamp old refl refl refl refl r.pieces)))))
+    (ap (are_rows q) c.1 ∙ rows_ready p q front back t r.counters.next_stamp old refl refl r.rows)
+    (ap (are_pieces q) c.1 ∙ pieces_ready p q front back t r.counters.next_stamp old refl refl refl refl r.pieces)))))
 
 -- ---- the tables by number
 

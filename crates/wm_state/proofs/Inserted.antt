@@ -1,13 +1,13 @@
 -- The records with a row and a piece more stand for the state with an entry more.
-use Rattle.std.proofs.Common.{◌≡◌, ◌≢◌, ℕ, ◌+◌, ◌==◌, nat_lt, nat_le, Bool, true, false, not, ◌&&◌, ◌||◌, cond, List, [], ◌∷◌, ◌++◌, Option, Some, None, is_some, refl, sym, ap, subst, ◌∙◌, ◌⊎◌, inl, inr, length}
-use Rattle.std.proofs.lemmas.Bool.{cases_eq, eq-eqb, ne_eqb, eqb-true}
+use Rattle.std.proofs.Common.{◌≡◌, ℕ, ◌==◌, nat_lt, nat_le, Bool, true, false, not, ◌&&◌, cond, List, [], ◌∷◌, ◌++◌, Some, is_some, refl, sym, ap, subst, ◌∙◌, length}
+use Rattle.std.proofs.lemmas.Bool.{eq-eqb, ne_eqb}
 use Rattle.std.specs.List.{list_all, list_any, filter, find}
-use Rattle.std.specs.Option.{option_map, option_map_or}
+use Rattle.std.specs.Option.{option_map}
 use Rattle.std.specs.Str.{bytes_eq}
 use Rattle.wm_base.specs.declared.instant.TheConstants.{END}
 use Rattle.wm_base.specs.declared.row.Row.{Row}
 use Rattle.wm_graph.specs.Parts.{Parts, table_of, space_of, version_of, row_of}
-use Rattle.wm_graph.specs.Rules.{keep_rules, are_spaces, is_space, are_rows, is_row, are_pieces, is_piece, are_cells, collide, differ}
+use Rattle.wm_graph.specs.Rules.{keep_rules, is_space, are_pieces, is_piece, are_cells, collide, differ}
 use Rattle.wm_spec.specs.Lists.{Entry, told_of}
 use Rattle.wm_spec.specs.declared.record.counters.Counters.{Counters}
 use Rattle.wm_spec.specs.declared.record.piece.PieceRecord.{PieceRecord}
@@ -16,7 +16,7 @@ use Rattle.wm_spec.specs.declared.record.space.Space.{Space}
 use Rattle.wm_state.specs.State.{State}
 use Rattle.wm_state.specs.Standing.{held_of, held_by, newest_first, latest, CountersStand, Stands}
 use Rattle.wm_state.specs.Batches.{is_out}
-use Rattle.wm_state.specs.Effects.{IsLeaf, IsApart, AreLaid, longer, Wrote}
+use Rattle.wm_state.specs.Effects.{IsLeaf, AreLaid, longer, Wrote}
 use Rattle.wm_state.proofs.Tests.{bool_apart, both, not_true, either_false, all_if, find_push, find_new}
 use Rattle.wm_state.proofs.Inserting.{inserted, MayInsert, keep-inserted, new_stamp}
 use Rattle.wm_state.proofs.Laying.{EndInTime, laid-over}

@@ -1,7 +1,7 @@
 -- The rules hold of the records with a row and a piece more.
-use Rattle.std.proofs.Common.{◌≡◌, ℕ, ◌+◌, ◌^◌, ◌==◌, nat_lt, nat_le, Bool, true, false, not, ◌&&◌, ◌||◌, if◌then◌else◌, List, [], ◌∷◌, ◌++◌, Option, Some, None, is_some, refl, sym, ap, ◌∙◌, length, length-append, arith}
+use Rattle.std.proofs.Common.{◌≡◌, ℕ, ◌+◌, ◌^◌, ◌==◌, nat_lt, nat_le, Bool, true, false, ◌&&◌, ◌||◌, if◌then◌else◌, List, [], ◌∷◌, ◌++◌, Option, Some, None, is_some, refl, sym, ap, ◌∙◌, length, length-append, arith}
 use Rattle.std.proofs.lemmas.Bool.{eq-eqb}
-use Rattle.std.specs.List.{list_all, list_any, filter, find}
+use Rattle.std.specs.List.{list_all, list_any, filter}
 use Rattle.std.specs.Option.{option_map_or}
 use Rattle.std.specs.Str.{bytes_eq}
 use Rattle.wm_graph.specs.Parts.{Parts, table_of, space_of, version_of, row_of, has_version}
@@ -11,9 +11,8 @@ use Rattle.wm_spec.specs.declared.record.piece.PieceRecord.{PieceRecord}
 use Rattle.wm_spec.specs.declared.record.row.RowRecord.{RowRecord}
 use Rattle.wm_spec.specs.declared.record.space.Space.{Space}
 use Rattle.wm_spec.specs.declared.record.version.Version.{Version}
-use Rattle.wm_spec.specs.declared.record.table.Table.{Table}
 use Rattle.wm_state.specs.Effects.{longer}
-use Rattle.wm_state.proofs.Tests.{bool_apart, both, and_true, not_true, all_if, all_push, all_filter, all_swap, all_middle, any_swap, any_kept, any_push, differ_push, differ_filter, differ_swap, find_swap, some_swap, find_push, find_new, none_if, any_filter}
+use Rattle.wm_state.proofs.Tests.{bool_apart, both, and_true, all_if, all_push, all_filter, all_swap, all_middle, any_kept, differ_push, differ_filter, differ_swap, find_swap, some_swap, find_push, find_new, none_if}
 
 -- the records with a row more, a piece more in the place of some, a longer log of one workspace, and other counters
 abbrev pub inserted : Parts → Counters → List Space → Space → List Space → (PieceRecord → Bool) → RowRecord → PieceRecord → Parts
@@ -81,15 +80,15 @@ spaces_kept front back a room e =
     let names = both (differ (λ (s t : Space). bytes_eq s.name t.name) (front ++ a ∷ back)) (list_all (is_space (space_of (front ++ a ∷ back))) (front ++ a ∷ back)) numbers.1 in
     and_true (nat_le (length (lengthened front a back)) 1024 && is_some (space_of (lengthened front a back) 0)) _
     (and_true (nat_le (length (lengthened front a back)) 1024) (is_some (space_of (lengthened front a back) 0))
-        (ap (λ n. nat_le n 1024) (length_same front back a) ∙ sized.0)
-        (some_swap (λ (x : Space). x.number == 0) a (longer a) refl front back ∙ sized.1))
+    (ap (λ n. nat_le n 1024) (length_same front back a) ∙ sized.0)
+    (some_swap (λ (x : Space). x.number == 0) a (longer a) refl front back ∙ sized.1))
     (and_true (differ (λ (s t : Space). s.number == t.number) (lengthened front a back)) _
-        (differ_swap (λ (s t : Space). s.number == t.number) a (longer a) (λ x. refl) (λ x. refl) front back ∙ numbers.0)
-        (and_true (differ (λ (s t : Space). bytes_eq s.name t.name) (lengthened front a back)) (list_all (is_space (space_of (lengthened front a back))) (lengthened front a back))
-            (differ_swap (λ (s t : Space). bytes_eq s.name t.name) a (longer a) (λ x. refl) (λ x. refl) front back ∙ names.0)
-            (all_swap (is_space (space_of (front ++ a ∷ back))) (is_space (space_of (lengthened front a back))) a (longer a) front back (space_if front back a)
-                (space_longer (space_of (lengthened front a back)) a room (space_if front back a a (all_middle (is_space (space_of (front ++ a ∷ back))) a front back names.1)))
-                names.1)))
+    (differ_swap (λ (s t : Space). s.number == t.number) a (longer a) (λ x. refl) (λ x. refl) front back ∙ numbers.0)
+    (and_true (differ (λ (s t : Space). bytes_eq s.name t.name) (lengthened front a back)) (list_all (is_space (space_of (lengthened front a back))) (lengthened front a back))
+    (differ_swap (λ (s t : Space). bytes_eq s.name t.name) a (longer a) (λ x. refl) (λ x. refl) front back ∙ names.0)
+    (all_swap (is_space (space_of (front ++ a ∷ back))) (is_space (space_of (lengthened front a back))) a (longer a) front back (space_if front back a)
+    (space_longer (space_of (lengthened front a back)) a room (space_if front back a a (all_middle (is_space (space_of (front ++ a ∷ back))) a front back names.1)))
+    names.1)))
 
 -- ---- versions
 
@@ -101,14 +100,14 @@ versions_kept p front back a q next old new same e =
     rw (same, new)
     (and_true (differ (λ (v w : Version). v.number == w.number) p.versions) _ h.0
     (and_true (list_all (is_version (space_of (lengthened front a back)) (version_of p.versions) next) p.versions) (list_all (has_versions (has_version p.versions) (version_of p.versions)) (lengthened front a back))
-        (all_if (is_version (space_of p.spaces) (version_of p.versions) next) (is_version (space_of (lengthened front a back)) (version_of p.versions) next)
-            (λ v is. ap (λ b. nat_lt v.number next && b)
-                (find_swap (λ (x : Space). x.number == v.space) (λ (s : Space). if v.parent == 0 then v.number == 1 else stands_under (version_of p.versions) v s) false a (longer a) refl refl front back)
-                ∙ ap (λ ss. is_version (space_of ss) (version_of p.versions) next v) (sym old) ∙ is)
-            p.versions g.0)
-        (all_swap (has_versions (has_version p.versions) (version_of p.versions)) (has_versions (has_version p.versions) (version_of p.versions)) a (longer a) front back (λ s is. is)
-            (all_middle (has_versions (has_version p.versions) (version_of p.versions)) a front back (ap (list_all (has_versions (has_version p.versions) (version_of p.versions))) (sym old) ∙ g.1))
-            (ap (list_all (has_versions (has_version p.versions) (version_of p.versions))) (sym old) ∙ g.1))))
+    (all_if (is_version (space_of p.spaces) (version_of p.versions) next) (is_version (space_of (lengthened front a back)) (version_of p.versions) next)
+    (λ v is. ap (λ b. nat_lt v.number next && b)
+    (find_swap (λ (x : Space). x.number == v.space) (λ (s : Space). if v.parent == 0 then v.number == 1 else stands_under (version_of p.versions) v s) false a (longer a) refl refl front back)
+    ∙ ap (λ ss. is_version (space_of ss) (version_of p.versions) next v) (sym old) ∙ is)
+    p.versions g.0)
+    (all_swap (has_versions (has_version p.versions) (version_of p.versions)) (has_versions (has_version p.versions) (version_of p.versions)) a (longer a) front back (λ s is. is)
+    (all_middle (has_versions (has_version p.versions) (version_of p.versions)) a front back (ap (list_all (has_versions (has_version p.versions) (version_of p.versions))) (sym old) ∙ g.1))
+    (ap (list_all (has_versions (has_version p.versions) (version_of p.versions))) (sym old) ∙ g.1))))
 
 -- ---- rows
 
@@ -124,12 +123,12 @@ rows_kept p q next r tables rows stamp is e =
     let h = both (differ (λ (r q : RowRecord). r.stamp == q.stamp) p.rows) (list_all (is_row (table_of p.tables) next) p.rows) e in
     rw (tables, rows)
     (and_true (differ (λ (r q : RowRecord). r.stamp == q.stamp) (p.rows ++ r ∷ [])) (list_all (is_row (table_of p.tables) (next + 1)) (p.rows ++ r ∷ []))
-        (differ_push (λ (r q : RowRecord). r.stamp == q.stamp) p.rows r h.0 (ap (λ n. list_any (λ (y : RowRecord). y.stamp == n) p.rows) stamp ∙ new_stamp p next e))
-        (all_push (is_row (table_of p.tables) (next + 1)) p.rows r
-            (all_if (is_row (table_of p.tables) next) (is_row (table_of p.tables) (next + 1))
-                (λ x row. let g = both (nat_lt x.stamp next) (option_map_or (is_row_of x.values) (table_of p.tables x.table) false) row in and_true (nat_lt x.stamp (next + 1)) _ (lt_next x.stamp next g.0) g.1)
-                p.rows h.1)
-            is))
+    (differ_push (λ (r q : RowRecord). r.stamp == q.stamp) p.rows r h.0 (ap (λ n. list_any (λ (y : RowRecord). y.stamp == n) p.rows) stamp ∙ new_stamp p next e))
+    (all_push (is_row (table_of p.tables) (next + 1)) p.rows r
+    (all_if (is_row (table_of p.tables) next) (is_row (table_of p.tables) (next + 1))
+    (λ x row. let g = both (nat_lt x.stamp next) (option_map_or (is_row_of x.values) (table_of p.tables x.table) false) row in and_true (nat_lt x.stamp (next + 1)) _ (lt_next x.stamp next g.0) g.1)
+    p.rows h.1)
+    is))
 
 -- ---- pieces
 
@@ -164,12 +163,12 @@ pieces_kept p q next r keep x tables versions rows pieces is apart e =
     let h = both (differ collide p.pieces) (list_all (is_piece (table_of p.tables) (version_of p.versions) (row_of p.rows) next) p.pieces) e in
     rw (tables, versions, rows, pieces)
     (and_true (differ collide (filter keep p.pieces ++ x ∷ [])) (list_all (is_piece (table_of p.tables) (version_of p.versions) (row_of (p.rows ++ r ∷ [])) (next + 1)) (filter keep p.pieces ++ x ∷ []))
-        (differ_push collide (filter keep p.pieces) x (differ_filter collide keep p.pieces h.0) (any_kept (λ y. collide y x) keep apart p.pieces))
-        (all_push (is_piece (table_of p.tables) (version_of p.versions) (row_of (p.rows ++ r ∷ [])) (next + 1)) (filter keep p.pieces) x
-            (all_filter (is_piece (table_of p.tables) (version_of p.versions) (row_of (p.rows ++ r ∷ [])) (next + 1)) keep p.pieces
-                (all_if (is_piece (table_of p.tables) (version_of p.versions) (row_of p.rows) next) (is_piece (table_of p.tables) (version_of p.versions) (row_of (p.rows ++ r ∷ [])) (next + 1))
-                    (piece_still p next r) p.pieces h.1))
-            is))
+    (differ_push collide (filter keep p.pieces) x (differ_filter collide keep p.pieces h.0) (any_kept (λ y. collide y x) keep apart p.pieces))
+    (all_push (is_piece (table_of p.tables) (version_of p.versions) (row_of (p.rows ++ r ∷ [])) (next + 1)) (filter keep p.pieces) x
+    (all_filter (is_piece (table_of p.tables) (version_of p.versions) (row_of (p.rows ++ r ∷ [])) (next + 1)) keep p.pieces
+    (all_if (is_piece (table_of p.tables) (version_of p.versions) (row_of p.rows) next) (is_piece (table_of p.tables) (version_of p.versions) (row_of (p.rows ++ r ∷ [])) (next + 1))
+    (piece_still p next r) p.pieces h.1))
+    is))
 
 -- ---- all rules
 
@@ -192,15 +191,15 @@ keep-inserted p old new front a back keep r x may e =
     (and_true (are_spaces q.spaces) _ (spaces_kept front back a may.room (ap are_spaces (sym may.spaces) ∙ g.0))
     (and_true (are_versions q new.next_version) _ (ap (are_versions q) may.versions ∙ versions_kept p front back a q old.next_version may.spaces refl refl k.0)
     (and_true (are_rows q new.next_stamp) (are_pieces q new.next_stamp)
-        (ap (are_rows q) may.stamps ∙ rows_kept p q old.next_stamp r refl refl may.row_stamp may.row l.0)
-        (ap (are_pieces q) may.stamps ∙ pieces_kept p q old.next_stamp r keep x refl refl refl refl (new_piece l.0) may.apart l.1)))))
+    (ap (are_rows q) may.stamps ∙ rows_kept p q old.next_stamp r refl refl may.row_stamp may.row l.0)
+    (ap (are_pieces q) may.stamps ∙ pieces_kept p q old.next_stamp r keep x refl refl refl refl (new_piece l.0) may.apart l.1)))))
   where
     new_piece : are_rows p old.next_stamp ≡ true → is_piece (table_of p.tables) (version_of p.versions) (row_of (p.rows ++ r ∷ [])) (old.next_stamp + 1) x ≡ true
     new_piece rows =
         and_true (is_some (version_of p.versions x.version)) _ may.version
         (and_true (are_cells (table_of p.tables) x.cells) _ may.cells
         (and_true (nat_lt x.stamp (old.next_stamp + 1)) _ (ap (λ n. nat_lt n (old.next_stamp + 1)) may.piece_stamp ∙ lt_self old.next_stamp)
-            (or_right x.gone _ (rw (may.piece_stamp, find_new (λ (z : RowRecord). z.stamp == old.next_stamp) p.rows r (new_stamp p old.next_stamp rows) (same_stamp may.row_stamp)) may.row_there))))
+        (or_right x.gone _ (rw (may.piece_stamp, find_new (λ (z : RowRecord). z.stamp == old.next_stamp) p.rows r (new_stamp p old.next_stamp rows) (same_stamp may.row_stamp)) may.row_there))))
       where
         or_right : (a b : Bool) → b ≡ true → (a || b) ≡ true
         or_right true b e = refl

@@ -1,5 +1,5 @@
 -- A listing of the records is the listing of the state.
-use Rattle.std.proofs.Common.{◌≡◌, ◌≢◌, ℕ, ◌<◌, ◌≤◌, ◌==◌, ◌&&◌, ◌||◌, nat_lt, nat_le, Bool, true, false, not, cond, if◌then◌else◌, List, [], ◌∷◌, ◌++◌, map, Option, Some, None, is_some, is_none, refl, sym, ap, subst, ◌∙◌, arith}
+use Rattle.std.proofs.Common.{◌≡◌, ℕ, ◌≤◌, ◌==◌, ◌&&◌, nat_lt, nat_le, Bool, true, false, cond, if◌then◌else◌, List, [], ◌∷◌, ◌++◌, map, Option, Some, None, is_some, is_none, refl, sym, ap, ◌∙◌, arith}
 use Rattle.std.proofs.lemmas.List.Elements.{filter_map-append}
 use Rattle.std.specs.Bool.{then_some}
 use Rattle.std.specs.List.{list_any, filter_map}
@@ -9,18 +9,16 @@ use Rattle.wm_base.specs.Key.{key_order}
 use Rattle.wm_base.specs.declared.row.Row.{Row}
 use Rattle.wm_base.specs.declared.value.Value.{Value}
 use Rattle.wm_graph.specs.Parts.{Parts, row_of}
-use Rattle.wm_period.specs.Pieces.{Held}
-use Rattle.wm_spec.specs.Lists.{Entry, Cell, Told, told, stamp_at, standing_stamp}
-use Rattle.wm_spec.specs.Stretches.{Stretch, value_at, AreMaximal, rows, rows_from, rows_of_key, keys}
+use Rattle.wm_spec.specs.Lists.{Cell, Told, told, stamp_at, standing_stamp}
+use Rattle.wm_spec.specs.Stretches.{Stretch, value_at, AreMaximal, rows, rows_of_key, keys}
 use Rattle.wm_spec.specs.declared.record.piece.PieceRecord.{PieceRecord}
 use Rattle.wm_spec.specs.declared.record.row.RowRecord.{RowRecord}
 use Rattle.wm_spec.proofs.Stretches.{value-rows, AreMaximal-rows}
 use Rattle.wm_tree.specs.declared.version.Version.{Version as Node}
 use Rattle.wm_state.specs.State.{State, Workspace, content, workspace_of}
-use Rattle.wm_state.specs.Standing.{held_of, held_by, covers_at, stored_at, seen_at, newest_first, latest, shown, Stands}
-use Rattle.wm_state.specs.Listing.{standing, stamp_shown, KeysAscend, is_key_in, AreRowsOf, listed, row_on, row_with, is_unwritten, IsListing, Groups, keys_of, joined, AreAllRowsOf}
+use Rattle.wm_state.specs.Standing.{held_of, stored_at, seen_at, newest_first, latest, Stands}
+use Rattle.wm_state.specs.Listing.{standing, stamp_shown, is_key_in, listed, row_on, row_with, is_unwritten, IsListing, Groups, keys_of, joined, AreAllRowsOf}
 use Rattle.wm_state.proofs.Listing.{one_rows, rows_of, Covers, listed_same, first-listed, keys-ascend, no_rows_of, first-held, behind-held, either_false}
-use Rattle.wm_state.proofs.Tests.{bool_apart, both}
 
 -- ---- a key of which there is no piece
 
@@ -119,7 +117,7 @@ all_there p s n w st is table [] = refl
 all_there p s n w st is table (k ∷ ks) =
     filter_map-append (row_with p) (map (λ x. (k, x)) (rows_of_key (content w) table k)) (listed (rows_of_key (content w) table) ks)
     ∙ ap (λ rs. rs ++ filter_map (row_with p) (listed (rows_of_key (content w) table) ks))
-        (rows_there p s n w st is table k (rows_of_key (content w) table k) 0 (AreMaximal-rows (content w) table k) (λ t le. value-rows (content w) table k t))
+    (rows_there p s n w st is table k (rows_of_key (content w) table k) 0 (AreMaximal-rows (content w) table k) (λ t le. value-rows (content w) table k t))
     ∙ ap (λ rs. filter_map (row_on (content w) table) (map (λ x. (k, x)) (rows_of_key (content w) table k)) ++ rs) (all_there p s n w st is table ks)
     ∙ sym (filter_map-append (row_on (content w) table) (map (λ x. (k, x)) (rows_of_key (content w) table k)) (listed (rows_of_key (content w) table) ks))
 
@@ -134,10 +132,10 @@ pub listing_is : (p : Parts) (s : State) (n : ℕ) (w : Workspace) (table : ℕ)
 listing_is p s n w table out st is l =
     l.are
     ∙ ap (filter_map (row_with p))
-        (joined_is l.groups l.held
-        ∙ listed_same (rows_of_key (content w) table) (keys_of l.groups) (keys (content w) table) l.ascend (keys-ascend (content w) table)
-            (covered (rows_of_key (content w) table) (keys_of l.groups) (keys (content w) table) (no_rows_of (content w) table))
-            (covered (rows_of_key (content w) table) (keys (content w) table) (keys_of l.groups) (λ k out. no_rows k (l.whole k out))))
+    (joined_is l.groups l.held
+    ∙ listed_same (rows_of_key (content w) table) (keys_of l.groups) (keys (content w) table) l.ascend (keys-ascend (content w) table)
+    (covered (rows_of_key (content w) table) (keys_of l.groups) (keys (content w) table) (no_rows_of (content w) table))
+    (covered (rows_of_key (content w) table) (keys (content w) table) (keys_of l.groups) (λ k out. no_rows k (l.whole k out))))
     ∙ all_there p s n w st is table (keys (content w) table)
     ∙ ap (filter_map (row_on (content w) table)) (sym (first-listed (content w) table (keys (content w) table)))
   where

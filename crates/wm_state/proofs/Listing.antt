@@ -1,23 +1,19 @@
 -- The rows of a table are determined by what is held at each cell, and by any keys that have all that hold something.
-use Rattle.std.proofs.Common.{◌≡◌, ◌≢◌, ℕ, ◌<◌, ◌≤◌, ◌==◌, ◌&&◌, ◌||◌, nat_lt, nat_le, Bool, true, false, not, cond, if◌then◌else◌, List, [], ◌∷◌, ◌++◌, map, Option, Some, None, refl, sym, ap, subst, ◌∙◌, ◌⊎◌, inl, inr, arith}
-use Rattle.std.proofs.lemmas.Bool.{cases_eq, eq-eqb, ne_eqb, eqb-true}
-use Rattle.std.specs.Bool.{then_some}
-use Rattle.std.specs.Cmp.{IsTotalOrder}
-use Rattle.std.specs.List.{list_any}
-use Rattle.std.specs.Option.{option_or, option_map, option_and_then}
+use Rattle.std.proofs.Common.{◌≡◌, ◌≢◌, ℕ, ◌<◌, ◌≤◌, ◌==◌, ◌&&◌, ◌||◌, nat_lt, nat_le, Bool, true, false, if◌then◌else◌, List, [], ◌∷◌, ◌++◌, map, Option, Some, None, refl, sym, ap, subst, ◌∙◌, ◌⊎◌, inl, inr, arith}
+use Rattle.std.proofs.lemmas.Bool.{cases_eq}
+use Rattle.std.specs.Option.{option_or}
 use Rattle.std.specs.Ordering.{is_eq, is_lt}
 use Rattle.std.specs.declared.cmp.Ordering.{Ordering}
 use Rattle.std.specs.declared.cmp.Ordering.TheVariants.{Less, Equal, Greater}
 use Rattle.wm_base.specs.Key.{key_order}
 use Rattle.wm_base.specs.Orders.{key_order_total, key_order-itself, key_order-equal}
 use Rattle.wm_base.specs.declared.value.Value.{Value}
-use Rattle.wm_spec.specs.Lists.{Entry, Cell, Told, told, stamp_at, is_of, standing_stamp}
-use Rattle.wm_spec.specs.Stretches.{Stretch, value_at, AreMaximal, IsApart, rows, rows_from, rows_of_key, keys, key_in, cuts, stretches}
+use Rattle.wm_spec.specs.Lists.{Entry, stamp_at}
+use Rattle.wm_spec.specs.Stretches.{Stretch, value_at, AreMaximal, rows_from, rows_of_key, keys, key_in, cuts, stretches}
 use Rattle.wm_spec.proofs.Stretches.{value-rows, AreMaximal-rows}
-use Rattle.wm_state.specs.Standing.{held_of}
-use Rattle.wm_state.specs.Listing.{standing, stamp_shown, ComesBefore, KeysAscend, is_key_in, AreRowsOf, listed}
+use Rattle.wm_state.specs.Listing.{stamp_shown, ComesBefore, KeysAscend, is_key_in, AreRowsOf, listed}
 use Rattle.wm_state.proofs.Tests.{bool_apart}
-use Rattle.wm_state.proofs.Laying.{key_same, key_itself}
+use Rattle.wm_state.proofs.Laying.{key_same}
 
 -- ---- stretches are determined by what they hold
 
@@ -106,7 +102,7 @@ one_rows (a ∷ xs) (b ∷ ys) low one two same = by_from (compared a.from b.fro
     by_till from stamp (inr (inl till)) rest =
         ap (λ (s : Stretch). s ∷ xs) (stretch_same a b from till stamp)
         ∙ ap (λ (ss : List Stretch). b ∷ ss) (rest a.till one.3 (by_low (sym till) two.3)
-            (λ t le. sym (behind-held a xs t le) ∙ same t (omega (arith, one.0, one.1, le)) ∙ behind-held b ys t (omega (arith, till, le))))
+        (λ t le. sym (behind-held a xs t le) ∙ same t (omega (arith, one.0, one.1, le)) ∙ behind-held b ys t (omega (arith, till, le))))
       where
         by_low : b.till ≡ a.till → AreMaximal b.till ys → AreMaximal a.till ys
         by_low e max = rw (sym e) max
@@ -184,7 +180,7 @@ listed_same f (x ∷ xs) (y ∷ ys) one two left right = by_order (key_order x y
         let same : x ≡ y = key_order-equal x y e in
         ap (λ k. map (λ s. (k, s)) (f k) ++ listed f xs) same
         ∙ ap (λ rest. map (λ s. (y, s)) (f y) ++ rest)
-            (both (covers-drop f y xs ys (subst (λ k. ComesBefore k xs) same one.0) left.1) (covers-drop f x ys xs (subst (λ k. ComesBefore k ys) (sym same) two.0) right.1))
+        (both (covers-drop f y xs ys (subst (λ k. ComesBefore k xs) same one.0) left.1) (covers-drop f x ys xs (subst (λ k. ComesBefore k ys) (sym same) two.0) right.1))
 
 -- ---- the keys of a list of entries
 

@@ -1,7 +1,7 @@
 -- The records stand for the state after the batches that lines make.
-use Rattle.std.proofs.Common.{◌≡◌, ◌≢◌, ℕ, ◌<◌, ◌+◌, ◌==◌, nat_lt, Bool, true, false, not, cond, if◌then◌else◌, List, [], ◌∷◌, ◌++◌, map, Option, Some, None, refl, sym, ap, subst, ◌∙◌, ◌⊎◌, inl, inr, arith}
+use Rattle.std.proofs.Common.{◌≡◌, ◌≢◌, ℕ, ◌+◌, ◌==◌, Bool, true, false, not, cond, if◌then◌else◌, List, [], ◌∷◌, ◌++◌, map, Some, refl, sym, ap, subst, ◌∙◌, ◌⊎◌, inl, inr, arith}
 use Rattle.std.proofs.lemmas.Bool.{cases_eq, eq-eqb, ne_eqb}
-use Rattle.std.specs.List.{filter, filter_map}
+use Rattle.std.specs.List.{filter}
 use Rattle.wm_base.specs.declared.row.Row.{Row}
 use Rattle.wm_graph.specs.Parts.{Parts, parts_of, as_table, as_space}
 use Rattle.wm_graph.specs.Rules.{are_counters, is_table}
@@ -189,10 +189,10 @@ parts-inserted ss counters_id space_id old new a test ids id r x sorted counters
     by_split s =
         let spaces : (parts_of first).spaces ≡ kinds as_space s.front ++ a ∷ kinds as_space s.back = ap (λ xs. (parts_of xs).spaces) s.is ∙ spaces-split s.front s.back space_id a in
         let parts_second : parts_of second ≡ record (recounted (parts_of ss) new) { spaces = kinds as_space s.front ++ longer a ∷ kinds as_space s.back } =
-            ap parts_of (ap (set_at space_id (Some (records.Space (longer a)))) s.is ∙ set-split s.front s.back space_id (records.Space a) (records.Space (longer a)) (subst (λ xs. Ascend xs) s.is sorted_first))
-            ∙ parts-spaced s.front s.back space_id a (longer a)
-            ∙ ap (λ xs. record (parts_of xs) { spaces = kinds as_space s.front ++ longer a ∷ kinds as_space s.back }) (sym s.is)
-            ∙ ap (λ (p : Parts). record p { spaces = kinds as_space s.front ++ longer a ∷ kinds as_space s.back }) parts_first in
+        ap parts_of (ap (set_at space_id (Some (records.Space (longer a)))) s.is ∙ set-split s.front s.back space_id (records.Space a) (records.Space (longer a)) (subst (λ xs. Ascend xs) s.is sorted_first))
+        ∙ parts-spaced s.front s.back space_id a (longer a)
+        ∙ ap (λ xs. record (parts_of xs) { spaces = kinds as_space s.front ++ longer a ∷ kinds as_space s.back }) (sym s.is)
+        ∙ ap (λ (p : Parts). record p { spaces = kinds as_space s.front ++ longer a ∷ kinds as_space s.back }) parts_first in
         record {
           front = kinds as_space s.front;
           back = kinds as_space s.back;
@@ -227,8 +227,8 @@ plan_readied ss counters_id id old new t s u st sorted counters one found key co
     let r = parts-readied ss counters_id id old new t sorted counters one found in
     subst (λ p. Stands p u) (sym r.is)
     (Stands-readied (parts_of ss) new r.front t r.back s u st r.old key counts
-        (λ c is_one. let same : old ≡ c = only old c (sym one ∙ is_one) in (versions ∙ ap (λ (k : Counters). k.next_version) same, stamps ∙ ap (λ (k : Counters). k.next_stamp) same))
-        spaces tables (stands r.front r.back))
+    (λ c is_one. let same : old ≡ c = only old c (sym one ∙ is_one) in (versions ∙ ap (λ (k : Counters). k.next_version) same, stamps ∙ ap (λ (k : Counters). k.next_stamp) same))
+    spaces tables (stands r.front r.back))
   where
     only : (a b : Counters) → (a ∷ []) ≡ (b ∷ []) → a ≡ b
     only a b h = cc

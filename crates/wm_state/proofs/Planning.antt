@@ -1,13 +1,11 @@
 -- The parts of the records after the batches that lines make.
-use Rattle.std.proofs.Common.{◌≡◌, ◌≢◌, ℕ, ◌<◌, ◌+◌, ◌==◌, nat_lt, Bool, true, false, not, cond, List, [], ◌∷◌, ◌++◌, map, Option, Some, None, refl, sym, ap, subst, ◌∙◌, ◌⊎◌, inl, inr, arith}
-use Rattle.std.proofs.lemmas.Bool.{cases_eq, eq-eqb, ne_eqb}
-use Rattle.std.specs.List.{filter, filter_map}
-use Rattle.wm_graph.specs.Parts.{Parts, parts_of, parts_in, as_counters, as_table, as_space, as_version, as_row, as_piece}
+use Rattle.std.proofs.Common.{◌≡◌, ℕ, Bool, true, List, [], ◌∷◌, ◌++◌, Some, refl, sym, ap, subst, ◌∙◌}
+use Rattle.std.specs.List.{filter}
+use Rattle.wm_graph.specs.Parts.{Parts, parts_of, as_counters, as_table, as_space, as_version, as_row, as_piece}
 use Rattle.wm_spec.specs.Records.{record_at}
 use Rattle.wm_spec.specs.declared.record.Record.{Record}
 use Rattle.wm_spec.specs.declared.record.Record.TheVariants as records
 use Rattle.wm_spec.specs.declared.record.stored.Stored.{Stored}
-use Rattle.wm_spec.specs.declared.record.batch.Change.{Change}
 use Rattle.wm_spec.specs.declared.record.counters.Counters.{Counters}
 use Rattle.wm_spec.specs.declared.record.piece.PieceRecord.{PieceRecord}
 use Rattle.wm_spec.specs.declared.record.row.RowRecord.{RowRecord}
@@ -15,11 +13,9 @@ use Rattle.wm_spec.specs.declared.record.space.Space.{Space}
 use Rattle.wm_spec.specs.declared.record.table.Table.{Table}
 use Rattle.wm_spec.specs.declared.record.version.Version.{Version}
 use Rattle.wm_state.specs.ById.{Ascend, set_at, applied}
-use Rattle.wm_state.specs.Batches.{keeps, AllUnder, put, create_batch, enable_batch, insert_batch, ready}
-use Rattle.wm_state.proofs.ById.{Ascend-set}
+use Rattle.wm_state.specs.Batches.{keeps, AllUnder, create_batch}
 use Rattle.wm_state.proofs.ByKind.{kinds, stored, Split, split_of, set-split, set-behind, kinds-same, kinds-one, kinds-more, kinds-no_more, kinds-kept, kinds-filter}
 use Rattle.wm_state.proofs.Tables.{created}
-use Rattle.wm_state.proofs.Enabling.{readied}
 
 -- the parts, kind by kind
 abbrev made : List Counters → List Table → List Space → List Version → List RowRecord → List PieceRecord → Parts
@@ -196,9 +192,9 @@ parts-created ss counters_id id old new t sorted found one none under = by_split
     by_split : Split ss counters_id (records.Counters old) → parts_of (set_at id (Some (records.Table t)) (set_at counters_id (Some (records.Counters new)) ss)) ≡ created (parts_of ss) new t
     by_split s =
         let first : set_at counters_id (Some (records.Counters new)) ss ≡ s.front ++ stored counters_id (records.Counters new) ∷ s.back =
-            ap (set_at counters_id (Some (records.Counters new))) s.is ∙ set-split s.front s.back counters_id (records.Counters old) (records.Counters new) (subst (λ xs. Ascend xs) s.is sorted) in
+        ap (set_at counters_id (Some (records.Counters new))) s.is ∙ set-split s.front s.back counters_id (records.Counters old) (records.Counters new) (subst (λ xs. Ascend xs) s.is sorted) in
         let second : set_at id (Some (records.Table t)) (s.front ++ stored counters_id (records.Counters new) ∷ s.back) ≡ (s.front ++ stored counters_id (records.Counters new) ∷ s.back) ++ stored id (records.Table t) ∷ [] =
-            set-behind (s.front ++ stored counters_id (records.Counters new) ∷ s.back) id (records.Table t) (AllUnder-put id s.front s.back counters_id (records.Counters old) (records.Counters new) (subst (λ xs. AllUnder id xs) s.is under)) in
+        set-behind (s.front ++ stored counters_id (records.Counters new) ∷ s.back) id (records.Table t) (AllUnder-put id s.front s.back counters_id (records.Counters old) (records.Counters new) (subst (λ xs. AllUnder id xs) s.is under)) in
         ap parts_of (ap (set_at id (Some (records.Table t))) first ∙ second)
         ∙ parts-more_table (s.front ++ stored counters_id (records.Counters new) ∷ s.back) id t
         ∙ ap (λ (p : Parts). record p { tables = p.tables ++ t ∷ [] }) (parts-counted s.front s.back counters_id old new (subst (λ xs. (parts_of xs).counters ≡ old ∷ []) s.is one) ∙ ap (λ xs. recounted (parts_of xs) new) (sym s.is))

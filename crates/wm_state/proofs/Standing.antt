@@ -1,5 +1,5 @@
 -- The records stand for the state that a change makes.
-use Rattle.std.proofs.Common.{◌≡◌, ◌≢◌, ℕ, Bool, true, false, cond, List, [], ◌∷◌, ◌++◌, Option, Some, None, is_some, is_none, refl, sym, ap, ◌∙◌, ◌==◌, ◌⊎◌, inl, inr, ⊎_elim, length, ◌+◌, length-append, arith}
+use Rattle.std.proofs.Common.{◌≡◌, ◌≢◌, ℕ, Bool, true, false, cond, List, [], ◌∷◌, Option, Some, None, is_some, refl, sym, ap, ◌∙◌, ◌==◌, ◌⊎◌, inl, inr, ⊎_elim, ◌+◌, length-append}
 use Rattle.std.proofs.lemmas.Bool.{cases_eq, eq-eqb, ne_eqb}
 use Rattle.std.specs.Bool.{then_some}
 use Rattle.std.specs.Option.{option_or, option_map}
@@ -12,7 +12,7 @@ use Rattle.wm_spec.specs.declared.record.row.RowRecord.{RowRecord}
 use Rattle.wm_spec.specs.declared.record.space.Space.{Space}
 use Rattle.wm_spec.proofs.Lists.{told-push}
 use Rattle.wm_state.specs.State.{State, begin, Workspace, content, workspace_of, with_space, with_entries}
-use Rattle.wm_state.specs.Standing.{held_of, stored_at, seen_at, own_at, newest_first, latest, shown, owned, fields_of, fields_in, CountersStand, TablesStand, SpacesStand, LatestStand, OwnStand, RowsStand, Stands, SpaceFields, by_number}
+use Rattle.wm_state.specs.Standing.{held_of, stored_at, seen_at, own_at, newest_first, latest, fields_of, fields_in, CountersStand, TablesStand, SpacesStand, LatestStand, OwnStand, RowsStand, Stands, SpaceFields, by_number}
 use Rattle.wm_state.specs.Effects.{Wrote, longer, AreLaid}
 use Rattle.wm_state.proofs.Nearest.{SameAway, seen-away, seen-here, own-away, own-here}
 use Rattle.wm_state.proofs.Changing.{workspace_of-changed, told-with_entries}
@@ -96,12 +96,12 @@ LatestStand-wrote p q s t n e w spaces there stand = record { told = λ m new is
     by_case : (m : ℕ) (c : Cell) (new : Workspace) → Was n e s.spaces m new → seen_at q.pieces (newest_first p.versions) (latest p m) c ≡ option_map held_of (told (content new) c)
     by_case m c new x = ⊎_elim
         (λ h. rw (h.0, h.1, told-with_entries e x.old c)
-            (seen-here (latest p n) p.pieces q.pieces c _ (laid-away (latest p n) e p.pieces q.pieces c w.pieces) (laid-here (latest p n) e p.pieces q.pieces c w.pieces) (newest_first p.versions) w.leaf w.apart.there
-            ∙ ap (λ o. option_or (then_some (covers e c) (held_of (told_of e))) o) (stand.told n x.old (ap (workspace_of s.spaces) (sym h.0) ∙ x.is) c)
-            ∙ map-or (covers e c) (told_of e) (told (content x.old) c)))
+        (seen-here (latest p n) p.pieces q.pieces c _ (laid-away (latest p n) e p.pieces q.pieces c w.pieces) (laid-here (latest p n) e p.pieces q.pieces c w.pieces) (newest_first p.versions) w.leaf w.apart.there
+        ∙ ap (λ o. option_or (then_some (covers e c) (held_of (told_of e))) o) (stand.told n x.old (ap (workspace_of s.spaces) (sym h.0) ∙ x.is) c)
+        ∙ map-or (covers e c) (told_of e) (told (content x.old) c)))
         (λ h. rw h.1
-            (seen-away (latest p n) p.pieces q.pieces c (laid-away (latest p n) e p.pieces q.pieces c w.pieces) (newest_first p.versions) w.leaf (latest p m) (w.apart.others m (ne_eqb _ _ h.0) (has_record p s there m x.old x.is))
-            ∙ stand.told m x.old x.is c))
+        (seen-away (latest p n) p.pieces q.pieces c (laid-away (latest p n) e p.pieces q.pieces c w.pieces) (newest_first p.versions) w.leaf (latest p m) (w.apart.others m (ne_eqb _ _ h.0) (has_record p s there m x.old x.is))
+        ∙ stand.told m x.old x.is c))
         x.how
 
 -- the record of a workspace before, where it has one after
@@ -145,15 +145,15 @@ OwnStand-wrote p q s t n e w spaces there stand = record {
             → is_some (own_at q.pieces (newest_first p.versions) r.base_version (latest p m) c) ≡ touched new.lists.own c
         by_both (inl h) (inl k) = rw (base_same k.1, h.0, h.1)
             (ap is_some (own-here (latest p n) p.pieces q.pieces c (then_some (covers e c) (held_of (told_of e))) (laid-away (latest p n) e p.pieces q.pieces c w.pieces)
-                (laid-here (latest p n) e p.pieces q.pieces c w.pieces) y.old.base_version (w.apart.above y.old (ap (space_of p.spaces) (sym h.0) ∙ y.is)) (newest_first p.versions) w.leaf w.apart.there)
+            (laid-here (latest p n) e p.pieces q.pieces c w.pieces) y.old.base_version (w.apart.above y.old (ap (space_of p.spaces) (sym h.0) ∙ y.is)) (newest_first p.versions) w.leaf w.apart.there)
             ∙ some-or (covers e c) (told_of e) (own_at p.pieces (newest_first p.versions) y.old.base_version (latest p n) c) (told x.old.lists.own c)
-                (stand.covered n x.old y.old (ap (workspace_of s.spaces) (sym h.0) ∙ x.is) (ap (space_of p.spaces) (sym h.0) ∙ y.is) c)
+            (stand.covered n x.old y.old (ap (workspace_of s.spaces) (sym h.0) ∙ x.is) (ap (space_of p.spaces) (sym h.0) ∙ y.is) c)
             ∙ ap is_some (sym (told-push x.old.lists.own e c)))
         by_both (inl h) (inr k) = absurd (k.0 h.0)
         by_both (inr h) (inl k) = absurd (h.0 k.0)
         by_both (inr h) (inr k) = rw (h.1, k.1)
             (ap is_some (own-away (latest p n) p.pieces q.pieces c (laid-away (latest p n) e p.pieces q.pieces c w.pieces) y.old.base_version (newest_first p.versions) w.leaf (latest p m)
-                (w.apart.others m (ne_eqb _ _ h.0) (has_record p s there m x.old x.is)))
+            (w.apart.others m (ne_eqb _ _ h.0) (has_record p s there m x.old x.is)))
             ∙ stand.covered m x.old y.old x.is y.is c)
 
 RowsStand-wrote : (p q : Parts) (s t : State) (n : ℕ) (e : Entry) → Wrote p q n e → t.spaces ≡ appended n e s.spaces → RowsStand p s → RowsStand q t

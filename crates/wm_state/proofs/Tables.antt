@@ -1,21 +1,18 @@
 -- The records with a table made, or with one ready for rows.
-use Rattle.std.proofs.Common.{◌≡◌, ◌≢◌, ℕ, ◌<◌, ◌==◌, nat_lt, nat_le, Bool, true, false, not, ◌&&◌, ◌||◌, cond, if◌then◌else◌, List, [], ◌∷◌, ◌++◌, Option, Some, None, is_some, refl, sym, ap, subst, ◌∙◌, ◌⊎◌, inl, inr, length, length-append, arith}
-use Rattle.std.proofs.lemmas.Bool.{cases_eq, eq-eqb, ne_eqb, eqb-true}
-use Rattle.std.specs.List.{list_all, list_any, find}
-use Rattle.std.specs.Option.{option_map_or, option_and_then}
-use Rattle.std.specs.Str.{bytes_eq}
+use Rattle.std.proofs.Common.{◌≡◌, ℕ, ◌==◌, nat_lt, nat_le, Bool, true, false, ◌&&◌, ◌||◌, cond, List, [], ◌∷◌, is_some, refl, sym, ap, ◌∙◌}
+use Rattle.std.specs.List.{list_all}
+use Rattle.std.specs.Option.{option_map_or}
 use Rattle.wm_base.specs.declared.instant.TheConstants.{END}
-use Rattle.wm_graph.specs.Parts.{Parts, table_of, space_of, version_of, row_of}
-use Rattle.wm_graph.specs.Rules.{keep_rules, are_counters, are_tables, is_table, are_spaces, are_versions, are_rows, is_row, is_row_of, are_pieces, is_piece, is_row_at, are_cells, is_key_of, key_of, is_key, collide, differ}
+use Rattle.wm_graph.specs.Parts.{Parts, table_of, version_of, row_of}
+use Rattle.wm_graph.specs.Rules.{keep_rules, are_counters, are_tables, is_table, are_spaces, are_versions, are_rows, is_row, is_row_of, are_pieces, is_piece, is_row_at, is_key_of, collide, differ}
 use Rattle.wm_spec.specs.declared.record.counters.Counters.{Counters}
-use Rattle.wm_spec.specs.declared.record.piece.PieceRecord.{PieceRecord}
 use Rattle.wm_spec.specs.declared.record.row.RowRecord.{RowRecord}
 use Rattle.wm_spec.specs.declared.record.table.Table.{Table}
-use Rattle.wm_state.specs.State.{State, enabled}
-use Rattle.wm_state.specs.Standing.{by_number, place_table, CountersStand, TablesStand, Stands}
-use Rattle.wm_state.proofs.Tests.{bool_apart, both, and_true, not_true, either_false, all_if, all_swap, all_middle, differ_swap, find_swap}
-use Rattle.wm_state.proofs.Apart.{Ruled, ruled}
-use Rattle.wm_state.proofs.Standing.{Retabled, Stands-retabled}
+use Rattle.wm_state.specs.State.{State}
+use Rattle.wm_state.specs.Standing.{by_number, place_table, CountersStand, Stands}
+use Rattle.wm_state.proofs.Tests.{bool_apart, both, and_true}
+use Rattle.wm_state.proofs.Apart.{ruled}
+use Rattle.wm_state.proofs.Standing.{Stands-retabled}
 
 -- ---- a table is made, where there was none
 
@@ -41,7 +38,7 @@ no_pieces p next none e =
     let h = both (differ collide p.pieces) (list_all (is_piece (table_of p.tables) (version_of p.versions) (row_of p.rows) next) p.pieces) e in
     none_passes (is_piece (table_of p.tables) (version_of p.versions) (row_of p.rows) next)
     (λ x. and_false (is_some (version_of p.versions x.version)) _ (ap (λ b. b && (nat_lt x.stamp next && (x.gone || option_map_or (is_row_at (table_of p.tables) x.cells) (row_of p.rows x.stamp) false)))
-        (and_false (nat_lt x.cells.from x.cells.till && nat_le x.cells.till END) _ (ap (λ ts. option_map_or (is_key_of x.cells.key) (table_of ts x.cells.table) false) none))))
+    (and_false (nat_lt x.cells.from x.cells.till && nat_le x.cells.till END) _ (ap (λ ts. option_map_or (is_key_of x.cells.key) (table_of ts x.cells.table) false) none))))
     p.pieces h.1
 
 pub keep-created : (p : Parts) (new : Counters) (t : Table) → keep_rules p ≡ true → p.tables ≡ [] → are_counters new ≡ true → ((c : Counters) → p.counters ≡ c ∷ [] → new.next_version ≡ c.next_version)
@@ -55,8 +52,8 @@ keep-created p new t rules none counted versions is =
     (and_true (are_spaces p.spaces) _ r.spaces
     (and_true (are_versions q new.next_version) _ (ap (are_versions q) (versions r.counters r.one) ∙ r.versions)
     (and_true (are_rows q new.next_stamp) (are_pieces q new.next_stamp)
-        (ap (λ rows. are_rows (record q { rows = rows }) new.next_stamp) (no_rows p r.counters.next_stamp none r.rows))
-        (ap (λ pieces. are_pieces (record q { pieces = pieces }) new.next_stamp) (no_pieces p r.counters.next_stamp none r.pieces))))))
+    (ap (λ rows. are_rows (record q { rows = rows }) new.next_stamp) (no_rows p r.counters.next_stamp none r.rows))
+    (ap (λ pieces. are_pieces (record q { pieces = pieces }) new.next_stamp) (no_pieces p r.counters.next_stamp none r.pieces))))))
 
 -- no table is first by number where there is none
 place-some : (t : Table) (ts : List Table) → place_table t ts ≡ [] → ⊥

@@ -8,7 +8,7 @@ use Rattle.wm_base.specs.Key.{key_order}
 use Rattle.wm_base.specs.declared.row.Row.{Row}
 use Rattle.wm_base.specs.declared.value.Value.{Value}
 use Rattle.wm_period.specs.Pieces.{Held}
-use Rattle.wm_spec.specs.Lists.{Entry, Cell, Told, told}
+use Rattle.wm_spec.specs.Lists.{Entry, Told, told}
 use Rattle.wm_spec.specs.Stretches.{Stretch, AreMaximal, value_at}
 use Rattle.wm_graph.specs.Parts.{Parts, row_of}
 use Rattle.wm_spec.specs.declared.record.piece.PieceRecord.{PieceRecord}
