@@ -1,5 +1,6 @@
 pub mod Committing
 pub mod Freshly
+pub mod Mending
 pub mod Opening
 pub mod Pasts
 pub mod Reading

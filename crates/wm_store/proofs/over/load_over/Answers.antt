@@ -1,29 +1,23 @@
-use Rattle.std.proofs.Common.{rules, ◌≡◌, ℕ, ◌*◌, ◌/◌, ◌<◌, ◌≤◌, ◌==◌, not, length, is_some, Ok, IfOk, IfErr, OnOk, IsErrOf, ◌+◌, ◌-◌, ◌%◌, Bool, true, false, nat_eq, nat_lt, List, [], ◌∷◌, ◌++◌, slice_index_or, slice_set, bit_and, bit_or, Fits, w8, w32, w64, Bor, MutBor}
-use Rattle.wm_base.specs.declared.fault.OpenFault.TheVariants as opening
-use Rattle.wm_base.specs.declared.fault.StoreFault.TheVariants as storing
-use Rattle.wm_page.specs.Batch.{entries}
-use Rattle.wm_station.specs.Cause.{Rises}
+use Rattle.std.proofs.Common.{◌≡◌, ◌*◌, ◌≤◌, length, arith}
+use Rattle.std.proofs.lemmas.Result.{err_from_is_err_and}
 use Rattle.wm_station.specs.History.{now}
 use Rattle.wm_journal.specs.Disk.{page}
-use Rattle.wm_heap.specs.Blobs.{AreBlobs, AreSmall, change_something}
-use Rattle.wm_heap.specs.Places.{place_of, page_count, IsHeapOf}
-use Rattle.wm_heap.specs.Plan.{IsPlan, IsChanged}
-use Rattle.wm_store.specs.Answers.{FindsIn}
-use Rattle.wm_store.specs.Opened.{pages_opened}
+use Rattle.wm_store.proofs.Mending.{load_fault, read_fault_in, records_found, size_found}
 use Rattle.wm_store.proofs.over.load_over.Goals as goal
 
--- src/over.rt:51:16
 pub returns-in_err-heap-clause-fault : goal.returns-in_err-heap-clause-fault
-returns-in_err-heap-clause-fault g c = ?
+returns-in_err-heap-clause-fault g c = λ t.
+    let p = err_from_is_err_and c.from_residual.result c.from_residual.ensures.1 in
+    rw (p.1, p.2) (load_fault (g.P.Station.history c.args.station.now) (g.P.Station.history c.whole_pages.new.station) c.in_err-heap.field-0.0 c.args.count c.in-Ok.whole (c.in-Ok.ensures.told t) (c.in-Ok.ensures.whole t) (c.in_err-heap.ensures.fault t))
 
--- src/over.rt:52:19
 pub returns-in_err-records-clause-fault : goal.returns-in_err-records-clause-fault
-returns-in_err-records-clause-fault g c = ?
+returns-in_err-records-clause-fault g c = λ t.
+    let p = err_from_is_err_and c.from_residual-in_err-records.result c.from_residual-in_err-records.ensures.1 in
+    rw (p.1, p.2) (read_fault_in (g.P.Station.history c.args.station.now) (g.P.Station.history c.whole_pages.new.station) c.in_err-records.field-0.0 (page (now (g.P.Station.history c.load.new.pages.station.now))) c.args.count c.in-Ok.whole c.load.new.pages.count (c.in-Ok.ensures.told t) (c.in-Ok.ensures.whole t) (c.in_ok-heap.ensures.undamaged t) (c.in_ok-heap.ensures.told t) c.in_ok-heap.ensures.in_use (c.in_err-records.ensures.fault t))
 
--- src/over.rt:25:1
 pub returns-clause-size : goal.returns-clause-size
-returns-clause-size g c = ?
+returns-clause-size g c = λ t. size_found (now (g.P.Station.history c.args.station.now)) c.args.count c.in-Ok.whole c.requires (c.in-Ok.ensures.whole t) c.in_ok-heap.ensures.whole
 
--- src/over.rt:25:1
 pub returns-clause-records : goal.returns-clause-records
-returns-clause-records g c = ?
+returns-clause-records g c = λ t.
+    records_found (g.P.Station.history c.args.station.now) (g.P.Station.history c.whole_pages.new.station) (page (now (g.P.Station.history c.load.new.pages.station.now))) c.args.count c.in-Ok.whole c.load.new.pages.count c.in_ok-records.records (c.in-Ok.ensures.told t) (c.in-Ok.ensures.whole t) (c.in_ok-heap.ensures.undamaged t) (c.in_ok-heap.ensures.told t) c.in_ok-heap.ensures.in_use (c.in_ok-records.ensures.none t) (c.in_ok-records.ensures.records t)

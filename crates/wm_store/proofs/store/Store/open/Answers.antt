@@ -1,0 +1,60 @@
+use Rattle.std.proofs.Common.{◌≡◌, ℕ, ◌*◌, ◌≤◌, ◌⊎◌, List, length, sym, ap, subst, ◌∙◌}
+use Rattle.std.proofs.lemmas.Result.{err_from_is_err_and}
+use Rattle.wm_station.specs.History.{History, now, said, Leaves}
+use Rattle.wm_station.specs.Moments.{Holds, During}
+use Rattle.wm_journal.specs.Disk.{page}
+use Rattle.wm_journal.specs.Store.{IsAtRest, Keeps}
+use Rattle.wm_heap.specs.Places.{IsHeapOf}
+use Rattle.wm_store.specs.Opened.{Held, SaysAs}
+use Rattle.wm_store.specs.Stores.{IsStoreOf}
+use Rattle.wm_store.proofs.Opening.{opened-closed}
+use Rattle.wm_store.proofs.Mending.{says_of, says_as, says_in, moments_say, held_on, store_on}
+use Rattle.wm_store.proofs.store.Store.open.Goals as goal
+
+pub returns-in_err-journal-clause-fault : goal.returns-in_err-journal-clause-fault
+returns-in_err-journal-clause-fault g c = λ t.
+    let p = err_from_is_err_and c.from_residual.result c.from_residual.ensures.1 in
+    rw (p.1, p.2) (says_of c.in_err-journal.field-0.0 (now (g.P.Station.history c.args.station.now)) (c.in_err-journal.ensures.fault t))
+
+pub returns-in_err-journal-clause-same : goal.returns-in_err-journal-clause-same
+returns-in_err-journal-clause-same g c = λ t. says_as (now (g.P.Station.history c.args.station.now)) (now (g.P.Station.history c.open.new.station)) (c.in_err-journal.ensures.keeps t)
+
+pub returns-in_err-journal-clause-any_moment : goal.returns-in_err-journal-clause-any_moment
+returns-in_err-journal-clause-any_moment g c = λ t. moments_say (g.P.Station.history c.args.station.now) (g.P.Station.history c.open.new.station) (c.in_err-journal.ensures.any_moment t)
+
+pub returns-in_err-heap-clause-fault : goal.returns-in_err-heap-clause-fault
+returns-in_err-heap-clause-fault g c = λ t.
+    let p = err_from_is_err_and c.from_residual-in_err-heap.result c.from_residual-in_err-heap.ensures.1 in
+    rw (p.1, p.2) (says_in c.in_err-heap.field-0.0 (now (g.P.Station.history c.args.station.now)) (now (g.P.Station.history c.open.new.station)) c.count.result (c.in_ok-journal.ensures.store t).0 (opened-closed (now (g.P.Station.history c.args.station.now)) (now (g.P.Station.history c.open.new.station)) c.count.result (c.in_ok-journal.ensures.store t).1 (c.in_ok-journal.ensures.keeps t) (c.in_ok-journal.ensures.closed t) (c.count.ensures.value ∙ c.in_ok-journal.ensures.count t)) (c.in_err-heap.ensures.fault t))
+
+pub returns-in_err-heap-clause-same : goal.returns-in_err-heap-clause-same
+returns-in_err-heap-clause-same g c = λ t.
+    subst (λ (h : History). SaysAs (now (g.P.Station.history c.args.station.now)) (now h)) (sym (c.in_err-heap.ensures.told t)) (says_as (now (g.P.Station.history c.args.station.now)) (now (g.P.Station.history c.open.new.station)) (c.in_ok-journal.ensures.keeps t))
+
+pub returns-in_err-heap-clause-any_moment : goal.returns-in_err-heap-clause-any_moment
+returns-in_err-heap-clause-any_moment g c = λ t.
+    subst (λ (h : History). During (g.P.Station.history c.args.station.now) h (λ f s. (Leaves (g.P.Station.history c.args.station.now) f ⊎ SaysAs (now (g.P.Station.history c.args.station.now)) f) × (s ≡ said (g.P.Station.history c.args.station.now)))) (sym (c.in_err-heap.ensures.told t)) (moments_say (g.P.Station.history c.args.station.now) (g.P.Station.history c.open.new.station) (c.in_ok-journal.ensures.any_moment t))
+
+pub returns-clause-records : goal.returns-clause-records
+returns-clause-records g c = λ t. (record { made = (c.in_ok-journal.ensures.store t).0; opens = (opened-closed (now (g.P.Station.history c.args.station.now)) (now (g.P.Station.history c.open.new.station)) c.count.result (c.in_ok-journal.ensures.store t).1 (c.in_ok-journal.ensures.keeps t) (c.in_ok-journal.ensures.closed t) (c.count.ensures.value ∙ c.in_ok-journal.ensures.count t)) ∙ c.in_ok-heap.ensures.records t })
+
+pub returns-clause-held : goal.returns-clause-held
+returns-clause-held g c = λ t.
+    subst (λ (h : History). Holds h (Held c.in_ok-heap.records)) (sym (c.in_ok-heap.ensures.told t)) (held_on (g.P.Station.history c.args.station.now) (g.P.Station.history c.open.new.station) c.in_ok-heap.records (record { made = (c.in_ok-journal.ensures.store t).0; opens = (opened-closed (now (g.P.Station.history c.args.station.now)) (now (g.P.Station.history c.open.new.station)) c.count.result (c.in_ok-journal.ensures.store t).1 (c.in_ok-journal.ensures.keeps t) (c.in_ok-journal.ensures.closed t) (c.count.ensures.value ∙ c.in_ok-journal.ensures.count t)) ∙ c.in_ok-heap.ensures.records t }) (c.in_ok-journal.ensures.keeps t) (c.in_ok-journal.ensures.durable t))
+
+pub returns-clause-store : goal.returns-clause-store
+returns-clause-store g c = λ t.
+    let count_is = c.count.ensures.value in
+    subst (λ (h : History). IsStoreOf (record { journal = c.in_ok-journal.journal; heap = c.in_ok-heap.heap }) h) (sym (c.in_ok-heap.ensures.told t))
+    (store_on (g.P.Station.history c.open.new.station) (record { journal = c.in_ok-journal.journal; heap = c.in_ok-heap.heap }) c.in_ok-heap.records
+    (c.in_ok-journal.ensures.rests t (subst (λ n. n * 4096 ≤ length (now (g.P.Station.history c.open.new.station))) count_is (c.in_ok-heap.ensures.size t)))
+    (subst (λ n. IsHeapOf c.in_ok-heap.heap (page (now (g.P.Station.history c.open.new.station))) n) count_is (c.in_ok-heap.ensures.heap t))
+    (held_on (g.P.Station.history c.args.station.now) (g.P.Station.history c.open.new.station) c.in_ok-heap.records (record { made = (c.in_ok-journal.ensures.store t).0; opens = (opened-closed (now (g.P.Station.history c.args.station.now)) (now (g.P.Station.history c.open.new.station)) c.count.result (c.in_ok-journal.ensures.store t).1 (c.in_ok-journal.ensures.keeps t) (c.in_ok-journal.ensures.closed t) (c.count.ensures.value ∙ c.in_ok-journal.ensures.count t)) ∙ c.in_ok-heap.ensures.records t }) (c.in_ok-journal.ensures.keeps t) (c.in_ok-journal.ensures.durable t)))
+
+pub returns-clause-same : goal.returns-clause-same
+returns-clause-same g c = λ t.
+    subst (λ (h : History). SaysAs (now (g.P.Station.history c.args.station.now)) (now h)) (sym (c.in_ok-heap.ensures.told t)) (says_as (now (g.P.Station.history c.args.station.now)) (now (g.P.Station.history c.open.new.station)) (c.in_ok-journal.ensures.keeps t))
+
+pub returns-clause-any_moment : goal.returns-clause-any_moment
+returns-clause-any_moment g c = λ t.
+    subst (λ (h : History). During (g.P.Station.history c.args.station.now) h (λ f s. (Leaves (g.P.Station.history c.args.station.now) f ⊎ SaysAs (now (g.P.Station.history c.args.station.now)) f) × (s ≡ said (g.P.Station.history c.args.station.now)))) (sym (c.in_ok-heap.ensures.told t)) (moments_say (g.P.Station.history c.args.station.now) (g.P.Station.history c.open.new.station) (c.in_ok-journal.ensures.any_moment t))
