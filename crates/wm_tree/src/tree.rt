@@ -48,6 +48,7 @@ impl Tree {
         ensures value { result ≡ version_in self.now.versions number }
         ensures path { IfSome result (λ x. path_in self.now.versions number ≡ x.number ∷ path_in self.now.versions x.parent) }
         ensures no_path { IfNone result (path_in self.now.versions number ≡ []) }
+        ensures tree { IsTree self.now.versions }
     {
         find(self.versions.as_slice(), number)
     }

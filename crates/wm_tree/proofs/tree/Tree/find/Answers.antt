@@ -12,3 +12,8 @@ pub returns-clause-no_path : goal.returns-clause-no_path
 returns-clause-no_path c =
     let now : newest_first c.self.inside.versions.items ≡ c.args.self.now.versions = ap (λ (g : Grown). g.versions) c.self.view_is in
     rw (← now) (no_path_told (newest_first c.self.inside.versions.items) c.args.number c.find.result (rw c.as_slice.ensures.value at c.find.ensures))
+
+pub returns-clause-tree : goal.returns-clause-tree
+returns-clause-tree c =
+    let now : newest_first c.self.inside.versions.items ≡ c.args.self.now.versions = ap (λ (g : Grown). g.versions) c.self.view_is in
+    rw (← now) c.self.invariant.0
