@@ -1,9 +1,9 @@
 -- What stands under an id in lists of slots.
-use Rattle.std.proofs.Common.{◌≡◌, ℕ, zero, suc, ◌+◌, ◌-◌, ◌<◌, ◌≤◌, Bool, true, false, cond, not, ◌||◌, eqb, ltb, List, [], ◌∷◌, ◌++◌, length, filter, Option, Some, None, is_some, refl, sym, ap, subst, ◌∙◌, arith}
-use Rattle.std.specs.Option.{option_or, option_and_then}
-use Rattle.std.proofs.lemmas.Bool.{cases_lt, ltb-false, le-ltb, eqb-true}
+use Rattle.std.proofs.Common.{◌≡◌, ℕ, Bool, true, false, cond, not, ◌||◌, eqb, List, [], ◌∷◌, ◌++◌, filter, Option, Some, None, is_some, refl, ap, subst, ◌∙◌, arith}
+use Rattle.std.specs.Option.{option_or}
+use Rattle.std.proofs.lemmas.Bool.{eqb-true}
 use Rattle.wm_heap.specs.declared.slot.Slot.{Slot}
-use Rattle.wm_heap.specs.Content.{bytes_at, is_twice, slots_upto, is_in}
+use Rattle.wm_heap.specs.Content.{bytes_at, is_twice}
 use Rattle.wm_heap.specs.Places.{Once}
 
 -- ---- tests

@@ -1,7 +1,7 @@
 -- The heap of a store with one page.
-use Rattle.std.proofs.Common.{◌≡◌, ℕ, zero, suc, ◌+◌, ◌-◌, ◌<◌, ◌≤◌, ◌⊎◌, inl, inr, Bool, true, false, cond, not, eqb, List, [], ◌∷◌, ◌++◌, length, get_or, take, drop, Option, Some, None, is_some, unwrap_or, refl, sym, ap, subst, ◌∙◌, arith}
+use Rattle.std.proofs.Common.{◌≡◌, ℕ, ◌+◌, ◌<◌, ◌≤◌, Bool, true, false, cond, eqb, List, [], ◌∷◌, ◌++◌, length, get_or, take, Option, Some, None, is_some, unwrap_or, refl, sym, ap, subst, ◌∙◌, arith}
 use Rattle.std.specs.Option.{option_or}
-use Rattle.std.proofs.lemmas.Bool.{cases_lt, eqb-true}
+use Rattle.std.proofs.lemmas.Bool.{eqb-true}
 use Rattle.std.proofs.lemmas.List.{take_more}
 use Rattle.wm_heap.specs.declared.blob.Blob.{Blob}
 use Rattle.wm_heap.specs.declared.heap.Heap.{Heap}
@@ -9,8 +9,8 @@ use Rattle.wm_heap.specs.declared.slot.Slot.{Slot}
 use Rattle.wm_heap.specs.Slots.{slots_of, page_of}
 use Rattle.wm_heap.specs.Content.{bytes_at, slots_in, fault_of}
 use Rattle.wm_heap.specs.Blobs.{blob_at, AreBlobs, slots_of_bytes, slots_put}
-use Rattle.wm_heap.specs.Places.{at, ids_on, ids_of, place_of, Once, IsPlaced, IsHeapOf}
-use Rattle.wm_heap.proofs.Finding.{bytes_at-append, is_none}
+use Rattle.wm_heap.specs.Places.{ids_on, ids_of, place_of, Once, IsPlaced, IsHeapOf}
+use Rattle.wm_heap.proofs.Finding.{bytes_at-append}
 use Rattle.wm_heap.proofs.Planning.{AreBlobs-rest}
 use Rattle.wm_heap.proofs.Upto.{sound}
 

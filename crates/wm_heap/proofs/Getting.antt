@@ -1,5 +1,5 @@
 -- What a heap tells of its pages.
-use Rattle.std.proofs.Common.{◌≡◌, ℕ, ◌+◌, ◌-◌, ◌<◌, ◌≤◌, true, List, [], ◌∷◌, ◌++◌, length, Option, Some, None, is_some, refl, sym, ap, subst, ◌∙◌, arith}
+use Rattle.std.proofs.Common.{◌≡◌, ℕ, ◌<◌, true, List, Some, None, is_some, ap, ◌∙◌}
 use Rattle.std.specs.Option.{option_and_then}
 use Rattle.wm_heap.specs.declared.heap.Heap.{Heap}
 use Rattle.wm_heap.specs.Slots.{slots_of}

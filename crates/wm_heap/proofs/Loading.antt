@@ -2,8 +2,7 @@
 use Rattle.std.proofs.Common.{◌≡◌, ℕ, zero, suc, ◌+◌, ◌-◌, ◌<◌, ◌≤◌, ◌⊎◌, inl, inr, max, Bool, true, false, cond, ◌||◌, eqb, ltb, List, [], ◌∷◌, ◌++◌, length, get_or, take, drop, Option, Some, None, is_some, unwrap_or, refl, sym, ap, subst, ◌∙◌, arith}
 use Rattle.std.specs.Option.{option_or}
 use Rattle.std.proofs.lemmas.Bool.{cases_lt, lt-ltb, eqb-true}
-use Rattle.std.proofs.lemmas.List.{drop_more, take_more, length-append}
-use Rattle.wm_base.specs.declared.fault.Damage.{Damage}
+use Rattle.std.proofs.lemmas.List.{drop_more, take_more}
 use Rattle.wm_base.specs.declared.fault.OpenFault.{OpenFault}
 use Rattle.wm_base.specs.declared.fault.OpenFault.TheVariants as faults
 use Rattle.wm_heap.specs.declared.heap.Heap.{Heap}
@@ -13,7 +12,7 @@ use Rattle.wm_heap.specs.Slots.{slots_of}
 use Rattle.wm_heap.specs.Places.{at, ids_on, ids_of, place_of, IsPlaced, IsHeapOf}
 use Rattle.wm_heap.proofs.Upto.{is_in-placed, fault_found, IsPlaced-none, IsPlaced-page}
 use Rattle.wm_heap.specs.declared.slot.Slot.{Slot}
-use Rattle.wm_heap.specs.Content.{bytes_at, is_twice, slots_in, is_in, damage_in, damage_on, fault_in}
+use Rattle.wm_heap.specs.Content.{bytes_at, is_twice, slots_in, is_in, damage_on, fault_in}
 use Rattle.wm_heap.proofs.Finding.{bytes_at-append, is_twice-same}
 
 -- the first i slots have their places, and those behind them are tested as all would have been at first
@@ -162,17 +161,16 @@ loaded_fault held in_file page count places ids e from till loaded finds =
 -- all pages
 pub loaded_all : (heap : Heap) (held : ℕ → List ℕ) (in_file page count : ℕ) → count ≤ page → page ≤ max 2 count → length heap.ids.items ≡ page - 2 → Loaded held in_file heap.places.entries heap.ids.items page
     → IsHeapOf heap held count × (fault_in held in_file (count - 2) ≡ None)
-loaded_all heap held in_file page count end few len loaded =
-    (
-      record {
-        pages = omega arith;
-        slots = λ p from till. loaded.there p from (omega arith);
-        placed = by_size (cases_lt count 2);
-        ids = λ p from till. loaded.ids_are p from (omega arith);
-      },
-      let same : page - 2 ≡ count - 2 = omega arith in
+loaded_all heap held in_file page count end few len loaded = (
+  record {
+    pages = omega arith;
+    slots = λ p from till. loaded.there p from (omega arith);
+    placed = by_size (cases_lt count 2);
+    ids = λ p from till. loaded.ids_are p from (omega arith);
+  },
+  let same : page - 2 ≡ count - 2 = omega arith in
       subst (λ k. fault_in held in_file k ≡ None) same loaded.none,
-    )
+)
   where
     by_size : (count < 2) ⊎ (2 ≤ count) → IsPlaced (slots_in held) count (place_of heap)
     by_size (inr enough) = let same : page ≡ count = omega arith in subst (λ k. IsPlaced (slots_in held) k (place_of heap)) same loaded.placed

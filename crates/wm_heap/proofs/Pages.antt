@@ -1,10 +1,7 @@
 -- The page of slots.
-use Rattle.std.proofs.Common.{◌≡◌, ℕ, suc, ◌+◌, ◌-◌, ◌<◌, ◌≤◌, ◌^◌, List, [], ◌∷◌, ◌++◌, length, take, replicate, refl, sym, ap, ◌∙◌, append_assoc, arith, Option, Some}
+use Rattle.std.proofs.Common.{◌≡◌, ℕ, ◌-◌, ◌<◌, ◌≤◌, ◌^◌, List, [], ◌∷◌, ◌++◌, length, replicate, refl, ap, ◌∙◌, arith, Some}
 use Rattle.std.specs.List.{flat_map, AllByRecursion}
-use Rattle.std.specs.Option.{option_and_then, option_map}
-use Rattle.std.proofs.lemmas.List.{length-append, length-replicate, take-replicate}
-use Rattle.std.proofs.lemmas.List.Concat.{flat_map-cons}
-use Rattle.wm_codec.specs.Format.{times}
+use Rattle.std.proofs.lemmas.List.{length-append, length-replicate}
 use Rattle.wm_codec.specs.Fields.{u16}
 use Rattle.wm_codec.proofs.Exact.{IsExact, pair_exact, fields_exact}
 use Rattle.wm_codec.proofs.ExactFields.{u16_exact, u64_exact, text_exact}

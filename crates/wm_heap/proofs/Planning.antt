@@ -1,13 +1,12 @@
 -- From the steps of a change to its pages.
-use Rattle.std.proofs.Common.{◌≡◌, ℕ, zero, suc, ◌+◌, ◌-◌, ◌<◌, ◌≤◌, ◌⊎◌, inl, inr, ⊎_elim, max, Bool, true, false, cond, not, ◌&&◌, ◌||◌, eqb, ltb, List, [], ◌∷◌, ◌++◌, length, get_or, take, drop, map, Option, Some, None, is_some, unwrap_or, IfSome, refl, sym, ap, subst, ◌∙◌, arith}
-use Rattle.std.specs.Option.{option_or, option_and_then}
+use Rattle.std.proofs.Common.{◌≡◌, ℕ, ◌+◌, ◌-◌, ◌<◌, ◌≤◌, ◌⊎◌, inl, inr, ⊎_elim, Bool, true, false, cond, not, ◌&&◌, ◌||◌, eqb, ltb, List, [], ◌∷◌, ◌++◌, length, get_or, drop, map, Option, Some, None, is_some, unwrap_or, IfSome, refl, sym, ap, subst, ◌∙◌, arith}
+use Rattle.std.specs.Option.{option_and_then}
 use Rattle.std.specs.List.{list_any, AllByRecursion}
 use Rattle.std.specs.List.Sorted.{IsStrictlySortedBy}
 use Rattle.std.specs.Ordering.{nat_cmp, is_eq}
-use Rattle.std.specs.declared.cmp.Ordering.{Ordering}
-use Rattle.std.specs.declared.cmp.Ordering.TheVariants.{Less, Equal, Greater}
+use Rattle.std.specs.declared.cmp.Ordering.TheVariants.{Less}
 use Rattle.std.specs.Map.{keys_of}
-use Rattle.std.proofs.lemmas.Bool.{cases_lt, lt-ltb, le-ltb, ltb-true, ltb-false, eqb-true}
+use Rattle.std.proofs.lemmas.Bool.{cases_lt, lt-ltb, ltb-true, eqb-true}
 use Rattle.std.proofs.lemmas.List.{drop_more, drop_all}
 use Rattle.wm_page.specs.declared.write.PageWrite.{PageWrite}
 use Rattle.wm_page.specs.Batch.{entries}
@@ -17,10 +16,10 @@ use Rattle.wm_page.specs.Fields.{number_at}
 use Rattle.wm_heap.specs.declared.blob.Blob.{Blob}
 use Rattle.wm_heap.specs.declared.heap.Heap.{Heap}
 use Rattle.wm_heap.specs.declared.slot.Slot.{Slot}
-use Rattle.wm_heap.specs.Slots.{slots_of, page_of, used}
-use Rattle.wm_heap.specs.Content.{bytes_at, slots_in, slots_upto, content, fault_of}
+use Rattle.wm_heap.specs.Slots.{slots_of, page_of}
+use Rattle.wm_heap.specs.Content.{bytes_at, slots_in, content}
 use Rattle.wm_heap.specs.Blobs.{blob_at, after, AreBlobs, AreSmall, change_something}
-use Rattle.wm_heap.specs.Places.{at, ids_on, ids_of, place_of, page_count, Once, IsPlaced, IsHeapOf}
+use Rattle.wm_heap.specs.Places.{at, ids_of, place_of, page_count, Once, IsPlaced, IsHeapOf}
 use Rattle.wm_heap.specs.Plan.{root_of, IsPlan, IsChanged, laid}
 use Rattle.wm_heap.specs.Draft.{slots_now, bytes_now, HasRoom, IsThere, Stands, Grows, Goes, Done, written, rooted, paged}
 use Rattle.wm_heap.proofs.Upto.{bytes_at-all, sound}
@@ -354,11 +353,10 @@ pub planned : (old heap : Heap) (changed : List (ℕ × List Slot)) (blobs : Lis
 planned old heap changed blobs i before count pages before_is count_is pages_are reads end going =
     let none : drop i blobs ≡ [] = drop_all i blobs end in
     let here : entries pages ≡ paged (page_count old) (page_count heap) changed = pages_are ∙ ap (λ n. paged n count changed) before_is ∙ ap (λ n. paged (page_count old) n changed) count_is in
-    let root : page_count old < page_count heap → number_at (root_of (page_count heap)) 0 ≡ page_count heap = λ more. subst (λ n. number_at (root_of n) 0 ≡ n) count_is (reads (omega arith)) in
-    (
+    let root : page_count old < page_count heap → number_at (root_of (page_count heap)) 0 ≡ page_count heap = λ more. subst (λ n. number_at (root_of n) 0 ≡ n) count_is (reads (omega arith)) in (
       subst (λ es. IsPlan (page_count old) (page_count heap) es) (sym here) (plan_is (page_count old) (page_count heap) changed going.grows root (omega arith)),
       ap (λ n. eqb n 0) (sym (length-entries pages) ∙ ap length here) ∙ paged_none (page_count old) (page_count heap) changed going.grows
-      ∙ sym (all_gone (eqb (length changed) 0) (drop i blobs) (λ id. is_some (place_of old id)) none) ∙ going.nothing,
+          ∙ sym (all_gone (eqb (length changed) 0) (drop i blobs) (λ id. is_some (place_of old id)) none) ∙ going.nothing,
     )
 
 pub planned_told : (heap : Heap) (changed : List (ℕ × List Slot)) (held : ℕ → List ℕ) (in_use in_file : ℕ) (blobs : List Blob) (i before count : ℕ) (pages : List PageWrite) → count ≡ page_count heap → entries pages ≡ paged before count changed → length blobs ≤ i → ReadsAgain changed

@@ -1,16 +1,16 @@
 -- How many bytes slots take.
-use Rattle.std.proofs.Common.{◌≡◌, ℕ, zero, suc, ◌+◌, ◌-◌, ◌<◌, ◌≤◌, ◌^◌, Bool, true, false, cond, ltb, List, [], ◌∷◌, ◌++◌, length, filter, get_or, take, drop, Option, Some, None, refl, sym, ap, subst, ◌∙◌, arith}
+use Rattle.std.proofs.Common.{◌≡◌, ℕ, zero, suc, ◌+◌, ◌<◌, ◌≤◌, Bool, true, false, cond, ltb, List, [], ◌∷◌, ◌++◌, length, filter, get_or, take, drop, Option, Some, None, refl, sym, ap, ◌∙◌, arith}
 use Rattle.std.specs.Int.{w16, w64, to_be_bytes, from_be_bytes}
 use Rattle.std.specs.List.{flat_map, AllByRecursion}
 use Rattle.std.specs.Option.{option_and_then, option_map}
 use Rattle.std.proofs.lemmas.Bool.{ltb-false}
 use Rattle.std.proofs.lemmas.List.{length-append, length-take, length-drop, drop_more}
 use Rattle.std.proofs.lemmas.List.Concat.{flat_map-cons}
-use Rattle.wm_codec.specs.Format.{Format, times}
-use Rattle.wm_codec.specs.Fields.{u16, u64, text, text_at, number_at}
+use Rattle.wm_codec.specs.Format.{times}
+use Rattle.wm_codec.specs.Fields.{u16, text_at, number_at}
 use Rattle.wm_codec.proofs.Exact.{then_some, map_some, some_is, guard_some}
 use Rattle.wm_heap.specs.declared.slot.Slot.{Slot}
-use Rattle.wm_heap.specs.Slots.{slot, slots_bytes, slots_of, page_of, used}
+use Rattle.wm_heap.specs.Slots.{slot, slots_bytes, slots_of, used}
 
 length-short : (n : ℕ) → length (to_be_bytes w16 n) ≡ 2
 length-short n = refl

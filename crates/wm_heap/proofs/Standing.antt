@@ -1,14 +1,13 @@
 -- How the pages of a change, and the places of the ids in them, stand after each step.
-use Rattle.std.proofs.Common.{◌≡◌, ℕ, zero, suc, ◌+◌, ◌-◌, ◌<◌, ◌≤◌, max, ◌⊎◌, inl, inr, ⊎_elim, Bool, true, false, cond, not, eqb, ltb, List, [], ◌∷◌, ◌++◌, length, filter, Option, Some, None, is_some, unwrap_or, refl, sym, ap, subst, ◌∙◌, arith}
-use Rattle.std.specs.Option.{option_or, option_and_then}
-use Rattle.std.proofs.lemmas.Bool.{cases_lt, cases_eq, eqb-true}
+use Rattle.std.proofs.Common.{◌≡◌, ℕ, suc, ◌+◌, ◌<◌, ◌≤◌, max, ◌⊎◌, inl, inr, ⊎_elim, Bool, true, false, cond, not, eqb, List, [], ◌∷◌, ◌++◌, length, filter, Option, Some, None, is_some, unwrap_or, refl, sym, ap, subst, ◌∙◌, arith}
+use Rattle.std.specs.Option.{option_and_then}
+use Rattle.std.proofs.lemmas.Bool.{cases_lt, eqb-true}
 use Rattle.wm_heap.specs.declared.slot.Slot.{Slot}
 use Rattle.wm_heap.specs.declared.heap.Heap.{Heap}
-use Rattle.wm_heap.specs.Slots.{slots_of, used}
+use Rattle.wm_heap.specs.Slots.{used}
 use Rattle.wm_heap.specs.Content.{bytes_at, slots_in}
 use Rattle.wm_heap.specs.Places.{at, ids_on, ids_of, place_of, page_count, Once, IsPlaced}
 use Rattle.wm_heap.specs.Draft.{slots_now, bytes_now, HasRoom, IsThere, Stands, Puts, Grows, Goes, Done}
-use Rattle.wm_heap.proofs.Sizes.{used-push}
 use Rattle.wm_heap.proofs.Finding.{is_none, none_is, bytes_at-push, bytes_at-without, Once-push, Once-without}
 use Rattle.wm_heap.proofs.Upto.{away}
 

@@ -1,13 +1,13 @@
 -- What stands under an id in all pages, by its place, and when no page fails a test.
-use Rattle.std.proofs.Common.{◌≡◌, ℕ, zero, suc, ◌+◌, ◌-◌, ◌<◌, ◌≤◌, max, ◌⊎◌, inl, inr, ⊎_elim, Bool, true, false, cond, not, ◌||◌, eqb, ltb, List, [], ◌∷◌, ◌++◌, length, Option, Some, None, is_some, unwrap_or, refl, sym, ap, subst, ◌∙◌, arith}
-use Rattle.std.specs.Option.{option_or, option_and_then, option_map}
-use Rattle.std.proofs.lemmas.Bool.{cases_lt, cases_eq, ltb-true, ltb-false, lt-ltb, le-ltb, eqb-true}
+use Rattle.std.proofs.Common.{◌≡◌, ℕ, zero, suc, ◌+◌, ◌-◌, ◌<◌, ◌≤◌, ◌⊎◌, inl, inr, Bool, true, false, cond, ltb, List, [], Option, Some, None, is_some, unwrap_or, refl, sym, ap, subst, ◌∙◌, arith}
+use Rattle.std.specs.Option.{option_or, option_and_then}
+use Rattle.std.proofs.lemmas.Bool.{cases_lt, ltb-true, ltb-false, lt-ltb, le-ltb}
 use Rattle.wm_base.specs.declared.fault.Damage.{Damage}
 use Rattle.wm_heap.specs.declared.slot.Slot.{Slot}
 use Rattle.wm_heap.specs.Slots.{slots_of}
-use Rattle.wm_heap.specs.Content.{bytes_at, is_twice, slots_upto, slots_in, is_in, damage_in, damage_on, fault_in}
+use Rattle.wm_heap.specs.Content.{bytes_at, is_twice, slots_upto, slots_in, is_in, damage_on, fault_in}
 use Rattle.wm_heap.specs.Places.{Once, IsPlaced}
-use Rattle.wm_heap.proofs.Finding.{is_none, none_is, bytes_at-append, is_twice-none, is_twice-same, seen-before, Once-seen}
+use Rattle.wm_heap.proofs.Finding.{is_none, bytes_at-append, is_twice-none, seen-before, Once-seen}
 
 -- an id stands on no page but its place
 pub away : (slots : ℕ → List Slot) (count : ℕ) (place : ℕ → Option ℕ) (id p : ℕ) → IsPlaced slots count place → 2 ≤ p → p < count → (place id ≡ Some p → ⊥) → bytes_at (slots p) id ≡ None

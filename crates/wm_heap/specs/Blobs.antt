@@ -1,5 +1,5 @@
 -- What is to become of the bytes under some ids.
-use Rattle.std.specs.Prelude.{◌≡◌, ℕ, ◌≤◌, Bool, true, false, ◌||◌, ◌==◌, if◌then◌else◌, List, [], ◌∷◌, ◌++◌, map, length, Option, Some, None, is_some, IsSome, IfSome}
+use Rattle.std.specs.Prelude.{◌≡◌, ℕ, ◌≤◌, Bool, true, ◌||◌, ◌==◌, if◌then◌else◌, List, [], ◌∷◌, ◌++◌, map, length, Option, Some, None, is_some, IsSome, IfSome}
 use Rattle.std.specs.List.{list_any}
 use Rattle.wm_spec.specs.Records.{ids_differ}
 use Rattle.wm_heap.specs.declared.blob.Blob.{Blob}

@@ -1,5 +1,5 @@
 -- A change of the heap on its way: the pages put so far lie over those that the store holds.
-use Rattle.std.specs.Prelude.{◌≡◌, ℕ, suc, ◌+◌, ◌<◌, ◌≤◌, ◌⊎◌, max, Bool, true, false, ◌==◌, nat_lt, if◌then◌else◌, List, [], ◌∷◌, ◌++◌, map, length, Option, Some, None, is_some, unwrap_or}
+use Rattle.std.specs.Prelude.{◌≡◌, ℕ, suc, ◌<◌, ◌≤◌, ◌⊎◌, max, Bool, true, false, ◌==◌, nat_lt, if◌then◌else◌, List, [], ◌∷◌, ◌++◌, map, length, Option, Some, is_some, unwrap_or}
 use Rattle.std.specs.Option.{option_and_then}
 use Rattle.wm_heap.specs.declared.heap.Heap.{Heap}
 use Rattle.wm_heap.specs.declared.slot.Slot.{Slot}

@@ -1,5 +1,5 @@
 -- What it is to load a page.
-use Rattle.std.specs.Prelude.{◌≡◌, ℕ, true, false, if◌then◌else◌, List, [], ◌∷◌, ◌++◌, Option, Some, is_some}
+use Rattle.std.specs.Prelude.{◌≡◌, ℕ, true, false, if◌then◌else◌, List, [], ◌∷◌, ◌++◌, Some, is_some}
 use Rattle.wm_heap.specs.Slots.{slots_of}
 use Rattle.wm_heap.specs.Content.{slots_in, bytes_at, is_twice}
 use Rattle.wm_heap.specs.Places.{at, ids_of}

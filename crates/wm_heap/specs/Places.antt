@@ -1,13 +1,12 @@
 -- Where each id stands, and what a heap says of the pages.
-use Rattle.std.specs.Prelude.{◌≡◌, ℕ, ◌+◌, ◌-◌, ◌<◌, ◌≤◌, Bool, true, List, [], ◌∷◌, ◌++◌, map, length, slice_index_or, Option, Some, None, is_some, unwrap_or}
-use Rattle.std.specs.Option.{option_and_then}
+use Rattle.std.specs.Prelude.{◌≡◌, ℕ, ◌+◌, ◌-◌, ◌<◌, ◌≤◌, true, List, [], ◌∷◌, ◌++◌, map, length, slice_index_or, Option, Some, None, is_some}
 use Rattle.std.specs.Ordering.{nat_cmp}
 use Rattle.std.specs.Map.{lookup}
 use Rattle.std.specs.BTreeMap.{is_at}
 use Rattle.wm_heap.specs.declared.heap.Heap.{Heap}
 use Rattle.wm_heap.specs.declared.slot.Slot.{Slot}
 use Rattle.wm_heap.specs.declared.spot.Spot.{Spot}
-use Rattle.wm_heap.specs.Slots.{slots_of, used}
+use Rattle.wm_heap.specs.Slots.{slots_of}
 use Rattle.wm_heap.specs.Content.{slots_in, bytes_at}
 
 -- the value of a number in a list of them with their values

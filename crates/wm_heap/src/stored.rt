@@ -12,11 +12,7 @@ use wm_base::StoreFault;
 use wm_page::{PAGE_SIZE, Pages, PagesFailed};
 
 /// The slots of a page. Changed is answered where the page is not in use or holds none.
-pub fn stored_slots<G: Pages>(
-    alloc: Global,
-    pages: &mut G,
-    page: u64,
-) -> Result<Slots, StoreFault>
+pub fn stored_slots<G: Pages>(alloc: Global, pages: &mut G, page: u64) -> Result<Slots, StoreFault>
     ensures value { G.tells → IfOk result (λ slots. slots ≡ slots_in (G.held pages.old) page) }
     ensures room { IfOk result (λ slots. used slots ≤ 4096) }
     ensures told { G.tells → G.held pages.new ≡ G.held pages.old }

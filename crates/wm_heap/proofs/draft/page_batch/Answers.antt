@@ -1,4 +1,4 @@
-use Rattle.std.proofs.Common.{◌≡◌, ◌++◌, ap, ◌∙◌}
+use Rattle.std.proofs.Common.{◌++◌, ap, ◌∙◌}
 use Rattle.wm_page.specs.Entries.{no_page_twice}
 use Rattle.wm_heap.specs.Draft.{written}
 use Rattle.wm_heap.proofs.Planning.{once_paged}

@@ -1,4 +1,4 @@
-use Rattle.std.proofs.Common.{◌≡◌, ◌++◌, sym, ap, ◌∙◌}
+use Rattle.std.proofs.Common.{◌++◌, sym, ap, ◌∙◌}
 use Rattle.wm_page.specs.Fields.{number_at}
 use Rattle.wm_heap.specs.Plan.{root_of}
 use Rattle.wm_heap.proofs.draft.root_page.Goals as goal

@@ -1,4 +1,3 @@
-use Rattle.std.proofs.Common.{◌≡◌}
 use Rattle.wm_heap.proofs.Pending.{length-root_of}
 use Rattle.std.proofs.Common.{ap, length, ◌∙◌}
 use Rattle.wm_heap.proofs.draft.root_pages.Goals as goal

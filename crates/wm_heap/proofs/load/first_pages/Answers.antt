@@ -1,8 +1,7 @@
-use Rattle.std.proofs.Common.{◌≡◌, ℕ, ◌++◌, ◌∷◌, [], List, ap, refl, ◌∙◌}
+use Rattle.std.proofs.Common.{ℕ, ◌++◌, ◌∷◌, [], List, ap, ◌∙◌}
 use Rattle.wm_page.specs.Batch.{entries}
 use Rattle.wm_page.specs.Entries.{no_page_twice}
 use Rattle.wm_heap.specs.Plan.{root_of}
-use Rattle.wm_heap.specs.Slots.{page_of}
 use Rattle.wm_heap.proofs.Pending.{entries-append}
 use Rattle.wm_heap.proofs.load.first_pages.Goals as goal
 
@@ -17,7 +16,7 @@ invariant_of-result c = record {
   distinct =
       ap no_page_twice
       (
-        ap entries c.in_ok-push.ensures.ok ∙ entries-append c.in_ok-pages.pages _
-        ∙ ap (λ (l : List (ℕ × List ℕ)). l ++ (2, c.in_ok-bytes.bytes) ∷ []) c.in_ok-pages.ensures.pages
+      ap entries c.in_ok-push.ensures.ok ∙ entries-append c.in_ok-pages.pages _
+      ∙ ap (λ (l : List (ℕ × List ℕ)). l ++ (2, c.in_ok-bytes.bytes) ∷ []) c.in_ok-pages.ensures.pages
       );
 }

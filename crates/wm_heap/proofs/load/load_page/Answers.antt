@@ -1,4 +1,4 @@
-use Rattle.std.proofs.Common.{◌≡◌, ap, subst, ◌∙◌, is_some}
+use Rattle.std.proofs.Common.{subst, is_some}
 use Rattle.std.proofs.lemmas.Result.{err_from_is_err_and}
 use Rattle.wm_heap.specs.Asking.{FindsTwice}
 use Rattle.wm_heap.specs.Content.{is_twice}

@@ -1,4 +1,4 @@
-use Rattle.std.proofs.Common.{◌≡◌, sym, ap, ◌∙◌, is_some}
+use Rattle.std.proofs.Common.{sym, ap, ◌∙◌, is_some}
 use Rattle.wm_heap.specs.Places.{at}
 use Rattle.wm_heap.proofs.Loading.{placing_more}
 use Rattle.wm_heap.proofs.load.place_all.Goals as goal

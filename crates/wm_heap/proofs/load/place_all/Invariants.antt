@@ -1,4 +1,3 @@
-use Rattle.std.proofs.Common.{◌≡◌}
 use Rattle.wm_heap.specs.Places.{at}
 use Rattle.wm_heap.proofs.Loading.{Placing}
 use Rattle.wm_heap.proofs.load.place_all.Given as goal

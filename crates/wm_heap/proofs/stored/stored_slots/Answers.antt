@@ -1,4 +1,4 @@
-use Rattle.std.proofs.Common.{◌≡◌, ◌≤◌, sym, ap, ◌∙◌, arith, length}
+use Rattle.std.proofs.Common.{sym, ◌∙◌, arith}
 use Rattle.wm_heap.proofs.Sizes.{used-slots_of}
 use Rattle.wm_heap.proofs.stored.stored_slots.Goals as goal
 

@@ -1,5 +1,4 @@
-use Rattle.std.proofs.Common.{◌≡◌, ◌+◌, ◌-◌, ◌<◌, ◌≤◌, ◌++◌, ◌∷◌, [], length, Some, refl, sym, ap, ◌∙◌, arith}
-use Rattle.wm_heap.specs.Places.{page_count}
+use Rattle.std.proofs.Common.{◌+◌, ◌-◌, ◌++◌, ◌∷◌, [], Some, ap, arith}
 use Rattle.wm_heap.specs.Slots.{used}
 use Rattle.wm_heap.proofs.Sizes.{used-push}
 use Rattle.wm_heap.proofs.Standing.{slot_with, put_goes, added_there, added_new}

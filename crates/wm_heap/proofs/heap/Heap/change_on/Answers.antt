@@ -1,7 +1,6 @@
-use Rattle.std.proofs.Common.{◌≡◌, ℕ, ◌+◌, ◌-◌, ◌<◌, ◌≤◌, ◌++◌, ◌∷◌, [], List, length, filter, not, eqb, Some, None, Option, refl, sym, ap, subst, ◌∙◌, arith}
+use Rattle.std.proofs.Common.{ℕ, ◌++◌, ◌∷◌, [], List, filter, not, eqb, Some, None, Option, sym, ap, subst, ◌∙◌, arith}
 use Rattle.wm_heap.specs.declared.slot.Slot.{Slot}
-use Rattle.wm_heap.specs.Draft.{Stands, Goes, Done}
-use Rattle.wm_heap.specs.Places.{page_count, place_of}
+use Rattle.wm_heap.specs.Draft.{Stands, Done}
 use Rattle.wm_heap.specs.Slots.{used}
 use Rattle.wm_heap.proofs.Sizes.{used-push, used-filter}
 use Rattle.wm_heap.proofs.Standing.{slot_with, put_goes, HasRoom-puts, replaced, dropped, done_then, at_pages}
@@ -69,9 +68,9 @@ add-requires-clause-stands g c = λ t.
 pub returns-clause-done : goal.returns-clause-done
 returns-clause-done g c = λ t.
     let first = dropped c.args.self.now c.take_out-2.new.self c.args.changed.now.entries c.take_out-2.new.changed.entries (g.G.Pages.held c.args.pages.now) (g.G.Pages.in_use c.args.pages.now) (g.G.Pages.in_file c.args.pages.now) c.args.page c.args.blob.now.id c.in_ok-slots-2.slots
-        (c.requires.stands t) c.requires.here (c.in_ok-slots-2.ensures ∙ ap (λ l. filter (λ (s : Slot). not (eqb s.id c.args.blob.now.id)) l) (c.in_ok-slots.ensures.value t)) c.in_ok-take_out-2.ensures in
+    (c.requires.stands t) c.requires.here (c.in_ok-slots-2.ensures ∙ ap (λ l. filter (λ (s : Slot). not (eqb s.id c.args.blob.now.id)) l) (c.in_ok-slots.ensures.value t)) c.in_ok-take_out-2.ensures in
     let second = at_pages (λ h u f. Done c.take_out-2.new.self c.add.new.self c.take_out-2.new.changed.entries c.add.new.changed.entries h u f c.args.blob.now.id (Some c.in-Some.bytes)) (g.G.Pages.held c.args.pages.now) (g.G.Pages.held c.slots_by_now.new.pages) (g.G.Pages.in_use c.args.pages.now) (g.G.Pages.in_use c.slots_by_now.new.pages) (g.G.Pages.in_file c.args.pages.now) (g.G.Pages.in_file c.slots_by_now.new.pages)
-        (c.in_ok-slots.ensures.told t) c.in_ok-slots.ensures.in_use c.in_ok-slots.ensures.in_file (c.in_ok-add.ensures.done t) in
+    (c.in_ok-slots.ensures.told t) c.in_ok-slots.ensures.in_use c.in_ok-slots.ensures.in_file (c.in_ok-add.ensures.done t) in
     subst (λ (o : Option (List ℕ)). Done c.args.self.now c.add.new.self c.args.changed.now.entries c.add.new.changed.entries (g.G.Pages.held c.args.pages.now) (g.G.Pages.in_use c.args.pages.now) (g.G.Pages.in_file c.args.pages.now) c.args.blob.now.id o)
     (sym c.in-Some.is)
     (done_then c.args.self.now c.take_out-2.new.self c.add.new.self c.args.changed.now.entries c.take_out-2.new.changed.entries c.add.new.changed.entries (g.G.Pages.held c.args.pages.now) (g.G.Pages.in_use c.args.pages.now) (g.G.Pages.in_file c.args.pages.now) c.args.blob.now.id None (Some c.in-Some.bytes) first second)

@@ -1,4 +1,4 @@
-use Rattle.std.proofs.Common.{◌≡◌, ℕ, ◌++◌, ◌∷◌, [], List, cond, is_some, Some, None, sym, ap, ◌∙◌}
+use Rattle.std.proofs.Common.{◌≡◌, ℕ, ◌++◌, ◌∷◌, [], List, cond, is_some, Some, sym, ap, ◌∙◌}
 use Rattle.wm_heap.specs.Blobs.{slots_put}
 use Rattle.wm_heap.specs.Content.{bytes_at}
 use Rattle.wm_heap.specs.Slots.{slots_of, page_of}

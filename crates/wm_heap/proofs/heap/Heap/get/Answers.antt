@@ -1,7 +1,7 @@
-use Rattle.std.proofs.Common.{◌≡◌, ◌<◌, ◌≤◌, sym, ap, ◌∙◌, arith, Some, Err}
+use Rattle.std.proofs.Common.{◌≡◌, sym, ap, ◌∙◌, arith, Err}
 use Rattle.wm_base.specs.declared.fault.StoreFault.TheVariants as faults
 use Rattle.std.proofs.lemmas.Result.{err_from_is_err_and}
-use Rattle.wm_heap.specs.Content.{bytes_at, slots_in}
+use Rattle.wm_heap.specs.Content.{bytes_at}
 use Rattle.wm_heap.proofs.Getting.{bytes_there, bytes_nowhere, page_there}
 use Rattle.wm_heap.proofs.heap.Heap.get.Goals as goal
 

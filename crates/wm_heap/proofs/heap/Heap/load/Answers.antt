@@ -1,4 +1,4 @@
-use Rattle.std.proofs.Common.{◌≡◌, ℕ, ◌+◌, ◌-◌, ◌<◌, ◌≤◌, max, length, refl, sym, ap, subst, ◌∙◌, arith, is_some, ltb}
+use Rattle.std.proofs.Common.{◌<◌, length, refl, ap, subst, ◌∙◌, arith, is_some, ltb}
 use Rattle.std.proofs.lemmas.Result.{err_from_is_err_and}
 use Rattle.wm_heap.specs.Asking.{Finds}
 use Rattle.wm_heap.specs.Content.{damage_on}

@@ -1,5 +1,4 @@
-use Rattle.std.proofs.Common.{◌≡◌, ℕ, ◌+◌, ◌-◌, ◌<◌, ◌≤◌, length, get_or, List, refl, sym, ap, subst, ◌∙◌, arith}
-use Rattle.wm_page.specs.Batch.{entries}
+use Rattle.std.proofs.Common.{◌<◌, ◌≤◌, length, get_or, refl, ap, subst, ◌∙◌, arith}
 use Rattle.wm_heap.specs.Draft.{Done}
 use Rattle.wm_heap.proofs.Standing.{at_pages}
 use Rattle.wm_heap.proofs.Planning.{going_begun, going_on, telling_begun, telling_on, planned, planned_told}

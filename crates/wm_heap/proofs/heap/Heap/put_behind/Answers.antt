@@ -1,6 +1,5 @@
-use Rattle.std.proofs.Common.{◌≡◌, ◌++◌, ◌∷◌, [], ap, subst, refl, ◌∙◌, Some}
+use Rattle.std.proofs.Common.{◌++◌, ◌∷◌, [], ap, subst, refl, ◌∙◌, Some}
 use Rattle.wm_heap.specs.Draft.{Puts}
-use Rattle.wm_heap.specs.Places.{place_of}
 use Rattle.wm_heap.proofs.Standing.{puts_set}
 use Rattle.wm_heap.proofs.heap.Heap.put_behind.Goals as goal
 

@@ -1,4 +1,4 @@
-use Rattle.std.proofs.Common.{◌≡◌, refl, None}
+use Rattle.std.proofs.Common.{refl, None}
 use Rattle.wm_heap.proofs.Standing.{puts_set}
 use Rattle.wm_heap.proofs.heap.Heap.take_out.Goals as goal
 

@@ -1,5 +1,4 @@
-use Rattle.std.proofs.Common.{◌≡◌, ◌+◌, ap, arith, drop}
-use Rattle.wm_heap.specs.Slots.{used}
+use Rattle.std.proofs.Common.{◌+◌, arith, drop}
 use Rattle.wm_heap.proofs.Sizes.{used-least, used-drop}
 use Rattle.wm_heap.proofs.slot.Slots.fit_with.Goals as goal
 

@@ -1,4 +1,4 @@
-use Rattle.std.proofs.Common.{◌≡◌, ◌+◌, ◌-◌, ◌≤◌, drop}
+use Rattle.std.proofs.Common.{◌≡◌, ◌+◌, ◌≤◌, drop}
 use Rattle.wm_heap.specs.Slots.{used}
 use Rattle.wm_heap.proofs.slot.Slots.fit_with.Given as goal
 
