@@ -97,6 +97,30 @@ newest_record p rules n s is =
         let is_node : node_of v ≡ newest.node = some_node (node_of v) newest.node (sym (ap (option_map node_of) found) ∙ sym same ∙ newest.found) in
         (v, found, ap (λ (x : Node). x.space) is_node ∙ newest.space)
 
+-- a version has a number above 0
+above_zero : (v : Version) (versions : ℕ → Option Version) (spaces : ℕ → Option Space) (next : ℕ) → is_version spaces versions next v ≡ true → (v.number == 0) ≡ false
+above_zero v versions spaces next is_one = by_space (spaces v.space) (both (nat_lt v.number next) _ is_one).1
+  where
+    by_parent : (t : Space) (b : Bool) → (if b then v.number == 1 else stands_under versions v t) ≡ true → (v.number == 0) ≡ false
+    by_parent t true g = ne_eqb _ _ (λ zero_is. omega (arith, eqb-true v.number 1 g, zero_is))
+    by_parent t false g = positive v.parent v.number (both (nat_lt v.parent v.number) _ g).0
+      where
+        positive : (a b : ℕ) → nat_lt a b ≡ true → (b == 0) ≡ false
+        positive a b lt = grind (arith, lt)
+
+    by_space : (o : Option Space) → option_map_or (λ (s : Space). if v.parent == 0 then v.number == 1 else stands_under versions v s) o false ≡ true → (v.number == 0) ≡ false
+    by_space None h = absurd (bool_apart (sym h))
+    by_space (Some t) h = by_parent t (v.parent == 0) h
+
+-- and so has the newest version of a workspace
+pub newest_some : (p : Parts) → keep_rules p ≡ true → (n : ℕ) (s : Space) → space_of p.spaces n ≡ Some s → (latest p n == 0) ≡ false
+newest_some p rules n s is =
+    let rule = ruled p rules in
+    let v = ruled_versions p rule.counters.next_version rule.versions in
+    let a = newest_record p rules n s is in
+    let g = found-passes (λ (x : Version). x.number == latest p n) (is_version (space_of p.spaces) (version_of p.versions) rule.counters.next_version) p.versions a.0 a.1 v.each in
+    sym (ap (λ k. k == 0) (eqb-true _ _ g.0)) ∙ above_zero a.0 (version_of p.versions) (space_of p.spaces) rule.counters.next_version g.1
+
 some_space : (a b : Space) → Some a ≡ Some b → a ≡ b
 some_space a b h = cc
 
@@ -110,31 +134,14 @@ apart_of p rules n s is = record {
   above = λ r found. above_of r (some_space r s (sym found ∙ is));
 }
   where
-    -- a version has a number above 0
-    above_zero : (v : Version) → (versions : _) → (spaces : ℕ → Option Space) (next : ℕ) → is_version spaces versions next v ≡ true → (v.number == 0) ≡ false
-    above_zero v versions spaces next is_one = by_space (spaces v.space) (both (nat_lt v.number next) _ is_one).1
-      where
-        by_space : (o : Option Space) → option_map_or (λ (s : Space). if v.parent == 0 then v.number == 1 else stands_under versions v s) o false ≡ true → (v.number == 0) ≡ false
-        by_space None h = absurd (bool_apart (sym h))
-        by_space (Some t) h = by_parent (v.parent == 0) h
-          where
-            by_parent : (b : Bool) → (if b then v.number == 1 else stands_under versions v t) ≡ true → (v.number == 0) ≡ false
-            by_parent true g = ne_eqb _ _ (λ zero_is. omega (arith, eqb-true v.number 1 g, zero_is))
-            by_parent false g = positive v.parent v.number (both (nat_lt v.parent v.number) _ g).0
-              where
-                positive : (a b : ℕ) → nat_lt a b ≡ true → (b == 0) ≡ false
-                positive a b lt = grind (arith, lt)
-
     above_of : (r : Space) → r ≡ s → (latest p n == r.base_version) ≡ false
     above_of r same =
         let rule = ruled p rules in
         let v = ruled_versions p rule.counters.next_version rule.versions in
         let a = newest_record p rules n s is in
         let h = found-passes (λ (x : Space). x.number == n) (has_versions (has_version p.versions) (version_of p.versions)) p.spaces s is v.spaces in
-        let g = found-passes (λ (x : Version). x.number == latest p n) (is_version (space_of p.spaces) (version_of p.versions) rule.counters.next_version) p.versions a.0 a.1 v.each in
-        let number : a.0.number ≡ latest p n = eqb-true _ _ g.0 in
         ap (λ (x : Space). latest p n == x.base_version) same
-        ∙ by_live (s.number == 0) refl (both (has_version p.versions s.number) _ h.1).1 (sym (ap (λ k. k == 0) number) ∙ above_zero a.0 (version_of p.versions) (space_of p.spaces) rule.counters.next_version g.1) a
+        ∙ by_live (s.number == 0) refl (both (has_version p.versions s.number) _ h.1).1 (newest_some p rules n s is) a
       where
         placed : is_placed (space_of p.spaces) s ≡ true
         placed =

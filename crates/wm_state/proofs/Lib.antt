@@ -17,3 +17,6 @@ pub mod Dropping
 pub mod Planned
 pub mod Listing
 pub mod Listed
+pub mod Forking
+pub mod Growing
+pub mod Leaves

@@ -27,7 +27,7 @@ AllBelow-less : (m n : ℕ) (ns : List Node) → m < n → AllBelow m ns → All
 AllBelow-less m n [] lt below = tt
 AllBelow-less m n (x ∷ ns) lt below = (omega (arith, lt, below.0), AllBelow-less m n ns lt below.1)
 
-AllBelow-grow : (m : ℕ) (x : Node) (ns : List Node) → x.number < m → AllBelow m ns → AllBelow m (grow x ns)
+pub AllBelow-grow : (m : ℕ) (x : Node) (ns : List Node) → x.number < m → AllBelow m ns → AllBelow m (grow x ns)
 AllBelow-grow m x [] lt below = (lt, tt)
 AllBelow-grow m x (y ∷ ns) lt below = by_test (nat_lt y.number x.number) (AllBelow-grow m x ns lt below.1)
   where

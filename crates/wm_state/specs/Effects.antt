@@ -1,5 +1,5 @@
 -- What becomes of the records, told by what is looked up in them.
-use Rattle.std.specs.Prelude.{ℕ, ◌≡◌, ◌+◌, Bool, true, false, ◌==◌, if◌then◌else◌, List, [], ◌∷◌, Some, is_some}
+use Rattle.std.specs.Prelude.{ℕ, ◌≡◌, ◌+◌, ◌<◌, Bool, true, false, ◌==◌, if◌then◌else◌, List, [], ◌∷◌, Some, None, is_some}
 use Rattle.std.specs.Bool.{then_some}
 use Rattle.std.specs.Option.{option_or, option_map}
 use Rattle.wm_graph.specs.Parts.{Parts, row_of, space_of}
@@ -7,6 +7,7 @@ use Rattle.wm_spec.specs.Lists.{Entry, Cell, told_of, covers}
 use Rattle.wm_spec.specs.declared.record.piece.PieceRecord.{PieceRecord}
 use Rattle.wm_spec.specs.declared.record.row.RowRecord.{RowRecord}
 use Rattle.wm_spec.specs.declared.record.space.Space.{Space}
+use Rattle.wm_tree.specs.Versions.{AllBelow}
 use Rattle.wm_tree.specs.declared.version.Version.{Version as Node}
 use Rattle.wm_state.specs.Standing.{held_of, stored_at, newest_first, latest}
 
@@ -46,3 +47,19 @@ pub record Wrote (p q : Parts) (n : ℕ) (e : Entry) : Type 0 where
   pub pieces : AreLaid (latest p n) e p.pieces q.pieces
   pub rows_kept : (stamp : ℕ) (r : RowRecord) → row_of p.rows stamp ≡ Some r → row_of q.rows stamp ≡ Some r
   pub row_new : (row : _) → e.row ≡ Some row → option_map (λ (r : RowRecord). r.values) (row_of q.rows e.stamp) ≡ Some row.values
+
+-- the version that comes next in a workspace
+abbrev pub node_under : Parts → ℕ → ℕ → Node
+node_under p n number = record { number = number; space = n; parent = latest p n }
+
+-- a workspace has a version more, with nothing in it, under its newest one; but for counters all else is as it was
+pub record Forked (p q : Parts) (n number : ℕ) : Type 0 where
+  pub some : 0 < number
+  pub below : AllBelow number (newest_first p.versions)
+  pub versions : newest_first q.versions ≡ node_under p n number ∷ newest_first p.versions
+  pub above : (r : Space) → space_of p.spaces n ≡ Some r → (number == r.base_version) ≡ false
+  pub empty : (c : Cell) → stored_at p.pieces number c ≡ None
+  pub tables : q.tables ≡ p.tables
+  pub spaces : q.spaces ≡ p.spaces
+  pub rows : q.rows ≡ p.rows
+  pub pieces : q.pieces ≡ p.pieces

@@ -1,0 +1,98 @@
+-- A workspace gets a version more, with nothing in it, under its newest one.
+use Rattle.std.proofs.Common.{◌≡◌, ◌≢◌, ℕ, ◌<◌, ◌≤◌, ◌==◌, nat_lt, Bool, true, false, cond, List, [], ◌∷◌, ◌++◌, Option, Some, None, is_some, refl, sym, ap, ◌∙◌, ◌⊎◌, inl, inr, arith}
+use Rattle.std.proofs.lemmas.Bool.{cases_eq, eq-eqb, ne_eqb}
+use Rattle.std.specs.Option.{option_or}
+use Rattle.wm_graph.specs.Parts.{Parts, space_of}
+use Rattle.wm_graph.specs.Rules.{keep_rules}
+use Rattle.wm_period.specs.Pieces.{Held}
+use Rattle.wm_spec.specs.Lists.{Cell}
+use Rattle.wm_spec.specs.declared.record.piece.PieceRecord.{PieceRecord}
+use Rattle.wm_spec.specs.declared.record.space.Space.{Space}
+use Rattle.wm_spec.specs.declared.record.version.Version.{Version}
+use Rattle.wm_tree.specs.Versions.{grow, latest_in, AllBelow}
+use Rattle.wm_tree.specs.declared.version.Version.{Version as Node}
+use Rattle.wm_state.specs.State.{State, workspace_of}
+use Rattle.wm_state.specs.Standing.{stored_at, seen_at, own_at, node_of, newest_first, latest, shown, owned, CountersStand, Stands, by_number}
+use Rattle.wm_state.specs.Effects.{Forked, node_under}
+
+-- the newest version of a workspace is below what all versions are below
+latest-below : (n : ℕ) (nodes : List Node) (m : ℕ) → 0 < n → AllBelow n nodes → latest_in nodes m < n
+latest-below n [] m some below = some
+latest-below n (x ∷ older) m some below = by_test (x.space == m) (latest-below n older m some below.1)
+  where
+    by_test : (b : Bool) → latest_in older m < n → cond b x.number (latest_in older m) < n
+    by_test true rest = below.0
+    by_test false rest = rest
+
+-- a version stores nothing of its own above itself
+own-none : (pieces : List PieceRecord) (nodes : List Node) (base : ℕ) (c : Cell) → own_at pieces nodes base base c ≡ None
+own-none pieces [] base c = refl
+own-none pieces (x ∷ older) base c = rw (eq-eqb base base refl) refl
+
+-- a version beside the new one sees what it saw
+seen-beside : (pieces : List PieceRecord) (x : Node) (older : List Node) (v : ℕ) (c : Cell) → v < x.number → seen_at pieces (x ∷ older) v c ≡ seen_at pieces older v c
+seen-beside pieces x older v c lt = rw (ne_eqb x.number v (λ same. omega (arith, lt, same))) refl
+
+own-beside : (pieces : List PieceRecord) (x : Node) (older : List Node) (base v : ℕ) (c : Cell) → v < x.number → own_at pieces (x ∷ older) base v c ≡ own_at pieces older base v c
+own-beside pieces x older base v c lt = by_base (cases_eq v base)
+  where
+    nothing : Option Held
+    nothing = None
+
+    by_base : (v ≡ base) ⊎ (v ≢ base) → own_at pieces (x ∷ older) base v c ≡ own_at pieces older base v c
+    by_base (inl same) = rw same (own-none pieces (x ∷ older) base c ∙ sym (own-none pieces older base c))
+    by_base (inr other) = rw (ne_eqb _ _ other, ne_eqb x.number v (λ same. omega (arith, lt, same))) refl
+
+-- the new version sees what its parent saw
+seen-under : (pieces : List PieceRecord) (x : Node) (older : List Node) (c : Cell) → stored_at pieces x.number c ≡ None → seen_at pieces (x ∷ older) x.number c ≡ seen_at pieces older x.parent c
+seen-under pieces x older c empty = rw (eq-eqb x.number x.number refl, empty) refl
+
+own-under : (pieces : List PieceRecord) (x : Node) (older : List Node) (base : ℕ) (c : Cell) → (x.number == base) ≡ false → stored_at pieces x.number c ≡ None
+    → own_at pieces (x ∷ older) base x.number c ≡ own_at pieces older base x.parent c
+own-under pieces x older base c above empty = rw (above, eq-eqb x.number x.number refl, empty) refl
+
+-- ---- the newest version of each workspace
+
+-- the new one, where it is the workspace's, and else the one of before
+latest-forked : (p q : Parts) (n number : ℕ) → Forked p q n number → (m : ℕ) → latest q m ≡ cond (n == m) number (latest p m)
+latest-forked p q n number f m = ap (λ nodes. latest_in nodes m) f.versions
+
+-- a workspace sees what it saw
+pub shown-forked : (p q : Parts) (n number : ℕ) → Forked p q n number → (m : ℕ) (c : Cell) → shown q m c ≡ shown p m c
+shown-forked p q n number f m c =
+    ap (λ nodes. seen_at q.pieces nodes (latest_in nodes m) c) f.versions
+    ∙ ap (λ pieces. seen_at pieces (node_under p n number ∷ newest_first p.versions) (cond (n == m) number (latest p m)) c) f.pieces
+    ∙ by_space (cases_eq n m)
+  where
+    by_space : (n ≡ m) ⊎ (n ≢ m) → seen_at p.pieces (node_under p n number ∷ newest_first p.versions) (cond (n == m) number (latest p m)) c ≡ shown p m c
+    by_space (inl same) = rw (sym same, eq-eqb n n refl) (seen-under p.pieces (node_under p n number) (newest_first p.versions) c (f.empty c))
+    by_space (inr other) = rw (ne_eqb n m other) (seen-beside p.pieces (node_under p n number) (newest_first p.versions) (latest p m) c (latest-below number (newest_first p.versions) m f.some f.below))
+
+-- and has above its base what it had
+pub owned-forked : (p q : Parts) (n number : ℕ) → Forked p q n number → (m : ℕ) (r : Space) → space_of p.spaces m ≡ Some r → (c : Cell) → owned q r.base_version m c ≡ owned p r.base_version m c
+owned-forked p q n number f m r found c =
+    ap (λ nodes. own_at q.pieces nodes r.base_version (latest_in nodes m) c) f.versions
+    ∙ ap (λ pieces. own_at pieces (node_under p n number ∷ newest_first p.versions) r.base_version (cond (n == m) number (latest p m)) c) f.pieces
+    ∙ by_space (cases_eq n m)
+  where
+    by_space : (n ≡ m) ⊎ (n ≢ m) → own_at p.pieces (node_under p n number ∷ newest_first p.versions) r.base_version (cond (n == m) number (latest p m)) c ≡ owned p r.base_version m c
+    by_space (inl same) =
+        rw (sym same, eq-eqb n n refl) (own-under p.pieces (node_under p n number) (newest_first p.versions) r.base_version c (f.above r (ap (space_of p.spaces) same ∙ found)) (f.empty c))
+    by_space (inr other) =
+        rw (ne_eqb n m other) (own-beside p.pieces (node_under p n number) (newest_first p.versions) r.base_version (latest p m) c (latest-below number (newest_first p.versions) m f.some f.below))
+
+-- the records stand for what they stood for, with counters of their own
+pub Stands-forked : (p q : Parts) (s t : State) (n number : ℕ) → Forked p q n number → Stands p s → t.spaces ≡ s.spaces → t.tables ≡ s.tables → CountersStand q t → keep_rules q ≡ true → Stands q t
+Stands-forked p q s t n number f st spaces tables counters rules = record {
+  rules = rules;
+  counters = counters;
+  tables = record { same = ap by_number f.tables ∙ st.tables.same ∙ sym tables };
+  spaces = record { same = λ m. rw (f.spaces, spaces) (st.spaces.same m) };
+  latest = record { told = λ m w is c. shown-forked p q n number f m c ∙ st.latest.told m w (ap (λ ws. workspace_of ws m) (sym spaces) ∙ is) c };
+  own = record {
+    covered = λ m w r is recorded c.
+        let before : space_of p.spaces m ≡ Some r = ap (λ ss. space_of ss m) (sym f.spaces) ∙ recorded in
+        ap is_some (owned-forked p q n number f m r before c) ∙ st.own.covered m w r (ap (λ ws. workspace_of ws m) (sym spaces) ∙ is) before c;
+  };
+  rows = record { there = λ m w is c x row held standing. rw f.rows (st.rows.there m w (ap (λ ws. workspace_of ws m) (sym spaces) ∙ is) c x row held standing) };
+}
