@@ -9,3 +9,6 @@ mod station_pages;
 pub mod store;
 
 pub use store::Store;
+
+#[cfg(test)]
+mod tests;
