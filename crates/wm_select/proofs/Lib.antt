@@ -9,3 +9,4 @@ pub mod TotalLemmas
 pub mod ItemLemmas
 pub mod SortLemmas
 pub mod KeyLemmas
+pub mod GroupLemmas

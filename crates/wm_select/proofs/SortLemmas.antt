@@ -34,11 +34,11 @@ left_to_right_total = lists_total ascending_total
 -- ---- lists in order
 
 -- none of the others stands before the element
-abbrev Above : {X : Type 0} → (X → X → Bool) → X → List X → Type 0
+abbrev pub Above : {X : Type 0} → (X → X → Bool) → X → List X → Type 0
 Above lt y [] = Unit {0}
 Above lt y (z ∷ zs) = (lt z y ≡ false) × Above lt y zs
 
-abbrev Rises : {X : Type 0} → (X → X → Bool) → List X → Type 0
+abbrev pub Rises : {X : Type 0} → (X → X → Bool) → List X → Type 0
 Rises lt [] = Unit {0}
 Rises lt (y ∷ ys) = Above lt y ys × Rises lt ys
 
@@ -76,7 +76,7 @@ rises_placed {X} lt o x (y ∷ ys) rises = by_test (lt y x) refl (rises_placed l
     by_test true t rest = rw t (above_placed lt x y ys (o.one_way y x t) rises.0, rest)
     by_test false t rest = rw t ((t, above_chain lt o x y ys rises.0 t), (rises.0, rises.1))
 
-rises_sorted : {X : Type 0} (lt : X → X → Bool) → IsStrictWeakOrder lt → (xs : List X) → Rises lt (sorted lt xs)
+pub rises_sorted : {X : Type 0} (lt : X → X → Bool) → IsStrictWeakOrder lt → (xs : List X) → Rises lt (sorted lt xs)
 rises_sorted lt o [] = tt
 rises_sorted lt o (x ∷ xs) = rises_placed lt o x (sorted lt xs) (rises_sorted lt o xs)
 
@@ -123,7 +123,7 @@ filter_placed {X} lt o w x (y ∷ ys) = by_test (lt y x) refl (filter_placed lt 
     by_test true t rest = let front : placed lt x (y ∷ ys) ≡ y ∷ placed lt x ys = rw t in ap (λ zs. filter (ties lt w) zs) front ∙ by_ties (ties lt w y) (ties lt w x) refl refl t rest
     by_test false t rest = let front : placed lt x (y ∷ ys) ≡ x ∷ y ∷ ys = rw t in ap (λ zs. filter (ties lt w) zs) front
 
-filter_sorted : {X : Type 0} (lt : X → X → Bool) → IsStrictWeakOrder lt → (w : X) (xs : List X) → filter (ties lt w) (sorted lt xs) ≡ filter (ties lt w) xs
+pub filter_sorted : {X : Type 0} (lt : X → X → Bool) → IsStrictWeakOrder lt → (w : X) (xs : List X) → filter (ties lt w) (sorted lt xs) ≡ filter (ties lt w) xs
 filter_sorted lt o w [] = refl
 filter_sorted {X} lt o w (x ∷ xs) = filter_placed lt o w x (sorted lt xs) ∙ same_behind (ties lt w x) refl (filter_sorted lt o w xs)
   where

@@ -1,5 +1,5 @@
 -- Rows with the values that put them in order.
-use Rattle.std.specs.Prelude.{List, map, filter}
+use Rattle.std.specs.Prelude.{List, [], ◌∷◌, ◌++◌, map, filter, if◌then◌else◌}
 use Rattle.wm_base.specs.declared.columns.Column.{Column}
 use Rattle.wm_base.specs.declared.row.Row.{Row}
 use Rattle.wm_base.specs.declared.tree.column.Col.{Col}
@@ -28,3 +28,13 @@ keyed_by_order query columns s = record { keys = order_values query columns s; r
 -- the rows that have the keys of one
 abbrev pub members_of : List Keyed → Keyed → List Row
 members_of all first = map (λ (k : Keyed). k.row) (filter (has_values_of (λ (k : Keyed). k.keys) first) all)
+
+-- the rows of each stretch of the same keys, where a stretch is begun
+abbrev pub cut_from : Keyed → List Row → List Keyed → List (List Row)
+cut_from first rows [] = rows ∷ []
+cut_from first rows (k ∷ ks) =
+    if has_values_of (λ (k : Keyed). k.keys) first k then cut_from first (rows ++ k.row ∷ []) ks else rows ∷ cut_from k (k.row ∷ []) ks
+
+abbrev pub cut : List Keyed → List (List Row)
+cut [] = []
+cut (k ∷ ks) = cut_from k (k.row ∷ []) ks

@@ -4,13 +4,13 @@ ghost use Rattle.std.specs.List.{list_any};
 ghost use Rattle.wm_base.specs.declared.row.Row.{Row as RowOf};
 ghost use Rattle.wm_base.specs.Trees.{Out as OutTree};
 ghost use Rattle.wm_base.specs.Views.{item_view, outs_view, projection_view, query_view};
-ghost use Rattle.wm_select.specs.Sorting.{distinct_by};
 ghost use Rattle.wm_select.specs.Query.{group_values, in_groups, is_aggregate, has_aggregate, is_grouped, groups_of};
-ghost use Rattle.wm_select.specs.Keys.{keyed_by_group, members_of};
+ghost use Rattle.wm_select.specs.Keys.{keyed_by_group, cut};
 
 use crate::keyed::Keyed;
-use crate::order::{changes, has_keys_of, sort_ascending};
+use crate::order::{has_keys_of, sort_ascending};
 use std::alloc::Global;
+use std::mem;
 use wm_base::tree::column::Col;
 use wm_base::tree::query::{Item, Out, Projection, Query};
 use wm_base::{Column, Columns, Memory, Row, RowList, Value, Values};
@@ -58,48 +58,30 @@ fn all_keyed(
     Ok(all)
 }
 
-/// The rows of one list of values for each such list, in ascending order of the lists.
-#[tactic(auto, using(crate::proofs::KeyLemmas::distinct_keyed))]
-fn firsts(
-    alloc: Global,
-    cols: &[Col],
-    columns: &Columns,
-    rows: &[Row],
-) -> Result<Vec<Keyed>, Memory>
-    ensures { IfOk result (λ firsts. firsts.items ≡ map (keyed_by_group cols.now columns.now) (distinct_by (group_values cols.now columns.now) rows.now)) }
+/// The rows of each stretch of the same keys.
+fn cut(alloc: Global, rows: &[Keyed]) -> Result<Vec<RowList>, Memory>
+    ensures { IfOk result (λ groups. groups.items ≡ cut rows.now) }
 {
-    let mut all = all_keyed(alloc, cols, columns, rows)?;
-    sort_ascending(&mut all)?;
-    let firsts = changes(alloc, all.as_slice())?;
-    Ok(firsts)
-}
-
-/// Copies of the rows that have the same values as one of them.
-fn members(alloc: Global, first: &Keyed, all: &[Keyed]) -> Result<RowList, Memory>
-    ensures { IfOk result (λ rows. rows ≡ members_of all.now first.now) }
-{
-    let mut rows = RowList::new(alloc);
-    for row in all {
-        if has_keys_of(first, row) {
-            rows.push(row.row.copy(alloc)?)?;
+    let mut groups = Vec::new(alloc);
+    let [first, others @ ..] = rows else {
+        return Ok(groups);
+    };
+    let mut first = first;
+    let mut group = RowList::new(alloc);
+    group.push(first.row.copy(alloc)?)?;
+    for row in others {
+        if !has_keys_of(first, row) {
+            groups.push(mem::replace(&mut group, RowList::new(alloc)))?;
+            first = row;
         }
+        group.push(row.row.copy(alloc)?)?;
     }
-    Ok(rows)
-}
-
-/// The members of each group.
-fn all_members(alloc: Global, firsts: &[Keyed], all: &[Keyed]) -> Result<Vec<RowList>, Memory>
-    ensures { IfOk result (λ groups. groups.items ≡ map (members_of all.now) firsts.now) }
-{
-    let mut groups = Vec::with_capacity(alloc, firsts.len())?;
-    for first in firsts {
-        groups.push(members(alloc, first, all)?)?;
-    }
+    groups.push(group)?;
     Ok(groups)
 }
 
 /// The groups of the rows: with GROUP BY one for each list of its values, in ascending order, else one of all rows.
-#[tactic(auto, using(crate::proofs::KeyLemmas::groups_keyed))]
+#[tactic(auto, using(crate::proofs::GroupLemmas::groups_cut))]
 fn in_groups(
     alloc: Global,
     cols: &[Col],
@@ -113,9 +95,9 @@ fn in_groups(
         groups.push(rows)?;
         return Ok(groups);
     }
-    let firsts = firsts(alloc, cols, columns, rows.as_slice())?;
-    let all = all_keyed(alloc, cols, columns, rows.as_slice())?;
-    let groups = all_members(alloc, firsts.as_slice(), all.as_slice())?;
+    let mut all = all_keyed(alloc, cols, columns, rows.as_slice())?;
+    sort_ascending(&mut all)?;
+    let groups = cut(alloc, all.as_slice())?;
     Ok(groups)
 }
 
