@@ -49,7 +49,6 @@ blobs_small (c ∷ changes) all = (by_record c.becomes all.0, blobs_small change
     by_record None h = tt
     by_record (Some r) h = h.1
 
-
 blob_at-blobs_of : (changes : List Change) (id : ℕ) → blob_at (blobs_of changes) id ≡ option_map (λ becomes. option_map spelling becomes) (change_at changes id)
 unfolding change_at
 blob_at-blobs_of [] id = refl
@@ -129,8 +128,8 @@ read_heap : (heap : Heap) (pages : ℕ → List ℕ) (count : ℕ) → 2 ≤ cou
     → unread_in (slots_in pages) (count - 2) ≡ None
 read_heap heap pages count enough is_heap all =
     all_read (slots_in pages) (count - 2) (λ p from till.
-      are_records-once (slots_in pages p) (is_heap.placed.once p from (omega arith)) (λ id bytes e.
-        all id bytes (bytes_there heap pages count id p is_heap (is_heap.placed.only id p from (omega arith) (some_is (bytes_at (slots_in pages p) id) bytes e)) ∙ e)))
+    are_records-once (slots_in pages p) (is_heap.placed.once p from (omega arith)) (λ id bytes e.
+    all id bytes (bytes_there heap pages count id p is_heap (is_heap.placed.only id p from (omega arith) (some_is (bytes_at (slots_in pages p) id) bytes e)) ∙ e)))
 
 -- after a change the pages are read, and their records are those from before with the batch over them
 pub record Changes (old : List Stored) (changes : List Change) (pages : ℕ → List ℕ) (count : ℕ) : Type 0 where

@@ -43,8 +43,7 @@ pub fresh_fit : (limit : ℕ) → FitPages (fresh_changes limit)
 fresh_fit limit =
     let a = length-counters limit in
     let b = length-live in
-    let d = length-version in
-    (
+    let d = length-version in (
       ((tt, (tt, (tt, (tt, tt)))), omega arith),
       (
         ((tt, (lit< tt, (tt, (tt, (tt, (tt, (tt, (tt, (tt, (tt, (tt, (tt, (tt, lit< tt))))))))))))), omega arith),

@@ -90,8 +90,7 @@ pub committed : (old new : History) (before count : ℕ) (heap : Heap) (changes 
 committed old new before count heap changes es records planned opens rests pages =
     let up = planned.plan.no_fewer in
     let enough = planned.enough in
-    let ch = planned_changes old before count heap changes es records planned opens in
-    (
+    let ch = planned_changes old before count heap changes es records planned opens in (
       ch.new,
       ch.are,
       rests_hold new count ch.new rests (omega arith) (pages_opened-same (page (now new)) (laid es (page (now old))) count count (λ p from till. pages p (omega arith) till) ∙ ch.opens),

@@ -36,11 +36,7 @@ impl Store {
 
     /// Makes a store of a file that holds none, which takes `limit` changes. It then holds three records: counters, the
     /// workspace LIVE, and its version. What a crash within the call leaves, or an error but Exists, is not said.
-    pub fn make<P: Station>(
-        alloc: Global,
-        station: &mut P,
-        limit: u32,
-    ) -> Result<Store, MakeFault>
+    pub fn make<P: Station>(alloc: Global, station: &mut P, limit: u32) -> Result<Store, MakeFault>
         requires some { 1 ≤ limit }
         requires most { limit ≤ 1048576 }
         ensures held { P.tells → OnOk result (Holds (P.history station.new) (Held (fresh_records limit))) }
@@ -60,10 +56,7 @@ impl Store {
     }
 
     /// Opens a store that a crash may have left, and gives its records, in the order in which they stand.
-    pub fn open<P: Station>(
-        alloc: Global,
-        station: &mut P,
-    ) -> Result<(Store, Records), OpenFault>
+    pub fn open<P: Station>(alloc: Global, station: &mut P) -> Result<(Store, Records), OpenFault>
         // What each answer says of the file as it was.
         ensures records { P.tells → IfOk result (λ r. Held r.1 (now (P.history station.old))) }
         ensures fault { P.tells → IfErr result (λ e. SaysOf e (now (P.history station.old))) }

@@ -75,9 +75,15 @@ fn a_fresh_store_has_three_records(rt: HostRuntime) -> Result<(), Fail> {
     counters[32] = 0xe8;
     counters[40] = 2;
     assert_eq!(rt; file.get(8192..8241), Some(counters.as_slice()));
-    assert_eq!(rt; Store::make(alloc, &mut station, 9).err(), Some(MakeFault::Exists));
+    assert_eq!(rt;
+        Store::make(alloc, &mut station, 9).err(),
+        Some(MakeFault::Exists)
+    );
     let (_, records) = Store::open(alloc, &mut station)?;
-    assert_eq!(rt; listed(alloc, &records)?.as_slice(), [(1, 0), (2, 0), (3, 1)].as_slice());
+    assert_eq!(rt;
+        listed(alloc, &records)?.as_slice(),
+        [(1, 0), (2, 0), (3, 1)].as_slice()
+    );
     Ok(())
 }
 
@@ -111,7 +117,11 @@ fn make_and_change<P: Station>(alloc: Global, station: &mut P) -> Result<Option<
     let Ok(mut store) = Store::make(alloc, station, 1000) else {
         return Ok(None);
     };
-    Ok(Some(store.commit(alloc, station, &change(alloc, 4, 7, 2)?).is_ok()))
+    Ok(Some(
+        store
+            .commit(alloc, station, &change(alloc, 4, 7, 2)?)
+            .is_ok(),
+    ))
 }
 
 #[test]

@@ -34,10 +34,9 @@ returns-clause-store g c = λ t. record {
       subst (λ n. IsHeapOf c.in_ok-heap.heap (page (now (g.P.Station.history c.make.new.station))) n) (sym c.in_ok-journal.ensures.count)
       (c.in_ok-heap.ensures.heap (page (now (g.P.Station.history c.make.new.station)))
       (c.in_ok-journal.ensures.pages t 2 (lit≤ tt) (lit≤ tt) ∙ second_page (entries c.in_ok-heap.pages.pages) (root_of 3) (page_of (slots_put c.in_ok-blobs.blobs)) c.in_ok-heap.ensures.pages));
-  opens =
-      (
-        fresh_records c.args.limit,
-        (rests_hold (g.P.Station.history c.make.new.station) c.in_ok-journal.journal (fresh_records c.args.limit) (c.in_ok-journal.ensures.rests t) (subst (λ n. 3 ≤ n) (sym c.in_ok-journal.ensures.count) (lit≤ tt))
+  opens = (
+    fresh_records c.args.limit,
+    (rests_hold (g.P.Station.history c.make.new.station) c.in_ok-journal.journal (fresh_records c.args.limit) (c.in_ok-journal.ensures.rests t) (subst (λ n. 3 ≤ n) (sym c.in_ok-journal.ensures.count) (lit≤ tt))
         (made_opens (g.P.Station.history c.make.new.station) c.in_ok-journal.journal c.in_ok-blobs.blobs (entries c.in_ok-heap.pages.pages) c.args.limit (subst HaveSpellings (c.as_slice.ensures ∙ c.in_ok-changes.ensures) c.in_ok-blobs.ensures.spelled) (c.in_ok-blobs.ensures.blobs ∙ ap blobs_of (c.as_slice.ensures ∙ c.in_ok-changes.ensures)) c.in_ok-heap.ensures.pages c.in_ok-heap.ensures.again c.in_ok-heap.ensures.sound (c.in_ok-journal.ensures.pages t) c.in_ok-journal.ensures.count)).here.opens,
-      );
+  );
 }
