@@ -20,3 +20,4 @@ pub mod Listed
 pub mod Forking
 pub mod Growing
 pub mod Leaves
+pub mod Forks

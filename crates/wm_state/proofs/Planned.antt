@@ -34,7 +34,7 @@ use Rattle.wm_state.proofs.Tables.{created, Stands-created}
 -- ---- counters
 
 -- the counters in their place
-counted : (ss : List Stored) (id : ℕ) (old new : Counters) → Ascend ss → record_at ss id ≡ Some (records.Counters old) → (parts_of ss).counters ≡ old ∷ []
+pub counted : (ss : List Stored) (id : ℕ) (old new : Counters) → Ascend ss → record_at ss id ≡ Some (records.Counters old) → (parts_of ss).counters ≡ old ∷ []
     → parts_of (set_at id (Some (records.Counters new)) ss) ≡ recounted (parts_of ss) new
 counted ss id old new sorted found one = by_split (split_of ss id (records.Counters old) found)
   where
@@ -45,7 +45,7 @@ counted ss id old new sorted found one = by_split (split_of ss id (records.Count
         ∙ ap (λ xs. recounted (parts_of xs) new) (sym s.is)
 
 -- a record of another kind is found as before
-found_still : (ss : List Stored) (counters_id id : ℕ) (old new : Counters) (r : Record) → Ascend ss → record_at ss counters_id ≡ Some (records.Counters old) → record_at ss id ≡ Some r
+pub found_still : (ss : List Stored) (counters_id id : ℕ) (old new : Counters) (r : Record) → Ascend ss → record_at ss counters_id ≡ Some (records.Counters old) → record_at ss id ≡ Some r
     → ((c : Counters) → r ≡ records.Counters c → ⊥) → record_at (set_at counters_id (Some (records.Counters new)) ss) id ≡ Some r
 found_still ss counters_id id old new r sorted counters found other =
     record_at-set counters_id (Some (records.Counters new)) ss sorted id ∙ by_id (cases_eq id counters_id)
@@ -110,15 +110,15 @@ AllUnder-put : (n : ℕ) (front back : List Stored) (id : ℕ) (r q : Record) �
 AllUnder-put n [] back id r q under = under
 AllUnder-put n (x ∷ front) back id r q under = (under.0, AllUnder-put n front back id r q under.1)
 
-AllUnder-next : (n : ℕ) (ss : List Stored) (r : Record) → AllUnder n ss → AllUnder (n + 1) (ss ++ stored n r ∷ [])
+pub AllUnder-next : (n : ℕ) (ss : List Stored) (r : Record) → AllUnder n ss → AllUnder (n + 1) (ss ++ stored n r ∷ [])
 AllUnder-next n [] r under = (omega arith, tt)
 AllUnder-next n (s ∷ ss) r under = (omega (arith, under.0), AllUnder-next n ss r under.1)
 
-applied-append : (xs ys : List Change) (ss : List Stored) → applied (xs ++ ys) ss ≡ applied ys (applied xs ss)
+pub applied-append : (xs ys : List Change) (ss : List Stored) → applied (xs ++ ys) ss ≡ applied ys (applied xs ss)
 applied-append [] ys ss = refl
 applied-append (x ∷ xs) ys ss = applied-append xs ys (set_at x.id x.becomes ss)
 
-AllUnder-set : (n : ℕ) (ss : List Stored) (id : ℕ) (r q : Record) → Ascend ss → record_at ss id ≡ Some r → AllUnder n ss → AllUnder n (set_at id (Some q) ss)
+pub AllUnder-set : (n : ℕ) (ss : List Stored) (id : ℕ) (r q : Record) → Ascend ss → record_at ss id ≡ Some r → AllUnder n ss → AllUnder n (set_at id (Some q) ss)
 AllUnder-set n ss id r q sorted found under = by_split (split_of ss id r found)
   where
     by_split : Split ss id r → AllUnder n (set_at id (Some q) ss)

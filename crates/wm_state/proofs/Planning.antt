@@ -1,6 +1,6 @@
 -- The parts of the records after the batches that lines make.
 use Rattle.std.proofs.Common.{◌≡◌, ℕ, Bool, true, List, [], ◌∷◌, ◌++◌, Some, refl, sym, ap, subst, ◌∙◌}
-use Rattle.std.specs.List.{filter}
+use Rattle.std.specs.List.{filter, list_all}
 use Rattle.wm_graph.specs.Parts.{Parts, parts_of, as_counters, as_table, as_space, as_version, as_row, as_piece}
 use Rattle.wm_spec.specs.Records.{record_at}
 use Rattle.wm_spec.specs.declared.record.Record.{Record}
@@ -16,6 +16,7 @@ use Rattle.wm_state.specs.ById.{Ascend, set_at, applied}
 use Rattle.wm_state.specs.Batches.{keeps, AllUnder, create_batch}
 use Rattle.wm_state.proofs.ByKind.{kinds, stored, Split, split_of, set-split, set-behind, kinds-same, kinds-one, kinds-more, kinds-no_more, kinds-kept, kinds-filter}
 use Rattle.wm_state.proofs.Tables.{created}
+use Rattle.wm_state.proofs.Tests.{all_middle}
 
 -- the parts, kind by kind
 abbrev made : List Counters → List Table → List Space → List Version → List RowRecord → List PieceRecord → Parts
@@ -101,6 +102,25 @@ parts-more_table ss id t = made_same
     (kinds-no_more as_version ss id (records.Table t) refl)
     (kinds-no_more as_row ss id (records.Table t) refl)
     (kinds-no_more as_piece ss id (records.Table t) refl)
+
+pub parts-more_version : (ss : List Stored) (id : ℕ) (v : Version) → parts_of (ss ++ stored id (records.Version v) ∷ []) ≡ record (parts_of ss) { versions = (parts_of ss).versions ++ v ∷ [] }
+unfolding parts_of
+parts-more_version ss id v = made_same
+    (kinds-no_more as_counters ss id (records.Version v) refl)
+    (kinds-no_more as_table ss id (records.Version v) refl)
+    (kinds-no_more as_space ss id (records.Version v) refl)
+    (kinds-more as_version ss id (records.Version v) v refl)
+    (kinds-no_more as_row ss id (records.Version v) refl)
+    (kinds-no_more as_piece ss id (records.Version v) refl)
+
+-- a piece that is found is one of the pieces
+pub piece_found : (P : PieceRecord → Bool) (ss : List Stored) (id : ℕ) (x : PieceRecord) → record_at ss id ≡ Some (records.Piece x) → list_all P (parts_of ss).pieces ≡ true → P x ≡ true
+unfolding parts_of
+piece_found P ss id x found all = by_split (split_of ss id (records.Piece x) found)
+  where
+    by_split : Split ss id (records.Piece x) → P x ≡ true
+    by_split s = all_middle P x (kinds as_piece s.front) (kinds as_piece s.back)
+        (ap (list_all P) (sym (ap (kinds as_piece) s.is ∙ kinds-one as_piece s.front s.back id (records.Piece x) x refl)) ∙ all)
 
 pub parts-more_row : (ss : List Stored) (id : ℕ) (r : RowRecord) → parts_of (ss ++ stored id (records.Row r) ∷ []) ≡ record (parts_of ss) { rows = (parts_of ss).rows ++ r ∷ [] }
 unfolding parts_of

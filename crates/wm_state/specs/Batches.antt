@@ -13,6 +13,7 @@ use Rattle.wm_spec.specs.declared.record.counters.Counters.{Counters}
 use Rattle.wm_spec.specs.declared.record.piece.PieceRecord.{PieceRecord}
 use Rattle.wm_spec.specs.declared.record.row.RowRecord.{RowRecord}
 use Rattle.wm_spec.specs.declared.record.space.Space.{Space}
+use Rattle.wm_spec.specs.declared.record.version.Version.{Version}
 use Rattle.wm_spec.specs.declared.record.table.Table.{Table}
 use Rattle.wm_state.specs.Effects.{longer}
 
@@ -40,6 +41,15 @@ abbrev pub insert_batch : ℕ → Counters → ℕ → Space → List ℕ → �
 insert_batch counters_id counters space_id space dropped id row piece =
     put counters_id (records.Counters counters) ∷ put space_id (records.Space (longer space))
     ∷ map drop_one dropped ++ put id (records.Row row) ∷ put (id + 1) (records.Piece piece) ∷ []
+
+-- a workspace has a version more
+abbrev pub fork_batch : ℕ → Counters → ℕ → Version → List Change
+fork_batch counters_id counters id version = put counters_id (records.Counters counters) ∷ put id (records.Version version) ∷ []
+
+-- a row is written in a version more, where no piece is yet
+abbrev pub insert_new_batch : ℕ → Counters → ℕ → Space → ℕ → Version → RowRecord → PieceRecord → List Change
+insert_new_batch counters_id counters space_id space id version row piece =
+    insert_batch counters_id counters space_id space [] (id + 1) row piece ++ put id (records.Version version) ∷ []
 
 -- ---- what goes, and where new records come
 
