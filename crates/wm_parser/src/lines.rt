@@ -130,6 +130,9 @@ fn line(cursor: &mut Cursor, alloc: Global) -> Result<Line, ParseError>
     session(cursor, alloc)
 }
 
+/// Lets a tree go. A function of its own: a tree that some paths keep and others drop has a long proof.
+pub fn discard(_tree: Line) {}
+
 /// A line, where no symbol is left behind it.
 fn finished(cursor: &Cursor, found: Line) -> Result<Line, ParseError>
     ensures { Tells line_view result (ended (line_view found) cursor.now) }
@@ -137,6 +140,7 @@ fn finished(cursor: &Cursor, found: Line) -> Result<Line, ParseError>
     if cursor.is_at_end() {
         return Ok(found);
     }
+    discard(found);
     Err(cursor.fault())
 }
 

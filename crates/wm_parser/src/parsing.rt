@@ -5,7 +5,7 @@ ghost use Rattle.wm_literals.specs.Literals.{bad_literal};
 ghost use Rattle.wm_parser.specs.Parsing.{column_of, judged, IsLine, IsSyntax, IsLiteral, IsFault, Refuses};
 
 use crate::fault::ParseFault;
-use crate::lines::line_in;
+use crate::lines::{discard, line_in};
 use wm_literals::bad_literal;
 use std::alloc::Global;
 use wm_base::tree::line::Line;
@@ -26,6 +26,7 @@ fn in_range(line: &[u8], tree: Line, bad: Option<usize>) -> Result<Line, ParseFa
 {
     match bad {
         Some(left) => {
+            discard(tree);
             let column = column_of(line, left);
             Err(ParseFault::Literal { column })
         }
