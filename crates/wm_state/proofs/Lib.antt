@@ -21,3 +21,4 @@ pub mod Forking
 pub mod Growing
 pub mod Leaves
 pub mod Forks
+pub mod Ids
