@@ -1,7 +1,6 @@
 -- What a text is as a where_clause.
 use Rattle.std.proofs.Common.{◌≡◌, ℕ, Bool, true, false, cond, List, [], ◌∷◌, length, refl, sym, ap, subst, ◌∙◌, arith, Option, Some, None, Result, Ok, Err}
 use Rattle.std.specs.Prelude.{◌==◌, ◌||◌}
-
 use Rattle.std.proofs.lemmas.Bool.{eqb-true}
 use Rattle.wm_base.specs.declared.tree.constant.Const.TheVariants as consts
 use Rattle.wm_base.specs.declared.tree.statement.ArgValue.{ArgValue}

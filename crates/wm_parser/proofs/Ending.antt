@@ -106,14 +106,14 @@ judged_of text tree None e b = (
   λ other w n. one_tree text (line_view tree) other e w,
   tt,
   λ column s. no_syntax text (line_view tree) column e s,
-  λ column l. no_literal text column b l
+  λ column l. no_literal text column b l,
 )
 judged_of text tree (Some left) e b = (
   tt,
   λ other w n. absurd (some_literal text left b n),
   literal_is text (line_view tree) left (column_of text left) e b refl,
   λ column s. absurd (no_syntax text (line_view tree) column e s),
-  λ column l. inl (literal_same (column_of text left) column (same_literal text left (column_of text left) column b refl l))
+  λ column l. inl (literal_same (column_of text left) column (same_literal text left (column_of text left) column b refl l)),
 )
 
 pub judged_is : (text : List ℕ) (tree : LineNode) (bad : Option ℕ) (result : Result LineNode ParseFault) → all_of (line_at 64 (symbols_of text)) ≡ Ok (line_view tree) → bad ≡ bad_literal text → result ≡ judged text tree bad → Judged text result
@@ -125,5 +125,5 @@ refused_is text left column e c = (
   λ tree w n. absurd (no_tree text left tree e w),
   syntax_is text left column e c,
   λ other s. inl (syntax_same column other (same_column text left column other e c s)),
-  λ other l. absurd (no_literal_tree text left other e l)
+  λ other l. absurd (no_literal_tree text left other e l),
 )

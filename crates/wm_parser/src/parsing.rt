@@ -6,9 +6,9 @@ ghost use Rattle.wm_parser.specs.Parsing.{column_of, judged, IsLine, IsSyntax, I
 
 use crate::fault::ParseFault;
 use crate::lines::{discard, line_in};
-use wm_literals::bad_literal;
 use std::alloc::Global;
 use wm_base::tree::line::Line;
+use wm_literals::bad_literal;
 use wm_terms::error::ParseError;
 
 /// The column, from 1, of a symbol from which so many bytes of the line are left.

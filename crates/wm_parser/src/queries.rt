@@ -7,11 +7,6 @@ ghost use Rattle.wm_grammar.specs.QueryReaders.{next_at, list_of_at, filter_at, 
 ghost use Rattle.wm_grammar.specs.Symbols.{next_in};
 ghost use Rattle.wm_terms.specs.Telling.{Told};
 
-use wm_terms::conditions::condition;
-use wm_terms::cursor::Cursor;
-use wm_terms::error::ParseError;
-use wm_terms::expressions::expr;
-use wm_terms::operands::column;
 use std::alloc::Global;
 use wm_base::tree::column::{Col, Cols};
 use wm_base::tree::cond::Cond;
@@ -19,6 +14,11 @@ use wm_base::tree::query::{
     Agg, Item, Order, OrderBy, Orders, Out, Outs, Projection, Query, Src, Srcs,
 };
 use wm_grammar::Sort;
+use wm_terms::conditions::condition;
+use wm_terms::cursor::Cursor;
+use wm_terms::error::ParseError;
+use wm_terms::expressions::expr;
+use wm_terms::operands::column;
 
 /// The condition behind WHERE, if it stands there.
 pub fn filter(cursor: &mut Cursor, alloc: Global) -> Result<Option<Cond>, ParseError>

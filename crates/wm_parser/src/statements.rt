@@ -8,10 +8,6 @@ ghost use Rattle.wm_grammar.specs.Statements.{also, is_key, keyed_by};
 ghost use Rattle.wm_grammar.specs.StatementReaders.{no_scale_at, size_at, precision_at, column_type_at, column_option_at, option_sorts, column_options_at, column_item_at, key_columns_at, create_item_at, next_item_at, create_items_at, create_at, name_list_at, insert_at, set_at, update_at, delete_at};
 ghost use Rattle.wm_terms.specs.Telling.{Told};
 
-use wm_terms::cursor::Cursor;
-use wm_terms::error::ParseError;
-use wm_terms::expressions::expr;
-use wm_terms::operands::{name, plain_name};
 use crate::queries::filter;
 use std::alloc::Global;
 use wm_base::Name;
@@ -19,6 +15,10 @@ use wm_base::tree::column::Names;
 use wm_base::tree::expr::{Expr, Exprs};
 use wm_base::tree::statement::{ColumnType, CreateItem, CreateItems, Set, Sets, Statement};
 use wm_grammar::Sort;
+use wm_terms::cursor::Cursor;
+use wm_terms::error::ParseError;
+use wm_terms::expressions::expr;
+use wm_terms::operands::{name, plain_name};
 
 /// What follows NUMBER in parentheses; nothing of it is kept.
 #[tactic(auto, unfolding(wm_grammar::specs::StatementReaders::precision_at))]

@@ -3,7 +3,6 @@
 
 pub mod lines;
 pub mod shown;
-
 #[cfg(test)]
 mod tests;
 

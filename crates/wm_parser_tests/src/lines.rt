@@ -10,7 +10,10 @@ pub static TREES: [(&str, &str); 70] = [
     ("AT TIMESTAMP '0001-01-01T01:00:00'", "(at @3600)"),
     ("AT TIMESTAMP '0001-01-03'", "(at @172800)"),
     ("AT TO_DATE('01-02-0001','MM-DD-YYYY')", "(at @86400)"),
-    ("AT TO_DATE('0001-01-01 00:00:09', 'YYYY-MM-DD HH24:MI:SS')", "(at @9)"),
+    (
+        "AT TO_DATE('0001-01-01 00:00:09', 'YYYY-MM-DD HH24:MI:SS')",
+        "(at @9)",
+    ),
     ("AT TO_DATE('0001-01-02','YYYY-MM-DD')", "(at @86400)"),
     ("A:DELETE T", "A (delete T)"),
     ("A: DELETE FROM T;", "A (delete T)"),
@@ -18,60 +21,207 @@ pub static TREES: [(&str, &str); 70] = [
     ("at:delete t", "AT (delete T)"),
     ("Disconnect : DELETE T ;", "DISCONNECT (delete T)"),
     ("A: CREATE TABLE T (A NUMBER)", "A (create T (A number))"),
-    ("A: CREATE TABLE T (A NUMBER(5), B NUMBER(5,0) NOT NULL, C NUMBER ( 5 , 00 ) PRIMARY KEY)", "A (create T (A number) (B number filled) (C number primary))"),
-    ("A: CREATE TABLE T (A INTEGER PRIMARY KEY NOT NULL, B VARCHAR2(2000) NOT NULL, C DATE, D TIMESTAMP)", "A (create T (A number primary filled) (B text 2000 filled) (C time) (D time))"),
-    ("A: CREATE TABLE T (VALIDFROM DATE NOT NULL PRIMARY KEY, VALIDTILL VARCHAR2(1))", "A (create T (VALIDFROM time primary filled) (VALIDTILL text 1))"),
-    ("A: CREATE TABLE T (A NUMBER, B DATE, PRIMARY KEY (A, VALIDFROM, B))", "A (create T (A number) (B time) (key A VALIDFROM B))"),
-    ("A: CREATE TABLE T (CONSTRAINT K PRIMARY KEY (A), A NUMBER NOT NULL)", "A (create T (key:K A) (A number filled))"),
+    (
+        "A: CREATE TABLE T (A NUMBER(5), B NUMBER(5,0) NOT NULL, C NUMBER ( 5 , 00 ) PRIMARY KEY)",
+        "A (create T (A number) (B number filled) (C number primary))",
+    ),
+    (
+        "A: CREATE TABLE T (A INTEGER PRIMARY KEY NOT NULL, B VARCHAR2(2000) NOT NULL, C DATE, D TIMESTAMP)",
+        "A (create T (A number primary filled) (B text 2000 filled) (C time) (D time))",
+    ),
+    (
+        "A: CREATE TABLE T (VALIDFROM DATE NOT NULL PRIMARY KEY, VALIDTILL VARCHAR2(1))",
+        "A (create T (VALIDFROM time primary filled) (VALIDTILL text 1))",
+    ),
+    (
+        "A: CREATE TABLE T (A NUMBER, B DATE, PRIMARY KEY (A, VALIDFROM, B))",
+        "A (create T (A number) (B time) (key A VALIDFROM B))",
+    ),
+    (
+        "A: CREATE TABLE T (CONSTRAINT K PRIMARY KEY (A), A NUMBER NOT NULL)",
+        "A (create T (key:K A) (A number filled))",
+    ),
     ("A: INSERT INTO T VALUES (1)", "A (insert T 1)"),
-    ("A: INSERT INTO T (A, WM_VALID, VALIDTILL) VALUES (1, 'it''s', NULL, '', -2)", "A (insert T (names A WM_VALID VALIDTILL) 1 'it's' NULL NULL (neg 2))"),
-    ("A: INSERT INTO T VALUES (SYSDATE, DBMS_WM.UNTIL_CHANGED, WMSYS.WM_PERIOD(DATE '0001-01-02', SYSDATE), WM_PERIOD(SYSDATE,DBMS_WM.UNTIL_CHANGED))", "A (insert T SYSDATE @END [@86400 SYSDATE] [SYSDATE @END])"),
-    ("A: UPDATE T SET A = B - C - D", "A (update T (A (- (- B C) D)))"),
-    ("A: UPDATE T SET A = B + C * D * 2 - -3", "A (update T (A (- (+ B (* (* C D) 2)) (neg 3))))"),
-    ("A: UPDATE T SET A = (B + C) * D, WM_VALID = WM_VALID WHERE A = -1", "A (update T (A (* (+ B C) D)) (WM_VALID WM_VALID) where (= A -1))"),
-    ("A: UPDATE T SET A = - - (B), B = WM_VALID.VALIDFROM, C = T.WM_VALID.VALIDTILL", "A (update T (A (neg (neg B))) (B WM_VALID.from) (C T.WM_VALID.till))"),
-    ("A: UPDATE T SET A = - B * C, B = VALIDFROM, C = T.VALIDTILL", "A (update T (A (* (neg B) C)) (B VALIDFROM) (C T.VALIDTILL))"),
-    ("A: UPDATE T SET A = 9223372036854775807, B = 00000000000000000000001", "A (update T (A 9223372036854775807) (B 1))"),
-    ("A: DELETE T WHERE A = 1 OR B = 2 AND C = 3", "A (delete T where (or (= A 1) (and (= B 2) (= C 3))))"),
-    ("A: DELETE T WHERE A = 1 OR B <> 2 OR C != 3", "A (delete T where (or (or (= A 1) (<> B 2)) (!= C 3)))"),
-    ("A: DELETE T WHERE A < 1 AND B <= 2 AND C > 3 AND D >= 4", "A (delete T where (and (and (and (< A 1) (<= B 2)) (> C 3)) (>= D 4)))"),
-    ("A: DELETE T WHERE NOT A = 1 AND B = 2", "A (delete T where (and (not (= A 1)) (= B 2)))"),
-    ("A: DELETE T WHERE NOT NOT (A = 1 OR B = 2) AND C = 3", "A (delete T where (and (not (not (or (= A 1) (= B 2)))) (= C 3)))"),
-    ("A: DELETE T WHERE A IS NULL OR B IS NOT NULL", "A (delete T where (or (null A) (not-null B)))"),
-    ("A: DELETE T WHERE A IN (1, -2, 'x', NULL, SYSDATE) AND B NOT IN (DATE '0001-01-02')", "A (delete T where (and (in A 1 -2 'x' NULL SYSDATE) (not-in B @86400)))"),
-    ("A: DELETE T WHERE A BETWEEN 1 AND 2 AND B NOT BETWEEN -1 AND C", "A (delete T where (and (between A 1 2) (not-between B -1 C)))"),
-    ("A: DELETE T WHERE WM_OVERLAPS(WM_VALID, T.WM_VALID) = 1 AND WM_MEETS(WM_PERIOD(SYSDATE,SYSDATE),WM_VALID) = 0", "A (delete T where (and (= (overlaps valid T.valid) 1) (= (meets [SYSDATE SYSDATE] valid) 0)))"),
-    ("A: DELETE T WHERE WM_CONTAINS(WM_VALID,WM_VALID)=WM_EQUALS(WM_VALID,WM_VALID) OR wm_lessthan(WM_VALID,WM_VALID)=WM_GREATERTHAN(WM_VALID,WM_VALID)", "A (delete T where (or (= (contains valid valid) (equals valid valid)) (= (before valid valid) (behind valid valid))))"),
-    ("A: DELETE T WHERE WM_OVERLAPS = WM_MEETS.A", "A (delete T where (= WM_OVERLAPS WM_MEETS.A))"),
+    (
+        "A: INSERT INTO T (A, WM_VALID, VALIDTILL) VALUES (1, 'it''s', NULL, '', -2)",
+        "A (insert T (names A WM_VALID VALIDTILL) 1 'it's' NULL NULL (neg 2))",
+    ),
+    (
+        "A: INSERT INTO T VALUES (SYSDATE, DBMS_WM.UNTIL_CHANGED, WMSYS.WM_PERIOD(DATE '0001-01-02', SYSDATE), WM_PERIOD(SYSDATE,DBMS_WM.UNTIL_CHANGED))",
+        "A (insert T SYSDATE @END [@86400 SYSDATE] [SYSDATE @END])",
+    ),
+    (
+        "A: UPDATE T SET A = B - C - D",
+        "A (update T (A (- (- B C) D)))",
+    ),
+    (
+        "A: UPDATE T SET A = B + C * D * 2 - -3",
+        "A (update T (A (- (+ B (* (* C D) 2)) (neg 3))))",
+    ),
+    (
+        "A: UPDATE T SET A = (B + C) * D, WM_VALID = WM_VALID WHERE A = -1",
+        "A (update T (A (* (+ B C) D)) (WM_VALID WM_VALID) where (= A -1))",
+    ),
+    (
+        "A: UPDATE T SET A = - - (B), B = WM_VALID.VALIDFROM, C = T.WM_VALID.VALIDTILL",
+        "A (update T (A (neg (neg B))) (B WM_VALID.from) (C T.WM_VALID.till))",
+    ),
+    (
+        "A: UPDATE T SET A = - B * C, B = VALIDFROM, C = T.VALIDTILL",
+        "A (update T (A (* (neg B) C)) (B VALIDFROM) (C T.VALIDTILL))",
+    ),
+    (
+        "A: UPDATE T SET A = 9223372036854775807, B = 00000000000000000000001",
+        "A (update T (A 9223372036854775807) (B 1))",
+    ),
+    (
+        "A: DELETE T WHERE A = 1 OR B = 2 AND C = 3",
+        "A (delete T where (or (= A 1) (and (= B 2) (= C 3))))",
+    ),
+    (
+        "A: DELETE T WHERE A = 1 OR B <> 2 OR C != 3",
+        "A (delete T where (or (or (= A 1) (<> B 2)) (!= C 3)))",
+    ),
+    (
+        "A: DELETE T WHERE A < 1 AND B <= 2 AND C > 3 AND D >= 4",
+        "A (delete T where (and (and (and (< A 1) (<= B 2)) (> C 3)) (>= D 4)))",
+    ),
+    (
+        "A: DELETE T WHERE NOT A = 1 AND B = 2",
+        "A (delete T where (and (not (= A 1)) (= B 2)))",
+    ),
+    (
+        "A: DELETE T WHERE NOT NOT (A = 1 OR B = 2) AND C = 3",
+        "A (delete T where (and (not (not (or (= A 1) (= B 2)))) (= C 3)))",
+    ),
+    (
+        "A: DELETE T WHERE A IS NULL OR B IS NOT NULL",
+        "A (delete T where (or (null A) (not-null B)))",
+    ),
+    (
+        "A: DELETE T WHERE A IN (1, -2, 'x', NULL, SYSDATE) AND B NOT IN (DATE '0001-01-02')",
+        "A (delete T where (and (in A 1 -2 'x' NULL SYSDATE) (not-in B @86400)))",
+    ),
+    (
+        "A: DELETE T WHERE A BETWEEN 1 AND 2 AND B NOT BETWEEN -1 AND C",
+        "A (delete T where (and (between A 1 2) (not-between B -1 C)))",
+    ),
+    (
+        "A: DELETE T WHERE WM_OVERLAPS(WM_VALID, T.WM_VALID) = 1 AND WM_MEETS(WM_PERIOD(SYSDATE,SYSDATE),WM_VALID) = 0",
+        "A (delete T where (and (= (overlaps valid T.valid) 1) (= (meets [SYSDATE SYSDATE] valid) 0)))",
+    ),
+    (
+        "A: DELETE T WHERE WM_CONTAINS(WM_VALID,WM_VALID)=WM_EQUALS(WM_VALID,WM_VALID) OR wm_lessthan(WM_VALID,WM_VALID)=WM_GREATERTHAN(WM_VALID,WM_VALID)",
+        "A (delete T where (or (= (contains valid valid) (equals valid valid)) (= (before valid valid) (behind valid valid))))",
+    ),
+    (
+        "A: DELETE T WHERE WM_OVERLAPS = WM_MEETS.A",
+        "A (delete T where (= WM_OVERLAPS WM_MEETS.A))",
+    ),
     ("A: DELETE T WHERE 1 = 1", "A (delete T where (= 1 1))"),
     ("A: DELETE T WHERE (A = 1)", "A (delete T where (= A 1))"),
     ("A: SELECT * FROM T", "A (select * from T)"),
-    ("A: SELECT DISTINCT A, B + 1 AS C, -D FROM T X", "A (distinct A (+ B 1):C (neg D) from T/X)"),
-    ("A: SELECT COUNT(*), COUNT(A + 1) AS N, SUM(A), MIN(B), MAX(T.C) FROM T WHERE A = 1", "A (select (count *) (count (+ A 1)):N (sum A) (min B) (max T.C) from T where (= A 1))"),
-    ("A: SELECT A FROM T, U B INNER JOIN V ON A = 1 OR B = 2 JOIN W X ON NOT C = 3 WHERE D = 4", "A (select A from T U/B V on (or (= A 1) (= B 2)) W/X on (not (= C 3)) where (= D 4))"),
-    ("A: SELECT A FROM T GROUP BY A, T.B, WM_VALID.VALIDFROM ORDER BY 1, A DESC, T.B ASC, 2 DESC", "A (select A from T group A T.B WM_VALID.from order #1 A desc T.B #2 desc)"),
-    ("A: SELECT WM_OVERLAPS FROM BUD", "A (select WM_OVERLAPS from BUD)"),
-    ("A: SELECT WM_VALID, VALIDFROM, WM_OVERLAPS(WM_VALID, WM_VALID) FROM T, U, V, W", "A (select WM_VALID VALIDFROM (overlaps valid valid) from T U V W)"),
+    (
+        "A: SELECT DISTINCT A, B + 1 AS C, -D FROM T X",
+        "A (distinct A (+ B 1):C (neg D) from T/X)",
+    ),
+    (
+        "A: SELECT COUNT(*), COUNT(A + 1) AS N, SUM(A), MIN(B), MAX(T.C) FROM T WHERE A = 1",
+        "A (select (count *) (count (+ A 1)):N (sum A) (min B) (max T.C) from T where (= A 1))",
+    ),
+    (
+        "A: SELECT A FROM T, U B INNER JOIN V ON A = 1 OR B = 2 JOIN W X ON NOT C = 3 WHERE D = 4",
+        "A (select A from T U/B V on (or (= A 1) (= B 2)) W/X on (not (= C 3)) where (= D 4))",
+    ),
+    (
+        "A: SELECT A FROM T GROUP BY A, T.B, WM_VALID.VALIDFROM ORDER BY 1, A DESC, T.B ASC, 2 DESC",
+        "A (select A from T group A T.B WM_VALID.from order #1 A desc T.B #2 desc)",
+    ),
+    (
+        "A: SELECT WM_OVERLAPS FROM BUD",
+        "A (select WM_OVERLAPS from BUD)",
+    ),
+    (
+        "A: SELECT WM_VALID, VALIDFROM, WM_OVERLAPS(WM_VALID, WM_VALID) FROM T, U, V, W",
+        "A (select WM_VALID VALIDFROM (overlaps valid valid) from T U V W)",
+    ),
     ("A: EXECUTE DBMS_WM.SetLockingOff", "A (call SETLOCKINGOFF)"),
-    ("A: EXEC DBMS_WM . setlockingoff ( ) ;", "A (call SETLOCKINGOFF)"),
-    ("A: EXECUTE DBMS_WM.EnableVersioning('G', 'NONE', FALSE, TRUE)", "A (call ENABLEVERSIONING 'G' 'NONE' FALSE TRUE)"),
-    ("A: EXECUTE DBMS_WM.EnableVersioning(validtime => TRUE, table_name => 'G')", "A (call ENABLEVERSIONING VALIDTIME=TRUE TABLE_NAME='G')"),
-    ("A: EXECUTE DBMS_WM.EnableVersioning('G', hist => 'NONE')", "A (call ENABLEVERSIONING 'G' HIST='NONE')"),
-    ("A: EXECUTE DBMS_WM.SetValidTime(DATE '0001-01-02', validTill => DBMS_WM.UNTIL_CHANGED)", "A (call SETVALIDTIME @86400 VALIDTILL=@END)"),
-    ("A: EXECUTE DBMS_WM.SetValidTime(validFrom => SYSDATE, validtill => -5)", "A (call SETVALIDTIME VALIDFROM=SYSDATE VALIDTILL=-5)"),
-    ("A: EXECUTE DBMS_WM.LockRows('W', 'BUD', 'ID = 1 OR NM = ''x''', 'S')", "A (call LOCKROWS 'W' 'BUD' 'ID = 1 OR NM = 'x'' 'S' where (or (= ID 1) (= NM 'x')))"),
-    ("A: EXECUTE DBMS_WM.UnlockRows('W', where_clause => ' NOT (BUD.ID IN (1,2)) ', table_name => 'T')", "A (call UNLOCKROWS 'W' WHERE_CLAUSE=' NOT (BUD.ID IN (1,2)) ' TABLE_NAME='T' where (not (in BUD.ID 1 2)))"),
-    ("A: EXECUTE DBMS_WM.ResolveConflicts('W', 'T', '', 'CHILD')", "A (call RESOLVECONFLICTS 'W' 'T' NULL 'CHILD')"),
-    ("A: EXECUTE DBMS_WM.LockRows('W', 'T', NULL)", "A (call LOCKROWS 'W' 'T' NULL)"),
-    ("A: EXECUTE DBMS_WM.LockRows(WM_PERIOD(SYSDATE, SYSDATE), TO_DATE('0001-01-02', 'YYYY-MM-DD'), 'A = 1')", "A (call LOCKROWS [SYSDATE SYSDATE] @86400 'A = 1' where (= A 1))"),
-    ("A: EXECUTE DBMS_WM.CreateWorkspace('W', 'some text')", "A (call CREATEWORKSPACE 'W' 'some text')"),
-    ("A: EXECUTE DBMS_WM.CreateWorkspace('W', '', 'some text')", "A (call CREATEWORKSPACE 'W' NULL 'some text')"),
-    ("A: EXECUTE DBMS_WM.CreateWorkspace('W', 'some text', isrefreshed => TRUE)", "A (call CREATEWORKSPACE 'W' 'some text' ISREFRESHED=TRUE)"),
-    ("A: EXECUTE DBMS_WM.CreateWorkspace('W', isrefreshed => 'd')", "A (call CREATEWORKSPACE 'W' ISREFRESHED='d')"),
-    ("A: EXECUTE DBMS_WM.SetDiffVersions('A', 'B', 'C', 'D')", "A (call SETDIFFVERSIONS 'A' 'B' 'C' 'D')"),
-    ("A: EXECUTE DBMS_WM.LockRows('A = 9223372036854775808', 'A = 9223372036854775808', 'A = 1', lock_mode => 'A = 9223372036854775808')", "A (call LOCKROWS 'A = 9223372036854775808' 'A = 9223372036854775808' 'A = 1' LOCK_MODE='A = 9223372036854775808' where (= A 1))"),
-    ("A: EXECUTE DBMS_WM.LockRows('A', 'B', lock_mode => 'A = 9223372036854775808')", "A (call LOCKROWS 'A' 'B' LOCK_MODE='A = 9223372036854775808')"),
-    ("A: DELETE T WHERE A = '9223372036854775808' OR B = '2020-99-99'", "A (delete T where (or (= A '9223372036854775808') (= B '2020-99-99')))"),
+    (
+        "A: EXEC DBMS_WM . setlockingoff ( ) ;",
+        "A (call SETLOCKINGOFF)",
+    ),
+    (
+        "A: EXECUTE DBMS_WM.EnableVersioning('G', 'NONE', FALSE, TRUE)",
+        "A (call ENABLEVERSIONING 'G' 'NONE' FALSE TRUE)",
+    ),
+    (
+        "A: EXECUTE DBMS_WM.EnableVersioning(validtime => TRUE, table_name => 'G')",
+        "A (call ENABLEVERSIONING VALIDTIME=TRUE TABLE_NAME='G')",
+    ),
+    (
+        "A: EXECUTE DBMS_WM.EnableVersioning('G', hist => 'NONE')",
+        "A (call ENABLEVERSIONING 'G' HIST='NONE')",
+    ),
+    (
+        "A: EXECUTE DBMS_WM.SetValidTime(DATE '0001-01-02', validTill => DBMS_WM.UNTIL_CHANGED)",
+        "A (call SETVALIDTIME @86400 VALIDTILL=@END)",
+    ),
+    (
+        "A: EXECUTE DBMS_WM.SetValidTime(validFrom => SYSDATE, validtill => -5)",
+        "A (call SETVALIDTIME VALIDFROM=SYSDATE VALIDTILL=-5)",
+    ),
+    (
+        "A: EXECUTE DBMS_WM.LockRows('W', 'BUD', 'ID = 1 OR NM = ''x''', 'S')",
+        "A (call LOCKROWS 'W' 'BUD' 'ID = 1 OR NM = 'x'' 'S' where (or (= ID 1) (= NM 'x')))",
+    ),
+    (
+        "A: EXECUTE DBMS_WM.UnlockRows('W', where_clause => ' NOT (BUD.ID IN (1,2)) ', table_name => 'T')",
+        "A (call UNLOCKROWS 'W' WHERE_CLAUSE=' NOT (BUD.ID IN (1,2)) ' TABLE_NAME='T' where (not (in BUD.ID 1 2)))",
+    ),
+    (
+        "A: EXECUTE DBMS_WM.ResolveConflicts('W', 'T', '', 'CHILD')",
+        "A (call RESOLVECONFLICTS 'W' 'T' NULL 'CHILD')",
+    ),
+    (
+        "A: EXECUTE DBMS_WM.LockRows('W', 'T', NULL)",
+        "A (call LOCKROWS 'W' 'T' NULL)",
+    ),
+    (
+        "A: EXECUTE DBMS_WM.LockRows(WM_PERIOD(SYSDATE, SYSDATE), TO_DATE('0001-01-02', 'YYYY-MM-DD'), 'A = 1')",
+        "A (call LOCKROWS [SYSDATE SYSDATE] @86400 'A = 1' where (= A 1))",
+    ),
+    (
+        "A: EXECUTE DBMS_WM.CreateWorkspace('W', 'some text')",
+        "A (call CREATEWORKSPACE 'W' 'some text')",
+    ),
+    (
+        "A: EXECUTE DBMS_WM.CreateWorkspace('W', '', 'some text')",
+        "A (call CREATEWORKSPACE 'W' NULL 'some text')",
+    ),
+    (
+        "A: EXECUTE DBMS_WM.CreateWorkspace('W', 'some text', isrefreshed => TRUE)",
+        "A (call CREATEWORKSPACE 'W' 'some text' ISREFRESHED=TRUE)",
+    ),
+    (
+        "A: EXECUTE DBMS_WM.CreateWorkspace('W', isrefreshed => 'd')",
+        "A (call CREATEWORKSPACE 'W' ISREFRESHED='d')",
+    ),
+    (
+        "A: EXECUTE DBMS_WM.SetDiffVersions('A', 'B', 'C', 'D')",
+        "A (call SETDIFFVERSIONS 'A' 'B' 'C' 'D')",
+    ),
+    (
+        "A: EXECUTE DBMS_WM.LockRows('A = 9223372036854775808', 'A = 9223372036854775808', 'A = 1', lock_mode => 'A = 9223372036854775808')",
+        "A (call LOCKROWS 'A = 9223372036854775808' 'A = 9223372036854775808' 'A = 1' LOCK_MODE='A = 9223372036854775808' where (= A 1))",
+    ),
+    (
+        "A: EXECUTE DBMS_WM.LockRows('A', 'B', lock_mode => 'A = 9223372036854775808')",
+        "A (call LOCKROWS 'A' 'B' LOCK_MODE='A = 9223372036854775808')",
+    ),
+    (
+        "A: DELETE T WHERE A = '9223372036854775808' OR B = '2020-99-99'",
+        "A (delete T where (or (= A '9223372036854775808') (= B '2020-99-99')))",
+    ),
 ];
 
 /// The token behind `^` is the first that no form continues.

@@ -69,7 +69,11 @@ fn lines_have_trees(rt: HostRuntime) -> Result<(), Fail> {
 fn the_first_token_that_no_form_continues_is_named(rt: HostRuntime) -> Result<(), Fail> {
     for marked in &SYNTAX {
         let (line, column) = unmarked(rt.alloc(), marked.as_bytes())?;
-        assert_eq!(rt; answer(&rt, rt.alloc(), line.as_slice()), Answer::Syntax(column), "{marked}");
+        assert_eq!(rt;
+            answer(&rt, rt.alloc(), line.as_slice()),
+            Answer::Syntax(column),
+            "{marked}"
+        );
     }
     Ok(())
 }
@@ -78,7 +82,11 @@ fn the_first_token_that_no_form_continues_is_named(rt: HostRuntime) -> Result<()
 fn the_first_literal_out_of_range_is_named(rt: HostRuntime) -> Result<(), Fail> {
     for marked in &LITERALS {
         let (line, column) = unmarked(rt.alloc(), marked.as_bytes())?;
-        assert_eq!(rt; answer(&rt, rt.alloc(), line.as_slice()), Answer::Literal(column), "{marked}");
+        assert_eq!(rt;
+            answer(&rt, rt.alloc(), line.as_slice()),
+            Answer::Literal(column),
+            "{marked}"
+        );
     }
     Ok(())
 }
@@ -87,12 +95,21 @@ fn the_first_literal_out_of_range_is_named(rt: HostRuntime) -> Result<(), Fail> 
 #[test]
 fn at_most_64_are_open(rt: HostRuntime) -> Result<(), Fail> {
     let parentheses = nested(rt.alloc(), b"(", b")", 64)?;
-    assert_eq!(rt; answer(&rt, rt.alloc(), parentheses.as_slice()), Answer::Tree);
+    assert_eq!(rt;
+        answer(&rt, rt.alloc(), parentheses.as_slice()),
+        Answer::Tree
+    );
     let words = nested(rt.alloc(), b"NOT ", b"", 64)?;
     assert_eq!(rt; answer(&rt, rt.alloc(), words.as_slice()), Answer::Tree);
     let more_parentheses = nested(rt.alloc(), b"(", b")", 65)?;
-    assert_eq!(rt; answer(&rt, rt.alloc(), more_parentheses.as_slice()), Answer::Syntax(18 + 64 + 1));
+    assert_eq!(rt;
+        answer(&rt, rt.alloc(), more_parentheses.as_slice()),
+        Answer::Syntax(18 + 64 + 1)
+    );
     let more_words = nested(rt.alloc(), b"NOT ", b"", 65)?;
-    assert_eq!(rt; answer(&rt, rt.alloc(), more_words.as_slice()), Answer::Syntax(18 + 4 * 64 + 1));
+    assert_eq!(rt;
+        answer(&rt, rt.alloc(), more_words.as_slice()),
+        Answer::Syntax(18 + 4 * 64 + 1)
+    );
     Ok(())
 }
