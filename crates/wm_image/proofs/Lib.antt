@@ -1,0 +1,10 @@
+pub mod IdLists
+pub mod TableLists
+pub mod Lists
+pub mod Listed
+pub mod Loading
+pub mod Finding
+pub mod Newest
+pub mod Walking
+pub mod Naming
+pub mod Using

@@ -1,0 +1,178 @@
+-- Tables found by name.
+use Rattle.std.proofs.Common.{◌≡◌, ℕ, ◌<◌, ◌+◌, Bool, true, false, cond, not, ◌&&◌, ◌||◌, ◌==◌, nat_lt, nat_le, List, [], ◌∷◌, length, get_or, drop, Option, Some, None, Bor, is_some, refl, sym, ap, ◌∙◌}
+use Rattle.std.proofs.lemmas.List.{drop_more}
+use Rattle.std.proofs.lemmas.Slice.Eq.{bytes_eq-Decides}
+use Rattle.std.specs.BTreeMap.{BTreeMap}
+use Rattle.std.specs.Bool.{then_some}
+use Rattle.std.specs.List.{find, filter, filter_map, list_any, list_all, cons_option}
+use Rattle.std.specs.Option.{option_copied, option_map, option_or, option_and_then}
+use Rattle.std.specs.Str.{bytes_eq}
+use Rattle.wm_graph.specs.Parts.{Parts, parts_of, as_table, table_of}
+use Rattle.wm_graph.specs.Rules.{keep_rules, are_counters, are_tables, are_spaces, are_versions, are_rows, are_pieces, differ, is_table}
+use Rattle.wm_spec.specs.Records.{record_at}
+use Rattle.wm_spec.specs.declared.record.Record.{Record}
+use Rattle.wm_spec.specs.declared.record.Record.TheVariants as records
+use Rattle.wm_spec.specs.declared.record.counters.Counters.{Counters}
+use Rattle.wm_spec.specs.declared.record.stored.Stored.{Stored}
+use Rattle.wm_spec.specs.declared.record.table.Table.{Table}
+use Rattle.wm_state.specs.Standing.{by_number, place_table}
+use Rattle.wm_image.proofs.Finding.{all_of, all_sought, Tests, filter-kind}
+use Rattle.wm_image.proofs.Newest.{both}
+use Rattle.wm_image.specs.Indexed.{IsIndexed, ids_at, listed}
+use Rattle.wm_image.specs.Shown.{kind_at, passing}
+use Rattle.wm_image.specs.Sought.{Tables, is_sought}
+use Rattle.wm_image.specs.declared.index.Index.{Index}
+
+-- ---- loops over ids
+
+find-cons : (p : Table → Bool) (ss : List Stored) (id : ℕ) (ids : List ℕ)
+    → find p (kind_at as_table ss (id ∷ ids)) ≡ option_or (passing p (option_and_then as_table (record_at ss id))) (find p (kind_at as_table ss ids))
+find-cons p ss id ids = by_record (record_at ss id)
+  where
+    by_test : (b : Bool) (t : Table) (rest : Option Table) → cond b (Some t) rest ≡ option_or (then_some b t) rest
+    by_test true t rest = refl
+    by_test false t rest = refl
+
+    by_kind : (k : Option Table) → find p (cons_option k (kind_at as_table ss ids)) ≡ option_or (passing p k) (find p (kind_at as_table ss ids))
+    by_kind None = refl
+    by_kind (Some t) = by_test (p t) t (find p (kind_at as_table ss ids))
+
+    by_record : (o : Option Record) → find p (filter_map as_table (cons_option o (filter_map (record_at ss) ids))) ≡ option_or (passing p (option_and_then as_table o)) (find p (kind_at as_table ss ids))
+    by_record None = refl
+    by_record (Some r) = by_kind (as_table r)
+
+find-at : (p : Table → Bool) (ss : List Stored) (ids : List ℕ) (i : ℕ) → i < length ids
+    → find p (kind_at as_table ss (drop i ids)) ≡ option_or (passing p (option_and_then as_table (record_at ss (get_or ids i 0)))) (find p (kind_at as_table ss (drop (i + 1) ids)))
+find-at p ss ids i within = ap (λ l. find p (kind_at as_table ss l)) (drop_more ids i 0 within) ∙ find-cons p ss (get_or ids i 0) (drop (i + 1) ids)
+
+or_some : (x y : Option Table) → is_some x ≡ true → option_or x y ≡ x
+or_some None y e = cc
+or_some (Some h) y e = refl
+
+or_none : (x y : Option Table) → is_some x ≡ false → option_or x y ≡ y
+or_none None y e = refl
+or_none (Some h) y e = cc
+
+pub some_table : (o : Option (Bor Table)) (b : Bool) → b ≡ is_some o → is_some (option_copied o) ≡ b
+some_table None b e = sym e
+some_table (Some x) b e = sym e
+
+pub table_here : (p : Table → Bool) (ss : List Stored) (ids : List ℕ) (i : ℕ) (x : Option Table) → i < length ids → x ≡ passing p (option_and_then as_table (record_at ss (get_or ids i 0))) → is_some x ≡ true
+    → x ≡ find p (kind_at as_table ss (drop i ids))
+table_here p ss ids i x within is some =
+    sym (or_some x (find p (kind_at as_table ss (drop (i + 1) ids))) some) ∙ ap (λ o. option_or o (find p (kind_at as_table ss (drop (i + 1) ids)))) is ∙ sym (find-at p ss ids i within)
+
+pub table_later : (p : Table → Bool) (ss : List Stored) (ids : List ℕ) (i : ℕ) (x : Option Table) → i < length ids → x ≡ passing p (option_and_then as_table (record_at ss (get_or ids i 0))) → is_some x ≡ false
+    → find p (kind_at as_table ss (drop (i + 1) ids)) ≡ find p (kind_at as_table ss (drop i ids))
+table_later p ss ids i x within is none =
+    sym (or_none x (find p (kind_at as_table ss (drop (i + 1) ids))) none) ∙ ap (λ o. option_or o (find p (kind_at as_table ss (drop (i + 1) ids)))) is ∙ sym (find-at p ss ids i within)
+
+-- ---- by number
+
+-- a table before others finds its place, and is found as before them where no other passes with it
+find-placed : (p : Table → Bool) (t : Table) (us : List Table) → (p t ≡ true → find p us ≡ None) → find p (place_table t us) ≡ find p (t ∷ us)
+find-placed p t [] alone = refl
+find-placed p t (u ∷ us) alone = by_place (nat_lt u.number t.number) (p t) (p u) refl refl (find-placed p t us)
+  where
+    none_some : (o : Option Table) → o ≡ None → o ≡ Some u → ⊥
+    none_some o e f = cc
+
+    behind : p u ≡ false → p t ≡ true → find p us ≡ None
+    behind away pass = sym (ap (λ b. cond b (Some u) (find p us)) away) ∙ alone pass
+
+    -- of two tables one at most passes
+    swapped : (a b : Bool) → p t ≡ a → p u ≡ b → cond b (Some u) (cond a (Some t) (find p us)) ≡ cond a (Some t) (cond b (Some u) (find p us))
+    swapped true true e f = absurd (none_some (find p (u ∷ us)) (alone e) (ap (λ b. cond b (Some u) (find p us)) f))
+    swapped true false e f = refl
+    swapped false b e f = refl
+
+    by_place : (c a b : Bool) → p t ≡ a → p u ≡ b → ((p t ≡ true → find p us ≡ None) → find p (place_table t us) ≡ find p (t ∷ us))
+        → find p (cond c (u ∷ place_table t us) (t ∷ u ∷ us)) ≡ cond (p t) (Some t) (cond (p u) (Some u) (find p us))
+    by_place false a b e f rest = refl
+    by_place true a false e f rest = ap (cond (p u) (Some u)) (rest (behind f)) ∙ swapped (p t) (p u) refl refl
+    by_place true a true e f rest =
+        ap (λ d. cond d (Some u) (find p (place_table t us))) f ∙ ap (λ d. cond d (Some u) (cond (p t) (Some t) (find p us))) (sym f) ∙ swapped (p t) (p u) refl refl
+
+-- the name that is sought
+abbrev pub has_name : List ℕ → Table → Bool
+has_name name t = bytes_eq name t.name
+
+abbrev pub same_name : Table → Table → Bool
+same_name t u = bytes_eq t.name u.name
+
+either_false : (a b : Bool) → (a || b) ≡ false → (a ≡ false) × (b ≡ false)
+either_false true b e = cc
+either_false false b e = (refl, e)
+
+not_true : (a : Bool) → not a ≡ true → a ≡ false
+not_true true e = cc
+not_true false e = refl
+
+-- no other table has the name
+no_other : (name : List ℕ) (t : Table) (us : List Table) → list_any (same_name t) us ≡ false → name ≡ t.name → find (has_name name) us ≡ None
+no_other name t [] none e = refl
+no_other name t (u ∷ us) none e =
+    let two = either_false (bytes_eq t.name u.name) (list_any (same_name t) us) none in
+    ap (λ b. cond b (Some u) (find (has_name name) us)) (ap (λ n. bytes_eq n u.name) e ∙ two.0) ∙ no_other name t us two.1 e
+
+pub find-by_number : (name : List ℕ) (ts : List Table) → differ same_name ts ≡ true → find (has_name name) (by_number ts) ≡ find (has_name name) ts
+find-by_number name [] apart = refl
+find-by_number name (t ∷ ts) apart =
+    let two = both (not (list_any (same_name t) ts)) (differ same_name ts) apart in
+    find-placed (has_name name) t (by_number ts)
+    (λ pass. find-by_number name ts two.1 ∙ no_other name t ts (not_true (list_any (same_name t) ts) two.0) ((bytes_eq-Decides name t.name).0 pass))
+    ∙ ap (cond (bytes_eq name t.name) (Some t)) (find-by_number name ts two.1)
+
+-- ---- the rules of tables
+
+second : (a b r : Bool) → (a && (b && r)) ≡ true → b ≡ true
+second true true r h = refl
+second true false r h = h
+second false b r h = cc
+
+third : (a b c r : Bool) → (a && (b && (c && r))) ≡ true → c ≡ true
+third true true true r h = refl
+third true true false r h = h
+third true false c r h = cc
+third false b c r h = cc
+
+names_differ : (p : Parts) → keep_rules p ≡ true → differ same_name p.tables ≡ true
+unfolding keep_rules
+names_differ p kept = by_list p.counters refl
+  where
+    false_true : false ≡ true → ⊥
+    false_true h = cc
+
+    by_list : (cs : List Counters) → p.counters ≡ cs → differ same_name p.tables ≡ true
+    by_list [] e = absurd (false_true (rw e at kept))
+    by_list (c ∷ []) e =
+        third (nat_le (length p.tables) 256) (differ (λ (t u : Table). t.number == u.number) p.tables) (differ same_name p.tables) (list_all is_table p.tables)
+        (second (are_counters c) (are_tables p.tables) (are_spaces p.spaces && (are_versions p c.next_version && (are_rows p c.next_stamp && are_pieces p c.next_stamp))) (rw e at kept))
+    by_list (c ∷ d ∷ cs) e = absurd (false_true (rw e at kept))
+
+-- ---- what an index tells
+
+tables_test : Tests as_table (λ t. true) (is_sought Tables)
+tables_test (records.Table t) = refl
+tables_test _ = refl
+
+filter_all : (ts : List Table) → filter (λ t. true) ts ≡ ts
+filter_all [] = refl
+filter_all (t ∷ ts) = ap (λ l. t ∷ l) (filter_all ts)
+
+tables_told : (kept : BTreeMap ℕ Record) (x : Index) → IsIndexed kept x → kind_at as_table (listed kept.entries) (ids_at x Tables) ≡ (parts_of (listed kept.entries)).tables
+unfolding parts_of
+tables_told kept x is =
+    ap (filter_map as_table) (all_sought kept x is Tables)
+    ∙ filter-kind as_table (λ t. true) (is_sought Tables) tables_test (all_of (listed kept.entries))
+    ∙ filter_all (filter_map as_table (all_of (listed kept.entries)))
+
+pub numbered_told : (kept : BTreeMap ℕ Record) (x : Index) → IsIndexed kept x → (number : ℕ)
+    → find (λ (t : Table). t.number == number) (kind_at as_table (listed kept.entries) (ids_at x Tables)) ≡ table_of (parts_of (listed kept.entries)).tables number
+numbered_told kept x is number = ap (λ ts. table_of ts number) (tables_told kept x is)
+
+pub named_told : (kept : BTreeMap ℕ Record) (x : Index) → IsIndexed kept x → keep_rules (parts_of (listed kept.entries)) ≡ true → (name : List ℕ)
+    → find (has_name name) (kind_at as_table (listed kept.entries) (ids_at x Tables)) ≡ find (has_name name) (by_number (parts_of (listed kept.entries)).tables)
+named_told kept x is rules name =
+    ap (find (has_name name)) (tables_told kept x is)
+    ∙ sym (find-by_number name (parts_of (listed kept.entries)).tables (names_differ (parts_of (listed kept.entries)) rules))

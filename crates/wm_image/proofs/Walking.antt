@@ -1,0 +1,280 @@
+-- The path of a version by the rules, and what is held along it.
+use Rattle.std.proofs.Common.{◌≡◌, ◌≢◌, ◌<◌, ◌≤◌, ◌+◌, ℕ, Bool, true, false, cond, ◌&&◌, ◌||◌, eqb, ◌==◌, nat_lt, nat_le, max, List, [], ◌∷◌, length, get_or, drop, Option, Some, None, Bor, is_some, refl, sym, ap, ◌∙◌, subst, arith, ◌⊎◌, inl, inr}
+use Rattle.std.proofs.lemmas.Bool.{cases_eq, eq-eqb, ne_eqb, eqb-true}
+use Rattle.std.proofs.lemmas.List.{drop_more, drop_all}
+use Rattle.std.specs.Bool.{then_some}
+use Rattle.std.specs.BTreeMap.{BTreeMap}
+use Rattle.std.specs.List.{filter, filter_map, list_all, cons_option}
+use Rattle.std.specs.Option.{IsSome, option_copied, option_map, option_map_or, option_or, option_and_then}
+use Rattle.std.specs.Ordering.{is_eq}
+use Rattle.wm_base.specs.Key.{key_order}
+use Rattle.wm_graph.specs.Parts.{Parts, parts_of, version_of, space_of, has_version, as_piece, as_version}
+use Rattle.wm_graph.specs.Rules.{keep_rules, are_counters, are_tables, are_spaces, are_versions, are_rows, are_pieces, differ, has_versions, is_version, is_version_of, stands_under}
+use Rattle.wm_period.specs.Pieces.{Held}
+use Rattle.wm_spec.specs.Lists.{Cell}
+use Rattle.wm_spec.specs.Records.{record_at}
+use Rattle.wm_spec.specs.declared.record.Record.{Record}
+use Rattle.wm_spec.specs.declared.record.Record.TheVariants as records
+use Rattle.wm_spec.specs.declared.record.counters.Counters.{Counters}
+use Rattle.wm_spec.specs.declared.record.piece.PieceRecord.{PieceRecord}
+use Rattle.wm_spec.specs.declared.record.space.Space.{Space}
+use Rattle.wm_spec.specs.declared.record.stored.Stored.{Stored}
+use Rattle.wm_spec.specs.declared.record.version.Version.{Version}
+use Rattle.wm_state.specs.Standing.{newest_first, node_of, seen_at, stored_at, covers_at, held_by, latest, shown}
+use Rattle.wm_tree.specs.Versions.{version_in, path_in, IsTree}
+use Rattle.wm_tree.specs.declared.version.Version.{Version as Node}
+use Rattle.wm_tree.proofs.Paths.{found, path_in-there, path_in-none}
+use Rattle.wm_image.proofs.Finding.{all_of, all_sought, filter-kind, versions_test}
+use Rattle.wm_image.proofs.Newest.{both, Stands, AllStand, AllStand-grow, tree_of, Descends-newest, version_in-newest, latest_in-greatest, same_number}
+use Rattle.wm_image.specs.Indexed.{IsIndexed, ids_at, listed}
+use Rattle.wm_image.specs.Shown.{kind_at, greatest, newer, has_at, held_here, first_held, along}
+use Rattle.wm_image.specs.Sought.{VersionsOf, PiecesAt, is_sought}
+use Rattle.wm_image.specs.declared.index.Index.{Index}
+
+-- ---- the tree of the rules
+
+there : (o : Option Version) (s : ℕ) → option_map_or (λ (v : Version). v.space == s) o false ≡ true → is_some o ≡ true
+there None s e = cc
+there (Some v) s e = refl
+
+less_than : (m n : ℕ) → nat_lt m n ≡ true → m < n
+less_than m n e = grind (arith, e)
+
+-- a version by the rules
+stands-of : (all : List Node) (spaces : ℕ → Option Space) (versions : ℕ → Option Version) (next : ℕ) (v : Version) → ((n : ℕ) → version_in all n ≡ option_map node_of (versions n))
+    → is_version spaces versions next v ≡ true → Stands all (node_of v)
+stands-of all spaces versions next v known rule = by_space (spaces v.space) (both (nat_lt v.number next) (option_map_or (λ (s : Space). cond (v.parent == 0) (v.number == 1) (stands_under versions v s)) (spaces v.space) false) rule).1
+  where
+    some_node : (o : Option Version) → is_some o ≡ true → is_some (option_map node_of o) ≡ true
+    some_node None e = e
+    some_node (Some w) e = refl
+
+    under_one : (a b : Bool) → (a || b) ≡ true → (a ≡ true → is_some (versions v.parent) ≡ true) → (b ≡ true → is_some (versions v.parent) ≡ true) → is_some (versions v.parent) ≡ true
+    under_one true b e f g = f refl
+    under_one false b e f g = g e
+
+    by_parent : (s : Space) → (v.parent ≡ 0) ⊎ (v.parent ≢ 0) → cond (v.parent == 0) (v.number == 1) (stands_under versions v s) ≡ true → Stands all (node_of v)
+    by_parent s (inl root) h =
+        let one : v.number ≡ 1 = eqb-true v.number 1 (rw (eq-eqb _ _ root) at h) in
+        record { named = omega (arith, one); older = λ some. absurd (some root); under = λ some. absurd (some root) }
+    by_parent s (inr some) h =
+        let parts = both (nat_lt v.parent v.number) (is_version_of versions v.parent v.space || is_version_of versions v.parent s.parent) (rw (ne_eqb _ _ some) at h) in
+        let older : v.parent < v.number = less_than v.parent v.number parts.0 in
+        record {
+          named = omega (arith, older);
+          older = λ _. older;
+          under = λ _.
+              subst IsSome (sym (known v.parent))
+              (some_node (versions v.parent)
+              (under_one (is_version_of versions v.parent v.space) (is_version_of versions v.parent s.parent) parts.1 (there (versions v.parent) v.space) (there (versions v.parent) s.parent)));
+        }
+
+    by_space : (o : Option Space) → option_map_or (λ (s : Space). cond (v.parent == 0) (v.number == 1) (stands_under versions v s)) o false ≡ true → Stands all (node_of v)
+    by_space None h = cc
+    by_space (Some s) h = by_parent s (cases_eq v.parent 0) h
+
+all_stand : (all : List Node) (spaces : ℕ → Option Space) (versions : ℕ → Option Version) (next : ℕ) → ((n : ℕ) → version_in all n ≡ option_map node_of (versions n))
+    → (vs : List Version) → list_all (is_version spaces versions next) vs ≡ true → AllStand all (newest_first vs)
+all_stand all spaces versions next known [] rule = tt
+all_stand all spaces versions next known (v ∷ vs) rule =
+    let two = both (is_version spaces versions next v) (list_all (is_version spaces versions next) vs) rule in
+    AllStand-grow all (node_of v) (newest_first vs) (stands-of all spaces versions next v known two.0) (all_stand all spaces versions next known vs two.1)
+
+fourth : (a b c d e : Bool) → (a && (b && (c && (d && e)))) ≡ true → d ≡ true
+fourth true true true true e h = refl
+fourth true true true false e h = h
+fourth true true false d e h = cc
+fourth true false c d e h = cc
+fourth false b c d e h = cc
+
+-- the rules of versions are among all rules
+versions_ruled : (p : Parts) → keep_rules p ≡ true → (next : ℕ) × (are_versions p next ≡ true)
+unfolding keep_rules
+versions_ruled p kept = by_list p.counters refl
+  where
+    false_true : false ≡ true → ⊥
+    false_true h = cc
+
+    by_list : (cs : List Counters) → p.counters ≡ cs → (next : ℕ) × (are_versions p next ≡ true)
+    by_list [] e = absurd (false_true (rw e at kept))
+    by_list (c ∷ []) e = (
+      c.next_version,
+      fourth (are_counters c) (are_tables p.tables) (are_spaces p.spaces) (are_versions p c.next_version) (are_rows p c.next_stamp && are_pieces p c.next_stamp) (rw e at kept),
+    )
+    by_list (c ∷ d ∷ cs) e = absurd (false_true (rw e at kept))
+
+-- what the rules tell of versions
+pub record Ruled (vs : List Version) : Type 0 where
+  pub tree : IsTree (newest_first vs)
+  pub same : (n : ℕ) → version_in (newest_first vs) n ≡ option_map node_of (version_of vs n)
+
+pub ruled : (p : Parts) → keep_rules p ≡ true → Ruled p.versions
+ruled p kept =
+    let rules = versions_ruled p kept in
+    let two = both (differ same_number p.versions)
+    (list_all (is_version (space_of p.spaces) (version_of p.versions) rules.0) p.versions && list_all (has_versions (has_version p.versions) (version_of p.versions)) p.spaces) rules.1 in
+    let known = version_in-newest p.versions two.0 in
+    record {
+      tree = tree_of (newest_first p.versions) (Descends-newest p.versions two.0)
+          (all_stand (newest_first p.versions) (space_of p.spaces) (version_of p.versions) rules.0 known p.versions
+          (both (list_all (is_version (space_of p.spaces) (version_of p.versions) rules.0) p.versions) (list_all (has_versions (has_version p.versions) (version_of p.versions)) p.spaces) two.1).0);
+      same = known;
+    }
+
+pub path_goes_on : (vs : List Version) (n : ℕ) (v : Version) → Ruled vs → version_of vs n ≡ Some v → (path_in (newest_first vs) n ≡ n ∷ path_in (newest_first vs) v.parent) × (v.parent < n)
+path_goes_on vs n v r is =
+    let here : version_in (newest_first vs) n ≡ Some (node_of v) = r.same n ∙ ap (option_map node_of) is in
+    (path_in-there (newest_first vs) n (node_of v) r.tree here, (found (newest_first vs) n (node_of v) r.tree here).parent)
+
+pub path_ends : (vs : List Version) (n : ℕ) → Ruled vs → version_of vs n ≡ None → path_in (newest_first vs) n ≡ []
+path_ends vs n r is = path_in-none (newest_first vs) n (r.same n ∙ ap (option_map node_of) is)
+
+-- ---- what is held along a path
+
+along-same : (f g : ℕ → Option Held) → ((v : ℕ) → f v ≡ g v) → (vs : List ℕ) → along f vs ≡ along g vs
+along-same f g same [] = refl
+along-same f g same (v ∷ vs) = rw (same v, along-same f g same vs) refl
+
+seen_at-along : (pieces : List PieceRecord) (c : Cell) (nodes : List Node) (v : ℕ) → seen_at pieces nodes v c ≡ along (λ w. stored_at pieces w c) (path_in nodes v)
+seen_at-along pieces c [] v = refl
+seen_at-along pieces c (x ∷ older) v = by_test (x.number == v) (seen_at-along pieces c older x.parent) (seen_at-along pieces c older v)
+  where
+    by_test : (b : Bool) → seen_at pieces older x.parent c ≡ along (λ w. stored_at pieces w c) (path_in older x.parent) → seen_at pieces older v c ≡ along (λ w. stored_at pieces w c) (path_in older v)
+        → cond b (option_or (stored_at pieces v c) (seen_at pieces older x.parent c)) (seen_at pieces older v c)
+        ≡ along (λ w. stored_at pieces w c) (cond b (v ∷ path_in older x.parent) (path_in older v))
+    by_test true up rest = ap (option_or (stored_at pieces v c)) up
+    by_test false up rest = rest
+
+-- only the pieces of the cell's table and key are looked at
+stored_at-sought : (c : Cell) (v : ℕ) (rs : List Record) → stored_at (filter_map as_piece rs) v c ≡ first_held (filter_map as_piece (filter (is_sought (PiecesAt c.table c.key)) rs)) v c.time
+stored_at-sought c v [] = refl
+stored_at-sought c v (records.Piece x ∷ rs) =
+    one (x.version == v) ((x.cells.table == c.table) && is_eq (key_order x.cells.key c.key)) (nat_le x.cells.from c.time && nat_lt c.time x.cells.till) (stored_at (filter_map as_piece rs) v c)
+    (first_held (filter_map as_piece (filter (is_sought (PiecesAt c.table c.key)) rs)) v c.time) (stored_at-sought c v rs)
+    ∙ pushed ((x.cells.table == c.table) && is_eq (key_order x.cells.key c.key))
+  where
+    one : (a b t : Bool) (all some : Option Held) → all ≡ some → option_or (then_some (a && (b && t)) (held_by x)) all ≡ cond b (option_or (then_some (a && t) (held_by x)) some) some
+    one true true true all some same = refl
+    one true true false all some same = same
+    one true false t all some same = same
+    one false true t all some same = same
+    one false false t all some same = same
+
+    pushed : (b : Bool) → cond b (option_or (then_some (has_at x v c.time) (held_by x)) (first_held (filter_map as_piece (filter (is_sought (PiecesAt c.table c.key)) rs)) v c.time))
+        (first_held (filter_map as_piece (filter (is_sought (PiecesAt c.table c.key)) rs)) v c.time)
+        ≡ first_held (filter_map as_piece (cond b (records.Piece x ∷ filter (is_sought (PiecesAt c.table c.key)) rs) (filter (is_sought (PiecesAt c.table c.key)) rs))) v c.time
+    pushed true = refl
+    pushed false = refl
+stored_at-sought c v (_ ∷ rs) = stored_at-sought c v rs
+
+-- ---- loops over ids
+
+held-cons : (ss : List Stored) (id : ℕ) (ids : List ℕ) (v t : ℕ)
+    → first_held (kind_at as_piece ss (id ∷ ids)) v t ≡ option_or (held_here (option_and_then as_piece (record_at ss id)) v t) (first_held (kind_at as_piece ss ids) v t)
+held-cons ss id ids v t = by_record (record_at ss id)
+  where
+    by_kind : (k : Option PieceRecord) → first_held (cons_option k (kind_at as_piece ss ids)) v t ≡ option_or (held_here k v t) (first_held (kind_at as_piece ss ids) v t)
+    by_kind None = refl
+    by_kind (Some x) = refl
+
+    by_record : (o : Option Record) → first_held (filter_map as_piece (cons_option o (filter_map (record_at ss) ids))) v t ≡ option_or (held_here (option_and_then as_piece o) v t) (first_held (kind_at as_piece ss ids) v t)
+    by_record None = refl
+    by_record (Some r) = by_kind (as_piece r)
+
+held-at : (ss : List Stored) (ids : List ℕ) (i v t : ℕ) → i < length ids
+    → first_held (kind_at as_piece ss (drop i ids)) v t ≡ option_or (held_here (option_and_then as_piece (record_at ss (get_or ids i 0))) v t) (first_held (kind_at as_piece ss (drop (i + 1) ids)) v t)
+held-at ss ids i v t within = ap (λ l. first_held (kind_at as_piece ss l) v t) (drop_more ids i 0 within) ∙ held-cons ss (get_or ids i 0) (drop (i + 1) ids) v t
+
+or_some : (x y : Option Held) → is_some x ≡ true → option_or x y ≡ x
+or_some None y e = cc
+or_some (Some h) y e = refl
+
+or_none : (x y : Option Held) → is_some x ≡ false → option_or x y ≡ y
+or_none None y e = refl
+or_none (Some h) y e = cc
+
+-- a piece that was found is the first that covers
+pub piece_found : (ss : List Stored) (ids : List ℕ) (i v t : ℕ) (x : Option Held) → i < length ids → x ≡ held_here (option_and_then as_piece (record_at ss (get_or ids i 0))) v t → is_some x ≡ true
+    → x ≡ first_held (kind_at as_piece ss (drop i ids)) v t
+piece_found ss ids i v t x within is some =
+    sym (or_some x (first_held (kind_at as_piece ss (drop (i + 1) ids)) v t) some) ∙ ap (λ o. option_or o (first_held (kind_at as_piece ss (drop (i + 1) ids)) v t)) is ∙ sym (held-at ss ids i v t within)
+
+pub piece_not_found : (ss : List Stored) (ids : List ℕ) (i v t : ℕ) (x : Option Held) → i < length ids → x ≡ held_here (option_and_then as_piece (record_at ss (get_or ids i 0))) v t → is_some x ≡ false
+    → first_held (kind_at as_piece ss (drop (i + 1) ids)) v t ≡ first_held (kind_at as_piece ss (drop i ids)) v t
+piece_not_found ss ids i v t x within is none =
+    sym (or_none x (first_held (kind_at as_piece ss (drop (i + 1) ids)) v t) none) ∙ ap (λ o. option_or o (first_held (kind_at as_piece ss (drop (i + 1) ids)) v t)) is ∙ sym (held-at ss ids i v t within)
+
+-- what is said of a piece is there where the piece is
+pub some_told : (o : Option (Bor PieceRecord)) (b : Bool) → b ≡ is_some o → is_some (option_map held_by (option_copied o)) ≡ b
+some_told None b e = sym e
+some_told (Some x) b e = sym e
+
+-- the same along a path
+pub near_found : (f : ℕ → Option Held) (path rest : List ℕ) (n : ℕ) (x : Option Held) → path ≡ n ∷ rest → x ≡ f n → is_some x ≡ true → x ≡ along f path
+near_found f path rest n x is here some = sym (or_some x (along f rest) some) ∙ ap (λ o. option_or o (along f rest)) here ∙ sym (ap (along f) is)
+
+pub near_on : (f : ℕ → Option Held) (path rest : List ℕ) (n : ℕ) (x : Option Held) → path ≡ n ∷ rest → x ≡ f n → is_some x ≡ false → along f rest ≡ along f path
+near_on f path rest n x is here none = sym (or_none x (along f rest) none) ∙ ap (λ o. option_or o (along f rest)) here ∙ sym (ap (along f) is)
+
+-- a version more
+pub newer-at : (ss : List Stored) (ids : List ℕ) (i n : ℕ) → i < length ids
+    → max (newer n (option_and_then as_version (record_at ss (get_or ids i 0)))) (greatest (kind_at as_version ss (drop (i + 1) ids))) ≡ max n (greatest (kind_at as_version ss (drop i ids)))
+newer-at ss ids i n within =
+    by_record (record_at ss (get_or ids i 0)) ∙ sym (ap (λ l. max n (greatest (kind_at as_version ss l))) (drop_more ids i 0 within))
+  where
+    rest : List Version
+    rest = kind_at as_version ss (drop (i + 1) ids)
+
+    by_kind : (k : Option Version) → max (newer n k) (greatest (kind_at as_version ss (drop (i + 1) ids))) ≡ max n (greatest (cons_option k (kind_at as_version ss (drop (i + 1) ids))))
+    by_kind None = refl
+    by_kind (Some v) = omega arith
+
+    by_record : (o : Option Record) → max (newer n (option_and_then as_version o)) (greatest (kind_at as_version ss (drop (i + 1) ids)))
+        ≡ max n (greatest (filter_map as_version (cons_option o (filter_map (record_at ss) (drop (i + 1) ids)))))
+    by_record None = refl
+    by_record (Some r) = by_kind (as_version r)
+
+-- ---- what an index tells
+
+-- the newest version of a workspace
+pub latest_told : (kept : BTreeMap ℕ Record) (x : Index) → IsIndexed kept x → (s : ℕ) → greatest (kind_at as_version (listed kept.entries) (ids_at x (VersionsOf s))) ≡ latest (parts_of (listed kept.entries)) s
+unfolding parts_of
+latest_told kept x is s =
+    ap (λ rs. greatest (filter_map as_version rs)) (all_sought kept x is (VersionsOf s))
+    ∙ ap greatest (filter-kind as_version (λ (v : Version). v.space == s) (is_sought (VersionsOf s)) (versions_test s) (all_of (listed kept.entries)))
+    ∙ sym (latest_in-greatest (filter_map as_version (all_of (listed kept.entries))) s)
+
+-- what the newest version of a workspace holds at a cell
+pub shown_told : (kept : BTreeMap ℕ Record) (x : Index) → IsIndexed kept x → (s : ℕ) (c : Cell)
+    → along (λ v. first_held (kind_at as_piece (listed kept.entries) (ids_at x (PiecesAt c.table c.key))) v c.time)
+    (path_in (newest_first (parts_of (listed kept.entries)).versions) (latest (parts_of (listed kept.entries)) s))
+    ≡ shown (parts_of (listed kept.entries)) s c
+unfolding parts_of
+shown_told kept x is s c =
+    along-same _ (λ v. stored_at (filter_map as_piece (all_of (listed kept.entries))) v c)
+    (λ v.
+    ap (λ rs. first_held (filter_map as_piece rs) v c.time) (all_sought kept x is (PiecesAt c.table c.key))
+    ∙ sym (stored_at-sought c v (all_of (listed kept.entries))))
+    (path_in (newest_first (filter_map as_version (all_of (listed kept.entries)))) (latest (parts_of (listed kept.entries)) s))
+    ∙ sym (seen_at-along (filter_map as_piece (all_of (listed kept.entries))) c (newest_first (filter_map as_version (all_of (listed kept.entries)))) (latest (parts_of (listed kept.entries)) s))
+
+-- the same, as a walk finds it
+pub shown_by : (kept : BTreeMap ℕ Record) (x : Index) → IsIndexed kept x → (s : ℕ) (c : Cell) (ids : List ℕ) (version time : ℕ)
+    → ids ≡ ids_at x (PiecesAt c.table c.key) → version ≡ latest (parts_of (listed kept.entries)) s → time ≡ c.time
+    → along (λ v. first_held (kind_at as_piece (listed kept.entries) ids) v time) (path_in (newest_first (parts_of (listed kept.entries)).versions) version) ≡ shown (parts_of (listed kept.entries)) s c
+shown_by kept x is s c ids version time same newest moment = rw (same, newest, moment) (shown_told kept x is s c)
+
+-- what a version has laid under what was laid before
+pub lay_on : (f : ℕ → Option Held) (path rest : List ℕ) (n : ℕ) (old new : Option Held) → path ≡ n ∷ rest → new ≡ option_or old (f n) → option_or new (along f rest) ≡ option_or old (along f path)
+lay_on f path rest n old new is laid = ap (λ o. option_or o (along f rest)) laid ∙ or_assoc old (f n) (along f rest) ∙ ap (λ l. option_or old (along f l)) (sym is)
+  where
+    or_assoc : (a b d : Option Held) → option_or (option_or a b) d ≡ option_or a (option_or b d)
+    or_assoc None b d = refl
+    or_assoc (Some a) b d = refl
+
+pub lay_end : (f : ℕ → Option Held) (path : List ℕ) (x : Option Held) → path ≡ [] → x ≡ option_or x (along f path)
+lay_end f path x is = by_held x ∙ ap (λ l. option_or x (along f l)) (sym is)
+  where
+    by_held : (o : Option Held) → o ≡ option_or o (along f [])
+    by_held None = refl
+    by_held (Some h) = refl

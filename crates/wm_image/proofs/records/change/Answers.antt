@@ -1,0 +1,19 @@
+use Rattle.std.proofs.Common.{ℕ, List, sym, ap, ◌∙◌}
+use Rattle.wm_image.proofs.Listed.{Ascend-listed}
+use Rattle.wm_image.proofs.Lists.{ids_with-set}
+use Rattle.wm_image.specs.Indexed.{listed}
+use Rattle.wm_image.specs.Sought.{is_sought, ids_with, ids_less, ids_more}
+use Rattle.wm_spec.specs.Records.{record_at}
+use Rattle.wm_image.proofs.records.change.Goals as goal
+
+pub returns-clause-indexed : goal.returns-clause-indexed
+returns-clause-indexed c = record {
+  ordered = c.in_ok-set.ensures.ordered;
+  told = λ q.
+      c.in_ok-add_new.ensures q
+      ∙ ap (ids_more (is_sought q) c.args.id c.args.becomes)
+      (c.in_ok-drop_old.ensures q
+      ∙ ap (ids_less (is_sought q) c.args.id (record_at (listed c.args.kept.now.entries) c.args.id)) (c.requires.told q))
+      ∙ sym (ids_with-set (is_sought q) c.args.id c.args.becomes (listed c.args.kept.now.entries) (Ascend-listed c.args.kept.now.entries c.requires.ordered))
+      ∙ ap (ids_with (is_sought q)) (sym c.in_ok-set.ensures.listed);
+}

@@ -1,0 +1,35 @@
+-- An index of records: the ids of whatever may be sought.
+use Rattle.std.specs.Prelude.{ℕ, ◌≡◌, if◌then◌else◌, List, map}
+use Rattle.std.specs.BTreeMap.{BTreeMap, IsOrdered}
+use Rattle.std.specs.Ordering.{nat_cmp}
+use Rattle.wm_spec.specs.declared.record.Record.{Record}
+use Rattle.wm_spec.specs.declared.record.stored.Stored.{Stored}
+use Rattle.wm_image.specs.Sought.{Sought, TheCounters, Tables, SpaceAt, VersionAt, VersionsOf, RowAt, PiecesAt, is_sought, ids_with, placed, without, ids_in, piece_ids}
+use Rattle.wm_image.specs.declared.index.Index.{Index}
+
+-- the ids that an index has of what is sought
+abbrev pub ids_at : Index → Sought → List ℕ
+ids_at x TheCounters = x.counters.items
+ids_at x Tables = x.tables.items
+ids_at x (SpaceAt number) = ids_in nat_cmp x.spaces.entries number
+ids_at x (VersionAt number) = ids_in nat_cmp x.versions.entries number
+ids_at x (VersionsOf space) = ids_in nat_cmp x.versions_of.entries space
+ids_at x (RowAt stamp) = ids_in nat_cmp x.rows.entries stamp
+ids_at x (PiecesAt table key) = piece_ids x.pieces.entries table key
+
+-- the index has an id more, of a record
+abbrev pub Adds : Index → Index → ℕ → Record → Type 0
+Adds old new id r = (q : Sought) → ids_at new q ≡ (if is_sought q r then placed id (ids_at old q) else ids_at old q)
+
+-- the index has the id of a record no more
+abbrev pub Drops : Index → Index → ℕ → Record → Type 0
+Drops old new id r = (q : Sought) → ids_at new q ≡ (if is_sought q r then without id (ids_at old q) else ids_at old q)
+
+-- the records of a map, by their ids
+abbrev pub listed : List (ℕ × Record) → List Stored
+listed entries = map (λ (e : ℕ × Record). let s : Stored = record { id = e.0; «record» = e.1 } in s) entries
+
+-- the records stand by their ids, and the index has the ids of whatever is sought among them
+pub record IsIndexed (kept : BTreeMap ℕ Record) (x : Index) : Type 0 where
+  pub ordered : IsOrdered nat_cmp kept
+  pub told : (q : Sought) → ids_at x q ≡ ids_with (is_sought q) (listed kept.entries)

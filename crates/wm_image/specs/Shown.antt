@@ -1,0 +1,50 @@
+-- What is read of the records of some ids.
+use Rattle.std.specs.Prelude.{ℕ, Bool, ◌&&◌, ◌==◌, nat_le, nat_lt, max, List, [], ◌∷◌, Option, Some, None}
+use Rattle.std.specs.Bool.{then_some}
+use Rattle.std.specs.List.{filter_map}
+use Rattle.std.specs.Option.{option_or}
+use Rattle.wm_period.specs.Pieces.{Held}
+use Rattle.wm_spec.specs.Records.{record_at}
+use Rattle.wm_spec.specs.declared.record.Record.{Record}
+use Rattle.wm_spec.specs.declared.record.piece.PieceRecord.{PieceRecord}
+use Rattle.wm_spec.specs.declared.record.stored.Stored.{Stored}
+use Rattle.wm_spec.specs.declared.record.version.Version.{Version}
+use Rattle.wm_state.specs.Standing.{held_by}
+
+-- those of a kind among the records of some ids
+abbrev pub kind_at : {A : Type 0} → (Record → Option A) → List Stored → List ℕ → List A
+kind_at kind ss ids = filter_map kind (filter_map (record_at ss) ids)
+
+-- the greatest number of versions, 0 where there is none
+abbrev pub greatest : List Version → ℕ
+greatest [] = 0
+greatest (v ∷ vs) = max v.number (greatest vs)
+
+-- the greater of a number and that of a version, where there is one
+abbrev pub newer : ℕ → Option Version → ℕ
+newer n None = n
+newer n (Some v) = max n v.number
+
+-- the piece is the version's own and covers the moment
+abbrev pub has_at : PieceRecord → ℕ → ℕ → Bool
+has_at x version time = (x.version == version) && (nat_le x.cells.from time && nat_lt time x.cells.till)
+
+-- what a piece says of a moment, where it is a version's own and covers it
+abbrev pub held_here : Option PieceRecord → ℕ → ℕ → Option Held
+held_here None version time = None
+held_here (Some x) version time = then_some (has_at x version time) (held_by x)
+
+-- what a version has at a moment among pieces of one table and key
+abbrev pub first_held : List PieceRecord → ℕ → ℕ → Option Held
+first_held [] version time = None
+first_held (x ∷ xs) version time = option_or (then_some (has_at x version time) (held_by x)) (first_held xs version time)
+
+-- what the first of some versions has that has anything
+abbrev pub along : (ℕ → Option Held) → List ℕ → Option Held
+along f [] = None
+along f (v ∷ vs) = option_or (f v) (along f vs)
+
+-- a value, where it passes a test
+abbrev pub passing : {A : Type 0} → (A → Bool) → Option A → Option A
+passing p None = None
+passing p (Some x) = then_some (p x) x

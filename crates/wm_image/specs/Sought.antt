@@ -1,0 +1,100 @@
+-- What records are sought as, and the ids of those that are it.
+use Rattle.std.specs.Prelude.{ℕ, Bool, true, false, ◌&&◌, ◌==◌, nat_lt, if◌then◌else◌, List, [], ◌∷◌, Option, Some, None, option_map, unwrap_or}
+use Rattle.std.specs.BTreeMap.{BTreeMap, is_at}
+use Rattle.std.specs.Map.{lookup}
+use Rattle.std.specs.Ordering.{nat_cmp, is_eq}
+use Rattle.std.specs.declared.alloc.Global.{Global}
+use Rattle.std.specs.declared.cmp.Ordering.{Ordering}
+use Rattle.std.specs.declared.vec.Vec.{Vec}
+use Rattle.wm_base.specs.Key.{key_order}
+use Rattle.wm_base.specs.declared.value.Value.{Value}
+use Rattle.wm_spec.specs.declared.record.Record.{Record}
+use Rattle.wm_spec.specs.declared.record.Record.TheVariants as records
+use Rattle.wm_spec.specs.declared.record.stored.Stored.{Stored}
+use Rattle.wm_spec.specs.Records.{record_at}
+
+-- counters; tables; a workspace or a version by its number; the versions of a workspace; a row by its stamp; the pieces on a
+-- table and a key
+pub data Sought : Type 0 where
+  TheCounters : Sought
+  Tables : Sought
+  SpaceAt : ℕ → Sought
+  VersionAt : ℕ → Sought
+  VersionsOf : ℕ → Sought
+  RowAt : ℕ → Sought
+  PiecesAt : ℕ → List Value → Sought
+
+-- the record is what is sought
+abbrev pub is_sought : Sought → Record → Bool
+is_sought TheCounters (records.Counters r) = true
+is_sought Tables (records.Table r) = true
+is_sought (SpaceAt number) (records.Space r) = r.number == number
+is_sought (VersionAt number) (records.Version r) = r.number == number
+is_sought (VersionsOf space) (records.Version r) = r.space == space
+is_sought (RowAt stamp) (records.Row r) = r.stamp == stamp
+is_sought (PiecesAt table key) (records.Piece r) = (r.cells.table == table) && is_eq (key_order r.cells.key key)
+is_sought _ _ = false
+
+-- the ids of the records that pass a test
+abbrev pub ids_with : (Record → Bool) → List Stored → List ℕ
+ids_with p [] = []
+ids_with p (s ∷ ss) = if p s.record then s.id ∷ ids_with p ss else ids_with p ss
+
+-- an id among ascending ones
+abbrev pub placed : ℕ → List ℕ → List ℕ
+placed id [] = id ∷ []
+placed id (x ∷ xs) = if nat_lt x id then x ∷ placed id xs else id ∷ x ∷ xs
+
+-- the ids without one
+abbrev pub without : ℕ → List ℕ → List ℕ
+without id [] = []
+without id (x ∷ xs) = if x == id then xs else x ∷ without id xs
+
+-- what a look-up of ids found
+abbrev pub ids_found : Option (Vec ℕ Global) → List ℕ
+ids_found found = unwrap_or (option_map (λ v. v.items) found) []
+
+-- the ids under a key
+abbrev pub ids_in : {K : Type 0} → (K → K → Ordering) → List (K × Vec ℕ Global) → K → List ℕ
+ids_in cmp entries key = ids_found (lookup (is_at (cmp key)) entries)
+
+-- the ids by key of a table
+abbrev pub Keyed : Type 0
+Keyed = BTreeMap (List Value) (Vec ℕ Global)
+
+abbrev pub keyed_at : List (ℕ × Keyed) → ℕ → List (List Value × Vec ℕ Global)
+keyed_at tables table = unwrap_or (option_map (λ m. m.entries) (lookup (is_at (nat_cmp table)) tables)) []
+
+-- the ids under a table and a key
+abbrev pub piece_ids : List (ℕ × Keyed) → ℕ → List Value → List ℕ
+piece_ids tables table key = ids_in key_order (keyed_at tables table) key
+
+-- the ids when the record of an id goes
+abbrev pub ids_less : (Record → Bool) → ℕ → Option Record → List ℕ → List ℕ
+ids_less p id None xs = xs
+ids_less p id (Some r) xs = if p r then without id xs else xs
+
+-- the ids when an id has a record
+abbrev pub ids_more : (Record → Bool) → ℕ → Option Record → List ℕ → List ℕ
+ids_more p id None xs = xs
+ids_more p id (Some r) xs = if p r then placed id xs else xs
+
+-- the first id
+abbrev pub head_of : List ℕ → Option ℕ
+head_of [] = None
+head_of (id ∷ ids) = Some id
+
+-- the record of the first id
+abbrev pub first_of : List Stored → List ℕ → Option Record
+first_of ss [] = None
+first_of ss (id ∷ ids) = record_at ss id
+
+-- there are none
+abbrev pub is_nil : List ℕ → Bool
+is_nil [] = true
+is_nil (x ∷ xs) = false
+
+-- the keys that have ids
+abbrev pub used : List (List Value × Vec ℕ Global) → List (List Value)
+used [] = []
+used (e ∷ es) = if is_nil e.1.items then used es else e.0 ∷ used es

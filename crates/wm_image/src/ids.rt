@@ -1,0 +1,61 @@
+//! Ids in ascending order.
+
+ghost use Rattle.std.specs.Prelude.{◌≡◌, ◌<◌, ◌≤◌, length, insert, remove, OnOk, IfNone, IfSome};
+ghost use Rattle.wm_image.specs.Sought.{head_of, placed, without};
+
+use wm_base::Memory;
+
+/// Puts an id among the others.
+pub fn add_id(ids: &mut Vec<u64>, id: u64) -> Result<(), Memory>
+    ensures { OnOk result (ids.new.items ≡ placed id ids.old.items) }
+{
+    let place = place_of(ids.as_slice(), id);
+    ids.insert(place, id)?;
+    Ok(())
+}
+
+/// The place of an id: before the first that is not smaller.
+fn place_of(ids: &[u64], id: u64) -> usize
+    ensures within { result ≤ length ids.now }
+    ensures there { insert ids.now result id ≡ placed id ids.now }
+{
+    for (place, other) in ids.iter().enumerate() {
+        if id <= *other {
+            return place;
+        }
+    }
+    ids.len()
+}
+
+/// Takes an id out, where it is there.
+pub fn drop_id(ids: &mut Vec<u64>, id: u64)
+    ensures { ids.new.items ≡ without id ids.old.items }
+{
+    if let Some(place) = find_place(ids.as_slice(), id) {
+        ids.remove(place);
+    }
+}
+
+/// Where an id stands, or None where it is not there.
+fn find_place(ids: &[u64], id: u64) -> Option<usize>
+    ensures none { IfNone result (without id ids.now ≡ ids.now) }
+    ensures within { IfSome result (λ place. place < length ids.now) }
+    ensures there { IfSome result (λ place. remove ids.now place ≡ without id ids.now) }
+{
+    for (place, other) in ids.iter().enumerate() {
+        if *other == id {
+            return Some(place);
+        }
+    }
+    None
+}
+
+/// The first id, where there is one.
+pub fn first_id(ids: &[u64]) -> Option<u64>
+    ensures { result ≡ head_of ids.now }
+{
+    match ids {
+        [] => None,
+        [id, ..] => Some(*id),
+    }
+}

@@ -1,0 +1,236 @@
+ghost use Rattle.std.specs.Prelude.{◌≡◌, ◌<◌, ◌≤◌, ◌+◌, ◌^◌, ℕ, List, map, [], ◌∷◌, true, false, None, option_map, is_some, IsSome, IfSome, IfNone, IfOk, IfErr, OnOk, OnErr};
+ghost use Rattle.std.specs.List.{find, list_any};
+ghost use Rattle.std.specs.List.Sorted.{IsStrictlySortedBy};
+ghost use Rattle.std.specs.Ordering.{is_eq};
+ghost use Rattle.wm_base.specs.Key.{key_order};
+ghost use Rattle.wm_base.specs.declared.value.Value.{Value as OneValue};
+ghost use Rattle.wm_spec.specs.declared.record.stored.Stored.{Stored};
+ghost use Rattle.std.specs.Option.{option_and_then, option_copied, option_to_list};
+ghost use Rattle.std.specs.Str.{bytes_eq};
+ghost use Rattle.wm_spec.specs.declared.record.table.Table.{Table as OneTable};
+ghost use Rattle.wm_base.specs.declared.instant.TheConstants.{END};
+ghost use Rattle.wm_period.specs.Pieces.{held_at};
+ghost use Rattle.wm_graph.specs.Parts.{as_counters, as_space, parts_of, row_of, space_of, table_of, version_of};
+ghost use Rattle.wm_graph.specs.Rules.{keep_rules};
+ghost use Rattle.wm_spec.specs.Records.{AreRecords, record_at};
+ghost use Rattle.wm_image.specs.Sought.{PiecesAt, ids_with, is_sought};
+ghost use Rattle.wm_state.specs.ById.{Ascend, applied, by_id};
+ghost use Rattle.wm_state.specs.Standing.{by_number, held_by, latest, shown};
+
+use crate::ids::first_id;
+use crate::index::Index;
+use crate::keyed::{ids_of, ids_on, keys_on};
+use crate::kinds;
+use crate::laying::lay_path;
+use crate::load::{ImageFault, put_all, sorted};
+use crate::records::{Kept, at, change_all, first, next_id};
+use crate::shown::{latest_of, nearest, version_at};
+use crate::tables::{first_named, first_numbered};
+use std::alloc::Global;
+use std::collections::BTreeMap;
+use std::marker::Model;
+use wm_base::{Instant, Key, Memory};
+use wm_graph::keeps_rules;
+use wm_period::Pieces;
+use wm_spec::record::{
+    Batch, Counters, PieceRecord, Record, Records, RowRecord, Space, Table, Version,
+};
+
+/// All records of a store, in the order of their ids, with an index of them.
+#[derive(Drop)]
+pub struct Image {
+    kept: Kept,
+    index: Index,
+}
+
+impl Model for Image {
+    ghost use Rattle.std.specs.Prelude.{List};
+    ghost use Rattle.wm_image.specs.Indexed.{listed, IsIndexed};
+    ghost use Rattle.wm_spec.specs.declared.record.stored.Stored.{Stored};
+
+    ghost Value = { List Stored };
+
+    ghost view = { λ i. listed i.kept.entries };
+
+    ghost invariant = { λ i. IsIndexed i.kept i.index };
+}
+
+impl Image {
+    /// No records.
+    pub fn new(alloc: Global) -> Image
+        ensures { result ≡ [] }
+    {
+        Image {
+            kept: BTreeMap::new(alloc),
+            index: Index::new(alloc),
+        }
+    }
+
+    /// The image of the records that a store holds.
+    pub fn load(alloc: Global, records: Records) -> Result<Image, ImageFault>
+        requires { AreRecords records }
+        ensures image { IfOk result (λ image. image ≡ by_id records) }
+        ensures rules { IfOk result (λ image. keep_rules (parts_of image) ≡ true) }
+        ensures graph { IfErr result (λ fault. fault ≡ ImageFault.Graph → keep_rules (parts_of (by_id records)) ≡ false) }
+    {
+        let Ok(records) = sorted(alloc, records) else {
+            return Err(ImageFault::Memory);
+        };
+        let Ok(kept) = keeps_rules(alloc, &records) else {
+            return Err(ImageFault::Memory);
+        };
+        if !kept {
+            return Err(ImageFault::Graph);
+        }
+        let Ok(image) = Image::of(alloc, records) else {
+            return Err(ImageFault::Memory);
+        };
+        Ok(image)
+    }
+
+    /// The image of records that stand by id.
+    fn of(alloc: Global, records: Records) -> Result<Image, Memory>
+        requires { Ascend records }
+        ensures { IfOk result (λ image. image ≡ records) }
+    {
+        let mut kept = BTreeMap::new(alloc);
+        let mut index = Index::new(alloc);
+        put_all(alloc, &mut kept, &mut index, records)?;
+        Ok(Image { kept, index })
+    }
+
+    /// The counters of the store.
+    pub fn counters(&self) -> Counters
+        requires { keep_rules (parts_of self.now) ≡ true }
+        ensures { (parts_of self.now).counters ≡ result ∷ [] }
+    {
+        let found = kinds::counters_of(first(&self.kept, self.index.counters.as_slice()));
+        found.unwrap()
+    }
+
+    /// The table of a name.
+    pub fn table(&self, name: &[u8]) -> Option<&Table>
+        requires { keep_rules (parts_of self.now) ≡ true }
+        ensures { option_copied result ≡ find (λ (t : OneTable). bytes_eq name.now t.name) (by_number (parts_of self.now).tables) }
+    {
+        first_named(&self.kept, self.index.tables.as_slice(), name)
+    }
+
+    /// The table of a number.
+    pub fn table_numbered(&self, number: u16) -> Option<&Table>
+        ensures { option_copied result ≡ table_of (parts_of self.now).tables number }
+    {
+        first_numbered(&self.kept, self.index.tables.as_slice(), number)
+    }
+
+    /// An id above those of all records, or None where the greatest id that there is has a record.
+    pub fn next_id(&self) -> Option<u64>
+        ensures above { IfSome result (λ next. (id : ℕ) → next ≤ id → record_at self.now id ≡ None) }
+        ensures full { IfNone result ((id : ℕ) × (2 ^ 64 ≤ id + 1) × IsSome (record_at self.now id)) }
+    {
+        next_id(&self.kept)
+    }
+
+    /// The id of the counters.
+    pub fn id_of_counters(&self) -> u64
+        requires { keep_rules (parts_of self.now) ≡ true }
+        ensures { (parts_of self.now).counters ≡ option_to_list (option_and_then as_counters (record_at self.now result)) }
+    {
+        let found = first_id(self.index.counters.as_slice());
+        found.unwrap()
+    }
+
+    /// The id of the workspace of a number.
+    pub fn id_of_space(&self, number: u32) -> Option<u64>
+        ensures there { option_and_then as_space (option_and_then (record_at self.now) result) ≡ space_of (parts_of self.now).spaces number }
+        ensures found { is_some result ≡ is_some (space_of (parts_of self.now).spaces number) }
+    {
+        first_id(ids_of(&self.index.spaces, &number))
+    }
+
+    /// The workspace of a number.
+    pub fn space(&self, number: u32) -> Option<&Space>
+        ensures { option_copied result ≡ space_of (parts_of self.now).spaces number }
+    {
+        kinds::space_of(first(&self.kept, ids_of(&self.index.spaces, &number)))
+    }
+
+    /// The version of a number.
+    pub fn version(&self, number: u64) -> Option<Version>
+        ensures { result ≡ version_of (parts_of self.now).versions number }
+    {
+        version_at(&self.kept, &self.index, number)
+    }
+
+    /// The newest version of a workspace, 0 where it has none.
+    pub fn latest(&self, space: u32) -> u64
+        ensures { result ≡ latest (parts_of self.now) space }
+    {
+        latest_of(&self.kept, &self.index, space)
+    }
+
+    /// The piece that a workspace has at a moment for a key of a table: that of the nearest version on the path of
+    /// its newest one. Only the pieces of that key are looked at.
+    pub fn shown_at(&self, space: u32, table: u16, key: &Key, time: Instant) -> Option<&PieceRecord>
+        requires { keep_rules (parts_of self.now) ≡ true }
+        ensures { option_map held_by (option_copied result) ≡ shown (parts_of self.now) space (record { table = table; key = key.now; time = time }) }
+    {
+        let ids = ids_on(&self.index.pieces, table, key);
+        let version = latest_of(&self.kept, &self.index, space);
+        nearest(&self.kept, &self.index, ids, version, time.seconds())
+    }
+
+    /// All that a workspace has for a key of a table.
+    pub fn shown(&self, alloc: Global, space: u32, table: u16, key: &Key) -> Result<Pieces, Memory>
+        requires { keep_rules (parts_of self.now) ≡ true }
+        ensures { IfOk result (λ pieces. (t : ℕ) → t < END → held_at pieces t ≡ shown (parts_of self.now) space (record { table = table; key = key.now; time = t })) }
+    {
+        let ids = ids_on(&self.index.pieces, table, key);
+        let version = latest_of(&self.kept, &self.index, space);
+        let pieces = lay_path(alloc, &self.kept, &self.index, ids, version)?;
+        Ok(pieces)
+    }
+
+    /// The ids of the pieces for a key of a table, of any version, in order.
+    pub fn pieces_of(&self, table: u16, key: &Key) -> &[u64]
+        ensures { result.now ≡ ids_with (is_sought (PiecesAt table key.now)) self.now }
+    {
+        ids_on(&self.index.pieces, table, key)
+    }
+
+    /// Each key for which a table has pieces, of any version, once and in order.
+    pub fn keys(&self, alloc: Global, table: u16) -> Result<Vec<Key>, Memory>
+        ensures each { IfOk result (λ keys. (k : List OneValue) → list_any (λ q. is_eq (key_order k q)) keys.items ≡ list_any (is_sought (PiecesAt table k)) (map (λ (s : Stored). s.record) self.now)) }
+        ensures ascending { IfOk result (λ keys. IsStrictlySortedBy key_order keys.items) }
+    {
+        let keys = keys_on(alloc, &self.index.pieces, table)?;
+        Ok(keys)
+    }
+
+    /// The row of a stamp.
+    pub fn row(&self, stamp: u64) -> Option<&RowRecord>
+        ensures { option_copied result ≡ row_of (parts_of self.now).rows stamp }
+    {
+        kinds::row_of(first(&self.kept, ids_of(&self.index.rows, &stamp)))
+    }
+
+    /// The record of an id.
+    pub fn record(&self, id: u64) -> Option<&Record>
+        ensures { option_copied result ≡ record_at self.now id }
+    {
+        at(&self.kept, id)
+    }
+
+    /// Makes of the records what a batch makes of them. Where memory runs out no record is left.
+    pub fn apply(&mut self, alloc: Global, batch: Batch) -> Result<(), Memory>
+        ensures ok { OnOk result (self.new ≡ applied batch.changes self.old) }
+        ensures err { OnErr result (self.new ≡ []) }
+    {
+        let made = change_all(alloc, &mut self.kept, &mut self.index, batch.changes);
+        if made.is_err() {
+            self.kept = BTreeMap::new(alloc);
+            self.index = Index::new(alloc);
+        }
+        made
+    }
+}

@@ -1,0 +1,91 @@
+//! The ids of the records, by what is sought.
+
+ghost use Rattle.std.specs.Prelude.{◌≡◌, [], OnOk};
+ghost use Rattle.wm_image.specs.Indexed.{Adds, Drops, ids_at};
+ghost use Rattle.wm_image.specs.Sought.{Sought};
+
+use crate::ids::{add_id, drop_id};
+use crate::keyed::{Ids, TableIds, add_on, add_to, drop_from, drop_on};
+use std::alloc::Global;
+use std::collections::BTreeMap;
+use wm_base::Memory;
+use wm_spec::record::Record;
+
+/// Ids in ascending order: of the counters and the tables; of workspaces and versions by number; of the
+/// versions of a workspace; of rows by stamp; of pieces by table and key.
+#[derive(Drop)]
+pub struct Index {
+    pub counters: Vec<u64>,
+    pub tables: Vec<u64>,
+    pub spaces: Ids<u32>,
+    pub versions: Ids<u64>,
+    pub versions_of: Ids<u32>,
+    pub rows: Ids<u64>,
+    pub pieces: TableIds,
+}
+
+impl Index {
+    /// The index of no records.
+    pub fn new(alloc: Global) -> Index
+        ensures { (q : Sought) → ids_at result q ≡ [] }
+    {
+        Index {
+            counters: Vec::new(alloc),
+            tables: Vec::new(alloc),
+            spaces: BTreeMap::new(alloc),
+            versions: BTreeMap::new(alloc),
+            versions_of: BTreeMap::new(alloc),
+            rows: BTreeMap::new(alloc),
+            pieces: BTreeMap::new(alloc),
+        }
+    }
+
+    /// Adds the id of a record.
+    pub fn add_record(&mut self, alloc: Global, id: u64, added: &Record) -> Result<(), Memory>
+        ensures { OnOk result (Adds self.old self.new id added.now) }
+    {
+        match added {
+            Record::Counters(_) => add_id(&mut self.counters, id),
+            Record::Table(_) => add_id(&mut self.tables, id),
+            Record::Space(space) => add_to(alloc, &mut self.spaces, space.number, id),
+            Record::Version(version) => {
+                add_to(alloc, &mut self.versions, version.number, id)?;
+                add_to(alloc, &mut self.versions_of, version.space, id)
+            }
+            Record::Row(row) => add_to(alloc, &mut self.rows, row.stamp, id),
+            Record::Piece(piece) => add_on(
+                alloc,
+                &mut self.pieces,
+                piece.cells.table,
+                &piece.cells.key,
+                id,
+            ),
+        }
+    }
+
+    /// Drops the id of a record.
+    pub fn drop_record(&mut self, alloc: Global, id: u64, dropped: &Record) -> Result<(), Memory>
+        ensures { OnOk result (Drops self.old self.new id dropped.now) }
+    {
+        match dropped {
+            Record::Counters(_) => drop_id(&mut self.counters, id),
+            Record::Table(_) => drop_id(&mut self.tables, id),
+            Record::Space(space) => return drop_from(&mut self.spaces, space.number, id),
+            Record::Version(version) => {
+                drop_from(&mut self.versions, version.number, id)?;
+                return drop_from(&mut self.versions_of, version.space, id);
+            }
+            Record::Row(row) => return drop_from(&mut self.rows, row.stamp, id),
+            Record::Piece(piece) => {
+                return drop_on(
+                    alloc,
+                    &mut self.pieces,
+                    piece.cells.table,
+                    &piece.cells.key,
+                    id,
+                );
+            }
+        }
+        Ok(())
+    }
+}

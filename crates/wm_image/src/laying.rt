@@ -1,0 +1,113 @@
+//! All that the versions of a workspace hold for one key, laid over one another.
+
+ghost use Rattle.std.specs.Prelude.{◌≡◌, ◌<◌, ◌&&◌, ℕ, true, false, min, nat_le, nat_lt, IfOk};
+ghost use Rattle.std.specs.Option.{option_copied, option_and_then, option_map_or, option_or, option_to_list};
+ghost use Rattle.wm_base.specs.Period.{covers};
+ghost use Rattle.wm_base.specs.declared.instant.TheConstants.{END};
+ghost use Rattle.wm_graph.specs.Parts.{parts_of, as_piece};
+ghost use Rattle.wm_graph.specs.Rules.{keep_rules};
+ghost use Rattle.wm_image.specs.Indexed.{IsIndexed, listed};
+ghost use Rattle.wm_image.specs.Shown.{along, first_held, held_here, kind_at};
+ghost use Rattle.wm_period.specs.Pieces.{held_at};
+ghost use Rattle.wm_state.specs.Standing.{newest_first};
+ghost use Rattle.wm_tree.specs.Versions.{path_in};
+
+use crate::index::Index;
+use crate::kinds::piece_of;
+use crate::records::{Kept, at};
+use crate::shown::version_at;
+use std::alloc::Global;
+use wm_base::{END, Instant, Memory, Period, Stamp};
+use wm_period::{Piece, Pieces};
+use wm_spec::record::{CellRange, Record};
+
+/// The instant of so many seconds, the end of time where they are more.
+fn instant_of(seconds: u64) -> Instant
+    ensures { result ≡ min seconds END }
+{
+    match Instant::new(seconds) {
+        Some(instant) => instant,
+        None => Instant::end(),
+    }
+}
+
+/// The period of cells, or None where they have no moment.
+fn period_of(cells: &CellRange) -> Option<Period>
+    ensures { (t : ℕ) → t < END → option_map_or (λ p. covers p t) result false ≡ (nat_le cells.now.from t && nat_lt t cells.now.till) }
+{
+    Period::new(instant_of(cells.from), instant_of(cells.till))
+}
+
+/// A record as a piece of a version, or None where it is none or has no moment.
+fn own_piece(found: Option<&Record>, version: u64) -> Option<Piece>
+    ensures { (t : ℕ) → t < END → held_at (option_to_list result) t ≡ held_here (option_and_then as_piece (option_copied found.entry)) version t }
+{
+    let piece = piece_of(found)?;
+    if piece.version != version {
+        return None;
+    }
+    let period = period_of(&piece.cells)?;
+    Some(Piece {
+        period,
+        stamp: Stamp {
+            number: piece.stamp,
+        },
+        kind: piece.kind,
+        gone: piece.gone,
+    })
+}
+
+/// Lays a record under pieces, where it is a piece of a version.
+fn lay_record(
+    alloc: Global,
+    upper: Pieces,
+    found: Option<&Record>,
+    version: u64,
+) -> Result<Pieces, Memory>
+    ensures { IfOk result (λ both. (t : ℕ) → t < END → held_at both t ≡ option_or (held_at upper t) (held_here (option_and_then as_piece (option_copied found.entry)) version t)) }
+{
+    let Some(piece) = own_piece(found, version) else {
+        return Ok(upper);
+    };
+    let mut lower = Pieces::new(alloc);
+    lower.put(alloc, piece)?;
+    Pieces::over(alloc, &lower, &upper)
+}
+
+/// Lays the pieces of a version under others, of some pieces of one table and key.
+fn lay_version(
+    alloc: Global,
+    kept: &Kept,
+    ids: &[u64],
+    version: u64,
+    upper: Pieces,
+) -> Result<Pieces, Memory>
+    ensures { IfOk result (λ both. (t : ℕ) → t < END → held_at both t ≡ option_or (held_at upper t) (first_held (kind_at as_piece (listed kept.now.entries) ids.now) version t)) }
+{
+    let mut laid = upper;
+    for id in ids {
+        laid = lay_record(alloc, laid, at(kept, *id), version)?;
+    }
+    Ok(laid)
+}
+
+/// Lays the pieces of the versions on a path over one another, of some pieces of one table and key.
+pub fn lay_path(
+    alloc: Global,
+    kept: &Kept,
+    index: &Index,
+    ids: &[u64],
+    version: u64,
+) -> Result<Pieces, Memory>
+    requires indexed { IsIndexed kept.now index.now }
+    requires rules { keep_rules (parts_of (listed kept.now.entries)) ≡ true }
+    ensures { IfOk result (λ laid. (t : ℕ) → t < END → held_at laid t ≡ along (λ v. first_held (kind_at as_piece (listed kept.now.entries) ids.now) v t) (path_in (newest_first (parts_of (listed kept.now.entries)).versions) version)) }
+{
+    let mut laid = Pieces::new(alloc);
+    let mut number = version;
+    while let Some(node) = version_at(kept, index, number) {
+        laid = lay_version(alloc, kept, ids, number, laid)?;
+        number = node.parent;
+    }
+    Ok(laid)
+}

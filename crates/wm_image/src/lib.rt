@@ -1,0 +1,18 @@
+//! All records of a store in memory, found by what they are, and changed as a batch changes the store.
+#![tactic(auto)]
+
+mod ids;
+pub mod image;
+pub mod index;
+mod keyed;
+pub mod kinds;
+pub mod laying;
+pub mod load;
+pub mod records;
+pub mod shown;
+pub mod tables;
+#[cfg(test)]
+mod tests;
+
+pub use image::Image;
+pub use load::ImageFault;

@@ -1,0 +1,229 @@
+ghost use Rattle.std.specs.Prelude.{◌≡◌, IfOk};
+ghost use Rattle.wm_spec.specs.Records.{AreRecords};
+
+use crate::image::Image;
+use std::alloc::Global;
+use std::test::Fail;
+use wm_base::{Instant, Key, Kind, Memory, Name, Value, Values};
+use wm_spec::record::{
+    Batch, CellRange, Change, Changes, ColumnKind, Counters, FreezeMode, PieceRecord, Record,
+    Records, RowRecord, Space, Stored, Table, TableColumn, TableColumns, Version,
+};
+
+fn live(alloc: Global) -> Result<Record, Memory> {
+    Ok(Record::Space(Space {
+        number: 0,
+        name: Name::copy_of(alloc, b"LIVE")?,
+        parent: 0,
+        born: 0,
+        birth_version: 1,
+        birth_place: 0,
+        base_version: 0,
+        from: 0,
+        log_length: 0,
+        rebases: 0,
+        next_place: 1,
+        next_implicit: 1,
+        freeze: FreezeMode::Free,
+        writer: Name::copy_of(alloc, b"")?,
+    }))
+}
+
+fn version(number: u64, parent: u64) -> Record {
+    Record::Version(Version {
+        number,
+        space: 0,
+        parent,
+    })
+}
+
+fn row(alloc: Global, stamp: u64) -> Record {
+    Record::Row(RowRecord {
+        stamp,
+        table: 1,
+        values: Values::new(alloc),
+    })
+}
+
+fn piece(alloc: Global, version: u64, stamp: u64, from: u64) -> Result<Record, Memory> {
+    Ok(Record::Piece(PieceRecord {
+        version,
+        cells: CellRange {
+            table: 1,
+            key: Key::single(alloc, Value::Num(7))?,
+            from,
+            till: 100,
+        },
+        stamp,
+        kind: Kind::Insert,
+        gone: false,
+    }))
+}
+
+fn batch_of(changes: Vec<Change>) -> Batch {
+    Batch {
+        changes: Changes::from_vec(changes),
+    }
+}
+
+fn becomes(id: u64, new: Record) -> Change {
+    Change {
+        id,
+        becomes: Some(new),
+    }
+}
+
+fn first_batch(alloc: Global) -> Result<Batch, Memory> {
+    let changes = vec![in alloc;
+        becomes(9, piece(alloc, 2, 4, 10)?),
+        becomes(2, live(alloc)?),
+        becomes(3, version(1, 0)),
+        becomes(5, version(2, 1)),
+        becomes(6, row(alloc, 4)),
+        becomes(7, piece(alloc, 1, 3, 0)?),
+    ]?;
+    Ok(batch_of(changes))
+}
+
+fn second_batch(alloc: Global) -> Result<Batch, Memory> {
+    let changes = vec![in alloc;
+        Change {
+            id: 9,
+            becomes: None,
+        },
+        becomes(7, row(alloc, 8)),
+        becomes(12, piece(alloc, 2, 8, 20)?),
+    ]?;
+    Ok(batch_of(changes))
+}
+
+#[test]
+fn records_come(rt: HostRuntime) -> Result<(), Fail> {
+    let alloc = rt.alloc();
+    let mut image = Image::new(alloc);
+    image.apply(alloc, first_batch(alloc)?)?;
+    let key = Key::single(alloc, Value::Num(7))?;
+    assert_eq!(rt; image.pieces_of(1, &key), [7, 9].as_slice());
+    assert_eq!(rt; image.pieces_of(2, &key).len(), 0);
+    assert_eq!(rt; image.keys(alloc, 1)?.len(), 1);
+    assert_eq!(rt; image.keys(alloc, 2)?.len(), 0);
+    Ok(())
+}
+
+#[test]
+fn records_are_found(rt: HostRuntime) -> Result<(), Fail> {
+    let alloc = rt.alloc();
+    let mut image = Image::new(alloc);
+    image.apply(alloc, first_batch(alloc)?)?;
+    assert_eq!(rt; (image.latest(0), image.latest(3)), (2, 0));
+    assert!(rt; image.space(0).is_some() && image.space(1).is_none());
+    assert!(rt; image.row(4).is_some() && image.row(5).is_none());
+    assert!(rt; image.version(2).is_some() && image.version(3).is_none());
+    assert!(rt; image.table_numbered(1).is_none() && image.record(7).is_some());
+    assert_eq!(rt;
+        (image.id_of_space(0), image.next_id()),
+        (Some(2), Some(10))
+    );
+    Ok(())
+}
+
+#[test]
+fn records_go(rt: HostRuntime) -> Result<(), Fail> {
+    let alloc = rt.alloc();
+    let mut image = Image::new(alloc);
+    image.apply(alloc, first_batch(alloc)?)?;
+    image.apply(alloc, second_batch(alloc)?)?;
+    let key = Key::single(alloc, Value::Num(7))?;
+    assert_eq!(rt; image.pieces_of(1, &key), [12].as_slice());
+    assert!(rt; image.row(8).is_some() && image.record(9).is_none());
+    assert_eq!(rt; image.next_id(), Some(13));
+    Ok(())
+}
+
+/// LIVE with two versions, a table and a row that the second version has at a key.
+fn small_store(alloc: Global) -> Result<Records, Memory>
+    ensures { IfOk result (λ records. AreRecords records) }
+{
+    let list = vec![in alloc;
+        stored(9, piece(alloc, 2, 1, 10)?),
+        stored(1, counters()),
+        stored(2, live(alloc)?),
+        stored(3, version(1, 0)),
+        stored(5, version(2, 1)),
+        stored(6, full_row(alloc, 1)?),
+        stored(4, table(alloc)?),
+    ]?;
+    Ok(Records::from_vec(list))
+}
+
+fn stored(id: u64, new: Record) -> Stored
+    ensures { result.id ≡ id }
+{
+    Stored { id, record: new }
+}
+
+fn counters() -> Record {
+    Record::Counters(Counters {
+        next_stamp: 2,
+        last_moment: 0,
+        limit: 10,
+        next_version: 3,
+        work: 2,
+    })
+}
+
+fn table(alloc: Global) -> Result<Record, Memory> {
+    let mut columns = TableColumns::new(alloc);
+    columns.push(TableColumn {
+        name: Name::copy_of(alloc, b"ID")?,
+        kind: ColumnKind::Number,
+        size: 0,
+        not_null: true,
+    })?;
+    Ok(Record::Table(Table {
+        number: 1,
+        name: Name::copy_of(alloc, b"T")?,
+        versioned: true,
+        valid: false,
+        history: false,
+        has_key: true,
+        key_column: 0,
+        columns,
+    }))
+}
+
+fn full_row(alloc: Global, stamp: u64) -> Result<Record, Memory> {
+    let mut values = Values::new(alloc);
+    values.push(Value::Num(7))?;
+    Ok(Record::Row(RowRecord {
+        stamp,
+        table: 1,
+        values,
+    }))
+}
+
+/// Where the rules are not looked at for want of memory there is no image.
+#[test]
+fn a_store_is_loaded(rt: HostRuntime) -> Result<(), Fail> {
+    let alloc = rt.alloc();
+    let records = small_store(alloc)?;
+    let Ok(image) = Image::load(alloc, records) else {
+        return Ok(());
+    };
+    let key = Key::single(alloc, Value::Num(7))?;
+    assert_eq!(rt; image.counters().next_stamp, 2);
+    assert_eq!(rt; image.id_of_counters(), 1);
+    assert!(rt; image.table(b"T").is_some() && image.table(b"U").is_none());
+    let time = Instant::new(12).ok_or("an instant")?;
+    assert!(rt; image.shown_at(0, 1, &key, time).is_some());
+    assert!(rt; image.shown_at(0, 1, &key, Instant::beginning()).is_none());
+    assert_eq!(rt; image.shown(alloc, 0, 1, &key)?.len(), 1);
+    Ok(())
+}
+
+#[test]
+fn no_records_are_no_store(rt: HostRuntime) -> Result<(), Fail> {
+    let alloc = rt.alloc();
+    assert!(rt; Image::load(alloc, Records::new(alloc)).is_err());
+    Ok(())
+}
