@@ -14,9 +14,12 @@ or_false : (b : Bool) → b ≡ (b || false)
 or_false true = refl
 or_false false = refl
 
+abbrev pub mark_read : Symbol → List Symbol → Bool → Result (Unit {0} × List Symbol) ℕ
+mark_read t ts z = cond z (Ok (tt, ts)) (Err t.left)
+
 marked : (ts : List Symbol) → next_in (sorts.SEMICOLON ∷ []) ts ≡ true → mark_at sorts.SEMICOLON ts ≡ Ok (tt, behind ts)
 marked [] e = absurd cc
-marked (t ∷ ts) e = ap (λ (z : Bool). cond z (Ok {T = Unit {0} × List Symbol} (tt, ts)) (Err t.left)) (or_false (t.sort == sorts.SEMICOLON) ∙ e)
+marked (t ∷ ts) e = ap (mark_read t ts) (or_false (t.sort == sorts.SEMICOLON) ∙ e)
 
 abbrev pub else_read : List Symbol → Bool → Read
 else_read ts z = cond z (bind {B = Option (Unit {0}) × List Symbol} (mark_at sorts.SEMICOLON ts) (λ q. Ok (Some q.0, q.1))) (Ok (None, ts))

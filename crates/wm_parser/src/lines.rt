@@ -13,6 +13,7 @@ use crate::statements::{create, delete, insert, update};
 use std::alloc::Global;
 use wm_base::Name;
 use wm_base::tree::line::Line;
+use wm_base::tree::query::Query;
 use wm_base::tree::statement::Statement;
 use wm_grammar::Sort;
 use wm_terms::cursor::Cursor;
@@ -130,8 +131,63 @@ fn line(cursor: &mut Cursor, alloc: Global) -> Result<Line, ParseError>
     session(cursor, alloc)
 }
 
-/// Lets a tree go. A function of its own: a tree that some paths keep and others drop has a long proof.
-pub fn discard(_tree: Line) {}
+/// Lets a query go, part by part.
+fn discard_query(query: Query) {
+    let Query {
+        projection: _projection,
+        sources: _sources,
+        filter: _filter,
+        groups: _groups,
+        orders: _orders,
+        ..
+    } = query;
+}
+
+/// Lets a statement go, part by part.
+fn discard_statement(statement: Statement) {
+    match statement {
+        Statement::Create {
+            table: _table,
+            items: _items,
+        } => {}
+        Statement::Insert {
+            table: _table,
+            names: _names,
+            values: _values,
+        } => {}
+        Statement::Update {
+            table: _table,
+            sets: _sets,
+            filter: _filter,
+        } => {}
+        Statement::Delete {
+            table: _table,
+            filter: _filter,
+        } => {}
+        Statement::Select(query) => discard_query(query),
+        Statement::Call {
+            procedure: _procedure,
+            args: _args,
+            condition: _condition,
+        } => {}
+    }
+}
+
+/// Lets a tree go. It is taken apart, since the proof that a whole tree is dropped is too long.
+pub fn discard(tree: Line) {
+    match tree {
+        Line::Connect {
+            session: _session,
+            user: _user,
+        } => {}
+        Line::Disconnect { session: _session } => {}
+        Line::At(_) => {}
+        Line::Run {
+            session: _session,
+            statement,
+        } => discard_statement(statement),
+    }
+}
 
 /// A line, where no symbol is left behind it.
 fn finished(cursor: &Cursor, found: Line) -> Result<Line, ParseError>
