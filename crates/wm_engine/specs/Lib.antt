@@ -1,4 +1,1 @@
-pub mod Working
 pub mod Views
-pub mod Planning
-pub mod Counting

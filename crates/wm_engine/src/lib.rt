@@ -1,15 +1,14 @@
-//! One line at a time: what it says is read, done, kept and answered.
+//! One line at a time: what it says is read, done and answered.
 #![tactic(auto)]
 
 mod answer;
-mod count;
+mod change;
 mod engine;
-mod fault;
-mod planned;
+mod entry;
+mod plan;
 mod print;
 mod read;
-mod refuse;
 mod session;
+mod table;
 
 pub use engine::Engine;
-pub use fault::LineFault;

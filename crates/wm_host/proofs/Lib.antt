@@ -3,7 +3,6 @@ pub mod Crashing
 pub mod Ending
 pub mod Held
 pub mod Hosting
-pub mod Making
 pub mod Past
 pub mod Saying
-pub mod Throughout
+pub mod WordLists

@@ -1,5 +1,5 @@
-//! The commands of the program. `run` opens a store, cuts the bytes of a source into lines, hands each to
-//! the engine and says the answer; `init` makes the store.
+//! The loop over a script: it cuts the bytes of a source into lines, hands each to the engine and says
+//! the answer.
 #![tactic(auto)]
 
 mod command;
@@ -9,7 +9,6 @@ mod line;
 mod say;
 mod script;
 mod stop;
-mod store;
 mod words;
 
 pub use command::run;
