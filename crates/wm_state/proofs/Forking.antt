@@ -1,18 +1,16 @@
 -- A workspace gets a version more, with nothing in it, under its newest one.
-use Rattle.std.proofs.Common.{◌≡◌, ◌≢◌, ℕ, ◌<◌, ◌≤◌, ◌==◌, nat_lt, Bool, true, false, cond, List, [], ◌∷◌, ◌++◌, Option, Some, None, is_some, refl, sym, ap, ◌∙◌, ◌⊎◌, inl, inr, arith}
+use Rattle.std.proofs.Common.{◌≡◌, ◌≢◌, ℕ, ◌<◌, ◌==◌, Bool, true, false, cond, List, [], ◌∷◌, Option, Some, None, is_some, refl, sym, ap, ◌∙◌, ◌⊎◌, inl, inr, arith}
 use Rattle.std.proofs.lemmas.Bool.{cases_eq, eq-eqb, ne_eqb}
-use Rattle.std.specs.Option.{option_or}
 use Rattle.wm_graph.specs.Parts.{Parts, space_of}
 use Rattle.wm_graph.specs.Rules.{keep_rules}
 use Rattle.wm_period.specs.Pieces.{Held}
 use Rattle.wm_spec.specs.Lists.{Cell}
 use Rattle.wm_spec.specs.declared.record.piece.PieceRecord.{PieceRecord}
 use Rattle.wm_spec.specs.declared.record.space.Space.{Space}
-use Rattle.wm_spec.specs.declared.record.version.Version.{Version}
-use Rattle.wm_tree.specs.Versions.{grow, latest_in, AllBelow}
+use Rattle.wm_tree.specs.Versions.{latest_in, AllBelow}
 use Rattle.wm_tree.specs.declared.version.Version.{Version as Node}
 use Rattle.wm_state.specs.State.{State, workspace_of}
-use Rattle.wm_state.specs.Standing.{stored_at, seen_at, own_at, node_of, newest_first, latest, shown, owned, CountersStand, Stands, by_number}
+use Rattle.wm_state.specs.Standing.{stored_at, seen_at, own_at, newest_first, latest, shown, owned, CountersStand, Stands, by_number}
 use Rattle.wm_state.specs.Effects.{Forked, node_under}
 
 -- the newest version of a workspace is below what all versions are below

@@ -1,34 +1,33 @@
 -- A row is written in a version more.
-use Rattle.std.proofs.Common.{◌≡◌, ◌≢◌, ℕ, ◌+◌, ◌<◌, ◌==◌, nat_lt, Bool, true, false, not, ◌&&◌, cond, if◌then◌else◌, List, [], ◌∷◌, ◌++◌, Option, Some, None, is_some, refl, sym, ap, subst, ◌∙◌, arith}
+use Rattle.std.proofs.Common.{◌≡◌, ◌≢◌, ℕ, ◌+◌, ◌<◌, ◌==◌, nat_lt, Bool, true, false, not, ◌&&◌, cond, List, [], ◌∷◌, ◌++◌, Option, Some, None, is_some, refl, sym, ap, subst, ◌∙◌, arith}
 use Rattle.std.specs.List.{list_all}
 use Rattle.std.specs.Ordering.{is_eq}
 use Rattle.wm_base.specs.Key.{key_order}
 use Rattle.wm_base.specs.declared.row.Row.{Row}
 use Rattle.wm_base.specs.declared.value.Value.{Value}
 use Rattle.wm_graph.specs.Parts.{Parts, parts_of, table_of, version_of, row_of}
-use Rattle.wm_graph.specs.Rules.{keep_rules, is_piece, are_pieces, collide, differ}
+use Rattle.wm_graph.specs.Rules.{keep_rules, is_piece, collide, differ}
 use Rattle.wm_spec.specs.Lists.{Entry}
 use Rattle.wm_spec.specs.Records.{record_at, change_at, AreChanges}
 use Rattle.wm_spec.specs.declared.record.Record.{Record}
 use Rattle.wm_spec.specs.declared.record.Record.TheVariants as records
 use Rattle.wm_spec.specs.declared.record.stored.Stored.{Stored}
-use Rattle.wm_spec.specs.declared.record.batch.Change.{Change}
 use Rattle.wm_spec.specs.declared.record.counters.Counters.{Counters}
 use Rattle.wm_spec.specs.declared.record.piece.PieceRecord.{PieceRecord}
 use Rattle.wm_spec.specs.declared.record.row.RowRecord.{RowRecord}
 use Rattle.wm_spec.specs.declared.record.space.Space.{Space}
 use Rattle.wm_spec.specs.declared.record.version.Version.{Version}
 use Rattle.wm_state.specs.ById.{Ascend, set_at, applied}
-use Rattle.wm_state.specs.Batches.{is_out, keeps, is_dropped, AreDropped, AllUnder, put, insert_batch, fork_batch, insert_new_batch}
+use Rattle.wm_state.specs.Batches.{is_out, keeps, AreDropped, AllUnder, insert_batch, fork_batch, insert_new_batch}
 use Rattle.wm_state.specs.State.{State}
 use Rattle.wm_state.specs.Standing.{CountersStand, Stands}
 use Rattle.std.proofs.lemmas.Bool.{eq-eqb, ne_eqb}
 use Rattle.wm_state.proofs.ById.{one_order}
 use Rattle.wm_state.proofs.Batches.{over_it, Ascend-applied, record_at-applied}
-use Rattle.wm_state.proofs.ByKind.{stored, set-behind, under_found}
-use Rattle.wm_state.proofs.Planning.{recounted, parts-more_version, piece_found}
-use Rattle.wm_state.proofs.Planned.{counted, found_still, AllUnder-set, AllUnder-next, plan_inserted}
-use Rattle.wm_state.proofs.Tests.{bool_apart, both, all_if}
+use Rattle.wm_state.proofs.ByKind.{set-behind, under_found}
+use Rattle.wm_state.proofs.Planning.{parts-more_version, piece_found}
+use Rattle.wm_state.proofs.Planned.{counted, AllUnder-set, AllUnder-next, plan_inserted}
+use Rattle.wm_state.proofs.Tests.{both, all_if}
 use Rattle.wm_state.proofs.Inserting.{inserted, MayInsert}
 use Rattle.wm_state.proofs.Inserted.{MayWrite}
 use Rattle.wm_state.proofs.Standing.{appended}
@@ -81,8 +80,8 @@ none_dropped p next table key rules is =
     let h = both (differ collide p.pieces) (list_all (is_piece (table_of p.tables) (version_of p.versions) (row_of p.rows) r.counters.next_stamp) p.pieces) r.pieces in
     all_if (is_piece (table_of p.tables) (version_of p.versions) (row_of p.rows) r.counters.next_stamp) (is_out next table key)
     (λ y piece.
-        let lt = found-below p.versions r.counters.next_version y.version (below-next p r.counters.next_version r.versions) (both (is_some (version_of p.versions y.version)) _ piece).0 in
-        out_of (y.version == next) ((y.cells.table == table) && is_eq (key_order y.cells.key key)) (apart_lt y.version next (ap (nat_lt y.version) (is r) ∙ lt)))
+    let lt = found-below p.versions r.counters.next_version y.version (below-next p r.counters.next_version r.versions) (both (is_some (version_of p.versions y.version)) _ piece).0 in
+    out_of (y.version == next) ((y.cells.table == table) && is_eq (key_order y.cells.key key)) (apart_lt y.version next (ap (nat_lt y.version) (is r) ∙ lt)))
     p.pieces h.1
   where
     apart_lt : (m n : ℕ) → nat_lt m n ≡ true → (m == n) ≡ false

@@ -1,22 +1,21 @@
 -- The records with a version more.
-use Rattle.std.proofs.Common.{◌≡◌, ◌≢◌, ℕ, ◌+◌, ◌<◌, ◌==◌, nat_lt, nat_le, Bool, true, false, not, ◌&&◌, ◌||◌, cond, if◌then◌else◌, List, [], ◌∷◌, ◌++◌, Option, Some, None, is_some, refl, sym, ap, ◌∙◌, arith}
-use Rattle.std.proofs.lemmas.Bool.{cases_eq, eq-eqb, ne_eqb, eqb-true}
-use Rattle.std.specs.Bool.{then_some}
-use Rattle.std.specs.List.{list_all, list_any, find}
-use Rattle.std.specs.Option.{option_map_or, option_or}
+use Rattle.std.proofs.Common.{◌≡◌, ℕ, ◌+◌, ◌<◌, ◌==◌, nat_lt, Bool, true, false, ◌&&◌, ◌||◌, cond, if◌then◌else◌, List, [], ◌∷◌, ◌++◌, Option, Some, None, is_some, refl, sym, ap, ◌∙◌, arith}
+use Rattle.std.proofs.lemmas.Bool.{eq-eqb, eqb-true}
+use Rattle.std.specs.List.{list_all, list_any}
+use Rattle.std.specs.Option.{option_map_or}
 use Rattle.wm_graph.specs.Parts.{Parts, table_of, space_of, version_of, row_of, has_version}
-use Rattle.wm_graph.specs.Rules.{keep_rules, keep_rules_with, are_counters, are_tables, are_spaces, are_versions, is_version, is_version_of, has_versions, stands_under, are_rows, is_row, are_pieces, is_piece, is_row_at, are_cells, collide, differ}
+use Rattle.wm_graph.specs.Rules.{keep_rules, are_counters, are_tables, are_spaces, are_versions, is_version, is_version_of, has_versions, stands_under, are_rows, are_pieces, is_piece, collide, differ}
 use Rattle.wm_spec.specs.Lists.{Cell}
 use Rattle.wm_spec.specs.declared.record.counters.Counters.{Counters}
 use Rattle.wm_spec.specs.declared.record.piece.PieceRecord.{PieceRecord}
 use Rattle.wm_spec.specs.declared.record.space.Space.{Space}
 use Rattle.wm_spec.specs.declared.record.version.Version.{Version}
 use Rattle.wm_tree.specs.Versions.{grow, AllBelow}
-use Rattle.wm_state.specs.Standing.{stored_at, node_of, newest_first, latest, covers_at, held_by}
-use Rattle.wm_state.specs.Effects.{Forked, node_under}
+use Rattle.wm_state.specs.Standing.{stored_at, node_of, newest_first, latest}
+use Rattle.wm_state.specs.Effects.{Forked}
 use Rattle.wm_state.proofs.Tests.{bool_apart, both, and_true, all_if, all_push, differ_push, find_push, none_if}
 use Rattle.wm_state.proofs.Newest.{AllBelow-grow}
-use Rattle.wm_state.proofs.Apart.{Ruled, ruled, RuledVersions, ruled_versions, newest_record, newest_some, found-passes}
+use Rattle.wm_state.proofs.Apart.{Ruled, ruled, ruled_versions, newest_record, newest_some, found-passes}
 
 -- the records with a version more and other counters
 abbrev pub forked : Parts → Counters → Version → Parts

@@ -1,7 +1,6 @@
 -- The ids of a batch, and those that are free.
-use Rattle.std.proofs.Common.{◌≡◌, ◌≢◌, ℕ, ◌+◌, ◌<◌, ◌≤◌, ◌==◌, nat_lt, Bool, true, false, ◌&&◌, cond, if◌then◌else◌, List, [], ◌∷◌, ◌++◌, map, Option, Some, None, refl, sym, ap, ◌∙◌, ◌⊎◌, inl, inr, arith}
-use Rattle.std.proofs.lemmas.Bool.{cases_eq, eq-eqb, ne_eqb}
-use Rattle.std.proofs.lemmas.List.{map-append}
+use Rattle.std.proofs.Common.{◌≡◌, ◌≢◌, ℕ, ◌+◌, ◌<◌, ◌≤◌, ◌==◌, nat_lt, Bool, true, false, if◌then◌else◌, List, [], ◌∷◌, ◌++◌, map, Option, Some, None, refl, sym, ap, ◌∙◌, ◌⊎◌, inl, inr, arith}
+use Rattle.std.proofs.lemmas.Bool.{cases_eq, ne_eqb}
 use Rattle.std.specs.List.{list_all, list_any}
 use Rattle.wm_spec.specs.Records.{record_at, ids_differ, AreChanges}
 use Rattle.wm_spec.specs.declared.record.Record.{Record}
@@ -14,7 +13,7 @@ use Rattle.wm_spec.specs.declared.record.space.Space.{Space}
 use Rattle.wm_spec.specs.declared.record.version.Version.{Version}
 use Rattle.wm_state.specs.Batches.{AllUnder, put, drop_one, insert_batch, insert_new_batch}
 use Rattle.wm_state.proofs.ById.{record_at-here, record_at-away}
-use Rattle.wm_state.proofs.Tests.{bool_apart, both, and_true, any_push, none_if}
+use Rattle.wm_state.proofs.Tests.{bool_apart, both, and_true, any_push}
 
 -- ---- free ids
 
@@ -99,16 +98,16 @@ pub changes-insert_new : (counters_id : ℕ) (new : Counters) (space_id : ℕ) (
 unfolding ids_differ
 changes-insert_new counters_id new space_id a id v r x apart counters_under space_under =
     rw (
-        ne_eqb space_id counters_id (λ same. apart (sym same)),
-        later counters_id counters_under,
-        later_still counters_id counters_under,
-        above counters_id counters_under,
-        later space_id space_under,
-        later_still space_id space_under,
-        above space_id space_under,
-        next_apart id,
-        turned_apart id,
-        last_apart id
+      ne_eqb space_id counters_id (λ same. apart (sym same)),
+      later counters_id counters_under,
+      later_still counters_id counters_under,
+      above counters_id counters_under,
+      later space_id space_under,
+      later_still space_id space_under,
+      above space_id space_under,
+      next_apart id,
+      turned_apart id,
+      last_apart id,
     ) refl
   where
     above : (m : ℕ) → m < id → (id == m) ≡ false

@@ -1,7 +1,6 @@
 -- Versions under which none stands.
-use Rattle.std.proofs.Common.{◌≡◌, ℕ, ◌+◌, ◌==◌, nat_lt, Bool, true, false, ◌&&◌, ◌||◌, cond, if◌then◌else◌, List, [], ◌∷◌, Option, Some, None, is_some, refl, sym, ap, subst, ◌∙◌, arith}
-use Rattle.std.proofs.lemmas.Bool.{eqb-true}
-use Rattle.std.specs.List.{list_all, list_any}
+use Rattle.std.proofs.Common.{◌≡◌, ℕ, ◌==◌, nat_lt, Bool, true, false, cond, if◌then◌else◌, List, [], ◌∷◌, Option, Some, None, is_some, refl, sym, ap, subst, ◌∙◌, arith}
+use Rattle.std.specs.List.{list_any}
 use Rattle.std.specs.Option.{option_map_or}
 use Rattle.wm_graph.specs.Parts.{Parts, space_of, version_of}
 use Rattle.wm_graph.specs.Rules.{keep_rules, is_version, stands_under}
@@ -11,7 +10,7 @@ use Rattle.wm_spec.specs.declared.record.version.Version.{Version}
 use Rattle.wm_tree.specs.Versions.{grow}
 use Rattle.wm_tree.specs.declared.version.Version.{Version as Node}
 use Rattle.wm_state.specs.Standing.{node_of, newest_first, latest}
-use Rattle.wm_state.specs.Effects.{IsLeaf, node_under}
+use Rattle.wm_state.specs.Effects.{IsLeaf}
 use Rattle.wm_state.proofs.Tests.{bool_apart, both, either_false, none_if}
 use Rattle.wm_state.proofs.Apart.{Ruled, ruled, ruled_versions, newest_record}
 use Rattle.wm_state.proofs.Growing.{MayFork, forked, forked_of, found-below, below-next, same_counters}
