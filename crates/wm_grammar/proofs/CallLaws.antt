@@ -17,7 +17,8 @@ use Rattle.wm_grammar.specs.Calls.{procedure_of, is_same, next_place, open_param
 use Rattle.wm_grammar.specs.CallForms.{constant_but_text, value_by, value_for, parameter_name, placed, arg, next_arg, arguments, parenthesis, arguments_of, package_call, call}
 use Rattle.wm_grammar.specs.CallReaders.{constant_but_text_at, value_by_at, value_for_at, parameter_name_at, placed_at, parameter_sorts, arg_at, next_arg_at, arguments_at, parenthesis_at, arguments_of_at, package_call_at, call_at}
 use Rattle.wm_grammar.proofs.Lists.{within}
-use Rattle.wm_grammar.proofs.Laws.{Shape, Exact, item_shape, gives_exact, never_exact, one_for_exact, mark_exact, then_exact, or_exact, many_from_exact, loosened}
+use Rattle.wm_grammar.proofs.Laws.{Shape, Exact, gives_exact, never_exact, one_for_exact, mark_exact, then_exact, or_exact, loosened}
+use Rattle.wm_grammar.proofs.Repeating.{item_shape, many_from_exact}
 use Rattle.wm_grammar.proofs.OperandLaws.{solid, constants, period_sorts, integer_exact, until_changed_exact, instant_exact, period_exact, constant_exact}
 
 abbrev pub untexted : List ℕ

@@ -10,7 +10,8 @@ use Rattle.wm_grammar.specs.Forms.{Form}
 use Rattle.wm_grammar.specs.Reading.{Reader}
 use Rattle.wm_grammar.specs.Expressions.{products, sums, term_of, signed_term, expr_of, factor, expr, comparison, constant_list, chosen, test_of, test, alls, anys, conj_of, cond_of, negation, condition}
 use Rattle.wm_grammar.specs.ExpressionReaders.{term_at, signed_term_at, expr_of_at, factor_at, expr_at, comparison_at, constant_list_at, chosen_at, comparisons, test_of_at, test_at, conj_at, cond_of_at, negation_at, condition_at}
-use Rattle.wm_grammar.proofs.Laws.{Shape, Exact, gives_exact, mark_exact, then_exact, or_exact, optional_exact, many_exact, loosened}
+use Rattle.wm_grammar.proofs.Laws.{Shape, Exact, gives_exact, mark_exact, then_exact, or_exact, optional_exact, loosened}
+use Rattle.wm_grammar.proofs.Repeating.{many_exact}
 use Rattle.wm_grammar.proofs.OperandLaws.{solid, operand_next, operand_sorts, plain_operand_sorts, constants, constant_exact, operand_exact, plain_operand_exact}
 
 -- ---- expressions

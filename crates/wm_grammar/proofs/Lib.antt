@@ -1,5 +1,6 @@
 pub mod Lists
 pub mod Laws
+pub mod Repeating
 pub mod Whole
 pub mod Loops
 pub mod Scans

@@ -15,7 +15,8 @@ use Rattle.wm_grammar.specs.OperandReaders.{id_at, column_at}
 use Rattle.wm_grammar.proofs.Lists.{within}
 use Rattle.wm_grammar.specs.Queries.{list_of, filter, other_aggregate, counted, query_item, out, projection, has_aggregate, source, joined, next_source, room, one_less, source_list, is_alone, grouping, direction, order_key, order, ordering, query}
 use Rattle.wm_grammar.specs.QueryReaders.{list_of_at, filter_at, other_aggregate_at, counted_at, other_aggregates, query_item_at, out_at, projection_at, source_at, joined_at, next_source_at, separators, source_list_at, grouping_at, direction_at, order_key_at, order_at, ordering_at, query_at}
-use Rattle.wm_grammar.proofs.Laws.{Shape, Exact, item_shape, many_shape, gives_exact, never_exact, mark_exact, then_exact, or_exact, optional_exact, many_exact, many_from_exact, loosened}
+use Rattle.wm_grammar.proofs.Laws.{Shape, Exact, gives_exact, never_exact, mark_exact, then_exact, or_exact, optional_exact, loosened}
+use Rattle.wm_grammar.proofs.Repeating.{item_shape, many_shape, many_exact, many_from_exact}
 use Rattle.wm_grammar.proofs.OperandLaws.{solid, columns, word_exact, integer_exact, column_exact}
 use Rattle.wm_grammar.proofs.ExpressionLaws.{factor_sorts, expr_shape, expr_next, cond_next, expr_exact, condition_exact}
 
