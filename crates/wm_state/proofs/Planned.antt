@@ -23,7 +23,7 @@ use Rattle.wm_state.specs.State.{State, enabled}
 use Rattle.wm_state.specs.Standing.{CountersStand, Stands}
 use Rattle.wm_state.proofs.ById.{Ascend-set, record_at-set}
 use Rattle.wm_state.proofs.ByKind.{kinds, stored, Split, split_of, set-split, set-behind}
-use Rattle.wm_state.proofs.Planning.{recounted, parts-counted, parts-tabled, tables-split, parts-spaced, spaces-split, parts-more_row, parts-more_piece, parts-filtered, parts-created}
+use Rattle.wm_state.proofs.Planning.{AllUnder-put, recounted, parts-counted, parts-tabled, tables-split, parts-spaced, spaces-split, parts-more_row, parts-more_piece, parts-filtered, parts-created}
 use Rattle.wm_state.proofs.Dropping.{dropped}
 use Rattle.wm_state.proofs.Enabling.{readied, Stands-readied}
 use Rattle.wm_state.proofs.Inserting.{inserted, MayInsert}
@@ -105,10 +105,6 @@ AllUnder-filter n keep (s ∷ ss) under = by_test (keep s) (AllUnder-filter n ke
     by_test : (b : Bool) → AllUnder n (filter keep ss) → AllUnder n (cond b (s ∷ filter keep ss) (filter keep ss))
     by_test true rest = (under.0, rest)
     by_test false rest = rest
-
-AllUnder-put : (n : ℕ) (front back : List Stored) (id : ℕ) (r q : Record) → AllUnder n (front ++ stored id r ∷ back) → AllUnder n (front ++ stored id q ∷ back)
-AllUnder-put n [] back id r q under = under
-AllUnder-put n (x ∷ front) back id r q under = (under.0, AllUnder-put n front back id r q under.1)
 
 pub AllUnder-next : (n : ℕ) (ss : List Stored) (r : Record) → AllUnder n ss → AllUnder (n + 1) (ss ++ stored n r ∷ [])
 AllUnder-next n [] r under = (omega arith, tt)

@@ -42,7 +42,7 @@ counters-put front back id old new one =
     let h = alone (kinds as_counters front) (kinds as_counters back) old old (sym (kinds-one as_counters front back id (records.Counters old) old refl) ∙ one) in
     kinds-one as_counters front back id (records.Counters new) new refl ∙ rw (h.0, h.1) refl
 
-AllUnder-put : (n : ℕ) (front back : List Stored) (id : ℕ) (r q : Record) → AllUnder n (front ++ stored id r ∷ back) → AllUnder n (front ++ stored id q ∷ back)
+pub AllUnder-put : (n : ℕ) (front back : List Stored) (id : ℕ) (r q : Record) → AllUnder n (front ++ stored id r ∷ back) → AllUnder n (front ++ stored id q ∷ back)
 AllUnder-put n [] back id r q under = under
 AllUnder-put n (x ∷ front) back id r q under = (under.0, AllUnder-put n front back id r q under.1)
 
