@@ -5,10 +5,14 @@ use std::fs::File;
 use std::io::{ErrorKind, Stdout};
 use std::process::ExitCode;
 use std::{env, io};
+use wm_base::Damage;
 use wm_host::{Ended, Place, run};
 use wm_station::{FileStation, StreamSource};
 
 /// The first argument is the program's name, and the second the store's path.
+const PATH: usize = 1;
+
+/// Where the words begin.
 const WORDS_BEGIN: usize = 2;
 
 fn main(rt: HostRuntime) -> ExitCode {
@@ -39,13 +43,17 @@ fn arguments(rt: &HostRuntime) -> io::Result<Vec<String>> {
     Ok(arguments)
 }
 
-/// Runs the words behind the path.
+/// Runs the words behind the path, over the file at the path. Where there is none it is made.
 fn play(rt: &HostRuntime, arguments: &[String]) -> Ended {
     if arguments.len() < WORDS_BEGIN {
         return ended(2);
     }
     let mut source = StreamSource::new(rt.stdin());
-    let mut station: FileStation<File, Stdout> = FileStation::without_file(rt.stdout());
+    let mut station: FileStation<File, Stdout> = FileStation::open(
+        rt,
+        arguments[PATH].as_str(),
+        rt.stdout(),
+    );
     run(
         rt.alloc(),
         &arguments[WORDS_BEGIN..],
@@ -56,14 +64,35 @@ fn play(rt: &HostRuntime, arguments: &[String]) -> Ended {
 
 /// Says on standard error why the run ended, where it did not end well.
 fn complain(rt: &HostRuntime, ended: &Ended) {
+    if let Place::Page { number, kind } = ended.place {
+        // Nobody is left to tell where standard error fails too.
+        let _ = eprintln!(rt; "wm: damaged page {number} {}", kind_text(kind));
+        return;
+    }
     let text = match ended.status {
         2 => "wm: usage",
         3 => "wm: source fault",
         4 => "wm: say fault",
+        5 => "wm: disk fault",
+        6 => "wm: not a store",
+        8 => "wm: store exists",
         9 => "wm: input limit",
         10 => "wm: out of memory",
+        11 => "wm: store changed",
         _ => return,
     };
-    // Nobody is left to tell where standard error fails too.
     let _ = rt.eprintln(text);
+}
+
+fn kind_text(kind: Damage) -> &'static str {
+    match kind {
+        Damage::Short => "short",
+        Damage::Format => "format",
+        Damage::Journal => "journal",
+        Damage::Root => "root",
+        Damage::Slots => "slots",
+        Damage::Record => "record",
+        Damage::Twice => "twice",
+        Damage::Graph => "graph",
+    }
 }

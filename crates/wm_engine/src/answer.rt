@@ -1,16 +1,15 @@
 //! What a line is answered.
 
-use crate::entry::Entry;
-use wm_base::Refusal;
+use wm_base::{Refusal, RowList};
 
-/// An answer, before it is written out. The rows of a listing stay where they are.
+/// An answer, before it is written out.
 #[derive(Drop)]
-pub enum Answer<'a> {
+pub enum Answer {
     /// A blank or comment line is answered by no bytes.
     Nothing,
     Fine,
     /// So many rows were changed.
     Done(u64),
-    Listing(&'a [Entry]),
+    Listing(RowList),
     Refused(Refusal),
 }

@@ -1,254 +1,94 @@
 //! The state between two lines, and what a line does to it.
-ghost use Rattle.std.specs.Prelude.{◌≡◌, IfOk, OnOk, OnErr, None, Some};
-ghost use Rattle.std.specs.Option.{option_map};
-ghost use Rattle.wm_model.specs.State.{fresh};
-ghost use Rattle.wm_model.specs.Step.{step, answer_text, connect, create, enable, add_row, listing, is_open, run_statement, run_line};
-ghost use Rattle.wm_engine.specs.Views.{folded, planned, changed, statement_view, line_view};
+ghost use Rattle.std.specs.Prelude.{◌≡◌, ℕ, ◌≤◌, ◌⊎◌, List, true, false, OnOk, OnErr, IfOk, IfErr, IsErrOf};
+ghost use Rattle.wm_base.specs.declared.fault.MakeFault.TheVariants as making;
+ghost use Rattle.wm_base.specs.declared.fault.OpenFault.TheVariants as opening;
+ghost use Rattle.wm_engine.specs.Working.{FileStands, StandsFor, WorksOver, Tells};
+ghost use Rattle.wm_engine.specs.declared.fault.LineFault.TheVariants as faults;
+ghost use Rattle.wm_state.specs.State.{State, begin, fresh};
+ghost use Rattle.wm_model.specs.Step.{step, answer_text};
+ghost use Rattle.wm_station.specs.Cause.{Rises};
+ghost use Rattle.wm_station.specs.History.{now, said, Leaves};
+ghost use Rattle.wm_store.specs.Holding.{is_made};
+ghost use Rattle.wm_station.specs.Moments.{During, Ended, Holds};
 
-use crate::answer::Answer;
-use crate::change::Change;
-use crate::plan::{Planned, entry_of, key_of, key_there, no_table, not_built};
-use crate::print::print;
-use crate::read::form::{is_remark, line_of};
-use crate::read::tree::{Line, Statement};
-use crate::session::Session;
-use crate::table::{Table, holds_key};
+use crate::fault::LineFault;
 use std::alloc::Global;
 use std::marker::Model;
-use wm_base::{Bytes, Memory};
+use wm_base::{Bytes, Instant, MakeFault, OpenFault};
+use wm_station::Station;
+use wm_store::Store;
 
-/// The most bytes of a line.
-const LINE_LIMIT: usize = 16_384;
-
-/// The state that lines are run on. It stands in memory, and is gone with the program.
+/// The engine over a store: its records, the sessions that are open, and the moment.
 #[derive(Drop)]
 pub struct Engine {
-    session: Option<Session>,
-    table: Option<Table>,
-    next_stamp: u64,
-    limit: u32,
+    store: Store,
+    moment: u64,
 }
 
 impl Model for Engine {
-    ghost use Rattle.wm_model.specs.State.{State};
+    ghost use Rattle.std.specs.Prelude.{[]};
+    ghost use Rattle.wm_engine.specs.Working.{Engaged};
 
-    ghost Value = { State };
+    ghost Value = { Engaged };
 
-    ghost view = { λ e. record { session = e.session; table = e.table; next_stamp = e.next_stamp; limit = e.limit } };
+    ghost view = { λ e. record { store = e.store; records = []; sessions = []; moment = e.moment } };
 }
 
 impl Engine {
-    /// An empty store that takes this many changes.
-    #[tactic(auto, unfolding(wm_model::specs::State::fresh))]
-    pub fn fresh(limit: u32) -> Engine
-        ensures { result ≡ fresh limit }
+    /// Makes a store that takes this many changes, 1 to 1,048,576.
+    pub fn make<P: Station>(alloc: Global, station: &mut P, limit: u32) -> Result<(), MakeFault>
+        requires { (1 ≤ limit) × (limit ≤ 1048576) }
+        ensures fresh { P.tells → OnOk result (Holds (P.history station.new) (λ file. FileStands file (fresh limit))) }
+        ensures absent { P.tells → OnOk result (is_made (now (P.history station.old)) ≡ false) }
+        ensures exists { P.tells → IsErrOf result making.Exists → (is_made (now (P.history station.old)) ≡ true) × (P.history station.new ≡ P.history station.old) }
+        ensures quiet { P.tells → said (P.history station.new) ≡ said (P.history station.old) }
+        ensures later { P.disk_faults station.old ≤ P.disk_faults station.new }
+        ensures disk { IsErrOf result making.Disk → Rises (P.disk_faults station.old) (P.disk_faults station.new) }
+        ensures say_quiet { P.say_faults station.new ≡ P.say_faults station.old }
     {
-        Engine {
-            session: None,
-            table: None,
-            next_stamp: 1,
-            limit,
-        }
+        Err(MakeFault::Memory)
     }
 
-    /// Opens the one session that may be open.
-    fn connect(&self, alloc: Global, name: &[u8], user: &[u8]) -> Result<Planned<'_>, Memory>
-        ensures { IfOk result (λ p. planned p self.now ≡ connect (folded name.now) (folded user.now) self.now) }
-    {
-        if let Some(_) = &self.session {
-            return Ok(Planned::answered(not_built()));
-        }
-        let session = Session::new(alloc, name, user)?;
-        Ok(Planned {
-            change: Change::Open(session),
-            answer: Answer::Fine,
-        })
-    }
-
-    /// Makes the one table that may be there.
-    fn create(
-        &self,
+    /// Opens the store on a station, to begin a run at a moment.
+    pub fn open<P: Station>(
         alloc: Global,
-        name: &[u8],
-        key: &[u8],
-        value: &[u8],
-    ) -> Result<Planned<'_>, Memory>
-        ensures { IfOk result (λ p. planned p self.now ≡ create (folded name.now) (folded key.now) (folded value.now) self.now) }
+        station: &mut P,
+        moment: Instant,
+    ) -> Result<Engine, OpenFault>
+        // What each answer says of the file as it was.
+        ensures fault { P.tells → IfErr result (λ e. Tells e (now (P.history station.old))) }
+        ensures works { P.tells → IfOk result (λ e. WorksOver e (P.history station.new)) }
+        ensures begins { P.tells → IfOk result (λ e. (s : State) → FileStands (now (P.history station.old)) s → StandsFor e (begin s moment)) }
+        // A crash at any moment leaves what one could leave before, or a file that stands for what this one stood for.
+        ensures any_moment { P.tells → (s : State) → FileStands (now (P.history station.old)) s → During (P.history station.old) (P.history station.new) (λ c out. (Leaves (P.history station.old) c ⊎ FileStands c s) × (out ≡ said (P.history station.old))) }
+        ensures quiet { P.tells → said (P.history station.new) ≡ said (P.history station.old) }
+        // Whatever the answer, the file stands for what it stood for; where it is no store, nothing was written.
+        ensures keeps { P.tells → (s : State) → FileStands (now (P.history station.old)) s → FileStands (now (P.history station.new)) s }
+        ensures untouched { P.tells → IsErrOf result opening.NotStore → now (P.history station.new) ≡ now (P.history station.old) }
+        ensures later { P.disk_faults station.old ≤ P.disk_faults station.new }
+        ensures disk { IsErrOf result opening.Disk → Rises (P.disk_faults station.old) (P.disk_faults station.new) }
+        ensures say_quiet { P.say_faults station.new ≡ P.say_faults station.old }
     {
-        if let Some(_) = &self.table {
-            return Ok(Planned::answered(not_built()));
-        }
-        let table = Table::new(alloc, name, key, value)?;
-        Ok(Planned {
-            change: Change::Make(table),
-            answer: Answer::Fine,
-        })
+        Err(OpenFault::Memory)
     }
 
-    /// Makes a table ready for rows, once.
-    fn enable(&self, alloc: Global, name: &[u8]) -> Result<Planned<'_>, Memory>
-        ensures { IfOk result (λ p. planned p self.now ≡ enable (folded name.now) self.now) }
-    {
-        let Some(table) = &self.table else {
-            return Ok(Planned::answered(no_table(alloc, name)?));
-        };
-        if !table.is_named(name) {
-            return Ok(Planned::answered(no_table(alloc, name)?));
-        }
-        if table.is_versioned() {
-            return Ok(Planned::answered(not_built()));
-        }
-        Ok(Planned {
-            change: Change::Enable,
-            answer: Answer::Fine,
-        })
-    }
-
-    /// Adds a row under a key that is not there, while changes are left.
-    fn add_row(
-        &self,
+    /// Runs a line: what it changes is on the disk when this gives the bytes of its answer.
+    pub fn line<P: Station>(
+        &mut self,
         alloc: Global,
-        name: &[u8],
-        key: i64,
-        value: i64,
-    ) -> Result<Planned<'_>, Memory>
-        ensures { IfOk result (λ p. planned p self.now ≡ add_row (folded name.now) key value self.now) }
+        station: &mut P,
+        line: &[u8],
+    ) -> Result<Bytes, LineFault>
+        requires works { P.tells → WorksOver self.old (P.history station.old) }
+        ensures answered { IfOk result (λ answer. (s : State) → StandsFor self.old s → StandsFor self.new (step s line.now).0 × (answer ≡ answer_text (step s line.now).1)) }
+        ensures works { P.tells → OnOk result (WorksOver self.new (P.history station.new)) }
+        // A crash at any moment of the call, and a read after it, finds a file that stands for the state before the line or after it.
+        ensures any_moment { P.tells → (s : State) → StandsFor self.old s → Ended (P.history station.old) (P.history station.new) (λ file. FileStands file s ⊎ FileStands file (step s line.now).0) }
+        ensures later { P.disk_faults station.old ≤ P.disk_faults station.new }
+        ensures disk { IsErrOf result faults.Disk → Rises (P.disk_faults station.old) (P.disk_faults station.new) }
+        ensures say_quiet { P.say_faults station.new ≡ P.say_faults station.old }
+        ensures unchanged { P.tells → IsErrOf result faults.Changed → ⊥ }
     {
-        if (self.limit as u64) < self.next_stamp {
-            return Ok(Planned::answered(not_built()));
-        }
-        let Some(table) = &self.table else {
-            return Ok(Planned::answered(no_table(alloc, name)?));
-        };
-        if !table.is_named(name) {
-            return Ok(Planned::answered(no_table(alloc, name)?));
-        }
-        if !table.is_versioned() {
-            return Ok(Planned::answered(not_built()));
-        }
-        let row_key = key_of(alloc, key)?;
-        if holds_key(&row_key, table.entries()) {
-            return Ok(Planned::answered(key_there(row_key)));
-        }
-        let entry = entry_of(alloc, row_key, key, value)?;
-        Ok(Planned {
-            change: Change::Add {
-                entry,
-                next: self.next_stamp + 1,
-            },
-            answer: Answer::Done(1),
-        })
-    }
-
-    /// Gives the rows of a table by key.
-    fn listing(&self, alloc: Global, name: &[u8]) -> Result<Planned<'_>, Memory>
-        ensures { IfOk result (λ p. planned p self.now ≡ listing (folded name.now) self.now) }
-    {
-        let Some(table) = &self.table else {
-            return Ok(Planned::answered(no_table(alloc, name)?));
-        };
-        if !table.is_named(name) {
-            return Ok(Planned::answered(no_table(alloc, name)?));
-        }
-        if !table.is_versioned() {
-            return Ok(Planned::answered(not_built()));
-        }
-        Ok(Planned::answered(Answer::Listing(table.entries())))
-    }
-
-    /// What a statement does and answers.
-    fn run_statement(&self, alloc: Global, statement: &Statement<'_>) -> Result<Planned<'_>, Memory>
-        ensures { IfOk result (λ p. planned p self.now ≡ run_statement (statement_view statement.now) self.now) }
-    {
-        match statement {
-            Statement::Create { table, key, value } => self.create(alloc, table, key, value),
-            Statement::Enable { table } => self.enable(alloc, table),
-            Statement::Insert { table, key, value } => self.add_row(alloc, table, *key, *value),
-            Statement::Select { table } => self.listing(alloc, table),
-        }
-    }
-
-    /// Whether the session of this name is open.
-    fn is_open(&self, name: &[u8]) -> bool
-        ensures { result ≡ is_open (folded name.now) self.now.session }
-    {
-        match &self.session {
-            Some(session) => session.is_named(name),
-            None => false,
-        }
-    }
-
-    /// What a line that is read does and answers.
-    fn run_line(&self, alloc: Global, line: &Option<Line<'_>>) -> Result<Planned<'_>, Memory>
-        ensures { IfOk result (λ p. planned p self.now ≡ run_line (option_map line_view line.now) self.now) }
-    {
-        match line {
-            None => Ok(Planned::answered(not_built())),
-            Some(Line::Connect { session, user }) => self.connect(alloc, session, user),
-            Some(Line::Run { session, statement }) => {
-                if self.is_open(session) {
-                    self.run_statement(alloc, statement)
-                } else {
-                    Ok(Planned::answered(not_built()))
-                }
-            }
-        }
-    }
-
-    /// What a line does and answers.
-    #[tactic(auto, unfolding(wm_model::specs::Step::step))]
-    fn plan(&self, alloc: Global, line: &[u8]) -> Result<Planned<'_>, Memory>
-        ensures { IfOk result (λ p. planned p self.now ≡ step self.now line.now) }
-    {
-        if line.len() > LINE_LIMIT {
-            return Ok(Planned::answered(not_built()));
-        }
-        if is_remark(line) {
-            return Ok(Planned::answered(Answer::Nothing));
-        }
-        self.run_line(alloc, &line_of(line))
-    }
-
-    /// What a line changes, and the bytes of its answer.
-    fn answered(&self, alloc: Global, line: &[u8]) -> Result<(Change, Bytes), Memory>
-        ensures { IfOk result (λ p. (changed p.0 self.now ≡ (step self.now line.now).0) × (p.1 ≡ answer_text (step self.now line.now).1)) }
-    {
-        let planned = self.plan(alloc, line)?;
-        let bytes = print(alloc, &planned.answer)?;
-        Ok((planned.change, bytes))
-    }
-
-    /// Does a change that was planned.
-    fn apply(&mut self, change: Change) -> Result<(), Memory>
-        ensures ok { OnOk result (self.new ≡ changed change self.old) }
-        ensures err { OnErr result (self.new ≡ self.old) }
-    {
-        match change {
-            Change::Keep => {}
-            Change::Open(session) => self.session = Some(session),
-            Change::Make(table) => self.table = Some(table),
-            Change::Enable => {
-                if let Some(table) = &mut self.table {
-                    table.enable();
-                }
-            }
-            Change::Add { entry, next } => {
-                if let Some(table) = &mut self.table {
-                    table.add(entry)?;
-                }
-                self.next_stamp = next;
-            }
-        }
-        Ok(())
-    }
-
-    /// Runs a line and gives the bytes of its answer. Where memory runs out, nothing has changed.
-    pub fn line(&mut self, alloc: Global, line: &[u8]) -> Result<Bytes, Memory>
-        ensures ok { IfOk result (λ bytes. (self.new ≡ (step self.old line.now).0) × (bytes ≡ answer_text (step self.old line.now).1)) }
-        ensures err { OnErr result (self.new ≡ self.old) }
-    {
-        let (change, bytes) = self.answered(alloc, line)?;
-        self.apply(change)?;
-        Ok(bytes)
+        Err(LineFault::Memory)
     }
 }

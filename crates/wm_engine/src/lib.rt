@@ -1,14 +1,15 @@
-//! One line at a time: what it says is read, done and answered.
+//! One line at a time: what it says is read, done, kept and answered.
 #![tactic(auto)]
 
 mod answer;
-mod change;
+mod count;
 mod engine;
-mod entry;
-mod plan;
+mod fault;
+mod planned;
 mod print;
 mod read;
+mod refuse;
 mod session;
-mod table;
 
 pub use engine::Engine;
+pub use fault::LineFault;

@@ -16,7 +16,7 @@ pub struct Session {
 }
 
 impl Model for Session {
-    ghost use Rattle.wm_model.specs.State.{Session as SessionState};
+    ghost use Rattle.wm_state.specs.State.{Session as SessionState};
 
     ghost Value = { SessionState };
 

@@ -1,105 +1,167 @@
--- What a run over a whole script comes to.
-use Rattle.std.proofs.Common.{ℕ, ◌≡◌, List, [], ◌++◌, length, map, refl, ap, sym, subst, ◌∙◌, append-nil, arith}
+-- What a command comes to.
+use Rattle.std.proofs.Common.{ℕ, ◌≡◌, ◌⊎◌, ⊎_elim, inl, inr, ◌==◌, false, if◌then◌else◌, List, [], ◌++◌, length, map, refl, ap, sym, subst, ◌∙◌, append-nil, arith}
 use Rattle.std.specs.Prelude.{Result, Ok, Err, OnOk, OnErr}
 use Rattle.std.proofs.lemmas.List.{length-map}
-use Rattle.wm_station.specs.History.{History, said}
+use Rattle.wm_engine.specs.Working.{FileStands}
+use Rattle.wm_station.specs.History.{History, now, said, Leaves}
+use Rattle.wm_station.specs.Moments.{During}
+use Rattle.wm_station.proofs.Steps.{weaken, followed}
 use Rattle.wm_model.specs.Lines.{cap, ended_lines}
-use Rattle.wm_model.specs.State.{State, fresh}
+use Rattle.wm_model.specs.State.{State, begin}
 use Rattle.wm_model.specs.Running.{transcript, after, Stopped}
-use Rattle.wm_model.proofs.Running.{transcript-cap, Stopped-cap, stopped_all, stopped_before, stopped_front}
-use Rattle.wm_host.specs.Hosting.{Finishes, Halts}
+use Rattle.wm_model.proofs.Standing.{Stands-begin}
+use Rattle.wm_model.proofs.Running.{transcript-cap, after-cap, Stopped-cap, stopped_all, stopped_before, stopped_front}
+use Rattle.wm_graph.specs.Parts.{parts_of}
+use Rattle.wm_engine.specs.Working.{by_id}
+use Rattle.wm_host.specs.Crash.{CrashOpens, CrashAnswers, CrashOfRun}
+use Rattle.wm_host.specs.Hosting.{Begins, Finishes, Halts}
 use Rattle.wm_host.specs.Script.{AnswersTaken}
-use Rattle.wm_host.specs.Outcome.{HasSaid, HasSaidFront, AnswersSome, AnswersEnded, answers_to}
-use Rattle.wm_host.specs.Status.{status_of, status_number}
+use Rattle.wm_host.specs.Outcome.{HasSaidFront, Answered, AnswersSome, AnswersEnded}
+use Rattle.wm_host.specs.Status.{status_of}
 use Rattle.wm_host.specs.declared.host.Host.{Host}
-use Rattle.wm_host.specs.declared.ended.Status.{Status}
 use Rattle.wm_host.specs.declared.stop.Stop.{Stop}
-use Rattle.wm_host.specs.declared.stop.Stop.TheVariants.{SourceFault, SayFault, InputLimit, Memory}
-use Rattle.wm_host.proofs.Saying.{said-only}
+use Rattle.wm_host.specs.declared.stop.Stop.TheVariants.{SourceFault, SayFault, DiskFault, NotStore, Damaged, Exists, InputLimit, Memory, Changed}
+use Rattle.wm_host.proofs.Crashing.{crash_answers_cap}
+use Rattle.wm_host.proofs.Past.{EachAnswers}
 
--- what the statuses say of how the script went
-pub at_done : {P : Type 0} (run : Result (Unit {0}) Stop) (status : Status) (number : ℕ) → number ≡ status_number status → status ≡ status_of run → number ≡ 0 → OnOk run P → P
-at_done (Ok done) status number is of zero ok = ok
-at_done (Err SourceFault) status number is of zero ok = absurd (omega (arith, is, ap status_number of, zero))
-at_done (Err SayFault) status number is of zero ok = absurd (omega (arith, is, ap status_number of, zero))
-at_done (Err InputLimit) status number is of zero ok = absurd (omega (arith, is, ap status_number of, zero))
-at_done (Err Memory) status number is of zero ok = absurd (omega (arith, is, ap status_number of, zero))
+-- ---- statuses
 
-pub at_source : (run : Result (Unit {0}) Stop) (status : Status) (number : ℕ) → number ≡ status_number status → status ≡ status_of run → number ≡ 3 → run ≡ Err SourceFault
-at_source (Ok done) status number is of three = absurd (omega (arith, is, ap status_number of, three))
-at_source (Err SourceFault) status number is of three = refl
-at_source (Err SayFault) status number is of three = absurd (omega (arith, is, ap status_number of, three))
-at_source (Err InputLimit) status number is of three = absurd (omega (arith, is, ap status_number of, three))
-at_source (Err Memory) status number is of three = absurd (omega (arith, is, ap status_number of, three))
+-- what ended with the number, where that is not 7
+abbrev ended_by : ℕ → Result (Unit {0}) Stop
+ended_by n =
+    if n == 0 then Ok tt else
+    (if n == 3 then Err SourceFault else
+    (if n == 4 then Err SayFault else
+    (if n == 5 then Err DiskFault else
+    (if n == 6 then Err NotStore else
+    (if n == 8 then Err Exists else
+    (if n == 9 then Err InputLimit else
+    (if n == 10 then Err Memory else Err Changed)))))))
 
-pub at_limit : (run : Result (Unit {0}) Stop) (status : Status) (number : ℕ) → number ≡ status_number status → status ≡ status_of run → number ≡ 9 → run ≡ Err InputLimit
-at_limit (Ok done) status number is of nine = absurd (omega (arith, is, ap status_number of, nine))
-at_limit (Err SourceFault) status number is of nine = absurd (omega (arith, is, ap status_number of, nine))
-at_limit (Err SayFault) status number is of nine = absurd (omega (arith, is, ap status_number of, nine))
-at_limit (Err InputLimit) status number is of nine = refl
-at_limit (Err Memory) status number is of nine = absurd (omega (arith, is, ap status_number of, nine))
+ended_by-status : (run : Result (Unit {0}) Stop) → (status_of run ≡ 7) ⊎ (ended_by (status_of run) ≡ run)
+ended_by-status (Ok done) = inr refl
+ended_by-status (Err SourceFault) = inr refl
+ended_by-status (Err SayFault) = inr refl
+ended_by-status (Err DiskFault) = inr refl
+ended_by-status (Err NotStore) = inr refl
+ended_by-status (Err (Damaged page kind)) = inl refl
+ended_by-status (Err Exists) = inr refl
+ended_by-status (Err InputLimit) = inr refl
+ended_by-status (Err Memory) = inr refl
+ended_by-status (Err Changed) = inr refl
+
+-- a status other than 7 says how the run ended
+pub at_status : (run end : Result (Unit {0}) Stop) (number : ℕ) → number ≡ status_of run → number ≡ status_of end → (status_of end == 7) ≡ false → run ≡ end
+at_status run end number is is_end other = by_end (ended_by-status run) (ended_by-status end) where
+  not_seven : (status_of end ≡ 7) → ⊥
+  not_seven seven = let e : (7 == 7) ≡ false = ap (λ (n : ℕ). n == 7) (sym seven) ∙ other in cc
+
+  by_end : (status_of run ≡ 7) ⊎ (ended_by (status_of run) ≡ run) → (status_of end ≡ 7) ⊎ (ended_by (status_of end) ≡ end) → run ≡ end
+  by_end one (inl seven) = absurd (not_seven seven)
+  by_end (inl seven) (inr two) = absurd (not_seven (sym is_end ∙ is ∙ seven))
+  by_end (inr one) (inr two) = sym one ∙ ap ended_by (sym is ∙ is_end) ∙ two
+
+pub at_done : {P : Type 0} (run : Result (Unit {0}) Stop) (number : ℕ) → number ≡ status_of run → number ≡ 0 → OnOk run P → P
+at_done {P} run number is zero ok = subst (λ r. OnOk r P) (at_status run (Ok tt) number is zero refl) ok
+
+-- ---- where a run begins
+
+-- sessions and the moment stand in no file
+file_begins : (file : List ℕ) (s : State) (moment : ℕ) → FileStands file s → FileStands file (begin s moment)
+file_begins file s moment stands = record { records = stands.records; held = stands.held; stands = Stands-begin (parts_of (by_id stands.records)) s moment stands.stands }
+
+-- nothing was said, and the file stands for the state at entry
+stands_before : (old : History) (s : State) (moment : ℕ) (ls : List (List ℕ)) (file after_it : List ℕ) → FileStands file s → after_it ≡ said old → CrashAnswers old (begin s moment) ls file after_it
+stands_before old s moment ls file after_it stands quiet = record {
+  out = [];
+  said_is = quiet ∙ sym (append-nil (said old));
+  count = 0;
+  end = begin s moment;
+  stopped = stopped_before (begin s moment) ls;
+  stands = file_begins file s moment stands;
+}
+
+-- a crash while the store is opened
+pub crash_opened : (old new : History) (s : State) (moment : ℕ) (ls : List (List ℕ)) → During old new (CrashOpens old s) → During old new (CrashOfRun old (begin s moment) ls)
+crash_opened old new s moment ls crash = weaken old new (CrashOpens old s) (CrashOfRun old (begin s moment) ls) (λ file after_it opens. by_kind file after_it opens.1 opens.0) crash where
+  by_kind : (file after_it : List ℕ) → after_it ≡ said old → Leaves old file ⊎ FileStands file s → CrashOfRun old (begin s moment) ls file after_it
+  by_kind file after_it quiet (inl leaves) = inl (leaves, quiet)
+  by_kind file after_it quiet (inr stands) = inr (stands_before old s moment ls file after_it stands quiet)
+
+pub stands_unopened : (old new : History) (s : State) (moment : ℕ) (ls : List (List ℕ)) → FileStands (now new) s → said new ≡ said old → CrashAnswers old (begin s moment) ls (now new) (said new)
+stands_unopened old new s moment ls stands quiet = stands_before old s moment ls (now new) (said new) stands quiet
+
+pub counted_unopened : (old new : History) (s : State) (ls : List (List ℕ)) → said new ≡ said old → AnswersSome old new s ls 0
+counted_unopened old new s ls quiet = record { out = []; says = quiet ∙ sym (append-nil (said old)); end = s; stopped = stopped_before s ls }
+
+-- ---- a run over the lines, once the store is open
 
 -- all of the lines were answered
-pub says_all : (tells : Type 0) (old new : History) (from to : Host) (ls : List (List ℕ)) → from.engine ≡ fresh 1000 → Finishes tells old new from (map cap ls) to → tells → HasSaid old new (answers_to ls)
-says_all tells old new from to ls begin finishes t =
-    said-only old new (transcript from.engine (map cap ls)) (finishes.only t)
-    ∙ ap (λ (out : List ℕ). said old ++ out) (ap (λ (s : State). transcript s (map cap ls)) begin ∙ transcript-cap (fresh 1000) ls)
+pub answers_all : (tells : Type 0) (old begun new : History) (from to : Host) (moment : ℕ) (ls : List (List ℕ)) → Begins tells old begun from moment → said begun ≡ said old
+    → Finishes tells begun new from (map cap ls) to → tells → (s : State) → FileStands (now old) s → Answered old new (begin s moment) ls
+answers_all tells old begun new from to moment ls begins quiet finishes t s stands = by_lines (finishes.each t (begin s moment) (begins.each t s stands)) where
+  by_lines : Answered begun new (begin s moment) (map cap ls) → Answered old new (begin s moment) ls
+  by_lines answered = record {
+    says = answered.says ∙ ap (λ (b : List ℕ). b ++ transcript (begin s moment) (map cap ls)) quiet ∙ ap (λ (out : List ℕ). said old ++ out) (transcript-cap (begin s moment) ls);
+    stands = subst (FileStands (now new)) (after-cap (begin s moment) ls) answered.stands;
+  }
 
-pub counts_all : (tells : Type 0) (old new : History) (from to : Host) (ls : List (List ℕ)) → from.lines ≡ 0 → Finishes tells old new from (map cap ls) to → to.lines ≡ length ls
-counts_all tells old new from to ls none finishes = omega (arith, finishes.count, none, length-map ls cap)
+pub counts_all : (tells : Type 0) (begun new : History) (from to : Host) (ls : List (List ℕ)) → from.lines ≡ 0 → Finishes tells begun new from (map cap ls) to → to.lines ≡ length ls
+counts_all tells begun new from to ls none finishes = omega (arith, finishes.count, none, length-map ls cap)
 
-pub answers_all : (tells : Type 0) (old new : History) (from to : Host) (ls : List (List ℕ)) → from.engine ≡ fresh 1000 → from.lines ≡ 0
-    → Finishes tells old new from (map cap ls) to → tells → AnswersSome old new ls to.lines
-answers_all tells old new from to ls begin none finishes t = record {
-  out = answers_to ls;
-  says = says_all tells old new from to ls begin finishes t;
-  end = after (fresh 1000) ls;
-  stopped = subst (λ (count : ℕ). Stopped (fresh 1000) ls (answers_to ls) count (after (fresh 1000) ls)) (sym (counts_all tells old new from to ls none finishes)) (stopped_all (fresh 1000) ls);
+-- so many of them were answered whole
+pub answers_at_end : (tells : Type 0) (old begun new : History) (from to : Host) (moment : ℕ) (ls : List (List ℕ)) (run : Result (Unit {0}) Stop) → Begins tells old begun from moment → said begun ≡ said old
+    → OnOk run (Finishes tells begun new from (map cap ls) to) → OnErr run (Halts tells begun new from (map cap ls) to)
+    → tells → (s : State) → FileStands (now old) s → AnswersSome old new (begin s moment) ls to.lines
+answers_at_end tells old begun new from to moment ls (Ok done) begins quiet ok err t s stands = record {
+  out = transcript (begin s moment) ls;
+  says = (answers_all tells old begun new from to moment ls begins quiet ok t s stands).says;
+  end = after (begin s moment) ls;
+  stopped = subst (λ (count : ℕ). Stopped (begin s moment) ls (transcript (begin s moment) ls) count (after (begin s moment) ls)) (sym (counts_all tells begun new from to ls begins.none ok)) (stopped_all (begin s moment) ls);
 }
+answers_at_end tells old begun new from to moment ls (Err stop) begins quiet ok err t s stands = by_some (err.each t (begin s moment) (begins.each t s stands)) where
+  counted : err.count ≡ to.lines
+  counted = omega (arith, err.counted, begins.none)
 
--- the run stopped within the lines
-pub answers_some : (tells : Type 0) (old new : History) (from to : Host) (ls : List (List ℕ)) → from.engine ≡ fresh 1000 → from.lines ≡ 0
-    → Halts tells old new from (map cap ls) to → tells → AnswersSome old new ls to.lines
-answers_some tells old new from to ls begin none halts t = record {
-  out = halts.out;
-  says = said-only old new halts.out (halts.only t);
-  end = to.engine;
-  stopped = Stopped-cap (fresh 1000) ls halts.out to.lines to.engine
-      (subst (λ (count : ℕ). Stopped (fresh 1000) (map cap ls) halts.out count to.engine) counted
-      (subst (λ (s : State). Stopped s (map cap ls) halts.out halts.count to.engine) begin halts.stopped));
-} where
-  counted : halts.count ≡ to.lines
-  counted = omega (arith, halts.counted, none)
+  by_some : AnswersSome begun new (begin s moment) (map cap ls) err.count → AnswersSome old new (begin s moment) ls to.lines
+  by_some some = record {
+    out = some.out;
+    says = some.says ∙ ap (λ (b : List ℕ). b ++ some.out) quiet;
+    end = some.end;
+    stopped = Stopped-cap (begin s moment) ls some.out to.lines some.end (subst (λ (count : ℕ). Stopped (begin s moment) (map cap ls) some.out count some.end) counted some.stopped);
+  }
 
-pub answers_at_end : (tells : Type 0) (old new : History) (from to : Host) (ls : List (List ℕ)) (run : Result (Unit {0}) Stop) → from.engine ≡ fresh 1000 → from.lines ≡ 0
-    → OnOk run (Finishes tells old new from (map cap ls) to) → OnErr run (Halts tells old new from (map cap ls) to) → tells → AnswersSome old new ls to.lines
-answers_at_end tells old new from to ls (Ok done) begin none ok err t = answers_all tells old new from to ls begin none ok t
-answers_at_end tells old new from to ls (Err stop) begin none ok err t = answers_some tells old new from to ls begin none err t
-
--- no line was run
-pub answers_none : (history : History) (ls : List (List ℕ)) → AnswersSome history history ls 0
-answers_none history ls = record {
-  out = [];
-  says = sym (append-nil (said history));
-  end = fresh 1000;
-  stopped = stopped_before (fresh 1000) ls;
-}
-
-pub front_of_answers : (old new : History) (ls : List (List ℕ)) (count : ℕ) → AnswersSome old new ls count → HasSaidFront old new (answers_to ls)
-front_of_answers old new ls count some = record {
+pub front_of_answers : (old new : History) (s : State) (ls : List (List ℕ)) (count : ℕ) → AnswersSome old new s ls count → HasSaidFront old new (transcript s ls)
+front_of_answers old new s ls count some = record {
   front = some.out;
   says = some.says;
   rest = whole.0;
   is = whole.1;
 } where
-  whole : (rest : List ℕ) × (answers_to ls ≡ some.out ++ rest)
-  whole = stopped_front (fresh 1000) ls some.out count some.end some.stopped
+  whole : (rest : List ℕ) × (transcript s ls ≡ some.out ++ rest)
+  whole = stopped_front s ls some.out count some.end some.stopped
 
-pub answers_ended : (tells : Type 0) (old new : History) (from to : Host) (script left : List ℕ) → from.engine ≡ fresh 1000 → from.lines ≡ 0
-    → AnswersTaken tells old new from to script left → tells → AnswersEnded old new script left to.lines
-answers_ended tells old new from to script left begin none taken t = record {
+pub answers_ended : (tells : Type 0) (old begun new : History) (from to : Host) (moment : ℕ) (script left : List ℕ) → Begins tells old begun from moment → said begun ≡ said old
+    → AnswersTaken tells begun new from to script left → tells → AnswersEnded old new moment script left to.lines
+answers_ended tells old begun new from to moment script left begins quiet taken t = record {
   taken = taken.taken;
   script_is = taken.script_is;
-  says = says_all tells old new from to (ended_lines taken.taken) begin taken.lines t;
-  count_is = counts_all tells old new from to (ended_lines taken.taken) none taken.lines;
+  count_is = counts_all tells begun new from to (ended_lines taken.taken) begins.none taken.lines;
+  each = answers_all tells old begun new from to moment (ended_lines taken.taken) begins quiet taken.lines t;
 }
+
+-- a crash in the run
+pub crash_ran : (tells : Type 0) (old begun new : History) (from : Host) (moment : ℕ) (ls : List (List ℕ)) → Begins tells old begun from moment → said begun ≡ said old
+    → (s : State) → During old begun (CrashOpens old s) → EachAnswers tells begun new from (map cap ls) → tells → FileStands (now old) s → During old new (CrashOfRun old (begin s moment) ls)
+crash_ran tells old begun new from moment ls begins quiet s opening each t stands =
+    weaken old new (λ file after_it. CrashOfRun old (begin s moment) ls file after_it ⊎ CrashAnswers begun (begin s moment) (map cap ls) file after_it) (CrashOfRun old (begin s moment) ls)
+    (λ file after_it. ⊎_elim (λ was. was) (λ ran. inr (crash_answers_cap old begun (begin s moment) ls file after_it quiet ran)))
+    (followed old begun new (CrashOfRun old (begin s moment) ls) (CrashAnswers begun (begin s moment) (map cap ls))
+    (crash_opened old begun s moment ls opening)
+    (each t (begin s moment) (begins.each t s stands)).crash)
+
+-- and a read after it
+pub stands_ran : (tells : Type 0) (old begun new : History) (from : Host) (moment : ℕ) (ls : List (List ℕ)) → Begins tells old begun from moment → said begun ≡ said old
+    → EachAnswers tells begun new from (map cap ls) → tells → (s : State) → FileStands (now old) s → CrashAnswers old (begin s moment) ls (now new) (said new)
+stands_ran tells old begun new from moment ls begins quiet each t s stands =
+    crash_answers_cap old begun (begin s moment) ls (now new) (said new) quiet (each t (begin s moment) (begins.each t s stands)).here

@@ -3,6 +3,7 @@ pub mod Crashing
 pub mod Ending
 pub mod Held
 pub mod Hosting
+pub mod Making
 pub mod Past
 pub mod Saying
-pub mod WordLists
+pub mod Throughout

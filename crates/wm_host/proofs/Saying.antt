@@ -2,7 +2,7 @@
 use Rattle.std.proofs.Common.{ℕ, ◌≡◌, ◌<◌, List, [], ◌∷◌, ◌++◌, length, take, drop, refl, ap, sym, subst, ◌∙◌, inl, inr, append_assoc, append-nil}
 use Rattle.std.proofs.lemmas.List.{take-append-drop}
 use Rattle.wm_station.specs.History.{History, Said, now, said, Leaves, MayHaveSaid}
-use Rattle.wm_host.specs.Saying.{after_says, said_by, OnlySaid, OnlySays, SaidPart}
+use Rattle.wm_host.specs.Saying.{after_says, said_by, OnlySaid, SaidPart}
 
 after_says-append : (h : History) (xs ys : List (List ℕ × ℕ)) → after_says h (xs ++ ys) ≡ after_says (after_says h xs) ys
 after_says-append h [] ys = refl
@@ -81,9 +81,3 @@ front_all tells a b bytes rest said none t = subst (λ (out : List ℕ). OnlySai
 -- a say that took nothing said nothing
 pub said_none : (old new : History) (piece : List ℕ) (n : ℕ) → n ≡ 0 → new ≡ Said old piece n → OnlySaid old new []
 said_none old new piece n none told = subst (λ (m : ℕ). OnlySaid old new (take m piece)) none (said_once old new piece n told)
-
-pub says_only : {old new : History} {out : List ℕ} → OnlySaid old new out → OnlySays old new
-says_only only = (only.calls, only.told)
-
-pub says_only_more : {a b c : History} → OnlySays a b → OnlySays b c → OnlySays a c
-says_only_more {a} first second = (first.0 ++ second.0, second.1 ∙ ap (λ (h : History). after_says h second.0) first.1 ∙ sym (after_says-append a first.0 second.0))

@@ -1,17 +1,23 @@
--- What a run did with a script, whose lines are answered from an empty store with room for 1,000 changes.
-use Rattle.std.specs.Prelude.{ℕ, ◌≡◌, List, ◌++◌, length}
-use Rattle.wm_station.specs.History.{History, said}
+-- What a run did with a script whose lines are answered from a state.
+use Rattle.std.specs.Prelude.{ℕ, ◌≡◌, List, ◌∷◌, [], ◌++◌, length, Option, None, Some, codes}
+use Rattle.wm_engine.specs.Working.{FileStands, Tells}
+use Rattle.wm_station.specs.History.{History, now, said}
 use Rattle.wm_model.specs.Lines.{ended_lines}
-use Rattle.wm_model.specs.State.{State, fresh}
-use Rattle.wm_model.specs.Running.{transcript, Stopped}
+use Rattle.wm_model.specs.State.{State, begin}
+use Rattle.wm_model.specs.Running.{transcript, after, Stopped}
+use Rattle.wm_base.specs.declared.fault.OpenFault.TheVariants.{Damaged}
+use Rattle.wm_host.specs.declared.ended.Place.{Place}
+use Rattle.wm_host.specs.declared.ended.Place.TheVariants.{Nowhere, Page}
+use Rattle.wm_host.specs.declared.words.Command.{Command}
+use Rattle.wm_host.specs.declared.words.Command.TheVariants.{Init, Run}
 
 -- these bytes were said, and no others
 abbrev pub HasSaid : History → History → List ℕ → Type 0
 HasSaid old new bytes = said new ≡ said old ++ bytes
 
--- the answers to these lines
-abbrev pub answers_to : List (List ℕ) → List ℕ
-answers_to script_lines = transcript (fresh 1000) script_lines
+-- what `init` says
+abbrev pub ok_text : List ℕ
+ok_text = codes "OK" ++ 10 ∷ []
 
 -- a front of these bytes was said, and nothing else
 pub record HasSaidFront (old new : History) (bytes : List ℕ) : Type 0 where
@@ -20,16 +26,57 @@ pub record HasSaidFront (old new : History) (bytes : List ℕ) : Type 0 where
   pub rest : List ℕ
   pub is : bytes ≡ front ++ rest
 
+-- these lines were answered, nothing else was said, and the file stands for the state that they leave
+pub record Answered (old new : History) (s : State) (script_lines : List (List ℕ)) : Type 0 where
+  pub says : HasSaid old new (transcript s script_lines)
+  pub stands : FileStands (now new) (after s script_lines)
+
+-- a front of the answers to these lines was said, and nothing else
+abbrev pub FrontOfRun : History → History → State → List (List ℕ) → Type 0
+FrontOfRun old new s script_lines = HasSaidFront old new (transcript s script_lines)
+
 -- so many of these lines were answered whole, the next at most in part, and nothing else was said
-pub record AnswersSome (old new : History) (script_lines : List (List ℕ)) (count : ℕ) : Type 0 where
+pub record AnswersSome (old new : History) (s : State) (script_lines : List (List ℕ)) (count : ℕ) : Type 0 where
   pub out : List ℕ
   pub says : HasSaid old new out
   pub end : State
-  pub stopped : Stopped (fresh 1000) script_lines out count end
+  pub stopped : Stopped s script_lines out count end
 
--- of the bytes that were taken, the lines that LF ended were answered, each whole, and nothing else was said
-pub record AnswersEnded (old new : History) (script left : List ℕ) (count : ℕ) : Type 0 where
+-- of the bytes that were taken, the lines that LF ended were answered, from each state at which a run begins
+pub record AnswersEnded (old new : History) (moment : ℕ) (script left : List ℕ) (count : ℕ) : Type 0 where
   pub taken : List ℕ
   pub script_is : script ≡ taken ++ left
-  pub says : HasSaid old new (answers_to (ended_lines taken))
   pub count_is : count ≡ length (ended_lines taken)
+  pub each : (s : State) → FileStands (now old) s → Answered old new (begin s moment) (ended_lines taken)
+
+-- the place is a page
+abbrev pub IsPage : Place → Type 0
+IsPage Nowhere = ⊥
+IsPage (Page number kind) = Unit {0}
+
+-- the first test of opening this file that fails is the one of the place
+abbrev pub IsDamaged : Place → List ℕ → Type 0
+IsDamaged Nowhere file = ⊥
+IsDamaged (Page number kind) file = Tells (Damaged number kind) file
+
+-- Q holds of the moment of `run`
+abbrev pub OfRun : Option Command → (ℕ → Type 0) → Type 0
+OfRun None Q = Unit {0}
+OfRun (Some (Init limit)) Q = Unit {0}
+OfRun (Some (Run moment)) Q = Q moment
+
+-- Q holds of the limit of `init`
+abbrev pub OfInit : Option Command → (ℕ → Type 0) → Type 0
+OfInit None Q = Unit {0}
+OfInit (Some (Init limit)) Q = Q limit
+OfInit (Some (Run moment)) Q = Unit {0}
+
+-- Q holds of each state at which `run` begins: the file stands for it, but for its sessions and its moment
+abbrev pub FromEach : Option Command → History → (State → Type 0) → Type 0
+FromEach command old Q = OfRun command (λ moment. (s : State) → FileStands (now old) s → Q (begin s moment))
+
+-- the statuses that a command can end with
+abbrev pub statuses_of : Option Command → List ℕ
+statuses_of None = 2 ∷ []
+statuses_of (Some (Init limit)) = 0 ∷ 4 ∷ 5 ∷ 8 ∷ 10 ∷ []
+statuses_of (Some (Run moment)) = 0 ∷ 3 ∷ 4 ∷ 5 ∷ 6 ∷ 7 ∷ 9 ∷ 10 ∷ 11 ∷ []

@@ -1,4 +1,4 @@
--- What was said over a stretch of a run.
+-- What was said over a stretch of a run in which the station did nothing else.
 use Rattle.std.specs.Prelude.{ℕ, ◌≡◌, List, [], ◌∷◌, ◌++◌, take}
 use Rattle.wm_station.specs.History.{History, Said}
 use Rattle.wm_model.specs.Running.{IsPart}
@@ -24,7 +24,3 @@ pub record SaidPart (tells : Type 0) (old new : History) (bytes : List ℕ) : Ty
   pub part : List ℕ
   pub is_part : IsPart part bytes
   pub only : tells → OnlySaid old new part
-
--- the station did nothing but say
-abbrev pub OnlySays : History → History → Type 0
-OnlySays old new = (calls : List (List ℕ × ℕ)) × (new ≡ after_says old calls)

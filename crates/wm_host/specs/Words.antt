@@ -1,35 +1,54 @@
 -- The words of the command line.
-use Rattle.std.specs.Prelude.{ℕ, ◌+◌, ◌-◌, ◌*◌, Bool, false, ◌&&◌, ◌==◌, nat_eq, nat_le, List, [], ◌∷◌, length, take, drop, slice_index, codes}
+use Rattle.std.specs.Prelude.{ℕ, ◌+◌, ◌-◌, ◌*◌, ◌≤◌, Bool, ◌&&◌, nat_eq, nat_le, if◌then◌else◌, List, [], ◌∷◌, length, drop, Option, None, Some, codes}
 use Rattle.std.specs.List.{list_all, starts_with}
+use Rattle.std.specs.Option.{option_map}
+use Rattle.std.specs.Result.{result_ok}
 use Rattle.std.specs.Char.{is_ascii_digit}
 use Rattle.std.specs.Str.{bytes_eq}
+use Rattle.wm_instants.specs.Instants.{instant_of}
+use Rattle.wm_host.specs.declared.words.Command.{Command}
+use Rattle.wm_host.specs.declared.words.Command.TheVariants.{Init, Run}
 
 -- the number that these digits write behind a number
 abbrev pub number_behind : ℕ → List ℕ → ℕ
 number_behind number [] = number
 number_behind number (digit ∷ digits) = number_behind (10 * number + (digit - 48)) digits
 
--- digits that write a number from the lowest to the highest
-abbrev pub is_number : ℕ → ℕ → List ℕ → Bool
-is_number lowest highest digits =
-    list_all is_ascii_digit digits && (nat_le lowest (number_behind 0 digits) && nat_le (number_behind 0 digits) highest)
+-- 1 to 20 decimal digits
+abbrev pub are_digits : List ℕ → Bool
+are_digits text = nat_le 1 (length text) && (nat_le (length text) 20 && list_all is_ascii_digit text)
 
--- YYYY-MM-DD, with a year from 0001, a month from 01 to 12 and a day from 01 to 28
-abbrev pub is_date : List ℕ → Bool
-is_date text =
-    (length text == 10)
-    && (is_number 1 9999 (take 4 text)
-    && ((slice_index text 4 == 45)
-    && (is_number 1 12 (take 2 (drop 5 text))
-    && ((slice_index text 7 == 45)
-    && is_number 1 28 (drop 8 text)))))
+-- how many changes a store takes
+abbrev pub is_limit : ℕ → Bool
+is_limit number = nat_le 1 number && nat_le number 1048576
 
--- --now=T
-abbrev pub is_now_option : List ℕ → Bool
-is_now_option word = starts_with nat_eq word (codes "--now=") && is_date (drop 6 word)
+-- a limit that a store can have, where the command has one
+abbrev pub HasLimit : Command → Type 0
+HasLimit (Init limit) = (1 ≤ limit) × (limit ≤ 1048576)
+HasLimit (Run moment) = Unit {0}
 
--- run --now T, or run --now=T
-abbrev pub are_words : List (List ℕ) → Bool
-are_words (command ∷ option ∷ []) = bytes_eq command (codes "run") && is_now_option option
-are_words (command ∷ option ∷ date ∷ []) = bytes_eq command (codes "run") && (bytes_eq option (codes "--now") && is_date date)
-are_words _ = false
+-- the command `init` of this limit
+abbrev pub init_of : List ℕ → Option Command
+init_of text = if are_digits text && is_limit (number_behind 0 text) then Some (Init (number_behind 0 text)) else None
+
+-- the command `run` of this moment
+abbrev pub run_of : List ℕ → Option Command
+run_of text = option_map (λ (moment : ℕ). Run moment) (result_ok (instant_of text))
+
+-- the command of a word for it, an option and its value
+abbrev pub spaced : List ℕ → List ℕ → List ℕ → Option Command
+spaced command option value =
+    if bytes_eq command (codes "init") && bytes_eq option (codes "--limit") then init_of value else
+    (if bytes_eq command (codes "run") && bytes_eq option (codes "--now") then run_of value else None)
+
+-- the command of a word for it and an option joined to its value
+abbrev pub joined : List ℕ → List ℕ → Option Command
+joined command option =
+    if bytes_eq command (codes "init") && starts_with nat_eq option (codes "--limit=") then init_of (drop 8 option) else
+    (if bytes_eq command (codes "run") && starts_with nat_eq option (codes "--now=") then run_of (drop 6 option) else None)
+
+-- init --limit N, init --limit=N, run --now T, run --now=T
+abbrev pub command_of : List (List ℕ) → Option Command
+command_of (command ∷ option ∷ []) = joined command option
+command_of (command ∷ option ∷ value ∷ []) = spaced command option value
+command_of words = None

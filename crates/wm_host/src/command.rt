@@ -1,29 +1,28 @@
 //! The commands of the program.
-ghost use Rattle.std.specs.Prelude.{◌≡◌, ◌^◌, ◌<◌, ◌≤◌, ◌↔◌, ◌==◌, List, [], ◌∷◌, length, map, take, string_bytes, false, true};
+ghost use Rattle.std.specs.Prelude.{◌≡◌, ◌^◌, ◌<◌, ◌≤◌, ◌↔◌, ◌⊎◌, ◌==◌, length, map, take, string_bytes, None, false, true, []};
 ghost use Rattle.std.specs.List.{list_any};
+ghost use Rattle.wm_engine.specs.Working.{FileStands};
 ghost use Rattle.wm_model.specs.Lines.{lines, ended_lines};
-ghost use Rattle.wm_model.specs.State.{fresh};
+ghost use Rattle.wm_model.specs.State.{State, fresh};
 ghost use Rattle.wm_station.specs.Cause.{Rises};
-ghost use Rattle.wm_station.specs.Moments.{During};
-ghost use Rattle.wm_host.specs.Crash.{CrashAnswers};
-ghost use Rattle.wm_host.specs.Outcome.{HasSaid, HasSaidFront, AnswersSome, AnswersEnded, answers_to};
-ghost use Rattle.wm_host.specs.Saying.{OnlySays};
-ghost use Rattle.wm_host.specs.Words.{are_words};
-ghost use Rattle.wm_host.specs.declared.ended.Place.TheVariants.{Nowhere};
+ghost use Rattle.wm_station.specs.History.{now, said};
+ghost use Rattle.wm_station.specs.Moments.{During, Holds};
+ghost use Rattle.wm_store.specs.Holding.{is_made};
+ghost use Rattle.wm_host.specs.Crash.{CrashOfRun, CrashAnswers};
+ghost use Rattle.wm_host.specs.Outcome.{HasSaid, HasSaidFront, Answered, AnswersSome, AnswersEnded, IsDamaged, IsPage, OfRun, OfInit, FromEach, FrontOfRun, ok_text, statuses_of};
+ghost use Rattle.wm_host.specs.Words.{command_of as command_in};
 
-use crate::ended::{Ended, Place, Status};
-use crate::host::Host;
-use crate::script::run_script;
-use crate::words::are_run_words;
+use crate::ended::Ended;
+use crate::store::{init, run_store};
+use crate::words::{Command, command_of};
 use std::alloc::Global;
 use wm_station::{Source, Station};
 
-/// How many changes the store takes.
-const CHANGE_LIMIT: u32 = 1_000;
-
-/// Runs the command that the words give: `run --now T` or `run --now=T` takes the source as a script, and
-/// says the answer to each of its lines. T is a date `YYYY-MM-DD`, with a year from 0001, a month from 01
-/// to 12 and a day from 01 to 28. Any other words end with status 2.
+/// Runs the command that the words give. `init --limit N` makes a store that takes N changes, and says
+/// `OK`. `run --now T` opens the store, takes the source as a script, and says the answer to each of its
+/// lines; what a line changes is kept before it is answered. In both `=` may stand in place of the space
+/// behind the option. N is a number of 1 to 20 digits from 1 to 1,048,576, and T a date, or a date and a
+/// time with a space or a `T` between them. Any other words end with status 2.
 pub fn run<S: Source, P: Station>(
     alloc: Global,
     words: &[String],
@@ -31,51 +30,67 @@ pub fn run<S: Source, P: Station>(
     station: &mut P,
 ) -> Ended
     // Status 2 for words that are not in the grammar, and then nothing was done.
-    ensures usage { (result.status ≡ 2) ↔ (are_words (map string_bytes words.now) ≡ false) }
+    ensures usage { (result.status ≡ 2) ↔ (command_in (map string_bytes words.now) ≡ None) }
     ensures untouched { result.status ≡ 2 → (source.new ≡ source.old) × (station.new ≡ station.old) × (result.lines ≡ 0) }
 
-    // Status 0: all lines were answered, and the script is at its end.
-    ensures done { result.status ≡ 0 → S.tells → P.tells → HasSaid (P.history station.old) (P.history station.new) (answers_to (lines (S.left source.old))) }
-    ensures all { result.status ≡ 0 → S.tells → result.lines ≡ length (lines (S.left source.old)) }
-    ensures end { result.status ≡ 0 → S.tells → S.left source.new ≡ [] }
-    ensures within { result.status ≡ 0 → S.tells → length (S.left source.old) ≤ 2 ^ 30 }
+    // `init`. Status 0 or 4: there was no store, and what a read gives and each crash leaves is a fresh one.
+    // Status 8: there was one, and nothing was done. Only a front of `OK` is said, and at status 0 the whole.
+    ensures init_done { result.status ≡ 0 → P.tells → OfInit (command_in (map string_bytes words.now)) (λ limit. HasSaid (P.history station.old) (P.history station.new) ok_text) }
+    ensures init_front { P.tells → OfInit (command_in (map string_bytes words.now)) (λ limit. HasSaidFront (P.history station.old) (P.history station.new) ok_text) }
+    ensures init_made { (result.status ≡ 0) ⊎ (result.status ≡ 4) → P.tells → OfInit (command_in (map string_bytes words.now)) (λ limit. Holds (P.history station.new) (λ file. FileStands file (fresh limit))) }
+    ensures init_absent { (result.status ≡ 0) ⊎ (result.status ≡ 4) → P.tells → OfInit (command_in (map string_bytes words.now)) (λ limit. is_made (now (P.history station.old)) ≡ false) }
+    ensures init_unsaid { result.status ≡ 5 → P.tells → OfInit (command_in (map string_bytes words.now)) (λ limit. said (P.history station.new) ≡ said (P.history station.old)) }
+    ensures init_source { OfInit (command_in (map string_bytes words.now)) (λ limit. (source.new ≡ source.old) × (result.lines ≡ 0)) }
+    ensures exists { result.status ≡ 8 → P.tells → (is_made (now (P.history station.old)) ≡ true) × (P.history station.new ≡ P.history station.old) }
+
+    // `run`, from each state that the file stands for. Status 0: all lines were answered, the file stands for
+    // the state that they leave, and the script is at its end.
+    ensures done { result.status ≡ 0 → S.tells → P.tells → FromEach (command_in (map string_bytes words.now)) (P.history station.old) (λ s. Answered (P.history station.old) (P.history station.new) s (lines (S.left source.old))) }
+    ensures all { result.status ≡ 0 → S.tells → OfRun (command_in (map string_bytes words.now)) (λ moment. result.lines ≡ length (lines (S.left source.old))) }
+    ensures end { result.status ≡ 0 → S.tells → OfRun (command_in (map string_bytes words.now)) (λ moment. S.left source.new ≡ []) }
+    ensures within { result.status ≡ 0 → S.tells → OfRun (command_in (map string_bytes words.now)) (λ moment. length (S.left source.old) ≤ 2 ^ 30) }
 
     // Status 3: the lines that LF ended in the bytes taken were answered. Status 9: those in the first 2^30.
-    ensures ended { result.status ≡ 3 → S.tells → P.tells → AnswersEnded (P.history station.old) (P.history station.new) (S.left source.old) (S.left source.new) result.lines }
+    ensures ended { result.status ≡ 3 → S.tells → P.tells → OfRun (command_in (map string_bytes words.now)) (λ moment. AnswersEnded (P.history station.old) (P.history station.new) moment (S.left source.old) (S.left source.new) result.lines) }
     ensures limit { result.status ≡ 9 → S.tells → 2 ^ 30 < length (S.left source.old) }
-    ensures to_limit { result.status ≡ 9 → S.tells → P.tells → HasSaid (P.history station.old) (P.history station.new) (answers_to (ended_lines (take (2 ^ 30) (S.left source.old)))) }
+    ensures to_limit { result.status ≡ 9 → S.tells → P.tells → FromEach (command_in (map string_bytes words.now)) (P.history station.old) (λ s. Answered (P.history station.old) (P.history station.new) s (ended_lines (take (2 ^ 30) (S.left source.old)))) }
     ensures counted_to_limit { result.status ≡ 9 → S.tells → result.lines ≡ length (ended_lines (take (2 ^ 30) (S.left source.old))) }
 
-    // Whatever the status: a front of the answers was said, and lines are those that were answered whole.
-    ensures front { S.tells → P.tells → HasSaidFront (P.history station.old) (P.history station.new) (answers_to (lines (S.left source.old))) }
-    ensures counted { S.tells → P.tells → AnswersSome (P.history station.old) (P.history station.new) (lines (S.left source.old)) result.lines }
+    // Whatever the status: a front of the answers was said, lines are those that were answered whole, and the
+    // file stands for the state after the lines answered or after one more.
+    ensures front { S.tells → P.tells → FromEach (command_in (map string_bytes words.now)) (P.history station.old) (λ s. FrontOfRun (P.history station.old) (P.history station.new) s (lines (S.left source.old))) }
+    ensures counted { S.tells → P.tells → FromEach (command_in (map string_bytes words.now)) (P.history station.old) (λ s. AnswersSome (P.history station.old) (P.history station.new) s (lines (S.left source.old)) result.lines) }
+    ensures stands { S.tells → P.tells → FromEach (command_in (map string_bytes words.now)) (P.history station.old) (λ s. CrashAnswers (P.history station.old) s (lines (S.left source.old)) (now (P.history station.new)) (said (P.history station.new))) }
 
-    // A crash at any moment leaves the file as one before the run could, with so much of the answers said.
-    ensures crash { S.tells → P.tells → During (P.history station.old) (P.history station.new) (CrashAnswers (P.history station.old) (fresh 1000) (lines (S.left source.old))) }
+    // A crash at any moment leaves a file that one before the run could, with nothing said; or one that
+    // stands for the state after the lines answered or after one more, and that where a part of its answer
+    // was said.
+    ensures crash { S.tells → P.tells → FromEach (command_in (map string_bytes words.now)) (P.history station.old) (λ s. During (P.history station.old) (P.history station.new) (CrashOfRun (P.history station.old) s (lines (S.left source.old)))) }
 
-    // Statuses 3 and 4 come only where a count of faults rose.
+    // Status 6: the file is no store, and stays as it is. Status 7: the first test of opening that fails is
+    // the one that the place names. Neither comes where the file stands for some state.
+    ensures not_store { result.status ≡ 6 → P.tells → (is_made (now (P.history station.old)) ≡ false) × (now (P.history station.new) ≡ now (P.history station.old)) }
+    ensures damaged { result.status ≡ 7 → P.tells → IsDamaged result.place (now (P.history station.old)) }
+    ensures sound { (result.status ≡ 6) ⊎ (result.status ≡ 7) → P.tells → (s : State) → FileStands (now (P.history station.old)) s → ⊥ }
+    ensures unsaid { (result.status ≡ 6) ⊎ (result.status ≡ 7) → P.tells → said (P.history station.new) ≡ said (P.history station.old) }
+    ensures unopened { (result.status ≡ 6) ⊎ (result.status ≡ 7) → (source.new ≡ source.old) × (result.lines ≡ 0) }
+    ensures place { (result.status ≡ 7) ↔ IsPage result.place }
+
+    // Statuses 3, 4 and 5 come only where a count of faults rose, and 11 only where the station tells nothing.
     ensures source { result.status ≡ 3 → Rises (S.faults source.old) (S.faults source.new) }
     ensures say { result.status ≡ 4 → Rises (P.say_faults station.old) (P.say_faults station.new) }
-    ensures statuses { list_any (λ status. status == result.status) (0 ∷ 2 ∷ 3 ∷ 4 ∷ 9 ∷ 10 ∷ []) ≡ true }
-
-    ensures place { result.place ≡ Nowhere }
-    ensures disk { P.tells → OnlySays (P.history station.old) (P.history station.new) }
-    ensures quiet { P.disk_faults station.new ≡ P.disk_faults station.old }
+    ensures disk { result.status ≡ 5 → Rises (P.disk_faults station.old) (P.disk_faults station.new) }
+    ensures unchanged { result.status ≡ 11 → P.tells → ⊥ }
+    ensures statuses { list_any (λ status. status == result.status) (statuses_of (command_in (map string_bytes words.now))) ≡ true }
     ensures source_later { S.faults source.old ≤ S.faults source.new }
     ensures say_later { P.say_faults station.old ≤ P.say_faults station.new }
+    ensures disk_later { P.disk_faults station.old ≤ P.disk_faults station.new }
 {
-    if !are_run_words(words) {
-        return Ended {
-            status: Status::Usage.number(),
-            lines: 0,
-            place: Place::Nowhere,
-        };
-    }
-    let mut host = Host::fresh(alloc, CHANGE_LIMIT);
-    let run = run_script(alloc, source, station, &mut host);
-    Ended {
-        status: Status::of(run).number(),
-        lines: host.lines,
-        place: Place::Nowhere,
+    let Some(command) = command_of(words) else {
+        return Ended::usage();
+    };
+    match command {
+        Command::Init { limit } => init(alloc, station, limit),
+        Command::Run { moment } => run_store(alloc, source, station, moment),
     }
 }

@@ -1,14 +1,13 @@
 //! What takes the bytes of a script one by one, and answers each line as it ends.
 ghost use Rattle.std.specs.Prelude.{◌≡◌, ◌+◌, ◌^◌, ◌<◌, ◌≤◌, List, [], ◌∷◌, length, OnOk, OnErr, IsErrOf, IfErr, true};
+ghost use Rattle.wm_engine.specs.Working.{StandsFor, WorksOver};
 ghost use Rattle.wm_model.specs.Lines.{HasNoLf, capped};
-ghost use Rattle.wm_model.specs.Running.{answer};
-ghost use Rattle.wm_model.specs.State.{fresh};
+ghost use Rattle.wm_model.specs.State.{State};
 ghost use Rattle.wm_station.specs.Cause.{Rises};
-ghost use Rattle.wm_station.specs.Moments.{During};
 ghost use Rattle.wm_host.specs.Cause.{IsOfAnswers};
-ghost use Rattle.wm_host.specs.Crash.{CrashSays, CrashRuns, CrashAnswers};
+ghost use Rattle.wm_host.specs.Crash.{Throughout, CrashLine, CrashRuns, CrashAnswers};
 ghost use Rattle.wm_host.specs.Hosting.{line_of, Answers, Unanswered, Says, Breaks, Finishes, Halts};
-ghost use Rattle.wm_host.specs.declared.stop.Stop.TheVariants.{SayFault};
+ghost use Rattle.wm_host.specs.declared.stop.Stop.TheVariants.{SayFault, DiskFault, Changed};
 
 use crate::line::LineBuffer;
 use crate::say::say_all;
@@ -26,36 +25,41 @@ pub(crate) struct Host {
 }
 
 impl Host {
-    pub(crate) fn fresh(alloc: Global, limit: u32) -> Host
-        ensures state { result.engine ≡ fresh limit }
+    /// Stands before a script.
+    pub(crate) fn new(alloc: Global, engine: Engine) -> Host
+        ensures engine { result.engine ≡ engine }
         ensures held { result.line ≡ [] }
         ensures none { result.lines ≡ 0 }
     {
         Host {
-            engine: Engine::fresh(limit),
+            engine,
             line: LineBuffer::new(alloc),
             lines: 0,
         }
     }
 
-    /// Runs the line that is held, and says its answer.
+    /// Runs the line that is held, and says its answer. What it changes is kept before anything is said.
     fn end_line<P: Station>(&mut self, alloc: Global, station: &mut P) -> Result<(), Stop>
-        requires { self.old.lines + 1 < 2 ^ 64 }
+        requires room { self.old.lines + 1 < 2 ^ 64 }
+        requires works { P.tells → WorksOver self.old.engine (P.history station.old) }
         ensures ok { OnOk result (Answers P.tells (P.history station.old) (P.history station.new) self.old self.new) }
         ensures err { OnErr result (Unanswered P.tells (P.history station.old) (P.history station.new) self.old self.new) }
-        ensures crash { P.tells → During (P.history station.old) (P.history station.new) (CrashSays (P.history station.old) (answer self.old.engine (line_of self.old))) }
-        ensures later { P.say_faults station.old ≤ P.say_faults station.new }
-        ensures quiet { P.disk_faults station.new ≡ P.disk_faults station.old }
-        ensures failed { IsErrOf result SayFault → Rises (P.say_faults station.old) (P.say_faults station.new) }
+        ensures crash { P.tells → (s : State) → StandsFor self.old.engine s → Throughout (P.history station.old) (P.history station.new) (CrashLine (P.history station.old) s (line_of self.old)) }
+        ensures say_later { P.say_faults station.old ≤ P.say_faults station.new }
+        ensures say_failed { IsErrOf result SayFault → Rises (P.say_faults station.old) (P.say_faults station.new) }
+        ensures disk_later { P.disk_faults station.old ≤ P.disk_faults station.new }
+        ensures disk_failed { IsErrOf result DiskFault → Rises (P.disk_faults station.old) (P.disk_faults station.new) }
+        ensures unchanged { P.tells → IsErrOf result Changed → ⊥ }
         ensures answering { IfErr result IsOfAnswers }
     {
-        let answer = self.engine.line(alloc, self.line.line())?;
+        let answer = self.engine.line(alloc, station, self.line.line())?;
         say_all(station, answer.as_slice())?;
         self.line.clear();
         self.lines += 1;
         Ok(())
     }
 
+    /// Takes a byte, and answers the line that it ends.
     fn take_byte<P: Station>(
         &mut self,
         alloc: Global,
@@ -64,12 +68,15 @@ impl Host {
     ) -> Result<(), Stop>
         requires room { self.old.lines + 1 < 2 ^ 64 }
         requires no_lf { HasNoLf self.old.line }
+        requires works { P.tells → WorksOver self.old.engine (P.history station.old) }
         ensures ok { OnOk result (Says P.tells (P.history station.old) (P.history station.new) self.old (byte ∷ []) self.new) }
         ensures err { OnErr result (Breaks P.tells (P.history station.old) (P.history station.new) self.old (byte ∷ []) self.new) }
-        ensures crash { P.tells → During (P.history station.old) (P.history station.new) (CrashRuns (P.history station.old) self.old (byte ∷ [])) }
-        ensures later { P.say_faults station.old ≤ P.say_faults station.new }
-        ensures quiet { P.disk_faults station.new ≡ P.disk_faults station.old }
-        ensures failed { IsErrOf result SayFault → Rises (P.say_faults station.old) (P.say_faults station.new) }
+        ensures crash { P.tells → (s : State) → StandsFor self.old.engine s → Throughout (P.history station.old) (P.history station.new) (CrashRuns (P.history station.old) s self.old (byte ∷ [])) }
+        ensures say_later { P.say_faults station.old ≤ P.say_faults station.new }
+        ensures say_failed { IsErrOf result SayFault → Rises (P.say_faults station.old) (P.say_faults station.new) }
+        ensures disk_later { P.disk_faults station.old ≤ P.disk_faults station.new }
+        ensures disk_failed { IsErrOf result DiskFault → Rises (P.disk_faults station.old) (P.disk_faults station.new) }
+        ensures unchanged { P.tells → IsErrOf result Changed → ⊥ }
         ensures answering { IfErr result IsOfAnswers }
     {
         if byte == b'\n' {
@@ -88,12 +95,15 @@ impl Host {
     ) -> Result<(), Stop>
         requires room { self.old.lines + length bytes.now < 2 ^ 64 }
         requires no_lf { HasNoLf self.old.line }
+        requires works { P.tells → WorksOver self.old.engine (P.history station.old) }
         ensures ok { OnOk result (Says P.tells (P.history station.old) (P.history station.new) self.old bytes.now self.new) }
         ensures err { OnErr result (Breaks P.tells (P.history station.old) (P.history station.new) self.old bytes.now self.new) }
-        ensures crash { P.tells → During (P.history station.old) (P.history station.new) (CrashRuns (P.history station.old) self.old bytes.now) }
-        ensures later { P.say_faults station.old ≤ P.say_faults station.new }
-        ensures quiet { P.disk_faults station.new ≡ P.disk_faults station.old }
-        ensures failed { IsErrOf result SayFault → Rises (P.say_faults station.old) (P.say_faults station.new) }
+        ensures crash { P.tells → (s : State) → StandsFor self.old.engine s → Throughout (P.history station.old) (P.history station.new) (CrashRuns (P.history station.old) s self.old bytes.now) }
+        ensures say_later { P.say_faults station.old ≤ P.say_faults station.new }
+        ensures say_failed { IsErrOf result SayFault → Rises (P.say_faults station.old) (P.say_faults station.new) }
+        ensures disk_later { P.disk_faults station.old ≤ P.disk_faults station.new }
+        ensures disk_failed { IsErrOf result DiskFault → Rises (P.disk_faults station.old) (P.disk_faults station.new) }
+        ensures unchanged { P.tells → IsErrOf result Changed → ⊥ }
         ensures answering { IfErr result IsOfAnswers }
     {
         for byte in bytes {
@@ -106,12 +116,15 @@ impl Host {
     pub(crate) fn finish<P: Station>(&mut self, alloc: Global, station: &mut P) -> Result<(), Stop>
         requires room { self.old.lines + 1 < 2 ^ 64 }
         requires no_lf { HasNoLf self.old.line }
+        requires works { P.tells → WorksOver self.old.engine (P.history station.old) }
         ensures ok { OnOk result (Finishes P.tells (P.history station.old) (P.history station.new) self.old (capped true self.old.line) self.new) }
         ensures err { OnErr result (Halts P.tells (P.history station.old) (P.history station.new) self.old (capped true self.old.line) self.new) }
-        ensures crash { P.tells → During (P.history station.old) (P.history station.new) (CrashAnswers (P.history station.old) self.old.engine (capped true self.old.line)) }
-        ensures later { P.say_faults station.old ≤ P.say_faults station.new }
-        ensures quiet { P.disk_faults station.new ≡ P.disk_faults station.old }
-        ensures failed { IsErrOf result SayFault → Rises (P.say_faults station.old) (P.say_faults station.new) }
+        ensures crash { P.tells → (s : State) → StandsFor self.old.engine s → Throughout (P.history station.old) (P.history station.new) (CrashAnswers (P.history station.old) s (capped true self.old.line)) }
+        ensures say_later { P.say_faults station.old ≤ P.say_faults station.new }
+        ensures say_failed { IsErrOf result SayFault → Rises (P.say_faults station.old) (P.say_faults station.new) }
+        ensures disk_later { P.disk_faults station.old ≤ P.disk_faults station.new }
+        ensures disk_failed { IsErrOf result DiskFault → Rises (P.disk_faults station.old) (P.disk_faults station.new) }
+        ensures unchanged { P.tells → IsErrOf result Changed → ⊥ }
         ensures answering { IfErr result IsOfAnswers }
     {
         if self.line.is_empty() {

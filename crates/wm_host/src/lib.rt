@@ -1,5 +1,5 @@
-//! The loop over a script: it cuts the bytes of a source into lines, hands each to the engine and says
-//! the answer.
+//! The commands of the program. `run` opens a store, cuts the bytes of a source into lines, hands each to
+//! the engine and says the answer; `init` makes the store.
 #![tactic(auto)]
 
 mod command;
@@ -9,6 +9,7 @@ mod line;
 mod say;
 mod script;
 mod stop;
+mod store;
 mod words;
 
 pub use command::run;

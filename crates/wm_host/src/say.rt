@@ -3,7 +3,7 @@ ghost use Rattle.std.specs.Prelude.{◌≡◌, ◌≤◌, List, IfErr, OnOk, OnE
 ghost use Rattle.wm_model.specs.Running.{IsPart};
 ghost use Rattle.wm_station.specs.Cause.{Rises};
 ghost use Rattle.wm_station.specs.Moments.{During};
-ghost use Rattle.wm_host.specs.Cause.{IsOfAnswers};
+ghost use Rattle.wm_host.specs.Cause.{IsOfSaying};
 ghost use Rattle.wm_host.specs.Crash.{CrashSays};
 ghost use Rattle.wm_host.specs.Saying.{OnlySaid, SaidPart};
 ghost use Rattle.wm_host.specs.declared.stop.Stop.TheVariants.{SayFault};
@@ -19,7 +19,7 @@ pub(crate) fn say_all<P: Station>(station: &mut P, bytes: &[u8]) -> Result<(), S
     ensures later { P.say_faults station.old ≤ P.say_faults station.new }
     ensures quiet { P.disk_faults station.new ≡ P.disk_faults station.old }
     ensures failed { IsErrOf result SayFault → Rises (P.say_faults station.old) (P.say_faults station.new) }
-    ensures answering { IfErr result IsOfAnswers }
+    ensures answering { IfErr result IsOfSaying }
 {
     let mut rest = bytes;
     while !rest.is_empty() {

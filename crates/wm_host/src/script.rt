@@ -1,13 +1,14 @@
 //! The loop over the source of a script.
-ghost use Rattle.std.specs.Prelude.{◌≡◌, ◌^◌, ◌≤◌, List, [], length, true, OnOk, OnErr, IsErrOf};
+ghost use Rattle.std.specs.Prelude.{◌≡◌, ◌^◌, ◌≤◌, List, [], length, true, OnOk, OnErr, IsErrOf, IfErr};
+ghost use Rattle.wm_engine.specs.Working.{StandsFor, WorksOver};
 ghost use Rattle.wm_model.specs.Lines.{capped};
+ghost use Rattle.wm_model.specs.State.{State};
 ghost use Rattle.wm_station.specs.Cause.{Rises};
-ghost use Rattle.wm_station.specs.Moments.{During};
-ghost use Rattle.wm_host.specs.Crash.{CrashAnswers};
+ghost use Rattle.wm_host.specs.Cause.{IsOfScript};
+ghost use Rattle.wm_host.specs.Crash.{Throughout, CrashAnswers};
 ghost use Rattle.wm_host.specs.Hosting.{Finishes, Halts};
-ghost use Rattle.wm_host.specs.Saying.{OnlySays};
 ghost use Rattle.wm_host.specs.Script.{AnswersTaken, AnswersToLimit};
-ghost use Rattle.wm_host.specs.declared.stop.Stop.TheVariants.{InputLimit, SayFault, SourceFault};
+ghost use Rattle.wm_host.specs.declared.stop.Stop.TheVariants.{InputLimit, SayFault, SourceFault, DiskFault, Changed};
 
 use crate::host::Host;
 use crate::stop::Stop;
@@ -29,6 +30,7 @@ pub(crate) fn run_script<S: Source, P: Station>(
 ) -> Result<(), Stop>
     requires held { host.old.line ≡ [] }
     requires none { host.old.lines ≡ 0 }
+    requires works { P.tells → WorksOver host.old.engine (P.history station.old) }
 
     ensures ok { S.tells → OnOk result (Finishes P.tells (P.history station.old) (P.history station.new) host.old (capped true (S.left source.old)) host.new) }
     ensures end { S.tells → OnOk result (S.left source.new ≡ []) }
@@ -37,13 +39,15 @@ pub(crate) fn run_script<S: Source, P: Station>(
     ensures taken { S.tells → IsErrOf result SourceFault → AnswersTaken P.tells (P.history station.old) (P.history station.new) host.old host.new (S.left source.old) (S.left source.new) }
     ensures limit { S.tells → IsErrOf result InputLimit → AnswersToLimit P.tells (P.history station.old) (P.history station.new) host.old host.new (S.left source.old) }
 
-    ensures crash { S.tells → P.tells → During (P.history station.old) (P.history station.new) (CrashAnswers (P.history station.old) host.old.engine (capped true (S.left source.old))) }
-    ensures disk { P.tells → OnlySays (P.history station.old) (P.history station.new) }
+    ensures crash { S.tells → P.tells → (s : State) → StandsFor host.old.engine s → Throughout (P.history station.old) (P.history station.new) (CrashAnswers (P.history station.old) s (capped true (S.left source.old))) }
     ensures source_later { S.faults source.old ≤ S.faults source.new }
     ensures source_failed { IsErrOf result SourceFault → Rises (S.faults source.old) (S.faults source.new) }
     ensures say_later { P.say_faults station.old ≤ P.say_faults station.new }
-    ensures quiet { P.disk_faults station.new ≡ P.disk_faults station.old }
     ensures say_failed { IsErrOf result SayFault → Rises (P.say_faults station.old) (P.say_faults station.new) }
+    ensures disk_later { P.disk_faults station.old ≤ P.disk_faults station.new }
+    ensures disk_failed { IsErrOf result DiskFault → Rises (P.disk_faults station.old) (P.disk_faults station.new) }
+    ensures unchanged { P.tells → IsErrOf result Changed → ⊥ }
+    ensures of_script { IfErr result IsOfScript }
 {
     let mut piece = [0; PIECE_BYTES];
     let mut taken = 0;

@@ -1,4 +1,8 @@
 pub mod Cutting
 pub mod Running
 pub mod Steps
+pub mod Doing
+pub mod Enabling
+pub mod Adding
+pub mod Added
 mod Samples

@@ -1,6 +1,6 @@
 pub mod Lines
 pub mod Reading
 pub mod Grammar
-pub mod State
 pub mod Step
+pub mod Planning
 pub mod Running

@@ -1,17 +1,17 @@
-use Rattle.std.proofs.Common.{refl, arith, ◌∙◌}
+use Rattle.std.proofs.Common.{arith}
 use Rattle.std.proofs.lemmas.List.{length-take}
 use Rattle.std.proofs.lemmas.Result.{err_from_is_err_and, on_ok_weaker, on_err_weaker}
-use Rattle.wm_host.proofs.Past.{past_begun, past_more, past_finished, past_halted, past_broken, past_stopped, past_taken, past_limit, past_only_finish, past_only_broken, past_crash, past_crash_finish, past_crash_broken}
+use Rattle.wm_host.proofs.Past.{past_begun, past_more, past_finished, past_halted, past_broken, past_stopped, past_taken, past_limit, past_crash, past_crash_finish, past_crash_broken}
 use Rattle.wm_host.proofs.Causes.{not_of_source, not_of_limit, handed_on}
 use Rattle.wm_host.proofs.script.run_script.Goals as goal
 
 pub pieces-init : goal.pieces-init
 pieces-init g c = record {
-  past = past_begun g.S.Source.tells g.P.Station.tells (g.S.Source.left c.args.source.now) (g.P.Station.history c.args.station.now) c.args.host.now c.requires.held;
+  past = past_begun g.S.Source.tells g.P.Station.tells (g.S.Source.left c.args.source.now) (g.P.Station.history c.args.station.now) c.args.host.now c.requires.held c.requires.works;
   within = omega arith;
   source_later = omega arith;
   say_later = omega arith;
-  quiet = refl;
+  disk_later = omega arith;
 }
 
 pub returns-in_err-count-clause-err : goal.returns-in_err-count-clause-err
@@ -90,19 +90,9 @@ pieces-preserved g c = record {
       c.pieces.invariant.past (omega (arith, c.in_ok-count.ensures.within)) c.in_ok-count.ensures.taken c.in_ok-feed.ensures.ok c.in_ok-feed.ensures.crash;
   within = omega (arith, c.in_ok-count.ensures.within, length-take c.clamp-room.result c.pieces.piece);
   source_later = omega (arith, c.pieces.invariant.source_later, c.in_ok-count.ensures.cause.later);
-  say_later = omega (arith, c.pieces.invariant.say_later, c.in_ok-feed.ensures.later);
-  quiet = c.in_ok-feed.ensures.quiet ∙ c.pieces.invariant.quiet;
+  say_later = omega (arith, c.pieces.invariant.say_later, c.in_ok-feed.ensures.say_later);
+  disk_later = omega (arith, c.pieces.invariant.disk_later, c.in_ok-feed.ensures.disk_later);
 }
-
-pub returns-then-count-eq0-clause-disk : goal.returns-then-count-eq0-clause-disk
-returns-then-count-eq0-clause-disk g c =
-    past_only_finish g.S.Source.tells g.P.Station.tells (g.S.Source.left c.args.source.now) (g.S.Source.left c.pieces.source) _ _ _ c.args.host.now c.pieces.host c.finish.new.self c.pieces.taken _ c.finish.result
-    c.pieces.invariant.past c.finish.ensures.ok c.finish.ensures.err
-
-pub returns-in_err-feed-clause-disk : goal.returns-in_err-feed-clause-disk
-returns-in_err-feed-clause-disk g c =
-    past_only_broken g.S.Source.tells g.P.Station.tells (g.S.Source.left c.args.source.now) (g.S.Source.left c.pieces.source) _ _ _ _ c.args.host.now c.pieces.host c.feed.new.self c.pieces.taken
-    c.pieces.invariant.past c.in_err-feed.ensures.err
 
 pub returns-in_err-count-clause-crash : goal.returns-in_err-count-clause-crash
 returns-in_err-count-clause-crash g c =

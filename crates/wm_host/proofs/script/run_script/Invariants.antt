@@ -1,4 +1,4 @@
-use Rattle.std.proofs.Common.{◌≡◌, ◌≤◌, ◌-◌, ◌^◌}
+use Rattle.std.proofs.Common.{◌≤◌, ◌-◌, ◌^◌}
 use Rattle.wm_host.proofs.Past.{Past}
 use Rattle.wm_host.proofs.script.run_script.Given as goal
 
@@ -8,7 +8,7 @@ invariant-pieces g l = record {
   within : l.taken ≤ 2 ^ 30;
   source_later : g.S.Source.faults l.initial.source ≤ g.S.Source.faults l.source;
   say_later : g.P.Station.say_faults l.initial.station ≤ g.P.Station.say_faults l.station;
-  quiet : g.P.Station.disk_faults l.station ≡ g.P.Station.disk_faults l.initial.station;
+  disk_later : g.P.Station.disk_faults l.initial.station ≤ g.P.Station.disk_faults l.station;
 }
 
 abbrev pub decreases-pieces : goal.decreases-pieces

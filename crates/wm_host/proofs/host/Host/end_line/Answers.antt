@@ -1,36 +1,40 @@
+use Rattle.std.proofs.Common.{append-nil, sym}
 use Rattle.std.proofs.lemmas.Result.{err_from_is_err_and}
-use Rattle.std.proofs.Common.{ℕ, List, subst}
-use Rattle.wm_station.specs.Moments.{During}
-use Rattle.wm_model.specs.Running.{answer}
-use Rattle.wm_host.specs.Hosting.{line_of}
-use Rattle.wm_host.specs.Crash.{CrashSays}
-use Rattle.wm_host.proofs.Crashing.{crash_says_begun}
-use Rattle.wm_host.proofs.Hosting.{answered, answered_part, answered_bytes}
+use Rattle.wm_host.proofs.Hosting.{answered, unanswered, answered_part, crash_of_run, crash_of_answer}
 use Rattle.wm_host.proofs.host.Host.end_line.Goals as goal
+
+pub returns-in_err-answer-clause-err : goal.returns-in_err-answer-clause-err
+returns-in_err-answer-clause-err g c =
+    let p = err_from_is_err_and c.from_residual.result c.from_residual.ensures.1 in
+    rw p.1
+    (unanswered g.P.Station.tells _ _ c.args.self.now c.line-2.new.self c.line.result.now c.in_err-answer.ensures.any_moment)
+
+pub returns-in_err-answer-clause-crash : goal.returns-in_err-answer-clause-crash
+returns-in_err-answer-clause-crash g c =
+    crash_of_run g.P.Station.tells _ _ c.args.self.now c.line.result.now c.line.ensures c.in_err-answer.ensures.any_moment
 
 pub returns-in_err-say_all-clause-err : goal.returns-in_err-say_all-clause-err
 returns-in_err-say_all-clause-err g c =
     let p = err_from_is_err_and c.from_residual-in_err-say_all.result c.from_residual-in_err-say_all.ensures.1 in
     rw p.1
-    (answered_part g.P.Station.tells _ _ c.args.self.now c.line.result.now c.in_ok-answer.answer c.as_slice.result.now c.line-2.new.self
-    c.line.ensures c.in_ok-answer.ensures.ok c.as_slice.ensures c.in_err-say_all.ensures.part)
+    (answered_part g.P.Station.tells _ _ _ c.args.self.now c.line-2.new.self c.line.result.now c.in_ok-answer.answer c.as_slice.result.now
+    c.line.ensures c.in_ok-answer.ensures.answered c.in_ok-answer.ensures.any_moment c.as_slice.ensures c.in_err-say_all.ensures.part)
+
+pub returns-in_err-say_all-clause-crash : goal.returns-in_err-say_all-clause-crash
+returns-in_err-say_all-clause-crash g c =
+    crash_of_answer g.P.Station.tells _ _ _ c.args.self.now c.line-2.new.self c.line.result.now c.in_ok-answer.answer c.as_slice.result.now
+    c.in_err-say_all.ensures.part.part c.in_err-say_all.ensures.part.is_part.rest
+    c.line.ensures c.in_ok-answer.ensures.answered c.in_ok-answer.ensures.any_moment c.in_ok-answer.ensures.works c.as_slice.ensures
+    c.in_err-say_all.ensures.part.is_part.is c.in_err-say_all.ensures.crash c.in_err-say_all.ensures.part.only
 
 pub returns-clause-ok : goal.returns-clause-ok
 returns-clause-ok g c =
-    answered g.P.Station.tells _ _ c.args.self.now c.line.result.now c.in_ok-answer.answer c.as_slice.result.now c.clear.new.self c.line-2.new.self
-    c.line.ensures c.in_ok-answer.ensures.ok c.as_slice.ensures c.clear.ensures c.in_ok-say_all.ensures.said
-
-pub returns-in_err-answer-clause-crash : goal.returns-in_err-answer-clause-crash
-returns-in_err-answer-clause-crash g c = λ t. crash_says_begun (g.P.Station.history c.args.station.now) (answer c.args.self.now.engine (line_of c.args.self.now))
-
-pub returns-in_err-say_all-clause-crash : goal.returns-in_err-say_all-clause-crash
-returns-in_err-say_all-clause-crash g c = λ t.
-    subst (λ (bytes : List ℕ). During (g.P.Station.history c.args.station.now) (g.P.Station.history c.say_all.new.station) (CrashSays (g.P.Station.history c.args.station.now) bytes))
-    (answered_bytes c.args.self.now c.line.result.now c.in_ok-answer.answer c.as_slice.result.now c.line-2.new.self c.line.ensures c.in_ok-answer.ensures.ok c.as_slice.ensures)
-    (c.in_err-say_all.ensures.crash t)
+    answered g.P.Station.tells _ _ _ c.args.self.now c.line-2.new.self c.line.result.now c.in_ok-answer.answer c.as_slice.result.now c.clear.new.self
+    c.line.ensures c.in_ok-answer.ensures.answered c.in_ok-answer.ensures.any_moment c.in_ok-answer.ensures.works c.as_slice.ensures c.clear.ensures c.in_ok-say_all.ensures.said
 
 pub returns-clause-crash : goal.returns-clause-crash
-returns-clause-crash g c = λ t.
-    subst (λ (bytes : List ℕ). During (g.P.Station.history c.args.station.now) (g.P.Station.history c.say_all.new.station) (CrashSays (g.P.Station.history c.args.station.now) bytes))
-    (answered_bytes c.args.self.now c.line.result.now c.in_ok-answer.answer c.as_slice.result.now c.line-2.new.self c.line.ensures c.in_ok-answer.ensures.ok c.as_slice.ensures)
-    (c.in_ok-say_all.ensures.crash t)
+returns-clause-crash g c =
+    crash_of_answer g.P.Station.tells _ _ _ c.args.self.now c.line-2.new.self c.line.result.now c.in_ok-answer.answer c.as_slice.result.now
+    c.as_slice.result.now _
+    c.line.ensures c.in_ok-answer.ensures.answered c.in_ok-answer.ensures.any_moment c.in_ok-answer.ensures.works c.as_slice.ensures
+    (sym (append-nil c.as_slice.result.now)) c.in_ok-say_all.ensures.crash c.in_ok-say_all.ensures.said

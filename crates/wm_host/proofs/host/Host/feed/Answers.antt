@@ -1,15 +1,16 @@
-use Rattle.std.proofs.Common.{[], arith, refl, ◌∙◌}
+use Rattle.std.proofs.Common.{[], arith}
 use Rattle.std.proofs.lemmas.Result.{err_from_is_err_and}
+use Rattle.wm_engine.proofs.Working.{stands_over}
 use Rattle.wm_host.proofs.Crashing.{crash_runs_begun, crash_runs_next, crash_runs_within}
 use Rattle.wm_host.proofs.Hosting.{says_begun, says_next, breaks_next}
 use Rattle.wm_host.proofs.host.Host.feed.Goals as goal
 
 pub loop-byte-init : goal.loop-byte-init
 loop-byte-init g c = record {
-  says = says_begun g.P.Station.tells _ c.args.self.now c.requires.no_lf;
-  crash = λ t. crash_runs_begun (g.P.Station.history c.args.station.now) c.args.self.now [];
-  later = omega arith;
-  quiet = refl;
+  says = says_begun g.P.Station.tells _ c.args.self.now c.requires.no_lf c.requires.works;
+  crash = λ t s for. crash_runs_begun (g.P.Station.history c.args.station.now) s c.args.self.now [] (stands_over c.args.self.now.engine _ s (c.requires.works t) for);
+  say_later = omega arith;
+  disk_later = omega arith;
 }
 
 pub returns-in_err-take_byte-clause-err : goal.returns-in_err-take_byte-clause-err
@@ -23,13 +24,13 @@ pub loop-byte-preserved : goal.loop-byte-preserved
 loop-byte-preserved g c = record {
   says = says_next g.P.Station.tells _ _ _ c.args.self.now c.loop-byte.self c.take_byte.new.self c.args.bytes.now c.loop-byte.byte-index c.loop-byte-test.true
       c.loop-byte.invariant.says c.in_ok-take_byte.ensures.ok;
-  crash = λ t. crash_runs_next g.P.Station.tells _ _ _ c.args.self.now c.loop-byte.self c.args.bytes.now c.loop-byte.byte-index c.loop-byte-test.true
-      c.loop-byte.invariant.says t (c.loop-byte.invariant.crash t) (c.in_ok-take_byte.ensures.crash t);
-  later = omega (arith, c.loop-byte.invariant.later, c.in_ok-take_byte.ensures.later);
-  quiet = c.in_ok-take_byte.ensures.quiet ∙ c.loop-byte.invariant.quiet;
+  crash = crash_runs_next g.P.Station.tells _ _ _ c.args.self.now c.loop-byte.self c.args.bytes.now c.loop-byte.byte-index c.loop-byte-test.true
+      c.loop-byte.invariant.says c.loop-byte.invariant.crash c.in_ok-take_byte.ensures.crash;
+  say_later = omega (arith, c.loop-byte.invariant.say_later, c.in_ok-take_byte.ensures.say_later);
+  disk_later = omega (arith, c.loop-byte.invariant.disk_later, c.in_ok-take_byte.ensures.disk_later);
 }
 
 pub returns-in_err-take_byte-clause-crash : goal.returns-in_err-take_byte-clause-crash
-returns-in_err-take_byte-clause-crash g c = λ t.
+returns-in_err-take_byte-clause-crash g c =
     crash_runs_within g.P.Station.tells _ _ _ c.args.self.now c.loop-byte.self c.args.bytes.now c.loop-byte.byte-index c.loop-byte-test.true
-    c.loop-byte.invariant.says t (c.loop-byte.invariant.crash t) (c.in_err-take_byte.ensures.crash t)
+    c.loop-byte.invariant.says c.loop-byte.invariant.crash c.in_err-take_byte.ensures.crash

@@ -1,0 +1,56 @@
+use Rattle.std.proofs.Common.{Err, refl, ◌^◌, take}
+use Rattle.wm_model.specs.Lines.{lines, ended_lines}
+use Rattle.wm_model.specs.State.{begin}
+use Rattle.wm_host.specs.declared.stop.Stop.TheVariants.{SourceFault, InputLimit}
+use Rattle.wm_host.proofs.Ending.{at_done, at_status, answers_all, answers_at_end, answers_ended, crash_opened, crash_ran, stands_ran, stands_unopened, counted_unopened}
+use Rattle.wm_host.proofs.store.run_store.Goals as goal
+
+-- once the store is open
+pub returns-in-Ok-clause-done : goal.returns-in-Ok-clause-done
+returns-in-Ok-clause-done g c = λ zero r t.
+    answers_all g.P.Station.tells (g.P.Station.history c.args.station.now) (g.P.Station.history c.open_host.new.station) (g.P.Station.history c.run_script-run.new.station) c.in-Ok.host c.run_script-run.new.host c.args.moment (lines (g.S.Source.left c.args.source.now))
+    c.in-Ok.ensures.begins (c.in-Ok.ensures.unsaid t)
+    (at_done c.run_script-run.result c.of.result.status c.of.ensures.status zero (c.run_script-run.ensures.ok r)) t
+
+pub returns-in-Ok-clause-ended : goal.returns-in-Ok-clause-ended
+returns-in-Ok-clause-ended g c = λ three r t.
+    rw c.of.ensures.lines
+    (answers_ended g.P.Station.tells (g.P.Station.history c.args.station.now) (g.P.Station.history c.open_host.new.station) (g.P.Station.history c.run_script-run.new.station) c.in-Ok.host c.run_script-run.new.host c.args.moment (g.S.Source.left c.args.source.now) (g.S.Source.left c.run_script-run.new.source)
+    c.in-Ok.ensures.begins (c.in-Ok.ensures.unsaid t)
+    (c.run_script-run.ensures.taken r (at_status c.run_script-run.result (Err SourceFault) c.of.result.status c.of.ensures.status three refl)) t)
+
+pub returns-in-Ok-clause-to_limit : goal.returns-in-Ok-clause-to_limit
+returns-in-Ok-clause-to_limit g c = λ nine r t.
+    answers_all g.P.Station.tells (g.P.Station.history c.args.station.now) (g.P.Station.history c.open_host.new.station) (g.P.Station.history c.run_script-run.new.station) c.in-Ok.host c.run_script-run.new.host c.args.moment (ended_lines (take (2 ^ 30) (g.S.Source.left c.args.source.now)))
+    c.in-Ok.ensures.begins (c.in-Ok.ensures.unsaid t)
+    (c.run_script-run.ensures.limit r (at_status c.run_script-run.result (Err InputLimit) c.of.result.status c.of.ensures.status nine refl)).lines t
+
+pub returns-in-Ok-clause-counted : goal.returns-in-Ok-clause-counted
+returns-in-Ok-clause-counted g c = λ r t.
+    rw c.of.ensures.lines
+    (answers_at_end g.P.Station.tells (g.P.Station.history c.args.station.now) (g.P.Station.history c.open_host.new.station) (g.P.Station.history c.run_script-run.new.station) c.in-Ok.host c.run_script-run.new.host c.args.moment (lines (g.S.Source.left c.args.source.now)) c.run_script-run.result
+    c.in-Ok.ensures.begins (c.in-Ok.ensures.unsaid t) (c.run_script-run.ensures.ok r) (c.run_script-run.ensures.err r) t)
+
+pub returns-in-Ok-clause-stands : goal.returns-in-Ok-clause-stands
+returns-in-Ok-clause-stands g c = λ r t.
+    stands_ran g.P.Station.tells (g.P.Station.history c.args.station.now) (g.P.Station.history c.open_host.new.station) (g.P.Station.history c.run_script-run.new.station) c.in-Ok.host c.args.moment (lines (g.S.Source.left c.args.source.now))
+    c.in-Ok.ensures.begins (c.in-Ok.ensures.unsaid t) (c.run_script-run.ensures.crash r) t
+
+pub returns-in-Ok-clause-crash : goal.returns-in-Ok-clause-crash
+returns-in-Ok-clause-crash g c = λ r t s stands.
+    crash_ran g.P.Station.tells (g.P.Station.history c.args.station.now) (g.P.Station.history c.open_host.new.station) (g.P.Station.history c.run_script-run.new.station) c.in-Ok.host c.args.moment (lines (g.S.Source.left c.args.source.now))
+    c.in-Ok.ensures.begins (c.in-Ok.ensures.unsaid t) s (c.in-Ok.ensures.crash t s stands) (c.run_script-run.ensures.crash r) t stands
+
+-- where it was not opened
+pub returns-in-Err-clause-counted : goal.returns-in-Err-clause-counted
+returns-in-Err-clause-counted g c = λ r t s stands.
+    rw c.of-in-Err.ensures.lines
+    (counted_unopened (g.P.Station.history c.args.station.now) (g.P.Station.history c.open_host.new.station) (begin s c.args.moment) (lines (g.S.Source.left c.args.source.now)) (c.in-Err.ensures.unsaid t))
+
+pub returns-in-Err-clause-stands : goal.returns-in-Err-clause-stands
+returns-in-Err-clause-stands g c = λ r t s stands.
+    stands_unopened (g.P.Station.history c.args.station.now) (g.P.Station.history c.open_host.new.station) s c.args.moment (lines (g.S.Source.left c.args.source.now)) (c.in-Err.ensures.keeps t s stands) (c.in-Err.ensures.unsaid t)
+
+pub returns-in-Err-clause-crash : goal.returns-in-Err-clause-crash
+returns-in-Err-clause-crash g c = λ r t s stands.
+    crash_opened (g.P.Station.history c.args.station.now) (g.P.Station.history c.open_host.new.station) s c.args.moment (lines (g.S.Source.left c.args.source.now)) (c.in-Err.ensures.crash t s stands)
