@@ -8,7 +8,7 @@ ghost use Rattle.wm_state.specs.State.{State, begin, fresh};
 ghost use Rattle.wm_model.specs.Step.{step, answer_text};
 ghost use Rattle.wm_station.specs.Cause.{Rises};
 ghost use Rattle.wm_station.specs.History.{now, said, Leaves};
-ghost use Rattle.wm_store.specs.Holding.{is_made};
+ghost use Rattle.wm_journal.specs.Disk.{is_made};
 ghost use Rattle.wm_station.specs.Moments.{During, Ended, Holds};
 
 use crate::fault::LineFault;

@@ -6,7 +6,7 @@ use Rattle.wm_station.specs.History.{History, Said, now, said, MayHaveSaid}
 use Rattle.wm_station.specs.Moments.{During, Holds, Ended, Silent}
 use Rattle.wm_station.proofs.Steps.{during_begun, during_said, weaken}
 use Rattle.wm_model.specs.Lines.{cap, capped, without_cr, HasNoLf}
-use Rattle.wm_model.specs.State.{State}
+use Rattle.wm_state.specs.State.{State}
 use Rattle.wm_model.specs.Step.{step}
 use Rattle.wm_model.specs.Running.{answer, transcript, after, Stopped}
 use Rattle.wm_model.proofs.Cutting.{capped_last}

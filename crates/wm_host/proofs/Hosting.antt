@@ -7,7 +7,7 @@ use Rattle.wm_engine.proofs.Working.{stands_over, works_said}
 use Rattle.wm_station.specs.History.{History, Said, now, said}
 use Rattle.wm_station.specs.Moments.{During, Ended}
 use Rattle.wm_model.specs.Lines.{cap, capped, without_cr, HasNoLf, held_more}
-use Rattle.wm_model.specs.State.{State}
+use Rattle.wm_state.specs.State.{State}
 use Rattle.wm_model.specs.Step.{step, answer_text}
 use Rattle.wm_model.specs.Running.{answer, transcript, after, IsPart, StopsIn, Standing, Ran, Cut}
 use Rattle.wm_model.proofs.Running.{step-cap, transcript-append, transcript-single, after-append, after-single, ran_none, ran_byte, ran_line, ran_more, ran_then_cut, cut_longer, cut_before, cut_within, stopped_within}

@@ -5,7 +5,7 @@ use Rattle.wm_engine.specs.Working.{FileStands, StandsFor, WorksOver}
 use Rattle.wm_engine.proofs.Working.{stands_over}
 use Rattle.wm_station.specs.History.{History, now}
 use Rattle.wm_model.specs.Lines.{capped, HasNoLf}
-use Rattle.wm_model.specs.State.{State, fresh}
+use Rattle.wm_state.specs.State.{State, fresh}
 use Rattle.wm_model.specs.Running.{transcript, after, Stopped}
 use Rattle.wm_model.proofs.Running.{transcript-append, after-append, ran_lines, ran_ended_lines, stopped_after}
 use Rattle.wm_host.specs.Crash.{Throughout, CrashRuns, CrashAnswers}

@@ -3,7 +3,7 @@ use Rattle.std.specs.Prelude.{ℕ, ◌≡◌, ◌⊎◌, List, [], ◌++◌}
 use Rattle.wm_engine.specs.Working.{FileStands}
 use Rattle.wm_station.specs.History.{History, now, said, Leaves}
 use Rattle.wm_station.specs.Moments.{During}
-use Rattle.wm_model.specs.State.{State}
+use Rattle.wm_state.specs.State.{State}
 use Rattle.wm_model.specs.Step.{step}
 use Rattle.wm_model.specs.Running.{answer, Stopped, Cut}
 use Rattle.wm_host.specs.Hosting.{standing}

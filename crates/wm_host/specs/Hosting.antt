@@ -3,7 +3,7 @@ use Rattle.std.specs.Prelude.{ℕ, ◌≡◌, ◌≤◌, ◌+◌, List, [], ◌�
 use Rattle.wm_engine.specs.Working.{FileStands, StandsFor, WorksOver}
 use Rattle.wm_station.specs.History.{History, now}
 use Rattle.wm_model.specs.Lines.{cap, without_cr, HasNoLf}
-use Rattle.wm_model.specs.State.{State, begin}
+use Rattle.wm_state.specs.State.{State, begin}
 use Rattle.wm_model.specs.Step.{step}
 use Rattle.wm_model.specs.Running.{answer, transcript, after, StopsIn, Standing, Ran, Cut}
 use Rattle.wm_host.specs.Outcome.{HasSaid, Answered, AnswersSome}

@@ -3,7 +3,7 @@ use Rattle.std.specs.Prelude.{ℕ, ◌≡◌, List, ◌∷◌, [], ◌++◌, len
 use Rattle.wm_engine.specs.Working.{FileStands, Tells}
 use Rattle.wm_station.specs.History.{History, now, said}
 use Rattle.wm_model.specs.Lines.{ended_lines}
-use Rattle.wm_model.specs.State.{State, begin}
+use Rattle.wm_state.specs.State.{State, begin}
 use Rattle.wm_model.specs.Running.{transcript, after, Stopped}
 use Rattle.wm_base.specs.declared.fault.OpenFault.TheVariants.{Damaged}
 use Rattle.wm_host.specs.declared.ended.Place.{Place}

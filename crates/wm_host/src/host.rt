@@ -2,7 +2,7 @@
 ghost use Rattle.std.specs.Prelude.{◌≡◌, ◌+◌, ◌^◌, ◌<◌, ◌≤◌, List, [], ◌∷◌, length, OnOk, OnErr, IsErrOf, IfErr, true};
 ghost use Rattle.wm_engine.specs.Working.{StandsFor, WorksOver};
 ghost use Rattle.wm_model.specs.Lines.{HasNoLf, capped};
-ghost use Rattle.wm_model.specs.State.{State};
+ghost use Rattle.wm_state.specs.State.{State};
 ghost use Rattle.wm_station.specs.Cause.{Rises};
 ghost use Rattle.wm_host.specs.Cause.{IsOfAnswers};
 ghost use Rattle.wm_host.specs.Crash.{Throughout, CrashLine, CrashRuns, CrashAnswers};

@@ -3,11 +3,11 @@ ghost use Rattle.std.specs.Prelude.{◌≡◌, ◌^◌, ◌<◌, ◌≤◌, ◌�
 ghost use Rattle.std.specs.List.{list_any};
 ghost use Rattle.wm_engine.specs.Working.{FileStands};
 ghost use Rattle.wm_model.specs.Lines.{lines, ended_lines};
-ghost use Rattle.wm_model.specs.State.{State, begin, fresh};
+ghost use Rattle.wm_state.specs.State.{State, begin, fresh};
 ghost use Rattle.wm_station.specs.Cause.{Rises};
 ghost use Rattle.wm_station.specs.History.{now, said};
 ghost use Rattle.wm_station.specs.Moments.{During, Holds};
-ghost use Rattle.wm_store.specs.Holding.{is_made};
+ghost use Rattle.wm_journal.specs.Disk.{is_made};
 ghost use Rattle.wm_host.specs.Cause.{IsOfMaking, IsOfOpening, StopTells};
 ghost use Rattle.wm_host.specs.Crash.{CrashOfRun, CrashAnswers, CrashOpens};
 ghost use Rattle.wm_host.specs.Hosting.{Begins};

@@ -1,6 +1,6 @@
 use Rattle.std.proofs.Common.{◌∙◌, Some, Option, ap, sym, subst}
 use Rattle.wm_model.specs.Lines.{lines}
-use Rattle.wm_model.specs.State.{begin}
+use Rattle.wm_state.specs.State.{begin}
 use Rattle.wm_host.specs.Outcome.{FromEach, FrontOfRun}
 use Rattle.wm_host.specs.declared.words.Command.{Command}
 use Rattle.wm_host.proofs.Ending.{front_of_answers}

@@ -1,6 +1,6 @@
 use Rattle.std.proofs.lemmas.Result.{on_ok_weaker}
 use Rattle.wm_engine.specs.Working.{FileStands}
-use Rattle.wm_model.specs.State.{fresh}
+use Rattle.wm_state.specs.State.{fresh}
 use Rattle.wm_host.specs.Outcome.{ok_text}
 use Rattle.wm_host.proofs.Making.{holds_said, has_said_whole, has_said_front}
 use Rattle.wm_host.proofs.store.make_store.Goals as goal

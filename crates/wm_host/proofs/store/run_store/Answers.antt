@@ -1,6 +1,6 @@
 use Rattle.std.proofs.Common.{Err, refl, ◌^◌, take}
 use Rattle.wm_model.specs.Lines.{lines, ended_lines}
-use Rattle.wm_model.specs.State.{begin}
+use Rattle.wm_state.specs.State.{begin}
 use Rattle.wm_host.specs.declared.stop.Stop.TheVariants.{SourceFault, InputLimit}
 use Rattle.wm_host.proofs.Ending.{at_done, at_status, answers_all, answers_at_end, answers_ended, crash_opened, crash_ran, stands_ran, stands_unopened, counted_unopened}
 use Rattle.wm_host.proofs.store.run_store.Goals as goal
