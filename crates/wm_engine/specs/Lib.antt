@@ -1,4 +1,3 @@
 pub mod Working
 pub mod Views
 pub mod Planning
-pub mod Counting

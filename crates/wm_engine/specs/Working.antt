@@ -4,6 +4,8 @@ use Rattle.wm_base.specs.declared.fault.Damage.{Damage}
 use Rattle.wm_base.specs.declared.fault.Damage.TheVariants.{Graph}
 use Rattle.wm_base.specs.declared.fault.OpenFault.{OpenFault}
 use Rattle.wm_base.specs.declared.fault.OpenFault.TheVariants.{Disk, NotStore, Damaged, Memory}
+use Rattle.wm_base.specs.declared.fault.StoreFault.{StoreFault}
+use Rattle.wm_base.specs.declared.fault.StoreFault.TheVariants as storing
 use Rattle.wm_graph.specs.Parts.{parts_of}
 use Rattle.wm_graph.specs.Rules.{keep_rules}
 use Rattle.wm_journal.specs.Disk.{is_made}
@@ -16,6 +18,8 @@ use Rattle.wm_station.specs.Moments.{Holds}
 use Rattle.wm_store.specs.Opened.{Held, opened}
 use Rattle.wm_store.specs.Stores.{IsStoreOf}
 use Rattle.wm_store.specs.declared.store.Store.{Store}
+use Rattle.wm_engine.specs.declared.fault.LineFault.{LineFault}
+use Rattle.wm_engine.specs.declared.fault.LineFault.TheVariants as faults
 
 -- what is seen of an engine: its store, the records that it keeps in the order of their ids, the sessions, the moment
 pub record Engaged : Type 0 where
@@ -36,12 +40,20 @@ pub record StandsFor (e : Engaged) (s : State) : Type 0 where
   pub sessions : e.sessions ≡ s.sessions
   pub moment : e.moment ≡ s.moment
 
--- the engine's records are those that what a read gives and what a crash may leave hold
-pub record WorksOver (e : Engaged) (h : History) : Type 0 where
-  pub store : IsStoreOf e.store h
+-- the file holds these records, in the order of their ids
+pub record HoldsSorted (file : List ℕ) (rs : List Stored) : Type 0 where
   pub records : List Stored
-  pub holds : Holds h (Held records)
-  pub same : e.records ≡ by_id records
+  pub held : Held records file
+  pub same : rs ≡ by_id records
+
+-- what a read gives and what a crash may leave is a store, and holds these records
+pub record KeepsOver (store : Store) (rs : List Stored) (h : History) : Type 0 where
+  pub store_is : IsStoreOf store h
+  pub holds : Holds h (λ file. HoldsSorted file rs)
+
+-- the engine's records are those of its store
+abbrev pub WorksOver : Engaged → History → Type 0
+WorksOver e h = KeepsOver e.store e.records h
 
 -- the first test of opening that fails: one on pages and records, or else the rules over all records
 abbrev pub damage_in : Result (List Stored) (ℕ × Damage) → OpenFault → Type 0
@@ -54,3 +66,9 @@ Tells Disk file = Unit {0}
 Tells NotStore file = is_made file ≡ false
 Tells (Damaged p kind) file = (is_made file ≡ true) × damage_in (opened file) (Damaged p kind)
 Tells Memory file = Unit {0}
+
+-- what a fault of the store is to a line
+abbrev pub fault_of : StoreFault → LineFault
+fault_of storing.Disk = faults.Disk
+fault_of storing.Changed = faults.Changed
+fault_of storing.Memory = faults.Memory

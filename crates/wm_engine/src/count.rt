@@ -1,8 +1,7 @@
 //! What a line that changes something counts.
-ghost use Rattle.std.specs.Prelude.{◌≡◌, ◌+◌, ◌<◌, ◌^◌, nat_lt, true, false, IfOk, IfErr, codes};
+ghost use Rattle.std.specs.Prelude.{◌≡◌, ◌+◌, ◌<◌, ◌^◌, nat_lt, true, false, IfSome, IfNone};
 ghost use Rattle.wm_model.specs.Step.{counter_limit, line_work};
-ghost use Rattle.wm_engine.specs.Counting.{spent};
-ghost use Rattle.wm_engine.specs.declared.count.Spent.TheVariants.{Log, Work};
+ghost use Rattle.wm_model.proofs.Doing.{moved};
 
 use wm_spec::record::Counters;
 
@@ -12,41 +11,23 @@ const COUNTER_LIMIT: u64 = 1 << 62;
 /// What a line that changes something adds to the work.
 const LINE_WORK: u64 = 4_096;
 
-/// A counter that a line would take past its end.
-#[derive(Clone, Copy, Debug, PartialEq)]
-pub enum Spent {
-    Log,
-    Work,
-}
-
-impl Spent {
-    /// The counter's name in an answer.
-    pub fn name(self) -> &'static [u8]
-        ensures { result.now ≡ spent self }
-    {
-        match self {
-            Spent::Log => b"LOG",
-            Spent::Work => b"WORK",
-        }
-    }
-}
-
-/// The counters once a line has changed something at a moment and made a log so long, or the first counter
-/// that is at its end.
-pub fn counted(counters: &Counters, log: u64, moment: u64) -> Result<Counters, Spent>
-    ensures log { IfOk result (λ new. nat_lt counter_limit log ≡ false) }
-    ensures work { IfOk result (λ new. nat_lt counter_limit (counters.now.work + line_work) ≡ false) }
-    ensures counted { IfOk result (λ new. new ≡ record counters.now { last_moment = moment; work = counters.now.work + line_work }) }
-    ensures long { IfErr result (λ e. e ≡ Log → nat_lt counter_limit log ≡ true) }
-    ensures much { IfErr result (λ e. e ≡ Work → (nat_lt counter_limit log ≡ false) × (nat_lt counter_limit (counters.now.work + line_work) ≡ true)) }
+/// Whether a log of this length has no room for one entry more.
+pub fn is_log_full(log: u64) -> bool
+    ensures { result ≡ nat_lt counter_limit (log + 1) }
 {
-    if log > COUNTER_LIMIT {
-        return Err(Spent::Log);
-    }
+    log >= COUNTER_LIMIT
+}
+
+/// The counters once a line has changed something at a moment, or None where the work is at its end.
+pub fn counted(counters: &Counters, moment: u64) -> Option<Counters>
+    ensures room { IfSome result (λ new. nat_lt counter_limit (counters.now.work + line_work) ≡ false) }
+    ensures counted { IfSome result (λ new. new ≡ moved counters.now moment) }
+    ensures spent { IfNone result (nat_lt counter_limit (counters.now.work + line_work) ≡ true) }
+{
     if counters.work > COUNTER_LIMIT - LINE_WORK {
-        return Err(Spent::Work);
+        return None;
     }
-    Ok(Counters {
+    Some(Counters {
         last_moment: moment,
         work: counters.work + LINE_WORK,
         ..*counters

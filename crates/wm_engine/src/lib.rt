@@ -2,14 +2,16 @@
 #![tactic(auto)]
 
 mod answer;
+
 mod count;
-mod engine;
+
 mod fault;
+mod plan;
 mod planned;
 mod print;
 mod read;
 mod refuse;
 mod session;
 
-pub use engine::Engine;
+
 pub use fault::LineFault;

@@ -1,5 +1,6 @@
 //! What a line does, worked out before anything changes.
 ghost use Rattle.std.specs.Prelude.{◌≡◌, [], None, Some};
+ghost use Rattle.wm_engine.specs.declared.answer.Answer.TheVariants.{Fine};
 
 use crate::answer::Answer;
 use crate::session::Session;
@@ -25,6 +26,32 @@ impl Planned {
     {
         Planned {
             changes: Changes::new(alloc),
+            session: None,
+            answer,
+        }
+    }
+
+    /// A session is opened.
+    pub fn opening(alloc: Global, session: Session) -> Planned
+        ensures changes { result.changes ≡ [] }
+        ensures session { result.session ≡ Some session }
+        ensures answer { result.answer ≡ Fine }
+    {
+        Planned {
+            changes: Changes::new(alloc),
+            session: Some(session),
+            answer: Answer::Fine,
+        }
+    }
+
+    /// Records are changed.
+    pub fn changing(changes: Changes, answer: Answer) -> Planned
+        ensures changes { result.changes ≡ changes }
+        ensures session { result.session ≡ None }
+        ensures answer { result.answer ≡ answer }
+    {
+        Planned {
+            changes,
             session: None,
             answer,
         }

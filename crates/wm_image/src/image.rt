@@ -108,6 +108,14 @@ impl Image {
         found.unwrap()
     }
 
+    /// Whether there is a table.
+    pub fn has_tables(&self) -> bool
+        ensures some { result ≡ true → (parts_of self.now).tables ≡ [] → ⊥ }
+        ensures none { result ≡ false → (parts_of self.now).tables ≡ [] }
+    {
+        !self.index.tables.is_empty()
+    }
+
     /// The table of a name.
     pub fn table(&self, name: &[u8]) -> Option<&Table>
         requires { keep_rules (parts_of self.now) ≡ true }

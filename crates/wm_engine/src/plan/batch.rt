@@ -1,0 +1,142 @@
+//! The records and the changes that lines make.
+ghost use Rattle.std.specs.Prelude.{◌≡◌, ◌+◌, ◌<◌, ◌≤◌, ◌^◌, ◌∷◌, [], ◌++◌, map, IfOk, OnOk};
+ghost use Rattle.wm_spec.specs.declared.record.Record.TheVariants as records;
+ghost use Rattle.wm_state.specs.Batches.{put, drop_one, create_batch, enable_batch, insert_batch, insert_new_batch, ready};
+ghost use Rattle.wm_state.specs.Effects.{longer};
+
+use std::alloc::Global;
+use wm_base::Memory;
+use wm_spec::record::{
+    Change, Changes, Counters, PieceRecord, Record, RowRecord, Space, Table, TableColumn,
+    TableColumns, Version,
+};
+
+/// A record takes the place of the one of its id, or is new.
+fn put(id: u64, new: Record) -> Change
+    ensures { result ≡ put id new }
+{
+    Change {
+        id,
+        becomes: Some(new),
+    }
+}
+
+/// Drops the records of these ids.
+fn drop_all(changes: &mut Changes, ids: &[u64]) -> Result<(), Memory>
+    ensures { OnOk result (changes.new ≡ changes.old ++ map drop_one ids.now) }
+{
+    for id in ids {
+        changes.push(Change {
+            id: *id,
+            becomes: None,
+        })?;
+    }
+    Ok(())
+}
+
+/// What becomes of the counters and of a table.
+pub fn table_changes(
+    alloc: Global,
+    counters_id: u64,
+    counters: Counters,
+    id: u64,
+    table: Table,
+) -> Result<Changes, Memory>
+    ensures { IfOk result (λ changes. changes ≡ create_batch counters_id counters id table) }
+{
+    let mut changes = Changes::new(alloc);
+    changes.push(put(counters_id, Record::Counters(counters)))?;
+    changes.push(put(id, Record::Table(table)))?;
+    Ok(changes)
+}
+
+/// What is put for a row in the place of the records of some ids.
+pub fn row_changes(
+    alloc: Global,
+    counters_id: u64,
+    counters: Counters,
+    space_id: u64,
+    space: Space,
+    dropped: &[u64],
+    id: u64,
+    row: RowRecord,
+    piece: PieceRecord,
+) -> Result<Changes, Memory>
+    requires { id + 1 < 2 ^ 64 }
+    ensures { IfOk result (λ changes. changes ≡ put counters_id (records.Counters counters) ∷ put space_id (records.Space space) ∷ map drop_one dropped.now ++ put id (records.Row row) ∷ put (id + 1) (records.Piece piece) ∷ []) }
+{
+    let mut changes = Changes::new(alloc);
+    changes.push(put(counters_id, Record::Counters(counters)))?;
+    changes.push(put(space_id, Record::Space(space)))?;
+    drop_all(&mut changes, dropped)?;
+    changes.push(put(id, Record::Row(row)))?;
+    changes.push(put(id + 1, Record::Piece(piece)))?;
+    Ok(changes)
+}
+
+/// The workspace with a log that is longer by one.
+pub fn longer(alloc: Global, space: &Space) -> Result<Space, Memory>
+    requires { space.now.log_length + 1 < 2 ^ 64 }
+    ensures { IfOk result (λ new. new ≡ longer space.now) }
+{
+    let name = space.name.copy(alloc)?;
+    let writer = space.writer.copy(alloc)?;
+    Ok(Space {
+        number: space.number,
+        name,
+        parent: space.parent,
+        born: space.born,
+        birth_version: space.birth_version,
+        birth_place: space.birth_place,
+        base_version: space.base_version,
+        from: space.from,
+        log_length: space.log_length + 1,
+        rebases: space.rebases,
+        next_place: space.next_place,
+        next_implicit: space.next_implicit,
+        freeze: space.freeze,
+        writer,
+    })
+}
+
+/// A copy of a column.
+fn column_copy(alloc: Global, column: &TableColumn) -> Result<TableColumn, Memory>
+    ensures { IfOk result (λ new. new ≡ column.now) }
+{
+    let name = column.name.copy(alloc)?;
+    Ok(TableColumn {
+        name,
+        kind: column.kind,
+        size: column.size,
+        not_null: column.not_null,
+    })
+}
+
+/// A copy of some columns.
+fn column_copies(alloc: Global, columns: &TableColumns) -> Result<TableColumns, Memory>
+    ensures { IfOk result (λ new. new ≡ columns.now) }
+{
+    let mut copies = TableColumns::new(alloc);
+    for column in columns.as_slice() {
+        copies.push(column_copy(alloc, column)?)?;
+    }
+    Ok(copies)
+}
+
+/// The table, ready for rows.
+pub fn readied(alloc: Global, table: &Table) -> Result<Table, Memory>
+    ensures { IfOk result (λ new. new ≡ ready table.now) }
+{
+    let name = table.name.copy(alloc)?;
+    let columns = column_copies(alloc, &table.columns)?;
+    Ok(Table {
+        number: table.number,
+        name,
+        versioned: true,
+        valid: table.valid,
+        history: table.history,
+        has_key: table.has_key,
+        key_column: table.key_column,
+        columns,
+    })
+}
