@@ -1,1 +1,3 @@
 mod Digits
+pub mod Planning
+pub mod Committing

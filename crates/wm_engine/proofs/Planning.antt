@@ -1,0 +1,64 @@
+-- How what a plan says is told of the plan that a function gives.
+use Rattle.std.proofs.Common.{◌≡◌, ℕ, suc, ◌<◌, nat_lt, true, false, ◌==◌, List, [], ◌∷◌, length, Option, Some, None, refl, sym, ap, ◌∙◌, subst, arith}
+use Rattle.std.proofs.lemmas.Bool.Decides.{nat_tests}
+use Rattle.std.specs.Option.{option_and_then, option_to_list}
+use Rattle.wm_base.specs.declared.instant.TheConstants.{END}
+use Rattle.wm_graph.specs.Parts.{parts_of, as_counters}
+use Rattle.wm_graph.specs.Rules.{keep_rules}
+use Rattle.wm_print.specs.Texts.{Answer}
+use Rattle.wm_spec.specs.declared.record.Record.{Record}
+use Rattle.wm_spec.specs.declared.record.Record.TheVariants as records
+use Rattle.wm_spec.specs.declared.record.batch.Change.{Change}
+use Rattle.wm_spec.specs.declared.record.counters.Counters.{Counters}
+use Rattle.wm_spec.specs.declared.record.stored.Stored.{Stored}
+use Rattle.wm_state.specs.State.{State, Session}
+use Rattle.wm_state.specs.ById.{applied}
+use Rattle.wm_model.specs.Planning.{StandsAt, Does, with_opened}
+use Rattle.wm_engine.specs.Planning.{DoesIt}
+use Rattle.wm_engine.specs.Views.{answer_view}
+use Rattle.wm_engine.specs.declared.planned.Planned.{Planned}
+
+-- a plan of these changes, this session and this answer
+pub told : (rs : List Stored) (xs : List Session) (m : ℕ) (p : Planned) (cs : List Change) (opened : Option Session) (answer : Answer) (act : State → State × Answer) → p.changes ≡ cs → p.session ≡ opened → answer_view p.answer ≡ answer
+    → Does rs xs m cs opened answer act → DoesIt rs xs m p act
+told rs xs m p cs opened answer act changes session says does = rw (changes, session, says) does
+
+-- two functions that do the same to each state that the records stand for
+pub does_same : (rs : List Stored) (xs : List Session) (m : ℕ) (cs : List Change) (opened : Option Session) (answer : Answer) (act other : State → State × Answer) → ((s : State) → StandsAt rs xs m s → other s ≡ act s)
+    → Does rs xs m cs opened answer act → Does rs xs m cs opened answer other
+does_same rs xs m cs opened answer act other same does = record {
+  keeps = does.keeps;
+  once = does.once;
+  does = λ s stands. let d = does.does s stands in (subst (λ r. StandsAt (applied cs rs) (with_opened xs opened) m r.0) (sym (same s stands)) d.0, d.1 ∙ ap (λ r. r.1) (sym (same s stands)));
+}
+
+-- a list of no length is empty, and one of some length is not
+pub none_counted : {A : Type 0} (xs : List A) → true ≡ (length xs == 0) → xs ≡ []
+none_counted [] e = refl
+none_counted (x ∷ xs) e = absurd (more (length xs) e)
+  where
+    more : (n : ℕ) → true ≡ (suc n == 0) → ⊥
+    more n e = grind (arith, nat_tests, e)
+
+pub some_counted : {A : Type 0} (xs : List A) → false ≡ (length xs == 0) → xs ≡ [] → ⊥
+some_counted [] e none = absurd (let f : false ≡ true = e in cc)
+some_counted (x ∷ xs) e none = cc
+
+-- a moment that is before the end passes the test for it
+pub early : (m : ℕ) → m < END → nat_lt m END ≡ true
+early m lt = grind (arith, nat_tests, lt)
+
+-- the id of the counters has them
+pub counters_at : (c : Counters) (cs : List Counters) (o : Option Record) → cs ≡ c ∷ [] → cs ≡ option_to_list (option_and_then as_counters o) → o ≡ Some (records.Counters c)
+counters_at c cs None one is = absurd (none_one (sym is ∙ one))
+  where
+    none_one : (let none : List Counters = [] in none) ≡ c ∷ [] → ⊥
+    none_one e = cc
+counters_at c cs (Some (records.Counters d)) one is = ap (λ (k : Counters). Some (records.Counters k)) (first d (sym is ∙ one))
+  where
+    first : (d : Counters) → (d ∷ []) ≡ (c ∷ []) → d ≡ c
+    first d e = cc
+counters_at c cs (Some _) one is = absurd (none_one (sym is ∙ one))
+  where
+    none_one : (let none : List Counters = [] in none) ≡ c ∷ [] → ⊥
+    none_one e = cc
