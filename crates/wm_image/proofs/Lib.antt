@@ -9,3 +9,4 @@ pub mod Walking
 pub mod Naming
 pub mod Using
 pub mod Dropping
+pub mod Leaves
