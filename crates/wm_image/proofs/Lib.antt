@@ -9,3 +9,5 @@ pub mod Walking
 pub mod Naming
 pub mod Using
 pub mod Tabled
+pub mod Dropping
+pub mod Leaves

@@ -97,7 +97,7 @@ used_told k (e ∷ es) sorted =
         there false = ap (λ c. c || list_any (is_at (key_order k)) (used es)) apart ∙ rest
 
 -- some record passes where ids do
-some_ids : (p : Record → Bool) (ss : List Stored) → not (is_nil (ids_with p ss)) ≡ list_any p (all_of ss)
+pub some_ids : (p : Record → Bool) (ss : List Stored) → not (is_nil (ids_with p ss)) ≡ list_any p (all_of ss)
 some_ids p [] = refl
 some_ids p (s ∷ ss) = by_test (p s.record) (some_ids p ss)
   where

@@ -4,7 +4,7 @@ use Rattle.std.specs.BTreeMap.{BTreeMap, IsOrdered}
 use Rattle.std.specs.Ordering.{nat_cmp}
 use Rattle.wm_spec.specs.declared.record.Record.{Record}
 use Rattle.wm_spec.specs.declared.record.stored.Stored.{Stored}
-use Rattle.wm_image.specs.Sought.{Sought, TheCounters, Tables, SpaceAt, VersionAt, VersionsOf, RowAt, PiecesAt, is_sought, ids_with, placed, without, ids_in, piece_ids}
+use Rattle.wm_image.specs.Sought.{Sought, TheCounters, Tables, SpaceAt, VersionAt, VersionsOf, VersionsUnder, RowAt, PiecesAt, is_sought, ids_with, placed, without, ids_in, piece_ids}
 use Rattle.wm_image.specs.declared.index.Index.{Index}
 
 -- the ids that an index has of what is sought
@@ -14,6 +14,7 @@ ids_at x Tables = x.tables.items
 ids_at x (SpaceAt number) = ids_in nat_cmp x.spaces.entries number
 ids_at x (VersionAt number) = ids_in nat_cmp x.versions.entries number
 ids_at x (VersionsOf space) = ids_in nat_cmp x.versions_of.entries space
+ids_at x (VersionsUnder parent) = ids_in nat_cmp x.versions_under.entries parent
 ids_at x (RowAt stamp) = ids_in nat_cmp x.rows.entries stamp
 ids_at x (PiecesAt table key) = piece_ids x.pieces.entries table key
 

@@ -13,14 +13,15 @@ use Rattle.wm_spec.specs.declared.record.Record.TheVariants as records
 use Rattle.wm_spec.specs.declared.record.stored.Stored.{Stored}
 use Rattle.wm_spec.specs.Records.{record_at}
 
--- counters; tables; a workspace or a version by its number; the versions of a workspace; a row by its stamp; the pieces on a
--- table and a key
+-- counters; tables; a workspace or a version by its number; the versions of a workspace, or those under a version; a row by
+-- its stamp; the pieces on a table and a key
 pub data Sought : Type 0 where
   TheCounters : Sought
   Tables : Sought
   SpaceAt : ℕ → Sought
   VersionAt : ℕ → Sought
   VersionsOf : ℕ → Sought
+  VersionsUnder : ℕ → Sought
   RowAt : ℕ → Sought
   PiecesAt : ℕ → List Value → Sought
 
@@ -31,9 +32,15 @@ is_sought Tables (records.Table r) = true
 is_sought (SpaceAt number) (records.Space r) = r.number == number
 is_sought (VersionAt number) (records.Version r) = r.number == number
 is_sought (VersionsOf space) (records.Version r) = r.space == space
+is_sought (VersionsUnder parent) (records.Version r) = r.parent == parent
 is_sought (RowAt stamp) (records.Row r) = r.stamp == stamp
 is_sought (PiecesAt table key) (records.Piece r) = (r.cells.table == table) && is_eq (key_order r.cells.key key)
 is_sought _ _ = false
+
+-- the record is a piece of a version
+abbrev pub has_version : ℕ → Option Record → Bool
+has_version version (Some (records.Piece x)) = x.version == version
+has_version version _ = false
 
 -- the ids of the records that pass a test
 abbrev pub ids_with : (Record → Bool) → List Stored → List ℕ

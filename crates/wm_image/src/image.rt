@@ -1,4 +1,4 @@
-ghost use Rattle.std.specs.Prelude.{◌≡◌, ◌<◌, ◌≤◌, ◌+◌, ◌^◌, ℕ, List, map, [], ◌∷◌, true, false, None, option_map, is_some, IsSome, IfSome, IfNone, IfOk, IfErr, OnOk, OnErr};
+ghost use Rattle.std.specs.Prelude.{◌≡◌, ◌<◌, ◌≤◌, ◌+◌, ◌^◌, ◌==◌, ℕ, not, List, map, [], ◌∷◌, true, false, None, option_map, is_some, IsSome, IfSome, IfNone, IfOk, IfErr, OnOk, OnErr};
 ghost use Rattle.std.specs.List.{find, list_any};
 ghost use Rattle.std.specs.List.Sorted.{IsStrictlySortedBy};
 ghost use Rattle.std.specs.Ordering.{is_eq};
@@ -8,12 +8,14 @@ ghost use Rattle.wm_spec.specs.declared.record.stored.Stored.{Stored};
 ghost use Rattle.std.specs.Option.{option_and_then, option_copied, option_to_list};
 ghost use Rattle.std.specs.Str.{bytes_eq};
 ghost use Rattle.wm_spec.specs.declared.record.table.Table.{Table as OneTable};
+ghost use Rattle.wm_spec.specs.declared.record.version.Version.{Version as OneVersion};
 ghost use Rattle.wm_base.specs.declared.instant.TheConstants.{END};
 ghost use Rattle.wm_period.specs.Pieces.{held_at};
-ghost use Rattle.wm_graph.specs.Parts.{as_counters, as_space, parts_of, row_of, space_of, table_of, version_of};
+ghost use Rattle.wm_graph.specs.Parts.{as_counters, as_space, as_table, parts_of, row_of, space_of, table_of, version_of};
 ghost use Rattle.wm_graph.specs.Rules.{keep_rules};
 ghost use Rattle.wm_spec.specs.Records.{AreRecords, record_at};
 ghost use Rattle.wm_image.specs.Sought.{PiecesAt, ids_with, is_sought};
+ghost use Rattle.wm_state.specs.Batches.{is_out, keeps};
 ghost use Rattle.wm_state.specs.ById.{Ascend, applied, by_id};
 ghost use Rattle.wm_state.specs.Standing.{by_number, held_by, latest, shown};
 
@@ -24,8 +26,8 @@ use crate::kinds;
 use crate::laying::lay_path;
 use crate::load::{ImageFault, put_all, sorted};
 use crate::records::{Kept, at, change_all, first, next_id};
-use crate::shown::{latest_of, nearest, version_at};
-use crate::tables::{first_named, first_numbered};
+use crate::shown::{latest_of, nearest, own_ids, version_at};
+use crate::tables::{first_named, first_numbered, id_named};
 use std::alloc::Global;
 use std::collections::BTreeMap;
 use std::marker::Model;
@@ -135,6 +137,7 @@ impl Image {
     pub fn next_id(&self) -> Option<u64>
         ensures above { IfSome result (λ next. (id : ℕ) → next ≤ id → record_at self.now id ≡ None) }
         ensures full { IfNone result ((id : ℕ) × (2 ^ 64 ≤ id + 1) × IsSome (record_at self.now id)) }
+        ensures ascend { Ascend self.now }
     {
         next_id(&self.kept)
     }
@@ -146,6 +149,15 @@ impl Image {
     {
         let found = first_id(self.index.counters.as_slice());
         found.unwrap()
+    }
+
+    /// The id of the table of a name.
+    pub fn id_of_table(&self, name: &[u8]) -> Option<u64>
+        requires { keep_rules (parts_of self.now) ≡ true }
+        ensures there { option_and_then as_table (option_and_then (record_at self.now) result) ≡ find (λ (t : OneTable). bytes_eq name.now t.name) (by_number (parts_of self.now).tables) }
+        ensures found { is_some result ≡ is_some (find (λ (t : OneTable). bytes_eq name.now t.name) (by_number (parts_of self.now).tables)) }
+    {
+        id_named(&self.kept, self.index.tables.as_slice(), name)
     }
 
     /// The id of the workspace of a number.
@@ -177,6 +189,13 @@ impl Image {
         latest_of(&self.kept, &self.index, space)
     }
 
+    /// Whether no version stands under this one.
+    pub fn is_leaf(&self, version: u64) -> bool
+        ensures { result ≡ not (list_any (λ (v : OneVersion). v.parent == version) (parts_of self.now).versions) }
+    {
+        ids_of(&self.index.versions_under, &version).is_empty()
+    }
+
     /// The piece that a workspace has at a moment for a key of a table: that of the nearest version on the path of
     /// its newest one. Only the pieces of that key are looked at.
     pub fn shown_at(&self, space: u32, table: u16, key: &Key, time: Instant) -> Option<&PieceRecord>
@@ -204,6 +223,22 @@ impl Image {
         ensures { result.now ≡ ids_with (is_sought (PiecesAt table key.now)) self.now }
     {
         ids_on(&self.index.pieces, table, key)
+    }
+
+    /// The ids of the pieces that a version itself has for a key of a table, in order. Only the pieces of that key
+    /// are looked at.
+    pub fn pieces_in(
+        &self,
+        alloc: Global,
+        version: u64,
+        table: u16,
+        key: &Key,
+    ) -> Result<Vec<u64>, Memory>
+        ensures { IfOk result (λ ids. ids.items ≡ ids_with (λ r. not (keeps (is_out version table key.now) r)) self.now) }
+    {
+        let ids = ids_on(&self.index.pieces, table, key);
+        let own = own_ids(alloc, &self.kept, ids, version)?;
+        Ok(own)
     }
 
     /// Each key for which a table has pieces, of any version, once and in order.

@@ -12,7 +12,7 @@ use wm_base::Memory;
 use wm_spec::record::Record;
 
 /// Ids in ascending order: of the counters and the tables; of workspaces and versions by number; of the
-/// versions of a workspace; of rows by stamp; of pieces by table and key.
+/// versions of a workspace, and of those under a version; of rows by stamp; of pieces by table and key.
 #[derive(Drop)]
 pub struct Index {
     pub counters: Vec<u64>,
@@ -20,6 +20,7 @@ pub struct Index {
     pub spaces: Ids<u32>,
     pub versions: Ids<u64>,
     pub versions_of: Ids<u32>,
+    pub versions_under: Ids<u64>,
     pub rows: Ids<u64>,
     pub pieces: TableIds,
 }
@@ -35,6 +36,7 @@ impl Index {
             spaces: BTreeMap::new(alloc),
             versions: BTreeMap::new(alloc),
             versions_of: BTreeMap::new(alloc),
+            versions_under: BTreeMap::new(alloc),
             rows: BTreeMap::new(alloc),
             pieces: BTreeMap::new(alloc),
         }
@@ -50,7 +52,8 @@ impl Index {
             Record::Space(space) => add_to(alloc, &mut self.spaces, space.number, id),
             Record::Version(version) => {
                 add_to(alloc, &mut self.versions, version.number, id)?;
-                add_to(alloc, &mut self.versions_of, version.space, id)
+                add_to(alloc, &mut self.versions_of, version.space, id)?;
+                add_to(alloc, &mut self.versions_under, version.parent, id)
             }
             Record::Row(row) => add_to(alloc, &mut self.rows, row.stamp, id),
             Record::Piece(piece) => add_on(
@@ -73,7 +76,8 @@ impl Index {
             Record::Space(space) => return drop_from(&mut self.spaces, space.number, id),
             Record::Version(version) => {
                 drop_from(&mut self.versions, version.number, id)?;
-                return drop_from(&mut self.versions_of, version.space, id);
+                drop_from(&mut self.versions_of, version.space, id)?;
+                return drop_from(&mut self.versions_under, version.parent, id);
             }
             Record::Row(row) => return drop_from(&mut self.rows, row.stamp, id),
             Record::Piece(piece) => {

@@ -1,11 +1,14 @@
 //! What the versions of a workspace hold.
 
-ghost use Rattle.std.specs.Prelude.{◌≡◌, true, option_map};
+ghost use Rattle.std.specs.Prelude.{◌≡◌, true, option_map, IfOk};
+ghost use Rattle.std.specs.List.{filter};
 ghost use Rattle.std.specs.Option.{option_copied, option_and_then};
 ghost use Rattle.wm_graph.specs.Parts.{parts_of, as_piece, as_version};
 ghost use Rattle.wm_graph.specs.Rules.{keep_rules};
 ghost use Rattle.wm_image.specs.Indexed.{IsIndexed, listed};
 ghost use Rattle.wm_image.specs.Shown.{along, first_held, greatest, held_here, kind_at, newer};
+ghost use Rattle.wm_spec.specs.Records.{record_at};
+ghost use Rattle.wm_image.specs.Sought.{has_version};
 ghost use Rattle.wm_state.specs.Standing.{held_by, latest, newest_first};
 ghost use Rattle.wm_graph.specs.Parts as parts;
 ghost use Rattle.wm_tree.specs.Versions.{path_in};
@@ -14,6 +17,8 @@ use crate::index::Index;
 use crate::keyed::ids_of;
 use crate::kinds::version_of;
 use crate::records::{Kept, at, first};
+use std::alloc::Global;
+use wm_base::Memory;
 use wm_spec::record::{PieceRecord, Record, Version};
 
 /// The version of a number.
@@ -67,6 +72,29 @@ fn covering(found: Option<&Record>, version: u64, time: u64) -> Option<&PieceRec
         }
         _ => None,
     }
+}
+
+/// Whether a record is a piece of a version.
+fn is_own(found: Option<&Record>, version: u64) -> bool
+    ensures { result ≡ has_version version (option_copied found.entry) }
+{
+    match found {
+        Some(Record::Piece(piece)) => piece.version == version,
+        _ => false,
+    }
+}
+
+/// Those of some ids whose record is a piece of a version.
+pub fn own_ids(alloc: Global, kept: &Kept, ids: &[u64], version: u64) -> Result<Vec<u64>, Memory>
+    ensures { IfOk result (λ own. own.items ≡ filter (λ id. has_version version (record_at (listed kept.now.entries) id)) ids.now) }
+{
+    let mut own = Vec::new(alloc);
+    for id in ids {
+        if is_own(at(kept, *id), version) {
+            own.push(*id)?;
+        }
+    }
+    Ok(own)
 }
 
 /// The first of some pieces of one table and key that is of a version and covers a moment.

@@ -1,12 +1,13 @@
 //! Tables by their names and numbers.
 
-ghost use Rattle.std.specs.Prelude.{◌≡◌, ◌==◌};
+ghost use Rattle.std.specs.Prelude.{◌≡◌, ◌==◌, is_some};
 ghost use Rattle.std.specs.List.{find};
 ghost use Rattle.std.specs.Option.{option_copied, option_and_then};
 ghost use Rattle.std.specs.Str.{bytes_eq};
 ghost use Rattle.wm_graph.specs.Parts.{as_table};
 ghost use Rattle.wm_image.specs.Indexed.{listed};
 ghost use Rattle.wm_image.specs.Shown.{kind_at, passing};
+ghost use Rattle.wm_spec.specs.Records.{record_at};
 ghost use Rattle.wm_spec.specs.declared.record.table.Table.{Table as OneTable};
 
 use crate::kinds::table_of;
@@ -45,6 +46,19 @@ pub fn first_named<'a>(kept: &'a Kept, ids: &[u64], name: &[u8]) -> Option<&'a T
         let found = named(at(kept, *id), name);
         if found.is_some() {
             return found;
+        }
+    }
+    None
+}
+
+/// The first of some ids whose record is a table of a name.
+pub fn id_named(kept: &Kept, ids: &[u64], name: &[u8]) -> Option<u64>
+    ensures there { option_and_then as_table (option_and_then (record_at (listed kept.now.entries)) result) ≡ find (λ (t : OneTable). bytes_eq name.now t.name) (kind_at as_table (listed kept.now.entries) ids.now) }
+    ensures found { is_some result ≡ is_some (find (λ (t : OneTable). bytes_eq name.now t.name) (kind_at as_table (listed kept.now.entries) ids.now)) }
+{
+    for id in ids {
+        if named(at(kept, *id), name).is_some() {
+            return Some(*id);
         }
     }
     None
