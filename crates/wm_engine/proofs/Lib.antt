@@ -1,2 +1,3 @@
 mod Digits
+pub mod Fitting
 pub mod Working
