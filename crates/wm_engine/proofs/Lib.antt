@@ -1,3 +1,5 @@
 mod Digits
 pub mod Planning
 pub mod Committing
+pub mod Fitting
+pub mod Working

@@ -75,7 +75,7 @@ before-none (y ∷ front) back t e =
     middle P (z ∷ front) e = middle P front (either_false (P z) (list_any P (front ++ t ∷ back)) e).1
 
 -- a table that has a record is found by its number
-table_there : (rs : List Stored) (id : ℕ) (t : Table) → keep_rules (parts_of rs) ≡ true → record_at rs id ≡ Some (records.Table t) → table_of (parts_of rs).tables t.number ≡ Some t
+pub table_there : (rs : List Stored) (id : ℕ) (t : Table) → keep_rules (parts_of rs) ≡ true → record_at rs id ≡ Some (records.Table t) → table_of (parts_of rs).tables t.number ≡ Some t
 table_there rs id t rules found = by_split (split_of rs id (records.Table t) found)
   where
     numbers : differ (λ (t u : Table). t.number == u.number) (parts_of rs).tables ≡ true
@@ -96,7 +96,7 @@ pub record Taking (t : Table) (key value : ℤ) : Type 0 where
   pub key_is : key_of t (row_values key value) ≡ Some (Num key ∷ [])
   pub key_fits : is_key_of (Num key ∷ []) t ≡ true
 
-taking : (t : Table) (key value : ℤ) → t.has_key ≡ true → takes t (row_values key value) ≡ true → Taking t key value
+pub taking : (t : Table) (key value : ℤ) → t.has_key ≡ true → takes t (row_values key value) ≡ true → Taking t key value
 taking t key value keyed e =
     let h = both (not t.valid && not t.history) ((t.key_column == 0) && fit_columns t.columns (row_values key value)) e in
     let g = both (t.key_column == 0) (fit_columns t.columns (row_values key value)) h.1 in
@@ -115,7 +115,7 @@ taking t key value keyed e =
 -- ---- the row is written
 
 -- the key and the piece are of one table: what is kept does not collide
-kept_apart : (v table : ℕ) (key : List Value) (x : PieceRecord) → x.version ≡ v → x.cells.table ≡ table → x.cells.key ≡ key → (y : PieceRecord) → is_out v table key y ≡ true → collide y x ≡ false
+pub kept_apart : (v table : ℕ) (key : List Value) (x : PieceRecord) → x.version ≡ v → x.cells.table ≡ table → x.cells.key ≡ key → (y : PieceRecord) → is_out v table key y ≡ true → collide y x ≡ false
 kept_apart v table key x version of_table of_key y out =
     rw (version, of_table, of_key, not_true (is_in v table key y) out) refl
 
@@ -132,7 +132,7 @@ pub record Served (rs : List Stored) (m : ℕ) (t : Table) (a : Space) (c : Coun
   pub early : nat_lt m END ≡ true
   pub leaf : IsLeaf (latest (parts_of rs) 0) (newest_first (parts_of rs).versions)
 
-first_counters : (a b : Counters) → (a ∷ []) ≡ (b ∷ []) → a ≡ b
+pub first_counters : (a b : Counters) → (a ∷ []) ≡ (b ∷ []) → a ≡ b
 first_counters a b h = cc
 
 stepped_well : (c : Counters) (m : ℕ) → are_counters (moved c m) ≡ true → nat_lt c.limit c.next_stamp ≡ false → are_counters (stepped c m) ≡ true
@@ -191,16 +191,18 @@ does_add rs xs m user name key value t a c counters_id space_id ids id some on v
   does = λ s st.
       let counts = counts_as rs xs m s c st v.one in
       let is = added_is rs xs m user name key value t a c s st some (and_true t.versioned _ on v.takes_it) v.space hidden v.one v.left
-          ∙ not_spent s (log_length s.spaces live + 1) (written (new_entry s user t key value) s, Done 1)
-              (ap (λ n. nat_lt counter_limit (n + 1)) (log_is rs xs m s a st v.space) ∙ v.short)
-              (ap (λ w. nat_lt counter_limit (w + line_work)) (sym counts.work) ∙ v.room) in
-      (subst (λ q. StandsAt (applied (insert_batch counters_id (stepped c m) space_id a ids id r x) rs) xs m q.0) (sym is) (record {
+      ∙ not_spent s (log_length s.spaces live + 1) (written (new_entry s user t key value) s, Done 1)
+      (ap (λ n. nat_lt counter_limit (n + 1)) (log_is rs xs m s a st v.space) ∙ v.short)
+      (ap (λ w. nat_lt counter_limit (w + line_work)) (sym counts.work) ∙ v.room) in (
+        subst (λ q. StandsAt (applied (insert_batch counters_id (stepped c m) space_id a ids id r x) rs) xs m q.0) (sym is) (record {
           stands = plan_inserted rs counters_id space_id c (stepped c m) a ids id r x 0 (new_entry s user t key value) (record { values = row_values key value }) s _ st.stands sorted there v.one space_there dropped under
               (may_insert rs m t a c key value v) (may_write s counts.next_stamp) refl refl
               (λ front back. record { counters = stepped c m; one = refl; next_stamp = ap (λ n. n + 1) counts.next_stamp; last_moment = st.moment_is; limit = counts.limit; work = ap (λ w. w + line_work) counts.work });
           sessions_are = st.sessions_are;
           moment_is = st.moment_is;
-        }), sym (ap (λ q. q.1) is));
+        }),
+        sym (ap (λ q. q.1) is),
+      );
 }
   where
     r : RowRecord

@@ -5,4 +5,5 @@ pub mod Doing
 pub mod Enabling
 pub mod Adding
 pub mod Added
+pub mod AddedNew
 mod Samples

@@ -1,4 +1,5 @@
 pub mod Committing
+pub mod Fitting
 pub mod Freshly
 pub mod Mending
 pub mod Opening

@@ -1,7 +1,7 @@
 //! The records and the changes that lines make.
 ghost use Rattle.std.specs.Prelude.{◌≡◌, ◌+◌, ◌<◌, ◌≤◌, ◌^◌, ◌∷◌, [], ◌++◌, map, IfOk, OnOk};
 ghost use Rattle.wm_spec.specs.declared.record.Record.TheVariants as records;
-ghost use Rattle.wm_state.specs.Batches.{put, drop_one, create_batch, enable_batch, insert_batch, insert_new_batch, ready};
+ghost use Rattle.wm_state.specs.Batches.{put, drop_one, create_batch, ready};
 ghost use Rattle.wm_state.specs.Effects.{longer};
 
 use std::alloc::Global;
@@ -71,6 +71,36 @@ pub fn row_changes(
     drop_all(&mut changes, dropped)?;
     changes.push(put(id, Record::Row(row)))?;
     changes.push(put(id + 1, Record::Piece(piece)))?;
+    Ok(changes)
+}
+
+/// The same in a version more.
+pub fn row_changes_above(
+    alloc: Global,
+    counters_id: u64,
+    counters: Counters,
+    space_id: u64,
+    space: Space,
+    id: u64,
+    version: Version,
+    row: RowRecord,
+    piece: PieceRecord,
+) -> Result<Changes, Memory>
+    requires { id + 2 < 2 ^ 64 }
+    ensures { IfOk result (λ changes. changes ≡ put counters_id (records.Counters counters) ∷ put space_id (records.Space space) ∷ put (id + 1) (records.Row row) ∷ put (id + 1 + 1) (records.Piece piece) ∷ put id (records.Version version) ∷ []) }
+{
+    let mut changes = row_changes(
+        alloc,
+        counters_id,
+        counters,
+        space_id,
+        space,
+        &[],
+        id + 1,
+        row,
+        piece,
+    )?;
+    changes.push(put(id, Record::Version(version)))?;
     Ok(changes)
 }
 

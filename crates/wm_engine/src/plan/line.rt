@@ -1,0 +1,69 @@
+//! A line.
+ghost use Rattle.std.specs.Prelude.{◌≡◌, ◌<◌, true, IfOk};
+ghost use Rattle.wm_base.specs.declared.instant.TheConstants.{END};
+ghost use Rattle.wm_graph.specs.Parts.{parts_of};
+ghost use Rattle.wm_graph.specs.Rules.{keep_rules};
+ghost use Rattle.wm_model.specs.Step.{run_line, step};
+ghost use Rattle.wm_model.specs.Grammar.{line_of};
+ghost use Rattle.wm_state.specs.State.{State};
+ghost use Rattle.wm_store.specs.Spelled.{FitPages};
+ghost use Rattle.wm_engine.specs.Planning.{DoesIt};
+
+use crate::answer::Answer;
+use crate::plan::connect::connect;
+use crate::plan::statement::run;
+use crate::planned::Planned;
+use crate::read::form::{is_remark, line};
+use crate::read::tree::Line;
+use crate::refuse::not_built;
+use crate::session::Session;
+use std::alloc::Global;
+use wm_base::Memory;
+use wm_image::Image;
+
+/// The most bytes that a line may have.
+const LINE_LIMIT: usize = 16_384;
+
+/// What a line that fits and is no remark does and answers.
+fn plan_form(
+    alloc: Global,
+    image: &Image,
+    sessions: &[Session],
+    moment: u64,
+    text: &[u8],
+) -> Result<Planned, Memory>
+    requires rules { keep_rules (parts_of image.now) ≡ true }
+    requires moment { moment < END }
+    ensures does { IfOk result (λ p. DoesIt image.now sessions.now moment p (run_line (line_of text.now))) }
+    ensures fit { IfOk result (λ p. FitPages p.changes) }
+{
+    match line(text) {
+        None => Ok(Planned::answered(alloc, not_built())),
+        Some(Line::Connect { session, user }) => connect(alloc, sessions, session, user),
+        Some(Line::Run { session, statement }) => {
+            run(alloc, image, sessions, moment, session, &statement)
+        }
+    }
+}
+
+/// What a line does and answers.
+pub fn plan(
+    alloc: Global,
+    image: &Image,
+    sessions: &[Session],
+    moment: u64,
+    text: &[u8],
+) -> Result<Planned, Memory>
+    requires rules { keep_rules (parts_of image.now) ≡ true }
+    requires moment { moment < END }
+    ensures does { IfOk result (λ p. DoesIt image.now sessions.now moment p (λ s. step s text.now)) }
+    ensures fit { IfOk result (λ p. FitPages p.changes) }
+{
+    if text.len() > LINE_LIMIT {
+        return Ok(Planned::answered(alloc, not_built()));
+    }
+    if is_remark(text) {
+        return Ok(Planned::answered(alloc, Answer::Nothing));
+    }
+    plan_form(alloc, image, sessions, moment, text)
+}

@@ -1,0 +1,189 @@
+//! A row that is written into LIVE.
+ghost use Rattle.std.specs.Prelude.{◌≡◌, ◌+◌, ◌<◌, ◌≤◌, ◌^◌, ◌∷◌, [], ℕ, List, true, false, None, Some, is_some, IfOk};
+ghost use Rattle.wm_base.specs.declared.instant.TheConstants.{END};
+ghost use Rattle.wm_base.specs.declared.value.Value.TheVariants.{Num};
+ghost use Rattle.wm_graph.specs.Parts.{parts_of};
+ghost use Rattle.wm_model.proofs.Adding.{row_values};
+ghost use Rattle.wm_model.proofs.Doing.{moved};
+ghost use Rattle.wm_model.proofs.Enabling.{named};
+ghost use Rattle.wm_model.specs.Step.{add_row};
+ghost use Rattle.wm_spec.specs.Records.{record_at};
+ghost use Rattle.wm_state.specs.Effects.{IsLeaf};
+ghost use Rattle.wm_state.specs.Standing.{latest, newest_first};
+ghost use Rattle.wm_state.specs.State.{Session as SessionState};
+ghost use Rattle.wm_store.specs.Spelled.{FitPages};
+ghost use Rattle.wm_engine.specs.Planning.{DoesIt, MayWrite};
+
+use crate::answer::Answer;
+use crate::count::counted;
+use crate::plan::batch::{longer, row_changes, row_changes_above};
+use crate::planned::Planned;
+use crate::refuse::at_its_end;
+use std::alloc::Global;
+use wm_base::{END, Key, Kind, Memory, Value, Values};
+use wm_image::Image;
+use wm_spec::record::{CellRange, Counters, PieceRecord, RowRecord, Space, Table, Version};
+
+/// The number of LIVE.
+pub const LIVE: u32 = 0;
+
+/// The greatest id that leaves room for two more.
+const ID_LIMIT: u64 = u64::MAX - 2;
+
+/// A row to be written, with what was looked up for it.
+pub struct Writing<'a> {
+    pub table: &'a Table,
+    pub live: &'a Space,
+    pub counters: Counters,
+    pub key: i64,
+    pub value: i64,
+}
+
+/// A row of two numbers.
+fn row_of(alloc: Global, stamp: u64, table: u16, key: i64, value: i64) -> Result<RowRecord, Memory>
+    ensures { IfOk result (λ row. row ≡ record { stamp = stamp; table = table; values = row_values key value }) }
+{
+    let mut values = Values::new(alloc);
+    values.push(Value::Num(key))?;
+    values.push(Value::Num(value))?;
+    Ok(RowRecord {
+        stamp,
+        table,
+        values,
+    })
+}
+
+/// What a version holds for a key at all moments, once a row was inserted.
+fn piece_of(version: u64, table: u16, key: Key, stamp: u64) -> PieceRecord
+    ensures { result ≡ record { version = version; cells = record { table = table; key = key; from = 0; till = END }; stamp = stamp; kind = Kind.Insert; gone = false } }
+{
+    PieceRecord {
+        version,
+        cells: CellRange {
+            table,
+            key,
+            from: 0,
+            till: END,
+        },
+        stamp,
+        kind: Kind::Insert,
+        gone: false,
+    }
+}
+
+/// Writes a row into LIVE's newest version, under which none stands.
+fn write_here(
+    alloc: Global,
+    image: &Image,
+    moment: u64,
+    writing: &Writing<'_>,
+    counters: Counters,
+    id: u64,
+) -> Result<Planned, Memory>
+    requires may { MayWrite image.now moment writing.now.table.now writing.now.live.now writing.now.counters writing.now.key writing.now.value }
+    requires counters { counters ≡ moved writing.now.counters moment }
+    requires leaf { IsLeaf (latest (parts_of image.now) 0) (newest_first (parts_of image.now).versions) }
+    requires ids { (i : ℕ) → id ≤ i → record_at image.now i ≡ None }
+    requires room { id + 2 < 2 ^ 64 }
+    ensures does { IfOk result (λ p. (xs : List SessionState) (user name : List ℕ) → named image.now name ≡ Some writing.now.table.now → DoesIt image.now xs moment p (add_row user name writing.now.key writing.now.value)) }
+    ensures fit { IfOk result (λ p. FitPages p.changes) }
+{
+    let version = image.latest(LIVE);
+    let stamp = writing.counters.next_stamp;
+    let table = writing.table.number;
+    let key = Key::single(alloc, Value::Num(writing.key))?;
+    let dropped = image.pieces_in(alloc, version, table, &key)?;
+    let row = row_of(alloc, stamp, table, writing.key, writing.value)?;
+    let piece = piece_of(version, table, key, stamp);
+    let space = longer(alloc, writing.live)?;
+    let space_id = image.id_of_space(LIVE).unwrap();
+    let counters = Counters {
+        next_stamp: stamp + 1,
+        ..counters
+    };
+    let changes = row_changes(
+        alloc,
+        image.id_of_counters(),
+        counters,
+        space_id,
+        space,
+        &dropped,
+        id,
+        row,
+        piece,
+    )?;
+    Ok(Planned::changing(changes, Answer::Done(1)))
+}
+
+/// Writes a row into a version more of LIVE.
+fn write_above(
+    alloc: Global,
+    image: &Image,
+    moment: u64,
+    writing: &Writing<'_>,
+    counters: Counters,
+    id: u64,
+) -> Result<Planned, Memory>
+    requires may { MayWrite image.now moment writing.now.table.now writing.now.live.now writing.now.counters writing.now.key writing.now.value }
+    requires counters { counters ≡ moved writing.now.counters moment }
+    requires ids { (i : ℕ) → id ≤ i → record_at image.now i ≡ None }
+    requires room { id + 2 < 2 ^ 64 }
+    ensures does { IfOk result (λ p. (xs : List SessionState) (user name : List ℕ) → named image.now name ≡ Some writing.now.table.now → DoesIt image.now xs moment p (add_row user name writing.now.key writing.now.value)) }
+    ensures fit { IfOk result (λ p. FitPages p.changes) }
+{
+    let version = Version {
+        number: writing.counters.next_version,
+        space: LIVE,
+        parent: image.latest(LIVE),
+    };
+    let stamp = writing.counters.next_stamp;
+    let table = writing.table.number;
+    let key = Key::single(alloc, Value::Num(writing.key))?;
+    let row = row_of(alloc, stamp, table, writing.key, writing.value)?;
+    let piece = piece_of(version.number, table, key, stamp);
+    let space = longer(alloc, writing.live)?;
+    let space_id = image.id_of_space(LIVE).unwrap();
+    let counters = Counters {
+        next_stamp: stamp + 1,
+        next_version: version.number + 1,
+        ..counters
+    };
+    let changes = row_changes_above(
+        alloc,
+        image.id_of_counters(),
+        counters,
+        space_id,
+        space,
+        id,
+        version,
+        row,
+        piece,
+    )?;
+    Ok(Planned::changing(changes, Answer::Done(1)))
+}
+
+/// Writes a row into LIVE: into its newest version, or into a version more where another stands under that one.
+pub fn write_row(
+    alloc: Global,
+    image: &Image,
+    moment: u64,
+    writing: &Writing<'_>,
+) -> Result<Planned, Memory>
+    requires may { MayWrite image.now moment writing.now.table.now writing.now.live.now writing.now.counters writing.now.key writing.now.value }
+    ensures does { IfOk result (λ p. (xs : List SessionState) (user name : List ℕ) → named image.now name ≡ Some writing.now.table.now → DoesIt image.now xs moment p (add_row user name writing.now.key writing.now.value)) }
+    ensures fit { IfOk result (λ p. FitPages p.changes) }
+{
+    let Some(counters) = counted(&writing.counters, moment) else {
+        return Ok(Planned::answered(alloc, at_its_end(alloc, b"WORK")?));
+    };
+    let Some(id) = image.next_id() else {
+        return Err(Memory);
+    };
+    if id >= ID_LIMIT {
+        return Err(Memory);
+    }
+    if image.is_leaf(image.latest(LIVE)) {
+        return write_here(alloc, image, moment, writing, counters, id);
+    }
+    write_above(alloc, image, moment, writing, counters, id)
+}
