@@ -2,4 +2,3 @@ mod Digits
 pub mod Planning
 pub mod Committing
 pub mod Fitting
-pub mod Working

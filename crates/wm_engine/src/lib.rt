@@ -3,9 +3,7 @@
 
 mod answer;
 mod commit;
-
 mod count;
-
 mod fault;
 mod plan;
 mod planned;
@@ -13,6 +11,5 @@ mod print;
 mod read;
 mod refuse;
 mod session;
-
 
 pub use fault::LineFault;

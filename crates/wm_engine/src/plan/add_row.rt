@@ -76,7 +76,7 @@ fn add_to(
         return Ok(Planned::answered(alloc, key_there(row_key)));
     }
     let counters = image.counters();
-    if counters.limit as u64 < counters.next_stamp {
+    if u64::from(counters.limit) < counters.next_stamp {
         return Ok(Planned::answered(alloc, change_limit(counters.limit)));
     }
     let live = image.space(LIVE).unwrap();

@@ -13,7 +13,7 @@ use crate::answer::Answer;
 use crate::plan::connect::connect;
 use crate::plan::statement::run;
 use crate::planned::Planned;
-use crate::read::form::{is_remark, line};
+use crate::read::form::{is_remark, line_of};
 use crate::read::tree::Line;
 use crate::refuse::not_built;
 use crate::session::Session;
@@ -37,7 +37,7 @@ fn plan_form(
     ensures does { IfOk result (λ p. DoesIt image.now sessions.now moment p (run_line (line_of text.now))) }
     ensures fit { IfOk result (λ p. FitPages p.changes) }
 {
-    match line(text) {
+    match line_of(text) {
         None => Ok(Planned::answered(alloc, not_built())),
         Some(Line::Connect { session, user }) => connect(alloc, sessions, session, user),
         Some(Line::Run { session, statement }) => {

@@ -31,6 +31,7 @@ pub const LIVE: u32 = 0;
 const ID_LIMIT: u64 = u64::MAX - 2;
 
 /// A row to be written, with what was looked up for it.
+#[derive(Drop)]
 pub struct Writing<'a> {
     pub table: &'a Table,
     pub live: &'a Space,
