@@ -17,7 +17,6 @@ ghost use Rattle.wm_spec.specs.Records.{AreRecords, record_at};
 ghost use Rattle.wm_image.specs.Sought.{PiecesAt, ids_with, is_sought};
 ghost use Rattle.wm_state.specs.Batches.{is_out, keeps};
 ghost use Rattle.wm_state.specs.ById.{Ascend, applied, by_id};
-ghost use Rattle.wm_state.specs.Listing.{IsListing};
 ghost use Rattle.wm_state.specs.Standing.{by_number, held_by, latest, shown};
 
 use crate::ids::first_id;
@@ -32,7 +31,7 @@ use crate::tables::{first_named, first_numbered, id_named};
 use std::alloc::Global;
 use std::collections::BTreeMap;
 use std::marker::Model;
-use wm_base::{Instant, Key, Memory, RowList};
+use wm_base::{Instant, Key, Memory};
 use wm_graph::keeps_rules;
 use wm_period::Pieces;
 use wm_spec::record::{
@@ -146,7 +145,8 @@ impl Image {
     /// The id of the counters.
     pub fn id_of_counters(&self) -> u64
         requires { keep_rules (parts_of self.now) ≡ true }
-        ensures { (parts_of self.now).counters ≡ option_to_list (option_and_then as_counters (record_at self.now result)) }
+        ensures there { (parts_of self.now).counters ≡ option_to_list (option_and_then as_counters (record_at self.now result)) }
+        ensures ascend { Ascend self.now }
     {
         let found = first_id(self.index.counters.as_slice());
         found.unwrap()
@@ -249,14 +249,6 @@ impl Image {
     {
         let keys = keys_on(alloc, &self.index.pieces, table)?;
         Ok(keys)
-    }
-
-    /// The rows of a table that the newest version of a workspace holds, by key and from.
-    pub fn listing(&self, alloc: Global, space: u32, table: u16) -> Result<RowList, Memory>
-        requires { keep_rules (parts_of self.now) ≡ true }
-        ensures { IfOk result (λ rows. IsListing (parts_of self.now) space table rows) }
-    {
-        Err(Memory)
     }
 
     /// The row of a stamp.

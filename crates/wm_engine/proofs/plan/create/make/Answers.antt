@@ -27,5 +27,5 @@ returns-clause-does c = λ xs.
     told c.args.image.now xs c.args.moment c.changing.result (create_batch c.id_of_counters.result (moved c.counters.result c.args.moment) c.in-Some-next_id.id (two_columns c.args.name c.args.key c.args.value)) None Fine
     (create c.args.name c.args.key c.args.value) batch_is c.changing.ensures.session (ap answer_view c.changing.ensures.answer)
     (does_create c.args.image.now xs c.args.moment c.args.name c.args.key c.args.value c.counters.result c.id_of_counters.result c.in-Some-next_id.id c.requires.rules c.requires.none c.requires.table c.counters.ensures
-    (counters_at c.counters.result (parts_of c.args.image.now).counters (record_at c.args.image.now c.id_of_counters.result) c.counters.ensures c.id_of_counters.ensures)
-    c.in-Some.ensures.room (early c.args.moment c.requires.moment) c.in-Some-next_id.ensures.ascend (under_next c.in-Some-next_id.id c.args.image.now c.in-Some-next_id.ensures.above))
+    (counters_at c.counters.result (parts_of c.args.image.now).counters (record_at c.args.image.now c.id_of_counters.result) c.counters.ensures c.id_of_counters.ensures.there)
+    c.in-Some.ensures.room (early c.args.moment c.requires.moment) c.id_of_counters.ensures.ascend (under_next c.in-Some-next_id.id c.args.image.now c.in-Some-next_id.ensures.above))

@@ -1,6 +1,8 @@
-use Rattle.std.proofs.Common.{ap, ◌∙◌}
+use Rattle.std.proofs.Common.{ap, ◌∙◌, subst}
 use Rattle.wm_image.proofs.Finding.{one_id}
+use Rattle.wm_image.proofs.Listed.{Ascend-listed}
 use Rattle.wm_image.specs.Sought.{head_of}
+use Rattle.wm_state.specs.ById.{Ascend}
 use Rattle.wm_image.proofs.image.Image.id_of_counters.Goals as goal
 
 pub unwrap-requires : goal.unwrap-requires
@@ -8,7 +10,10 @@ unwrap-requires c =
     (one_id c.self.inside.kept c.self.inside.index c.self.invariant c.args.self.now c.self.view_is c.requires c.first_id-found.result
     (c.first_id-found.ensures ∙ ap head_of c.as_slice.ensures.value)).0
 
-pub returns : goal.returns
-returns c =
+pub returns-clause-there : goal.returns-clause-there
+returns-clause-there c =
     (one_id c.self.inside.kept c.self.inside.index c.self.invariant c.args.self.now c.self.view_is c.requires c.first_id-found.result
     (c.first_id-found.ensures ∙ ap head_of c.as_slice.ensures.value)).1 c.unwrap.result c.unwrap.ensures
+
+pub returns-clause-ascend : goal.returns-clause-ascend
+returns-clause-ascend c = subst Ascend c.self.view_is (Ascend-listed c.self.inside.kept.entries c.self.invariant.ordered)

@@ -1,0 +1,10 @@
+use Rattle.wm_engine.proofs.plan.listing.listing.Goals as goal
+
+pub returns-in_default-clause-does : goal.returns-in_default-clause-does
+returns-in_default-clause-does c = ?
+
+pub returns-then-not-table-clause-does : goal.returns-then-not-table-clause-does
+returns-then-not-table-clause-does c = ?
+
+pub returns-clause-does : goal.returns-clause-does
+returns-clause-does c = ?
