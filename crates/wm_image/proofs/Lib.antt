@@ -8,3 +8,4 @@ pub mod Newest
 pub mod Walking
 pub mod Naming
 pub mod Using
+pub mod Spans
