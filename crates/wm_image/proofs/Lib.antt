@@ -9,3 +9,4 @@ pub mod Walking
 pub mod Naming
 pub mod Using
 pub mod Spans
+pub mod Gathering

@@ -222,6 +222,19 @@ fn a_store_is_loaded(rt: HostRuntime) -> Result<(), Fail> {
 }
 
 #[test]
+fn rows_are_listed(rt: HostRuntime) -> Result<(), Fail> {
+    let alloc = rt.alloc();
+    let records = small_store(alloc)?;
+    let Ok(image) = Image::load(alloc, records) else {
+        return Ok(());
+    };
+    assert_eq!(rt; image.listing(alloc, 0, 1)?.len(), 1);
+    assert_eq!(rt; image.listing(alloc, 0, 2)?.len(), 0);
+    assert_eq!(rt; image.listing(alloc, 9, 1)?.len(), 0);
+    Ok(())
+}
+
+#[test]
 fn no_records_are_no_store(rt: HostRuntime) -> Result<(), Fail> {
     let alloc = rt.alloc();
     assert!(rt; Image::load(alloc, Records::new(alloc)).is_err());
