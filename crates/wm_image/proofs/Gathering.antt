@@ -1,8 +1,7 @@
 -- The rows of a table, gathered key by key.
-use Rattle.std.proofs.Common.{◌≡◌, ℕ, ◌<◌, ◌≤◌, ◌==◌, ◌&&◌, ◌||◌, nat_lt, nat_le, Bool, true, false, cond, if◌then◌else◌, List, [], ◌∷◌, ◌++◌, map, Option, None, Some, is_some, refl, sym, ap, ◌∙◌, ◌⊎◌, inl, inr, ◌+◌, length, take, get_or, subst, append_assoc, arith}
+use Rattle.std.proofs.Common.{◌≡◌, ℕ, ◌<◌, ◌≤◌, ◌==◌, ◌&&◌, ◌||◌, nat_lt, nat_le, Bool, true, false, cond, List, [], ◌∷◌, ◌++◌, map, Option, None, is_some, refl, sym, ap, ◌∙◌, ◌+◌, length, take, get_or, subst, append_assoc, arith}
 use Rattle.std.proofs.lemmas.List.{append-nil, take_more}
 use Rattle.std.proofs.lemmas.List.Elements.{filter_map-append}
-use Rattle.std.specs.Bool.{then_some}
 use Rattle.std.specs.List.{list_any, list_all, filter_map, AllByRecursion}
 use Rattle.std.specs.List.Sorted.{IsStrictlySortedBy}
 use Rattle.std.specs.Option.{option_or, option_and_then, option_map_or}
@@ -16,7 +15,7 @@ use Rattle.wm_base.specs.declared.row.Row.{Row}
 use Rattle.wm_base.specs.declared.value.Value.{Value}
 use Rattle.wm_graph.specs.Parts.{Parts, parts_of, as_piece, table_of, version_of, row_of}
 use Rattle.wm_graph.specs.Rules.{keep_rules, are_cells, is_piece, is_row_at, is_key_of, differ, collide}
-use Rattle.wm_period.specs.Pieces.{Held, Between, held_at}
+use Rattle.wm_period.specs.Pieces.{Between, held_at}
 use Rattle.wm_period.specs.declared.piece.Piece.{Piece}
 use Rattle.wm_period.proofs.Order.{held_at-past}
 use Rattle.wm_spec.specs.Lists.{Cell}
@@ -28,12 +27,11 @@ use Rattle.wm_spec.specs.declared.record.row.RowRecord.{RowRecord}
 use Rattle.wm_spec.specs.declared.record.stored.Stored.{Stored}
 use Rattle.wm_spec.specs.declared.record.table.Table.{Table}
 use Rattle.wm_spec.specs.declared.record.version.Version.{Version}
-use Rattle.wm_state.specs.Listing.{standing, stamp_shown, ComesBefore, KeysAscend, is_key_in, AreRowsOf, row_with, is_unwritten, Groups, keys_of, joined, AreAllRowsOf, IsListing}
-use Rattle.wm_state.specs.Standing.{covers_at, held_by, stored_at, seen_at, newest_first, latest, shown}
+use Rattle.wm_state.specs.Listing.{standing, ComesBefore, KeysAscend, is_key_in, AreRowsOf, row_with, Groups, keys_of, joined, AreAllRowsOf, IsListing}
+use Rattle.wm_state.specs.Standing.{stored_at, seen_at, newest_first, latest, shown}
 use Rattle.wm_state.proofs.Apart.{ruled}
 use Rattle.wm_state.proofs.Tests.{both}
 use Rattle.wm_tree.specs.declared.version.Version.{Version as Node}
-use Rattle.wm_image.proofs.Finding.{all_of}
 use Rattle.wm_image.proofs.Spans.{spans, maximal, value, rows_are}
 use Rattle.wm_image.specs.Listing.{AddsRows, rows_on}
 use Rattle.wm_image.specs.Sought.{PiecesAt, is_sought}
@@ -65,9 +63,11 @@ late_stored : (tables : ℕ → Option Table) (versions : ℕ → Option Version
 late_stored tables versions rows next table key t v late [] all = refl
 late_stored tables versions rows next table key t v late (x ∷ xs) all =
     let h = both (is_piece tables versions rows next x) (list_all (is_piece tables versions rows next) xs) all in
-    rw (uncovered (x.version == v) ((x.cells.table == table) && is_eq (key_order x.cells.key key)) (nat_le x.cells.from t) (nat_lt t x.cells.till)
-    (past x.cells.till END t (ended tables versions rows next x h.0) late),
-    late_stored tables versions rows next table key t v late xs h.1) refl
+    rw (
+      uncovered (x.version == v) ((x.cells.table == table) && is_eq (key_order x.cells.key key)) (nat_le x.cells.from t) (nat_lt t x.cells.till)
+          (past x.cells.till END t (ended tables versions rows next x h.0) late),
+      late_stored tables versions rows next table key t v late xs h.1,
+    ) refl
   where
     uncovered : (a b c d : Bool) → d ≡ false → (a && (b && (c && d))) ≡ false
     uncovered true true true d e = e

@@ -1,5 +1,5 @@
 -- The stretches of the pieces of a key.
-use Rattle.std.proofs.Common.{◌≡◌, ℕ, ◌<◌, ◌≤◌, ◌==◌, ◌&&◌, ◌||◌, nat_lt, nat_le, Bool, true, false, not, cond, if◌then◌else◌, List, [], ◌∷◌, ◌++◌, map, Option, Some, None, refl, sym, ap, ◌∙◌, arith}
+use Rattle.std.proofs.Common.{◌≡◌, ℕ, ◌<◌, ◌≤◌, ◌==◌, ◌&&◌, ◌||◌, nat_lt, nat_le, Bool, true, false, not, if◌then◌else◌, List, [], ◌∷◌, ◌++◌, map, Option, Some, None, refl, sym, ap, ◌∙◌, arith}
 use Rattle.std.proofs.lemmas.Bool.{eq-eqb, eqb-true}
 use Rattle.std.specs.Bool.{then_some}
 use Rattle.std.specs.List.{filter_map, cons_option}
@@ -8,14 +8,14 @@ use Rattle.wm_base.specs.Period.{covers}
 use Rattle.wm_base.specs.declared.row.Row.{Row}
 use Rattle.wm_base.specs.declared.value.Value.{Value}
 use Rattle.wm_graph.specs.Parts.{Parts}
-use Rattle.wm_period.specs.Pieces.{Held, Between, held, held_at}
+use Rattle.wm_period.specs.Pieces.{Between, held, held_at}
 use Rattle.wm_period.specs.declared.piece.Piece.{Piece}
 use Rattle.wm_period.proofs.Order.{held_at-early}
 use Rattle.wm_spec.specs.Stretches.{Stretch, value_at, IsApart, AreMaximal}
 use Rattle.wm_spec.proofs.Lists.{option_or-none, option_or_assoc}
 use Rattle.wm_state.specs.Listing.{standing, row_with}
 use Rattle.wm_state.proofs.Tests.{both, not_true, bool_apart}
-use Rattle.wm_image.specs.Listing.{goes_on, ending, row_under, rows_on}
+use Rattle.wm_image.specs.Listing.{goes_on, row_under, rows_on}
 
 -- the stretch of one piece
 abbrev span : Piece → Stretch

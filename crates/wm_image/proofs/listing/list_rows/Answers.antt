@@ -1,6 +1,5 @@
-use Rattle.std.proofs.Common.{List, take, sym, ap, ◌∙◌}
+use Rattle.std.proofs.Common.{take, ◌∙◌}
 use Rattle.std.proofs.lemmas.List.{take_all}
-use Rattle.wm_base.specs.declared.value.Value.{Value}
 use Rattle.wm_graph.specs.Parts.{parts_of}
 use Rattle.wm_image.proofs.Gathering.{gathered_none, gathered_next, is_listing}
 use Rattle.wm_image.proofs.listing.list_rows.Goals as goal
