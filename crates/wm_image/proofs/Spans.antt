@@ -170,9 +170,6 @@ pub value : (low : ℕ) (ps : List Piece) (high : ℕ) → Between low ps high �
 value low [] high order t = refl
 value low (p ∷ ps) high order t = by_gone p.gone refl (value p.period.till ps high order.2 t)
   where
-    nothing : Option ℕ
-    nothing = None
-
     before : (from till t : ℕ) → has from till t ≡ true → t < till
     before from till t e = grind (arith, e)
 
@@ -213,12 +210,6 @@ pub rows_are : (p : Parts) (key : List Value) (ps : List Piece) → rows_on p ps
 rows_are p key [] = refl
 rows_are p key (x ∷ xs) = by_gone x.gone (rows_are p key xs)
   where
-    rows : List Stretch → List Row
-    rows ss = filter_map (row_with p) (map (λ s. (key, s)) ss)
-
-    ends : Bool → List Row
-    ends b = option_to_list (option_and_then (row_under p) (let nothing : Option ℕ = None in if b then nothing else Some x.stamp.number)) ++ rows_on p xs
-
     consed : (o : Option Row) (rs : List Row) → option_to_list o ++ rs ≡ cons_option o rs
     consed None rs = refl
     consed (Some r) rs = refl
