@@ -11,3 +11,5 @@ pub mod Using
 pub mod Tabled
 pub mod Dropping
 pub mod Leaves
+pub mod Spans
+pub mod Gathering

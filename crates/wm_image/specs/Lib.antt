@@ -1,3 +1,4 @@
 pub mod Sought
 pub mod Indexed
 pub mod Shown
+pub mod Listing

@@ -17,6 +17,7 @@ ghost use Rattle.wm_spec.specs.Records.{AreRecords, record_at};
 ghost use Rattle.wm_image.specs.Sought.{PiecesAt, ids_with, is_sought};
 ghost use Rattle.wm_state.specs.Batches.{is_out, keeps};
 ghost use Rattle.wm_state.specs.ById.{Ascend, applied, by_id};
+ghost use Rattle.wm_state.specs.Listing.{IsListing};
 ghost use Rattle.wm_state.specs.Standing.{by_number, held_by, latest, shown};
 
 use crate::ids::first_id;
@@ -24,6 +25,7 @@ use crate::index::Index;
 use crate::keyed::{ids_of, ids_on, keys_on};
 use crate::kinds;
 use crate::laying::lay_path;
+use crate::listing::list_rows;
 use crate::load::{ImageFault, put_all, sorted};
 use crate::records::{Kept, at, change_all, first, next_id};
 use crate::shown::{latest_of, nearest, own_ids, version_at};
@@ -31,7 +33,7 @@ use crate::tables::{first_named, first_numbered, id_named};
 use std::alloc::Global;
 use std::collections::BTreeMap;
 use std::marker::Model;
-use wm_base::{Instant, Key, Memory};
+use wm_base::{Instant, Key, Memory, RowList};
 use wm_graph::keeps_rules;
 use wm_period::Pieces;
 use wm_spec::record::{
@@ -256,6 +258,14 @@ impl Image {
         ensures { option_copied result ≡ row_of (parts_of self.now).rows stamp }
     {
         kinds::row_of(first(&self.kept, ids_of(&self.index.rows, &stamp)))
+    }
+
+    /// The rows of a table that the newest version of a workspace holds, by key and from.
+    pub fn listing(&self, alloc: Global, space: u32, table: u16) -> Result<RowList, Memory>
+        requires { keep_rules (parts_of self.now) ≡ true }
+        ensures { IfOk result (λ rows. IsListing (parts_of self.now) space table rows) }
+    {
+        list_rows(alloc, self, space, table)
     }
 
     /// The record of an id.

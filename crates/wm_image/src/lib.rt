@@ -7,6 +7,7 @@ pub mod index;
 mod keyed;
 pub mod kinds;
 pub mod laying;
+pub mod listing;
 pub mod load;
 pub mod records;
 pub mod shown;

@@ -140,7 +140,23 @@ fn records_go(rt: HostRuntime) -> Result<(), Fail> {
     Ok(())
 }
 
-/// LIVE with two versions, a table and a row that the second version has at a key.
+/// What version 1 has behind the other piece, with the same row and by another change.
+fn later_piece(alloc: Global) -> Result<Record, Memory> {
+    Ok(Record::Piece(PieceRecord {
+        version: 1,
+        cells: CellRange {
+            table: 1,
+            key: Key::single(alloc, Value::Num(7))?,
+            from: 100,
+            till: 200,
+        },
+        stamp: 1,
+        kind: Kind::Update,
+        gone: false,
+    }))
+}
+
+/// LIVE with two versions, a table and a row that the versions have at a key, one behind the other.
 fn small_store(alloc: Global) -> Result<Records, Memory>
     ensures { IfOk result (λ records. AreRecords records) }
 {
@@ -152,6 +168,7 @@ fn small_store(alloc: Global) -> Result<Records, Memory>
         stored(5, version(2, 1)),
         stored(6, full_row(alloc, 1)?),
         stored(4, table(alloc)?),
+        stored(7, later_piece(alloc)?),
     ]?;
     Ok(Records::from_vec(list))
 }
@@ -217,7 +234,26 @@ fn a_store_is_loaded(rt: HostRuntime) -> Result<(), Fail> {
     let time = Instant::new(12).ok_or("an instant")?;
     assert!(rt; image.shown_at(0, 1, &key, time).is_some());
     assert!(rt; image.shown_at(0, 1, &key, Instant::beginning()).is_none());
-    assert_eq!(rt; image.shown(alloc, 0, 1, &key)?.len(), 1);
+    assert_eq!(rt; image.shown(alloc, 0, 1, &key)?.len(), 2);
+    Ok(())
+}
+
+/// A row that stands on pieces that meet is listed once.
+#[test]
+fn rows_are_listed(rt: HostRuntime) -> Result<(), Fail> {
+    let alloc = rt.alloc();
+    let records = small_store(alloc)?;
+    let Ok(image) = Image::load(alloc, records) else {
+        return Ok(());
+    };
+    let rows = image.listing(alloc, 0, 1)?;
+    assert_eq!(rt; rows.len(), 1);
+    assert_eq!(rt;
+        rows.as_slice()[0].values.as_slice(),
+        [Value::Num(7)].as_slice()
+    );
+    assert_eq!(rt; image.listing(alloc, 0, 2)?.len(), 0);
+    assert_eq!(rt; image.listing(alloc, 9, 1)?.len(), 0);
     Ok(())
 }
 

@@ -1,0 +1,185 @@
+-- The rows of a table, gathered key by key.
+use Rattle.std.proofs.Common.{◌≡◌, ℕ, ◌<◌, ◌≤◌, ◌==◌, ◌&&◌, ◌||◌, nat_lt, nat_le, Bool, true, false, cond, List, [], ◌∷◌, ◌++◌, map, Option, None, is_some, refl, sym, ap, ◌∙◌, ◌+◌, length, take, get_or, subst, append_assoc, arith}
+use Rattle.std.proofs.lemmas.List.{append-nil, take_more}
+use Rattle.std.proofs.lemmas.List.Elements.{filter_map-append}
+use Rattle.std.specs.List.{list_any, list_all, filter_map, AllByRecursion}
+use Rattle.std.specs.List.Sorted.{IsStrictlySortedBy}
+use Rattle.std.specs.Option.{option_or, option_and_then, option_map_or}
+use Rattle.std.specs.Ordering.{is_eq, ordering_reverse}
+use Rattle.std.specs.declared.cmp.Ordering.{Ordering}
+use Rattle.std.specs.declared.cmp.Ordering.TheVariants.{Less, Equal, Greater}
+use Rattle.wm_base.specs.Key.{key_order}
+use Rattle.wm_base.specs.Orders.{key_order_total}
+use Rattle.wm_base.specs.declared.instant.TheConstants.{END}
+use Rattle.wm_base.specs.declared.row.Row.{Row}
+use Rattle.wm_base.specs.declared.value.Value.{Value}
+use Rattle.wm_graph.specs.Parts.{Parts, parts_of, as_piece, table_of, version_of, row_of}
+use Rattle.wm_graph.specs.Rules.{keep_rules, are_cells, is_piece, is_row_at, is_key_of, differ, collide}
+use Rattle.wm_period.specs.Pieces.{Between, held_at}
+use Rattle.wm_period.specs.declared.piece.Piece.{Piece}
+use Rattle.wm_period.proofs.Order.{held_at-past}
+use Rattle.wm_spec.specs.Lists.{Cell}
+use Rattle.wm_spec.specs.Stretches.{Stretch}
+use Rattle.wm_spec.specs.declared.record.Record.{Record}
+use Rattle.wm_spec.specs.declared.record.Record.TheVariants as records
+use Rattle.wm_spec.specs.declared.record.piece.PieceRecord.{PieceRecord}
+use Rattle.wm_spec.specs.declared.record.row.RowRecord.{RowRecord}
+use Rattle.wm_spec.specs.declared.record.stored.Stored.{Stored}
+use Rattle.wm_spec.specs.declared.record.table.Table.{Table}
+use Rattle.wm_spec.specs.declared.record.version.Version.{Version}
+use Rattle.wm_state.specs.Listing.{standing, ComesBefore, KeysAscend, is_key_in, AreRowsOf, row_with, Groups, keys_of, joined, AreAllRowsOf, IsListing}
+use Rattle.wm_state.specs.Standing.{stored_at, seen_at, newest_first, latest, shown}
+use Rattle.wm_state.proofs.Apart.{ruled}
+use Rattle.wm_state.proofs.Tests.{both}
+use Rattle.wm_tree.specs.declared.version.Version.{Version as Node}
+use Rattle.wm_image.proofs.Spans.{spans, maximal, value, rows_are}
+use Rattle.wm_image.specs.Listing.{AddsRows, rows_on}
+use Rattle.wm_image.specs.Sought.{PiecesAt, is_sought}
+
+-- ---- nothing is shown from the end of time on
+
+abbrev cell : ℕ → List Value → ℕ → Cell
+cell table key t = record { table = table; key = key; time = t }
+
+-- a piece by the rules has ended
+ended : (tables : ℕ → Option Table) (versions : ℕ → Option Version) (rows : ℕ → Option RowRecord) (next : ℕ) (x : PieceRecord) → is_piece tables versions rows next x ≡ true → nat_le x.cells.till END ≡ true
+ended tables versions rows next x e =
+    let h = both (is_some (versions x.version)) (are_cells tables x.cells && (nat_lt x.stamp next && (x.gone || option_map_or (is_row_at tables x.cells) (rows x.stamp) false))) e in
+    let g = both (are_cells tables x.cells) (nat_lt x.stamp next && (x.gone || option_map_or (is_row_at tables x.cells) (rows x.stamp) false)) h.1 in
+    let d = both (nat_lt x.cells.from x.cells.till && nat_le x.cells.till END) (option_map_or (is_key_of x.cells.key) (tables x.cells.table) false) g.0 in
+    (both (nat_lt x.cells.from x.cells.till) (nat_le x.cells.till END) d.0).1
+
+past : (till end t : ℕ) → nat_le till end ≡ true → end ≤ t → nat_lt t till ≡ false
+past till end t e late = grind (arith, e, late)
+
+below : (t end : ℕ) → nat_lt t end ≡ true → t < end
+below t end e = grind (arith, e)
+
+above : (t end : ℕ) → nat_lt t end ≡ false → end ≤ t
+above t end e = grind (arith, e)
+
+late_stored : (tables : ℕ → Option Table) (versions : ℕ → Option Version) (rows : ℕ → Option RowRecord) (next : ℕ) (table : ℕ) (key : List Value) (t v : ℕ) → END ≤ t
+    → (xs : List PieceRecord) → list_all (is_piece tables versions rows next) xs ≡ true → stored_at xs v (cell table key t) ≡ None
+late_stored tables versions rows next table key t v late [] all = refl
+late_stored tables versions rows next table key t v late (x ∷ xs) all =
+    let h = both (is_piece tables versions rows next x) (list_all (is_piece tables versions rows next) xs) all in
+    rw (
+      uncovered (x.version == v) ((x.cells.table == table) && is_eq (key_order x.cells.key key)) (nat_le x.cells.from t) (nat_lt t x.cells.till)
+          (past x.cells.till END t (ended tables versions rows next x h.0) late),
+      late_stored tables versions rows next table key t v late xs h.1,
+    ) refl
+  where
+    uncovered : (a b c d : Bool) → d ≡ false → (a && (b && (c && d))) ≡ false
+    uncovered true true true d e = e
+    uncovered true true false d e = refl
+    uncovered true false c d e = refl
+    uncovered false b c d e = refl
+
+unseen : (pieces : List PieceRecord) (c : Cell) → ((v : ℕ) → stored_at pieces v c ≡ None) → (nodes : List Node) (v : ℕ) → seen_at pieces nodes v c ≡ None
+unseen pieces c none [] v = refl
+unseen pieces c none (x ∷ older) v = by_number (x.number == v) (unseen pieces c none older x.parent) (unseen pieces c none older v)
+  where
+    by_number : (b : Bool) → seen_at pieces older x.parent c ≡ None → seen_at pieces older v c ≡ None → cond b (option_or (stored_at pieces v c) (seen_at pieces older x.parent c)) (seen_at pieces older v c) ≡ None
+    by_number true up along = rw (none v, up) refl
+    by_number false up along = along
+
+late_shown : (p : Parts) (space table : ℕ) (key : List Value) (t : ℕ) → keep_rules p ≡ true → END ≤ t → shown p space (cell table key t) ≡ None
+late_shown p space table key t rules late =
+    let r = ruled p rules in
+    let all = both (differ collide p.pieces) (list_all (is_piece (table_of p.tables) (version_of p.versions) (row_of p.rows) r.counters.next_stamp) p.pieces) r.pieces in
+    unseen p.pieces (cell table key t)
+    (λ v. late_stored (table_of p.tables) (version_of p.versions) (row_of p.rows) r.counters.next_stamp table key t v late p.pieces all.1) (newest_first p.versions) (latest p space)
+
+-- ---- the rows of a key
+
+pub adds_rows : (p : Parts) (space table : ℕ) (key : List Value) (ps : List Piece) (old new : List Row) → keep_rules p ≡ true → Between 0 ps END
+    → ((t : ℕ) → t < END → held_at ps t ≡ shown p space (record { table = table; key = key; time = t })) → new ≡ old ++ rows_on p ps → AddsRows p space table key old new
+adds_rows p space table key ps old new rules order same added = record {
+  stretches = spans ps;
+  are = record { maximal = maximal 0 ps END order; held = λ t. value 0 ps END order t ∙ ap (option_and_then standing) (by_time t (nat_lt t END) refl) };
+  added = added ∙ ap (λ rows. old ++ rows) (rows_are p key ps);
+}
+  where
+    by_time : (t : ℕ) (b : Bool) → nat_lt t END ≡ b → held_at ps t ≡ shown p space (cell table key t)
+    by_time t true e = same t (below t END e)
+    by_time t false e = held_at-past 0 ps END t order (above t END e) ∙ sym (late_shown p space table key t rules (above t END e))
+
+-- ---- key by key
+
+-- the rows of keys were gathered
+pub record Gathered (p : Parts) (space table : ℕ) (keys : List (List Value)) (rows : List Row) : Type 0 where
+  pub groups : Groups
+  pub keyed : keys_of groups ≡ keys
+  pub held : AreAllRowsOf p space table groups
+  pub are : rows ≡ filter_map (row_with p) (joined groups)
+
+pub gathered_none : (p : Parts) (space table : ℕ) (rows : List Row) → rows ≡ [] → Gathered p space table [] rows
+gathered_none p space table rows none = record { groups = []; keyed = refl; held = tt; are = none }
+
+keys_of-push : (gs : Groups) (key : List Value) (ss : List Stretch) → keys_of (gs ++ (key, ss) ∷ []) ≡ keys_of gs ++ key ∷ []
+keys_of-push [] key ss = refl
+keys_of-push (g ∷ gs) key ss = ap (λ ks. g.0 ∷ ks) (keys_of-push gs key ss)
+
+held-push : (p : Parts) (space table : ℕ) (gs : Groups) (key : List Value) (ss : List Stretch) → AreAllRowsOf p space table gs → AreRowsOf p space table key ss → AreAllRowsOf p space table (gs ++ (key, ss) ∷ [])
+held-push p space table [] key ss held are = (are, tt)
+held-push p space table (g ∷ gs) key ss held are = (held.0, held-push p space table gs key ss held.1 are)
+
+joined-push : (gs : Groups) (key : List Value) (ss : List Stretch) → joined (gs ++ (key, ss) ∷ []) ≡ joined gs ++ map (λ s. (key, s)) ss
+joined-push [] key ss = append-nil (map (λ s. (key, s)) ss)
+joined-push (g ∷ gs) key ss = ap (λ l. map (λ s. (g.0, s)) g.1 ++ l) (joined-push gs key ss) ∙ sym (append_assoc (map (λ s. (g.0, s)) g.1) (joined gs) (map (λ s. (key, s)) ss))
+
+pub gathered_more : (p : Parts) (space table : ℕ) (keys : List (List Value)) (key : List Value) (old new : List Row) → Gathered p space table keys old → AddsRows p space table key old new
+    → Gathered p space table (keys ++ key ∷ []) new
+gathered_more p space table keys key old new so more = record {
+  groups = so.groups ++ (key, more.stretches) ∷ [];
+  keyed = keys_of-push so.groups key more.stretches ∙ ap (λ ks. ks ++ key ∷ []) so.keyed;
+  held = held-push p space table so.groups key more.stretches so.held more.are;
+  are =
+      more.added
+      ∙ ap (λ rows. rows ++ filter_map (row_with p) (map (λ s. (key, s)) more.stretches)) so.are
+      ∙ sym (filter_map-append (row_with p) (joined so.groups) (map (λ s. (key, s)) more.stretches))
+      ∙ ap (filter_map (row_with p)) (sym (joined-push so.groups key more.stretches));
+}
+
+-- the same where the keys are gone through in order
+pub gathered_next : (p : Parts) (space table : ℕ) (keys : List (List Value)) (i : ℕ) (key : List Value) (old new : List Row) → i < length keys → key ≡ get_or keys i key
+    → Gathered p space table (take i keys) old → AddsRows p space table key old new → Gathered p space table (take (i + 1) keys) new
+gathered_next p space table keys i key old new within read so more =
+    subst (λ ks. Gathered p space table ks new) (ap (λ k. take i keys ++ k ∷ []) read ∙ sym (take_more keys i key within)) (gathered_more p space table (take i keys) key old new so more)
+
+-- ---- all keys
+
+ascend : (keys : List (List Value)) → IsStrictlySortedBy key_order keys → KeysAscend keys
+unfolding IsStrictlySortedBy
+ascend [] sorted = tt
+ascend (k ∷ ks) sorted = (before ks sorted.0, ascend ks sorted.1)
+  where
+    before : (ks : List (List Value)) → AllByRecursion (λ q. key_order k q ≡ Less) ks → ComesBefore k ks
+    before [] all = tt
+    before (q ∷ qs) all = (all.0, before qs all.1)
+
+turned : (k : List Value) (keys : List (List Value)) → list_any (λ q. is_eq (key_order k q)) keys ≡ is_key_in k keys
+turned k [] = refl
+turned k (q ∷ qs) = ap (λ b. b || list_any (λ q. is_eq (key_order k q)) qs) (ap is_eq (key_order_total.antisymm k q) ∙ back (key_order q k)) ∙ ap (λ b. is_eq (key_order q k) || b) (turned k qs)
+  where
+    back : (o : Ordering) → is_eq (ordering_reverse o) ≡ is_eq o
+    back Less = refl
+    back Equal = refl
+    back Greater = refl
+
+sought_pieces : (table : ℕ) (k : List Value) (rs : List Record) → list_any (λ (x : PieceRecord). (x.cells.table == table) && is_eq (key_order x.cells.key k)) (filter_map as_piece rs) ≡ list_any (is_sought (PiecesAt table k)) rs
+sought_pieces table k [] = refl
+sought_pieces table k (records.Piece x ∷ rs) = ap (λ b. ((x.cells.table == table) && is_eq (key_order x.cells.key k)) || b) (sought_pieces table k rs)
+sought_pieces table k (_ ∷ rs) = sought_pieces table k rs
+
+pub is_listing : (ss : List Stored) (space table : ℕ) (keys passed : List (List Value)) (rows : List Row) → passed ≡ keys → Gathered (parts_of ss) space table passed rows → IsStrictlySortedBy key_order keys
+    → ((k : List Value) → list_any (λ q. is_eq (key_order k q)) keys ≡ list_any (is_sought (PiecesAt table k)) (map (λ (s : Stored). s.record) ss)) → IsListing (parts_of ss) space table rows
+unfolding parts_of
+is_listing ss space table keys passed rows all so sorted each = record {
+  groups = so.groups;
+  ascend = subst KeysAscend (sym (so.keyed ∙ all)) (ascend keys sorted);
+  whole = λ k out.
+      sought_pieces table k (map (λ (s : Stored). s.record) ss) ∙ sym (each k) ∙ turned k keys ∙ ap (is_key_in k) (sym (so.keyed ∙ all)) ∙ out;
+  held = so.held;
+  are = so.are;
+}
