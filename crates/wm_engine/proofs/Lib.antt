@@ -2,3 +2,4 @@ mod Digits
 pub mod Planning
 pub mod Committing
 pub mod Fitting
+pub mod Writing

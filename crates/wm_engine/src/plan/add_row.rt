@@ -91,9 +91,9 @@ fn add_to(
             table,
             live,
             counters,
-            key,
-            value,
         },
+        key,
+        value,
     )
 }
 

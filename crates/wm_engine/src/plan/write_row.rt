@@ -1,12 +1,12 @@
 //! A row that is written into LIVE.
-ghost use Rattle.std.specs.Prelude.{◌≡◌, ◌+◌, ◌<◌, ◌≤◌, ◌^◌, ◌∷◌, [], ℕ, List, true, false, None, Some, is_some, IfOk};
+ghost use Rattle.std.specs.Prelude.{◌≡◌, ◌+◌, ◌<◌, ◌≤◌, ◌^◌, ◌∷◌, [], ℕ, List, nat_lt, true, false, None, Some, is_some, IfOk};
 ghost use Rattle.wm_base.specs.declared.instant.TheConstants.{END};
 ghost use Rattle.wm_base.specs.declared.value.Value.TheVariants.{Num};
 ghost use Rattle.wm_graph.specs.Parts.{parts_of};
 ghost use Rattle.wm_model.proofs.Adding.{row_values};
 ghost use Rattle.wm_model.proofs.Doing.{moved};
 ghost use Rattle.wm_model.proofs.Enabling.{named};
-ghost use Rattle.wm_model.specs.Step.{add_row};
+ghost use Rattle.wm_model.specs.Step.{add_row, counter_limit, line_work};
 ghost use Rattle.wm_spec.specs.Records.{record_at};
 ghost use Rattle.wm_state.specs.Effects.{IsLeaf};
 ghost use Rattle.wm_state.specs.Standing.{latest, newest_first};
@@ -36,8 +36,6 @@ pub struct Writing<'a> {
     pub table: &'a Table,
     pub live: &'a Space,
     pub counters: Counters,
-    pub key: i64,
-    pub value: i64,
 }
 
 /// A row of two numbers.
@@ -78,24 +76,27 @@ fn write_here(
     image: &Image,
     moment: u64,
     writing: &Writing<'_>,
+    key: i64,
+    value: i64,
     counters: Counters,
     id: u64,
 ) -> Result<Planned, Memory>
-    requires may { MayWrite image.now moment writing.now.table.now writing.now.live.now writing.now.counters writing.now.key writing.now.value }
+    requires may { MayWrite image.now moment writing.now.table.now writing.now.live.now writing.now.counters key value }
     requires counters { counters ≡ moved writing.now.counters moment }
+    requires work { nat_lt counter_limit (writing.now.counters.work + line_work) ≡ false }
     requires leaf { IsLeaf (latest (parts_of image.now) 0) (newest_first (parts_of image.now).versions) }
     requires ids { (i : ℕ) → id ≤ i → record_at image.now i ≡ None }
     requires room { id + 2 < 2 ^ 64 }
-    ensures does { IfOk result (λ p. (xs : List SessionState) (user name : List ℕ) → named image.now name ≡ Some writing.now.table.now → DoesIt image.now xs moment p (add_row user name writing.now.key writing.now.value)) }
+    ensures does { IfOk result (λ p. (xs : List SessionState) (user name : List ℕ) → named image.now name ≡ Some writing.now.table.now → DoesIt image.now xs moment p (add_row user name key value)) }
     ensures fit { IfOk result (λ p. FitPages p.changes) }
 {
     let version = image.latest(LIVE);
     let stamp = writing.counters.next_stamp;
     let table = writing.table.number;
-    let key = Key::single(alloc, Value::Num(writing.key))?;
-    let dropped = image.pieces_in(alloc, version, table, &key)?;
-    let row = row_of(alloc, stamp, table, writing.key, writing.value)?;
-    let piece = piece_of(version, table, key, stamp);
+    let row_key = Key::single(alloc, Value::Num(key))?;
+    let dropped = image.pieces_in(alloc, version, table, &row_key)?;
+    let row = row_of(alloc, stamp, table, key, value)?;
+    let piece = piece_of(version, table, row_key, stamp);
     let space = longer(alloc, writing.live)?;
     let space_id = image.id_of_space(LIVE).unwrap();
     let counters = Counters {
@@ -108,7 +109,7 @@ fn write_here(
         counters,
         space_id,
         space,
-        &dropped,
+        dropped.as_slice(),
         id,
         row,
         piece,
@@ -122,14 +123,17 @@ fn write_above(
     image: &Image,
     moment: u64,
     writing: &Writing<'_>,
+    key: i64,
+    value: i64,
     counters: Counters,
     id: u64,
 ) -> Result<Planned, Memory>
-    requires may { MayWrite image.now moment writing.now.table.now writing.now.live.now writing.now.counters writing.now.key writing.now.value }
+    requires may { MayWrite image.now moment writing.now.table.now writing.now.live.now writing.now.counters key value }
     requires counters { counters ≡ moved writing.now.counters moment }
+    requires work { nat_lt counter_limit (writing.now.counters.work + line_work) ≡ false }
     requires ids { (i : ℕ) → id ≤ i → record_at image.now i ≡ None }
     requires room { id + 2 < 2 ^ 64 }
-    ensures does { IfOk result (λ p. (xs : List SessionState) (user name : List ℕ) → named image.now name ≡ Some writing.now.table.now → DoesIt image.now xs moment p (add_row user name writing.now.key writing.now.value)) }
+    ensures does { IfOk result (λ p. (xs : List SessionState) (user name : List ℕ) → named image.now name ≡ Some writing.now.table.now → DoesIt image.now xs moment p (add_row user name key value)) }
     ensures fit { IfOk result (λ p. FitPages p.changes) }
 {
     let version = Version {
@@ -139,9 +143,9 @@ fn write_above(
     };
     let stamp = writing.counters.next_stamp;
     let table = writing.table.number;
-    let key = Key::single(alloc, Value::Num(writing.key))?;
-    let row = row_of(alloc, stamp, table, writing.key, writing.value)?;
-    let piece = piece_of(version.number, table, key, stamp);
+    let row_key = Key::single(alloc, Value::Num(key))?;
+    let row = row_of(alloc, stamp, table, key, value)?;
+    let piece = piece_of(version.number, table, row_key, stamp);
     let space = longer(alloc, writing.live)?;
     let space_id = image.id_of_space(LIVE).unwrap();
     let counters = Counters {
@@ -169,9 +173,11 @@ pub fn write_row(
     image: &Image,
     moment: u64,
     writing: &Writing<'_>,
+    key: i64,
+    value: i64,
 ) -> Result<Planned, Memory>
-    requires may { MayWrite image.now moment writing.now.table.now writing.now.live.now writing.now.counters writing.now.key writing.now.value }
-    ensures does { IfOk result (λ p. (xs : List SessionState) (user name : List ℕ) → named image.now name ≡ Some writing.now.table.now → DoesIt image.now xs moment p (add_row user name writing.now.key writing.now.value)) }
+    requires may { MayWrite image.now moment writing.now.table.now writing.now.live.now writing.now.counters key value }
+    ensures does { IfOk result (λ p. (xs : List SessionState) (user name : List ℕ) → named image.now name ≡ Some writing.now.table.now → DoesIt image.now xs moment p (add_row user name key value)) }
     ensures fit { IfOk result (λ p. FitPages p.changes) }
 {
     let Some(counters) = counted(&writing.counters, moment) else {
@@ -184,7 +190,7 @@ pub fn write_row(
         return Err(Memory);
     }
     if image.is_leaf(image.latest(LIVE)) {
-        return write_here(alloc, image, moment, writing, counters, id);
+        return write_here(alloc, image, moment, writing, key, value, counters, id);
     }
-    write_above(alloc, image, moment, writing, counters, id)
+    write_above(alloc, image, moment, writing, key, value, counters, id)
 }
