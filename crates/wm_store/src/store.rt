@@ -47,6 +47,7 @@ impl Store {
         ensures absent { P.tells → OnOk result (is_made (now (P.history station.old)) ≡ false) }
         ensures later { P.disk_faults station.old ≤ P.disk_faults station.new }
         ensures disk { IsErrOf result making.Disk → Rises (P.disk_faults station.old) (P.disk_faults station.new) }
+        ensures say_quiet { P.say_faults station.new ≡ P.say_faults station.old }
     {
         let changes = fresh(alloc, limit)?;
         let blobs = spell_changes(alloc, changes.as_slice())?;
@@ -70,6 +71,7 @@ impl Store {
 
         ensures later { P.disk_faults station.old ≤ P.disk_faults station.new }
         ensures disk { IsErrOf result opening.Disk → Rises (P.disk_faults station.old) (P.disk_faults station.new) }
+        ensures say_quiet { P.say_faults station.new ≡ P.say_faults station.old }
     {
         let journal = Journal::open(alloc, station)?;
         let (heap, records) = load_over(alloc, station, journal.count())?;
@@ -96,6 +98,7 @@ impl Store {
         ensures later { P.disk_faults station.old ≤ P.disk_faults station.new }
         ensures disk { IsErrOf result storing.Disk → Rises (P.disk_faults station.old) (P.disk_faults station.new) }
         ensures not_changed { P.tells → IsErrOf result storing.Changed → ⊥ }
+        ensures say_quiet { P.say_faults station.new ≡ P.say_faults station.old }
     {
         let count = self.journal.count();
         if self.heap.page_count() != count {
