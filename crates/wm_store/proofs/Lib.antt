@@ -1,5 +1,7 @@
 pub mod Committing
+pub mod Distinct
 pub mod Freshly
+pub mod Holding
 pub mod Mending
 pub mod Opening
 pub mod Pasts

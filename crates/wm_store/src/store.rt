@@ -68,6 +68,7 @@ impl Store {
         ensures same { P.tells → SaysAs (now (P.history station.old)) (now (P.history station.new)) }
         ensures any_moment { P.tells → During (P.history station.old) (P.history station.new) (λ c s. (Leaves (P.history station.old) c ⊎ SaysAs (now (P.history station.old)) c) × (s ≡ said (P.history station.old))) }
         ensures quiet { P.tells → said (P.history station.new) ≡ said (P.history station.old) }
+        ensures untouched { P.tells → IsErrOf result opening.NotStore → now (P.history station.new) ≡ now (P.history station.old) }
 
         ensures later { P.disk_faults station.old ≤ P.disk_faults station.new }
         ensures disk { IsErrOf result opening.Disk → Rises (P.disk_faults station.old) (P.disk_faults station.new) }
