@@ -9,3 +9,4 @@ pub mod Reading
 pub mod Slotwise
 pub mod Storing
 pub mod Trials
+pub mod Unchanging

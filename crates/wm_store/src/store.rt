@@ -32,7 +32,7 @@ pub struct Store {
 }
 
 impl Store {
-    ghost use Rattle.wm_store.specs.Stores.{IsStoreOf, OldOrAfter};
+    ghost use Rattle.wm_store.specs.Stores.{IsStoreOf, OldOrAfter, ChangesNothing};
 
     /// Makes a store of a file that holds none, which takes `limit` changes. It then holds three records: counters, the
     /// workspace LIVE, and its version. What a crash within the call leaves, or an error but Exists, is not said.
@@ -95,6 +95,9 @@ impl Store {
 
         // A crash at any moment of the call, and a read after it, finds the old records or those after the batch.
         ensures any_moment { P.tells → (old : List Stored) → Held old (now (P.history station.old)) → Ended (P.history station.old) (P.history station.new) (OldOrAfter old batch.now.changes) }
+
+        // A batch that changes nothing leaves the station alone.
+        ensures nothing { P.tells → (old : List Stored) → Held old (now (P.history station.old)) → ChangesNothing old batch.now.changes → P.history station.new ≡ P.history station.old }
 
         ensures later { P.disk_faults station.old ≤ P.disk_faults station.new }
         ensures disk { IsErrOf result storing.Disk → Rises (P.disk_faults station.old) (P.disk_faults station.new) }
