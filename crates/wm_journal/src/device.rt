@@ -19,6 +19,7 @@ pub(crate) fn place<P: Station>(station: &mut P, pages: &[PageWrite]) -> Result<
     ensures part { P.tells → OnErr result (DidPart (placing (entries pages.now)) (P.history station.old) (P.history station.new)) }
     ensures later { P.disk_faults station.old ≤ P.disk_faults station.new }
     ensures failed { IsErrOf result DiskFailed.Failed → Rises (P.disk_faults station.old) (P.disk_faults station.new) }
+    ensures say_quiet { P.say_faults station.new ≡ P.say_faults station.old }
 {
     for write in pages {
         station.write_at(write.page * 4096, write.bytes.as_slice())?;
@@ -32,6 +33,7 @@ pub(crate) fn set_gate<P: Station>(station: &mut P, gate: u8) -> Result<(), Disk
     ensures part { P.tells → OnErr result (DidPart (gating gate) (P.history station.old) (P.history station.new)) }
     ensures later { P.disk_faults station.old ≤ P.disk_faults station.new }
     ensures failed { IsErrOf result DiskFailed.Failed → Rises (P.disk_faults station.old) (P.disk_faults station.new) }
+    ensures say_quiet { P.say_faults station.new ≡ P.say_faults station.old }
 {
     station.write_at(GATE_AT, &[gate])?;
     station.sync()
@@ -50,6 +52,7 @@ fn arm<P: Station>(
     ensures part { P.tells → OnErr result (DidPart (arming start images journal.now) (P.history station.old) (P.history station.new)) }
     ensures later { P.disk_faults station.old ≤ P.disk_faults station.new }
     ensures failed { IsErrOf result DiskFailed.Failed → Rises (P.disk_faults station.old) (P.disk_faults station.new) }
+    ensures say_quiet { P.say_faults station.new ≡ P.say_faults station.old }
 {
     station.write_at(start * 4096, journal)?;
     station.write_at(FIELDS_AT, &fields(start, images))?;
@@ -82,6 +85,7 @@ pub(crate) fn write_through<P: Station>(
     ensures part { P.tells → OnErr result (DidPart (committing start (length pages.now) journal.now (entries pages.now)) (P.history station.old) (P.history station.new)) }
     ensures later { P.disk_faults station.old ≤ P.disk_faults station.new }
     ensures failed { IsErrOf result DiskFailed.Failed → Rises (P.disk_faults station.old) (P.disk_faults station.new) }
+    ensures say_quiet { P.say_faults station.new ≡ P.say_faults station.old }
 {
     arm(station, start, pages.len() as u64, journal)?;
     set_gate(station, GATE_OPEN)?;
@@ -96,6 +100,7 @@ pub(crate) fn settle<P: Station>(station: &mut P) -> Result<(), OpenFault>
     ensures silent { IfErr result IsSilent }
     ensures later { P.disk_faults station.old ≤ P.disk_faults station.new }
     ensures disk { IsErrOf result OpenFault.Disk → Rises (P.disk_faults station.old) (P.disk_faults station.new) }
+    ensures say_quiet { P.say_faults station.new ≡ P.say_faults station.old }
 {
     match station.sync() {
         Ok(()) => Ok(()),
@@ -140,6 +145,7 @@ pub(crate) fn write_made<P: Station>(station: &mut P, pages: &[PageWrite]) -> Re
     ensures part { P.tells → OnErr result (DidPart (making root_page (entries pages.now)) (P.history station.old) (P.history station.new)) }
     ensures later { P.disk_faults station.old ≤ P.disk_faults station.new }
     ensures failed { IsErrOf result DiskFailed.Failed → Rises (P.disk_faults station.old) (P.disk_faults station.new) }
+    ensures say_quiet { P.say_faults station.new ≡ P.say_faults station.old }
 {
     write_byte(station, NOT_MADE)?;
     write_root(station, pages)?;
@@ -153,6 +159,7 @@ fn write_root<P: Station>(station: &mut P, pages: &[PageWrite]) -> Result<(), Di
     ensures part { P.tells → OnErr result (DidPart (rooting root_page (entries pages.now)) (P.history station.old) (P.history station.new)) }
     ensures later { P.disk_faults station.old ≤ P.disk_faults station.new }
     ensures failed { IsErrOf result DiskFailed.Failed → Rises (P.disk_faults station.old) (P.disk_faults station.new) }
+    ensures say_quiet { P.say_faults station.new ≡ P.say_faults station.old }
 {
     station.write_at(0, &root_page())?;
     place(station, pages)
@@ -164,6 +171,7 @@ fn write_byte<P: Station>(station: &mut P, byte: u8) -> Result<(), DiskFailed>
     ensures part { P.tells → OnErr result (DidPart (marking byte) (P.history station.old) (P.history station.new)) }
     ensures later { P.disk_faults station.old ≤ P.disk_faults station.new }
     ensures failed { IsErrOf result DiskFailed.Failed → Rises (P.disk_faults station.old) (P.disk_faults station.new) }
+    ensures say_quiet { P.say_faults station.new ≡ P.say_faults station.old }
 {
     station.write_at(0, &[byte])?;
     station.sync()

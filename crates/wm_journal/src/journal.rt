@@ -69,6 +69,7 @@ impl Journal {
         ensures later { P.disk_faults station.old ≤ P.disk_faults station.new }
         ensures disk { IsErrOf result StoreFault.Disk → Rises (P.disk_faults station.old) (P.disk_faults station.new) }
         ensures not_changed { IsErrOf result StoreFault.Changed → ⊥ }
+        ensures say_quiet { P.say_faults station.new ≡ P.say_faults station.old }
     {
         let pages = batch.pages.as_slice();
         let count = count_after(self.count, pages);
@@ -105,6 +106,7 @@ impl Journal {
         ensures absent { P.tells → OnOk result (is_made (now (P.history station.old)) ≡ false) }
         ensures later { P.disk_faults station.old ≤ P.disk_faults station.new }
         ensures disk { IsErrOf result MakeFault.Disk → Rises (P.disk_faults station.old) (P.disk_faults station.new) }
+        ensures say_quiet { P.say_faults station.new ≡ P.say_faults station.old }
     {
         match is_made(station) {
             Ok(false) => {}
@@ -138,6 +140,7 @@ impl Journal {
 
         ensures later { P.disk_faults station.old ≤ P.disk_faults station.new }
         ensures disk { IsErrOf result OpenFault.Disk → Rises (P.disk_faults station.old) (P.disk_faults station.new) }
+        ensures say_quiet { P.say_faults station.new ≡ P.say_faults station.old }
     {
         settle(station)?;
         let size = size_of(station)?;

@@ -33,6 +33,7 @@ pub(crate) fn repair<P: Station>(
     ensures untouched { P.tells → IfErr result (λ e. IsUntouched e → P.history station.new ≡ P.history station.old) }
     ensures later { P.disk_faults station.old ≤ P.disk_faults station.new }
     ensures disk { IsErrOf result OpenFault.Disk → Rises (P.disk_faults station.old) (P.disk_faults station.new) }
+    ensures say_quiet { P.say_faults station.new ≡ P.say_faults station.old }
 {
     if !header.open {
         return Ok(());
@@ -58,6 +59,7 @@ fn put_back<P: Station>(station: &mut P, pages: &[PageWrite]) -> Result<(), Disk
     ensures part { P.tells → OnErr result (DidPart (placing (entries pages.now) ++ gating 0) (P.history station.old) (P.history station.new)) }
     ensures later { P.disk_faults station.old ≤ P.disk_faults station.new }
     ensures failed { IsErrOf result DiskFailed.Failed → Rises (P.disk_faults station.old) (P.disk_faults station.new) }
+    ensures say_quiet { P.say_faults station.new ≡ P.say_faults station.old }
 {
     place(station, pages)?;
     set_gate(station, GATE_CLOSED)
@@ -93,6 +95,7 @@ fn read_pages<P: Station>(
     ensures told { P.tells → P.history station.new ≡ P.history station.old }
     ensures later { P.disk_faults station.old ≤ P.disk_faults station.new }
     ensures failed { IsErrOf result DiskFailed.Failed → Rises (P.disk_faults station.old) (P.disk_faults station.new) }
+    ensures say_quiet { P.say_faults station.new ≡ P.say_faults station.old }
 {
     let mut pages: Vec<PageWrite> = Vec::new(alloc);
     let numbers = header.start * 4096;
@@ -116,6 +119,7 @@ fn read_page_number<P: Station>(station: &mut P, size: u64, at: u64) -> Result<u
     ensures told { P.tells → P.history station.new ≡ P.history station.old }
     ensures later { P.disk_faults station.old ≤ P.disk_faults station.new }
     ensures failed { IsErrOf result DiskFailed.Failed → Rises (P.disk_faults station.old) (P.disk_faults station.new) }
+    ensures say_quiet { P.say_faults station.new ≡ P.say_faults station.old }
 {
     let mut bytes = [0; 8];
     station.read(at, &mut bytes)?;
@@ -136,6 +140,7 @@ fn read_page<P: Station>(
     ensures told { P.tells → P.history station.new ≡ P.history station.old }
     ensures later { P.disk_faults station.old ≤ P.disk_faults station.new }
     ensures failed { IsErrOf result DiskFailed.Failed → Rises (P.disk_faults station.old) (P.disk_faults station.new) }
+    ensures say_quiet { P.say_faults station.new ≡ P.say_faults station.old }
 {
     let mut bytes = vec![in alloc; 0; PAGE_SIZE]?;
     station.read(at, bytes.as_mut_slice())?;

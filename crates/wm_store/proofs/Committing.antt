@@ -29,7 +29,7 @@ use Rattle.wm_heap.specs.Plan.{IsPlan, IsChanged, laid}
 use Rattle.wm_heap.proofs.Getting.{bytes_there}
 use Rattle.wm_store.specs.Opened.{records_in, are_records, unread_in, pages_opened, opened, Held}
 use Rattle.wm_store.specs.Spelled.{HaveSpellings, blob_of, blobs_of}
-use Rattle.wm_store.proofs.Reading.{record_at-records_in, unread_none, all_read}
+use Rattle.wm_store.proofs.Reading.{record_at-records_in, bytes_read, unread_none, all_read}
 use Rattle.wm_store.proofs.Opening.{pages_found, passed, opened-stores, pages_opened-same}
 
 -- ---- the batch, as the heap and the journal take it
@@ -156,18 +156,8 @@ changed_pages heap changes es pages before old all changed enough opens =
     option_read (Some b) bytes e f = let same : b ≡ bytes = cc in subst (λ x. record_of x ≡ None) same e
     option_read None bytes e f = absurd cc
 
-    old_good : (slots : List Slot) (id : ℕ) (bytes : List ℕ) → are_records slots ≡ true → bytes_at slots id ≡ Some bytes → is_some (record_of bytes) ≡ true
-    old_good [] id bytes are e = absurd cc
-    old_good (s ∷ slots) id bytes are e = by_test (is_some (record_of s.bytes)) refl are (eqb s.id id) e (λ rest found. old_good slots id bytes rest found)
-      where
-        by_test : (b : Bool) → is_some (record_of s.bytes) ≡ b → cond b (are_records slots) false ≡ true → (t : Bool) → cond t (Some s.bytes) (bytes_at slots id) ≡ Some bytes
-            → (are_records slots ≡ true → bytes_at slots id ≡ Some bytes → is_some (record_of bytes) ≡ true) → is_some (record_of bytes) ≡ true
-        by_test false f are t e rest = absurd cc
-        by_test true f are true e rest = let same : s.bytes ≡ bytes = cc in subst (λ x. is_some (record_of x) ≡ true) same f
-        by_test true f are false e rest = rest are e
-
     by_said : (id : ℕ) (bytes : List ℕ) (o : Option (Option Record)) → change_at changes id ≡ o → are_records (content pages before) ≡ true → after (option_map (λ becomes. option_map spelling becomes) o) (bytes_at (content pages before) id) ≡ Some bytes → is_some (record_of bytes) ≡ true
-    by_said id bytes None e are f = old_good (content pages before) id bytes are f
+    by_said id bytes None e are f = bytes_read (content pages before) id bytes are f
     by_said id bytes (Some None) e are f = absurd cc
     by_said id bytes (Some (Some r)) e are f = let same : spelling r ≡ bytes = cc in subst (λ x. is_some (record_of x) ≡ true) same (ap is_some (spelled_again changes id r all e))
 

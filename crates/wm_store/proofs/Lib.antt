@@ -1,6 +1,8 @@
 pub mod Committing
 pub mod Fitting
+pub mod Distinct
 pub mod Freshly
+pub mod Holding
 pub mod Mending
 pub mod Opening
 pub mod Pasts
@@ -8,3 +10,4 @@ pub mod Reading
 pub mod Slotwise
 pub mod Storing
 pub mod Trials
+pub mod Unchanging

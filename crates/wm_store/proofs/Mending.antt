@@ -4,11 +4,11 @@ use Rattle.wm_base.specs.declared.fault.Damage.{Damage}
 use Rattle.wm_base.specs.declared.fault.OpenFault.{OpenFault}
 use Rattle.wm_base.specs.declared.fault.OpenFault.TheVariants as faults
 use Rattle.wm_spec.specs.declared.record.stored.Stored.{Stored}
-use Rattle.wm_station.specs.History.{History, now, said, Leaves}
+use Rattle.wm_station.specs.History.{History, now, said, Leaves, Synced}
 use Rattle.wm_station.specs.Moments.{Holds, During}
 use Rattle.wm_station.proofs.Steps.{weaken}
 use Rattle.wm_journal.specs.Disk.{page, is_made, is_open, count_of, damage_of}
-use Rattle.wm_journal.specs.Opening.{Says}
+use Rattle.wm_journal.specs.Opening.{Says, IsUntouched}
 use Rattle.wm_journal.specs.Store.{IsAtRest, Keeps}
 use Rattle.wm_heap.specs.Asking.{Finds}
 use Rattle.wm_heap.specs.Content.{slots_in, content, fault_of}
@@ -64,6 +64,10 @@ says_of faults.Disk file says = tt
 says_of faults.NotStore file says = says
 says_of faults.Memory file says = tt
 says_of (faults.Damaged p kind) file says = (says.0, opened_damage file (p, kind) says.1)
+
+-- where no store was made nothing was written
+pub untouched_by : (e : OpenFault) (old new : History) → (IsUntouched e → new ≡ Synced old) → e ≡ faults.NotStore → now new ≡ now old
+untouched_by e old new untouched is = ap (λ (h : History). now h) (untouched (subst (λ x. IsUntouched x) (sym is) tt))
 
 pub says_as : (old file : List ℕ) → Keeps old file → SaysAs old file
 says_as old file keeps = record { made = made-keeps old file keeps; opens = opened-keeps old file keeps }

@@ -127,6 +127,11 @@ cond_none : (b : Bool) (f : ℕ × Damage) (o : Option (ℕ × Damage)) → cond
 cond_none true f o e = absurd cc
 cond_none false f o e = (refl, e)
 
+-- a file that was opened passed the tests of pages 0 and 1, and its pages those of the heap
+pub opened_parts : (file : List ℕ) (records : List Stored) → opened file ≡ Ok records → (damage_of file ≡ None) × (pages_opened (held file) (count_of file) (length file / 4096) ≡ Ok records)
+unfolding opened
+opened_parts file records e = unless_ok (damage_of file) (pages_opened (held file) (count_of file) (length file / 4096)) records e
+
 -- a file that passed the tests of pages 0 and 1
 pub damage_none : (file : List ℕ) → damage_of file ≡ None → (8192 ≤ length file) × (3 ≤ count_of file)
 unfolding damage_of

@@ -54,6 +54,17 @@ record_at-records_in (s ∷ slots) id all = by_record (record_of s.bytes) refl (
         by_test true h = sym e
         by_test false h = h
 
+-- the bytes under each id are those of a record
+pub bytes_read : (slots : List Slot) (id : ℕ) (bytes : List ℕ) → are_records slots ≡ true → bytes_at slots id ≡ Some bytes → is_some (record_of bytes) ≡ true
+bytes_read [] id bytes are e = absurd cc
+bytes_read (s ∷ slots) id bytes are e = by_test (is_some (record_of s.bytes)) refl are (eqb s.id id) e (λ rest found. bytes_read slots id bytes rest found)
+  where
+    by_test : (b : Bool) → is_some (record_of s.bytes) ≡ b → cond b (are_records slots) false ≡ true → (t : Bool) → cond t (Some s.bytes) (bytes_at slots id) ≡ Some bytes
+        → (are_records slots ≡ true → bytes_at slots id ≡ Some bytes → is_some (record_of bytes) ≡ true) → is_some (record_of bytes) ≡ true
+    by_test false f are t e rest = absurd cc
+    by_test true f are true e rest = let same : s.bytes ≡ bytes = cc in subst (λ x. is_some (record_of x) ≡ true) same f
+    by_test true f are false e rest = rest are e
+
 -- ---- pages
 
 cond_none : (b : Bool) (f : ℕ × Damage) → cond b None (Some f) ≡ None → b ≡ true

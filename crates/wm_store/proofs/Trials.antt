@@ -1,12 +1,13 @@
 -- The batch of the tests.
-use Rattle.std.proofs.Common.{◌≡◌, ℕ, ◌≤◌, Bool, false, true, eqb, List, [], ◌∷◌, ◌++◌, length, Option, Some, None, refl, sym, ap, subst, ◌∙◌, arith}
+use Rattle.std.proofs.Common.{◌≡◌, ℕ, ◌+◌, ◌≤◌, Bool, false, true, cond, ◌||◌, eqb, List, [], ◌∷◌, ◌++◌, length, map, Option, Some, None, IfSome, refl, sym, ap, subst, ◌∙◌, arith}
+use Rattle.std.specs.List.{list_any}
 use Rattle.std.proofs.lemmas.Bool.{eqb-true}
 use Rattle.wm_spec.specs.declared.record.Record.{Record}
 use Rattle.wm_spec.specs.declared.record.Record.TheVariants as records
 use Rattle.wm_spec.specs.declared.record.version.Version.{Version}
 use Rattle.wm_spec.specs.declared.record.batch.Change.{Change}
 use Rattle.wm_spec.specs.Records.{ids_differ, AreChanges}
-use Rattle.wm_codec.specs.Spelling.{spelling}
+use Rattle.wm_codec.specs.Spelling.{CanSpell, spelling}
 use Rattle.wm_store.specs.Spelled.{FitPages}
 
 length-version : (v : Version) → length (spelling (records.Version v)) ≡ 21
@@ -26,3 +27,67 @@ trial_differs id v dropped apart = let t : eqb dropped id ≡ false = by_test (e
     by_test : (b : Bool) → eqb dropped id ≡ b → b ≡ false
     by_test true e = absurd (apart (sym (eqb-true dropped id e)))
     by_test false e = refl
+
+-- ---- ids that rise
+
+pub version_fits : (v : Version) → CanSpell (records.Version v) × (length (spelling (records.Version v)) ≤ 4084)
+version_fits v = let len = length-version v in ((tt, (tt, tt)), omega arith)
+
+-- the changes so far fit, and none is of this id or a later one
+pub record Rising (changes : List Change) (next : ℕ) : Type 0 where
+  pub fit : FitPages changes
+  pub once : AreChanges changes
+  pub later : (id : ℕ) → next ≤ id → list_any (λ other. eqb other id) (map (λ (c : Change). c.id) changes) ≡ false
+
+pub none_rising : (next : ℕ) → Rising [] next
+unfolding ids_differ
+none_rising next = record { fit = tt; once = refl; later = λ id from. refl }
+
+fits_more : (changes : List Change) (c : Change) → FitPages changes → IfSome c.becomes (λ r. CanSpell r × (length (spelling r) ≤ 4084)) → FitPages (changes ++ c ∷ [])
+fits_more [] c fit one = (one, tt)
+fits_more (d ∷ changes) c fit one = (fit.0, fits_more changes c fit.1 one)
+
+any_more : (changes : List Change) (c : Change) (id : ℕ) → list_any (λ other. eqb other id) (map (λ (d : Change). d.id) changes) ≡ false → eqb c.id id ≡ false → list_any (λ other. eqb other id) (map (λ (d : Change). d.id) (changes ++ c ∷ [])) ≡ false
+any_more [] c id none apart = rw apart refl
+any_more (d ∷ changes) c id none apart =
+    let parts = neither (eqb d.id id) (list_any (λ other. eqb other id) (map (λ (d : Change). d.id) changes)) none in
+    rw parts.0 (any_more changes c id parts.1 apart)
+  where
+    neither : (a b : Bool) → (a || b) ≡ false → (a ≡ false) × (b ≡ false)
+    neither true b e = absurd cc
+    neither false b e = (refl, e)
+
+differ_more : (changes : List Change) (c : Change) → AreChanges changes → list_any (λ other. eqb other c.id) (map (λ (d : Change). d.id) changes) ≡ false → AreChanges (changes ++ c ∷ [])
+unfolding ids_differ
+differ_more [] c once none = refl
+differ_more (d ∷ changes) c once none =
+    let parts = neither (eqb d.id c.id) (list_any (λ other. eqb other c.id) (map (λ (d : Change). d.id) changes)) none in
+    let first = first_of_once (list_any (λ other. eqb other d.id) (map (λ (d : Change). d.id) changes)) (ids_differ (map (λ (d : Change). d.id) changes)) once in
+    let apart : eqb c.id d.id ≡ false = turned (eqb c.id d.id) refl parts.0 in
+    let alone : list_any (λ other. eqb other d.id) (map (λ (d : Change). d.id) (changes ++ c ∷ [])) ≡ false = any_more changes c d.id first.0 apart in
+    rw alone (differ_more changes c first.1 parts.1)
+  where
+    neither : (a b : Bool) → (a || b) ≡ false → (a ≡ false) × (b ≡ false)
+    neither true b e = absurd cc
+    neither false b e = (refl, e)
+
+    first_of_once : (a b : Bool) → cond a false b ≡ true → (a ≡ false) × (b ≡ true)
+    first_of_once true b e = absurd cc
+    first_of_once false b e = (refl, e)
+
+    turned : (t : Bool) → eqb c.id d.id ≡ t → eqb d.id c.id ≡ false → t ≡ false
+    turned true e f = absurd (let same : c.id ≡ d.id = eqb-true c.id d.id e in let self : eqb d.id c.id ≡ true = grind arith in cc)
+    turned false e f = refl
+
+pub one_more : (changes new : List Change) (c : Change) (next : ℕ) → Rising changes next → c.id ≡ next → IfSome c.becomes (λ r. CanSpell r × (length (spelling r) ≤ 4084)) → new ≡ changes ++ c ∷ [] → Rising new (next + 1)
+one_more changes new c next rising is fits pushed =
+    subst (λ l. Rising l (next + 1)) (sym pushed)
+    (record {
+      fit = fits_more changes c rising.fit fits;
+      once = differ_more changes c rising.once (rising.later c.id (omega arith));
+      later = λ id from. any_more changes c id (rising.later id (omega arith)) (apart id from (eqb c.id id) refl);
+    })
+  where
+    apart : (id : ℕ) → next + 1 ≤ id → (t : Bool) → eqb c.id id ≡ t → t ≡ false
+    apart id from true e = absurd (let same = eqb-true c.id id e in omega arith)
+    apart id from false e = refl

@@ -1,8 +1,8 @@
 -- A store and the station under it.
-use Rattle.std.specs.Prelude.{◌≡◌, ℕ, ◌⊎◌, List, Ok}
+use Rattle.std.specs.Prelude.{◌≡◌, ℕ, ◌⊎◌, List, [], ◌∷◌, None, Ok}
 use Rattle.wm_spec.specs.declared.record.stored.Stored.{Stored}
 use Rattle.wm_spec.specs.declared.record.batch.Change.{Change}
-use Rattle.wm_spec.specs.Records.{AfterBatch}
+use Rattle.wm_spec.specs.Records.{record_at, AfterBatch}
 use Rattle.wm_station.specs.History.{History, now}
 use Rattle.wm_journal.specs.Disk.{page}
 use Rattle.wm_journal.specs.Store.{IsAtRest}
@@ -19,3 +19,8 @@ pub record IsStoreOf (store : Store) (h : History) : Type 0 where
 -- the file holds the old records, or those after the batch
 abbrev pub OldOrAfter : List Stored → List Change → List ℕ → Type 0
 OldOrAfter old changes file = Held old file ⊎ ((new : List Stored) × AfterBatch old changes new × Held new file)
+
+-- each change drops a record, of an id that has none
+abbrev pub ChangesNothing : List Stored → List Change → Type 0
+ChangesNothing stored [] = Unit {0}
+ChangesNothing stored (c ∷ changes) = (c.becomes ≡ None) × (record_at stored c.id ≡ None) × ChangesNothing stored changes

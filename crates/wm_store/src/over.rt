@@ -37,6 +37,7 @@ pub fn load_over<P: Station>(
     ensures told { P.tells → P.history station.new ≡ P.history station.old }
     ensures later { P.disk_faults station.old ≤ P.disk_faults station.new }
     ensures disk { IsErrOf result opening.Disk → Rises (P.disk_faults station.old) (P.disk_faults station.new) }
+    ensures say_quiet { P.say_faults station.new ≡ P.say_faults station.old }
 {
     let whole = match whole_pages(station) {
         Ok(whole) => whole,
@@ -73,6 +74,7 @@ pub fn plan_over<P: Station>(
     ensures later { P.disk_faults station.old ≤ P.disk_faults station.new }
     ensures disk { IsErrOf result storing.Disk → Rises (P.disk_faults station.old) (P.disk_faults station.new) }
     ensures sound { P.tells → IsErrOf result storing.Changed → ⊥ }
+    ensures say_quiet { P.say_faults station.new ≡ P.say_faults station.old }
 {
     let whole = match whole_pages(station) {
         Ok(whole) => whole,

@@ -17,6 +17,7 @@ pub struct StationPages<'a, P: Station> {
 }
 
 impl<'a, P: Station> Pages for StationPages<'a, P> {
+    ghost use Rattle.std.specs.Prelude.{[], ◌∷◌};
     ghost use Rattle.wm_station.specs.History.{now};
     ghost use Rattle.wm_journal.specs.Disk.{page};
     ghost use Rattle.wm_store.specs.Past.{past_of};
@@ -31,7 +32,7 @@ impl<'a, P: Station> Pages for StationPages<'a, P> {
 
     ghost faults = { λ s. P.disk_faults s.station.now };
 
-    ghost source = { λ s. s.station.ghost_name };
+    ghost source = { λ s. s.station.ghost_name ∷ P.say_faults s.station.now ∷ [] };
 
     ghost past = { λ s. past_of (P.history s.station.now) };
 
@@ -58,6 +59,7 @@ pub fn whole_pages<P: Station>(station: &mut P) -> Result<u64, DiskFailed>
     ensures small { IfOk result (λ n. n * 4096 < 2 ^ 64) }
     ensures told { P.tells → P.history station.new ≡ P.history station.old }
     ensures cause { DiskCause (P.disk_faults station.old) (P.disk_faults station.new) result }
+    ensures say_quiet { P.say_faults station.new ≡ P.say_faults station.old }
 {
     let size = station.len()?;
     Ok(size / PAGE_SIZE as u64)

@@ -32,7 +32,7 @@ pub struct Store {
 }
 
 impl Store {
-    ghost use Rattle.wm_store.specs.Stores.{IsStoreOf, OldOrAfter};
+    ghost use Rattle.wm_store.specs.Stores.{IsStoreOf, OldOrAfter, ChangesNothing};
 
     /// Makes a store of a file that holds none, which takes `limit` changes. It then holds three records: counters, the
     /// workspace LIVE, and its version. What a crash within the call leaves, or an error but Exists, is not said.
@@ -47,6 +47,7 @@ impl Store {
         ensures absent { P.tells → OnOk result (is_made (now (P.history station.old)) ≡ false) }
         ensures later { P.disk_faults station.old ≤ P.disk_faults station.new }
         ensures disk { IsErrOf result making.Disk → Rises (P.disk_faults station.old) (P.disk_faults station.new) }
+        ensures say_quiet { P.say_faults station.new ≡ P.say_faults station.old }
     {
         let changes = fresh(alloc, limit)?;
         let blobs = spell_changes(alloc, changes.as_slice())?;
@@ -67,9 +68,11 @@ impl Store {
         ensures same { P.tells → SaysAs (now (P.history station.old)) (now (P.history station.new)) }
         ensures any_moment { P.tells → During (P.history station.old) (P.history station.new) (λ c s. (Leaves (P.history station.old) c ⊎ SaysAs (now (P.history station.old)) c) × (s ≡ said (P.history station.old))) }
         ensures quiet { P.tells → said (P.history station.new) ≡ said (P.history station.old) }
+        ensures untouched { P.tells → IsErrOf result opening.NotStore → now (P.history station.new) ≡ now (P.history station.old) }
 
         ensures later { P.disk_faults station.old ≤ P.disk_faults station.new }
         ensures disk { IsErrOf result opening.Disk → Rises (P.disk_faults station.old) (P.disk_faults station.new) }
+        ensures say_quiet { P.say_faults station.new ≡ P.say_faults station.old }
     {
         let journal = Journal::open(alloc, station)?;
         let (heap, records) = load_over(alloc, station, journal.count())?;
@@ -93,9 +96,13 @@ impl Store {
         // A crash at any moment of the call, and a read after it, finds the old records or those after the batch.
         ensures any_moment { P.tells → (old : List Stored) → Held old (now (P.history station.old)) → Ended (P.history station.old) (P.history station.new) (OldOrAfter old batch.now.changes) }
 
+        // A batch that changes nothing leaves the station alone.
+        ensures nothing { P.tells → (old : List Stored) → Held old (now (P.history station.old)) → ChangesNothing old batch.now.changes → P.history station.new ≡ P.history station.old }
+
         ensures later { P.disk_faults station.old ≤ P.disk_faults station.new }
         ensures disk { IsErrOf result storing.Disk → Rises (P.disk_faults station.old) (P.disk_faults station.new) }
         ensures not_changed { P.tells → IsErrOf result storing.Changed → ⊥ }
+        ensures say_quiet { P.say_faults station.new ≡ P.say_faults station.old }
     {
         let count = self.journal.count();
         if self.heap.page_count() != count {

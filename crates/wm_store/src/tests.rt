@@ -1,4 +1,5 @@
-ghost use Rattle.std.specs.Prelude.{◌≡◌, IfOk};
+ghost use Rattle.std.specs.Prelude.{◌≡◌, ◌<◌, ◌≤◌, length, IfSome, IfOk};
+ghost use Rattle.wm_codec.specs.Spelling.{CanSpell, spelling};
 ghost use Rattle.wm_spec.specs.Records.{AreChanges};
 ghost use Rattle.wm_store.specs.Spelled.{FitPages};
 
@@ -155,5 +156,69 @@ fn changes_follow_one_another(rt: HostRuntime) -> Result<(), Fail> {
     let (_, records) = Store::open(alloc, &mut station)?;
     let list = listed(alloc, &records)?;
     assert_eq!(rt; list.as_slice(), [(1, 0), (5, 8), (3, 9)].as_slice());
+    Ok(())
+}
+
+// A version of this number, or none under an id that `drops` divides.
+fn version_under(id: u64, number: u64, drops: u64) -> Option<Record>
+    requires { 0 < drops }
+    ensures { IfSome result (λ r. CanSpell r × (length (spelling r) ≤ 4084)) }
+{
+    if id % drops == 0 {
+        return None;
+    }
+    Some(Record::Version(Version {
+        number,
+        space: 0,
+        parent: 1,
+    }))
+}
+
+// Versions of this number are put under the ids, and what is under each one that `drops` divides is dropped.
+fn versions(
+    alloc: Global,
+    first: u64,
+    last: u64,
+    number: u64,
+    drops: u64,
+) -> Result<Batch, Fail>
+    requires { 0 < drops }
+    ensures once { IfOk result (λ b. AreChanges b.changes) }
+    ensures fit { IfOk result (λ b. FitPages b.changes) }
+{
+    let mut changes = Changes::new(alloc);
+    for id in first..last {
+        changes.push(Change {
+            id,
+            becomes: version_under(id, number, drops),
+        })?;
+    }
+    Ok(Batch { changes })
+}
+
+// Whether the number stands under the id after the two batches of the test below.
+fn is_expected(id: u64, number: u64) -> bool {
+    match id {
+        1 | 2 => number == 0,
+        3 => number == 1,
+        100..=199 => number == 8 && id % 3 != 0,
+        _ => number == 7,
+    }
+}
+
+#[test]
+fn a_batch_changes_records_of_several_pages(rt: HostRuntime) -> Result<(), Fail> {
+    let alloc = rt.alloc();
+    let mut station = QuietStation::new(alloc, Vec::new(alloc))?;
+    let mut store = Store::make(alloc, &mut station, 1000)?;
+    store.commit(alloc, &mut station, &versions(alloc, 4, 304, 7, 1000)?)?;
+    assert_eq!(rt; store.journal.count(), 5);
+    store.commit(alloc, &mut station, &versions(alloc, 100, 200, 8, 3)?)?;
+    let (_, records) = Store::open(alloc, &mut station)?;
+    let list = listed(alloc, &records)?;
+    assert_eq!(rt; list.len(), 270);
+    for (id, number) in list.as_slice() {
+        assert!(rt; is_expected(*id, *number), "{number} under {id}");
+    }
     Ok(())
 }

@@ -19,4 +19,5 @@ loop-write-preserved g c =
       did = λ t new rest. c.loop-write.invariant.did t new (subst (λ (l : List PageWrite). Did (placing (entries l)) old new) (sym step) (middle, done t, rest));
       part = λ t new rest. c.loop-write.invariant.part t new (subst (λ (l : List PageWrite). DidPart (placing (entries l)) old new) (sym step) (inr (middle, done t, rest)));
       later = omega (arith, c.loop-write.invariant.later, c.write_at.ensures.cause.later);
+      say_quiet = c.write_at.ensures.quiet ∙ c.loop-write.invariant.say_quiet;
     }

@@ -51,6 +51,7 @@ loop-i-preserved g c =
       names = subst (λ (l : List (ℕ × List ℕ)). may_name s l ≡ true) (sym joined) (may_name_more s (entries old) (page, bytes) c.loop-i.invariant.names (omega arith) (omega arith) not_named);
       told = λ t. c.in_ok-bytes.ensures.told t ∙ c.in_ok-page.ensures.told t ∙ c.loop-i.invariant.told t;
       later = omega (arith, c.loop-i.invariant.later, c.read_page_number.ensures.later, c.read_page.ensures.later);
+      say_quiet = c.read_page.ensures.say_quiet ∙ c.read_page_number.ensures.say_quiet ∙ c.loop-i.invariant.say_quiet;
     }
 
 pub returns-clause-pages : goal.returns-clause-pages

@@ -11,4 +11,5 @@ invariant-loop-i g l = record {
   names : may_name l.header.start (entries l.pages.items) ≡ true;
   told : g.P.Station.tells → g.P.Station.history l.station ≡ g.P.Station.history l.fn.station;
   later : g.P.Station.disk_faults l.fn.station ≤ g.P.Station.disk_faults l.station;
+  say_quiet : g.P.Station.say_faults l.station ≡ g.P.Station.say_faults l.fn.station;
 }

@@ -1,4 +1,4 @@
-use Rattle.std.proofs.Common.{◌≡◌, ℕ, ◌≤◌, ◌<◌, List, [], refl, sym, ap, subst, ◌∙◌}
+use Rattle.std.proofs.Common.{◌≡◌, ℕ, ◌≤◌, ◌<◌, true, List, [], refl, sym, ap, subst, ◌∙◌}
 use Rattle.wm_spec.specs.declared.record.stored.Stored.{Stored}
 use Rattle.wm_page.specs.Batch.{entries}
 use Rattle.wm_station.specs.History.{now}
@@ -11,6 +11,7 @@ use Rattle.wm_store.specs.Spelled.{HaveSpellings, blobs_of}
 use Rattle.wm_store.specs.Stores.{OldOrAfter}
 use Rattle.wm_store.proofs.Committing.{blobs_once, blobs_small}
 use Rattle.wm_store.proofs.Storing.{as_planned, before_plan, takes_pages, takes_root, takes_grown, store_after, held_after, store_same, held_same, kept_same, run_from, old_or_after}
+use Rattle.wm_store.proofs.Unchanging.{nothing_planned}
 use Rattle.wm_store.proofs.store.Store.commit.Goals as goal
 
 pub returns-in_err-blobs-clause-any_moment : goal.returns-in_err-blobs-clause-any_moment
@@ -79,3 +80,25 @@ returns-in_err-commit-clause-any_moment g c = λ t old held.
     (as_planned (g.P.Station.history c.args.station.now) c.args.self.now.heap c.plan_over.new.heap c.args.self.now.journal c.count-count.result c.page_count.result c.args.batch.now.changes c.as_slice.result.now c.in_ok-blobs.blobs (entries c.in_ok-pages.pages.pages)
     (c.requires.store t).rests c.count-count.ensures.enough c.count-count.ensures.value c.page_count.ensures c.if-page_count-count.false c.in_ok-pages.ensures.plan c.in_ok-blobs.ensures.spelled c.as_slice.ensures c.in_ok-blobs.ensures.blobs (c.in_ok-pages.ensures.changed t)) held.opens
     (subst (λ h. Ended h (g.P.Station.history c.commit.new.station) (OldOrNew (page (now h)) c.args.self.now.journal (entries c.in_ok-pages.pages.pages))) (c.in_ok-pages.ensures.told t) (c.in_err-commit.ensures.any_moment t))
+
+pub returns-in_err-pages-clause-nothing : goal.returns-in_err-pages-clause-nothing
+returns-in_err-pages-clause-nothing g c = λ t old held nothing. c.in_err-pages.ensures.told t
+
+pub returns-then-is_empty-clause-nothing : goal.returns-then-is_empty-clause-nothing
+returns-then-is_empty-clause-nothing g c = λ t old held nothing. c.in_ok-pages.ensures.told t
+
+pub returns-clause-nothing : goal.returns-clause-nothing
+returns-clause-nothing g c = λ t old held nothing.
+    absurd (let none : c.in_ok-pages.pages.pages ≡ [] = nothing_planned (g.P.Station.history c.args.station.now) c.args.self.now.heap c.args.self.now.journal c.args.batch.now.changes c.as_slice.result.now c.in_ok-blobs.blobs c.in_ok-pages.pages.pages old (c.requires.store t).rests
+    (subst (λ n. 3 ≤ n) c.count-count.ensures.value c.count-count.ensures.enough) (c.requires.store t).heap held.opens nothing c.as_slice.ensures c.in_ok-blobs.ensures.blobs c.in_ok-pages.ensures.nothing in
+    let yes : c.is_empty.result ≡ true = c.is_empty.ensures.1 none in
+    let no = c.if-is_empty.false in
+    cc)
+
+pub returns-in_err-commit-clause-nothing : goal.returns-in_err-commit-clause-nothing
+returns-in_err-commit-clause-nothing g c = λ t old held nothing.
+    absurd (let none : c.in_ok-pages.pages.pages ≡ [] = nothing_planned (g.P.Station.history c.args.station.now) c.args.self.now.heap c.args.self.now.journal c.args.batch.now.changes c.as_slice.result.now c.in_ok-blobs.blobs c.in_ok-pages.pages.pages old (c.requires.store t).rests
+    (subst (λ n. 3 ≤ n) c.count-count.ensures.value c.count-count.ensures.enough) (c.requires.store t).heap held.opens nothing c.as_slice.ensures c.in_ok-blobs.ensures.blobs c.in_ok-pages.ensures.nothing in
+    let yes : c.is_empty.result ≡ true = c.is_empty.ensures.1 none in
+    let no = c.if-is_empty.false in
+    cc)

@@ -1,5 +1,6 @@
 use Rattle.std.proofs.Common.{◌≡◌, ℕ, ◌*◌, ◌≤◌, ◌⊎◌, List, length, sym, ap, subst, ◌∙◌}
 use Rattle.std.proofs.lemmas.Result.{err_from_is_err_and}
+use Rattle.wm_base.specs.declared.fault.OpenFault.TheVariants as faults
 use Rattle.wm_station.specs.History.{History, now, said, Leaves}
 use Rattle.wm_station.specs.Moments.{Holds, During}
 use Rattle.wm_journal.specs.Disk.{page}
@@ -8,7 +9,7 @@ use Rattle.wm_heap.specs.Places.{IsHeapOf}
 use Rattle.wm_store.specs.Opened.{Held, SaysAs}
 use Rattle.wm_store.specs.Stores.{IsStoreOf}
 use Rattle.wm_store.proofs.Opening.{opened-closed}
-use Rattle.wm_store.proofs.Mending.{says_of, says_as, says_in, moments_say, held_on, store_on}
+use Rattle.wm_store.proofs.Mending.{untouched_by, says_of, says_as, says_in, moments_say, held_on, store_on}
 use Rattle.wm_store.proofs.store.Store.open.Goals as goal
 
 pub returns-in_err-journal-clause-fault : goal.returns-in_err-journal-clause-fault
@@ -21,6 +22,11 @@ returns-in_err-journal-clause-same g c = λ t. says_as (now (g.P.Station.history
 
 pub returns-in_err-journal-clause-any_moment : goal.returns-in_err-journal-clause-any_moment
 returns-in_err-journal-clause-any_moment g c = λ t. moments_say (g.P.Station.history c.args.station.now) (g.P.Station.history c.open.new.station) (c.in_err-journal.ensures.any_moment t)
+
+pub returns-in_err-journal-clause-untouched : goal.returns-in_err-journal-clause-untouched
+returns-in_err-journal-clause-untouched g c = λ t.
+    let p = err_from_is_err_and c.from_residual.result c.from_residual.ensures.1 in
+    rw (p.1, p.2) (λ is. untouched_by c.in_err-journal.field-0.0 (g.P.Station.history c.args.station.now) (g.P.Station.history c.open.new.station) (c.in_err-journal.ensures.untouched t) (let same : c.in_err-journal.field-0.0 ≡ faults.NotStore = cc in same))
 
 pub returns-in_err-heap-clause-fault : goal.returns-in_err-heap-clause-fault
 returns-in_err-heap-clause-fault g c = λ t.
