@@ -11,10 +11,8 @@ use Rattle.wm_station.proofs.Steps.{during_begun, weaken}
 use Rattle.wm_store.specs.Opened.{Held}
 use Rattle.wm_store.specs.Stores.{IsStoreOf, OldOrAfter}
 use Rattle.wm_store.specs.declared.store.Store.{Store}
+use Rattle.wm_store.proofs.Distinct.{held_differ}
 use Rattle.wm_engine.specs.Working.{HoldsSorted, KeepsOver}
-
-held_differ : (records : List Stored) (file : List ℕ) → Held records file → AreRecords records
-held_differ records file held = ?
 
 -- what is said of a run of calls with less said of its files
 pub ended_weaken : (old new : History) (P Q : List ℕ → Type 0) → ((file : List ℕ) → P file → Q file) → Ended old new P → Ended old new Q

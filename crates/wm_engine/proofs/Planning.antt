@@ -1,16 +1,19 @@
 -- How what a plan says is told of the plan that a function gives.
-use Rattle.std.proofs.Common.{◌≡◌, ℕ, suc, ◌<◌, nat_lt, true, false, ◌==◌, List, [], ◌∷◌, length, Option, Some, None, refl, sym, ap, ◌∙◌, subst, arith}
+use Rattle.std.proofs.Common.{◌≡◌, ℕ, suc, ◌<◌, nat_lt, true, false, ◌==◌, List, [], ◌∷◌, length, Option, Some, None, is_some, Result, Ok, Err, IfOk, refl, sym, ap, ◌∙◌, subst, arith}
 use Rattle.std.proofs.lemmas.Bool.Decides.{nat_tests}
 use Rattle.std.specs.Option.{option_and_then, option_to_list}
+use Rattle.wm_base.specs.declared.memory.Memory.{Memory}
 use Rattle.wm_base.specs.declared.instant.TheConstants.{END}
-use Rattle.wm_graph.specs.Parts.{parts_of, as_counters}
+use Rattle.wm_graph.specs.Parts.{parts_of, as_counters, as_table}
 use Rattle.wm_graph.specs.Rules.{keep_rules}
 use Rattle.wm_print.specs.Texts.{Answer}
+use Rattle.wm_spec.specs.Records.{record_at}
 use Rattle.wm_spec.specs.declared.record.Record.{Record}
 use Rattle.wm_spec.specs.declared.record.Record.TheVariants as records
 use Rattle.wm_spec.specs.declared.record.batch.Change.{Change}
 use Rattle.wm_spec.specs.declared.record.counters.Counters.{Counters}
 use Rattle.wm_spec.specs.declared.record.stored.Stored.{Stored}
+use Rattle.wm_spec.specs.declared.record.table.Table.{Table}
 use Rattle.wm_state.specs.State.{State, Session}
 use Rattle.wm_state.specs.ById.{applied}
 use Rattle.wm_model.specs.Planning.{StandsAt, Does, with_opened}
@@ -62,3 +65,50 @@ counters_at c cs (Some _) one is = absurd (none_one (sym is ∙ one))
   where
     none_one : (let none : List Counters = [] in none) ≡ c ∷ [] → ⊥
     none_one e = cc
+
+-- the id of a table has it
+pub table_at : (rs : List Stored) (o : Option ℕ) (id : ℕ) (t : Table) → o ≡ Some id → option_and_then as_table (option_and_then (record_at rs) o) ≡ Some t → record_at rs id ≡ Some (records.Table t)
+table_at rs o id t is found = by_record (record_at rs id) (ap (λ (k : Option ℕ). option_and_then as_table (option_and_then (record_at rs) k)) (sym is) ∙ found)
+  where
+    none_some : (x : Option Table) → x ≡ None → x ≡ Some t → ⊥
+    none_some x none some = cc
+
+    some_table : (u : Table) → Some u ≡ Some t → u ≡ t
+    some_table u h = cc
+
+    by_record : (r : Option Record) → option_and_then as_table r ≡ Some t → r ≡ Some (records.Table t)
+    by_record None h = absurd (none_some (let none : Option Table = None in none) refl h)
+    by_record (Some (records.Table u)) h = ap (λ (s : Table). Some (records.Table s)) (some_table u h)
+    by_record (Some _) h = absurd (none_some (let none : Option Table = None in none) refl h)
+
+-- what is there
+pub some_of : {A : Type 0} (o : Option A) → is_some o ≡ true → (a : A) × (o ≡ Some a)
+some_of None e = absurd (let f : false ≡ true = e in cc)
+some_of (Some a) e = (a, refl)
+
+-- a plan does what another function does to each state that the records stand for
+pub does_one : (rs : List Stored) (xs : List Session) (m : ℕ) (p : Planned) (act other : State → State × Answer) → ((s : State) → StandsAt rs xs m s → other s ≡ act s) → DoesIt rs xs m p act → DoesIt rs xs m p other
+does_one rs xs m p act other same does = does_same rs xs m p.changes p.session (answer_view p.answer) act other same does
+
+pub does_it_same : (rs : List Stored) (xs : List Session) (m : ℕ) (r : Result Planned Memory) (act other : State → State × Answer) → ((s : State) → StandsAt rs xs m s → other s ≡ act s)
+    → IfOk r (λ p. DoesIt rs xs m p act) → IfOk r (λ p. DoesIt rs xs m p other)
+does_it_same rs xs m (Ok p) act other same does = does_one rs xs m p act other same does
+does_it_same rs xs m (Err e) act other same does = tt
+
+-- a plan that looks at no session and no user
+pub for_users : (rs : List Stored) (m : ℕ) (r : Result Planned Memory) (act : State → State × Answer) (other : List ℕ → State → State × Answer) → ((user : List ℕ) (s : State) → other user s ≡ act s)
+    → IfOk r (λ p. (xs : List Session) → DoesIt rs xs m p act) → IfOk r (λ p. (xs : List Session) (user : List ℕ) → DoesIt rs xs m p (other user))
+for_users rs m (Ok p) act other same does = λ xs user. does_one rs xs m p act (other user) (λ s st. same user s) (does xs)
+for_users rs m (Err e) act other same does = tt
+
+-- and at no moment
+pub for_moments : (rs : List Stored) (m : ℕ) (r : Result Planned Memory) (act : State → State × Answer) (other : List ℕ → State → State × Answer) → ((user : List ℕ) (s : State) → other user s ≡ act s)
+    → IfOk r (λ p. (xs : List Session) (m : ℕ) → DoesIt rs xs m p act) → IfOk r (λ p. (xs : List Session) (user : List ℕ) → DoesIt rs xs m p (other user))
+for_moments rs m (Ok p) act other same does = λ xs user. does_one rs xs m p act (other user) (λ s st. same user s) (does xs m)
+for_moments rs m (Err e) act other same does = tt
+
+-- and at no records
+pub for_records : (rs : List Stored) (xs : List Session) (m : ℕ) (r : Result Planned Memory) (act other : State → State × Answer) → ((s : State) → other s ≡ act s) → keep_rules (parts_of rs) ≡ true
+    → IfOk r (λ p. (rs : List Stored) (m : ℕ) → keep_rules (parts_of rs) ≡ true → DoesIt rs xs m p act) → IfOk r (λ p. DoesIt rs xs m p other)
+for_records rs xs m (Ok p) act other same rules does = does_one rs xs m p act other (λ s st. same s) (does rs m rules)
+for_records rs xs m (Err e) act other same rules does = tt

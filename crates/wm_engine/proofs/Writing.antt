@@ -11,7 +11,7 @@ use Rattle.wm_graph.specs.Parts.{Parts, parts_of, as_space, space_of}
 use Rattle.wm_graph.specs.Rules.{keep_rules, are_counters, is_table}
 use Rattle.wm_image.proofs.Dropping.{are_dropped, changes_dropped}
 use Rattle.wm_image.specs.Sought.{ids_with}
-use Rattle.wm_model.proofs.Added.{Served, does_add, table_there}
+use Rattle.wm_model.proofs.Added.{Served, does_add}
 use Rattle.wm_model.proofs.AddedNew.{ServedNew, served, does_add_new, live_number, next_version, piece_in_next, stepped_new}
 use Rattle.wm_model.proofs.Adding.{row_values, new_row, new_piece, stepped}
 use Rattle.wm_model.proofs.Doing.{moved}
@@ -38,7 +38,7 @@ use Rattle.wm_state.specs.Effects.{IsLeaf, longer}
 use Rattle.wm_state.specs.Standing.{latest, newest_first}
 use Rattle.wm_state.specs.State.{Session}
 use Rattle.wm_store.specs.Spelled.{FitPages}
-use Rattle.wm_engine.proofs.Fitting.{fits_insert, fits_insert_new, space_well, table_well}
+use Rattle.wm_engine.proofs.Fitting.{fits_insert, fits_insert_new, space_well}
 use Rattle.wm_engine.proofs.Planning.{told}
 use Rattle.wm_engine.specs.Planning.{DoesIt, MayWrite}
 use Rattle.wm_engine.specs.Views.{answer_view}
@@ -60,9 +60,9 @@ keyed t is on = let h = both _ ((if t.has_key then nat_lt t.key_column (length t
 pub may_serve : (rs : List Stored) (m : ℕ) (t : Table) (a : Space) (c : Counters) (key value : ℤ) → MayWrite rs m t a c key value → nat_lt counter_limit (c.work + line_work) ≡ false → ServedNew rs m t a c key value
 may_serve rs m t a c key value may room = record {
   rules = may.rules;
-  keyed = keyed t (table_well rs may.there.0 t may.rules may.there.1) may.versioned;
+  keyed = keyed t may.well may.versioned;
   takes_it = may.takes_it;
-  there = table_there rs may.there.0 t may.rules may.there.1;
+  there = may.there;
   space = may.space;
   one = may.one;
   left = may.left;

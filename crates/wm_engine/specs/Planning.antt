@@ -2,10 +2,8 @@
 use Rattle.std.specs.Prelude.{◌≡◌, ℕ, ℤ, ◌+◌, nat_lt, true, false, List, [], ◌∷◌, Some, is_some}
 use Rattle.wm_base.specs.declared.instant.TheConstants.{END}
 use Rattle.wm_base.specs.declared.value.Value.TheVariants.{Num}
-use Rattle.wm_graph.specs.Parts.{parts_of, space_of}
-use Rattle.wm_graph.specs.Rules.{keep_rules}
-use Rattle.wm_spec.specs.Records.{record_at}
-use Rattle.wm_spec.specs.declared.record.Record.TheVariants as records
+use Rattle.wm_graph.specs.Parts.{parts_of, space_of, table_of}
+use Rattle.wm_graph.specs.Rules.{keep_rules, is_table}
 use Rattle.wm_spec.specs.declared.record.counters.Counters.{Counters}
 use Rattle.wm_spec.specs.declared.record.space.Space.{Space}
 use Rattle.wm_spec.specs.declared.record.table.Table.{Table}
@@ -28,7 +26,8 @@ pub record MayWrite (rs : List Stored) (m : ℕ) (t : Table) (a : Space) (c : Co
   pub rules : keep_rules (parts_of rs) ≡ true
   pub versioned : t.versioned ≡ true
   pub takes_it : takes t (Num key ∷ Num value ∷ []) ≡ true
-  pub there : (id : ℕ) × (record_at rs id ≡ Some (records.Table t))
+  pub there : table_of (parts_of rs).tables t.number ≡ Some t
+  pub well : is_table t ≡ true
   pub hidden : is_some (stamp_shown (parts_of rs) 0 t.number (Num key ∷ []) 0) ≡ false
   pub space : space_of (parts_of rs).spaces 0 ≡ Some a
   pub one : (parts_of rs).counters ≡ c ∷ []

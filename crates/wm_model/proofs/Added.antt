@@ -64,7 +64,7 @@ not_true : (b : Bool) → not b ≡ true → b ≡ false
 not_true true e = sym e
 not_true false e = refl
 
-before-none : (front back : List Table) (t : Table) → differ (λ (t u : Table). t.number == u.number) (front ++ t ∷ back) ≡ true → find (λ (u : Table). u.number == t.number) (front ++ t ∷ back) ≡ Some t
+pub before-none : (front back : List Table) (t : Table) → differ (λ (t u : Table). t.number == u.number) (front ++ t ∷ back) ≡ true → find (λ (u : Table). u.number == t.number) (front ++ t ∷ back) ≡ Some t
 before-none [] back t e = rw (eq-eqb t.number t.number refl) refl
 before-none (y ∷ front) back t e =
     let h = both (not (list_any (λ (u : Table). y.number == u.number) (front ++ t ∷ back))) (differ (λ (t u : Table). t.number == u.number) (front ++ t ∷ back)) e in

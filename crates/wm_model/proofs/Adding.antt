@@ -64,7 +64,7 @@ pub record LiveIs (rs : List Stored) (s : State) (a : Space) : Type 0 where
   pub is : workspace_of s.spaces 0 ≡ Some space
   pub log : a.log_length ≡ length space.lists.log
 
-live_is : (rs : List Stored) (xs : List Session) (m : ℕ) (s : State) (a : Space) → StandsAt rs xs m s → space_of (parts_of rs).spaces 0 ≡ Some a → LiveIs rs s a
+pub live_is : (rs : List Stored) (xs : List Session) (m : ℕ) (s : State) (a : Space) → StandsAt rs xs m s → space_of (parts_of rs).spaces 0 ≡ Some a → LiveIs rs s a
 live_is rs xs m s a st found = by_space (workspace_of s.spaces 0) refl (sym (ap (option_map fields_of) found) ∙ st.stands.spaces.same 0)
   where
     some_fields : (f g : SpaceFields) → Some f ≡ Some g → f ≡ g

@@ -7,3 +7,5 @@ pub mod Adding
 pub mod Added
 pub mod AddedNew
 mod Samples
+pub mod Named
+pub mod Selecting

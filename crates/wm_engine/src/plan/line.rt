@@ -41,7 +41,7 @@ fn plan_form(
         None => Ok(Planned::answered(alloc, not_built())),
         Some(Line::Connect { session, user }) => connect(alloc, sessions, session, user),
         Some(Line::Run { session, statement }) => {
-            run(alloc, image, sessions, moment, session, &statement)
+            run(alloc, image, sessions, moment, session, statement)
         }
     }
 }

@@ -1,5 +1,5 @@
 //! SELECT.
-ghost use Rattle.std.specs.Prelude.{◌≡◌, ℕ, List, true, IfOk};
+ghost use Rattle.std.specs.Prelude.{◌≡◌, ◌||◌, ℕ, List, not, true, IfOk};
 ghost use Rattle.wm_graph.specs.Parts.{parts_of};
 ghost use Rattle.wm_graph.specs.Rules.{keep_rules};
 ghost use Rattle.wm_model.specs.Step.{listing};
@@ -15,9 +15,17 @@ use crate::refuse::{no_table, not_built};
 use std::alloc::Global;
 use wm_base::Memory;
 use wm_image::Image;
+use wm_spec::record::Table;
 
 /// The number of LIVE.
 const LIVE: u32 = 0;
+
+/// Whether a table's rows are not listed yet.
+fn is_unlisted(table: &Table) -> bool
+    ensures { result ≡ (not table.now.versioned || table.now.valid) }
+{
+    !table.versioned || table.valid
+}
 
 /// SELECT gives the rows of a table by key.
 pub fn listing(
@@ -33,7 +41,7 @@ pub fn listing(
     let Some(table) = image.table(name.as_bytes()) else {
         return Ok(Planned::answered(alloc, no_table(alloc, name.as_bytes())?));
     };
-    if !table.versioned || table.valid {
+    if is_unlisted(table) {
         return Ok(Planned::answered(alloc, not_built()));
     }
     let rows = image.listing(alloc, LIVE, table.number)?;

@@ -26,14 +26,14 @@ fn run_statement(
     alloc: Global,
     image: &Image,
     moment: u64,
-    statement: &Statement<'_>,
+    statement: Statement<'_>,
 ) -> Result<Planned, Memory>
     requires rules { keep_rules (parts_of image.now) ≡ true }
     requires moment { moment < END }
-    ensures does { IfOk result (λ p. (xs : List SessionState) (user : List ℕ) → DoesIt image.now xs moment p (run_statement user (statement_view statement.now))) }
+    ensures does { IfOk result (λ p. (xs : List SessionState) (user : List ℕ) → DoesIt image.now xs moment p (run_statement user (statement_view statement.entry))) }
     ensures fit { IfOk result (λ p. FitPages p.changes) }
 {
-    match *statement {
+    match statement {
         Statement::Create { table, key, value } => create(alloc, image, moment, table, key, value),
         Statement::Enable { table } => enable(alloc, image, moment, table),
         Statement::Insert { table, key, value } => {
@@ -47,7 +47,12 @@ fn run_statement(
 fn is_open(sessions: &[Session], name: &[u8]) -> bool
     ensures { result ≡ is_some (session_of (folded name.now) sessions.now) }
 {
-    sessions.iter().any(|session| session.is_named(name))
+    for session in sessions {
+        if session.is_named(name) {
+            return true;
+        }
+    }
+    false
 }
 
 /// What a statement does and answers for the session of this name, where it is open.
@@ -57,11 +62,11 @@ pub fn run(
     sessions: &[Session],
     moment: u64,
     session: &[u8],
-    statement: &Statement<'_>,
+    statement: Statement<'_>,
 ) -> Result<Planned, Memory>
     requires rules { keep_rules (parts_of image.now) ≡ true }
     requires moment { moment < END }
-    ensures does { IfOk result (λ p. DoesIt image.now sessions.now moment p (λ s. run_for (session_of (folded session.now) s.sessions) (statement_view statement.now) s)) }
+    ensures does { IfOk result (λ p. DoesIt image.now sessions.now moment p (λ s. run_for (session_of (folded session.now) s.sessions) (statement_view statement.entry) s)) }
     ensures fit { IfOk result (λ p. FitPages p.changes) }
 {
     if !is_open(sessions, session) {

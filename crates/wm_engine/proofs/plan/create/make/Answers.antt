@@ -8,6 +8,8 @@ use Rattle.wm_spec.specs.declared.record.counters.Counters.{Counters}
 use Rattle.wm_spec.specs.declared.record.table.Table.{Table}
 use Rattle.wm_state.specs.Batches.{create_batch}
 use Rattle.wm_state.proofs.Ids.{under_next}
+use Rattle.wm_store.specs.Spelled.{FitPages}
+use Rattle.wm_engine.proofs.Fitting.{fits_create}
 use Rattle.wm_engine.proofs.Planning.{told, early, counters_at}
 use Rattle.wm_engine.specs.Views.{answer_view}
 use Rattle.wm_engine.proofs.plan.create.make.Goals as goal
@@ -29,3 +31,11 @@ returns-clause-does c = λ xs.
     (does_create c.args.image.now xs c.args.moment c.args.name c.args.key c.args.value c.counters.result c.id_of_counters.result c.in-Some-next_id.id c.requires.rules c.requires.none c.requires.table c.counters.ensures
     (counters_at c.counters.result (parts_of c.args.image.now).counters (record_at c.args.image.now c.id_of_counters.result) c.counters.ensures c.id_of_counters.ensures.there)
     c.in-Some.ensures.room (early c.args.moment c.requires.moment) c.id_of_counters.ensures.ascend (under_next c.in-Some-next_id.id c.args.image.now c.in-Some-next_id.ensures.above))
+
+pub returns-clause-fit : goal.returns-clause-fit
+returns-clause-fit c =
+    let batch_is : c.changing.result.changes ≡ create_batch c.id_of_counters.result (moved c.counters.result c.args.moment) c.in-Some-next_id.id (two_columns c.args.name c.args.key c.args.value) =
+        c.changing.ensures.changes ∙ c.in_ok-changes.ensures
+        ∙ ap (λ (k : Counters). create_batch c.id_of_counters.result k c.in-Some-next_id.id c.in_ok-table.table) c.in-Some.ensures.counted
+        ∙ ap (λ (t : Table). create_batch c.id_of_counters.result (moved c.counters.result c.args.moment) c.in-Some-next_id.id t) c.in_ok-table.ensures in
+    subst FitPages (sym batch_is) (fits_create c.id_of_counters.result (moved c.counters.result c.args.moment) c.in-Some-next_id.id (two_columns c.args.name c.args.key c.args.value) c.requires.table)

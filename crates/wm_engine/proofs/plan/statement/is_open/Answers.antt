@@ -1,4 +1,0 @@
-use Rattle.wm_engine.proofs.plan.statement.is_open.Goals as goal
-
-pub returns : goal.returns
-returns c = ?
