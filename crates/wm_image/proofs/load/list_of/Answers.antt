@@ -1,4 +1,4 @@
-use Rattle.std.proofs.Common.{◌≡◌, ℕ, List, map, ◌∙◌}
+use Rattle.std.proofs.Common.{◌≡◌, ℕ, map, ◌∙◌}
 use Rattle.std.proofs.lemmas.Map.Iter.{iter_end}
 use Rattle.wm_image.proofs.Listed.{listed-same}
 use Rattle.wm_spec.specs.declared.record.Record.{Record}
