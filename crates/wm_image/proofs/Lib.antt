@@ -3,6 +3,7 @@ pub mod TableLists
 pub mod Lists
 pub mod Listed
 pub mod Loading
+pub mod Twice
 pub mod Finding
 pub mod Newest
 pub mod Walking

@@ -72,23 +72,17 @@ impl Image {
 
     /// The image of the records that a store holds.
     pub fn load(alloc: Global, records: Records) -> Result<Image, ImageFault>
-        requires { AreRecords records }
         ensures image { IfOk result (λ image. image ≡ by_id records) }
+        ensures differ { IfOk result (λ image. AreRecords records) }
         ensures rules { IfOk result (λ image. keep_rules (parts_of image) ≡ true) }
-        ensures graph { IfErr result (λ fault. fault ≡ ImageFault.Graph → keep_rules (parts_of (by_id records)) ≡ false) }
+        ensures graph { IfErr result (λ fault. fault ≡ ImageFault.Graph → AreRecords records → keep_rules (parts_of (by_id records)) ≡ false) }
     {
-        let Ok(records) = sorted(alloc, records) else {
-            return Err(ImageFault::Memory);
-        };
-        let Ok(kept) = keeps_rules(alloc, &records) else {
-            return Err(ImageFault::Memory);
-        };
+        let records = sorted(alloc, records)?;
+        let kept = keeps_rules(alloc, &records)?;
         if !kept {
             return Err(ImageFault::Graph);
         }
-        let Ok(image) = Image::of(alloc, records) else {
-            return Err(ImageFault::Memory);
-        };
+        let image = Image::of(alloc, records)?;
         Ok(image)
     }
 

@@ -1,12 +1,14 @@
-ghost use Rattle.std.specs.Prelude.{◌≡◌, [], IfOk, OnOk};
+ghost use Rattle.std.specs.Prelude.{◌≡◌, [], map, true, false, Some, None, is_some, IfOk, IfErr, OnOk};
 ghost use Rattle.std.specs.BTreeMap.{IsOrdered};
 ghost use Rattle.std.specs.Ordering.{nat_cmp};
 ghost use Rattle.wm_image.specs.Indexed.{IsIndexed, listed};
-ghost use Rattle.wm_spec.specs.Records.{AreRecords};
-ghost use Rattle.wm_state.specs.ById.{Ascend, by_id};
+ghost use Rattle.wm_image.specs.declared.load.ImageFault.TheVariants.{Memory as OutOfMemory};
+ghost use Rattle.wm_spec.specs.Records.{AreRecords, ids_differ, record_at};
+ghost use Rattle.wm_spec.specs.declared.record.stored.Stored.{Stored as OneStored};
+ghost use Rattle.wm_state.specs.ById.{Ascend, by_id, set_at};
 
 use crate::index::Index;
-use crate::records::{Kept, change, set};
+use crate::records::{Kept, at, change, set};
 use std::alloc::Global;
 use std::collections::BTreeMap;
 use wm_base::Memory;
@@ -15,32 +17,65 @@ use wm_spec::record::{Records, Stored};
 /// Why records make no image.
 #[derive(Clone, Copy, Debug, PartialEq)]
 pub enum ImageFault {
-    /// They break a rule over all records of a store.
+    /// An id stands in them twice, or they break a rule over all records of a store.
     Graph,
     Memory,
 }
 
+impl From<Memory> for ImageFault {
+    ghost from_gives = { λ _ e. e ≡ OutOfMemory };
+
+    fn from(_memory: Memory) -> ImageFault {
+        ImageFault::Memory
+    }
+}
+
+/// Puts a record under its id, where none stands there.
+fn put_new(kept: &mut Kept, one: Stored) -> Result<(), ImageFault>
+    requires { IsOrdered nat_cmp kept.old }
+    ensures fresh { OnOk result (record_at (listed kept.old.entries) one.id ≡ None) }
+    ensures listed { OnOk result (listed kept.new.entries ≡ set_at one.id (Some one.record) (listed kept.old.entries)) }
+    ensures ordered { OnOk result (IsOrdered nat_cmp kept.new) }
+    ensures twice { IfErr result (λ fault. fault ≡ ImageFault.Graph → is_some (record_at (listed kept.old.entries) one.id) ≡ true) }
+{
+    if at(kept, one.id).is_some() {
+        return Err(ImageFault::Graph);
+    }
+    set(kept, one.id, Some(one.record))?;
+    Ok(())
+}
+
 /// The records under their ids.
-fn gather(alloc: Global, records: Records) -> Result<Kept, Memory>
-    requires { AreRecords records }
+fn gather(alloc: Global, records: Records) -> Result<Kept, ImageFault>
     ensures listed { IfOk result (λ kept. listed kept.entries ≡ by_id records) }
     ensures ordered { IfOk result (λ kept. IsOrdered nat_cmp kept) }
+    ensures differ { IfOk result (λ kept. AreRecords records) }
+    ensures twice { IfErr result (λ fault. fault ≡ ImageFault.Graph → ids_differ (map (λ (s : OneStored). s.id) records) ≡ false) }
 {
     let mut kept = BTreeMap::new(alloc);
     let mut list = records.into_vec();
     while let Some(one) = list.pop() {
-        set(&mut kept, one.id, Some(one.record))?;
+        put_new(&mut kept, one)?;
     }
     Ok(kept)
 }
 
-/// The records in the order of their ids.
-pub fn sorted(alloc: Global, records: Records) -> Result<Records, Memory>
-    requires { AreRecords records }
+/// The records in the order of their ids, where no id stands in them twice.
+pub fn sorted(alloc: Global, records: Records) -> Result<Records, ImageFault>
     ensures by_id { IfOk result (λ sorted. sorted ≡ by_id records) }
     ensures ascend { IfOk result (λ sorted. Ascend sorted) }
+    ensures differ { IfOk result (λ sorted. AreRecords records) }
+    ensures twice { IfErr result (λ fault. fault ≡ ImageFault.Graph → ids_differ (map (λ (s : OneStored). s.id) records) ≡ false) }
 {
     let kept = gather(alloc, records)?;
+    let list = list_of(alloc, kept)?;
+    Ok(list)
+}
+
+/// The records of a map, in its order.
+fn list_of(alloc: Global, kept: Kept) -> Result<Records, Memory>
+    ensures { IfOk result (λ list. list ≡ listed kept.entries) }
+{
     let mut list = Vec::with_capacity(alloc, kept.len())?;
     for (id, kept_one) in kept {
         list.push(Stored {

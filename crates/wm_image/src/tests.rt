@@ -1,6 +1,3 @@
-ghost use Rattle.std.specs.Prelude.{◌≡◌, IfOk};
-ghost use Rattle.wm_spec.specs.Records.{AreRecords};
-
 use crate::image::Image;
 use std::alloc::Global;
 use std::test::Fail;
@@ -105,6 +102,7 @@ fn records_come(rt: HostRuntime) -> Result<(), Fail> {
     let key = Key::single(alloc, Value::Num(7))?;
     assert_eq!(rt; image.pieces_of(1, &key), [7, 9].as_slice());
     assert_eq!(rt; image.pieces_of(2, &key).len(), 0);
+    assert_eq!(rt; image.pieces_in(alloc, 2, 1, &key)?, vec![in alloc; 9]?);
     assert_eq!(rt; image.keys(alloc, 1)?.len(), 1);
     assert_eq!(rt; image.keys(alloc, 2)?.len(), 0);
     Ok(())
@@ -120,6 +118,7 @@ fn records_are_found(rt: HostRuntime) -> Result<(), Fail> {
     assert!(rt; image.row(4).is_some() && image.row(5).is_none());
     assert!(rt; image.version(2).is_some() && image.version(3).is_none());
     assert!(rt; image.table_numbered(1).is_none() && image.record(7).is_some());
+    assert_eq!(rt; (image.is_leaf(1), image.is_leaf(2)), (false, true));
     assert_eq!(rt;
         (image.id_of_space(0), image.next_id()),
         (Some(2), Some(10))
@@ -157,9 +156,7 @@ fn later_piece(alloc: Global) -> Result<Record, Memory> {
 }
 
 /// LIVE with two versions, a table and a row that the versions have at a key, one behind the other.
-fn small_store(alloc: Global) -> Result<Records, Memory>
-    ensures { IfOk result (λ records. AreRecords records) }
-{
+fn small_store(alloc: Global) -> Result<Records, Memory> {
     let list = vec![in alloc;
         stored(9, piece(alloc, 2, 1, 10)?),
         stored(1, counters()),
@@ -173,9 +170,7 @@ fn small_store(alloc: Global) -> Result<Records, Memory>
     Ok(Records::from_vec(list))
 }
 
-fn stored(id: u64, new: Record) -> Stored
-    ensures { result.id ≡ id }
-{
+fn stored(id: u64, new: Record) -> Stored {
     Stored { id, record: new }
 }
 
@@ -231,6 +226,10 @@ fn a_store_is_loaded(rt: HostRuntime) -> Result<(), Fail> {
     assert_eq!(rt; image.counters().next_stamp, 2);
     assert_eq!(rt; image.id_of_counters(), 1);
     assert!(rt; image.table(b"T").is_some() && image.table(b"U").is_none());
+    assert_eq!(rt;
+        (image.id_of_table(b"T"), image.id_of_table(b"U")),
+        (Some(4), None)
+    );
     let time = Instant::new(12).ok_or("an instant")?;
     assert!(rt; image.shown_at(0, 1, &key, time).is_some());
     assert!(rt; image.shown_at(0, 1, &key, Instant::beginning()).is_none());
@@ -254,6 +253,15 @@ fn rows_are_listed(rt: HostRuntime) -> Result<(), Fail> {
     );
     assert_eq!(rt; image.listing(alloc, 0, 2)?.len(), 0);
     assert_eq!(rt; image.listing(alloc, 9, 1)?.len(), 0);
+    Ok(())
+}
+
+#[test]
+fn records_of_one_id_are_no_store(rt: HostRuntime) -> Result<(), Fail> {
+    let alloc = rt.alloc();
+    let mut records = small_store(alloc)?;
+    records.push(stored(9, version(3, 2)))?;
+    assert!(rt; Image::load(alloc, records).is_err());
     Ok(())
 }
 
