@@ -31,8 +31,8 @@ pub trait Pages {
     /// How often the disk has failed, up to the last value of a u64.
     ghost faults: { Self → ℕ };
 
-    /// What it reads from, by a name and what a read leaves as it is. A reader that is lent a device tells by it that it
-    /// still has that device.
+    /// What it reads from: its name, and counts that a read leaves as they are. A reader that is lent a device tells by it
+    /// that it still has that device.
     ghost source: { Self → List ℕ } = { λ _. [] };
 
     /// What was done so far to what it reads from, spelled in numbers. Nothing is known of it where the pages are not told.

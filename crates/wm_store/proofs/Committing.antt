@@ -1,8 +1,7 @@
 -- What a store holds after a batch.
-use Rattle.std.proofs.Common.{◌≡◌, ℕ, zero, suc, ◌+◌, ◌-◌, ◌*◌, ◌<◌, ◌≤◌, ◌⊎◌, inl, inr, ⊎_elim, max, Bool, true, false, cond, not, ◌&&◌, ◌||◌, eqb, ltb, List, [], ◌∷◌, ◌++◌, length, map, Option, Some, None, is_some, IfSome, unwrap_or, Result, Ok, Err, refl, sym, ap, subst, ◌∙◌, arith}
-use Rattle.std.specs.List.{list_any}
+use Rattle.std.proofs.Common.{◌≡◌, ℕ, ◌-◌, ◌<◌, ◌≤◌, ◌⊎◌, inl, inr, Bool, true, false, cond, eqb, ltb, List, [], ◌∷◌, length, map, Option, Some, None, is_some, IfSome, Ok, refl, sym, ap, subst, ◌∙◌, arith}
 use Rattle.std.specs.Option.{option_map, option_and_then}
-use Rattle.std.proofs.lemmas.Bool.{cases_lt, lt-ltb, le-ltb, ltb-false, ltb-true, eqb-true}
+use Rattle.std.proofs.lemmas.Bool.{cases_lt, lt-ltb, le-ltb, eqb-true}
 use Rattle.wm_spec.specs.declared.record.Record.{Record}
 use Rattle.wm_spec.specs.declared.record.stored.Stored.{Stored}
 use Rattle.wm_spec.specs.declared.record.batch.Change.{Change}
@@ -12,25 +11,20 @@ use Rattle.wm_page.specs.Fields.{number_at}
 use Rattle.wm_codec.specs.Reading.{record_of}
 use Rattle.wm_codec.specs.Spelling.{HasSpelling, spelling}
 use Rattle.wm_codec.proofs.ExactRecords.{record_again}
-use Rattle.wm_station.specs.History.{History, now, Leaves}
-use Rattle.wm_station.specs.Moments.{Holds, Ended}
-use Rattle.wm_station.proofs.Steps.{weaker}
-use Rattle.wm_journal.specs.Disk.{page, are_below, is_made}
-use Rattle.wm_journal.specs.Store.{Stores, Rests, IsAtRest, OldOrNew, over, count_after}
-use Rattle.wm_journal.proofs.Stored.{rests_stores}
+use Rattle.wm_journal.specs.Disk.{are_below}
+use Rattle.wm_journal.specs.Store.{count_after}
 use Rattle.wm_heap.specs.declared.blob.Blob.{Blob}
 use Rattle.wm_heap.specs.declared.heap.Heap.{Heap}
 use Rattle.wm_heap.specs.declared.slot.Slot.{Slot}
-use Rattle.wm_heap.specs.Slots.{slots_of}
 use Rattle.wm_heap.specs.Blobs.{blob_at, after, AreBlobs, AreSmall}
-use Rattle.wm_heap.specs.Content.{bytes_at, slots_in, slots_upto, content, fault_of}
-use Rattle.wm_heap.specs.Places.{ids_on, ids_of, place_of, page_count, Once, IsPlaced, IsHeapOf}
+use Rattle.wm_heap.specs.Content.{bytes_at, slots_in, content}
+use Rattle.wm_heap.specs.Places.{page_count, Once, IsHeapOf}
 use Rattle.wm_heap.specs.Plan.{IsPlan, IsChanged, laid}
 use Rattle.wm_heap.proofs.Getting.{bytes_there}
-use Rattle.wm_store.specs.Opened.{records_in, are_records, unread_in, pages_opened, opened, Held}
-use Rattle.wm_store.specs.Spelled.{HaveSpellings, blob_of, blobs_of}
+use Rattle.wm_store.specs.Opened.{records_in, are_records, unread_in, pages_opened}
+use Rattle.wm_store.specs.Spelled.{HaveSpellings, blobs_of}
 use Rattle.wm_store.proofs.Reading.{record_at-records_in, bytes_read, unread_none, all_read}
-use Rattle.wm_store.proofs.Opening.{pages_found, passed, opened-stores, pages_opened-same}
+use Rattle.wm_store.proofs.Opening.{pages_found, passed}
 
 -- ---- the batch, as the heap and the journal take it
 

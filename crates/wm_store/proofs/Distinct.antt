@@ -1,5 +1,5 @@
 -- The records that a file holds have different ids.
-use Rattle.std.proofs.Common.{◌≡◌, ℕ, zero, suc, ◌+◌, ◌-◌, ◌*◌, ◌/◌, Bool, true, false, cond, ◌||◌, eqb, ltb, List, [], ◌∷◌, ◌++◌, length, map, Option, Some, None, is_some, unwrap_or, Result, Ok, refl, sym, ap, subst, ◌∙◌, arith}
+use Rattle.std.proofs.Common.{◌≡◌, ℕ, zero, suc, ◌+◌, ◌-◌, ◌/◌, Bool, true, false, cond, ◌||◌, eqb, ltb, List, [], ◌∷◌, ◌++◌, length, map, Option, Some, None, is_some, unwrap_or, Ok, refl, sym, ap, subst, ◌∙◌, arith}
 use Rattle.std.specs.List.{list_any}
 use Rattle.std.specs.Option.{option_or, option_map}
 use Rattle.std.proofs.lemmas.Bool.{eqb-true}
@@ -9,12 +9,12 @@ use Rattle.wm_spec.specs.declared.record.Record.{Record}
 use Rattle.wm_spec.specs.declared.record.stored.Stored.{Stored}
 use Rattle.wm_spec.specs.Records.{ids_differ, AreRecords}
 use Rattle.wm_codec.specs.Reading.{record_of}
-use Rattle.wm_journal.specs.Disk.{held, count_of, damage_of}
+use Rattle.wm_journal.specs.Disk.{held, count_of}
 use Rattle.wm_heap.specs.declared.slot.Slot.{Slot}
 use Rattle.wm_heap.specs.Slots.{slots_of}
-use Rattle.wm_heap.specs.Content.{bytes_at, is_twice, is_in, slots_in, slots_upto, content, damage_in, damage_on, fault_in, fault_of}
+use Rattle.wm_heap.specs.Content.{bytes_at, is_twice, is_in, slots_in, slots_upto, content, damage_in, damage_on, fault_in}
 use Rattle.wm_heap.specs.Places.{ids_of}
-use Rattle.wm_store.specs.Opened.{stored_at, records_in, are_records, pages_opened, opened, Held}
+use Rattle.wm_store.specs.Opened.{stored_at, records_in, are_records, pages_opened, Held}
 use Rattle.wm_store.proofs.Opening.{passed, opened_parts}
 use Rattle.wm_store.proofs.Reading.{unread_none}
 

@@ -1,22 +1,19 @@
 -- The records of a store that was just made, as its pages hold them.
-use Rattle.std.proofs.Common.{◌≡◌, ℕ, ◌+◌, ◌*◌, ◌/◌, ◌^◌, ◌<◌, ◌≤◌, max, true, false, List, [], ◌∷◌, ◌++◌, length, Option, Some, None, is_some, unwrap_or, Result, Ok, refl, sym, ap, subst, ◌∙◌, lit<, lit≤, arith}
-use Rattle.std.specs.Option.{option_map}
-use Rattle.wm_spec.specs.declared.record.Record.{Record}
+use Rattle.std.proofs.Common.{◌≡◌, ℕ, ◌<◌, ◌≤◌, true, List, [], ◌∷◌, length, Some, None, unwrap_or, Ok, refl, sym, ap, subst, ◌∙◌, lit<, arith}
 use Rattle.wm_spec.specs.declared.record.Record.TheVariants as records
 use Rattle.wm_spec.specs.Records.{ids_differ, AreChanges}
 use Rattle.wm_page.specs.Entries.{is_named, found}
 use Rattle.wm_page.specs.Fields.{number_at}
-use Rattle.wm_codec.specs.Reading.{record_of}
-use Rattle.wm_codec.specs.Spelling.{spelling, HasSpelling}
+use Rattle.wm_codec.specs.Spelling.{spelling}
 use Rattle.wm_codec.proofs.ExactRecords.{record_again}
 use Rattle.wm_station.specs.History.{History, now}
 use Rattle.wm_journal.specs.Disk.{page, are_below}
-use Rattle.wm_journal.specs.Store.{count_after, over, IsAtRest}
+use Rattle.wm_journal.specs.Store.{count_after, over}
 use Rattle.wm_heap.specs.declared.blob.Blob.{Blob}
 use Rattle.wm_heap.specs.declared.slot.Slot.{Slot}
 use Rattle.wm_heap.specs.Slots.{slots_of, page_of, used}
 use Rattle.wm_heap.specs.Blobs.{slots_put}
-use Rattle.wm_heap.specs.Content.{slots_in, content, fault_of}
+use Rattle.wm_heap.specs.Content.{slots_in, fault_of}
 use Rattle.wm_heap.specs.Plan.{root_of}
 use Rattle.wm_store.specs.Fresh.{fresh_counters, live, first_version, fresh_changes, fresh_records}
 use Rattle.wm_store.specs.Opened.{records_in, are_records, unread_in, pages_opened}

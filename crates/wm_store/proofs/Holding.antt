@@ -1,6 +1,6 @@
 -- A store over a station that says something.
 use Rattle.std.proofs.Common.{ℕ, List}
-use Rattle.wm_station.specs.History.{History, Leaves, Said}
+use Rattle.wm_station.specs.History.{History, Said}
 use Rattle.wm_store.specs.Stores.{IsStoreOf}
 use Rattle.wm_store.specs.declared.store.Store.{Store}
 

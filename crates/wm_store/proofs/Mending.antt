@@ -1,13 +1,12 @@
 -- A store is opened: what the journal says, what the pages say, and what is left.
-use Rattle.std.proofs.Common.{◌≡◌, ℕ, ◌+◌, ◌-◌, ◌*◌, ◌/◌, ◌<◌, ◌≤◌, ◌⊎◌, inl, inr, ⊎_elim, Bool, true, false, List, length, Option, Some, None, Result, Ok, Err, refl, sym, ap, subst, ◌∙◌, arith}
-use Rattle.wm_base.specs.declared.fault.Damage.{Damage}
+use Rattle.std.proofs.Common.{◌≡◌, ℕ, ◌-◌, ◌*◌, ◌/◌, ◌<◌, ◌≤◌, ◌⊎◌, inl, inr, ⊎_elim, true, List, length, None, Ok, sym, ap, subst, ◌∙◌, arith}
 use Rattle.wm_base.specs.declared.fault.OpenFault.{OpenFault}
 use Rattle.wm_base.specs.declared.fault.OpenFault.TheVariants as faults
 use Rattle.wm_spec.specs.declared.record.stored.Stored.{Stored}
 use Rattle.wm_station.specs.History.{History, now, said, Leaves, Synced}
 use Rattle.wm_station.specs.Moments.{Holds, During}
 use Rattle.wm_station.proofs.Steps.{weaken}
-use Rattle.wm_journal.specs.Disk.{page, is_made, is_open, count_of, damage_of}
+use Rattle.wm_journal.specs.Disk.{page, is_made}
 use Rattle.wm_journal.specs.Opening.{Says, IsUntouched}
 use Rattle.wm_journal.specs.Store.{IsAtRest, Keeps}
 use Rattle.wm_heap.specs.Asking.{Finds}
@@ -17,7 +16,7 @@ use Rattle.wm_store.specs.Answers.{SaysOf, FindsIn}
 use Rattle.wm_store.specs.Opened.{records_in, unread_in, pages_opened, opened, Held, SaysAs}
 use Rattle.wm_store.specs.Stores.{IsStoreOf}
 use Rattle.wm_store.specs.declared.store.Store.{Store}
-use Rattle.wm_store.proofs.Opening.{pages_fault, pages_unread, pages_found, opened_damage, opened-keeps, made-keeps, opened-closed}
+use Rattle.wm_store.proofs.Opening.{pages_fault, pages_unread, pages_found, opened_damage, opened-keeps, made-keeps}
 
 -- ---- the pages
 

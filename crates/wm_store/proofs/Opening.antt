@@ -1,5 +1,5 @@
 -- What a file says when it is opened, by its pages.
-use Rattle.std.proofs.Common.{◌≡◌, ℕ, zero, suc, ◌+◌, ◌-◌, ◌*◌, ◌/◌, ◌<◌, ◌≤◌, ◌⊎◌, inl, inr, Bool, true, false, cond, not, ◌&&◌, eqb, ltb, List, [], ◌∷◌, ◌++◌, length, Option, Some, None, is_some, unwrap_or, Result, Ok, Err, refl, sym, ap, subst, ◌∙◌, arith}
+use Rattle.std.proofs.Common.{◌≡◌, ℕ, zero, suc, ◌+◌, ◌-◌, ◌/◌, ◌<◌, ◌≤◌, ◌⊎◌, inl, inr, Bool, true, false, cond, not, ◌&&◌, eqb, ltb, List, [], ◌++◌, length, Option, Some, None, is_some, unwrap_or, Result, Ok, Err, refl, sym, ap, ◌∙◌, arith}
 use Rattle.std.specs.Option.{option_or}
 use Rattle.std.proofs.lemmas.Bool.{cases_lt, lt-ltb, le-ltb, ltb-false, ltb-true}
 use Rattle.wm_base.specs.declared.fault.Damage.{Damage}
@@ -12,7 +12,7 @@ use Rattle.wm_journal.proofs.Stored.{held_closed}
 use Rattle.wm_heap.specs.declared.slot.Slot.{Slot}
 use Rattle.wm_heap.specs.Slots.{slots_of}
 use Rattle.wm_heap.specs.Content.{bytes_at, slots_upto, slots_in, content, is_in, damage_on, fault_in, fault_of}
-use Rattle.wm_store.specs.Opened.{records_in, are_records, unread_in, unless, pages_opened, opened}
+use Rattle.wm_store.specs.Opened.{records_in, unread_in, unless, pages_opened, opened}
 
 -- ---- the same pages
 

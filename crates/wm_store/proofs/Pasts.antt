@@ -1,5 +1,5 @@
 -- Histories that are spelled the same are the same.
-use Rattle.std.proofs.Common.{◌≡◌, ℕ, suc, List, [], ◌∷◌, ◌++◌, length, refl, sym, ap, subst, ◌∙◌, arith}
+use Rattle.std.proofs.Common.{◌≡◌, ℕ, List, [], ◌∷◌, ◌++◌, length, refl, ap, arith}
 use Rattle.wm_station.specs.History.{History, Begin, Wrote, Synced, Said}
 use Rattle.wm_store.specs.Past.{past_of}
 

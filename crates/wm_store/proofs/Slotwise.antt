@@ -1,9 +1,7 @@
 -- One slot after another is read, and one change after another is spelled.
-use Rattle.std.proofs.Common.{◌≡◌, ℕ, zero, suc, ◌+◌, ◌-◌, ◌<◌, ◌≤◌, ◌↔◌, Bool, true, false, cond, List, [], ◌∷◌, ◌++◌, length, get_or, take, drop, map, Option, Some, None, is_some, IfSome, refl, sym, ap, subst, ◌∙◌, append_assoc, arith}
-use Rattle.std.specs.Option.{option_map, option_and_then}
+use Rattle.std.proofs.Common.{◌≡◌, ℕ, ◌+◌, ◌<◌, ◌≤◌, ◌↔◌, true, false, List, [], ◌∷◌, ◌++◌, length, get_or, take, drop, Option, Some, None, IfSome, refl, sym, ap, subst, ◌∙◌, append_assoc}
 use Rattle.std.proofs.lemmas.List.{take_more, drop_more, take-append-drop, append-nil}
 use Rattle.wm_base.specs.declared.fault.Damage.{Damage}
-use Rattle.wm_base.specs.declared.fault.Damage.TheVariants as damages
 use Rattle.wm_base.specs.declared.fault.OpenFault.{OpenFault}
 use Rattle.wm_base.specs.declared.fault.OpenFault.TheVariants as faults
 use Rattle.wm_spec.specs.declared.record.Record.{Record}
@@ -16,7 +14,6 @@ use Rattle.wm_codec.proofs.ExactRecords.{record_takes, record_again}
 use Rattle.wm_heap.specs.declared.blob.Blob.{Blob}
 use Rattle.wm_heap.specs.declared.slot.Slot.{Slot}
 use Rattle.wm_heap.specs.Asking.{Finds}
-use Rattle.wm_store.specs.Answers.{FindsUnread}
 use Rattle.wm_store.specs.Opened.{stored_at, records_in, are_records}
 use Rattle.wm_store.specs.Spelled.{FitPages, HaveSpellings, blob_of, blobs_of}
 use Rattle.wm_store.proofs.Reading.{records_in-append, are_records-append, are_records-bad}

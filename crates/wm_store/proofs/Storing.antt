@@ -1,22 +1,21 @@
 -- A store at rest, before and after a commit.
-use Rattle.std.proofs.Common.{◌≡◌, ℕ, zero, suc, ◌+◌, ◌-◌, ◌*◌, ◌/◌, ◌<◌, ◌≤◌, ◌⊎◌, inl, inr, ⊎_elim, max, Bool, true, false, cond, eqb, ltb, List, [], ◌∷◌, ◌++◌, length, Option, Some, None, is_some, unwrap_or, Result, Ok, Err, refl, sym, ap, subst, ◌∙◌, arith}
+use Rattle.std.proofs.Common.{◌≡◌, ℕ, ◌<◌, ◌≤◌, inl, inr, ⊎_elim, max, Bool, true, false, cond, eqb, List, [], ◌∷◌, is_some, unwrap_or, Ok, refl, sym, ap, subst, ◌∙◌, arith}
 use Rattle.wm_spec.specs.declared.record.stored.Stored.{Stored}
 use Rattle.wm_spec.specs.declared.record.batch.Change.{Change}
 use Rattle.wm_spec.specs.Records.{AfterBatch}
 use Rattle.wm_page.specs.Entries.{is_named, found}
 use Rattle.wm_page.specs.Fields.{number_at}
-use Rattle.wm_station.specs.History.{History, now, Leaves}
+use Rattle.wm_station.specs.History.{History, now}
 use Rattle.wm_station.specs.Moments.{Holds, Ended}
 use Rattle.wm_station.proofs.Steps.{weaker, begun, ended}
-use Rattle.wm_journal.specs.Disk.{page, is_made, are_below}
-use Rattle.wm_journal.specs.Store.{Stores, Rests, IsAtRest, OldOrNew, over, count_after}
+use Rattle.wm_journal.specs.Disk.{page, are_below}
+use Rattle.wm_journal.specs.Store.{Stores, IsAtRest, OldOrNew, over, count_after}
 use Rattle.wm_journal.proofs.Stored.{rests_stores}
 use Rattle.wm_heap.specs.declared.blob.Blob.{Blob}
 use Rattle.wm_heap.specs.declared.heap.Heap.{Heap}
-use Rattle.wm_heap.specs.declared.slot.Slot.{Slot}
 use Rattle.wm_heap.specs.Slots.{slots_of}
-use Rattle.wm_heap.specs.Content.{bytes_at, slots_in}
-use Rattle.wm_heap.specs.Places.{ids_on, ids_of, place_of, page_count, Once, IsPlaced, IsHeapOf}
+use Rattle.wm_heap.specs.Content.{bytes_at}
+use Rattle.wm_heap.specs.Places.{ids_of, page_count, Once, IsHeapOf}
 use Rattle.wm_heap.specs.Plan.{IsPlan, IsChanged, laid}
 use Rattle.wm_store.specs.Opened.{pages_opened, opened, Held}
 use Rattle.wm_store.specs.Spelled.{HaveSpellings, blobs_of}

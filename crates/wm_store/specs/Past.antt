@@ -1,5 +1,5 @@
 -- A history spelled in numbers.
-use Rattle.std.specs.Prelude.{ℕ, List, [], ◌∷◌, ◌++◌, length}
+use Rattle.std.specs.Prelude.{ℕ, List, ◌∷◌, ◌++◌, length}
 use Rattle.wm_station.specs.History.{History, Begin, Wrote, Synced, Said}
 
 -- what a station did, so that two histories that are spelled the same are the same

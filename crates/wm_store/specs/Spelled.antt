@@ -1,7 +1,6 @@
 -- The changes of a batch, each record spelled in bytes.
-use Rattle.std.specs.Prelude.{◌≡◌, ℕ, ◌≤◌, List, [], ◌∷◌, map, length, Option, Some, None, IfSome}
+use Rattle.std.specs.Prelude.{◌≤◌, List, [], ◌∷◌, map, length, IfSome}
 use Rattle.std.specs.Option.{option_map}
-use Rattle.wm_spec.specs.declared.record.Record.{Record}
 use Rattle.wm_spec.specs.declared.record.batch.Change.{Change}
 use Rattle.wm_codec.specs.Spelling.{CanSpell, HasSpelling, spelling}
 use Rattle.wm_heap.specs.declared.blob.Blob.{Blob}

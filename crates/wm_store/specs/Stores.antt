@@ -20,7 +20,7 @@ pub record IsStoreOf (store : Store) (h : History) : Type 0 where
 abbrev pub OldOrAfter : List Stored → List Change → List ℕ → Type 0
 OldOrAfter old changes file = Held old file ⊎ ((new : List Stored) × AfterBatch old changes new × Held new file)
 
--- each change drops a record, of an id that has none
+-- each change is a drop, of an id that no record has
 abbrev pub ChangesNothing : List Stored → List Change → Type 0
 ChangesNothing stored [] = Unit {0}
 ChangesNothing stored (c ∷ changes) = (c.becomes ≡ None) × (record_at stored c.id ≡ None) × ChangesNothing stored changes

@@ -175,13 +175,7 @@ fn version_under(id: u64, number: u64, drops: u64) -> Option<Record>
 }
 
 // Versions of this number are put under the ids, and what is under each one that `drops` divides is dropped.
-fn versions(
-    alloc: Global,
-    first: u64,
-    last: u64,
-    number: u64,
-    drops: u64,
-) -> Result<Batch, Fail>
+fn versions(alloc: Global, first: u64, last: u64, number: u64, drops: u64) -> Result<Batch, Fail>
     requires { 0 < drops }
     ensures once { IfOk result (λ b. AreChanges b.changes) }
     ensures fit { IfOk result (λ b. FitPages b.changes) }

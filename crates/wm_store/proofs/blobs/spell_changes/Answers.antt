@@ -1,4 +1,3 @@
-use Rattle.std.proofs.Common.{◌≡◌, ◌∙◌}
 use Rattle.wm_store.proofs.Slotwise.{spell_fits, spell_more}
 use Rattle.wm_store.proofs.blobs.spell_changes.Goals as goal
 

@@ -1,4 +1,4 @@
-use Rattle.std.proofs.Common.{◌≡◌, Some, refl, sym, ap, ◌∙◌}
+use Rattle.std.proofs.Common.{refl, sym, ap, ◌∙◌}
 use Rattle.wm_codec.specs.Reading.{record_of}
 use Rattle.wm_store.proofs.Slotwise.{read_slot, bad_slot}
 use Rattle.wm_store.proofs.records.read_slots.Goals as goal

@@ -1,4 +1,4 @@
-use Rattle.std.proofs.Common.{◌≡◌, arith}
+use Rattle.std.proofs.Common.{arith}
 use Rattle.wm_store.proofs.Slotwise.{decoded}
 use Rattle.wm_store.proofs.records.record_in.Goals as goal
 

@@ -1,4 +1,4 @@
-use Rattle.std.proofs.Common.{◌≡◌, ◌*◌, ap, ◌∙◌}
+use Rattle.std.proofs.Common.{◌*◌, ap, ◌∙◌}
 use Rattle.wm_station.specs.History.{stretch, now}
 use Rattle.wm_journal.specs.Disk.{page}
 use Rattle.wm_store.proofs.station_pages.StationPagesPages.page.Goals as goal

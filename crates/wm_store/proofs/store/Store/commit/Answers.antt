@@ -1,5 +1,4 @@
-use Rattle.std.proofs.Common.{◌≡◌, ℕ, ◌≤◌, ◌<◌, true, List, [], refl, sym, ap, subst, ◌∙◌}
-use Rattle.wm_spec.specs.declared.record.stored.Stored.{Stored}
+use Rattle.std.proofs.Common.{◌≡◌, ℕ, ◌≤◌, ◌<◌, true, [], refl, sym, ap, subst, ◌∙◌}
 use Rattle.wm_page.specs.Batch.{entries}
 use Rattle.wm_station.specs.History.{now}
 use Rattle.wm_station.specs.Moments.{Ended}
@@ -7,10 +6,9 @@ use Rattle.wm_journal.specs.Disk.{page}
 use Rattle.wm_journal.specs.Store.{OldOrNew, over}
 use Rattle.wm_heap.specs.Blobs.{AreBlobs, AreSmall}
 use Rattle.wm_heap.specs.Places.{page_count}
-use Rattle.wm_store.specs.Spelled.{HaveSpellings, blobs_of}
-use Rattle.wm_store.specs.Stores.{OldOrAfter}
+use Rattle.wm_store.specs.Spelled.{blobs_of}
 use Rattle.wm_store.proofs.Committing.{blobs_once, blobs_small}
-use Rattle.wm_store.proofs.Storing.{as_planned, before_plan, takes_pages, takes_root, takes_grown, store_after, held_after, store_same, held_same, kept_same, run_from, old_or_after}
+use Rattle.wm_store.proofs.Storing.{as_planned, before_plan, takes_pages, takes_root, takes_grown, store_after, held_after, store_same, held_same, kept_same, old_or_after}
 use Rattle.wm_store.proofs.Unchanging.{nothing_planned}
 use Rattle.wm_store.proofs.store.Store.commit.Goals as goal
 

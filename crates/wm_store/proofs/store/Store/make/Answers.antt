@@ -1,4 +1,4 @@
-use Rattle.std.proofs.Common.{◌≡◌, ℕ, ◌≤◌, refl, sym, ap, subst, ◌∙◌, lit≤}
+use Rattle.std.proofs.Common.{◌≤◌, sym, ap, subst, ◌∙◌, lit≤}
 use Rattle.wm_page.specs.Batch.{entries}
 use Rattle.wm_station.specs.History.{now}
 use Rattle.wm_journal.specs.Disk.{page}

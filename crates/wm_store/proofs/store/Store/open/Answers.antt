@@ -1,10 +1,9 @@
-use Rattle.std.proofs.Common.{◌≡◌, ℕ, ◌*◌, ◌≤◌, ◌⊎◌, List, length, sym, ap, subst, ◌∙◌}
+use Rattle.std.proofs.Common.{◌≡◌, ◌*◌, ◌≤◌, ◌⊎◌, length, sym, subst, ◌∙◌}
 use Rattle.std.proofs.lemmas.Result.{err_from_is_err_and}
 use Rattle.wm_base.specs.declared.fault.OpenFault.TheVariants as faults
 use Rattle.wm_station.specs.History.{History, now, said, Leaves}
 use Rattle.wm_station.specs.Moments.{Holds, During}
 use Rattle.wm_journal.specs.Disk.{page}
-use Rattle.wm_journal.specs.Store.{IsAtRest, Keeps}
 use Rattle.wm_heap.specs.Places.{IsHeapOf}
 use Rattle.wm_store.specs.Opened.{Held, SaysAs}
 use Rattle.wm_store.specs.Stores.{IsStoreOf}
