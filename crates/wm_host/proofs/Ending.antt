@@ -7,12 +7,12 @@ use Rattle.wm_station.specs.History.{History, now, said, Leaves}
 use Rattle.wm_station.specs.Moments.{During}
 use Rattle.wm_station.proofs.Steps.{weaken, followed}
 use Rattle.wm_model.specs.Lines.{cap, ended_lines}
+use Rattle.wm_state.specs.ById.{by_id}
 use Rattle.wm_state.specs.State.{State, begin}
 use Rattle.wm_model.specs.Running.{transcript, after, Stopped}
 use Rattle.wm_state.proofs.Standing.{Stands-begin}
 use Rattle.wm_model.proofs.Running.{transcript-cap, after-cap, Stopped-cap, stopped_all, stopped_before, stopped_front}
 use Rattle.wm_graph.specs.Parts.{parts_of}
-use Rattle.wm_engine.specs.Working.{by_id}
 use Rattle.wm_host.specs.Crash.{CrashOpens, CrashAnswers, CrashOfRun}
 use Rattle.wm_host.specs.Hosting.{Begins, Finishes, Halts}
 use Rattle.wm_host.specs.Script.{AnswersTaken}

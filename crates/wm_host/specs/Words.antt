@@ -1,11 +1,11 @@
 -- The words of the command line.
-use Rattle.std.specs.Prelude.{ℕ, ◌+◌, ◌-◌, ◌*◌, ◌≤◌, Bool, ◌&&◌, nat_eq, nat_le, if◌then◌else◌, List, [], ◌∷◌, length, drop, Option, None, Some, codes}
+use Rattle.std.specs.Prelude.{ℕ, ◌+◌, ◌-◌, ◌*◌, ◌≤◌, ◌<◌, Bool, ◌&&◌, nat_eq, nat_le, nat_lt, if◌then◌else◌, List, [], ◌∷◌, length, drop, Option, None, Some, Result, Ok, Err, codes}
 use Rattle.std.specs.List.{list_all, starts_with}
-use Rattle.std.specs.Option.{option_map}
-use Rattle.std.specs.Result.{result_ok}
 use Rattle.std.specs.Char.{is_ascii_digit}
 use Rattle.std.specs.Str.{bytes_eq}
+use Rattle.wm_base.specs.declared.instant.TheConstants.{END}
 use Rattle.wm_instants.specs.Instants.{instant_of}
+use Rattle.wm_instants.specs.declared.refusal.InstantRefusal.{InstantRefusal}
 use Rattle.wm_host.specs.declared.words.Command.{Command}
 use Rattle.wm_host.specs.declared.words.Command.TheVariants.{Init, Run}
 
@@ -22,18 +22,23 @@ are_digits text = nat_le 1 (length text) && (nat_le (length text) 20 && list_all
 abbrev pub is_limit : ℕ → Bool
 is_limit number = nat_le 1 number && nat_le number 1048576
 
--- a limit that a store can have, where the command has one
-abbrev pub HasLimit : Command → Type 0
-HasLimit (Init limit) = (1 ≤ limit) × (limit ≤ 1048576)
-HasLimit (Run moment) = Unit {0}
+-- a limit that a store can have, or a moment at which a run can begin
+abbrev pub IsInBounds : Command → Type 0
+IsInBounds (Init limit) = (1 ≤ limit) × (limit ≤ 1048576)
+IsInBounds (Run moment) = moment < END
 
 -- the command `init` of this limit
 abbrev pub init_of : List ℕ → Option Command
 init_of text = if are_digits text && is_limit (number_behind 0 text) then Some (Init (number_behind 0 text)) else None
 
--- the command `run` of this moment
+-- the command `run` that begins at the instant, which is to be a moment
+abbrev pub run_at : Result ℕ InstantRefusal → Option Command
+run_at (Ok moment) = if nat_lt moment END then Some (Run moment) else None
+run_at (Err refusal) = None
+
+-- the command `run` of the moment that this text means
 abbrev pub run_of : List ℕ → Option Command
-run_of text = option_map (λ (moment : ℕ). Run moment) (result_ok (instant_of text))
+run_of text = run_at (instant_of text)
 
 -- the command of a word for it, an option and its value
 abbrev pub spaced : List ℕ → List ℕ → List ℕ → Option Command

@@ -1,6 +1,7 @@
 //! The two commands over a store.
 ghost use Rattle.std.specs.Prelude.{◌≡◌, ◌^◌, ◌<◌, ◌≤◌, ◌↔◌, ◌⊎◌, [], ◌∷◌, ◌==◌, length, take, true, false, OnOk, IfOk, IsErrOf, IfErr};
 ghost use Rattle.std.specs.List.{list_any};
+ghost use Rattle.wm_base.specs.declared.instant.TheConstants.{END};
 ghost use Rattle.wm_engine.specs.Working.{FileStands};
 ghost use Rattle.wm_model.specs.Lines.{lines, ended_lines};
 ghost use Rattle.wm_state.specs.State.{State, begin, fresh};
@@ -68,6 +69,7 @@ pub(crate) fn init<P: Station>(alloc: Global, station: &mut P, limit: u32) -> En
 
 /// Opens a store for a run that begins at a moment.
 fn open_host<P: Station>(alloc: Global, station: &mut P, moment: Instant) -> Result<Host, Stop>
+    requires { moment < END }
     ensures begins { IfOk result (λ host. Begins P.tells (P.history station.old) (P.history station.new) host moment) }
     ensures crash { P.tells → (s : State) → FileStands (now (P.history station.old)) s → During (P.history station.old) (P.history station.new) (CrashOpens (P.history station.old) s) }
     ensures keeps { P.tells → (s : State) → FileStands (now (P.history station.old)) s → FileStands (now (P.history station.new)) s }
@@ -90,6 +92,7 @@ pub(crate) fn run_store<S: Source, P: Station>(
     station: &mut P,
     moment: Instant,
 ) -> Ended
+    requires { moment < END }
     ensures done { result.status ≡ 0 → S.tells → P.tells → (s : State) → FileStands (now (P.history station.old)) s → Answered (P.history station.old) (P.history station.new) (begin s moment) (lines (S.left source.old)) }
     ensures all { result.status ≡ 0 → S.tells → result.lines ≡ length (lines (S.left source.old)) }
     ensures end { result.status ≡ 0 → S.tells → S.left source.new ≡ [] }

@@ -2,7 +2,7 @@
 ghost use Rattle.std.specs.Prelude.{◌≡◌, ◌≤◌, List, length, map, string_bytes, true, None, Some, Option, IfSome};
 ghost use Rattle.std.specs.Char.{is_ascii_digit};
 ghost use Rattle.std.specs.List.{list_all};
-ghost use Rattle.wm_host.specs.Words.{command_of as command_in, spaced, joined, init_of, run_of, are_digits, is_limit, number_behind, HasLimit};
+ghost use Rattle.wm_host.specs.Words.{command_of as command_in, spaced, joined, init_of, run_of, are_digits, is_limit, number_behind, IsInBounds};
 
 use wm_base::Instant;
 use wm_instants::read_instant;
@@ -26,7 +26,7 @@ const GREATEST_LIMIT: u128 = 1_048_576;
 /// `run --now T`, where `=` may stand in place of the space.
 pub(crate) fn command_of(words: &[String]) -> Option<Command>
     ensures value { result ≡ command_in (map string_bytes words.now) }
-    ensures limit { IfSome result HasLimit }
+    ensures bounds { IfSome result IsInBounds }
 {
     match words {
         [command, option] => joined_command(command.as_bytes(), option.as_bytes()),
@@ -39,7 +39,7 @@ pub(crate) fn command_of(words: &[String]) -> Option<Command>
 
 fn joined_command(command: &[u8], option: &[u8]) -> Option<Command>
     ensures value { result ≡ joined command.now option.now }
-    ensures limit { IfSome result HasLimit }
+    ensures bounds { IfSome result IsInBounds }
 {
     if command == b"init".as_slice() && option.starts_with(b"--limit=".as_slice()) {
         return init_command(option.split_at(8).1);
@@ -52,7 +52,7 @@ fn joined_command(command: &[u8], option: &[u8]) -> Option<Command>
 
 fn spaced_command(command: &[u8], option: &[u8], value: &[u8]) -> Option<Command>
     ensures value { result ≡ spaced command.now option.now value.now }
-    ensures limit { IfSome result HasLimit }
+    ensures bounds { IfSome result IsInBounds }
 {
     if command == b"init".as_slice() && option == b"--limit".as_slice() {
         return init_command(value);
@@ -65,7 +65,7 @@ fn spaced_command(command: &[u8], option: &[u8], value: &[u8]) -> Option<Command
 
 fn init_command(text: &[u8]) -> Option<Command>
     ensures value { result ≡ init_of text.now }
-    ensures limit { IfSome result HasLimit }
+    ensures bounds { IfSome result IsInBounds }
 {
     if !are_number_digits(text) {
         return None;
@@ -81,11 +81,13 @@ fn init_command(text: &[u8]) -> Option<Command>
 }
 
 fn run_command(text: &[u8]) -> Option<Command>
-    ensures { result ≡ run_of text.now }
+    ensures value { result ≡ run_of text.now }
+    ensures bounds { IfSome result IsInBounds }
 {
     match read_instant(text) {
-        Ok(moment) => Some(Command::Run { moment }),
-        Err(_) => None,
+        // A run begins below END; no text means END itself.
+        Ok(moment) if moment.is_moment() => Some(Command::Run { moment }),
+        _ => None,
     }
 }
 
