@@ -1,3 +1,5 @@
+mod words;
+
 use super::*;
 use std::alloc::Global;
 use std::test::Fail;
@@ -101,6 +103,86 @@ fn a_second_run_finds_the_rows(rt: HostRuntime) -> Result<(), Fail> {
         said.as_slice(),
         b"OK\nWM-070 change limit 2\n1|10\n2|20\nROWS 2\n".as_slice()
     );
+    Ok(())
+}
+
+#[test]
+fn a_table_is_filled_and_read(rt: HostRuntime) -> Result<(), Fail> {
+    let alloc = rt.alloc();
+    let made = store(alloc, "1000")?;
+    let mut station = station_over(alloc, &made, Faults::none(alloc))?;
+    play_all(alloc, &mut station, &RUN, ROWS)?;
+    let (end, said) = play_all(
+        alloc,
+        &mut station,
+        &RUN,
+        b"CONNECT a Ann\n\
+        A: select * from bud\n\
+        A: INSERT INTO BUD VALUES (1, 5)\n\
+        A: SELECT * FROM NOPE\n\
+        A: SELEC\n\
+        B: SELECT * FROM BUD\n\
+        AT DATE '2020-01-02'\n",
+    )?;
+    assert_eq!(rt; end, ended(0, 7));
+    assert_eq!(rt;
+        said.as_slice(),
+        b"OK\n1|10\n2|20\nROWS 2\n\
+        WM-060 key there 1\n\
+        WM-010 no table NOPE\n\
+        WM-099 not built yet\n\
+        WM-099 not built yet\n\
+        WM-099 not built yet\n"
+            .as_slice()
+    );
+    Ok(())
+}
+
+#[test]
+fn a_refused_line_changes_no_byte(rt: HostRuntime) -> Result<(), Fail> {
+    let alloc = rt.alloc();
+    let made = store(alloc, "2")?;
+    let mut station = station_over(alloc, &made, Faults::none(alloc))?;
+    play_all(alloc, &mut station, &RUN, ROWS)?;
+    let before = station.recording().image().to_vec(alloc)?;
+    let (end, said) = play_all(
+        alloc,
+        &mut station,
+        &RUN,
+        b"CONNECT A ANN\n\
+        A: INSERT INTO BUD VALUES (1, 11)\n\
+        A: INSERT INTO BUD VALUES (3, 30)\n\
+        A: INSERT INTO NOPE VALUES (3, 30)\n\
+        A: CREATE TABLE BUD (ID NUMBER PRIMARY KEY, AMT NUMBER)\n\
+        A: EXECUTE DBMS_WM.EnableVersioning('BUD')\n\
+        CONNECT B BEN\n",
+    )?;
+    assert_eq!(rt; end, ended(0, 7));
+    assert_eq!(rt;
+        said.as_slice(),
+        b"OK\n\
+        WM-060 key there 1\n\
+        WM-070 change limit 2\n\
+        WM-010 no table NOPE\n\
+        WM-099 not built yet\n\
+        WM-099 not built yet\n\
+        WM-099 not built yet\n"
+            .as_slice()
+    );
+    assert_eq!(rt; station.recording().image(), before.as_slice());
+    Ok(())
+}
+
+#[test]
+fn words_out_of_order_do_nothing(rt: HostRuntime) -> Result<(), Fail> {
+    let alloc = rt.alloc();
+    let mut station = empty(alloc, Faults::none(alloc))?;
+    for words in [["init", "--limit=0"], ["run", "--now=2019-02-29"]] {
+        let (end, said) = play_all(alloc, &mut station, words.as_slice(), ROWS)?;
+        assert_eq!(rt; end, ended(2, 0));
+        assert_eq!(rt; said.as_slice(), b"".as_slice());
+        assert!(rt; station.recording().calls().is_empty());
+    }
     Ok(())
 }
 
