@@ -3,3 +3,5 @@ pub mod Planning
 pub mod Committing
 pub mod Fitting
 pub mod Writing
+pub mod Working
+pub mod Keeping

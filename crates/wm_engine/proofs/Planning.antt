@@ -112,3 +112,9 @@ pub for_records : (rs : List Stored) (xs : List Session) (m : ℕ) (r : Result P
     → IfOk r (λ p. (rs : List Stored) (m : ℕ) → keep_rules (parts_of rs) ≡ true → DoesIt rs xs m p act) → IfOk r (λ p. DoesIt rs xs m p other)
 for_records rs xs m (Ok p) act other same rules does = does_one rs xs m p act other (λ s st. same s) (does rs m rules)
 for_records rs xs m (Err e) act other same rules does = tt
+
+-- a plan for each user
+pub does_for : (rs : List Stored) (m : ℕ) (r : Result Planned Memory) (act other : List ℕ → State → State × Answer) → ((user : List ℕ) (s : State) → other user s ≡ act user s)
+    → IfOk r (λ p. (xs : List Session) (user : List ℕ) → DoesIt rs xs m p (act user)) → IfOk r (λ p. (xs : List Session) (user : List ℕ) → DoesIt rs xs m p (other user))
+does_for rs m (Ok p) act other same does = λ xs user. does_one rs xs m p (act user) (other user) (λ s st. same user s) (does xs user)
+does_for rs m (Err e) act other same does = tt

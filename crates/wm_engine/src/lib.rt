@@ -4,7 +4,9 @@
 mod answer;
 mod commit;
 mod count;
+mod engine;
 mod fault;
+mod keep;
 mod plan;
 mod planned;
 mod print;
@@ -12,4 +14,5 @@ mod read;
 mod refuse;
 mod session;
 
+pub use engine::Engine;
 pub use fault::LineFault;

@@ -56,4 +56,22 @@ impl Planned {
             answer,
         }
     }
+
+    /// What the line changes, without its answer.
+    pub fn into_changed(self) -> Changed
+        ensures changes { result.changes ≡ self.changes }
+        ensures session { result.session ≡ self.session }
+    {
+        Changed {
+            changes: self.changes,
+            session: self.session,
+        }
+    }
+}
+
+/// What a line changes: the records, and the sessions.
+#[derive(Drop)]
+pub struct Changed {
+    pub changes: Changes,
+    pub session: Option<Session>,
 }

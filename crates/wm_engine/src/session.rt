@@ -1,5 +1,6 @@
 //! The session that is open.
-ghost use Rattle.std.specs.Prelude.{◌≡◌, IfOk};
+ghost use Rattle.std.specs.Prelude.{◌≡◌, IfOk, OnOk};
+ghost use Rattle.wm_model.specs.Planning.{with_opened};
 ghost use Rattle.std.specs.Str.{bytes_eq};
 ghost use Rattle.wm_engine.specs.Views.{folded};
 
@@ -40,4 +41,14 @@ impl Session {
     {
         is_word(name, self.name.as_bytes())
     }
+}
+
+/// Adds the session that is opened, where one is.
+pub fn add_opened(sessions: &mut Vec<Session>, opened: Option<Session>) -> Result<(), Memory>
+    ensures { OnOk result (sessions.new.items ≡ with_opened sessions.old.items opened) }
+{
+    if let Some(session) = opened {
+        sessions.push(session)?;
+    }
+    Ok(())
 }

@@ -1,0 +1,26 @@
+-- An engine that works over a station, and what its file stands for.
+use Rattle.std.proofs.Common.{◌≡◌, ℕ, List, sym, ◌∙◌, subst}
+use Rattle.wm_graph.specs.Parts.{parts_of}
+use Rattle.wm_spec.specs.declared.record.stored.Stored.{Stored}
+use Rattle.wm_state.specs.State.{State}
+use Rattle.wm_state.specs.Standing.{Stands}
+use Rattle.wm_station.specs.History.{History, now, said, Leaves, Said}
+use Rattle.wm_station.specs.Moments.{Holds}
+use Rattle.wm_store.proofs.Holding.{store_said}
+use Rattle.wm_engine.proofs.Committing.{holds_weaken}
+use Rattle.wm_engine.specs.Working.{Engaged, FileStands, HoldsSorted, KeepsOver, StandsFor, WorksOver}
+
+-- a file that holds records stands for what they stand for
+pub file_stands : (file : List ℕ) (rs : List Stored) (s : State) → HoldsSorted file rs → Stands (parts_of rs) s → FileStands file s
+file_stands file rs s holds stands = record { records = holds.records; held = holds.held; stands = subst (λ xs. Stands (parts_of xs) s) holds.same stands }
+
+-- what a read gives, and each file that a crash may leave, stands for what the engine stands for
+pub stands_over : (e : Engaged) (h : History) (s : State) → WorksOver e h → StandsFor e s → Holds h (λ file. FileStands file s)
+stands_over e h s works for = holds_weaken h (λ file. HoldsSorted file e.records) (λ file. FileStands file s) (λ file holds. file_stands file e.records s holds for.stands) works.holds
+
+-- what is said changes nothing of the file
+pub works_said : (e : Engaged) (h : History) (piece : List ℕ) (n : ℕ) → WorksOver e h → WorksOver e (Said h piece n)
+works_said e h piece n works = record {
+  store_is = store_said e.store h piece n works.store_is;
+  holds = record { here = works.holds.here; left = λ c leaves. works.holds.left c leaves };
+}

@@ -1,0 +1,97 @@
+//! A line over a store: what it does is planned and printed, and only then kept.
+ghost use Rattle.std.specs.Prelude.{◌≡◌, ◌<◌, ◌≤◌, ◌⊎◌, ℕ, List, true, OnOk, IfOk, IsErrOf};
+ghost use Rattle.wm_base.specs.declared.instant.TheConstants.{END};
+ghost use Rattle.wm_engine.specs.Working.{FileStands, HoldsSorted, KeepsOver};
+ghost use Rattle.wm_engine.specs.declared.fault.LineFault.TheVariants as faults;
+ghost use Rattle.wm_graph.specs.Parts.{parts_of};
+ghost use Rattle.wm_graph.specs.Rules.{keep_rules};
+ghost use Rattle.wm_model.specs.Planning.{StandsAt, with_opened};
+ghost use Rattle.wm_model.specs.Step.{step, answer_text};
+ghost use Rattle.wm_spec.specs.Records.{AreChanges};
+ghost use Rattle.wm_state.specs.ById.{applied};
+ghost use Rattle.wm_state.specs.State.{State};
+ghost use Rattle.wm_station.specs.Cause.{Rises};
+ghost use Rattle.wm_station.specs.Moments.{Ended};
+ghost use Rattle.wm_store.specs.Spelled.{FitPages};
+
+use crate::commit::commit;
+use crate::fault::LineFault;
+use crate::plan::line::plan;
+use crate::planned::Changed;
+use crate::print::print;
+use crate::session::{Session, add_opened};
+use std::alloc::Global;
+use wm_base::Bytes;
+use wm_image::Image;
+use wm_station::Station;
+use wm_store::Store;
+
+/// The records that a line left, and the bytes of its answer.
+#[derive(Drop)]
+pub struct Kept {
+    pub image: Image,
+    pub bytes: Bytes,
+}
+
+/// Commits what a line changes, opens the session that it opens, and gives the records that it leaves.
+fn keep<P: Station>(
+    alloc: Global,
+    station: &mut P,
+    store: &mut Store,
+    sessions: &mut Vec<Session>,
+    image: Image,
+    changed: Changed,
+) -> Result<Image, LineFault>
+    requires once { AreChanges changed.changes }
+    requires fit { FitPages changed.changes }
+    requires works { P.tells → KeepsOver store.old image (P.history station.old) }
+    ensures image { IfOk result (λ i. i ≡ applied changed.changes image) }
+    ensures sessions { OnOk result (sessions.new.items ≡ with_opened sessions.old.items changed.session) }
+    ensures works { P.tells → OnOk result (KeepsOver store.new (applied changed.changes image) (P.history station.new)) }
+    ensures any_moment { P.tells → Ended (P.history station.old) (P.history station.new) (λ file. HoldsSorted file image ⊎ HoldsSorted file (applied changed.changes image)) }
+    ensures later { P.disk_faults station.old ≤ P.disk_faults station.new }
+    ensures disk { IsErrOf result faults.Disk → Rises (P.disk_faults station.old) (P.disk_faults station.new) }
+    ensures say_quiet { P.say_faults station.new ≡ P.say_faults station.old }
+    ensures unchanged { P.tells → IsErrOf result faults.Changed → ⊥ }
+{
+    let Changed { changes, session } = changed;
+    let mut image = image;
+    commit(alloc, station, store, &mut image, changes)?;
+    add_opened(sessions, session)?;
+    Ok(image)
+}
+
+/// Runs a line over the records of a store.
+pub fn run_line<P: Station>(
+    alloc: Global,
+    station: &mut P,
+    store: &mut Store,
+    sessions: &mut Vec<Session>,
+    image: Image,
+    moment: u64,
+    line: &[u8],
+) -> Result<Kept, LineFault>
+    requires rules { keep_rules (parts_of image) ≡ true }
+    requires moment { moment < END }
+    requires works { P.tells → KeepsOver store.old image (P.history station.old) }
+    ensures answered { IfOk result (λ k. (s : State) → StandsAt image sessions.old.items moment s → StandsAt k.image sessions.new.items moment (step s line.now).0 × (k.bytes ≡ answer_text (step s line.now).1)) }
+    ensures rules { IfOk result (λ k. keep_rules (parts_of k.image) ≡ true) }
+    ensures works { P.tells → IfOk result (λ k. KeepsOver store.new k.image (P.history station.new)) }
+    ensures any_moment { P.tells → (s : State) → StandsAt image sessions.old.items moment s → Ended (P.history station.old) (P.history station.new) (λ file. FileStands file s ⊎ FileStands file (step s line.now).0) }
+    ensures later { P.disk_faults station.old ≤ P.disk_faults station.new }
+    ensures disk { IsErrOf result faults.Disk → Rises (P.disk_faults station.old) (P.disk_faults station.new) }
+    ensures say_quiet { P.say_faults station.new ≡ P.say_faults station.old }
+    ensures unchanged { P.tells → IsErrOf result faults.Changed → ⊥ }
+{
+    let planned = plan(alloc, &image, sessions.as_slice(), moment, line)?;
+    let bytes = print(alloc, &planned.answer)?;
+    let image = keep(
+        alloc,
+        station,
+        store,
+        sessions,
+        image,
+        planned.into_changed(),
+    )?;
+    Ok(Kept { image, bytes })
+}
