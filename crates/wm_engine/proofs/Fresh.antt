@@ -4,21 +4,90 @@ use Rattle.std.proofs.lemmas.Bool.Decides.{nat_tests}
 use Rattle.std.specs.Option.{option_map}
 use Rattle.wm_base.specs.declared.row.Row.{Row}
 use Rattle.wm_graph.specs.Parts.{Parts, parts_of, row_of, space_of}
-use Rattle.wm_graph.specs.Rules.{keep_rules}
+use Rattle.wm_graph.specs.Rules.{keep_rules, are_counters}
 use Rattle.wm_period.specs.Pieces.{Held}
 use Rattle.wm_spec.specs.Lists.{Cell, Told, told, touched}
-use Rattle.wm_spec.specs.declared.record.piece.PieceRecord.{PieceRecord}
 use Rattle.wm_spec.specs.declared.record.row.RowRecord.{RowRecord}
 use Rattle.wm_spec.specs.declared.record.space.Space.{Space}
+use Rattle.wm_spec.specs.declared.record.version.Version.{Version}
 use Rattle.wm_state.specs.ById.{by_id}
 use Rattle.wm_state.specs.State.{State, Workspace, content, fresh, fresh_live, workspace_of}
-use Rattle.wm_state.specs.Standing.{Stands, fields_of, fields_in, held_of, seen_at, own_at, shown, owned, latest, newest_first}
+use Rattle.wm_state.specs.Standing.{Stands, fields_of, fields_in, held_of, seen_at, own_at, shown, owned, latest}
 use Rattle.wm_store.specs.Fresh.{fresh_records, fresh_counters, live, first_version}
 
+-- the records of a store that was just made
+abbrev pub fresh_parts : ℕ → Parts
+fresh_parts limit = record { counters = fresh_counters limit ∷ []; tables = []; spaces = live ∷ []; versions = first_version ∷ []; rows = []; pieces = [] }
+
 -- without pieces nothing is seen
-seen_none : (p : Parts) (n : ℕ) (c : Cell) → p.pieces ≡ [] → p.versions ≡ first_version ∷ [] → shown p n c ≡ None
-seen_none p n c pieces versions = rw (pieces, versions) (by_test (1 == latest p n))
+seen_none : (limit n : ℕ) (c : Cell) → shown (fresh_parts limit) n c ≡ None
+seen_none limit n c = by_test (1 == latest (fresh_parts limit) n)
   where
-    by_test : (b : Bool) → cond b (let none : Option Held = None in none) None ≡ None
+    by_test : (b : Bool) → cond b (let none : Option Held = None in none) (let none : Option Held = None in none) ≡ None
     by_test true = refl
     by_test false = refl
+
+own_none : (limit n base : ℕ) (c : Cell) → owned (fresh_parts limit) base n c ≡ None
+own_none limit n base c = by_base (latest (fresh_parts limit) n == base) (1 == latest (fresh_parts limit) n)
+  where
+    nothing : Option Held
+    nothing = None
+
+    by_base : (a b : Bool) → cond a nothing (cond b nothing nothing) ≡ nothing
+    by_base true b = refl
+    by_base false false = refl
+    by_base false true = refl
+
+-- LIVE alone is there
+only_live : (n : ℕ) (w : Workspace) → workspace_of (fresh_live ∷ []) n ≡ Some w → w ≡ fresh_live
+only_live n w found = by_test (0 == n) found
+  where
+    nothing : Option Workspace
+    nothing = None
+
+    same : Some fresh_live ≡ Some w → w ≡ fresh_live
+    same e = cc
+
+    none_some : nothing ≡ Some w → ⊥
+    none_some e = cc
+
+    by_test : (b : Bool) → cond b (Some fresh_live) nothing ≡ Some w → w ≡ fresh_live
+    by_test true e = same e
+    by_test false e = absurd (none_some e)
+
+told_none : (w : Workspace) (c : Cell) → w ≡ fresh_live → told (content w) c ≡ None
+told_none w c is = rw is refl
+
+fields_same : (limit n : ℕ) → option_map fields_of (space_of (fresh_parts limit).spaces n) ≡ option_map fields_in (workspace_of (fresh_live ∷ []) n)
+fields_same limit n = by_test (0 == n)
+  where
+    by_test : (b : Bool) → option_map fields_of (cond b (Some live) None) ≡ option_map fields_in (cond b (Some fresh_live) None)
+    by_test true = refl
+    by_test false = refl
+
+counted : (limit : ℕ) → 1 ≤ limit → limit ≤ 1048576 → are_counters (fresh_counters limit) ≡ true
+counted limit some most = rw (one limit some, few limit most, next limit) refl
+  where
+    one : (n : ℕ) → 1 ≤ n → nat_le 1 n ≡ true
+    one n le = grind (arith, nat_tests, le)
+
+    few : (n : ℕ) → n ≤ 1048576 → nat_le n 1048576 ≡ true
+    few n le = grind (arith, nat_tests, le)
+
+    next : (n : ℕ) → nat_le 1 (n + 1) ≡ true
+    next n = grind (arith, nat_tests)
+
+pub fresh_stands : (limit : ℕ) → 1 ≤ limit → limit ≤ 1048576 → Stands (parts_of (by_id (fresh_records limit))) (fresh limit)
+unfolding parts_of fresh keep_rules
+fresh_stands limit some most = record {
+  rules = rw (counted limit some most) refl;
+  counters = record { counters = fresh_counters limit; one = refl; next_stamp = refl; last_moment = refl; limit = refl; work = refl };
+  tables = record { same = refl };
+  spaces = record { same = fields_same limit };
+  latest = record { told = λ n w is c. seen_none limit n c ∙ ap (option_map held_of) (sym (told_none w c (only_live n w is))) };
+  own = record { covered = λ n w r is found c. rw (only_live n w is) (ap is_some (own_none limit n r.base_version c)) };
+  rows = record { there = λ n w is c t row e h. absurd (none_told t (told (content w) c) (told_none w c (only_live n w is)) e) };
+}
+  where
+    none_told : (t : Told) (o : Option Told) → o ≡ None → o ≡ Some t → ⊥
+    none_told t o none some = cc

@@ -5,3 +5,5 @@ pub mod Fitting
 pub mod Writing
 pub mod Working
 pub mod Keeping
+pub mod Fresh
+pub mod Opening

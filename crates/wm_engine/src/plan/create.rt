@@ -27,8 +27,8 @@ const NAME_LIMIT: usize = 30;
 fn are_names(name: &Name, key: &Name, value: &Name) -> bool
     ensures { result ≡ is_table (two_columns name.now key.now value.now) }
 {
-    let are_short =
-        name.len() <= NAME_LIMIT && (key.len() <= NAME_LIMIT && value.len() <= NAME_LIMIT);
+    let are_short = name.len() <= NAME_LIMIT
+        && (key.len() <= NAME_LIMIT && value.len() <= NAME_LIMIT);
     are_short && !(key.as_bytes() == value.as_bytes())
 }
 

@@ -47,12 +47,7 @@ fn make_ready(
 }
 
 /// EnableVersioning makes a table ready for rows, once.
-pub fn enable(
-    alloc: Global,
-    image: &Image,
-    moment: u64,
-    name: &[u8],
-) -> Result<Planned, Memory>
+pub fn enable(alloc: Global, image: &Image, moment: u64, name: &[u8]) -> Result<Planned, Memory>
     requires rules { keep_rules (parts_of image.now) ≡ true }
     requires moment { moment < END }
     ensures does { IfOk result (λ p. (xs : List SessionState) → DoesIt image.now xs moment p (enable (folded name.now))) }

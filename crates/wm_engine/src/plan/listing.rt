@@ -28,11 +28,7 @@ fn is_unlisted(table: &Table) -> bool
 }
 
 /// SELECT gives the rows of a table by key.
-pub fn listing(
-    alloc: Global,
-    image: &Image,
-    name: &[u8],
-) -> Result<Planned, Memory>
+pub fn listing(alloc: Global, image: &Image, name: &[u8]) -> Result<Planned, Memory>
     requires { keep_rules (parts_of image.now) ≡ true }
     ensures does { IfOk result (λ p. (xs : List SessionState) (m : ℕ) → DoesIt image.now xs m p (listing (folded name.now))) }
     ensures fit { IfOk result (λ p. FitPages p.changes) }

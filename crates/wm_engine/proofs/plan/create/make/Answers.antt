@@ -23,9 +23,9 @@ returns-in_default-clause-does c = λ xs.
 pub returns-clause-does : goal.returns-clause-does
 returns-clause-does c = λ xs.
     let batch_is : c.changing.result.changes ≡ create_batch c.id_of_counters.result (moved c.counters.result c.args.moment) c.in-Some-next_id.id (two_columns c.args.name c.args.key c.args.value) =
-        c.changing.ensures.changes ∙ c.in_ok-changes.ensures
-        ∙ ap (λ (k : Counters). create_batch c.id_of_counters.result k c.in-Some-next_id.id c.in_ok-table.table) c.in-Some.ensures.counted
-        ∙ ap (λ (t : Table). create_batch c.id_of_counters.result (moved c.counters.result c.args.moment) c.in-Some-next_id.id t) c.in_ok-table.ensures in
+    c.changing.ensures.changes ∙ c.in_ok-changes.ensures
+    ∙ ap (λ (k : Counters). create_batch c.id_of_counters.result k c.in-Some-next_id.id c.in_ok-table.table) c.in-Some.ensures.counted
+    ∙ ap (λ (t : Table). create_batch c.id_of_counters.result (moved c.counters.result c.args.moment) c.in-Some-next_id.id t) c.in_ok-table.ensures in
     told c.args.image.now xs c.args.moment c.changing.result (create_batch c.id_of_counters.result (moved c.counters.result c.args.moment) c.in-Some-next_id.id (two_columns c.args.name c.args.key c.args.value)) None Fine
     (create c.args.name c.args.key c.args.value) batch_is c.changing.ensures.session (ap answer_view c.changing.ensures.answer)
     (does_create c.args.image.now xs c.args.moment c.args.name c.args.key c.args.value c.counters.result c.id_of_counters.result c.in-Some-next_id.id c.requires.rules c.requires.none c.requires.table c.counters.ensures
@@ -35,7 +35,7 @@ returns-clause-does c = λ xs.
 pub returns-clause-fit : goal.returns-clause-fit
 returns-clause-fit c =
     let batch_is : c.changing.result.changes ≡ create_batch c.id_of_counters.result (moved c.counters.result c.args.moment) c.in-Some-next_id.id (two_columns c.args.name c.args.key c.args.value) =
-        c.changing.ensures.changes ∙ c.in_ok-changes.ensures
-        ∙ ap (λ (k : Counters). create_batch c.id_of_counters.result k c.in-Some-next_id.id c.in_ok-table.table) c.in-Some.ensures.counted
-        ∙ ap (λ (t : Table). create_batch c.id_of_counters.result (moved c.counters.result c.args.moment) c.in-Some-next_id.id t) c.in_ok-table.ensures in
+    c.changing.ensures.changes ∙ c.in_ok-changes.ensures
+    ∙ ap (λ (k : Counters). create_batch c.id_of_counters.result k c.in-Some-next_id.id c.in_ok-table.table) c.in-Some.ensures.counted
+    ∙ ap (λ (t : Table). create_batch c.id_of_counters.result (moved c.counters.result c.args.moment) c.in-Some-next_id.id t) c.in_ok-table.ensures in
     subst FitPages (sym batch_is) (fits_create c.id_of_counters.result (moved c.counters.result c.args.moment) c.in-Some-next_id.id (two_columns c.args.name c.args.key c.args.value) c.requires.table)
