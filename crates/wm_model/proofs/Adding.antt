@@ -117,8 +117,8 @@ pub add_full : (rs : List Stored) (xs : List Session) (m : ℕ) (user name : Lis
 add_full rs xs m user name key value t a c rules some takes_it live_there hidden one full =
     does_nothing rs xs m (change_limit c.limit) (add_row user name key value) rules
     (λ s st. let counts = counts_as rs xs m s c st one in
-        with_some rs xs m s name (body user key value s) t st some
-        ∙ rw (takes_it, stands_is rs xs m s a t.number (Num key ∷ []) st live_there ∙ hidden, sym counts.limit, sym counts.next_stamp, full) refl)
+    with_some rs xs m s name (body user key value s) t st some
+    ∙ rw (takes_it, stands_is rs xs m s a t.number (Num key ∷ []) st live_there ∙ hidden, sym counts.limit, sym counts.next_stamp, full) refl)
 
 -- the row is new, and there are changes left
 pub added_is : (rs : List Stored) (xs : List Session) (m : ℕ) (user name : List ℕ) (key value : ℤ) (t : Table) (a : Space) (c : Counters) (s : State) → StandsAt rs xs m s → named rs name ≡ Some t
@@ -137,7 +137,7 @@ pub add_spent_log : (rs : List Stored) (xs : List Session) (m : ℕ) (user name 
 add_spent_log rs xs m user name key value t a c rules some takes_it live_there hidden one left long =
     does_nothing rs xs m (at_its_end (codes "LOG")) (add_row user name key value) rules
     (λ s st. added_is rs xs m user name key value t a c s st some takes_it live_there hidden one left
-        ∙ spent_log s (log_length s.spaces live + 1) (written (new_entry s user t key value) s, Done 1) (ap (λ n. nat_lt counter_limit (n + 1)) (log_is rs xs m s a st live_there) ∙ long))
+    ∙ spent_log s (log_length s.spaces live + 1) (written (new_entry s user t key value) s, Done 1) (ap (λ n. nat_lt counter_limit (n + 1)) (log_is rs xs m s a st live_there) ∙ long))
 
 pub add_spent_work : (rs : List Stored) (xs : List Session) (m : ℕ) (user name : List ℕ) (key value : ℤ) (t : Table) (a : Space) (c : Counters) → keep_rules (parts_of rs) ≡ true → named rs name ≡ Some t
     → (t.versioned && takes t (row_values key value)) ≡ true → space_of (parts_of rs).spaces 0 ≡ Some a → is_some (stamp_shown (parts_of rs) 0 t.number (Num key ∷ []) 0) ≡ false
@@ -146,6 +146,6 @@ pub add_spent_work : (rs : List Stored) (xs : List Session) (m : ℕ) (user name
 add_spent_work rs xs m user name key value t a c rules some takes_it live_there hidden one left short much =
     does_nothing rs xs m (at_its_end (codes "WORK")) (add_row user name key value) rules
     (λ s st. added_is rs xs m user name key value t a c s st some takes_it live_there hidden one left
-        ∙ spent_work s (log_length s.spaces live + 1) (written (new_entry s user t key value) s, Done 1)
-            (ap (λ n. nat_lt counter_limit (n + 1)) (log_is rs xs m s a st live_there) ∙ short)
-            (ap (λ w. nat_lt counter_limit (w + line_work)) (sym (counts_as rs xs m s c st one).work) ∙ much))
+    ∙ spent_work s (log_length s.spaces live + 1) (written (new_entry s user t key value) s, Done 1)
+    (ap (λ n. nat_lt counter_limit (n + 1)) (log_is rs xs m s a st live_there) ∙ short)
+    (ap (λ w. nat_lt counter_limit (w + line_work)) (sym (counts_as rs xs m s c st one).work) ∙ much))

@@ -172,7 +172,7 @@ pub create_spent : (rs : List Stored) (xs : List Session) (m : ℕ) (name key va
 create_spent rs xs m name key value c rules none fit one much =
     does_nothing rs xs m (at_its_end (codes "WORK")) (create name key value) rules
     (λ s stands. created_is name key value s (no_tables rs xs m s stands none) ∙ rw fit
-        (spent_work s 0 (record s { tables = two_columns name key value ∷ [] }, Fine) refl (ap (λ w. nat_lt counter_limit (w + line_work)) (sym (counts_as rs xs m s c stands one).work) ∙ much)))
+    (spent_work s 0 (record s { tables = two_columns name key value ∷ [] }, Fine) refl (ap (λ w. nat_lt counter_limit (w + line_work)) (sym (counts_as rs xs m s c stands one).work) ∙ much)))
 
 pub does_create : (rs : List Stored) (xs : List Session) (m : ℕ) (name key value : List ℕ) (c : Counters) (counters_id id : ℕ) → keep_rules (parts_of rs) ≡ true → (parts_of rs).tables ≡ []
     → is_table (two_columns name key value) ≡ true → (parts_of rs).counters ≡ c ∷ [] → record_at rs counters_id ≡ Some (records.Counters c) → nat_lt counter_limit (c.work + line_work) ≡ false → nat_lt m END ≡ true → Ascend rs → AllUnder id rs
@@ -184,13 +184,15 @@ does_create rs xs m name key value c counters_id id rules none fit one there roo
   does = λ s stands.
       let counts = counts_as rs xs m s c stands one in
       let is : create name key value s ≡ (record s { tables = two_columns name key value ∷ []; last_moment = s.moment; work = s.work + line_work }, Fine) =
-          created_is name key value s (no_tables rs xs m s stands none) ∙ rw fit (not_spent s 0 (record s { tables = two_columns name key value ∷ [] }, Fine) refl (ap (λ w. nat_lt counter_limit (w + line_work)) (sym counts.work) ∙ room)) in
-      (subst (λ r. StandsAt (applied (create_batch counters_id (moved c m) id (two_columns name key value)) rs) xs m r.0) (sym is) (record {
+      created_is name key value s (no_tables rs xs m s stands none) ∙ rw fit (not_spent s 0 (record s { tables = two_columns name key value ∷ [] }, Fine) refl (ap (λ w. nat_lt counter_limit (w + line_work)) (sym counts.work) ∙ room)) in (
+        subst (λ r. StandsAt (applied (create_batch counters_id (moved c m) id (two_columns name key value)) rs) xs m r.0) (sym is) (record {
           stands = plan_created rs counters_id id c (moved c m) (two_columns name key value) s _ stands.stands sorted there one none (no_tables rs xs m s stands none) under counts_well refl fit refl refl
               (record { counters = moved c m; one = refl; next_stamp = counts.next_stamp; last_moment = stands.moment_is; limit = counts.limit; work = ap (λ w. w + line_work) counts.work });
           sessions_are = stands.sessions_are;
           moment_is = stands.moment_is;
-        }), sym (ap (λ r. r.1) is));
+        }),
+        sym (ap (λ r. r.1) is),
+      );
 }
   where
     only : (a b : Counters) → (a ∷ []) ≡ (b ∷ []) → a ≡ b

@@ -59,7 +59,7 @@ pub enable_spent : (rs : List Stored) (xs : List Session) (m : ℕ) (name : List
 enable_spent rs xs m name t c rules some off key one much =
     does_nothing rs xs m (at_its_end (codes "WORK")) (enable name) rules
     (λ s stands. enabled_is rs xs m s name t stands some off key
-        ∙ spent_work s 0 (record s { tables = enabled t.number s.tables }, Fine) refl (ap (λ w. nat_lt counter_limit (w + line_work)) (sym (counts_as rs xs m s c stands one).work) ∙ much))
+    ∙ spent_work s 0 (record s { tables = enabled t.number s.tables }, Fine) refl (ap (λ w. nat_lt counter_limit (w + line_work)) (sym (counts_as rs xs m s c stands one).work) ∙ much))
 
 pub does_enable : (rs : List Stored) (xs : List Session) (m : ℕ) (name : List ℕ) (t : Table) (c : Counters) (counters_id id : ℕ) → keep_rules (parts_of rs) ≡ true → named rs name ≡ Some t → t.versioned ≡ false → t.has_key ≡ true
     → (parts_of rs).counters ≡ c ∷ [] → record_at rs counters_id ≡ Some (records.Counters c) → record_at rs id ≡ Some (records.Table t) → nat_lt counter_limit (c.work + line_work) ≡ false → nat_lt m END ≡ true → Ascend rs
@@ -70,14 +70,16 @@ does_enable rs xs m name t c counters_id id rules some off key one there found r
   does = λ s stands.
       let counts = counts_as rs xs m s c stands one in
       let is : enable name s ≡ (record s { tables = enabled t.number s.tables; last_moment = s.moment; work = s.work + line_work }, Fine) =
-          enabled_is rs xs m s name t stands some off key
-          ∙ not_spent s 0 (record s { tables = enabled t.number s.tables }, Fine) refl (ap (λ w. nat_lt counter_limit (w + line_work)) (sym counts.work) ∙ room) in
-      (subst (λ r. StandsAt (applied (enable_batch counters_id (moved c m) id t) rs) xs m r.0) (sym is) (record {
+      enabled_is rs xs m s name t stands some off key
+      ∙ not_spent s 0 (record s { tables = enabled t.number s.tables }, Fine) refl (ap (λ w. nat_lt counter_limit (w + line_work)) (sym counts.work) ∙ room) in (
+        subst (λ r. StandsAt (applied (enable_batch counters_id (moved c m) id t) rs) xs m r.0) (sym is) (record {
           stands = plan_readied rs counters_id id c (moved c m) t s _ stands.stands sorted there one found key counts_well refl refl refl refl
               (λ front back. record { counters = moved c m; one = refl; next_stamp = counts.next_stamp; last_moment = stands.moment_is; limit = counts.limit; work = ap (λ w. w + line_work) counts.work });
           sessions_are = stands.sessions_are;
           moment_is = stands.moment_is;
-        }), sym (ap (λ r. r.1) is));
+        }),
+        sym (ap (λ r. r.1) is),
+      );
 }
   where
     only : (a b : Counters) → (a ∷ []) ≡ (b ∷ []) → a ≡ b
