@@ -1,6 +1,6 @@
 # wm, a verified store of version-enabled tables.
 #
-#   make demo    builds the proved program and plays an example through it
+#   make demo    builds the proved program, makes a store with it and plays two examples, one after the other
 #   make test    the merge gate: every proof, edit, test and program, and then the cases
 #   make wm      the program alone, at build/wm
 #   make cases   plays cases/ through the built program on real files
@@ -13,15 +13,20 @@ SOURCES := crates.txt $(shell find crates -path '*/out' -prune -o -type f -print
 
 wm: build/wm
 
-# rt leaves the program that it proved, built and ran in the crate's out/.
+# rt leaves the program that it proved, built and ran in the crate's out/. It is run once, to make a store.
 build/wm: $(SOURCES)
-	cd crates/wm && $(RT) run -- s.wm run --now 2020-01-01 < /dev/null
 	mkdir -p build
+	rm -f build/made.wm
+	cd crates/wm && $(RT) run -- "$(CURDIR)/build/made.wm" init --limit 1000 < /dev/null
 	cp crates/wm/out/wm build/wm
 
 demo: build/wm
+	rm -f build/demo.wm
+	build/wm build/demo.wm init --limit 1000
 	build/wm build/demo.wm run --now 2020-01-01 < examples/first.wm | tee build/first.answers
 	cmp build/first.answers examples/first.answers
+	build/wm build/demo.wm run --now 2020-01-02 < examples/again.wm | tee build/again.answers
+	cmp build/again.answers examples/again.answers
 
 test:
 	$(RT) ci

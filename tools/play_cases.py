@@ -1,7 +1,8 @@
 #!/usr/bin/env python3
 """play_cases.py PROGRAM FILE-OR-FOLDER..
 
-Plays case files through the program, each on a store file of its own in a fresh folder. A line of a case is
+Plays case files through the program. A case has a store file of its own in a fresh folder, which is not there at its
+start, so most cases begin with 'init'. A line of a case is
 
     $ WORDS     a command: the words behind the store's path, split as a shell splits them
     < TEXT      a line of its input, with LF          <- TEXT    its last line, without LF
@@ -51,7 +52,10 @@ class Command:
     def difference(self, program, store):
         """What the program did otherwise, or None."""
         call = [*program, str(store), *self.words]
-        done = subprocess.run(call, input=self.input, capture_output=True, timeout=SECONDS)
+        try:
+            done = subprocess.run(call, input=self.input, capture_output=True, timeout=SECONDS)
+        except subprocess.TimeoutExpired:
+            return f"it has not ended after {SECONDS} seconds"
         said = done.stdout.split(b"\n")
         if said.pop() != b"":
             return f"the output ends without LF: {done.stdout[-80:]!r}"
