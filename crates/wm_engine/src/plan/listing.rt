@@ -9,6 +9,7 @@ ghost use Rattle.wm_engine.specs.Planning.{DoesIt};
 ghost use Rattle.wm_engine.specs.Views.{folded};
 
 use crate::answer::Answer;
+use crate::plan::write_row::LIVE;
 use crate::planned::Planned;
 use crate::read::word::capitals_of;
 use crate::refuse::{no_table, not_built};
@@ -16,9 +17,6 @@ use std::alloc::Global;
 use wm_base::Memory;
 use wm_image::Image;
 use wm_spec::record::Table;
-
-/// The number of LIVE.
-const LIVE: u32 = 0;
 
 /// Whether a table's rows are not listed yet.
 fn is_unlisted(table: &Table) -> bool
