@@ -1,5 +1,3 @@
-mod words;
-
 use super::*;
 use std::alloc::Global;
 use std::test::Fail;
@@ -317,6 +315,23 @@ fn each_disk_fault_ends_with_status_5(rt: HostRuntime) -> Result<(), Fail> {
             let (end, _) = play_all(alloc, &mut station, &RUN, b"CONNECT B BEN\n")?;
             assert_eq!(rt; end, ended(0, 1), "kind {kind} at {number}");
         }
+    }
+    Ok(())
+}
+
+#[test]
+fn each_say_fault_ends_with_status_4(rt: HostRuntime) -> Result<(), Fail> {
+    let alloc = rt.alloc();
+    let made = store(alloc, "1000")?;
+    for number in 0..5 {
+        let mut faults = Faults::none(alloc);
+        faults.says = some(alloc, number)?;
+        let mut station = station_over(alloc, &made, faults)?;
+        let (end, said) = play_all(alloc, &mut station, &RUN, ROWS)?;
+        assert_eq!(rt; end, ended(4, number), "at {number}");
+        assert!(rt; ROWS_SAID.starts_with(said.as_slice()), "at {number}");
+        let (end, _) = play_all(alloc, &mut station, &RUN, b"CONNECT B BEN\n")?;
+        assert_eq!(rt; end, ended(0, 1), "at {number}");
     }
     Ok(())
 }
