@@ -24,8 +24,10 @@ collected k = record {
   tables = referred k.tables.items;
   spaces = referred k.spaces.items;
   versions = referred k.versions.items;
+  savepoints = referred k.savepoints.items;
   rows = referred k.rows.items;
   pieces = referred k.pieces.items;
+  hists = referred k.hists.items;
 }
 
 -- the parts with one more record, behind those of its kind
@@ -34,5 +36,7 @@ added p (records.Counters r) = record p { counters = p.counters ++ r ∷ [] }
 added p (records.Table r) = record p { tables = p.tables ++ r ∷ [] }
 added p (records.Space r) = record p { spaces = p.spaces ++ r ∷ [] }
 added p (records.Version r) = record p { versions = p.versions ++ r ∷ [] }
+added p (records.Savepoint r) = record p { savepoints = p.savepoints ++ r ∷ [] }
 added p (records.Row r) = record p { rows = p.rows ++ r ∷ [] }
 added p (records.Piece r) = record p { pieces = p.pieces ++ r ∷ [] }
+added p (records.Hist r) = record p { hists = p.hists ++ r ∷ [] }

@@ -9,6 +9,8 @@ use Rattle.wm_spec.specs.declared.record.space.Space.{Space}
 use Rattle.wm_spec.specs.declared.record.version.Version.{Version}
 use Rattle.wm_spec.specs.declared.record.row.RowRecord.{RowRecord}
 use Rattle.wm_spec.specs.declared.record.piece.PieceRecord.{PieceRecord}
+use Rattle.wm_spec.specs.declared.record.savepoint.Savepoint.{Savepoint}
+use Rattle.wm_spec.specs.declared.record.hist.Hist.{Hist}
 use Rattle.wm_spec.specs.declared.record.stored.Stored.{Stored}
 
 pub record Parts : Type 0 where
@@ -16,8 +18,10 @@ pub record Parts : Type 0 where
   pub tables : List Table
   pub spaces : List Space
   pub versions : List Version
+  pub savepoints : List Savepoint
   pub rows : List RowRecord
   pub pieces : List PieceRecord
+  pub hists : List Hist
 
 abbrev pub as_counters : Record → Option Counters
 as_counters (records.Counters r) = Some r
@@ -35,6 +39,10 @@ abbrev pub as_version : Record → Option Version
 as_version (records.Version r) = Some r
 as_version _ = None
 
+abbrev pub as_savepoint : Record → Option Savepoint
+as_savepoint (records.Savepoint r) = Some r
+as_savepoint _ = None
+
 abbrev pub as_row : Record → Option RowRecord
 as_row (records.Row r) = Some r
 as_row _ = None
@@ -43,6 +51,10 @@ abbrev pub as_piece : Record → Option PieceRecord
 as_piece (records.Piece r) = Some r
 as_piece _ = None
 
+abbrev pub as_hist : Record → Option Hist
+as_hist (records.Hist r) = Some r
+as_hist _ = None
+
 -- each kind of record, in the order in which the records stand
 abbrev pub parts_in : List Record → Parts
 parts_in all = record {
@@ -50,8 +62,10 @@ parts_in all = record {
   tables = filter_map as_table all;
   spaces = filter_map as_space all;
   versions = filter_map as_version all;
+  savepoints = filter_map as_savepoint all;
   rows = filter_map as_row all;
   pieces = filter_map as_piece all;
+  hists = filter_map as_hist all;
 }
 
 unfoldable pub parts_of : List Stored → Parts

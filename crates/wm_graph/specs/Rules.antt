@@ -1,6 +1,6 @@
 -- The rules over all records. A store whose records break one is damaged, though each record is in order by itself.
 use Rattle.std.specs.Prelude.{ℕ, ◌+◌, ◌^◌, Bool, true, false, not, ◌&&◌, ◌||◌, ◌==◌, nat_lt, nat_le, if◌then◌else◌, List, [], ◌∷◌, length, slice_get, Option, Some, None, is_some, codes}
-use Rattle.std.specs.List.{list_any, list_all, sum_by}
+use Rattle.std.specs.List.{list_any, list_all, sum_by, count_by}
 use Rattle.std.specs.Option.{option_and_then, option_map_or}
 use Rattle.std.specs.Ordering.{is_eq}
 use Rattle.std.specs.Str.{bytes_eq}
@@ -16,9 +16,11 @@ use Rattle.wm_spec.specs.declared.record.column.ColumnKind.{ColumnKind}
 use Rattle.wm_spec.specs.declared.record.column.ColumnKind.TheVariants as kinds
 use Rattle.wm_spec.specs.declared.record.space.Space.{Space}
 use Rattle.wm_spec.specs.declared.record.version.Version.{Version}
+use Rattle.wm_spec.specs.declared.record.savepoint.Savepoint.{Savepoint}
 use Rattle.wm_spec.specs.declared.record.row.RowRecord.{RowRecord}
 use Rattle.wm_spec.specs.declared.record.cell_range.CellRange.{CellRange}
 use Rattle.wm_spec.specs.declared.record.piece.PieceRecord.{PieceRecord}
+use Rattle.wm_spec.specs.declared.record.hist.Hist.{Hist}
 use Rattle.wm_graph.specs.Parts.{Parts, table_of, space_of, version_of, row_of, has_version}
 
 -- no two of the list are the same
@@ -115,6 +117,39 @@ are_versions p next =
     && (list_all (is_version (space_of p.spaces) (version_of p.versions) next) p.versions
     && list_all (has_versions (has_version p.versions) (version_of p.versions)) p.spaces)
 
+-- ---- savepoints
+
+-- what a workspace sees under its own: a version of its parent, and nothing in LIVE
+abbrev pub is_base_of : (ℕ → Option Version) → ℕ → Space → Bool
+is_base_of versions base s = if s.number == 0 then base == 0 else is_version_of versions base s.parent
+
+-- a savepoint in its workspace: it keeps a version of it, at a place that was given, with no more of the log than there is
+abbrev pub is_saved_in : (ℕ → Option Version) → Savepoint → Space → Bool
+is_saved_in versions x s =
+    (is_version_of versions x.version s.number && is_base_of versions x.base_version s)
+    && (nat_lt x.place s.next_place && nat_le x.log_length s.log_length)
+
+-- a savepoint of a workspace that is there, with a short name; each line that makes one has added to the work
+abbrev pub is_savepoint : (ℕ → Option Space) → (ℕ → Option Version) → ℕ → Savepoint → Bool
+is_savepoint spaces versions work x =
+    (is_short x.name && nat_le x.making (work + 2))
+    && option_map_or (is_saved_in versions x) (spaces x.space) false
+
+-- two savepoints of one name in one workspace
+abbrev pub same_savepoint : Savepoint → Savepoint → Bool
+same_savepoint x y = (x.space == y.space) && bytes_eq x.name y.name
+
+-- a workspace has at most 4,096 savepoints
+abbrev pub has_few : List Savepoint → Space → Bool
+has_few savepoints s = nat_le (count_by (λ (x : Savepoint). x.space == s.number) savepoints) 4096
+
+-- savepoints of different makings, and of different names in one workspace, each in order
+abbrev pub are_savepoints : Parts → ℕ → Bool
+are_savepoints p work =
+    differ (λ (x y : Savepoint). x.making == y.making) p.savepoints
+    && (differ same_savepoint p.savepoints
+    && (list_all (has_few p.savepoints) p.spaces && list_all (is_savepoint (space_of p.spaces) (version_of p.versions) work) p.savepoints))
+
 -- ---- rows
 
 -- the type of a column's values, as values have it
@@ -203,13 +238,34 @@ collide x y =
 abbrev pub are_pieces : Parts → ℕ → Bool
 are_pieces p next = differ collide p.pieces && list_all (is_piece (table_of p.tables) (version_of p.versions) (row_of p.rows) next) p.pieces
 
+-- ---- logs
+
+-- an entry of the log of a workspace that is there, at a position that the log has; a short user, cells of a table and a stamp
+-- that was given; where it is not gone its row is there
+abbrev pub is_hist : (ℕ → Option Table) → (ℕ → Option Space) → (ℕ → Option RowRecord) → ℕ → Hist → Bool
+is_hist tables spaces rows next x =
+    (is_short x.user && option_map_or (λ (s : Space). nat_lt x.position s.log_length) (spaces x.space) false)
+    && (are_cells tables x.cells
+    && (nat_lt x.stamp next && (x.gone || option_map_or (is_row_at tables x.cells) (rows x.stamp) false)))
+
+-- two entries of one log at one position
+abbrev pub same_position : Hist → Hist → Bool
+same_position x y = (x.space == y.space) && (x.position == y.position)
+
+-- entries of different positions, each in order
+abbrev pub are_hists : Parts → ℕ → Bool
+are_hists p next = differ same_position p.hists && list_all (is_hist (table_of p.tables) (space_of p.spaces) (row_of p.rows) next) p.hists
+
 -- ---- all of them
 
 -- what the rules ask of all records but the counters, of which there is one
 abbrev pub keep_rules_with : Parts → List Counters → Bool
 keep_rules_with p (c ∷ []) =
     are_counters c
-    && (are_tables p.tables && (are_spaces p.spaces && (are_versions p c.next_version && (are_rows p c.next_stamp && are_pieces p c.next_stamp))))
+    && (are_tables p.tables
+    && (are_spaces p.spaces
+    && (are_versions p c.next_version
+    && (are_savepoints p c.work && (are_rows p c.next_stamp && (are_pieces p c.next_stamp && are_hists p c.next_stamp))))))
 keep_rules_with p _ = false
 
 -- the records keep every rule

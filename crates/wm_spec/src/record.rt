@@ -4,8 +4,10 @@ pub mod batch;
 pub mod cell_range;
 pub mod column;
 pub mod counters;
+pub mod hist;
 pub mod piece;
 pub mod row;
+pub mod savepoint;
 pub mod space;
 pub mod stored;
 pub mod table;
@@ -15,8 +17,10 @@ pub use batch::{Batch, Change, Changes};
 pub use cell_range::CellRange;
 pub use column::{ColumnKind, TableColumn, TableColumns};
 pub use counters::Counters;
+pub use hist::Hist;
 pub use piece::PieceRecord;
 pub use row::RowRecord;
+pub use savepoint::Savepoint;
 pub use space::{FreezeMode, Space};
 pub use stored::{Records, Stored};
 pub use table::Table;
@@ -29,6 +33,8 @@ pub enum Record {
     Table(Table),
     Space(Space),
     Version(Version),
+    Savepoint(Savepoint),
     Row(RowRecord),
     Piece(PieceRecord),
+    Hist(Hist),
 }
