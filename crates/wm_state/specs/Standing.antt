@@ -1,7 +1,8 @@
 -- Records that stand for a state. The records have one set of pieces, found through the paths of versions; the state has a
 -- whole list for each workspace.
-use Rattle.std.specs.Prelude.{ℕ, ◌≡◌, Bool, true, ◌&&◌, ◌==◌, nat_le, nat_lt, if◌then◌else◌, List, [], ◌∷◌, length, is_none, is_some, Option, None, Some}
+use Rattle.std.specs.Prelude.{ℕ, ◌≡◌, ◌<◌, Bool, true, ◌&&◌, ◌==◌, nat_le, nat_lt, if◌then◌else◌, List, [], ◌∷◌, map, length, is_none, is_some, Option, None, Some}
 use Rattle.std.specs.Bool.{then_some}
+use Rattle.std.specs.List.{filter, find}
 use Rattle.std.specs.Option.{option_or, option_map}
 use Rattle.std.specs.Ordering.{is_eq}
 use Rattle.wm_base.specs.Key.{key_order}
@@ -10,7 +11,7 @@ use Rattle.wm_base.specs.declared.stamp.Stamp.{Stamp}
 use Rattle.wm_graph.specs.Parts.{Parts, row_of, space_of}
 use Rattle.wm_graph.specs.Rules.{keep_rules}
 use Rattle.wm_period.specs.Pieces.{Held}
-use Rattle.wm_spec.specs.Lists.{Cell, Told, told, touched}
+use Rattle.wm_spec.specs.Lists.{Cell, Entry, Told, told, touched}
 use Rattle.wm_spec.specs.declared.record.counters.Counters.{Counters}
 use Rattle.wm_spec.specs.declared.record.piece.PieceRecord.{PieceRecord}
 use Rattle.wm_spec.specs.declared.record.row.RowRecord.{RowRecord}
@@ -20,7 +21,8 @@ use Rattle.wm_spec.specs.declared.record.table.Table.{Table}
 use Rattle.wm_spec.specs.declared.record.version.Version.{Version}
 use Rattle.wm_tree.specs.Versions.{grow, latest_in}
 use Rattle.wm_tree.specs.declared.version.Version.{Version as Node}
-use Rattle.wm_state.specs.State.{State, Workspace, content, workspace_of}
+use Rattle.wm_spec.specs.declared.record.savepoint.Savepoint.{Savepoint as Record}
+use Rattle.wm_state.specs.State.{State, Workspace, Savepoint, content, kept, workspace_of, savepoint_made, savepoints_of}
 
 -- ---- what versions hold
 
@@ -75,6 +77,14 @@ shown p space c = seen_at p.pieces (newest_first p.versions) (latest p space) c
 -- what the newest version of a workspace holds at a cell above a base
 abbrev pub owned : Parts → ℕ → ℕ → Cell → Option Held
 owned p base space c = own_at p.pieces (newest_first p.versions) base (latest p space) c
+
+-- what a version holds at a cell
+abbrev pub seen : Parts → ℕ → Cell → Option Held
+seen p version c = seen_at p.pieces (newest_first p.versions) version c
+
+-- what a version holds at a cell above a base
+abbrev pub seen_above : Parts → ℕ → ℕ → Cell → Option Held
+seen_above p base version c = own_at p.pieces (newest_first p.versions) base version c
 
 -- ---- the clauses
 
@@ -131,6 +141,58 @@ abbrev pub by_number : List Table → List Table
 by_number [] = []
 by_number (t ∷ ts) = place_table t (by_number ts)
 
+-- what the record of a savepoint and the savepoint itself have in common
+pub record SavepointFields : Type 0 where
+  pub making : ℕ
+  pub name : List ℕ
+  pub implicit : Bool
+  pub place : ℕ
+  pub moment : ℕ
+  pub from : ℕ
+  pub log_length : ℕ
+  pub rebases : ℕ
+
+abbrev pub saved_fields : Record → SavepointFields
+saved_fields x = record {
+  making = x.making;
+  name = x.name;
+  implicit = x.implicit;
+  place = x.place;
+  moment = x.moment;
+  from = x.from;
+  log_length = x.log_length;
+  rebases = x.rebases;
+}
+
+abbrev pub fields_saved : Savepoint → SavepointFields
+fields_saved k = record {
+  making = k.making;
+  name = k.name;
+  implicit = k.implicit;
+  place = k.place;
+  moment = k.moment;
+  from = k.from;
+  log_length = k.log_length;
+  rebases = k.rebases;
+}
+
+-- records of savepoints by making
+abbrev pub place_making : Record → List Record → List Record
+place_making x [] = x ∷ []
+place_making x (y ∷ ys) = if nat_lt y.making x.making then y ∷ place_making x ys else x ∷ y ∷ ys
+
+abbrev pub by_making : List Record → List Record
+by_making [] = []
+by_making (x ∷ xs) = place_making x (by_making xs)
+
+-- the records of the savepoints of a workspace, by making
+abbrev pub saved_in : Parts → ℕ → List Record
+saved_in p n = by_making (filter (λ (x : Record). x.space == n) p.savepoints)
+
+-- the record of the savepoint of a workspace and a making
+abbrev pub saved_as : Parts → ℕ → ℕ → Option Record
+saved_as p n making = find (λ (x : Record). (x.space == n) && (x.making == making)) p.savepoints
+
 -- the one record of counters says what the state counts
 pub record CountersStand (p : Parts) (s : State) : Type 0 where
   pub counters : Counters
@@ -156,10 +218,36 @@ pub record LatestStand (p : Parts) (s : State) : Type 0 where
 pub record OwnStand (p : Parts) (s : State) : Type 0 where
   pub covered : (n : ℕ) (w : Workspace) (r : Space) → workspace_of s.spaces n ≡ Some w → space_of p.spaces n ≡ Some r → (c : Cell) → is_some (owned p r.base_version n c) ≡ touched w.lists.own c
 
--- the row of each entry that a workspace holds at a cell stands under its stamp
+-- the records of the savepoints of each workspace, by making, have the fields of its savepoints
+pub record SavepointsStand (p : Parts) (s : State) : Type 0 where
+  pub same : (n : ℕ) → map saved_fields (saved_in p n) ≡ map fields_saved (savepoints_of s.spaces n)
+
+-- the version of a savepoint holds at each cell what stood there
+pub record KeptStand (p : Parts) (s : State) : Type 0 where
+  pub told : (n making : ℕ) (w : Workspace) (k : Savepoint) (x : Record) → workspace_of s.spaces n ≡ Some w → savepoint_made making w.savepoints ≡ Some k → saved_as p n making ≡ Some x
+      → (c : Cell) → seen p x.version c ≡ option_map held_of (told (kept k) c)
+
+-- what stands above its base covers the cells of the workspace's own changes there, where the workspace was not rebased since
+pub record KeptOwnStand (p : Parts) (s : State) : Type 0 where
+  pub covered : (n making : ℕ) (w : Workspace) (k : Savepoint) (x : Record) → workspace_of s.spaces n ≡ Some w → savepoint_made making w.savepoints ≡ Some k → saved_as p n making ≡ Some x
+      → k.rebases ≡ w.rebases → (c : Cell) → is_some (seen_above p x.base_version x.version c) ≡ touched k.own c
+
+-- in a workspace with a parent, the versions that it was born from and that it sees under its own hold at each cell what it was born
+-- with, and its copy of its parent's content
+pub record BasesStand (p : Parts) (s : State) : Type 0 where
+  pub birth : (n : ℕ) (w : Workspace) (r : Space) → 0 < n → workspace_of s.spaces n ≡ Some w → space_of p.spaces n ≡ Some r → (c : Cell) → seen p r.birth_version c ≡ option_map held_of (told w.lists.at_birth c)
+  pub base : (n : ℕ) (w : Workspace) (r : Space) → 0 < n → workspace_of s.spaces n ≡ Some w → space_of p.spaces n ≡ Some r → (c : Cell) → seen p r.base_version c ≡ option_map held_of (told w.lists.base c)
+
+-- the row of each entry that a list holds at a cell stands under its stamp
+abbrev pub HasRows : Parts → List Entry → Type 0
+HasRows p es = (c : Cell) (t : Told) (row : Row) → told es c ≡ Some t → t.row ≡ Some row → option_map (λ (r : RowRecord). r.values) (row_of p.rows t.stamp) ≡ Some row.values
+
+-- so it is of each list that a workspace or a savepoint has
 pub record RowsStand (p : Parts) (s : State) : Type 0 where
-  pub there : (n : ℕ) (w : Workspace) → workspace_of s.spaces n ≡ Some w → (c : Cell) (t : Told) (row : Row) → told (content w) c ≡ Some t → t.row ≡ Some row
-      → option_map (λ (r : RowRecord). r.values) (row_of p.rows t.stamp) ≡ Some row.values
+  pub there : (n : ℕ) (w : Workspace) → workspace_of s.spaces n ≡ Some w → HasRows p (content w)
+  pub births : (n : ℕ) (w : Workspace) → workspace_of s.spaces n ≡ Some w → HasRows p w.lists.at_birth
+  pub bases : (n : ℕ) (w : Workspace) → workspace_of s.spaces n ≡ Some w → HasRows p w.lists.base
+  pub saved : (n making : ℕ) (w : Workspace) (k : Savepoint) → workspace_of s.spaces n ≡ Some w → savepoint_made making w.savepoints ≡ Some k → HasRows p (kept k)
 
 -- the records keep every rule and stand for the state
 pub record Stands (p : Parts) (s : State) : Type 0 where
@@ -169,4 +257,8 @@ pub record Stands (p : Parts) (s : State) : Type 0 where
   pub spaces : SpacesStand p s
   pub latest : LatestStand p s
   pub own : OwnStand p s
+  pub savepoints : SavepointsStand p s
+  pub kept : KeptStand p s
+  pub kept_own : KeptOwnStand p s
+  pub bases : BasesStand p s
   pub rows : RowsStand p s

@@ -1,5 +1,5 @@
 -- The state between two lines. Each workspace has whole lists of its own: no version, no piece, no page is known here.
-use Rattle.std.specs.Prelude.{ℕ, true, ◌==◌, if◌then◌else◌, List, [], ◌∷◌, ◌++◌, max, length, Option, Some, None, codes}
+use Rattle.std.specs.Prelude.{ℕ, Bool, true, ◌==◌, if◌then◌else◌, List, [], ◌∷◌, ◌++◌, max, length, Option, Some, None, codes}
 use Rattle.std.specs.List.{find}
 use Rattle.wm_spec.specs.Lists.{Entry}
 use Rattle.wm_spec.specs.declared.record.space.FreezeMode.{FreezeMode}
@@ -14,7 +14,22 @@ pub record Contents : Type 0 where
   pub own : List Entry
   pub log : List Entry
 
--- parent is 0 in LIVE, whose number is 0; from: the length of the parent's log when base was taken
+-- what stood in a workspace at a place: its copy of its parent's content and its own changes, and what was counted of it there.
+-- making: which savepoint of the store it is; implicit: it was made for a workspace that was born there; moment: when its
+-- place was made; from, log_length, rebases: those of the workspace there
+pub record Savepoint : Type 0 where
+  pub making : ℕ
+  pub name : List ℕ
+  pub implicit : Bool
+  pub place : ℕ
+  pub moment : ℕ
+  pub base : List Entry
+  pub own : List Entry
+  pub from : ℕ
+  pub log_length : ℕ
+  pub rebases : ℕ
+
+-- parent is 0 in LIVE, whose number is 0; from: the length of the parent's log when base was taken; savepoints: by making
 pub record Workspace : Type 0 where
   pub number : ℕ
   pub name : List ℕ
@@ -28,10 +43,19 @@ pub record Workspace : Type 0 where
   pub next_implicit : ℕ
   pub freeze : FreezeMode
   pub writer : List ℕ
+  pub savepoints : List Savepoint
 
+-- where a session stands in its workspace: at what is newest, or at the savepoint of this making
+pub data Stand : Type 0 where
+  Latest : Stand
+  At : (making : ℕ) → Stand
+
+-- space: the number of its workspace
 pub record Session : Type 0 where
   pub name : List ℕ
   pub user : List ℕ
+  pub space : ℕ
+  pub stand : Stand
 
 -- tables in the order of their making; workspaces by number; sessions in the order of CONNECT; next_stamp: the stamp that the
 -- next change gets; limit: the greatest stamp that a change may get; last_moment: that of the last line that changed a
@@ -49,6 +73,10 @@ pub record State : Type 0 where
 -- what stands in a workspace
 abbrev pub content : Workspace → List Entry
 content w = w.lists.base ++ w.lists.own
+
+-- what stood in a workspace at a savepoint
+abbrev pub kept : Savepoint → List Entry
+kept k = k.base ++ k.own
 
 -- a workspace with nothing in it, as LIVE is in a fresh store
 abbrev pub empty_lists : Contents
@@ -68,6 +96,7 @@ fresh_live = record {
   next_implicit = 1;
   freeze = Free;
   writer = [];
+  savepoints = [];
 }
 
 -- a store that takes this many changes, before its first line
@@ -92,6 +121,27 @@ workspace_of spaces number = find (λ (w : Workspace). w.number == number) space
 abbrev pub with_space : ℕ → (Workspace → Workspace) → List Workspace → List Workspace
 with_space number act [] = []
 with_space number act (w ∷ ws) = if w.number == number then act w ∷ ws else w ∷ with_space number act ws
+
+-- the savepoint of a making
+abbrev pub savepoint_made : ℕ → List Savepoint → Option Savepoint
+savepoint_made making ks = find (λ (k : Savepoint). k.making == making) ks
+
+-- what a session reads that stands so in a workspace
+abbrev pub seen_from : Workspace → Stand → List Entry
+seen_from w Latest = content w
+seen_from w (At making) = of (savepoint_made making w.savepoints)
+  where
+    of : Option Savepoint → List Entry
+    of None = []
+    of (Some k) = kept k
+
+-- the savepoints of the workspace of this number
+abbrev pub savepoints_of : List Workspace → ℕ → List Savepoint
+savepoints_of spaces number = of (workspace_of spaces number)
+  where
+    of : Option Workspace → List Savepoint
+    of None = []
+    of (Some w) = w.savepoints
 
 -- the content of the workspace of this number
 abbrev pub content_of : List Workspace → ℕ → List Entry
