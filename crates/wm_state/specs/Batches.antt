@@ -12,6 +12,7 @@ use Rattle.wm_spec.specs.declared.record.batch.Change.{Change}
 use Rattle.wm_spec.specs.declared.record.counters.Counters.{Counters}
 use Rattle.wm_spec.specs.declared.record.piece.PieceRecord.{PieceRecord}
 use Rattle.wm_spec.specs.declared.record.row.RowRecord.{RowRecord}
+use Rattle.wm_spec.specs.declared.record.savepoint.Savepoint.{Savepoint}
 use Rattle.wm_spec.specs.declared.record.space.Space.{Space}
 use Rattle.wm_spec.specs.declared.record.version.Version.{Version}
 use Rattle.wm_spec.specs.declared.record.table.Table.{Table}
@@ -29,12 +30,12 @@ drop_one id = let nothing : Option Record = None in record { id = id; becomes = 
 abbrev pub create_batch : ℕ → Counters → ℕ → Table → List Change
 create_batch counters_id counters id t = put counters_id (records.Counters counters) ∷ put id (records.Table t) ∷ []
 
--- a table becomes ready for rows
-abbrev pub ready : Table → Table
-ready t = record t { versioned = true }
+-- a table becomes ready for rows, and keeps its history or does not
+abbrev pub ready : Bool → Table → Table
+ready history t = record t { versioned = true; history = history }
 
-abbrev pub enable_batch : ℕ → Counters → ℕ → Table → List Change
-enable_batch counters_id counters id t = put counters_id (records.Counters counters) ∷ put id (records.Table (ready t)) ∷ []
+abbrev pub enable_batch : ℕ → Counters → ℕ → Bool → Table → List Change
+enable_batch counters_id counters id history t = put counters_id (records.Counters counters) ∷ put id (records.Table (ready history t)) ∷ []
 
 -- a row is written, with its piece in the place of those of its version, table and key; the workspace's log is longer
 abbrev pub insert_batch : ℕ → Counters → ℕ → Space → List ℕ → ℕ → RowRecord → PieceRecord → List Change
@@ -50,6 +51,17 @@ fork_batch counters_id counters id version = put counters_id (records.Counters c
 abbrev pub insert_new_batch : ℕ → Counters → ℕ → Space → ℕ → Version → RowRecord → PieceRecord → List Change
 insert_new_batch counters_id counters space_id space id version row piece =
     insert_batch counters_id counters space_id space [] (id + 1) row piece ++ put id (records.Version version) ∷ []
+
+-- a savepoint is made; the workspace's record has counted it
+abbrev pub savepoint_batch : ℕ → Counters → ℕ → Space → ℕ → Savepoint → List Change
+savepoint_batch counters_id counters space_id space id x =
+    put counters_id (records.Counters counters) ∷ put space_id (records.Space space) ∷ put id (records.Savepoint x) ∷ []
+
+-- a workspace is born at a savepoint that is made for it, with a version of its own
+abbrev pub birth_batch : ℕ → Counters → ℕ → Space → ℕ → Savepoint → Space → Version → List Change
+birth_batch counters_id counters space_id space id x child version =
+    savepoint_batch counters_id counters space_id space id x
+    ++ put (id + 1) (records.Space child) ∷ put (id + 2) (records.Version version) ∷ []
 
 -- ---- what goes, and where new records come
 

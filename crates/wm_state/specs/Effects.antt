@@ -1,5 +1,6 @@
 -- What becomes of the records, told by what is looked up in them.
-use Rattle.std.specs.Prelude.{ℕ, ◌≡◌, ◌+◌, ◌<◌, Bool, true, false, ◌==◌, if◌then◌else◌, List, [], ◌∷◌, Some, None, is_some}
+use Rattle.std.specs.Prelude.{ℕ, ◌≡◌, ◌+◌, ◌<◌, Bool, true, false, ◌==◌, nat_lt, if◌then◌else◌, List, [], ◌∷◌, ◌++◌, Some, None, is_some}
+use Rattle.std.specs.List.{list_all}
 use Rattle.std.specs.Bool.{then_some}
 use Rattle.std.specs.Option.{option_or, option_map}
 use Rattle.wm_graph.specs.Parts.{Parts, row_of, space_of}
@@ -9,7 +10,8 @@ use Rattle.wm_spec.specs.declared.record.row.RowRecord.{RowRecord}
 use Rattle.wm_spec.specs.declared.record.space.Space.{Space}
 use Rattle.wm_tree.specs.Versions.{AllBelow}
 use Rattle.wm_tree.specs.declared.version.Version.{Version as Node}
-use Rattle.wm_state.specs.Standing.{held_of, stored_at, newest_first, latest}
+use Rattle.wm_spec.specs.declared.record.savepoint.Savepoint.{Savepoint}
+use Rattle.wm_state.specs.Standing.{held_of, stored_at, newest_first, latest, saved_as}
 
 -- no version stands under this one
 abbrev pub IsLeaf : ℕ → List Node → Type 0
@@ -36,12 +38,21 @@ pub record IsApart (p : Parts) (n : ℕ) : Type 0 where
   pub others : (m : ℕ) → (m == n) ≡ false → is_some (space_of p.spaces m) ≡ true → (latest p m == latest p n) ≡ false
   pub above : (r : Space) → space_of p.spaces n ≡ Some r → (latest p n == r.base_version) ≡ false
 
--- an entry was written into the newest version of a workspace, which nothing stands under, and its row beside the others
+-- no savepoint keeps the version, and no workspace with a parent was born from it or sees it under its own
+pub record IsFree (p : Parts) (version : ℕ) : Type 0 where
+  pub kept : (n making : ℕ) (x : Savepoint) → saved_as p n making ≡ Some x → (x.version == version) ≡ false
+  pub births : (n : ℕ) (r : Space) → 0 < n → space_of p.spaces n ≡ Some r → (r.birth_version == version) ≡ false
+  pub bases : (n : ℕ) (r : Space) → 0 < n → space_of p.spaces n ≡ Some r → (r.base_version == version) ≡ false
+
+-- an entry was written into the newest version of a workspace, which nothing stands under and nothing names, and its row beside
+-- the others
 pub record Wrote (p q : Parts) (n : ℕ) (e : Entry) : Type 0 where
   pub leaf : IsLeaf (latest p n) (newest_first p.versions)
+  pub free : IsFree p (latest p n)
   pub apart : IsApart p n
   pub tables : q.tables ≡ p.tables
   pub versions : q.versions ≡ p.versions
+  pub savepoints : q.savepoints ≡ p.savepoints
   pub here : space_of q.spaces n ≡ option_map longer (space_of p.spaces n)
   pub elsewhere : (m : ℕ) → (m == n) ≡ false → space_of q.spaces m ≡ space_of p.spaces m
   pub pieces : AreLaid (latest p n) e p.pieces q.pieces
@@ -61,5 +72,39 @@ pub record Forked (p q : Parts) (n number : ℕ) : Type 0 where
   pub empty : (c : Cell) → stored_at p.pieces number c ≡ None
   pub tables : q.tables ≡ p.tables
   pub spaces : q.spaces ≡ p.spaces
+  pub savepoints : q.savepoints ≡ p.savepoints
+  pub rows : q.rows ≡ p.rows
+  pub pieces : q.pieces ≡ p.pieces
+
+-- the workspace's record, the next place and the next number of an implicit savepoint being these
+abbrev pub marked : ℕ → ℕ → Space → Space
+marked place implicit s = record s { next_place = place; next_implicit = implicit }
+
+-- a workspace has a savepoint more, which was made after all others; but for counters all else is as it was
+pub record Saved (p q : Parts) (n place implicit : ℕ) (x : Savepoint) : Type 0 where
+  pub space : x.space ≡ n
+  pub after : list_all (λ (y : Savepoint). nat_lt y.making x.making) p.savepoints ≡ true
+  pub savepoints : q.savepoints ≡ p.savepoints ++ x ∷ []
+  pub here : space_of q.spaces n ≡ option_map (marked place implicit) (space_of p.spaces n)
+  pub elsewhere : (m : ℕ) → (m == n) ≡ false → space_of q.spaces m ≡ space_of p.spaces m
+  pub tables : q.tables ≡ p.tables
+  pub versions : q.versions ≡ p.versions
+  pub rows : q.rows ≡ p.rows
+  pub pieces : q.pieces ≡ p.pieces
+
+-- a workspace is born, with a version of this number of its own under the one that it is born from; but for counters all else is as
+-- it was
+pub record Born (p q : Parts) (r : Space) (number : ℕ) : Type 0 where
+  pub child : 0 < r.number
+  pub none : space_of p.spaces r.number ≡ None
+  pub unsaved : (x : Savepoint) (making : ℕ) → saved_as p r.number making ≡ Some x → ⊥
+  pub from : r.birth_version ≡ r.base_version
+  pub there : is_there r.base_version (newest_first p.versions) ≡ true
+  pub below : AllBelow number (newest_first p.versions)
+  pub versions : newest_first q.versions ≡ record { number = number; space = r.number; parent = r.base_version } ∷ newest_first p.versions
+  pub empty : (c : Cell) → stored_at p.pieces number c ≡ None
+  pub spaces : (m : ℕ) → space_of q.spaces m ≡ (if m == r.number then Some r else space_of p.spaces m)
+  pub tables : q.tables ≡ p.tables
+  pub savepoints : q.savepoints ≡ p.savepoints
   pub rows : q.rows ≡ p.rows
   pub pieces : q.pieces ≡ p.pieces

@@ -163,7 +163,12 @@ log_length spaces number = of (workspace_of spaces number)
 abbrev pub with_entries : List Entry → Workspace → Workspace
 with_entries es w = record w { lists = record w.lists { own = w.lists.own ++ es; log = w.lists.log ++ es } }
 
--- the tables with the one of this number ready for rows
-abbrev pub enabled : ℕ → List Table → List Table
-enabled number [] = []
-enabled number (t ∷ ts) = if t.number == number then record t { versioned = true } ∷ ts else t ∷ enabled number ts
+-- a workspace with a savepoint more, the next place and the next number of an implicit savepoint being these
+abbrev pub with_savepoint : ℕ → ℕ → Savepoint → Workspace → Workspace
+with_savepoint place implicit k w = record w { next_place = place; next_implicit = implicit; savepoints = w.savepoints ++ k ∷ [] }
+
+-- the tables with the one of this number ready for rows, with or without its history
+abbrev pub enabled : ℕ → Bool → List Table → List Table
+enabled number history [] = []
+enabled number history (t ∷ ts) =
+    if t.number == number then record t { versioned = true; history = history } ∷ ts else t ∷ enabled number history ts
