@@ -2,7 +2,7 @@
 -- was before, or holds of itself. A law a clause: SpacesStand-frame, LatestStand-frame, OwnStand-frame, SavepointsStand-frame,
 -- KeptStand-frame, KeptOwnStand-frame, BasesStand-frame, RowsStand-frame; the records Shown, Owned, Point and Base say that a look-up
 -- is as before. Where no savepoint and no workspace is new, the record Framed gives the last five: SavepointsStand-framed and so on.
-use Rattle.std.proofs.Common.{◌≡◌, ℕ, ◌<◌, ◌==◌, ◌&&◌, List, map, Option, Some, None, is_some, refl, sym, ap, ◌∙◌, ◌⊎◌, inl, inr, ⊎_elim}
+use Rattle.std.proofs.Common.{◌≡◌, ℕ, ◌<◌, ◌==◌, ◌&&◌, List, [], map, Option, Some, None, is_some, refl, sym, ap, ◌∙◌, ◌⊎◌, inl, inr, ⊎_elim}
 use Rattle.std.specs.List.{filter, find}
 use Rattle.std.specs.Option.{option_map}
 use Rattle.wm_base.specs.declared.row.Row.{Row}
@@ -55,6 +55,13 @@ OwnStand-frame p q s t each stand = record {
 }
 
 -- ---- savepoints
+
+-- the savepoints of a number are those of its workspace
+pub savepoints_of-found : (ws : List Workspace) (n : ℕ) (w : Workspace) → workspace_of ws n ≡ Some w → savepoints_of ws n ≡ w.savepoints
+savepoints_of-found ws n w found = rw found refl
+
+pub savepoints_of-none : (ws : List Workspace) (n : ℕ) → workspace_of ws n ≡ None → savepoints_of ws n ≡ []
+savepoints_of-none ws n none = rw none refl
 
 -- the savepoints of a workspace and their records are those of before
 pub record Points (p q : Parts) (s t : State) (n : ℕ) : Type 0 where
