@@ -1,5 +1,5 @@
 -- The records with one table ready for rows.
-use Rattle.std.proofs.Common.{◌≡◌, ◌≢◌, ℕ, ◌≤◌, ◌==◌, nat_lt, nat_le, Bool, true, false, not, ◌&&◌, cond, if◌then◌else◌, List, [], ◌∷◌, ◌++◌, Option, Some, None, refl, sym, ap, ◌∙◌, ◌⊎◌, inl, inr, length, length-append, arith}
+use Rattle.std.proofs.Common.{◌≡◌, ◌≢◌, ℕ, ◌≤◌, ◌==◌, nat_lt, nat_le, Bool, true, false, not, ◌&&◌, cond, if◌then◌else◌, List, [], ◌∷◌, ◌++◌, refl, sym, ap, ◌∙◌, ◌⊎◌, inl, inr, length, length-append}
 use Rattle.std.proofs.lemmas.Bool.{cases_eq, eq-eqb, ne_eqb}
 use Rattle.std.specs.List.{list_all, list_any}
 use Rattle.std.specs.Str.{bytes_eq}
@@ -10,7 +10,7 @@ use Rattle.wm_spec.specs.declared.record.table.Table.{Table}
 use Rattle.wm_state.specs.State.{State, enabled}
 use Rattle.wm_state.specs.Batches.{ready}
 use Rattle.wm_state.specs.Standing.{by_number, place_table, CountersStand, Stands}
-use Rattle.wm_state.proofs.Tests.{bool_apart, both, and_true, not_true, either_false, all_if, all_swap, all_middle, differ_swap, find_swap}
+use Rattle.wm_state.proofs.Tests.{bool_apart, both, and_true, not_true, either_false, all_swap, all_middle, differ_swap}
 use Rattle.wm_state.proofs.Apart.{Ruled, ruled, keeps_all}
 use Rattle.wm_state.proofs.Standing.{Stands-retabled}
 use Rattle.wm_state.proofs.Keeping.{le_of, le_itself, KeepTables, KeepTables-swap, KeepSpaces-same, KeepVersions-same, KeepRows-same, are_savepoints-kept, are_rows-kept, are_pieces-kept, are_hists-kept, few-same}

@@ -3,7 +3,6 @@ use Rattle.std.proofs.Common.{◌≡◌, ℕ, ◌<◌, ◌==◌, nat_lt, nat_le,
 use Rattle.std.proofs.lemmas.Bool.{eqb-true}
 use Rattle.std.specs.List.{list_all}
 use Rattle.std.specs.Option.{option_map, option_map_or}
-use Rattle.std.specs.Str.{bytes_eq}
 use Rattle.wm_graph.specs.Parts.{Parts, space_of, version_of, has_version}
 use Rattle.wm_graph.specs.Rules.{keep_rules, is_version, is_version_of, has_versions, is_base_of, is_short, is_saved_in, is_savepoint, same_savepoint, has_few, are_savepoints, differ}
 use Rattle.wm_spec.specs.declared.record.savepoint.Savepoint.{Savepoint}
@@ -15,7 +14,7 @@ use Rattle.wm_state.specs.Standing.{node_of, newest_first, saved_as}
 use Rattle.wm_state.specs.Effects.{is_there}
 use Rattle.wm_state.proofs.Tests.{bool_apart, both}
 use Rattle.wm_state.proofs.Newest.{version_in-newest}
-use Rattle.wm_state.proofs.Apart.{Ruled, ruled, RuledVersions, ruled_versions, found-passes}
+use Rattle.wm_state.proofs.Apart.{ruled, RuledVersions, ruled_versions, found-passes}
 
 -- ---- savepoints
 
