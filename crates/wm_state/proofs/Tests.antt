@@ -1,5 +1,5 @@
 -- Tests over lists that gain an element, lose some, or have one in the place of another.
-use Rattle.std.proofs.Common.{◌≡◌, Bool, true, false, not, ◌&&◌, ◌||◌, cond, List, [], ◌∷◌, ◌++◌, Option, Some, None, is_some, refl, sym, ap, ◌∙◌}
+use Rattle.std.proofs.Common.{◌≡◌, Bool, true, false, not, ◌&&◌, ◌||◌, cond, List, [], ◌∷◌, ◌++◌, Option, Some, None, is_some, refl, sym, ap, ◌∙◌, ◌⊎◌, inl, inr, ⊎_elim}
 use Rattle.std.specs.List.{list_all, list_any, filter, find}
 use Rattle.std.specs.Option.{option_map_or}
 use Rattle.wm_graph.specs.Rules.{differ}
@@ -122,6 +122,27 @@ find_swap P f d a b same like (x ∷ front) back = by_test (P x) (find_swap P f 
     by_test true rest = refl
     by_test false rest = rest
 
+-- what is found is found still, or is the one in whose place another is found
+pub find_swapped : {A : Type 0} (P : A → Bool) (a b : A) → P b ≡ P a → (front back : List A) (x : A) → find P (front ++ a ∷ back) ≡ Some x
+    → (find P (front ++ b ∷ back) ≡ Some x) ⊎ ((x ≡ a) × (find P (front ++ b ∷ back) ≡ Some b))
+find_swapped {A = A} P a b same [] back x found = by_test (P a) refl
+  where
+    some_same : (y z : A) → Some y ≡ Some z → y ≡ z
+    some_same y z h = cc
+
+    by_test : (t : Bool) → P a ≡ t → (cond (P b) (Some b) (find P back) ≡ Some x) ⊎ ((x ≡ a) × (cond (P b) (Some b) (find P back) ≡ Some b))
+    by_test true e = inr (sym (some_same a x (sym (ap (λ t. cond t (Some a) (find P back)) e) ∙ found)), ap (λ t. cond t (Some b) (find P back)) (same ∙ e))
+    by_test false e = inl (ap (λ t. cond t (Some b) (find P back)) (same ∙ e) ∙ sym (ap (λ t. cond t (Some a) (find P back)) e) ∙ found)
+find_swapped {A = A} P a b same (y ∷ front) back x found = by_test (P y) refl (find_swapped P a b same front back x)
+  where
+    by_test : (t : Bool) → P y ≡ t → (find P (front ++ a ∷ back) ≡ Some x → (find P (front ++ b ∷ back) ≡ Some x) ⊎ ((x ≡ a) × (find P (front ++ b ∷ back) ≡ Some b)))
+        → (cond (P y) (Some y) (find P (front ++ b ∷ back)) ≡ Some x) ⊎ ((x ≡ a) × (cond (P y) (Some y) (find P (front ++ b ∷ back)) ≡ Some b))
+    by_test true e rest = inl (ap (λ t. cond t (Some y) (find P (front ++ b ∷ back))) e ∙ sym (ap (λ t. cond t (Some y) (find P (front ++ a ∷ back))) e) ∙ found)
+    by_test false e rest = ⊎_elim
+        (λ h. inl (ap (λ t. cond t (Some y) (find P (front ++ b ∷ back))) e ∙ h))
+        (λ h. inr (h.0, ap (λ t. cond t (Some y) (find P (front ++ b ∷ back))) e ∙ h.1))
+        (rest (sym (ap (λ t. cond t (Some y) (find P (front ++ a ∷ back))) e) ∙ found))
+
 -- what was found is found with one more behind
 pub find_push : {A : Type 0} (P : A → Bool) (xs : List A) (x y : A) → find P xs ≡ Some y → find P (xs ++ x ∷ []) ≡ Some y
 find_push P [] x y e = cc
@@ -135,6 +156,18 @@ find_push P (z ∷ zs) x y e = by_test (P z) refl (find_push P zs x y)
 pub find_new : {A : Type 0} (P : A → Bool) (xs : List A) (x : A) → list_any P xs ≡ false → P x ≡ true → find P (xs ++ x ∷ []) ≡ Some x
 find_new P [] x none is = rw is refl
 find_new P (y ∷ ys) x none is = let h = either_false (P y) (list_any P ys) none in rw h.0 (find_new P ys x h.1 is)
+
+-- what is found fails a test that nothing of the list passes
+pub found_fails : {A : Type 0} (P Q : A → Bool) (xs : List A) (x : A) → find P xs ≡ Some x → list_any Q xs ≡ false → Q x ≡ false
+found_fails P Q [] x e none = cc
+found_fails {A = A} P Q (y ∷ ys) x e none = by_test (P y) refl (either_false (Q y) (list_any Q ys) none) (found_fails P Q ys x)
+  where
+    some_same : (a b : A) → Some a ≡ Some b → a ≡ b
+    some_same a b h = cc
+
+    by_test : (t : Bool) → P y ≡ t → (Q y ≡ false) × (list_any Q ys ≡ false) → (find P ys ≡ Some x → list_any Q ys ≡ false → Q x ≡ false) → Q x ≡ false
+    by_test true h q rest = ap Q (sym (some_same y x (sym (ap (λ t. cond t (Some y) (find P ys)) h) ∙ e))) ∙ q.0
+    by_test false h q rest = rest (sym (ap (λ t. cond t (Some y) (find P ys)) h) ∙ e) q.1
 
 -- nothing of a list passes a test that fails where another is passed
 pub none_if : {A : Type 0} (P Q : A → Bool) → ((x : A) → P x ≡ true → Q x ≡ false) → (xs : List A) → list_all P xs ≡ true → list_any Q xs ≡ false
