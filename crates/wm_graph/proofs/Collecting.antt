@@ -3,7 +3,7 @@ use Rattle.std.proofs.Common.{◌≡◌, ℕ, ◌+◌, ◌<◌, ◌≤◌, List,
 use Rattle.std.proofs.lemmas.List.{take_more, map-append, append-nil, take_all}
 use Rattle.std.proofs.lemmas.List.Elements.{filter_map-append}
 use Rattle.wm_graph.specs.Lookups.{added}
-use Rattle.wm_graph.specs.Parts.{Parts, parts_in, parts_of, as_counters, as_table, as_space, as_version, as_row, as_piece}
+use Rattle.wm_graph.specs.Parts.{Parts, parts_in, parts_of, as_counters, as_table, as_space, as_version, as_savepoint, as_row, as_piece, as_hist}
 use Rattle.wm_spec.specs.declared.record.Record.{Record}
 use Rattle.wm_spec.specs.declared.record.Record.TheVariants as records
 use Rattle.wm_spec.specs.declared.record.stored.Stored.{Stored}
@@ -15,14 +15,16 @@ joined p q = record {
   tables = p.tables ++ q.tables;
   spaces = p.spaces ++ q.spaces;
   versions = p.versions ++ q.versions;
+  savepoints = p.savepoints ++ q.savepoints;
   rows = p.rows ++ q.rows;
   pieces = p.pieces ++ q.pieces;
+  hists = p.hists ++ q.hists;
 }
 
 -- one more record, kind by kind
 parts_last : (xs : List Record) (x : Record) → parts_in (xs ++ x ∷ []) ≡ added (parts_in xs) x
 parts_last xs x =
-    simp (filter_map-append as_counters xs (x ∷ []), filter_map-append as_table xs (x ∷ []), filter_map-append as_space xs (x ∷ []), filter_map-append as_version xs (x ∷ []), filter_map-append as_row xs (x ∷ []), filter_map-append as_piece xs (x ∷ []))
+    simp (filter_map-append as_counters xs (x ∷ []), filter_map-append as_table xs (x ∷ []), filter_map-append as_space xs (x ∷ []), filter_map-append as_version xs (x ∷ []), filter_map-append as_savepoint xs (x ∷ []), filter_map-append as_row xs (x ∷ []), filter_map-append as_piece xs (x ∷ []), filter_map-append as_hist xs (x ∷ []))
     (of x)
   where
     of : (y : Record) → joined (parts_in xs) (parts_in (y ∷ [])) ≡ added (parts_in xs) y
@@ -30,8 +32,10 @@ parts_last xs x =
     of (records.Table r) = simp append-nil
     of (records.Space r) = simp append-nil
     of (records.Version r) = simp append-nil
+    of (records.Savepoint r) = simp append-nil
     of (records.Row r) = simp append-nil
     of (records.Piece r) = simp append-nil
+    of (records.Hist r) = simp append-nil
 
 -- a turn of the loop over the records
 pub collected_more : (stored : List Stored) (i : ℕ) (x : Stored) (old new : Parts) → i < length stored → x ≡ get_or stored i x → old ≡ parts_in (map (λ (s : Stored). s.record) (take i stored)) → new ≡ added old x.record → new ≡ parts_in (map (λ (s : Stored). s.record) (take (i + 1) stored))

@@ -33,7 +33,7 @@ abbrev beginning : ℕ → Version
 beginning parent = record { number = 1; space = 0; parent = parent }
 
 abbrev fresh : ℕ → ℕ → ℕ → Parts
-fresh limit place parent = record { counters = counted limit ∷ []; tables = []; spaces = root place ∷ []; versions = beginning parent ∷ []; rows = []; pieces = [] }
+fresh limit place parent = record { counters = counted limit ∷ []; tables = []; spaces = root place ∷ []; versions = beginning parent ∷ []; savepoints = []; rows = []; pieces = []; hists = [] }
 
 a_fresh_store : keep_rules (fresh 1000 1 0) ≡ true
 unfolding keep_rules

@@ -6,7 +6,9 @@ ghost use Rattle.wm_graph.specs.Parts.{parts_in, parts_of};
 
 use std::alloc::Global;
 use wm_base::Memory;
-use wm_spec::record::{Counters, PieceRecord, Record, RowRecord, Space, Stored, Table, Version};
+use wm_spec::record::{
+    Counters, Hist, PieceRecord, Record, RowRecord, Savepoint, Space, Stored, Table, Version,
+};
 
 /// The records of each kind, in the order in which they stand.
 #[derive(Drop)]
@@ -15,8 +17,10 @@ pub struct Kinds<'a> {
     pub tables: Vec<&'a Table>,
     pub spaces: Vec<&'a Space>,
     pub versions: Vec<&'a Version>,
+    pub savepoints: Vec<&'a Savepoint>,
     pub rows: Vec<&'a RowRecord>,
     pub pieces: Vec<&'a PieceRecord>,
+    pub hists: Vec<&'a Hist>,
 }
 
 impl<'a> Kinds<'a> {
@@ -28,8 +32,10 @@ impl<'a> Kinds<'a> {
             tables: Vec::new(alloc),
             spaces: Vec::new(alloc),
             versions: Vec::new(alloc),
+            savepoints: Vec::new(alloc),
             rows: Vec::new(alloc),
             pieces: Vec::new(alloc),
+            hists: Vec::new(alloc),
         }
     }
 
@@ -52,8 +58,10 @@ impl<'a> Kinds<'a> {
             Record::Table(table) => self.tables.push(table)?,
             Record::Space(space) => self.spaces.push(space)?,
             Record::Version(version) => self.versions.push(version)?,
+            Record::Savepoint(savepoint) => self.savepoints.push(savepoint)?,
             Record::Row(row) => self.rows.push(row)?,
             Record::Piece(piece) => self.pieces.push(piece)?,
+            Record::Hist(hist) => self.hists.push(hist)?,
         }
         Ok(())
     }
