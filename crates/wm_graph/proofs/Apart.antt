@@ -11,9 +11,10 @@ use Rattle.std.specs.declared.cmp.Ordering.{Ordering}
 use Rattle.std.specs.declared.cmp.Ordering.TheVariants.{Less, Equal, Greater}
 use Rattle.wm_base.specs.Key.{key_order}
 use Rattle.wm_base.specs.Orders.{key_order_total}
+use Rattle.wm_graph.proofs.Rising.{InOrder, Each, Rises, stands_before, sorted_rises}
 use Rattle.wm_graph.proofs.Permuted.{differ_permuted, all_permuted}
 use Rattle.wm_graph.specs.Lookups.{referred}
-use Rattle.wm_graph.specs.Order.{group_order, piece_order, neighbours_agree}
+use Rattle.wm_graph.specs.Order.{group_order, piece_order, neighbours_differ}
 use Rattle.wm_graph.specs.Rules.{differ, collide}
 use Rattle.wm_spec.specs.declared.record.piece.PieceRecord.{PieceRecord}
 use denote.Ref.{Bor}
@@ -23,12 +24,12 @@ group_order_total =
     then_total (on_total (λ (p : PieceRecord). p.version) nat_cmp_total)
     (then_total (on_total (λ (p : PieceRecord). p.cells.table) nat_cmp_total) (on_total (λ (p : PieceRecord). p.cells.key) key_order_total))
 
-piece_order_total : IsTotalOrder piece_order
+pub piece_order_total : IsTotalOrder piece_order
 piece_order_total = then_total group_order_total (on_total (λ (p : PieceRecord). p.cells.from) nat_cmp_total)
 
 -- the second does not stand before the first
-abbrev InOrder : PieceRecord → PieceRecord → Type 0
-InOrder x y = is_lt (piece_order y x) ≡ false
+abbrev PiecesInOrder : PieceRecord → PieceRecord → Type 0
+PiecesInOrder = InOrder piece_order
 
 -- ---- pieces of one group
 
@@ -44,7 +45,7 @@ not_less Equal p h e = cc
 not_less Greater p h e = cc
 
 -- what stands between two of one group is of that group
-between : (x y z : PieceRecord) → InOrder x y → InOrder y z → group_order x z ≡ Equal → group_order y x ≡ Equal
+between : (x y z : PieceRecord) → PiecesInOrder x y → PiecesInOrder y z → group_order x z ≡ Equal → group_order y x ≡ Equal
 between x y z low high one = by_order (group_order y x) refl
   where
     turned : (o p : Ordering) → o ≡ ordering_reverse p → p ≡ Greater → o ≡ Less
@@ -122,7 +123,7 @@ collide_turned x y = by_tests (collide x y) (collide y x) refl refl
 -- ---- pieces in order
 
 -- one that does not collide with the next collides with none behind that
-far_apart : (x y z : PieceRecord) → y.cells.from < y.cells.till → InOrder x y → InOrder y z → collide x y ≡ false → collide x z ≡ false
+far_apart : (x y z : PieceRecord) → y.cells.from < y.cells.till → PiecesInOrder x y → PiecesInOrder y z → collide x y ≡ false → collide x z ≡ false
 far_apart x y z lasts low high near = by_test (collide x z) refl
   where
     by_test : (b : Bool) → collide x z ≡ b → b ≡ false
@@ -136,24 +137,14 @@ far_apart x y z lasts low high near = by_test (collide x z) refl
         let meets : Colliding x y = record { group = turned; first = omega (arith, begins, lasts); second = omega (arith, later, far.second) } in
         sym (collided x y meets) ∙ near
 
--- each of a list has the property
-abbrev Each : (PieceRecord → Type 0) → List PieceRecord → Type 0
-Each P [] = Unit {0}
-Each P (x ∷ xs) = P x × Each P xs
-
--- each stands in order with all behind it
-abbrev Rises : List PieceRecord → Type 0
-Rises [] = Unit {0}
-Rises (x ∷ xs) = Each (InOrder x) xs × Rises xs
-
-none_far : (x y : PieceRecord) (zs : List PieceRecord) → y.cells.from < y.cells.till → InOrder x y → Each (InOrder y) zs → collide x y ≡ false → list_any (collide x) zs ≡ false
+none_far : (x y : PieceRecord) (zs : List PieceRecord) → y.cells.from < y.cells.till → PiecesInOrder x y → Each (InOrder piece_order y) zs → collide x y ≡ false → list_any (collide x) zs ≡ false
 none_far x y [] lasts low high near = refl
 none_far x y (z ∷ zs) lasts low high near = rw (far_apart x y z lasts low high.0 near) (none_far x y zs lasts low high.1 near)
 
 abbrev lasts : PieceRecord → Bool
 lasts p = nat_lt p.cells.from p.cells.till
 
-neighbours_tell : (xs : List PieceRecord) → Rises xs → list_all lasts xs ≡ true → neighbours_agree xs ≡ differ collide xs
+neighbours_tell : (xs : List PieceRecord) → Rises piece_order xs → list_all lasts xs ≡ true → neighbours_differ collide xs ≡ differ collide xs
 neighbours_tell [] up all = refl
 neighbours_tell (x ∷ []) up all = refl
 neighbours_tell (x ∷ (y ∷ ys)) up all =
@@ -162,35 +153,17 @@ neighbours_tell (x ∷ (y ∷ ys)) up all =
     by_test (collide x y) refl (neighbours_tell (y ∷ ys) up.1 first.1)
     (λ near. none_far x y ys (below_nat y.cells.from y.cells.till second.0) up.0.0 up.1.0 near)
   where
-    by_test : (b : Bool) → collide x y ≡ b → neighbours_agree (y ∷ ys) ≡ differ collide (y ∷ ys) → (collide x y ≡ false → list_any (collide x) ys ≡ false) → (not b && neighbours_agree (y ∷ ys)) ≡ (not (b || list_any (collide x) ys) && differ collide (y ∷ ys))
+    by_test : (b : Bool) → collide x y ≡ b → neighbours_differ collide (y ∷ ys) ≡ differ collide (y ∷ ys) → (collide x y ≡ false → list_any (collide x) ys ≡ false) → (not b && neighbours_differ collide (y ∷ ys)) ≡ (not (b || list_any (collide x) ys) && differ collide (y ∷ ys))
     by_test true e rest far = refl
     by_test false e rest far = rw (far e) rest
 
 -- ---- what the sort gives
 
-each_in_order : (x : PieceRecord) (ys : List (Bor PieceRecord)) → ((j : ℕ) (d : Bor PieceRecord) → j < length ys → InOrder x (get_or ys j d).now) → Each (InOrder x) (referred ys)
-each_in_order x [] h = tt
-each_in_order x (y ∷ ys) h = (h zero y (omega arith), each_in_order x ys (λ j d within. h (suc j) d (omega (arith, within))))
-
-rises : (xs : List (Bor PieceRecord)) → ((i j : ℕ) (d : Bor PieceRecord) → i ≤ j → j < length xs → InOrder (get_or xs i d).now (get_or xs j d).now) → Rises (referred xs)
-rises [] far = tt
-rises (x ∷ xs) far = (
-  each_in_order x.now xs (λ j d within. far zero (suc j) d (omega arith) (omega (arith, within))),
-  rises xs (λ i j d below within. far (suc i) (suc j) d (omega (arith, below)) (omega (arith, within))),
-)
-
--- a reference stands before another
-abbrev pub stands_before : Bor PieceRecord → Bor PieceRecord → Bool
-stands_before x y = is_lt (piece_order x.now y.now)
-
-pub stands_before_ranks : IsStrictWeakOrder stands_before
-stands_before_ranks = ranks_by piece_order_total (λ (r : Bor PieceRecord). r.now)
-
 -- the neighbours of the sorted pieces tell whether the pieces collide
-pub sorted_tell : (pieces sorted : List (Bor PieceRecord)) → IsPermutation pieces sorted → IsSortedBy stands_before sorted → list_all lasts (referred pieces) ≡ true → neighbours_agree (referred sorted) ≡ differ collide (referred pieces)
+pub sorted_tell : (pieces sorted : List (Bor PieceRecord)) → IsPermutation pieces sorted → IsSortedBy (stands_before piece_order) sorted → list_all lasts (referred pieces) ≡ true → neighbours_differ collide (referred sorted) ≡ differ collide (referred pieces)
 sorted_tell pieces sorted moved up all =
     let same = IsPermutation-map (λ (r : Bor PieceRecord). r.now) pieces sorted moved in
     neighbours_tell (referred sorted)
-    (rises sorted (λ i j d below within. sorted_far stands_before stands_before_ranks sorted up i j d below within))
+    (sorted_rises piece_order piece_order_total sorted up)
     (sym (all_permuted lasts (referred pieces) (referred sorted) same) ∙ all)
     ∙ sym (differ_permuted collide collide_turned (referred pieces) (referred sorted) same)

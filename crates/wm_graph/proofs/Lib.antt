@@ -6,5 +6,8 @@ pub mod Fitting
 pub mod Neighbours
 pub mod IndexLemmas
 pub mod Permuted
+pub mod Rising
 pub mod Apart
+pub mod Ties
+pub mod Counting
 pub mod Keeping

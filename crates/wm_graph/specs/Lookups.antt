@@ -2,6 +2,7 @@
 use Rattle.std.specs.Prelude.{ℕ, ◌++◌, List, [], ◌∷◌, map, Option, option_map}
 use Rattle.std.specs.BTreeMap.{is_at}
 use Rattle.std.specs.Map.{lookup}
+use Rattle.std.specs.Option.{unwrap_or}
 use Rattle.std.specs.Ordering.{nat_cmp}
 use Rattle.wm_graph.specs.Parts.{Parts}
 use Rattle.wm_spec.specs.declared.record.Record.{Record}
@@ -16,6 +17,10 @@ referred {A} references = map (λ (r : Bor A). r.now) references
 -- what an index has for a number
 abbrev pub found : {A : Type 0} → List (ℕ × Bor A) → ℕ → Option A
 found {A} entries number = option_map (λ (r : Bor A). r.now) (lookup (is_at (nat_cmp number)) entries)
+
+-- how many were counted for a number
+abbrev pub counted : List (ℕ × ℕ) → ℕ → ℕ
+counted entries number = unwrap_or (lookup (is_at (nat_cmp number)) entries) 0
 
 -- the records that were collected
 abbrev pub collected : Kinds → Parts

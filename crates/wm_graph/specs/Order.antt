@@ -1,9 +1,8 @@
--- The order of pieces in which those of one version, table and key stand side by side, by their beginnings.
+-- The order of pieces in which those of one version, table and key stand side by side, by their beginnings; and neighbours.
 use Rattle.std.specs.Prelude.{Bool, true, not, ◌&&◌, List, [], ◌∷◌}
-use Rattle.std.specs.Ordering.{nat_cmp, on, then_cmp}
+use Rattle.std.specs.Ordering.{nat_cmp, on, then_cmp, is_eq}
 use Rattle.std.specs.declared.cmp.Ordering.{Ordering}
 use Rattle.wm_base.specs.Key.{key_order}
-use Rattle.wm_graph.specs.Rules.{collide}
 use Rattle.wm_spec.specs.declared.record.piece.PieceRecord.{PieceRecord}
 
 -- by version, table and key
@@ -16,8 +15,12 @@ group_order =
 abbrev pub piece_order : PieceRecord → PieceRecord → Ordering
 piece_order = then_cmp group_order (on (λ (p : PieceRecord). p.cells.from) nat_cmp)
 
--- no two neighbours collide
-abbrev pub neighbours_agree : List PieceRecord → Bool
-neighbours_agree [] = true
-neighbours_agree (x ∷ []) = true
-neighbours_agree (x ∷ (y ∷ ys)) = not (collide x y) && neighbours_agree (y ∷ ys)
+-- an order finds the two equal
+abbrev pub alike : {A : Type 0} → (A → A → Ordering) → A → A → Bool
+alike order x y = is_eq (order x y)
+
+-- no two neighbours are the same
+abbrev pub neighbours_differ : {A : Type 0} → (A → A → Bool) → List A → Bool
+neighbours_differ same [] = true
+neighbours_differ same (x ∷ []) = true
+neighbours_differ same (x ∷ (y ∷ ys)) = not (same x y) && neighbours_differ same (y ∷ ys)

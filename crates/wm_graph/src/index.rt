@@ -9,7 +9,7 @@ ghost use Rattle.wm_graph.specs.Rules.{differ};
 use std::alloc::Global;
 use std::collections::BTreeMap;
 use wm_base::Memory;
-use wm_spec::record::{RowRecord, Space, Table, Version};
+use wm_spec::record::{RowRecord, Savepoint, Space, Table, Version};
 
 /// What has a number among others of its kind.
 pub trait Numbered {
@@ -40,6 +40,14 @@ impl Numbered for Version {
 
     fn number(&self) -> u64 {
         self.number
+    }
+}
+
+impl Numbered for Savepoint {
+    ghost number_of = { λ x. x.making };
+
+    fn number(&self) -> u64 {
+        self.making
     }
 }
 

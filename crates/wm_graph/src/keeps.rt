@@ -2,17 +2,18 @@ ghost use Rattle.std.specs.Prelude.{◌≡◌, ◌∷◌, [], IfOk};
 ghost use Rattle.wm_graph.specs.Indexing.{IndexesOf};
 ghost use Rattle.wm_graph.specs.Lookups.{collected};
 ghost use Rattle.wm_graph.specs.Parts.{parts_of};
-ghost use Rattle.wm_graph.specs.Rules.{are_tables, are_spaces, are_versions, are_rows, are_pieces, keep_rules, keep_rules_with};
+ghost use Rattle.wm_graph.specs.Rules.{are_tables, are_spaces, are_versions, are_savepoints, are_rows, are_pieces, are_hists, keep_rules, keep_rules_with};
 
 use crate::indexes::{self, Indexes};
 use crate::kinds::Kinds;
-use crate::{counters, overlaps, pieces, rows, spaces, tables, versions};
+use crate::{counters, hists, overlaps, pieces, rows, savepoints, spaces, tables, versions};
 use std::alloc::Global;
 use wm_base::Memory;
 use wm_spec::record::{Counters, Records};
 
 /// Whether the records keep every rule over all of them. The one error is that memory ran out.
 pub fn keeps_rules(alloc: Global, records: &Records) -> Result<bool, Memory>
+    ensures { IfOk result (λ kept. kept ≡ keep_rules (parts_of records.now)) }
 {
     let kinds = Kinds::of(alloc, records.as_slice())?;
     let kept = keep_rules(alloc, &kinds)?;
@@ -21,6 +22,7 @@ pub fn keeps_rules(alloc: Global, records: &Records) -> Result<bool, Memory>
 
 /// Whether the records of each kind keep the rules.
 fn keep_rules(alloc: Global, kinds: &Kinds) -> Result<bool, Memory>
+    ensures { IfOk result (λ kept. kept ≡ keep_rules (collected kinds.now)) }
 {
     if kinds.counters.len() != 1 {
         return Ok(false);
@@ -31,6 +33,7 @@ fn keep_rules(alloc: Global, kinds: &Kinds) -> Result<bool, Memory>
 
 /// Whether the records of each kind keep the rules, where these are the counters.
 fn keep_rules_with(alloc: Global, kinds: &Kinds, counters: &Counters) -> Result<bool, Memory>
+    ensures { IfOk result (λ kept. kept ≡ keep_rules_with (collected kinds.now) (counters.now ∷ [])) }
 {
     let indexes = indexes::indexes_of(alloc, kinds)?;
     if !counters::are_counters(counters)
@@ -41,7 +44,9 @@ fn keep_rules_with(alloc: Global, kinds: &Kinds, counters: &Counters) -> Result<
     {
         return Ok(false);
     }
-    let kept = pieces_keep(alloc, &indexes, kinds, counters.next_stamp)?;
+    let kept = savepoints_keep(alloc, &indexes, kinds, counters.work)?
+        && pieces_keep(alloc, &indexes, kinds, counters.next_stamp)?
+        && hists_keep(alloc, &indexes, kinds, counters.next_stamp)?;
     Ok(kept)
 }
 
@@ -77,6 +82,25 @@ fn versions_keep(indexes: &Indexes, kinds: &Kinds, next: u64) -> bool
         && versions::each_has_versions(&indexes.having, index, kinds.spaces.as_slice())
 }
 
+/// Whether the savepoints keep theirs, where so much work was counted.
+fn savepoints_keep(
+    alloc: Global,
+    indexes: &Indexes,
+    kinds: &Kinds,
+    work: u64,
+) -> Result<bool, Memory>
+    requires { IndexesOf (collected kinds.now) indexes.now }
+    ensures { IfOk result (λ kept. kept ≡ are_savepoints (collected kinds.now) work) }
+{
+    let spaces = &indexes.spaces.index;
+    let list = kinds.savepoints.as_slice();
+    if !savepoints::each_is_savepoint(spaces, &indexes.versions.index, work, list) {
+        return Ok(false);
+    }
+    let kept = savepoints::stand_together(alloc, kinds.spaces.as_slice(), list)?;
+    Ok(kept)
+}
+
 /// Whether the rows keep theirs, where the next stamp is this one.
 fn rows_keep(indexes: &Indexes, kinds: &Kinds, next: u64) -> bool
     requires { IndexesOf (collected kinds.now) indexes.now }
@@ -98,4 +122,19 @@ fn pieces_keep(alloc: Global, indexes: &Indexes, kinds: &Kinds, next: u64) -> Re
     }
     let apart = overlaps::are_apart(alloc, list)?;
     Ok(apart)
+}
+
+/// Whether the entries of logs keep theirs, where the next stamp is this one.
+fn hists_keep(alloc: Global, indexes: &Indexes, kinds: &Kinds, next: u64) -> Result<bool, Memory>
+    requires { IndexesOf (collected kinds.now) indexes.now }
+    ensures { IfOk result (λ kept. kept ≡ are_hists (collected kinds.now) next) }
+{
+    let tables = &indexes.tables.index;
+    let spaces = &indexes.spaces.index;
+    let list = kinds.hists.as_slice();
+    if !hists::each_is_hist(tables, spaces, &indexes.rows.index, next, list) {
+        return Ok(false);
+    }
+    let differ = hists::positions_differ(alloc, list)?;
+    Ok(differ)
 }

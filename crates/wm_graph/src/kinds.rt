@@ -6,7 +6,9 @@ ghost use Rattle.wm_graph.specs.Parts.{parts_in, parts_of};
 
 use std::alloc::Global;
 use wm_base::Memory;
-use wm_spec::record::{Counters, Hist, PieceRecord, Record, RowRecord, Savepoint, Space, Stored, Table, Version};
+use wm_spec::record::{
+    Counters, Hist, PieceRecord, Record, RowRecord, Savepoint, Space, Stored, Table, Version,
+};
 
 /// The records of each kind, in the order in which they stand.
 #[derive(Drop)]

@@ -5,6 +5,8 @@
 mod cells;
 mod columns;
 mod counters;
+mod distinct;
+mod hists;
 mod index;
 mod indexes;
 mod keeps;
@@ -13,6 +15,7 @@ mod names;
 mod overlaps;
 mod pieces;
 mod rows;
+mod savepoints;
 mod spaces;
 mod tables;
 #[cfg(test)]

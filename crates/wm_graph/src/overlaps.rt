@@ -3,7 +3,7 @@
 ghost use Rattle.std.specs.Prelude.{◌≡◌, nat_lt, true, IfOk};
 ghost use Rattle.std.specs.List.{list_all};
 ghost use Rattle.wm_graph.specs.Lookups.{referred};
-ghost use Rattle.wm_graph.specs.Order.{piece_order, neighbours_agree};
+ghost use Rattle.wm_graph.specs.Order.{piece_order, neighbours_differ};
 ghost use Rattle.wm_graph.specs.Rules.{differ, collide};
 
 use std::alloc::Global;
@@ -38,7 +38,7 @@ fn collide(piece: &PieceRecord, other: &PieceRecord) -> bool
 
 /// Whether no two neighbours collide.
 fn neighbours_agree(pieces: &[&PieceRecord]) -> bool
-    ensures { result ≡ neighbours_agree (referred pieces.now) }
+    ensures { result ≡ neighbours_differ collide (referred pieces.now) }
 {
     for place in 1..pieces.len() {
         if collide(pieces[place - 1], pieces[place]) {

@@ -9,7 +9,12 @@ use crate::index::{self, Index};
 use wm_spec::record::{CellRange, PieceRecord, RowRecord, Table, Version};
 
 /// Whether the row of the stamp is there, in the table and with the key of the cells.
-fn has_row(tables: &Index<Table>, rows: &Index<RowRecord>, cells: &CellRange, stamp: u64) -> bool
+pub fn has_row(
+    tables: &Index<Table>,
+    rows: &Index<RowRecord>,
+    cells: &CellRange,
+    stamp: u64,
+) -> bool
     ensures { result ≡ option_map_or (is_row_at (found tables.now.entries) cells.now) (found rows.now.entries stamp) false }
 {
     match index::look(rows, stamp) {

@@ -42,10 +42,25 @@ fn what_stands_beside(rt: HostRuntime) -> Result<(), Fail> {
     assert!(rt;
         kept_with(
             alloc,
-            10,
+            99,
             Record::Piece(store::piece(alloc, 1, (10, 20), 3)?)
         )?
     );
-    assert!(rt; kept_with(alloc, 10, Record::Row(store::row(alloc, 4, 7)?))?);
+    assert!(rt; kept_with(alloc, 99, Record::Row(store::row(alloc, 4, 7)?))?);
+    Ok(())
+}
+
+/// A savepoint of another name, and entries at another position and of a row that is gone.
+#[test]
+fn savepoints_and_entries(rt: HostRuntime) -> Result<(), Fail> {
+    let alloc = rt.alloc();
+    let other = store::savepoint(alloc, "T", 0)?;
+    assert!(rt; kept_with(alloc, 99, Record::Savepoint(other))?);
+    let other = store::hist(alloc, 0, 0)?;
+    assert!(rt; kept_with(alloc, 99, Record::Hist(other))?);
+    let mut gone = store::hist(alloc, 0, 1)?;
+    gone.gone = true;
+    gone.stamp = 4;
+    assert!(rt; kept_with(alloc, 12, Record::Hist(gone))?);
     Ok(())
 }

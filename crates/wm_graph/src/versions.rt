@@ -24,7 +24,7 @@ pub fn spaces_of(alloc: Global, versions: &[&Version]) -> Result<BTreeSet<u32>, 
 }
 
 /// Whether the version is there, and is one of the workspace.
-fn is_version_of(versions: &Index<Version>, number: u64, space: u32) -> bool
+pub fn is_version_of(versions: &Index<Version>, number: u64, space: u32) -> bool
     ensures { result ≡ is_version_of (found versions.now.entries) number space }
 {
     match index::look(versions, number) {

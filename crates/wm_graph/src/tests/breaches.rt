@@ -1,11 +1,14 @@
 //! Stores that break one rule each.
 
 use super::store::{self, column, kept_with, name};
+use crate::keeps_rules;
 use std::alloc::Global;
 use std::process::Abort;
 use std::test::Fail;
-use wm_base::{END, Key, Value};
-use wm_spec::record::{ColumnKind, Counters, PieceRecord, Record, Space, Table, TableColumns};
+use wm_base::{END, Key, Memory, Value};
+use wm_spec::record::{
+    ColumnKind, Counters, Hist, PieceRecord, Record, Records, Savepoint, Space, Table, TableColumns,
+};
 
 const BEHIND: usize = 99;
 
@@ -300,5 +303,118 @@ fn pieces(rt: HostRuntime) -> Result<(), Fail> {
     let mut gone = store::piece(alloc, 1, (0, 10), 5)?;
     gone.gone = true;
     refuse_piece(&rt, alloc, gone)?;
+    Ok(())
+}
+
+fn refuse_savepoint(rt: &impl Abort, alloc: Global, savepoint: Savepoint) -> Result<(), Fail> {
+    refuse(rt, alloc, 10, Record::Savepoint(savepoint))
+}
+
+#[test]
+fn savepoints(rt: HostRuntime) -> Result<(), Fail> {
+    let alloc = rt.alloc();
+    let mut absent = store::savepoint(alloc, "S", 2)?;
+    absent.space = 9;
+    refuse_savepoint(&rt, alloc, absent)?;
+    let long = store::savepoint(alloc, "S2345678901234567890123456789_1", 2)?;
+    refuse_savepoint(&rt, alloc, long)?;
+    refuse_savepoint(&rt, alloc, store::savepoint(alloc, "S", 23)?)?;
+    let mut place = store::savepoint(alloc, "S", 2)?;
+    place.place = 2;
+    refuse_savepoint(&rt, alloc, place)?;
+    let mut log = store::savepoint(alloc, "S", 2)?;
+    log.log_length = 3;
+    refuse_savepoint(&rt, alloc, log)?;
+    Ok(())
+}
+
+#[test]
+fn versions_of_savepoints(rt: HostRuntime) -> Result<(), Fail> {
+    let alloc = rt.alloc();
+    for version in [0, 1, 7] {
+        let mut kept = store::savepoint(alloc, "S", 2)?;
+        kept.version = version;
+        refuse_savepoint(&rt, alloc, kept)?;
+    }
+    for version in [0, 2, 7] {
+        let mut based = store::savepoint(alloc, "S", 2)?;
+        based.base_version = version;
+        refuse_savepoint(&rt, alloc, based)?;
+    }
+    let mut based = store::savepoint_of_live(alloc, "S", 2)?;
+    based.base_version = 1;
+    refuse(&rt, alloc, 11, Record::Savepoint(based))?;
+    Ok(())
+}
+
+/// Two savepoints of one name in a workspace, and two of one making.
+#[test]
+fn savepoints_that_are_alike(rt: HostRuntime) -> Result<(), Fail> {
+    let alloc = rt.alloc();
+    let named = store::savepoint(alloc, "S", 2)?;
+    refuse(&rt, alloc, BEHIND, Record::Savepoint(named))?;
+    let made = store::savepoint(alloc, "T", 1)?;
+    refuse(&rt, alloc, BEHIND, Record::Savepoint(made))?;
+    Ok(())
+}
+
+/// Whether the store keeps the rules with so many more savepoints in the workspace that has one.
+fn kept_with_more(alloc: Global, more: u64) -> Result<bool, Memory> {
+    let mut records = store::records(alloc)?;
+    let mut counters = store::counters();
+    counters.work = 10_000;
+    store::put(&mut records, 0, Record::Counters(counters))?;
+    for number in 0..more.min(9_000) {
+        let called = format!(in alloc; "S{number}")?;
+        let savepoint = store::savepoint(alloc, called.as_str(), 100 + number)?;
+        store::put(&mut records, BEHIND + 9_000, Record::Savepoint(savepoint))?;
+    }
+    keeps_rules(alloc, &Records::from_vec(records))
+}
+
+#[test]
+fn savepoints_of_a_workspace(rt: HostRuntime) -> Result<(), Fail> {
+    let alloc = rt.alloc();
+    assert!(rt; kept_with_more(alloc, 4095)?);
+    assert!(rt; !kept_with_more(alloc, 4096)?);
+    Ok(())
+}
+
+fn refuse_hist(rt: &impl Abort, alloc: Global, hist: Hist) -> Result<(), Fail> {
+    refuse(rt, alloc, 12, Record::Hist(hist))
+}
+
+#[test]
+fn entries_of_logs(rt: HostRuntime) -> Result<(), Fail> {
+    let alloc = rt.alloc();
+    refuse_hist(&rt, alloc, store::hist(alloc, 9, 1)?)?;
+    refuse_hist(&rt, alloc, store::hist(alloc, 0, 2)?)?;
+    let mut long = store::hist(alloc, 0, 1)?;
+    long.user = name(alloc, "U2345678901234567890123456789_1")?;
+    refuse_hist(&rt, alloc, long)?;
+    let twice = store::hist(alloc, 0, 1)?;
+    refuse(&rt, alloc, BEHIND, Record::Hist(twice))?;
+    Ok(())
+}
+
+#[test]
+fn rows_of_entries(rt: HostRuntime) -> Result<(), Fail> {
+    let alloc = rt.alloc();
+    let mut absent = store::hist(alloc, 0, 1)?;
+    absent.cells.table = 2;
+    refuse_hist(&rt, alloc, absent)?;
+    let mut turned = store::hist(alloc, 0, 1)?;
+    turned.cells.from = 10;
+    refuse_hist(&rt, alloc, turned)?;
+    let mut none = store::hist(alloc, 0, 1)?;
+    none.stamp = 4;
+    refuse_hist(&rt, alloc, none)?;
+    let mut other = store::hist(alloc, 0, 1)?;
+    other.stamp = 2;
+    refuse_hist(&rt, alloc, other)?;
+    let mut gone = store::hist(alloc, 0, 1)?;
+    gone.gone = true;
+    gone.stamp = 5;
+    refuse_hist(&rt, alloc, gone)?;
     Ok(())
 }

@@ -1,11 +1,12 @@
-//! A small store in order: one table, LIVE and one more workspace, two versions, three rows and two pieces.
+//! A small store in order: one table, LIVE and one more workspace, each with a version, a savepoint and an entry of its
+//! log, three rows and a piece.
 
 use crate::keeps_rules;
 use std::alloc::Global;
 use wm_base::{Key, Kind, Memory, Name, Text, Value, Values};
 use wm_spec::record::{
-    CellRange, ColumnKind, Counters, FreezeMode, PieceRecord, Record, Records, RowRecord, Space,
-    Stored, Table, TableColumn, TableColumns, Version,
+    CellRange, ColumnKind, Counters, FreezeMode, Hist, PieceRecord, Record, Records, RowRecord,
+    Savepoint, Space, Stored, Table, TableColumn, TableColumns, Version,
 };
 
 pub fn counters() -> Counters {
@@ -88,6 +89,32 @@ pub fn version(number: u64, space: u32, parent: u64) -> Version {
     }
 }
 
+/// A savepoint of the workspace in LIVE.
+pub fn savepoint(alloc: Global, called: &str, making: u64) -> Result<Savepoint, Memory> {
+    Ok(Savepoint {
+        space: 1,
+        name: name(alloc, called)?,
+        implicit: false,
+        place: 1,
+        making,
+        moment: 0,
+        version: 2,
+        base_version: 1,
+        from: 0,
+        log_length: 2,
+        rebases: 0,
+    })
+}
+
+/// A savepoint of LIVE.
+pub fn savepoint_of_live(alloc: Global, called: &str, making: u64) -> Result<Savepoint, Memory> {
+    let mut of_live = savepoint(alloc, called, making)?;
+    of_live.space = 0;
+    of_live.version = 1;
+    of_live.base_version = 0;
+    Ok(of_live)
+}
+
 pub fn row(alloc: Global, stamp: u64, key: i64) -> Result<RowRecord, Memory> {
     let mut values = Values::new(alloc);
     values.push(Value::Num(key))?;
@@ -118,6 +145,20 @@ pub fn piece(alloc: Global, key: i64, ends: (u64, u64), stamp: u64) -> Result<Pi
     })
 }
 
+/// An entry of a log, of the row of the stamp 1.
+pub fn hist(alloc: Global, space: u32, position: u64) -> Result<Hist, Memory> {
+    Ok(Hist {
+        space,
+        position,
+        cells: cells(alloc, 1, (0, 10))?,
+        stamp: 1,
+        kind: Kind::Insert,
+        gone: false,
+        moment: 0,
+        user: name(alloc, "ANN")?,
+    })
+}
+
 pub fn stored(id: u64, record: Record) -> Stored {
     Stored { id, record }
 }
@@ -135,15 +176,31 @@ pub fn records(alloc: Global) -> Result<Vec<Stored>, Memory> {
     records.push(stored(8, Record::Row(row(alloc, 2, 2)?)))?;
     records.push(stored(9, Record::Row(row(alloc, 3, 1)?)))?;
     records.push(stored(10, Record::Piece(piece(alloc, 1, (0, 10), 1)?)))?;
+    push_more(alloc, &mut records)?;
     Ok(records)
+}
+
+/// The savepoints and the entries of logs.
+fn push_more(alloc: Global, records: &mut Vec<Stored>) -> Result<(), Memory> {
+    records.push(stored(11, Record::Savepoint(savepoint(alloc, "S", 22)?)))?;
+    records.push(stored(12, Record::Savepoint(savepoint_of_live(alloc, "S", 1)?)))?;
+    records.push(stored(13, Record::Hist(hist(alloc, 0, 1)?)))?;
+    records.push(stored(14, Record::Hist(hist(alloc, 1, 1)?)))?;
+    Ok(())
+}
+
+/// Puts the record at a place, or behind all that are there.
+pub fn put(records: &mut Vec<Stored>, place: usize, record: Record) -> Result<(), Memory> {
+    match records.get_mut(place) {
+        Some(slot) => slot.record = record,
+        None => records.push(stored(99, record))?,
+    }
+    Ok(())
 }
 
 /// Whether the store keeps the rules with this record at a place, or behind all that it has.
 pub fn kept_with(alloc: Global, place: usize, record: Record) -> Result<bool, Memory> {
     let mut records = records(alloc)?;
-    match records.get_mut(place) {
-        Some(slot) => slot.record = record,
-        None => records.push(stored(99, record))?,
-    }
+    put(&mut records, place, record)?;
     keeps_rules(alloc, &Records::from_vec(records))
 }
