@@ -26,7 +26,7 @@ use Rattle.wm_model.specs.Lines.{fits_line}
 use Rattle.wm_reader.specs.Grammar.{Line, Connect, Disconnect, Run, Statement, Create, Enable, Insert, Select, CreateWorkspace, CreateSavepoint, GotoWorkspace, GotoSavepoint, line_of, is_remark, latest, start_fault}
 pub use Rattle.wm_state.specs.State.{State, fresh}
 use Rattle.wm_state.specs.Listing.{row_on}
-use Rattle.wm_state.specs.State.{Workspace, Savepoint, Session, Stand, Latest, At, content, enabled, kept, savepoint_made, seen_from, with_space, with_entries, with_savepoint, workspace_of}
+use Rattle.wm_state.specs.State.{Workspace, Savepoint, Session, Stand, Latest, At, content, enabled, kept, savepoint_made, seen_from, with_space, with_entries, with_savepoint, workspace_of, table_named, workspace_named, savepoint_named, next_table, next_space, next_making}
 pub use Rattle.wm_print.specs.Texts.{Answer, answer_text}
 use Rattle.wm_print.specs.Texts.{Nothing, Fine, Done, Listing, Refused}
 
@@ -142,15 +142,6 @@ names_no_savepoint name = bytes_eq name latest || starts_with nat_eq name implic
 
 -- ---- what is looked up by name
 
-abbrev pub table_named : List ℕ → List Table → Option Table
-table_named name tables = find (λ (t : Table). bytes_eq name t.name) tables
-
-abbrev pub workspace_named : List ℕ → List Workspace → Option Workspace
-workspace_named name spaces = find (λ (w : Workspace). bytes_eq name w.name) spaces
-
-abbrev pub savepoint_named : List ℕ → List Savepoint → Option Savepoint
-savepoint_named name ks = find (λ (k : Savepoint). bytes_eq name k.name) ks
-
 -- the session of this name, where it is open
 abbrev pub session_of : List ℕ → List Session → Option Session
 session_of name sessions = find (λ (x : Session). bytes_eq name x.name) sessions
@@ -219,11 +210,6 @@ two_columns number name key value = record {
       ∷ record { name = value; kind = Number; size = 0; not_null = false }
       ∷ [];
 }
-
--- one more than the greatest number of a table, 0 where there is none
-abbrev pub next_table : List Table → ℕ
-next_table [] = 0
-next_table (t ∷ ts) = max (t.number + 1) (next_table ts)
 
 -- there is no room for another table
 abbrev pub is_full : List Table → Bool
@@ -299,16 +285,6 @@ listing session name s = with_table s name (λ table.
 
 -- ---- savepoints
 
--- one more than the greatest making of these savepoints, 1 where there is none
-abbrev pub making_after : List Savepoint → ℕ
-making_after [] = 1
-making_after (k ∷ ks) = max (k.making + 1) (making_after ks)
-
--- one more than the greatest making of a savepoint of any workspace
-abbrev pub next_making : List Workspace → ℕ
-next_making [] = 1
-next_making (w ∷ ws) = max (making_after w.savepoints) (next_making ws)
-
 -- a savepoint of what stands in a workspace where a session stands: at what is newest it has a new place, and at a savepoint the
 -- place of that one
 abbrev pub saved_at : State → Workspace → Stand → List ℕ → Bool → Option Savepoint
@@ -364,11 +340,6 @@ goto_savepoint session name s = at_home s session (λ w. if bytes_eq name latest
     at (Some k) = go (At k.making)
 
 -- ---- workspaces
-
--- one more than the greatest number of a workspace
-abbrev pub next_space : List Workspace → ℕ
-next_space [] = 0
-next_space (w ∷ ws) = max (w.number + 1) (next_space ws)
 
 -- the name of the implicit savepoint that comes next in a workspace
 abbrev pub implicit_name : Workspace → List ℕ

@@ -1,6 +1,7 @@
 -- The state between two lines. Each workspace has whole lists of its own: no version, no piece, no page is known here.
-use Rattle.std.specs.Prelude.{ℕ, Bool, true, ◌==◌, if◌then◌else◌, List, [], ◌∷◌, ◌++◌, max, length, Option, Some, None, codes}
+use Rattle.std.specs.Prelude.{ℕ, ◌+◌, Bool, true, ◌==◌, if◌then◌else◌, List, [], ◌∷◌, ◌++◌, max, length, Option, Some, None, codes}
 use Rattle.std.specs.List.{find}
+use Rattle.std.specs.Str.{bytes_eq}
 use Rattle.wm_spec.specs.Lists.{Entry}
 use Rattle.wm_spec.specs.declared.record.space.FreezeMode.{FreezeMode}
 use Rattle.wm_spec.specs.declared.record.space.FreezeMode.TheVariants.{Free}
@@ -172,3 +173,35 @@ abbrev pub enabled : ℕ → Bool → List Table → List Table
 enabled number history [] = []
 enabled number history (t ∷ ts) =
     if t.number == number then record t { versioned = true; history = history } ∷ ts else t ∷ enabled number history ts
+
+-- ---- what is looked up by name, and what comes next
+
+-- the table, the workspace, the savepoint of a name
+abbrev pub table_named : List ℕ → List Table → Option Table
+table_named name tables = find (λ (t : Table). bytes_eq name t.name) tables
+
+abbrev pub workspace_named : List ℕ → List Workspace → Option Workspace
+workspace_named name spaces = find (λ (w : Workspace). bytes_eq name w.name) spaces
+
+abbrev pub savepoint_named : List ℕ → List Savepoint → Option Savepoint
+savepoint_named name ks = find (λ (k : Savepoint). bytes_eq name k.name) ks
+
+-- one more than the greatest number of a table, 0 where there is none
+abbrev pub next_table : List Table → ℕ
+next_table [] = 0
+next_table (t ∷ ts) = max (t.number + 1) (next_table ts)
+
+-- one more than the greatest number of a workspace
+abbrev pub next_space : List Workspace → ℕ
+next_space [] = 0
+next_space (w ∷ ws) = max (w.number + 1) (next_space ws)
+
+-- one more than the greatest making of these savepoints, 1 where there is none
+abbrev pub making_after : List Savepoint → ℕ
+making_after [] = 1
+making_after (k ∷ ks) = max (k.making + 1) (making_after ks)
+
+-- one more than the greatest making of a savepoint of any workspace
+abbrev pub next_making : List Workspace → ℕ
+next_making [] = 1
+next_making (w ∷ ws) = max (making_after w.savepoints) (next_making ws)
