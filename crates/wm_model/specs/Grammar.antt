@@ -1,22 +1,33 @@
 -- The lines of this stage: what each one says, where it says something.
-use Rattle.std.specs.Prelude.{ℕ, ◌-◌, List, [], ◌∷◌, Bool, false, ◌&&◌, ◌||◌, not, nat_le, length, take, drop, if◌then◌else◌, Option, None, Some, codes, ℤ}
+use Rattle.std.specs.Prelude.{ℕ, ◌+◌, ◌-◌, map,  List, [], ◌∷◌, Bool, true, false, ◌&&◌, ◌||◌, not, nat_le, length, take, drop, if◌then◌else◌, Option, None, Some, codes, ℤ}
 use Rattle.std.specs.List.{list_any}
+use Rattle.std.specs.Char.{to_ascii_uppercase}
 use Rattle.std.specs.Str.{bytes_eq}
-use Rattle.wm_model.specs.Reading.{Reader, ◌>>=◌, or_else, is_spent, skip, word_at, keyword_at, mark_at, behind, begins_word, integer_at}
+use Rattle.wm_model.specs.Reading.{Reader, ◌>>=◌, or_else, is_spent, skip, word_at, keyword_at, mark_at, behind, begins_word, integer_at, text_at}
 
 pub data Statement : Type 0 where
   -- CREATE TABLE table (key NUMBER PRIMARY KEY, value NUMBER)
   Create : (table key value : List ℕ) → Statement
-  -- EXECUTE DBMS_WM.EnableVersioning('table')
-  Enable : (table : List ℕ) → Statement
+  -- EXECUTE DBMS_WM.EnableVersioning('table', 'NONE' or 'VIEW_WO_OVERWRITE'), NONE where it is left out
+  Enable : (table : List ℕ) (history : Bool) → Statement
   -- INSERT INTO table VALUES (key, value)
   Insert : (table : List ℕ) (key value : ℤ) → Statement
   -- SELECT * FROM table
   Select : (table : List ℕ) → Statement
+  -- EXECUTE DBMS_WM.CreateWorkspace('workspace')
+  CreateWorkspace : (workspace : List ℕ) → Statement
+  -- EXECUTE DBMS_WM.CreateSavepoint('workspace', 'savepoint')
+  CreateSavepoint : (workspace savepoint : List ℕ) → Statement
+  -- EXECUTE DBMS_WM.GotoWorkspace('workspace')
+  GotoWorkspace : (workspace : List ℕ) → Statement
+  -- EXECUTE DBMS_WM.GotoSavepoint('savepoint'), LATEST where it is left out
+  GotoSavepoint : (savepoint : List ℕ) → Statement
 
 pub data Line : Type 0 where
   -- CONNECT session user
   Connect : (session user : List ℕ) → Line
+  -- DISCONNECT session
+  Disconnect : (session : List ℕ) → Line
   -- session: statement
   Run : (session : List ℕ) (statement : Statement) → Line
 
@@ -110,22 +121,103 @@ quoted_table_at bytes = do
   rest ← behind 39 name.1
   if is_table_name name.0 then Some (name.0, rest) else None
 
--- EXECUTE DBMS_WM.EnableVersioning
-unfoldable pub enable_call_at : List ℕ → Option (List ℕ)
-enable_call_at bytes = do
+-- EXECUTE DBMS_WM.procedure
+unfoldable pub call_at : List ℕ → List ℕ → Option (List ℕ)
+call_at procedure bytes = do
   rest ← keyword_at (codes "EXECUTE") bytes
   rest ← keyword_at (codes "DBMS_WM") rest
   rest ← mark_at 46 rest
-  keyword_at (codes "ENABLEVERSIONING") rest
+  keyword_at procedure rest
 
--- EXECUTE DBMS_WM.EnableVersioning('table')
+-- whether a table keeps its history, in the words of EnableVersioning
+unfoldable pub history_word : List ℕ → Option Bool
+history_word text =
+    if bytes_eq (map to_ascii_uppercase text) (codes "NONE") then Some false
+    else (if bytes_eq (map to_ascii_uppercase text) (codes "VIEW_WO_OVERWRITE") then Some true else None)
+
+-- a comma and one of these words, or nothing
+unfoldable pub history_at : Reader Bool
+history_at bytes = given (mark_at 44 bytes)
+  where
+    given : Option (List ℕ) → Option (Bool × List ℕ)
+    given None = Some (false, bytes)
+    given (Some rest) = do
+      text ← text_at rest
+      history ← history_word text.0
+      Some (history, text.1)
+
+-- EXECUTE DBMS_WM.EnableVersioning('table') or ('table', 'NONE') or ('table', 'VIEW_WO_OVERWRITE')
 unfoldable pub enable_at : Reader Statement
 enable_at bytes = do
-  rest ← enable_call_at bytes
+  rest ← call_at (codes "ENABLEVERSIONING") bytes
   rest ← mark_at 40 rest
   table ← quoted_table_at rest
-  rest ← mark_at 41 table.1
-  Some (Enable table.0, rest)
+  history ← history_at table.1
+  rest ← mark_at 41 history.1
+  Some (Enable table.0 history.0, rest)
+
+-- ('text')
+unfoldable pub one_text_at : Reader (List ℕ)
+one_text_at bytes = do
+  rest ← mark_at 40 bytes
+  text ← text_at rest
+  rest ← mark_at 41 text.1
+  Some (text.0, rest)
+
+-- EXECUTE DBMS_WM.CreateWorkspace('workspace')
+unfoldable pub create_workspace_at : Reader Statement
+create_workspace_at bytes = do
+  rest ← call_at (codes "CREATEWORKSPACE") bytes
+  workspace ← one_text_at rest
+  Some (CreateWorkspace workspace.0, workspace.1)
+
+-- EXECUTE DBMS_WM.CreateSavepoint('workspace', 'savepoint')
+unfoldable pub create_savepoint_at : Reader Statement
+create_savepoint_at bytes = do
+  rest ← call_at (codes "CREATESAVEPOINT") bytes
+  rest ← mark_at 40 rest
+  workspace ← text_at rest
+  rest ← mark_at 44 workspace.1
+  savepoint ← text_at rest
+  rest ← mark_at 41 savepoint.1
+  Some (CreateSavepoint workspace.0 savepoint.0, rest)
+
+-- EXECUTE DBMS_WM.GotoWorkspace('workspace')
+unfoldable pub goto_workspace_at : Reader Statement
+goto_workspace_at bytes = do
+  rest ← call_at (codes "GOTOWORKSPACE") bytes
+  workspace ← one_text_at rest
+  Some (GotoWorkspace workspace.0, workspace.1)
+
+-- the name of the place that is no savepoint
+abbrev pub latest : List ℕ
+latest = codes "LATEST"
+
+-- ('savepoint'), () or nothing, which are LATEST
+unfoldable pub place_at : Reader (List ℕ)
+place_at bytes = called (mark_at 40 bytes)
+  where
+    empty : List ℕ → Option (List ℕ) → Option (List ℕ × List ℕ)
+    empty inside None = do
+      text ← text_at inside
+      rest ← mark_at 41 text.1
+      Some (text.0, rest)
+    empty inside (Some rest) = Some (latest, rest)
+    called : Option (List ℕ) → Option (List ℕ × List ℕ)
+    called None = Some (latest, bytes)
+    called (Some inside) = empty inside (mark_at 41 inside)
+
+-- EXECUTE DBMS_WM.GotoSavepoint, with or without a savepoint
+unfoldable pub goto_savepoint_at : Reader Statement
+goto_savepoint_at bytes = do
+  rest ← call_at (codes "GOTOSAVEPOINT") bytes
+  savepoint ← place_at rest
+  Some (GotoSavepoint savepoint.0, savepoint.1)
+
+-- a call of one of the procedures
+unfoldable pub execute_at : Reader Statement
+execute_at bytes =
+    or_else (enable_at bytes) (or_else (create_workspace_at bytes) (or_else (create_savepoint_at bytes) (or_else (goto_workspace_at bytes) (goto_savepoint_at bytes))))
 
 -- INSERT INTO table VALUES
 unfoldable pub insert_table_at : Reader (List ℕ)
@@ -157,7 +249,37 @@ select_at bytes = do
   Some (Select table.0, table.1)
 
 unfoldable pub statement_at : Reader Statement
-statement_at bytes = or_else (create_at bytes) (or_else (enable_at bytes) (or_else (insert_at bytes) (select_at bytes)))
+statement_at bytes = or_else (create_at bytes) (or_else (insert_at bytes) (or_else (select_at bytes) (execute_at bytes)))
+
+-- ---- the start of a line
+
+-- a word that begins a line which is no statement, unless a colon follows
+abbrev pub begins_line : List ℕ → Bool
+begins_line word = bytes_eq word (codes "CONNECT") || (bytes_eq word (codes "DISCONNECT") || bytes_eq word (codes "AT"))
+
+-- a word that begins a statement
+abbrev pub begins_statement : List ℕ → Bool
+begins_statement word =
+    list_any (λ other. bytes_eq word other) (codes "CREATE" ∷ codes "INSERT" ∷ codes "UPDATE" ∷ codes "DELETE" ∷ codes "SELECT" ∷ codes "EXECUTE" ∷ codes "EXEC" ∷ [])
+
+-- the column, from 1, of the token that stands next, or one past the end; rest is what is left of the line there
+abbrev pub column_of : List ℕ → List ℕ → ℕ
+column_of line rest = length line - length (skip rest) + 1
+
+-- the column of the token at which the start of a line begins no kind of line, where there is one: it is a session's name, a colon
+-- and a word that begins a statement, or CONNECT, DISCONNECT or AT
+unfoldable pub start_fault : List ℕ → Option ℕ
+start_fault line = first (word_at line)
+  where
+    third : List ℕ → Option (List ℕ × List ℕ) → Option ℕ
+    third rest None = Some (column_of line rest)
+    third rest (Some word) = if begins_statement word.0 then None else Some (column_of line rest)
+    second : List ℕ → List ℕ → Option (List ℕ) → Option ℕ
+    second word rest None = if begins_line word then None else Some (column_of line rest)
+    second word rest (Some behind) = third behind (word_at behind)
+    first : Option (List ℕ × List ℕ) → Option ℕ
+    first None = Some (column_of line line)
+    first (Some word) = if is_reserved word.0 && not (begins_line word.0) then Some (column_of line line) else second word.0 word.1 (mark_at 58 word.1)
 
 -- nothing is left but one ';' at most
 unfoldable pub is_ended : List ℕ → Bool
@@ -175,17 +297,30 @@ connect_line line = do
   user ← name_at session.1
   if is_spent user.1 then Some (Connect session.0 user.0) else None
 
+-- DISCONNECT session
+unfoldable pub disconnect_line : List ℕ → Option Line
+disconnect_line line = do
+  rest ← keyword_at (codes "DISCONNECT") line
+  session ← name_at rest
+  if is_spent session.1 then Some (Disconnect session.0) else None
+
+-- a session's name before a colon: CONNECT, DISCONNECT and AT are names there
+unfoldable pub session_at : Reader (List ℕ)
+session_at bytes = do
+  word ← word_at bytes
+  rest ← mark_at 58 word.1
+  if is_reserved word.0 && not (begins_line word.0) then None else Some (word.0, rest)
+
 -- session: statement
 unfoldable pub run_line : List ℕ → Option Line
 run_line line = do
-  session ← name_at line
-  rest ← mark_at 58 session.1
-  statement ← statement_at rest
+  session ← session_at line
+  statement ← statement_at session.1
   if is_ended statement.1 then Some (Run session.0 statement.0) else None
 
 -- what the line says, where it is of a form
 unfoldable pub line_of : List ℕ → Option Line
-line_of line = or_else (connect_line line) (run_line line)
+line_of line = or_else (run_line line) (or_else (connect_line line) (disconnect_line line))
 
 -- a line of blanks alone, or one whose first bytes behind the blanks are "--"
 unfoldable pub is_remark : List ℕ → Bool

@@ -1,6 +1,7 @@
 -- Small readers: what stands at the front of a line, and what is left behind it.
 use Rattle.std.specs.Prelude.{ℕ, ◌+◌, ◌-◌, ◌*◌, List, [], ◌∷◌, Bool, false, ◌&&◌, ◌||◌, ◌==◌, nat_lt, nat_le, length, take, drop, map, if◌then◌else◌, Option, None, Some, ℤ, pos, neg_ℤ}
 use Rattle.std.specs.List.{take_while}
+use Rattle.std.specs.Option.{option_map}
 use Rattle.std.specs.Str.{bytes_eq}
 use Rattle.std.specs.Char.{to_ascii_uppercase, is_ascii_digit, is_ascii_alphabetic, is_ascii_alphanumeric}
 
@@ -90,3 +91,24 @@ integer_at bytes = signed (mark_at 45 bytes)
     signed (Some rest) = do
       number ← digits_at rest
       Some (neg_ℤ (pos number.0), number.1)
+
+-- how many bytes stand before the quote that ends a text; two quotes together are one of its bytes
+abbrev pub text_length : List ℕ → Option ℕ
+text_length [] = None
+text_length (b ∷ bs) = if b == 39 then behind_quote bs else option_map (λ n. n + 1) (text_length bs)
+  where
+    behind_quote : List ℕ → Option ℕ
+    behind_quote [] = Some 0
+    behind_quote (c ∷ cs) = if c == 39 then option_map (λ n. n + 2) (text_length cs) else Some 0
+
+-- the bytes of a text as it is written, each doubled quote once
+abbrev pub unquoted : List ℕ → List ℕ
+unquoted [] = []
+unquoted (b ∷ bs) = b ∷ (if b == 39 then unquoted (drop 1 bs) else unquoted bs)
+
+-- a text between quotes that is not empty
+unfoldable pub text_at : Reader (List ℕ)
+text_at bytes = do
+  text ← mark_at 39 bytes
+  length ← text_length text
+  if length == 0 then None else Some (unquoted (take length text), drop (length + 1) text)
