@@ -1,14 +1,14 @@
 //! Names of sessions, users, tables and columns.
 ghost use Rattle.std.specs.Prelude.{◌≡◌, length, map, ◌-◌, drop, take, None, cond, if◌then◌else◌};
-ghost use Rattle.wm_model.specs.Reading.{begins_word, word_at};
+ghost use Rattle.wm_reader.specs.Reading.{begins_word, word_at};
 ghost use Rattle.std.specs.Option.{option_map};
 ghost use Rattle.std.specs.Char.{to_ascii_uppercase};
 ghost use Rattle.std.specs.List.{list_any};
 ghost use Rattle.std.specs.Str.{bytes_eq};
-ghost use Rattle.wm_model.specs.Grammar.{reserved, is_reserved, name_at, ends_in, is_table_name, is_column_name, is_taken, table_at, column_at, quoted_table_at};
-ghost use Rattle.wm_engine.specs.Views.{folded};
+ghost use Rattle.wm_reader.specs.Grammar.{reserved, is_reserved, name_at, ends_in, is_table_name, is_column_name, is_taken, table_at, column_at, quoted_table_at};
+ghost use Rattle.wm_reader.specs.Views.{folded};
 
-use crate::read::word::{begins_word, behind, is_word, mark, word};
+use crate::word::{begins_word, behind, is_word, mark, word};
 
 /// The words that are no names.
 const RESERVED: [&[u8]; 56] = [
@@ -71,22 +71,22 @@ const RESERVED: [&[u8]; 56] = [
 ];
 
 /// Whether the word is no name.
-#[tactic(auto, unfolding(wm_model::specs::Grammar::is_reserved))]
-fn is_reserved(word: &[u8]) -> bool
+#[tactic(auto, unfolding(crate::specs::Grammar::is_reserved))]
+pub fn is_reserved(word: &[u8]) -> bool
     ensures { result ≡ is_reserved (folded word.now) }
 {
     is_any(word, &RESERVED)
 }
 
 /// Whether the word means one of these.
-fn is_any(word: &[u8], words: &[&[u8]]) -> bool
+pub fn is_any(word: &[u8], words: &[&[u8]]) -> bool
     ensures { result ≡ list_any (λ capitals. bytes_eq (folded word.now) capitals.now) words.now }
 {
     words.iter().any(|capitals| is_word(word, capitals))
 }
 
 /// A name as it is written, and what is left behind it.
-#[tactic(auto, unfolding(wm_model::specs::Grammar::name_at))]
+#[tactic(auto, unfolding(crate::specs::Grammar::name_at))]
 pub fn name(text: &[u8]) -> Option<(&[u8], &[u8])>
     ensures { option_map (λ p. (folded p.0.now, p.1.now)) result ≡ name_at text.now }
 {
@@ -107,7 +107,7 @@ fn ends_in(end: &[u8], name: &[u8]) -> bool
 }
 
 /// Whether a table may have the name: at most 25 bytes, and not a view's.
-#[tactic(auto, unfolding(wm_model::specs::Grammar::is_table_name))]
+#[tactic(auto, unfolding(crate::specs::Grammar::is_table_name))]
 fn is_table_name(name: &[u8]) -> bool
     ensures { result ≡ is_table_name (folded name.now) }
 {
@@ -117,7 +117,7 @@ fn is_table_name(name: &[u8]) -> bool
 }
 
 /// Whether a column may have the name: at most 30 bytes, and none that begins with `WM_`.
-#[tactic(auto, unfolding(wm_model::specs::Grammar::is_column_name))]
+#[tactic(auto, unfolding(crate::specs::Grammar::is_column_name))]
 fn is_column_name(name: &[u8]) -> bool
     ensures { result ≡ is_column_name (folded name.now) }
 {
@@ -125,7 +125,7 @@ fn is_column_name(name: &[u8]) -> bool
 }
 
 /// Whether the word is reserved where a column stands.
-#[tactic(auto, unfolding(wm_model::specs::Grammar::is_taken))]
+#[tactic(auto, unfolding(crate::specs::Grammar::is_taken))]
 fn is_taken(word: &[u8]) -> bool
     ensures { result ≡ is_taken (folded word.now) }
 {
@@ -133,7 +133,7 @@ fn is_taken(word: &[u8]) -> bool
 }
 
 /// A table's name, and what is left behind it.
-#[tactic(auto, unfolding(wm_model::specs::Grammar::table_at))]
+#[tactic(auto, unfolding(crate::specs::Grammar::table_at))]
 pub fn table(text: &[u8]) -> Option<(&[u8], &[u8])>
     ensures { option_map (λ p. (folded p.0.now, p.1.now)) result ≡ table_at text.now }
 {
@@ -146,7 +146,7 @@ pub fn table(text: &[u8]) -> Option<(&[u8], &[u8])>
 }
 
 /// A column's name, and what is left behind it.
-#[tactic(auto, unfolding(wm_model::specs::Grammar::column_at))]
+#[tactic(auto, unfolding(crate::specs::Grammar::column_at))]
 pub fn column(text: &[u8]) -> Option<(&[u8], &[u8])>
     ensures { option_map (λ p. (folded p.0.now, p.1.now)) result ≡ column_at text.now }
 {
@@ -166,7 +166,7 @@ fn word_here(text: &[u8]) -> Option<(&[u8], &[u8])>
 }
 
 /// A text that holds a table's name and nothing beside it, and what is left behind it.
-#[tactic(auto, unfolding(wm_model::specs::Grammar::quoted_table_at))]
+#[tactic(auto, unfolding(crate::specs::Grammar::quoted_table_at))]
 pub fn quoted_table(text: &[u8]) -> Option<(&[u8], &[u8])>
     ensures { option_map (λ p. (folded p.0.now, p.1.now)) result ≡ quoted_table_at text.now }
 {

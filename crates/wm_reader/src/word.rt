@@ -4,7 +4,7 @@ ghost use Rattle.std.specs.Option.{option_map, option_copied};
 ghost use Rattle.std.specs.List.{take_while};
 ghost use Rattle.std.specs.Str.{bytes_eq};
 ghost use Rattle.std.specs.Char.{to_ascii_uppercase, is_ascii_digit};
-ghost use Rattle.wm_model.specs.Reading.{is_blank, is_name_byte, run_of, skip, is_spent, begins_word, word_at, keyword_at, behind, mark_at, value_from, digits_at, integer_at};
+ghost use Rattle.wm_reader.specs.Reading.{is_blank, is_name_byte, run_of, skip, is_spent, begins_word, word_at, keyword_at, behind, mark_at, value_from, digits_at, integer_at};
 
 use std::alloc::Global;
 use wm_base::{Memory, Name};
@@ -45,7 +45,7 @@ pub fn digit_count(text: &[u8]) -> usize
 }
 
 /// The text without the blanks at its front.
-#[tactic(auto, unfolding(wm_model::specs::Reading::skip))]
+#[tactic(auto, unfolding(crate::specs::Reading::skip))]
 pub fn skip(text: &[u8]) -> &[u8]
     ensures { result.now ≡ skip text.now }
 {
@@ -53,7 +53,7 @@ pub fn skip(text: &[u8]) -> &[u8]
 }
 
 /// Whether nothing but blanks is left.
-#[tactic(auto, unfolding(wm_model::specs::Reading::is_spent))]
+#[tactic(auto, unfolding(crate::specs::Reading::is_spent))]
 pub fn is_spent(text: &[u8]) -> bool
     ensures { result ≡ is_spent text.now }
 {
@@ -71,7 +71,7 @@ pub fn begins_word(text: &[u8]) -> bool
 }
 
 /// An identifier as it is written, reserved or not, and what is left behind it. It means its capitals.
-#[tactic(auto, unfolding(wm_model::specs::Reading::word_at))]
+#[tactic(auto, unfolding(crate::specs::Reading::word_at))]
 pub fn word(text: &[u8]) -> Option<(&[u8], &[u8])>
     ensures { option_map (λ p. (map to_ascii_uppercase p.0.now, p.1.now)) result ≡ word_at text.now }
 {
@@ -97,7 +97,7 @@ pub fn is_word(word: &[u8], capitals: &[u8]) -> bool
 }
 
 /// What is left behind this word.
-#[tactic(auto, unfolding(wm_model::specs::Reading::keyword_at))]
+#[tactic(auto, unfolding(crate::specs::Reading::keyword_at))]
 pub fn keyword<'a>(capitals: &[u8], text: &'a [u8]) -> Option<&'a [u8]>
     ensures { option_copied result ≡ keyword_at capitals.now text.now }
 {
@@ -120,7 +120,7 @@ pub fn behind(byte: u8, text: &[u8]) -> Option<&[u8]>
 }
 
 /// What is left behind this mark.
-#[tactic(auto, unfolding(wm_model::specs::Reading::mark_at))]
+#[tactic(auto, unfolding(crate::specs::Reading::mark_at))]
 pub fn mark(byte: u8, text: &[u8]) -> Option<&[u8]>
     ensures { option_copied result ≡ mark_at byte text.now }
 {

@@ -1,9 +1,9 @@
 -- The lines of this stage: what each one says, where it says something.
-use Rattle.std.specs.Prelude.{ℕ, ◌+◌, ◌-◌, map,  List, [], ◌∷◌, Bool, true, false, ◌&&◌, ◌||◌, not, nat_le, length, take, drop, if◌then◌else◌, Option, None, Some, codes, ℤ}
+use Rattle.std.specs.Prelude.{ℕ, ◌+◌, ◌-◌, map, List, [], ◌∷◌, Bool, true, false, ◌&&◌, ◌||◌, not, nat_le, length, take, drop, if◌then◌else◌, Option, None, Some, codes, ℤ}
 use Rattle.std.specs.List.{list_any}
 use Rattle.std.specs.Char.{to_ascii_uppercase}
 use Rattle.std.specs.Str.{bytes_eq}
-use Rattle.wm_model.specs.Reading.{Reader, ◌>>=◌, or_else, is_spent, skip, word_at, keyword_at, mark_at, behind, begins_word, integer_at, text_at}
+use Rattle.wm_reader.specs.Reading.{Reader, ◌>>=◌, or_else, is_spent, skip, word_at, keyword_at, mark_at, behind, begins_word, integer_at, text_at}
 
 pub data Statement : Type 0 where
   -- CREATE TABLE table (key NUMBER PRIMARY KEY, value NUMBER)
@@ -203,6 +203,7 @@ place_at bytes = called (mark_at 40 bytes)
       rest ← mark_at 41 text.1
       Some (text.0, rest)
     empty inside (Some rest) = Some (latest, rest)
+
     called : Option (List ℕ) → Option (List ℕ × List ℕ)
     called None = Some (latest, bytes)
     called (Some inside) = empty inside (mark_at 41 inside)
@@ -254,11 +255,15 @@ statement_at bytes = or_else (create_at bytes) (or_else (insert_at bytes) (or_el
 -- ---- the start of a line
 
 -- a word that begins a line which is no statement, unless a colon follows
-abbrev pub begins_line : List ℕ → Bool
+unfoldable pub begins_line : List ℕ → Bool
 begins_line word = bytes_eq word (codes "CONNECT") || (bytes_eq word (codes "DISCONNECT") || bytes_eq word (codes "AT"))
 
+-- a word that names a session before a colon: CONNECT, DISCONNECT and AT are names there
+unfoldable pub names_session : List ℕ → Bool
+names_session word = not (is_reserved word) || begins_line word
+
 -- a word that begins a statement
-abbrev pub begins_statement : List ℕ → Bool
+unfoldable pub begins_statement : List ℕ → Bool
 begins_statement word =
     list_any (λ other. bytes_eq word other) (codes "CREATE" ∷ codes "INSERT" ∷ codes "UPDATE" ∷ codes "DELETE" ∷ codes "SELECT" ∷ codes "EXECUTE" ∷ codes "EXEC" ∷ [])
 
@@ -266,20 +271,26 @@ begins_statement word =
 abbrev pub column_of : List ℕ → List ℕ → ℕ
 column_of line rest = length line - length (skip rest) + 1
 
--- the column of the token at which the start of a line begins no kind of line, where there is one: it is a session's name, a colon
--- and a word that begins a statement, or CONNECT, DISCONNECT or AT
-unfoldable pub start_fault : List ℕ → Option ℕ
-start_fault line = first (word_at line)
+-- the column of the next token, where it is no word that begins a statement
+unfoldable pub statement_fault : List ℕ → List ℕ → Option ℕ
+statement_fault line rest = by_word (word_at rest)
   where
-    third : List ℕ → Option (List ℕ × List ℕ) → Option ℕ
-    third rest None = Some (column_of line rest)
-    third rest (Some word) = if begins_statement word.0 then None else Some (column_of line rest)
-    second : List ℕ → List ℕ → Option (List ℕ) → Option ℕ
-    second word rest None = if begins_line word then None else Some (column_of line rest)
-    second word rest (Some behind) = third behind (word_at behind)
-    first : Option (List ℕ × List ℕ) → Option ℕ
-    first None = Some (column_of line line)
-    first (Some word) = if is_reserved word.0 && not (begins_line word.0) then Some (column_of line line) else second word.0 word.1 (mark_at 58 word.1)
+    by_word : Option (List ℕ × List ℕ) → Option ℕ
+    by_word None = Some (column_of line rest)
+    by_word (Some word) = if begins_statement word.0 then None else Some (column_of line rest)
+
+-- the column of the first token that begins no kind of line: a line is CONNECT, DISCONNECT or AT and no colon, or a session's name,
+-- a colon and a word that begins a statement
+unfoldable pub start_fault : List ℕ → Option ℕ
+start_fault line = by_word (word_at line)
+  where
+    by_colon : List ℕ → List ℕ → Option (List ℕ) → Option ℕ
+    by_colon word rest None = if begins_line word then None else Some (column_of line rest)
+    by_colon word rest (Some behind) = statement_fault line behind
+
+    by_word : Option (List ℕ × List ℕ) → Option ℕ
+    by_word None = Some (column_of line line)
+    by_word (Some word) = if names_session word.0 then by_colon word.0 word.1 (mark_at 58 word.1) else Some (column_of line line)
 
 -- nothing is left but one ';' at most
 unfoldable pub is_ended : List ℕ → Bool
@@ -304,12 +315,12 @@ disconnect_line line = do
   session ← name_at rest
   if is_spent session.1 then Some (Disconnect session.0) else None
 
--- a session's name before a colon: CONNECT, DISCONNECT and AT are names there
+-- a session's name and a colon
 unfoldable pub session_at : Reader (List ℕ)
 session_at bytes = do
   word ← word_at bytes
   rest ← mark_at 58 word.1
-  if is_reserved word.0 && not (begins_line word.0) then None else Some (word.0, rest)
+  if names_session word.0 then Some (word.0, rest) else None
 
 -- session: statement
 unfoldable pub run_line : List ℕ → Option Line

@@ -1,7 +1,7 @@
 use Rattle.std.proofs.Common.{arith}
 use Rattle.std.specs.Char.{is_ascii_digit}
-use Rattle.wm_engine.proofs.Digits.{all-run, value-below}
-use Rattle.wm_engine.proofs.read.number.digits.Goals as goal
+use Rattle.wm_reader.proofs.Digits.{all-run, value-below}
+use Rattle.wm_reader.proofs.number.digits.Goals as goal
 
 pub value_from-requires-clause-digits : goal.value_from-requires-clause-digits
 value_from-requires-clause-digits c = rw (c.split_at.ensures.front, c.digit_count-count.ensures) (all-run is_ascii_digit c.skip-text.result.now)

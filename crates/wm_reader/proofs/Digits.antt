@@ -5,7 +5,7 @@ use Rattle.std.proofs.Math.Bool.{false≢true}
 use Rattle.std.specs.List.{list_all, prefix_len}
 use Rattle.std.specs.Char.{is_ascii_digit}
 use Rattle.std.proofs.lemmas.List.Folds.{length-prefix_len}
-use Rattle.wm_model.specs.Reading.{value_from, run_of}
+use Rattle.wm_reader.specs.Reading.{value_from, run_of}
 
 -- more digits say no less
 pub value_from-le : (n : ℕ) (ds : List ℕ) → n ≤ value_from n ds

@@ -1,16 +1,18 @@
 //! The forms of a line.
 ghost use Rattle.std.specs.Prelude.{◌≡◌, length, map, Bool};
 ghost use Rattle.std.specs.Option.{option_map, option_copied};
-ghost use Rattle.wm_model.specs.Grammar.{number_column_at, key_column_at, create_table_at, create_at, enable_call_at, enable_at, insert_table_at, insert_at, select_at, statement_at, is_ended, connect_line, run_line, line_of, is_remark};
-ghost use Rattle.wm_engine.specs.Views.{folded, statement_view, line_view};
+ghost use Rattle.wm_reader.specs.Grammar.{number_column_at, key_column_at, create_table_at, create_at, insert_table_at, insert_at, select_at, statement_at, is_ended, connect_line, disconnect_line, run_line, line_of, is_remark};
+ghost use Rattle.wm_reader.specs.Views.{folded, statement_view, line_view};
 
-use crate::read::names::{column, name, quoted_table, table};
-use crate::read::number::integer;
-use crate::read::tree::{Line, Statement};
-use crate::read::word::{is_same_word, is_spent, keyword, mark, skip, starts_with};
+use crate::call::execute;
+use crate::names::{column, name, table};
+use crate::number::integer;
+use crate::start::session;
+use crate::tree::{Line, Statement};
+use crate::word::{is_same_word, is_spent, keyword, mark, skip, starts_with};
 
 /// `column NUMBER`
-#[tactic(auto, unfolding(wm_model::specs::Grammar::number_column_at))]
+#[tactic(auto, unfolding(crate::specs::Grammar::number_column_at))]
 fn number_column(text: &[u8]) -> Option<(&[u8], &[u8])>
     ensures { option_map (λ p. (folded p.0.now, p.1.now)) result ≡ number_column_at text.now }
 {
@@ -20,7 +22,7 @@ fn number_column(text: &[u8]) -> Option<(&[u8], &[u8])>
 }
 
 /// `column NUMBER PRIMARY KEY`
-#[tactic(auto, unfolding(wm_model::specs::Grammar::key_column_at))]
+#[tactic(auto, unfolding(crate::specs::Grammar::key_column_at))]
 fn key_column(text: &[u8]) -> Option<(&[u8], &[u8])>
     ensures { option_map (λ p. (folded p.0.now, p.1.now)) result ≡ key_column_at text.now }
 {
@@ -31,7 +33,7 @@ fn key_column(text: &[u8]) -> Option<(&[u8], &[u8])>
 }
 
 /// `CREATE TABLE table`
-#[tactic(auto, unfolding(wm_model::specs::Grammar::create_table_at))]
+#[tactic(auto, unfolding(crate::specs::Grammar::create_table_at))]
 fn create_table(text: &[u8]) -> Option<(&[u8], &[u8])>
     ensures { option_map (λ p. (folded p.0.now, p.1.now)) result ≡ create_table_at text.now }
 {
@@ -41,7 +43,7 @@ fn create_table(text: &[u8]) -> Option<(&[u8], &[u8])>
 }
 
 /// `CREATE TABLE table (key NUMBER PRIMARY KEY, value NUMBER)`, the columns being two.
-#[tactic(auto, unfolding(wm_model::specs::Grammar::create_at))]
+#[tactic(auto, unfolding(crate::specs::Grammar::create_at))]
 fn create(text: &[u8]) -> Option<(Statement<'_>, &[u8])>
     ensures { option_map (λ p. (statement_view p.0, p.1.now)) result ≡ create_at text.now }
 {
@@ -58,31 +60,8 @@ fn create(text: &[u8]) -> Option<(Statement<'_>, &[u8])>
     }
 }
 
-/// `EXECUTE DBMS_WM.EnableVersioning`
-#[tactic(auto, unfolding(wm_model::specs::Grammar::enable_call_at))]
-fn enable_call(text: &[u8]) -> Option<&[u8]>
-    ensures { option_copied result ≡ enable_call_at text.now }
-{
-    let rest = keyword(b"EXECUTE", text)?;
-    let rest = keyword(b"DBMS_WM", rest)?;
-    let rest = mark(b'.', rest)?;
-    keyword(b"ENABLEVERSIONING", rest)
-}
-
-/// `EXECUTE DBMS_WM.EnableVersioning('table')`
-#[tactic(auto, unfolding(wm_model::specs::Grammar::enable_at))]
-fn enable(text: &[u8]) -> Option<(Statement<'_>, &[u8])>
-    ensures { option_map (λ p. (statement_view p.0, p.1.now)) result ≡ enable_at text.now }
-{
-    let rest = enable_call(text)?;
-    let rest = mark(b'(', rest)?;
-    let (table, rest) = quoted_table(rest)?;
-    let rest = mark(b')', rest)?;
-    Some((Statement::Enable { table }, rest))
-}
-
 /// `INSERT INTO table VALUES`
-#[tactic(auto, unfolding(wm_model::specs::Grammar::insert_table_at))]
+#[tactic(auto, unfolding(crate::specs::Grammar::insert_table_at))]
 fn insert_table(text: &[u8]) -> Option<(&[u8], &[u8])>
     ensures { option_map (λ p. (folded p.0.now, p.1.now)) result ≡ insert_table_at text.now }
 {
@@ -94,7 +73,7 @@ fn insert_table(text: &[u8]) -> Option<(&[u8], &[u8])>
 }
 
 /// `INSERT INTO table VALUES (key, value)`
-#[tactic(auto, unfolding(wm_model::specs::Grammar::insert_at))]
+#[tactic(auto, unfolding(crate::specs::Grammar::insert_at))]
 fn insert(text: &[u8]) -> Option<(Statement<'_>, &[u8])>
     ensures { option_map (λ p. (statement_view p.0, p.1.now)) result ≡ insert_at text.now }
 {
@@ -108,7 +87,7 @@ fn insert(text: &[u8]) -> Option<(Statement<'_>, &[u8])>
 }
 
 /// `SELECT * FROM table`
-#[tactic(auto, unfolding(wm_model::specs::Grammar::select_at))]
+#[tactic(auto, unfolding(crate::specs::Grammar::select_at))]
 fn select(text: &[u8]) -> Option<(Statement<'_>, &[u8])>
     ensures { option_map (λ p. (statement_view p.0, p.1.now)) result ≡ select_at text.now }
 {
@@ -120,24 +99,24 @@ fn select(text: &[u8]) -> Option<(Statement<'_>, &[u8])>
 }
 
 /// A statement, and what is left behind it.
-#[tactic(auto, unfolding(wm_model::specs::Grammar::statement_at))]
+#[tactic(auto, unfolding(crate::specs::Grammar::statement_at))]
 fn statement(text: &[u8]) -> Option<(Statement<'_>, &[u8])>
     ensures { option_map (λ p. (statement_view p.0, p.1.now)) result ≡ statement_at text.now }
 {
     if let Some(read) = create(text) {
         return Some(read);
     }
-    if let Some(read) = enable(text) {
-        return Some(read);
-    }
     if let Some(read) = insert(text) {
         return Some(read);
     }
-    select(text)
+    if let Some(read) = select(text) {
+        return Some(read);
+    }
+    execute(text)
 }
 
 /// Whether nothing is left but one `;` at most.
-#[tactic(auto, unfolding(wm_model::specs::Grammar::is_ended))]
+#[tactic(auto, unfolding(crate::specs::Grammar::is_ended))]
 fn is_ended(text: &[u8]) -> bool
     ensures { result ≡ is_ended text.now }
 {
@@ -151,7 +130,7 @@ fn is_ended(text: &[u8]) -> bool
 }
 
 /// `CONNECT session user`
-#[tactic(auto, unfolding(wm_model::specs::Grammar::connect_line))]
+#[tactic(auto, unfolding(crate::specs::Grammar::connect_line))]
 fn connect_line(text: &[u8]) -> Option<Line<'_>>
     ensures { option_map line_view result ≡ connect_line text.now }
 {
@@ -165,13 +144,26 @@ fn connect_line(text: &[u8]) -> Option<Line<'_>>
     }
 }
 
+/// `DISCONNECT session`
+#[tactic(auto, unfolding(crate::specs::Grammar::disconnect_line))]
+fn disconnect_line(text: &[u8]) -> Option<Line<'_>>
+    ensures { option_map line_view result ≡ disconnect_line text.now }
+{
+    let rest = keyword(b"DISCONNECT", text)?;
+    let (session, rest) = name(rest)?;
+    if is_spent(rest) {
+        Some(Line::Disconnect { session })
+    } else {
+        None
+    }
+}
+
 /// `session: statement`
-#[tactic(auto, unfolding(wm_model::specs::Grammar::run_line))]
+#[tactic(auto, unfolding(crate::specs::Grammar::run_line))]
 fn run_line(text: &[u8]) -> Option<Line<'_>>
     ensures { option_map line_view result ≡ run_line text.now }
 {
-    let (session, rest) = name(text)?;
-    let rest = mark(b':', rest)?;
+    let (session, rest) = session(text)?;
     let (statement, rest) = statement(rest)?;
     if is_ended(rest) {
         Some(Line::Run { session, statement })
@@ -181,18 +173,21 @@ fn run_line(text: &[u8]) -> Option<Line<'_>>
 }
 
 /// What the line says, where it is of a form.
-#[tactic(auto, unfolding(wm_model::specs::Grammar::line_of))]
+#[tactic(auto, unfolding(crate::specs::Grammar::line_of))]
 pub fn line_of(line: &[u8]) -> Option<Line<'_>>
     ensures { option_map line_view result ≡ line_of line.now }
 {
-    match connect_line(line) {
-        Some(read) => Some(read),
-        None => run_line(line),
+    if let Some(read) = run_line(line) {
+        return Some(read);
     }
+    if let Some(read) = connect_line(line) {
+        return Some(read);
+    }
+    disconnect_line(line)
 }
 
 /// Whether the line is blank, or a comment, which begins with two dashes.
-#[tactic(auto, unfolding(wm_model::specs::Grammar::is_remark))]
+#[tactic(auto, unfolding(crate::specs::Grammar::is_remark))]
 pub fn is_remark(line: &[u8]) -> bool
     ensures { result ≡ is_remark line.now }
 {

@@ -92,19 +92,18 @@ integer_at bytes = signed (mark_at 45 bytes)
       number ← digits_at rest
       Some (neg_ℤ (pos number.0), number.1)
 
--- how many bytes stand before the quote that ends a text; two quotes together are one of its bytes
+-- how many bytes stand before the quote that ends a text: read from the left, two quotes together end none
 abbrev pub text_length : List ℕ → Option ℕ
 text_length [] = None
-text_length (b ∷ bs) = if b == 39 then behind_quote bs else option_map (λ n. n + 1) (text_length bs)
-  where
-    behind_quote : List ℕ → Option ℕ
-    behind_quote [] = Some 0
-    behind_quote (c ∷ cs) = if c == 39 then option_map (λ n. n + 2) (text_length cs) else Some 0
+text_length (b ∷ []) = if b == 39 then Some 0 else None
+text_length (b ∷ c ∷ bs) =
+    if b == 39 then (if c == 39 then option_map (λ n. 2 + n) (text_length bs) else Some 0) else option_map (λ n. 1 + n) (text_length (c ∷ bs))
 
--- the bytes of a text as it is written, each doubled quote once
+-- what the bytes between the quotes of a text mean: two quotes together are one
 abbrev pub unquoted : List ℕ → List ℕ
 unquoted [] = []
-unquoted (b ∷ bs) = b ∷ (if b == 39 then unquoted (drop 1 bs) else unquoted bs)
+unquoted (b ∷ []) = b ∷ []
+unquoted (b ∷ c ∷ bs) = b ∷ (if b == 39 then unquoted bs else unquoted (c ∷ bs))
 
 -- a text between quotes that is not empty
 unfoldable pub text_at : Reader (List ℕ)

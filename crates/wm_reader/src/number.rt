@@ -3,9 +3,9 @@ ghost use Rattle.std.specs.Prelude.{◌≡◌, true, length, ◌<◌, ◌^◌, p
 ghost use Rattle.std.specs.Option.{option_map};
 ghost use Rattle.std.specs.List.{list_all};
 ghost use Rattle.std.specs.Char.{is_ascii_digit};
-ghost use Rattle.wm_model.specs.Reading.{value_from, digits_at, integer_at, run_of};
+ghost use Rattle.wm_reader.specs.Reading.{value_from, digits_at, integer_at, run_of};
 
-use crate::read::word::{digit_count, mark, skip};
+use crate::word::{digit_count, mark, skip};
 
 /// What these digits say behind a number.
 fn value_from(value: u64, digits: &[u8]) -> u64
@@ -20,7 +20,7 @@ fn value_from(value: u64, digits: &[u8]) -> u64
 }
 
 /// 1 to 18 digits, and what is left behind them.
-#[tactic(auto, unfolding(wm_model::specs::Reading::digits_at))]
+#[tactic(auto, unfolding(crate::specs::Reading::digits_at))]
 fn digits(text: &[u8]) -> Option<(u64, &[u8])>
     ensures value { option_map (λ p. (p.0, p.1.now)) result ≡ digits_at text.now }
     ensures fits { IfSome result (λ p. p.0 < 10 ^ 18) }
@@ -36,7 +36,7 @@ fn digits(text: &[u8]) -> Option<(u64, &[u8])>
 }
 
 /// A whole number of 1 to 18 digits, perhaps behind a minus sign, and what is left behind it.
-#[tactic(auto, unfolding(wm_model::specs::Reading::integer_at))]
+#[tactic(auto, unfolding(crate::specs::Reading::integer_at))]
 pub fn integer(text: &[u8]) -> Option<(i64, &[u8])>
     ensures { option_map (λ p. (p.0, p.1.now)) result ≡ integer_at text.now }
 {
