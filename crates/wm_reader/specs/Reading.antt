@@ -1,7 +1,6 @@
 -- Small readers: what stands at the front of a line, and what is left behind it.
-use Rattle.std.specs.Prelude.{ℕ, ◌+◌, ◌-◌, ◌*◌, List, [], ◌∷◌, Bool, false, ◌&&◌, ◌||◌, ◌==◌, nat_lt, nat_le, length, take, drop, map, if◌then◌else◌, Option, None, Some, ℤ, pos, neg_ℤ}
+use Rattle.std.specs.Prelude.{ℕ, ◌+◌, ◌-◌, ◌*◌, List, [], ◌∷◌, Bool, true, false, ◌&&◌, ◌||◌, ◌==◌, nat_lt, nat_le, length, take, drop, map, if◌then◌else◌, Option, None, Some, ℤ, pos, neg_ℤ}
 use Rattle.std.specs.List.{take_while}
-use Rattle.std.specs.Option.{option_map}
 use Rattle.std.specs.Str.{bytes_eq}
 use Rattle.std.specs.Char.{to_ascii_uppercase, is_ascii_digit, is_ascii_alphabetic, is_ascii_alphanumeric}
 
@@ -92,22 +91,27 @@ integer_at bytes = signed (mark_at 45 bytes)
       number ← digits_at rest
       Some (neg_ℤ (pos number.0), number.1)
 
--- how many bytes stand before the quote that ends a text: read from the left, two quotes together end none
-abbrev pub text_length : List ℕ → Option ℕ
-text_length [] = None
-text_length (b ∷ []) = if b == 39 then Some 0 else None
-text_length (b ∷ c ∷ bs) =
-    if b == 39 then (if c == 39 then option_map (λ n. 2 + n) (text_length bs) else Some 0) else option_map (λ n. 1 + n) (text_length (c ∷ bs))
+-- how many bytes stand before the quote that ends a text, where count are read, and a quote behind them if quoted: it ends the text
+-- unless another follows
+abbrev pub text_length : (quoted : Bool) (count : ℕ) → List ℕ → Option ℕ
+text_length false count [] = None
+text_length true count [] = Some count
+text_length false count (b ∷ bs) = if b == 39 then text_length true count bs else text_length false (count + 1) bs
+text_length true count (b ∷ bs) = if b == 39 then text_length false (count + 2) bs else Some count
 
--- what the bytes between the quotes of a text mean: two quotes together are one
+-- a text without the second of two quotes; doubled: whether it would be the next byte
+abbrev pub undoubled : (doubled : Bool) → List ℕ → List ℕ
+undoubled doubled [] = []
+undoubled true (b ∷ bs) = undoubled false bs
+undoubled false (b ∷ bs) = b ∷ undoubled (b == 39) bs
+
+-- what the bytes between the quotes of a text mean: two quotes are one
 abbrev pub unquoted : List ℕ → List ℕ
-unquoted [] = []
-unquoted (b ∷ []) = b ∷ []
-unquoted (b ∷ c ∷ bs) = b ∷ (if b == 39 then unquoted bs else unquoted (c ∷ bs))
+unquoted raw = undoubled false raw
 
 -- a text between quotes that is not empty
 unfoldable pub text_at : Reader (List ℕ)
 text_at bytes = do
   text ← mark_at 39 bytes
-  length ← text_length text
+  length ← text_length false 0 text
   if length == 0 then None else Some (unquoted (take length text), drop (length + 1) text)

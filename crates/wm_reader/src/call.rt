@@ -39,13 +39,13 @@ fn history_word(raw: &[u8]) -> Option<bool>
 
 /// A comma and one of these words, or nothing.
 #[tactic(auto, unfolding(crate::specs::Grammar::history_at))]
-fn history(text: &[u8]) -> Option<(bool, &[u8])>
-    ensures { option_map (λ p. (p.0, p.1.now)) result ≡ history_at text.now }
+fn history(line: &[u8]) -> Option<(bool, &[u8])>
+    ensures { option_map (λ p. (p.0, p.1.now)) result ≡ history_at line.now }
 {
-    match mark(b',', text) {
-        None => Some((false, text)),
+    match mark(b',', line) {
+        None => Some((false, line)),
         Some(rest) => {
-            let (word, rest) = crate::text::text(rest)?;
+            let (word, rest) = text(rest)?;
             let history = history_word(word)?;
             Some((history, rest))
         }

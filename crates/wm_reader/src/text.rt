@@ -1,5 +1,5 @@
 //! Texts between quotes, in which a quote stands twice.
-ghost use Rattle.std.specs.Prelude.{◌≡◌, ◌<◌, length, IfOk, IfSome};
+ghost use Rattle.std.specs.Prelude.{◌≡◌, ◌<◌, false, length, IfOk, IfSome};
 ghost use Rattle.std.specs.Option.{option_map};
 ghost use Rattle.std.specs.Str.{is_utf8};
 ghost use Rattle.wm_reader.specs.Reading.{text_length, text_at, unquoted};
@@ -11,25 +11,26 @@ use wm_base::{Memory, Name};
 
 /// How many bytes stand before the quote that ends a text.
 fn text_length(text: &[u8]) -> Option<usize>
-    ensures value { result ≡ text_length text.now }
-    ensures within { IfSome result (λ n. n < length text.now) }
+    ensures value { result ≡ text_length false 0 text.now }
+    ensures within { IfSome result (λ count. count < length text.now) }
 {
     let mut length = 0;
-    let mut rest = text;
-    loop {
-        match rest {
-            [b'\'', b'\'', behind @ ..] => {
-                length += 2;
-                rest = behind;
+    let mut is_behind_quote = false;
+    for byte in text {
+        let is_quote = *byte == b'\'';
+        if is_behind_quote {
+            if !is_quote {
+                return Some(length);
             }
-            [b'\'', ..] => return Some(length),
-            [_, behind @ ..] => {
-                length += 1;
-                rest = behind;
-            }
-            [] => return None,
+            length += 2;
+            is_behind_quote = false;
+        } else if is_quote {
+            is_behind_quote = true;
+        } else {
+            length += 1;
         }
     }
+    if is_behind_quote { Some(length) } else { None }
 }
 
 /// A text that is not empty, as it is written between its quotes, and what is left behind it.
@@ -51,13 +52,14 @@ pub fn unquoted_of(alloc: Global, raw: &[u8]) -> Result<Name, Memory>
     ensures { IfOk result (λ name. name ≡ unquoted raw.now) }
 {
     let mut bytes = Vec::new(alloc);
-    let mut rest = raw;
-    while let [first, behind @ ..] = rest {
-        bytes.push(*first)?;
-        rest = match rest {
-            [b'\'', _, behind @ ..] => behind,
-            _ => behind,
-        };
+    let mut is_doubled = false;
+    for byte in raw {
+        if is_doubled {
+            is_doubled = false;
+            continue;
+        }
+        bytes.push(*byte)?;
+        is_doubled = *byte == b'\'';
     }
     Ok(Name::from_vec(bytes))
 }
