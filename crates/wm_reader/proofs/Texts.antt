@@ -1,5 +1,5 @@
 -- Laws of texts between quotes.
-use Rattle.std.proofs.Common.{◌≡◌, ℕ, List, [], ◌∷◌, Bool, true, false, ◌&&◌, ◌||◌, nat_eq, map, Result, Ok, Err, MatchResult, refl, sym, arith}
+use Rattle.std.proofs.Common.{◌≡◌, ℕ, List, [], ◌∷◌, Bool, true, false, ◌&&◌, ◌||◌, nat_eq, ◌+◌, ◌<◌, length, drop, drop-cons, add-one, map, Result, Ok, Err, MatchResult, refl, sym, arith}
 use Rattle.std.proofs.Math.Bool.{false≢true}
 use Rattle.std.proofs.lemmas.Bool.Decides.{nat_tests}
 use Rattle.std.specs.List.{list_any}
@@ -7,7 +7,11 @@ use Rattle.std.specs.Char.{to_ascii_uppercase}
 use Rattle.std.specs.Result.{is_ok}
 use Rattle.std.specs.Str.{bytes_eq, IsUtf8, is_utf8}
 use Rattle.std.proofs.lemmas.Str.{IsUtf8-from_is_utf8, is_utf8-from_IsUtf8}
-use Rattle.wm_reader.specs.Reading.{unquoted}
+use Rattle.wm_reader.specs.Reading.{undoubled, unquoted}
+
+-- the second of two quotes is passed over
+pub undoubled-second : (i : ℕ) (xs : List ℕ) → i < length xs → undoubled true (drop i xs) ≡ undoubled false (drop (i + 1) xs)
+undoubled-second i xs lt = rw (drop-cons xs i 0, add-one i) refl
 
 -- a quote means no byte but itself
 quote_is_none : (b d : ℕ) → nat_eq b 39 ≡ true → nat_eq d 39 ≡ false → nat_eq (to_ascii_uppercase b) d ≡ false

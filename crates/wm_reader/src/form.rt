@@ -150,8 +150,8 @@ fn disconnect_line(text: &[u8]) -> Option<Line<'_>>
     ensures { option_map line_view result ≡ disconnect_line text.now }
 {
     let rest = keyword(b"DISCONNECT", text)?;
-    let (session, rest) = name(rest)?;
-    if is_spent(rest) {
+    let (session, behind) = name(rest)?;
+    if is_spent(behind) {
         Some(Line::Disconnect { session })
     } else {
         None
