@@ -1,5 +1,5 @@
 -- Laws of texts between quotes.
-use Rattle.std.proofs.Common.{◌≡◌, ℕ, List, [], ◌∷◌, Bool, true, false, ◌&&◌, ◌||◌, nat_eq, ◌+◌, ◌<◌, length, drop, drop-cons, add-one, map, Result, Ok, Err, MatchResult, refl, sym, arith}
+use Rattle.std.proofs.Common.{◌≡◌, ℕ, List, [], ◌∷◌, Bool, true, false, ◌||◌, nat_eq, ◌+◌, ◌<◌, length, drop, drop-cons, add-one, map, Result, Ok, Err, MatchResult, refl, sym, arith}
 use Rattle.std.proofs.Math.Bool.{false≢true}
 use Rattle.std.proofs.lemmas.Bool.Decides.{nat_tests}
 use Rattle.std.specs.List.{list_any}

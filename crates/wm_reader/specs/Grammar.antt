@@ -1,4 +1,4 @@
--- The lines of this stage: what each one says, where it says something.
+-- The forms of a line that are read: what each one says, where it says something.
 use Rattle.std.specs.Prelude.{ℕ, ◌+◌, ◌-◌, map, List, [], ◌∷◌, Bool, true, false, ◌&&◌, ◌||◌, not, nat_le, length, take, drop, if◌then◌else◌, Option, None, Some, codes, ℤ}
 use Rattle.std.specs.List.{list_any}
 use Rattle.std.specs.Char.{to_ascii_uppercase}

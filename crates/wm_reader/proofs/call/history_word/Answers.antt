@@ -1,4 +1,4 @@
-use Rattle.std.proofs.Common.{codes, refl, sym, ◌∙◌}
+use Rattle.std.proofs.Common.{codes, refl, sym}
 use Rattle.wm_reader.proofs.Texts.{folded-unquoted}
 use Rattle.wm_reader.specs.Grammar.{history_word}
 use Rattle.wm_reader.proofs.call.history_word.Goals as goal
