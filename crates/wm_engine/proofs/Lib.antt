@@ -1,4 +1,3 @@
-mod Digits
 pub mod Planning
 pub mod Committing
 pub mod Fitting

@@ -10,7 +10,6 @@ mod keep;
 mod plan;
 mod planned;
 mod print;
-mod read;
 mod refuse;
 mod session;
 

@@ -1,6 +1,4 @@
 pub mod Lines
-pub mod Reading
-pub mod Grammar
 pub mod Step
 pub mod Planning
 pub mod Running
