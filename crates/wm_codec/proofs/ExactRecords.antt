@@ -7,7 +7,7 @@ use Rattle.wm_spec.specs.declared.record.Record.{Record}
 use Rattle.wm_spec.specs.declared.record.Record.TheVariants as records
 use Rattle.wm_codec.specs.Format.{Format, byte_at}
 use Rattle.wm_codec.specs.Fields.{value}
-use Rattle.wm_codec.specs.Spelling.{counters, column, table, space, version, row, piece, spelling, HasSpelling}
+use Rattle.wm_codec.specs.Spelling.{counters, column, table, space, version, savepoint, row, piece, hist, spelling, HasSpelling}
 use Rattle.wm_codec.specs.Reading.{whole, record_of, record_of_kind}
 use Rattle.wm_codec.proofs.Exact.{IsBytes, IsBytes-rest, IsExact, then_some, some_is, pair_exact, fields_exact}
 use Rattle.wm_codec.proofs.ExactFields.{byte_takes, u8_exact, u16_exact, u32_exact, u64_exact, flag_exact, kind_exact, column_kind_exact, freeze_mode_exact, text_exact}
@@ -35,12 +35,22 @@ space_exact = fields_exact _ _ _ (λ b. refl) (λ a. refl)
 version_exact : IsExact version
 version_exact = fields_exact _ _ _ (λ b. refl) (λ a. refl) (pair_exact _ _ u64_exact (pair_exact _ _ u32_exact u64_exact))
 
+savepoint_exact : IsExact savepoint
+savepoint_exact = fields_exact _ _ _ (λ b. refl) (λ a. refl)
+    (pair_exact _ _ u32_exact (pair_exact _ _ text_exact (pair_exact _ _ flag_exact (pair_exact _ _ u32_exact (pair_exact _ _ u64_exact (pair_exact _ _ u64_exact
+    (pair_exact _ _ u64_exact (pair_exact _ _ u64_exact (pair_exact _ _ u64_exact (pair_exact _ _ u64_exact u32_exact))))))))))
+
 row_exact : IsExact row
 row_exact = fields_exact _ _ _ (λ b. refl) (λ a. refl) (pair_exact _ _ u64_exact (pair_exact _ _ u16_exact (counted_exact _ value_exact)))
 
 pub piece_exact : IsExact piece
 piece_exact = fields_exact _ _ _ (λ b. refl) (λ a. refl)
     (pair_exact _ _ u64_exact (pair_exact _ _ cell_range_exact (pair_exact _ _ u64_exact (pair_exact _ _ kind_exact flag_exact))))
+
+hist_exact : IsExact hist
+hist_exact = fields_exact _ _ _ (λ b. refl) (λ a. refl)
+    (pair_exact _ _ u32_exact (pair_exact _ _ u64_exact (pair_exact _ _ cell_range_exact (pair_exact _ _ u64_exact (pair_exact _ _ kind_exact
+    (pair_exact _ _ flag_exact (pair_exact _ _ u64_exact text_exact)))))))
 
 -- ---- all of the bytes
 
@@ -82,13 +92,21 @@ kind_takes tag bytes r fits e =
           | inr e ↦ elim (chosen (eqb tag 4) _ _ _ e.1) [
             | inl is ↦ let t = whole_takes version records.Version bytes r version_exact fits is.1 in
                 rw (eqb-true tag 4 is.0) (subst (TakesRecord 4 bytes) t.made (t.fits, ap (λ b. 4 ∷ b) t.is))
-            | inr e ↦ elim (chosen (eqb tag 6) _ _ _ e.1) [
-              | inl is ↦ let t = whole_takes row records.Row bytes r row_exact fits is.1 in
-                  rw (eqb-true tag 6 is.0) (subst (TakesRecord 6 bytes) t.made (t.fits, ap (λ b. 6 ∷ b) t.is))
-              | inr e ↦ elim (chosen (eqb tag 7) _ _ _ e.1) [
-                | inl is ↦ let t = whole_takes piece records.Piece bytes r piece_exact fits is.1 in
-                    rw (eqb-true tag 7 is.0) (subst (TakesRecord 7 bytes) t.made (t.fits, ap (λ b. 7 ∷ b) t.is))
-                | inr e ↦ absurd cc
+            | inr e ↦ elim (chosen (eqb tag 5) _ _ _ e.1) [
+              | inl is ↦ let t = whole_takes savepoint records.Savepoint bytes r savepoint_exact fits is.1 in
+                  rw (eqb-true tag 5 is.0) (subst (TakesRecord 5 bytes) t.made (t.fits, ap (λ b. 5 ∷ b) t.is))
+              | inr e ↦ elim (chosen (eqb tag 6) _ _ _ e.1) [
+                | inl is ↦ let t = whole_takes row records.Row bytes r row_exact fits is.1 in
+                    rw (eqb-true tag 6 is.0) (subst (TakesRecord 6 bytes) t.made (t.fits, ap (λ b. 6 ∷ b) t.is))
+                | inr e ↦ elim (chosen (eqb tag 7) _ _ _ e.1) [
+                  | inl is ↦ let t = whole_takes piece records.Piece bytes r piece_exact fits is.1 in
+                      rw (eqb-true tag 7 is.0) (subst (TakesRecord 7 bytes) t.made (t.fits, ap (λ b. 7 ∷ b) t.is))
+                  | inr e ↦ elim (chosen (eqb tag 10) _ _ _ e.1) [
+                    | inl is ↦ let t = whole_takes hist records.Hist bytes r hist_exact fits is.1 in
+                        rw (eqb-true tag 10 is.0) (subst (TakesRecord 10 bytes) t.made (t.fits, ap (λ b. 10 ∷ b) t.is))
+                    | inr e ↦ absurd cc
+                  ]
+                ]
               ]
             ]
           ]
@@ -113,8 +131,10 @@ record_again (records.Counters r) fits = whole_again counters records.Counters r
 record_again (records.Table r) fits = whole_again table records.Table r table_exact fits
 record_again (records.Space r) fits = whole_again space records.Space r space_exact fits
 record_again (records.Version r) fits = whole_again version records.Version r version_exact fits
+record_again (records.Savepoint r) fits = whole_again savepoint records.Savepoint r savepoint_exact fits
 record_again (records.Row r) fits = whole_again row records.Row r row_exact fits
 record_again (records.Piece r) fits = whole_again piece records.Piece r piece_exact fits
+record_again (records.Hist r) fits = whole_again hist records.Hist r hist_exact fits
 
 -- no two records have one spelling
 pub spelling_injective : (r s : Record) → HasSpelling r → HasSpelling s → spelling r ≡ spelling s → r ≡ s

@@ -4,7 +4,7 @@ use Rattle.std.specs.Option.{option_and_then, option_map}
 use Rattle.wm_spec.specs.declared.record.Record.{Record}
 use Rattle.wm_spec.specs.declared.record.Record.TheVariants as records
 use Rattle.wm_codec.specs.Format.{Format, byte_at}
-use Rattle.wm_codec.specs.Spelling.{counters, table, space, version, row, piece}
+use Rattle.wm_codec.specs.Spelling.{counters, table, space, version, savepoint, row, piece, hist}
 use Rattle.wm_codec.specs.declared.fault.ReadFault.{ReadFault}
 use Rattle.wm_codec.specs.declared.fault.ReadFault.TheVariants as faults
 
@@ -29,9 +29,11 @@ record_of_kind tag bytes =
     else (if tag == 2 then whole table records.Table bytes
     else (if tag == 3 then whole space records.Space bytes
     else (if tag == 4 then whole version records.Version bytes
+    else (if tag == 5 then whole savepoint records.Savepoint bytes
     else (if tag == 6 then whole row records.Row bytes
     else (if tag == 7 then whole piece records.Piece bytes
-    else None)))))
+    else (if tag == 10 then whole hist records.Hist bytes
+    else None)))))))
 
 -- the record that the bytes spell
 unfoldable pub record_of : List ℕ → Option Record

@@ -7,8 +7,10 @@ use Rattle.wm_spec.specs.declared.record.table.Table.{Table}
 use Rattle.wm_spec.specs.declared.record.column.TableColumn.{TableColumn}
 use Rattle.wm_spec.specs.declared.record.space.Space.{Space}
 use Rattle.wm_spec.specs.declared.record.version.Version.{Version}
+use Rattle.wm_spec.specs.declared.record.savepoint.Savepoint.{Savepoint}
 use Rattle.wm_spec.specs.declared.record.row.RowRecord.{RowRecord}
 use Rattle.wm_spec.specs.declared.record.piece.PieceRecord.{PieceRecord}
+use Rattle.wm_spec.specs.declared.record.hist.Hist.{Hist}
 use Rattle.wm_codec.specs.Format.{Format, ◌▸◌, fields, counted}
 use Rattle.wm_codec.specs.Fields.{u8, u16, u32, u64, flag, text, kind, column_kind, freeze_mode, value, cell_range}
 
@@ -93,6 +95,33 @@ version = fields
     (λ p. record { number = p.0; space = p.1.0; parent = p.1.1 })
     (u64 ▸ u32 ▸ u64)
 
+abbrev pub savepoint : Format Savepoint
+savepoint = fields
+    (λ s. (
+      s.space,
+      (
+        s.name,
+        (
+          s.implicit,
+          (s.place, (s.making, (s.moment, (s.version, (s.base_version, (s.from, (s.log_length, s.rebases))))))),
+        ),
+      ),
+    ))
+    (λ p. record {
+      space = p.0;
+      name = p.1.0;
+      implicit = p.1.1.0;
+      place = p.1.1.1.0;
+      making = p.1.1.1.1.0;
+      moment = p.1.1.1.1.1.0;
+      version = p.1.1.1.1.1.1.0;
+      base_version = p.1.1.1.1.1.1.1.0;
+      from = p.1.1.1.1.1.1.1.1.0;
+      log_length = p.1.1.1.1.1.1.1.1.1.0;
+      rebases = p.1.1.1.1.1.1.1.1.1.1;
+    })
+    (u32 ▸ text ▸ flag ▸ u32 ▸ u64 ▸ u64 ▸ u64 ▸ u64 ▸ u64 ▸ u64 ▸ u32)
+
 abbrev pub row : Format RowRecord
 row = fields
     (λ r. (r.stamp, (r.table, r.values)))
@@ -105,14 +134,31 @@ piece = fields
     (λ p. record { version = p.0; cells = p.1.0; stamp = p.1.1.0; kind = p.1.1.1.0; gone = p.1.1.1.1 })
     (u64 ▸ cell_range ▸ u64 ▸ kind ▸ flag)
 
+abbrev pub hist : Format Hist
+hist = fields
+    (λ h. (h.space, (h.position, (h.cells, (h.stamp, (h.kind, (h.gone, (h.moment, h.user))))))))
+    (λ p. record {
+      space = p.0;
+      position = p.1.0;
+      cells = p.1.1.0;
+      stamp = p.1.1.1.0;
+      kind = p.1.1.1.1.0;
+      gone = p.1.1.1.1.1.0;
+      moment = p.1.1.1.1.1.1.0;
+      user = p.1.1.1.1.1.1.1;
+    })
+    (u32 ▸ u64 ▸ cell_range ▸ u64 ▸ kind ▸ flag ▸ u64 ▸ text)
+
 -- the bytes of a record
 unfoldable pub spelling : Record → List ℕ
 spelling (records.Counters r) = 1 ∷ counters.spell r
 spelling (records.Table r) = 2 ∷ table.spell r
 spelling (records.Space r) = 3 ∷ space.spell r
 spelling (records.Version r) = 4 ∷ version.spell r
+spelling (records.Savepoint r) = 5 ∷ savepoint.spell r
 spelling (records.Row r) = 6 ∷ row.spell r
 spelling (records.Piece r) = 7 ∷ piece.spell r
+spelling (records.Hist r) = 10 ∷ hist.spell r
 
 -- what is asked of a record so that it has a spelling: its texts and lists are short enough, no text among its
 -- values is empty, none of them is a period, and a key has one value
@@ -121,8 +167,10 @@ CanSpell (records.Counters r) = counters.CanSpell r
 CanSpell (records.Table r) = table.CanSpell r
 CanSpell (records.Space r) = space.CanSpell r
 CanSpell (records.Version r) = version.CanSpell r
+CanSpell (records.Savepoint r) = savepoint.CanSpell r
 CanSpell (records.Row r) = row.CanSpell r
 CanSpell (records.Piece r) = piece.CanSpell r
+CanSpell (records.Hist r) = hist.CanSpell r
 
 -- a record that has a spelling: that, and each number fits its bytes
 unfoldable pub HasSpelling : Record → Type 0
@@ -130,5 +178,7 @@ HasSpelling (records.Counters r) = counters.Fits r
 HasSpelling (records.Table r) = table.Fits r
 HasSpelling (records.Space r) = space.Fits r
 HasSpelling (records.Version r) = version.Fits r
+HasSpelling (records.Savepoint r) = savepoint.Fits r
 HasSpelling (records.Row r) = row.Fits r
 HasSpelling (records.Piece r) = piece.Fits r
+HasSpelling (records.Hist r) = hist.Fits r

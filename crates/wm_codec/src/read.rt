@@ -5,7 +5,9 @@ ghost use Rattle.wm_spec.specs.declared.record.Record.{Record};
 
 use crate::fault::ReadFault;
 use crate::numbers::u8_at;
-use crate::records::{counters_at, piece_of, row_of, space_of, table_of, version_at};
+use crate::records::{
+    counters_at, hist_of, piece_of, row_of, savepoint_of, space_of, table_of, version_at,
+};
 use std::alloc::Global;
 use wm_base::Memory;
 use wm_spec::record::Record;
@@ -32,6 +34,10 @@ fn record_of_fields(alloc: Global, tag: u8, bytes: &[u8]) -> Result<Record, Read
             let (version, rest) = version_at(bytes)?;
             (Record::Version(version), rest)
         }
+        5 => {
+            let (savepoint, rest) = savepoint_of(alloc, bytes)?;
+            (Record::Savepoint(savepoint), rest)
+        }
         6 => {
             let (row, rest) = row_of(alloc, bytes)?;
             (Record::Row(row), rest)
@@ -39,6 +45,10 @@ fn record_of_fields(alloc: Global, tag: u8, bytes: &[u8]) -> Result<Record, Read
         7 => {
             let (piece, rest) = piece_of(alloc, bytes)?;
             (Record::Piece(piece), rest)
+        }
+        10 => {
+            let (hist, rest) = hist_of(alloc, bytes)?;
+            (Record::Hist(hist), rest)
         }
         _ => return Err(ReadFault::NoRecord),
     };

@@ -1,5 +1,5 @@
 ghost use Rattle.std.specs.Prelude.{◌≡◌};
-ghost use Rattle.wm_codec.specs.Spelling.{counters, table, space, version, row, piece};
+ghost use Rattle.wm_codec.specs.Spelling.{counters, table, space, version, savepoint, row, piece, hist};
 ghost use Rattle.wm_codec.specs.Reading.{Gives};
 
 use crate::fault::ReadFault;
@@ -7,7 +7,7 @@ use crate::lists::{columns_of, values_of};
 use crate::numbers::{u8_at, u16_at, u32_at, u64_at};
 use crate::values::{cell_range_of, flag_at, freeze_mode_at, kind_at, text_of};
 use std::alloc::Global;
-use wm_spec::record::{Counters, PieceRecord, RowRecord, Space, Table, Version};
+use wm_spec::record::{Counters, Hist, PieceRecord, RowRecord, Savepoint, Space, Table, Version};
 
 pub fn counters_at(bytes: &[u8]) -> Result<(Counters, &[u8]), ReadFault>
     ensures { Gives (λ x. (x.0, x.1.now)) result (counters.read bytes.now) }
@@ -109,6 +109,38 @@ pub fn version_at(bytes: &[u8]) -> Result<(Version, &[u8]), ReadFault>
     ))
 }
 
+pub fn savepoint_of(alloc: Global, bytes: &[u8]) -> Result<(Savepoint, &[u8]), ReadFault>
+    ensures { Gives (λ x. (x.0, x.1.now)) result (savepoint.read bytes.now) }
+{
+    let (space, rest) = u32_at(bytes)?;
+    let (name, rest) = text_of(alloc, rest)?;
+    let (implicit, rest) = flag_at(rest)?;
+    let (place, rest) = u32_at(rest)?;
+    let (making, rest) = u64_at(rest)?;
+    let (moment, rest) = u64_at(rest)?;
+    let (version, rest) = u64_at(rest)?;
+    let (base_version, rest) = u64_at(rest)?;
+    let (from, rest) = u64_at(rest)?;
+    let (log_length, rest) = u64_at(rest)?;
+    let (rebases, rest) = u32_at(rest)?;
+    Ok((
+        Savepoint {
+            space,
+            name,
+            implicit,
+            place,
+            making,
+            moment,
+            version,
+            base_version,
+            from,
+            log_length,
+            rebases,
+        },
+        rest,
+    ))
+}
+
 pub fn row_of(alloc: Global, bytes: &[u8]) -> Result<(RowRecord, &[u8]), ReadFault>
     ensures { Gives (λ x. (x.0, x.1.now)) result (row.read bytes.now) }
 {
@@ -140,6 +172,32 @@ pub fn piece_of(alloc: Global, bytes: &[u8]) -> Result<(PieceRecord, &[u8]), Rea
             stamp,
             kind,
             gone,
+        },
+        rest,
+    ))
+}
+
+pub fn hist_of(alloc: Global, bytes: &[u8]) -> Result<(Hist, &[u8]), ReadFault>
+    ensures { Gives (λ x. (x.0, x.1.now)) result (hist.read bytes.now) }
+{
+    let (space, rest) = u32_at(bytes)?;
+    let (position, rest) = u64_at(rest)?;
+    let (cells, rest) = cell_range_of(alloc, rest)?;
+    let (stamp, rest) = u64_at(rest)?;
+    let (kind, rest) = kind_at(rest)?;
+    let (gone, rest) = flag_at(rest)?;
+    let (moment, rest) = u64_at(rest)?;
+    let (user, rest) = text_of(alloc, rest)?;
+    Ok((
+        Hist {
+            space,
+            position,
+            cells,
+            stamp,
+            kind,
+            gone,
+            moment,
+            user,
         },
         rest,
     ))

@@ -3,8 +3,8 @@ ghost use Rattle.wm_codec.specs.Spelling.{CanSpell};
 use crate::*;
 use std::alloc::Global;
 use std::test::Fail;
-use wm_base::{Bytes, Instant, Kind, Memory, Value};
-use wm_spec::record::{ColumnKind, Counters, FreezeMode, Record, Version};
+use wm_base::{Bytes, Instant, Kind, Memory, Text, Value};
+use wm_spec::record::{ColumnKind, Counters, FreezeMode, Record, Savepoint, Version};
 
 /// The Counters of a fresh store that takes 1,000 changes.
 const COUNTERS: &[u8] =
@@ -27,6 +27,14 @@ const ROW: &[u8] =
 /// A piece that lasts from 0 to the end, under the key 1.
 const PIECE: &[u8] =
     b"\x07\0\0\0\0\0\0\0\x02\0\x05\x01\0\0\0\0\0\0\0\x01\0\0\0\0\0\0\0\0\0\0\0\x49\x77\x86\x38\x80\0\0\0\0\0\0\0\x07\x02\x01";
+
+/// A savepoint S1 that was made for a workspace.
+const SAVEPOINT: &[u8] =
+    b"\x05\0\0\0\x01\0\x02S1\x01\0\0\0\x02\0\0\0\0\0\0\0\x03\0\0\0\0\0\0\x01\x02\0\0\0\0\0\0\0\x04\0\0\0\0\0\0\0\x01\0\0\0\0\0\0\0\x05\0\0\0\0\0\0\0\x06\0\0\0\x07";
+
+/// An entry by which ANN deleted the row under the key k from 0 to the end.
+const HIST: &[u8] =
+    b"\x0a\0\0\0\x02\0\0\0\0\0\0\0\x03\0\x05\x02\0\x01k\0\0\0\0\0\0\0\0\0\0\0\x49\x77\x86\x38\x80\0\0\0\0\0\0\0\x07\x03\x01\0\0\0\0\0\0\x01\x02\0\x03ANN";
 
 fn spelled(alloc: Global, what: &Record) -> Result<Bytes, Memory>
     requires { CanSpell what.now }
@@ -117,10 +125,64 @@ fn table_row_and_piece(rt: HostRuntime) -> Result<(), Fail> {
 }
 
 #[test]
+fn savepoint(rt: HostRuntime) -> Result<(), Fail> {
+    let alloc = rt.alloc();
+    let made = Savepoint {
+        space: 1,
+        name: Text::copy_of(alloc, b"S1")?,
+        implicit: true,
+        place: 2,
+        making: 3,
+        moment: 258,
+        version: 4,
+        base_version: 1,
+        from: 5,
+        log_length: 6,
+        rebases: 7,
+    };
+    let bytes = spelled(alloc, &Record::Savepoint(made))?;
+    assert_eq!(rt; bytes.as_slice(), SAVEPOINT);
+    let Some(Record::Savepoint(read)) = decode(alloc, SAVEPOINT)? else {
+        panic!(rt; "a savepoint");
+    };
+    assert!(rt; read.name.equals(b"S1") && read.implicit);
+    assert_eq!(rt; (read.space, read.place, read.rebases), (1, 2, 7));
+    assert_eq!(rt;
+        (read.making, read.moment, read.version, read.base_version),
+        (3, 258, 4, 1)
+    );
+    assert_eq!(rt; (read.from, read.log_length), (5, 6));
+    Ok(())
+}
+
+#[test]
+fn entry_of_a_log(rt: HostRuntime) -> Result<(), Fail> {
+    let Some(Record::Hist(hist)) = decode(rt.alloc(), HIST)? else {
+        panic!(rt; "an entry");
+    };
+    assert_eq!(rt;
+        (hist.space, hist.position, hist.stamp, hist.moment),
+        (2, 3, 7, 258)
+    );
+    assert_eq!(rt;
+        (hist.cells.table, hist.cells.from, hist.cells.till),
+        (5, 0, 315_537_897_600)
+    );
+    let [Value::Text(key)] = hist.cells.key.values() else {
+        panic!(rt; "a key of one text");
+    };
+    assert!(rt; key.equals(b"k"));
+    assert!(rt; hist.kind == Kind::Delete && hist.gone);
+    assert!(rt; hist.user.equals(b"ANN"));
+    Ok(())
+}
+
+#[test]
 fn no_records(rt: HostRuntime) -> Result<(), Fail> {
     for bytes in [
         b"".as_slice(),
         b"\x05".as_slice(),
+        b"\x08".as_slice(),
         // a byte too many, and one too few
         b"\x04\0\0\0\0\0\0\0\x01\0\0\0\0\0\0\0\0\0\0\0\0\0".as_slice(),
         b"\x04\0\0\0\0\0\0\0\x01\0\0\0\0\0\0\0\0\0\0\0".as_slice(),

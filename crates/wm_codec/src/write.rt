@@ -2,7 +2,7 @@ ghost use Rattle.std.specs.Prelude.{◌≡◌, ◌++◌, ◌<◌, length, OnOk, 
 ghost use Rattle.std.specs.List.{AllByRecursion};
 ghost use Rattle.wm_codec.specs.Fields.{value, CanSpellValue};
 ghost use Rattle.wm_codec.specs.Format.{counted};
-ghost use Rattle.wm_codec.specs.Spelling.{counters, column, table, space, version, row, piece, CanSpell, HasSpelling, spelling};
+ghost use Rattle.wm_codec.specs.Spelling.{counters, column, table, space, version, savepoint, row, piece, hist, CanSpell, HasSpelling, spelling};
 ghost use Rattle.wm_codec.specs.Writing.{Appends, AppendsEach, AppendsRecord};
 
 use crate::put::{
@@ -12,7 +12,8 @@ use crate::put::{
 use std::alloc::Global;
 use wm_base::{Bytes, Memory, Value, Values};
 use wm_spec::record::{
-    Counters, PieceRecord, Record, RowRecord, Space, Table, TableColumn, TableColumns, Version,
+    Counters, Hist, PieceRecord, Record, RowRecord, Savepoint, Space, Table, TableColumn,
+    TableColumns, Version,
 };
 
 fn put_counters(into: &mut Bytes, of: &Counters) -> Result<(), Memory>
@@ -122,6 +123,24 @@ fn put_version(into: &mut Bytes, of: &Version) -> Result<(), Memory>
     Ok(())
 }
 
+fn put_savepoint(into: &mut Bytes, of: &Savepoint) -> Result<(), Memory>
+    requires { savepoint.CanSpell of.now }
+    ensures { OnOk result (Appends savepoint into.old into.new of.now) }
+{
+    put_u32(into, of.space)?;
+    put_text(into, &of.name)?;
+    put_flag(into, of.implicit)?;
+    put_u32(into, of.place)?;
+    put_u64(into, of.making)?;
+    put_u64(into, of.moment)?;
+    put_u64(into, of.version)?;
+    put_u64(into, of.base_version)?;
+    put_u64(into, of.from)?;
+    put_u64(into, of.log_length)?;
+    put_u32(into, of.rebases)?;
+    Ok(())
+}
+
 fn put_row(into: &mut Bytes, of: &RowRecord) -> Result<(), Memory>
     requires { row.CanSpell of.now }
     ensures { OnOk result (Appends row into.old into.new of.now) }
@@ -141,6 +160,21 @@ fn put_piece(into: &mut Bytes, of: &PieceRecord) -> Result<(), Memory>
     put_u64(into, of.stamp)?;
     put_kind(into, of.kind)?;
     put_flag(into, of.gone)?;
+    Ok(())
+}
+
+fn put_hist(into: &mut Bytes, of: &Hist) -> Result<(), Memory>
+    requires { hist.CanSpell of.now }
+    ensures { OnOk result (Appends hist into.old into.new of.now) }
+{
+    put_u32(into, of.space)?;
+    put_u64(into, of.position)?;
+    put_cell_range(into, &of.cells)?;
+    put_u64(into, of.stamp)?;
+    put_kind(into, of.kind)?;
+    put_flag(into, of.gone)?;
+    put_u64(into, of.moment)?;
+    put_text(into, &of.user)?;
     Ok(())
 }
 
@@ -166,6 +200,10 @@ fn put_record(into: &mut Bytes, what: &Record) -> Result<(), Memory>
             into.push(4)?;
             put_version(into, version)
         }
+        Record::Savepoint(savepoint) => {
+            into.push(5)?;
+            put_savepoint(into, savepoint)
+        }
         Record::Row(row) => {
             into.push(6)?;
             put_row(into, row)
@@ -173,6 +211,10 @@ fn put_record(into: &mut Bytes, what: &Record) -> Result<(), Memory>
         Record::Piece(piece) => {
             into.push(7)?;
             put_piece(into, piece)
+        }
+        Record::Hist(hist) => {
+            into.push(10)?;
+            put_hist(into, hist)
         }
     }
 }

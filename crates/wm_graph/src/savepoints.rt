@@ -35,7 +35,8 @@ fn is_saved_in(versions: &Index<Version>, savepoint: &Savepoint, space: &Space) 
         && savepoint.log_length <= space.log_length
 }
 
-/// Whether the savepoint has a short name, was made by counted work and is in order in its workspace, which is there.
+/// Whether the savepoint has a short name and a making of at most the work and 2, and is in order in its workspace,
+/// which is there.
 fn is_savepoint(
     spaces: &Index<Space>,
     versions: &Index<Version>,
@@ -96,7 +97,7 @@ fn count_of(counts: &Counts, space: u32) -> u64
     counts.get(&space).copied().unwrap_or(0)
 }
 
-/// How many savepoints each workspace has.
+/// The counts of the savepoints of each workspace.
 fn counts_of(alloc: Global, savepoints: &[&Savepoint]) -> Result<Counts, Memory>
     ensures { IfOk result (λ counts. (n : ℕ) → counted counts.entries n ≡ count_by (λ x. x.space == n) (referred savepoints.now)) }
 {
@@ -108,7 +109,7 @@ fn counts_of(alloc: Global, savepoints: &[&Savepoint]) -> Result<Counts, Memory>
     Ok(counts)
 }
 
-/// Whether no workspace has more savepoints than it may.
+/// Whether no workspace has more savepoints than it may, by their counts.
 fn each_has_few(counts: &Counts, spaces: &[&Space]) -> bool
     ensures { result ≡ list_all (λ s. nat_le (counted counts.now.entries s.number) 4096) (referred spaces.now) }
 {

@@ -13,8 +13,10 @@ use Rattle.wm_spec.specs.declared.record.Record.{Record}
 use Rattle.wm_spec.specs.declared.record.Record.TheVariants as records
 use Rattle.wm_spec.specs.declared.record.column.TableColumn.{TableColumn}
 use Rattle.wm_spec.specs.declared.record.counters.Counters.{Counters}
+use Rattle.wm_spec.specs.declared.record.hist.Hist.{Hist}
 use Rattle.wm_spec.specs.declared.record.piece.PieceRecord.{PieceRecord}
 use Rattle.wm_spec.specs.declared.record.row.RowRecord.{RowRecord}
+use Rattle.wm_spec.specs.declared.record.savepoint.Savepoint.{Savepoint}
 use Rattle.wm_spec.specs.declared.record.space.Space.{Space}
 use Rattle.wm_spec.specs.declared.record.table.Table.{Table}
 use Rattle.wm_spec.specs.declared.record.version.Version.{Version}
@@ -43,6 +45,15 @@ unfolding spelling
 fits_space s name writer = (
   (tt, (in_text s.name name, (tt, (tt, (tt, (tt, (tt, (tt, (tt, (tt, (tt, (tt, (tt, in_text s.writer writer))))))))))))),
   simp length-append (omega (arith, name, writer)),
+)
+
+-- ---- savepoints
+
+pub fits_savepoint : (x : Savepoint) → length x.name ≤ 30 → FitsPage (records.Savepoint x)
+unfolding spelling
+fits_savepoint x name = (
+  (tt, (in_text x.name name, (tt, (tt, (tt, (tt, (tt, (tt, (tt, (tt, tt)))))))))),
+  simp length-append (omega (arith, name)),
 )
 
 -- ---- tables
@@ -134,4 +145,13 @@ unfolding spelling
 fits_piece x v is spelled light = (
   (tt, ((tt, (subst CanSpellKey (sym is) (can_value v spelled light), (tt, tt))), (tt, (tt, tt)))),
   simp length-append (omega (arith, light, length-key x.cells.key v is)),
+)
+
+-- ---- entries of logs
+
+pub fits_hist : (x : Hist) (v : Value) → x.cells.key ≡ v ∷ [] → is_spelled v ≡ true → weight_of v ≤ 2000 → length x.user ≤ 30 → FitsPage (records.Hist x)
+unfolding spelling
+fits_hist x v is spelled light user = (
+  (tt, (tt, ((tt, (subst CanSpellKey (sym is) (can_value v spelled light), (tt, tt))), (tt, (tt, (tt, (tt, in_text x.user user))))))),
+  simp length-append (omega (arith, light, length-key x.cells.key v is, user)),
 )
