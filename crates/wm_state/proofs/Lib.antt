@@ -18,6 +18,7 @@ pub mod Planned
 pub mod Listing
 pub mod Listed
 pub mod Forking
+pub mod Sprouting
 pub mod Growing
 pub mod Leaves
 pub mod Forks

@@ -1,0 +1,86 @@
+-- A version more, above all others and with nothing in it: what is seen then.
+use Rattle.std.proofs.Common.{◌≡◌, ◌≢◌, ℕ, ◌<◌, ◌==◌, true, false, cond, List, [], ◌∷◌, Bool, None, refl, sym, ap, ◌∙◌, ◌⊎◌, inl, inr, arith}
+use Rattle.std.proofs.lemmas.Bool.{cases_eq, eq-eqb, ne_eqb}
+use Rattle.wm_graph.specs.Parts.{Parts}
+use Rattle.wm_spec.specs.Lists.{Cell}
+use Rattle.wm_spec.specs.declared.record.piece.PieceRecord.{PieceRecord}
+use Rattle.wm_tree.specs.Versions.{latest_in, AllBelow}
+use Rattle.wm_tree.specs.declared.version.Version.{Version as Node}
+use Rattle.wm_state.specs.Standing.{stored_at, seen_at, own_at, newest_first, latest, seen, seen_above}
+use Rattle.wm_state.specs.Effects.{is_there}
+use Rattle.wm_state.proofs.Tests.{bool_apart}
+
+pub record Sprouted (p q : Parts) (x : Node) : Type 0 where
+  pub some : 0 < x.number
+  pub below : AllBelow x.number (newest_first p.versions)
+  pub versions : newest_first q.versions ≡ x ∷ newest_first p.versions
+  pub empty : (c : Cell) → stored_at p.pieces x.number c ≡ None
+  pub pieces : q.pieces ≡ p.pieces
+
+-- ---- among the versions
+
+-- the newest version of a workspace is below what all versions are below
+newest-below : (n : ℕ) (nodes : List Node) (m : ℕ) → 0 < n → AllBelow n nodes → latest_in nodes m < n
+newest-below n [] m some below = some
+newest-below n (x ∷ older) m some below = by_test (x.space == m) (newest-below n older m some below.1)
+  where
+    by_test : (b : Bool) → latest_in older m < n → cond b x.number (latest_in older m) < n
+    by_test true rest = below.0
+    by_test false rest = rest
+
+-- and so is each version that is there
+pub there-below : (n : ℕ) (nodes : List Node) (k : ℕ) → AllBelow n nodes → is_there k nodes ≡ true → k < n
+there-below n [] k below there = absurd (bool_apart (sym there))
+there-below n (x ∷ older) k below there = by_number (cases_eq x.number k) (there-below n older k below.1)
+  where
+    by_number : (x.number ≡ k) ⊎ (x.number ≢ k) → (is_there k older ≡ true → k < n) → k < n
+    by_number (inl here) rest = omega (arith, below.0, here)
+    by_number (inr away) rest = rest (sym (ap (λ b. cond b true (is_there k older)) (ne_eqb _ _ away)) ∙ there)
+
+-- a version has nothing of its own above itself
+pub above-self : (pieces : List PieceRecord) (nodes : List Node) (base : ℕ) (c : Cell) → own_at pieces nodes base base c ≡ None
+above-self pieces [] base c = refl
+above-self pieces (x ∷ older) base c = rw (eq-eqb base base refl) refl
+
+-- ---- what is seen
+
+seen-in : (p q : Parts) (x : Node) → Sprouted p q x → (v : ℕ) (c : Cell) → seen q v c ≡ seen_at p.pieces (x ∷ newest_first p.versions) v c
+seen-in p q x s v c = ap (λ nodes. seen_at q.pieces nodes v c) s.versions ∙ ap (λ pieces. seen_at pieces (x ∷ newest_first p.versions) v c) s.pieces
+
+above-in : (p q : Parts) (x : Node) → Sprouted p q x → (base v : ℕ) (c : Cell) → seen_above q base v c ≡ own_at p.pieces (x ∷ newest_first p.versions) base v c
+above-in p q x s base v c = ap (λ nodes. own_at q.pieces nodes base v c) s.versions ∙ ap (λ pieces. own_at pieces (x ∷ newest_first p.versions) base v c) s.pieces
+
+-- what was there before sees what it saw
+pub seen-before : (p q : Parts) (x : Node) → Sprouted p q x → (v : ℕ) (c : Cell) → v < x.number → seen q v c ≡ seen p v c
+seen-before p q x s v c lt = seen-in p q x s v c ∙ rw (ne_eqb x.number v (λ same. omega (arith, lt, same))) refl
+
+-- and has above a base what it had
+pub above-before : (p q : Parts) (x : Node) → Sprouted p q x → (base v : ℕ) (c : Cell) → v < x.number → seen_above q base v c ≡ seen_above p base v c
+above-before p q x s base v c lt = by_base (cases_eq v base)
+  where
+    by_base : (v ≡ base) ⊎ (v ≢ base) → seen_above q base v c ≡ seen_above p base v c
+    by_base (inl same) = rw same (above-self q.pieces (newest_first q.versions) base c ∙ sym (above-self p.pieces (newest_first p.versions) base c))
+    by_base (inr other) = above-in p q x s base v c ∙ rw (ne_eqb _ _ other, ne_eqb x.number v (λ same. omega (arith, lt, same))) refl
+
+-- the new version sees what its parent saw
+pub seen-sprout : (p q : Parts) (x : Node) → Sprouted p q x → (c : Cell) → seen q x.number c ≡ seen p x.parent c
+seen-sprout p q x s c = seen-in p q x s x.number c ∙ rw (eq-eqb x.number x.number refl, s.empty c) refl
+
+-- and has nothing above its parent
+pub above-sprout : (p q : Parts) (x : Node) → Sprouted p q x → (c : Cell) → x.parent < x.number → seen_above q x.parent x.number c ≡ None
+above-sprout p q x s c lt =
+    above-in p q x s x.parent x.number c
+    ∙ rw (ne_eqb x.number x.parent (λ same. omega (arith, lt, same)), eq-eqb x.number x.number refl, s.empty c) (above-self p.pieces (newest_first p.versions) x.parent c)
+
+-- ---- the newest version of each workspace
+
+-- the new one is the newest of its workspace
+pub newest-here : (p q : Parts) (x : Node) → Sprouted p q x → latest q x.space ≡ x.number
+newest-here p q x s = rw (s.versions, eq-eqb x.space x.space refl) refl
+
+-- every other workspace has the one that it had
+pub newest-away : (p q : Parts) (x : Node) → Sprouted p q x → (m : ℕ) → m ≢ x.space → latest q m ≡ latest p m
+newest-away p q x s m other = rw (s.versions, ne_eqb x.space m (λ same. other (sym same))) refl
+
+pub newest-lower : (p q : Parts) (x : Node) → Sprouted p q x → (m : ℕ) → latest p m < x.number
+newest-lower p q x s m = newest-below x.number (newest_first p.versions) m s.some s.below
