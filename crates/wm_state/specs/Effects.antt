@@ -1,6 +1,6 @@
 -- What becomes of the records, told by what is looked up in them.
 use Rattle.std.specs.Prelude.{ℕ, ◌≡◌, ◌+◌, ◌<◌, Bool, true, false, ◌==◌, nat_lt, if◌then◌else◌, List, [], ◌∷◌, ◌++◌, Some, None, is_some}
-use Rattle.std.specs.List.{list_all}
+use Rattle.std.specs.List.{list_all, list_any}
 use Rattle.std.specs.Bool.{then_some}
 use Rattle.std.specs.Option.{option_or, option_map}
 use Rattle.wm_graph.specs.Parts.{Parts, row_of, space_of}
@@ -97,7 +97,7 @@ pub record Saved (p q : Parts) (n place implicit : ℕ) (x : Savepoint) : Type 0
 pub record Born (p q : Parts) (r : Space) (number : ℕ) : Type 0 where
   pub child : 0 < r.number
   pub none : space_of p.spaces r.number ≡ None
-  pub unsaved : (x : Savepoint) (making : ℕ) → saved_as p r.number making ≡ Some x → ⊥
+  pub unsaved : list_any (λ (x : Savepoint). x.space == r.number) p.savepoints ≡ false
   pub from : r.birth_version ≡ r.base_version
   pub there : is_there r.base_version (newest_first p.versions) ≡ true
   pub below : AllBelow number (newest_first p.versions)
