@@ -5,7 +5,7 @@ use Rattle.std.specs.List.{list_all, find}
 use Rattle.std.specs.Option.{option_map, option_map_or}
 use Rattle.std.specs.Str.{bytes_eq}
 use Rattle.wm_graph.specs.Parts.{Parts, space_of, version_of, has_version}
-use Rattle.wm_graph.specs.Rules.{keep_rules, keep_rules_with, are_counters, are_tables, are_spaces, is_space, is_placed, is_short, live, are_versions, is_version, has_versions, stands_under, is_version_of, are_rows, are_pieces, differ}
+use Rattle.wm_graph.specs.Rules.{keep_rules, keep_rules_with, are_counters, are_tables, are_spaces, is_space, is_placed, is_short, live, are_versions, is_version, has_versions, stands_under, is_version_of, are_savepoints, are_rows, are_pieces, are_hists, differ}
 use Rattle.wm_spec.specs.declared.record.counters.Counters.{Counters}
 use Rattle.wm_spec.specs.declared.record.space.Space.{Space}
 use Rattle.wm_spec.specs.declared.record.version.Version.{Version}
@@ -13,7 +13,7 @@ use Rattle.wm_tree.specs.Versions.{version_in}
 use Rattle.wm_tree.specs.declared.version.Version.{Version as Node}
 use Rattle.wm_state.specs.Standing.{node_of, newest_first, latest}
 use Rattle.wm_state.specs.Effects.{IsApart}
-use Rattle.wm_state.proofs.Tests.{bool_apart, both}
+use Rattle.wm_state.proofs.Tests.{bool_apart, both, and_true}
 use Rattle.wm_state.proofs.Newest.{numbers_differ, Descend-newest, version_in-newest, has-newest, IsNewest, newest_there}
 
 -- what is found passes the test, and is one of the list
@@ -37,8 +37,10 @@ pub record Ruled (p : Parts) : Type 0 where
   pub tables : are_tables p.tables ≡ true
   pub spaces : are_spaces p.spaces ≡ true
   pub versions : are_versions p counters.next_version ≡ true
+  pub savepoints : are_savepoints p counters.work ≡ true
   pub rows : are_rows p counters.next_stamp ≡ true
   pub pieces : are_pieces p counters.next_stamp ≡ true
+  pub hists : are_hists p counters.next_stamp ≡ true
 
 pub ruled : (p : Parts) → keep_rules p ≡ true → Ruled p
 unfolding keep_rules
@@ -52,8 +54,22 @@ ruled p e = by_counters p.counters refl e
         let b = both (are_tables p.tables) _ a.1 in
         let d = both (are_spaces p.spaces) _ b.1 in
         let f = both (are_versions p c.next_version) _ d.1 in
-        let g = both (are_rows p c.next_stamp) (are_pieces p c.next_stamp) f.1 in
-        record { counters = c; one = is; counted = a.0; tables = b.0; spaces = d.0; versions = f.0; rows = g.0; pieces = g.1 }
+        let g = both (are_savepoints p c.work) _ f.1 in
+        let k = both (are_rows p c.next_stamp) _ g.1 in
+        let l = both (are_pieces p c.next_stamp) (are_hists p c.next_stamp) k.1 in
+        record { counters = c; one = is; counted = a.0; tables = b.0; spaces = d.0; versions = f.0; savepoints = g.0; rows = k.0; pieces = l.0; hists = l.1 }
+
+-- the rules hold where all of them do
+pub keeps_all : (p : Parts) (c : Counters) → p.counters ≡ c ∷ [] → are_counters c ≡ true → are_tables p.tables ≡ true → are_spaces p.spaces ≡ true → are_versions p c.next_version ≡ true
+    → are_savepoints p c.work ≡ true → are_rows p c.next_stamp ≡ true → are_pieces p c.next_stamp ≡ true → are_hists p c.next_stamp ≡ true → keep_rules p ≡ true
+unfolding keep_rules
+keeps_all p c one counters tables spaces versions savepoints rows pieces hists =
+    ap (keep_rules_with p) one
+    ∙ and_true (are_counters c) _ counters
+    (and_true (are_tables p.tables) _ tables
+    (and_true (are_spaces p.spaces) _ spaces
+    (and_true (are_versions p c.next_version) _ versions
+    (and_true (are_savepoints p c.work) _ savepoints (and_true (are_rows p c.next_stamp) _ rows (and_true (are_pieces p c.next_stamp) (are_hists p c.next_stamp) pieces hists))))))
 
 pub record RuledVersions (p : Parts) (next : ℕ) : Type 0 where
   pub numbers : numbers_differ p.versions
