@@ -27,3 +27,5 @@ pub mod Growing
 pub mod Leaves
 pub mod Forks
 pub mod Ids
+pub mod Mapped
+pub mod Making

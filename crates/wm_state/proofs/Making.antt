@@ -1,0 +1,139 @@
+-- Records of savepoints by making.
+use Rattle.std.proofs.Common.{◌≡◌, ◌≢◌, ℕ, suc, ◌==◌, nat_lt, Bool, true, false, not, ◌&&◌, ◌||◌, cond, List, [], ◌∷◌, ◌++◌, map, length, Option, Some, None, refl, sym, ap, ◌∙◌, ◌⊎◌, inl, inr, arith}
+use Rattle.std.proofs.lemmas.Bool.{cases_eq, eq-eqb, eqb-true, ne_eqb}
+use Rattle.std.specs.List.{list_all, list_any, filter, find}
+use Rattle.wm_graph.specs.Rules.{differ}
+use Rattle.wm_spec.specs.declared.record.savepoint.Savepoint.{Savepoint as Record}
+use Rattle.wm_state.specs.Standing.{place_making, by_making}
+use Rattle.wm_state.proofs.Tests.{bool_apart, both, and_true, not_true, either_false}
+use Rattle.wm_state.proofs.Mapped.{find-none}
+
+-- ---- one that was made after all others comes last
+
+place-before : (x y : Record) (ys : List Record) → nat_lt y.making x.making ≡ true → place_making y (ys ++ x ∷ []) ≡ place_making y ys ++ x ∷ []
+place-before x y [] lt = rw (not_less y.making x.making lt) refl
+  where
+    not_less : (a b : ℕ) → nat_lt a b ≡ true → nat_lt b a ≡ false
+    not_less a b lt = grind (arith, lt)
+place-before x y (z ∷ zs) lt = by_test (nat_lt z.making y.making) (place-before x y zs lt)
+  where
+    by_test : (b : Bool) → place_making y (zs ++ x ∷ []) ≡ place_making y zs ++ x ∷ []
+        → cond b (z ∷ place_making y (zs ++ x ∷ [])) (y ∷ z ∷ (zs ++ x ∷ [])) ≡ cond b (z ∷ place_making y zs) (y ∷ z ∷ zs) ++ x ∷ []
+    by_test true rest = ap (λ xs. z ∷ xs) rest
+    by_test false rest = refl
+
+pub making-push : (x : Record) (xs : List Record) → list_all (λ (y : Record). nat_lt y.making x.making) xs ≡ true → by_making (xs ++ x ∷ []) ≡ by_making xs ++ x ∷ []
+making-push x [] after = refl
+making-push x (y ∷ ys) after =
+    let h = both (nat_lt y.making x.making) (list_all (λ (y : Record). nat_lt y.making x.making) ys) after in
+    ap (place_making y) (making-push x ys h.1) ∙ place-before x y (by_making ys) h.0
+
+-- ---- what holds of all, of none, and how many they are
+
+length-place : (y : Record) (ys : List Record) → length (place_making y ys) ≡ length (y ∷ ys)
+length-place y [] = refl
+length-place y (z ∷ zs) = by_test (nat_lt z.making y.making) (length-place y zs)
+  where
+    by_test : (b : Bool) → length (place_making y zs) ≡ length (y ∷ zs) → length (cond b (z ∷ place_making y zs) (y ∷ z ∷ zs)) ≡ length (y ∷ z ∷ zs)
+    by_test true rest = ap suc rest
+    by_test false rest = refl
+
+pub length-making : (xs : List Record) → length (by_making xs) ≡ length xs
+length-making [] = refl
+length-making (x ∷ xs) = length-place x (by_making xs) ∙ ap suc (length-making xs)
+
+all-place : (P : Record → Bool) (y : Record) (ys : List Record) → P y ≡ true → list_all P ys ≡ true → list_all P (place_making y ys) ≡ true
+all-place P y [] is all = and_true (P y) true is refl
+all-place P y (z ∷ zs) is all = by_test (nat_lt z.making y.making) (both (P z) (list_all P zs) all) (all-place P y zs is)
+  where
+    by_test : (b : Bool) → (P z ≡ true) × (list_all P zs ≡ true) → (list_all P zs ≡ true → list_all P (place_making y zs) ≡ true) → list_all P (cond b (z ∷ place_making y zs) (y ∷ z ∷ zs)) ≡ true
+    by_test true h rest = and_true (P z) (list_all P (place_making y zs)) h.0 (rest h.1)
+    by_test false h rest = and_true (P y) (list_all P (z ∷ zs)) is all
+
+pub all-making : (P : Record → Bool) (xs : List Record) → list_all P xs ≡ true → list_all P (by_making xs) ≡ true
+all-making P [] all = refl
+all-making P (x ∷ xs) all = let h = both (P x) (list_all P xs) all in all-place P x (by_making xs) h.0 (all-making P xs h.1)
+
+any-place : (P : Record → Bool) (y : Record) (ys : List Record) → P y ≡ false → list_any P ys ≡ false → list_any P (place_making y ys) ≡ false
+any-place P y [] is none = rw is refl
+any-place P y (z ∷ zs) is none = by_test (nat_lt z.making y.making) (either_false (P z) (list_any P zs) none) (any-place P y zs is)
+  where
+    by_test : (b : Bool) → (P z ≡ false) × (list_any P zs ≡ false) → (list_any P zs ≡ false → list_any P (place_making y zs) ≡ false) → list_any P (cond b (z ∷ place_making y zs) (y ∷ z ∷ zs)) ≡ false
+    by_test true h rest = rw (h.0, rest h.1) refl
+    by_test false h rest = rw (is, h.0, h.1) refl
+
+pub any-making : (P : Record → Bool) (xs : List Record) → list_any P xs ≡ false → list_any P (by_making xs) ≡ false
+any-making P [] none = refl
+any-making P (x ∷ xs) none = let h = either_false (P x) (list_any P xs) none in any-place P x (by_making xs) h.0 (any-making P xs h.1)
+
+-- ---- makings that differ
+
+-- two of one making
+abbrev pub same_making : Record → Record → Bool
+same_making x y = x.making == y.making
+
+pub making-itself : (x : Record) → same_making x x ≡ true
+making-itself x = eq-eqb x.making x.making refl
+
+turned : (x y : Record) → same_making x y ≡ false → same_making y x ≡ false
+turned x y e = ne_eqb _ _ (λ same. bool_apart (sym (eq-eqb x.making y.making (sym same)) ∙ e))
+
+differ-place : (y : Record) (ys : List Record) → list_any (same_making y) ys ≡ false → differ same_making ys ≡ true → differ same_making (place_making y ys) ≡ true
+differ-place y [] none apart = refl
+differ-place y (z ∷ zs) none apart =
+    by_test (nat_lt z.making y.making) (either_false (same_making y z) (list_any (same_making y) zs) none) (both (not (list_any (same_making z) zs)) (differ same_making zs) apart) (differ-place y zs)
+  where
+    by_test : (b : Bool) → (same_making y z ≡ false) × (list_any (same_making y) zs ≡ false) → (not (list_any (same_making z) zs) ≡ true) × (differ same_making zs ≡ true)
+        → (list_any (same_making y) zs ≡ false → differ same_making zs ≡ true → differ same_making (place_making y zs) ≡ true) → differ same_making (cond b (z ∷ place_making y zs) (y ∷ z ∷ zs)) ≡ true
+    by_test true h d rest =
+        and_true (not (list_any (same_making z) (place_making y zs))) (differ same_making (place_making y zs))
+        (ap not (any-place (same_making z) y zs (turned y z h.0) (not_true (list_any (same_making z) zs) d.0))) (rest h.1 d.1)
+    by_test false h d rest = and_true (not (list_any (same_making y) (z ∷ zs))) (differ same_making (z ∷ zs)) (ap not none) apart
+
+pub differ-making : (xs : List Record) → differ same_making xs ≡ true → differ same_making (by_making xs) ≡ true
+differ-making [] apart = refl
+differ-making (x ∷ xs) apart =
+    let h = both (not (list_any (same_making x) xs)) (differ same_making xs) apart in
+    differ-place x (by_making xs) (any-making (same_making x) xs (not_true (list_any (same_making x) xs) h.0)) (differ-making xs h.1)
+
+-- ---- the one of a making
+
+-- the record is of this making
+abbrev pub is_made : ℕ → Record → Bool
+is_made making x = x.making == making
+
+place-skip : (P : Record → Bool) (y : Record) (ys : List Record) → P y ≡ false → find P (place_making y ys) ≡ find P ys
+place-skip P y [] is = rw is refl
+place-skip P y (z ∷ zs) is = by_test (nat_lt z.making y.making) (place-skip P y zs is)
+  where
+    by_test : (b : Bool) → find P (place_making y zs) ≡ find P zs → find P (cond b (z ∷ place_making y zs) (y ∷ z ∷ zs)) ≡ find P (z ∷ zs)
+    by_test true rest = ap (λ o. cond (P z) (Some z) o) rest
+    by_test false rest = rw is refl
+
+place-found : (P : Record → Bool) (y : Record) (ys : List Record) → P y ≡ true → list_any P ys ≡ false → find P (place_making y ys) ≡ Some y
+place-found P y [] is none = rw is refl
+place-found P y (z ∷ zs) is none = by_test (nat_lt z.making y.making) (either_false (P z) (list_any P zs) none) (place-found P y zs is)
+  where
+    by_test : (b : Bool) → (P z ≡ false) × (list_any P zs ≡ false) → (list_any P zs ≡ false → find P (place_making y zs) ≡ Some y) → find P (cond b (z ∷ place_making y zs) (y ∷ z ∷ zs)) ≡ Some y
+    by_test true h rest = rw h.0 (rest h.1)
+    by_test false h rest = rw is refl
+
+-- it is found in the one order as in the other
+pub find-making : (making : ℕ) (xs : List Record) → differ same_making xs ≡ true → find (is_made making) (by_making xs) ≡ find (is_made making) xs
+find-making making [] apart = refl
+find-making making (x ∷ xs) apart = by_making_of (cases_eq x.making making) (both (not (list_any (same_making x) xs)) (differ same_making xs) apart) (find-making making xs)
+  where
+    asked : (ys : List Record) → x.making ≡ making → list_any (same_making x) ys ≡ list_any (is_made making) ys
+    asked [] e = refl
+    asked (y ∷ ys) e = rw (asked ys e, e, swapped making y.making) refl
+      where
+        swapped : (a b : ℕ) → (a == b) ≡ (b == a)
+        swapped a b = grind (arith)
+
+    by_making_of : (x.making ≡ making) ⊎ (x.making ≢ making) → (not (list_any (same_making x) xs) ≡ true) × (differ same_making xs ≡ true)
+        → (differ same_making xs ≡ true → find (is_made making) (by_making xs) ≡ find (is_made making) xs) → find (is_made making) (place_making x (by_making xs)) ≡ find (is_made making) (x ∷ xs)
+    by_making_of (inl here) h rest =
+        place-found (is_made making) x (by_making xs) (eq-eqb _ _ here)
+        (any-making (is_made making) xs (sym (asked xs here) ∙ not_true (list_any (same_making x) xs) h.0))
+        ∙ sym (rw (eq-eqb _ _ here) refl)
+    by_making_of (inr away) h rest = place-skip (is_made making) x (by_making xs) (ne_eqb _ _ away) ∙ rest h.1 ∙ sym (rw (ne_eqb _ _ away) refl)
