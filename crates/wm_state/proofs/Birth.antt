@@ -3,21 +3,19 @@ use Rattle.std.proofs.Common.{◌≡◌, ◌≢◌, ℕ, ◌<◌, ◌==◌, Bool
 use Rattle.std.proofs.lemmas.Bool.{cases_eq, eq-eqb, ne_eqb}
 use Rattle.std.specs.List.{filter, find, list_any}
 use Rattle.std.specs.Option.{option_or, option_map}
-use Rattle.wm_base.specs.declared.row.Row.{Row}
 use Rattle.wm_graph.specs.Parts.{Parts, row_of, space_of, version_of}
 use Rattle.wm_graph.specs.Rules.{keep_rules}
-use Rattle.wm_period.specs.Pieces.{Held}
-use Rattle.wm_spec.specs.Lists.{Entry, Cell, Told, told, touched}
+use Rattle.wm_spec.specs.Lists.{Entry, Cell, told, touched}
 use Rattle.wm_spec.specs.declared.record.row.RowRecord.{RowRecord}
 use Rattle.wm_spec.specs.declared.record.savepoint.Savepoint.{Savepoint as Record}
 use Rattle.wm_spec.specs.declared.record.space.Space.{Space}
 use Rattle.wm_tree.specs.declared.version.Version.{Version as Node}
 use Rattle.wm_state.specs.State.{State, Workspace, Savepoint, content, kept, workspace_of, savepoint_made, savepoints_of}
-use Rattle.wm_state.specs.Standing.{held_of, fields_of, fields_in, saved_fields, fields_saved, by_making, saved_in, saved_as, by_number, latest, seen, seen_above, shown, owned, HasRows, CountersStand, SpacesStand, LatestStand, OwnStand, SavepointsStand, KeptStand, KeptOwnStand, BasesStand, RowsStand, Stands}
+use Rattle.wm_state.specs.Standing.{held_of, fields_of, fields_in, saved_fields, fields_saved, by_making, saved_in, saved_as, by_number, latest, seen, seen_above, shown, owned, HasRows, CountersStand, Stands}
 use Rattle.wm_state.specs.Effects.{Born}
-use Rattle.wm_state.proofs.Tests.{bool_apart, either_false}
+use Rattle.wm_state.proofs.Tests.{either_false}
 use Rattle.wm_state.proofs.Sprouting.{Sprouted, there-below, seen-before, above-before, seen-sprout, above-sprout, newest-here, newest-away, newest-lower}
-use Rattle.wm_state.proofs.Naming.{recorded-below, saved-there, bases-there}
+use Rattle.wm_state.proofs.Named.{saved_there, bases_there, version_there, version_below}
 
 -- the workspace that is born: its record has its fields, it has no changes and no savepoints, and it sees what its parent's version saw
 pub record IsChild (p : Parts) (r : Space) (w : Workspace) (es : List Entry) : Type 0 where
@@ -69,12 +67,6 @@ workspace_of-more ws w m none = find_more (λ (x : Workspace). x.number == m) ws
     by_number : (m ≡ w.number) ⊎ (m ≢ w.number) → option_or (workspace_of ws m) (cond (w.number == m) (Some w) None) ≡ cond (m == w.number) (Some w) (workspace_of ws m)
     by_number (inl same) = rw (eq-eqb _ _ same, eq-eqb _ _ (sym same), ap (workspace_of ws) same ∙ none) refl
     by_number (inr other) = rw (ne_eqb _ _ other, ne_eqb w.number m (λ same. other (sym same))) (or-none (workspace_of ws m))
-
-none_some : {A : Type 0} {B : Type 0} (f : A → B) (o : Option A) (x : A) → option_map f o ≡ None → o ≡ Some x → ⊥
-none_some f o x none some = apart (sym none ∙ ap (option_map f) some)
-  where
-    apart : None ≡ Some (f x) → ⊥
-    apart e = cc
 
 map-none : {A : Type 0} {B : Type 0} (f : A → B) (o : Option A) → option_map f o ≡ None → o ≡ None
 map-none f None e = refl
@@ -130,7 +122,7 @@ Stands-born p q s t r number w es b st child spaces tables counters rules = reco
     base_lower = there-below number _ r.base_version b.below b.there
 
     recorded_lower : (k : ℕ) → is_some (version_of p.versions k) ≡ true → k < number
-    recorded_lower k there = recorded-below p number k st.rules b.below there
+    recorded_lower k there = version_below p st.rules number b.below k there
 
     -- no workspace had the child's number
     none : workspace_of s.spaces r.number ≡ None
@@ -215,13 +207,13 @@ Stands-born p q s t r number w es b st child spaces tables counters rules = reco
         → seen q y.version c ≡ option_map held_of (told (kept k) c)
     kept_told m making new k y c (inl h) made recorded = absurd (made_none making new k h.1 made)
     kept_told m making new k y c (inr h) made recorded =
-        seen-before p q x grown y.version c (recorded_lower y.version (saved-there p st.rules m making y recorded)) ∙ st.kept.told m making new k y h.1 made recorded c
+        seen-before p q x grown y.version c (recorded_lower y.version (version_there (version_of p.versions) y.version m (saved_there p st.rules m making y recorded).version)) ∙ st.kept.told m making new k y h.1 made recorded c
 
     kept_covered : (m making : ℕ) (new : Workspace) (k : Savepoint) (y : Record) (c : Cell) → Is (workspace_of s.spaces m) r.number m w new → savepoint_made making new.savepoints ≡ Some k → saved_as p m making ≡ Some y
         → k.rebases ≡ new.rebases → is_some (seen_above q y.base_version y.version c) ≡ touched k.own c
     kept_covered m making new k y c (inl h) made recorded still = absurd (made_none making new k h.1 made)
     kept_covered m making new k y c (inr h) made recorded still =
-        ap is_some (above-before p q x grown y.base_version y.version c (recorded_lower y.version (saved-there p st.rules m making y recorded)))
+        ap is_some (above-before p q x grown y.base_version y.version c (recorded_lower y.version (version_there (version_of p.versions) y.version m (saved_there p st.rules m making y recorded).version)))
         ∙ st.kept_own.covered m making new k y h.1 made recorded still c
 
     -- what is seen under the child
@@ -237,7 +229,7 @@ Stands-born p q s t r number w es b st child spaces tables counters rules = reco
     birth_told m new y some c (inl h) (inr k) = absurd (k.0 h.0)
     birth_told m new y some c (inr h) (inl k) = absurd (h.0 k.0)
     birth_told m new y some c (inr h) (inr k) =
-        seen-before p q x grown y.birth_version c (recorded_lower y.birth_version (bases-there p st.rules m y some k.1).0) ∙ st.bases.birth m new y some h.1 k.1 c
+        seen-before p q x grown y.birth_version c (recorded_lower y.birth_version (version_there (version_of p.versions) y.birth_version y.parent (bases_there p st.rules m y some k.1).birth)) ∙ st.bases.birth m new y some h.1 k.1 c
 
     base_told : (m : ℕ) (new : Workspace) (y : Space) → 0 < m → (c : Cell) → Is (workspace_of s.spaces m) r.number m w new → Is (space_of p.spaces m) r.number m r y
         → seen q y.base_version c ≡ option_map held_of (told new.lists.base c)
@@ -248,7 +240,7 @@ Stands-born p q s t r number w es b st child spaces tables counters rules = reco
     base_told m new y some c (inl h) (inr k) = absurd (k.0 h.0)
     base_told m new y some c (inr h) (inl k) = absurd (h.0 k.0)
     base_told m new y some c (inr h) (inr k) =
-        seen-before p q x grown y.base_version c (recorded_lower y.base_version (bases-there p st.rules m y some k.1).1) ∙ st.bases.base m new y some h.1 k.1 c
+        seen-before p q x grown y.base_version c (recorded_lower y.base_version (version_there (version_of p.versions) y.base_version y.parent (bases_there p st.rules m y some k.1).base)) ∙ st.bases.base m new y some h.1 k.1 c
 
     -- the rows stand as they stood
     same_rows : (xs : List Entry) → HasRows p xs → HasRows q xs

@@ -21,7 +21,6 @@ pub mod Listing
 pub mod Listed
 pub mod Forking
 pub mod Sprouting
-pub mod Naming
 pub mod Birth
 pub mod Growing
 pub mod Leaves
