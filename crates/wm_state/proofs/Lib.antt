@@ -22,6 +22,7 @@ pub mod Listed
 pub mod Forking
 pub mod Sprouting
 pub mod Birth
+pub mod Wider
 pub mod Growing
 pub mod Leaves
 pub mod Forks
