@@ -14,7 +14,7 @@ use Rattle.wm_state.specs.State.{State, Workspace, Savepoint, content, kept, wor
 use Rattle.wm_state.specs.Standing.{held_of, fields_of, fields_in, saved_fields, fields_saved, by_making, saved_in, saved_as, by_number, latest, seen, seen_above, shown, owned, HasRows, CountersStand, Stands}
 use Rattle.wm_state.specs.Effects.{Born}
 use Rattle.wm_state.proofs.Tests.{either_false}
-use Rattle.wm_state.proofs.Sprouting.{Sprouted, there-below, seen-before, above-before, seen-sprout, above-sprout, newest-here, newest-away, newest-lower}
+use Rattle.wm_state.proofs.Sprouting.{Sprouted, seen-before, above-before, seen-sprout, above-sprout, newest-here, newest-away, newest-lower}
 use Rattle.wm_state.proofs.Named.{saved_there, bases_there, version_there, version_below}
 
 -- the workspace that is born: its record has its fields, it has no changes and no savepoints, and it sees what its parent's version saw
@@ -36,9 +36,9 @@ child_node r number = record { number = number; space = r.number; parent = r.bas
 above_some : (m n : ℕ) → m < n → 0 < n
 above_some m n lt = omega (arith, lt)
 
-sprouted_of : (p q : Parts) (r : Space) (number : ℕ) → Born p q r number → Sprouted p q (child_node r number)
-sprouted_of p q r number b = record {
-  some = above_some r.base_version number (there-below number _ r.base_version b.below b.there);
+sprouted_of : (p q : Parts) (r : Space) (number : ℕ) → keep_rules p ≡ true → Born p q r number → Sprouted p q (child_node r number)
+sprouted_of p q r number rules b = record {
+  some = above_some r.base_version number (version_below p rules number b.below r.base_version b.there);
   below = b.below;
   versions = b.versions;
   empty = b.empty;
@@ -60,13 +60,15 @@ or-none : {A : Type 0} (o : Option A) → option_or o None ≡ o
 or-none None = refl
 or-none (Some a) = refl
 
--- the new workspace is found by its number, and every other as before
-workspace_of-more : (ws : List Workspace) (w : Workspace) (m : ℕ) → workspace_of ws w.number ≡ None → workspace_of (ws ++ w ∷ []) m ≡ cond (m == w.number) (Some w) (workspace_of ws m)
-workspace_of-more ws w m none = find_more (λ (x : Workspace). x.number == m) ws w ∙ by_number (cases_eq m w.number)
+-- one of a new number is found by it, and every other as before
+pub find_numbered : {A : Type 0} (number_of : A → ℕ) (xs : List A) (x : A) (m : ℕ) → find (λ y. number_of y == number_of x) xs ≡ None
+    → find (λ y. number_of y == m) (xs ++ x ∷ []) ≡ cond (m == number_of x) (Some x) (find (λ y. number_of y == m) xs)
+find_numbered number_of xs x m none = find_more (λ y. number_of y == m) xs x ∙ by_number (cases_eq m (number_of x))
   where
-    by_number : (m ≡ w.number) ⊎ (m ≢ w.number) → option_or (workspace_of ws m) (cond (w.number == m) (Some w) None) ≡ cond (m == w.number) (Some w) (workspace_of ws m)
-    by_number (inl same) = rw (eq-eqb _ _ same, eq-eqb _ _ (sym same), ap (workspace_of ws) same ∙ none) refl
-    by_number (inr other) = rw (ne_eqb _ _ other, ne_eqb w.number m (λ same. other (sym same))) (or-none (workspace_of ws m))
+    by_number : (m ≡ number_of x) ⊎ (m ≢ number_of x)
+        → option_or (find (λ y. number_of y == m) xs) (cond (number_of x == m) (Some x) None) ≡ cond (m == number_of x) (Some x) (find (λ y. number_of y == m) xs)
+    by_number (inl same) = rw (eq-eqb _ _ same, eq-eqb _ _ (sym same), ap (λ k. find (λ y. number_of y == k) xs) same ∙ none) refl
+    by_number (inr other) = rw (ne_eqb _ _ other, ne_eqb (number_of x) m (λ same. other (sym same))) (or-none (find (λ y. number_of y == m) xs))
 
 map-none : {A : Type 0} {B : Type 0} (f : A → B) (o : Option A) → option_map f o ≡ None → o ≡ None
 map-none f None e = refl
@@ -116,13 +118,13 @@ Stands-born p q s t r number w es b st child spaces tables counters rules = reco
     x = child_node r number
 
     grown : Sprouted p q x
-    grown = sprouted_of p q r number b
-
-    base_lower : r.base_version < number
-    base_lower = there-below number _ r.base_version b.below b.there
+    grown = sprouted_of p q r number st.rules b
 
     recorded_lower : (k : ℕ) → is_some (version_of p.versions k) ≡ true → k < number
     recorded_lower k there = version_below p st.rules number b.below k there
+
+    base_lower : r.base_version < number
+    base_lower = recorded_lower r.base_version b.there
 
     -- no workspace had the child's number
     none : workspace_of s.spaces r.number ≡ None
@@ -131,7 +133,7 @@ Stands-born p q s t r number w es b st child spaces tables counters rules = reco
     found : (m : ℕ) → workspace_of t.spaces m ≡ cond (m == r.number) (Some w) (workspace_of s.spaces m)
     found m =
         ap (λ ws. workspace_of ws m) spaces
-        ∙ workspace_of-more s.spaces w m (ap (workspace_of s.spaces) child.number ∙ none)
+        ∙ find_numbered (λ (v : Workspace). v.number) s.spaces w m (ap (workspace_of s.spaces) child.number ∙ none)
         ∙ ap (λ k. cond (m == k) (Some w) (workspace_of s.spaces m)) child.number
 
     workspace_is : (m : ℕ) (new : Workspace) → workspace_of t.spaces m ≡ Some new → Is (workspace_of s.spaces m) r.number m w new

@@ -1,14 +1,15 @@
 -- A version more, above all others and with nothing in it: what is seen then.
-use Rattle.std.proofs.Common.{◌≡◌, ◌≢◌, ℕ, ◌<◌, ◌==◌, true, false, cond, List, [], ◌∷◌, Bool, None, refl, sym, ap, ◌∙◌, ◌⊎◌, inl, inr, arith}
+use Rattle.std.proofs.Common.{◌≡◌, ◌≢◌, ℕ, ◌<◌, ◌==◌, nat_lt, true, false, cond, List, [], ◌∷◌, ◌++◌, Bool, None, refl, sym, ap, ◌∙◌, ◌⊎◌, inl, inr, arith}
 use Rattle.std.proofs.lemmas.Bool.{cases_eq, eq-eqb, ne_eqb}
+use Rattle.std.specs.List.{list_all}
 use Rattle.wm_graph.specs.Parts.{Parts}
 use Rattle.wm_spec.specs.Lists.{Cell}
 use Rattle.wm_spec.specs.declared.record.piece.PieceRecord.{PieceRecord}
-use Rattle.wm_tree.specs.Versions.{latest_in, AllBelow}
+use Rattle.wm_spec.specs.declared.record.version.Version.{Version}
+use Rattle.wm_tree.specs.Versions.{grow, latest_in, AllBelow}
 use Rattle.wm_tree.specs.declared.version.Version.{Version as Node}
-use Rattle.wm_state.specs.Standing.{stored_at, seen_at, own_at, newest_first, latest, seen, seen_above}
-use Rattle.wm_state.specs.Effects.{is_there}
-use Rattle.wm_state.proofs.Tests.{bool_apart}
+use Rattle.wm_state.specs.Standing.{node_of, stored_at, seen_at, own_at, newest_first, latest, seen, seen_above}
+use Rattle.wm_state.proofs.Tests.{both}
 
 pub record Sprouted (p q : Parts) (x : Node) : Type 0 where
   pub some : 0 < x.number
@@ -19,6 +20,16 @@ pub record Sprouted (p q : Parts) (x : Node) : Type 0 where
 
 -- ---- among the versions
 
+-- a version above all others, recorded behind them, is the newest
+pub newest-behind : (v : Version) (vs : List Version) → list_all (λ (w : Version). nat_lt w.number v.number) vs ≡ true → newest_first (vs ++ v ∷ []) ≡ node_of v ∷ newest_first vs
+newest-behind v [] e = refl
+newest-behind v (w ∷ vs) e =
+    let h = both (nat_lt w.number v.number) (list_all (λ (w : Version). nat_lt w.number v.number) vs) e in
+    ap (grow (node_of w)) (newest-behind v vs h.1) ∙ rw (not_less w.number v.number h.0) refl
+  where
+    not_less : (a b : ℕ) → nat_lt a b ≡ true → nat_lt b a ≡ false
+    not_less a b lt = grind (arith, lt)
+
 -- the newest version of a workspace is below what all versions are below
 newest-below : (n : ℕ) (nodes : List Node) (m : ℕ) → 0 < n → AllBelow n nodes → latest_in nodes m < n
 newest-below n [] m some below = some
@@ -27,15 +38,6 @@ newest-below n (x ∷ older) m some below = by_test (x.space == m) (newest-below
     by_test : (b : Bool) → latest_in older m < n → cond b x.number (latest_in older m) < n
     by_test true rest = below.0
     by_test false rest = rest
-
--- and so is each version that is there
-pub there-below : (n : ℕ) (nodes : List Node) (k : ℕ) → AllBelow n nodes → is_there k nodes ≡ true → k < n
-there-below n [] k below there = absurd (bool_apart (sym there))
-there-below n (x ∷ older) k below there = by_number (cases_eq x.number k) (there-below n older k below.1)
-  where
-    by_number : (x.number ≡ k) ⊎ (x.number ≢ k) → (is_there k older ≡ true → k < n) → k < n
-    by_number (inl here) rest = omega (arith, below.0, here)
-    by_number (inr away) rest = rest (sym (ap (λ b. cond b true (is_there k older)) (ne_eqb _ _ away)) ∙ there)
 
 -- a version has nothing of its own above itself
 pub above-self : (pieces : List PieceRecord) (nodes : List Node) (base : ℕ) (c : Cell) → own_at pieces nodes base base c ≡ None
