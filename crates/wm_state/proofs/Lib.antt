@@ -23,7 +23,7 @@ pub mod Listed
 pub mod Forking
 pub mod Sprouting
 pub mod Birth
-pub mod Wider
+pub mod KeptSpaces
 pub mod Growing
 pub mod Leaves
 pub mod Forks

@@ -1,15 +1,15 @@
 -- A version more, above all others and with nothing in it: what is seen then.
-use Rattle.std.proofs.Common.{◌≡◌, ◌≢◌, ℕ, ◌<◌, ◌==◌, nat_lt, true, false, cond, List, [], ◌∷◌, ◌++◌, Bool, None, refl, sym, ap, ◌∙◌, ◌⊎◌, inl, inr, arith}
-use Rattle.std.proofs.lemmas.Bool.{cases_eq, eq-eqb, ne_eqb}
+use Rattle.std.proofs.Common.{◌≡◌, ◌≢◌, ℕ, ◌<◌, nat_lt, true, false, List, [], ◌∷◌, ◌++◌, None, refl, sym, ap, ◌∙◌, arith}
+use Rattle.std.proofs.lemmas.Bool.{eq-eqb, ne_eqb}
 use Rattle.std.specs.List.{list_all}
 use Rattle.wm_graph.specs.Parts.{Parts}
 use Rattle.wm_spec.specs.Lists.{Cell}
-use Rattle.wm_spec.specs.declared.record.piece.PieceRecord.{PieceRecord}
 use Rattle.wm_spec.specs.declared.record.version.Version.{Version}
-use Rattle.wm_tree.specs.Versions.{grow, latest_in, AllBelow}
+use Rattle.wm_tree.specs.Versions.{grow, AllBelow}
 use Rattle.wm_tree.specs.declared.version.Version.{Version as Node}
 use Rattle.wm_state.specs.Standing.{node_of, stored_at, seen_at, own_at, newest_first, latest, seen, seen_above}
 use Rattle.wm_state.proofs.Tests.{both}
+use Rattle.wm_state.proofs.Forking.{latest-below, own-none, seen-beside, own-beside, seen-under, own-under}
 
 pub record Sprouted (p q : Parts) (x : Node) : Type 0 where
   pub some : 0 < x.number
@@ -30,20 +30,6 @@ newest-behind v (w ∷ vs) e =
     not_less : (a b : ℕ) → nat_lt a b ≡ true → nat_lt b a ≡ false
     not_less a b lt = grind (arith, lt)
 
--- the newest version of a workspace is below what all versions are below
-newest-below : (n : ℕ) (nodes : List Node) (m : ℕ) → 0 < n → AllBelow n nodes → latest_in nodes m < n
-newest-below n [] m some below = some
-newest-below n (x ∷ older) m some below = by_test (x.space == m) (newest-below n older m some below.1)
-  where
-    by_test : (b : Bool) → latest_in older m < n → cond b x.number (latest_in older m) < n
-    by_test true rest = below.0
-    by_test false rest = rest
-
--- a version has nothing of its own above itself
-pub above-self : (pieces : List PieceRecord) (nodes : List Node) (base : ℕ) (c : Cell) → own_at pieces nodes base base c ≡ None
-above-self pieces [] base c = refl
-above-self pieces (x ∷ older) base c = rw (eq-eqb base base refl) refl
-
 -- ---- what is seen
 
 seen-in : (p q : Parts) (x : Node) → Sprouted p q x → (v : ℕ) (c : Cell) → seen q v c ≡ seen_at p.pieces (x ∷ newest_first p.versions) v c
@@ -54,25 +40,22 @@ above-in p q x s base v c = ap (λ nodes. own_at q.pieces nodes base v c) s.vers
 
 -- what was there before sees what it saw
 pub seen-before : (p q : Parts) (x : Node) → Sprouted p q x → (v : ℕ) (c : Cell) → v < x.number → seen q v c ≡ seen p v c
-seen-before p q x s v c lt = seen-in p q x s v c ∙ rw (ne_eqb x.number v (λ same. omega (arith, lt, same))) refl
+seen-before p q x s v c lt = seen-in p q x s v c ∙ seen-beside p.pieces x (newest_first p.versions) v c lt
 
 -- and has above a base what it had
 pub above-before : (p q : Parts) (x : Node) → Sprouted p q x → (base v : ℕ) (c : Cell) → v < x.number → seen_above q base v c ≡ seen_above p base v c
-above-before p q x s base v c lt = by_base (cases_eq v base)
-  where
-    by_base : (v ≡ base) ⊎ (v ≢ base) → seen_above q base v c ≡ seen_above p base v c
-    by_base (inl same) = rw same (above-self q.pieces (newest_first q.versions) base c ∙ sym (above-self p.pieces (newest_first p.versions) base c))
-    by_base (inr other) = above-in p q x s base v c ∙ rw (ne_eqb _ _ other, ne_eqb x.number v (λ same. omega (arith, lt, same))) refl
+above-before p q x s base v c lt = above-in p q x s base v c ∙ own-beside p.pieces x (newest_first p.versions) base v c lt
 
 -- the new version sees what its parent saw
 pub seen-sprout : (p q : Parts) (x : Node) → Sprouted p q x → (c : Cell) → seen q x.number c ≡ seen p x.parent c
-seen-sprout p q x s c = seen-in p q x s x.number c ∙ rw (eq-eqb x.number x.number refl, s.empty c) refl
+seen-sprout p q x s c = seen-in p q x s x.number c ∙ seen-under p.pieces x (newest_first p.versions) c (s.empty c)
 
 -- and has nothing above its parent
 pub above-sprout : (p q : Parts) (x : Node) → Sprouted p q x → (c : Cell) → x.parent < x.number → seen_above q x.parent x.number c ≡ None
 above-sprout p q x s c lt =
     above-in p q x s x.parent x.number c
-    ∙ rw (ne_eqb x.number x.parent (λ same. omega (arith, lt, same)), eq-eqb x.number x.number refl, s.empty c) (above-self p.pieces (newest_first p.versions) x.parent c)
+    ∙ own-under p.pieces x (newest_first p.versions) x.parent c (ne_eqb x.number x.parent (λ same. omega (arith, lt, same))) (s.empty c)
+    ∙ own-none p.pieces (newest_first p.versions) x.parent c
 
 -- ---- the newest version of each workspace
 
@@ -85,4 +68,4 @@ pub newest-away : (p q : Parts) (x : Node) → Sprouted p q x → (m : ℕ) → 
 newest-away p q x s m other = rw (s.versions, ne_eqb x.space m (λ same. other (sym same))) refl
 
 pub newest-lower : (p q : Parts) (x : Node) → Sprouted p q x → (m : ℕ) → latest p m < x.number
-newest-lower p q x s m = newest-below x.number (newest_first p.versions) m s.some s.below
+newest-lower p q x s m = latest-below x.number (newest_first p.versions) m s.some s.below
