@@ -25,6 +25,7 @@ pub mod Sprouting
 pub mod Birth
 pub mod KeptSpaces
 pub mod Growing
+pub mod KeepBorn
 pub mod Leaves
 pub mod Forks
 pub mod Ids
