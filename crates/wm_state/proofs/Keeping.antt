@@ -1,7 +1,7 @@
 -- The rules on savepoints, rows, pieces and logs hold of records in which all that they look up is there still: the laws
 -- are_savepoints-kept, are_rows-kept, are_pieces-kept and are_hists-kept, and each for one record (is_savepoint-kept and so on).
 -- KeepTables, KeepSpaces, KeepVersions and KeepRows say so of each kind.
-use Rattle.std.proofs.Common.{◌≡◌, ℕ, ◌+◌, ◌==◌, nat_lt, nat_le, Bool, true, false, ◌&&◌, ◌||◌, if◌then◌else◌, List, [], ◌∷◌, ◌++◌, Option, Some, None, is_some, refl, sym, ap, ◌∙◌, arith}
+use Rattle.std.proofs.Common.{◌≡◌, ℕ, ◌+◌, ◌==◌, nat_lt, nat_le, Bool, true, false, ◌&&◌, ◌||◌, if◌then◌else◌, List, [], ◌∷◌, ◌++◌, Option, Some, None, is_some, refl, sym, ap, ◌∙◌, ⊎_elim, arith}
 use Rattle.std.specs.List.{list_all}
 use Rattle.std.specs.Option.{option_and_then, option_map_or}
 use Rattle.wm_base.specs.declared.instant.TheConstants.{END}
@@ -16,7 +16,7 @@ use Rattle.wm_spec.specs.declared.record.savepoint.Savepoint.{Savepoint}
 use Rattle.wm_spec.specs.declared.record.space.Space.{Space}
 use Rattle.wm_spec.specs.declared.record.table.Table.{Table}
 use Rattle.wm_spec.specs.declared.record.version.Version.{Version}
-use Rattle.wm_state.proofs.Tests.{bool_apart, both, and_true, all_if, find_push}
+use Rattle.wm_state.proofs.Tests.{bool_apart, both, and_true, all_if, find_push, find_swapped}
 use Rattle.wm_state.proofs.Named.{RuledSavepoints, ruled_savepoints, version_there}
 use Rattle.wm_state.proofs.Frames.{KeepRows}
 
@@ -63,6 +63,20 @@ KeepTables-push p q u more n t found = record {
   key_column = refl;
 }
 
+-- one in the place of another of its number, columns and key
+pub KeepTables-swap : (p q : Parts) (front back : List Table) (t u : Table) → u.number ≡ t.number → u.columns ≡ t.columns → u.has_key ≡ t.has_key → u.key_column ≡ t.key_column → p.tables ≡ front ++ t ∷ back
+    → q.tables ≡ front ++ u ∷ back → KeepTables p q
+KeepTables-swap p q front back t u number columns has_key key_column old new n x found = ⊎_elim
+    (λ h. record { new = x; is = ap (λ ts. table_of ts n) new ∙ h; columns = refl; has_key = refl; key_column = refl })
+    (λ h. record {
+      new = u;
+      is = ap (λ ts. table_of ts n) new ∙ h.1;
+      columns = columns ∙ ap (λ (y : Table). y.columns) (sym h.0);
+      has_key = has_key ∙ ap (λ (y : Table). y.has_key) (sym h.0);
+      key_column = key_column ∙ ap (λ (y : Table). y.key_column) (sym h.0);
+    })
+    (find_swapped (λ (y : Table). y.number == n) t u (ap (λ k. k == n) number) front back x (ap (λ ts. table_of ts n) (sym old) ∙ found))
+
 pub KeepSpaces-same : (p q : Parts) → q.spaces ≡ p.spaces → KeepSpaces p q
 KeepSpaces-same p q same n s found = record { new = s; is = ap (λ ss. space_of ss n) same ∙ found; number = refl; parent = refl; log = le_itself s.log_length; place = le_itself s.next_place }
 
@@ -75,6 +89,21 @@ KeepSpaces-push p q a more n s found = record {
   log = le_itself s.log_length;
   place = le_itself s.next_place;
 }
+
+-- one in the place of another of its number and parent, with no shorter log and no fewer places
+pub KeepSpaces-swap : (p q : Parts) (front back : List Space) (a b : Space) → b.number ≡ a.number → b.parent ≡ a.parent → nat_le a.log_length b.log_length ≡ true → nat_le a.next_place b.next_place ≡ true
+    → p.spaces ≡ front ++ a ∷ back → q.spaces ≡ front ++ b ∷ back → KeepSpaces p q
+KeepSpaces-swap p q front back a b number parent log place old new n x found = ⊎_elim
+    (λ h. record { new = x; is = ap (λ ss. space_of ss n) new ∙ h; number = refl; parent = refl; log = le_itself x.log_length; place = le_itself x.next_place })
+    (λ h. record {
+      new = b;
+      is = ap (λ ss. space_of ss n) new ∙ h.1;
+      number = number ∙ ap (λ (y : Space). y.number) (sym h.0);
+      parent = parent ∙ ap (λ (y : Space). y.parent) (sym h.0);
+      log = ap (λ (y : Space). nat_le y.log_length b.log_length) h.0 ∙ log;
+      place = ap (λ (y : Space). nat_le y.next_place b.next_place) h.0 ∙ place;
+    })
+    (find_swapped (λ (y : Space). y.number == n) a b (ap (λ k. k == n) number) front back x (ap (λ ss. space_of ss n) (sym old) ∙ found))
 
 pub KeepVersions-same : (p q : Parts) → q.versions ≡ p.versions → KeepVersions p q
 KeepVersions-same p q same k v found = ap (λ vs. version_of vs k) same ∙ found
