@@ -1,26 +1,24 @@
 -- The records with a workspace more, and with a version of its own.
-use Rattle.std.proofs.Common.{◌≡◌, ◌≢◌, ℕ, ◌+◌, ◌<◌, ◌≤◌, ◌==◌, ◌^◌, nat_lt, nat_le, Bool, true, false, ◌&&◌, ◌||◌, cond, if◌then◌else◌, List, [], ◌∷◌, ◌++◌, length, Option, Some, None, is_some, refl, sym, ap, ◌∙◌, arith, length-append}
+use Rattle.std.proofs.Common.{◌≡◌, ℕ, ◌+◌, ◌<◌, ◌≤◌, ◌==◌, ◌^◌, nat_lt, nat_le, Bool, true, false, ◌&&◌, ◌||◌, if◌then◌else◌, List, [], ◌∷◌, ◌++◌, length, Option, Some, None, is_some, refl, sym, ap, ◌∙◌, arith, length-append}
 use Rattle.std.proofs.lemmas.Bool.{eq-eqb, ne_eqb, eqb-true}
-use Rattle.std.specs.List.{list_all, list_any, find, count_by}
+use Rattle.std.specs.List.{list_all, list_any, count_by}
 use Rattle.std.specs.Option.{option_map_or}
 use Rattle.std.specs.Str.{bytes_eq}
-use Rattle.wm_graph.specs.Parts.{Parts, table_of, space_of, version_of, row_of, has_version}
-use Rattle.wm_graph.specs.Rules.{keep_rules, are_counters, are_tables, are_spaces, is_space, is_placed, is_short, live, are_versions, is_version, is_version_of, has_versions, stands_under, is_savepoint, is_saved_in, has_few, are_savepoints, are_rows, are_pieces, are_hists, differ}
-use Rattle.wm_spec.specs.Lists.{Cell}
+use Rattle.wm_graph.specs.Parts.{Parts, space_of, version_of, has_version}
+use Rattle.wm_graph.specs.Rules.{keep_rules, are_counters, are_spaces, is_space, is_placed, is_short, live, are_versions, is_version, is_version_of, has_versions, stands_under, is_savepoint, is_saved_in, has_few, are_savepoints, are_rows, are_pieces, are_hists, differ}
 use Rattle.wm_spec.specs.declared.record.counters.Counters.{Counters}
 use Rattle.wm_spec.specs.declared.record.savepoint.Savepoint.{Savepoint}
 use Rattle.wm_spec.specs.declared.record.space.Space.{Space}
 use Rattle.wm_spec.specs.declared.record.version.Version.{Version}
-use Rattle.wm_tree.specs.Versions.{AllBelow}
-use Rattle.wm_state.specs.Standing.{stored_at, node_of, newest_first, latest}
+use Rattle.wm_state.specs.Standing.{node_of, newest_first, latest}
 use Rattle.wm_state.specs.Effects.{Born, Forked}
-use Rattle.wm_state.proofs.Tests.{bool_apart, both, either_false, and_true, all_if, all_push, differ_push, none_if, find_push, find_new}
+use Rattle.wm_state.proofs.Tests.{bool_apart, both, either_false, and_true, all_if, all_push, differ_push, none_if, find_new}
 use Rattle.wm_state.proofs.Mapped.{find-none}
 use Rattle.wm_state.proofs.Apart.{Ruled, ruled, keeps_all, ruled_versions, found-passes}
 use Rattle.wm_state.proofs.Named.{ruled_savepoints, space_number, version_there}
 use Rattle.wm_state.proofs.Keeping.{KeepSpaces, KeepVersions, KeepTables-same, KeepSpaces-push, KeepVersions-push, KeepRows-same, is_version_of-kept, are_savepoints-kept, are_rows-kept, are_pieces-kept, are_hists-kept}
 use Rattle.wm_state.proofs.KeptSpaces.{is_space-kept, is_version-kept, has_versions-kept, has_push, has_new, some-kept}
-use Rattle.wm_state.proofs.Growing.{MayFork, forked, forked_of, below-next, found-below, same_counters}
+use Rattle.wm_state.proofs.Growing.{forked, forked_of, below-next, found-below, same_counters}
 use Rattle.wm_state.proofs.Sprouting.{newest-behind}
 use Rattle.wm_state.proofs.Birth.{find_numbered}
 
@@ -263,3 +261,42 @@ keep-born p old new a r v may e =
 
     few : list_all (has_few p.savepoints) (p.spaces ++ r ∷ []) ≡ true
     few = all_push (has_few p.savepoints) p.spaces r (ruled_savepoints p old.work savepoints).few (new_few p.savepoints r (unsaved p old new a r v may e))
+
+-- ---- what becomes of the records
+
+pub born_of : (p : Parts) (old new : Counters) (a r : Space) (v : Version) → MayBear p old new a r v → keep_rules p ≡ true → Born p (born p new r v) r v.number
+born_of p old new a r v may e = record {
+  child = lt_above r.parent r.number (parent_below p old new a r v may);
+  none = none;
+  unsaved = unsaved p old new a r v may e;
+  from = may.from;
+  there = version_there (version_of p.versions) r.base_version r.parent may.base;
+  below = fork.below;
+  versions = newest-behind v p.versions below ∙ ap (λ x. x ∷ newest_first p.versions) (same_node v r.number r.base_version may.space may.under);
+  empty = fork.empty;
+  spaces = λ m. find_numbered (λ (s : Space). s.number) p.spaces r m none;
+  tables = refl;
+  savepoints = refl;
+  rows = refl;
+  pieces = refl;
+}
+  where
+    none : space_of p.spaces r.number ≡ None
+    none = find-none (λ (s : Space). s.number == r.number) p.spaces (number_new p old new a r v may)
+
+    -- what holds of the next version holds of it wherever it stands
+    beside : Version
+    beside = record { number = v.number; space = r.parent; parent = latest p r.parent }
+
+    fork : Forked p (forked p new beside) r.parent v.number
+    fork = forked_of p old new a r.parent beside
+        (record { one = may.one; counters = may.counters; stamps = may.stamps; next = may.next; there = may.parent; number = may.number; space = refl; parent = refl }) e
+
+    versions : are_versions p old.next_version ≡ true
+    versions = let u = ruled p e in ap (λ (c : Counters). are_versions p c.next_version) (sym (same_counters p old u.counters may.one u.one)) ∙ u.versions
+
+    below : list_all (λ (w : Version). nat_lt w.number v.number) p.versions ≡ true
+    below = ap (λ k. list_all (λ (w : Version). nat_lt w.number k) p.versions) may.number ∙ below-next p old.next_version versions
+
+    same_node : (w : Version) (n k : ℕ) → w.space ≡ n → w.parent ≡ k → node_of w ≡ record { number = w.number; space = n; parent = k }
+    same_node w n k f g = rw (sym f, sym g) refl

@@ -26,6 +26,7 @@ pub mod Birth
 pub mod KeptSpaces
 pub mod Growing
 pub mod KeepBorn
+pub mod PlannedBorn
 pub mod Leaves
 pub mod Forks
 pub mod Ids
