@@ -13,7 +13,7 @@ use Rattle.wm_state.specs.Standing.{by_number, place_table, CountersStand, Stand
 use Rattle.wm_state.proofs.Tests.{bool_apart, both, and_true, not_true, either_false, all_if, all_swap, all_middle, differ_swap, find_swap}
 use Rattle.wm_state.proofs.Apart.{Ruled, ruled, keeps_all}
 use Rattle.wm_state.proofs.Standing.{Stands-retabled}
-use Rattle.wm_state.proofs.Keeping.{KeepTables, KeepTables-swap, KeepSpaces-same, KeepVersions-same, KeepRows-same, are_savepoints-kept, are_rows-kept, are_pieces-kept, are_hists-kept, few-same}
+use Rattle.wm_state.proofs.Keeping.{le_of, le_itself, KeepTables, KeepTables-swap, KeepSpaces-same, KeepVersions-same, KeepRows-same, are_savepoints-kept, are_rows-kept, are_pieces-kept, are_hists-kept, few-same}
 
 -- the records with one table ready, with or without its history, and other counters
 abbrev pub readied : Parts → Counters → List Table → Bool → Table → List Table → Parts
@@ -67,14 +67,8 @@ keep-readied p new front history t back rules old key counted same = keeps_all q
     tables : KeepTables p q
     tables = KeepTables-swap p q front back t (ready history t) refl refl refl refl old refl
 
-    le_of : (m n : ℕ) → m ≤ n → nat_le m n ≡ true
-    le_of m n le = grind (arith, le)
-
     stamps : nat_le r.counters.next_stamp new.next_stamp ≡ true
     stamps = ap (nat_le r.counters.next_stamp) c.stamps ∙ le_itself r.counters.next_stamp
-      where
-        le_itself : (m : ℕ) → nat_le m m ≡ true
-        le_itself m = grind arith
 
 -- ---- the tables by number
 

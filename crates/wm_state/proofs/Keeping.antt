@@ -1,7 +1,7 @@
 -- The rules on savepoints, rows, pieces and logs hold of records in which all that they look up is there still: the laws
 -- are_savepoints-kept, are_rows-kept, are_pieces-kept and are_hists-kept, and each for one record (is_savepoint-kept and so on).
 -- KeepTables, KeepSpaces, KeepVersions and KeepRows say so of each kind.
-use Rattle.std.proofs.Common.{◌≡◌, ℕ, ◌+◌, ◌==◌, nat_lt, nat_le, Bool, true, false, ◌&&◌, ◌||◌, if◌then◌else◌, List, [], ◌∷◌, ◌++◌, Option, Some, None, is_some, refl, sym, ap, ◌∙◌, ⊎_elim, arith}
+use Rattle.std.proofs.Common.{◌≡◌, ℕ, ◌+◌, ◌≤◌, ◌==◌, nat_lt, nat_le, Bool, true, false, ◌&&◌, ◌||◌, if◌then◌else◌, List, [], ◌∷◌, ◌++◌, Option, Some, None, is_some, refl, sym, ap, ◌∙◌, ⊎_elim, arith}
 use Rattle.std.specs.List.{list_all}
 use Rattle.std.specs.Option.{option_and_then, option_map_or}
 use Rattle.wm_base.specs.declared.instant.TheConstants.{END}
@@ -48,8 +48,14 @@ KeepSpaces p q = (n : ℕ) (s : Space) → space_of p.spaces n ≡ Some s → Sp
 abbrev pub KeepVersions : Parts → Parts → Type 0
 KeepVersions p q = (k : ℕ) (v : Version) → version_of p.versions k ≡ Some v → version_of q.versions k ≡ Some v
 
-le_itself : (m : ℕ) → nat_le m m ≡ true
+pub le_itself : (m : ℕ) → nat_le m m ≡ true
 le_itself m = grind arith
+
+pub le_of : (m n : ℕ) → m ≤ n → nat_le m n ≡ true
+le_of m n le = grind (arith, le)
+
+pub le_next : (n : ℕ) → nat_le n (n + 1) ≡ true
+le_next n = grind arith
 
 pub KeepTables-same : (p q : Parts) → q.tables ≡ p.tables → KeepTables p q
 KeepTables-same p q same n t found = record { new = t; is = ap (λ ts. table_of ts n) same ∙ found; columns = refl; has_key = refl; key_column = refl }

@@ -11,7 +11,7 @@ use Rattle.wm_state.specs.Standing.{by_number, place_table, CountersStand, Stand
 use Rattle.wm_state.proofs.Tests.{bool_apart, both, and_true, all_push, differ_push, none_if}
 use Rattle.wm_state.proofs.Apart.{Ruled, ruled, keeps_all}
 use Rattle.wm_state.proofs.Standing.{Stands-retabled}
-use Rattle.wm_state.proofs.Keeping.{KeepTables-push, KeepSpaces-same, KeepVersions-same, KeepRows-same, are_savepoints-kept, are_rows-kept, are_pieces-kept, are_hists-kept, few-same}
+use Rattle.wm_state.proofs.Keeping.{le_of, le_itself, KeepTables-push, KeepSpaces-same, KeepVersions-same, KeepRows-same, are_savepoints-kept, are_rows-kept, are_pieces-kept, are_hists-kept, few-same}
 
 -- ---- the tables by number
 
@@ -153,17 +153,11 @@ keep-created p old new t may rules = keeps_all q new refl may.counters
         first_same : (b d : Counters) → (b ∷ []) ≡ (d ∷ []) → b ≡ d
         first_same b d h = cc
 
-    le_of : (m n : ℕ) → m ≤ n → nat_le m n ≡ true
-    le_of m n le = grind (arith, le)
-
     work : nat_le r.counters.work new.work ≡ true
     work = ap (λ (c : Counters). nat_le c.work new.work) (sym same) ∙ le_of old.work new.work may.work
 
     stamps : nat_le r.counters.next_stamp new.next_stamp ≡ true
     stamps = ap (λ (c : Counters). nat_le c.next_stamp new.next_stamp) (sym same) ∙ ap (nat_le old.next_stamp) may.stamps ∙ le_itself old.next_stamp
-      where
-        le_itself : (m : ℕ) → nat_le m m ≡ true
-        le_itself m = grind arith
 
 pub Stands-created : (p : Parts) (old new : Counters) (t : Table) (s u : State) → Stands p s → MayCreate p old new t → u.spaces ≡ s.spaces → u.tables ≡ s.tables ++ t ∷ [] → CountersStand (created p new t) u
     → Stands (created p new t) u
