@@ -24,3 +24,4 @@ pub mod Forks
 pub mod Ids
 pub mod Mapped
 pub mod Making
+pub mod Saving
