@@ -1,3 +1,4 @@
+pub mod Frames
 pub mod Nearest
 pub mod Changing
 pub mod ById
@@ -8,6 +9,7 @@ pub mod Inserting
 pub mod Laying
 pub mod Newest
 pub mod Apart
+pub mod Named
 pub mod Inserted
 pub mod Tables
 pub mod Enabling

@@ -11,9 +11,10 @@ use Rattle.wm_spec.specs.Lists.{Entry, Cell, Told, told, told_of, covers, touche
 use Rattle.wm_spec.specs.declared.record.row.RowRecord.{RowRecord}
 use Rattle.wm_spec.specs.declared.record.space.Space.{Space}
 use Rattle.wm_spec.proofs.Lists.{told-push}
-use Rattle.wm_state.specs.State.{State, begin, Workspace, content, workspace_of, with_space, with_entries}
-use Rattle.wm_state.specs.Standing.{held_of, stored_at, seen_at, own_at, newest_first, latest, fields_of, fields_in, CountersStand, TablesStand, SpacesStand, LatestStand, OwnStand, RowsStand, Stands, SpaceFields, by_number}
+use Rattle.wm_state.specs.State.{State, begin, Workspace, content, workspace_of, with_space, with_entries, savepoints_of}
+use Rattle.wm_state.specs.Standing.{held_of, stored_at, seen_at, own_at, newest_first, latest, seen, seen_above, fields_of, fields_in, CountersStand, TablesStand, SpacesStand, LatestStand, OwnStand, RowsStand, Stands, SpaceFields, by_number}
 use Rattle.wm_state.specs.Effects.{Wrote, longer, AreLaid}
+use Rattle.wm_state.proofs.Frames.{Framed, Still, StillNames, KeepRows, row-kept, HasRows-kept, savepoints_of-found, savepoints_of-none, SavepointsStand-framed, KeptStand-framed, KeptOwnStand-framed, BasesStand-framed, RowsStand-framed}
 use Rattle.wm_state.proofs.Nearest.{SameAway, seen-away, seen-here, own-away, own-here}
 use Rattle.wm_state.proofs.Changing.{workspace_of-changed, told-with_entries}
 
@@ -156,18 +157,65 @@ OwnStand-wrote p q s t n e w spaces there stand = record {
             (w.apart.others m (ne_eqb _ _ h.0) (has_record p s there m x.old x.is)))
             ∙ stand.covered m x.old y.old x.is y.is c)
 
-RowsStand-wrote : (p q : Parts) (s t : State) (n : ℕ) (e : Entry) → Wrote p q n e → t.spaces ≡ appended n e s.spaces → RowsStand p s → RowsStand q t
-RowsStand-wrote p q s t n e w spaces stand = record {
-  there = λ m new is c x row held standing. by_case m c new x row (was n e s.spaces m new (ap (λ ws. workspace_of ws m) (sym spaces) ∙ is)) held standing;
+-- what else the clauses look up: no version that is named is written
+framed_wrote : (p q : Parts) (s t : State) (n : ℕ) (e : Entry) → Wrote p q n e → t.spaces ≡ appended n e s.spaces → Framed p q s t
+framed_wrote p q s t n e w spaces = record {
+  savepoints = w.savepoints;
+  points = λ m. points m (cases_eq m n) (workspace_of s.spaces m) refl;
+  still = λ m new is. still m new (was n e s.spaces m new (ap (λ ws. workspace_of ws m) (sym spaces) ∙ is));
+  names = λ m r recorded. names m r (had p q n e w m r recorded);
+  sees = λ m making x saved c. sees x.version c (w.free.kept m making x saved);
+  has = λ m making x saved c. rw w.versions
+      (own-away (latest p n) p.pieces q.pieces c (laid-away (latest p n) e p.pieces q.pieces c w.pieces) x.base_version (newest_first p.versions) w.leaf x.version (w.free.kept m making x saved));
+  births = λ m r some is c. sees r.birth_version c (w.free.births m r some is);
+  bases = λ m r some is c. sees r.base_version c (w.free.bases m r some is);
 }
   where
-    kept : (stamp : ℕ) (row : Row) → option_map (λ (r : RowRecord). r.values) (row_of p.rows stamp) ≡ Some row.values → option_map (λ (r : RowRecord). r.values) (row_of q.rows stamp) ≡ Some row.values
-    kept stamp row before = by_row (row_of p.rows stamp) refl before
-      where
-        by_row : (o : Option RowRecord) → row_of p.rows stamp ≡ o → option_map (λ (r : RowRecord). r.values) o ≡ Some row.values → option_map (λ (r : RowRecord). r.values) (row_of q.rows stamp) ≡ Some row.values
-        by_row None found h = cc
-        by_row (Some r) found h = ap (option_map (λ (r : RowRecord). r.values)) (w.rows_kept stamp r found) ∙ h
+    sees : (v : ℕ) (c : Cell) → (v == latest p n) ≡ false → seen q v c ≡ seen p v c
+    sees v c other = rw w.versions (seen-away (latest p n) p.pieces q.pieces c (laid-away (latest p n) e p.pieces q.pieces c w.pieces) (newest_first p.versions) w.leaf v other)
 
+    after : (m : ℕ) → workspace_of t.spaces m ≡ cond (m == n) (option_map (with_entries (e ∷ [])) (workspace_of s.spaces m)) (workspace_of s.spaces m)
+    after m = ap (λ ws. workspace_of ws m) spaces ∙ appended-at n e s.spaces m
+
+    points : (m : ℕ) → (m ≡ n) ⊎ (m ≢ n) → (o : Option Workspace) → workspace_of s.spaces m ≡ o → savepoints_of t.spaces m ≡ savepoints_of s.spaces m
+    points m (inl here) None found = savepoints_of-none t.spaces m (rw (eq-eqb _ _ here, found) at (after m)) ∙ sym (savepoints_of-none s.spaces m found)
+    points m (inl here) (Some x) found =
+        savepoints_of-found t.spaces m (with_entries (e ∷ []) x) (rw (eq-eqb _ _ here, found) at (after m)) ∙ sym (savepoints_of-found s.spaces m x found)
+    points m (inr other) None found = savepoints_of-none t.spaces m (rw (ne_eqb _ _ other, found) at (after m)) ∙ sym (savepoints_of-none s.spaces m found)
+    points m (inr other) (Some x) found = savepoints_of-found t.spaces m x (rw (ne_eqb _ _ other, found) at (after m)) ∙ sym (savepoints_of-found s.spaces m x found)
+
+    still : (m : ℕ) (new : Workspace) → Was n e s.spaces m new → Still s m new
+    still m new x = ⊎_elim
+        (λ h. record {
+          old = x.old;
+          is = x.is;
+          savepoints = ap (λ (w : Workspace). w.savepoints) h.1;
+          rebases = ap (λ (w : Workspace). w.rebases) h.1;
+          at_birth = ap (λ (w : Workspace). w.lists.at_birth) h.1;
+          base = ap (λ (w : Workspace). w.lists.base) h.1;
+        })
+        (λ h. record {
+          old = x.old;
+          is = x.is;
+          savepoints = ap (λ (w : Workspace). w.savepoints) h.1;
+          rebases = ap (λ (w : Workspace). w.rebases) h.1;
+          at_birth = ap (λ (w : Workspace). w.lists.at_birth) h.1;
+          base = ap (λ (w : Workspace). w.lists.base) h.1;
+        })
+        x.how
+
+    names : (m : ℕ) (new : Space) → Had p n m new → StillNames p m new
+    names m new y = ⊎_elim
+        (λ h. record { old = y.old; is = y.is; birth = ap (λ (k : Space). k.birth_version) h.1; base = ap (λ (k : Space). k.base_version) h.1 })
+        (λ h. record { old = y.old; is = y.is; birth = ap (λ (k : Space). k.birth_version) h.1; base = ap (λ (k : Space). k.base_version) h.1 })
+        y.how
+
+RowsStand-wrote : (p q : Parts) (s t : State) (n : ℕ) (e : Entry) → Wrote p q n e → t.spaces ≡ appended n e s.spaces → RowsStand p s → RowsStand q t
+RowsStand-wrote p q s t n e w spaces stand =
+    RowsStand-framed p q s t (framed_wrote p q s t n e w spaces) w.rows_kept
+    (λ m new is c x row held standing. by_case m c new x row (was n e s.spaces m new (ap (λ ws. workspace_of ws m) (sym spaces) ∙ is)) held standing)
+    stand
+  where
     some_same : (x y : Told) → Some x ≡ Some y → x ≡ y
     some_same x y h = cc
 
@@ -175,14 +223,14 @@ RowsStand-wrote p q s t n e w spaces stand = record {
         → option_map (λ (r : RowRecord). r.values) (row_of q.rows x.stamp) ≡ Some row.values
     by_case m c new x row y held standing = ⊎_elim
         (λ h. by_cover (covers e c) (sym (told-with_entries e y.old c) ∙ ap (λ (v : Workspace). told (content v) c) (sym h.1) ∙ held))
-        (λ h. kept x.stamp row (stand.there m y.old y.is c x row (ap (λ (v : Workspace). told (content v) c) (sym h.1) ∙ held) standing))
+        (λ h. row-kept p q w.rows_kept x.stamp row (stand.there m y.old y.is c x row (ap (λ (v : Workspace). told (content v) c) (sym h.1) ∙ held) standing))
         y.how
       where
         by_cover : (b : Bool) → option_or (then_some b (told_of e)) (told (content y.old) c) ≡ Some x → option_map (λ (r : RowRecord). r.values) (row_of q.rows x.stamp) ≡ Some row.values
         by_cover true h =
             let is : told_of e ≡ x = some_same (told_of e) x h in
             ap (λ (k : Told). option_map (λ (r : RowRecord). r.values) (row_of q.rows k.stamp)) (sym is) ∙ w.row_new row (ap (λ (k : Told). k.row) is ∙ standing)
-        by_cover false h = kept x.stamp row (stand.there m y.old y.is c x row h standing)
+        by_cover false h = row-kept p q w.rows_kept x.stamp row (stand.there m y.old y.is c x row h standing)
 
 -- the fields with a longer log
 abbrev grown : SpaceFields → SpaceFields
@@ -226,6 +274,10 @@ Stands-wrote p q s t n e w st spaces tables counters rules = record {
   spaces = SpacesStand-wrote p q s t n e w spaces st.spaces;
   latest = LatestStand-wrote p q s t n e w spaces st.spaces st.latest;
   own = OwnStand-wrote p q s t n e w spaces st.spaces st.own;
+  savepoints = SavepointsStand-framed p q s t (framed_wrote p q s t n e w spaces) st.savepoints;
+  kept = KeptStand-framed p q s t (framed_wrote p q s t n e w spaces) st.kept;
+  kept_own = KeptOwnStand-framed p q s t (framed_wrote p q s t n e w spaces) st.kept_own;
+  bases = BasesStand-framed p q s t (framed_wrote p q s t n e w spaces) st.bases;
   rows = RowsStand-wrote p q s t n e w spaces st.rows;
 }
 
@@ -233,8 +285,21 @@ Stands-wrote p q s t n e w st spaces tables counters rules = record {
 pub record Retabled (p q : Parts) : Type 0 where
   pub spaces : q.spaces ≡ p.spaces
   pub versions : q.versions ≡ p.versions
+  pub savepoints : q.savepoints ≡ p.savepoints
   pub rows : q.rows ≡ p.rows
   pub pieces : q.pieces ≡ p.pieces
+
+framed_retabled : (p q : Parts) (s t : State) → Retabled p q → t.spaces ≡ s.spaces → Framed p q s t
+framed_retabled p q s t r spaces = record {
+  savepoints = r.savepoints;
+  points = λ n. ap (λ ws. savepoints_of ws n) spaces;
+  still = λ n w is. record { old = w; is = ap (λ ws. workspace_of ws n) (sym spaces) ∙ is; savepoints = refl; rebases = refl; at_birth = refl; base = refl };
+  names = λ n x recorded. record { old = x; is = ap (λ ss. space_of ss n) (sym r.spaces) ∙ recorded; birth = refl; base = refl };
+  sees = λ n making x saved c. rw (r.versions, r.pieces) refl;
+  has = λ n making x saved c. rw (r.versions, r.pieces) refl;
+  births = λ n x some is c. rw (r.versions, r.pieces) refl;
+  bases = λ n x some is c. rw (r.versions, r.pieces) refl;
+}
 
 pub Stands-retabled : (p q : Parts) (s t : State) → Retabled p q → Stands p s → t.spaces ≡ s.spaces → TablesStand q t → CountersStand q t → keep_rules q ≡ true → Stands q t
 Stands-retabled p q s t r st spaces tables counters rules = record {
@@ -244,8 +309,16 @@ Stands-retabled p q s t r st spaces tables counters rules = record {
   spaces = record { same = λ n. rw (r.spaces, spaces) (st.spaces.same n) };
   latest = record { told = λ n w is c. rw (r.versions, r.pieces) (st.latest.told n w (ap (λ ws. workspace_of ws n) (sym spaces) ∙ is) c) };
   own = record { covered = λ n w k is recorded c. rw (r.versions, r.pieces) (st.own.covered n w k (ap (λ ws. workspace_of ws n) (sym spaces) ∙ is) (ap (λ ss. space_of ss n) (sym r.spaces) ∙ recorded) c) };
-  rows = record { there = λ n w is c x row held standing. rw r.rows (st.rows.there n w (ap (λ ws. workspace_of ws n) (sym spaces) ∙ is) c x row held standing) };
+  savepoints = SavepointsStand-framed p q s t (framed_retabled p q s t r spaces) st.savepoints;
+  kept = KeptStand-framed p q s t (framed_retabled p q s t r spaces) st.kept;
+  kept_own = KeptOwnStand-framed p q s t (framed_retabled p q s t r spaces) st.kept_own;
+  bases = BasesStand-framed p q s t (framed_retabled p q s t r spaces) st.bases;
+  rows = RowsStand-framed p q s t (framed_retabled p q s t r spaces) rows
+      (λ n w is. HasRows-kept p q rows (content w) (st.rows.there n w (ap (λ ws. workspace_of ws n) (sym spaces) ∙ is))) st.rows;
 }
+  where
+    rows : KeepRows p q
+    rows stamp x found = ap (λ rs. row_of rs stamp) r.rows ∙ found
 
 -- sessions and the moment stand in no record
 pub Stands-begin : (p : Parts) (s : State) (now : ℕ) → Stands p s → Stands p (begin s now)
@@ -264,5 +337,9 @@ Stands-begin p s now st = record {
   spaces = record { same = st.spaces.same };
   latest = record { told = st.latest.told };
   own = record { covered = st.own.covered };
-  rows = record { there = st.rows.there };
+  savepoints = record { same = st.savepoints.same };
+  kept = record { told = st.kept.told };
+  kept_own = record { covered = st.kept_own.covered };
+  bases = record { birth = st.bases.birth; base = st.bases.base };
+  rows = record { there = st.rows.there; births = st.rows.births; bases = st.rows.bases; saved = st.rows.saved };
 }

@@ -1,0 +1,256 @@
+-- What is kept, clause by clause: a clause holds of the records and the state after an edit where each thing that it looks up is as it
+-- was before, or holds of itself. A law a clause: SpacesStand-frame, LatestStand-frame, OwnStand-frame, SavepointsStand-frame,
+-- KeptStand-frame, KeptOwnStand-frame, BasesStand-frame, RowsStand-frame; the records Shown, Owned, Point and Base say that a look-up
+-- is as before. Where no savepoint and no workspace is new, the record Framed gives the last five: SavepointsStand-framed and so on.
+use Rattle.std.proofs.Common.{◌≡◌, ℕ, ◌<◌, ◌==◌, ◌&&◌, List, [], map, Option, Some, None, is_some, refl, sym, ap, ◌∙◌, ◌⊎◌, inl, inr, ⊎_elim}
+use Rattle.std.specs.List.{filter, find}
+use Rattle.std.specs.Option.{option_map}
+use Rattle.wm_base.specs.declared.row.Row.{Row}
+use Rattle.wm_graph.specs.Parts.{Parts, row_of, space_of}
+use Rattle.wm_spec.specs.Lists.{Entry, Cell, told, touched}
+use Rattle.wm_spec.specs.declared.record.row.RowRecord.{RowRecord}
+use Rattle.wm_spec.specs.declared.record.savepoint.Savepoint.{Savepoint as Record}
+use Rattle.wm_spec.specs.declared.record.space.Space.{Space}
+use Rattle.wm_state.specs.State.{State, Workspace, Savepoint, content, kept, workspace_of, savepoint_made, savepoints_of}
+use Rattle.wm_state.specs.Standing.{held_of, shown, owned, seen, seen_above, fields_of, fields_in, saved_fields, fields_saved, by_making, saved_in, saved_as, SpacesStand, LatestStand, OwnStand, SavepointsStand, KeptStand, KeptOwnStand, BasesStand, RowsStand, HasRows}
+
+-- ---- workspaces and what they show
+
+-- the record of a workspace and the workspace itself are those of before
+pub record Fields (p q : Parts) (s t : State) (n : ℕ) : Type 0 where
+  pub recorded : option_map fields_of (space_of q.spaces n) ≡ option_map fields_of (space_of p.spaces n)
+  pub is : option_map fields_in (workspace_of t.spaces n) ≡ option_map fields_in (workspace_of s.spaces n)
+
+pub SpacesStand-frame : (p q : Parts) (s t : State) → ((n : ℕ) → Fields p q s t n ⊎ (option_map fields_of (space_of q.spaces n) ≡ option_map fields_in (workspace_of t.spaces n))) → SpacesStand p s → SpacesStand q t
+SpacesStand-frame p q s t each stand = record { same = λ n. ⊎_elim (λ (f : Fields p q s t n). f.recorded ∙ stand.same n ∙ sym f.is) (λ h. h) (each n) }
+
+-- a workspace has its content of before, and shows what it showed
+pub record Shown (p q : Parts) (s : State) (n : ℕ) (w : Workspace) : Type 0 where
+  pub old : Workspace
+  pub is : workspace_of s.spaces n ≡ Some old
+  pub content : content w ≡ content old
+  pub shows : (c : Cell) → shown q n c ≡ shown p n c
+
+pub LatestStand-frame : (p q : Parts) (s t : State)
+    → ((n : ℕ) (w : Workspace) → workspace_of t.spaces n ≡ Some w → Shown p q s n w ⊎ ((c : Cell) → shown q n c ≡ option_map held_of (told (content w) c))) → LatestStand p s → LatestStand q t
+LatestStand-frame p q s t each stand = record {
+  told = λ n w is c. ⊎_elim (λ (f : Shown p q s n w). f.shows c ∙ stand.told n f.old f.is c ∙ ap (λ es. option_map held_of (told es c)) (sym f.content)) (λ h. h c) (each n w is);
+}
+
+-- a workspace has its own changes of before, and above its base what it had
+pub record Owned (p q : Parts) (s : State) (n : ℕ) (w : Workspace) (r : Space) : Type 0 where
+  pub old : Workspace
+  pub is : workspace_of s.spaces n ≡ Some old
+  pub own : w.lists.own ≡ old.lists.own
+  pub old_record : Space
+  pub recorded : space_of p.spaces n ≡ Some old_record
+  pub has : (c : Cell) → owned q r.base_version n c ≡ owned p old_record.base_version n c
+
+pub OwnStand-frame : (p q : Parts) (s t : State)
+    → ((n : ℕ) (w : Workspace) (r : Space) → workspace_of t.spaces n ≡ Some w → space_of q.spaces n ≡ Some r → Owned p q s n w r ⊎ ((c : Cell) → is_some (owned q r.base_version n c) ≡ touched w.lists.own c))
+    → OwnStand p s → OwnStand q t
+OwnStand-frame p q s t each stand = record {
+  covered = λ n w r is recorded c.
+      ⊎_elim (λ (f : Owned p q s n w r). ap is_some (f.has c) ∙ stand.covered n f.old f.old_record f.is f.recorded c ∙ ap (λ es. touched es c) (sym f.own)) (λ h. h c) (each n w r is recorded);
+}
+
+-- ---- savepoints
+
+-- the savepoints of a number are those of its workspace
+pub savepoints_of-found : (ws : List Workspace) (n : ℕ) (w : Workspace) → workspace_of ws n ≡ Some w → savepoints_of ws n ≡ w.savepoints
+savepoints_of-found ws n w found = rw found refl
+
+pub savepoints_of-none : (ws : List Workspace) (n : ℕ) → workspace_of ws n ≡ None → savepoints_of ws n ≡ []
+savepoints_of-none ws n none = rw none refl
+
+-- the savepoints of a workspace and their records are those of before
+pub record Points (p q : Parts) (s t : State) (n : ℕ) : Type 0 where
+  pub recorded : saved_in q n ≡ saved_in p n
+  pub same : savepoints_of t.spaces n ≡ savepoints_of s.spaces n
+
+pub SavepointsStand-frame : (p q : Parts) (s t : State) → ((n : ℕ) → Points p q s t n ⊎ (map saved_fields (saved_in q n) ≡ map fields_saved (savepoints_of t.spaces n))) → SavepointsStand p s → SavepointsStand q t
+SavepointsStand-frame p q s t each stand = record {
+  same = λ n. ⊎_elim (λ (f : Points p q s t n). ap (map saved_fields) f.recorded ∙ stand.same n ∙ ap (map fields_saved) (sym f.same)) (λ h. h) (each n);
+}
+
+-- a savepoint and its record are of before, and its versions hold what they held
+pub record Point (p q : Parts) (s : State) (n making : ℕ) (w : Workspace) (k : Savepoint) (x : Record) : Type 0 where
+  pub old : Workspace
+  pub is : workspace_of s.spaces n ≡ Some old
+  pub point : savepoint_made making old.savepoints ≡ Some k
+  pub recorded : saved_as p n making ≡ Some x
+  pub rebases : w.rebases ≡ old.rebases
+  pub sees : (c : Cell) → seen q x.version c ≡ seen p x.version c
+  pub has : (c : Cell) → seen_above q x.base_version x.version c ≡ seen_above p x.base_version x.version c
+
+pub KeptStand-frame : (p q : Parts) (s t : State)
+    → ((n making : ℕ) (w : Workspace) (k : Savepoint) (x : Record) → workspace_of t.spaces n ≡ Some w → savepoint_made making w.savepoints ≡ Some k → saved_as q n making ≡ Some x
+    → Point p q s n making w k x ⊎ ((c : Cell) → seen q x.version c ≡ option_map held_of (told (kept k) c)))
+    → KeptStand p s → KeptStand q t
+KeptStand-frame p q s t each stand = record {
+  told = λ n making w k x is point recorded c.
+      ⊎_elim (λ (f : Point p q s n making w k x). f.sees c ∙ stand.told n making f.old k x f.is f.point f.recorded c) (λ h. h c) (each n making w k x is point recorded);
+}
+
+pub KeptOwnStand-frame : (p q : Parts) (s t : State)
+    → ((n making : ℕ) (w : Workspace) (k : Savepoint) (x : Record) → workspace_of t.spaces n ≡ Some w → savepoint_made making w.savepoints ≡ Some k → saved_as q n making ≡ Some x
+    → Point p q s n making w k x ⊎ (k.rebases ≡ w.rebases → (c : Cell) → is_some (seen_above q x.base_version x.version c) ≡ touched k.own c))
+    → KeptOwnStand p s → KeptOwnStand q t
+KeptOwnStand-frame p q s t each stand = record {
+  covered = λ n making w k x is point recorded same c.
+      ⊎_elim (λ (f : Point p q s n making w k x). ap is_some (f.has c) ∙ stand.covered n making f.old k x f.is f.point f.recorded (same ∙ f.rebases) c) (λ h. h same c) (each n making w k x is point recorded);
+}
+
+-- ---- bases
+
+-- a workspace has from its parent what it had, and the versions that it is born from and that it sees hold what they held
+pub record Base (p q : Parts) (s : State) (n : ℕ) (w : Workspace) (r : Space) : Type 0 where
+  pub old : Workspace
+  pub is : workspace_of s.spaces n ≡ Some old
+  pub at_birth : w.lists.at_birth ≡ old.lists.at_birth
+  pub base : w.lists.base ≡ old.lists.base
+  pub old_record : Space
+  pub recorded : space_of p.spaces n ≡ Some old_record
+  pub births : (c : Cell) → seen q r.birth_version c ≡ seen p old_record.birth_version c
+  pub bases : (c : Cell) → seen q r.base_version c ≡ seen p old_record.base_version c
+
+-- or hold what the workspace has now
+pub record HasBase (q : Parts) (w : Workspace) (r : Space) : Type 0 where
+  pub births : (c : Cell) → seen q r.birth_version c ≡ option_map held_of (told w.lists.at_birth c)
+  pub bases : (c : Cell) → seen q r.base_version c ≡ option_map held_of (told w.lists.base c)
+
+pub BasesStand-frame : (p q : Parts) (s t : State) → ((n : ℕ) (w : Workspace) (r : Space) → 0 < n → workspace_of t.spaces n ≡ Some w → space_of q.spaces n ≡ Some r → Base p q s n w r ⊎ HasBase q w r)
+    → BasesStand p s → BasesStand q t
+BasesStand-frame p q s t each stand = record {
+  birth = λ n w r some is recorded c.
+      ⊎_elim (λ (f : Base p q s n w r). f.births c ∙ stand.birth n f.old f.old_record some f.is f.recorded c ∙ ap (λ es. option_map held_of (told es c)) (sym f.at_birth))
+      (λ (h : HasBase q w r). h.births c) (each n w r some is recorded);
+  base = λ n w r some is recorded c.
+      ⊎_elim (λ (f : Base p q s n w r). f.bases c ∙ stand.base n f.old f.old_record some f.is f.recorded c ∙ ap (λ es. option_map held_of (told es c)) (sym f.base))
+      (λ (h : HasBase q w r). h.bases c) (each n w r some is recorded);
+}
+
+-- ---- rows
+
+-- each row stands still
+abbrev pub KeepRows : Parts → Parts → Type 0
+KeepRows p q = (stamp : ℕ) (r : RowRecord) → row_of p.rows stamp ≡ Some r → row_of q.rows stamp ≡ Some r
+
+pub row-kept : (p q : Parts) → KeepRows p q → (stamp : ℕ) (row : Row) → option_map (λ (r : RowRecord). r.values) (row_of p.rows stamp) ≡ Some row.values
+    → option_map (λ (r : RowRecord). r.values) (row_of q.rows stamp) ≡ Some row.values
+row-kept p q keep stamp row before = by_row (row_of p.rows stamp) refl before
+  where
+    by_row : (o : Option RowRecord) → row_of p.rows stamp ≡ o → option_map (λ (r : RowRecord). r.values) o ≡ Some row.values → option_map (λ (r : RowRecord). r.values) (row_of q.rows stamp) ≡ Some row.values
+    by_row None found h = cc
+    by_row (Some r) found h = ap (option_map (λ (r : RowRecord). r.values)) (keep stamp r found) ∙ h
+
+pub HasRows-kept : (p q : Parts) → KeepRows p q → (es : List Entry) → HasRows p es → HasRows q es
+HasRows-kept p q keep es has c t row held standing = row-kept p q keep t.stamp row (has c t row held standing)
+
+-- a list that is one of before
+pub HasRows-same : (p q : Parts) → KeepRows p q → (es fs : List Entry) → es ≡ fs → HasRows p fs → HasRows q es
+HasRows-same p q keep es fs same has c t row held standing = row-kept p q keep t.stamp row (has c t row (ap (λ xs. told xs c) (sym same) ∙ held) standing)
+
+-- what a workspace and its savepoints hold has its rows
+pub record Rows (q : Parts) (w : Workspace) : Type 0 where
+  pub there : HasRows q (content w)
+  pub births : HasRows q w.lists.at_birth
+  pub bases : HasRows q w.lists.base
+  pub saved : (making : ℕ) (k : Savepoint) → savepoint_made making w.savepoints ≡ Some k → HasRows q (kept k)
+
+pub RowsStand-frame : (q : Parts) (t : State) → ((n : ℕ) (w : Workspace) → workspace_of t.spaces n ≡ Some w → Rows q w) → RowsStand q t
+RowsStand-frame q t each = record { there = λ n w is. (each n w is).there; births = λ n w is. (each n w is).births; bases = λ n w is. (each n w is).bases; saved = λ n making w k is point. (each n w is).saved making k point }
+
+-- a workspace of before has its rows still
+pub Rows-kept : (p q : Parts) (s : State) (n : ℕ) (w : Workspace) → KeepRows p q → RowsStand p s → workspace_of s.spaces n ≡ Some w → Rows q w
+Rows-kept p q s n w keep stand is = record {
+  there = HasRows-kept p q keep (content w) (stand.there n w is);
+  births = HasRows-kept p q keep w.lists.at_birth (stand.births n w is);
+  bases = HasRows-kept p q keep w.lists.base (stand.bases n w is);
+  saved = λ making k point. HasRows-kept p q keep (kept k) (stand.saved n making w k is point);
+}
+
+-- ---- where no savepoint and no workspace is new
+
+-- a workspace is one of before, but for its own changes, its log and its fields
+pub record Still (s : State) (n : ℕ) (w : Workspace) : Type 0 where
+  pub old : Workspace
+  pub is : workspace_of s.spaces n ≡ Some old
+  pub savepoints : w.savepoints ≡ old.savepoints
+  pub rebases : w.rebases ≡ old.rebases
+  pub at_birth : w.lists.at_birth ≡ old.lists.at_birth
+  pub base : w.lists.base ≡ old.lists.base
+
+-- its record names the versions that it named
+pub record StillNames (p : Parts) (n : ℕ) (r : Space) : Type 0 where
+  pub old : Space
+  pub is : space_of p.spaces n ≡ Some old
+  pub birth : r.birth_version ≡ old.birth_version
+  pub base : r.base_version ≡ old.base_version
+
+-- so it is of each, and all versions that are named hold what they held
+pub record Framed (p q : Parts) (s t : State) : Type 0 where
+  pub savepoints : q.savepoints ≡ p.savepoints
+  pub points : (n : ℕ) → savepoints_of t.spaces n ≡ savepoints_of s.spaces n
+  pub still : (n : ℕ) (w : Workspace) → workspace_of t.spaces n ≡ Some w → Still s n w
+  pub names : (n : ℕ) (r : Space) → space_of q.spaces n ≡ Some r → StillNames p n r
+  pub sees : (n making : ℕ) (x : Record) → saved_as p n making ≡ Some x → (c : Cell) → seen q x.version c ≡ seen p x.version c
+  pub has : (n making : ℕ) (x : Record) → saved_as p n making ≡ Some x → (c : Cell) → seen_above q x.base_version x.version c ≡ seen_above p x.base_version x.version c
+  pub births : (n : ℕ) (r : Space) → 0 < n → space_of p.spaces n ≡ Some r → (c : Cell) → seen q r.birth_version c ≡ seen p r.birth_version c
+  pub bases : (n : ℕ) (r : Space) → 0 < n → space_of p.spaces n ≡ Some r → (c : Cell) → seen q r.base_version c ≡ seen p r.base_version c
+
+saved_in-same : (p q : Parts) → q.savepoints ≡ p.savepoints → (n : ℕ) → saved_in q n ≡ saved_in p n
+saved_in-same p q same n = ap (λ xs. by_making (filter (λ (x : Record). x.space == n) xs)) same
+
+saved_as-same : (p q : Parts) → q.savepoints ≡ p.savepoints → (n making : ℕ) → saved_as q n making ≡ saved_as p n making
+saved_as-same p q same n making = ap (λ xs. find (λ (x : Record). (x.space == n) && (x.making == making)) xs) same
+
+point_of : (p q : Parts) (s t : State) → Framed p q s t → (n making : ℕ) (w : Workspace) (k : Savepoint) (x : Record) → workspace_of t.spaces n ≡ Some w → savepoint_made making w.savepoints ≡ Some k
+    → saved_as q n making ≡ Some x → Point p q s n making w k x
+point_of p q s t f n making w k x is point recorded =
+    let y = f.still n w is in
+    let before : saved_as p n making ≡ Some x = sym (saved_as-same p q f.savepoints n making) ∙ recorded in
+    record {
+      old = y.old;
+      is = y.is;
+      point = ap (savepoint_made making) (sym y.savepoints) ∙ point;
+      recorded = before;
+      rebases = y.rebases;
+      sees = f.sees n making x before;
+      has = f.has n making x before;
+    }
+
+pub SavepointsStand-framed : (p q : Parts) (s t : State) → Framed p q s t → SavepointsStand p s → SavepointsStand q t
+SavepointsStand-framed p q s t f = SavepointsStand-frame p q s t (λ n. inl (record { recorded = saved_in-same p q f.savepoints n; same = f.points n }))
+
+pub KeptStand-framed : (p q : Parts) (s t : State) → Framed p q s t → KeptStand p s → KeptStand q t
+KeptStand-framed p q s t f = KeptStand-frame p q s t (λ n making w k x is point recorded. inl (point_of p q s t f n making w k x is point recorded))
+
+pub KeptOwnStand-framed : (p q : Parts) (s t : State) → Framed p q s t → KeptOwnStand p s → KeptOwnStand q t
+KeptOwnStand-framed p q s t f = KeptOwnStand-frame p q s t (λ n making w k x is point recorded. inl (point_of p q s t f n making w k x is point recorded))
+
+pub BasesStand-framed : (p q : Parts) (s t : State) → Framed p q s t → BasesStand p s → BasesStand q t
+BasesStand-framed p q s t f = BasesStand-frame p q s t (λ n w r some is recorded. inl (base_of n w r some (f.still n w is) (f.names n r recorded)))
+  where
+    base_of : (n : ℕ) (w : Workspace) (r : Space) → 0 < n → Still s n w → StillNames p n r → Base p q s n w r
+    base_of n w r some x y = record {
+      old = x.old;
+      is = x.is;
+      at_birth = x.at_birth;
+      base = x.base;
+      old_record = y.old;
+      recorded = y.is;
+      births = λ c. ap (λ v. seen q v c) y.birth ∙ f.births n y.old some y.is c;
+      bases = λ c. ap (λ v. seen q v c) y.base ∙ f.bases n y.old some y.is c;
+    }
+
+pub RowsStand-framed : (p q : Parts) (s t : State) → Framed p q s t → KeepRows p q → ((n : ℕ) (w : Workspace) → workspace_of t.spaces n ≡ Some w → HasRows q (content w)) → RowsStand p s → RowsStand q t
+RowsStand-framed p q s t f keep there stand = RowsStand-frame q t (λ n w is. rows_of n w is (f.still n w is))
+  where
+    rows_of : (n : ℕ) (w : Workspace) → workspace_of t.spaces n ≡ Some w → Still s n w → Rows q w
+    rows_of n w is y = record {
+      there = there n w is;
+      births = HasRows-same p q keep w.lists.at_birth y.old.lists.at_birth y.at_birth (stand.births n y.old y.is);
+      bases = HasRows-same p q keep w.lists.base y.old.lists.base y.base (stand.bases n y.old y.is);
+      saved = λ making k point. HasRows-kept p q keep (kept k) (stand.saved n making y.old k y.is (ap (savepoint_made making) (sym y.savepoints) ∙ point));
+    }
