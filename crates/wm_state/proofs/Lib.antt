@@ -27,3 +27,4 @@ pub mod Ids
 pub mod Mapped
 pub mod Making
 pub mod Saving
+pub mod SavedAs
