@@ -1,20 +1,23 @@
 -- A workspace gets a version more, with nothing in it, under its newest one.
 use Rattle.std.proofs.Common.{◌≡◌, ◌≢◌, ℕ, ◌<◌, ◌==◌, Bool, true, false, cond, List, [], ◌∷◌, Option, Some, None, is_some, refl, sym, ap, ◌∙◌, ◌⊎◌, inl, inr, arith}
 use Rattle.std.proofs.lemmas.Bool.{cases_eq, eq-eqb, ne_eqb}
-use Rattle.wm_graph.specs.Parts.{Parts, space_of}
-use Rattle.wm_graph.specs.Rules.{keep_rules}
+use Rattle.wm_graph.specs.Parts.{Parts, space_of, version_of, row_of}
+use Rattle.wm_graph.specs.Rules.{keep_rules, is_version_of}
 use Rattle.wm_period.specs.Pieces.{Held}
 use Rattle.wm_spec.specs.Lists.{Cell}
 use Rattle.wm_spec.specs.declared.record.piece.PieceRecord.{PieceRecord}
+use Rattle.wm_spec.specs.declared.record.savepoint.Savepoint.{Savepoint}
 use Rattle.wm_spec.specs.declared.record.space.Space.{Space}
 use Rattle.wm_tree.specs.Versions.{latest_in, AllBelow}
 use Rattle.wm_tree.specs.declared.version.Version.{Version as Node}
-use Rattle.wm_state.specs.State.{State, workspace_of}
-use Rattle.wm_state.specs.Standing.{stored_at, seen_at, own_at, newest_first, latest, shown, owned, CountersStand, Stands, by_number}
+use Rattle.wm_state.specs.State.{State, content, workspace_of, savepoints_of}
+use Rattle.wm_state.specs.Standing.{stored_at, seen_at, own_at, newest_first, latest, shown, owned, seen, seen_above, saved_as, CountersStand, Stands, by_number}
 use Rattle.wm_state.specs.Effects.{Forked, node_under}
+use Rattle.wm_state.proofs.Frames.{Framed, KeepRows, HasRows-kept, SavepointsStand-framed, KeptStand-framed, KeptOwnStand-framed, BasesStand-framed, RowsStand-framed}
+use Rattle.wm_state.proofs.Named.{saved_there, bases_there, version_there, version_below}
 
 -- the newest version of a workspace is below what all versions are below
-latest-below : (n : ℕ) (nodes : List Node) (m : ℕ) → 0 < n → AllBelow n nodes → latest_in nodes m < n
+pub latest-below : (n : ℕ) (nodes : List Node) (m : ℕ) → 0 < n → AllBelow n nodes → latest_in nodes m < n
 latest-below n [] m some below = some
 latest-below n (x ∷ older) m some below = by_test (x.space == m) (latest-below n older m some below.1)
   where
@@ -23,15 +26,15 @@ latest-below n (x ∷ older) m some below = by_test (x.space == m) (latest-below
     by_test false rest = rest
 
 -- a version stores nothing of its own above itself
-own-none : (pieces : List PieceRecord) (nodes : List Node) (base : ℕ) (c : Cell) → own_at pieces nodes base base c ≡ None
+pub own-none : (pieces : List PieceRecord) (nodes : List Node) (base : ℕ) (c : Cell) → own_at pieces nodes base base c ≡ None
 own-none pieces [] base c = refl
 own-none pieces (x ∷ older) base c = rw (eq-eqb base base refl) refl
 
 -- a version beside the new one sees what it saw
-seen-beside : (pieces : List PieceRecord) (x : Node) (older : List Node) (v : ℕ) (c : Cell) → v < x.number → seen_at pieces (x ∷ older) v c ≡ seen_at pieces older v c
+pub seen-beside : (pieces : List PieceRecord) (x : Node) (older : List Node) (v : ℕ) (c : Cell) → v < x.number → seen_at pieces (x ∷ older) v c ≡ seen_at pieces older v c
 seen-beside pieces x older v c lt = rw (ne_eqb x.number v (λ same. omega (arith, lt, same))) refl
 
-own-beside : (pieces : List PieceRecord) (x : Node) (older : List Node) (base v : ℕ) (c : Cell) → v < x.number → own_at pieces (x ∷ older) base v c ≡ own_at pieces older base v c
+pub own-beside : (pieces : List PieceRecord) (x : Node) (older : List Node) (base v : ℕ) (c : Cell) → v < x.number → own_at pieces (x ∷ older) base v c ≡ own_at pieces older base v c
 own-beside pieces x older base v c lt = by_base (cases_eq v base)
   where
     nothing : Option Held
@@ -42,10 +45,10 @@ own-beside pieces x older base v c lt = by_base (cases_eq v base)
     by_base (inr other) = rw (ne_eqb _ _ other, ne_eqb x.number v (λ same. omega (arith, lt, same))) refl
 
 -- the new version sees what its parent saw
-seen-under : (pieces : List PieceRecord) (x : Node) (older : List Node) (c : Cell) → stored_at pieces x.number c ≡ None → seen_at pieces (x ∷ older) x.number c ≡ seen_at pieces older x.parent c
+pub seen-under : (pieces : List PieceRecord) (x : Node) (older : List Node) (c : Cell) → stored_at pieces x.number c ≡ None → seen_at pieces (x ∷ older) x.number c ≡ seen_at pieces older x.parent c
 seen-under pieces x older c empty = rw (eq-eqb x.number x.number refl, empty) refl
 
-own-under : (pieces : List PieceRecord) (x : Node) (older : List Node) (base : ℕ) (c : Cell) → (x.number == base) ≡ false → stored_at pieces x.number c ≡ None
+pub own-under : (pieces : List PieceRecord) (x : Node) (older : List Node) (base : ℕ) (c : Cell) → (x.number == base) ≡ false → stored_at pieces x.number c ≡ None
     → own_at pieces (x ∷ older) base x.number c ≡ own_at pieces older base x.parent c
 own-under pieces x older base c above empty = rw (above, eq-eqb x.number x.number refl, empty) refl
 
@@ -79,6 +82,38 @@ owned-forked p q n number f m r found c =
     by_space (inr other) =
         rw (ne_eqb n m other) (own-beside p.pieces (node_under p n number) (newest_first p.versions) r.base_version (latest p m) c (latest-below number (newest_first p.versions) m f.some f.below))
 
+-- a version of before sees what it saw
+pub seen-forked : (p q : Parts) (n number : ℕ) → Forked p q n number → (v : ℕ) → v < number → (c : Cell) → seen q v c ≡ seen p v c
+seen-forked p q n number f v lt c =
+    ap (λ nodes. seen_at q.pieces nodes v c) f.versions
+    ∙ ap (λ pieces. seen_at pieces (node_under p n number ∷ newest_first p.versions) v c) f.pieces
+    ∙ seen-beside p.pieces (node_under p n number) (newest_first p.versions) v c lt
+
+pub above-forked : (p q : Parts) (n number : ℕ) → Forked p q n number → (base v : ℕ) → v < number → (c : Cell) → seen_above q base v c ≡ seen_above p base v c
+above-forked p q n number f base v lt c =
+    ap (λ nodes. own_at q.pieces nodes base v c) f.versions
+    ∙ ap (λ pieces. own_at pieces (node_under p n number ∷ newest_first p.versions) base v c) f.pieces
+    ∙ own-beside p.pieces (node_under p n number) (newest_first p.versions) base v c lt
+
+-- all versions that are named are of before
+framed_forked : (p q : Parts) (s t : State) (n number : ℕ) → Forked p q n number → keep_rules p ≡ true → t.spaces ≡ s.spaces → Framed p q s t
+framed_forked p q s t n number f rules spaces = record {
+  savepoints = f.savepoints;
+  points = λ m. ap (λ ws. savepoints_of ws m) spaces;
+  still = λ m w is. record { old = w; is = ap (λ ws. workspace_of ws m) (sym spaces) ∙ is; savepoints = refl; rebases = refl; at_birth = refl; base = refl };
+  names = λ m r recorded. record { old = r; is = ap (λ ss. space_of ss m) (sym f.spaces) ∙ recorded; birth = refl; base = refl };
+  sees = λ m making x found c. seen-forked p q n number f x.version (saved m making x found) c;
+  has = λ m making x found c. above-forked p q n number f x.base_version x.version (saved m making x found) c;
+  births = λ m r some is. seen-forked p q n number f r.birth_version (below r.birth_version r.parent (bases_there p rules m r some is).birth);
+  bases = λ m r some is. seen-forked p q n number f r.base_version (below r.base_version r.parent (bases_there p rules m r some is).base);
+}
+  where
+    below : (v space : ℕ) → is_version_of (version_of p.versions) v space ≡ true → v < number
+    below v space there = version_below p rules number f.below v (version_there (version_of p.versions) v space there)
+
+    saved : (m making : ℕ) (x : Savepoint) → saved_as p m making ≡ Some x → x.version < number
+    saved m making x found = below x.version m (saved_there p rules m making x found).version
+
 -- the records stand for what they stood for, with counters of their own
 pub Stands-forked : (p q : Parts) (s t : State) (n number : ℕ) → Forked p q n number → Stands p s → t.spaces ≡ s.spaces → t.tables ≡ s.tables → CountersStand q t → keep_rules q ≡ true → Stands q t
 Stands-forked p q s t n number f st spaces tables counters rules = record {
@@ -92,5 +127,15 @@ Stands-forked p q s t n number f st spaces tables counters rules = record {
         let before : space_of p.spaces m ≡ Some r = ap (λ ss. space_of ss m) (sym f.spaces) ∙ recorded in
         ap is_some (owned-forked p q n number f m r before c) ∙ st.own.covered m w r (ap (λ ws. workspace_of ws m) (sym spaces) ∙ is) before c;
   };
-  rows = record { there = λ m w is c x row held standing. rw f.rows (st.rows.there m w (ap (λ ws. workspace_of ws m) (sym spaces) ∙ is) c x row held standing) };
+  savepoints = SavepointsStand-framed p q s t framed st.savepoints;
+  kept = KeptStand-framed p q s t framed st.kept;
+  kept_own = KeptOwnStand-framed p q s t framed st.kept_own;
+  bases = BasesStand-framed p q s t framed st.bases;
+  rows = RowsStand-framed p q s t framed rows (λ m w is. HasRows-kept p q rows (content w) (st.rows.there m w (ap (λ ws. workspace_of ws m) (sym spaces) ∙ is))) st.rows;
 }
+  where
+    framed : Framed p q s t
+    framed = framed_forked p q s t n number f st.rules spaces
+
+    rows : KeepRows p q
+    rows stamp x found = ap (λ rs. row_of rs stamp) f.rows ∙ found
