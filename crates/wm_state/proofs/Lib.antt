@@ -28,3 +28,4 @@ pub mod Mapped
 pub mod Making
 pub mod Saving
 pub mod SavedAs
+pub mod Respaced
