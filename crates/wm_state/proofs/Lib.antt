@@ -29,3 +29,4 @@ pub mod Making
 pub mod Saving
 pub mod SavedAs
 pub mod Respaced
+pub mod KeepSaved
