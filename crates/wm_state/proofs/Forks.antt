@@ -96,6 +96,8 @@ drops_none ss test all id (records.Counters c) found = refl
 drops_none ss test all id (records.Table t) found = refl
 drops_none ss test all id (records.Space s) found = refl
 drops_none ss test all id (records.Version v) found = refl
+drops_none ss test all id (records.Savepoint k) found = refl
+drops_none ss test all id (records.Hist h) found = refl
 drops_none ss test all id (records.Row r) found = refl
 
 -- ---- the law

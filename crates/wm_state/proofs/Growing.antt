@@ -1,10 +1,10 @@
 -- The records with a version more.
-use Rattle.std.proofs.Common.{◌≡◌, ℕ, ◌+◌, ◌<◌, ◌==◌, nat_lt, Bool, true, false, ◌&&◌, ◌||◌, cond, if◌then◌else◌, List, [], ◌∷◌, ◌++◌, Option, Some, None, is_some, refl, sym, ap, ◌∙◌, arith}
+use Rattle.std.proofs.Common.{◌≡◌, ℕ, ◌+◌, ◌<◌, ◌≤◌, ◌==◌, nat_lt, Bool, true, false, ◌&&◌, ◌||◌, cond, if◌then◌else◌, List, [], ◌∷◌, ◌++◌, Option, Some, None, is_some, refl, sym, ap, ◌∙◌, arith}
 use Rattle.std.proofs.lemmas.Bool.{eq-eqb, eqb-true}
 use Rattle.std.specs.List.{list_all, list_any}
 use Rattle.std.specs.Option.{option_map_or}
 use Rattle.wm_graph.specs.Parts.{Parts, table_of, space_of, version_of, row_of, has_version}
-use Rattle.wm_graph.specs.Rules.{keep_rules, are_counters, are_tables, are_spaces, are_versions, is_version, is_version_of, has_versions, stands_under, are_rows, are_pieces, is_piece, collide, differ}
+use Rattle.wm_graph.specs.Rules.{keep_rules, are_counters, are_versions, is_version, is_version_of, has_versions, stands_under, are_savepoints, are_rows, are_pieces, is_piece, collide, are_hists, differ}
 use Rattle.wm_spec.specs.Lists.{Cell}
 use Rattle.wm_spec.specs.declared.record.counters.Counters.{Counters}
 use Rattle.wm_spec.specs.declared.record.piece.PieceRecord.{PieceRecord}
@@ -15,7 +15,8 @@ use Rattle.wm_state.specs.Standing.{stored_at, node_of, newest_first, latest}
 use Rattle.wm_state.specs.Effects.{Forked}
 use Rattle.wm_state.proofs.Tests.{bool_apart, both, and_true, all_if, all_push, differ_push, find_push, none_if}
 use Rattle.wm_state.proofs.Newest.{AllBelow-grow}
-use Rattle.wm_state.proofs.Apart.{Ruled, ruled, ruled_versions, newest_record, newest_some, found-passes}
+use Rattle.wm_state.proofs.Keeping.{le_of, KeepSpaces-same, KeepVersions-push, are_savepoints-kept, few-same}
+use Rattle.wm_state.proofs.Apart.{Ruled, ruled, keeps_all, ruled_versions, newest_record, newest_some, found-passes}
 
 -- the records with a version more and other counters
 abbrev pub forked : Parts → Counters → Version → Parts
@@ -27,6 +28,7 @@ pub record MayFork (p : Parts) (old new : Counters) (a : Space) (n : ℕ) (v : V
   pub counters : are_counters new ≡ true
   pub stamps : new.next_stamp ≡ old.next_stamp
   pub next : new.next_version ≡ old.next_version + 1
+  pub work : old.work ≤ new.work
   pub there : space_of p.spaces n ≡ Some a
   pub number : v.number ≡ old.next_version
   pub space : v.space ≡ n
@@ -221,19 +223,26 @@ same_counters p old c one is = first_same c old (sym is ∙ one)
     first_same b d h = cc
 
 pub keep-forked : (p : Parts) (old new : Counters) (a : Space) (n : ℕ) (v : Version) → MayFork p old new a n v → keep_rules p ≡ true → keep_rules (forked p new v) ≡ true
-unfolding keep_rules
-keep-forked p old new a n v may e =
-    let r = ruled p e in
-    let same : r.counters ≡ old = same_counters p old r.counters may.one r.one in
-    let q = forked p new v in
-    and_true (are_counters new) _ may.counters
-    (and_true (are_tables p.tables) _ r.tables
-    (and_true (are_spaces p.spaces) _ r.spaces
-    (and_true (are_versions q new.next_version) _
+keep-forked p old new a n v may e = keeps_all q new refl may.counters
+    r.tables
+    r.spaces
     (ap (are_versions q) may.next ∙ versions_kept p old new a n v may e (ap (λ (c : Counters). are_versions p c.next_version) (sym same) ∙ r.versions))
-    (and_true (are_rows p new.next_stamp) (are_pieces q new.next_stamp)
+    (are_savepoints-kept p q old.work new.work (le_of old.work new.work may.work) (KeepSpaces-same p q refl) (KeepVersions-push p q v refl) refl (few-same p q old.work refl savepoints) savepoints)
     (ap (are_rows p) may.stamps ∙ ap (λ (c : Counters). are_rows p c.next_stamp) (sym same) ∙ r.rows)
-    (ap (are_pieces q) may.stamps ∙ pieces_kept p new v old.next_stamp (ap (λ (c : Counters). are_pieces p c.next_stamp) (sym same) ∙ r.pieces))))))
+    (ap (are_pieces q) may.stamps ∙ pieces_kept p new v old.next_stamp (ap (λ (c : Counters). are_pieces p c.next_stamp) (sym same) ∙ r.pieces))
+    (ap (are_hists q) may.stamps ∙ ap (λ (c : Counters). are_hists p c.next_stamp) (sym same) ∙ r.hists)
+  where
+    q : Parts
+    q = forked p new v
+
+    r : Ruled p
+    r = ruled p e
+
+    same : r.counters ≡ old
+    same = same_counters p old r.counters may.one r.one
+
+    savepoints : are_savepoints p old.work ≡ true
+    savepoints = ap (λ (c : Counters). are_savepoints p c.work) (sym same) ∙ r.savepoints
 
 -- ---- what becomes of the records
 
@@ -267,6 +276,7 @@ forked_of p old new a n v may e = record {
   empty = empty-next p v.number r.counters.next_stamp (ap (are_versions p) number ∙ r.versions) r.pieces;
   tables = refl;
   spaces = refl;
+  savepoints = refl;
   rows = refl;
   pieces = refl;
 }

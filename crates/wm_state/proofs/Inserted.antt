@@ -16,7 +16,7 @@ use Rattle.wm_spec.specs.declared.record.space.Space.{Space}
 use Rattle.wm_state.specs.State.{State}
 use Rattle.wm_state.specs.Standing.{held_of, held_by, newest_first, latest, CountersStand, Stands}
 use Rattle.wm_state.specs.Batches.{is_out}
-use Rattle.wm_state.specs.Effects.{IsLeaf, AreLaid, longer, Wrote}
+use Rattle.wm_state.specs.Effects.{IsLeaf, IsFree, AreLaid, longer, Wrote}
 use Rattle.wm_state.proofs.Tests.{bool_apart, both, not_true, either_false, all_if, find_push, find_new}
 use Rattle.wm_state.proofs.Inserting.{inserted, MayInsert, keep-inserted, new_stamp}
 use Rattle.wm_state.proofs.Laying.{EndInTime, laid-over}
@@ -50,6 +50,7 @@ pub record MayWrite (p : Parts) (n : ℕ) (e : Entry) (row : Row) (a : Space) (r
   pub number : a.number ≡ n
   pub version : x.version ≡ latest p n
   pub leaf : IsLeaf (latest p n) (newest_first p.versions)
+  pub free : IsFree p (latest p n)
   pub from : e.from ≡ 0
   pub till : e.till ≡ END
   pub cells : x.cells ≡ record { table = e.table; key = e.key; from = e.from; till = e.till }
@@ -71,9 +72,11 @@ pub wrote-inserted : (p : Parts) (old new : Counters) (front : List Space) (a : 
     → Wrote p (inserted p new front a back (is_out x.version e.table e.key) r x) n e
 wrote-inserted p old new front a back r x n e row rules may w = record {
   leaf = w.leaf;
+  free = w.free;
   apart = apart_of p rules n a found;
   tables = refl;
   versions = refl;
+  savepoints = refl;
   here = find-middle (λ (s : Space). s.number == n) front back (longer a) none is ∙ sym (ap (option_map longer) found);
   elsewhere = λ m other. find-past (λ (s : Space). s.number == m) front back a (longer a) (away m other) (away m other) ∙ ap (λ ss. space_of ss m) (sym may.spaces);
   pieces = subst (λ (v : ℕ). AreLaid v e p.pieces (filter (is_out x.version e.table e.key) p.pieces ++ x ∷ [])) w.version

@@ -1,26 +1,27 @@
 -- The rules hold of the records with a row and a piece more.
-use Rattle.std.proofs.Common.{◌≡◌, ℕ, ◌+◌, ◌^◌, ◌==◌, nat_lt, nat_le, Bool, true, false, ◌&&◌, ◌||◌, if◌then◌else◌, List, [], ◌∷◌, ◌++◌, Option, Some, None, is_some, refl, sym, ap, ◌∙◌, length, length-append, arith}
+use Rattle.std.proofs.Common.{◌≡◌, ℕ, ◌+◌, ◌^◌, ◌≤◌, ◌==◌, nat_lt, nat_le, Bool, true, false, ◌&&◌, ◌||◌, if◌then◌else◌, List, [], ◌∷◌, ◌++◌, Option, Some, None, is_some, refl, sym, ap, ◌∙◌, length, length-append, arith}
 use Rattle.std.proofs.lemmas.Bool.{eq-eqb}
 use Rattle.std.specs.List.{list_all, list_any, filter}
 use Rattle.std.specs.Option.{option_map_or}
 use Rattle.std.specs.Str.{bytes_eq}
 use Rattle.wm_graph.specs.Parts.{Parts, table_of, space_of, version_of, row_of, has_version}
-use Rattle.wm_graph.specs.Rules.{keep_rules, keep_rules_with, are_counters, are_tables, are_spaces, is_space, is_placed, is_short, are_versions, is_version, has_versions, stands_under, are_rows, is_row, is_row_of, are_pieces, is_piece, is_row_at, are_cells, collide, differ}
+use Rattle.wm_graph.specs.Rules.{keep_rules, are_counters, are_spaces, is_space, is_placed, is_short, are_versions, is_version, has_versions, stands_under, are_savepoints, has_few, are_rows, is_row, is_row_of, are_pieces, is_piece, is_row_at, are_cells, collide, are_hists, differ}
 use Rattle.wm_spec.specs.declared.record.counters.Counters.{Counters}
 use Rattle.wm_spec.specs.declared.record.piece.PieceRecord.{PieceRecord}
 use Rattle.wm_spec.specs.declared.record.row.RowRecord.{RowRecord}
 use Rattle.wm_spec.specs.declared.record.space.Space.{Space}
 use Rattle.wm_spec.specs.declared.record.version.Version.{Version}
 use Rattle.wm_state.specs.Effects.{longer}
+use Rattle.wm_state.proofs.Apart.{Ruled, ruled, keeps_all}
+use Rattle.wm_state.proofs.Keeping.{le_of, le_itself, le_next, KeepTables-same, KeepSpaces, KeepSpaces-swap, KeepVersions-same, KeepRows-push, are_savepoints-kept, are_hists-kept}
+use Rattle.wm_state.proofs.Named.{ruled_savepoints}
 use Rattle.wm_state.proofs.Tests.{bool_apart, both, and_true, all_if, all_push, all_filter, all_swap, all_middle, any_kept, differ_push, differ_filter, differ_swap, find_swap, some_swap, find_push, find_new, none_if}
 
 -- the records with a row more, a piece more in the place of some, a longer log of one workspace, and other counters
 abbrev pub inserted : Parts → Counters → List Space → Space → List Space → (PieceRecord → Bool) → RowRecord → PieceRecord → Parts
-inserted p c front a back keep r x = record {
+inserted p c front a back keep r x = record p {
   counters = c ∷ [];
-  tables = p.tables;
   spaces = front ++ longer a ∷ back;
-  versions = p.versions;
   rows = p.rows ++ r ∷ [];
   pieces = filter keep p.pieces ++ x ∷ [];
 }
@@ -31,6 +32,7 @@ pub record MayInsert (p : Parts) (old new : Counters) (front : List Space) (a : 
   pub counters : are_counters new ≡ true
   pub stamps : new.next_stamp ≡ old.next_stamp + 1
   pub versions : new.next_version ≡ old.next_version
+  pub work : old.work ≤ new.work
   pub spaces : p.spaces ≡ front ++ a ∷ back
   pub room : nat_le (a.log_length + 1) (2 ^ 62) ≡ true
   pub row_stamp : r.stamp ≡ old.next_stamp
@@ -172,28 +174,44 @@ pieces_kept p q next r keep x tables versions rows pieces is apart e =
 
 -- ---- all rules
 
-rules_of : (p : Parts) (c : Counters) → p.counters ≡ c ∷ [] → keep_rules p ≡ true → keep_rules_with p (c ∷ []) ≡ true
-unfolding keep_rules
-rules_of p c one e = sym (ap (keep_rules_with p) one) ∙ e
-
 pub keep-inserted : (p : Parts) (old new : Counters) (front : List Space) (a : Space) (back : List Space) (keep : PieceRecord → Bool) (r : RowRecord) (x : PieceRecord)
     → MayInsert p old new front a back keep r x → keep_rules p ≡ true → keep_rules (inserted p new front a back keep r x) ≡ true
-unfolding keep_rules
-keep-inserted p old new front a back keep r x may e =
-    let all = both (are_counters old) _ (rules_of p old may.one e) in
-    let h = both (are_tables p.tables) _ all.1 in
-    let g = both (are_spaces p.spaces) _ h.1 in
-    let k = both (are_versions p old.next_version) _ g.1 in
-    let l = both (are_rows p old.next_stamp) (are_pieces p old.next_stamp) k.1 in
-    let q = inserted p new front a back keep r x in
-    and_true (are_counters new) _ may.counters
-    (and_true (are_tables p.tables) _ h.0
-    (and_true (are_spaces q.spaces) _ (spaces_kept front back a may.room (ap are_spaces (sym may.spaces) ∙ g.0))
-    (and_true (are_versions q new.next_version) _ (ap (are_versions q) may.versions ∙ versions_kept p front back a q old.next_version may.spaces refl refl k.0)
-    (and_true (are_rows q new.next_stamp) (are_pieces q new.next_stamp)
-    (ap (are_rows q) may.stamps ∙ rows_kept p q old.next_stamp r refl refl may.row_stamp may.row l.0)
-    (ap (are_pieces q) may.stamps ∙ pieces_kept p q old.next_stamp r keep x refl refl refl refl (new_piece l.0) may.apart l.1)))))
+keep-inserted p old new front a back keep r x may e = keeps_all q new refl may.counters
+    rule.tables
+    (spaces_kept front back a may.room (ap are_spaces (sym may.spaces) ∙ rule.spaces))
+    (ap (are_versions q) may.versions ∙ versions_kept p front back a q old.next_version may.spaces refl refl (ap (λ (c : Counters). are_versions p c.next_version) same ∙ rule.versions))
+    (are_savepoints-kept p q old.work new.work (le_of old.work new.work may.work) spaces (KeepVersions-same p q refl) refl (few savepoints) savepoints)
+    (ap (are_rows q) may.stamps ∙ rows_kept p q old.next_stamp r refl refl may.row_stamp may.row rows)
+    (ap (are_pieces q) may.stamps ∙ pieces_kept p q old.next_stamp r keep x refl refl refl refl (new_piece rows) may.apart (ap (λ (c : Counters). are_pieces p c.next_stamp) same ∙ rule.pieces))
+    (ap (are_hists q) may.stamps
+    ∙ are_hists-kept p q old.next_stamp (old.next_stamp + 1) (le_next old.next_stamp) (KeepTables-same p q refl) spaces (KeepRows-push p q r refl) refl (ap (λ (c : Counters). are_hists p c.next_stamp) same ∙ rule.hists))
   where
+    q : Parts
+    q = inserted p new front a back keep r x
+
+    rule : Ruled p
+    rule = ruled p e
+
+    same : old ≡ rule.counters
+    same = first_same old rule.counters (sym may.one ∙ rule.one)
+      where
+        first_same : (b d : Counters) → (b ∷ []) ≡ (d ∷ []) → b ≡ d
+        first_same b d h = cc
+
+    spaces : KeepSpaces p q
+    spaces = KeepSpaces-swap p q front back a (longer a) refl refl (le_next a.log_length) (le_itself a.next_place) may.spaces refl
+
+    savepoints : are_savepoints p old.work ≡ true
+    savepoints = ap (λ (c : Counters). are_savepoints p c.work) same ∙ rule.savepoints
+
+    few : are_savepoints p old.work ≡ true → list_all (has_few p.savepoints) q.spaces ≡ true
+    few is =
+        let before : list_all (has_few p.savepoints) (front ++ a ∷ back) ≡ true = ap (list_all (has_few p.savepoints)) (sym may.spaces) ∙ (ruled_savepoints p old.work is).few in
+        all_swap (has_few p.savepoints) (has_few p.savepoints) a (longer a) front back (λ s h. h) (all_middle (has_few p.savepoints) a front back before) before
+
+    rows : are_rows p old.next_stamp ≡ true
+    rows = ap (λ (c : Counters). are_rows p c.next_stamp) same ∙ rule.rows
+
     new_piece : are_rows p old.next_stamp ≡ true → is_piece (table_of p.tables) (version_of p.versions) (row_of (p.rows ++ r ∷ [])) (old.next_stamp + 1) x ≡ true
     new_piece rows =
         and_true (is_some (version_of p.versions x.version)) _ may.version

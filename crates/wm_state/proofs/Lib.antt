@@ -10,6 +10,7 @@ pub mod Laying
 pub mod Newest
 pub mod Apart
 pub mod Named
+pub mod Keeping
 pub mod Inserted
 pub mod Tables
 pub mod Enabling

@@ -4,7 +4,7 @@ use Rattle.std.proofs.lemmas.Bool.{cases_eq, eq-eqb, ne_eqb}
 use Rattle.std.specs.List.{filter}
 use Rattle.wm_base.specs.declared.row.Row.{Row}
 use Rattle.wm_graph.specs.Parts.{Parts, parts_of, as_table, as_space}
-use Rattle.wm_graph.specs.Rules.{are_counters, is_table}
+use Rattle.wm_graph.specs.Rules.{are_counters}
 use Rattle.wm_spec.specs.Lists.{Entry}
 use Rattle.wm_spec.specs.Records.{record_at}
 use Rattle.wm_spec.specs.declared.record.Record.{Record}
@@ -25,11 +25,11 @@ use Rattle.wm_state.proofs.ById.{Ascend-set, record_at-set}
 use Rattle.wm_state.proofs.ByKind.{kinds, stored, Split, split_of, set-split, set-behind}
 use Rattle.wm_state.proofs.Planning.{AllUnder-put, recounted, parts-counted, parts-tabled, tables-split, parts-spaced, spaces-split, parts-more_row, parts-more_piece, parts-filtered, parts-created}
 use Rattle.wm_state.proofs.Dropping.{dropped}
-use Rattle.wm_state.proofs.Enabling.{readied, Stands-readied}
+use Rattle.wm_state.proofs.Enabling.{readied, ReadyCounts, Stands-readied}
 use Rattle.wm_state.proofs.Inserting.{inserted, MayInsert}
 use Rattle.wm_state.proofs.Inserted.{MayWrite, Stands-inserted}
 use Rattle.wm_state.proofs.Standing.{appended}
-use Rattle.wm_state.proofs.Tables.{created, Stands-created}
+use Rattle.wm_state.proofs.Tables.{created, MayCreate, Stands-created}
 
 -- ---- counters
 
@@ -59,15 +59,15 @@ found_still ss counters_id id old new r sorted counters found other =
 
 -- ---- a table becomes ready
 
-pub record Readied (ss : List Stored) (cs : List Change) (new : Counters) (t : Table) : Type 0 where
+pub record Readied (ss : List Stored) (cs : List Change) (new : Counters) (history : Bool) (t : Table) : Type 0 where
   pub front : List Table
   pub back : List Table
   pub old : (parts_of ss).tables ≡ front ++ t ∷ back
-  pub is : parts_of (applied cs ss) ≡ readied (parts_of ss) new front t back
+  pub is : parts_of (applied cs ss) ≡ readied (parts_of ss) new front history t back
 
-pub parts-readied : (ss : List Stored) (counters_id id : ℕ) (old new : Counters) (t : Table) → Ascend ss → record_at ss counters_id ≡ Some (records.Counters old) → (parts_of ss).counters ≡ old ∷ []
-    → record_at ss id ≡ Some (records.Table t) → Readied ss (enable_batch counters_id new id t) new t
-parts-readied ss counters_id id old new t sorted counters one found =
+pub parts-readied : (ss : List Stored) (counters_id id : ℕ) (old new : Counters) (history : Bool) (t : Table) → Ascend ss → record_at ss counters_id ≡ Some (records.Counters old) → (parts_of ss).counters ≡ old ∷ []
+    → record_at ss id ≡ Some (records.Table t) → Readied ss (enable_batch counters_id new id history t) new history t
+parts-readied ss counters_id id old new history t sorted counters one found =
     by_split (split_of first id (records.Table t) (found_still ss counters_id id old new (records.Table t) sorted counters found (λ c e. cc)))
   where
     first : List Stored
@@ -76,7 +76,7 @@ parts-readied ss counters_id id old new t sorted counters one found =
     parts : parts_of first ≡ recounted (parts_of ss) new
     parts = counted ss counters_id old new sorted counters one
 
-    by_split : Split first id (records.Table t) → Readied ss (enable_batch counters_id new id t) new t
+    by_split : Split first id (records.Table t) → Readied ss (enable_batch counters_id new id history t) new history t
     by_split s =
         let tables : (parts_of first).tables ≡ kinds as_table s.front ++ t ∷ kinds as_table s.back = ap (λ xs. (parts_of xs).tables) s.is ∙ tables-split s.front s.back id t in
         record {
@@ -84,10 +84,10 @@ parts-readied ss counters_id id old new t sorted counters one found =
           back = kinds as_table s.back;
           old = sym (ap (λ (p : Parts). p.tables) parts) ∙ tables;
           is =
-              ap parts_of (ap (set_at id (Some (records.Table (ready t)))) s.is ∙ set-split s.front s.back id (records.Table t) (records.Table (ready t)) (subst (λ xs. Ascend xs) s.is (Ascend-set counters_id (Some (records.Counters new)) ss sorted)))
-              ∙ parts-tabled s.front s.back id t (ready t)
-              ∙ ap (λ xs. record (parts_of xs) { tables = kinds as_table s.front ++ ready t ∷ kinds as_table s.back }) (sym s.is)
-              ∙ ap (λ (p : Parts). record p { tables = kinds as_table s.front ++ ready t ∷ kinds as_table s.back }) parts;
+              ap parts_of (ap (set_at id (Some (records.Table (ready history t)))) s.is ∙ set-split s.front s.back id (records.Table t) (records.Table (ready history t)) (subst (λ xs. Ascend xs) s.is (Ascend-set counters_id (Some (records.Counters new)) ss sorted)))
+              ∙ parts-tabled s.front s.back id t (ready history t)
+              ∙ ap (λ xs. record (parts_of xs) { tables = kinds as_table s.front ++ ready history t ∷ kinds as_table s.back }) (sym s.is)
+              ∙ ap (λ (p : Parts). record p { tables = kinds as_table s.front ++ ready history t ∷ kinds as_table s.back }) parts;
         }
 
 -- ---- a row is written
@@ -203,28 +203,23 @@ parts-inserted ss counters_id space_id old new a test ids id r x sorted counters
 
 -- ---- the laws of the three batches
 
--- a table was made, where there was none
+-- a table was made
 pub plan_created : (ss : List Stored) (counters_id id : ℕ) (old new : Counters) (t : Table) (s u : State) → Stands (parts_of ss) s → Ascend ss → record_at ss counters_id ≡ Some (records.Counters old)
-    → (parts_of ss).counters ≡ old ∷ [] → (parts_of ss).tables ≡ [] → s.tables ≡ [] → AllUnder id ss → are_counters new ≡ true → new.next_version ≡ old.next_version → is_table t ≡ true
-    → u.spaces ≡ s.spaces → u.tables ≡ t ∷ [] → CountersStand (created (parts_of ss) new t) u → Stands (parts_of (applied (create_batch counters_id new id t) ss)) u
-plan_created ss counters_id id old new t s u st sorted counters one no_tables none under counts versions is spaces tables stands =
-    subst (λ p. Stands p u) (sym (parts-created ss counters_id id old new t sorted counters one no_tables under))
-    (Stands-created (parts_of ss) new t s u st none counts (λ c is_one. versions ∙ ap (λ (k : Counters). k.next_version) (only old c (sym one ∙ is_one))) is spaces tables stands)
-  where
-    only : (a b : Counters) → (a ∷ []) ≡ (b ∷ []) → a ≡ b
-    only a b h = cc
+    → AllUnder id ss → MayCreate (parts_of ss) old new t → u.spaces ≡ s.spaces → u.tables ≡ s.tables ++ t ∷ [] → CountersStand (created (parts_of ss) new t) u
+    → Stands (parts_of (applied (create_batch counters_id new id t) ss)) u
+plan_created ss counters_id id old new t s u st sorted counters under may spaces tables stands =
+    subst (λ p. Stands p u) (sym (parts-created ss counters_id id old new t sorted counters may.one under))
+    (Stands-created (parts_of ss) old new t s u st may spaces tables stands)
 
 -- a table became ready
-pub plan_readied : (ss : List Stored) (counters_id id : ℕ) (old new : Counters) (t : Table) (s u : State) → Stands (parts_of ss) s → Ascend ss → record_at ss counters_id ≡ Some (records.Counters old)
-    → (parts_of ss).counters ≡ old ∷ [] → record_at ss id ≡ Some (records.Table t) → t.has_key ≡ true → are_counters new ≡ true → new.next_version ≡ old.next_version → new.next_stamp ≡ old.next_stamp
-    → u.spaces ≡ s.spaces → u.tables ≡ enabled t.number s.tables → ((front back : List Table) → CountersStand (readied (parts_of ss) new front t back) u)
-    → Stands (parts_of (applied (enable_batch counters_id new id t) ss)) u
-plan_readied ss counters_id id old new t s u st sorted counters one found key counts versions stamps spaces tables stands =
-    let r = parts-readied ss counters_id id old new t sorted counters one found in
+pub plan_readied : (ss : List Stored) (counters_id id : ℕ) (old new : Counters) (history : Bool) (t : Table) (s u : State) → Stands (parts_of ss) s → Ascend ss → record_at ss counters_id ≡ Some (records.Counters old)
+    → (parts_of ss).counters ≡ old ∷ [] → record_at ss id ≡ Some (records.Table t) → t.has_key ≡ true → are_counters new ≡ true → ReadyCounts old new → u.spaces ≡ s.spaces
+    → u.tables ≡ enabled t.number history s.tables → ((front back : List Table) → CountersStand (readied (parts_of ss) new front history t back) u)
+    → Stands (parts_of (applied (enable_batch counters_id new id history t) ss)) u
+plan_readied ss counters_id id old new history t s u st sorted counters one found key counts ready_so spaces tables stands =
+    let r = parts-readied ss counters_id id old new history t sorted counters one found in
     subst (λ p. Stands p u) (sym r.is)
-    (Stands-readied (parts_of ss) new r.front t r.back s u st r.old key counts
-    (λ c is_one. let same : old ≡ c = only old c (sym one ∙ is_one) in (versions ∙ ap (λ (k : Counters). k.next_version) same, stamps ∙ ap (λ (k : Counters). k.next_stamp) same))
-    spaces tables (stands r.front r.back))
+    (Stands-readied (parts_of ss) new r.front history t r.back s u st r.old key counts (λ c is_one. subst (λ d. ReadyCounts d new) (only old c (sym one ∙ is_one)) ready_so) spaces tables (stands r.front r.back))
   where
     only : (a b : Counters) → (a ∷ []) ≡ (b ∷ []) → a ≡ b
     only a b h = cc

@@ -1,14 +1,16 @@
 -- The parts of the records after the batches that lines make.
-use Rattle.std.proofs.Common.{◌≡◌, ℕ, Bool, true, List, [], ◌∷◌, ◌++◌, Some, refl, sym, ap, subst, ◌∙◌}
+use Rattle.std.proofs.Common.{◌≡◌, ℕ, Bool, true, List, [], ◌∷◌, ◌++◌, Option, Some, None, refl, sym, ap, subst, ◌∙◌}
 use Rattle.std.specs.List.{filter, list_all}
-use Rattle.wm_graph.specs.Parts.{Parts, parts_of, as_counters, as_table, as_space, as_version, as_row, as_piece}
+use Rattle.wm_graph.specs.Parts.{Parts, parts_of, as_counters, as_table, as_space, as_version, as_savepoint, as_row, as_piece, as_hist}
 use Rattle.wm_spec.specs.Records.{record_at}
 use Rattle.wm_spec.specs.declared.record.Record.{Record}
 use Rattle.wm_spec.specs.declared.record.Record.TheVariants as records
 use Rattle.wm_spec.specs.declared.record.stored.Stored.{Stored}
 use Rattle.wm_spec.specs.declared.record.counters.Counters.{Counters}
+use Rattle.wm_spec.specs.declared.record.hist.Hist.{Hist}
 use Rattle.wm_spec.specs.declared.record.piece.PieceRecord.{PieceRecord}
 use Rattle.wm_spec.specs.declared.record.row.RowRecord.{RowRecord}
+use Rattle.wm_spec.specs.declared.record.savepoint.Savepoint.{Savepoint}
 use Rattle.wm_spec.specs.declared.record.space.Space.{Space}
 use Rattle.wm_spec.specs.declared.record.table.Table.{Table}
 use Rattle.wm_spec.specs.declared.record.version.Version.{Version}
@@ -19,15 +21,16 @@ use Rattle.wm_state.proofs.Tables.{created}
 use Rattle.wm_state.proofs.Tests.{all_middle}
 
 -- the parts, kind by kind
-abbrev made : List Counters → List Table → List Space → List Version → List RowRecord → List PieceRecord → Parts
-made c t s v r p = record { counters = c; tables = t; spaces = s; versions = v; rows = r; pieces = p }
+abbrev made : List Counters → List Table → List Space → List Version → List Savepoint → List RowRecord → List PieceRecord → List Hist → Parts
+made c t s v k r p h = record { counters = c; tables = t; spaces = s; versions = v; savepoints = k; rows = r; pieces = p; hists = h }
 
-parts_are : (ss : List Stored) → parts_of ss ≡ made (kinds as_counters ss) (kinds as_table ss) (kinds as_space ss) (kinds as_version ss) (kinds as_row ss) (kinds as_piece ss)
+parts_are : (ss : List Stored) → parts_of ss ≡ made (kinds as_counters ss) (kinds as_table ss) (kinds as_space ss) (kinds as_version ss) (kinds as_savepoint ss) (kinds as_row ss) (kinds as_piece ss) (kinds as_hist ss)
 unfolding parts_of
 parts_are ss = refl
 
-made_same : {c d : List Counters} {t u : List Table} {s x : List Space} {v w : List Version} {r q : List RowRecord} {p o : List PieceRecord} → c ≡ d → t ≡ u → s ≡ x → v ≡ w → r ≡ q → p ≡ o → made c t s v r p ≡ made d u x w q o
-made_same a b e f g h = rw (a, b, e, f, g, h) refl
+made_same : {c d : List Counters} {t u : List Table} {s x : List Space} {v w : List Version} {k l : List Savepoint} {r q : List RowRecord} {p o : List PieceRecord} {h i : List Hist}
+    → c ≡ d → t ≡ u → s ≡ x → v ≡ w → k ≡ l → r ≡ q → p ≡ o → h ≡ i → made c t s v k r p h ≡ made d u x w l q o i
+made_same a b c d e f g h = rw (a, b, c, d, e, f, g, h) refl
 
 alone : {A : Type 0} (xs ys : List A) (a b : A) → xs ++ a ∷ ys ≡ b ∷ [] → (xs ≡ []) × (ys ≡ [])
 alone [] [] a b e = (refl, refl)
@@ -60,8 +63,10 @@ parts-counted front back id old new one = made_same
     (kinds-same as_table front back id (records.Counters old) (records.Counters new) refl refl)
     (kinds-same as_space front back id (records.Counters old) (records.Counters new) refl refl)
     (kinds-same as_version front back id (records.Counters old) (records.Counters new) refl refl)
+    (kinds-same as_savepoint front back id (records.Counters old) (records.Counters new) refl refl)
     (kinds-same as_row front back id (records.Counters old) (records.Counters new) refl refl)
     (kinds-same as_piece front back id (records.Counters old) (records.Counters new) refl refl)
+    (kinds-same as_hist front back id (records.Counters old) (records.Counters new) refl refl)
 
 pub parts-tabled : (front back : List Stored) (id : ℕ) (t u : Table)
     → parts_of (front ++ stored id (records.Table u) ∷ back) ≡ record (parts_of (front ++ stored id (records.Table t) ∷ back)) { tables = kinds as_table front ++ u ∷ kinds as_table back }
@@ -71,8 +76,10 @@ parts-tabled front back id t u = made_same
     (kinds-one as_table front back id (records.Table u) u refl)
     (kinds-same as_space front back id (records.Table t) (records.Table u) refl refl)
     (kinds-same as_version front back id (records.Table t) (records.Table u) refl refl)
+    (kinds-same as_savepoint front back id (records.Table t) (records.Table u) refl refl)
     (kinds-same as_row front back id (records.Table t) (records.Table u) refl refl)
     (kinds-same as_piece front back id (records.Table t) (records.Table u) refl refl)
+    (kinds-same as_hist front back id (records.Table t) (records.Table u) refl refl)
 
 pub tables-split : (front back : List Stored) (id : ℕ) (t : Table) → (parts_of (front ++ stored id (records.Table t) ∷ back)).tables ≡ kinds as_table front ++ t ∷ kinds as_table back
 unfolding parts_of
@@ -86,8 +93,10 @@ parts-spaced front back id a b = made_same
     (kinds-same as_table front back id (records.Space a) (records.Space b) refl refl)
     (kinds-one as_space front back id (records.Space b) b refl)
     (kinds-same as_version front back id (records.Space a) (records.Space b) refl refl)
+    (kinds-same as_savepoint front back id (records.Space a) (records.Space b) refl refl)
     (kinds-same as_row front back id (records.Space a) (records.Space b) refl refl)
     (kinds-same as_piece front back id (records.Space a) (records.Space b) refl refl)
+    (kinds-same as_hist front back id (records.Space a) (records.Space b) refl refl)
 
 pub spaces-split : (front back : List Stored) (id : ℕ) (a : Space) → (parts_of (front ++ stored id (records.Space a) ∷ back)).spaces ≡ kinds as_space front ++ a ∷ kinds as_space back
 unfolding parts_of
@@ -100,8 +109,10 @@ parts-more_table ss id t = made_same
     (kinds-more as_table ss id (records.Table t) t refl)
     (kinds-no_more as_space ss id (records.Table t) refl)
     (kinds-no_more as_version ss id (records.Table t) refl)
+    (kinds-no_more as_savepoint ss id (records.Table t) refl)
     (kinds-no_more as_row ss id (records.Table t) refl)
     (kinds-no_more as_piece ss id (records.Table t) refl)
+    (kinds-no_more as_hist ss id (records.Table t) refl)
 
 pub parts-more_version : (ss : List Stored) (id : ℕ) (v : Version) → parts_of (ss ++ stored id (records.Version v) ∷ []) ≡ record (parts_of ss) { versions = (parts_of ss).versions ++ v ∷ [] }
 unfolding parts_of
@@ -110,8 +121,10 @@ parts-more_version ss id v = made_same
     (kinds-no_more as_table ss id (records.Version v) refl)
     (kinds-no_more as_space ss id (records.Version v) refl)
     (kinds-more as_version ss id (records.Version v) v refl)
+    (kinds-no_more as_savepoint ss id (records.Version v) refl)
     (kinds-no_more as_row ss id (records.Version v) refl)
     (kinds-no_more as_piece ss id (records.Version v) refl)
+    (kinds-no_more as_hist ss id (records.Version v) refl)
 
 -- a piece that is found is one of the pieces
 pub piece_found : (P : PieceRecord → Bool) (ss : List Stored) (id : ℕ) (x : PieceRecord) → record_at ss id ≡ Some (records.Piece x) → list_all P (parts_of ss).pieces ≡ true → P x ≡ true
@@ -129,8 +142,10 @@ parts-more_row ss id r = made_same
     (kinds-no_more as_table ss id (records.Row r) refl)
     (kinds-no_more as_space ss id (records.Row r) refl)
     (kinds-no_more as_version ss id (records.Row r) refl)
+    (kinds-no_more as_savepoint ss id (records.Row r) refl)
     (kinds-more as_row ss id (records.Row r) r refl)
     (kinds-no_more as_piece ss id (records.Row r) refl)
+    (kinds-no_more as_hist ss id (records.Row r) refl)
 
 pub parts-more_piece : (ss : List Stored) (id : ℕ) (x : PieceRecord) → parts_of (ss ++ stored id (records.Piece x) ∷ []) ≡ record (parts_of ss) { pieces = (parts_of ss).pieces ++ x ∷ [] }
 unfolding parts_of
@@ -139,59 +154,75 @@ parts-more_piece ss id x = made_same
     (kinds-no_more as_table ss id (records.Piece x) refl)
     (kinds-no_more as_space ss id (records.Piece x) refl)
     (kinds-no_more as_version ss id (records.Piece x) refl)
+    (kinds-no_more as_savepoint ss id (records.Piece x) refl)
     (kinds-no_more as_row ss id (records.Piece x) refl)
     (kinds-more as_piece ss id (records.Piece x) x refl)
+    (kinds-no_more as_hist ss id (records.Piece x) refl)
+
+pub parts-more_space : (ss : List Stored) (id : ℕ) (a : Space) → parts_of (ss ++ stored id (records.Space a) ∷ []) ≡ record (parts_of ss) { spaces = (parts_of ss).spaces ++ a ∷ [] }
+unfolding parts_of
+parts-more_space ss id a = made_same
+    (kinds-no_more as_counters ss id (records.Space a) refl)
+    (kinds-no_more as_table ss id (records.Space a) refl)
+    (kinds-more as_space ss id (records.Space a) a refl)
+    (kinds-no_more as_version ss id (records.Space a) refl)
+    (kinds-no_more as_savepoint ss id (records.Space a) refl)
+    (kinds-no_more as_row ss id (records.Space a) refl)
+    (kinds-no_more as_piece ss id (records.Space a) refl)
+    (kinds-no_more as_hist ss id (records.Space a) refl)
+
+pub parts-more_savepoint : (ss : List Stored) (id : ℕ) (x : Savepoint) → parts_of (ss ++ stored id (records.Savepoint x) ∷ []) ≡ record (parts_of ss) { savepoints = (parts_of ss).savepoints ++ x ∷ [] }
+unfolding parts_of
+parts-more_savepoint ss id x = made_same
+    (kinds-no_more as_counters ss id (records.Savepoint x) refl)
+    (kinds-no_more as_table ss id (records.Savepoint x) refl)
+    (kinds-no_more as_space ss id (records.Savepoint x) refl)
+    (kinds-no_more as_version ss id (records.Savepoint x) refl)
+    (kinds-more as_savepoint ss id (records.Savepoint x) x refl)
+    (kinds-no_more as_row ss id (records.Savepoint x) refl)
+    (kinds-no_more as_piece ss id (records.Savepoint x) refl)
+    (kinds-no_more as_hist ss id (records.Savepoint x) refl)
+
+pub parts-more_hist : (ss : List Stored) (id : ℕ) (x : Hist) → parts_of (ss ++ stored id (records.Hist x) ∷ []) ≡ record (parts_of ss) { hists = (parts_of ss).hists ++ x ∷ [] }
+unfolding parts_of
+parts-more_hist ss id x = made_same
+    (kinds-no_more as_counters ss id (records.Hist x) refl)
+    (kinds-no_more as_table ss id (records.Hist x) refl)
+    (kinds-no_more as_space ss id (records.Hist x) refl)
+    (kinds-no_more as_version ss id (records.Hist x) refl)
+    (kinds-no_more as_savepoint ss id (records.Hist x) refl)
+    (kinds-no_more as_row ss id (records.Hist x) refl)
+    (kinds-no_more as_piece ss id (records.Hist x) refl)
+    (kinds-more as_hist ss id (records.Hist x) x refl)
+
+-- ---- pieces go
+
+-- a record of a kind of which no piece is stays
+stays : {A : Type 0} (as_kind : Record → Option A) (test : PieceRecord → Bool) → ((x : PieceRecord) → as_kind (records.Piece x) ≡ None) → (r : Record) (a : A) → as_kind r ≡ Some a → keeps test r ≡ true
+stays {A = A} as_kind test none (records.Piece x) a e = absurd (none_some (as_kind (records.Piece x)) (none x) e)
+  where
+    none_some : (o : Option A) → o ≡ None → o ≡ Some a → ⊥
+    none_some o f g = cc
+stays as_kind test none (records.Counters x) a e = refl
+stays as_kind test none (records.Table x) a e = refl
+stays as_kind test none (records.Space x) a e = refl
+stays as_kind test none (records.Version x) a e = refl
+stays as_kind test none (records.Savepoint x) a e = refl
+stays as_kind test none (records.Row x) a e = refl
+stays as_kind test none (records.Hist x) a e = refl
 
 pub parts-filtered : (ss : List Stored) (test : PieceRecord → Bool) → parts_of (filter (λ (s : Stored). keeps test s.record) ss) ≡ record (parts_of ss) { pieces = filter test (parts_of ss).pieces }
 unfolding parts_of
 parts-filtered ss test = made_same
-    (kinds-kept as_counters (λ (s : Stored). keeps test s.record) (λ s a. of_counters s.record a) ss)
-    (kinds-kept as_table (λ (s : Stored). keeps test s.record) (λ s a. of_table s.record a) ss)
-    (kinds-kept as_space (λ (s : Stored). keeps test s.record) (λ s a. of_space s.record a) ss)
-    (kinds-kept as_version (λ (s : Stored). keeps test s.record) (λ s a. of_version s.record a) ss)
-    (kinds-kept as_row (λ (s : Stored). keeps test s.record) (λ s a. of_row s.record a) ss)
+    (kinds-kept as_counters (λ (s : Stored). keeps test s.record) (λ s a. stays as_counters test (λ x. refl) s.record a) ss)
+    (kinds-kept as_table (λ (s : Stored). keeps test s.record) (λ s a. stays as_table test (λ x. refl) s.record a) ss)
+    (kinds-kept as_space (λ (s : Stored). keeps test s.record) (λ s a. stays as_space test (λ x. refl) s.record a) ss)
+    (kinds-kept as_version (λ (s : Stored). keeps test s.record) (λ s a. stays as_version test (λ x. refl) s.record a) ss)
+    (kinds-kept as_savepoint (λ (s : Stored). keeps test s.record) (λ s a. stays as_savepoint test (λ x. refl) s.record a) ss)
+    (kinds-kept as_row (λ (s : Stored). keeps test s.record) (λ s a. stays as_row test (λ x. refl) s.record a) ss)
     (kinds-filter as_piece (λ (s : Stored). keeps test s.record) test (λ s a. of_piece s.record a) ss)
+    (kinds-kept as_hist (λ (s : Stored). keeps test s.record) (λ s a. stays as_hist test (λ x. refl) s.record a) ss)
   where
-    of_counters : (r : Record) (a : Counters) → as_counters r ≡ Some a → keeps test r ≡ true
-    of_counters (records.Piece x) a e = cc
-    of_counters (records.Counters x) a e = refl
-    of_counters (records.Table x) a e = cc
-    of_counters (records.Space x) a e = cc
-    of_counters (records.Version x) a e = cc
-    of_counters (records.Row x) a e = cc
-
-    of_table : (r : Record) (a : Table) → as_table r ≡ Some a → keeps test r ≡ true
-    of_table (records.Piece x) a e = cc
-    of_table (records.Table x) a e = refl
-    of_table (records.Counters x) a e = cc
-    of_table (records.Space x) a e = cc
-    of_table (records.Version x) a e = cc
-    of_table (records.Row x) a e = cc
-
-    of_space : (r : Record) (a : Space) → as_space r ≡ Some a → keeps test r ≡ true
-    of_space (records.Piece x) a e = cc
-    of_space (records.Space x) a e = refl
-    of_space (records.Table x) a e = cc
-    of_space (records.Counters x) a e = cc
-    of_space (records.Version x) a e = cc
-    of_space (records.Row x) a e = cc
-
-    of_version : (r : Record) (a : Version) → as_version r ≡ Some a → keeps test r ≡ true
-    of_version (records.Piece x) a e = cc
-    of_version (records.Version x) a e = refl
-    of_version (records.Table x) a e = cc
-    of_version (records.Counters x) a e = cc
-    of_version (records.Space x) a e = cc
-    of_version (records.Row x) a e = cc
-
-    of_row : (r : Record) (a : RowRecord) → as_row r ≡ Some a → keeps test r ≡ true
-    of_row (records.Piece x) a e = cc
-    of_row (records.Row x) a e = refl
-    of_row (records.Table x) a e = cc
-    of_row (records.Counters x) a e = cc
-    of_row (records.Space x) a e = cc
-    of_row (records.Version x) a e = cc
-
     some_piece : (x a : PieceRecord) → Some x ≡ Some a → x ≡ a
     some_piece x a h = cc
 
@@ -202,12 +233,14 @@ parts-filtered ss test = made_same
     of_piece (records.Counters x) a e = cc
     of_piece (records.Space x) a e = cc
     of_piece (records.Version x) a e = cc
+    of_piece (records.Savepoint x) a e = cc
+    of_piece (records.Hist x) a e = cc
 
 -- ---- a table is made
 
 pub parts-created : (ss : List Stored) (counters_id id : ℕ) (old new : Counters) (t : Table) → Ascend ss → record_at ss counters_id ≡ Some (records.Counters old) → (parts_of ss).counters ≡ old ∷ []
-    → (parts_of ss).tables ≡ [] → AllUnder id ss → parts_of (applied (create_batch counters_id new id t) ss) ≡ created (parts_of ss) new t
-parts-created ss counters_id id old new t sorted found one none under = by_split (split_of ss counters_id (records.Counters old) found)
+    → AllUnder id ss → parts_of (applied (create_batch counters_id new id t) ss) ≡ created (parts_of ss) new t
+parts-created ss counters_id id old new t sorted found one under = by_split (split_of ss counters_id (records.Counters old) found)
   where
     by_split : Split ss counters_id (records.Counters old) → parts_of (set_at id (Some (records.Table t)) (set_at counters_id (Some (records.Counters new)) ss)) ≡ created (parts_of ss) new t
     by_split s =
@@ -218,4 +251,3 @@ parts-created ss counters_id id old new t sorted found one none under = by_split
         ap parts_of (ap (set_at id (Some (records.Table t))) first ∙ second)
         ∙ parts-more_table (s.front ++ stored counters_id (records.Counters new) ∷ s.back) id t
         ∙ ap (λ (p : Parts). record p { tables = p.tables ++ t ∷ [] }) (parts-counted s.front s.back counters_id old new (subst (λ xs. (parts_of xs).counters ≡ old ∷ []) s.is one) ∙ ap (λ xs. recounted (parts_of xs) new) (sym s.is))
-        ∙ ap (λ ts. record (parts_of ss) { counters = new ∷ []; tables = ts ++ t ∷ [] }) none

@@ -1,59 +1,39 @@
--- The records with a table made, or with one ready for rows.
-use Rattle.std.proofs.Common.{◌≡◌, ℕ, ◌==◌, nat_lt, nat_le, Bool, true, false, ◌&&◌, ◌||◌, cond, List, [], ◌∷◌, is_some, refl, sym, ap, ◌∙◌}
-use Rattle.std.specs.List.{list_all}
-use Rattle.std.specs.Option.{option_map_or}
-use Rattle.wm_base.specs.declared.instant.TheConstants.{END}
-use Rattle.wm_graph.specs.Parts.{Parts, table_of, version_of, row_of}
-use Rattle.wm_graph.specs.Rules.{keep_rules, are_counters, are_tables, is_table, are_spaces, are_versions, are_rows, is_row, is_row_of, are_pieces, is_piece, is_row_at, is_key_of, collide, differ}
+-- The records with a table made.
+use Rattle.std.proofs.Common.{◌≡◌, ℕ, ◌+◌, ◌≤◌, ◌==◌, nat_lt, nat_le, Bool, true, false, ◌&&◌, ◌||◌, cond, List, [], ◌∷◌, ◌++◌, refl, sym, ap, ◌∙◌, length, length-append, arith}
+use Rattle.std.specs.List.{list_all, list_any}
+use Rattle.std.specs.Str.{bytes_eq}
+use Rattle.wm_graph.specs.Parts.{Parts}
+use Rattle.wm_graph.specs.Rules.{keep_rules, are_counters, are_tables, is_table, are_versions, differ}
 use Rattle.wm_spec.specs.declared.record.counters.Counters.{Counters}
-use Rattle.wm_spec.specs.declared.record.row.RowRecord.{RowRecord}
 use Rattle.wm_spec.specs.declared.record.table.Table.{Table}
 use Rattle.wm_state.specs.State.{State}
 use Rattle.wm_state.specs.Standing.{by_number, place_table, CountersStand, Stands}
-use Rattle.wm_state.proofs.Tests.{bool_apart, both, and_true}
-use Rattle.wm_state.proofs.Apart.{ruled}
+use Rattle.wm_state.proofs.Tests.{bool_apart, both, and_true, all_push, differ_push, none_if}
+use Rattle.wm_state.proofs.Apart.{Ruled, ruled, keeps_all}
 use Rattle.wm_state.proofs.Standing.{Stands-retabled}
+use Rattle.wm_state.proofs.Keeping.{le_of, le_itself, KeepTables-push, KeepSpaces-same, KeepVersions-same, KeepRows-same, are_savepoints-kept, are_rows-kept, are_pieces-kept, are_hists-kept, few-same}
 
--- ---- a table is made, where there was none
+-- ---- the tables by number
 
-abbrev pub created : Parts → Counters → Table → Parts
-created p c t = record p { counters = c ∷ []; tables = t ∷ [] }
+-- a table under one that is behind all others comes before it
+place-before : (y : Table) (us : List Table) (t : Table) → nat_lt y.number t.number ≡ true → place_table y (us ++ t ∷ []) ≡ place_table y us ++ t ∷ []
+place-before y [] t lt = rw (not_less y.number t.number lt) refl
+  where
+    not_less : (a b : ℕ) → nat_lt a b ≡ true → nat_lt b a ≡ false
+    not_less a b lt = grind (arith, lt)
+place-before y (u ∷ us) t lt = by_test (nat_lt u.number y.number) (place-before y us t lt)
+  where
+    by_test : (b : Bool) → place_table y (us ++ t ∷ []) ≡ place_table y us ++ t ∷ []
+        → cond b (u ∷ place_table y (us ++ t ∷ [])) (y ∷ u ∷ (us ++ t ∷ [])) ≡ cond b (u ∷ place_table y us) (y ∷ u ∷ us) ++ t ∷ []
+    by_test true rest = ap (λ vs. u ∷ vs) rest
+    by_test false rest = refl
 
-none_passes : {A : Type 0} (P : A → Bool) → ((x : A) → P x ≡ false) → (xs : List A) → list_all P xs ≡ true → xs ≡ []
-none_passes P fails [] e = refl
-none_passes P fails (x ∷ xs) e = absurd (bool_apart (sym (both (P x) (list_all P xs) e).0 ∙ fails x))
-
-and_false : (a b : Bool) → b ≡ false → (a && b) ≡ false
-and_false true b e = e
-and_false false b e = refl
-
--- without tables there are no rows and no pieces
-no_rows : (p : Parts) (next : ℕ) → p.tables ≡ [] → are_rows p next ≡ true → p.rows ≡ []
-no_rows p next none e =
-    let h = both (differ (λ (r q : RowRecord). r.stamp == q.stamp) p.rows) (list_all (is_row (table_of p.tables) next) p.rows) e in
-    none_passes (is_row (table_of p.tables) next) (λ r. and_false (nat_lt r.stamp next) _ (ap (λ ts. option_map_or (is_row_of r.values) (table_of ts r.table) false) none)) p.rows h.1
-
-no_pieces : (p : Parts) (next : ℕ) → p.tables ≡ [] → are_pieces p next ≡ true → p.pieces ≡ []
-no_pieces p next none e =
-    let h = both (differ collide p.pieces) (list_all (is_piece (table_of p.tables) (version_of p.versions) (row_of p.rows) next) p.pieces) e in
-    none_passes (is_piece (table_of p.tables) (version_of p.versions) (row_of p.rows) next)
-    (λ x. and_false (is_some (version_of p.versions x.version)) _ (ap (λ b. b && (nat_lt x.stamp next && (x.gone || option_map_or (is_row_at (table_of p.tables) x.cells) (row_of p.rows x.stamp) false)))
-    (and_false (nat_lt x.cells.from x.cells.till && nat_le x.cells.till END) _ (ap (λ ts. option_map_or (is_key_of x.cells.key) (table_of ts x.cells.table) false) none))))
-    p.pieces h.1
-
-pub keep-created : (p : Parts) (new : Counters) (t : Table) → keep_rules p ≡ true → p.tables ≡ [] → are_counters new ≡ true → ((c : Counters) → p.counters ≡ c ∷ [] → new.next_version ≡ c.next_version)
-    → is_table t ≡ true → keep_rules (created p new t) ≡ true
-unfolding keep_rules
-keep-created p new t rules none counted versions is =
-    let r = ruled p rules in
-    let q = created p new t in
-    and_true (are_counters new) _ counted
-    (and_true (are_tables (t ∷ [])) _ (and_true (is_table t) true is refl)
-    (and_true (are_spaces p.spaces) _ r.spaces
-    (and_true (are_versions q new.next_version) _ (ap (are_versions q) (versions r.counters r.one) ∙ r.versions)
-    (and_true (are_rows q new.next_stamp) (are_pieces q new.next_stamp)
-    (ap (λ rows. are_rows (record q { rows = rows }) new.next_stamp) (no_rows p r.counters.next_stamp none r.rows))
-    (ap (λ pieces. are_pieces (record q { pieces = pieces }) new.next_stamp) (no_pieces p r.counters.next_stamp none r.pieces))))))
+-- a table of a greater number is the last
+pub by_number-push : (ts : List Table) (t : Table) → list_all (λ (u : Table). nat_lt u.number t.number) ts ≡ true → by_number (ts ++ t ∷ []) ≡ by_number ts ++ t ∷ []
+by_number-push [] t above = refl
+by_number-push (y ∷ ts) t above =
+    let h = both (nat_lt y.number t.number) (list_all (λ (u : Table). nat_lt u.number t.number) ts) above in
+    ap (place_table y) (by_number-push ts t h.1) ∙ place-before y (by_number ts) t h.0
 
 -- no table is first by number where there is none
 place-some : (t : Table) (ts : List Table) → place_table t ts ≡ [] → ⊥
@@ -68,8 +48,120 @@ pub by_number-none : (ts : List Table) → by_number ts ≡ [] → ts ≡ []
 by_number-none [] e = refl
 by_number-none (t ∷ ts) e = absurd (place-some t (by_number ts) e)
 
-pub Stands-created : (p : Parts) (new : Counters) (t : Table) (s u : State) → Stands p s → s.tables ≡ [] → are_counters new ≡ true → ((c : Counters) → p.counters ≡ c ∷ [] → new.next_version ≡ c.next_version)
-    → is_table t ≡ true → u.spaces ≡ s.spaces → u.tables ≡ t ∷ [] → CountersStand (created p new t) u → Stands (created p new t) u
-Stands-created p new t s u st none counted versions is spaces tables counters =
-    Stands-retabled p (created p new t) s u (record { spaces = refl; versions = refl; rows = refl; pieces = refl }) st spaces (record { same = sym tables }) counters
-    (keep-created p new t st.rules (by_number-none p.tables (st.tables.same ∙ none)) counted versions is)
+-- what is asked of all tables, of any, and how many they are does not turn on their order
+all-place : (P : Table → Bool) (t : Table) (ts : List Table) → list_all P (place_table t ts) ≡ (P t && list_all P ts)
+all-place P t [] = refl
+all-place P t (u ∷ us) = by_test (nat_lt u.number t.number) (all-place P t us)
+  where
+    swap : (a b c : Bool) → (a && (b && c)) ≡ (b && (a && c))
+    swap true b c = refl
+    swap false true c = refl
+    swap false false c = refl
+
+    by_test : (b : Bool) → list_all P (place_table t us) ≡ (P t && list_all P us) → list_all P (cond b (u ∷ place_table t us) (t ∷ u ∷ us)) ≡ (P t && (P u && list_all P us))
+    by_test true rest = ap (λ x. P u && x) rest ∙ swap (P u) (P t) (list_all P us)
+    by_test false rest = refl
+
+pub by_number-all : (P : Table → Bool) (ts : List Table) → list_all P (by_number ts) ≡ list_all P ts
+by_number-all P [] = refl
+by_number-all P (t ∷ ts) = all-place P t (by_number ts) ∙ ap (λ x. P t && x) (by_number-all P ts)
+
+any-place : (P : Table → Bool) (t : Table) (ts : List Table) → list_any P (place_table t ts) ≡ (P t || list_any P ts)
+any-place P t [] = refl
+any-place P t (u ∷ us) = by_test (nat_lt u.number t.number) (any-place P t us)
+  where
+    swap : (a b c : Bool) → (a || (b || c)) ≡ (b || (a || c))
+    swap true true c = refl
+    swap true false c = refl
+    swap false b c = refl
+
+    by_test : (b : Bool) → list_any P (place_table t us) ≡ (P t || list_any P us) → list_any P (cond b (u ∷ place_table t us) (t ∷ u ∷ us)) ≡ (P t || (P u || list_any P us))
+    by_test true rest = ap (λ x. P u || x) rest ∙ swap (P u) (P t) (list_any P us)
+    by_test false rest = refl
+
+pub by_number-any : (P : Table → Bool) (ts : List Table) → list_any P (by_number ts) ≡ list_any P ts
+by_number-any P [] = refl
+by_number-any P (t ∷ ts) = any-place P t (by_number ts) ∙ ap (λ x. P t || x) (by_number-any P ts)
+
+length-place : (t : Table) (ts : List Table) → length (place_table t ts) ≡ length ts + 1
+length-place t [] = refl
+length-place t (u ∷ us) = by_test (nat_lt u.number t.number) (length-place t us)
+  where
+    by_test : (b : Bool) → length (place_table t us) ≡ length us + 1 → length (cond b (u ∷ place_table t us) (t ∷ u ∷ us)) ≡ length (u ∷ us) + 1
+    by_test true rest = omega (arith, rest)
+    by_test false rest = omega arith
+
+pub by_number-length : (ts : List Table) → length (by_number ts) ≡ length ts
+by_number-length [] = refl
+by_number-length (t ∷ ts) = length-place t (by_number ts) ∙ ap (λ n. n + 1) (by_number-length ts) ∙ omega arith
+
+-- ---- a table is made
+
+abbrev pub created : Parts → Counters → Table → Parts
+created p c t = record p { counters = c ∷ []; tables = p.tables ++ t ∷ [] }
+
+-- what is asked of it: its number is above those of all others, and its name is none of theirs
+pub record MayCreate (p : Parts) (old new : Counters) (t : Table) : Type 0 where
+  pub one : p.counters ≡ old ∷ []
+  pub counters : are_counters new ≡ true
+  pub versions : new.next_version ≡ old.next_version
+  pub stamps : new.next_stamp ≡ old.next_stamp
+  pub work : old.work ≤ new.work
+  pub is : is_table t ≡ true
+  pub room : nat_lt (length p.tables) 256 ≡ true
+  pub number : list_all (λ (u : Table). nat_lt u.number t.number) p.tables ≡ true
+  pub name : list_any (λ (u : Table). bytes_eq u.name t.name) p.tables ≡ false
+
+tables_more : (ts : List Table) (t : Table) → is_table t ≡ true → nat_lt (length ts) 256 ≡ true → list_all (λ (u : Table). nat_lt u.number t.number) ts ≡ true
+    → list_any (λ (u : Table). bytes_eq u.name t.name) ts ≡ false → are_tables ts ≡ true → are_tables (ts ++ t ∷ []) ≡ true
+tables_more ts t is room above name e =
+    let h = both (nat_le (length ts) 256) (differ (λ (t u : Table). t.number == u.number) ts && (differ (λ (t u : Table). bytes_eq t.name u.name) ts && list_all is_table ts)) e in
+    let g = both (differ (λ (t u : Table). t.number == u.number) ts) (differ (λ (t u : Table). bytes_eq t.name u.name) ts && list_all is_table ts) h.1 in
+    let k = both (differ (λ (t u : Table). bytes_eq t.name u.name) ts) (list_all is_table ts) g.1 in
+    and_true (nat_le (length (ts ++ t ∷ [])) 256) _ (ap (λ n. nat_le n 256) (length-append ts (t ∷ [])) ∙ fits (length ts) room)
+    (and_true (differ (λ (t u : Table). t.number == u.number) (ts ++ t ∷ [])) _
+    (differ_push (λ (t u : Table). t.number == u.number) ts t g.0 (none_if (λ (u : Table). nat_lt u.number t.number) (λ (u : Table). u.number == t.number) (λ u lt. apart u.number t.number lt) ts above))
+    (and_true (differ (λ (t u : Table). bytes_eq t.name u.name) (ts ++ t ∷ [])) (list_all is_table (ts ++ t ∷ []))
+    (differ_push (λ (t u : Table). bytes_eq t.name u.name) ts t k.0 name)
+    (all_push is_table ts t k.1 is)))
+  where
+    apart : (m n : ℕ) → nat_lt m n ≡ true → (m == n) ≡ false
+    apart m n lt = grind (arith, lt)
+
+    fits : (n : ℕ) → nat_lt n 256 ≡ true → nat_le (n + 1) 256 ≡ true
+    fits n lt = grind (arith, lt)
+
+pub keep-created : (p : Parts) (old new : Counters) (t : Table) → MayCreate p old new t → keep_rules p ≡ true → keep_rules (created p new t) ≡ true
+keep-created p old new t may rules = keeps_all q new refl may.counters
+    (tables_more p.tables t may.is may.room may.number may.name r.tables)
+    r.spaces
+    (ap (are_versions q) (may.versions ∙ ap (λ (c : Counters). c.next_version) same) ∙ r.versions)
+    (are_savepoints-kept p q r.counters.work new.work work (KeepSpaces-same p q refl) (KeepVersions-same p q refl) refl (few-same p q r.counters.work refl r.savepoints) r.savepoints)
+    (are_rows-kept p q r.counters.next_stamp new.next_stamp stamps (KeepTables-push p q t refl) refl r.rows)
+    (are_pieces-kept p q r.counters.next_stamp new.next_stamp stamps (KeepTables-push p q t refl) (KeepVersions-same p q refl) (KeepRows-same p q refl) refl r.pieces)
+    (are_hists-kept p q r.counters.next_stamp new.next_stamp stamps (KeepTables-push p q t refl) (KeepSpaces-same p q refl) (KeepRows-same p q refl) refl r.hists)
+  where
+    q : Parts
+    q = created p new t
+
+    r : Ruled p
+    r = ruled p rules
+
+    same : old ≡ r.counters
+    same = first_same old r.counters (sym may.one ∙ r.one)
+      where
+        first_same : (b d : Counters) → (b ∷ []) ≡ (d ∷ []) → b ≡ d
+        first_same b d h = cc
+
+    work : nat_le r.counters.work new.work ≡ true
+    work = ap (λ (c : Counters). nat_le c.work new.work) (sym same) ∙ le_of old.work new.work may.work
+
+    stamps : nat_le r.counters.next_stamp new.next_stamp ≡ true
+    stamps = ap (λ (c : Counters). nat_le c.next_stamp new.next_stamp) (sym same) ∙ ap (nat_le old.next_stamp) may.stamps ∙ le_itself old.next_stamp
+
+pub Stands-created : (p : Parts) (old new : Counters) (t : Table) (s u : State) → Stands p s → MayCreate p old new t → u.spaces ≡ s.spaces → u.tables ≡ s.tables ++ t ∷ [] → CountersStand (created p new t) u
+    → Stands (created p new t) u
+Stands-created p old new t s u st may spaces tables counters =
+    Stands-retabled p (created p new t) s u (record { spaces = refl; versions = refl; savepoints = refl; rows = refl; pieces = refl }) st spaces
+    (record { same = by_number-push p.tables t may.number ∙ ap (λ ts. ts ++ t ∷ []) st.tables.same ∙ sym tables }) counters
+    (keep-created p old new t may st.rules)

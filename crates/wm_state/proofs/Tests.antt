@@ -1,5 +1,5 @@
 -- Tests over lists that gain an element, lose some, or have one in the place of another.
-use Rattle.std.proofs.Common.{◌≡◌, Bool, true, false, not, ◌&&◌, ◌||◌, cond, List, [], ◌∷◌, ◌++◌, Option, Some, None, is_some, refl, sym, ap, ◌∙◌}
+use Rattle.std.proofs.Common.{◌≡◌, Bool, true, false, not, ◌&&◌, ◌||◌, cond, List, [], ◌∷◌, ◌++◌, Option, Some, None, is_some, refl, sym, ap, ◌∙◌, ◌⊎◌, inl, inr, ⊎_elim}
 use Rattle.std.specs.List.{list_all, list_any, filter, find}
 use Rattle.std.specs.Option.{option_map_or}
 use Rattle.wm_graph.specs.Rules.{differ}
@@ -121,6 +121,27 @@ find_swap P f d a b same like (x ∷ front) back = by_test (P x) (find_swap P f 
         → option_map_or f (cond t (Some x) (find P (front ++ b ∷ back))) d ≡ option_map_or f (cond t (Some x) (find P (front ++ a ∷ back))) d
     by_test true rest = refl
     by_test false rest = rest
+
+-- what is found is found still, or is the one in whose place another is found
+pub find_swapped : {A : Type 0} (P : A → Bool) (a b : A) → P b ≡ P a → (front back : List A) (x : A) → find P (front ++ a ∷ back) ≡ Some x
+    → (find P (front ++ b ∷ back) ≡ Some x) ⊎ ((x ≡ a) × (find P (front ++ b ∷ back) ≡ Some b))
+find_swapped {A = A} P a b same [] back x found = by_test (P a) refl
+  where
+    some_same : (y z : A) → Some y ≡ Some z → y ≡ z
+    some_same y z h = cc
+
+    by_test : (t : Bool) → P a ≡ t → (cond (P b) (Some b) (find P back) ≡ Some x) ⊎ ((x ≡ a) × (cond (P b) (Some b) (find P back) ≡ Some b))
+    by_test true e = inr (sym (some_same a x (sym (ap (λ t. cond t (Some a) (find P back)) e) ∙ found)), ap (λ t. cond t (Some b) (find P back)) (same ∙ e))
+    by_test false e = inl (ap (λ t. cond t (Some b) (find P back)) (same ∙ e) ∙ sym (ap (λ t. cond t (Some a) (find P back)) e) ∙ found)
+find_swapped {A = A} P a b same (y ∷ front) back x found = by_test (P y) refl (find_swapped P a b same front back x)
+  where
+    by_test : (t : Bool) → P y ≡ t → (find P (front ++ a ∷ back) ≡ Some x → (find P (front ++ b ∷ back) ≡ Some x) ⊎ ((x ≡ a) × (find P (front ++ b ∷ back) ≡ Some b)))
+        → (cond (P y) (Some y) (find P (front ++ b ∷ back)) ≡ Some x) ⊎ ((x ≡ a) × (cond (P y) (Some y) (find P (front ++ b ∷ back)) ≡ Some b))
+    by_test true e rest = inl (ap (λ t. cond t (Some y) (find P (front ++ b ∷ back))) e ∙ sym (ap (λ t. cond t (Some y) (find P (front ++ a ∷ back))) e) ∙ found)
+    by_test false e rest = ⊎_elim
+        (λ h. inl (ap (λ t. cond t (Some y) (find P (front ++ b ∷ back))) e ∙ h))
+        (λ h. inr (h.0, ap (λ t. cond t (Some y) (find P (front ++ b ∷ back))) e ∙ h.1))
+        (rest (sym (ap (λ t. cond t (Some y) (find P (front ++ a ∷ back))) e) ∙ found))
 
 -- what was found is found with one more behind
 pub find_push : {A : Type 0} (P : A → Bool) (xs : List A) (x y : A) → find P xs ≡ Some y → find P (xs ++ x ∷ []) ≡ Some y
