@@ -32,3 +32,7 @@ pub mod Forks
 pub mod Ids
 pub mod Mapped
 pub mod Making
+pub mod Saving
+pub mod SavedAs
+pub mod Respaced
+pub mod KeepSaved

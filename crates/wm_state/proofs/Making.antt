@@ -118,22 +118,23 @@ place-found P y (z ∷ zs) is none = by_test (nat_lt z.making y.making) (either_
     by_test true h rest = rw h.0 (rest h.1)
     by_test false h rest = rw is refl
 
--- it is found in the one order as in the other
-pub find-making : (making : ℕ) (xs : List Record) → differ same_making xs ≡ true → find (is_made making) (by_making xs) ≡ find (is_made making) xs
-find-making making [] apart = refl
-find-making making (x ∷ xs) apart = by_making_of (cases_eq x.making making) (both (not (list_any (same_making x) xs)) (differ same_making xs) apart) (find-making making xs)
+-- where at most one passes, it is found in the one order as in the other
+pub find-one : (P : Record → Bool) (same : Record → Record → Bool) → ((x y : Record) → P x ≡ true → P y ≡ true → same x y ≡ true) → (xs : List Record) → differ same xs ≡ true → find P (by_making xs) ≡ find P xs
+find-one P same as_one [] apart = refl
+find-one P same as_one (x ∷ xs) apart = by_test (P x) refl (both (not (list_any (same x) xs)) (differ same xs) apart) (find-one P same as_one xs)
   where
-    asked : (ys : List Record) → x.making ≡ making → list_any (same_making x) ys ≡ list_any (is_made making) ys
-    asked [] e = refl
-    asked (y ∷ ys) e = rw (asked ys e, e, swapped making y.making) refl
+    none_else : P x ≡ true → (ys : List Record) → list_any (same x) ys ≡ false → list_any P ys ≡ false
+    none_else is [] none = refl
+    none_else is (y ∷ ys) none = by_other (P y) refl (either_false (same x y) (list_any (same x) ys) none) (none_else is ys)
       where
-        swapped : (a b : ℕ) → (a == b) ≡ (b == a)
-        swapped a b = grind (arith)
+        by_other : (b : Bool) → P y ≡ b → (same x y ≡ false) × (list_any (same x) ys ≡ false) → (list_any (same x) ys ≡ false → list_any P ys ≡ false) → list_any P (y ∷ ys) ≡ false
+        by_other true e h rest = absurd (bool_apart (sym (as_one x y is e) ∙ h.0))
+        by_other false e h rest = rw e (rest h.1)
 
-    by_making_of : (x.making ≡ making) ⊎ (x.making ≢ making) → (not (list_any (same_making x) xs) ≡ true) × (differ same_making xs ≡ true)
-        → (differ same_making xs ≡ true → find (is_made making) (by_making xs) ≡ find (is_made making) xs) → find (is_made making) (place_making x (by_making xs)) ≡ find (is_made making) (x ∷ xs)
-    by_making_of (inl here) h rest =
-        place-found (is_made making) x (by_making xs) (eq-eqb _ _ here)
-        (any-making (is_made making) xs (sym (asked xs here) ∙ not_true (list_any (same_making x) xs) h.0))
-        ∙ sym (rw (eq-eqb _ _ here) refl)
-    by_making_of (inr away) h rest = place-skip (is_made making) x (by_making xs) (ne_eqb _ _ away) ∙ rest h.1 ∙ sym (rw (ne_eqb _ _ away) refl)
+    by_test : (b : Bool) → P x ≡ b → (not (list_any (same x) xs) ≡ true) × (differ same xs ≡ true) → (differ same xs ≡ true → find P (by_making xs) ≡ find P xs) → find P (place_making x (by_making xs)) ≡ find P (x ∷ xs)
+    by_test true e h rest = place-found P x (by_making xs) e (any-making P xs (none_else e xs (not_true (list_any (same x) xs) h.0))) ∙ sym (rw e refl)
+    by_test false e h rest = place-skip P x (by_making xs) e ∙ rest h.1 ∙ sym (rw e refl)
+
+-- so it is of one making
+pub find-making : (making : ℕ) (xs : List Record) → differ same_making xs ≡ true → find (is_made making) (by_making xs) ≡ find (is_made making) xs
+find-making making xs apart = find-one (is_made making) same_making (λ x y is also. eq-eqb _ _ (eqb-true _ _ is ∙ sym (eqb-true _ _ also))) xs apart

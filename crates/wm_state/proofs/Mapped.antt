@@ -87,3 +87,21 @@ find-again {A = A} same itself P (y ∷ ys) x apart found = by_test (P y) found 
         → find (λ z. same z x) (y ∷ ys) ≡ Some x
     by_test true h d rest = rw (some_same y x h, itself x) refl
     by_test false h d rest = rw (found-fails P (same y) ys x h (not_true (list_any (same y) ys) d.0)) (rest d.1 h)
+
+-- nothing passes where nothing is found
+pub none-found : {A : Type 0} (P : A → Bool) (xs : List A) → find P xs ≡ None → list_any P xs ≡ false
+none-found P [] none = refl
+none-found {A = A} P (x ∷ xs) none = by_test (P x) none (none-found P xs)
+  where
+    by_test : (b : Bool) → cond b (Some x) (find P xs) ≡ None → (find P xs ≡ None → list_any P xs ≡ false) → (b || list_any P xs) ≡ false
+    by_test true e rest = cc
+    by_test false e rest = rest e
+
+-- nothing passes what passes only where nothing does
+pub any-if : {A : Type 0} (P Q : A → Bool) → ((x : A) → Q x ≡ true → P x ≡ true) → (xs : List A) → list_any P xs ≡ false → list_any Q xs ≡ false
+any-if P Q to [] none = refl
+any-if P Q to (x ∷ xs) none = by_test (Q x) refl (either_false (P x) (list_any P xs) none) (any-if P Q to xs)
+  where
+    by_test : (b : Bool) → Q x ≡ b → (P x ≡ false) × (list_any P xs ≡ false) → (list_any P xs ≡ false → list_any Q xs ≡ false) → (b || list_any Q xs) ≡ false
+    by_test true e h rest = absurd (bool_apart (sym (to x e) ∙ h.0))
+    by_test false e h rest = rest h.1
