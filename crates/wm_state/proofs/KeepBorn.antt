@@ -290,7 +290,7 @@ born_of p old new a r v may e = record {
 
     fork : Forked p (forked p new beside) r.parent v.number
     fork = forked_of p old new a r.parent beside
-        (record { one = may.one; counters = may.counters; stamps = may.stamps; next = may.next; there = may.parent; number = may.number; space = refl; parent = refl }) e
+        (record { one = may.one; counters = may.counters; stamps = may.stamps; next = may.next; work = may.work; there = may.parent; number = may.number; space = refl; parent = refl }) e
 
     versions : are_versions p old.next_version ≡ true
     versions = let u = ruled p e in ap (λ (c : Counters). are_versions p c.next_version) (sym (same_counters p old u.counters may.one u.one)) ∙ u.versions
