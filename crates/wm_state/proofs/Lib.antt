@@ -36,3 +36,4 @@ pub mod Saving
 pub mod SavedAs
 pub mod Respaced
 pub mod KeepSaved
+pub mod Births
