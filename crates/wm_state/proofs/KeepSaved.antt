@@ -21,7 +21,8 @@ use Rattle.wm_state.proofs.Apart.{ruled, keeps_all, ruled_versions, newest_recor
 use Rattle.wm_state.proofs.Making.{same_making}
 use Rattle.wm_state.proofs.Mapped.{any-if, none-found}
 use Rattle.wm_state.proofs.Respaced.{MayReplace, spaces_replaced, versions_replaced, savepoint_replaced, hists_replaced, space_here, space_elsewhere}
-use Rattle.wm_state.proofs.SavedAs.{RuledSavepoints, ruled_savepoints, named_as}
+use Rattle.wm_state.proofs.Named.{ruled_savepoints, space_number}
+use Rattle.wm_state.proofs.SavedAs.{named_as}
 use Rattle.wm_state.proofs.Saving.{IsKept, Stands-saved}
 use Rattle.wm_state.proofs.Tests.{bool_apart, both, and_true, either_false, all_if, all_push, all_swap, all_middle, differ_push, none_if}
 

@@ -31,3 +31,4 @@ pub mod Saving
 pub mod SavedAs
 pub mod Respaced
 pub mod KeepSaved
+pub mod PlannedSaved
