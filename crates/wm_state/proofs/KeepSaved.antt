@@ -20,8 +20,10 @@ use Rattle.wm_state.specs.Effects.{Saved, marked}
 use Rattle.wm_state.proofs.Apart.{ruled, keeps_all, ruled_versions, newest_record, found-passes}
 use Rattle.wm_state.proofs.Making.{same_making}
 use Rattle.wm_state.proofs.Mapped.{any-if, none-found}
-use Rattle.wm_state.proofs.Respaced.{MayReplace, spaces_replaced, versions_replaced, savepoint_replaced, hists_replaced, space_here, space_elsewhere}
-use Rattle.wm_state.proofs.SavedAs.{RuledSavepoints, ruled_savepoints, named_as}
+use Rattle.wm_state.proofs.Keeping.{KeepSpaces, le_itself, le_of, KeepTables-same, KeepSpaces-swap, KeepVersions-same, KeepRows-same, is_savepoint-kept, are_hists-kept}
+use Rattle.wm_state.proofs.Respaced.{MayReplace, spaces_replaced, versions_replaced, space_here, space_elsewhere}
+use Rattle.wm_state.proofs.Named.{ruled_savepoints, space_number, saved_there}
+use Rattle.wm_state.proofs.SavedAs.{named_as}
 use Rattle.wm_state.proofs.Saving.{IsKept, Stands-saved}
 use Rattle.wm_state.proofs.Tests.{bool_apart, both, and_true, either_false, all_if, all_push, all_swap, all_middle, differ_push, none_if}
 
@@ -52,11 +54,8 @@ pub record MaySave (p : Parts) (old new : Counters) (front : List Space) (a : Sp
 
 -- ---- the workspace's record
 
-may_mark : (a : Space) (place implicit : ℕ) → a.next_place ≤ place → MayReplace a (marked place implicit a)
-may_mark a place implicit le = record { number = refl; name = refl; parent = refl; birth = refl; base = refl; places = le; log = at_least a.log_length }
-  where
-    at_least : (n : ℕ) → n ≤ n
-    at_least n = omega arith
+may_mark : (a : Space) (place implicit : ℕ) → MayReplace a (marked place implicit a)
+may_mark a place implicit = record { number = refl; name = refl; parent = refl; birth = refl; base = refl }
 
 le_more : (m n k : ℕ) → n ≤ k → nat_le m n ≡ true → nat_le m k ≡ true
 le_more m n k le e = grind (arith, le, e)
@@ -81,8 +80,13 @@ each_space spaces e =
 
 spaces_marked : (front back : List Space) (a : Space) (place implicit : ℕ) → a.next_place ≤ place → a.next_implicit ≤ implicit → are_spaces (front ++ a ∷ back) ≡ true → are_spaces (front ++ marked place implicit a ∷ back) ≡ true
 spaces_marked front back a place implicit places implicits e =
-    spaces_replaced front back a (marked place implicit a) (may_mark a place implicit places)
+    spaces_replaced front back a (marked place implicit a) (may_mark a place implicit)
     (marked_counted (space_of (front ++ a ∷ back)) a place implicit places implicits (all_middle (is_space (space_of (front ++ a ∷ back))) a front back (each_space (front ++ a ∷ back) e))) e
+
+-- each workspace has as much of a log as it had, and has given as many places
+spaces_still : (p : Parts) (old new : Counters) (front : List Space) (a : Space) (back : List Space) (place implicit : ℕ) (x : Savepoint) → MaySave p old new front a back place implicit x → KeepSpaces p (saved p new front a back place implicit x)
+spaces_still p old new front a back place implicit x may =
+    KeepSpaces-swap p (saved p new front a back place implicit x) front back a (marked place implicit a) refl refl (le_itself a.log_length) (le_of a.next_place place may.places) may.spaces refl
 
 -- ---- savepoints
 
@@ -119,14 +123,11 @@ few_still xs x room s e = ap (λ n. nat_le n 4096) (count_push (λ (y : Savepoin
 lt_apart : (m n : ℕ) → nat_lt m n ≡ true → (m == n) ≡ false
 lt_apart m n lt = grind (arith, lt)
 
-le_test : (m n : ℕ) → m ≤ n → nat_le m n ≡ true
-le_test m n le = grind (arith, le)
-
 -- the new savepoint itself
 new_savepoint : (p : Parts) (old new : Counters) (front : List Space) (a : Space) (back : List Space) (place implicit : ℕ) (x : Savepoint) → MaySave p old new front a back place implicit x → are_spaces (front ++ marked place implicit a ∷ back) ≡ true
     → is_savepoint (space_of (front ++ marked place implicit a ∷ back)) (version_of p.versions) new.work x ≡ true
 new_savepoint p old new front a back place implicit x may spaces =
-    and_true (is_short x.name && nat_le x.making (new.work + 2)) _ (and_true (is_short x.name) (nat_le x.making (new.work + 2)) may.name (le_test x.making (new.work + 2) may.making))
+    and_true (is_short x.name && nat_le x.making (new.work + 2)) _ (and_true (is_short x.name) (nat_le x.making (new.work + 2)) may.name (le_of x.making (new.work + 2) may.making))
     (rw (space_here front back (marked place implicit a) x.space spaces may.space)
     (and_true (is_version_of (version_of p.versions) x.version a.number && is_base_of (version_of p.versions) x.base_version a) (nat_lt x.place place && nat_le x.log_length a.log_length)
     (and_true (is_version_of (version_of p.versions) x.version a.number) (is_base_of (version_of p.versions) x.base_version a) may.version may.base)
@@ -136,6 +137,7 @@ savepoints_kept : (p : Parts) (old new : Counters) (front : List Space) (a : Spa
     → are_savepoints p old.work ≡ true → are_savepoints (saved p new front a back place implicit x) new.work ≡ true
 savepoints_kept p old new front a back place implicit x may spaces e =
     let r = ruled_savepoints p old.work e in
+    let q = saved p new front a back place implicit x in
     let xs = p.savepoints ++ x ∷ [] in
     let ss = front ++ marked place implicit a ∷ back in
     let few : list_all (has_few p.savepoints) (front ++ a ∷ back) ≡ true = ap (list_all (has_few p.savepoints)) (sym may.spaces) ∙ r.few in
@@ -147,8 +149,7 @@ savepoints_kept p old new front a back place implicit x may spaces e =
     (all_swap (has_few p.savepoints) (has_few xs) a (marked place implicit a) front back (few_still p.savepoints x room) (few_still p.savepoints x room a (all_middle (has_few p.savepoints) a front back few)) few)
     (all_push (is_savepoint (space_of ss) (version_of p.versions) new.work) p.savepoints x
     (all_if (is_savepoint (space_of p.spaces) (version_of p.versions) old.work) (is_savepoint (space_of ss) (version_of p.versions) new.work)
-    (λ y is. savepoint_replaced front back a (marked place implicit a) (version_of p.versions) old.work new.work y (may_mark a place implicit may.places) may.work
-    (ap (λ k. is_savepoint (space_of k) (version_of p.versions) old.work y) (sym may.spaces) ∙ is)) p.savepoints r.each)
+    (λ y is. is_savepoint-kept p q old.work new.work (le_of old.work new.work may.work) (spaces_still p old new front a back place implicit x may) (KeepVersions-same p q refl) y is) p.savepoints r.each)
     (new_savepoint p old new front a back place implicit x may spaces))))
 
 -- ---- all rules
@@ -165,14 +166,14 @@ keep-saved p old new front a back place implicit x may e =
     let r = ruled p e in
     let same : r.counters ≡ old = same_counters p old r.counters may.one r.one in
     let q = saved p new front a back place implicit x in
-    let mark = may_mark a place implicit may.places in
+    let mark = may_mark a place implicit in
     let spaces : are_spaces q.spaces ≡ true = spaces_marked front back a place implicit may.places may.implicits (ap are_spaces (sym may.spaces) ∙ r.spaces) in
     keeps_all q new refl may.counters r.tables spaces
     (ap (are_versions q) may.versions ∙ versions_replaced p q front back a (marked place implicit a) old.next_version mark may.spaces refl refl (ap (λ (c : Counters). are_versions p c.next_version) (sym same) ∙ r.versions))
     (savepoints_kept p old new front a back place implicit x may spaces (ap (λ (c : Counters). are_savepoints p c.work) (sym same) ∙ r.savepoints))
     (ap (are_rows p) may.stamps ∙ ap (λ (c : Counters). are_rows p c.next_stamp) (sym same) ∙ r.rows)
     (ap (are_pieces p) may.stamps ∙ ap (λ (c : Counters). are_pieces p c.next_stamp) (sym same) ∙ r.pieces)
-    (ap (are_hists q) may.stamps ∙ hists_replaced p q front back a (marked place implicit a) old.next_stamp mark may.spaces refl refl refl refl (ap (λ (c : Counters). are_hists p c.next_stamp) (sym same) ∙ r.hists))
+    (ap (are_hists q) may.stamps ∙ are_hists-kept p q old.next_stamp old.next_stamp (le_itself old.next_stamp) (KeepTables-same p q refl) (spaces_still p old new front a back place implicit x may) (KeepRows-same p q refl) refl (ap (λ (c : Counters). are_hists p c.next_stamp) (sym same) ∙ r.hists))
 
 -- ---- what becomes of the records
 
@@ -221,11 +222,7 @@ unnamed_if p x none =
 pub version_latest : (p : Parts) (n : ℕ) (a : Space) → keep_rules p ≡ true → space_of p.spaces n ≡ Some a → is_version_of (version_of p.versions) (latest p n) a.number ≡ true
 version_latest p n a rules found =
     let v = newest_record p rules n a found in
-    rw v.1 (eq-eqb v.0.space a.number (v.2 ∙ sym (eqb-true a.number n (found-passes (λ (s : Space). s.number == n) (λ s. true) p.spaces a found (all_pass p.spaces)).0)))
-  where
-    all_pass : (ss : List Space) → list_all (λ (s : Space). true) ss ≡ true
-    all_pass [] = refl
-    all_pass (s ∷ ss) = all_pass ss
+    rw v.1 (eq-eqb v.0.space a.number (v.2 ∙ sym (space_number p n a found)))
 
 -- what a workspace sees under its own is a version of its parent
 pub base_latest : (p : Parts) (n : ℕ) (a : Space) → keep_rules p ≡ true → space_of p.spaces n ≡ Some a → is_base_of (version_of p.versions) a.base_version a ≡ true
@@ -243,12 +240,14 @@ base_latest p n a rules found =
 -- so it is of a savepoint that is there, which stands at a place that was given and has no more of the log than there is
 pub saved_in_space : (p : Parts) (n making : ℕ) (a : Space) (y : Savepoint) → keep_rules p ≡ true → space_of p.spaces n ≡ Some a → saved_as p n making ≡ Some y → is_saved_in (version_of p.versions) y a ≡ true
 saved_in_space p n making a y rules found recorded =
-    let r = ruled p rules in
-    let h = found-passes (λ (z : Savepoint). (z.space == n) && (z.making == making)) (is_savepoint (space_of p.spaces) (version_of p.versions) r.counters.work) p.savepoints y recorded
-        (ruled_savepoints p r.counters.work r.savepoints).each in
-    let here : y.space ≡ n = eqb-true y.space n (both (y.space == n) (y.making == making) h.0).0 in
-    sym (ap (λ o. option_map_or (is_saved_in (version_of p.versions) y) o false) (ap (space_of p.spaces) here ∙ found))
-    ∙ (both (is_short y.name && nat_le y.making (r.counters.work + 2)) _ h.1).1
+    let t = saved_there p rules n making y recorded in
+    ap (is_saved_in (version_of p.versions) y) (some_space a t.space (sym found ∙ t.found))
+    ∙ and_true (is_version_of (version_of p.versions) y.version t.space.number && is_base_of (version_of p.versions) y.base_version t.space) (nat_lt y.place t.space.next_place && nat_le y.log_length t.space.log_length)
+    (and_true (is_version_of (version_of p.versions) y.version t.space.number) (is_base_of (version_of p.versions) y.base_version t.space) (ap (is_version_of (version_of p.versions) y.version) t.number ∙ t.version) t.base)
+    (and_true (nat_lt y.place t.space.next_place) (nat_le y.log_length t.space.log_length) t.place t.log)
+  where
+    some_space : (b c : Space) → Some b ≡ Some c → b ≡ c
+    some_space b c h = cc
 
 -- ---- the making of the next savepoint
 

@@ -27,6 +27,7 @@ pub mod KeptSpaces
 pub mod Growing
 pub mod KeepBorn
 pub mod PlannedBorn
+pub mod Births
 pub mod Leaves
 pub mod Forks
 pub mod Ids
@@ -36,4 +37,4 @@ pub mod Saving
 pub mod SavedAs
 pub mod Respaced
 pub mod KeepSaved
-pub mod Births
+pub mod PlannedSaved

@@ -1,10 +1,9 @@
 -- The records stand for the state after the batch by which a workspace is born.
-use Rattle.std.proofs.Common.{◌≡◌, ◌≢◌, ℕ, ◌+◌, ◌<◌, ◌==◌, Bool, true, false, cond, List, [], ◌∷◌, ◌++◌, Option, Some, None, refl, sym, ap, subst, ◌∙◌, arith}
+use Rattle.std.proofs.Common.{◌≡◌, ℕ, ◌+◌, true, List, [], ◌∷◌, ◌++◌, Some, sym, ap, subst, ◌∙◌}
 use Rattle.wm_graph.specs.Parts.{Parts, parts_of}
 use Rattle.wm_graph.specs.Rules.{keep_rules}
 use Rattle.wm_spec.specs.Lists.{Entry}
-use Rattle.wm_spec.specs.Records.{record_at, change_at, AreChanges}
-use Rattle.wm_spec.specs.declared.record.Record.{Record}
+use Rattle.wm_spec.specs.Records.{record_at}
 use Rattle.wm_spec.specs.declared.record.Record.TheVariants as records
 use Rattle.wm_spec.specs.declared.record.stored.Stored.{Stored}
 use Rattle.wm_spec.specs.declared.record.batch.Change.{Change}
@@ -15,9 +14,9 @@ use Rattle.wm_state.specs.ById.{Ascend, set_at, applied}
 use Rattle.wm_state.specs.Batches.{AllUnder, put}
 use Rattle.wm_state.specs.State.{State, Workspace}
 use Rattle.wm_state.specs.Standing.{CountersStand, Stands}
-use Rattle.wm_state.proofs.ByKind.{stored, set-behind}
-use Rattle.wm_state.proofs.Planning.{parts-more_space, parts-more_version}
-use Rattle.wm_state.proofs.Planned.{counted, AllUnder-set, AllUnder-next}
+use Rattle.wm_state.proofs.Planning.{recounted}
+use Rattle.wm_state.proofs.Planned.{counted, AllUnder-set}
+use Rattle.wm_state.proofs.PlannedSaved.{more_space, more_version, AllUnder-more}
 use Rattle.wm_state.proofs.Birth.{IsChild, Stands-born}
 use Rattle.wm_state.proofs.KeepBorn.{born, MayBear, keep-born, born_of}
 
@@ -28,19 +27,10 @@ child_batch counters_id new id r v = put counters_id (records.Counters new) ∷ 
 pub parts-born : (ss : List Stored) (counters_id id : ℕ) (old new : Counters) (r : Space) (v : Version) → Ascend ss → record_at ss counters_id ≡ Some (records.Counters old) → (parts_of ss).counters ≡ old ∷ [] → AllUnder id ss
     → parts_of (applied (child_batch counters_id new id r v) ss) ≡ born (parts_of ss) new r v
 parts-born ss counters_id id old new r v sorted found one under =
-    ap parts_of (ap (set_at (id + 1) (Some (records.Version v))) second ∙ set-behind (first ++ stored id (records.Space r) ∷ []) (id + 1) (records.Version v) (AllUnder-next id first (records.Space r) under_first))
-    ∙ parts-more_version (first ++ stored id (records.Space r) ∷ []) (id + 1) v
-    ∙ ap (λ (p : Parts). record p { versions = p.versions ++ v ∷ [] }) (parts-more_space first id r)
-    ∙ ap (λ (p : Parts). record p { spaces = p.spaces ++ r ∷ []; versions = p.versions ++ v ∷ [] }) (counted ss counters_id old new sorted found one)
-  where
-    first : List Stored
-    first = set_at counters_id (Some (records.Counters new)) ss
-
-    under_first : AllUnder id first
-    under_first = AllUnder-set id ss counters_id (records.Counters old) (records.Counters new) sorted found under
-
-    second : set_at id (Some (records.Space r)) first ≡ first ++ stored id (records.Space r) ∷ []
-    second = set-behind first id (records.Space r) under_first
+    let first : List Stored = set_at counters_id (Some (records.Counters new)) ss in
+    let under_first : AllUnder id first = AllUnder-set id ss counters_id (records.Counters old) (records.Counters new) sorted found under in
+    more_version (set_at id (Some (records.Space r)) first) (id + 1) v (AllUnder-more id first (records.Space r) under_first)
+    ∙ ap (λ (p : Parts). record p { versions = p.versions ++ v ∷ [] }) (more_space first id r under_first ∙ ap (λ (p : Parts). record p { spaces = p.spaces ++ r ∷ [] }) (counted ss counters_id old new sorted found one))
 
 -- the rules hold after it
 pub keep_plan_born : (ss : List Stored) (counters_id id : ℕ) (old new : Counters) (a r : Space) (v : Version) → keep_rules (parts_of ss) ≡ true → Ascend ss → record_at ss counters_id ≡ Some (records.Counters old)
@@ -51,7 +41,9 @@ keep_plan_born ss counters_id id old new a r v rules sorted found under may =
 -- and the records stand for the state with the workspace more
 pub plan_born : (ss : List Stored) (counters_id id : ℕ) (old new : Counters) (a r : Space) (v : Version) (w : Workspace) (es : List Entry) (s u : State) → Stands (parts_of ss) s → Ascend ss
     → record_at ss counters_id ≡ Some (records.Counters old) → AllUnder id ss → MayBear (parts_of ss) old new a r v → IsChild (parts_of ss) r w es → u.spaces ≡ s.spaces ++ w ∷ [] → u.tables ≡ s.tables
-    → CountersStand (born (parts_of ss) new r v) u → Stands (parts_of (applied (child_batch counters_id new id r v) ss)) u
+    → CountersStand (recounted (parts_of ss) new) u → Stands (parts_of (applied (child_batch counters_id new id r v) ss)) u
 plan_born ss counters_id id old new a r v w es s u st sorted found under may child spaces tables counters =
     subst (λ p. Stands p u) (sym (parts-born ss counters_id id old new r v sorted found may.one under))
-    (Stands-born (parts_of ss) (born (parts_of ss) new r v) s u r v.number w es (born_of (parts_of ss) old new a r v may st.rules) st child spaces tables counters (keep-born (parts_of ss) old new a r v may st.rules))
+    (Stands-born (parts_of ss) (born (parts_of ss) new r v) s u r v.number w es (born_of (parts_of ss) old new a r v may st.rules) st child spaces tables
+    (record { counters = counters.counters; one = counters.one; next_stamp = counters.next_stamp; last_moment = counters.last_moment; limit = counters.limit; work = counters.work })
+    (keep-born (parts_of ss) old new a r v may st.rules))

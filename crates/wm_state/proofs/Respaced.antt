@@ -1,14 +1,12 @@
 -- The rules hold of the records with another record of a workspace in the place of its own, where both have one number, name and
 -- parent, and see the same versions.
-use Rattle.std.proofs.Common.{◌≡◌, ◌≢◌, ℕ, ◌+◌, ◌^◌, ◌≤◌, ◌==◌, nat_lt, nat_le, Bool, true, false, not, ◌&&◌, ◌||◌, cond, if◌then◌else◌, List, [], ◌∷◌, ◌++◌, Option, Some, None, is_some, refl, sym, ap, ◌∙◌, length, length-append, arith}
+use Rattle.std.proofs.Common.{◌≡◌, ◌≢◌, ℕ, ◌^◌, ◌==◌, nat_lt, nat_le, Bool, true, false, not, ◌&&◌, ◌||◌, cond, if◌then◌else◌, List, [], ◌∷◌, ◌++◌, Option, Some, None, is_some, refl, sym, ap, ◌∙◌, length, length-append}
 use Rattle.std.proofs.lemmas.Bool.{eq-eqb, ne_eqb}
 use Rattle.std.specs.List.{list_all, list_any, find}
 use Rattle.std.specs.Option.{option_map_or}
 use Rattle.std.specs.Str.{bytes_eq}
-use Rattle.wm_graph.specs.Parts.{Parts, table_of, space_of, version_of, row_of, has_version}
-use Rattle.wm_graph.specs.Rules.{are_spaces, is_space, is_placed, is_short, live, are_versions, is_version, is_version_of, has_versions, stands_under, is_saved_in, is_base_of, is_savepoint, are_cells, is_row_at, are_hists, is_hist, same_position, differ}
-use Rattle.wm_spec.specs.declared.record.hist.Hist.{Hist}
-use Rattle.wm_spec.specs.declared.record.savepoint.Savepoint.{Savepoint}
+use Rattle.wm_graph.specs.Parts.{Parts, space_of, version_of, has_version}
+use Rattle.wm_graph.specs.Rules.{are_spaces, is_space, is_placed, is_short, live, are_versions, is_version, is_version_of, has_versions, stands_under, differ}
 use Rattle.wm_spec.specs.declared.record.space.Space.{Space}
 use Rattle.wm_spec.specs.declared.record.version.Version.{Version}
 use Rattle.wm_state.proofs.Tests.{bool_apart, both, and_true, not_true, either_false, all_if, all_swap, all_middle, differ_swap, some_swap}
@@ -55,15 +53,13 @@ find-past P (y ∷ front) back a b e f = ap (λ o. cond (P y) (Some y) o) (find-
 
 -- ---- records of one workspace
 
--- the second may stand in the place of the first: it has given no fewer places, and its log is no shorter
+-- the second may stand in the place of the first
 pub record MayReplace (a b : Space) : Type 0 where
   pub number : b.number ≡ a.number
   pub name : b.name ≡ a.name
   pub parent : b.parent ≡ a.parent
   pub birth : b.birth_version ≡ a.birth_version
   pub base : b.base_version ≡ a.base_version
-  pub places : a.next_place ≤ b.next_place
-  pub log : a.log_length ≤ b.log_length
 
 -- what a workspace's own record is asked, but for where it stands
 abbrev pub is_counted : Space → Bool
@@ -136,59 +132,6 @@ versions_replaced p q front back a b next may old new same e =
     (let there : list_all (has_versions (has_version p.versions) (version_of p.versions)) (front ++ a ∷ back) ≡ true = ap (list_all (has_versions (has_version p.versions) (version_of p.versions))) (sym old) ∙ g.1 in
     all_swap (has_versions (has_version p.versions) (version_of p.versions)) (has_versions (has_version p.versions) (version_of p.versions)) a b front back (λ s is. is)
     (has_alike (has_version p.versions) (version_of p.versions) a b may ∙ all_middle (has_versions (has_version p.versions) (version_of p.versions)) a front back there) there)))
-
--- ---- savepoints
-
-lt_more : (m n k : ℕ) → n ≤ k → nat_lt m n ≡ true → nat_lt m k ≡ true
-lt_more m n k le e = grind (arith, le, e)
-
-le_more : (m n k : ℕ) → n ≤ k → nat_le m n ≡ true → nat_le m k ≡ true
-le_more m n k le e = grind (arith, le, e)
-
-saved_replaced : (versions : ℕ → Option Version) (x : Savepoint) (a b : Space) → MayReplace a b → is_saved_in versions x a ≡ true → is_saved_in versions x b ≡ true
-saved_replaced versions x a b may e =
-    let h = both (is_version_of versions x.version a.number && is_base_of versions x.base_version a) (nat_lt x.place a.next_place && nat_le x.log_length a.log_length) e in
-    let g = both (nat_lt x.place a.next_place) (nat_le x.log_length a.log_length) h.1 in
-    and_true (is_version_of versions x.version b.number && is_base_of versions x.base_version b) (nat_lt x.place b.next_place && nat_le x.log_length b.log_length)
-    (named ∙ h.0)
-    (and_true (nat_lt x.place b.next_place) (nat_le x.log_length b.log_length) (lt_more x.place a.next_place b.next_place may.places g.0) (le_more x.log_length a.log_length b.log_length may.log g.1))
-  where
-    named : (is_version_of versions x.version b.number && is_base_of versions x.base_version b) ≡ (is_version_of versions x.version a.number && is_base_of versions x.base_version a)
-    named = rw (may.number, may.parent) refl
-
--- a savepoint that is in order is so with a record in its place, and with more work
-pub savepoint_replaced : (front back : List Space) (a b : Space) (versions : ℕ → Option Version) (work more : ℕ) (x : Savepoint) → MayReplace a b → work ≤ more → is_savepoint (space_of (front ++ a ∷ back)) versions work x ≡ true
-    → is_savepoint (space_of (front ++ b ∷ back)) versions more x ≡ true
-savepoint_replaced front back a b versions work more x may le e =
-    let h = both (is_short x.name && nat_le x.making (work + 2)) (option_map_or (is_saved_in versions x) (space_of (front ++ a ∷ back) x.space) false) e in
-    let g = both (is_short x.name) (nat_le x.making (work + 2)) h.0 in
-    and_true (is_short x.name && nat_le x.making (more + 2)) (option_map_or (is_saved_in versions x) (space_of (front ++ b ∷ back) x.space) false)
-    (and_true (is_short x.name) (nat_le x.making (more + 2)) g.0 (le_more x.making (work + 2) (more + 2) (two_more work more le) g.1))
-    (found_if (λ (s : Space). s.number == x.space) (is_saved_in versions x) (is_saved_in versions x) a b (ap (λ k. k == x.space) may.number) (λ s is. is) (saved_replaced versions x a b may) front back h.1)
-  where
-    two_more : (m n : ℕ) → m ≤ n → m + 2 ≤ n + 2
-    two_more m n le = omega (arith, le)
-
--- ---- logs
-
-pub hists_replaced : (p q : Parts) (front back : List Space) (a b : Space) (next : ℕ) → MayReplace a b → p.spaces ≡ front ++ a ∷ back → q.spaces ≡ front ++ b ∷ back → q.tables ≡ p.tables → q.rows ≡ p.rows → q.hists ≡ p.hists
-    → are_hists p next ≡ true → are_hists q next ≡ true
-hists_replaced p q front back a b next may old new tables rows hists e =
-    let h = both (differ same_position p.hists) (list_all (is_hist (table_of p.tables) (space_of p.spaces) (row_of p.rows) next) p.hists) e in
-    rw (hists, tables, rows, new)
-    (and_true (differ same_position p.hists) (list_all (is_hist (table_of p.tables) (space_of (front ++ b ∷ back)) (row_of p.rows) next) p.hists) h.0
-    (all_if (is_hist (table_of p.tables) (space_of p.spaces) (row_of p.rows) next) (is_hist (table_of p.tables) (space_of (front ++ b ∷ back)) (row_of p.rows) next) hist_if p.hists h.1))
-  where
-    hist_if : (x : Hist) → is_hist (table_of p.tables) (space_of p.spaces) (row_of p.rows) next x ≡ true → is_hist (table_of p.tables) (space_of (front ++ b ∷ back)) (row_of p.rows) next x ≡ true
-    hist_if x is =
-        let asks : Space → Bool = λ (s : Space). nat_lt x.position s.log_length in
-        let h = both (is_short x.user && option_map_or asks (space_of p.spaces x.space) false) _ is in
-        let g = both (is_short x.user) (option_map_or asks (space_of p.spaces x.space) false) h.0 in
-        and_true (is_short x.user && option_map_or asks (space_of (front ++ b ∷ back) x.space) false) _
-        (and_true (is_short x.user) (option_map_or asks (space_of (front ++ b ∷ back) x.space) false) g.0
-        (found_if (λ (s : Space). s.number == x.space) asks asks a b (ap (λ k. k == x.space) may.number) (λ s is. is) (λ is. lt_more x.position a.log_length b.log_length may.log is) front back
-        (ap (λ ss. option_map_or asks (space_of ss x.space) false) (sym old) ∙ g.1)))
-        h.1
 
 -- ---- what is found
 

@@ -14,23 +14,11 @@ use Rattle.wm_state.specs.State.{State, Workspace, Savepoint, workspace_of, save
 use Rattle.wm_state.specs.Standing.{SavepointFields, saved_fields, fields_saved, by_making, saved_in, saved_as, Stands}
 use Rattle.wm_state.proofs.Apart.{ruled}
 use Rattle.wm_state.proofs.Making.{same_making, making-itself, is_made, length-making, differ-making, find-one, find-making}
+use Rattle.wm_state.proofs.Named.{ruled_savepoints}
 use Rattle.wm_state.proofs.Mapped.{find-alike, find-again, find-filter, differ-alike}
 use Rattle.wm_state.proofs.Tests.{both, and_true, not_true, either_false, differ_filter}
 
 -- ---- what the rules say of savepoints
-
-pub record RuledSavepoints (p : Parts) (work : ℕ) : Type 0 where
-  pub makings : differ same_making p.savepoints ≡ true
-  pub names : differ same_savepoint p.savepoints ≡ true
-  pub few : list_all (has_few p.savepoints) p.spaces ≡ true
-  pub each : list_all (is_savepoint (space_of p.spaces) (version_of p.versions) work) p.savepoints ≡ true
-
-pub ruled_savepoints : (p : Parts) (work : ℕ) → are_savepoints p work ≡ true → RuledSavepoints p work
-ruled_savepoints p work e =
-    let h = both (differ same_making p.savepoints) _ e in
-    let g = both (differ same_savepoint p.savepoints) _ h.1 in
-    let k = both (list_all (has_few p.savepoints) p.spaces) (list_all (is_savepoint (space_of p.spaces) (version_of p.versions) work) p.savepoints) g.1 in
-    record { makings = h.0; names = g.0; few = k.0; each = k.1 }
 
 -- no two savepoints are of one making
 pub makings_differ : (p : Parts) → keep_rules p ≡ true → differ same_making p.savepoints ≡ true

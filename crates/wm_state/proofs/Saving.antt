@@ -15,6 +15,8 @@ use Rattle.wm_state.specs.State.{State, Workspace, Savepoint, Contents, content,
 use Rattle.wm_state.specs.Standing.{held_of, seen_at, own_at, newest_first, latest, shown, owned, seen, seen_above, SpaceFields, fields_of, fields_in, saved_fields, fields_saved, by_making, saved_in, saved_as, by_number, CountersStand, TablesStand, SpacesStand, LatestStand, OwnStand, SavepointsStand, KeptStand, KeptOwnStand, BasesStand, HasRows, RowsStand, Stands}
 use Rattle.wm_state.specs.Effects.{Saved, marked}
 use Rattle.wm_state.proofs.Changing.{workspace_of-changed}
+use Rattle.wm_state.proofs.Frames.{StillNames, savepoints_of-found, KeepRows, HasRows-kept, HasRows-same}
+use Rattle.wm_state.proofs.Keeping.{KeepRows-same}
 use Rattle.wm_state.proofs.Making.{making-push, all-making}
 use Rattle.wm_state.proofs.Mapped.{all-alike, find-skip}
 use Rattle.wm_state.proofs.Tests.{bool_apart, all_filter, find_new, none_if}
@@ -89,14 +91,8 @@ was_saved n place implicit k ws m new is = by_case (was_changed n (with_savepoin
           savepoints = inr (h.0, ap (λ (w : Workspace). w.savepoints) h.1);
         }
 
--- a record of a workspace of after, by what it was before
-pub record HadMark (p : Parts) (m : ℕ) (new : Space) : Type 0 where
-  pub old : Space
-  pub is : space_of p.spaces m ≡ Some old
-  pub birth : new.birth_version ≡ old.birth_version
-  pub base : new.base_version ≡ old.base_version
-
-had_mark : (p q : Parts) (n place implicit : ℕ) (x : Record) → Saved p q n place implicit x → (m : ℕ) (new : Space) → space_of q.spaces m ≡ Some new → HadMark p m new
+-- a record of a workspace of after names the versions that it named
+had_mark : (p q : Parts) (n place implicit : ℕ) (x : Record) → Saved p q n place implicit x → (m : ℕ) (new : Space) → space_of q.spaces m ≡ Some new → StillNames p m new
 had_mark p q n place implicit x v m new is = by_number (cases_eq m n) (space_of p.spaces m) refl
   where
     some_same : (a b : Space) → Some a ≡ Some b → a ≡ b
@@ -105,13 +101,13 @@ had_mark p q n place implicit x v m new is = by_number (cases_eq m n) (space_of 
     none_some : (o : Option Space) → o ≡ None → o ≡ Some new → ⊥
     none_some o none some = cc
 
-    marked_from : (r : Space) → new ≡ marked place implicit r → space_of p.spaces m ≡ Some r → HadMark p m new
+    marked_from : (r : Space) → new ≡ marked place implicit r → space_of p.spaces m ≡ Some r → StillNames p m new
     marked_from r h found = record { old = r; is = found; birth = ap (λ (s : Space). s.birth_version) h; base = ap (λ (s : Space). s.base_version) h }
 
     here_is : m ≡ n → space_of q.spaces m ≡ option_map (marked place implicit) (space_of p.spaces m)
     here_is here = ap (space_of q.spaces) here ∙ v.here ∙ ap (λ k. option_map (marked place implicit) (space_of p.spaces k)) (sym here)
 
-    by_number : (m ≡ n) ⊎ (m ≢ n) → (o : Option Space) → space_of p.spaces m ≡ o → HadMark p m new
+    by_number : (m ≡ n) ⊎ (m ≢ n) → (o : Option Space) → space_of p.spaces m ≡ o → StillNames p m new
     by_number (inl here) None found = absurd (none_some (space_of q.spaces m) (here_is here ∙ ap (option_map (marked place implicit)) found) is)
     by_number (inl here) (Some r) found = marked_from r (some_same new (marked place implicit r) (sym is ∙ here_is here ∙ ap (option_map (marked place implicit)) found)) found
     by_number (inr away) None found = absurd (none_some (space_of q.spaces m) (v.elsewhere m (ne_eqb _ _ away) ∙ found) is)
@@ -156,12 +152,6 @@ saved_as-here p q n place implicit x v making here =
 
 -- ---- the clauses
 
-savepoints_of-some : (ws : List Workspace) (m : ℕ) (w : Workspace) → workspace_of ws m ≡ Some w → savepoints_of ws m ≡ w.savepoints
-savepoints_of-some ws m w found = rw found refl
-
-savepoints_of-none : (ws : List Workspace) (m : ℕ) → workspace_of ws m ≡ None → savepoints_of ws m ≡ []
-savepoints_of-none ws m none = rw none refl
-
 savepoints_of-same : (ws vs : List Workspace) (m : ℕ) → workspace_of ws m ≡ workspace_of vs m → savepoints_of ws m ≡ savepoints_of vs m
 savepoints_of-same ws vs m same = rw same refl
 
@@ -186,10 +176,10 @@ SavepointsStand-saved p q s t n place implicit w k x v spaces found fields stand
     here_is =
         ap (map saved_fields) (saved_in-here p q n place implicit x v)
         ∙ map-append saved_fields (saved_in p n) (x ∷ [])
-        ∙ ap (λ fs. fs ++ saved_fields x ∷ []) (stand.same n ∙ ap (map fields_saved) (savepoints_of-some s.spaces n w found))
+        ∙ ap (λ fs. fs ++ saved_fields x ∷ []) (stand.same n ∙ ap (map fields_saved) (savepoints_of-found s.spaces n w found))
         ∙ ap (λ f. map fields_saved w.savepoints ++ f ∷ []) fields
         ∙ sym (map-append fields_saved w.savepoints (k ∷ []))
-        ∙ ap (map fields_saved) (sym (savepoints_of-some t.spaces n (with_savepoint place implicit k w) (ap (λ ws. workspace_of ws n) spaces ∙ has_savepoint n place implicit k s.spaces w found)))
+        ∙ ap (map fields_saved) (sym (savepoints_of-found t.spaces n (with_savepoint place implicit k w) (ap (λ ws. workspace_of ws n) spaces ∙ has_savepoint n place implicit k s.spaces w found)))
 
     by_number : (m : ℕ) → (m ≡ n) ⊎ (m ≢ n) → map saved_fields (saved_in q m) ≡ map fields_saved (savepoints_of t.spaces m)
     by_number m (inl here) = ap (λ i. map saved_fields (saved_in q i)) here ∙ here_is ∙ ap (λ i. map fields_saved (savepoints_of t.spaces i)) (sym here)
@@ -254,7 +244,7 @@ made_case p q s n place implicit k x v fields stand m making new j is made = by_
     -- the savepoints of before were made before
     below : (old : Workspace) → workspace_of s.spaces n ≡ Some old → list_all (λ (i : Savepoint). nat_lt i.making x.making) old.savepoints ≡ true
     below old found =
-        sym (all-alike saved_fields fields_saved (λ f. nat_lt f.making x.making) (saved_in p n) old.savepoints (stand.same n ∙ ap (map fields_saved) (savepoints_of-some s.spaces n old found)))
+        sym (all-alike saved_fields fields_saved (λ f. nat_lt f.making x.making) (saved_in p n) old.savepoints (stand.same n ∙ ap (map fields_saved) (savepoints_of-found s.spaces n old found)))
         ∙ all-making (λ (y : Record). nat_lt y.making x.making) (filter (λ (y : Record). y.space == n) p.savepoints)
         (all_filter (λ (y : Record). nat_lt y.making x.making) (λ (y : Record). y.space == n) p.savepoints v.after)
 
@@ -338,21 +328,19 @@ KeptOwnStand-saved p q s t n place implicit w k x v spaces found new_one stand k
             ∙ ap (λ (i : Savepoint). touched i.own c) (sym h.2)
         by_how (inr h) = kept_before.covered m making z.old j y z.is h.0 (sym (saved_as-away p q n place implicit x v m making h.1) ∙ recorded) (based ∙ z.rebases) c
 
--- what rows there were there are
-rows_still : (p q : Parts) (es fs : List Entry) → q.rows ≡ p.rows → fs ≡ es → HasRows p es → HasRows q fs
-rows_still p q es fs rows same had c t row held standing =
-    ap (λ rs. option_map (λ (r : RowRecord). r.values) (row_of rs t.stamp)) rows ∙ had c t row (ap (λ ys. told ys c) (sym same) ∙ held) standing
-
 RowsStand-saved : (p q : Parts) (s t : State) (n place implicit : ℕ) (w : Workspace) (k : Savepoint) (x : Record) → Saved p q n place implicit x → t.spaces ≡ with_space n (with_savepoint place implicit k) s.spaces
     → IsKept p w k x → SavepointsStand p s → RowsStand p s → RowsStand q t
 RowsStand-saved p q s t n place implicit w k x v spaces new_one stand rows = record {
-  there = λ m new is. let y = before m new is in rows_still p q (content y.old) (content new) v.rows (ap (λ (l : Contents). l.base ++ l.own) y.lists) (rows.there m y.old y.is);
-  births = λ m new is. let y = before m new is in rows_still p q y.old.lists.at_birth new.lists.at_birth v.rows (ap (λ (l : Contents). l.at_birth) y.lists) (rows.births m y.old y.is);
-  bases = λ m new is. let y = before m new is in rows_still p q y.old.lists.base new.lists.base v.rows (ap (λ (l : Contents). l.base) y.lists) (rows.bases m y.old y.is);
+  there = λ m new is. let y = before m new is in HasRows-same p q still (content new) (content y.old) (ap (λ (l : Contents). l.base ++ l.own) y.lists) (rows.there m y.old y.is);
+  births = λ m new is. let y = before m new is in HasRows-same p q still new.lists.at_birth y.old.lists.at_birth (ap (λ (l : Contents). l.at_birth) y.lists) (rows.births m y.old y.is);
+  bases = λ m new is. let y = before m new is in HasRows-same p q still new.lists.base y.old.lists.base (ap (λ (l : Contents). l.base) y.lists) (rows.bases m y.old y.is);
   saved = λ m making new j is made.
       by_case m making new j (made_case p q s n place implicit k x v new_one.fields stand m making new j (ap (λ ws. workspace_of ws m) (sym spaces) ∙ is) made);
 }
   where
+    still : KeepRows p q
+    still = KeepRows-same p q v.rows
+
     before : (m : ℕ) (new : Workspace) → workspace_of t.spaces m ≡ Some new → WasSaved n k s.spaces m new
     before m new is = was_saved n place implicit k s.spaces m new (ap (λ ws. workspace_of ws m) (sym spaces) ∙ is)
 
@@ -360,8 +348,8 @@ RowsStand-saved p q s t n place implicit w k x v spaces new_one stand rows = rec
     by_case m making new j z = by_how z.how
       where
         by_how : ((m ≡ n) × (x.making ≡ making) × (j ≡ k)) ⊎ ((savepoint_made making z.old.savepoints ≡ Some j) × (((x.space == m) && (x.making == making)) ≡ false)) → HasRows q (kept j)
-        by_how (inl h) = rows_still p q (kept k) (kept j) v.rows (ap kept h.2) new_one.rows
-        by_how (inr h) = rows_still p q (kept j) (kept j) v.rows refl (rows.saved m making z.old j z.is h.0)
+        by_how (inl h) = HasRows-same p q still (kept j) (kept k) (ap kept h.2) new_one.rows
+        by_how (inr h) = HasRows-kept p q still (kept j) (rows.saved m making z.old j z.is h.0)
 
 -- ---- the records stand for the state with the savepoint
 
@@ -415,7 +403,7 @@ kept_latest p s n w r k x st found recorded version base_version base own fields
   holds = λ c. ap (λ v. seen p v c) version ∙ st.latest.told n w found c ∙ ap (λ es. option_map held_of (told es c)) (sym same);
   covers_own = λ based c.
       ap (λ v. is_some (seen_above p x.base_version v c)) version ∙ ap (λ b. is_some (owned p b n c)) base_version ∙ st.own.covered n w r found recorded c ∙ ap (λ es. touched es c) (sym own);
-  rows = rows_still p p (content w) (kept k) refl same (st.rows.there n w found);
+  rows = HasRows-same p p (KeepRows-same p p refl) (kept k) (content w) same (st.rows.there n w found);
   fields = fields;
 }
   where
@@ -430,7 +418,7 @@ kept_again p s n making w k j x y st found recorded made version base_version ba
   covers_own = λ based c.
       ap (λ v. is_some (seen_above p x.base_version v c)) version ∙ ap (λ b. is_some (seen_above p b y.version c)) base_version
       ∙ st.kept_own.covered n making w j y found made recorded (sym rebases ∙ based) c ∙ ap (λ es. touched es c) (sym own);
-  rows = rows_still p p (kept j) (kept k) refl same (st.rows.saved n making w j found made);
+  rows = HasRows-same p p (KeepRows-same p p refl) (kept k) (kept j) same (st.rows.saved n making w j found made);
   fields = fields;
 }
   where
