@@ -28,6 +28,7 @@ pub mod Growing
 pub mod KeepBorn
 pub mod PlannedBorn
 pub mod Births
+pub mod PlannedBirth
 pub mod Leaves
 pub mod Forks
 pub mod Ids
