@@ -68,6 +68,11 @@ changes-birth counters_id new space_id space id x r v apart counters_under space
     both_apart : (k : ℕ) → (k + 2 == k + 1) ≡ false
     both_apart k = grind arith
 
+-- a batch says of its first id what it puts there
+first_change : (id : ℕ) (r : Record) (cs : List Change) → change_at (put id r ∷ cs) id ≡ Some (Some r)
+unfolding change_at
+first_change id r cs = rw (eq-eqb id id refl) refl
+
 -- ---- the whole batch is its halves, one after the other
 
 -- what is put twice is what was put last
@@ -102,3 +107,83 @@ half_after_half ss counters_id space_id id mid new space x r v sorted apart coun
   where
     two : (k : ℕ) → k + 2 ≡ k + 1 + 1
     two k = omega arith
+
+-- ---- what is asked
+
+-- the counters and the parent's record are in their places, all ids are below the new ones, and a savepoint and a workspace that is
+-- born from its parent may be made
+pub record MayBirth (ss : List Stored) (counters_id space_id id : ℕ) (old new : Counters) (a : Space) (place implicit : ℕ) (x : Savepoint) (b r : Space) (v : Version) : Type 0 where
+  pub sorted : Ascend ss
+  pub counters : record_at ss counters_id ≡ Some (records.Counters old)
+  pub space : record_at ss space_id ≡ Some (records.Space a)
+  pub under : AllUnder id ss
+  pub save : (front back : List Space) → (parts_of ss).spaces ≡ front ++ a ∷ back → MaySave (parts_of ss) old (between old new) front a back place implicit x
+  pub bear : MayBear (parts_of ss) old new b r v
+
+-- ---- the parts after it
+
+pub record BirthParts (ss after : List Stored) (old new : Counters) (a : Space) (place implicit : ℕ) (x : Savepoint) (r : Space) (v : Version) : Type 0 where
+  pub front : List Space
+  pub back : List Space
+  pub old_spaces : (parts_of ss).spaces ≡ front ++ a ∷ back
+  pub is : parts_of after ≡ birthed (parts_of ss) old new front a back place implicit x r v
+
+pub parts-birth : (ss : List Stored) (counters_id space_id id : ℕ) (old new : Counters) (a : Space) (place implicit : ℕ) (x : Savepoint) (b r : Space) (v : Version) → MayBirth ss counters_id space_id id old new a place implicit x b r v
+    → BirthParts ss (applied (birth_batch counters_id new space_id (marked place implicit a) id x r v) ss) old new a place implicit x r v
+parts-birth ss counters_id space_id id old new a place implicit x b r v may = record {
+  front = parts.front;
+  back = parts.back;
+  old_spaces = parts.old;
+  is =
+      ap parts_of (half_after_half ss counters_id space_id id mid new (marked place implicit a) x r v may.sorted apart counters_under space_under)
+      ∙ parts-born middle counters_id (id + 1) mid new r v (Ascend-applied (savepoint_batch counters_id mid space_id (marked place implicit a) id x) ss may.sorted) counted
+      (ap (λ (p : Parts). p.counters) parts.is)
+      (AllUnder-saved ss counters_id space_id old mid a (marked place implicit a) id x may.sorted may.counters may.space may.under)
+      ∙ ap (λ p. born p new r v) parts.is;
+}
+  where
+    mid : Counters
+    mid = between old new
+
+    middle : List Stored
+    middle = applied (savepoint_batch counters_id mid space_id (marked place implicit a) id x) ss
+
+    parts : SavedParts ss (savepoint_batch counters_id mid space_id (marked place implicit a) id x) mid a place implicit x
+    parts = parts-saved ss counters_id space_id old mid a place implicit id x may.sorted may.counters may.bear.one may.space may.under
+
+    counters_under : counters_id < id
+    counters_under = under_found id ss counters_id (records.Counters old) may.under may.counters
+
+    space_under : space_id < id
+    space_under = under_found id ss space_id (records.Space a) may.under may.space
+
+    counters_or_space : (o : Option Record) → o ≡ Some (records.Counters old) → o ≡ Some (records.Space a) → ⊥
+    counters_or_space o f g = cc
+
+    apart : counters_id ≢ space_id
+    apart same = counters_or_space (record_at ss space_id) (ap (record_at ss) (sym same) ∙ may.counters) may.space
+
+    counted : record_at middle counters_id ≡ Some (records.Counters mid)
+    counted =
+        record_at-applied (savepoint_batch counters_id mid space_id (marked place implicit a) id x) ss (changes-saved counters_id mid space_id (marked place implicit a) id x apart counters_under space_under) may.sorted counters_id
+        ∙ ap (λ o. over_it o (record_at ss counters_id)) (first_change counters_id (records.Counters mid) _)
+
+-- ---- the laws
+
+-- the rules hold after the batch
+pub keep_plan_birth : (ss : List Stored) (counters_id space_id id : ℕ) (old new : Counters) (a : Space) (place implicit : ℕ) (x : Savepoint) (b r : Space) (v : Version) → keep_rules (parts_of ss) ≡ true
+    → MayBirth ss counters_id space_id id old new a place implicit x b r v → keep_rules (parts_of (applied (birth_batch counters_id new space_id (marked place implicit a) id x r v) ss)) ≡ true
+keep_plan_birth ss counters_id space_id id old new a place implicit x b r v rules may =
+    let i = parts-birth ss counters_id space_id id old new a place implicit x b r v may in
+    ap keep_rules i.is ∙ keep-birth (parts_of ss) old new i.front a i.back place implicit x b r v (may.save i.front i.back i.old_spaces) may.bear rules
+
+-- and the records stand for the state with the savepoint and the workspace
+pub plan_birth : (ss : List Stored) (counters_id space_id id : ℕ) (old new : Counters) (a : Space) (place implicit : ℕ) (x : Savepoint) (b r : Space) (v : Version) (parent child : Workspace) (k : Kept) (es : List Entry) (s u : State)
+    → Stands (parts_of ss) s → MayBirth ss counters_id space_id id old new a place implicit x b r v → workspace_of s.spaces x.space ≡ Some parent → IsKept (parts_of ss) parent k x → IsChild (parts_of ss) r child es
+    → u.spaces ≡ with_space x.space (with_savepoint place implicit k) s.spaces ++ child ∷ [] → u.tables ≡ s.tables → CountersStand (recounted (parts_of ss) new) u
+    → Stands (parts_of (applied (birth_batch counters_id new space_id (marked place implicit a) id x r v) ss)) u
+plan_birth ss counters_id space_id id old new a place implicit x b r v parent child k es s u st may found is_kept is_child spaces tables counters =
+    let i = parts-birth ss counters_id space_id id old new a place implicit x b r v may in
+    subst (λ p. Stands p u) (sym i.is)
+    (Stands-birth (parts_of ss) old new i.front a i.back place implicit x b r v parent child k es s u st (may.save i.front i.back i.old_spaces) may.bear found is_kept is_child spaces tables
+    (record { counters = counters.counters; one = counters.one; next_stamp = counters.next_stamp; last_moment = counters.last_moment; limit = counters.limit; work = counters.work }))
