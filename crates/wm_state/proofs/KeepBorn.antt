@@ -16,7 +16,7 @@ use Rattle.wm_state.proofs.Tests.{bool_apart, both, either_false, and_true, all_
 use Rattle.wm_state.proofs.Mapped.{find-none}
 use Rattle.wm_state.proofs.Apart.{Ruled, ruled, keeps_all, ruled_versions, found-passes}
 use Rattle.wm_state.proofs.Named.{ruled_savepoints, space_number, version_there}
-use Rattle.wm_state.proofs.Keeping.{KeepSpaces, KeepVersions, KeepTables-same, KeepSpaces-push, KeepVersions-push, KeepRows-same, is_version_of-kept, are_savepoints-kept, are_rows-kept, are_pieces-kept, are_hists-kept}
+use Rattle.wm_state.proofs.Keeping.{le_itself, le_of, le_next, KeepSpaces, KeepVersions, KeepTables-same, KeepSpaces-push, KeepVersions-push, KeepRows-same, is_version_of-kept, are_savepoints-kept, are_rows-kept, are_pieces-kept, are_hists-kept}
 use Rattle.wm_state.proofs.KeptSpaces.{is_space-kept, is_version-kept, has_versions-kept, has_push, has_new, some-kept}
 use Rattle.wm_state.proofs.Growing.{forked, forked_of, below-next, found-below, same_counters}
 use Rattle.wm_state.proofs.Sprouting.{newest-behind}
@@ -60,14 +60,8 @@ lt_some m n lt = grind (arith, lt)
 lt_above : (m n : ℕ) → nat_lt m n ≡ true → 0 < n
 lt_above m n lt = grind (arith, lt)
 
-le_of : (m n : ℕ) → m ≤ n → nat_le m n ≡ true
-le_of m n le = grind (arith, le)
-
 lt_next : (n : ℕ) → nat_lt n (n + 1) ≡ true
 lt_next n = grind arith
-
-le_next : (n : ℕ) → nat_le n (n + 1) ≡ true
-le_next n = grind arith
 
 -- ---- the new number
 
@@ -252,9 +246,6 @@ keep-born p old new a r v may e =
 
     stamps : nat_le old.next_stamp new.next_stamp ≡ true
     stamps = ap (nat_le old.next_stamp) may.stamps ∙ le_itself old.next_stamp
-      where
-        le_itself : (n : ℕ) → nat_le n n ≡ true
-        le_itself n = grind arith
 
     savepoints : are_savepoints p old.work ≡ true
     savepoints = ap (λ (c : Counters). are_savepoints p c.work) same ∙ u.savepoints
