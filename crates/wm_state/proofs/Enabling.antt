@@ -1,5 +1,5 @@
 -- The records with one table ready for rows.
-use Rattle.std.proofs.Common.{◌≡◌, ◌≢◌, ℕ, ◌≤◌, ◌==◌, nat_lt, nat_le, Bool, true, false, not, ◌&&◌, cond, if◌then◌else◌, List, [], ◌∷◌, ◌++◌, Option, Some, None, refl, sym, ap, ◌∙◌, ◌⊎◌, inl, inr, length, length-append, arith}
+use Rattle.std.proofs.Common.{◌≡◌, ◌≢◌, ℕ, ◌≤◌, ◌==◌, nat_lt, nat_le, Bool, true, false, not, ◌&&◌, cond, if◌then◌else◌, List, [], ◌∷◌, ◌++◌, refl, sym, ap, ◌∙◌, ◌⊎◌, inl, inr, length, length-append}
 use Rattle.std.proofs.lemmas.Bool.{cases_eq, eq-eqb, ne_eqb}
 use Rattle.std.specs.List.{list_all, list_any}
 use Rattle.std.specs.Str.{bytes_eq}
@@ -10,7 +10,7 @@ use Rattle.wm_spec.specs.declared.record.table.Table.{Table}
 use Rattle.wm_state.specs.State.{State, enabled}
 use Rattle.wm_state.specs.Batches.{ready}
 use Rattle.wm_state.specs.Standing.{by_number, place_table, CountersStand, Stands}
-use Rattle.wm_state.proofs.Tests.{bool_apart, both, and_true, not_true, either_false, all_if, all_swap, all_middle, differ_swap, find_swap}
+use Rattle.wm_state.proofs.Tests.{bool_apart, both, and_true, not_true, either_false, all_swap, all_middle, differ_swap}
 use Rattle.wm_state.proofs.Apart.{Ruled, ruled, keeps_all}
 use Rattle.wm_state.proofs.Standing.{Stands-retabled}
 use Rattle.wm_state.proofs.Keeping.{le_of, le_itself, KeepTables, KeepTables-swap, KeepSpaces-same, KeepVersions-same, KeepRows-same, are_savepoints-kept, are_rows-kept, are_pieces-kept, are_hists-kept, few-same}
@@ -18,12 +18,6 @@ use Rattle.wm_state.proofs.Keeping.{le_of, le_itself, KeepTables, KeepTables-swa
 -- the records with one table ready, with or without its history, and other counters
 abbrev pub readied : Parts → Counters → List Table → Bool → Table → List Table → Parts
 readied p c front history t back = record p { counters = c ∷ []; tables = front ++ ready history t ∷ back }
-
--- what is asked of counters once a table is ready
-pub record ReadyCounts (old new : Counters) : Type 0 where
-  pub versions : new.next_version ≡ old.next_version
-  pub stamps : new.next_stamp ≡ old.next_stamp
-  pub work : old.work ≤ new.work
 
 -- ---- what the rules ask of tables
 
@@ -45,12 +39,12 @@ tables_ready front back history t key e =
     (all_swap is_table is_table t (ready history t) front back (λ x is. is) (table_ready history t key (all_middle is_table t front back k.1)) k.1)))
 
 pub keep-readied : (p : Parts) (new : Counters) (front : List Table) (history : Bool) (t : Table) (back : List Table) → keep_rules p ≡ true → p.tables ≡ front ++ t ∷ back → t.has_key ≡ true → are_counters new ≡ true
-    → ((c : Counters) → p.counters ≡ c ∷ [] → ReadyCounts c new) → keep_rules (readied p new front history t back) ≡ true
+    → ((c : Counters) → p.counters ≡ c ∷ [] → (new.next_version ≡ c.next_version) × (new.next_stamp ≡ c.next_stamp) × (c.work ≤ new.work)) → keep_rules (readied p new front history t back) ≡ true
 keep-readied p new front history t back rules old key counted same = keeps_all q new refl counted
     (tables_ready front back history t key (ap are_tables (sym old) ∙ r.tables))
     r.spaces
-    (ap (are_versions q) c.versions ∙ r.versions)
-    (are_savepoints-kept p q r.counters.work new.work (le_of r.counters.work new.work c.work) (KeepSpaces-same p q refl) (KeepVersions-same p q refl) refl (few-same p q r.counters.work refl r.savepoints) r.savepoints)
+    (ap (are_versions q) c.0 ∙ r.versions)
+    (are_savepoints-kept p q r.counters.work new.work (le_of r.counters.work new.work c.2) (KeepSpaces-same p q refl) (KeepVersions-same p q refl) refl (few-same p q r.counters.work refl r.savepoints) r.savepoints)
     (are_rows-kept p q r.counters.next_stamp new.next_stamp stamps tables refl r.rows)
     (are_pieces-kept p q r.counters.next_stamp new.next_stamp stamps tables (KeepVersions-same p q refl) (KeepRows-same p q refl) refl r.pieces)
     (are_hists-kept p q r.counters.next_stamp new.next_stamp stamps tables (KeepSpaces-same p q refl) (KeepRows-same p q refl) refl r.hists)
@@ -61,14 +55,14 @@ keep-readied p new front history t back rules old key counted same = keeps_all q
     r : Ruled p
     r = ruled p rules
 
-    c : ReadyCounts r.counters new
+    c : (new.next_version ≡ r.counters.next_version) × (new.next_stamp ≡ r.counters.next_stamp) × (r.counters.work ≤ new.work)
     c = same r.counters r.one
 
     tables : KeepTables p q
     tables = KeepTables-swap p q front back t (ready history t) refl refl refl refl old refl
 
     stamps : nat_le r.counters.next_stamp new.next_stamp ≡ true
-    stamps = ap (nat_le r.counters.next_stamp) c.stamps ∙ le_itself r.counters.next_stamp
+    stamps = ap (nat_le r.counters.next_stamp) c.1 ∙ le_itself r.counters.next_stamp
 
 -- ---- the tables by number
 
@@ -147,7 +141,7 @@ sorted-ready history t (y ∷ front) back before behind =
     ap (place_table y) (sorted-ready history t front back before.1 behind) ∙ enabled-away t.number history y (by_number (front ++ t ∷ back)) before.0
 
 pub Stands-readied : (p : Parts) (new : Counters) (front : List Table) (history : Bool) (t : Table) (back : List Table) (s u : State) → Stands p s → p.tables ≡ front ++ t ∷ back → t.has_key ≡ true → are_counters new ≡ true
-    → ((c : Counters) → p.counters ≡ c ∷ [] → ReadyCounts c new) → u.spaces ≡ s.spaces → u.tables ≡ enabled t.number history s.tables
+    → ((c : Counters) → p.counters ≡ c ∷ [] → (new.next_version ≡ c.next_version) × (new.next_stamp ≡ c.next_stamp) × (c.work ≤ new.work)) → u.spaces ≡ s.spaces → u.tables ≡ enabled t.number history s.tables
     → CountersStand (readied p new front history t back) u → Stands (readied p new front history t back) u
 Stands-readied p new front history t back s u st old key counted same spaces tables counters =
     let rule = ruled p st.rules in

@@ -17,7 +17,7 @@ use Rattle.wm_spec.specs.declared.record.space.Space.{Space}
 use Rattle.wm_spec.specs.declared.record.table.Table.{Table}
 use Rattle.wm_spec.specs.declared.record.version.Version.{Version}
 use Rattle.wm_state.proofs.Tests.{bool_apart, both, and_true, all_if, find_push, find_swapped}
-use Rattle.wm_state.proofs.Named.{RuledSavepoints, ruled_savepoints, version_there}
+use Rattle.wm_state.proofs.Named.{ruled_savepoints}
 use Rattle.wm_state.proofs.Frames.{KeepRows}
 
 -- ---- what is there still

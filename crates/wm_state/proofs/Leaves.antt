@@ -1,18 +1,20 @@
--- Versions under which none stands.
-use Rattle.std.proofs.Common.{◌≡◌, ℕ, ◌==◌, nat_lt, Bool, true, false, cond, if◌then◌else◌, List, [], ◌∷◌, Option, Some, None, is_some, refl, sym, ap, subst, ◌∙◌, arith}
+-- Versions under which none stands, and that nothing names.
+use Rattle.std.proofs.Common.{◌≡◌, ℕ, ◌<◌, ◌==◌, nat_lt, Bool, true, false, not, ◌&&◌, ◌||◌, cond, if◌then◌else◌, List, [], ◌∷◌, Option, Some, None, is_some, refl, sym, ap, subst, ◌∙◌, arith}
 use Rattle.std.specs.List.{list_any}
 use Rattle.std.specs.Option.{option_map_or}
 use Rattle.wm_graph.specs.Parts.{Parts, space_of, version_of}
 use Rattle.wm_graph.specs.Rules.{keep_rules, is_version, stands_under}
 use Rattle.wm_spec.specs.declared.record.counters.Counters.{Counters}
+use Rattle.wm_spec.specs.declared.record.savepoint.Savepoint.{Savepoint}
 use Rattle.wm_spec.specs.declared.record.space.Space.{Space}
 use Rattle.wm_spec.specs.declared.record.version.Version.{Version}
-use Rattle.wm_tree.specs.Versions.{grow}
+use Rattle.wm_tree.specs.Versions.{grow, AllBelow}
 use Rattle.wm_tree.specs.declared.version.Version.{Version as Node}
 use Rattle.wm_state.specs.Standing.{node_of, newest_first, latest}
-use Rattle.wm_state.specs.Effects.{IsLeaf}
-use Rattle.wm_state.proofs.Tests.{bool_apart, both, either_false, none_if}
+use Rattle.wm_state.specs.Effects.{IsLeaf, IsFree}
+use Rattle.wm_state.proofs.Tests.{bool_apart, both, either_false, none_if, found_fails}
 use Rattle.wm_state.proofs.Apart.{Ruled, ruled, ruled_versions, newest_record}
+use Rattle.wm_state.proofs.Named.{space_number, saved_there, bases_there, version_there, version_below}
 use Rattle.wm_state.proofs.Growing.{MayFork, forked, forked_of, found-below, below-next, same_counters}
 
 IsLeaf-grow : (version : ℕ) (x : Node) (ns : List Node) → (x.parent == version) ≡ false → IsLeaf version ns → IsLeaf version (grow x ns)
@@ -71,3 +73,47 @@ leaf_new p old new a n v may e =
         (ap (λ k. list_any (λ (w : Version). w.parent == k) p.versions) number
         ∙ none_if (is_version (space_of p.spaces) (version_of p.versions) r.counters.next_version) (λ (w : Version). w.parent == r.counters.next_version)
         (parent-below (space_of p.spaces) (version_of p.versions) r.counters.next_version) p.versions (ruled_versions p r.counters.next_version r.versions).each)
+
+-- ---- versions that nothing names
+
+-- a workspace with a parent was born from the version or sees it under its own
+abbrev pub names : ℕ → Space → Bool
+names version r = not (r.number == 0) && ((r.birth_version == version) || (r.base_version == version))
+
+-- a version that no record of a savepoint and of a workspace names is free
+pub free_of : (p : Parts) (version : ℕ) → list_any (λ (x : Savepoint). x.version == version) p.savepoints ≡ false → list_any (names version) p.spaces ≡ false → IsFree p version
+free_of p version unsaved unnamed = record {
+  kept = λ n making x found. found_fails (λ (x : Savepoint). (x.space == n) && (x.making == making)) (λ (x : Savepoint). x.version == version) p.savepoints x found unsaved;
+  births = λ n r some found. (either_false (r.birth_version == version) (r.base_version == version) (named n r some found)).0;
+  bases = λ n r some found. (either_false (r.birth_version == version) (r.base_version == version) (named n r some found)).1;
+}
+  where
+    not_zero : (m : ℕ) → 0 < m → not (m == 0) ≡ true
+    not_zero m lt = grind (arith, lt)
+
+    second : (a b : Bool) → a ≡ true → (a && b) ≡ false → b ≡ false
+    second a b e h = sym (ap (λ t. t && b) e) ∙ h
+
+    named : (n : ℕ) (r : Space) → 0 < n → space_of p.spaces n ≡ Some r → ((r.birth_version == version) || (r.base_version == version)) ≡ false
+    named n r some found = second (not (r.number == 0)) _ (ap (λ k. not (k == 0)) (space_number p n r found) ∙ not_zero n some)
+        (found_fails (λ (x : Space). x.number == n) (names version) p.spaces r found unnamed)
+
+-- a version above all others is free
+pub free_above : (p : Parts) (number : ℕ) → keep_rules p ≡ true → AllBelow number (newest_first p.versions) → IsFree p number
+free_above p number e below = record {
+  kept = λ n making x found. apart x.version (version_there (version_of p.versions) x.version n (saved_there p e n making x found).version);
+  births = λ n r some found. apart r.birth_version (version_there (version_of p.versions) r.birth_version r.parent (bases_there p e n r some found).birth);
+  bases = λ n r some found. apart r.base_version (version_there (version_of p.versions) r.base_version r.parent (bases_there p e n r some found).base);
+}
+  where
+    less_apart : (m k : ℕ) → m < k → (m == k) ≡ false
+    less_apart m k lt = grind (arith, lt)
+
+    apart : (v : ℕ) → is_some (version_of p.versions v) ≡ true → (v == number) ≡ false
+    apart v there = less_apart v number (version_below p e number below v there)
+
+-- so is the version that was just made
+pub free_new : (p : Parts) (old new : Counters) (a : Space) (n : ℕ) (v : Version) → MayFork p old new a n v → keep_rules p ≡ true → IsFree (forked p new v) v.number
+free_new p old new a n v may e =
+    let free = free_above p v.number e (forked_of p old new a n v may e).below in
+    record { kept = free.kept; births = free.births; bases = free.bases }

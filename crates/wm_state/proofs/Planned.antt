@@ -1,5 +1,5 @@
 -- The records stand for the state after the batches that lines make.
-use Rattle.std.proofs.Common.{◌≡◌, ◌≢◌, ℕ, ◌+◌, ◌==◌, Bool, true, false, not, cond, if◌then◌else◌, List, [], ◌∷◌, ◌++◌, map, Some, refl, sym, ap, subst, ◌∙◌, ◌⊎◌, inl, inr, arith}
+use Rattle.std.proofs.Common.{◌≡◌, ◌≢◌, ℕ, ◌+◌, ◌≤◌, ◌==◌, Bool, true, false, not, cond, if◌then◌else◌, List, [], ◌∷◌, ◌++◌, map, Some, refl, sym, ap, subst, ◌∙◌, ◌⊎◌, inl, inr, arith}
 use Rattle.std.proofs.lemmas.Bool.{cases_eq, eq-eqb, ne_eqb}
 use Rattle.std.specs.List.{filter}
 use Rattle.wm_base.specs.declared.row.Row.{Row}
@@ -25,7 +25,7 @@ use Rattle.wm_state.proofs.ById.{Ascend-set, record_at-set}
 use Rattle.wm_state.proofs.ByKind.{kinds, stored, Split, split_of, set-split, set-behind}
 use Rattle.wm_state.proofs.Planning.{AllUnder-put, recounted, parts-counted, parts-tabled, tables-split, parts-spaced, spaces-split, parts-more_row, parts-more_piece, parts-filtered, parts-created}
 use Rattle.wm_state.proofs.Dropping.{dropped}
-use Rattle.wm_state.proofs.Enabling.{readied, ReadyCounts, Stands-readied}
+use Rattle.wm_state.proofs.Enabling.{readied, Stands-readied}
 use Rattle.wm_state.proofs.Inserting.{inserted, MayInsert}
 use Rattle.wm_state.proofs.Inserted.{MayWrite, Stands-inserted}
 use Rattle.wm_state.proofs.Standing.{appended}
@@ -213,13 +213,20 @@ plan_created ss counters_id id old new t s u st sorted counters under may spaces
 
 -- a table became ready
 pub plan_readied : (ss : List Stored) (counters_id id : ℕ) (old new : Counters) (history : Bool) (t : Table) (s u : State) → Stands (parts_of ss) s → Ascend ss → record_at ss counters_id ≡ Some (records.Counters old)
-    → (parts_of ss).counters ≡ old ∷ [] → record_at ss id ≡ Some (records.Table t) → t.has_key ≡ true → are_counters new ≡ true → ReadyCounts old new → u.spaces ≡ s.spaces
+    → (parts_of ss).counters ≡ old ∷ [] → record_at ss id ≡ Some (records.Table t) → t.has_key ≡ true → are_counters new ≡ true → new.next_version ≡ old.next_version → new.next_stamp ≡ old.next_stamp → old.work ≤ new.work → u.spaces ≡ s.spaces
     → u.tables ≡ enabled t.number history s.tables → ((front back : List Table) → CountersStand (readied (parts_of ss) new front history t back) u)
     → Stands (parts_of (applied (enable_batch counters_id new id history t) ss)) u
-plan_readied ss counters_id id old new history t s u st sorted counters one found key counts ready_so spaces tables stands =
+plan_readied ss counters_id id old new history t s u st sorted counters one found key counts versions stamps work spaces tables stands =
     let r = parts-readied ss counters_id id old new history t sorted counters one found in
     subst (λ p. Stands p u) (sym r.is)
-    (Stands-readied (parts_of ss) new r.front history t r.back s u st r.old key counts (λ c is_one. subst (λ d. ReadyCounts d new) (only old c (sym one ∙ is_one)) ready_so) spaces tables (stands r.front r.back))
+    (Stands-readied (parts_of ss) new r.front history t r.back s u st r.old key counts
+    (λ c is_one.
+    let same : old ≡ c = only old c (sym one ∙ is_one) in (
+      versions ∙ ap (λ (k : Counters). k.next_version) same,
+      stamps ∙ ap (λ (k : Counters). k.next_stamp) same,
+      subst (λ (k : Counters). k.work ≤ new.work) same work,
+    ))
+    spaces tables (stands r.front r.back))
   where
     only : (a b : Counters) → (a ∷ []) ≡ (b ∷ []) → a ≡ b
     only a b h = cc

@@ -12,7 +12,7 @@ use Rattle.wm_spec.specs.declared.record.row.RowRecord.{RowRecord}
 use Rattle.wm_spec.specs.declared.record.space.Space.{Space}
 use Rattle.wm_spec.proofs.Lists.{told-push}
 use Rattle.wm_state.specs.State.{State, begin, Workspace, content, workspace_of, with_space, with_entries, savepoints_of}
-use Rattle.wm_state.specs.Standing.{held_of, stored_at, seen_at, own_at, newest_first, latest, seen, seen_above, fields_of, fields_in, CountersStand, TablesStand, SpacesStand, LatestStand, OwnStand, RowsStand, Stands, SpaceFields, by_number}
+use Rattle.wm_state.specs.Standing.{held_of, stored_at, seen_at, own_at, newest_first, latest, seen, fields_of, fields_in, CountersStand, TablesStand, SpacesStand, LatestStand, OwnStand, RowsStand, Stands, SpaceFields, by_number}
 use Rattle.wm_state.specs.Effects.{Wrote, longer, AreLaid}
 use Rattle.wm_state.proofs.Frames.{Framed, Still, StillNames, KeepRows, row-kept, HasRows-kept, savepoints_of-found, savepoints_of-none, SavepointsStand-framed, KeptStand-framed, KeptOwnStand-framed, BasesStand-framed, RowsStand-framed}
 use Rattle.wm_state.proofs.Nearest.{SameAway, seen-away, seen-here, own-away, own-here}

@@ -8,7 +8,7 @@ use Rattle.wm_spec.specs.declared.record.counters.Counters.{Counters}
 use Rattle.wm_spec.specs.declared.record.table.Table.{Table}
 use Rattle.wm_state.specs.State.{State}
 use Rattle.wm_state.specs.Standing.{by_number, place_table, CountersStand, Stands}
-use Rattle.wm_state.proofs.Tests.{bool_apart, both, and_true, all_push, differ_push, none_if}
+use Rattle.wm_state.proofs.Tests.{both, and_true, all_push, differ_push, none_if}
 use Rattle.wm_state.proofs.Apart.{Ruled, ruled, keeps_all}
 use Rattle.wm_state.proofs.Standing.{Stands-retabled}
 use Rattle.wm_state.proofs.Keeping.{le_of, le_itself, KeepTables-push, KeepSpaces-same, KeepVersions-same, KeepRows-same, are_savepoints-kept, are_rows-kept, are_pieces-kept, are_hists-kept, few-same}

@@ -157,6 +157,18 @@ pub find_new : {A : Type 0} (P : A → Bool) (xs : List A) (x : A) → list_any 
 find_new P [] x none is = rw is refl
 find_new P (y ∷ ys) x none is = let h = either_false (P y) (list_any P ys) none in rw h.0 (find_new P ys x h.1 is)
 
+-- what is found fails a test that nothing of the list passes
+pub found_fails : {A : Type 0} (P Q : A → Bool) (xs : List A) (x : A) → find P xs ≡ Some x → list_any Q xs ≡ false → Q x ≡ false
+found_fails P Q [] x e none = cc
+found_fails {A = A} P Q (y ∷ ys) x e none = by_test (P y) refl (either_false (Q y) (list_any Q ys) none) (found_fails P Q ys x)
+  where
+    some_same : (a b : A) → Some a ≡ Some b → a ≡ b
+    some_same a b h = cc
+
+    by_test : (t : Bool) → P y ≡ t → (Q y ≡ false) × (list_any Q ys ≡ false) → (find P ys ≡ Some x → list_any Q ys ≡ false → Q x ≡ false) → Q x ≡ false
+    by_test true h q rest = ap Q (sym (some_same y x (sym (ap (λ t. cond t (Some y) (find P ys)) h) ∙ e))) ∙ q.0
+    by_test false h q rest = rest (sym (ap (λ t. cond t (Some y) (find P ys)) h) ∙ e) q.1
+
 -- nothing of a list passes a test that fails where another is passed
 pub none_if : {A : Type 0} (P Q : A → Bool) → ((x : A) → P x ≡ true → Q x ≡ false) → (xs : List A) → list_all P xs ≡ true → list_any Q xs ≡ false
 none_if P Q to [] e = refl
