@@ -32,3 +32,4 @@ pub mod SavedAs
 pub mod Respaced
 pub mod KeepSaved
 pub mod PlannedSaved
+pub mod Greatest
