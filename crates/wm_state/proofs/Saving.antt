@@ -61,12 +61,12 @@ was_changed n act same ws m new is = by_number (cases_eq m n) (workspace_of ws m
     by_number (inr away) (Some w) found = record { old = w; is = found; how = inr (away, some_workspace new w (sym is ∙ away_is away ∙ found)) }
 
 -- a workspace of after a savepoint, by what it was before
-pub record WasSaved (n : ℕ) (k : Savepoint) (ws : List Workspace) (m : ℕ) (new : Workspace) : Type 0 where
-  pub old : Workspace
-  pub is : workspace_of ws m ≡ Some old
-  pub lists : new.lists ≡ old.lists
-  pub rebases : new.rebases ≡ old.rebases
-  pub savepoints : ((m ≡ n) × (new.savepoints ≡ old.savepoints ++ k ∷ [])) ⊎ ((m ≢ n) × (new.savepoints ≡ old.savepoints))
+record WasSaved (n : ℕ) (k : Savepoint) (ws : List Workspace) (m : ℕ) (new : Workspace) : Type 0 where
+  old : Workspace
+  is : workspace_of ws m ≡ Some old
+  lists : new.lists ≡ old.lists
+  rebases : new.rebases ≡ old.rebases
+  savepoints : ((m ≡ n) × (new.savepoints ≡ old.savepoints ++ k ∷ [])) ⊎ ((m ≢ n) × (new.savepoints ≡ old.savepoints))
 
 was_saved : (n place implicit : ℕ) (k : Savepoint) (ws : List Workspace) (m : ℕ) (new : Workspace) → workspace_of (with_space n (with_savepoint place implicit k) ws) m ≡ Some new → WasSaved n k ws m new
 was_saved n place implicit k ws m new is = by_case (was_changed n (with_savepoint place implicit k) (λ w. refl) ws m new is)
