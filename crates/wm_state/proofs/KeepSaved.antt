@@ -1,18 +1,17 @@
 -- The records with a savepoint more.
-use Rattle.std.proofs.Common.{◌≡◌, ◌≢◌, ℕ, ◌+◌, ◌^◌, ◌≤◌, ◌<◌, ◌==◌, nat_lt, nat_le, max, Bool, true, false, not, ◌&&◌, ◌||◌, cond, if◌then◌else◌, List, [], ◌∷◌, ◌++◌, Option, Some, None, is_some, refl, sym, ap, ◌∙◌, ◌⊎◌, inl, inr, length, length-append, arith}
-use Rattle.std.proofs.lemmas.Bool.{cases_eq, eq-eqb, eqb-true, ne_eqb}
+use Rattle.std.proofs.Common.{◌≡◌, ◌≢◌, ℕ, ◌+◌, ◌^◌, ◌≤◌, ◌<◌, ◌==◌, nat_lt, nat_le, max, Bool, true, false, ◌&&◌, cond, if◌then◌else◌, List, [], ◌∷◌, ◌++◌, Option, Some, None, refl, sym, ap, ◌∙◌, ◌⊎◌, inl, inr, length, length-append, arith}
+use Rattle.std.proofs.lemmas.Bool.{cases_eq, eq-eqb, ne_eqb}
 use Rattle.std.proofs.lemmas.List.Elements.{filter-append}
 use Rattle.std.proofs.lemmas.List.Sums.{length-filter}
 use Rattle.std.proofs.lemmas.Slice.Eq.{bytes_eq-Decides}
 use Rattle.std.specs.List.{list_all, list_any, filter, find, count_by}
-use Rattle.std.specs.Option.{option_map, option_map_or}
+use Rattle.std.specs.Option.{option_map}
 use Rattle.std.specs.Str.{bytes_eq}
-use Rattle.wm_graph.specs.Parts.{Parts, table_of, space_of, version_of, has_version}
+use Rattle.wm_graph.specs.Parts.{Parts, space_of, version_of, has_version}
 use Rattle.wm_graph.specs.Rules.{keep_rules, are_counters, are_spaces, is_space, is_placed, is_short, are_versions, has_versions, is_version_of, is_base_of, is_saved_in, are_savepoints, is_savepoint, same_savepoint, has_few, are_rows, are_pieces, are_hists, differ}
 use Rattle.wm_spec.specs.declared.record.counters.Counters.{Counters}
 use Rattle.wm_spec.specs.declared.record.savepoint.Savepoint.{Savepoint}
 use Rattle.wm_spec.specs.declared.record.space.Space.{Space}
-use Rattle.wm_spec.specs.declared.record.version.Version.{Version}
 use Rattle.wm_state.specs.State.{State, Workspace, workspace_of, with_space, with_savepoint}
 use Rattle.wm_state.specs.State.{Savepoint as Kept}
 use Rattle.wm_state.specs.Standing.{latest, saved_as, CountersStand, Stands}
@@ -23,9 +22,9 @@ use Rattle.wm_state.proofs.Mapped.{any-if, none-found}
 use Rattle.wm_state.proofs.Keeping.{KeepSpaces, le_itself, le_of, KeepTables-same, KeepSpaces-swap, KeepVersions-same, KeepRows-same, is_savepoint-kept, are_hists-kept}
 use Rattle.wm_state.proofs.Respaced.{MayReplace, spaces_replaced, versions_replaced, space_here, space_elsewhere}
 use Rattle.wm_state.proofs.Named.{ruled_savepoints, space_number, saved_there}
-use Rattle.wm_state.proofs.SavedAs.{named_as}
+use Rattle.wm_state.proofs.SavedAs.{named_as, saved_count, unnamed_record}
 use Rattle.wm_state.proofs.Saving.{IsKept, Stands-saved}
-use Rattle.wm_state.proofs.Tests.{bool_apart, both, and_true, either_false, all_if, all_push, all_swap, all_middle, differ_push, none_if}
+use Rattle.wm_state.proofs.Tests.{bool_apart, both, and_true, all_if, all_push, all_swap, all_middle, differ_push, none_if}
 
 -- the records with a savepoint more of a workspace, whose record has counted it, and other counters
 abbrev pub saved : Parts → Counters → List Space → Space → List Space → ℕ → ℕ → Savepoint → Parts
@@ -292,3 +291,14 @@ making_room p old new rules one more = next_room (greatest_making p.savepoints) 
   where
     next_room : (a b c : ℕ) → a ≤ b + 2 → b + 1 ≤ c → a + 1 ≤ c + 2
     next_room a b c le more = omega (arith, le, more)
+
+-- ---- what the state says of it
+
+-- a name that no savepoint of the workspace has is new
+pub unnamed_of : (p : Parts) (s : State) (w : Workspace) (x : Savepoint) → Stands p s → workspace_of s.spaces x.space ≡ Some w → find (λ (k : Kept). bytes_eq x.name k.name) w.savepoints ≡ None
+    → list_any (λ (y : Savepoint). same_savepoint y x) p.savepoints ≡ false
+unnamed_of p s w x st found none = unnamed_if p x (unnamed_record p s x.space w st found x.name none)
+
+-- a workspace that has fewer savepoints than it may has room for one
+pub room_of : (p : Parts) (s : State) (n : ℕ) (w : Workspace) → Stands p s → workspace_of s.spaces n ≡ Some w → nat_lt (length w.savepoints) 4096 ≡ true → nat_lt (count_by (λ (y : Savepoint). y.space == n) p.savepoints) 4096 ≡ true
+room_of p s n w st found few = ap (λ k. nat_lt k 4096) (sym (saved_count p s n w st found)) ∙ few

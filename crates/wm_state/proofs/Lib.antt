@@ -39,3 +39,4 @@ pub mod SavedAs
 pub mod Respaced
 pub mod KeepSaved
 pub mod PlannedSaved
+pub mod Greatest

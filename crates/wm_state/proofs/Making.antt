@@ -1,12 +1,11 @@
 -- Records of savepoints by making.
-use Rattle.std.proofs.Common.{◌≡◌, ◌≢◌, ℕ, suc, ◌==◌, nat_lt, Bool, true, false, not, ◌&&◌, ◌||◌, cond, List, [], ◌∷◌, ◌++◌, map, length, Option, Some, None, refl, sym, ap, ◌∙◌, ◌⊎◌, inl, inr, arith}
-use Rattle.std.proofs.lemmas.Bool.{cases_eq, eq-eqb, eqb-true, ne_eqb}
-use Rattle.std.specs.List.{list_all, list_any, filter, find}
+use Rattle.std.proofs.Common.{◌≡◌, ℕ, suc, ◌==◌, nat_lt, Bool, true, false, not, cond, List, [], ◌∷◌, ◌++◌, length, Some, refl, sym, ap, ◌∙◌, arith}
+use Rattle.std.proofs.lemmas.Bool.{eq-eqb, eqb-true, ne_eqb}
+use Rattle.std.specs.List.{list_all, list_any, find}
 use Rattle.wm_graph.specs.Rules.{differ}
 use Rattle.wm_spec.specs.declared.record.savepoint.Savepoint.{Savepoint as Record}
 use Rattle.wm_state.specs.Standing.{place_making, by_making}
 use Rattle.wm_state.proofs.Tests.{bool_apart, both, and_true, not_true, either_false}
-use Rattle.wm_state.proofs.Mapped.{find-none}
 
 -- ---- one that was made after all others comes last
 

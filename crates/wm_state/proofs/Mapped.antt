@@ -1,5 +1,5 @@
 -- Tests over lists that are alike once each element is looked at in one way, and over lists with an element more.
-use Rattle.std.proofs.Common.{◌≡◌, Bool, true, false, not, ◌&&◌, ◌||◌, cond, List, [], ◌∷◌, ◌++◌, map, length, Option, Some, None, refl, sym, ap, ◌∙◌}
+use Rattle.std.proofs.Common.{◌≡◌, Bool, true, false, not, ◌&&◌, ◌||◌, cond, List, [], ◌∷◌, ◌++◌, map, Some, None, refl, sym, ap, ◌∙◌}
 use Rattle.std.specs.List.{list_all, list_any, filter, find}
 use Rattle.std.specs.Option.{option_map}
 use Rattle.wm_graph.specs.Rules.{differ}

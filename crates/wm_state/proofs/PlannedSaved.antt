@@ -1,5 +1,5 @@
 -- The records keep the rules and stand for the state after the batch that makes a savepoint.
-use Rattle.std.proofs.Common.{◌≡◌, ◌≢◌, ℕ, ◌+◌, ◌<◌, ◌==◌, Bool, true, false, List, [], ◌∷◌, ◌++◌, Some, refl, sym, ap, subst, ◌∙◌, arith}
+use Rattle.std.proofs.Common.{◌≡◌, ◌≢◌, ℕ, ◌+◌, ◌<◌, ◌==◌, true, false, List, [], ◌∷◌, ◌++◌, Some, refl, sym, ap, subst, ◌∙◌, arith}
 use Rattle.std.proofs.lemmas.Bool.{ne_eqb}
 use Rattle.wm_graph.specs.Parts.{Parts, parts_of, as_space}
 use Rattle.wm_graph.specs.Rules.{keep_rules}
@@ -19,7 +19,7 @@ use Rattle.wm_state.specs.State.{State, Workspace, workspace_of, with_space, wit
 use Rattle.wm_state.specs.State.{Savepoint as Kept}
 use Rattle.wm_state.specs.Standing.{CountersStand, Stands}
 use Rattle.wm_state.proofs.ById.{Ascend-set}
-use Rattle.wm_state.proofs.ByKind.{kinds, stored, Split, split_of, set-split, set-behind}
+use Rattle.wm_state.proofs.ByKind.{kinds, Split, split_of, set-split, set-behind}
 use Rattle.wm_state.proofs.Planning.{recounted, parts-spaced, spaces-split, parts-more_savepoint, parts-more_space, parts-more_version}
 use Rattle.wm_state.proofs.Planned.{counted, found_still, AllUnder-set, AllUnder-next}
 use Rattle.wm_state.proofs.KeepSaved.{saved, MaySave, keep-saved, Stands-kept}

@@ -6,7 +6,7 @@ use Rattle.std.specs.List.{list_all, list_any, find}
 use Rattle.std.specs.Option.{option_map_or}
 use Rattle.std.specs.Str.{bytes_eq}
 use Rattle.wm_graph.specs.Parts.{Parts, space_of, version_of, has_version}
-use Rattle.wm_graph.specs.Rules.{are_spaces, is_space, is_placed, is_short, live, are_versions, is_version, is_version_of, has_versions, stands_under, differ}
+use Rattle.wm_graph.specs.Rules.{are_spaces, is_space, is_placed, is_short, are_versions, is_version, is_version_of, has_versions, stands_under, differ}
 use Rattle.wm_spec.specs.declared.record.space.Space.{Space}
 use Rattle.wm_spec.specs.declared.record.version.Version.{Version}
 use Rattle.wm_state.proofs.Tests.{bool_apart, both, and_true, not_true, either_false, all_if, all_swap, all_middle, differ_swap, some_swap}

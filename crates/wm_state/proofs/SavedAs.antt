@@ -4,14 +4,14 @@ use Rattle.std.proofs.lemmas.Bool.{eq-eqb, eqb-true}
 use Rattle.std.proofs.lemmas.List.{length-map}
 use Rattle.std.proofs.lemmas.List.Sums.{length-filter}
 use Rattle.std.proofs.lemmas.Slice.Eq.{bytes_eq-Decides}
-use Rattle.std.specs.List.{list_all, list_any, filter, find, count_by}
+use Rattle.std.specs.List.{list_any, filter, find, count_by}
 use Rattle.std.specs.Option.{option_map}
 use Rattle.std.specs.Str.{bytes_eq}
-use Rattle.wm_graph.specs.Parts.{Parts, space_of, version_of}
-use Rattle.wm_graph.specs.Rules.{keep_rules, are_savepoints, has_few, is_savepoint, same_savepoint, differ}
+use Rattle.wm_graph.specs.Parts.{Parts}
+use Rattle.wm_graph.specs.Rules.{keep_rules, same_savepoint, differ}
 use Rattle.wm_spec.specs.declared.record.savepoint.Savepoint.{Savepoint as Record}
 use Rattle.wm_state.specs.State.{State, Workspace, Savepoint, workspace_of, savepoint_made, savepoints_of}
-use Rattle.wm_state.specs.Standing.{SavepointFields, saved_fields, fields_saved, by_making, saved_in, saved_as, Stands}
+use Rattle.wm_state.specs.Standing.{SavepointFields, saved_fields, fields_saved, saved_in, saved_as, Stands}
 use Rattle.wm_state.proofs.Apart.{ruled}
 use Rattle.wm_state.proofs.Making.{same_making, making-itself, is_made, length-making, differ-making, find-one, find-making}
 use Rattle.wm_state.proofs.Named.{ruled_savepoints}
@@ -176,3 +176,36 @@ made_some p s n w st found making x recorded = passed_some p s n w st found (λ 
 
 pub made_none : (p : Parts) (s : State) (n : ℕ) (w : Workspace) → Stands p s → workspace_of s.spaces n ≡ Some w → (making : ℕ) → saved_as p n making ≡ None → savepoint_made making w.savepoints ≡ None
 made_none p s n w st found making none = passed_none p s n w st found (λ f. f.making == making) (sym (saved_sorted p st.rules n making) ∙ none)
+
+-- and where a savepoint passes, a record does
+pub passed_record : (p : Parts) (s : State) (n : ℕ) (w : Workspace) → Stands p s → workspace_of s.spaces n ≡ Some w → (P : SavepointFields → Bool) (k : Savepoint) → find (λ (j : Savepoint). P (fields_saved j)) w.savepoints ≡ Some k
+    → (x : Record) × (find (λ (y : Record). P (saved_fields y)) (saved_in p n) ≡ Some x) × IsSaved p n w x k
+passed_record p s n w st found P k made = by_record (find (λ (y : Record). P (saved_fields y)) (saved_in p n)) refl (passed_alike p s n w st found P ∙ ap (option_map fields_saved) made)
+  where
+    some_fields : (f g : SavepointFields) → Some f ≡ Some g → f ≡ g
+    some_fields f g h = cc
+
+    none_some : (o : Option SavepointFields) (f : SavepointFields) → o ≡ None → o ≡ Some f → ⊥
+    none_some o f none some = cc
+
+    by_record : (o : Option Record) → find (λ (y : Record). P (saved_fields y)) (saved_in p n) ≡ o → option_map saved_fields (find (λ (y : Record). P (saved_fields y)) (saved_in p n)) ≡ Some (fields_saved k)
+        → (x : Record) × (find (λ (y : Record). P (saved_fields y)) (saved_in p n) ≡ Some x) × IsSaved p n w x k
+    by_record None is same = absurd (none_some (option_map saved_fields (find (λ (y : Record). P (saved_fields y)) (saved_in p n))) (fields_saved k) (ap (option_map saved_fields) is) same)
+    by_record (Some x) is same = (x, is, both_saved p s n w st found P x k is made (some_fields (saved_fields x) (fields_saved k) (sym (ap (option_map saved_fields) is) ∙ same)))
+
+-- the record of a savepoint of a making
+pub made_record : (p : Parts) (s : State) (n : ℕ) (w : Workspace) → Stands p s → workspace_of s.spaces n ≡ Some w → (making : ℕ) (k : Savepoint) → savepoint_made making w.savepoints ≡ Some k
+    → (x : Record) × (saved_as p n making ≡ Some x) × IsSaved p n w x k
+made_record p s n w st found making k made =
+    let r = passed_record p s n w st found (λ f. f.making == making) k made in
+    (r.0, saved_sorted p st.rules n making ∙ r.1, r.2)
+
+-- no record has a name that no savepoint has
+pub unnamed_record : (p : Parts) (s : State) (n : ℕ) (w : Workspace) → Stands p s → workspace_of s.spaces n ≡ Some w → (name : List ℕ) → find (λ (k : Savepoint). bytes_eq name k.name) w.savepoints ≡ None → named_as p n name ≡ None
+unnamed_record p s n w st found name none =
+    named_sorted p st.rules n name
+    ∙ by_record (find (λ (x : Record). bytes_eq name x.name) (saved_in p n)) (named_alike p s n w st found name ∙ ap (option_map fields_saved) none)
+  where
+    by_record : (o : Option Record) → option_map saved_fields o ≡ None → o ≡ None
+    by_record None same = refl
+    by_record (Some x) same = cc

@@ -1,25 +1,24 @@
 -- A workspace gets a savepoint more.
-use Rattle.std.proofs.Common.{◌≡◌, ◌≢◌, ℕ, ◌<◌, ◌==◌, nat_lt, Bool, true, false, ◌&&◌, cond, List, [], ◌∷◌, ◌++◌, map, Option, Some, None, is_some, refl, sym, ap, ◌∙◌, ◌⊎◌, inl, inr, append-nil, arith}
-use Rattle.std.proofs.lemmas.Bool.{cases_eq, eq-eqb, ne_eqb, eqb-true}
+use Rattle.std.proofs.Common.{◌≡◌, ◌≢◌, ℕ, ◌==◌, nat_lt, Bool, true, false, ◌&&◌, cond, List, [], ◌∷◌, ◌++◌, map, Option, Some, None, is_some, refl, sym, ap, ◌∙◌, ◌⊎◌, inl, inr, append-nil, arith}
+use Rattle.std.proofs.lemmas.Bool.{cases_eq, eq-eqb, ne_eqb}
 use Rattle.std.proofs.lemmas.List.{map-append}
 use Rattle.std.proofs.lemmas.List.Elements.{filter-append}
-use Rattle.std.specs.List.{list_all, list_any, filter, find}
+use Rattle.std.specs.List.{list_all, filter, find}
 use Rattle.std.specs.Option.{option_map}
-use Rattle.wm_graph.specs.Parts.{Parts, space_of, row_of}
+use Rattle.wm_graph.specs.Parts.{Parts, space_of}
 use Rattle.wm_graph.specs.Rules.{keep_rules}
-use Rattle.wm_spec.specs.Lists.{Cell, Entry, told, touched}
-use Rattle.wm_spec.specs.declared.record.row.RowRecord.{RowRecord}
+use Rattle.wm_spec.specs.Lists.{Cell, told, touched}
 use Rattle.wm_spec.specs.declared.record.savepoint.Savepoint.{Savepoint as Record}
 use Rattle.wm_spec.specs.declared.record.space.Space.{Space}
 use Rattle.wm_state.specs.State.{State, Workspace, Savepoint, Contents, content, kept, workspace_of, with_space, with_savepoint, savepoint_made, savepoints_of}
-use Rattle.wm_state.specs.Standing.{held_of, seen_at, own_at, newest_first, latest, shown, owned, seen, seen_above, SpaceFields, fields_of, fields_in, saved_fields, fields_saved, by_making, saved_in, saved_as, by_number, CountersStand, TablesStand, SpacesStand, LatestStand, OwnStand, SavepointsStand, KeptStand, KeptOwnStand, BasesStand, HasRows, RowsStand, Stands}
+use Rattle.wm_state.specs.Standing.{held_of, latest, shown, owned, seen, seen_above, SpaceFields, fields_of, fields_in, saved_fields, fields_saved, by_making, saved_in, saved_as, by_number, CountersStand, SpacesStand, SavepointsStand, KeptStand, KeptOwnStand, HasRows, RowsStand, Stands}
 use Rattle.wm_state.specs.Effects.{Saved, marked}
 use Rattle.wm_state.proofs.Changing.{workspace_of-changed}
 use Rattle.wm_state.proofs.Frames.{StillNames, savepoints_of-found, KeepRows, HasRows-kept, HasRows-same}
 use Rattle.wm_state.proofs.Keeping.{KeepRows-same}
 use Rattle.wm_state.proofs.Making.{making-push, all-making}
 use Rattle.wm_state.proofs.Mapped.{all-alike, find-skip}
-use Rattle.wm_state.proofs.Tests.{bool_apart, all_filter, find_new, none_if}
+use Rattle.wm_state.proofs.Tests.{all_filter, find_new, none_if}
 
 -- ---- what a savepoint keeps
 
@@ -62,12 +61,12 @@ was_changed n act same ws m new is = by_number (cases_eq m n) (workspace_of ws m
     by_number (inr away) (Some w) found = record { old = w; is = found; how = inr (away, some_workspace new w (sym is ∙ away_is away ∙ found)) }
 
 -- a workspace of after a savepoint, by what it was before
-pub record WasSaved (n : ℕ) (k : Savepoint) (ws : List Workspace) (m : ℕ) (new : Workspace) : Type 0 where
-  pub old : Workspace
-  pub is : workspace_of ws m ≡ Some old
-  pub lists : new.lists ≡ old.lists
-  pub rebases : new.rebases ≡ old.rebases
-  pub savepoints : ((m ≡ n) × (new.savepoints ≡ old.savepoints ++ k ∷ [])) ⊎ ((m ≢ n) × (new.savepoints ≡ old.savepoints))
+record WasSaved (n : ℕ) (k : Savepoint) (ws : List Workspace) (m : ℕ) (new : Workspace) : Type 0 where
+  old : Workspace
+  is : workspace_of ws m ≡ Some old
+  lists : new.lists ≡ old.lists
+  rebases : new.rebases ≡ old.rebases
+  savepoints : ((m ≡ n) × (new.savepoints ≡ old.savepoints ++ k ∷ [])) ⊎ ((m ≢ n) × (new.savepoints ≡ old.savepoints))
 
 was_saved : (n place implicit : ℕ) (k : Savepoint) (ws : List Workspace) (m : ℕ) (new : Workspace) → workspace_of (with_space n (with_savepoint place implicit k) ws) m ≡ Some new → WasSaved n k ws m new
 was_saved n place implicit k ws m new is = by_case (was_changed n (with_savepoint place implicit k) (λ w. refl) ws m new is)
