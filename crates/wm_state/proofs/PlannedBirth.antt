@@ -98,7 +98,7 @@ counted_again ss counters_id space_id id mid new space x sorted first whole =
     ∙ over_again (counters_id == k) (space_id == k) (id == k) (records.Counters new) (records.Counters mid) (records.Space space) (records.Savepoint x) (record_at ss k)
     ∙ sym (record_at-applied again middle refl middle_sorted k ∙ ap (over_it (change_at again k)) (record_at-applied (savepoint_batch counters_id mid space_id space id x) ss first sorted k)))
 
-pub half_after_half : (ss : List Stored) (counters_id space_id id : ℕ) (mid new : Counters) (space : Space) (x : Savepoint) (r : Space) (v : Version) → Ascend ss → counters_id ≢ space_id → counters_id < id → space_id < id
+half_after_half : (ss : List Stored) (counters_id space_id id : ℕ) (mid new : Counters) (space : Space) (x : Savepoint) (r : Space) (v : Version) → Ascend ss → counters_id ≢ space_id → counters_id < id → space_id < id
     → applied (birth_batch counters_id new space_id space id x r v) ss ≡ applied (child_batch counters_id new (id + 1) r v) (applied (savepoint_batch counters_id mid space_id space id x) ss)
 half_after_half ss counters_id space_id id mid new space x r v sorted apart counters_under space_under =
     ap (λ ts. set_at (id + 2) (Some (records.Version v)) (set_at (id + 1) (Some (records.Space r)) ts))
