@@ -1,9 +1,9 @@
 -- What becomes of the records, told by what is looked up in them.
 use Rattle.std.specs.Prelude.{ℕ, ◌≡◌, ◌+◌, ◌<◌, Bool, true, false, ◌==◌, nat_lt, if◌then◌else◌, List, [], ◌∷◌, ◌++◌, Some, None, is_some}
-use Rattle.std.specs.List.{list_all}
+use Rattle.std.specs.List.{list_all, list_any}
 use Rattle.std.specs.Bool.{then_some}
 use Rattle.std.specs.Option.{option_or, option_map}
-use Rattle.wm_graph.specs.Parts.{Parts, row_of, space_of}
+use Rattle.wm_graph.specs.Parts.{Parts, row_of, space_of, version_of}
 use Rattle.wm_spec.specs.Lists.{Entry, Cell, told_of, covers}
 use Rattle.wm_spec.specs.declared.record.piece.PieceRecord.{PieceRecord}
 use Rattle.wm_spec.specs.declared.record.row.RowRecord.{RowRecord}
@@ -97,9 +97,9 @@ pub record Saved (p q : Parts) (n place implicit : ℕ) (x : Savepoint) : Type 0
 pub record Born (p q : Parts) (r : Space) (number : ℕ) : Type 0 where
   pub child : 0 < r.number
   pub none : space_of p.spaces r.number ≡ None
-  pub unsaved : (x : Savepoint) (making : ℕ) → saved_as p r.number making ≡ Some x → ⊥
+  pub unsaved : list_any (λ (x : Savepoint). x.space == r.number) p.savepoints ≡ false
   pub from : r.birth_version ≡ r.base_version
-  pub there : is_there r.base_version (newest_first p.versions) ≡ true
+  pub there : is_some (version_of p.versions r.base_version) ≡ true
   pub below : AllBelow number (newest_first p.versions)
   pub versions : newest_first q.versions ≡ record { number = number; space = r.number; parent = r.base_version } ∷ newest_first p.versions
   pub empty : (c : Cell) → stored_at p.pieces number c ≡ None
