@@ -1,5 +1,5 @@
 -- What becomes of the records, told by what is looked up in them.
-use Rattle.std.specs.Prelude.{ℕ, ◌≡◌, ◌+◌, ◌<◌, Bool, true, false, ◌==◌, nat_lt, if◌then◌else◌, List, [], ◌∷◌, ◌++◌, Some, None, is_some}
+use Rattle.std.specs.Prelude.{ℕ, ◌≡◌, ◌+◌, ◌<◌, Bool, true, false, ◌==◌, nat_lt, if◌then◌else◌, List, [], ◌∷◌, ◌++◌, length, Some, None, is_some}
 use Rattle.std.specs.List.{list_all}
 use Rattle.std.specs.Bool.{then_some}
 use Rattle.std.specs.Option.{option_or, option_map}
@@ -53,6 +53,7 @@ pub record Wrote (p q : Parts) (n : ℕ) (e : Entry) : Type 0 where
   pub tables : q.tables ≡ p.tables
   pub versions : q.versions ≡ p.versions
   pub savepoints : q.savepoints ≡ p.savepoints
+  pub count : length q.spaces ≡ length p.spaces
   pub here : space_of q.spaces n ≡ option_map longer (space_of p.spaces n)
   pub elsewhere : (m : ℕ) → (m == n) ≡ false → space_of q.spaces m ≡ space_of p.spaces m
   pub pieces : AreLaid (latest p n) e p.pieces q.pieces
