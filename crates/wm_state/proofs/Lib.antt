@@ -25,3 +25,11 @@ pub mod Growing
 pub mod Leaves
 pub mod Forks
 pub mod Ids
+pub mod Mapped
+pub mod Making
+pub mod Saving
+pub mod SavedAs
+pub mod Respaced
+pub mod KeepSaved
+pub mod PlannedSaved
+pub mod Greatest

@@ -1,0 +1,107 @@
+-- Tests over lists that are alike once each element is looked at in one way, and over lists with an element more.
+use Rattle.std.proofs.Common.{◌≡◌, Bool, true, false, not, ◌&&◌, ◌||◌, cond, List, [], ◌∷◌, ◌++◌, map, Some, None, refl, sym, ap, ◌∙◌}
+use Rattle.std.specs.List.{list_all, list_any, filter, find}
+use Rattle.std.specs.Option.{option_map}
+use Rattle.wm_graph.specs.Rules.{differ}
+use Rattle.wm_state.proofs.Tests.{bool_apart, either_false, both, not_true}
+
+-- ---- seen through a map
+
+pub find-map : {A B : Type 0} (f : A → B) (P : B → Bool) (xs : List A) → option_map f (find (λ x. P (f x)) xs) ≡ find P (map f xs)
+find-map f P [] = refl
+find-map {A = A} f P (x ∷ xs) = by_test (P (f x)) (find-map f P xs)
+  where
+    by_test : (b : Bool) → option_map f (find (λ y. P (f y)) xs) ≡ find P (map f xs) → option_map f (cond b (Some x) (find (λ y. P (f y)) xs)) ≡ cond b (Some (f x)) (find P (map f xs))
+    by_test true rest = refl
+    by_test false rest = rest
+
+pub any-map : {A B : Type 0} (f : A → B) (P : B → Bool) (xs : List A) → list_any P (map f xs) ≡ list_any (λ x. P (f x)) xs
+any-map f P [] = refl
+any-map f P (x ∷ xs) = ap (λ b. P (f x) || b) (any-map f P xs)
+
+pub all-map : {A B : Type 0} (f : A → B) (P : B → Bool) (xs : List A) → list_all P (map f xs) ≡ list_all (λ x. P (f x)) xs
+all-map f P [] = refl
+all-map f P (x ∷ xs) = ap (λ b. P (f x) && b) (all-map f P xs)
+
+pub differ-map : {A B : Type 0} (f : A → B) (same : B → B → Bool) (xs : List A) → differ same (map f xs) ≡ differ (λ x y. same (f x) (f y)) xs
+differ-map f same [] = refl
+differ-map f same (x ∷ xs) = rw (any-map f (same (f x)) xs, differ-map f same xs) refl
+
+-- ---- two lists of one image
+
+pub find-alike : {A B C : Type 0} (f : A → C) (g : B → C) (P : C → Bool) (xs : List A) (ys : List B) → map f xs ≡ map g ys
+    → option_map f (find (λ x. P (f x)) xs) ≡ option_map g (find (λ y. P (g y)) ys)
+find-alike f g P xs ys same = find-map f P xs ∙ ap (find P) same ∙ sym (find-map g P ys)
+
+pub all-alike : {A B C : Type 0} (f : A → C) (g : B → C) (P : C → Bool) (xs : List A) (ys : List B) → map f xs ≡ map g ys
+    → list_all (λ x. P (f x)) xs ≡ list_all (λ y. P (g y)) ys
+all-alike f g P xs ys same = sym (all-map f P xs) ∙ ap (list_all P) same ∙ all-map g P ys
+
+pub differ-alike : {A B C : Type 0} (f : A → C) (g : B → C) (R : C → C → Bool) (xs : List A) (ys : List B) → map f xs ≡ map g ys
+    → differ (λ a b. R (f a) (f b)) xs ≡ differ (λ a b. R (g a) (g b)) ys
+differ-alike f g R xs ys same = sym (differ-map f R xs) ∙ ap (differ R) same ∙ differ-map g R ys
+
+-- ---- what is found
+
+-- one more that does not pass is not found
+pub find-skip : {A : Type 0} (P : A → Bool) (xs : List A) (x : A) → P x ≡ false → find P (xs ++ x ∷ []) ≡ find P xs
+find-skip P [] x e = rw e refl
+find-skip P (y ∷ ys) x e = ap (λ o. cond (P y) (Some y) o) (find-skip P ys x e)
+
+-- nothing is found where nothing passes
+pub find-none : {A : Type 0} (P : A → Bool) (xs : List A) → list_any P xs ≡ false → find P xs ≡ None
+find-none P [] e = refl
+find-none P (x ∷ xs) e = let h = either_false (P x) (list_any P xs) e in rw h.0 (find-none P xs h.1)
+
+-- what is found among those that pass one test is found by both
+pub find-filter : {A : Type 0} (k P : A → Bool) (xs : List A) → find P (filter k xs) ≡ find (λ x. k x && P x) xs
+find-filter k P [] = refl
+find-filter {A = A} k P (x ∷ xs) = by_test (k x) (P x) refl (find-filter k P xs)
+  where
+    by_test : (b c : Bool) → P x ≡ c → find P (filter k xs) ≡ find (λ y. k y && P y) xs → find P (cond b (x ∷ filter k xs) (filter k xs)) ≡ cond (b && P x) (Some x) (find (λ y. k y && P y) xs)
+    by_test true true e rest = rw e refl
+    by_test true false e rest = rw e rest
+    by_test false c e rest = rest
+
+-- what is found does not pass what none passes
+pub found-fails : {A : Type 0} (P Q : A → Bool) (xs : List A) (x : A) → find P xs ≡ Some x → list_any Q xs ≡ false → Q x ≡ false
+found-fails P Q [] x found none = cc
+found-fails {A = A} P Q (y ∷ ys) x found none = by_test (P y) found (either_false (Q y) (list_any Q ys) none) (found-fails P Q ys x)
+  where
+    some_same : (a b : A) → Some a ≡ Some b → a ≡ b
+    some_same a b h = cc
+
+    by_test : (b : Bool) → cond b (Some y) (find P ys) ≡ Some x → (Q y ≡ false) × (list_any Q ys ≡ false) → (find P ys ≡ Some x → list_any Q ys ≡ false → Q x ≡ false) → Q x ≡ false
+    by_test true h n rest = ap Q (sym (some_same y x h)) ∙ n.0
+    by_test false h n rest = rest h n.1
+
+-- where all differ, the one that is found is found by what it does not differ from
+pub find-again : {A : Type 0} (same : A → A → Bool) → ((x : A) → same x x ≡ true) → (P : A → Bool) (xs : List A) (x : A) → differ same xs ≡ true → find P xs ≡ Some x → find (λ y. same y x) xs ≡ Some x
+find-again same itself P [] x apart found = found
+find-again {A = A} same itself P (y ∷ ys) x apart found = by_test (P y) found (both (not (list_any (same y) ys)) (differ same ys) apart) (find-again same itself P ys x)
+  where
+    some_same : (a b : A) → Some a ≡ Some b → a ≡ b
+    some_same a b h = cc
+
+    by_test : (b : Bool) → cond b (Some y) (find P ys) ≡ Some x → (not (list_any (same y) ys) ≡ true) × (differ same ys ≡ true) → (differ same ys ≡ true → find P ys ≡ Some x → find (λ z. same z x) ys ≡ Some x)
+        → find (λ z. same z x) (y ∷ ys) ≡ Some x
+    by_test true h d rest = rw (some_same y x h, itself x) refl
+    by_test false h d rest = rw (found-fails P (same y) ys x h (not_true (list_any (same y) ys) d.0)) (rest d.1 h)
+
+-- nothing passes where nothing is found
+pub none-found : {A : Type 0} (P : A → Bool) (xs : List A) → find P xs ≡ None → list_any P xs ≡ false
+none-found P [] none = refl
+none-found {A = A} P (x ∷ xs) none = by_test (P x) none (none-found P xs)
+  where
+    by_test : (b : Bool) → cond b (Some x) (find P xs) ≡ None → (find P xs ≡ None → list_any P xs ≡ false) → (b || list_any P xs) ≡ false
+    by_test true e rest = cc
+    by_test false e rest = rest e
+
+-- nothing passes what passes only where nothing does
+pub any-if : {A : Type 0} (P Q : A → Bool) → ((x : A) → Q x ≡ true → P x ≡ true) → (xs : List A) → list_any P xs ≡ false → list_any Q xs ≡ false
+any-if P Q to [] none = refl
+any-if P Q to (x ∷ xs) none = by_test (Q x) refl (either_false (P x) (list_any P xs) none) (any-if P Q to xs)
+  where
+    by_test : (b : Bool) → Q x ≡ b → (P x ≡ false) × (list_any P xs ≡ false) → (list_any P xs ≡ false → list_any Q xs ≡ false) → (b || list_any Q xs) ≡ false
+    by_test true e h rest = absurd (bool_apart (sym (to x e) ∙ h.0))
+    by_test false e h rest = rest h.1
