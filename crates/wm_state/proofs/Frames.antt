@@ -13,8 +13,9 @@ use Rattle.wm_spec.specs.Lists.{Entry, Cell, told, touched}
 use Rattle.wm_spec.specs.declared.record.row.RowRecord.{RowRecord}
 use Rattle.wm_spec.specs.declared.record.savepoint.Savepoint.{Savepoint as Record}
 use Rattle.wm_spec.specs.declared.record.space.Space.{Space}
-use Rattle.wm_state.specs.State.{State, Workspace, Savepoint, content, kept, workspace_of, savepoint_made, savepoints_of}
+use Rattle.wm_state.specs.State.{State, Workspace, Savepoint, content, kept, workspace_of, with_space, savepoint_made, savepoints_of}
 use Rattle.wm_state.specs.Standing.{held_of, shown, owned, seen, seen_above, fields_of, fields_in, saved_fields, fields_saved, by_making, saved_in, saved_as, SpacesStand, OnceStand, LatestStand, OwnStand, SavepointsStand, KeptStand, KeptOwnStand, BasesStand, RowsStand, HasRows}
+use Rattle.wm_state.proofs.Changing.{length-changed, differ-changed}
 
 -- ---- workspaces and what they show
 
@@ -34,6 +35,15 @@ pub record Counted (p q : Parts) (s t : State) : Type 0 where
 
 pub OnceStand-frame : (p q : Parts) (s t : State) → Counted p q s t → OnceStand p s → OnceStand q t
 OnceStand-frame p q s t f stand = record { numbers = f.numbers ∙ stand.numbers; count = f.recorded ∙ stand.count ∙ sym f.there }
+
+-- where one workspace was changed
+pub OnceStand-changed : (p q : Parts) (s t : State) (n : ℕ) (act : Workspace → Workspace) → ((w : Workspace) → (act w).number ≡ w.number) → t.spaces ≡ with_space n act s.spaces → length q.spaces ≡ length p.spaces
+    → OnceStand p s → OnceStand q t
+OnceStand-changed p q s t n act same spaces recorded = OnceStand-frame p q s t (record {
+  numbers = ap (differ (λ (v w : Workspace). v.number == w.number)) spaces ∙ differ-changed n act same s.spaces;
+  there = ap length spaces ∙ length-changed n act s.spaces;
+  recorded = recorded;
+})
 
 -- where the workspaces and their records are those of before
 pub OnceStand-same : (p q : Parts) (s t : State) → q.spaces ≡ p.spaces → t.spaces ≡ s.spaces → OnceStand p s → OnceStand q t

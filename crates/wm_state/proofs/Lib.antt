@@ -21,7 +21,14 @@ pub mod Planned
 pub mod Listing
 pub mod Listed
 pub mod Forking
+pub mod Sprouting
+pub mod Birth
+pub mod KeptSpaces
 pub mod Growing
+pub mod KeepBorn
+pub mod PlannedBorn
+pub mod Births
+pub mod PlannedBirth
 pub mod Leaves
 pub mod Forks
 pub mod Ids

@@ -14,7 +14,7 @@ use Rattle.wm_state.specs.State.{State, Workspace, Savepoint, Contents, content,
 use Rattle.wm_state.specs.Standing.{held_of, latest, shown, owned, seen, seen_above, SpaceFields, fields_of, fields_in, saved_fields, fields_saved, by_making, saved_in, saved_as, by_number, CountersStand, SpacesStand, SavepointsStand, KeptStand, KeptOwnStand, HasRows, RowsStand, Stands}
 use Rattle.wm_state.specs.Effects.{Saved, marked}
 use Rattle.wm_state.proofs.Changing.{workspace_of-changed}
-use Rattle.wm_state.proofs.Frames.{StillNames, savepoints_of-found, KeepRows, HasRows-kept, HasRows-same}
+use Rattle.wm_state.proofs.Frames.{StillNames, savepoints_of-found, OnceStand-changed, KeepRows, HasRows-kept, HasRows-same}
 use Rattle.wm_state.proofs.Keeping.{KeepRows-same}
 use Rattle.wm_state.proofs.Making.{making-push, all-making}
 use Rattle.wm_state.proofs.Mapped.{all-alike, find-skip}
@@ -359,6 +359,7 @@ Stands-saved p q s t n place implicit w k x v st found new_one spaces tables cou
   counters = counters;
   tables = record { same = ap by_number v.tables ∙ st.tables.same ∙ sym tables };
   spaces = SpacesStand-saved p q s t n place implicit k x v spaces st.spaces;
+  once = OnceStand-changed p q s t n (with_savepoint place implicit k) (λ w. refl) spaces v.count st.once;
   latest = record { told = λ m new is c. let y = before m new is in latest-still m c ∙ st.latest.told m y.old y.is c ∙ ap (λ (l : Contents). option_map held_of (told (l.base ++ l.own) c)) (sym y.lists) };
   own = record {
     covered = λ m new r is recorded c.

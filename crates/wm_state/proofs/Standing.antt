@@ -1,22 +1,22 @@
 -- The records stand for the state that a change makes.
-use Rattle.std.proofs.Common.{◌≡◌, ◌≢◌, ℕ, Bool, true, false, cond, List, [], ◌∷◌, Option, Some, None, is_some, refl, sym, ap, ◌∙◌, ◌==◌, ◌⊎◌, inl, inr, ⊎_elim, ◌+◌, length, length-append}
+use Rattle.std.proofs.Common.{◌≡◌, ◌≢◌, ℕ, Bool, true, false, cond, List, [], ◌∷◌, Option, Some, None, is_some, refl, sym, ap, ◌∙◌, ◌==◌, ◌⊎◌, inl, inr, ⊎_elim, ◌+◌, length-append}
 use Rattle.std.proofs.lemmas.Bool.{cases_eq, eq-eqb, ne_eqb}
 use Rattle.std.specs.Bool.{then_some}
 use Rattle.std.specs.Option.{option_or, option_map}
 use Rattle.wm_base.specs.declared.row.Row.{Row}
 use Rattle.wm_graph.specs.Parts.{Parts, row_of, space_of}
-use Rattle.wm_graph.specs.Rules.{keep_rules, differ}
+use Rattle.wm_graph.specs.Rules.{keep_rules}
 use Rattle.wm_period.specs.Pieces.{Held}
 use Rattle.wm_spec.specs.Lists.{Entry, Cell, Told, told, told_of, covers, touched}
 use Rattle.wm_spec.specs.declared.record.row.RowRecord.{RowRecord}
 use Rattle.wm_spec.specs.declared.record.space.Space.{Space}
 use Rattle.wm_spec.proofs.Lists.{told-push}
 use Rattle.wm_state.specs.State.{State, begin, Workspace, content, workspace_of, with_space, with_entries, savepoints_of}
-use Rattle.wm_state.specs.Standing.{held_of, stored_at, seen_at, own_at, newest_first, latest, seen, fields_of, fields_in, CountersStand, TablesStand, SpacesStand, OnceStand, LatestStand, OwnStand, RowsStand, Stands, SpaceFields, by_number}
+use Rattle.wm_state.specs.Standing.{held_of, stored_at, seen_at, own_at, newest_first, latest, seen, fields_of, fields_in, CountersStand, TablesStand, SpacesStand, LatestStand, OwnStand, RowsStand, Stands, SpaceFields, by_number}
 use Rattle.wm_state.specs.Effects.{Wrote, longer, AreLaid}
-use Rattle.wm_state.proofs.Frames.{Framed, Still, StillNames, KeepRows, OnceStand-frame, OnceStand-same, row-kept, HasRows-kept, savepoints_of-found, savepoints_of-none, SavepointsStand-framed, KeptStand-framed, KeptOwnStand-framed, BasesStand-framed, RowsStand-framed}
+use Rattle.wm_state.proofs.Frames.{Framed, Still, StillNames, KeepRows, OnceStand-changed, OnceStand-same, row-kept, HasRows-kept, savepoints_of-found, savepoints_of-none, SavepointsStand-framed, KeptStand-framed, KeptOwnStand-framed, BasesStand-framed, RowsStand-framed}
 use Rattle.wm_state.proofs.Nearest.{SameAway, seen-away, seen-here, own-away, own-here}
-use Rattle.wm_state.proofs.Changing.{workspace_of-changed, length-changed, differ-changed, told-with_entries}
+use Rattle.wm_state.proofs.Changing.{workspace_of-changed, told-with_entries}
 
 -- ---- a workspace with an entry more
 
@@ -263,13 +263,6 @@ SpacesStand-wrote p q s t n e w spaces stand = record {
         ∙ stand.same m
         ∙ ap (λ b. option_map fields_in (cond b (option_map (with_entries (e ∷ [])) (workspace_of s.spaces m)) (workspace_of s.spaces m))) (sym (ne_eqb _ _ other))
 
-OnceStand-wrote : (p q : Parts) (s t : State) (n : ℕ) (e : Entry) → Wrote p q n e → t.spaces ≡ appended n e s.spaces → OnceStand p s → OnceStand q t
-OnceStand-wrote p q s t n e w spaces = OnceStand-frame p q s t (record {
-  numbers = ap (differ (λ (v w : Workspace). v.number == w.number)) spaces ∙ differ-changed n (with_entries (e ∷ [])) (λ w. refl) s.spaces;
-  there = ap length spaces ∙ length-changed n (with_entries (e ∷ [])) s.spaces;
-  recorded = w.count;
-})
-
 -- ---- the records stand for the state after a line
 
 -- an entry was written: the workspace has it, and the counters are set
@@ -279,7 +272,7 @@ Stands-wrote p q s t n e w st spaces tables counters rules = record {
   counters = counters;
   tables = record { same = ap by_number w.tables ∙ st.tables.same ∙ sym tables };
   spaces = SpacesStand-wrote p q s t n e w spaces st.spaces;
-  once = OnceStand-wrote p q s t n e w spaces st.once;
+  once = OnceStand-changed p q s t n (with_entries (e ∷ [])) (λ w. refl) spaces w.count st.once;
   latest = LatestStand-wrote p q s t n e w spaces st.spaces st.latest;
   own = OwnStand-wrote p q s t n e w spaces st.spaces st.own;
   savepoints = SavepointsStand-framed p q s t (framed_wrote p q s t n e w spaces) st.savepoints;

@@ -1,9 +1,9 @@
 -- What becomes of the records, told by what is looked up in them.
 use Rattle.std.specs.Prelude.{ℕ, ◌≡◌, ◌+◌, ◌<◌, Bool, true, false, ◌==◌, nat_lt, if◌then◌else◌, List, [], ◌∷◌, ◌++◌, length, Some, None, is_some}
-use Rattle.std.specs.List.{list_all}
+use Rattle.std.specs.List.{list_all, list_any}
 use Rattle.std.specs.Bool.{then_some}
 use Rattle.std.specs.Option.{option_or, option_map}
-use Rattle.wm_graph.specs.Parts.{Parts, row_of, space_of}
+use Rattle.wm_graph.specs.Parts.{Parts, row_of, space_of, version_of}
 use Rattle.wm_spec.specs.Lists.{Entry, Cell, told_of, covers}
 use Rattle.wm_spec.specs.declared.record.piece.PieceRecord.{PieceRecord}
 use Rattle.wm_spec.specs.declared.record.row.RowRecord.{RowRecord}
@@ -86,6 +86,7 @@ pub record Saved (p q : Parts) (n place implicit : ℕ) (x : Savepoint) : Type 0
   pub space : x.space ≡ n
   pub after : list_all (λ (y : Savepoint). nat_lt y.making x.making) p.savepoints ≡ true
   pub savepoints : q.savepoints ≡ p.savepoints ++ x ∷ []
+  pub count : length q.spaces ≡ length p.spaces
   pub here : space_of q.spaces n ≡ option_map (marked place implicit) (space_of p.spaces n)
   pub elsewhere : (m : ℕ) → (m == n) ≡ false → space_of q.spaces m ≡ space_of p.spaces m
   pub tables : q.tables ≡ p.tables
@@ -98,12 +99,13 @@ pub record Saved (p q : Parts) (n place implicit : ℕ) (x : Savepoint) : Type 0
 pub record Born (p q : Parts) (r : Space) (number : ℕ) : Type 0 where
   pub child : 0 < r.number
   pub none : space_of p.spaces r.number ≡ None
-  pub unsaved : (x : Savepoint) (making : ℕ) → saved_as p r.number making ≡ Some x → ⊥
+  pub unsaved : list_any (λ (x : Savepoint). x.space == r.number) p.savepoints ≡ false
   pub from : r.birth_version ≡ r.base_version
-  pub there : is_there r.base_version (newest_first p.versions) ≡ true
+  pub there : is_some (version_of p.versions r.base_version) ≡ true
   pub below : AllBelow number (newest_first p.versions)
   pub versions : newest_first q.versions ≡ record { number = number; space = r.number; parent = r.base_version } ∷ newest_first p.versions
   pub empty : (c : Cell) → stored_at p.pieces number c ≡ None
+  pub count : length q.spaces ≡ length p.spaces + 1
   pub spaces : (m : ℕ) → space_of q.spaces m ≡ (if m == r.number then Some r else space_of p.spaces m)
   pub tables : q.tables ≡ p.tables
   pub savepoints : q.savepoints ≡ p.savepoints

@@ -1,0 +1,276 @@
+-- A workspace is born.
+use Rattle.std.proofs.Common.{◌≡◌, ◌≢◌, ℕ, ◌+◌, ◌<◌, ◌==◌, Bool, true, false, ◌&&◌, cond, List, [], ◌∷◌, ◌++◌, map, Option, Some, None, is_some, refl, sym, ap, subst, ◌∙◌, ◌⊎◌, inl, inr, append-nil, length, length-append, arith}
+use Rattle.std.proofs.lemmas.Bool.{cases_eq, eq-eqb, ne_eqb}
+use Rattle.std.specs.List.{filter, find, list_any}
+use Rattle.std.specs.Option.{option_or, option_map}
+use Rattle.wm_graph.specs.Parts.{Parts, row_of, space_of, version_of}
+use Rattle.wm_graph.specs.Rules.{keep_rules, differ}
+use Rattle.wm_spec.specs.Lists.{Entry, Cell, told, touched}
+use Rattle.wm_spec.specs.declared.record.row.RowRecord.{RowRecord}
+use Rattle.wm_spec.specs.declared.record.savepoint.Savepoint.{Savepoint as Record}
+use Rattle.wm_spec.specs.declared.record.space.Space.{Space}
+use Rattle.wm_tree.specs.declared.version.Version.{Version as Node}
+use Rattle.wm_state.specs.State.{State, Workspace, Savepoint, content, kept, workspace_of, savepoint_made, savepoints_of}
+use Rattle.wm_state.specs.Standing.{held_of, fields_of, fields_in, saved_fields, fields_saved, by_making, saved_in, saved_as, by_number, latest, seen, seen_above, shown, owned, HasRows, CountersStand, Stands}
+use Rattle.wm_state.specs.Effects.{Born}
+use Rattle.wm_state.proofs.Tests.{either_false, differ_push}
+use Rattle.wm_state.proofs.Mapped.{none-found}
+use Rattle.wm_state.proofs.Sprouting.{Sprouted, seen-before, above-before, seen-sprout, above-sprout, newest-here, newest-away, newest-lower}
+use Rattle.wm_state.proofs.Named.{saved_there, bases_there, version_there, version_below}
+
+-- the workspace that is born: its record has its fields, it has no changes and no savepoints, and it sees what its parent's version saw
+pub record IsChild (p : Parts) (r : Space) (w : Workspace) (es : List Entry) : Type 0 where
+  pub fields : fields_of r ≡ fields_in w
+  pub number : w.number ≡ r.number
+  pub at_birth : w.lists.at_birth ≡ es
+  pub base : w.lists.base ≡ es
+  pub own : w.lists.own ≡ []
+  pub savepoints : w.savepoints ≡ []
+  pub sees : (c : Cell) → seen p r.base_version c ≡ option_map held_of (told es c)
+  pub rows : HasRows p es
+
+-- ---- its version
+
+abbrev child_node : Space → ℕ → Node
+child_node r number = record { number = number; space = r.number; parent = r.base_version }
+
+above_some : (m n : ℕ) → m < n → 0 < n
+above_some m n lt = omega (arith, lt)
+
+sprouted_of : (p q : Parts) (r : Space) (number : ℕ) → keep_rules p ≡ true → Born p q r number → Sprouted p q (child_node r number)
+sprouted_of p q r number rules b = record {
+  some = above_some r.base_version number (version_below p rules number b.below r.base_version b.there);
+  below = b.below;
+  versions = b.versions;
+  empty = b.empty;
+  pieces = b.pieces;
+}
+
+-- ---- what is looked up
+
+find_more : {A : Type 0} (P : A → Bool) (xs : List A) (x : A) → find P (xs ++ x ∷ []) ≡ option_or (find P xs) (cond (P x) (Some x) None)
+find_more P [] x = refl
+find_more {A = A} P (y ∷ ys) x = by_test (P y) (find_more P ys x)
+  where
+    by_test : (b : Bool) → find P (ys ++ x ∷ []) ≡ option_or (find P ys) (cond (P x) (Some x) None)
+        → cond b (Some y) (find P (ys ++ x ∷ [])) ≡ option_or (cond b (Some y) (find P ys)) (cond (P x) (Some x) None)
+    by_test true rest = refl
+    by_test false rest = rest
+
+or-none : {A : Type 0} (o : Option A) → option_or o None ≡ o
+or-none None = refl
+or-none (Some a) = refl
+
+-- one of a new number is found by it, and every other as before
+pub find_numbered : {A : Type 0} (number_of : A → ℕ) (xs : List A) (x : A) (m : ℕ) → find (λ y. number_of y == number_of x) xs ≡ None
+    → find (λ y. number_of y == m) (xs ++ x ∷ []) ≡ cond (m == number_of x) (Some x) (find (λ y. number_of y == m) xs)
+find_numbered number_of xs x m none = find_more (λ y. number_of y == m) xs x ∙ by_number (cases_eq m (number_of x))
+  where
+    by_number : (m ≡ number_of x) ⊎ (m ≢ number_of x)
+        → option_or (find (λ y. number_of y == m) xs) (cond (number_of x == m) (Some x) None) ≡ cond (m == number_of x) (Some x) (find (λ y. number_of y == m) xs)
+    by_number (inl same) = rw (eq-eqb _ _ same, eq-eqb _ _ (sym same), ap (λ k. find (λ y. number_of y == k) xs) same ∙ none) refl
+    by_number (inr other) = rw (ne_eqb _ _ other, ne_eqb (number_of x) m (λ same. other (sym same))) (or-none (find (λ y. number_of y == m) xs))
+
+map-none : {A : Type 0} {B : Type 0} (f : A → B) (o : Option A) → option_map f o ≡ None → o ≡ None
+map-none f None e = refl
+map-none f (Some x) e = cc
+
+some_same : {A : Type 0} (a b : A) → Some a ≡ Some b → a ≡ b
+some_same a b e = cc
+
+-- what a look-up finds after a birth: what is new at the child's number, and elsewhere what was found before
+abbrev Is : {A : Type 0} → Option A → ℕ → ℕ → A → A → Type 0
+Is before n m child found = ((m ≡ n) × (found ≡ child)) ⊎ ((m ≢ n) × (before ≡ Some found))
+
+is_of : {A : Type 0} (before after : Option A) (n m : ℕ) (child found : A) → after ≡ cond (m == n) (Some child) before → after ≡ Some found → Is before n m child found
+is_of before after n m child found e is = by_number (cases_eq m n)
+  where
+    by_number : (m ≡ n) ⊎ (m ≢ n) → Is before n m child found
+    by_number (inl same) = inl (same, sym (some_same child found (sym (ap (λ b. cond b (Some child) before) (eq-eqb _ _ same)) ∙ sym e ∙ is)))
+    by_number (inr other) = inr (other, sym (ap (λ b. cond b (Some child) before) (ne_eqb _ _ other)) ∙ sym e ∙ is)
+
+-- ---- the records stand for the state with the workspace more
+
+pub Stands-born : (p q : Parts) (s t : State) (r : Space) (number : ℕ) (w : Workspace) (es : List Entry) → Born p q r number → Stands p s → IsChild p r w es → t.spaces ≡ s.spaces ++ w ∷ [] → t.tables ≡ s.tables
+    → CountersStand q t → keep_rules q ≡ true → Stands q t
+Stands-born p q s t r number w es b st child spaces tables counters rules = record {
+  rules = rules;
+  counters = counters;
+  tables = record { same = ap by_number b.tables ∙ st.tables.same ∙ sym tables };
+  spaces = record { same = spaces_same };
+  once = record { numbers = numbers; count = b.count ∙ ap (λ k. k + 1) st.once.count ∙ sym (length-append s.spaces (w ∷ [])) ∙ sym (ap length spaces) };
+  latest = record { told = λ m new is c. latest_told m new c (workspace_is m new is) };
+  own = record { covered = λ m new x is recorded c. own_covered m new x c (workspace_is m new is) (record_is m x recorded) };
+  savepoints = record { same = saved_same };
+  kept = record { told = λ m making new k x is made recorded c. kept_told m making new k x c (workspace_is m new is) made (ap (λ ks. find (λ (z : Record). (z.space == m) && (z.making == making)) ks) (sym b.savepoints) ∙ recorded) };
+  kept_own = record { covered = λ m making new k x is made recorded still c. kept_covered m making new k x c (workspace_is m new is) made (ap (λ ks. find (λ (z : Record). (z.space == m) && (z.making == making)) ks) (sym b.savepoints) ∙ recorded) still };
+  bases = record {
+    birth = λ m new x some is recorded c. birth_told m new x some c (workspace_is m new is) (record_is m x recorded);
+    base = λ m new x some is recorded c. base_told m new x some c (workspace_is m new is) (record_is m x recorded);
+  };
+  rows = record {
+    there = λ m new is. rows_there m new (workspace_is m new is);
+    births = λ m new is. rows_births m new (workspace_is m new is);
+    bases = λ m new is. rows_bases m new (workspace_is m new is);
+    saved = λ m making new k is made. rows_saved m making new k (workspace_is m new is) made;
+  };
+}
+  where
+    x : Node
+    x = child_node r number
+
+    grown : Sprouted p q x
+    grown = sprouted_of p q r number st.rules b
+
+    recorded_lower : (k : ℕ) → is_some (version_of p.versions k) ≡ true → k < number
+    recorded_lower k there = version_below p st.rules number b.below k there
+
+    base_lower : r.base_version < number
+    base_lower = recorded_lower r.base_version b.there
+
+    -- no workspace had the child's number
+    none : workspace_of s.spaces r.number ≡ None
+    none = map-none fields_in (workspace_of s.spaces r.number) (sym (st.spaces.same r.number) ∙ ap (option_map fields_of) b.none)
+
+    numbers : differ (λ (v w : Workspace). v.number == w.number) t.spaces ≡ true
+    numbers =
+        ap (differ (λ (v w : Workspace). v.number == w.number)) spaces
+        ∙ differ_push (λ (v w : Workspace). v.number == w.number) s.spaces w st.once.numbers
+        (ap (λ k. list_any (λ (v : Workspace). v.number == k) s.spaces) child.number ∙ none-found (λ (v : Workspace). v.number == r.number) s.spaces none)
+
+    found : (m : ℕ) → workspace_of t.spaces m ≡ cond (m == r.number) (Some w) (workspace_of s.spaces m)
+    found m =
+        ap (λ ws. workspace_of ws m) spaces
+        ∙ find_numbered (λ (v : Workspace). v.number) s.spaces w m (ap (workspace_of s.spaces) child.number ∙ none)
+        ∙ ap (λ k. cond (m == k) (Some w) (workspace_of s.spaces m)) child.number
+
+    workspace_is : (m : ℕ) (new : Workspace) → workspace_of t.spaces m ≡ Some new → Is (workspace_of s.spaces m) r.number m w new
+    workspace_is m new is = is_of (workspace_of s.spaces m) (workspace_of t.spaces m) r.number m w new (found m) is
+
+    record_is : (m : ℕ) (y : Space) → space_of q.spaces m ≡ Some y → Is (space_of p.spaces m) r.number m r y
+    record_is m y is = is_of (space_of p.spaces m) (space_of q.spaces m) r.number m r y (b.spaces m) is
+
+    spaces_same : (m : ℕ) → option_map fields_of (space_of q.spaces m) ≡ option_map fields_in (workspace_of t.spaces m)
+    spaces_same m = ap (option_map fields_of) (b.spaces m) ∙ by_test (m == r.number) ∙ sym (ap (option_map fields_in) (found m))
+      where
+        by_test : (b : Bool) → option_map fields_of (cond b (Some r) (space_of p.spaces m)) ≡ option_map fields_in (cond b (Some w) (workspace_of s.spaces m))
+        by_test true = ap Some child.fields
+        by_test false = st.spaces.same m
+
+    -- what the child has
+    content_is : content w ≡ es
+    content_is = ap (λ own. w.lists.base ++ own) child.own ∙ append-nil w.lists.base ∙ child.base
+
+    shown_child : (c : Cell) → shown q r.number c ≡ seen p r.base_version c
+    shown_child c = ap (λ k. seen q k c) (newest-here p q x grown) ∙ seen-sprout p q x grown c
+
+    shown_other : (m : ℕ) (c : Cell) → m ≢ r.number → shown q m c ≡ shown p m c
+    shown_other m c other = ap (λ k. seen q k c) (newest-away p q x grown m other) ∙ seen-before p q x grown (latest p m) c (newest-lower p q x grown m)
+
+    latest_told : (m : ℕ) (new : Workspace) (c : Cell) → Is (workspace_of s.spaces m) r.number m w new → shown q m c ≡ option_map held_of (told (content new) c)
+    latest_told m new c (inl h) =
+        ap (λ k. shown q k c) h.0 ∙ shown_child c ∙ child.sees c ∙ ap (λ xs. option_map held_of (told xs c)) (sym (ap (λ (v : Workspace). content v) h.1 ∙ content_is))
+    latest_told m new c (inr h) = shown_other m c h.0 ∙ st.latest.told m new h.1 c
+
+    own_covered : (m : ℕ) (new : Workspace) (y : Space) (c : Cell) → Is (workspace_of s.spaces m) r.number m w new → Is (space_of p.spaces m) r.number m r y
+        → is_some (owned q y.base_version m c) ≡ touched new.lists.own c
+    own_covered m new y c (inl h) (inl k) =
+        ap (λ (z : Space). is_some (owned q z.base_version m c)) k.1
+        ∙ ap (λ j. is_some (owned q r.base_version j c)) h.0
+        ∙ ap (λ j. is_some (seen_above q r.base_version j c)) (newest-here p q x grown)
+        ∙ ap is_some (above-sprout p q x grown c base_lower)
+        ∙ ap (λ xs. touched xs c) (sym (ap (λ (v : Workspace). v.lists.own) h.1 ∙ child.own))
+    own_covered m new y c (inl h) (inr k) = absurd (k.0 h.0)
+    own_covered m new y c (inr h) (inl k) = absurd (h.0 k.0)
+    own_covered m new y c (inr h) (inr k) =
+        ap (λ j. is_some (seen_above q y.base_version j c)) (newest-away p q x grown m h.0)
+        ∙ ap is_some (above-before p q x grown y.base_version (latest p m) c (newest-lower p q x grown m))
+        ∙ st.own.covered m new y h.1 k.1 c
+
+    -- no savepoint is the child's
+    saved_child : saved_in p r.number ≡ []
+    saved_child = ap by_making (none_kept (λ (y : Record). y.space == r.number) p.savepoints b.unsaved)
+      where
+        none_kept : (P : Record → Bool) (ys : List Record) → list_any P ys ≡ false → filter P ys ≡ []
+        none_kept P [] e = refl
+        none_kept P (y ∷ ys) e = let h = either_false (P y) (list_any P ys) e in rw h.0 (none_kept P ys h.1)
+
+    saved_same : (m : ℕ) → map saved_fields (saved_in q m) ≡ map fields_saved (savepoints_of t.spaces m)
+    saved_same m =
+        ap (λ ks. map saved_fields (by_making (filter (λ (y : Record). y.space == m) ks))) b.savepoints ∙ by_number (cases_eq m r.number) ∙ sym (ap (λ o. map fields_saved (savepoints_in o)) (found m))
+      where
+        savepoints_in : Option Workspace → List Savepoint
+        savepoints_in None = []
+        savepoints_in (Some v) = v.savepoints
+
+        by_number : (m ≡ r.number) ⊎ (m ≢ r.number) → map saved_fields (saved_in p m) ≡ map fields_saved (savepoints_in (cond (m == r.number) (Some w) (workspace_of s.spaces m)))
+        by_number (inl same) = rw (eq-eqb _ _ same, child.savepoints) (ap (λ k. map saved_fields (saved_in p k)) same ∙ ap (map saved_fields) saved_child)
+        by_number (inr other) = rw (ne_eqb _ _ other) (st.savepoints.same m)
+
+    made_none : (making : ℕ) (new : Workspace) (k : Savepoint) → new ≡ w → savepoint_made making new.savepoints ≡ Some k → ⊥
+    made_none making new k same made = apart (sym (ap (savepoint_made making) (ap (λ (v : Workspace). v.savepoints) same ∙ child.savepoints)) ∙ made)
+      where
+        apart : savepoint_made making [] ≡ Some k → ⊥
+        apart e = cc
+
+    kept_told : (m making : ℕ) (new : Workspace) (k : Savepoint) (y : Record) (c : Cell) → Is (workspace_of s.spaces m) r.number m w new → savepoint_made making new.savepoints ≡ Some k → saved_as p m making ≡ Some y
+        → seen q y.version c ≡ option_map held_of (told (kept k) c)
+    kept_told m making new k y c (inl h) made recorded = absurd (made_none making new k h.1 made)
+    kept_told m making new k y c (inr h) made recorded =
+        seen-before p q x grown y.version c (recorded_lower y.version (version_there (version_of p.versions) y.version m (saved_there p st.rules m making y recorded).version)) ∙ st.kept.told m making new k y h.1 made recorded c
+
+    kept_covered : (m making : ℕ) (new : Workspace) (k : Savepoint) (y : Record) (c : Cell) → Is (workspace_of s.spaces m) r.number m w new → savepoint_made making new.savepoints ≡ Some k → saved_as p m making ≡ Some y
+        → k.rebases ≡ new.rebases → is_some (seen_above q y.base_version y.version c) ≡ touched k.own c
+    kept_covered m making new k y c (inl h) made recorded still = absurd (made_none making new k h.1 made)
+    kept_covered m making new k y c (inr h) made recorded still =
+        ap is_some (above-before p q x grown y.base_version y.version c (recorded_lower y.version (version_there (version_of p.versions) y.version m (saved_there p st.rules m making y recorded).version)))
+        ∙ st.kept_own.covered m making new k y h.1 made recorded still c
+
+    -- what is seen under the child
+    child_seen : (c : Cell) → seen q r.base_version c ≡ option_map held_of (told es c)
+    child_seen c = seen-before p q x grown r.base_version c base_lower ∙ child.sees c
+
+    birth_told : (m : ℕ) (new : Workspace) (y : Space) → 0 < m → (c : Cell) → Is (workspace_of s.spaces m) r.number m w new → Is (space_of p.spaces m) r.number m r y
+        → seen q y.birth_version c ≡ option_map held_of (told new.lists.at_birth c)
+    birth_told m new y some c (inl h) (inl k) =
+        ap (λ j. seen q j c) (ap (λ (z : Space). z.birth_version) k.1 ∙ b.from)
+        ∙ child_seen c
+        ∙ ap (λ xs. option_map held_of (told xs c)) (sym (ap (λ (v : Workspace). v.lists.at_birth) h.1 ∙ child.at_birth))
+    birth_told m new y some c (inl h) (inr k) = absurd (k.0 h.0)
+    birth_told m new y some c (inr h) (inl k) = absurd (h.0 k.0)
+    birth_told m new y some c (inr h) (inr k) =
+        seen-before p q x grown y.birth_version c (recorded_lower y.birth_version (version_there (version_of p.versions) y.birth_version y.parent (bases_there p st.rules m y some k.1).birth)) ∙ st.bases.birth m new y some h.1 k.1 c
+
+    base_told : (m : ℕ) (new : Workspace) (y : Space) → 0 < m → (c : Cell) → Is (workspace_of s.spaces m) r.number m w new → Is (space_of p.spaces m) r.number m r y
+        → seen q y.base_version c ≡ option_map held_of (told new.lists.base c)
+    base_told m new y some c (inl h) (inl k) =
+        ap (λ (z : Space). seen q z.base_version c) k.1
+        ∙ child_seen c
+        ∙ ap (λ xs. option_map held_of (told xs c)) (sym (ap (λ (v : Workspace). v.lists.base) h.1 ∙ child.base))
+    base_told m new y some c (inl h) (inr k) = absurd (k.0 h.0)
+    base_told m new y some c (inr h) (inl k) = absurd (h.0 k.0)
+    base_told m new y some c (inr h) (inr k) =
+        seen-before p q x grown y.base_version c (recorded_lower y.base_version (version_there (version_of p.versions) y.base_version y.parent (bases_there p st.rules m y some k.1).base)) ∙ st.bases.base m new y some h.1 k.1 c
+
+    -- the rows stand as they stood
+    same_rows : (xs : List Entry) → HasRows p xs → HasRows q xs
+    same_rows xs have c y row held standing = ap (λ rs. option_map (λ (z : RowRecord). z.values) (row_of rs y.stamp)) b.rows ∙ have c y row held standing
+
+    child_rows : (xs : List Entry) → xs ≡ es → HasRows q xs
+    child_rows xs same = subst (λ ys. HasRows q ys) (sym same) (same_rows es child.rows)
+
+    rows_there : (m : ℕ) (new : Workspace) → Is (workspace_of s.spaces m) r.number m w new → HasRows q (content new)
+    rows_there m new (inl h) = child_rows (content new) (ap (λ (v : Workspace). content v) h.1 ∙ content_is)
+    rows_there m new (inr h) = same_rows (content new) (st.rows.there m new h.1)
+
+    rows_births : (m : ℕ) (new : Workspace) → Is (workspace_of s.spaces m) r.number m w new → HasRows q new.lists.at_birth
+    rows_births m new (inl h) = child_rows new.lists.at_birth (ap (λ (v : Workspace). v.lists.at_birth) h.1 ∙ child.at_birth)
+    rows_births m new (inr h) = same_rows new.lists.at_birth (st.rows.births m new h.1)
+
+    rows_bases : (m : ℕ) (new : Workspace) → Is (workspace_of s.spaces m) r.number m w new → HasRows q new.lists.base
+    rows_bases m new (inl h) = child_rows new.lists.base (ap (λ (v : Workspace). v.lists.base) h.1 ∙ child.base)
+    rows_bases m new (inr h) = same_rows new.lists.base (st.rows.bases m new h.1)
+
+    rows_saved : (m making : ℕ) (new : Workspace) (k : Savepoint) → Is (workspace_of s.spaces m) r.number m w new → savepoint_made making new.savepoints ≡ Some k → HasRows q (kept k)
+    rows_saved m making new k (inl h) made = absurd (made_none making new k h.1 made)
+    rows_saved m making new k (inr h) made = same_rows (kept k) (st.rows.saved m making new k h.1 made)

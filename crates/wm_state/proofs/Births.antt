@@ -1,0 +1,151 @@
+-- A workspace is born at a savepoint that is made for it: the records with both.
+use Rattle.std.proofs.Common.{◌≡◌, ℕ, ◌+◌, ◌^◌, ◌<◌, ◌≤◌, nat_lt, nat_le, suc, Bool, true, ◌&&◌, List, [], ◌∷◌, ◌++◌, length, Some, refl, sym, ap, ◌∙◌, arith}
+use Rattle.std.specs.List.{list_all, list_any}
+use Rattle.std.specs.Str.{bytes_eq}
+use Rattle.wm_base.specs.declared.instant.TheConstants.{END}
+use Rattle.wm_graph.specs.Parts.{Parts, space_of}
+use Rattle.wm_graph.specs.Rules.{keep_rules, are_counters}
+use Rattle.wm_spec.specs.Lists.{Entry}
+use Rattle.wm_spec.specs.declared.record.counters.Counters.{Counters}
+use Rattle.wm_spec.specs.declared.record.savepoint.Savepoint.{Savepoint}
+use Rattle.wm_spec.specs.declared.record.space.Space.{Space}
+use Rattle.wm_spec.specs.declared.record.version.Version.{Version}
+use Rattle.wm_state.specs.State.{State, Workspace, kept, workspace_of, with_space, with_savepoint}
+use Rattle.wm_state.specs.State.{Savepoint as Kept}
+use Rattle.wm_state.specs.Standing.{fields_of, fields_in, seen, CountersStand, Stands}
+use Rattle.wm_state.specs.Effects.{marked}
+use Rattle.wm_state.proofs.Tests.{both, and_true, all_swap, all_middle, any_swap}
+use Rattle.wm_state.proofs.Keeping.{SpaceStill, KeepSpaces-swap, le_itself, le_of}
+use Rattle.wm_state.proofs.Saving.{IsKept}
+use Rattle.wm_state.proofs.KeepSaved.{saved, MaySave, keep-saved, Stands-kept}
+use Rattle.wm_state.proofs.Birth.{IsChild, Stands-born}
+use Rattle.wm_state.proofs.KeepBorn.{born, MayBear, keep-born, born_of}
+
+-- the counters between, which nobody sees: those of after, before a version was added
+abbrev pub between : Counters → Counters → Counters
+between old new = record new { next_version = old.next_version }
+
+pub between_count : (old new : Counters) → new.next_version ≡ old.next_version + 1 → are_counters new ≡ true → are_counters (between old new) ≡ true
+between_count old new next e =
+    let h = both ((nat_le 1 new.limit && nat_le new.limit 1048576) && (nat_le 1 new.next_stamp && nat_le new.next_stamp (new.limit + 1))) _ e in
+    let k = both (nat_lt new.last_moment END) _ h.1 in
+    let l = both (nat_le new.work (2 ^ 62)) (nat_le new.next_version (new.work + 2)) k.1 in
+    and_true ((nat_le 1 new.limit && nat_le new.limit 1048576) && (nat_le 1 new.next_stamp && nat_le new.next_stamp (new.limit + 1))) _ h.0
+    (and_true (nat_lt new.last_moment END) _ k.0
+    (and_true (nat_le new.work (2 ^ 62)) (nat_le old.next_version (new.work + 2)) l.0 (below old.next_version new.next_version (new.work + 2) next l.1)))
+  where
+    below : (m n k : ℕ) → n ≡ m + 1 → nat_le n k ≡ true → nat_le m k ≡ true
+    below m n k more le = grind (arith, more, le)
+
+-- the records with the savepoint and the workspace
+abbrev pub birthed : Parts → Counters → Counters → List Space → Space → List Space → ℕ → ℕ → Savepoint → Space → Version → Parts
+birthed p old new front a back place implicit x r v = born (saved p (between old new) front a back place implicit x) new r v
+
+-- ---- a workspace may be born where a savepoint was made
+
+-- the record of its parent is there still
+parent_still : (p : Parts) (old c : Counters) (front : List Space) (a : Space) (back : List Space) (place implicit : ℕ) (x : Savepoint) → MaySave p old c front a back place implicit x → (n : ℕ) (b : Space) → space_of p.spaces n ≡ Some b
+    → SpaceStill (saved p c front a back place implicit x) n b
+parent_still p old c front a back place implicit x save n b found =
+    KeepSpaces-swap p (saved p c front a back place implicit x) front back a (marked place implicit a) refl refl (le_itself a.log_length) (le_of a.next_place place save.places) save.spaces refl n b found
+
+may_bear : (p : Parts) (old new : Counters) (front : List Space) (a : Space) (back : List Space) (place implicit : ℕ) (x : Savepoint) (b r : Space) (v : Version) (save : MaySave p old (between old new) front a back place implicit x)
+    (bear : MayBear p old new b r v) → MayBear (saved p (between old new) front a back place implicit x) (between old new) new (parent_still p old (between old new) front a back place implicit x save r.parent b bear.parent).new r v
+may_bear p old new front a back place implicit x b r v save bear = record {
+  one = refl;
+  counters = bear.counters;
+  stamps = refl;
+  next = bear.next;
+  work = itself new.work;
+  room = as_long (length p.spaces) (length (front ++ marked place implicit a ∷ back)) (ap length save.spaces ∙ sym (length-put front back (marked place implicit a) a)) bear.room;
+  after = all_swap lower lower a (marked place implicit a) front back (λ s h. h) (all_middle lower a front back after) after;
+  unnamed = any_swap same_name a (marked place implicit a) refl front back ∙ ap (list_any same_name) (sym save.spaces) ∙ bear.unnamed;
+  parent = (parent_still p old (between old new) front a back place implicit x save r.parent b bear.parent).is;
+  name = bear.name;
+  writer = bear.writer;
+  place = bear.place;
+  implicit = bear.implicit;
+  log = bear.log;
+  from = bear.from;
+  base = bear.base;
+  number = bear.number;
+  space = bear.space;
+  under = bear.under;
+}
+  where
+    lower : Space → Bool
+    lower s = nat_lt s.number r.number
+
+    same_name : Space → Bool
+    same_name s = bytes_eq s.name r.name
+
+    after : list_all lower (front ++ a ∷ back) ≡ true
+    after = ap (list_all lower) (sym save.spaces) ∙ bear.after
+
+    itself : (n : ℕ) → n ≤ n
+    itself n = omega arith
+
+    as_long : (m n : ℕ) → m ≡ n → m < 1024 → n < 1024
+    as_long m n same lt = omega (arith, same, lt)
+
+    length-put : (front back : List Space) (s t : Space) → length (front ++ s ∷ back) ≡ length (front ++ t ∷ back)
+    length-put [] back s t = refl
+    length-put (y ∷ front) back s t = ap suc (length-put front back s t)
+
+-- ---- the laws
+
+-- the rules hold of the records with both
+pub keep-birth : (p : Parts) (old new : Counters) (front : List Space) (a : Space) (back : List Space) (place implicit : ℕ) (x : Savepoint) (b r : Space) (v : Version) → MaySave p old (between old new) front a back place implicit x
+    → MayBear p old new b r v → keep_rules p ≡ true → keep_rules (birthed p old new front a back place implicit x r v) ≡ true
+keep-birth p old new front a back place implicit x b r v save bear e =
+    keep-born (saved p (between old new) front a back place implicit x) (between old new) new (parent_still p old (between old new) front a back place implicit x save r.parent b bear.parent).new r v
+    (may_bear p old new front a back place implicit x b r v save bear)
+    (keep-saved p old (between old new) front a back place implicit x save e)
+
+-- and they stand for the state with both
+pub Stands-birth : (p : Parts) (old new : Counters) (front : List Space) (a : Space) (back : List Space) (place implicit : ℕ) (x : Savepoint) (b r : Space) (v : Version) (parent child : Workspace) (k : Kept) (es : List Entry) (s t : State)
+    → Stands p s → MaySave p old (between old new) front a back place implicit x → MayBear p old new b r v → workspace_of s.spaces x.space ≡ Some parent → IsKept p parent k x → IsChild p r child es
+    → t.spaces ≡ with_space x.space (with_savepoint place implicit k) s.spaces ++ child ∷ [] → t.tables ≡ s.tables → CountersStand (birthed p old new front a back place implicit x r v) t
+    → Stands (birthed p old new front a back place implicit x r v) t
+Stands-birth p old new front a back place implicit x b r v parent child k es s t st save bear found is_kept is_child spaces tables counters =
+    Stands-born q (birthed p old new front a back place implicit x r v) mid t r v.number child es
+    (born_of q (between old new) new still.new r v may (keep-saved p old (between old new) front a back place implicit x save st.rules))
+    (Stands-kept p old (between old new) front a back place implicit x parent k s mid st save found is_kept refl refl (record { counters = between old new; one = refl; next_stamp = refl; last_moment = refl; limit = refl; work = refl }))
+    (record {
+      fields = is_child.fields;
+      number = is_child.number;
+      at_birth = is_child.at_birth;
+      base = is_child.base;
+      own = is_child.own;
+      savepoints = is_child.savepoints;
+      sees = is_child.sees;
+      rows = is_child.rows;
+    })
+    spaces tables counters (keep-birth p old new front a back place implicit x b r v save bear st.rules)
+  where
+    q : Parts
+    q = saved p (between old new) front a back place implicit x
+
+    still : SpaceStill q r.parent b
+    still = parent_still p old (between old new) front a back place implicit x save r.parent b bear.parent
+
+    may : MayBear q (between old new) new still.new r v
+    may = may_bear p old new front a back place implicit x b r v save bear
+
+    -- the state between, which nobody sees
+    mid : State
+    mid = record s { spaces = with_space x.space (with_savepoint place implicit k) s.spaces; next_stamp = new.next_stamp; last_moment = new.last_moment; limit = new.limit; work = new.work }
+
+-- a workspace that is born where the savepoint is sees what the savepoint keeps
+pub child_kept : (p : Parts) (w child : Workspace) (k : Kept) (x : Savepoint) (r : Space) → IsKept p w k x → r.base_version ≡ x.version → fields_of r ≡ fields_in child → child.number ≡ r.number → child.lists.at_birth ≡ kept k
+    → child.lists.base ≡ kept k → child.lists.own ≡ [] → child.savepoints ≡ [] → IsChild p r child (kept k)
+child_kept p w child k x r is base fields number at_birth from own savepoints = record {
+  fields = fields;
+  number = number;
+  at_birth = at_birth;
+  base = from;
+  own = own;
+  savepoints = savepoints;
+  sees = λ c. ap (λ v. seen p v c) base ∙ is.holds c;
+  rows = is.rows;
+}

@@ -1,0 +1,71 @@
+-- A version more, above all others and with nothing in it: what is seen then.
+use Rattle.std.proofs.Common.{◌≡◌, ◌≢◌, ℕ, ◌<◌, nat_lt, true, false, List, [], ◌∷◌, ◌++◌, None, refl, sym, ap, ◌∙◌, arith}
+use Rattle.std.proofs.lemmas.Bool.{eq-eqb, ne_eqb}
+use Rattle.std.specs.List.{list_all}
+use Rattle.wm_graph.specs.Parts.{Parts}
+use Rattle.wm_spec.specs.Lists.{Cell}
+use Rattle.wm_spec.specs.declared.record.version.Version.{Version}
+use Rattle.wm_tree.specs.Versions.{grow, AllBelow}
+use Rattle.wm_tree.specs.declared.version.Version.{Version as Node}
+use Rattle.wm_state.specs.Standing.{node_of, stored_at, seen_at, own_at, newest_first, latest, seen, seen_above}
+use Rattle.wm_state.proofs.Tests.{both}
+use Rattle.wm_state.proofs.Forking.{latest-below, own-none, seen-beside, own-beside, seen-under, own-under}
+
+pub record Sprouted (p q : Parts) (x : Node) : Type 0 where
+  pub some : 0 < x.number
+  pub below : AllBelow x.number (newest_first p.versions)
+  pub versions : newest_first q.versions ≡ x ∷ newest_first p.versions
+  pub empty : (c : Cell) → stored_at p.pieces x.number c ≡ None
+  pub pieces : q.pieces ≡ p.pieces
+
+-- ---- among the versions
+
+-- a version above all others, recorded behind them, is the newest
+pub newest-behind : (v : Version) (vs : List Version) → list_all (λ (w : Version). nat_lt w.number v.number) vs ≡ true → newest_first (vs ++ v ∷ []) ≡ node_of v ∷ newest_first vs
+newest-behind v [] e = refl
+newest-behind v (w ∷ vs) e =
+    let h = both (nat_lt w.number v.number) (list_all (λ (w : Version). nat_lt w.number v.number) vs) e in
+    ap (grow (node_of w)) (newest-behind v vs h.1) ∙ rw (not_less w.number v.number h.0) refl
+  where
+    not_less : (a b : ℕ) → nat_lt a b ≡ true → nat_lt b a ≡ false
+    not_less a b lt = grind (arith, lt)
+
+-- ---- what is seen
+
+seen-in : (p q : Parts) (x : Node) → Sprouted p q x → (v : ℕ) (c : Cell) → seen q v c ≡ seen_at p.pieces (x ∷ newest_first p.versions) v c
+seen-in p q x s v c = ap (λ nodes. seen_at q.pieces nodes v c) s.versions ∙ ap (λ pieces. seen_at pieces (x ∷ newest_first p.versions) v c) s.pieces
+
+above-in : (p q : Parts) (x : Node) → Sprouted p q x → (base v : ℕ) (c : Cell) → seen_above q base v c ≡ own_at p.pieces (x ∷ newest_first p.versions) base v c
+above-in p q x s base v c = ap (λ nodes. own_at q.pieces nodes base v c) s.versions ∙ ap (λ pieces. own_at pieces (x ∷ newest_first p.versions) base v c) s.pieces
+
+-- what was there before sees what it saw
+pub seen-before : (p q : Parts) (x : Node) → Sprouted p q x → (v : ℕ) (c : Cell) → v < x.number → seen q v c ≡ seen p v c
+seen-before p q x s v c lt = seen-in p q x s v c ∙ seen-beside p.pieces x (newest_first p.versions) v c lt
+
+-- and has above a base what it had
+pub above-before : (p q : Parts) (x : Node) → Sprouted p q x → (base v : ℕ) (c : Cell) → v < x.number → seen_above q base v c ≡ seen_above p base v c
+above-before p q x s base v c lt = above-in p q x s base v c ∙ own-beside p.pieces x (newest_first p.versions) base v c lt
+
+-- the new version sees what its parent saw
+pub seen-sprout : (p q : Parts) (x : Node) → Sprouted p q x → (c : Cell) → seen q x.number c ≡ seen p x.parent c
+seen-sprout p q x s c = seen-in p q x s x.number c ∙ seen-under p.pieces x (newest_first p.versions) c (s.empty c)
+
+-- and has nothing above its parent
+pub above-sprout : (p q : Parts) (x : Node) → Sprouted p q x → (c : Cell) → x.parent < x.number → seen_above q x.parent x.number c ≡ None
+above-sprout p q x s c lt =
+    above-in p q x s x.parent x.number c
+    ∙ own-under p.pieces x (newest_first p.versions) x.parent c (ne_eqb x.number x.parent (λ same. omega (arith, lt, same))) (s.empty c)
+    ∙ own-none p.pieces (newest_first p.versions) x.parent c
+
+-- ---- the newest version of each workspace
+
+-- the new one is the newest of its workspace
+pub newest-here : (p q : Parts) (x : Node) → Sprouted p q x → latest q x.space ≡ x.number
+newest-here p q x s = rw (s.versions, eq-eqb x.space x.space refl) refl
+
+-- every other workspace has the one that it had
+pub newest-away : (p q : Parts) (x : Node) → Sprouted p q x → (m : ℕ) → m ≢ x.space → latest q m ≡ latest p m
+newest-away p q x s m other = rw (s.versions, ne_eqb x.space m (λ same. other (sym same))) refl
+
+pub newest-lower : (p q : Parts) (x : Node) → Sprouted p q x → (m : ℕ) → latest p m < x.number
+newest-lower p q x s m = latest-below x.number (newest_first p.versions) m s.some s.below
