@@ -1,7 +1,7 @@
 -- The greatest making of a savepoint, in the state and in the records.
-use Rattle.std.proofs.Common.{◌≡◌, ℕ, ◌==◌, nat_lt, nat_le, max, Bool, true, false, not, cond, List, [], ◌∷◌, map, Option, Some, None, refl, sym, ap, ◌∙◌, arith}
-use Rattle.std.proofs.lemmas.Bool.{eq-eqb, eqb-true}
-use Rattle.std.specs.List.{list_all, list_any, filter}
+use Rattle.std.proofs.Common.{◌≡◌, ℕ, ◌==◌, nat_lt, nat_le, max, Bool, true, false, cond, List, [], ◌∷◌, map, Option, Some, None, refl, sym, ap, ◌∙◌, arith}
+use Rattle.std.proofs.lemmas.Bool.{eq-eqb}
+use Rattle.std.specs.List.{list_all, filter}
 use Rattle.wm_graph.specs.Parts.{Parts}
 use Rattle.wm_graph.specs.Rules.{differ}
 use Rattle.wm_spec.specs.declared.record.savepoint.Savepoint.{Savepoint as Record}
@@ -12,7 +12,7 @@ use Rattle.wm_state.proofs.Frames.{savepoints_of-found, savepoints_of-none}
 use Rattle.wm_state.proofs.KeepSaved.{greatest_making}
 use Rattle.wm_state.proofs.Making.{all-making}
 use Rattle.wm_state.proofs.Mapped.{all-alike, all-found}
-use Rattle.wm_state.proofs.Tests.{both, and_true, not_true, all_if, all_filter}
+use Rattle.wm_state.proofs.Tests.{both, and_true, all_if, all_filter}
 
 -- the greatest making of the savepoints of a workspace, and of any workspace: 0 where there is none
 abbrev pub greatest_kept : List Savepoint → ℕ

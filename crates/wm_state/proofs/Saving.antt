@@ -255,10 +255,14 @@ made_case p q s n place implicit k x v fields stand m making new j is made = by_
           old = y.old;
           is = y.is;
           rebases = y.rebases;
-          how = inl (h.0, here, some_same j k (sym made ∙ ap (savepoint_made making) h.1
-              ∙ find_new (λ (i : Savepoint). i.making == making) y.old.savepoints k
-              (none_if (λ (i : Savepoint). nat_lt i.making x.making) (λ (i : Savepoint). i.making == making) (λ i lt. ap (λ l. i.making == l) (sym here) ∙ lt_apart i.making x.making lt) y.old.savepoints (below y.old (ap (workspace_of s.spaces) (sym h.0) ∙ y.is)))
-              (eq-eqb _ _ (sym same_making ∙ here))));
+          how = inl (
+            h.0,
+            here,
+            some_same j k (sym made ∙ ap (savepoint_made making) h.1
+                ∙ find_new (λ (i : Savepoint). i.making == making) y.old.savepoints k
+                (none_if (λ (i : Savepoint). nat_lt i.making x.making) (λ (i : Savepoint). i.making == making) (λ i lt. ap (λ l. i.making == l) (sym here) ∙ lt_apart i.making x.making lt) y.old.savepoints (below y.old (ap (workspace_of s.spaces) (sym h.0) ∙ y.is)))
+                (eq-eqb _ _ (sym same_making ∙ here))),
+          );
         }
         by_both (inl h) (inr away) = record {
           old = y.old;
@@ -266,7 +270,7 @@ made_case p q s n place implicit k x v fields stand m making new j is made = by_
           rebases = y.rebases;
           how = inr (
             sym (ap (savepoint_made making) h.1 ∙ find-skip (λ (i : Savepoint). i.making == making) y.old.savepoints k (ne_eqb _ _ (λ e. away (same_making ∙ e)))) ∙ made,
-            and_other (x.space == m) (x.making == making) (ne_eqb _ _ away)
+            and_other (x.space == m) (x.making == making) (ne_eqb _ _ away),
           );
         }
         by_both (inr h) _ = record {
