@@ -107,9 +107,6 @@ pub record NamedSpace (p : Parts) (s : State) (name : List ℕ) (r : Space) : Ty
   pub named : workspace_named name s.spaces ≡ Some workspace
   pub is : IsSpace p s r.number r workspace
 
-is_named : List ℕ → Space → Bool
-is_named name r = bytes_eq name r.name
-
 some_space : (r q : Space) → Some r ≡ Some q → r ≡ q
 some_space r q h = cc
 
