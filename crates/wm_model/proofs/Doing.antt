@@ -1,30 +1,18 @@
--- What plans do to each state that the engine stands for.
-use Rattle.std.proofs.Common.{◌≡◌, ◌≢◌, ℕ, ◌<◌, ◌≤◌, ◌+◌, ◌==◌, ◌&&◌, nat_lt, nat_le, Bool, true, false, not, cond, if◌then◌else◌, List, [], ◌∷◌, ◌^◌, ◌++◌, length, map, Option, Some, None, is_some, refl, sym, ap, subst, ◌∙◌, arith, codes}
+-- What plans do to each state that the engine stands for: what all of them have in common.
+use Rattle.std.proofs.Common.{◌≡◌, ◌≢◌, ℕ, ◌<◌, ◌≤◌, ◌+◌, ◌==◌, ◌&&◌, nat_lt, nat_le, Bool, true, false, not, cond, if◌then◌else◌, List, [], ◌∷◌, ◌^◌, ◌++◌, Option, Some, None, refl, sym, ap, subst, ◌∙◌, arith, codes}
 use Rattle.std.proofs.lemmas.Bool.{ne_eqb}
-use Rattle.std.specs.List.{find, filter_map}
-use Rattle.std.specs.Str.{bytes_eq}
 use Rattle.wm_base.specs.declared.instant.TheConstants.{END}
-use Rattle.wm_graph.specs.Parts.{Parts, parts_of, space_of}
-use Rattle.wm_graph.specs.Rules.{keep_rules, are_counters, is_table, is_short, differ}
+use Rattle.wm_graph.specs.Parts.{Parts, parts_of}
+use Rattle.wm_graph.specs.Rules.{keep_rules, are_counters}
 use Rattle.wm_print.specs.Texts.{Answer}
-use Rattle.wm_print.specs.Texts.{Fine, Done, Listing as Listed}
-use Rattle.wm_spec.specs.Records.{record_at, AreChanges, ids_differ}
-use Rattle.wm_spec.specs.declared.record.Record.TheVariants as records
+use Rattle.wm_spec.specs.Records.{AreChanges, ids_differ}
 use Rattle.wm_spec.specs.declared.record.batch.Change.{Change}
 use Rattle.wm_spec.specs.declared.record.counters.Counters.{Counters}
 use Rattle.wm_spec.specs.declared.record.stored.Stored.{Stored}
-use Rattle.wm_spec.specs.declared.record.table.Table.{Table}
-use Rattle.wm_state.specs.Batches.{put, create_batch, enable_batch, insert_batch, ready, AllUnder}
-use Rattle.wm_state.specs.ById.{Ascend, applied}
-use Rattle.wm_state.specs.State.{State, Session, enabled}
-use Rattle.wm_state.specs.Standing.{Stands, CountersStand, by_number}
-use Rattle.wm_state.proofs.Apart.{Ruled, ruled}
-use Rattle.wm_state.proofs.Planned.{plan_created, plan_readied}
-use Rattle.wm_state.proofs.Planning.{parts-created}
-use Rattle.wm_state.proofs.ByKind.{under_found}
-use Rattle.wm_state.proofs.Tables.{created, keep-created, by_number-none}
-use Rattle.wm_model.specs.Step.{connect, create, enable, with_table, durably, counter_limit, line_work, two_columns, not_built, at_its_end, no_table, no_key}
-use Rattle.wm_model.specs.Planning.{StandsAt, Does, with_opened}
+use Rattle.wm_state.specs.State.{State, Session}
+use Rattle.wm_state.specs.Standing.{Stands}
+use Rattle.wm_model.specs.Step.{durably, counter_limit, line_work, at_its_end}
+use Rattle.wm_model.specs.Planning.{StandsAt, Does, Seating, Stay, seated, moved}
 
 -- ---- nothing changes
 
@@ -44,44 +32,41 @@ stands_sessions p s xs st = record {
   spaces = record { same = st.spaces.same };
   latest = record { told = st.latest.told };
   own = record { covered = st.own.covered };
-  rows = record { there = st.rows.there };
+  savepoints = record { same = st.savepoints.same };
+  kept = record { told = st.kept.told };
+  kept_own = record { covered = st.kept_own.covered };
+  bases = record { birth = st.bases.birth; base = st.bases.base };
+  rows = record { there = st.rows.there; births = st.rows.births; bases = st.rows.bases; saved = st.rows.saved };
 }
 
-none_changes : AreChanges []
+pub none_changes : AreChanges []
 unfolding ids_differ
 none_changes = refl
 
 -- an answer alone
 pub does_nothing : (rs : List Stored) (xs : List Session) (m : ℕ) (answer : Answer) (act : State → State × Answer) → keep_rules (parts_of rs) ≡ true → ((s : State) → StandsAt rs xs m s → act s ≡ (s, answer))
-    → Does rs xs m [] None answer act
+    → Does rs xs m [] Stay answer act
 does_nothing rs xs m answer act rules same = record {
   keeps = rules;
   once = none_changes;
   does = λ s stands. (subst (λ t. StandsAt rs xs m t) (sym (ap (λ r. r.0) (same s stands))) stands, sym (ap (λ r. r.1) (same s stands)));
 }
 
--- ---- CONNECT
-
-pub does_connect : (rs : List Stored) (xs : List Session) (m : ℕ) (name user : List ℕ) → keep_rules (parts_of rs) ≡ true → xs ≡ [] → Does rs xs m [] (Some (record { name = name; user = user })) Fine (connect name user)
-does_connect rs xs m name user rules none = record {
+-- the sessions alone change
+pub does_seat : (rs : List Stored) (xs : List Session) (m : ℕ) (seating : Seating) (answer : Answer) (act : State → State × Answer) → keep_rules (parts_of rs) ≡ true
+    → ((s : State) → StandsAt rs xs m s → act s ≡ (record s { sessions = seated s.sessions seating }, answer)) → Does rs xs m [] seating answer act
+does_seat rs xs m seating answer act rules same = record {
   keeps = rules;
   once = none_changes;
-  does = λ s stands. by_sessions s stands (sym stands.sessions_are ∙ none);
+  does = λ s stands. (
+    subst (λ t. StandsAt rs (seated xs seating) m t) (sym (ap (λ r. r.0) (same s stands))) (record {
+      stands = stands_sessions (parts_of rs) s (seated s.sessions seating) stands.stands;
+      sessions_are = ap (λ ys. seated ys seating) stands.sessions_are;
+      moment_is = stands.moment_is;
+    }),
+    sym (ap (λ r. r.1) (same s stands)),
+  );
 }
-  where
-    one : Session
-    one = record { name = name; user = user }
-
-    by_sessions : (s : State) → StandsAt rs xs m s → s.sessions ≡ [] → StandsAt rs (xs ++ one ∷ []) m (connect name user s).0 × (Fine ≡ (connect name user s).1)
-    by_sessions s stands empty =
-        rw empty (record { stands = stands_sessions (parts_of rs) s (one ∷ []) stands.stands; sessions_are = ap (λ ys. ys ++ one ∷ []) none; moment_is = stands.moment_is }, refl)
-
-pub does_not_connect : (rs : List Stored) (xs : List Session) (m : ℕ) (name user : List ℕ) → keep_rules (parts_of rs) ≡ true → (xs ≡ [] → ⊥) → Does rs xs m [] None not_built (connect name user)
-does_not_connect rs xs m name user rules some = does_nothing rs xs m not_built (connect name user) rules (λ s stands. by_sessions s s.sessions refl (λ h. some (stands.sessions_are ∙ h)))
-  where
-    by_sessions : (s : State) (ys : List Session) → s.sessions ≡ ys → (s.sessions ≡ [] → ⊥) → connect name user s ≡ (s, not_built)
-    by_sessions s [] h there = absurd (there h)
-    by_sessions s (x ∷ ys) h there = rw h refl
 
 -- ---- what is counted
 
@@ -105,10 +90,6 @@ counts_as rs xs m s c stands one =
   where
     first_same : (a b : Counters) → (a ∷ []) ≡ (b ∷ []) → a ≡ b
     first_same a b h = cc
-
--- the counters once a line has changed something
-abbrev pub moved : Counters → ℕ → Counters
-moved c m = record c { last_moment = m; work = c.work + line_work }
 
 both : (a b : Bool) → (a && b) ≡ true → (a ≡ true) × (b ≡ true)
 both true b e = (refl, e)
@@ -145,64 +126,3 @@ not_spent s log done short room = rw (short, room) refl
 pub two_changes : (c d : Change) → c.id ≢ d.id → AreChanges (c ∷ d ∷ [])
 unfolding ids_differ
 two_changes c d apart = rw (ne_eqb d.id c.id (λ e. apart (sym e))) refl
-
--- ---- CREATE TABLE
-
--- there is a table
-pub does_not_create : (rs : List Stored) (xs : List Session) (m : ℕ) (name key value : List ℕ) → keep_rules (parts_of rs) ≡ true → ((parts_of rs).tables ≡ [] → ⊥) → Does rs xs m [] None not_built (create name key value)
-does_not_create rs xs m name key value rules some = does_nothing rs xs m not_built (create name key value) rules (λ s stands. by_tables s s.tables refl (λ h. some (by_number-none (parts_of rs).tables (stands.stands.tables.same ∙ h))))
-  where
-    by_tables : (s : State) (ts : List Table) → s.tables ≡ ts → (s.tables ≡ [] → ⊥) → create name key value s ≡ (s, not_built)
-    by_tables s [] h there = absurd (there h)
-    by_tables s (t ∷ ts) h there = rw h refl
-
-no_tables : (rs : List Stored) (xs : List Session) (m : ℕ) (s : State) → StandsAt rs xs m s → (parts_of rs).tables ≡ [] → s.tables ≡ []
-no_tables rs xs m s stands none = sym stands.stands.tables.same ∙ ap by_number none
-
-created_is : (name key value : List ℕ) (s : State) → s.tables ≡ [] → create name key value s ≡ (if is_table (two_columns name key value) then durably s 0 (record s { tables = two_columns name key value ∷ [] }, Fine) else (s, not_built))
-created_is name key value s none = rw none refl
-
--- the table breaks a rule of tables
-pub does_not_fit : (rs : List Stored) (xs : List Session) (m : ℕ) (name key value : List ℕ) → keep_rules (parts_of rs) ≡ true → (parts_of rs).tables ≡ [] → is_table (two_columns name key value) ≡ false → Does rs xs m [] None not_built (create name key value)
-does_not_fit rs xs m name key value rules none unfit =
-    does_nothing rs xs m not_built (create name key value) rules (λ s stands. created_is name key value s (no_tables rs xs m s stands none) ∙ rw unfit refl)
-
-pub create_spent : (rs : List Stored) (xs : List Session) (m : ℕ) (name key value : List ℕ) (c : Counters) → keep_rules (parts_of rs) ≡ true → (parts_of rs).tables ≡ [] → is_table (two_columns name key value) ≡ true
-    → (parts_of rs).counters ≡ c ∷ [] → nat_lt counter_limit (c.work + line_work) ≡ true → Does rs xs m [] None (at_its_end (codes "WORK")) (create name key value)
-create_spent rs xs m name key value c rules none fit one much =
-    does_nothing rs xs m (at_its_end (codes "WORK")) (create name key value) rules
-    (λ s stands. created_is name key value s (no_tables rs xs m s stands none) ∙ rw fit
-    (spent_work s 0 (record s { tables = two_columns name key value ∷ [] }, Fine) refl (ap (λ w. nat_lt counter_limit (w + line_work)) (sym (counts_as rs xs m s c stands one).work) ∙ much)))
-
-pub does_create : (rs : List Stored) (xs : List Session) (m : ℕ) (name key value : List ℕ) (c : Counters) (counters_id id : ℕ) → keep_rules (parts_of rs) ≡ true → (parts_of rs).tables ≡ []
-    → is_table (two_columns name key value) ≡ true → (parts_of rs).counters ≡ c ∷ [] → record_at rs counters_id ≡ Some (records.Counters c) → nat_lt counter_limit (c.work + line_work) ≡ false → nat_lt m END ≡ true → Ascend rs → AllUnder id rs
-    → Does rs xs m (create_batch counters_id (moved c m) id (two_columns name key value)) None Fine (create name key value)
-does_create rs xs m name key value c counters_id id rules none fit one there room early sorted under = record {
-  keeps = subst (λ p. keep_rules p ≡ true) (sym (parts-created rs counters_id id c (moved c m) (two_columns name key value) sorted there one none under))
-      (keep-created (parts_of rs) (moved c m) (two_columns name key value) rules none counts_well (λ d is_one. ap (λ (k : Counters). k.next_version) (only c d (sym one ∙ is_one))) fit);
-  once = two_changes (put counters_id (records.Counters (moved c m))) (put id (records.Table (two_columns name key value))) (λ e. below counters_id id (under_found id rs counters_id (records.Counters c) under there) e);
-  does = λ s stands.
-      let counts = counts_as rs xs m s c stands one in
-      let is : create name key value s ≡ (record s { tables = two_columns name key value ∷ []; last_moment = s.moment; work = s.work + line_work }, Fine) =
-      created_is name key value s (no_tables rs xs m s stands none) ∙ rw fit (not_spent s 0 (record s { tables = two_columns name key value ∷ [] }, Fine) refl (ap (λ w. nat_lt counter_limit (w + line_work)) (sym counts.work) ∙ room)) in (
-        subst (λ r. StandsAt (applied (create_batch counters_id (moved c m) id (two_columns name key value)) rs) xs m r.0) (sym is) (record {
-          stands = plan_created rs counters_id id c (moved c m) (two_columns name key value) s _ stands.stands sorted there one none (no_tables rs xs m s stands none) under counts_well refl fit refl refl
-              (record { counters = moved c m; one = refl; next_stamp = counts.next_stamp; last_moment = stands.moment_is; limit = counts.limit; work = ap (λ w. w + line_work) counts.work });
-          sessions_are = stands.sessions_are;
-          moment_is = stands.moment_is;
-        }),
-        sym (ap (λ r. r.1) is),
-      );
-}
-  where
-    only : (a b : Counters) → (a ∷ []) ≡ (b ∷ []) → a ≡ b
-    only a b h = cc
-
-    below : (a b : ℕ) → a < b → a ≡ b → ⊥
-    below a b lt e = omega (arith, lt, e)
-
-    counts_well : are_counters (moved c m) ≡ true
-    counts_well = counters_move c m (counted_well (ruled (parts_of rs) rules)) early room
-      where
-        counted_well : Ruled (parts_of rs) → are_counters c ≡ true
-        counted_well r = ap are_counters (sym (only r.counters c (sym r.one ∙ one))) ∙ r.counted

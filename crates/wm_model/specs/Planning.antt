@@ -1,5 +1,5 @@
 -- What a plan over the records of a store says that a line does and answers.
-use Rattle.std.specs.Prelude.{◌≡◌, ℕ, true, List, [], ◌∷◌, ◌++◌, Option, Some, None}
+use Rattle.std.specs.Prelude.{◌≡◌, ◌+◌, ℕ, ℤ, true, List, [], ◌∷◌, ◌++◌, Option, Some, None}
 use Rattle.wm_graph.specs.Parts.{parts_of}
 use Rattle.wm_graph.specs.Rules.{keep_rules}
 use Rattle.wm_print.specs.Texts.{Answer}
@@ -7,9 +7,13 @@ use Rattle.wm_spec.specs.Records.{AreChanges}
 use Rattle.wm_spec.specs.declared.record.batch.Change.{Change}
 use Rattle.wm_spec.specs.declared.record.stored.Stored.{Stored}
 use Rattle.wm_state.specs.ById.{applied}
-use Rattle.wm_state.specs.State.{State, Session, Stand}
-use Rattle.wm_model.specs.Step.{closed, moved_to}
-use Rattle.wm_state.specs.Standing.{Stands}
+use Rattle.wm_state.specs.State.{State, Session, Stand, table_named}
+use Rattle.wm_model.specs.Step.{closed, moved_to, line_work}
+use Rattle.wm_state.specs.Standing.{Stands, by_number}
+use Rattle.wm_base.specs.declared.value.Value.{Value}
+use Rattle.wm_base.specs.declared.value.Value.TheVariants.{Num}
+use Rattle.wm_spec.specs.declared.record.counters.Counters.{Counters}
+use Rattle.wm_spec.specs.declared.record.table.Table.{Table}
 
 -- records, sessions and a moment stand for a state
 pub record StandsAt (records : List Stored) (sessions : List Session) (moment : ℕ) (s : State) : Type 0 where
@@ -35,3 +39,21 @@ pub record Does (records : List Stored) (sessions : List Session) (moment : ℕ)
   pub keeps : keep_rules (parts_of (applied changes records)) ≡ true
   pub once : AreChanges changes
   pub does : (s : State) → StandsAt records sessions moment s → StandsAt (applied changes records) (seated sessions seating) moment (act s).0 × (answer ≡ (act s).1)
+
+-- ---- what plans are told by
+
+-- the counters once a line has changed something at a moment
+abbrev pub moved : Counters → ℕ → Counters
+moved c m = record c { last_moment = m; work = c.work + line_work }
+
+-- the counters once a line has written a row
+abbrev pub stepped : Counters → ℕ → Counters
+stepped c m = record (moved c m) { next_stamp = c.next_stamp + 1 }
+
+-- the table of a name among records
+abbrev pub named : List Stored → List ℕ → Option Table
+named rs name = table_named name (by_number (parts_of rs).tables)
+
+-- the values of a row of two numbers
+abbrev pub row_values : ℤ → ℤ → List Value
+row_values key value = Num key ∷ Num value ∷ []

@@ -1,0 +1,49 @@
+-- What lines that change the sessions alone do to each state that the engine stands for.
+use Rattle.std.proofs.Common.{◌≡◌, ℕ, ◌&&◌, nat_le, Bool, true, false, not, List, [], ◌∷◌, ◌++◌, length, Option, Some, None, is_some, refl, sym, ap, ◌∙◌}
+use Rattle.wm_graph.specs.Parts.{parts_of}
+use Rattle.wm_graph.specs.Rules.{keep_rules}
+use Rattle.wm_print.specs.Texts.{Answer, Fine}
+use Rattle.wm_spec.specs.declared.record.stored.Stored.{Stored}
+use Rattle.wm_state.specs.State.{State, Session, Latest}
+use Rattle.wm_model.specs.Step.{connect, disconnect, run_for, session_of, is_name, session_there, no_session, bad_name, most_sessions, run_statement}
+use Rattle.wm_model.specs.Planning.{StandsAt, Does, Stay, Open, Close}
+use Rattle.wm_model.proofs.Doing.{does_nothing, does_seat}
+use Rattle.wm_reader.specs.Grammar.{Statement}
+
+-- ---- CONNECT
+
+open_still : (rs : List Stored) (xs : List Session) (m : ℕ) (s : State) (name : List ℕ) (b : Bool) → StandsAt rs xs m s → is_some (session_of name xs) ≡ b → is_some (session_of name s.sessions) ≡ b
+open_still rs xs m s name b st is = ap (λ ys. is_some (session_of name ys)) (sym st.sessions_are) ∙ is
+
+pub connect_there : (rs : List Stored) (xs : List Session) (m : ℕ) (name user : List ℕ) → keep_rules (parts_of rs) ≡ true → is_some (session_of name xs) ≡ true → Does rs xs m [] Stay (session_there name) (connect name user)
+connect_there rs xs m name user rules there = does_nothing rs xs m (session_there name) (connect name user) rules (λ s st. rw (open_still rs xs m s name true st there) refl)
+
+pub connect_unnamed : (rs : List Stored) (xs : List Session) (m : ℕ) (name user : List ℕ) → keep_rules (parts_of rs) ≡ true → is_some (session_of name xs) ≡ false → (is_name name && is_name user) ≡ false
+    → Does rs xs m [] Stay bad_name (connect name user)
+connect_unnamed rs xs m name user rules new bad = does_nothing rs xs m bad_name (connect name user) rules (λ s st. rw (open_still rs xs m s name false st new, bad) refl)
+
+pub connect_full : (rs : List Stored) (xs : List Session) (m : ℕ) (name user : List ℕ) → keep_rules (parts_of rs) ≡ true → is_some (session_of name xs) ≡ false → (is_name name && is_name user) ≡ true → nat_le 256 (length xs) ≡ true
+    → Does rs xs m [] Stay most_sessions (connect name user)
+connect_full rs xs m name user rules new good full =
+    does_nothing rs xs m most_sessions (connect name user) rules (λ s st. rw (open_still rs xs m s name false st new, good, ap (λ (ys : List Session). nat_le 256 (length ys)) (sym st.sessions_are) ∙ full) refl)
+
+pub does_connect : (rs : List Stored) (xs : List Session) (m : ℕ) (name user : List ℕ) → keep_rules (parts_of rs) ≡ true → is_some (session_of name xs) ≡ false → (is_name name && is_name user) ≡ true → nat_le 256 (length xs) ≡ false
+    → Does rs xs m [] (Open (record { name = name; user = user; space = 0; stand = Latest })) Fine (connect name user)
+does_connect rs xs m name user rules new good room =
+    does_seat rs xs m (Open (record { name = name; user = user; space = 0; stand = Latest })) Fine (connect name user) rules
+    (λ s st. rw (open_still rs xs m s name false st new, good, ap (λ (ys : List Session). nat_le 256 (length ys)) (sym st.sessions_are) ∙ room) refl)
+
+-- ---- DISCONNECT
+
+pub disconnect_none : (rs : List Stored) (xs : List Session) (m : ℕ) (name : List ℕ) → keep_rules (parts_of rs) ≡ true → is_some (session_of name xs) ≡ false → Does rs xs m [] Stay (no_session name) (disconnect name)
+disconnect_none rs xs m name rules none = does_nothing rs xs m (no_session name) (disconnect name) rules (λ s st. rw (open_still rs xs m s name false st none) refl)
+
+pub does_disconnect : (rs : List Stored) (xs : List Session) (m : ℕ) (name : List ℕ) → keep_rules (parts_of rs) ≡ true → is_some (session_of name xs) ≡ true → Does rs xs m [] (Close name) Fine (disconnect name)
+does_disconnect rs xs m name rules there = does_seat rs xs m (Close name) Fine (disconnect name) rules (λ s st. rw (open_still rs xs m s name true st there) refl)
+
+-- ---- a statement of a session
+
+pub run_none : (rs : List Stored) (xs : List Session) (m : ℕ) (name : List ℕ) (statement : Statement) → keep_rules (parts_of rs) ≡ true → session_of name xs ≡ None
+    → Does rs xs m [] Stay (no_session name) (λ s. run_for name (session_of name s.sessions) statement s)
+run_none rs xs m name statement rules none =
+    does_nothing rs xs m (no_session name) (λ s. run_for name (session_of name s.sessions) statement s) rules (λ s st. ap (λ o. run_for name o statement s) (ap (session_of name) (sym st.sessions_are) ∙ none))
