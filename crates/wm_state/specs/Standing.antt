@@ -270,6 +270,7 @@ pub record Stands (p : Parts) (s : State) : Type 0 where
   pub counters : CountersStand p s
   pub tables : TablesStand p s
   pub spaces : SpacesStand p s
+  pub once : OnceStand p s
   pub latest : LatestStand p s
   pub own : OwnStand p s
   pub savepoints : SavepointsStand p s
