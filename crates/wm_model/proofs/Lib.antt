@@ -1,6 +1,7 @@
 pub mod Cutting
 pub mod Running
 pub mod Steps
+mod Samples
 pub mod Doing
 pub mod Homes
 pub mod Seating
