@@ -1,5 +1,6 @@
 pub mod Cutting
 pub mod Running
+pub mod Enabling
 pub mod Steps
 pub mod Doing
 pub mod Homes
