@@ -1,6 +1,7 @@
 pub mod Cutting
 pub mod Running
 pub mod Enabling
+pub mod Going
 pub mod Steps
 pub mod Doing
 pub mod Homes
