@@ -1,6 +1,6 @@
 -- Records that stand for a state. The records have one set of pieces, found through the paths of versions; the state has a
 -- whole list for each workspace.
-use Rattle.std.specs.Prelude.{ℕ, ◌≡◌, ◌<◌, Bool, true, ◌&&◌, ◌==◌, nat_le, nat_lt, if◌then◌else◌, List, [], ◌∷◌, map, length, is_none, is_some, Option, None, Some}
+use Rattle.std.specs.Prelude.{ℕ, ◌≡◌, ◌+◌, ◌<◌, Bool, true, ◌&&◌, ◌==◌, nat_le, nat_lt, max, if◌then◌else◌, List, [], ◌∷◌, map, length, is_none, is_some, Option, None, Some}
 use Rattle.std.specs.Bool.{then_some}
 use Rattle.std.specs.List.{filter, find}
 use Rattle.std.specs.Option.{option_or, option_map}
@@ -193,6 +193,16 @@ saved_in p n = by_making (filter (λ (x : Record). x.space == n) p.savepoints)
 abbrev pub saved_as : Parts → ℕ → ℕ → Option Record
 saved_as p n making = find (λ (x : Record). (x.space == n) && (x.making == making)) p.savepoints
 
+-- one more than the greatest number of the record of a workspace, 0 where there is none
+abbrev pub space_after : List Space → ℕ
+space_after [] = 0
+space_after (r ∷ rs) = max (r.number + 1) (space_after rs)
+
+-- one more than the greatest making of the record of a savepoint, 1 where there is none
+abbrev pub making_behind : List Record → ℕ
+making_behind [] = 1
+making_behind (x ∷ xs) = max (x.making + 1) (making_behind xs)
+
 -- the one record of counters says what the state counts
 pub record CountersStand (p : Parts) (s : State) : Type 0 where
   pub counters : Counters
@@ -260,6 +270,7 @@ pub record Stands (p : Parts) (s : State) : Type 0 where
   pub counters : CountersStand p s
   pub tables : TablesStand p s
   pub spaces : SpacesStand p s
+  pub once : OnceStand p s
   pub latest : LatestStand p s
   pub own : OwnStand p s
   pub savepoints : SavepointsStand p s
