@@ -14,6 +14,7 @@ use Rattle.wm_state.specs.ById.{applied}
 use Rattle.wm_state.specs.Standing.{saved_in}
 use Rattle.wm_state.specs.State.{State, Session, Workspace, Stand, Latest, At, workspace_named}
 use Rattle.wm_state.proofs.SavedAs.{named_some, named_none}
+use Rattle.wm_state.proofs.Spaces.{named_space, named_no_space}
 use Rattle.wm_model.specs.Step.{run_for, run_statement, session_of, goto_workspace, goto_savepoint, moved_to, no_workspace, no_savepoint, not_built}
 use Rattle.wm_model.specs.Planning.{StandsAt, Does, Seating, Stay, Move, seated}
 use Rattle.wm_model.proofs.Doing.{does_nothing, does_seat}
@@ -51,6 +52,16 @@ pub does_goto_workspace : (rs : List Stored) (xs : List Session) (m : ℕ) (sess
 does_goto_workspace rs xs m session name n rules some =
     does_seat rs xs m (Move session.name n Latest) Fine (goto_workspace session name) rules
     (λ s st. let r = some s st in rw r.1 (ap (λ a. standing session s a Latest) r.2))
+
+-- as the records say
+pub goto_unnamed_space : (rs : List Stored) (xs : List Session) (m : ℕ) (session : Session) (name : List ℕ) → keep_rules (parts_of rs) ≡ true → find (λ (r : Space). bytes_eq name r.name) (parts_of rs).spaces ≡ None
+    → Does rs xs m [] Stay (no_workspace name) (goto_workspace session name)
+goto_unnamed_space rs xs m session name rules none = goto_no_space rs xs m session name rules (λ s st. named_no_space (parts_of rs) s name st.stands none)
+
+pub does_goto_named_space : (rs : List Stored) (xs : List Session) (m : ℕ) (session : Session) (name : List ℕ) (r : Space) → keep_rules (parts_of rs) ≡ true → find (λ (q : Space). bytes_eq name q.name) (parts_of rs).spaces ≡ Some r
+    → Does rs xs m [] (Move session.name r.number Latest) Fine (goto_workspace session name)
+does_goto_named_space rs xs m session name r rules some =
+    does_goto_workspace rs xs m session name r.number rules (λ s st. let x = named_space (parts_of rs) s name r st.stands some in (x.workspace, x.named, x.is.number))
 
 -- ---- GotoSavepoint
 
