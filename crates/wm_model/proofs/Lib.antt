@@ -1,5 +1,8 @@
 pub mod Cutting
 pub mod Running
+pub mod Creating
+pub mod Enabling
+pub mod Going
 pub mod Steps
 mod Samples
 pub mod Doing
