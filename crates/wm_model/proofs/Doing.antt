@@ -30,6 +30,7 @@ stands_sessions p s xs st = record {
   };
   tables = record { same = st.tables.same };
   spaces = record { same = st.spaces.same };
+  once = record { numbers = st.once.numbers; count = st.once.count };
   latest = record { told = st.latest.told };
   own = record { covered = st.own.covered };
   savepoints = record { same = st.savepoints.same };

@@ -1,10 +1,10 @@
 -- A workspace is born.
-use Rattle.std.proofs.Common.{◌≡◌, ◌≢◌, ℕ, ◌<◌, ◌==◌, Bool, true, false, ◌&&◌, cond, List, [], ◌∷◌, ◌++◌, map, Option, Some, None, is_some, refl, sym, ap, subst, ◌∙◌, ◌⊎◌, inl, inr, append-nil, arith}
+use Rattle.std.proofs.Common.{◌≡◌, ◌≢◌, ℕ, ◌+◌, ◌<◌, ◌==◌, Bool, true, false, ◌&&◌, cond, List, [], ◌∷◌, ◌++◌, map, Option, Some, None, is_some, refl, sym, ap, subst, ◌∙◌, ◌⊎◌, inl, inr, append-nil, length, length-append, arith}
 use Rattle.std.proofs.lemmas.Bool.{cases_eq, eq-eqb, ne_eqb}
 use Rattle.std.specs.List.{filter, find, list_any}
 use Rattle.std.specs.Option.{option_or, option_map}
 use Rattle.wm_graph.specs.Parts.{Parts, row_of, space_of, version_of}
-use Rattle.wm_graph.specs.Rules.{keep_rules}
+use Rattle.wm_graph.specs.Rules.{keep_rules, differ}
 use Rattle.wm_spec.specs.Lists.{Entry, Cell, told, touched}
 use Rattle.wm_spec.specs.declared.record.row.RowRecord.{RowRecord}
 use Rattle.wm_spec.specs.declared.record.savepoint.Savepoint.{Savepoint as Record}
@@ -13,7 +13,8 @@ use Rattle.wm_tree.specs.declared.version.Version.{Version as Node}
 use Rattle.wm_state.specs.State.{State, Workspace, Savepoint, content, kept, workspace_of, savepoint_made, savepoints_of}
 use Rattle.wm_state.specs.Standing.{held_of, fields_of, fields_in, saved_fields, fields_saved, by_making, saved_in, saved_as, by_number, latest, seen, seen_above, shown, owned, HasRows, CountersStand, Stands}
 use Rattle.wm_state.specs.Effects.{Born}
-use Rattle.wm_state.proofs.Tests.{either_false}
+use Rattle.wm_state.proofs.Tests.{either_false, differ_push}
+use Rattle.wm_state.proofs.Mapped.{none-found}
 use Rattle.wm_state.proofs.Sprouting.{Sprouted, seen-before, above-before, seen-sprout, above-sprout, newest-here, newest-away, newest-lower}
 use Rattle.wm_state.proofs.Named.{saved_there, bases_there, version_there, version_below}
 
@@ -97,6 +98,7 @@ Stands-born p q s t r number w es b st child spaces tables counters rules = reco
   counters = counters;
   tables = record { same = ap by_number b.tables ∙ st.tables.same ∙ sym tables };
   spaces = record { same = spaces_same };
+  once = record { numbers = numbers; count = b.count ∙ ap (λ k. k + 1) st.once.count ∙ sym (length-append s.spaces (w ∷ [])) ∙ sym (ap length spaces) };
   latest = record { told = λ m new is c. latest_told m new c (workspace_is m new is) };
   own = record { covered = λ m new x is recorded c. own_covered m new x c (workspace_is m new is) (record_is m x recorded) };
   savepoints = record { same = saved_same };
@@ -129,6 +131,12 @@ Stands-born p q s t r number w es b st child spaces tables counters rules = reco
     -- no workspace had the child's number
     none : workspace_of s.spaces r.number ≡ None
     none = map-none fields_in (workspace_of s.spaces r.number) (sym (st.spaces.same r.number) ∙ ap (option_map fields_of) b.none)
+
+    numbers : differ (λ (v w : Workspace). v.number == w.number) t.spaces ≡ true
+    numbers =
+        ap (differ (λ (v w : Workspace). v.number == w.number)) spaces
+        ∙ differ_push (λ (v w : Workspace). v.number == w.number) s.spaces w st.once.numbers
+        (ap (λ k. list_any (λ (v : Workspace). v.number == k) s.spaces) child.number ∙ none-found (λ (v : Workspace). v.number == r.number) s.spaces none)
 
     found : (m : ℕ) → workspace_of t.spaces m ≡ cond (m == r.number) (Some w) (workspace_of s.spaces m)
     found m =

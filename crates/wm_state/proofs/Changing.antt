@@ -1,8 +1,10 @@
 -- A workspace that was changed, among the others.
-use Rattle.std.proofs.Common.{◌≡◌, ◌≢◌, ℕ, Bool, true, false, cond, List, [], ◌∷◌, ◌++◌, Option, None, refl, sym, ap, ◌∙◌, ◌==◌, append_assoc, ◌⊎◌, inl, inr}
+use Rattle.std.proofs.Common.{◌≡◌, ◌≢◌, ℕ, suc, Bool, true, false, not, ◌&&◌, ◌||◌, cond, List, [], ◌∷◌, ◌++◌, length, Option, None, refl, sym, ap, ◌∙◌, ◌==◌, append_assoc, ◌⊎◌, inl, inr}
 use Rattle.std.proofs.lemmas.Bool.{cases_eq, eq-eqb, ne_eqb}
 use Rattle.std.specs.Bool.{then_some}
+use Rattle.std.specs.List.{list_any}
 use Rattle.std.specs.Option.{option_or, option_map}
+use Rattle.wm_graph.specs.Rules.{differ}
 use Rattle.wm_spec.specs.Lists.{Entry, Cell, told, told_of, covers}
 use Rattle.wm_spec.proofs.Lists.{told-push}
 use Rattle.wm_state.specs.State.{Workspace, content, workspace_of, with_space, with_entries}
@@ -34,6 +36,41 @@ workspace_of-changed n act same (w ∷ ws) m = by_number (cases_eq w.number n) (
     by_number (inr apart) (inl that) (inr away) rest = rw (ne_eqb _ _ apart, ne_eqb _ _ away) rest
     by_number (inr apart) (inr other) (inl found) rest = rw (ne_eqb _ _ apart, ne_eqb _ _ other, eq-eqb _ _ found) refl
     by_number (inr apart) (inr other) (inr away) rest = rw (ne_eqb _ _ apart, ne_eqb _ _ away) rest
+
+-- a change that keeps the number keeps how many there are
+pub length-changed : (n : ℕ) (act : Workspace → Workspace) (ws : List Workspace) → length (with_space n act ws) ≡ length ws
+length-changed n act [] = refl
+length-changed n act (w ∷ ws) = by_test (w.number == n) (length-changed n act ws)
+  where
+    by_test : (b : Bool) → length (with_space n act ws) ≡ length ws → length (cond b (act w ∷ ws) (w ∷ with_space n act ws)) ≡ length (w ∷ ws)
+    by_test true rest = refl
+    by_test false rest = ap suc rest
+
+any-changed : (n : ℕ) (act : Workspace → Workspace) → ((w : Workspace) → (act w).number ≡ w.number) → (ws : List Workspace) (k : ℕ)
+    → list_any (λ (v : Workspace). k == v.number) (with_space n act ws) ≡ list_any (λ (v : Workspace). k == v.number) ws
+any-changed n act same [] k = refl
+any-changed n act same (w ∷ ws) k = by_test (w.number == n) (any-changed n act same ws k)
+  where
+    is_k : Workspace → Bool
+    is_k v = k == v.number
+
+    by_test : (b : Bool) → list_any is_k (with_space n act ws) ≡ list_any is_k ws → list_any is_k (cond b (act w ∷ ws) (w ∷ with_space n act ws)) ≡ list_any is_k (w ∷ ws)
+    by_test true rest = ap (λ m. (k == m) || list_any is_k ws) (same w)
+    by_test false rest = ap (λ b. (k == w.number) || b) rest
+
+-- and whether their numbers differ
+pub differ-changed : (n : ℕ) (act : Workspace → Workspace) → ((w : Workspace) → (act w).number ≡ w.number) → (ws : List Workspace)
+    → differ (λ (v w : Workspace). v.number == w.number) (with_space n act ws) ≡ differ (λ (v w : Workspace). v.number == w.number) ws
+differ-changed n act same [] = refl
+differ-changed n act same (w ∷ ws) = by_test (w.number == n) (any-changed n act same ws w.number) (differ-changed n act same ws)
+  where
+    one_number : Workspace → Workspace → Bool
+    one_number v w = v.number == w.number
+
+    by_test : (b : Bool) → list_any (one_number w) (with_space n act ws) ≡ list_any (one_number w) ws → differ one_number (with_space n act ws) ≡ differ one_number ws
+        → differ one_number (cond b (act w ∷ ws) (w ∷ with_space n act ws)) ≡ differ one_number (w ∷ ws)
+    by_test true none rest = ap (λ m. not (list_any (λ (v : Workspace). m == v.number) ws) && differ one_number ws) (same w)
+    by_test false none rest = rw (none, rest) refl
 
 -- an entry more in a workspace lies over its content
 pub told-with_entries : (e : Entry) (w : Workspace) (c : Cell) → told (content (with_entries (e ∷ []) w)) c ≡ option_or (then_some (covers e c) (told_of e)) (told (content w) c)

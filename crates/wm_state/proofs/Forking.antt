@@ -13,7 +13,7 @@ use Rattle.wm_tree.specs.declared.version.Version.{Version as Node}
 use Rattle.wm_state.specs.State.{State, content, workspace_of, savepoints_of}
 use Rattle.wm_state.specs.Standing.{stored_at, seen_at, own_at, newest_first, latest, shown, owned, seen, seen_above, saved_as, CountersStand, Stands, by_number}
 use Rattle.wm_state.specs.Effects.{Forked, node_under}
-use Rattle.wm_state.proofs.Frames.{Framed, KeepRows, HasRows-kept, SavepointsStand-framed, KeptStand-framed, KeptOwnStand-framed, BasesStand-framed, RowsStand-framed}
+use Rattle.wm_state.proofs.Frames.{Framed, KeepRows, OnceStand-same, HasRows-kept, SavepointsStand-framed, KeptStand-framed, KeptOwnStand-framed, BasesStand-framed, RowsStand-framed}
 use Rattle.wm_state.proofs.Named.{saved_there, bases_there, version_there, version_below}
 
 -- the newest version of a workspace is below what all versions are below
@@ -121,6 +121,7 @@ Stands-forked p q s t n number f st spaces tables counters rules = record {
   counters = counters;
   tables = record { same = ap by_number f.tables ∙ st.tables.same ∙ sym tables };
   spaces = record { same = λ m. rw (f.spaces, spaces) (st.spaces.same m) };
+  once = OnceStand-same p q s t f.spaces spaces st.once;
   latest = record { told = λ m w is c. shown-forked p q n number f m c ∙ st.latest.told m w (ap (λ ws. workspace_of ws m) (sym spaces) ∙ is) c };
   own = record {
     covered = λ m w r is recorded c.

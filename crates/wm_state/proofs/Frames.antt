@@ -1,19 +1,21 @@
 -- What is kept, clause by clause: a clause holds of the records and the state after an edit where each thing that it looks up is as it
--- was before, or holds of itself. A law a clause: SpacesStand-frame, LatestStand-frame, OwnStand-frame, SavepointsStand-frame,
+-- was before, or holds of itself. A law a clause: SpacesStand-frame, OnceStand-frame, LatestStand-frame, OwnStand-frame, SavepointsStand-frame,
 -- KeptStand-frame, KeptOwnStand-frame, BasesStand-frame, RowsStand-frame; the records Shown, Owned, Point and Base say that a look-up
 -- is as before. Where no savepoint and no workspace is new, the record Framed gives the last five: SavepointsStand-framed and so on.
 -- The module Keeping has the like for the rules, and Named what the rules say of versions that savepoints and workspaces name.
-use Rattle.std.proofs.Common.{◌≡◌, ℕ, ◌<◌, ◌==◌, ◌&&◌, List, [], map, Option, Some, None, is_some, refl, sym, ap, ◌∙◌, ◌⊎◌, inl, ⊎_elim}
+use Rattle.std.proofs.Common.{◌≡◌, ℕ, ◌<◌, ◌==◌, ◌&&◌, List, [], map, length, Option, Some, None, is_some, refl, sym, ap, ◌∙◌, ◌⊎◌, inl, ⊎_elim}
 use Rattle.std.specs.List.{filter, find}
 use Rattle.std.specs.Option.{option_map}
 use Rattle.wm_base.specs.declared.row.Row.{Row}
 use Rattle.wm_graph.specs.Parts.{Parts, row_of, space_of}
+use Rattle.wm_graph.specs.Rules.{differ}
 use Rattle.wm_spec.specs.Lists.{Entry, Cell, told, touched}
 use Rattle.wm_spec.specs.declared.record.row.RowRecord.{RowRecord}
 use Rattle.wm_spec.specs.declared.record.savepoint.Savepoint.{Savepoint as Record}
 use Rattle.wm_spec.specs.declared.record.space.Space.{Space}
-use Rattle.wm_state.specs.State.{State, Workspace, Savepoint, content, kept, workspace_of, savepoint_made, savepoints_of}
-use Rattle.wm_state.specs.Standing.{held_of, shown, owned, seen, seen_above, fields_of, fields_in, saved_fields, fields_saved, by_making, saved_in, saved_as, SpacesStand, LatestStand, OwnStand, SavepointsStand, KeptStand, KeptOwnStand, BasesStand, RowsStand, HasRows}
+use Rattle.wm_state.specs.State.{State, Workspace, Savepoint, content, kept, workspace_of, with_space, savepoint_made, savepoints_of}
+use Rattle.wm_state.specs.Standing.{held_of, shown, owned, seen, seen_above, fields_of, fields_in, saved_fields, fields_saved, by_making, saved_in, saved_as, SpacesStand, OnceStand, LatestStand, OwnStand, SavepointsStand, KeptStand, KeptOwnStand, BasesStand, RowsStand, HasRows}
+use Rattle.wm_state.proofs.Changing.{length-changed, differ-changed}
 
 -- ---- workspaces and what they show
 
@@ -24,6 +26,29 @@ pub record Fields (p q : Parts) (s t : State) (n : ℕ) : Type 0 where
 
 pub SpacesStand-frame : (p q : Parts) (s t : State) → ((n : ℕ) → Fields p q s t n ⊎ (option_map fields_of (space_of q.spaces n) ≡ option_map fields_in (workspace_of t.spaces n))) → SpacesStand p s → SpacesStand q t
 SpacesStand-frame p q s t each stand = record { same = λ n. ⊎_elim (λ (f : Fields p q s t n). f.recorded ∙ stand.same n ∙ sym f.is) (λ h. h) (each n) }
+
+-- the workspaces have the numbers that they had, and there are as many of them and of records as before
+pub record Counted (p q : Parts) (s t : State) : Type 0 where
+  pub numbers : differ (λ (v w : Workspace). v.number == w.number) t.spaces ≡ differ (λ (v w : Workspace). v.number == w.number) s.spaces
+  pub there : length t.spaces ≡ length s.spaces
+  pub recorded : length q.spaces ≡ length p.spaces
+
+pub OnceStand-frame : (p q : Parts) (s t : State) → Counted p q s t → OnceStand p s → OnceStand q t
+OnceStand-frame p q s t f stand = record { numbers = f.numbers ∙ stand.numbers; count = f.recorded ∙ stand.count ∙ sym f.there }
+
+-- where one workspace was changed
+pub OnceStand-changed : (p q : Parts) (s t : State) (n : ℕ) (act : Workspace → Workspace) → ((w : Workspace) → (act w).number ≡ w.number) → t.spaces ≡ with_space n act s.spaces → length q.spaces ≡ length p.spaces
+    → OnceStand p s → OnceStand q t
+OnceStand-changed p q s t n act same spaces recorded = OnceStand-frame p q s t (record {
+  numbers = ap (differ (λ (v w : Workspace). v.number == w.number)) spaces ∙ differ-changed n act same s.spaces;
+  there = ap length spaces ∙ length-changed n act s.spaces;
+  recorded = recorded;
+})
+
+-- where the workspaces and their records are those of before
+pub OnceStand-same : (p q : Parts) (s t : State) → q.spaces ≡ p.spaces → t.spaces ≡ s.spaces → OnceStand p s → OnceStand q t
+OnceStand-same p q s t recorded same =
+    OnceStand-frame p q s t (record { numbers = ap (differ (λ (v w : Workspace). v.number == w.number)) same; there = ap length same; recorded = ap length recorded })
 
 -- a workspace has its content of before, and shows what it showed
 pub record Shown (p q : Parts) (s : State) (n : ℕ) (w : Workspace) : Type 0 where

@@ -1,7 +1,7 @@
 -- The greatest making of a savepoint, in the state and in the records.
-use Rattle.std.proofs.Common.{◌≡◌, ℕ, ◌==◌, nat_lt, nat_le, max, Bool, true, false, not, cond, List, [], ◌∷◌, map, Option, Some, None, refl, sym, ap, ◌∙◌, arith}
-use Rattle.std.proofs.lemmas.Bool.{eq-eqb, eqb-true}
-use Rattle.std.specs.List.{list_all, list_any, filter}
+use Rattle.std.proofs.Common.{◌≡◌, ℕ, ◌==◌, nat_lt, nat_le, max, Bool, true, false, cond, List, [], ◌∷◌, map, Option, Some, None, refl, sym, ap, ◌∙◌, arith}
+use Rattle.std.proofs.lemmas.Bool.{eq-eqb}
+use Rattle.std.specs.List.{list_all, filter}
 use Rattle.wm_graph.specs.Parts.{Parts}
 use Rattle.wm_graph.specs.Rules.{differ}
 use Rattle.wm_spec.specs.declared.record.savepoint.Savepoint.{Savepoint as Record}
@@ -11,8 +11,8 @@ use Rattle.wm_state.proofs.Apart.{found-passes}
 use Rattle.wm_state.proofs.Frames.{savepoints_of-found, savepoints_of-none}
 use Rattle.wm_state.proofs.KeepSaved.{greatest_making}
 use Rattle.wm_state.proofs.Making.{all-making}
-use Rattle.wm_state.proofs.Mapped.{all-alike, found-fails}
-use Rattle.wm_state.proofs.Tests.{both, and_true, not_true, all_if, all_filter}
+use Rattle.wm_state.proofs.Mapped.{all-alike, all-found}
+use Rattle.wm_state.proofs.Tests.{both, and_true, all_if, all_filter}
 
 -- the greatest making of the savepoints of a workspace, and of any workspace: 0 where there is none
 abbrev pub greatest_kept : List Savepoint → ℕ
@@ -80,24 +80,6 @@ spaces_under (w ∷ ws) =
     (all_if (λ (v : Workspace). nat_le (greatest_kept v.savepoints) (greatest_in ws)) (λ (v : Workspace). nat_le (greatest_kept v.savepoints) (max (greatest_kept w.savepoints) (greatest_in ws)))
     (λ v le. le_right (greatest_kept v.savepoints) (greatest_in ws) (greatest_kept w.savepoints) le) ws (spaces_under ws))
 
--- ---- each workspace is found by its number
-
-all_numbered : (P : Workspace → Bool) (ws : List Workspace) → workspaces_differ ws ≡ true → ((n : ℕ) (w : Workspace) → workspace_of ws n ≡ Some w → P w ≡ true) → list_all P ws ≡ true
-all_numbered P [] apart each = refl
-all_numbered P (w ∷ ws) apart each =
-    let h = both (not (list_any (λ (v : Workspace). w.number == v.number) ws)) (workspaces_differ ws) apart in
-    and_true (P w) (list_all P ws) (each w.number w (rw (eq-eqb w.number w.number refl) refl))
-    (all_numbered P ws h.1 (λ n v found. each n v (rw (other n v (not_true (list_any (λ (v : Workspace). w.number == v.number) ws) h.0) found) found)))
-  where
-    pass_all : (vs : List Workspace) → list_all (λ (v : Workspace). true) vs ≡ true
-    pass_all [] = refl
-    pass_all (v ∷ vs) = pass_all vs
-
-    other : (n : ℕ) (v : Workspace) → list_any (λ (u : Workspace). w.number == u.number) ws ≡ false → workspace_of ws n ≡ Some v → (w.number == n) ≡ false
-    other n v none found =
-        ap (λ k. w.number == k) (sym (eqb-true v.number n (found-passes (λ (u : Workspace). u.number == n) (λ u. true) ws v found (pass_all ws)).0))
-        ∙ found-fails (λ (u : Workspace). u.number == n) (λ (u : Workspace). w.number == u.number) ws v found none
-
 -- ---- the records of each workspace are all records
 
 place-back : (Q : Record → Bool) (y : Record) (ys : List Record) → list_all Q (place_making y ys) ≡ true → list_all Q (y ∷ ys) ≡ true
@@ -143,7 +125,7 @@ greatest_same p s stand apart = one_number (greatest_in s.spaces) (greatest_maki
 
     below : nat_le (greatest_in s.spaces) (greatest_making p.savepoints) ≡ true
     below = greatest_spaces s.spaces (greatest_making p.savepoints)
-        (all_numbered (λ (w : Workspace). nat_le (greatest_kept w.savepoints) (greatest_making p.savepoints)) s.spaces apart
+        (all-found (λ (w : Workspace). w.number) (λ (w : Workspace). nat_le (greatest_kept w.savepoints) (greatest_making p.savepoints)) s.spaces apart
         (λ n w found. greatest_savepoints w.savepoints (greatest_making p.savepoints)
         (sym (all-alike saved_fields fields_saved (λ f. nat_le f.making (greatest_making p.savepoints)) (saved_in p n) w.savepoints (alike n w found))
         ∙ all-making (λ (y : Record). nat_le y.making (greatest_making p.savepoints)) (filter (λ (x : Record). x.space == n) p.savepoints)

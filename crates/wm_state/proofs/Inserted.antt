@@ -1,5 +1,5 @@
 -- The records with a row and a piece more stand for the state with an entry more.
-use Rattle.std.proofs.Common.{◌≡◌, ℕ, ◌==◌, nat_lt, nat_le, Bool, true, false, not, ◌&&◌, cond, List, [], ◌∷◌, ◌++◌, Some, is_some, refl, sym, ap, subst, ◌∙◌, length}
+use Rattle.std.proofs.Common.{◌≡◌, ℕ, ◌==◌, nat_lt, nat_le, Bool, true, false, not, ◌&&◌, cond, List, [], ◌∷◌, ◌++◌, Some, is_some, refl, sym, ap, subst, ◌∙◌, length, length-append}
 use Rattle.std.proofs.lemmas.Bool.{eq-eqb, ne_eqb}
 use Rattle.std.specs.List.{list_all, list_any, filter, find}
 use Rattle.std.specs.Option.{option_map}
@@ -77,6 +77,7 @@ wrote-inserted p old new front a back r x n e row rules may w = record {
   tables = refl;
   versions = refl;
   savepoints = refl;
+  count = length-append front (longer a ∷ back) ∙ sym (length-append front (a ∷ back)) ∙ sym (ap length may.spaces);
   here = find-middle (λ (s : Space). s.number == n) front back (longer a) none is ∙ sym (ap (option_map longer) found);
   elsewhere = λ m other. find-past (λ (s : Space). s.number == m) front back a (longer a) (away m other) (away m other) ∙ ap (λ ss. space_of ss m) (sym may.spaces);
   pieces = subst (λ (v : ℕ). AreLaid v e p.pieces (filter (is_out x.version e.table e.key) p.pieces ++ x ∷ [])) w.version

@@ -265,6 +265,7 @@ born_of p old new a r v may e = record {
   below = fork.below;
   versions = newest-behind v p.versions below ∙ ap (λ x. x ∷ newest_first p.versions) (same_node v r.number r.base_version may.space may.under);
   empty = fork.empty;
+  count = length-append p.spaces (r ∷ []);
   spaces = λ m. find_numbered (λ (s : Space). s.number) p.spaces r m none;
   tables = refl;
   savepoints = refl;

@@ -182,6 +182,7 @@ saved_of p old new front a back place implicit x may e = record {
   space = refl;
   after = may.after;
   savepoints = refl;
+  count = length-append front (marked place implicit a ∷ back) ∙ sym (length-append front (a ∷ back)) ∙ sym (ap length may.spaces);
   here = space_here front back (marked place implicit a) x.space (spaces_marked front back a place implicit may.places may.implicits spaces) may.space ∙ sym (ap (option_map (marked place implicit)) found);
   elsewhere = λ m other. space_elsewhere front back a (marked place implicit a) m (away m other) (away m other) ∙ ap (λ ss. space_of ss m) (sym may.spaces);
   tables = refl;

@@ -40,3 +40,4 @@ pub mod Respaced
 pub mod KeepSaved
 pub mod PlannedSaved
 pub mod Greatest
+pub mod Spaces

@@ -9,15 +9,16 @@ use Rattle.wm_base.specs.Key.{key_order}
 use Rattle.wm_base.specs.declared.row.Row.{Row}
 use Rattle.wm_base.specs.declared.value.Value.{Value}
 use Rattle.wm_graph.specs.Parts.{Parts, row_of}
-use Rattle.wm_spec.specs.Lists.{Cell, Told, told, stamp_at, standing_stamp}
+use Rattle.wm_spec.specs.Lists.{Cell, Entry, Told, told, stamp_at, standing_stamp}
 use Rattle.wm_spec.specs.Stretches.{Stretch, value_at, AreMaximal, rows, rows_of_key, keys}
 use Rattle.wm_spec.specs.declared.record.piece.PieceRecord.{PieceRecord}
 use Rattle.wm_spec.specs.declared.record.row.RowRecord.{RowRecord}
+use Rattle.wm_spec.specs.declared.record.savepoint.Savepoint.{Savepoint as Record}
 use Rattle.wm_spec.proofs.Stretches.{value-rows, AreMaximal-rows}
 use Rattle.wm_tree.specs.declared.version.Version.{Version as Node}
-use Rattle.wm_state.specs.State.{State, Workspace, content, workspace_of}
-use Rattle.wm_state.specs.Standing.{held_of, stored_at, seen_at, newest_first, latest, Stands}
-use Rattle.wm_state.specs.Listing.{standing, stamp_shown, is_key_in, listed, row_on, row_with, is_unwritten, IsListing, Groups, keys_of, joined, AreAllRowsOf}
+use Rattle.wm_state.specs.State.{State, Workspace, Savepoint, content, kept, workspace_of, savepoint_made}
+use Rattle.wm_state.specs.Standing.{held_of, stored_at, seen_at, seen, newest_first, latest, saved_as, HasRows, Stands}
+use Rattle.wm_state.specs.Listing.{standing, stamp_seen, stamp_shown, is_key_in, listed, row_on, row_with, is_unwritten, IsListing, Groups, keys_of, joined, AreAllRowsOf}
 use Rattle.wm_state.proofs.Listing.{one_rows, rows_of, Covers, listed_same, first-listed, keys-ascend, no_rows_of, first-held, behind-held, either_false}
 
 -- ---- a key of which there is no piece
@@ -40,10 +41,10 @@ unseen pieces c none (x ∷ older) v = by_number (x.number == v) (unseen pieces 
     by_number true up along = rw (none v, up) refl
     by_number false up along = along
 
-unshown : (p : Parts) (space table : ℕ) (key : List Value) (t : ℕ) → is_unwritten p.pieces table key → stamp_shown p space table key t ≡ None
-unshown p space table key t none = ap (option_and_then standing) (unseen p.pieces (record { table = table; key = key; time = t }) (λ v. unstored p.pieces table key t v none) (newest_first p.versions) (latest p space))
+unread : (p : Parts) (version table : ℕ) (key : List Value) (t : ℕ) → is_unwritten p.pieces table key → stamp_seen p version table key t ≡ None
+unread p version table key t none = ap (option_and_then standing) (unseen p.pieces (record { table = table; key = key; time = t }) (λ v. unstored p.pieces table key t v none) (newest_first p.versions) version)
 
--- ---- what is shown is what the content holds
+-- ---- what a version holds is what a list of entries holds
 
 stamp_same : (o : Option Told) → option_and_then standing (option_map held_of o) ≡ option_and_then standing_stamp o
 stamp_same None = refl
@@ -56,16 +57,22 @@ stamp_same (Some t) = by_row t.row
     by_row None = refl
     by_row (Some row) = refl
 
+-- a version holds at each cell what a list of entries holds there
+abbrev pub HoldsAll : Parts → ℕ → List Entry → Type 0
+HoldsAll p version es = (c : Cell) → seen p version c ≡ option_map held_of (told es c)
+
+pub seen_is : (p : Parts) (version : ℕ) (es : List Entry) → HoldsAll p version es → (table : ℕ) (key : List Value) (t : ℕ) → stamp_seen p version table key t ≡ stamp_at es table key t
+seen_is p version es holds table key t =
+    ap (option_and_then standing) (holds (record { table = table; key = key; time = t })) ∙ stamp_same (told es (record { table = table; key = key; time = t }))
+
 pub shown_is : (p : Parts) (s : State) (n : ℕ) (w : Workspace) → Stands p s → workspace_of s.spaces n ≡ Some w → (table : ℕ) (key : List Value) (t : ℕ) → stamp_shown p n table key t ≡ stamp_at (content w) table key t
-shown_is p s n w st is table key t =
-    ap (option_and_then standing) (st.latest.told n w is (record { table = table; key = key; time = t })) ∙ stamp_same (told (content w) (record { table = table; key = key; time = t }))
+shown_is p s n w st is = seen_is p (latest p n) (content w) (st.latest.told n w is)
 
 -- ---- the rows themselves
 
 -- the row of a stamp is the row that is held
-row_there : (p : Parts) (s : State) (n : ℕ) (w : Workspace) → Stands p s → workspace_of s.spaces n ≡ Some w → (table : ℕ) (place : List Value × Stretch) → stamp_at (content w) table place.0 place.1.from ≡ Some place.1.stamp
-    → row_with p place ≡ row_on (content w) table place
-row_there p s n w st is table place held = by_told (told (content w) c) refl held
+row_there : (p : Parts) (es : List Entry) → HasRows p es → (table : ℕ) (place : List Value × Stretch) → stamp_at es table place.0 place.1.from ≡ Some place.1.stamp → row_with p place ≡ row_on es table place
+row_there p es has table place held = by_told (told es c) refl held
   where
     c : Cell
     c = record { table = table; key = place.0; time = place.1.from }
@@ -79,13 +86,13 @@ row_there p s n w st is table place held = by_told (told (content w) c) refl hel
     none_number : (b : ℕ) → (let nothing : Option ℕ = None in nothing) ≡ Some b → ⊥
     none_number b h = cc
 
-    by_told : (o : Option Told) → told (content w) c ≡ o → option_and_then standing_stamp o ≡ Some place.1.stamp → row_with p place ≡ option_and_then (λ (t : Told). t.row) (told (content w) c)
+    by_told : (o : Option Told) → told es c ≡ o → option_and_then standing_stamp o ≡ Some place.1.stamp → row_with p place ≡ option_and_then (λ (t : Told). t.row) (told es c)
     by_told None e h = absurd (none_number place.1.stamp h)
     by_told (Some t) e h = by_row t.row refl h
       where
-        by_row : (r : Option Row) → t.row ≡ r → then_some (is_some r) t.stamp ≡ Some place.1.stamp → row_with p place ≡ option_and_then (λ (t : Told). t.row) (told (content w) c)
+        by_row : (r : Option Row) → t.row ≡ r → then_some (is_some r) t.stamp ≡ Some place.1.stamp → row_with p place ≡ option_and_then (λ (t : Told). t.row) (told es c)
         by_row None none g = absurd (none_number place.1.stamp g)
-        by_row (Some row) some g = ap (λ k. option_map to_row (row_of p.rows k)) (sym (some_number t.stamp place.1.stamp g)) ∙ by_record (row_of p.rows t.stamp) (st.rows.there n w is c t row e some) ∙ sym (ap (option_and_then (λ (t : Told). t.row)) e ∙ some)
+        by_row (Some row) some g = ap (λ k. option_map to_row (row_of p.rows k)) (sym (some_number t.stamp place.1.stamp g)) ∙ by_record (row_of p.rows t.stamp) (has c t row e some) ∙ sym (ap (option_and_then (λ (t : Told). t.row)) e ∙ some)
           where
             to_row : RowRecord → Row
             to_row r = record { values = r.values }
@@ -102,24 +109,22 @@ step_same f g a l e rest = by_some (g a) refl
     by_some None h = rw (e ∙ h, h) rest
     by_some (Some row) h = rw (e ∙ h, h) (ap (λ (rows : List Row). row ∷ rows) rest)
 
-rows_there : (p : Parts) (s : State) (n : ℕ) (w : Workspace) → Stands p s → workspace_of s.spaces n ≡ Some w → (table : ℕ) (key : List Value) (ss : List Stretch) (low : ℕ) → AreMaximal low ss
-    → ((t : ℕ) → low ≤ t → value_at ss t ≡ stamp_at (content w) table key t)
-    → filter_map (row_with p) (map (λ x. (key, x)) ss) ≡ filter_map (row_on (content w) table) (map (λ x. (key, x)) ss)
-rows_there p s n w st is table key [] low max held = refl
-rows_there p s n w st is table key (x ∷ xs) low max held =
-    step_same (row_with p) (row_on (content w) table) (key, x) (map (λ x. (key, x)) xs)
-    (row_there p s n w st is table (key, x) (sym (held x.from max.0) ∙ first-held low x xs x.from max (omega arith) max.1))
-    (rows_there p s n w st is table key xs x.till max.3 (λ t le. sym (behind-held x xs t le) ∙ held t (omega (arith, max.0, max.1, le))))
+rows_there : (p : Parts) (es : List Entry) → HasRows p es → (table : ℕ) (key : List Value) (ss : List Stretch) (low : ℕ) → AreMaximal low ss → ((t : ℕ) → low ≤ t → value_at ss t ≡ stamp_at es table key t)
+    → filter_map (row_with p) (map (λ x. (key, x)) ss) ≡ filter_map (row_on es table) (map (λ x. (key, x)) ss)
+rows_there p es has table key [] low max held = refl
+rows_there p es has table key (x ∷ xs) low max held =
+    step_same (row_with p) (row_on es table) (key, x) (map (λ x. (key, x)) xs)
+    (row_there p es has table (key, x) (sym (held x.from max.0) ∙ first-held low x xs x.from max (omega arith) max.1))
+    (rows_there p es has table key xs x.till max.3 (λ t le. sym (behind-held x xs t le) ∙ held t (omega (arith, max.0, max.1, le))))
 
-all_there : (p : Parts) (s : State) (n : ℕ) (w : Workspace) → Stands p s → workspace_of s.spaces n ≡ Some w → (table : ℕ) (ks : List (List Value))
-    → filter_map (row_with p) (listed (rows_of_key (content w) table) ks) ≡ filter_map (row_on (content w) table) (listed (rows_of_key (content w) table) ks)
-all_there p s n w st is table [] = refl
-all_there p s n w st is table (k ∷ ks) =
-    filter_map-append (row_with p) (map (λ x. (k, x)) (rows_of_key (content w) table k)) (listed (rows_of_key (content w) table) ks)
-    ∙ ap (λ rs. rs ++ filter_map (row_with p) (listed (rows_of_key (content w) table) ks))
-    (rows_there p s n w st is table k (rows_of_key (content w) table k) 0 (AreMaximal-rows (content w) table k) (λ t le. value-rows (content w) table k t))
-    ∙ ap (λ rs. filter_map (row_on (content w) table) (map (λ x. (k, x)) (rows_of_key (content w) table k)) ++ rs) (all_there p s n w st is table ks)
-    ∙ sym (filter_map-append (row_on (content w) table) (map (λ x. (k, x)) (rows_of_key (content w) table k)) (listed (rows_of_key (content w) table) ks))
+all_there : (p : Parts) (es : List Entry) → HasRows p es → (table : ℕ) (ks : List (List Value)) → filter_map (row_with p) (listed (rows_of_key es table) ks) ≡ filter_map (row_on es table) (listed (rows_of_key es table) ks)
+all_there p es has table [] = refl
+all_there p es has table (k ∷ ks) =
+    filter_map-append (row_with p) (map (λ x. (k, x)) (rows_of_key es table k)) (listed (rows_of_key es table) ks)
+    ∙ ap (λ rs. rs ++ filter_map (row_with p) (listed (rows_of_key es table) ks))
+    (rows_there p es has table k (rows_of_key es table k) 0 (AreMaximal-rows es table k) (λ t le. value-rows es table k t))
+    ∙ ap (λ rs. filter_map (row_on es table) (map (λ x. (k, x)) (rows_of_key es table k)) ++ rs) (all_there p es has table ks)
+    ∙ sym (filter_map-append (row_on es table) (map (λ x. (k, x)) (rows_of_key es table k)) (listed (rows_of_key es table) ks))
 
 -- ---- the listing
 
@@ -127,25 +132,36 @@ covered : (f : List Value → List Stretch) (xs ys : List (List Value)) → ((k 
 covered f [] ys none = tt
 covered f (x ∷ xs) ys none = (none x, covered f xs ys none)
 
-pub listing_is : (p : Parts) (s : State) (n : ℕ) (w : Workspace) (table : ℕ) (out : List Row) → Stands p s → workspace_of s.spaces n ≡ Some w → IsListing p n table out
-    → out ≡ filter_map (row_on (content w) table) (rows (content w) table)
-listing_is p s n w table out st is l =
+-- where a version holds what a list of entries holds, and the rows stand, what is listed is what the list has
+pub listing_of : (p : Parts) (version : ℕ) (es : List Entry) (table : ℕ) (out : List Row) → HoldsAll p version es → HasRows p es → IsListing p version table out → out ≡ filter_map (row_on es table) (rows es table)
+listing_of p version es table out holds has l =
     l.are
     ∙ ap (filter_map (row_with p))
     (joined_is l.groups l.held
-    ∙ listed_same (rows_of_key (content w) table) (keys_of l.groups) (keys (content w) table) l.ascend (keys-ascend (content w) table)
-    (covered (rows_of_key (content w) table) (keys_of l.groups) (keys (content w) table) (no_rows_of (content w) table))
-    (covered (rows_of_key (content w) table) (keys (content w) table) (keys_of l.groups) (λ k out. no_rows k (l.whole k out))))
-    ∙ all_there p s n w st is table (keys (content w) table)
-    ∙ ap (filter_map (row_on (content w) table)) (sym (first-listed (content w) table (keys (content w) table)))
+    ∙ listed_same (rows_of_key es table) (keys_of l.groups) (keys es table) l.ascend (keys-ascend es table)
+    (covered (rows_of_key es table) (keys_of l.groups) (keys es table) (no_rows_of es table))
+    (covered (rows_of_key es table) (keys es table) (keys_of l.groups) (λ k out. no_rows k (l.whole k out))))
+    ∙ all_there p es has table (keys es table)
+    ∙ ap (filter_map (row_on es table)) (sym (first-listed es table (keys es table)))
   where
     -- a key of which there is no piece has no rows
-    no_rows : (k : List Value) → is_unwritten p.pieces table k → rows_of_key (content w) table k ≡ []
-    no_rows k none = one_rows (rows_of_key (content w) table k) [] 0 (AreMaximal-rows (content w) table k) tt
-        (λ t le. value-rows (content w) table k t ∙ sym (shown_is p s n w st is table k t) ∙ unshown p n table k t none)
+    no_rows : (k : List Value) → is_unwritten p.pieces table k → rows_of_key es table k ≡ []
+    no_rows k none = one_rows (rows_of_key es table k) [] 0 (AreMaximal-rows es table k) tt
+        (λ t le. value-rows es table k t ∙ sym (seen_is p version es holds table k t) ∙ unread p version table k t none)
 
-    joined_is : (gs : Groups) → AreAllRowsOf p n table gs → joined gs ≡ listed (rows_of_key (content w) table) (keys_of gs)
+    joined_is : (gs : Groups) → AreAllRowsOf p version table gs → joined gs ≡ listed (rows_of_key es table) (keys_of gs)
     joined_is [] held = refl
     joined_is (g ∷ gs) held =
-        ap (λ ss. map (λ s. (g.0, s)) ss ++ joined gs) (rows_of p n table g.0 (content w) g.1 (shown_is p s n w st is table g.0) held.0)
-        ∙ ap (λ rest. map (λ s. (g.0, s)) (rows_of_key (content w) table g.0) ++ rest) (joined_is gs held.1)
+        ap (λ ss. map (λ s. (g.0, s)) ss ++ joined gs) (rows_of p version table g.0 es g.1 (seen_is p version es holds table g.0) held.0)
+        ∙ ap (λ rest. map (λ s. (g.0, s)) (rows_of_key es table g.0) ++ rest) (joined_is gs held.1)
+
+-- what the newest version of a workspace lists is what its content has
+pub listing_is : (p : Parts) (s : State) (n : ℕ) (w : Workspace) (table : ℕ) (out : List Row) → Stands p s → workspace_of s.spaces n ≡ Some w → IsListing p (latest p n) table out
+    → out ≡ filter_map (row_on (content w) table) (rows (content w) table)
+listing_is p s n w table out st is = listing_of p (latest p n) (content w) table out (st.latest.told n w is) (st.rows.there n w is)
+
+-- what the version of a savepoint lists is what stood there
+pub listing_saved : (p : Parts) (s : State) (n making : ℕ) (w : Workspace) (k : Savepoint) (x : Record) (table : ℕ) (out : List Row) → Stands p s → workspace_of s.spaces n ≡ Some w
+    → savepoint_made making w.savepoints ≡ Some k → saved_as p n making ≡ Some x → IsListing p x.version table out → out ≡ filter_map (row_on (kept k) table) (rows (kept k) table)
+listing_saved p s n making w k x table out st is made saved =
+    listing_of p x.version (kept k) table out (st.kept.told n making w k x is made saved) (st.rows.saved n making w k is made)

@@ -11,7 +11,7 @@ use Rattle.wm_base.specs.declared.value.Value.{Value}
 use Rattle.wm_spec.specs.Lists.{Entry, stamp_at}
 use Rattle.wm_spec.specs.Stretches.{Stretch, value_at, AreMaximal, rows_from, rows_of_key, keys, key_in, cuts, stretches}
 use Rattle.wm_spec.proofs.Stretches.{value-rows, AreMaximal-rows}
-use Rattle.wm_state.specs.Listing.{stamp_shown, ComesBefore, KeysAscend, is_key_in, AreRowsOf, listed}
+use Rattle.wm_state.specs.Listing.{stamp_seen, ComesBefore, KeysAscend, is_key_in, AreRowsOf, listed}
 use Rattle.wm_state.proofs.Tests.{bool_apart}
 use Rattle.wm_state.proofs.Laying.{key_same}
 
@@ -117,8 +117,8 @@ one_rows (a ∷ xs) (b ∷ ys) low one two same = by_from (compared a.from b.fro
         (compared a.till b.till) rest
 
 -- the rows of a key are those that are held
-pub rows_of : (p : _) (space table : ℕ) (key : List Value) (es : List Entry) (ss : List Stretch) → ((t : ℕ) → stamp_shown p space table key t ≡ stamp_at es table key t) → AreRowsOf p space table key ss → ss ≡ rows_of_key es table key
-rows_of p space table key es ss same are =
+pub rows_of : (p : _) (version table : ℕ) (key : List Value) (es : List Entry) (ss : List Stretch) → ((t : ℕ) → stamp_seen p version table key t ≡ stamp_at es table key t) → AreRowsOf p version table key ss → ss ≡ rows_of_key es table key
+rows_of p version table key es ss same are =
     one_rows ss (rows_of_key es table key) 0 are.maximal (AreMaximal-rows es table key) (λ t le. are.held t ∙ same t ∙ sym (value-rows es table key t))
 
 -- ---- keys

@@ -1,9 +1,10 @@
 -- Tests over lists that are alike once each element is looked at in one way, and over lists with an element more.
-use Rattle.std.proofs.Common.{◌≡◌, Bool, true, false, not, ◌&&◌, ◌||◌, cond, List, [], ◌∷◌, ◌++◌, map, Some, None, refl, sym, ap, ◌∙◌}
+use Rattle.std.proofs.Common.{◌≡◌, ℕ, ◌==◌, Bool, true, false, not, ◌&&◌, ◌||◌, cond, List, [], ◌∷◌, ◌++◌, map, Some, None, refl, sym, ap, ◌∙◌}
+use Rattle.std.proofs.lemmas.Bool.{eq-eqb, eqb-true}
 use Rattle.std.specs.List.{list_all, list_any, filter, find}
 use Rattle.std.specs.Option.{option_map}
 use Rattle.wm_graph.specs.Rules.{differ}
-use Rattle.wm_state.proofs.Tests.{bool_apart, either_false, both, not_true}
+use Rattle.wm_state.proofs.Tests.{bool_apart, either_false, both, and_true, not_true}
 
 -- ---- seen through a map
 
@@ -63,6 +64,18 @@ find-filter {A = A} k P (x ∷ xs) = by_test (k x) (P x) refl (find-filter k P x
     by_test true false e rest = rw e rest
     by_test false c e rest = rest
 
+-- what is found passes
+pub find-passes : {A : Type 0} (P : A → Bool) (xs : List A) (x : A) → find P xs ≡ Some x → P x ≡ true
+find-passes P [] x found = cc
+find-passes {A = A} P (y ∷ ys) x found = by_test (P y) refl found (find-passes P ys x)
+  where
+    some_same : (a b : A) → Some a ≡ Some b → a ≡ b
+    some_same a b h = cc
+
+    by_test : (b : Bool) → P y ≡ b → cond b (Some y) (find P ys) ≡ Some x → (find P ys ≡ Some x → P x ≡ true) → P x ≡ true
+    by_test true e h rest = ap P (sym (some_same y x h)) ∙ e
+    by_test false e h rest = rest h
+
 -- what is found does not pass what none passes
 pub found-fails : {A : Type 0} (P Q : A → Bool) (xs : List A) (x : A) → find P xs ≡ Some x → list_any Q xs ≡ false → Q x ≡ false
 found-fails P Q [] x found none = cc
@@ -87,6 +100,37 @@ find-again {A = A} same itself P (y ∷ ys) x apart found = by_test (P y) found 
         → find (λ z. same z x) (y ∷ ys) ≡ Some x
     by_test true h d rest = rw (some_same y x h, itself x) refl
     by_test false h d rest = rw (found-fails P (same y) ys x h (not_true (list_any (same y) ys) d.0)) (rest d.1 h)
+
+-- one that is found by a test is found by another that it passes too, where all that pass that one are the same and no two are
+pub find-else : {A : Type 0} (P Q : A → Bool) (same : A → A → Bool) → ((x y : A) → P x ≡ true → P y ≡ true → same x y ≡ true) → (xs : List A) (x : A) → differ same xs ≡ true → find Q xs ≡ Some x → P x ≡ true → find P xs ≡ Some x
+find-else P Q same as_one [] x apart found passes = cc
+find-else {A = A} P Q same as_one (y ∷ ys) x apart found passes = by_test (Q y) found (both (not (list_any (same y) ys)) (differ same ys) apart) (find-else P Q same as_one ys x)
+  where
+    some_same : (a b : A) → Some a ≡ Some b → a ≡ b
+    some_same a b h = cc
+
+    by_test : (b : Bool) → cond b (Some y) (find Q ys) ≡ Some x → (not (list_any (same y) ys) ≡ true) × (differ same ys ≡ true) → (differ same ys ≡ true → find Q ys ≡ Some x → P x ≡ true → find P ys ≡ Some x)
+        → find P (y ∷ ys) ≡ Some x
+    by_test true h d rest = let is : y ≡ x = some_same y x h in rw (ap P is ∙ passes) (ap Some is)
+    by_test false h d rest = by_other (P y) refl
+      where
+        by_other : (c : Bool) → P y ≡ c → cond c (Some y) (find P ys) ≡ Some x
+        by_other true e = absurd (bool_apart (sym (as_one y x e passes) ∙ found-fails Q (same y) ys x h (not_true (list_any (same y) ys) d.0)))
+        by_other false e = rest d.1 h passes
+
+-- what holds of each that is found by its number holds of all, where no two have one number
+pub all-found : {A : Type 0} (number_of : A → ℕ) (P : A → Bool) (xs : List A) → differ (λ x y. number_of x == number_of y) xs ≡ true → ((n : ℕ) (x : A) → find (λ y. number_of y == n) xs ≡ Some x → P x ≡ true)
+    → list_all P xs ≡ true
+all-found number_of P [] apart each = refl
+all-found {A = A} number_of P (x ∷ xs) apart each =
+    let h = both (not (list_any (λ y. number_of x == number_of y) xs)) (differ (λ y z. number_of y == number_of z) xs) apart in
+    and_true (P x) (list_all P xs) (each (number_of x) x (rw (eq-eqb (number_of x) (number_of x) refl) refl))
+    (all-found number_of P xs h.1 (λ n y found. each n y (rw (other n y (not_true (list_any (λ y. number_of x == number_of y) xs) h.0) found) found)))
+  where
+    other : (n : ℕ) (y : A) → list_any (λ z. number_of x == number_of z) xs ≡ false → find (λ z. number_of z == n) xs ≡ Some y → (number_of x == n) ≡ false
+    other n y none found =
+        ap (λ k. number_of x == k) (sym (eqb-true (number_of y) n (find-passes (λ z. number_of z == n) xs y found)))
+        ∙ found-fails (λ z. number_of z == n) (λ z. number_of x == number_of z) xs y found none
 
 -- nothing passes where nothing is found
 pub none-found : {A : Type 0} (P : A → Bool) (xs : List A) → find P xs ≡ None → list_any P xs ≡ false

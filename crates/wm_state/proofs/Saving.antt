@@ -14,7 +14,7 @@ use Rattle.wm_state.specs.State.{State, Workspace, Savepoint, Contents, content,
 use Rattle.wm_state.specs.Standing.{held_of, latest, shown, owned, seen, seen_above, SpaceFields, fields_of, fields_in, saved_fields, fields_saved, by_making, saved_in, saved_as, by_number, CountersStand, SpacesStand, SavepointsStand, KeptStand, KeptOwnStand, HasRows, RowsStand, Stands}
 use Rattle.wm_state.specs.Effects.{Saved, marked}
 use Rattle.wm_state.proofs.Changing.{workspace_of-changed}
-use Rattle.wm_state.proofs.Frames.{StillNames, savepoints_of-found, KeepRows, HasRows-kept, HasRows-same}
+use Rattle.wm_state.proofs.Frames.{StillNames, savepoints_of-found, OnceStand-changed, KeepRows, HasRows-kept, HasRows-same}
 use Rattle.wm_state.proofs.Keeping.{KeepRows-same}
 use Rattle.wm_state.proofs.Making.{making-push, all-making}
 use Rattle.wm_state.proofs.Mapped.{all-alike, find-skip}
@@ -255,10 +255,14 @@ made_case p q s n place implicit k x v fields stand m making new j is made = by_
           old = y.old;
           is = y.is;
           rebases = y.rebases;
-          how = inl (h.0, here, some_same j k (sym made ∙ ap (savepoint_made making) h.1
-              ∙ find_new (λ (i : Savepoint). i.making == making) y.old.savepoints k
-              (none_if (λ (i : Savepoint). nat_lt i.making x.making) (λ (i : Savepoint). i.making == making) (λ i lt. ap (λ l. i.making == l) (sym here) ∙ lt_apart i.making x.making lt) y.old.savepoints (below y.old (ap (workspace_of s.spaces) (sym h.0) ∙ y.is)))
-              (eq-eqb _ _ (sym same_making ∙ here))));
+          how = inl (
+            h.0,
+            here,
+            some_same j k (sym made ∙ ap (savepoint_made making) h.1
+                ∙ find_new (λ (i : Savepoint). i.making == making) y.old.savepoints k
+                (none_if (λ (i : Savepoint). nat_lt i.making x.making) (λ (i : Savepoint). i.making == making) (λ i lt. ap (λ l. i.making == l) (sym here) ∙ lt_apart i.making x.making lt) y.old.savepoints (below y.old (ap (workspace_of s.spaces) (sym h.0) ∙ y.is)))
+                (eq-eqb _ _ (sym same_making ∙ here))),
+          );
         }
         by_both (inl h) (inr away) = record {
           old = y.old;
@@ -266,7 +270,7 @@ made_case p q s n place implicit k x v fields stand m making new j is made = by_
           rebases = y.rebases;
           how = inr (
             sym (ap (savepoint_made making) h.1 ∙ find-skip (λ (i : Savepoint). i.making == making) y.old.savepoints k (ne_eqb _ _ (λ e. away (same_making ∙ e)))) ∙ made,
-            and_other (x.space == m) (x.making == making) (ne_eqb _ _ away)
+            and_other (x.space == m) (x.making == making) (ne_eqb _ _ away),
           );
         }
         by_both (inr h) _ = record {
@@ -359,6 +363,7 @@ Stands-saved p q s t n place implicit w k x v st found new_one spaces tables cou
   counters = counters;
   tables = record { same = ap by_number v.tables ∙ st.tables.same ∙ sym tables };
   spaces = SpacesStand-saved p q s t n place implicit k x v spaces st.spaces;
+  once = OnceStand-changed p q s t n (with_savepoint place implicit k) (λ w. refl) spaces v.count st.once;
   latest = record { told = λ m new is c. let y = before m new is in latest-still m c ∙ st.latest.told m y.old y.is c ∙ ap (λ (l : Contents). option_map held_of (told (l.base ++ l.own) c)) (sym y.lists) };
   own = record {
     covered = λ m new r is recorded c.

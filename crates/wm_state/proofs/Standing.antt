@@ -14,7 +14,7 @@ use Rattle.wm_spec.proofs.Lists.{told-push}
 use Rattle.wm_state.specs.State.{State, begin, Workspace, content, workspace_of, with_space, with_entries, savepoints_of}
 use Rattle.wm_state.specs.Standing.{held_of, stored_at, seen_at, own_at, newest_first, latest, seen, fields_of, fields_in, CountersStand, TablesStand, SpacesStand, LatestStand, OwnStand, RowsStand, Stands, SpaceFields, by_number}
 use Rattle.wm_state.specs.Effects.{Wrote, longer, AreLaid}
-use Rattle.wm_state.proofs.Frames.{Framed, Still, StillNames, KeepRows, row-kept, HasRows-kept, savepoints_of-found, savepoints_of-none, SavepointsStand-framed, KeptStand-framed, KeptOwnStand-framed, BasesStand-framed, RowsStand-framed}
+use Rattle.wm_state.proofs.Frames.{Framed, Still, StillNames, KeepRows, OnceStand-changed, OnceStand-same, row-kept, HasRows-kept, savepoints_of-found, savepoints_of-none, SavepointsStand-framed, KeptStand-framed, KeptOwnStand-framed, BasesStand-framed, RowsStand-framed}
 use Rattle.wm_state.proofs.Nearest.{SameAway, seen-away, seen-here, own-away, own-here}
 use Rattle.wm_state.proofs.Changing.{workspace_of-changed, told-with_entries}
 
@@ -272,6 +272,7 @@ Stands-wrote p q s t n e w st spaces tables counters rules = record {
   counters = counters;
   tables = record { same = ap by_number w.tables ∙ st.tables.same ∙ sym tables };
   spaces = SpacesStand-wrote p q s t n e w spaces st.spaces;
+  once = OnceStand-changed p q s t n (with_entries (e ∷ [])) (λ w. refl) spaces w.count st.once;
   latest = LatestStand-wrote p q s t n e w spaces st.spaces st.latest;
   own = OwnStand-wrote p q s t n e w spaces st.spaces st.own;
   savepoints = SavepointsStand-framed p q s t (framed_wrote p q s t n e w spaces) st.savepoints;
@@ -307,6 +308,7 @@ Stands-retabled p q s t r st spaces tables counters rules = record {
   counters = counters;
   tables = tables;
   spaces = record { same = λ n. rw (r.spaces, spaces) (st.spaces.same n) };
+  once = OnceStand-same p q s t r.spaces spaces st.once;
   latest = record { told = λ n w is c. rw (r.versions, r.pieces) (st.latest.told n w (ap (λ ws. workspace_of ws n) (sym spaces) ∙ is) c) };
   own = record { covered = λ n w k is recorded c. rw (r.versions, r.pieces) (st.own.covered n w k (ap (λ ws. workspace_of ws n) (sym spaces) ∙ is) (ap (λ ss. space_of ss n) (sym r.spaces) ∙ recorded) c) };
   savepoints = SavepointsStand-framed p q s t (framed_retabled p q s t r spaces) st.savepoints;
@@ -335,6 +337,7 @@ Stands-begin p s now st = record {
   };
   tables = record { same = st.tables.same };
   spaces = record { same = st.spaces.same };
+  once = record { numbers = st.once.numbers; count = st.once.count };
   latest = record { told = st.latest.told };
   own = record { covered = st.own.covered };
   savepoints = record { same = st.savepoints.same };

@@ -1,5 +1,5 @@
 -- What becomes of the records, told by what is looked up in them.
-use Rattle.std.specs.Prelude.{ℕ, ◌≡◌, ◌+◌, ◌<◌, Bool, true, false, ◌==◌, nat_lt, if◌then◌else◌, List, [], ◌∷◌, ◌++◌, Some, None, is_some}
+use Rattle.std.specs.Prelude.{ℕ, ◌≡◌, ◌+◌, ◌<◌, Bool, true, false, ◌==◌, nat_lt, if◌then◌else◌, List, [], ◌∷◌, ◌++◌, length, Some, None, is_some}
 use Rattle.std.specs.List.{list_all, list_any}
 use Rattle.std.specs.Bool.{then_some}
 use Rattle.std.specs.Option.{option_or, option_map}
@@ -53,6 +53,7 @@ pub record Wrote (p q : Parts) (n : ℕ) (e : Entry) : Type 0 where
   pub tables : q.tables ≡ p.tables
   pub versions : q.versions ≡ p.versions
   pub savepoints : q.savepoints ≡ p.savepoints
+  pub count : length q.spaces ≡ length p.spaces
   pub here : space_of q.spaces n ≡ option_map longer (space_of p.spaces n)
   pub elsewhere : (m : ℕ) → (m == n) ≡ false → space_of q.spaces m ≡ space_of p.spaces m
   pub pieces : AreLaid (latest p n) e p.pieces q.pieces
@@ -85,6 +86,7 @@ pub record Saved (p q : Parts) (n place implicit : ℕ) (x : Savepoint) : Type 0
   pub space : x.space ≡ n
   pub after : list_all (λ (y : Savepoint). nat_lt y.making x.making) p.savepoints ≡ true
   pub savepoints : q.savepoints ≡ p.savepoints ++ x ∷ []
+  pub count : length q.spaces ≡ length p.spaces
   pub here : space_of q.spaces n ≡ option_map (marked place implicit) (space_of p.spaces n)
   pub elsewhere : (m : ℕ) → (m == n) ≡ false → space_of q.spaces m ≡ space_of p.spaces m
   pub tables : q.tables ≡ p.tables
@@ -103,6 +105,7 @@ pub record Born (p q : Parts) (r : Space) (number : ℕ) : Type 0 where
   pub below : AllBelow number (newest_first p.versions)
   pub versions : newest_first q.versions ≡ record { number = number; space = r.number; parent = r.base_version } ∷ newest_first p.versions
   pub empty : (c : Cell) → stored_at p.pieces number c ≡ None
+  pub count : length q.spaces ≡ length p.spaces + 1
   pub spaces : (m : ℕ) → space_of q.spaces m ≡ (if m == r.number then Some r else space_of p.spaces m)
   pub tables : q.tables ≡ p.tables
   pub savepoints : q.savepoints ≡ p.savepoints

@@ -13,15 +13,19 @@ use Rattle.wm_spec.specs.Stretches.{Stretch, AreMaximal, value_at}
 use Rattle.wm_graph.specs.Parts.{Parts, row_of}
 use Rattle.wm_spec.specs.declared.record.piece.PieceRecord.{PieceRecord}
 use Rattle.wm_spec.specs.declared.record.row.RowRecord.{RowRecord}
-use Rattle.wm_state.specs.Standing.{shown}
+use Rattle.wm_state.specs.Standing.{latest, seen}
 
 -- the stamp of a row that stands, and none of one that is gone
 abbrev pub standing : Held → Option ℕ
 standing h = let nothing : Option ℕ = None in if h.gone then nothing else Some h.stamp.number
 
--- the stamp of the row that the newest version of a workspace holds for a key at a moment
+-- the stamp of the row that a version holds for a key at a moment
+abbrev pub stamp_seen : Parts → ℕ → ℕ → List Value → ℕ → Option ℕ
+stamp_seen p version table key t = option_and_then standing (seen p version (record { table = table; key = key; time = t }))
+
+-- the same of the newest version of a workspace
 abbrev pub stamp_shown : Parts → ℕ → ℕ → List Value → ℕ → Option ℕ
-stamp_shown p space table key t = option_and_then standing (shown p space (record { table = table; key = key; time = t }))
+stamp_shown p space = stamp_seen p (latest p space)
 
 -- the key comes before all of these
 abbrev pub ComesBefore : List Value → List (List Value) → Type 0
@@ -37,10 +41,10 @@ KeysAscend (k ∷ ks) = ComesBefore k ks × KeysAscend ks
 abbrev pub is_key_in : List Value → List (List Value) → Bool
 is_key_in key keys = list_any (λ k. is_eq (key_order k key)) keys
 
--- the stretches of a key are the longest on which the newest version of a workspace holds a row of one stamp
-pub record AreRowsOf (p : Parts) (space table : ℕ) (key : List Value) (ss : List Stretch) : Type 0 where
+-- the stretches of a key are the longest on which a version holds a row of one stamp
+pub record AreRowsOf (p : Parts) (version table : ℕ) (key : List Value) (ss : List Stretch) : Type 0 where
   pub maximal : AreMaximal 0 ss
-  pub held : (t : ℕ) → value_at ss t ≡ stamp_shown p space table key t
+  pub held : (t : ℕ) → value_at ss t ≡ stamp_seen p version table key t
 
 -- what a function lists for each key, with the key, one key after another
 abbrev pub listed : (List Value → List Stretch) → List (List Value) → List (List Value × Stretch)
@@ -72,14 +76,14 @@ joined [] = []
 joined (g ∷ gs) = map (λ s. (g.0, s)) g.1 ++ joined gs
 
 abbrev pub AreAllRowsOf : Parts → ℕ → ℕ → Groups → Type 0
-AreAllRowsOf p space table [] = Unit {0}
-AreAllRowsOf p space table (g ∷ gs) = AreRowsOf p space table g.0 g.1 × AreAllRowsOf p space table gs
+AreAllRowsOf p version table [] = Unit {0}
+AreAllRowsOf p version table (g ∷ gs) = AreRowsOf p version table g.0 g.1 × AreAllRowsOf p version table gs
 
--- the rows of a table that the newest version of a workspace holds, by key and from
-pub record IsListing (p : Parts) (space table : ℕ) (rows : List Row) : Type 0 where
+-- the rows of a table that a version holds, by key and from
+pub record IsListing (p : Parts) (version table : ℕ) (rows : List Row) : Type 0 where
   pub groups : Groups
   pub ascend : KeysAscend (keys_of groups)
   -- a key of which there is a piece is one of the keys
   pub whole : (k : List Value) → is_key_in k (keys_of groups) ≡ false → is_unwritten p.pieces table k
-  pub held : AreAllRowsOf p space table groups
+  pub held : AreAllRowsOf p version table groups
   pub are : rows ≡ filter_map (row_with p) (joined groups)

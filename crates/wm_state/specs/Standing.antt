@@ -1,6 +1,6 @@
 -- Records that stand for a state. The records have one set of pieces, found through the paths of versions; the state has a
 -- whole list for each workspace.
-use Rattle.std.specs.Prelude.{ℕ, ◌≡◌, ◌<◌, Bool, true, ◌&&◌, ◌==◌, nat_le, nat_lt, if◌then◌else◌, List, [], ◌∷◌, map, length, is_none, is_some, Option, None, Some}
+use Rattle.std.specs.Prelude.{ℕ, ◌≡◌, ◌+◌, ◌<◌, Bool, true, ◌&&◌, ◌==◌, nat_le, nat_lt, max, if◌then◌else◌, List, [], ◌∷◌, map, length, is_none, is_some, Option, None, Some}
 use Rattle.std.specs.Bool.{then_some}
 use Rattle.std.specs.List.{filter, find}
 use Rattle.std.specs.Option.{option_or, option_map}
@@ -9,7 +9,7 @@ use Rattle.wm_base.specs.Key.{key_order}
 use Rattle.wm_base.specs.declared.row.Row.{Row}
 use Rattle.wm_base.specs.declared.stamp.Stamp.{Stamp}
 use Rattle.wm_graph.specs.Parts.{Parts, row_of, space_of}
-use Rattle.wm_graph.specs.Rules.{keep_rules, differ}
+use Rattle.wm_graph.specs.Rules.{keep_rules}
 use Rattle.wm_period.specs.Pieces.{Held}
 use Rattle.wm_spec.specs.Lists.{Cell, Entry, Told, told, touched}
 use Rattle.wm_spec.specs.declared.record.counters.Counters.{Counters}
@@ -193,6 +193,16 @@ saved_in p n = by_making (filter (λ (x : Record). x.space == n) p.savepoints)
 abbrev pub saved_as : Parts → ℕ → ℕ → Option Record
 saved_as p n making = find (λ (x : Record). (x.space == n) && (x.making == making)) p.savepoints
 
+-- one more than the greatest number of the record of a workspace, 0 where there is none
+abbrev pub space_after : List Space → ℕ
+space_after [] = 0
+space_after (r ∷ rs) = max (r.number + 1) (space_after rs)
+
+-- one more than the greatest making of the record of a savepoint, 1 where there is none
+abbrev pub making_behind : List Record → ℕ
+making_behind [] = 1
+making_behind (x ∷ xs) = max (x.making + 1) (making_behind xs)
+
 -- the one record of counters says what the state counts
 pub record CountersStand (p : Parts) (s : State) : Type 0 where
   pub counters : Counters
@@ -209,11 +219,6 @@ pub record TablesStand (p : Parts) (s : State) : Type 0 where
 -- each workspace has a record of its fields, and there is no other
 pub record SpacesStand (p : Parts) (s : State) : Type 0 where
   pub same : (n : ℕ) → option_map fields_of (space_of p.spaces n) ≡ option_map fields_in (workspace_of s.spaces n)
-
--- each workspace is there once, and there are as many as records of them
-pub record OnceStand (p : Parts) (s : State) : Type 0 where
-  pub numbers : differ (λ (v w : Workspace). v.number == w.number) s.spaces ≡ true
-  pub count : length p.spaces ≡ length s.spaces
 
 -- the newest version of a workspace holds at each cell what its content holds
 pub record LatestStand (p : Parts) (s : State) : Type 0 where

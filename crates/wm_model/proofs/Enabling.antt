@@ -1,0 +1,102 @@
+-- What EnableVersioning does to each state that the records stand for.
+use Rattle.std.proofs.Common.{◌≡◌, ◌≢◌, ◌≤◌, ℕ, ◌+◌, nat_lt, Bool, true, false, not, if◌then◌else◌, List, [], ◌∷◌, Some, None, refl, sym, ap, subst, ◌∙◌, arith, codes}
+use Rattle.wm_base.specs.declared.instant.TheConstants.{END}
+use Rattle.wm_graph.specs.Parts.{parts_of}
+use Rattle.wm_graph.specs.Rules.{keep_rules, are_counters}
+use Rattle.wm_print.specs.Texts.{Answer, Fine}
+use Rattle.wm_spec.specs.Records.{record_at}
+use Rattle.wm_spec.specs.declared.record.Record.{Record}
+use Rattle.wm_spec.specs.declared.record.Record.TheVariants as records
+use Rattle.wm_spec.specs.declared.record.counters.Counters.{Counters}
+use Rattle.wm_spec.specs.declared.record.stored.Stored.{Stored}
+use Rattle.wm_spec.specs.declared.record.table.Table.{Table}
+use Rattle.wm_state.specs.Batches.{put, enable_batch, ready}
+use Rattle.wm_state.specs.ById.{Ascend, applied}
+use Rattle.wm_state.specs.State.{State, Session, enabled}
+use Rattle.wm_state.proofs.Apart.{Ruled, ruled}
+use Rattle.wm_state.proofs.Enabling.{keep-readied}
+use Rattle.wm_state.proofs.Planned.{plan_readied, Readied, parts-readied}
+use Rattle.wm_model.specs.Step.{enable, durably, counter_limit, line_work, at_its_end, no_table, versioning, no_key}
+use Rattle.wm_model.specs.Planning.{StandsAt, Does, Stay, moved, named}
+use Rattle.wm_model.proofs.Doing.{does_nothing, counts_as, counters_move, spent_work, not_spent, two_changes}
+use Rattle.wm_model.proofs.Homes.{with_none, with_some}
+
+-- what is done with the table of the name
+abbrev readying : List ℕ → Bool → State → Table → State × Answer
+readying name history s table =
+    if table.versioned then (s, versioning name true) else
+    (if not table.has_key then (s, no_key name) else durably s 0 (record s { tables = enabled table.number history s.tables }, Fine))
+
+-- ---- what is refused
+
+pub enable_none : (rs : List Stored) (xs : List Session) (m : ℕ) (name : List ℕ) (history : Bool) → keep_rules (parts_of rs) ≡ true → named rs name ≡ None → Does rs xs m [] Stay (no_table name) (enable name history)
+enable_none rs xs m name history rules none = does_nothing rs xs m (no_table name) (enable name history) rules (λ s st. with_none rs xs m s name (readying name history s) st none)
+
+pub enable_twice : (rs : List Stored) (xs : List Session) (m : ℕ) (name : List ℕ) (history : Bool) (t : Table) → keep_rules (parts_of rs) ≡ true → named rs name ≡ Some t → t.versioned ≡ true
+    → Does rs xs m [] Stay (versioning name true) (enable name history)
+enable_twice rs xs m name history t rules some on = does_nothing rs xs m (versioning name true) (enable name history) rules (λ s st. with_some rs xs m s name (readying name history s) t st some ∙ rw on refl)
+
+pub enable_keyless : (rs : List Stored) (xs : List Session) (m : ℕ) (name : List ℕ) (history : Bool) (t : Table) → keep_rules (parts_of rs) ≡ true → named rs name ≡ Some t → t.versioned ≡ false → t.has_key ≡ false
+    → Does rs xs m [] Stay (no_key name) (enable name history)
+enable_keyless rs xs m name history t rules some off keyless =
+    does_nothing rs xs m (no_key name) (enable name history) rules (λ s st. with_some rs xs m s name (readying name history s) t st some ∙ rw (off, keyless) refl)
+
+-- ---- the table becomes ready
+
+enabled_is : (rs : List Stored) (xs : List Session) (m : ℕ) (s : State) (name : List ℕ) (history : Bool) (t : Table) → StandsAt rs xs m s → named rs name ≡ Some t → t.versioned ≡ false → t.has_key ≡ true
+    → enable name history s ≡ durably s 0 (record s { tables = enabled t.number history s.tables }, Fine)
+enabled_is rs xs m s name history t st some off key = with_some rs xs m s name (readying name history s) t st some ∙ rw (off, key) refl
+
+pub enable_spent : (rs : List Stored) (xs : List Session) (m : ℕ) (name : List ℕ) (history : Bool) (t : Table) (c : Counters) → keep_rules (parts_of rs) ≡ true → named rs name ≡ Some t → t.versioned ≡ false → t.has_key ≡ true
+    → (parts_of rs).counters ≡ c ∷ [] → nat_lt counter_limit (c.work + line_work) ≡ true → Does rs xs m [] Stay (at_its_end (codes "WORK")) (enable name history)
+enable_spent rs xs m name history t c rules some off key one much =
+    does_nothing rs xs m (at_its_end (codes "WORK")) (enable name history) rules
+    (λ s st. enabled_is rs xs m s name history t st some off key
+    ∙ spent_work s 0 (record s { tables = enabled t.number history s.tables }, Fine) refl (ap (λ w. nat_lt counter_limit (w + line_work)) (sym (counts_as rs xs m s c st one).work) ∙ much))
+
+pub does_enable : (rs : List Stored) (xs : List Session) (m : ℕ) (name : List ℕ) (history : Bool) (t : Table) (c : Counters) (counters_id id : ℕ) → keep_rules (parts_of rs) ≡ true → named rs name ≡ Some t → t.versioned ≡ false → t.has_key ≡ true
+    → (parts_of rs).counters ≡ c ∷ [] → record_at rs counters_id ≡ Some (records.Counters c) → record_at rs id ≡ Some (records.Table t) → nat_lt counter_limit (c.work + line_work) ≡ false → nat_lt m END ≡ true → Ascend rs
+    → Does rs xs m (enable_batch counters_id (moved c m) id history t) Stay Fine (enable name history)
+does_enable rs xs m name history t c counters_id id rules some off key one there found room early sorted = record {
+  keeps = by_parts (parts-readied rs counters_id id c (moved c m) history t sorted there one found);
+  once = two_changes (put counters_id (records.Counters (moved c m))) (put id (records.Table (ready history t))) apart;
+  does = λ s st.
+      let counts = counts_as rs xs m s c st one in
+      let is : enable name history s ≡ (record s { tables = enabled t.number history s.tables; last_moment = s.moment; work = s.work + line_work }, Fine) =
+      enabled_is rs xs m s name history t st some off key
+      ∙ not_spent s 0 (record s { tables = enabled t.number history s.tables }, Fine) refl (ap (λ w. nat_lt counter_limit (w + line_work)) (sym counts.work) ∙ room) in (
+        subst (λ r. StandsAt (applied (enable_batch counters_id (moved c m) id history t) rs) xs m r.0) (sym is) (record {
+          stands = plan_readied rs counters_id id c (moved c m) history t s _ st.stands sorted there one found key counts_well refl refl (more c.work) refl refl
+              (λ front back. record { counters = moved c m; one = refl; next_stamp = counts.next_stamp; last_moment = st.moment_is; limit = counts.limit; work = ap (λ w. w + line_work) counts.work });
+          sessions_are = st.sessions_are;
+          moment_is = st.moment_is;
+        }),
+        sym (ap (λ r. r.1) is),
+      );
+}
+  where
+    only : (a b : Counters) → (a ∷ []) ≡ (b ∷ []) → a ≡ b
+    only a b h = cc
+
+    more : (w : ℕ) → w ≤ w + line_work
+    more w = omega arith
+
+    some_record : (a b : Record) → Some a ≡ Some b → a ≡ b
+    some_record a b h = cc
+
+    kinds_apart : records.Counters c ≡ records.Table t → ⊥
+    kinds_apart e = cc
+
+    apart : counters_id ≢ id
+    apart e = kinds_apart (some_record _ _ (sym there ∙ ap (record_at rs) e ∙ found))
+
+    counts_well : are_counters (moved c m) ≡ true
+    counts_well = counters_move c m (counted_well (ruled (parts_of rs) rules)) early room
+      where
+        counted_well : Ruled (parts_of rs) → are_counters c ≡ true
+        counted_well r = ap are_counters (sym (only r.counters c (sym r.one ∙ one))) ∙ r.counted
+
+    by_parts : Readied rs (enable_batch counters_id (moved c m) id history t) (moved c m) history t → keep_rules (parts_of (applied (enable_batch counters_id (moved c m) id history t) rs)) ≡ true
+    by_parts r = subst (λ p. keep_rules p ≡ true) (sym r.is)
+        (keep-readied (parts_of rs) (moved c m) r.front history t r.back rules r.old key counts_well
+        (λ d is_one. let same : c ≡ d = only c d (sym one ∙ is_one) in (ap (λ (k : Counters). k.next_version) same, ap (λ (k : Counters). k.next_stamp) same, subst (λ (k : Counters). k.work ≤ (moved c m).work) same (more c.work))))
