@@ -1,5 +1,5 @@
 -- What INSERT does to each state that the records stand for: where it is refused.
-use Rattle.std.proofs.Common.{◌≡◌, ℕ, ℤ, ◌+◌, nat_lt, Bool, true, false, not, if◌then◌else◌, List, [], ◌∷◌, length, Option, Some, None, is_some, refl, sym, ap, ◌∙◌, codes}
+use Rattle.std.proofs.Common.{◌≡◌, ℕ, ℤ, ◌+◌, nat_lt, Bool, true, false, not, if◌then◌else◌, List, [], ◌∷◌, length, Some, None, is_some, refl, sym, ap, ◌∙◌, codes}
 use Rattle.wm_base.specs.declared.value.Value.{Value}
 use Rattle.wm_base.specs.declared.value.Value.TheVariants.{Num}
 use Rattle.wm_graph.specs.Parts.{parts_of, space_of}
@@ -11,7 +11,7 @@ use Rattle.wm_spec.specs.declared.record.stored.Stored.{Stored}
 use Rattle.wm_spec.specs.declared.record.table.Table.{Table}
 use Rattle.wm_state.specs.Listing.{stamp_shown}
 use Rattle.wm_state.specs.Standing.{SpaceFields}
-use Rattle.wm_state.specs.State.{State, Session, Workspace, Stand, Latest, At, content}
+use Rattle.wm_state.specs.State.{State, Session, Workspace, Latest, At, content}
 use Rattle.wm_state.proofs.Listed.{shown_is}
 use Rattle.wm_model.specs.Step.{add_row, add_to, at_home, at_latest, durably, counter_limit, line_work, versioning, not_built, not_latest, no_table, key_there, change_limit, at_its_end, takes, stands, new_entry, written}
 use Rattle.wm_model.specs.Planning.{StandsAt, Does, Stay, named, row_values}

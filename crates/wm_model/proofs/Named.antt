@@ -3,7 +3,7 @@ use Rattle.std.proofs.Common.{◌≡◌, ℕ, ◌==◌, ◌&&◌, nat_le, nat_lt
 use Rattle.std.proofs.lemmas.Bool.{eq-eqb}
 use Rattle.std.specs.List.{find, list_all, list_any}
 use Rattle.std.specs.Str.{bytes_eq}
-use Rattle.wm_graph.specs.Parts.{Parts, parts_of, table_of}
+use Rattle.wm_graph.specs.Parts.{parts_of, table_of}
 use Rattle.wm_graph.specs.Rules.{keep_rules, is_table, differ}
 use Rattle.wm_spec.specs.declared.record.stored.Stored.{Stored}
 use Rattle.wm_spec.specs.declared.record.table.Table.{Table}
