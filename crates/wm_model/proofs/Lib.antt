@@ -5,4 +5,5 @@ pub mod Doing
 pub mod Homes
 pub mod Named
 pub mod Adding
+pub mod Added
 pub mod Seating
