@@ -6,4 +6,5 @@ pub mod Homes
 pub mod Named
 pub mod Adding
 pub mod Added
+pub mod Growing
 pub mod Seating
