@@ -7,4 +7,6 @@ pub mod Named
 pub mod Adding
 pub mod Added
 pub mod Growing
+pub mod AddedNew
+pub mod Selecting
 pub mod Seating
