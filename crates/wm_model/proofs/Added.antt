@@ -1,12 +1,12 @@
 -- What an INSERT that is served does to each state that the records stand for: the row goes into the newest version of the workspace.
-use Rattle.std.proofs.Common.{◌≡◌, ℕ, ℤ, ◌≤◌, ◌+◌, ◌^◌, ◌==◌, ◌&&◌, nat_lt, nat_le, Bool, true, false, not, List, [], ◌∷◌, ◌++◌, Some, is_some, refl, sym, ap, subst, ◌∙◌, arith}
+use Rattle.std.proofs.Common.{◌≡◌, ℕ, ℤ, ◌≤◌, ◌+◌, ◌^◌, ◌==◌, ◌&&◌, nat_lt, nat_le, true, false, not, List, [], ◌∷◌, ◌++◌, Some, is_some, refl, sym, ap, subst, ◌∙◌, arith}
 use Rattle.std.proofs.lemmas.Bool.{eq-eqb, eqb-true}
 use Rattle.std.specs.Option.{option_and_then, option_map_or}
 use Rattle.wm_base.specs.declared.instant.TheConstants.{END}
 use Rattle.wm_base.specs.declared.kind.Kind.TheVariants.{Insert as Inserting}
 use Rattle.wm_base.specs.declared.value.Value.{Value}
 use Rattle.wm_base.specs.declared.value.Value.TheVariants.{Num}
-use Rattle.wm_graph.specs.Parts.{Parts, parts_of, table_of, version_of}
+use Rattle.wm_graph.specs.Parts.{Parts, parts_of, table_of}
 use Rattle.wm_graph.specs.Rules.{keep_rules, are_counters, fit_columns, fits_column, is_row, is_row_of, is_row_at, are_cells, is_key_of, key_of, is_key, collide}
 use Rattle.wm_period.specs.Pieces.{Held}
 use Rattle.wm_print.specs.Texts.{Done}
@@ -19,7 +19,6 @@ use Rattle.wm_spec.specs.declared.record.row.RowRecord.{RowRecord}
 use Rattle.wm_spec.specs.declared.record.space.Space.{Space}
 use Rattle.wm_spec.specs.declared.record.stored.Stored.{Stored}
 use Rattle.wm_spec.specs.declared.record.table.Table.{Table}
-use Rattle.wm_spec.specs.declared.record.version.Version.{Version}
 use Rattle.wm_state.specs.Batches.{insert_batch, AreDropped, AllUnder, keeps, is_in, is_out}
 use Rattle.wm_state.specs.ById.{Ascend, applied}
 use Rattle.wm_state.specs.Effects.{IsLeaf, IsFree}

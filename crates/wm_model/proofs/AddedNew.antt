@@ -1,6 +1,6 @@
 -- What an INSERT that is served does where something stands under the newest version of the workspace or names it: the row goes into a
 -- version more.
-use Rattle.std.proofs.Common.{◌≡◌, ℕ, ℤ, ◌≤◌, ◌+◌, ◌^◌, ◌==◌, ◌&&◌, nat_lt, nat_le, Bool, true, false, List, [], ◌∷◌, ◌++◌, Some, is_some, refl, sym, ap, subst, ◌∙◌, arith}
+use Rattle.std.proofs.Common.{◌≡◌, ℕ, ℤ, ◌≤◌, ◌+◌, ◌^◌, ◌==◌, ◌&&◌, nat_lt, nat_le, true, false, List, [], ◌∷◌, ◌++◌, Some, is_some, refl, sym, ap, subst, ◌∙◌, arith}
 use Rattle.std.proofs.lemmas.Bool.{eq-eqb}
 use Rattle.std.specs.List.{list_all}
 use Rattle.wm_base.specs.declared.instant.TheConstants.{END}
@@ -30,7 +30,7 @@ use Rattle.wm_state.proofs.Leaves.{leaf_new, free_new}
 use Rattle.wm_state.proofs.Named.{space_number}
 use Rattle.wm_state.proofs.Tests.{both, find_new, none_if}
 use Rattle.wm_model.specs.Step.{add_row, counter_limit, line_work, new_entry}
-use Rattle.wm_model.specs.Planning.{StandsAt, Does, Stay, moved, named, row_values}
+use Rattle.wm_model.specs.Planning.{StandsAt, Does, Stay, named, row_values}
 use Rattle.wm_model.specs.Writing.{ServedNew, new_row, next_version, piece_in_next, versioned, stepped_new}
 use Rattle.wm_model.proofs.Added.{Fits, row_fits, counted_well, stamped_well, short_enough, work_grows, kept_apart, may_write, adds}
 use Rattle.wm_model.proofs.Doing.{counts_as}

@@ -1,5 +1,5 @@
 -- What SELECT answers for each state that the records stand for.
-use Rattle.std.proofs.Common.{◌≡◌, ℕ, Bool, true, false, not, if◌then◌else◌, List, [], Some, None, refl, sym, ap, ◌∙◌}
+use Rattle.std.proofs.Common.{◌≡◌, ℕ, true, false, not, if◌then◌else◌, List, [], Some, None, refl, sym, ap, ◌∙◌}
 use Rattle.std.specs.List.{filter_map}
 use Rattle.wm_base.specs.declared.row.Row.{Row}
 use Rattle.wm_graph.specs.Parts.{parts_of, space_of}
@@ -11,11 +11,11 @@ use Rattle.wm_spec.specs.declared.record.space.Space.{Space}
 use Rattle.wm_spec.specs.declared.record.stored.Stored.{Stored}
 use Rattle.wm_spec.specs.declared.record.table.Table.{Table}
 use Rattle.wm_state.specs.Listing.{IsListing, row_on}
-use Rattle.wm_state.specs.State.{State, Session, Workspace, Latest, content, seen_from, workspace_of}
+use Rattle.wm_state.specs.State.{State, Session, Workspace, Latest, seen_from, workspace_of}
 use Rattle.wm_state.specs.Standing.{Stands}
 use Rattle.wm_state.proofs.Listed.{listing_is}
 use Rattle.wm_model.specs.Step.{listing, at_home, no_table, not_built, versioning}
-use Rattle.wm_model.specs.Planning.{StandsAt, Does, Stay, named}
+use Rattle.wm_model.specs.Planning.{Does, Stay, named}
 use Rattle.wm_model.proofs.Doing.{does_nothing}
 use Rattle.wm_model.proofs.Homes.{home_is, home_none, home_some, with_none, with_some}
 
