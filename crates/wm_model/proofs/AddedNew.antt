@@ -34,7 +34,7 @@ use Rattle.wm_model.specs.Planning.{StandsAt, Does, Stay, named, row_values}
 use Rattle.wm_model.specs.Writing.{ServedNew, new_row, next_version, piece_in_next, versioned, stepped_new}
 use Rattle.wm_model.proofs.Added.{Fits, row_fits, counted_well, stamped_well, short_enough, work_grows, kept_apart, may_write, adds}
 use Rattle.wm_model.proofs.Doing.{counts_as}
-use Rattle.wm_model.proofs.Growing.{all_out, Places, PlacesApart, places_apart, once_new, once_fork, once_insert, keep-inserted_new}
+use Rattle.wm_model.proofs.NextVersion.{all_out, Places, PlacesApart, places_apart, once_new, once_fork, once_insert, keep-inserted_new}
 use Rattle.wm_model.proofs.Named.{IsTableOf, named_is}
 
 -- ---- what is counted

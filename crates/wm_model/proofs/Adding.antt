@@ -69,9 +69,9 @@ comes_home rs xs m session name key value t a s st some aimed =
     taken on fit = rw (on, fit) refl
 
 -- the session stands at a savepoint
-pub add_elsewhere : (rs : List Stored) (xs : List Session) (m : ℕ) (session : Session) (name : List ℕ) (key value : ℤ) (t : Table) (a : Space) (making : ℕ) → named rs name ≡ Some t → Aimed rs session.space t a key value
-    → session.stand ≡ At making → Does rs xs m [] Stay not_latest (add_row session name key value)
-add_elsewhere rs xs m session name key value t a making some aimed at =
+pub add_elsewhere : (rs : List Stored) (xs : List Session) (m : ℕ) (session : Session) (name : List ℕ) (key value : ℤ) (t : Table) (a : Space) (making : ℕ) → named rs name ≡ Some t → session.stand ≡ At making
+    → Aimed rs session.space t a key value → Does rs xs m [] Stay not_latest (add_row session name key value)
+add_elsewhere rs xs m session name key value t a making some at aimed =
     does_nothing rs xs m not_latest (add_row session name key value) aimed.rules
     (λ s st. comes_home rs xs m session name key value t a s st some aimed
     ∙ ap (λ stand. at_latest s stand (add_to session.user t key value s (home_of rs xs m session key value t a s st aimed).space)) at)

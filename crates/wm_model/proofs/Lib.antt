@@ -6,7 +6,7 @@ pub mod Homes
 pub mod Named
 pub mod Adding
 pub mod Added
-pub mod Growing
+pub mod NextVersion
 pub mod AddedNew
 pub mod Selecting
 pub mod Seating
