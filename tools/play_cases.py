@@ -7,6 +7,7 @@ start, so most cases begin with 'init'. A line of a case is
     $ WORDS     a command: the words behind the store's path, split as a shell splits them
     < TEXT      a line of its input, with LF          <- TEXT    its last line, without LF
     <* N C      a line of N times the character C     <x HEX     a line given in hexadecimal
+    <# A B TEXT lines for the numbers from A to B, each in the place of @ in TEXT; ># A B TEXT the same of the output
     > TEXT      a line of its output, with LF         >? REGEX   a line that the expression matches
     = N         its status (0 where there is none)    ! TEXT     its line on standard error
     @ cut N | poke OFFSET HEX | new | save NAME | load NAME      done to the store file between commands
@@ -40,6 +41,10 @@ class Command:
             self.input += int(count) * char + b"\n"
         elif mark == b"<x":
             self.input += bytes.fromhex(rest.decode()) + b"\n"
+        elif mark == b"<#":
+            self.input += b"".join(line + b"\n" for line in numbered(rest))
+        elif mark == b">#":
+            self.output += [(b">", line) for line in numbered(rest)]
         elif mark in (b">", b">?"):
             self.output.append((mark, rest))
         elif mark == b"=":
@@ -69,6 +74,11 @@ class Command:
         if self.complaint is not None and done.stderr != self.complaint + b"\n":
             return f"standard error has {done.stderr[:200]!r}, and {self.complaint!r} is wanted"
         return None
+
+
+def numbered(rest):
+    first, last, text = rest.split(b" ", 2)
+    return [text.replace(b"@", b"%d" % number) for number in range(int(first), int(last) + 1)]
 
 
 def fits(want, got):

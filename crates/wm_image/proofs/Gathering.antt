@@ -28,7 +28,7 @@ use Rattle.wm_spec.specs.declared.record.stored.Stored.{Stored}
 use Rattle.wm_spec.specs.declared.record.table.Table.{Table}
 use Rattle.wm_spec.specs.declared.record.version.Version.{Version}
 use Rattle.wm_state.specs.Listing.{standing, ComesBefore, KeysAscend, is_key_in, AreRowsOf, row_with, Groups, keys_of, joined, AreAllRowsOf, IsListing}
-use Rattle.wm_state.specs.Standing.{stored_at, seen_at, newest_first, latest, shown}
+use Rattle.wm_state.specs.Standing.{stored_at, seen_at, newest_first, seen}
 use Rattle.wm_state.proofs.Apart.{ruled}
 use Rattle.wm_state.proofs.Tests.{both}
 use Rattle.wm_tree.specs.declared.version.Version.{Version as Node}
@@ -36,7 +36,7 @@ use Rattle.wm_image.proofs.Spans.{spans, maximal, value, rows_are}
 use Rattle.wm_image.specs.Listing.{AddsRows, rows_on}
 use Rattle.wm_image.specs.Sought.{PiecesAt, is_sought}
 
--- ---- nothing is shown from the end of time on
+-- ---- nothing is held from the end of time on
 
 abbrev cell : ℕ → List Value → ℕ → Cell
 cell table key t = record { table = table; key = key; time = t }
@@ -83,57 +83,57 @@ unseen pieces c none (x ∷ older) v = by_number (x.number == v) (unseen pieces 
     by_number true up along = rw (none v, up) refl
     by_number false up along = along
 
-late_shown : (p : Parts) (space table : ℕ) (key : List Value) (t : ℕ) → keep_rules p ≡ true → END ≤ t → shown p space (cell table key t) ≡ None
-late_shown p space table key t rules late =
+late_seen : (p : Parts) (version table : ℕ) (key : List Value) (t : ℕ) → keep_rules p ≡ true → END ≤ t → seen p version (cell table key t) ≡ None
+late_seen p version table key t rules late =
     let r = ruled p rules in
     let all = both (differ collide p.pieces) (list_all (is_piece (table_of p.tables) (version_of p.versions) (row_of p.rows) r.counters.next_stamp) p.pieces) r.pieces in
     unseen p.pieces (cell table key t)
-    (λ v. late_stored (table_of p.tables) (version_of p.versions) (row_of p.rows) r.counters.next_stamp table key t v late p.pieces all.1) (newest_first p.versions) (latest p space)
+    (λ v. late_stored (table_of p.tables) (version_of p.versions) (row_of p.rows) r.counters.next_stamp table key t v late p.pieces all.1) (newest_first p.versions) version
 
 -- ---- the rows of a key
 
-pub adds_rows : (p : Parts) (space table : ℕ) (key : List Value) (ps : List Piece) (old new : List Row) → keep_rules p ≡ true → Between 0 ps END
-    → ((t : ℕ) → t < END → held_at ps t ≡ shown p space (record { table = table; key = key; time = t })) → new ≡ old ++ rows_on p ps → AddsRows p space table key old new
-adds_rows p space table key ps old new rules order same added = record {
+pub adds_rows : (p : Parts) (version table : ℕ) (key : List Value) (ps : List Piece) (old new : List Row) → keep_rules p ≡ true → Between 0 ps END
+    → ((t : ℕ) → t < END → held_at ps t ≡ seen p version (record { table = table; key = key; time = t })) → new ≡ old ++ rows_on p ps → AddsRows p version table key old new
+adds_rows p version table key ps old new rules order same added = record {
   stretches = spans ps;
   are = record { maximal = maximal 0 ps END order; held = λ t. value 0 ps END order t ∙ ap (option_and_then standing) (by_time t (nat_lt t END) refl) };
   added = added ∙ ap (λ rows. old ++ rows) (rows_are p key ps);
 }
   where
-    by_time : (t : ℕ) (b : Bool) → nat_lt t END ≡ b → held_at ps t ≡ shown p space (cell table key t)
+    by_time : (t : ℕ) (b : Bool) → nat_lt t END ≡ b → held_at ps t ≡ seen p version (cell table key t)
     by_time t true e = same t (below t END e)
-    by_time t false e = held_at-past 0 ps END t order (above t END e) ∙ sym (late_shown p space table key t rules (above t END e))
+    by_time t false e = held_at-past 0 ps END t order (above t END e) ∙ sym (late_seen p version table key t rules (above t END e))
 
 -- ---- key by key
 
 -- the rows of keys were gathered
-pub record Gathered (p : Parts) (space table : ℕ) (keys : List (List Value)) (rows : List Row) : Type 0 where
+pub record Gathered (p : Parts) (version table : ℕ) (keys : List (List Value)) (rows : List Row) : Type 0 where
   pub groups : Groups
   pub keyed : keys_of groups ≡ keys
-  pub held : AreAllRowsOf p space table groups
+  pub held : AreAllRowsOf p version table groups
   pub are : rows ≡ filter_map (row_with p) (joined groups)
 
-pub gathered_none : (p : Parts) (space table : ℕ) (rows : List Row) → rows ≡ [] → Gathered p space table [] rows
-gathered_none p space table rows none = record { groups = []; keyed = refl; held = tt; are = none }
+pub gathered_none : (p : Parts) (version table : ℕ) (rows : List Row) → rows ≡ [] → Gathered p version table [] rows
+gathered_none p version table rows none = record { groups = []; keyed = refl; held = tt; are = none }
 
 keys_of-push : (gs : Groups) (key : List Value) (ss : List Stretch) → keys_of (gs ++ (key, ss) ∷ []) ≡ keys_of gs ++ key ∷ []
 keys_of-push [] key ss = refl
 keys_of-push (g ∷ gs) key ss = ap (λ ks. g.0 ∷ ks) (keys_of-push gs key ss)
 
-held-push : (p : Parts) (space table : ℕ) (gs : Groups) (key : List Value) (ss : List Stretch) → AreAllRowsOf p space table gs → AreRowsOf p space table key ss → AreAllRowsOf p space table (gs ++ (key, ss) ∷ [])
-held-push p space table [] key ss held are = (are, tt)
-held-push p space table (g ∷ gs) key ss held are = (held.0, held-push p space table gs key ss held.1 are)
+held-push : (p : Parts) (version table : ℕ) (gs : Groups) (key : List Value) (ss : List Stretch) → AreAllRowsOf p version table gs → AreRowsOf p version table key ss → AreAllRowsOf p version table (gs ++ (key, ss) ∷ [])
+held-push p version table [] key ss held are = (are, tt)
+held-push p version table (g ∷ gs) key ss held are = (held.0, held-push p version table gs key ss held.1 are)
 
 joined-push : (gs : Groups) (key : List Value) (ss : List Stretch) → joined (gs ++ (key, ss) ∷ []) ≡ joined gs ++ map (λ s. (key, s)) ss
 joined-push [] key ss = append-nil (map (λ s. (key, s)) ss)
 joined-push (g ∷ gs) key ss = ap (λ l. map (λ s. (g.0, s)) g.1 ++ l) (joined-push gs key ss) ∙ sym (append_assoc (map (λ s. (g.0, s)) g.1) (joined gs) (map (λ s. (key, s)) ss))
 
-pub gathered_more : (p : Parts) (space table : ℕ) (keys : List (List Value)) (key : List Value) (old new : List Row) → Gathered p space table keys old → AddsRows p space table key old new
-    → Gathered p space table (keys ++ key ∷ []) new
-gathered_more p space table keys key old new so more = record {
+pub gathered_more : (p : Parts) (version table : ℕ) (keys : List (List Value)) (key : List Value) (old new : List Row) → Gathered p version table keys old → AddsRows p version table key old new
+    → Gathered p version table (keys ++ key ∷ []) new
+gathered_more p version table keys key old new so more = record {
   groups = so.groups ++ (key, more.stretches) ∷ [];
   keyed = keys_of-push so.groups key more.stretches ∙ ap (λ ks. ks ++ key ∷ []) so.keyed;
-  held = held-push p space table so.groups key more.stretches so.held more.are;
+  held = held-push p version table so.groups key more.stretches so.held more.are;
   are =
       more.added
       ∙ ap (λ rows. rows ++ filter_map (row_with p) (map (λ s. (key, s)) more.stretches)) so.are
@@ -142,10 +142,10 @@ gathered_more p space table keys key old new so more = record {
 }
 
 -- the same where the keys are gone through in order
-pub gathered_next : (p : Parts) (space table : ℕ) (keys : List (List Value)) (i : ℕ) (key : List Value) (old new : List Row) → i < length keys → key ≡ get_or keys i key
-    → Gathered p space table (take i keys) old → AddsRows p space table key old new → Gathered p space table (take (i + 1) keys) new
-gathered_next p space table keys i key old new within read so more =
-    subst (λ ks. Gathered p space table ks new) (ap (λ k. take i keys ++ k ∷ []) read ∙ sym (take_more keys i key within)) (gathered_more p space table (take i keys) key old new so more)
+pub gathered_next : (p : Parts) (version table : ℕ) (keys : List (List Value)) (i : ℕ) (key : List Value) (old new : List Row) → i < length keys → key ≡ get_or keys i key
+    → Gathered p version table (take i keys) old → AddsRows p version table key old new → Gathered p version table (take (i + 1) keys) new
+gathered_next p version table keys i key old new within read so more =
+    subst (λ ks. Gathered p version table ks new) (ap (λ k. take i keys ++ k ∷ []) read ∙ sym (take_more keys i key within)) (gathered_more p version table (take i keys) key old new so more)
 
 -- ---- all keys
 
@@ -172,10 +172,10 @@ sought_pieces table k [] = refl
 sought_pieces table k (records.Piece x ∷ rs) = ap (λ b. ((x.cells.table == table) && is_eq (key_order x.cells.key k)) || b) (sought_pieces table k rs)
 sought_pieces table k (_ ∷ rs) = sought_pieces table k rs
 
-pub is_listing : (ss : List Stored) (space table : ℕ) (keys passed : List (List Value)) (rows : List Row) → passed ≡ keys → Gathered (parts_of ss) space table passed rows → IsStrictlySortedBy key_order keys
-    → ((k : List Value) → list_any (λ q. is_eq (key_order k q)) keys ≡ list_any (is_sought (PiecesAt table k)) (map (λ (s : Stored). s.record) ss)) → IsListing (parts_of ss) space table rows
+pub is_listing : (ss : List Stored) (version table : ℕ) (keys passed : List (List Value)) (rows : List Row) → passed ≡ keys → Gathered (parts_of ss) version table passed rows → IsStrictlySortedBy key_order keys
+    → ((k : List Value) → list_any (λ q. is_eq (key_order k q)) keys ≡ list_any (is_sought (PiecesAt table k)) (map (λ (s : Stored). s.record) ss)) → IsListing (parts_of ss) version table rows
 unfolding parts_of
-is_listing ss space table keys passed rows all so sorted each = record {
+is_listing ss version table keys passed rows all so sorted each = record {
   groups = so.groups;
   ascend = subst KeysAscend (sym (so.keyed ∙ all)) (ascend keys sorted);
   whole = λ k out.

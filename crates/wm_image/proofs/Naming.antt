@@ -8,16 +8,16 @@ use Rattle.std.specs.List.{find, filter, filter_map, list_any, list_all, cons_op
 use Rattle.std.specs.Option.{option_copied, option_map, option_or, option_and_then}
 use Rattle.std.specs.Str.{bytes_eq}
 use Rattle.wm_graph.specs.Parts.{Parts, parts_of, as_table, table_of}
-use Rattle.wm_graph.specs.Rules.{keep_rules, are_counters, are_tables, are_spaces, are_versions, are_rows, are_pieces, differ, is_table}
+use Rattle.wm_graph.specs.Rules.{keep_rules, differ, is_table}
 use Rattle.wm_spec.specs.Records.{record_at}
 use Rattle.wm_spec.specs.declared.record.Record.{Record}
 use Rattle.wm_spec.specs.declared.record.Record.TheVariants as records
-use Rattle.wm_spec.specs.declared.record.counters.Counters.{Counters}
 use Rattle.wm_spec.specs.declared.record.stored.Stored.{Stored}
 use Rattle.wm_spec.specs.declared.record.table.Table.{Table}
 use Rattle.wm_state.specs.Standing.{by_number, place_table}
 use Rattle.wm_image.proofs.Finding.{all_of, all_sought, Tests, filter-kind}
-use Rattle.wm_image.proofs.Newest.{both}
+use Rattle.wm_state.proofs.Apart.{ruled}
+use Rattle.wm_state.proofs.Tests.{both, either_false, not_true}
 use Rattle.wm_image.specs.Indexed.{IsIndexed, ids_at, listed}
 use Rattle.wm_image.specs.Shown.{kind_at, passing}
 use Rattle.wm_image.specs.Sought.{Tables, is_sought}
@@ -100,14 +100,6 @@ has_name name t = bytes_eq name t.name
 abbrev pub same_name : Table → Table → Bool
 same_name t u = bytes_eq t.name u.name
 
-either_false : (a b : Bool) → (a || b) ≡ false → (a ≡ false) × (b ≡ false)
-either_false true b e = cc
-either_false false b e = (refl, e)
-
-not_true : (a : Bool) → not a ≡ true → a ≡ false
-not_true true e = cc
-not_true false e = refl
-
 -- no other table has the name
 no_other : (name : List ℕ) (t : Table) (us : List Table) → list_any (same_name t) us ≡ false → name ≡ t.name → find (has_name name) us ≡ None
 no_other name t [] none e = refl
@@ -125,30 +117,11 @@ find-by_number name (t ∷ ts) apart =
 
 -- ---- the rules of tables
 
-second : (a b r : Bool) → (a && (b && r)) ≡ true → b ≡ true
-second true true r h = refl
-second true false r h = h
-second false b r h = cc
-
-third : (a b c r : Bool) → (a && (b && (c && r))) ≡ true → c ≡ true
-third true true true r h = refl
-third true true false r h = h
-third true false c r h = cc
-third false b c r h = cc
-
 names_differ : (p : Parts) → keep_rules p ≡ true → differ same_name p.tables ≡ true
-unfolding keep_rules
-names_differ p kept = by_list p.counters refl
-  where
-    false_true : false ≡ true → ⊥
-    false_true h = cc
-
-    by_list : (cs : List Counters) → p.counters ≡ cs → differ same_name p.tables ≡ true
-    by_list [] e = absurd (false_true (rw e at kept))
-    by_list (c ∷ []) e =
-        third (nat_le (length p.tables) 256) (differ (λ (t u : Table). t.number == u.number) p.tables) (differ same_name p.tables) (list_all is_table p.tables)
-        (second (are_counters c) (are_tables p.tables) (are_spaces p.spaces && (are_versions p c.next_version && (are_rows p c.next_stamp && are_pieces p c.next_stamp))) (rw e at kept))
-    by_list (c ∷ d ∷ cs) e = absurd (false_true (rw e at kept))
+names_differ p kept =
+    let h = both (nat_le (length p.tables) 256) _ (ruled p kept).tables in
+    let g = both (differ (λ (t u : Table). t.number == u.number) p.tables) _ h.1 in
+    (both (differ same_name p.tables) (list_all is_table p.tables) g.1).0
 
 -- ---- what an index tells
 

@@ -21,8 +21,10 @@ no_tables (s ∷ ss) e = by_kind (no_tables ss) s.record refl
     by_kind rest (records.Counters t) is = rw is (rest (rw is at e))
     by_kind rest (records.Space t) is = rw is (rest (rw is at e))
     by_kind rest (records.Version t) is = rw is (rest (rw is at e))
+    by_kind rest (records.Savepoint t) is = rw is (rest (rw is at e))
     by_kind rest (records.Row t) is = rw is (rest (rw is at e))
     by_kind rest (records.Piece t) is = rw is (rest (rw is at e))
+    by_kind rest (records.Hist t) is = rw is (rest (rw is at e))
 
 -- where an id is, there is a table
 pub some_tables : (ss : List Stored) → filter_map as_table (map (λ (s : Stored). s.record) ss) ≡ [] → ids_with (is_sought Tables) ss ≡ []
@@ -37,5 +39,7 @@ some_tables (s ∷ ss) e = by_kind (some_tables ss) s.record refl
     by_kind rest (records.Counters t) is = rw is (rest (rw is at e))
     by_kind rest (records.Space t) is = rw is (rest (rw is at e))
     by_kind rest (records.Version t) is = rw is (rest (rw is at e))
+    by_kind rest (records.Savepoint t) is = rw is (rest (rw is at e))
     by_kind rest (records.Row t) is = rw is (rest (rw is at e))
     by_kind rest (records.Piece t) is = rw is (rest (rw is at e))
+    by_kind rest (records.Hist t) is = rw is (rest (rw is at e))

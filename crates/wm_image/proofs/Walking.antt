@@ -20,7 +20,8 @@ use Rattle.wm_spec.specs.declared.record.piece.PieceRecord.{PieceRecord}
 use Rattle.wm_spec.specs.declared.record.space.Space.{Space}
 use Rattle.wm_spec.specs.declared.record.stored.Stored.{Stored}
 use Rattle.wm_spec.specs.declared.record.version.Version.{Version}
-use Rattle.wm_state.specs.Standing.{newest_first, node_of, seen_at, stored_at, covers_at, held_by, latest, shown}
+use Rattle.wm_state.specs.Standing.{newest_first, node_of, seen_at, stored_at, covers_at, held_by, latest, seen}
+use Rattle.wm_state.proofs.Apart.{ruled_versions, ruled as all_ruled}
 use Rattle.wm_tree.specs.Versions.{version_in, path_in, IsTree}
 use Rattle.wm_tree.specs.declared.version.Version.{Version as Node}
 use Rattle.wm_tree.proofs.Paths.{found, path_in-there, path_in-none}
@@ -80,29 +81,6 @@ all_stand all spaces versions next known (v ∷ vs) rule =
     let two = both (is_version spaces versions next v) (list_all (is_version spaces versions next) vs) rule in
     AllStand-grow all (node_of v) (newest_first vs) (stands-of all spaces versions next v known two.0) (all_stand all spaces versions next known vs two.1)
 
-fourth : (a b c d e : Bool) → (a && (b && (c && (d && e)))) ≡ true → d ≡ true
-fourth true true true true e h = refl
-fourth true true true false e h = h
-fourth true true false d e h = cc
-fourth true false c d e h = cc
-fourth false b c d e h = cc
-
--- the rules of versions are among all rules
-versions_ruled : (p : Parts) → keep_rules p ≡ true → (next : ℕ) × (are_versions p next ≡ true)
-unfolding keep_rules
-versions_ruled p kept = by_list p.counters refl
-  where
-    false_true : false ≡ true → ⊥
-    false_true h = cc
-
-    by_list : (cs : List Counters) → p.counters ≡ cs → (next : ℕ) × (are_versions p next ≡ true)
-    by_list [] e = absurd (false_true (rw e at kept))
-    by_list (c ∷ []) e = (
-      c.next_version,
-      fourth (are_counters c) (are_tables p.tables) (are_spaces p.spaces) (are_versions p c.next_version) (are_rows p c.next_stamp && are_pieces p c.next_stamp) (rw e at kept),
-    )
-    by_list (c ∷ d ∷ cs) e = absurd (false_true (rw e at kept))
-
 -- what the rules tell of versions
 pub record Ruled (vs : List Version) : Type 0 where
   pub tree : IsTree (newest_first vs)
@@ -110,14 +88,13 @@ pub record Ruled (vs : List Version) : Type 0 where
 
 pub ruled : (p : Parts) → keep_rules p ≡ true → Ruled p.versions
 ruled p kept =
-    let rules = versions_ruled p kept in
-    let two = both (differ same_number p.versions)
-    (list_all (is_version (space_of p.spaces) (version_of p.versions) rules.0) p.versions && list_all (has_versions (has_version p.versions) (version_of p.versions)) p.spaces) rules.1 in
-    let known = version_in-newest p.versions two.0 in
+    let rules = all_ruled p kept in
+    let next = rules.counters.next_version in
+    let two = ruled_versions p next rules.versions in
+    let known = version_in-newest p.versions two.numbers in
     record {
-      tree = tree_of (newest_first p.versions) (Descends-newest p.versions two.0)
-          (all_stand (newest_first p.versions) (space_of p.spaces) (version_of p.versions) rules.0 known p.versions
-          (both (list_all (is_version (space_of p.spaces) (version_of p.versions) rules.0) p.versions) (list_all (has_versions (has_version p.versions) (version_of p.versions)) p.spaces) two.1).0);
+      tree = tree_of (newest_first p.versions) (Descends-newest p.versions two.numbers)
+          (all_stand (newest_first p.versions) (space_of p.spaces) (version_of p.versions) next known p.versions two.each);
       same = known;
     }
 
@@ -244,25 +221,23 @@ latest_told kept x is s =
     ∙ ap greatest (filter-kind as_version (λ (v : Version). v.space == s) (is_sought (VersionsOf s)) (versions_test s) (all_of (listed kept.entries)))
     ∙ sym (latest_in-greatest (filter_map as_version (all_of (listed kept.entries))) s)
 
--- what the newest version of a workspace holds at a cell
-pub shown_told : (kept : BTreeMap ℕ Record) (x : Index) → IsIndexed kept x → (s : ℕ) (c : Cell)
-    → along (λ v. first_held (kind_at as_piece (listed kept.entries) (ids_at x (PiecesAt c.table c.key))) v c.time)
-    (path_in (newest_first (parts_of (listed kept.entries)).versions) (latest (parts_of (listed kept.entries)) s))
-    ≡ shown (parts_of (listed kept.entries)) s c
+-- what a version holds at a cell
+pub seen_told : (kept : BTreeMap ℕ Record) (x : Index) → IsIndexed kept x → (version : ℕ) (c : Cell)
+    → along (λ v. first_held (kind_at as_piece (listed kept.entries) (ids_at x (PiecesAt c.table c.key))) v c.time) (path_in (newest_first (parts_of (listed kept.entries)).versions) version)
+    ≡ seen (parts_of (listed kept.entries)) version c
 unfolding parts_of
-shown_told kept x is s c =
+seen_told kept x is version c =
     along-same _ (λ v. stored_at (filter_map as_piece (all_of (listed kept.entries))) v c)
     (λ v.
     ap (λ rs. first_held (filter_map as_piece rs) v c.time) (all_sought kept x is (PiecesAt c.table c.key))
     ∙ sym (stored_at-sought c v (all_of (listed kept.entries))))
-    (path_in (newest_first (filter_map as_version (all_of (listed kept.entries)))) (latest (parts_of (listed kept.entries)) s))
-    ∙ sym (seen_at-along (filter_map as_piece (all_of (listed kept.entries))) c (newest_first (filter_map as_version (all_of (listed kept.entries)))) (latest (parts_of (listed kept.entries)) s))
+    (path_in (newest_first (filter_map as_version (all_of (listed kept.entries)))) version)
+    ∙ sym (seen_at-along (filter_map as_piece (all_of (listed kept.entries))) c (newest_first (filter_map as_version (all_of (listed kept.entries)))) version)
 
 -- the same, as a walk finds it
-pub shown_by : (kept : BTreeMap ℕ Record) (x : Index) → IsIndexed kept x → (s : ℕ) (c : Cell) (ids : List ℕ) (version time : ℕ)
-    → ids ≡ ids_at x (PiecesAt c.table c.key) → version ≡ latest (parts_of (listed kept.entries)) s → time ≡ c.time
-    → along (λ v. first_held (kind_at as_piece (listed kept.entries) ids) v time) (path_in (newest_first (parts_of (listed kept.entries)).versions) version) ≡ shown (parts_of (listed kept.entries)) s c
-shown_by kept x is s c ids version time same newest moment = rw (same, newest, moment) (shown_told kept x is s c)
+pub seen_by : (kept : BTreeMap ℕ Record) (x : Index) → IsIndexed kept x → (version : ℕ) (c : Cell) (ids : List ℕ) (time : ℕ) → ids ≡ ids_at x (PiecesAt c.table c.key) → time ≡ c.time
+    → along (λ v. first_held (kind_at as_piece (listed kept.entries) ids) v time) (path_in (newest_first (parts_of (listed kept.entries)).versions) version) ≡ seen (parts_of (listed kept.entries)) version c
+seen_by kept x is version c ids time same moment = rw (same, moment) (seen_told kept x is version c)
 
 -- what a version has laid under what was laid before
 pub lay_on : (f : ℕ → Option Held) (path rest : List ℕ) (n : ℕ) (old new : Option Held) → path ≡ n ∷ rest → new ≡ option_or old (f n) → option_or new (along f rest) ≡ option_or old (along f path)

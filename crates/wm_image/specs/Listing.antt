@@ -28,8 +28,8 @@ abbrev pub rows_on : Parts → List Piece → List Row
 rows_on p [] = []
 rows_on p (x ∷ xs) = option_to_list (option_and_then (row_under p) (ending x xs)) ++ rows_on p xs
 
--- the rows of a key that the newest version of a workspace holds were put behind others
-pub record AddsRows (p : Parts) (space table : ℕ) (key : List Value) (old new : List Row) : Type 0 where
+-- the rows of a key that a version holds were put behind others
+pub record AddsRows (p : Parts) (version table : ℕ) (key : List Value) (old new : List Row) : Type 0 where
   pub stretches : List Stretch
-  pub are : AreRowsOf p space table key stretches
+  pub are : AreRowsOf p version table key stretches
   pub added : new ≡ old ++ filter_map (row_with p) (map (λ s. (key, s)) stretches)

@@ -1,5 +1,5 @@
 -- What is read of the records of some ids.
-use Rattle.std.specs.Prelude.{ℕ, Bool, ◌&&◌, ◌==◌, nat_le, nat_lt, max, List, [], ◌∷◌, Option, Some, None}
+use Rattle.std.specs.Prelude.{ℕ, Bool, not, ◌&&◌, ◌||◌, ◌==◌, nat_le, nat_lt, max, List, [], ◌∷◌, Option, Some, None}
 use Rattle.std.specs.Bool.{then_some}
 use Rattle.std.specs.List.{filter_map}
 use Rattle.std.specs.Option.{option_or}
@@ -7,6 +7,7 @@ use Rattle.wm_period.specs.Pieces.{Held}
 use Rattle.wm_spec.specs.Records.{record_at}
 use Rattle.wm_spec.specs.declared.record.Record.{Record}
 use Rattle.wm_spec.specs.declared.record.piece.PieceRecord.{PieceRecord}
+use Rattle.wm_spec.specs.declared.record.space.Space.{Space}
 use Rattle.wm_spec.specs.declared.record.stored.Stored.{Stored}
 use Rattle.wm_spec.specs.declared.record.version.Version.{Version}
 use Rattle.wm_state.specs.Standing.{held_by}
@@ -48,3 +49,7 @@ along f (v ∷ vs) = option_or (f v) (along f vs)
 abbrev pub passing : {A : Type 0} → (A → Bool) → Option A → Option A
 passing p None = None
 passing p (Some x) = then_some (p x) x
+
+-- a workspace with a parent was born from the version or sees it under its own
+abbrev pub names : ℕ → Space → Bool
+names version r = not (r.number == 0) && ((r.birth_version == version) || (r.base_version == version))

@@ -1,7 +1,9 @@
 -- What records are sought as, and the ids of those that are it.
-use Rattle.std.specs.Prelude.{ℕ, Bool, true, false, ◌&&◌, ◌==◌, nat_lt, if◌then◌else◌, List, [], ◌∷◌, Option, Some, None, option_map, unwrap_or}
+use Rattle.std.specs.Prelude.{ℕ, Bool, true, false, not, ◌&&◌, ◌==◌, nat_lt, if◌then◌else◌, List, [], ◌∷◌, Option, Some, None, option_map, unwrap_or}
 use Rattle.std.specs.BTreeMap.{BTreeMap, is_at}
+use Rattle.std.specs.Bool.{then_some}
 use Rattle.std.specs.Map.{lookup}
+use Rattle.std.specs.Option.{option_or}
 use Rattle.std.specs.Ordering.{nat_cmp, is_eq}
 use Rattle.std.specs.declared.alloc.Global.{Global}
 use Rattle.std.specs.declared.cmp.Ordering.{Ordering}
@@ -13,15 +15,22 @@ use Rattle.wm_spec.specs.declared.record.Record.TheVariants as records
 use Rattle.wm_spec.specs.declared.record.stored.Stored.{Stored}
 use Rattle.wm_spec.specs.Records.{record_at}
 
--- counters; tables; a workspace or a version by its number; the versions of a workspace, or those under a version; a row by
--- its stamp; the pieces on a table and a key
+-- counters; tables; workspaces; a workspace or a version by its number; the versions of a workspace, or those under a version;
+-- the savepoints of a workspace, one by its making, or those that keep a version; workspaces with a number above 0 that were born
+-- from a version, or see it under their own; a row by its stamp; the pieces on a table and a key
 pub data Sought : Type 0 where
   TheCounters : Sought
   Tables : Sought
+  Spaces : Sought
   SpaceAt : ℕ → Sought
   VersionAt : ℕ → Sought
   VersionsOf : ℕ → Sought
   VersionsUnder : ℕ → Sought
+  SavepointsOf : ℕ → Sought
+  SavepointAt : ℕ → Sought
+  KeptAs : ℕ → Sought
+  BornAs : ℕ → Sought
+  SeenUnder : ℕ → Sought
   RowAt : ℕ → Sought
   PiecesAt : ℕ → List Value → Sought
 
@@ -29,10 +38,16 @@ pub data Sought : Type 0 where
 abbrev pub is_sought : Sought → Record → Bool
 is_sought TheCounters (records.Counters r) = true
 is_sought Tables (records.Table r) = true
+is_sought Spaces (records.Space r) = true
 is_sought (SpaceAt number) (records.Space r) = r.number == number
 is_sought (VersionAt number) (records.Version r) = r.number == number
 is_sought (VersionsOf space) (records.Version r) = r.space == space
 is_sought (VersionsUnder parent) (records.Version r) = r.parent == parent
+is_sought (SavepointsOf space) (records.Savepoint r) = r.space == space
+is_sought (SavepointAt making) (records.Savepoint r) = r.making == making
+is_sought (KeptAs version) (records.Savepoint r) = r.version == version
+is_sought (BornAs version) (records.Space r) = not (r.number == 0) && (r.birth_version == version)
+is_sought (SeenUnder version) (records.Space r) = not (r.number == 0) && (r.base_version == version)
 is_sought (RowAt stamp) (records.Row r) = r.stamp == stamp
 is_sought (PiecesAt table key) (records.Piece r) = (r.cells.table == table) && is_eq (key_order r.cells.key key)
 is_sought _ _ = false
@@ -105,3 +120,8 @@ is_nil (x ∷ xs) = false
 abbrev pub used : List (List Value × Vec ℕ Global) → List (List Value)
 used [] = []
 used (e ∷ es) = if is_nil e.1.items then used es else e.0 ∷ used es
+
+-- the last key that has ids
+abbrev pub last_used : {K : Type 0} → List (K × Vec ℕ Global) → Option K
+last_used [] = None
+last_used (e ∷ es) = option_or (last_used es) (then_some (not (is_nil e.1.items)) e.0)

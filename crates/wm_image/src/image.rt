@@ -18,7 +18,7 @@ ghost use Rattle.wm_image.specs.Sought.{PiecesAt, ids_with, is_sought};
 ghost use Rattle.wm_state.specs.Batches.{is_out, keeps};
 ghost use Rattle.wm_state.specs.ById.{Ascend, applied, by_id};
 ghost use Rattle.wm_state.specs.Listing.{IsListing};
-ghost use Rattle.wm_state.specs.Standing.{by_number, held_by, latest, shown};
+ghost use Rattle.wm_state.specs.Standing.{by_number, held_by, latest, seen};
 
 use crate::ids::first_id;
 use crate::index::Index;
@@ -193,24 +193,22 @@ impl Image {
         ids_of(&self.index.versions_under, &version).is_empty()
     }
 
-    /// The piece that a workspace has at a moment for a key of a table: that of the nearest version on the path of
-    /// its newest one. Only the pieces of that key are looked at.
-    pub fn shown_at(&self, space: u32, table: u16, key: &Key, time: Instant) -> Option<&PieceRecord>
+    /// The piece that a version has at a moment for a key of a table: that of the nearest version on its path. Only
+    /// the pieces of that key are looked at.
+    pub fn shown_at(&self, version: u64, table: u16, key: &Key, time: Instant) -> Option<&PieceRecord>
         requires { keep_rules (parts_of self.now) ≡ true }
-        ensures { option_map held_by (option_copied result) ≡ shown (parts_of self.now) space (record { table = table; key = key.now; time = time }) }
+        ensures { option_map held_by (option_copied result) ≡ seen (parts_of self.now) version (record { table = table; key = key.now; time = time }) }
     {
         let ids = ids_on(&self.index.pieces, table, key);
-        let version = latest_of(&self.kept, &self.index, space);
         nearest(&self.kept, &self.index, ids, version, time.seconds())
     }
 
-    /// All that a workspace has for a key of a table.
-    pub fn shown(&self, alloc: Global, space: u32, table: u16, key: &Key) -> Result<Pieces, Memory>
+    /// All that a version has for a key of a table.
+    pub fn shown(&self, alloc: Global, version: u64, table: u16, key: &Key) -> Result<Pieces, Memory>
         requires { keep_rules (parts_of self.now) ≡ true }
-        ensures { IfOk result (λ pieces. (t : ℕ) → t < END → held_at pieces t ≡ shown (parts_of self.now) space (record { table = table; key = key.now; time = t })) }
+        ensures { IfOk result (λ pieces. (t : ℕ) → t < END → held_at pieces t ≡ seen (parts_of self.now) version (record { table = table; key = key.now; time = t })) }
     {
         let ids = ids_on(&self.index.pieces, table, key);
-        let version = latest_of(&self.kept, &self.index, space);
         let pieces = lay_path(alloc, &self.kept, &self.index, ids, version)?;
         Ok(pieces)
     }
@@ -254,12 +252,12 @@ impl Image {
         kinds::row_of(first(&self.kept, ids_of(&self.index.rows, &stamp)))
     }
 
-    /// The rows of a table that the newest version of a workspace holds, by key and from.
-    pub fn listing(&self, alloc: Global, space: u32, table: u16) -> Result<RowList, Memory>
+    /// The rows of a table that a version holds, by key and from.
+    pub fn listing(&self, alloc: Global, version: u64, table: u16) -> Result<RowList, Memory>
         requires { keep_rules (parts_of self.now) ≡ true }
-        ensures { IfOk result (λ rows. IsListing (parts_of self.now) space table rows) }
+        ensures { IfOk result (λ rows. IsListing (parts_of self.now) version table rows) }
     {
-        list_rows(alloc, self, space, table)
+        list_rows(alloc, self, version, table)
     }
 
     /// The record of an id.

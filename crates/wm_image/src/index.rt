@@ -3,24 +3,33 @@
 ghost use Rattle.std.specs.Prelude.{◌≡◌, [], OnOk};
 ghost use Rattle.wm_image.specs.Indexed.{Adds, Drops, ids_at};
 ghost use Rattle.wm_image.specs.Sought.{Sought};
+ghost use Rattle.wm_spec.specs.declared.record.Record.TheVariants as records;
 
 use crate::ids::{add_id, drop_id};
 use crate::keyed::{Ids, TableIds, add_on, add_to, drop_from, drop_on};
 use std::alloc::Global;
 use std::collections::BTreeMap;
 use wm_base::Memory;
-use wm_spec::record::Record;
+use wm_spec::record::{Record, Space};
 
-/// Ids in ascending order: of the counters and the tables; of workspaces and versions by number; of the
-/// versions of a workspace, and of those under a version; of rows by stamp; of pieces by table and key.
+/// Ids in ascending order: of the counters, the tables and the workspaces; of workspaces and versions by number;
+/// of the versions of a workspace, and of those under a version; of the savepoints of a workspace, by making, and
+/// of those that keep a version; of the workspaces with a parent that were born from a version, or see it under
+/// their own; of rows by stamp; of pieces by table and key.
 #[derive(Drop)]
 pub struct Index {
     pub counters: Vec<u64>,
     pub tables: Vec<u64>,
+    pub all_spaces: Vec<u64>,
     pub spaces: Ids<u32>,
     pub versions: Ids<u64>,
     pub versions_of: Ids<u32>,
     pub versions_under: Ids<u64>,
+    pub savepoints_of: Ids<u32>,
+    pub savepoints: Ids<u64>,
+    pub kept_as: Ids<u64>,
+    pub born_as: Ids<u64>,
+    pub seen_under: Ids<u64>,
     pub rows: Ids<u64>,
     pub pieces: TableIds,
 }
@@ -33,10 +42,16 @@ impl Index {
         Index {
             counters: Vec::new(alloc),
             tables: Vec::new(alloc),
+            all_spaces: Vec::new(alloc),
             spaces: BTreeMap::new(alloc),
             versions: BTreeMap::new(alloc),
             versions_of: BTreeMap::new(alloc),
             versions_under: BTreeMap::new(alloc),
+            savepoints_of: BTreeMap::new(alloc),
+            savepoints: BTreeMap::new(alloc),
+            kept_as: BTreeMap::new(alloc),
+            born_as: BTreeMap::new(alloc),
+            seen_under: BTreeMap::new(alloc),
             rows: BTreeMap::new(alloc),
             pieces: BTreeMap::new(alloc),
         }
@@ -49,11 +64,16 @@ impl Index {
         match added {
             Record::Counters(_) => add_id(&mut self.counters, id),
             Record::Table(_) => add_id(&mut self.tables, id),
-            Record::Space(space) => add_to(alloc, &mut self.spaces, space.number, id),
+            Record::Space(space) => self.add_space(alloc, id, space),
             Record::Version(version) => {
                 add_to(alloc, &mut self.versions, version.number, id)?;
                 add_to(alloc, &mut self.versions_of, version.space, id)?;
                 add_to(alloc, &mut self.versions_under, version.parent, id)
+            }
+            Record::Savepoint(savepoint) => {
+                add_to(alloc, &mut self.savepoints_of, savepoint.space, id)?;
+                add_to(alloc, &mut self.savepoints, savepoint.making, id)?;
+                add_to(alloc, &mut self.kept_as, savepoint.version, id)
             }
             Record::Row(row) => add_to(alloc, &mut self.rows, row.stamp, id),
             Record::Piece(piece) => add_on(
@@ -63,7 +83,21 @@ impl Index {
                 &piece.cells.key,
                 id,
             ),
+            Record::Hist(_) => Ok(()),
         }
+    }
+
+    /// Adds the id of a workspace.
+    fn add_space(&mut self, alloc: Global, id: u64, space: &Space) -> Result<(), Memory>
+        ensures { OnOk result (Adds self.old self.new id (records.Space space.now)) }
+    {
+        add_id(&mut self.all_spaces, id)?;
+        add_to(alloc, &mut self.spaces, space.number, id)?;
+        if space.number == 0 {
+            return Ok(());
+        }
+        add_to(alloc, &mut self.born_as, space.birth_version, id)?;
+        add_to(alloc, &mut self.seen_under, space.base_version, id)
     }
 
     /// Drops the id of a record.
@@ -73,11 +107,16 @@ impl Index {
         match dropped {
             Record::Counters(_) => drop_id(&mut self.counters, id),
             Record::Table(_) => drop_id(&mut self.tables, id),
-            Record::Space(space) => return drop_from(&mut self.spaces, space.number, id),
+            Record::Space(space) => return self.drop_space(id, space),
             Record::Version(version) => {
                 drop_from(&mut self.versions, version.number, id)?;
                 drop_from(&mut self.versions_of, version.space, id)?;
                 return drop_from(&mut self.versions_under, version.parent, id);
+            }
+            Record::Savepoint(savepoint) => {
+                drop_from(&mut self.savepoints_of, savepoint.space, id)?;
+                drop_from(&mut self.savepoints, savepoint.making, id)?;
+                return drop_from(&mut self.kept_as, savepoint.version, id);
             }
             Record::Row(row) => return drop_from(&mut self.rows, row.stamp, id),
             Record::Piece(piece) => {
@@ -89,7 +128,21 @@ impl Index {
                     id,
                 );
             }
+            Record::Hist(_) => {}
         }
         Ok(())
+    }
+
+    /// Drops the id of a workspace.
+    fn drop_space(&mut self, id: u64, space: &Space) -> Result<(), Memory>
+        ensures { OnOk result (Drops self.old self.new id (records.Space space.now)) }
+    {
+        drop_id(&mut self.all_spaces, id);
+        drop_from(&mut self.spaces, space.number, id)?;
+        if space.number == 0 {
+            return Ok(());
+        }
+        drop_from(&mut self.born_as, space.birth_version, id)?;
+        drop_from(&mut self.seen_under, space.base_version, id)
     }
 }

@@ -2,9 +2,9 @@
 
 ghost use Rattle.std.specs.Prelude.{◌≡◌};
 ghost use Rattle.std.specs.Option.{option_copied, option_and_then};
-ghost use Rattle.wm_graph.specs.Parts.{as_counters, as_piece, as_row, as_space, as_table, as_version};
+ghost use Rattle.wm_graph.specs.Parts.{as_counters, as_piece, as_row, as_savepoint, as_space, as_table, as_version};
 
-use wm_spec::record::{Counters, PieceRecord, Record, RowRecord, Space, Table, Version};
+use wm_spec::record::{Counters, PieceRecord, Record, RowRecord, Savepoint, Space, Table, Version};
 
 pub fn counters_of(found: Option<&Record>) -> Option<Counters>
     ensures { result ≡ option_and_then as_counters (option_copied found.entry) }
@@ -38,6 +38,15 @@ pub fn version_of(found: Option<&Record>) -> Option<Version>
 {
     match found {
         Some(Record::Version(version)) => Some(*version),
+        _ => None,
+    }
+}
+
+pub fn savepoint_of(found: Option<&Record>) -> Option<&Savepoint>
+    ensures { option_copied result ≡ option_and_then as_savepoint (option_copied found.entry) }
+{
+    match found {
+        Some(Record::Savepoint(savepoint)) => Some(savepoint),
         _ => None,
     }
 }

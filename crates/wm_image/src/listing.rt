@@ -1,4 +1,4 @@
-//! The rows of a table that the newest version of a workspace holds.
+//! The rows of a table that a version holds.
 
 ghost use Rattle.std.specs.Prelude.{◌≡◌, true, ◌++◌, IfOk, OnOk};
 ghost use Rattle.std.specs.Option.{option_and_then, option_to_list};
@@ -81,32 +81,32 @@ fn push_rows(
     Ok(())
 }
 
-/// Puts the rows of a key that the newest version of a workspace holds behind others.
+/// Puts the rows of a key that a version holds behind others.
 fn push_key(
     alloc: Global,
     image: &Image,
     rows: &mut RowList,
-    space: u32,
+    version: u64,
     table: u16,
     key: &Key,
 ) -> Result<(), Memory>
     requires { keep_rules (parts_of image.now) ≡ true }
-    ensures { OnOk result (AddsRows (parts_of image.now) space table key.now rows.old rows.new) }
+    ensures { OnOk result (AddsRows (parts_of image.now) version table key.now rows.old rows.new) }
 {
-    let pieces = image.shown(alloc, space, table, key)?;
+    let pieces = image.shown(alloc, version, table, key)?;
     push_rows(alloc, image, rows, pieces.list())?;
     Ok(())
 }
 
-/// The rows of a table that the newest version of a workspace holds, by key and from.
-pub fn list_rows(alloc: Global, image: &Image, space: u32, table: u16) -> Result<RowList, Memory>
+/// The rows of a table that a version holds, by key and from.
+pub fn list_rows(alloc: Global, image: &Image, version: u64, table: u16) -> Result<RowList, Memory>
     requires { keep_rules (parts_of image.now) ≡ true }
-    ensures { IfOk result (λ rows. IsListing (parts_of image.now) space table rows) }
+    ensures { IfOk result (λ rows. IsListing (parts_of image.now) version table rows) }
 {
     let keys = image.keys(alloc, table)?;
     let mut rows = RowList::new(alloc);
     for key in &keys {
-        push_key(alloc, image, &mut rows, space, table, key)?;
+        push_key(alloc, image, &mut rows, version, table, key)?;
     }
     Ok(rows)
 }

@@ -231,9 +231,9 @@ fn a_store_is_loaded(rt: HostRuntime) -> Result<(), Fail> {
         (Some(4), None)
     );
     let time = Instant::new(12).ok_or("an instant")?;
-    assert!(rt; image.shown_at(0, 1, &key, time).is_some());
-    assert!(rt; image.shown_at(0, 1, &key, Instant::beginning()).is_none());
-    assert_eq!(rt; image.shown(alloc, 0, 1, &key)?.len(), 2);
+    assert!(rt; image.shown_at(2, 1, &key, time).is_some());
+    assert!(rt; image.shown_at(2, 1, &key, Instant::beginning()).is_none());
+    assert_eq!(rt; image.shown(alloc, 2, 1, &key)?.len(), 2);
     Ok(())
 }
 
@@ -245,13 +245,13 @@ fn rows_are_listed(rt: HostRuntime) -> Result<(), Fail> {
     let Ok(image) = Image::load(alloc, records) else {
         return Ok(());
     };
-    let rows = image.listing(alloc, 0, 1)?;
+    let rows = image.listing(alloc, 2, 1)?;
     assert_eq!(rt; rows.len(), 1);
     assert_eq!(rt;
         rows.as_slice()[0].values.as_slice(),
         [Value::Num(7)].as_slice()
     );
-    assert_eq!(rt; image.listing(alloc, 0, 2)?.len(), 0);
+    assert_eq!(rt; image.listing(alloc, 2, 2)?.len(), 0);
     assert_eq!(rt; image.listing(alloc, 9, 1)?.len(), 0);
     Ok(())
 }

@@ -9,7 +9,7 @@ use Rattle.wm_base.specs.Key.{key_order}
 use Rattle.wm_base.specs.declared.row.Row.{Row}
 use Rattle.wm_base.specs.declared.stamp.Stamp.{Stamp}
 use Rattle.wm_graph.specs.Parts.{Parts, row_of, space_of}
-use Rattle.wm_graph.specs.Rules.{keep_rules}
+use Rattle.wm_graph.specs.Rules.{keep_rules, differ}
 use Rattle.wm_period.specs.Pieces.{Held}
 use Rattle.wm_spec.specs.Lists.{Cell, Entry, Told, told, touched}
 use Rattle.wm_spec.specs.declared.record.counters.Counters.{Counters}
@@ -220,6 +220,11 @@ pub record TablesStand (p : Parts) (s : State) : Type 0 where
 pub record SpacesStand (p : Parts) (s : State) : Type 0 where
   pub same : (n : ℕ) → option_map fields_of (space_of p.spaces n) ≡ option_map fields_in (workspace_of s.spaces n)
 
+-- each workspace is there once, and there are as many as records of them
+pub record OnceStand (p : Parts) (s : State) : Type 0 where
+  pub numbers : differ (λ (v w : Workspace). v.number == w.number) s.spaces ≡ true
+  pub count : length p.spaces ≡ length s.spaces
+
 -- the newest version of a workspace holds at each cell what its content holds
 pub record LatestStand (p : Parts) (s : State) : Type 0 where
   pub told : (n : ℕ) (w : Workspace) → workspace_of s.spaces n ≡ Some w → (c : Cell) → shown p n c ≡ option_map held_of (told (content w) c)
@@ -265,6 +270,7 @@ pub record Stands (p : Parts) (s : State) : Type 0 where
   pub counters : CountersStand p s
   pub tables : TablesStand p s
   pub spaces : SpacesStand p s
+  pub once : OnceStand p s
   pub latest : LatestStand p s
   pub own : OwnStand p s
   pub savepoints : SavepointsStand p s

@@ -7,6 +7,6 @@ use Rattle.wm_image.proofs.listing.push_key.Goals as goal
 
 pub returns : goal.returns
 returns c =
-    adds_rows (parts_of c.args.image.now) c.args.space c.args.table c.args.key.now c.in_ok-pieces.pieces c.args.rows.now c.push_rows.new.rows
+    adds_rows (parts_of c.args.image.now) c.args.version c.args.table c.args.key.now c.in_ok-pieces.pieces c.args.rows.now c.push_rows.new.rows
     c.requires c.list.ensures.in_order c.in_ok-pieces.ensures
     (c.in_ok-push_rows.ensures ∙ ap (λ (ps : List Piece). c.args.rows.now ++ rows_on (parts_of c.args.image.now) ps) c.list.ensures.value)
