@@ -133,7 +133,7 @@ filter_all : (ts : List Table) → filter (λ t. true) ts ≡ ts
 filter_all [] = refl
 filter_all (t ∷ ts) = ap (λ l. t ∷ l) (filter_all ts)
 
-tables_told : (kept : BTreeMap ℕ Record) (x : Index) → IsIndexed kept x → kind_at as_table (listed kept.entries) (ids_at x Tables) ≡ (parts_of (listed kept.entries)).tables
+pub tables_told : (kept : BTreeMap ℕ Record) (x : Index) → IsIndexed kept x → kind_at as_table (listed kept.entries) (ids_at x Tables) ≡ (parts_of (listed kept.entries)).tables
 unfolding parts_of
 tables_told kept x is =
     ap (filter_map as_table) (all_sought kept x is Tables)

@@ -1,4 +1,4 @@
-ghost use Rattle.std.specs.Prelude.{◌≡◌, ◌<◌, ◌≤◌, ◌+◌, ◌^◌, ◌==◌, ℕ, not, List, map, [], ◌∷◌, true, false, None, option_map, is_some, IsSome, IfSome, IfNone, IfOk, IfErr, OnOk, OnErr};
+ghost use Rattle.std.specs.Prelude.{◌≡◌, ◌<◌, ◌≤◌, ◌+◌, ◌^◌, ◌==◌, ℕ, not, length, List, map, [], ◌∷◌, true, false, None, option_map, is_some, IsSome, IfSome, IfNone, IfOk, IfErr, OnOk, OnErr};
 ghost use Rattle.std.specs.List.{find, list_any};
 ghost use Rattle.std.specs.List.Sorted.{IsStrictlySortedBy};
 ghost use Rattle.std.specs.Ordering.{is_eq};
@@ -19,6 +19,7 @@ ghost use Rattle.wm_state.specs.Batches.{is_out, keeps};
 ghost use Rattle.wm_state.specs.ById.{Ascend, applied, by_id};
 ghost use Rattle.wm_state.specs.Listing.{IsListing};
 ghost use Rattle.wm_state.specs.Standing.{by_number, held_by, latest, seen};
+ghost use Rattle.wm_state.specs.State.{next_table};
 
 use crate::ids::first_id;
 use crate::index::Index;
@@ -29,7 +30,7 @@ use crate::listing::list_rows;
 use crate::load::{ImageFault, put_all, sorted};
 use crate::records::{Kept, at, change_all, first, next_id};
 use crate::shown::{latest_of, nearest, own_ids, version_at};
-use crate::tables::{first_named, first_numbered, id_named};
+use crate::tables::{after_last, first_named, first_numbered, id_named};
 use std::alloc::Global;
 use std::collections::BTreeMap;
 use std::marker::Model;
@@ -106,12 +107,18 @@ impl Image {
         found.unwrap()
     }
 
-    /// Whether there is a table.
-    pub fn has_tables(&self) -> bool
-        ensures some { result ≡ true → (parts_of self.now).tables ≡ [] → ⊥ }
-        ensures none { result ≡ false → (parts_of self.now).tables ≡ [] }
+    /// How many tables there are.
+    pub fn table_count(&self) -> usize
+        ensures { result ≡ length (parts_of self.now).tables }
     {
-        !self.index.tables.is_empty()
+        self.index.tables.len()
+    }
+
+    /// The number after the greatest of a table, 0 where there is none.
+    pub fn next_table(&self) -> u32
+        ensures { result ≡ next_table (by_number (parts_of self.now).tables) }
+    {
+        after_last(&self.kept, self.index.tables.as_slice())
     }
 
     /// The table of a name.
