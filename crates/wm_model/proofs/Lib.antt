@@ -4,5 +4,6 @@ pub mod Steps
 mod Samples
 pub mod Doing
 pub mod Homes
+pub mod Points
 pub mod Seating
 
