@@ -5,5 +5,6 @@ mod Samples
 pub mod Doing
 pub mod Homes
 pub mod Points
+pub mod SavingLine
 pub mod Seating
 
