@@ -6,5 +6,6 @@ pub mod Doing
 pub mod Homes
 pub mod Points
 pub mod SavingLine
+pub mod BearingLine
 pub mod Seating
 

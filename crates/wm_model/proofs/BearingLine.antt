@@ -1,0 +1,163 @@
+-- What CreateWorkspace does to each state that the records stand for.
+use Rattle.std.proofs.Common.{◌≡◌, ◌≢◌, ℕ, ◌+◌, ◌<◌, ◌≤◌, ◌^◌, ◌==◌, ◌&&◌, nat_lt, nat_le, Bool, true, false, not, List, [], ◌∷◌, ◌++◌, length, length-append, Option, Some, None, is_some, if◌then◌else◌, refl, sym, ap, subst, ◌∙◌, arith, codes}
+use Rattle.std.proofs.lemmas.Fmt.{length-decimal-le}
+use Rattle.std.proofs.lemmas.Slice.Eq.{bytes_eq-Decides}
+use Rattle.std.specs.Fmt.{decimal}
+use Rattle.std.specs.List.{find, count_by, list_any}
+use Rattle.std.specs.Str.{bytes_eq}
+use Rattle.wm_base.specs.declared.instant.TheConstants.{END}
+use Rattle.wm_graph.specs.Parts.{Parts, parts_of, space_of}
+use Rattle.wm_graph.specs.Rules.{keep_rules, are_counters, is_short}
+use Rattle.wm_print.specs.Texts.{Answer, Fine}
+use Rattle.wm_spec.specs.Records.{record_at}
+use Rattle.wm_spec.specs.declared.record.Record.{Record as Any}
+use Rattle.wm_spec.specs.declared.record.Record.TheVariants as records
+use Rattle.wm_spec.specs.declared.record.counters.Counters.{Counters}
+use Rattle.wm_spec.specs.declared.record.savepoint.Savepoint.{Savepoint as Record}
+use Rattle.wm_spec.specs.declared.record.space.Space.{Space}
+use Rattle.wm_spec.specs.declared.record.stored.Stored.{Stored}
+use Rattle.wm_spec.specs.declared.record.version.Version.{Version}
+use Rattle.wm_state.specs.Batches.{AllUnder, birth_batch}
+use Rattle.wm_state.specs.ById.{Ascend, applied}
+use Rattle.wm_state.specs.Effects.{marked}
+use Rattle.wm_state.specs.State.{State, Session, Stand, Workspace, Savepoint, workspace_named, savepoint_named, next_space, kept, with_space, with_savepoint}
+use Rattle.wm_state.specs.Standing.{SpaceFields, fields_of, fields_in, saved_in, space_after, Stands}
+use Rattle.wm_state.proofs.Birth.{IsChild}
+use Rattle.wm_state.proofs.Births.{child_kept}
+use Rattle.wm_state.proofs.ByKind.{under_found}
+use Rattle.wm_state.proofs.KeepBorn.{MayBear}
+use Rattle.wm_state.proofs.Mapped.{any-if, none-found}
+use Rattle.wm_state.proofs.PlannedBirth.{MayBirth, keep_plan_birth, plan_birth, changes-birth}
+use Rattle.wm_state.proofs.Spaces.{IsSpace, space_is, space_none, named_space, named_no_space, next_space_same, numbers_under}
+use Rattle.wm_state.proofs.Tests.{both}
+use Rattle.wm_model.specs.Planning.{StandsAt, Does, Stay, moved}
+use Rattle.wm_model.specs.Saving.{Point, point_at, next_place_at, HasRoom, BearsIn, BearsRoomy, MayBearIn, implicit_of, birth_record, child_record, child_version, versioned}
+use Rattle.wm_model.specs.Step.{create_workspace, bear, born, child_of, implicit_name, implicit_front, place_behind, saved_at, durably, is_name, names_no_workspace, bad_name, reserved_name, workspace_there, not_built, savepoint_there, most_workspaces, most_savepoints, at_its_end, number_limit, counter_limit, line_work}
+use Rattle.wm_model.proofs.Doing.{CountsAs, does_nothing, counts_as, spent_work, not_spent}
+use Rattle.wm_model.proofs.Points.{IsPoint, MakesAt, MadeAt, is_point, counted_well, may_save, place_same, name_taken, name_free, few_same, made_there, made_nowhere}
+use Rattle.wm_model.proofs.SavingLine.{name_short}
+
+-- ---- the name
+
+pub bear_unnamed : (rs : List Stored) (xs : List Session) (m : ℕ) (session : Session) (name : List ℕ) → keep_rules (parts_of rs) ≡ true → is_name name ≡ false → Does rs xs m [] Stay bad_name (create_workspace session name)
+bear_unnamed rs xs m session name rules bad = does_nothing rs xs m bad_name (create_workspace session name) rules (λ s st. rw bad refl)
+
+pub bear_reserved : (rs : List Stored) (xs : List Session) (m : ℕ) (session : Session) (name : List ℕ) → keep_rules (parts_of rs) ≡ true → is_name name ≡ true → names_no_workspace name ≡ true
+    → Does rs xs m [] Stay (reserved_name name) (create_workspace session name)
+bear_reserved rs xs m session name rules good reserved = does_nothing rs xs m (reserved_name name) (create_workspace session name) rules (λ s st. rw (good, reserved) refl)
+
+pub bear_there : (rs : List Stored) (xs : List Session) (m : ℕ) (session : Session) (name : List ℕ) (b : Space) → keep_rules (parts_of rs) ≡ true → is_name name ≡ true → names_no_workspace name ≡ false
+    → find (λ (r : Space). bytes_eq name r.name) (parts_of rs).spaces ≡ Some b → Does rs xs m [] Stay (workspace_there name) (create_workspace session name)
+bear_there rs xs m session name b rules good plain there =
+    does_nothing rs xs m (workspace_there name) (create_workspace session name) rules (λ s st. rw (good, plain, (named_space (parts_of rs) s name b st.stands there).named) refl)
+
+pub bear_homeless : (rs : List Stored) (xs : List Session) (m : ℕ) (session : Session) (name : List ℕ) → keep_rules (parts_of rs) ≡ true → is_name name ≡ true → names_no_workspace name ≡ false
+    → find (λ (r : Space). bytes_eq name r.name) (parts_of rs).spaces ≡ None → space_of (parts_of rs).spaces session.space ≡ None → Does rs xs m [] Stay not_built (create_workspace session name)
+bear_homeless rs xs m session name rules good plain new none =
+    does_nothing rs xs m not_built (create_workspace session name) rules
+    (λ s st. rw (good, plain, named_no_space (parts_of rs) s name st.stands new, space_none (parts_of rs) s session.space st.stands none) refl)
+
+-- ---- the session's workspace
+
+-- what is done with it
+abbrev body : Session → List ℕ → State → Workspace → State × Answer
+body session name s w =
+    if is_some (savepoint_named (implicit_name w) w.savepoints) then (s, savepoint_there (implicit_name w)) else
+    (if nat_le 1024 (length s.spaces) then (s, most_workspaces) else
+    (if nat_le 4096 (length w.savepoints) then (s, most_savepoints) else bear session.stand name s w))
+
+-- it is the record's
+record IsHome (rs : List Stored) (s : State) (session : Session) (name : List ℕ) (a : Space) : Type 0 where
+  workspace : Workspace
+  is : IsSpace (parts_of rs) s a.number a workspace
+  runs : create_workspace session name s ≡ body session name s workspace
+  implicit : implicit_name workspace ≡ implicit_of a
+
+home : (rs : List Stored) (xs : List Session) (m : ℕ) (session : Session) (name : List ℕ) (a : Space) (s : State) → BearsIn rs session name a → StandsAt rs xs m s → IsHome rs s session name a
+home rs xs m session name a s bears st =
+    let h = space_is (parts_of rs) s session.space a st.stands bears.found in
+    record {
+      workspace = h.workspace;
+      is = subst (λ n. IsSpace (parts_of rs) s n a h.workspace) (sym h.is.record_number) h.is;
+      runs = rw (bears.good, bears.plain, named_no_space (parts_of rs) s name st.stands bears.new, h.is.found) refl;
+      implicit = ap (λ (f : SpaceFields). implicit_front ++ decimal f.next_implicit) (sym h.is.fields);
+    }
+
+-- the name of the implicit savepoint is taken in the state too
+taken_so : (rs : List Stored) (s : State) (session : Session) (name : List ℕ) (a : Space) (y : Record) (h : IsHome rs s session name a) → Stands (parts_of rs) s
+    → find (λ (x : Record). bytes_eq (implicit_of a) x.name) (saved_in (parts_of rs) a.number) ≡ Some y → is_some (savepoint_named (implicit_name h.workspace) h.workspace.savepoints) ≡ true
+taken_so rs s session name a y h st there = ap (λ n. is_some (savepoint_named n h.workspace.savepoints)) h.implicit ∙ name_taken (parts_of rs) s a h.workspace (implicit_of a) y st h.is there
+
+-- or it is free
+free_so : (rs : List Stored) (s : State) (session : Session) (name : List ℕ) (a : Space) (h : IsHome rs s session name a) → Stands (parts_of rs) s
+    → find (λ (x : Record). bytes_eq (implicit_of a) x.name) (saved_in (parts_of rs) a.number) ≡ None → is_some (savepoint_named (implicit_name h.workspace) h.workspace.savepoints) ≡ false
+free_so rs s session name a h st new = ap (λ n. is_some (savepoint_named n h.workspace.savepoints)) h.implicit ∙ name_free (parts_of rs) s a h.workspace (implicit_of a) st h.is new
+
+-- there are as many workspaces
+spaces_so : (p : Parts) (s : State) (b : Bool) → Stands p s → nat_le 1024 (length p.spaces) ≡ b → nat_le 1024 (length s.spaces) ≡ b
+spaces_so p s b st e = ap (nat_le 1024) (sym st.once.count) ∙ e
+
+pub bear_taken : (rs : List Stored) (xs : List Session) (m : ℕ) (session : Session) (name : List ℕ) (a : Space) (y : Record) → BearsIn rs session name a
+    → find (λ (x : Record). bytes_eq (implicit_of a) x.name) (saved_in (parts_of rs) a.number) ≡ Some y → Does rs xs m [] Stay (savepoint_there (implicit_of a)) (create_workspace session name)
+bear_taken rs xs m session name a y bears there =
+    does_nothing rs xs m (savepoint_there (implicit_of a)) (create_workspace session name) bears.rules
+    (λ s st. let h = home rs xs m session name a s bears st in
+    h.runs ∙ rw (taken_so rs s session name a y h st.stands there) (ap (λ n. (s, savepoint_there n)) h.implicit))
+
+pub bear_full : (rs : List Stored) (xs : List Session) (m : ℕ) (session : Session) (name : List ℕ) (a : Space) → BearsIn rs session name a
+    → find (λ (x : Record). bytes_eq (implicit_of a) x.name) (saved_in (parts_of rs) a.number) ≡ None → nat_le 1024 (length (parts_of rs).spaces) ≡ true → Does rs xs m [] Stay most_workspaces (create_workspace session name)
+bear_full rs xs m session name a bears new full =
+    does_nothing rs xs m most_workspaces (create_workspace session name) bears.rules
+    (λ s st. let h = home rs xs m session name a s bears st in h.runs ∙ rw (free_so rs s session name a h st.stands new, spaces_so (parts_of rs) s true st.stands full) refl)
+
+pub bear_crowded : (rs : List Stored) (xs : List Session) (m : ℕ) (session : Session) (name : List ℕ) (a : Space) → BearsIn rs session name a
+    → find (λ (x : Record). bytes_eq (implicit_of a) x.name) (saved_in (parts_of rs) a.number) ≡ None → nat_le 1024 (length (parts_of rs).spaces) ≡ false
+    → nat_le 4096 (count_by (λ (x : Record). x.space == a.number) (parts_of rs).savepoints) ≡ true → Does rs xs m [] Stay most_savepoints (create_workspace session name)
+bear_crowded rs xs m session name a bears new few full =
+    does_nothing rs xs m most_savepoints (create_workspace session name) bears.rules
+    (λ s st. let h = home rs xs m session name a s bears st in
+    h.runs ∙ rw (free_so rs s session name a h st.stands new, spaces_so (parts_of rs) s false st.stands few, few_same (parts_of rs) s a h.workspace true st.stands h.is full) refl)
+
+-- ---- the counts
+
+-- there is room for both
+roomy : (rs : List Stored) (s : State) (session : Session) (name : List ℕ) (a : Space) (h : IsHome rs s session name a) → Stands (parts_of rs) s → BearsRoomy rs session name a
+    → create_workspace session name s ≡ bear session.stand name s h.workspace
+roomy rs s session name a h st may =
+    h.runs
+    ∙ rw (free_so rs s session name a h st may.room.new, spaces_so (parts_of rs) s false st may.few, few_same (parts_of rs) s a h.workspace false st h.is may.room.few) refl
+
+place_so : (p : Parts) (s : State) (a : Space) (w : Workspace) (stand : Stand) (b : Bool) → IsSpace p s a.number a w → nat_lt number_limit (next_place_at a stand) ≡ b → nat_lt number_limit (place_behind w stand) ≡ b
+place_so p s a w stand b is e = ap (nat_lt number_limit) (place_same p s a w stand is) ∙ e
+
+implicit_so : (n : ℕ) (p : Parts) (s : State) (a : Space) (w : Workspace) (b : Bool) → IsSpace p s a.number a w → nat_lt n (a.next_implicit + 1) ≡ b → nat_lt n (w.next_implicit + 1) ≡ b
+implicit_so n p s a w b is e = ap (λ (f : SpaceFields). nat_lt n (f.next_implicit + 1)) (sym is.fields) ∙ e
+
+number_so : (p : Parts) (s : State) (b : Bool) → Stands p s → nat_lt number_limit (space_after p.spaces) ≡ b → nat_lt number_limit (next_space s.spaces) ≡ b
+number_so p s b st e = ap (nat_lt number_limit) (next_space_same p s st) ∙ e
+
+pub bear_placeless : (rs : List Stored) (xs : List Session) (m : ℕ) (session : Session) (name : List ℕ) (a : Space) → BearsRoomy rs session name a → nat_lt number_limit (next_place_at a session.stand) ≡ true
+    → Does rs xs m [] Stay (at_its_end (codes "PLACE")) (create_workspace session name)
+bear_placeless rs xs m session name a may much =
+    does_nothing rs xs m (at_its_end (codes "PLACE")) (create_workspace session name) may.bears.rules
+    (λ s st. let h = home rs xs m session name a s may.bears st in roomy rs s session name a h st.stands may ∙ rw (place_so (parts_of rs) s a h.workspace session.stand true h.is much) refl)
+
+pub bear_nameless : (rs : List Stored) (xs : List Session) (m : ℕ) (session : Session) (name : List ℕ) (a : Space) → BearsRoomy rs session name a → nat_lt number_limit (next_place_at a session.stand) ≡ false
+    → nat_lt number_limit (a.next_implicit + 1) ≡ true → Does rs xs m [] Stay (at_its_end (codes "ICP")) (create_workspace session name)
+bear_nameless rs xs m session name a may places much =
+    does_nothing rs xs m (at_its_end (codes "ICP")) (create_workspace session name) may.bears.rules
+    (λ s st. let h = home rs xs m session name a s may.bears st in
+    roomy rs s session name a h st.stands may
+    ∙ rw (place_so (parts_of rs) s a h.workspace session.stand false h.is places, implicit_so number_limit (parts_of rs) s a h.workspace true h.is much) refl)
+
+pub bear_numberless : (rs : List Stored) (xs : List Session) (m : ℕ) (session : Session) (name : List ℕ) (a : Space) → BearsRoomy rs session name a → nat_lt number_limit (next_place_at a session.stand) ≡ false
+    → nat_lt number_limit (a.next_implicit + 1) ≡ false → nat_lt number_limit (space_after (parts_of rs).spaces) ≡ true → Does rs xs m [] Stay (at_its_end (codes "WORKSPACE")) (create_workspace session name)
+bear_numberless rs xs m session name a may places implicits much =
+    does_nothing rs xs m (at_its_end (codes "WORKSPACE")) (create_workspace session name) may.bears.rules
+    (λ s st. let h = home rs xs m session name a s may.bears st in
+    roomy rs s session name a h st.stands may
+    ∙ rw (
+      place_so (parts_of rs) s a h.workspace session.stand false h.is places,
+      implicit_so number_limit (parts_of rs) s a h.workspace false h.is implicits,
+      number_so (parts_of rs) s true st.stands much,
+    ) refl)
