@@ -1,9 +1,9 @@
 -- What CreateWorkspace does to each state that the records stand for.
-use Rattle.std.proofs.Common.{◌≡◌, ◌≢◌, ℕ, ◌+◌, ◌<◌, ◌≤◌, ◌^◌, ◌==◌, ◌&&◌, nat_lt, nat_le, Bool, true, false, not, List, [], ◌∷◌, ◌++◌, length, length-append, Option, Some, None, is_some, if◌then◌else◌, refl, sym, ap, subst, ◌∙◌, arith, codes}
+use Rattle.std.proofs.Common.{◌≡◌, ◌≢◌, ℕ, ◌+◌, ◌<◌, ◌≤◌, ◌^◌, ◌==◌, ◌&&◌, nat_lt, nat_le, Bool, true, false, List, [], ◌∷◌, ◌++◌, length, length-append, Option, Some, None, is_some, if◌then◌else◌, refl, sym, ap, subst, ◌∙◌, arith, codes}
 use Rattle.std.proofs.lemmas.Fmt.{length-decimal-le}
 use Rattle.std.proofs.lemmas.Slice.Eq.{bytes_eq-Decides}
 use Rattle.std.specs.Fmt.{decimal}
-use Rattle.std.specs.List.{find, count_by, list_any}
+use Rattle.std.specs.List.{find, count_by}
 use Rattle.std.specs.Str.{bytes_eq}
 use Rattle.wm_base.specs.declared.instant.TheConstants.{END}
 use Rattle.wm_graph.specs.Parts.{Parts, parts_of, space_of}
@@ -21,22 +21,21 @@ use Rattle.wm_spec.specs.declared.record.version.Version.{Version}
 use Rattle.wm_state.specs.Batches.{AllUnder, birth_batch}
 use Rattle.wm_state.specs.ById.{Ascend, applied}
 use Rattle.wm_state.specs.Effects.{marked}
-use Rattle.wm_state.specs.State.{State, Session, Stand, Workspace, Savepoint, workspace_named, savepoint_named, next_space, kept, with_space, with_savepoint}
-use Rattle.wm_state.specs.Standing.{SpaceFields, fields_of, fields_in, saved_in, space_after, Stands}
+use Rattle.wm_state.specs.State.{State, Session, Stand, Workspace, Savepoint, savepoint_named, next_space, kept, with_space, with_savepoint}
+use Rattle.wm_state.specs.Standing.{SpaceFields, saved_in, space_after, Stands}
 use Rattle.wm_state.proofs.Birth.{IsChild}
 use Rattle.wm_state.proofs.Births.{child_kept}
 use Rattle.wm_state.proofs.ByKind.{under_found}
-use Rattle.wm_state.proofs.KeepBorn.{MayBear}
 use Rattle.wm_state.proofs.Mapped.{any-if, none-found}
 use Rattle.wm_state.proofs.Named.{space_number}
 use Rattle.wm_state.proofs.PlannedBirth.{MayBirth, keep_plan_birth, plan_birth, changes-birth}
 use Rattle.wm_state.proofs.Spaces.{IsSpace, space_is, space_none, named_space, named_no_space, next_space_same, numbers_under}
 use Rattle.wm_state.proofs.Tests.{both}
-use Rattle.wm_model.specs.Planning.{StandsAt, Does, Stay, moved}
-use Rattle.wm_model.specs.Saving.{Point, point_at, next_place_at, HasRoom, BearsIn, BearsRoomy, MayBearIn, implicit_of, birth_record, child_record, child_version, versioned}
+use Rattle.wm_model.specs.Planning.{StandsAt, Does, Stay}
+use Rattle.wm_model.specs.Saving.{Point, point_at, next_place_at, BearsIn, BearsRoomy, MayBearIn, implicit_of, birth_record, child_record, child_version, versioned}
 use Rattle.wm_model.specs.Step.{create_workspace, bear, born, child_of, implicit_name, implicit_front, place_behind, saved_at, durably, is_name, names_no_workspace, bad_name, reserved_name, workspace_there, not_built, savepoint_there, most_workspaces, most_savepoints, at_its_end, number_limit, counter_limit, line_work}
-use Rattle.wm_model.proofs.Doing.{CountsAs, does_nothing, counts_as, spent_work, not_spent}
-use Rattle.wm_model.proofs.Points.{IsPoint, MakesAt, MadeAt, is_point, counted_well, may_save, place_same, name_taken, name_free, few_same, made_there, made_nowhere}
+use Rattle.wm_model.proofs.Doing.{does_nothing, counts_as, spent_work, not_spent}
+use Rattle.wm_model.proofs.Points.{MakesAt, MadeAt, is_point, counted_well, may_save, place_same, name_taken, name_free, few_same, made_there, made_nowhere}
 use Rattle.wm_model.proofs.SavingLine.{name_short}
 
 -- ---- the name

@@ -4,13 +4,13 @@ use Rattle.std.specs.List.{find, count_by}
 use Rattle.std.specs.Option.{option_map}
 use Rattle.std.specs.Str.{bytes_eq}
 use Rattle.wm_base.specs.declared.instant.TheConstants.{END}
-use Rattle.wm_graph.specs.Parts.{Parts, parts_of, space_of, version_of}
-use Rattle.wm_graph.specs.Rules.{keep_rules, are_counters, is_short, is_version_of, is_base_of, is_saved_in}
+use Rattle.wm_graph.specs.Parts.{Parts, space_of, version_of}
+use Rattle.wm_graph.specs.Rules.{keep_rules, are_counters, is_short, is_version_of, is_base_of}
 use Rattle.wm_spec.specs.declared.record.counters.Counters.{Counters}
 use Rattle.wm_spec.specs.declared.record.savepoint.Savepoint.{Savepoint as Record}
 use Rattle.wm_spec.specs.declared.record.space.Space.{Space}
 use Rattle.wm_state.specs.State.{State, Workspace, Savepoint, Stand, Latest, At, next_making, savepoint_made, savepoint_named}
-use Rattle.wm_state.specs.Standing.{SpaceFields, SavepointFields, fields_of, fields_in, saved_fields, fields_saved, saved_in, saved_as, latest, making_behind, Stands}
+use Rattle.wm_state.specs.Standing.{SpaceFields, SavepointFields, fields_of, saved_fields, saved_in, saved_as, latest, making_behind, Stands}
 use Rattle.wm_state.proofs.Apart.{ruled}
 use Rattle.wm_state.proofs.Growing.{same_counters}
 use Rattle.wm_state.proofs.KeepSaved.{MaySave, version_latest, base_latest, saved_in_space, unnamed_if}
@@ -22,6 +22,17 @@ use Rattle.wm_model.specs.Planning.{moved}
 use Rattle.wm_model.specs.Saving.{Point, newest_point, saved_point, point_at, next_place_at, made_at, HasRoom}
 use Rattle.wm_model.specs.Step.{saved_at, place_behind, counter_limit, line_work}
 use Rattle.wm_model.proofs.Doing.{counters_move}
+
+-- ---- where a point is
+
+pub point_newest : (p : Parts) (a : Space) (m : ℕ) (stand : Stand) → stand ≡ Latest → point_at p a m stand ≡ Some (newest_point p a m)
+point_newest p a m stand latest = ap (point_at p a m) latest
+
+pub point_saved : (p : Parts) (a : Space) (m : ℕ) (stand : Stand) (making : ℕ) (y : Record) → stand ≡ At making → saved_as p a.number making ≡ Some y → point_at p a m stand ≡ Some (saved_point y)
+point_saved p a m stand making y at found = ap (point_at p a m) at ∙ ap (option_map saved_point) found
+
+pub point_gone : (p : Parts) (a : Space) (m : ℕ) (stand : Stand) (making : ℕ) → stand ≡ At making → saved_as p a.number making ≡ None → point_at p a m stand ≡ None
+point_gone p a m stand making at none = ap (point_at p a m) at ∙ ap (option_map saved_point) none
 
 -- ---- a point that is there
 

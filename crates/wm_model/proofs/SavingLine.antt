@@ -1,5 +1,5 @@
 -- What CreateSavepoint does to each state that the records stand for.
-use Rattle.std.proofs.Common.{◌≡◌, ◌≢◌, ℕ, ◌+◌, ◌<◌, ◌≤◌, ◌==◌, ◌&&◌, nat_lt, nat_le, Bool, true, false, List, [], ◌∷◌, ◌++◌, length, Option, Some, None, is_some, if◌then◌else◌, refl, sym, ap, subst, ◌∙◌, arith, codes}
+use Rattle.std.proofs.Common.{◌≡◌, ◌≢◌, ℕ, ◌+◌, ◌≤◌, ◌==◌, ◌&&◌, nat_lt, nat_le, Bool, true, false, List, [], ◌∷◌, ◌++◌, length, Option, Some, None, is_some, if◌then◌else◌, refl, sym, ap, subst, ◌∙◌, arith, codes}
 use Rattle.std.proofs.lemmas.Bool.{eq-eqb}
 use Rattle.std.specs.List.{find, count_by, list_all}
 use Rattle.std.specs.Str.{bytes_eq}
@@ -7,7 +7,7 @@ use Rattle.wm_base.specs.declared.instant.TheConstants.{END}
 use Rattle.wm_graph.specs.Parts.{Parts, parts_of, space_of}
 use Rattle.wm_graph.specs.Rules.{keep_rules, is_short}
 use Rattle.wm_print.specs.Texts.{Answer, Fine}
-use Rattle.wm_spec.specs.Records.{record_at, AreChanges}
+use Rattle.wm_spec.specs.Records.{record_at}
 use Rattle.wm_spec.specs.declared.record.Record.{Record as Any}
 use Rattle.wm_spec.specs.declared.record.Record.TheVariants as records
 use Rattle.wm_spec.specs.declared.record.counters.Counters.{Counters}
@@ -18,7 +18,7 @@ use Rattle.wm_state.specs.Batches.{AllUnder, savepoint_batch}
 use Rattle.wm_state.specs.ById.{Ascend, applied}
 use Rattle.wm_state.specs.Effects.{marked}
 use Rattle.wm_state.specs.State.{State, Session, Workspace, Savepoint, Latest, savepoint_named, with_space, with_savepoint}
-use Rattle.wm_state.specs.Standing.{SpaceFields, saved_in, CountersStand, Stands}
+use Rattle.wm_state.specs.Standing.{SpaceFields, saved_in}
 use Rattle.wm_state.proofs.ByKind.{under_found}
 use Rattle.wm_state.proofs.KeepSaved.{MaySave}
 use Rattle.wm_state.proofs.Mapped.{find-again}
@@ -27,8 +27,8 @@ use Rattle.wm_state.proofs.Spaces.{IsSpace, NamedSpace, ruled_spaces, named_spac
 use Rattle.wm_state.proofs.Tests.{both}
 use Rattle.wm_model.specs.Planning.{StandsAt, Does, Stay, moved}
 use Rattle.wm_model.specs.Saving.{SavesIn, HasRoom, MaySaveIn, saved_record, newest_point}
-use Rattle.wm_model.specs.Step.{create_savepoint, save, saved, saved_at, durably, with_named, is_name, names_no_savepoint, bad_name, reserved_name, no_workspace, savepoint_there, most_savepoints, at_its_end, number_limit, counter_limit, line_work}
-use Rattle.wm_model.proofs.Doing.{CountsAs, does_nothing, counts_as, spent_work, not_spent}
+use Rattle.wm_model.specs.Step.{create_savepoint, save, saved, saved_at, durably, is_name, names_no_savepoint, bad_name, reserved_name, no_workspace, savepoint_there, most_savepoints, at_its_end, number_limit, counter_limit, line_work}
+use Rattle.wm_model.proofs.Doing.{does_nothing, counts_as, spent_work, not_spent}
 use Rattle.wm_model.proofs.Points.{MakesAt, MadeAt, may_save, made_there, name_taken, name_free, few_same}
 
 -- ---- the names

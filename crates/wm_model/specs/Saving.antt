@@ -1,5 +1,5 @@
 -- What is written when a savepoint is made and when a workspace is born, and what was looked up by then.
-use Rattle.std.specs.Prelude.{ℕ, ◌≡◌, ◌+◌, ◌==◌, nat_le, nat_lt, Bool, true, false, List, [], ◌∷◌, ◌++◌, length, Option, None, Some}
+use Rattle.std.specs.Prelude.{ℕ, ◌≡◌, ◌+◌, ◌==◌, nat_le, nat_lt, Bool, true, false, List, [], ◌++◌, length, Option, None, Some}
 use Rattle.std.specs.Fmt.{decimal}
 use Rattle.std.specs.List.{find, count_by}
 use Rattle.std.specs.Option.{option_map}
