@@ -1,5 +1,5 @@
 //! A row that is written into a workspace.
-ghost use Rattle.std.specs.Prelude.{◌≡◌, ◌+◌, ◌<◌, ◌≤◌, ◌^◌, ◌∷◌, [], ℕ, List, nat_lt, false, None, Some, IfOk};
+ghost use Rattle.std.specs.Prelude.{◌≡◌, ◌+◌, ◌<◌, ◌≤◌, ◌^◌, ℕ, List, nat_lt, false, None, Some, IfOk};
 ghost use Rattle.wm_base.specs.declared.instant.TheConstants.{END};
 ghost use Rattle.wm_model.specs.Planning.{moved, named, row_values};
 ghost use Rattle.wm_model.specs.Step.{add_row, counter_limit};
@@ -190,7 +190,11 @@ pub fn write_row(
     }
     let version = image.latest(session.space());
     if image.is_leaf(version) && image.is_free(version) {
-        return write_here(alloc, image, moment, session, writing, key, value, counters, id);
+        return write_here(
+            alloc, image, moment, session, writing, key, value, counters, id,
+        );
     }
-    write_above(alloc, image, moment, session, writing, key, value, counters, id)
+    write_above(
+        alloc, image, moment, session, writing, key, value, counters, id,
+    )
 }

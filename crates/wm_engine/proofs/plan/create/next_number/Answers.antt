@@ -43,7 +43,7 @@ few ts l n limit count is most lt le =
 
 pub returns-then-table_count-ge-TABLE_LIMIT-clause-full : goal.returns-then-table_count-ge-TABLE_LIMIT-clause-full
 returns-then-table_count-ge-TABLE_LIMIT-clause-full c = elim c.then-table_count-ge-TABLE_LIMIT.branch [
-  then-table_count-ge-TABLE_LIMIT-via-then-table_count-ge-TABLE_LIMIT w ↦ many (parts_of c.args.image.now).tables c.table_count.result c.table_count.ensures w.if-table_count-ge-TABLE_LIMIT.true
+  | then-table_count-ge-TABLE_LIMIT-via-then-table_count-ge-TABLE_LIMIT w ↦ many (parts_of c.args.image.now).tables c.table_count.result c.table_count.ensures w.if-table_count-ge-TABLE_LIMIT.true
   | then-table_count-ge-TABLE_LIMIT-via-else-table_count-ge-TABLE_LIMIT+then-next-from w ↦ high (parts_of c.args.image.now).tables c.next_table-next.result w.from.result c.next_table-next.ensures w.from.ensures w.if-next-from.true
 ]
 
