@@ -1,4 +1,4 @@
-use Rattle.std.proofs.Common.{◌≡◌, List, [], sym, ap, ◌∙◌, w64}
+use Rattle.std.proofs.Common.{[], sym, ap, ◌∙◌, w64}
 use Rattle.std.proofs.lemmas.Int.{to_z-of_z}
 use Rattle.wm_graph.specs.Parts.{parts_of, space_of}
 use Rattle.wm_model.proofs.Adding.{add_homeless, add_elsewhere}

@@ -1,4 +1,4 @@
-use Rattle.std.proofs.Common.{◌≡◌, false, List, [], sym, ap, ◌∙◌, w64}
+use Rattle.std.proofs.Common.{◌≡◌, false, [], sym, ap, ◌∙◌, w64}
 use Rattle.std.proofs.lemmas.Int.{to_z-of_z}
 use Rattle.wm_model.proofs.Adding.{add_none, add_off, add_unfit}
 use Rattle.wm_model.specs.Planning.{Stay, named}

@@ -1,4 +1,4 @@
-use Rattle.std.proofs.Common.{◌≡◌, ℕ, ℤ, ◌<◌, ◌≤◌, ◌&&◌, Bool, false, List, [], ◌∷◌, length, refl, sym, arith}
+use Rattle.std.proofs.Common.{◌≡◌, ℤ, ◌<◌, ◌≤◌, ◌&&◌, Bool, false, List, [], ◌∷◌, length, refl, sym, arith}
 use Rattle.wm_graph.specs.Rules.{fit_columns, fits_column}
 use Rattle.wm_base.specs.declared.value.Value.TheVariants.{Num}
 use Rattle.wm_model.specs.Planning.{row_values}

@@ -1,10 +1,9 @@
-use Rattle.std.proofs.Common.{◌≡◌, ℕ, true, false, List, [], Option, None, Some, Bor, is_some, refl, sym, ap, ◌∙◌}
+use Rattle.std.proofs.Common.{◌≡◌, true, false, [], Option, None, Some, Bor, is_some, refl, sym, ap, ◌∙◌}
 use Rattle.std.specs.Option.{option_copied}
-use Rattle.wm_graph.specs.Parts.{parts_of}
 use Rattle.wm_graph.specs.Rules.{is_table}
 use Rattle.wm_model.proofs.Creating.{create_unfit, create_there, create_full, table_to_make, tables_of}
 use Rattle.wm_model.specs.Planning.{Stay, named}
-use Rattle.wm_model.specs.Step.{create, two_columns, not_built, table_there, most_tables}
+use Rattle.wm_model.specs.Step.{create, not_built, table_there, most_tables}
 use Rattle.wm_reader.specs.Views.{folded}
 use Rattle.wm_spec.specs.declared.record.table.Table.{Table}
 use Rattle.wm_state.specs.State.{next_table}

@@ -1,4 +1,4 @@
-use Rattle.std.proofs.Common.{◌≡◌, ℕ, true, List, [], sym, ap, ◌∙◌}
+use Rattle.std.proofs.Common.{◌≡◌, true, [], sym, ap, ◌∙◌}
 use Rattle.wm_model.proofs.Enabling.{enable_none, enable_twice, enable_keyless}
 use Rattle.wm_model.specs.Planning.{Stay, named}
 use Rattle.wm_model.specs.Step.{enable, no_table, no_key, versioning}

@@ -1,4 +1,4 @@
-use Rattle.std.proofs.Common.{◌≡◌, ℕ, List, [], Some, refl, sym, ap, ◌∙◌, codes, subst}
+use Rattle.std.proofs.Common.{◌≡◌, [], sym, ap, ◌∙◌, codes, subst}
 use Rattle.wm_graph.specs.Parts.{parts_of}
 use Rattle.wm_model.proofs.Enabling.{enable_spent, does_enable}
 use Rattle.wm_model.proofs.Named.{named_is}

@@ -1,10 +1,10 @@
-use Rattle.std.proofs.Common.{◌≡◌, ◌+◌, ◌<◌, ◌^◌, List, ap, ◌∙◌, w64, arith}
+use Rattle.std.proofs.Common.{◌≡◌, ◌+◌, ◌<◌, ◌^◌, ap, ◌∙◌, w64, arith}
 use Rattle.std.proofs.lemmas.Int.{to_z-of_z}
 use Rattle.wm_graph.specs.Parts.{parts_of, space_of}
 use Rattle.wm_spec.specs.Records.{record_at}
 use Rattle.wm_state.specs.Standing.{latest}
 use Rattle.wm_engine.proofs.Planning.{counters_at}
-use Rattle.wm_engine.proofs.Writing.{Made, Places, above_batch, above_is, above_fits, space_at, version_fits, wrote_above}
+use Rattle.wm_engine.proofs.Writing.{Made, above_batch, above_is, above_fits, space_at, version_fits, wrote_above}
 use Rattle.wm_engine.specs.Views.{answer_view, seating_view}
 use Rattle.wm_engine.proofs.plan.write_row.write_above.Goals as goal
 

@@ -1,10 +1,10 @@
-use Rattle.std.proofs.Common.{◌≡◌, List, ap, ◌∙◌, w64}
+use Rattle.std.proofs.Common.{◌≡◌, ap, ◌∙◌, w64}
 use Rattle.std.proofs.lemmas.Int.{to_z-of_z}
 use Rattle.wm_graph.specs.Parts.{parts_of, space_of}
 use Rattle.wm_spec.specs.Records.{record_at}
 use Rattle.wm_state.specs.Standing.{latest}
 use Rattle.wm_engine.proofs.Planning.{counters_at}
-use Rattle.wm_engine.proofs.Writing.{Made, Places, here_batch, here_is, here_fits, space_at, wrote_here}
+use Rattle.wm_engine.proofs.Writing.{Made, here_batch, here_is, here_fits, space_at, wrote_here}
 use Rattle.wm_engine.specs.Views.{answer_view, seating_view}
 use Rattle.wm_engine.proofs.plan.write_row.write_here.Goals as goal
 

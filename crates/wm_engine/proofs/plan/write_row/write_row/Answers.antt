@@ -1,4 +1,4 @@
-use Rattle.std.proofs.Common.{◌≡◌, List, [], refl, ap, ◌∙◌, codes, w64}
+use Rattle.std.proofs.Common.{◌≡◌, [], refl, ap, ◌∙◌, codes, w64}
 use Rattle.std.proofs.lemmas.Int.{to_z-of_z}
 use Rattle.wm_graph.specs.Parts.{parts_of}
 use Rattle.wm_model.proofs.Adding.{add_spent_work}
