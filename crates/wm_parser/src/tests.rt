@@ -1,7 +1,9 @@
+mod shape;
 mod table;
 
 use crate::lines::discard;
 use crate::{ParseFault, parse};
+use shape::{SHAPES, shape};
 use std::alloc::{AllocError, Global};
 use std::process::Abort;
 use std::test::Fail;
@@ -46,13 +48,13 @@ fn unmarked(alloc: Global, marked: &[u8]) -> Result<(Vec<u8>, usize), AllocError
     Ok((line, column.saturating_add(1)))
 }
 
-/// DELETE with a condition: so many of these words, a comparison, and so many of those behind it.
+/// DELETE with a condition: so many of these words, a test, and so many of those behind it.
 fn nested(alloc: Global, before: &[u8], behind: &[u8], count: u8) -> Result<Vec<u8>, AllocError> {
     let mut line = Vec::from_slice(alloc, b"A: DELETE T WHERE ")?;
     for _ in 0..count {
         line.extend_from_slice(before)?;
     }
-    line.extend_from_slice(b"A = 1")?;
+    line.extend_from_slice(b"A IN (-1)")?;
     for _ in 0..count {
         line.extend_from_slice(behind)?;
     }
@@ -67,6 +69,18 @@ fn lines_of_the_language_are_read(rt: HostRuntime) -> Result<(), Fail> {
             Outcome::Read,
             "{line}"
         );
+    }
+    Ok(())
+}
+
+#[test]
+fn chains_nest_to_the_left_and_parentheses_leave_no_node(rt: HostRuntime) -> Result<(), Fail> {
+    for (line, nested) in &SHAPES {
+        assert!(rt; line.len() <= LONGEST);
+        let tree = parse(rt.alloc(), line.as_bytes())?;
+        let text = shape(rt.alloc(), &tree)?;
+        discard(tree);
+        assert_eq!(rt; text.as_slice(), nested.as_bytes(), "{line}");
     }
     Ok(())
 }
@@ -97,6 +111,7 @@ fn the_first_literal_out_of_range_is_named(rt: HostRuntime) -> Result<(), Fail> 
     Ok(())
 }
 
+/// Neither the parentheses of IN nor the sign of a constant count.
 /// `A: DELETE T WHERE ` has 18 bytes: the word that goes one too deep stands behind them and 64 others.
 #[test]
 fn at_most_64_are_open(rt: HostRuntime) -> Result<(), Fail> {

@@ -1,7 +1,7 @@
 //! Lines, and how they are read. In a line that is refused, `^` stands before the token at which it is, or one past its end.
 
 /// Lines of the language.
-pub static READ: [&str; 78] = [
+pub static READ: [&str; 79] = [
     // sessions and the moment
     "CONNECT A ANN",
     "connect a\tb$#_1 ",
@@ -35,6 +35,7 @@ pub static READ: [&str; 78] = [
     "A: UPDATE EMP SET WM_VALID = WM_PERIOD(DATE '2020-06-01', DATE '2021-01-01')",
     "A: UPDATE T SET A = B + C * (D - 2) - -3, WM_VALID = WM_VALID, VALIDFROM = - - (B) WHERE A = -1",
     "A: UPDATE T SET A = WM_VALID.VALIDFROM, B = T.WM_VALID.VALIDTILL, C = VALIDFROM, D = T.VALIDTILL",
+    "A: UPDATE T SET A = ----------------------------------------------------------------1",
     "A: DELETE FROM T;",
     "A:DELETE T",
     // queries
@@ -89,7 +90,7 @@ pub static READ: [&str; 78] = [
 ];
 
 /// The token behind `^` is the first that no form continues.
-pub static SYNTAX: [&str; 134] = [
+pub static SYNTAX: [&str; 135] = [
     // lines
     "^",
     "  ^",
@@ -157,6 +158,7 @@ pub static SYNTAX: [&str; 134] = [
     "A: UPDATE T SET A = (B + C^",
     "A: UPDATE T SET A = B +^",
     "A: UPDATE T SET A = B ^/ C",
+    "A: UPDATE T SET A = ----------------------------------------------------------------^-1",
     "A: UPDATE T ^A SET",
     "A: UPDATE T SET A ^=> 1",
     "A: UPDATE T SET A = ^COUNT(1)",
