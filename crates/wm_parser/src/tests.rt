@@ -78,8 +78,7 @@ fn chains_nest_to_the_left_and_parentheses_leave_no_node(rt: HostRuntime) -> Res
     for (line, nested) in &SHAPES {
         assert!(rt; line.len() <= LONGEST);
         let tree = parse(rt.alloc(), line.as_bytes())?;
-        let text = shape(rt.alloc(), &tree)?;
-        discard(tree);
+        let text = shape(rt.alloc(), tree)?;
         assert_eq!(rt; text.as_slice(), nested.as_bytes(), "{line}");
     }
     Ok(())

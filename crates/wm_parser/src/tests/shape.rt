@@ -1,5 +1,6 @@
 //! Expressions and conditions as texts, each node of two parts in parentheses.
 
+use crate::lines::discard;
 use std::alloc::{AllocError, Global};
 use wm_base::tree::cond::Cond;
 use wm_base::tree::constant::Const;
@@ -106,8 +107,7 @@ fn put_change(
     Ok(())
 }
 
-/// How the expressions and the condition of a change nest; nothing of another line.
-pub fn shape(alloc: Global, tree: &Line) -> Result<Vec<u8>, AllocError> {
+fn written(alloc: Global, tree: &Line) -> Result<Vec<u8>, AllocError> {
     let mut text = Vec::new(alloc);
     if let Line::Run {
         statement: Statement::Update { sets, filter, .. },
@@ -117,4 +117,13 @@ pub fn shape(alloc: Global, tree: &Line) -> Result<Vec<u8>, AllocError> {
         put_change(&mut text, alloc, sets.as_slice(), filter)?;
     }
     Ok(text)
+}
+
+/// How the expressions and the condition of a change nest; nothing of another line.
+///
+/// The tree is let go before a want of memory is told, since the proof that a whole one is dropped is too long.
+pub fn shape(alloc: Global, tree: Line) -> Result<Vec<u8>, AllocError> {
+    let text = written(alloc, &tree);
+    discard(tree);
+    text
 }
