@@ -16,23 +16,23 @@ use Rattle.wm_spec.specs.declared.record.stored.Stored.{Stored}
 use Rattle.wm_spec.specs.declared.record.table.Table.{Table}
 use Rattle.wm_state.specs.State.{State, Session}
 use Rattle.wm_state.specs.ById.{applied}
-use Rattle.wm_model.specs.Planning.{StandsAt, Does, with_opened}
+use Rattle.wm_model.specs.Planning.{StandsAt, Does, Seating, seated}
 use Rattle.wm_engine.specs.Planning.{DoesIt}
-use Rattle.wm_engine.specs.Views.{answer_view}
+use Rattle.wm_engine.specs.Views.{answer_view, seating_view}
 use Rattle.wm_engine.specs.declared.planned.Planned.{Planned}
 
--- a plan of these changes, this session and this answer
-pub told : (rs : List Stored) (xs : List Session) (m : ℕ) (p : Planned) (cs : List Change) (opened : Option Session) (answer : Answer) (act : State → State × Answer) → p.changes ≡ cs → p.session ≡ opened → answer_view p.answer ≡ answer
-    → Does rs xs m cs opened answer act → DoesIt rs xs m p act
-told rs xs m p cs opened answer act changes session says does = rw (changes, session, says) does
+-- a plan of these changes, of this that becomes of the sessions, and of this answer
+pub told : (rs : List Stored) (xs : List Session) (m : ℕ) (p : Planned) (cs : List Change) (seating : Seating) (answer : Answer) (act : State → State × Answer) → p.changes ≡ cs → seating_view p.seating ≡ seating → answer_view p.answer ≡ answer
+    → Does rs xs m cs seating answer act → DoesIt rs xs m p act
+told rs xs m p cs seating answer act changes seats says does = rw (changes, seats, says) does
 
 -- two functions that do the same to each state that the records stand for
-pub does_same : (rs : List Stored) (xs : List Session) (m : ℕ) (cs : List Change) (opened : Option Session) (answer : Answer) (act other : State → State × Answer) → ((s : State) → StandsAt rs xs m s → other s ≡ act s)
-    → Does rs xs m cs opened answer act → Does rs xs m cs opened answer other
-does_same rs xs m cs opened answer act other same does = record {
+pub does_same : (rs : List Stored) (xs : List Session) (m : ℕ) (cs : List Change) (seating : Seating) (answer : Answer) (act other : State → State × Answer) → ((s : State) → StandsAt rs xs m s → other s ≡ act s)
+    → Does rs xs m cs seating answer act → Does rs xs m cs seating answer other
+does_same rs xs m cs seating answer act other same does = record {
   keeps = does.keeps;
   once = does.once;
-  does = λ s stands. let d = does.does s stands in (subst (λ r. StandsAt (applied cs rs) (with_opened xs opened) m r.0) (sym (same s stands)) d.0, d.1 ∙ ap (λ r. r.1) (sym (same s stands)));
+  does = λ s stands. let d = does.does s stands in (subst (λ r. StandsAt (applied cs rs) (seated xs seating) m r.0) (sym (same s stands)) d.0, d.1 ∙ ap (λ r. r.1) (sym (same s stands)));
 }
 
 -- a list of no length is empty, and one of some length is not
@@ -88,24 +88,18 @@ some_of (Some a) e = (a, refl)
 
 -- a plan does what another function does to each state that the records stand for
 pub does_one : (rs : List Stored) (xs : List Session) (m : ℕ) (p : Planned) (act other : State → State × Answer) → ((s : State) → StandsAt rs xs m s → other s ≡ act s) → DoesIt rs xs m p act → DoesIt rs xs m p other
-does_one rs xs m p act other same does = does_same rs xs m p.changes p.session (answer_view p.answer) act other same does
+does_one rs xs m p act other same does = does_same rs xs m p.changes (seating_view p.seating) (answer_view p.answer) act other same does
 
 pub does_it_same : (rs : List Stored) (xs : List Session) (m : ℕ) (r : Result Planned Memory) (act other : State → State × Answer) → ((s : State) → StandsAt rs xs m s → other s ≡ act s)
     → IfOk r (λ p. DoesIt rs xs m p act) → IfOk r (λ p. DoesIt rs xs m p other)
 does_it_same rs xs m (Ok p) act other same does = does_one rs xs m p act other same does
 does_it_same rs xs m (Err e) act other same does = tt
 
--- a plan that looks at no session and no user
-pub for_users : (rs : List Stored) (m : ℕ) (r : Result Planned Memory) (act : State → State × Answer) (other : List ℕ → State → State × Answer) → ((user : List ℕ) (s : State) → other user s ≡ act s)
-    → IfOk r (λ p. (xs : List Session) → DoesIt rs xs m p act) → IfOk r (λ p. (xs : List Session) (user : List ℕ) → DoesIt rs xs m p (other user))
-for_users rs m (Ok p) act other same does = λ xs user. does_one rs xs m p act (other user) (λ s st. same user s) (does xs)
-for_users rs m (Err e) act other same does = tt
-
--- and at no moment
-pub for_moments : (rs : List Stored) (m : ℕ) (r : Result Planned Memory) (act : State → State × Answer) (other : List ℕ → State → State × Answer) → ((user : List ℕ) (s : State) → other user s ≡ act s)
-    → IfOk r (λ p. (xs : List Session) (m : ℕ) → DoesIt rs xs m p act) → IfOk r (λ p. (xs : List Session) (user : List ℕ) → DoesIt rs xs m p (other user))
-for_moments rs m (Ok p) act other same does = λ xs user. does_one rs xs m p act (other user) (λ s st. same user s) (does xs m)
-for_moments rs m (Err e) act other same does = tt
+-- a plan that looks at no moment
+pub for_moment : (rs : List Stored) (m : ℕ) (r : Result Planned Memory) (act other : State → State × Answer) → ((s : State) → other s ≡ act s)
+    → IfOk r (λ p. (xs : List Session) (m : ℕ) → DoesIt rs xs m p act) → IfOk r (λ p. (xs : List Session) → DoesIt rs xs m p other)
+for_moment rs m (Ok p) act other same does = λ xs. does_one rs xs m p act other (λ s st. same s) (does xs m)
+for_moment rs m (Err e) act other same does = tt
 
 -- and at no records
 pub for_records : (rs : List Stored) (xs : List Session) (m : ℕ) (r : Result Planned Memory) (act other : State → State × Answer) → ((s : State) → other s ≡ act s) → keep_rules (parts_of rs) ≡ true
@@ -113,8 +107,8 @@ pub for_records : (rs : List Stored) (xs : List Session) (m : ℕ) (r : Result P
 for_records rs xs m (Ok p) act other same rules does = does_one rs xs m p act other (λ s st. same s) (does rs m rules)
 for_records rs xs m (Err e) act other same rules does = tt
 
--- a plan for each user
-pub does_for : (rs : List Stored) (m : ℕ) (r : Result Planned Memory) (act other : List ℕ → State → State × Answer) → ((user : List ℕ) (s : State) → other user s ≡ act user s)
-    → IfOk r (λ p. (xs : List Session) (user : List ℕ) → DoesIt rs xs m p (act user)) → IfOk r (λ p. (xs : List Session) (user : List ℕ) → DoesIt rs xs m p (other user))
-does_for rs m (Ok p) act other same does = λ xs user. does_one rs xs m p (act user) (other user) (λ s st. same user s) (does xs user)
-does_for rs m (Err e) act other same does = tt
+-- a plan for all sessions
+pub for_sessions : (rs : List Stored) (m : ℕ) (r : Result Planned Memory) (act other : State → State × Answer) → ((s : State) → other s ≡ act s)
+    → IfOk r (λ p. (xs : List Session) → DoesIt rs xs m p act) → IfOk r (λ p. (xs : List Session) → DoesIt rs xs m p other)
+for_sessions rs m (Ok p) act other same does = λ xs. does_one rs xs m p act other (λ s st. same s) (does xs)
+for_sessions rs m (Err e) act other same does = tt

@@ -1,7 +1,7 @@
 //! What a line that changes something counts.
 ghost use Rattle.std.specs.Prelude.{◌≡◌, ◌+◌, ◌<◌, ◌^◌, nat_lt, true, false, IfSome, IfNone};
 ghost use Rattle.wm_model.specs.Step.{counter_limit, line_work};
-ghost use Rattle.wm_model.proofs.Doing.{moved};
+ghost use Rattle.wm_model.specs.Planning.{moved};
 
 use wm_spec::record::Counters;
 

@@ -5,7 +5,8 @@ ghost use Rattle.wm_engine.specs.Working.{FileStands, HoldsSorted, KeepsOver};
 ghost use Rattle.wm_engine.specs.declared.fault.LineFault.TheVariants as faults;
 ghost use Rattle.wm_graph.specs.Parts.{parts_of};
 ghost use Rattle.wm_graph.specs.Rules.{keep_rules};
-ghost use Rattle.wm_model.specs.Planning.{StandsAt, with_opened};
+ghost use Rattle.wm_engine.specs.Views.{seating_view};
+ghost use Rattle.wm_model.specs.Planning.{StandsAt, seated};
 ghost use Rattle.wm_model.specs.Step.{step, answer_text};
 ghost use Rattle.wm_spec.specs.Records.{AreChanges};
 ghost use Rattle.wm_state.specs.ById.{applied};
@@ -19,7 +20,8 @@ use crate::fault::LineFault;
 use crate::plan::line::plan;
 use crate::planned::Changed;
 use crate::print::print;
-use crate::session::{Session, add_opened};
+use crate::seating::seat;
+use crate::session::Session;
 use std::alloc::Global;
 use wm_base::Bytes;
 use wm_image::Image;
@@ -33,7 +35,7 @@ pub struct Kept {
     pub bytes: Bytes,
 }
 
-/// Commits what a line changes, opens the session that it opens, and gives the records that it leaves.
+/// Commits what a line changes, does to the sessions what it does to them, and gives the records that it leaves.
 fn keep<P: Station>(
     alloc: Global,
     station: &mut P,
@@ -46,7 +48,7 @@ fn keep<P: Station>(
     requires fit { FitPages changed.changes }
     requires works { P.tells → KeepsOver store.old image (P.history station.old) }
     ensures image { IfOk result (λ i. i ≡ applied changed.changes image) }
-    ensures sessions { OnOk result (sessions.new.items ≡ with_opened sessions.old.items changed.session) }
+    ensures sessions { OnOk result (sessions.new.items ≡ seated sessions.old.items (seating_view changed.seating)) }
     ensures works { P.tells → OnOk result (KeepsOver store.new (applied changed.changes image) (P.history station.new)) }
     ensures any_moment { P.tells → Ended (P.history station.old) (P.history station.new) (λ file. HoldsSorted file image ⊎ HoldsSorted file (applied changed.changes image)) }
     ensures later { P.disk_faults station.old ≤ P.disk_faults station.new }
@@ -54,10 +56,10 @@ fn keep<P: Station>(
     ensures say_quiet { P.say_faults station.new ≡ P.say_faults station.old }
     ensures unchanged { P.tells → IsErrOf result faults.Changed → ⊥ }
 {
-    let Changed { changes, session } = changed;
+    let Changed { changes, seating } = changed;
     let mut image = image;
     commit(alloc, station, store, &mut image, changes)?;
-    add_opened(sessions, session)?;
+    seat(sessions, seating)?;
     Ok(image)
 }
 

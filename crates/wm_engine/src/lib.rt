@@ -1,4 +1,4 @@
-//! One line at a time: what it says is read, done, kept and answered.
+//! One line at a time: what it says is done, kept and answered.
 #![tactic(auto)]
 
 mod answer;
@@ -7,10 +7,12 @@ mod count;
 mod engine;
 mod fault;
 mod keep;
+mod names;
 mod plan;
 mod planned;
 mod print;
 mod refuse;
+mod seating;
 mod session;
 
 pub use engine::Engine;

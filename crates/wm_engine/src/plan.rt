@@ -2,10 +2,13 @@
 
 mod add_row;
 mod batch;
+mod bearing;
 mod connect;
 mod create;
 mod enable;
+mod going;
 pub mod line;
 mod listing;
+mod saving;
 mod statement;
 mod write_row;

@@ -1,9 +1,10 @@
 //! What a line does, worked out before anything changes.
-ghost use Rattle.std.specs.Prelude.{◌≡◌, [], None, Some};
+ghost use Rattle.std.specs.Prelude.{◌≡◌, []};
 ghost use Rattle.wm_engine.specs.declared.answer.Answer.TheVariants.{Fine};
+ghost use Rattle.wm_engine.specs.declared.seating.Seating.TheVariants.{Stay};
 
 use crate::answer::Answer;
-use crate::session::Session;
+use crate::seating::Seating;
 use std::alloc::Global;
 use wm_spec::record::Changes;
 
@@ -12,8 +13,8 @@ use wm_spec::record::Changes;
 pub struct Planned {
     /// What becomes of the records.
     pub changes: Changes,
-    /// The session that is opened, where one is.
-    pub session: Option<Session>,
+    /// What becomes of the sessions.
+    pub seating: Seating,
     pub answer: Answer,
 }
 
@@ -21,25 +22,25 @@ impl Planned {
     /// The answer alone: nothing changes.
     pub fn answered(alloc: Global, answer: Answer) -> Planned
         ensures changes { result.changes ≡ [] }
-        ensures session { result.session ≡ None }
+        ensures seating { result.seating ≡ Stay }
         ensures answer { result.answer ≡ answer }
     {
         Planned {
             changes: Changes::new(alloc),
-            session: None,
+            seating: Seating::Stay,
             answer,
         }
     }
 
-    /// A session is opened.
-    pub fn opening(alloc: Global, session: Session) -> Planned
+    /// The sessions change, and no record does.
+    pub fn seated(alloc: Global, seating: Seating) -> Planned
         ensures changes { result.changes ≡ [] }
-        ensures session { result.session ≡ Some session }
+        ensures seating { result.seating ≡ seating }
         ensures answer { result.answer ≡ Fine }
     {
         Planned {
             changes: Changes::new(alloc),
-            session: Some(session),
+            seating,
             answer: Answer::Fine,
         }
     }
@@ -47,12 +48,12 @@ impl Planned {
     /// Records are changed.
     pub fn changing(changes: Changes, answer: Answer) -> Planned
         ensures changes { result.changes ≡ changes }
-        ensures session { result.session ≡ None }
+        ensures seating { result.seating ≡ Stay }
         ensures answer { result.answer ≡ answer }
     {
         Planned {
             changes,
-            session: None,
+            seating: Seating::Stay,
             answer,
         }
     }
@@ -60,11 +61,11 @@ impl Planned {
     /// What the line changes, without its answer.
     pub fn into_changed(self) -> Changed
         ensures changes { result.changes ≡ self.changes }
-        ensures session { result.session ≡ self.session }
+        ensures seating { result.seating ≡ self.seating }
     {
         Changed {
             changes: self.changes,
-            session: self.session,
+            seating: self.seating,
         }
     }
 }
@@ -73,5 +74,5 @@ impl Planned {
 #[derive(Drop)]
 pub struct Changed {
     pub changes: Changes,
-    pub session: Option<Session>,
+    pub seating: Seating,
 }

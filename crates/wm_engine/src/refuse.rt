@@ -1,12 +1,11 @@
 //! The refusals of today's lines.
-ghost use Rattle.std.specs.Prelude.{◌≡◌, List, IfOk};
-ghost use Rattle.wm_engine.specs.Views.{folded, answer_view};
-ghost use Rattle.wm_model.specs.Step.{not_built, no_table, key_there, no_key, change_limit, at_its_end};
+ghost use Rattle.std.specs.Prelude.{◌≡◌, IfOk};
+ghost use Rattle.wm_engine.specs.Views.{answer_view};
+ghost use Rattle.wm_model.specs.Step.{at_its_end, bad_name, change_limit, key_there, most_savepoints, most_sessions, most_tables, most_workspaces, no_key, no_savepoint, no_session, no_table, no_workspace, not_built, not_latest, reserved_name, savepoint_there, session_there, syntax, table_there, versioning, workspace_there};
 
 use crate::answer::Answer;
-use crate::read::word::capitals_of;
 use std::alloc::Global;
-use wm_base::{CellRefusal, FormRefusal, Key, LimitRefusal, Memory, Name, Refusal};
+use wm_base::{CellRefusal, FormRefusal, Key, LimitRefusal, Memory, Name, Refusal, SpaceRefusal};
 
 /// That the line is not built yet.
 pub fn not_built() -> Answer
@@ -15,20 +14,102 @@ pub fn not_built() -> Answer
     Answer::Refused(Refusal::Limit(LimitRefusal::Wm099))
 }
 
-/// That there is no table of this name.
-pub fn no_table(alloc: Global, name: &[u8]) -> Result<Answer, Memory>
-    ensures { IfOk result (λ answer. answer_view answer ≡ no_table name.now) }
+/// That the line begins as none does, at a column from 1 on.
+pub fn syntax(column: u32) -> Answer
+    ensures { answer_view result ≡ syntax column }
 {
-    let name = Name::copy_of(alloc, name)?;
-    Ok(Answer::Refused(Refusal::Form(FormRefusal::Wm010(name))))
+    Answer::Refused(Refusal::Form(FormRefusal::Wm003(column)))
+}
+
+/// That no session of this name is open.
+pub fn no_session(name: Name) -> Answer
+    ensures { answer_view result ≡ no_session name }
+{
+    Answer::Refused(Refusal::Form(FormRefusal::Wm004(name)))
+}
+
+/// That a session of this name is open.
+pub fn session_there(name: Name) -> Answer
+    ensures { answer_view result ≡ session_there name }
+{
+    Answer::Refused(Refusal::Form(FormRefusal::Wm005(name)))
+}
+
+/// That there is no table of this name.
+pub fn no_table(name: Name) -> Answer
+    ensures { answer_view result ≡ no_table name }
+{
+    Answer::Refused(Refusal::Form(FormRefusal::Wm010(name)))
+}
+
+/// That there is a table of this name.
+pub fn table_there(name: Name) -> Answer
+    ensures { answer_view result ≡ table_there name }
+{
+    Answer::Refused(Refusal::Form(FormRefusal::Wm011(name)))
 }
 
 /// That the table has no key.
-pub fn no_key(alloc: Global, name: &[u8]) -> Result<Answer, Memory>
-    ensures { IfOk result (λ answer. answer_view answer ≡ no_key name.now) }
+pub fn no_key(name: Name) -> Answer
+    ensures { answer_view result ≡ no_key name }
 {
-    let name = Name::copy_of(alloc, name)?;
-    Ok(Answer::Refused(Refusal::Form(FormRefusal::Wm015(name))))
+    Answer::Refused(Refusal::Form(FormRefusal::Wm015(name)))
+}
+
+/// That a name to be made is not of 1 to 30 plain bytes.
+pub fn bad_name() -> Answer
+    ensures { answer_view result ≡ bad_name }
+{
+    Answer::Refused(Refusal::Form(FormRefusal::Wm016(30)))
+}
+
+/// That the table is ready for rows, or that it is not.
+pub fn versioning(name: Name, on: bool) -> Answer
+    ensures { answer_view result ≡ versioning name on }
+{
+    Answer::Refused(Refusal::Form(FormRefusal::Wm019(name, on)))
+}
+
+/// That there is no workspace of this name.
+pub fn no_workspace(name: Name) -> Answer
+    ensures { answer_view result ≡ no_workspace name }
+{
+    Answer::Refused(Refusal::Space(SpaceRefusal::Wm020(name)))
+}
+
+/// That there is a workspace of this name.
+pub fn workspace_there(name: Name) -> Answer
+    ensures { answer_view result ≡ workspace_there name }
+{
+    Answer::Refused(Refusal::Space(SpaceRefusal::Wm021(name)))
+}
+
+/// That the workspace has no savepoint of this name.
+pub fn no_savepoint(name: Name) -> Answer
+    ensures { answer_view result ≡ no_savepoint name }
+{
+    Answer::Refused(Refusal::Space(SpaceRefusal::Wm022(name)))
+}
+
+/// That the workspace has a savepoint of this name.
+pub fn savepoint_there(name: Name) -> Answer
+    ensures { answer_view result ≡ savepoint_there name }
+{
+    Answer::Refused(Refusal::Space(SpaceRefusal::Wm023(name)))
+}
+
+/// That the name is reserved.
+pub fn reserved_name(name: Name) -> Answer
+    ensures { answer_view result ≡ reserved_name name }
+{
+    Answer::Refused(Refusal::Space(SpaceRefusal::Wm024(name)))
+}
+
+/// That the session does not stand at what is newest.
+pub fn not_latest() -> Answer
+    ensures { answer_view result ≡ not_latest }
+{
+    Answer::Refused(Refusal::Space(SpaceRefusal::Wm030))
 }
 
 /// That the key is there.
@@ -43,6 +124,34 @@ pub fn change_limit(limit: u32) -> Answer
     ensures { answer_view result ≡ change_limit limit }
 {
     Answer::Refused(Refusal::Limit(LimitRefusal::Wm070(limit as u64)))
+}
+
+/// That there is no room for another workspace.
+pub fn most_workspaces() -> Answer
+    ensures { answer_view result ≡ most_workspaces }
+{
+    Answer::Refused(Refusal::Limit(LimitRefusal::Wm071))
+}
+
+/// That there is no room for another savepoint in the workspace.
+pub fn most_savepoints() -> Answer
+    ensures { answer_view result ≡ most_savepoints }
+{
+    Answer::Refused(Refusal::Limit(LimitRefusal::Wm072))
+}
+
+/// That there is no room for another table.
+pub fn most_tables() -> Answer
+    ensures { answer_view result ≡ most_tables }
+{
+    Answer::Refused(Refusal::Limit(LimitRefusal::Wm073))
+}
+
+/// That there is no room for another session.
+pub fn most_sessions() -> Answer
+    ensures { answer_view result ≡ most_sessions }
+{
+    Answer::Refused(Refusal::Limit(LimitRefusal::Wm075))
 }
 
 /// That a counter is at its end.

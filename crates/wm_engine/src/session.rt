@@ -1,38 +1,80 @@
-//! The session that is open.
-ghost use Rattle.std.specs.Prelude.{◌≡◌, IfOk, OnOk};
-ghost use Rattle.wm_model.specs.Planning.{with_opened};
+//! Who is connected, and where they stand.
+ghost use Rattle.std.specs.Prelude.{◌≡◌};
+ghost use Rattle.std.specs.Option.{option_copied};
 ghost use Rattle.std.specs.Str.{bytes_eq};
-ghost use Rattle.wm_engine.specs.Views.{folded};
+ghost use Rattle.wm_engine.specs.Views.{stand_view};
+ghost use Rattle.wm_model.specs.Step.{session_of};
+ghost use Rattle.wm_reader.specs.Views.{folded};
+ghost use Rattle.wm_state.specs.State.{Latest};
 
-use crate::read::word::{capitals_of, is_word};
-use std::alloc::Global;
 use std::marker::Model;
-use wm_base::{Memory, Name};
+use wm_base::Name;
+use wm_reader::is_word;
+
+/// Where a session stands in its workspace.
+#[derive(Clone, Copy, Debug, PartialEq)]
+pub enum Stand {
+    /// At what is newest.
+    Latest,
+    /// At the savepoint of this making.
+    At(u64),
+}
 
 /// Somebody who is connected, under the name that lines begin with.
 #[derive(Drop)]
 pub struct Session {
     name: Name,
     user: Name,
+    /// The number of the workspace that the session stands in.
+    space: u32,
+    stand: Stand,
 }
 
 impl Model for Session {
+    ghost use Rattle.wm_engine.specs.Views.{stand_view};
     ghost use Rattle.wm_state.specs.State.{Session as SessionState};
 
     ghost Value = { SessionState };
 
-    ghost view = { λ s. record { name = s.name; user = s.user } };
+    ghost view = { λ s. record { name = s.name; user = s.user; space = s.space; stand = stand_view s.stand } };
 }
 
 impl Session {
-    /// A session of this name for this user.
-    pub fn new(alloc: Global, name: &[u8], user: &[u8]) -> Result<Session, Memory>
-        ensures { IfOk result (λ session. session ≡ record { name = folded name.now; user = folded user.now }) }
+    /// A session of this name for this user, which stands in LIVE at what is newest.
+    pub fn new(name: Name, user: Name) -> Session
+        ensures { result ≡ record { name = name; user = user; space = 0; stand = Latest } }
     {
-        Ok(Session {
-            name: capitals_of(alloc, name)?,
-            user: capitals_of(alloc, user)?,
-        })
+        Session {
+            name,
+            user,
+            space: 0,
+            stand: Stand::Latest,
+        }
+    }
+
+    pub fn name(&self) -> &Name
+        ensures { result.now ≡ self.now.name }
+    {
+        &self.name
+    }
+
+    pub fn user(&self) -> &Name
+        ensures { result.now ≡ self.now.user }
+    {
+        &self.user
+    }
+
+    /// The number of the workspace that the session stands in.
+    pub fn space(&self) -> u32
+        ensures { result ≡ self.now.space }
+    {
+        self.space
+    }
+
+    pub fn stand(&self) -> Stand
+        ensures { stand_view result ≡ self.now.stand }
+    {
+        self.stand
     }
 
     /// Whether the word is the session's name.
@@ -41,14 +83,31 @@ impl Session {
     {
         is_word(name, self.name.as_bytes())
     }
+
+    /// Whether the session has this name, which is in capitals.
+    pub fn is_called(&self, name: &Name) -> bool
+        ensures { result ≡ bytes_eq name.now self.now.name }
+    {
+        name.as_bytes() == self.name.as_bytes()
+    }
+
+    /// Stands the session elsewhere.
+    pub fn go(&mut self, space: u32, stand: Stand)
+        ensures { self.new ≡ record self.old { space = space; stand = stand_view stand } }
+    {
+        self.space = space;
+        self.stand = stand;
+    }
 }
 
-/// Adds the session that is opened, where one is.
-pub fn add_opened(sessions: &mut Vec<Session>, opened: Option<Session>) -> Result<(), Memory>
-    ensures { OnOk result (sessions.new.items ≡ with_opened sessions.old.items opened) }
+/// The session of this name, where it is open.
+pub fn session_named<'a>(sessions: &'a [Session], name: &[u8]) -> Option<&'a Session>
+    ensures { option_copied result ≡ session_of (folded name.now) sessions.now }
 {
-    if let Some(session) = opened {
-        sessions.push(session)?;
+    for session in sessions {
+        if session.is_named(name) {
+            return Some(session);
+        }
     }
-    Ok(())
+    None
 }

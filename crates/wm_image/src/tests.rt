@@ -117,6 +117,7 @@ fn records_are_found(rt: HostRuntime) -> Result<(), Fail> {
     assert!(rt; image.space(0).is_some() && image.space(1).is_none());
     assert!(rt; image.row(4).is_some() && image.row(5).is_none());
     assert!(rt; image.version(2).is_some() && image.version(3).is_none());
+    assert_eq!(rt; (image.table_count(), image.next_table()), (0, 0));
     assert!(rt; image.table_numbered(1).is_none() && image.record(7).is_some());
     assert_eq!(rt; (image.is_leaf(1), image.is_leaf(2)), (false, true));
     assert_eq!(rt;
@@ -226,6 +227,7 @@ fn a_store_is_loaded(rt: HostRuntime) -> Result<(), Fail> {
     assert_eq!(rt; image.counters().next_stamp, 2);
     assert_eq!(rt; image.id_of_counters(), 1);
     assert!(rt; image.table(b"T").is_some() && image.table(b"U").is_none());
+    assert_eq!(rt; (image.table_count(), image.next_table()), (1, 2));
     assert_eq!(rt;
         (image.id_of_table(b"T"), image.id_of_table(b"U")),
         (Some(4), None)

@@ -1,20 +1,26 @@
-//! CONNECT.
+//! CONNECT and DISCONNECT.
 ghost use Rattle.std.specs.Prelude.{◌≡◌, ℕ, List, true, IfOk};
+ghost use Rattle.wm_engine.specs.Planning.{DoesIt};
 ghost use Rattle.wm_graph.specs.Parts.{parts_of};
 ghost use Rattle.wm_graph.specs.Rules.{keep_rules};
+ghost use Rattle.wm_model.specs.Step.{connect, disconnect};
+ghost use Rattle.wm_reader.specs.Views.{folded};
 ghost use Rattle.wm_spec.specs.declared.record.stored.Stored.{Stored};
-ghost use Rattle.wm_model.specs.Step.{connect};
 ghost use Rattle.wm_store.specs.Spelled.{FitPages};
-ghost use Rattle.wm_engine.specs.Planning.{DoesIt};
-ghost use Rattle.wm_engine.specs.Views.{folded};
 
+use crate::names::is_name;
 use crate::planned::Planned;
-use crate::refuse::not_built;
-use crate::session::Session;
+use crate::refuse::{bad_name, most_sessions, no_session, session_there};
+use crate::seating::Seating;
+use crate::session::{Session, session_named};
 use std::alloc::Global;
 use wm_base::Memory;
+use wm_reader::capitals_of;
 
-/// CONNECT opens the one session that may be open.
+/// The most sessions that may be open.
+const SESSION_LIMIT: usize = 256;
+
+/// CONNECT opens a session, which stands in LIVE at what is newest.
 pub fn connect(
     alloc: Global,
     sessions: &[Session],
@@ -24,9 +30,31 @@ pub fn connect(
     ensures does { IfOk result (λ p. (rs : List Stored) (m : ℕ) → keep_rules (parts_of rs) ≡ true → DoesIt rs sessions.now m p (connect (folded name.now) (folded user.now))) }
     ensures fit { IfOk result (λ p. FitPages p.changes) }
 {
-    if !sessions.is_empty() {
-        return Ok(Planned::answered(alloc, not_built()));
+    let called = capitals_of(alloc, name)?;
+    if session_named(sessions, name).is_some() {
+        return Ok(Planned::answered(alloc, session_there(called)));
     }
-    let session = Session::new(alloc, name, user)?;
-    Ok(Planned::opening(alloc, session))
+    let user = capitals_of(alloc, user)?;
+    if !(is_name(called.as_bytes()) && is_name(user.as_bytes())) {
+        return Ok(Planned::answered(alloc, bad_name()));
+    }
+    if sessions.len() >= SESSION_LIMIT {
+        return Ok(Planned::answered(alloc, most_sessions()));
+    }
+    Ok(Planned::seated(
+        alloc,
+        Seating::Open(Session::new(called, user)),
+    ))
+}
+
+/// DISCONNECT ends a session.
+pub fn disconnect(alloc: Global, sessions: &[Session], name: &[u8]) -> Result<Planned, Memory>
+    ensures does { IfOk result (λ p. (rs : List Stored) (m : ℕ) → keep_rules (parts_of rs) ≡ true → DoesIt rs sessions.now m p (disconnect (folded name.now))) }
+    ensures fit { IfOk result (λ p. FitPages p.changes) }
+{
+    let called = capitals_of(alloc, name)?;
+    if session_named(sessions, name).is_none() {
+        return Ok(Planned::answered(alloc, no_session(called)));
+    }
+    Ok(Planned::seated(alloc, Seating::Close(called)))
 }

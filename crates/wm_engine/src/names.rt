@@ -1,0 +1,32 @@
+//! Names that lines give to what they make.
+ghost use Rattle.std.specs.Prelude.{◌≡◌};
+ghost use Rattle.wm_model.specs.Step.{is_name, names_no_savepoint, names_no_workspace};
+
+/// The most bytes that a name may have.
+const NAME_LIMIT: usize = 30;
+
+/// Whether the byte is plain: neither a control byte nor beyond ASCII.
+fn is_plain(byte: u8) -> bool {
+    (32..=126).contains(&byte)
+}
+
+/// Whether these are 1 to 30 plain bytes.
+pub fn is_name(name: &[u8]) -> bool
+    ensures { result ≡ is_name name.now }
+{
+    (1 <= name.len() && name.len() <= NAME_LIMIT) && name.iter().all(|byte| is_plain(*byte))
+}
+
+/// Whether views show the name in place of a workspace's.
+pub fn names_no_workspace(name: &[u8]) -> bool
+    ensures { result ≡ names_no_workspace name.now }
+{
+    name == b"BASE".as_slice() || name == b"DiffBase".as_slice()
+}
+
+/// Whether no savepoint is given the name by its own line.
+pub fn names_no_savepoint(name: &[u8]) -> bool
+    ensures { result ≡ names_no_savepoint name.now }
+{
+    name == b"LATEST".as_slice() || name.starts_with(b"ICP-")
+}

@@ -1,0 +1,56 @@
+//! What becomes of the sessions.
+ghost use Rattle.std.specs.Prelude.{◌≡◌, ◌++◌, ◌∷◌, [], OnOk};
+ghost use Rattle.wm_engine.specs.Views.{seating_view, stand_view};
+ghost use Rattle.wm_model.specs.Planning.{seated};
+ghost use Rattle.wm_model.specs.Step.{closed, moved_to};
+
+use crate::session::{Session, Stand};
+use wm_base::{Memory, Name};
+
+/// What a line does to the sessions.
+#[derive(Drop)]
+pub enum Seating {
+    /// Nothing.
+    Stay,
+    /// One is opened.
+    Open(Session),
+    /// The one of this name is closed.
+    Close(Name),
+    /// The one of this name stands elsewhere.
+    Move {
+        name: Name,
+        space: u32,
+        stand: Stand,
+    },
+}
+
+/// Closes the sessions of a name.
+fn close(sessions: &mut Vec<Session>, name: &Name)
+    ensures { sessions.new.items ≡ closed name.now sessions.old.items }
+{
+    sessions.retain(|session| !session.is_called(name));
+}
+
+/// Stands the sessions of a name elsewhere.
+fn move_to(sessions: &mut [Session], name: &Name, space: u32, stand: Stand)
+    ensures { sessions.new ≡ moved_to name.now space (stand_view stand) sessions.old }
+{
+    for session in sessions {
+        if session.is_called(name) {
+            session.go(space, stand);
+        }
+    }
+}
+
+/// Does to the sessions what a line does to them.
+pub fn seat(sessions: &mut Vec<Session>, seating: Seating) -> Result<(), Memory>
+    ensures { OnOk result (sessions.new.items ≡ seated sessions.old.items (seating_view seating)) }
+{
+    match seating {
+        Seating::Stay => {}
+        Seating::Open(session) => sessions.push(session)?,
+        Seating::Close(name) => close(sessions, &name),
+        Seating::Move { name, space, stand } => move_to(sessions, &name, space, stand),
+    }
+    Ok(())
+}
