@@ -32,27 +32,25 @@ const SPACE_LIMIT: usize = 1_024;
 /// The greatest id that leaves room for two more.
 const ID_LIMIT: u64 = u64::MAX - 2;
 
-/// Where a workspace is born: what a savepoint that is made for it keeps.
-#[derive(Clone, Copy, Debug)]
-struct Point {
-    place: u32,
-    /// The next place of the workspace behind such a savepoint.
-    next_place: u32,
-    moment: u64,
+/// Where a session stands in a workspace: what a savepoint that is made there has of it.
+#[derive(Clone, Copy, Debug, PartialEq)]
+pub struct Point {
     version: u64,
     base_version: u64,
+    place: u32,
+    moment: u64,
     from: u64,
     log_length: u64,
     rebases: u32,
 }
 
-/// What a workspace that is born needs beside its name.
-#[derive(Clone, Copy, Debug)]
-struct Birth {
-    point: Point,
-    /// The number of the new workspace.
-    number: u32,
+/// What a birth counts: the next place and the next number of an implicit savepoint of the workspace in which it is, and the
+/// number of the new one.
+#[derive(Clone, Copy, Debug, PartialEq)]
+pub struct Birth {
+    next_place: u32,
     next_implicit: u32,
+    number: u32,
 }
 
 /// The name of the implicit savepoint of a number.
@@ -64,37 +62,53 @@ fn implicit_name(alloc: Global, number: u32) -> Result<Name, Memory> {
     Ok(Name::from_vec(name))
 }
 
-/// The point at what is newest in a workspace, where it has a place more.
-fn point_at_latest(image: &Image, moment: u64, space: &Space) -> Option<Point> {
-    let next_place = space.next_place.checked_add(1)?;
-    Some(Point {
-        place: space.next_place,
-        next_place,
-        moment,
+/// The point where a session stands in a workspace, where its savepoint is there.
+fn point_at(image: &Image, moment: u64, space: &Space, stand: Stand) -> Option<Point> {
+    match stand {
+        Stand::Latest => Some(newest_point(image, moment, space)),
+        Stand::At(making) => {
+            let savepoint = image.savepoint(space.number, making)?;
+            Some(saved_point(savepoint))
+        }
+    }
+}
+
+/// The point at what is newest in a workspace.
+fn newest_point(image: &Image, moment: u64, space: &Space) -> Point {
+    Point {
         version: image.latest(space.number),
         base_version: space.base_version,
+        place: space.next_place,
+        moment,
         from: space.from,
         log_length: space.log_length,
         rebases: space.rebases,
-    })
+    }
 }
 
-/// The point at a savepoint of a workspace.
-fn point_at(savepoint: &Savepoint, space: &Space) -> Point {
+/// The point at a savepoint.
+fn saved_point(savepoint: &Savepoint) -> Point {
     Point {
-        place: savepoint.place,
-        next_place: space.next_place,
-        moment: savepoint.moment,
         version: savepoint.version,
         base_version: savepoint.base_version,
+        place: savepoint.place,
+        moment: savepoint.moment,
         from: savepoint.from,
         log_length: savepoint.log_length,
         rebases: savepoint.rebases,
     }
 }
 
+/// The workspace's next place once a savepoint was made where a session stands, unless there is none.
+fn next_place_at(space: &Space, stand: Stand) -> Option<u32> {
+    match stand {
+        Stand::Latest => space.next_place.checked_add(1),
+        Stand::At(_) => Some(space.next_place),
+    }
+}
+
 /// The savepoint that is made at a point for a workspace that is born there.
-fn savepoint_at(image: &Image, point: Point, space: u32, name: Name) -> Savepoint {
+fn birth_record(image: &Image, space: u32, name: Name, point: Point) -> Savepoint {
     Savepoint {
         space,
         name,
@@ -111,16 +125,23 @@ fn savepoint_at(image: &Image, point: Point, space: u32, name: Name) -> Savepoin
 }
 
 /// The workspace that is born at a point of another.
-fn child_at(alloc: Global, birth: Birth, parent: u32, born: u64, name: Name) -> Space {
+fn child_record(
+    alloc: Global,
+    number: u32,
+    name: Name,
+    parent: u32,
+    born: u64,
+    point: Point,
+) -> Space {
     Space {
-        number: birth.number,
+        number,
         name,
         parent,
         born,
-        birth_version: birth.point.version,
-        birth_place: birth.point.place,
-        base_version: birth.point.version,
-        from: birth.point.log_length,
+        birth_version: point.version,
+        birth_place: point.place,
+        base_version: point.version,
+        from: point.log_length,
         log_length: 0,
         rebases: 0,
         next_place: 1,
@@ -137,6 +158,7 @@ fn bear(
     moment: u64,
     space: &Space,
     birth: Birth,
+    point: Point,
     implicit: Name,
     name: Name,
 ) -> Result<Planned, Memory> {
@@ -152,48 +174,23 @@ fn bear(
     let version = Version {
         number: counters.next_version,
         space: birth.number,
-        parent: birth.point.version,
+        parent: point.version,
     };
     let counters = Counters {
         next_version: counters.next_version + 1,
         ..counters
     };
-    let savepoint = savepoint_at(image, birth.point, space.number, implicit);
-    let child = child_at(alloc, birth, space.number, moment, name);
+    let savepoint = birth_record(image, space.number, implicit, point);
+    let child = child_record(alloc, birth.number, name, space.number, moment, point);
     let space_id = image.id_of_space(space.number).unwrap();
     let counters_id = image.id_of_counters();
-    let space = marked(alloc, birth.point.next_place, birth.next_implicit, space)?;
+    let space = marked(alloc, birth.next_place, birth.next_implicit, space)?;
     let saved = savepoint_changes(alloc, counters_id, counters, space_id, space, id, savepoint)?;
     let changes = birth_changes(saved, id, child, version)?;
     Ok(Planned::changing(changes, Answer::Fine))
 }
 
-/// A workspace is born at a point of another, unless a counter is at its end.
-fn bear_at(
-    alloc: Global,
-    image: &Image,
-    moment: u64,
-    space: &Space,
-    point: Point,
-    implicit: Name,
-    name: Name,
-) -> Result<Planned, Memory> {
-    let Some(next_implicit) = space.next_implicit.checked_add(1) else {
-        return Ok(Planned::answered(alloc, at_its_end(alloc, b"ICP")?));
-    };
-    let number = image.next_space();
-    if number > u64::from(u32::MAX) {
-        return Ok(Planned::answered(alloc, at_its_end(alloc, b"WORKSPACE")?));
-    }
-    let birth = Birth {
-        point,
-        number: number as u32,
-        next_implicit,
-    };
-    bear(alloc, image, moment, space, birth, implicit, name)
-}
-
-/// A workspace is born where a session stands.
+/// A workspace is born where a session stands, unless a counter is at its end.
 fn bear_where(
     alloc: Global,
     image: &Image,
@@ -203,21 +200,25 @@ fn bear_where(
     implicit: Name,
     name: Name,
 ) -> Result<Planned, Memory> {
-    match session.stand() {
-        Stand::Latest => {
-            let Some(point) = point_at_latest(image, moment, space) else {
-                return Ok(Planned::answered(alloc, at_its_end(alloc, b"PLACE")?));
-            };
-            bear_at(alloc, image, moment, space, point, implicit, name)
-        }
-        Stand::At(making) => {
-            let Some(savepoint) = image.savepoint(space.number, making) else {
-                return Ok(Planned::answered(alloc, not_built()));
-            };
-            let point = point_at(savepoint, space);
-            bear_at(alloc, image, moment, space, point, implicit, name)
-        }
+    let Some(next_place) = next_place_at(space, session.stand()) else {
+        return Ok(Planned::answered(alloc, at_its_end(alloc, b"PLACE")?));
+    };
+    let Some(next_implicit) = space.next_implicit.checked_add(1) else {
+        return Ok(Planned::answered(alloc, at_its_end(alloc, b"ICP")?));
+    };
+    let number = image.next_space();
+    if number > u64::from(u32::MAX) {
+        return Ok(Planned::answered(alloc, at_its_end(alloc, b"WORKSPACE")?));
     }
+    let birth = Birth {
+        next_place,
+        next_implicit,
+        number: number as u32,
+    };
+    let Some(point) = point_at(image, moment, space, session.stand()) else {
+        return Ok(Planned::answered(alloc, not_built()));
+    };
+    bear(alloc, image, moment, space, birth, point, implicit, name)
 }
 
 /// A workspace of a new name is born in another, where there is room.
