@@ -128,8 +128,8 @@ fn a_table_is_filled_and_read(rt: HostRuntime) -> Result<(), Fail> {
         b"OK\n1|10\n2|20\nROWS 2\n\
         WM-060 key there 1\n\
         WM-010 no table NOPE\n\
-        WM-099 not built yet\n\
-        WM-099 not built yet\n\
+        WM-003 syntax 4\n\
+        WM-004 no session B\n\
         WM-099 not built yet\n"
             .as_slice()
     );
@@ -153,7 +153,7 @@ fn a_refused_line_changes_no_byte(rt: HostRuntime) -> Result<(), Fail> {
         A: INSERT INTO NOPE VALUES (3, 30)\n\
         A: CREATE TABLE BUD (ID NUMBER PRIMARY KEY, AMT NUMBER)\n\
         A: EXECUTE DBMS_WM.EnableVersioning('BUD')\n\
-        CONNECT B BEN\n",
+        CONNECT A BEN\n",
     )?;
     assert_eq!(rt; end, ended(0, 7));
     assert_eq!(rt;
@@ -162,9 +162,9 @@ fn a_refused_line_changes_no_byte(rt: HostRuntime) -> Result<(), Fail> {
         WM-060 key there 1\n\
         WM-070 change limit 2\n\
         WM-010 no table NOPE\n\
-        WM-099 not built yet\n\
-        WM-099 not built yet\n\
-        WM-099 not built yet\n"
+        WM-011 table exists BUD\n\
+        WM-019 versioning BUD on\n\
+        WM-005 session exists A\n"
             .as_slice()
     );
     assert_eq!(rt; station.recording().image(), before.as_slice());
@@ -252,7 +252,7 @@ fn a_script_ends_in_each_way(rt: HostRuntime) -> Result<(), Fail> {
             1,
             0,
             2,
-            b"OK\nWM-099 not built yet\n",
+            b"OK\nWM-003 syntax 2\n",
         ),
         (b"CONNECT A ANN\n", None, 0, 4, 0, b""),
         (b"\r\n--\nCONNECT A ANN\r\n", None, whole, 0, 3, b"OK\n"),
