@@ -13,4 +13,7 @@ pub mod Added
 pub mod NextVersion
 pub mod AddedNew
 pub mod Selecting
+pub mod Points
+pub mod SavingLine
+pub mod BearingLine
 pub mod Seating
