@@ -12,7 +12,7 @@ use Rattle.wm_spec.specs.declared.record.stored.Stored.{Stored}
 use Rattle.wm_spec.specs.declared.record.table.Table.{Table}
 use Rattle.wm_state.specs.Listing.{IsListing, row_on}
 use Rattle.wm_state.specs.State.{State, Session, Workspace, Latest, seen_from, workspace_of}
-use Rattle.wm_state.specs.Standing.{Stands}
+use Rattle.wm_state.specs.Standing.{Stands, latest}
 use Rattle.wm_state.proofs.Listed.{listing_is}
 use Rattle.wm_model.specs.Step.{listing, at_home, no_table, not_built, versioning}
 use Rattle.wm_model.specs.Planning.{Does, Stay, named}
@@ -73,10 +73,10 @@ lists_seen rs xs m session name t a out rules some on plain there seen =
     ∙ ap (λ (found : List Row). let answered : State × Answer = (s, Listed found) in answered) (sym (seen s home.space st.stands home.is)))
 
 -- at what is newest they are those that the newest version holds
-seen_latest : (rs : List Stored) (session : Session) (t : Table) (out : List Row) → session.stand ≡ Latest → IsListing (parts_of rs) session.space t.number out → AreSeen rs session t out
+seen_latest : (rs : List Stored) (session : Session) (t : Table) (out : List Row) → session.stand ≡ Latest → IsListing (parts_of rs) (latest (parts_of rs) session.space) t.number out → AreSeen rs session t out
 seen_latest rs session t out at is s w st found =
     listing_is (parts_of rs) s session.space w t.number out st found is ∙ ap (λ stand. rows_in (seen_from w stand) t) (sym at)
 
 pub lists : (rs : List Stored) (xs : List Session) (m : ℕ) (session : Session) (name : List ℕ) (t : Table) (a : Space) (out : List Row) → keep_rules (parts_of rs) ≡ true → named rs name ≡ Some t → t.versioned ≡ true → t.valid ≡ false
-    → space_of (parts_of rs).spaces session.space ≡ Some a → session.stand ≡ Latest → IsListing (parts_of rs) session.space t.number out → Does rs xs m [] Stay (Listed out) (listing session name)
+    → space_of (parts_of rs).spaces session.space ≡ Some a → session.stand ≡ Latest → IsListing (parts_of rs) (latest (parts_of rs) session.space) t.number out → Does rs xs m [] Stay (Listed out) (listing session name)
 lists rs xs m session name t a out rules some on plain there at is = lists_seen rs xs m session name t a out rules some on plain there (seen_latest rs session t out at is)
