@@ -128,10 +128,11 @@ fn next_place_at(space: &Space, stand: Stand) -> Option<u32>
     ensures room { IfSome result (λ place. nat_lt number_limit (next_place_at space.now (stand_view stand)) ≡ false) }
     ensures spent { IfNone result (nat_lt number_limit (next_place_at space.now (stand_view stand)) ≡ true) }
 {
-    match stand {
-        Stand::Latest => space.next_place.checked_add(1),
-        Stand::At(_) => Some(space.next_place),
-    }
+    let more = match stand {
+        Stand::Latest => 1,
+        Stand::At(_) => 0,
+    };
+    space.next_place.checked_add(more)
 }
 
 /// The savepoint that is made at a point for a workspace that is born there.
@@ -213,6 +214,7 @@ fn bear(
     requires good { is_name name ≡ true }
     requires there { space_of (parts_of image.now).spaces space.now.number ≡ Some space.now }
     requires implicit { implicit ≡ implicit_of space.now }
+    requires few { nat_lt number_limit (space.now.next_implicit + 1) ≡ false }
     requires next { birth.next_implicit ≡ space.now.next_implicit + 1 }
     requires number { birth.number ≡ space_after (parts_of image.now).spaces }
     ensures does { IfOk result (λ p. (xs : List SessionState) (session : SessionState) → MayBearIn image.now session name space.now → birth.next_place ≡ next_place_at space.now session.stand → point_at (parts_of image.now) space.now moment session.stand ≡ Some (point_view point) → DoesIt image.now xs moment p (create_workspace session name)) }
