@@ -45,11 +45,17 @@ pub is_gone : {A : Type 0} (r : Option (Bor A)) (o : Option A) → option_copied
 is_gone None o is none = sym is
 is_gone (Some x) o is none = absurd (bool_apart (sym none))
 
-pub are_full : (k n : ℕ) → n ≡ k → 4096 ≤ n → nat_le 4096 k ≡ true
-are_full k n is le = grind (arith, is, le)
+pub savepoints_full : (k n : ℕ) → n ≡ k → 4096 ≤ n → nat_le 4096 k ≡ true
+savepoints_full k n is le = grind (arith, is, le)
 
-pub are_few : (k n : ℕ) → n ≡ k → n < 4096 → nat_le 4096 k ≡ false
-are_few k n is few = grind (arith, is, few)
+pub savepoints_few : (k n : ℕ) → n ≡ k → n < 4096 → nat_le 4096 k ≡ false
+savepoints_few k n is few = grind (arith, is, few)
+
+pub spaces_full : (k n : ℕ) → n ≡ k → 1024 ≤ n → nat_le 1024 k ≡ true
+spaces_full k n is le = grind (arith, is, le)
+
+pub spaces_few : (k n : ℕ) → n ≡ k → n < 1024 → nat_le 1024 k ≡ false
+spaces_few k n is few = grind (arith, is, few)
 
 pub at_end : (n : ℕ) → (n < 2 ^ 32 → ⊥) → nat_lt number_limit n ≡ true
 at_end n much = grind (arith, much)

@@ -8,7 +8,7 @@ use Rattle.wm_model.specs.Step.{create_savepoint, at_its_end, savepoint_there, m
 use Rattle.wm_spec.specs.declared.record.savepoint.Savepoint.{Savepoint}
 use Rattle.wm_state.specs.Standing.{saved_in}
 use Rattle.wm_engine.proofs.Planning.{told, some_of}
-use Rattle.wm_engine.proofs.Saving.{is_there, is_gone, are_full, are_few, at_end}
+use Rattle.wm_engine.proofs.Saving.{is_there, is_gone, savepoints_full, savepoints_few, at_end}
 use Rattle.wm_engine.specs.Views.{answer_view, seating_view}
 use Rattle.wm_engine.proofs.plan.saving.save_in.Goals as goal
 
@@ -29,7 +29,7 @@ returns-then-savepoint_count-ge-SAVEPOINT_LIMIT-clause-does c = λ xs workspace 
     c.answered-then-savepoint_count-ge-SAVEPOINT_LIMIT.ensures.changes (ap seating_view c.answered-then-savepoint_count-ge-SAVEPOINT_LIMIT.ensures.seating)
     (ap answer_view c.answered-then-savepoint_count-ge-SAVEPOINT_LIMIT.ensures.answer ∙ c.most_savepoints.ensures)
     (save_full c.args.image.now xs c.args.moment workspace c.args.name c.args.space.now saves (is_gone c.savepoint_named.result found (c.savepoint_named.ensures ∙ ap (λ (n : List ℕ). find (λ (x : Savepoint). bytes_eq n x.name) (saved_in (parts_of c.args.image.now) c.args.space.now.number)) c.as_bytes.ensures) c.if-is_some.ensures)
-    (are_full count c.savepoint_count.result c.savepoint_count.ensures c.if-savepoint_count-ge-SAVEPOINT_LIMIT.true))
+    (savepoints_full count c.savepoint_count.result c.savepoint_count.ensures c.if-savepoint_count-ge-SAVEPOINT_LIMIT.true))
 
 pub returns-in_default-clause-does : goal.returns-in_default-clause-does
 returns-in_default-clause-does c = λ xs workspace saves.
@@ -40,6 +40,6 @@ returns-in_default-clause-does c = λ xs workspace saves.
     (save_placeless c.args.image.now xs c.args.moment workspace c.args.name c.args.space.now saves
     (record {
       new = is_gone c.savepoint_named.result found (c.savepoint_named.ensures ∙ ap (λ (n : List ℕ). find (λ (x : Savepoint). bytes_eq n x.name) (saved_in (parts_of c.args.image.now) c.args.space.now.number)) c.as_bytes.ensures) c.if-is_some.ensures;
-      few = are_few count c.savepoint_count.result c.savepoint_count.ensures c.if-savepoint_count-ge-SAVEPOINT_LIMIT.false;
+      few = savepoints_few count c.savepoint_count.result c.savepoint_count.ensures c.if-savepoint_count-ge-SAVEPOINT_LIMIT.false;
     })
     (at_end (c.args.space.now.next_place + 1) c.in_default.ensures))
