@@ -1,3 +1,4 @@
 pub mod Working
 pub mod Views
 pub mod Planning
+pub mod Forks

@@ -1,11 +1,15 @@
 //! CreateSavepoint.
-ghost use Rattle.std.specs.Prelude.{◌≡◌, ◌<◌, ℕ, List, true, IfOk};
+ghost use Rattle.std.specs.Prelude.{◌≡◌, ◌<◌, ◌+◌, ℕ, List, true, false, Some, IfOk};
 ghost use Rattle.wm_base.specs.declared.instant.TheConstants.{END};
+ghost use Rattle.wm_engine.specs.Forks.{ChangesFew};
 ghost use Rattle.wm_engine.specs.Planning.{DoesIt};
-ghost use Rattle.wm_graph.specs.Parts.{parts_of};
+ghost use Rattle.wm_graph.specs.Parts.{parts_of, space_of};
 ghost use Rattle.wm_graph.specs.Rules.{keep_rules};
-ghost use Rattle.wm_model.specs.Step.{create_savepoint};
+ghost use Rattle.wm_model.specs.Saving.{HasRoom, SavesIn, saved_record};
+ghost use Rattle.wm_model.specs.Step.{create_savepoint, is_name};
 ghost use Rattle.wm_reader.specs.Reading.{unquoted};
+ghost use Rattle.wm_state.specs.ById.{applied};
+ghost use Rattle.wm_state.specs.Standing.{making_behind};
 ghost use Rattle.wm_state.specs.State.{Session as SessionState};
 ghost use Rattle.wm_store.specs.Spelled.{FitPages};
 
@@ -26,14 +30,25 @@ use wm_spec::record::{Savepoint, Space};
 /// The most savepoints of a workspace.
 pub const SAVEPOINT_LIMIT: usize = 4_096;
 
+/// The making of the savepoint that comes next.
+pub fn coming_making(image: &Image) -> u64
+    requires { keep_rules (parts_of image.now) ≡ true }
+    ensures { result ≡ making_behind (parts_of image.now).savepoints }
+{
+    image.next_making()
+}
+
 /// The savepoint of what is newest in a workspace.
-fn savepoint_of(image: &Image, moment: u64, space: &Space, name: Name) -> Savepoint {
+fn savepoint_of(image: &Image, moment: u64, space: &Space, name: Name) -> Savepoint
+    requires { keep_rules (parts_of image.now) ≡ true }
+    ensures { result ≡ saved_record (parts_of image.now) space.now moment name }
+{
     Savepoint {
         space: space.number,
         name,
         implicit: false,
         place: space.next_place,
-        making: image.next_making(),
+        making: coming_making(image),
         moment,
         version: image.latest(space.number),
         base_version: space.base_version,
@@ -51,7 +66,17 @@ fn save(
     space: &Space,
     place: u32,
     name: Name,
-) -> Result<Planned, Memory> {
+) -> Result<Planned, Memory>
+    requires rules { keep_rules (parts_of image.now) ≡ true }
+    requires moment { moment < END }
+    requires good { is_name name ≡ true }
+    requires there { space_of (parts_of image.now).spaces space.now.number ≡ Some space.now }
+    requires room { HasRoom (parts_of image.now) space.now name }
+    requires place { place ≡ space.now.next_place + 1 }
+    ensures does { IfOk result (λ p. (xs : List SessionState) (workspace : List ℕ) → SavesIn image.now workspace name space.now → DoesIt image.now xs moment p (create_savepoint workspace name)) }
+    ensures fit { IfOk result (λ p. FitPages p.changes) }
+    ensures few { IfOk result (λ p. ChangesFew image.now (applied p.changes image.now)) }
+{
     let Some(counters) = counted(&image.counters(), moment) else {
         return Ok(Planned::answered(alloc, at_its_end(alloc, b"WORK")?));
     };
@@ -73,7 +98,15 @@ fn save_in(
     moment: u64,
     space: &Space,
     name: Name,
-) -> Result<Planned, Memory> {
+) -> Result<Planned, Memory>
+    requires rules { keep_rules (parts_of image.now) ≡ true }
+    requires moment { moment < END }
+    requires good { is_name name ≡ true }
+    requires there { space_of (parts_of image.now).spaces space.now.number ≡ Some space.now }
+    ensures does { IfOk result (λ p. (xs : List SessionState) (workspace : List ℕ) → SavesIn image.now workspace name space.now → DoesIt image.now xs moment p (create_savepoint workspace name)) }
+    ensures fit { IfOk result (λ p. FitPages p.changes) }
+    ensures few { IfOk result (λ p. ChangesFew image.now (applied p.changes image.now)) }
+{
     if image.savepoint_named(space.number, name.as_bytes()).is_some() {
         return Ok(Planned::answered(alloc, savepoint_there(name)));
     }
@@ -98,6 +131,7 @@ pub fn create_savepoint(
     requires moment { moment < END }
     ensures does { IfOk result (λ p. (xs : List SessionState) → DoesIt image.now xs moment p (create_savepoint (unquoted workspace.now) (unquoted name.now))) }
     ensures fit { IfOk result (λ p. FitPages p.changes) }
+    ensures few { IfOk result (λ p. ChangesFew image.now (applied p.changes image.now)) }
 {
     let name = unquoted_of(alloc, name)?;
     if !is_name(name.as_bytes()) {
