@@ -1,3 +1,4 @@
 pub mod Working
+pub mod Stands
 pub mod Views
 pub mod Planning

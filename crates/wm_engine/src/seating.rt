@@ -1,6 +1,7 @@
 //! What becomes of the sessions.
 ghost use Rattle.std.specs.Prelude.{◌≡◌, ◌++◌, ◌∷◌, [], OnOk};
-ghost use Rattle.wm_engine.specs.Views.{seating_view, stand_view};
+ghost use Rattle.wm_engine.specs.Stands.{stand_view};
+ghost use Rattle.wm_engine.specs.Views.{seating_view};
 ghost use Rattle.wm_model.specs.Planning.{seated};
 ghost use Rattle.wm_model.specs.Step.{closed, moved_to};
 
@@ -35,10 +36,11 @@ fn close(sessions: &mut Vec<Session>, name: &Name)
 fn move_to(sessions: &mut [Session], name: &Name, space: u32, stand: Stand)
     ensures { sessions.new ≡ moved_to name.now space (stand_view stand) sessions.old }
 {
-    for session in sessions {
+    if let [session, rest @ ..] = sessions {
         if session.is_called(name) {
             session.go(space, stand);
         }
+        move_to(rest, name, space, stand);
     }
 }
 

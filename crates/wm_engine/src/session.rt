@@ -2,7 +2,7 @@
 ghost use Rattle.std.specs.Prelude.{◌≡◌};
 ghost use Rattle.std.specs.Option.{option_copied};
 ghost use Rattle.std.specs.Str.{bytes_eq};
-ghost use Rattle.wm_engine.specs.Views.{stand_view};
+ghost use Rattle.wm_engine.specs.Stands.{stand_view};
 ghost use Rattle.wm_model.specs.Step.{session_of};
 ghost use Rattle.wm_reader.specs.Views.{folded};
 ghost use Rattle.wm_state.specs.State.{Latest};
@@ -31,7 +31,7 @@ pub struct Session {
 }
 
 impl Model for Session {
-    ghost use Rattle.wm_engine.specs.Views.{stand_view};
+    ghost use Rattle.wm_engine.specs.Stands.{stand_view};
     ghost use Rattle.wm_state.specs.State.{Session as SessionState};
 
     ghost Value = { SessionState };
