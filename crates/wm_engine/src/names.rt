@@ -1,20 +1,29 @@
 //! Names that lines give to what they make.
-ghost use Rattle.std.specs.Prelude.{◌≡◌};
+ghost use Rattle.std.specs.Prelude.{◌≡◌, ◌&&◌, nat_le};
+ghost use Rattle.std.specs.List.{list_all};
 ghost use Rattle.wm_model.specs.Step.{is_name, names_no_savepoint, names_no_workspace};
 
 /// The most bytes that a name may have.
 const NAME_LIMIT: usize = 30;
 
 /// Whether the byte is plain: neither a control byte nor beyond ASCII.
-fn is_plain(byte: u8) -> bool {
+fn is_plain(byte: u8) -> bool
+    ensures { result ≡ (nat_le 32 byte && nat_le byte 126) }
+{
     (32..=126).contains(&byte)
+}
+
+fn are_plain(bytes: &[u8]) -> bool
+    ensures { result ≡ list_all (λ b. nat_le 32 b && nat_le b 126) bytes.now }
+{
+    bytes.iter().all(|byte| is_plain(*byte))
 }
 
 /// Whether these are 1 to 30 plain bytes.
 pub fn is_name(name: &[u8]) -> bool
     ensures { result ≡ is_name name.now }
 {
-    (1 <= name.len() && name.len() <= NAME_LIMIT) && name.iter().all(|byte| is_plain(*byte))
+    (1 <= name.len() && name.len() <= NAME_LIMIT) && are_plain(name)
 }
 
 /// Whether views show the name in place of a workspace's.
