@@ -29,7 +29,7 @@ under_test n (records.Version v) = refl
 under_test n _ = refl
 
 -- some of a kind passes a test
-any-kind : {A : Type 0} (kind : Record → Option A) (p : A → Bool) (q : Record → Bool) → Tests kind p q → (rs : List Record) → list_any q rs ≡ list_any p (filter_map kind rs)
+pub any-kind : {A : Type 0} (kind : Record → Option A) (p : A → Bool) (q : Record → Bool) → Tests kind p q → (rs : List Record) → list_any q rs ≡ list_any p (filter_map kind rs)
 any-kind kind p q tests [] = refl
 any-kind {A} kind p q tests (r ∷ rs) = by_kind (kind r) refl (tests r) (any-kind kind p q tests rs)
   where

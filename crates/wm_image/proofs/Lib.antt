@@ -14,3 +14,7 @@ pub mod Dropping
 pub mod Leaves
 pub mod Spans
 pub mod Gathering
+pub mod Firsts
+pub mod Lasts
+pub mod Saved
+pub mod Spaced

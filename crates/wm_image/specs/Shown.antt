@@ -1,5 +1,5 @@
 -- What is read of the records of some ids.
-use Rattle.std.specs.Prelude.{ℕ, Bool, not, ◌&&◌, ◌||◌, ◌==◌, nat_le, nat_lt, max, List, [], ◌∷◌, Option, Some, None}
+use Rattle.std.specs.Prelude.{ℕ, ◌+◌, Bool, not, ◌&&◌, ◌||◌, ◌==◌, nat_le, nat_lt, max, List, [], ◌∷◌, Option, Some, None}
 use Rattle.std.specs.Bool.{then_some}
 use Rattle.std.specs.List.{filter_map}
 use Rattle.std.specs.Option.{option_or}
@@ -53,3 +53,8 @@ passing p (Some x) = then_some (p x) x
 -- a workspace with a parent was born from the version or sees it under its own
 abbrev pub names : ℕ → Space → Bool
 names version r = not (r.number == 0) && ((r.birth_version == version) || (r.base_version == version))
+
+-- the number after the last, and another where there is none
+abbrev pub after : ℕ → Option ℕ → ℕ
+after none None = none
+after none (Some n) = n + 1

@@ -1,6 +1,6 @@
 //! Ids in ascending order.
 
-ghost use Rattle.std.specs.Prelude.{◌≡◌, ◌<◌, ◌≤◌, length, insert, remove, OnOk, IfNone, IfSome};
+ghost use Rattle.std.specs.Prelude.{◌≡◌, ◌<◌, ◌≤◌, ◌==◌, ◌&&◌, length, insert, remove, OnOk, IfNone, IfSome};
 ghost use Rattle.wm_image.specs.Sought.{head_of, placed, without};
 
 use wm_base::Memory;
@@ -58,4 +58,11 @@ pub fn first_id(ids: &[u64]) -> Option<u64>
         [] => None,
         [id, ..] => Some(*id),
     }
+}
+
+/// Whether there are none in any of three lists.
+pub fn are_empty(first: &[u64], second: &[u64], third: &[u64]) -> bool
+    ensures { result ≡ ((length first.now == 0) && ((length second.now == 0) && (length third.now == 0))) }
+{
+    first.is_empty() && second.is_empty() && third.is_empty()
 }

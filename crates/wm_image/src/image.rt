@@ -1,5 +1,5 @@
-ghost use Rattle.std.specs.Prelude.{◌≡◌, ◌<◌, ◌≤◌, ◌+◌, ◌^◌, ◌==◌, ℕ, not, List, map, [], ◌∷◌, true, false, None, option_map, is_some, IsSome, IfSome, IfNone, IfOk, IfErr, OnOk, OnErr};
-ghost use Rattle.std.specs.List.{find, list_any};
+ghost use Rattle.std.specs.Prelude.{◌≡◌, ◌<◌, ◌≤◌, ◌+◌, ◌^◌, ◌==◌, ◌||◌, nat_lt, ℕ, not, length, List, map, [], ◌∷◌, true, false, None, option_map, is_some, IsSome, IfSome, IfNone, IfOk, IfErr, OnOk, OnErr};
+ghost use Rattle.std.specs.List.{count_by, find, list_all, list_any};
 ghost use Rattle.std.specs.List.Sorted.{IsStrictlySortedBy};
 ghost use Rattle.std.specs.Ordering.{is_eq};
 ghost use Rattle.wm_base.specs.Key.{key_order};
@@ -17,18 +17,24 @@ ghost use Rattle.wm_spec.specs.Records.{AreRecords, record_at};
 ghost use Rattle.wm_image.specs.Sought.{PiecesAt, ids_with, is_sought};
 ghost use Rattle.wm_state.specs.Batches.{is_out, keeps};
 ghost use Rattle.wm_state.specs.ById.{Ascend, applied, by_id};
+ghost use Rattle.wm_image.specs.Shown.{names};
+ghost use Rattle.wm_spec.specs.declared.record.savepoint.Savepoint.{Savepoint as OneSavepoint};
+ghost use Rattle.wm_spec.specs.declared.record.space.Space.{Space as OneSpace};
+ghost use Rattle.wm_state.specs.Effects.{IsFree};
 ghost use Rattle.wm_state.specs.Listing.{IsListing};
-ghost use Rattle.wm_state.specs.Standing.{by_number, held_by, latest, seen};
+ghost use Rattle.wm_state.specs.Standing.{by_number, held_by, latest, saved_as, saved_in, seen};
 
-use crate::ids::first_id;
+use crate::ids::{are_empty, first_id};
 use crate::index::Index;
-use crate::keyed::{ids_of, ids_on, keys_on};
+use crate::keyed::{ids_of, ids_on, keys_on, last_key};
 use crate::kinds;
 use crate::laying::lay_path;
 use crate::listing::list_rows;
 use crate::load::{ImageFault, put_all, sorted};
 use crate::records::{Kept, at, change_all, first, next_id};
+use crate::savepoints::{making_after, savepoint_in, savepoint_of_name};
 use crate::shown::{latest_of, nearest, own_ids, version_at};
+use crate::spaces::{number_after, space_of_name};
 use crate::tables::{first_named, first_numbered, id_named};
 use std::alloc::Global;
 use std::collections::BTreeMap;
@@ -37,7 +43,7 @@ use wm_base::{Instant, Key, Memory, RowList};
 use wm_graph::keeps_rules;
 use wm_period::Pieces;
 use wm_spec::record::{
-    Batch, Counters, PieceRecord, Record, Records, RowRecord, Space, Table, Version,
+    Batch, Counters, PieceRecord, Record, Records, RowRecord, Savepoint, Space, Table, Version,
 };
 
 /// All records of a store, in the order of their ids, with an index of them.
@@ -172,6 +178,60 @@ impl Image {
         kinds::space_of(first(&self.kept, ids_of(&self.index.spaces, &number)))
     }
 
+    /// The workspace of a name.
+    pub fn space_named(&self, name: &[u8]) -> Option<&Space>
+        ensures { option_copied result ≡ find (λ (r : OneSpace). bytes_eq name.now r.name) (parts_of self.now).spaces }
+    {
+        space_of_name(&self.kept, self.index.all_spaces.as_slice(), name)
+    }
+
+    /// How many workspaces there are.
+    pub fn space_count(&self) -> usize
+        ensures { result ≡ length (parts_of self.now).spaces }
+    {
+        self.index.all_spaces.len()
+    }
+
+    /// The number after the greatest of a workspace, 0 where there is none.
+    pub fn next_space(&self) -> u64
+        ensures above { list_all (λ (r : OneSpace). nat_lt r.number result) (parts_of self.now).spaces ≡ true }
+        ensures last { (n : ℕ) → result ≡ n + 1 → is_some (space_of (parts_of self.now).spaces n) ≡ true }
+    {
+        number_after(last_key(&self.index.spaces))
+    }
+
+    /// The savepoint of a workspace and a name.
+    pub fn savepoint_named(&self, space: u32, name: &[u8]) -> Option<&Savepoint>
+        requires { keep_rules (parts_of self.now) ≡ true }
+        ensures { option_copied result ≡ find (λ (x : OneSavepoint). bytes_eq name.now x.name) (saved_in (parts_of self.now) space) }
+    {
+        savepoint_of_name(&self.kept, ids_of(&self.index.savepoints_of, &space), name)
+    }
+
+    /// The savepoint of a workspace and a making.
+    pub fn savepoint(&self, space: u32, making: u64) -> Option<&Savepoint>
+        ensures { option_copied result ≡ saved_as (parts_of self.now) space making }
+    {
+        savepoint_in(&self.kept, ids_of(&self.index.savepoints, &making), space)
+    }
+
+    /// How many savepoints a workspace has.
+    pub fn savepoint_count(&self, space: u32) -> usize
+        ensures { result ≡ count_by (λ (x : OneSavepoint). x.space == space) (parts_of self.now).savepoints }
+    {
+        ids_of(&self.index.savepoints_of, &space).len()
+    }
+
+    /// The making after the greatest of a savepoint, 1 where there is none.
+    pub fn next_making(&self) -> u64
+        requires { keep_rules (parts_of self.now) ≡ true }
+        ensures above { list_all (λ (x : OneSavepoint). nat_lt x.making result) (parts_of self.now).savepoints ≡ true }
+        ensures none { (parts_of self.now).savepoints ≡ [] → result ≡ 1 }
+        ensures last { (x : OneSavepoint) (xs : List OneSavepoint) → (parts_of self.now).savepoints ≡ x ∷ xs → list_any (λ (y : OneSavepoint). (y.making + 1) == result) (parts_of self.now).savepoints ≡ true }
+    {
+        making_after(last_key(&self.index.savepoints))
+    }
+
     /// The version of a number.
     pub fn version(&self, number: u64) -> Option<Version>
         ensures { result ≡ version_of (parts_of self.now).versions number }
@@ -191,6 +251,18 @@ impl Image {
         ensures { result ≡ not (list_any (λ (v : OneVersion). v.parent == version) (parts_of self.now).versions) }
     {
         ids_of(&self.index.versions_under, &version).is_empty()
+    }
+
+    /// Whether no savepoint keeps a version, and no workspace with a parent was born from it or sees it under its own.
+    pub fn is_free(&self, version: u64) -> bool
+        ensures exact { result ≡ not (list_any (λ (x : OneSavepoint). x.version == version) (parts_of self.now).savepoints || list_any (names version) (parts_of self.now).spaces) }
+        ensures free { result ≡ true → IsFree (parts_of self.now) version }
+    {
+        are_empty(
+            ids_of(&self.index.kept_as, &version),
+            ids_of(&self.index.born_as, &version),
+            ids_of(&self.index.seen_under, &version),
+        )
     }
 
     /// The piece that a version has at a moment for a key of a table: that of the nearest version on its path. Only

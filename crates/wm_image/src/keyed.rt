@@ -1,12 +1,14 @@
 //! Ids under keys.
 
 ghost use Rattle.std.specs.Prelude.{◌≡◌, ℕ, ◌==◌, ◌&&◌, List, [], ◌∷◌, ◌++◌, if◌then◌else◌, IfOk, OnOk};
+ghost use Rattle.std.specs.BTreeMap.{IsOrdered};
 ghost use Rattle.std.specs.List.Sorted.{IsStrictlySortedBy};
 ghost use Rattle.std.specs.Map.{keys_of};
+ghost use Rattle.std.specs.Option.{option_copied};
 ghost use Rattle.std.specs.Ordering.{is_eq};
 ghost use Rattle.wm_base.specs.Key.{key_order};
 ghost use Rattle.wm_base.specs.declared.value.Value.{Value};
-ghost use Rattle.wm_image.specs.Sought.{placed, without, ids_in, keyed_at, piece_ids, used};
+ghost use Rattle.wm_image.specs.Sought.{placed, without, ids_in, keyed_at, last_used, piece_ids, used};
 
 use crate::ids::{add_id, drop_id};
 use std::alloc::Global;
@@ -49,6 +51,20 @@ pub fn drop_from<K: Ord + Drop>(map: &mut Ids<K>, key: K, id: u64) -> Result<(),
         map.insert(key, ids)?;
     }
     Ok(())
+}
+
+/// The last key that has ids. A key that has none is not kept, so the very last is looked at alone.
+pub fn last_key<K: Ord>(map: &Ids<K>) -> Option<&K>
+    ensures last { option_copied result ≡ last_used map.now.entries }
+    ensures ordered { IsOrdered K.cmp map.now }
+{
+    let mut entries = map.iter();
+    while let Some((key, ids)) = entries.next_back() {
+        if !ids.is_empty() {
+            return Some(key);
+        }
+    }
+    None
 }
 
 /// The ids under a table and a key.

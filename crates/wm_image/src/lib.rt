@@ -10,7 +10,9 @@ pub mod laying;
 pub mod listing;
 pub mod load;
 pub mod records;
+pub mod savepoints;
 pub mod shown;
+pub mod spaces;
 pub mod tables;
 #[cfg(test)]
 mod tests;

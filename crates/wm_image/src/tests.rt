@@ -4,7 +4,7 @@ use std::test::Fail;
 use wm_base::{Instant, Key, Kind, Memory, Name, Value, Values};
 use wm_spec::record::{
     Batch, CellRange, Change, Changes, ColumnKind, Counters, FreezeMode, PieceRecord, Record,
-    Records, RowRecord, Space, Stored, Table, TableColumn, TableColumns, Version,
+    Records, RowRecord, Savepoint, Space, Stored, Table, TableColumn, TableColumns, Version,
 };
 
 fn live(alloc: Global) -> Result<Record, Memory> {
@@ -269,5 +269,104 @@ fn records_of_one_id_are_no_store(rt: HostRuntime) -> Result<(), Fail> {
 fn no_records_are_no_store(rt: HostRuntime) -> Result<(), Fail> {
     let alloc = rt.alloc();
     assert!(rt; Image::load(alloc, Records::new(alloc)).is_err());
+    Ok(())
+}
+
+/// A workspace in LIVE, born from version 1.
+fn child(alloc: Global) -> Result<Record, Memory> {
+    Ok(Record::Space(Space {
+        number: 4,
+        name: Name::copy_of(alloc, b"W")?,
+        parent: 0,
+        born: 0,
+        birth_version: 1,
+        birth_place: 1,
+        base_version: 1,
+        from: 0,
+        log_length: 0,
+        rebases: 0,
+        next_place: 1,
+        next_implicit: 1,
+        freeze: FreezeMode::Free,
+        writer: Name::copy_of(alloc, b"")?,
+    }))
+}
+
+fn savepoint(alloc: Global, making: u64, name: &[u8], version: u64) -> Result<Record, Memory> {
+    Ok(Record::Savepoint(Savepoint {
+        space: 0,
+        name: Name::copy_of(alloc, name)?,
+        implicit: false,
+        place: 0,
+        making,
+        moment: 0,
+        version,
+        base_version: 0,
+        from: 0,
+        log_length: 0,
+        rebases: 0,
+    }))
+}
+
+/// Two workspaces, and three versions in LIVE, of which savepoints keep the second.
+fn third_batch(alloc: Global) -> Result<Batch, Memory> {
+    let changes = vec![in alloc;
+        becomes(1, counters()),
+        becomes(2, live(alloc)?),
+        becomes(3, child(alloc)?),
+        becomes(4, version(1, 0)),
+        becomes(5, version(2, 1)),
+        becomes(6, version(3, 2)),
+        becomes(7, savepoint(alloc, 6, b"B", 2)?),
+        becomes(8, savepoint(alloc, 2, b"A", 2)?),
+    ]?;
+    Ok(batch_of(changes))
+}
+
+#[test]
+fn workspaces_are_found(rt: HostRuntime) -> Result<(), Fail> {
+    let alloc = rt.alloc();
+    let mut image = Image::new(alloc);
+    assert_eq!(rt; (image.space_count(), image.next_space()), (0, 0));
+    image.apply(alloc, third_batch(alloc)?)?;
+    assert_eq!(rt; (image.space_count(), image.next_space()), (2, 5));
+    let found = image.space_named(b"W").ok_or("a workspace")?;
+    assert_eq!(rt; found.number, 4);
+    assert!(rt; image.space_named(b"V").is_none());
+    assert_eq!(rt;
+        (image.is_free(1), image.is_free(2), image.is_free(3)),
+        (false, false, true)
+    );
+    Ok(())
+}
+
+#[test]
+fn savepoints_are_found(rt: HostRuntime) -> Result<(), Fail> {
+    let alloc = rt.alloc();
+    let mut image = Image::new(alloc);
+    image.apply(alloc, third_batch(alloc)?)?;
+    let found = image.savepoint(0, 2).ok_or("a savepoint")?;
+    assert_eq!(rt; found.name.as_bytes(), b"A".as_slice());
+    assert!(rt; image.savepoint(4, 2).is_none() && image.savepoint(0, 3).is_none());
+    assert_eq!(rt;
+        (image.savepoint_count(0), image.savepoint_count(4)),
+        (2, 0)
+    );
+    Ok(())
+}
+
+/// Where the rules are not looked at for want of memory there is no image.
+#[test]
+fn savepoints_are_named(rt: HostRuntime) -> Result<(), Fail> {
+    let alloc = rt.alloc();
+    let mut records = small_store(alloc)?;
+    records.push(stored(10, savepoint(alloc, 3, b"A", 2)?))?;
+    let Ok(image) = Image::load(alloc, records) else {
+        return Ok(());
+    };
+    let found = image.savepoint_named(0, b"A").ok_or("a savepoint")?;
+    assert_eq!(rt; (found.making, image.next_making()), (3, 4));
+    assert!(rt; image.savepoint_named(0, b"B").is_none());
+    assert!(rt; image.savepoint_named(1, b"A").is_none());
     Ok(())
 }

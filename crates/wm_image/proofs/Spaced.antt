@@ -1,0 +1,122 @@
+-- Workspaces by name, how many there are, and the versions that nothing names.
+use Rattle.std.proofs.Common.{◌≡◌, ℕ, ◌==◌, Bool, true, false, not, ◌&&◌, ◌||◌, eqb, List, [], ◌∷◌, length, Option, refl, ap, ◌∙◌, subst}
+use Rattle.std.specs.BTreeMap.{BTreeMap, IsOrdered}
+use Rattle.std.specs.List.{list_any}
+use Rattle.std.specs.Ordering.{nat_cmp}
+use Rattle.wm_graph.specs.Parts.{Parts, parts_of, as_savepoint, as_space}
+use Rattle.wm_spec.specs.declared.record.Record.TheVariants as records
+use Rattle.wm_spec.specs.declared.record.Record.{Record}
+use Rattle.wm_spec.specs.declared.record.savepoint.Savepoint.{Savepoint}
+use Rattle.wm_spec.specs.declared.record.space.Space.{Space}
+use Rattle.wm_spec.specs.declared.record.stored.Stored.{Stored}
+use Rattle.wm_state.specs.Effects.{IsFree}
+use Rattle.wm_state.proofs.Leaves.{free_of}
+use Rattle.wm_state.proofs.Tests.{either_false}
+use Rattle.wm_image.proofs.Finding.{Tests, space_test}
+use Rattle.wm_image.proofs.Firsts.{sought_kind, any_sought, count_sought, filter_all, count_all}
+use Rattle.wm_image.proofs.Lasts.{LastOf, has_ids, last-same, last_told}
+use Rattle.wm_image.proofs.Saved.{kept_test}
+use Rattle.wm_image.proofs.Using.{nil_told}
+use Rattle.wm_image.specs.Indexed.{IsIndexed, ids_at, listed}
+use Rattle.wm_image.specs.Shown.{kind_at, names}
+use Rattle.wm_image.specs.Sought.{Spaces, SpaceAt, KeptAs, BornAs, SeenUnder, is_nil, is_sought, last_used}
+use Rattle.wm_image.specs.declared.index.Index.{Index}
+
+-- ---- the tests
+
+spaces_test : Tests as_space (λ (r : Space). true) (is_sought Spaces)
+spaces_test (records.Space r) = refl
+spaces_test _ = refl
+
+-- a workspace with a parent was born from the version
+abbrev born : ℕ → Space → Bool
+born version r = not (r.number == 0) && (r.birth_version == version)
+
+-- a workspace with a parent sees the version under its own
+abbrev under : ℕ → Space → Bool
+under version r = not (r.number == 0) && (r.base_version == version)
+
+born_test : (n : ℕ) → Tests as_space (born n) (is_sought (BornAs n))
+born_test n (records.Space r) = refl
+born_test n _ = refl
+
+under_test : (n : ℕ) → Tests as_space (under n) (is_sought (SeenUnder n))
+under_test n (records.Space r) = refl
+under_test n _ = refl
+
+-- ---- all of them
+
+pub spaces_told : (kept : BTreeMap ℕ Record) (x : Index) → IsIndexed kept x → kind_at as_space (listed kept.entries) (ids_at x Spaces) ≡ (parts_of (listed kept.entries)).spaces
+unfolding parts_of
+spaces_told kept x is = sought_kind as_space (λ (r : Space). true) Spaces spaces_test kept x is ∙ filter_all (parts_of (listed kept.entries)).spaces
+
+pub spaces_counted : (kept : BTreeMap ℕ Record) (x : Index) → IsIndexed kept x → length (ids_at x Spaces) ≡ length (parts_of (listed kept.entries)).spaces
+unfolding parts_of
+spaces_counted kept x is = count_sought as_space (λ (r : Space). true) Spaces spaces_test kept x is ∙ count_all (parts_of (listed kept.entries)).spaces
+
+-- the number of a workspace
+abbrev pub is_numbered : Parts → ℕ → Bool
+is_numbered p q = list_any (λ (r : Space). r.number == q) p.spaces
+
+pub last_numbered : (kept : BTreeMap ℕ Record) (x : Index) → IsIndexed kept x → (ss : List Stored) → listed kept.entries ≡ ss → (o : Option ℕ) → IsOrdered nat_cmp x.spaces → o ≡ last_used x.spaces.entries
+    → LastOf (is_numbered (parts_of ss)) o
+unfolding parts_of
+last_numbered kept x is ss view o sorted last =
+    subst (λ (l : List Stored). LastOf (is_numbered (parts_of l)) o) view
+    (last-same (has_ids x.spaces.entries) (is_numbered (parts_of (listed kept.entries)))
+    (λ q. any_sought as_space (λ (r : Space). r.number == q) (SpaceAt q) (space_test q) kept x is) o
+    (last_told x.spaces o sorted last))
+
+-- ---- versions that nothing names
+
+names_split : (version : ℕ) (rs : List Space) → list_any (names version) rs ≡ (list_any (born version) rs || list_any (under version) rs)
+names_split version [] = refl
+names_split version (r ∷ rs) =
+    ap (λ b. names version r || b) (names_split version rs)
+    ∙ swap (not (r.number == 0)) (r.birth_version == version) (r.base_version == version) (list_any (born version) rs) (list_any (under version) rs)
+  where
+    swap : (a b c d e : Bool) → ((a && (b || c)) || (d || e)) ≡ (((a && b) || d) || ((a && c) || e))
+    swap true true c d e = refl
+    swap true false true true e = refl
+    swap true false true false e = refl
+    swap true false false d e = refl
+    swap false b c d e = refl
+
+none_of : (a b c : Bool) → (not a && (not b && not c)) ≡ not (a || (b || c))
+none_of true b c = refl
+none_of false true c = refl
+none_of false false c = refl
+
+is_empty : (ids : List ℕ) (b : Bool) → not (is_nil ids) ≡ b → eqb (length ids) 0 ≡ not b
+is_empty ids b e = nil_told ids ∙ twice (is_nil ids) ∙ ap not e
+  where
+    twice : (a : Bool) → a ≡ not (not a)
+    twice true = refl
+    twice false = refl
+
+-- no record of a savepoint and of a workspace names the version
+abbrev pub is_unnamed : Parts → ℕ → Bool
+is_unnamed p version = not (list_any (λ (x : Savepoint). x.version == version) p.savepoints || list_any (names version) p.spaces)
+
+free_told : (kept : BTreeMap ℕ Record) (x : Index) → IsIndexed kept x → (version : ℕ)
+    → (eqb (length (ids_at x (KeptAs version))) 0 && (eqb (length (ids_at x (BornAs version))) 0 && eqb (length (ids_at x (SeenUnder version))) 0)) ≡ is_unnamed (parts_of (listed kept.entries)) version
+unfolding parts_of
+free_told kept x is version =
+    rw (
+      is_empty (ids_at x (KeptAs version)) _ (any_sought as_savepoint (λ (y : Savepoint). y.version == version) (KeptAs version) (kept_test version) kept x is),
+      is_empty (ids_at x (BornAs version)) _ (any_sought as_space (born version) (BornAs version) (born_test version) kept x is),
+      is_empty (ids_at x (SeenUnder version)) _ (any_sought as_space (under version) (SeenUnder version) (under_test version) kept x is),
+      names_split version (parts_of (listed kept.entries)).spaces,
+    ) (none_of (list_any (λ (y : Savepoint). y.version == version) (parts_of (listed kept.entries)).savepoints) (list_any (born version) (parts_of (listed kept.entries)).spaces) (list_any (under version) (parts_of (listed kept.entries)).spaces))
+
+-- the same of lists that are those of the index
+pub free_by : (kept : BTreeMap ℕ Record) (x : Index) → IsIndexed kept x → (version : ℕ) (saved births bases : List ℕ) → saved ≡ ids_at x (KeptAs version) → births ≡ ids_at x (BornAs version) → bases ≡ ids_at x (SeenUnder version)
+    → ((length saved == 0) && ((length births == 0) && (length bases == 0))) ≡ is_unnamed (parts_of (listed kept.entries)) version
+free_by kept x is version saved births bases e f g = rw (e, f, g) (free_told kept x is version)
+
+pub free_where : (p : Parts) (version : ℕ) → is_unnamed p version ≡ true → IsFree p version
+free_where p version e = let two = either_false (list_any (λ (x : Savepoint). x.version == version) p.savepoints) (list_any (names version) p.spaces) (off _ e) in free_of p version two.0 two.1
+  where
+    off : (b : Bool) → not b ≡ true → b ≡ false
+    off true h = cc
+    off false h = refl
