@@ -6,7 +6,7 @@
 mod connect;
 //mod create;
 //mod enable;
-//mod going;
+mod going;
 pub mod line;
 mod listing;
 //mod saving;

@@ -13,7 +13,7 @@ ghost use Rattle.wm_store.specs.Spelled.{FitPages};
 //use crate::plan::bearing::create_workspace;
 //use crate::plan::create::create;
 //use crate::plan::enable::enable;
-//use crate::plan::going::{goto_savepoint, goto_workspace};
+use crate::plan::going::{goto_savepoint, goto_workspace};
 use crate::plan::listing::listing;
 //use crate::plan::saving::create_savepoint;
 use crate::planned::Planned;
@@ -51,8 +51,8 @@ fn run_statement(
 //            workspace,
 //            savepoint,
 //        } => create_savepoint(alloc, image, moment, workspace, savepoint),
-//        Statement::GotoWorkspace { workspace } => goto_workspace(alloc, image, session, workspace),
-//        Statement::GotoSavepoint { savepoint } => goto_savepoint(alloc, image, session, savepoint),
+        Statement::GotoWorkspace { workspace } => goto_workspace(alloc, image, session, workspace),
+        Statement::GotoSavepoint { savepoint } => goto_savepoint(alloc, image, session, savepoint),
         _ => Ok(Planned::answered(alloc, crate::refuse::not_built())),
     }
 }

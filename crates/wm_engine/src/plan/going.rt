@@ -1,0 +1,75 @@
+//! GotoWorkspace and GotoSavepoint.
+ghost use Rattle.std.specs.Prelude.{◌≡◌, ℕ, List, [], true, IfOk};
+ghost use Rattle.wm_engine.specs.Planning.{DoesIt};
+ghost use Rattle.wm_engine.specs.Stands.{stand_view};
+ghost use Rattle.wm_engine.specs.Views.{seating_view};
+ghost use Rattle.wm_engine.specs.declared.answer.Answer.TheVariants.{Fine};
+ghost use Rattle.wm_graph.specs.Parts.{parts_of};
+ghost use Rattle.wm_graph.specs.Rules.{keep_rules};
+ghost use Rattle.wm_model.specs.Planning.{Move};
+ghost use Rattle.wm_model.specs.Step.{goto_savepoint, goto_workspace};
+ghost use Rattle.wm_reader.specs.Reading.{unquoted};
+ghost use Rattle.wm_state.specs.State.{Session as SessionState};
+ghost use Rattle.wm_store.specs.Spelled.{FitPages};
+
+use crate::planned::Planned;
+use crate::refuse::{no_savepoint, no_workspace, not_built};
+use crate::seating::Seating;
+use crate::session::{Session, Stand};
+use std::alloc::Global;
+use wm_base::Memory;
+use wm_image::Image;
+use wm_reader::unquoted_of;
+
+/// Stands a session elsewhere.
+fn go(alloc: Global, session: &Session, space: u32, stand: Stand) -> Result<Planned, Memory>
+    ensures changes { IfOk result (λ p. p.changes ≡ []) }
+    ensures seating { IfOk result (λ p. seating_view p.seating ≡ Move session.now.name space (stand_view stand)) }
+    ensures answer { IfOk result (λ p. p.answer ≡ Fine) }
+{
+    let name = session.name().copy(alloc)?;
+    Ok(Planned::seated(alloc, Seating::Move { name, space, stand }))
+}
+
+/// GotoWorkspace stands the session in a workspace, at what is newest.
+pub fn goto_workspace(
+    alloc: Global,
+    image: &Image,
+    session: &Session,
+    name: &[u8],
+) -> Result<Planned, Memory>
+    requires rules { keep_rules (parts_of image.now) ≡ true }
+    ensures does { IfOk result (λ p. (xs : List SessionState) (m : ℕ) → DoesIt image.now xs m p (goto_workspace session.now (unquoted name.now))) }
+    ensures fit { IfOk result (λ p. FitPages p.changes) }
+{
+    let name = unquoted_of(alloc, name)?;
+    let Some(space) = image.space_named(name.as_bytes()) else {
+        return Ok(Planned::answered(alloc, no_workspace(name)));
+    };
+    go(alloc, session, space.number, Stand::Latest)
+}
+
+/// GotoSavepoint stands the session at a savepoint of its workspace, or at what is newest.
+pub fn goto_savepoint(
+    alloc: Global,
+    image: &Image,
+    session: &Session,
+    name: &[u8],
+) -> Result<Planned, Memory>
+    requires rules { keep_rules (parts_of image.now) ≡ true }
+    ensures does { IfOk result (λ p. (xs : List SessionState) (m : ℕ) → DoesIt image.now xs m p (goto_savepoint session.now (unquoted name.now))) }
+    ensures fit { IfOk result (λ p. FitPages p.changes) }
+{
+    let space = session.space();
+    if image.space(space).is_none() {
+        return Ok(Planned::answered(alloc, not_built()));
+    }
+    let name = unquoted_of(alloc, name)?;
+    if name.as_bytes() == b"LATEST".as_slice() {
+        return go(alloc, session, space, Stand::Latest);
+    }
+    let Some(savepoint) = image.savepoint_named(space, name.as_bytes()) else {
+        return Ok(Planned::answered(alloc, no_savepoint(name)));
+    };
+    go(alloc, session, space, Stand::At(savepoint.making))
+}
