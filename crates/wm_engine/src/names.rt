@@ -1,7 +1,9 @@
 //! Names that lines give to what they make.
 ghost use Rattle.std.specs.Prelude.{◌≡◌, ◌&&◌, nat_le};
 ghost use Rattle.std.specs.List.{list_all};
+ghost use Rattle.std.specs.Str.{bytes_eq};
 ghost use Rattle.wm_model.specs.Step.{is_name, names_no_savepoint, names_no_workspace};
+ghost use Rattle.wm_reader.specs.Grammar.{latest};
 
 /// The most bytes that a name may have.
 const NAME_LIMIT: usize = 30;
@@ -33,9 +35,16 @@ pub fn names_no_workspace(name: &[u8]) -> bool
     name == b"BASE".as_slice() || name == b"DiffBase".as_slice()
 }
 
+/// Whether the name stands for what is newest.
+pub fn is_latest(name: &[u8]) -> bool
+    ensures { result ≡ bytes_eq name.now latest }
+{
+    name == b"LATEST".as_slice()
+}
+
 /// Whether no savepoint is given the name by its own line.
 pub fn names_no_savepoint(name: &[u8]) -> bool
     ensures { result ≡ names_no_savepoint name.now }
 {
-    name == b"LATEST".as_slice() || name.starts_with(b"ICP-")
+    is_latest(name) || name.starts_with(b"ICP-")
 }

@@ -60,9 +60,9 @@ pub fn listing(
     if table.valid {
         return Ok(Planned::answered(alloc, not_built()));
     }
-    if image.space(session.space()).is_none() {
+    let Some(_) = image.space(session.space()) else {
         return Ok(Planned::answered(alloc, not_built()));
-    }
+    };
     let rows = image.listing(alloc, version_of(image, session), table.number)?;
     Ok(Planned::answered(alloc, Answer::Listing(rows)))
 }
