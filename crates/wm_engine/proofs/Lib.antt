@@ -1,5 +1,7 @@
 pub mod Planning
 pub mod Committing
+pub mod Fitting
+pub mod Writing
 pub mod Working
 pub mod Keeping
 pub mod Fresh

@@ -9,13 +9,13 @@ ghost use Rattle.wm_reader.specs.Views.{folded, statement_view};
 ghost use Rattle.wm_state.specs.State.{Session as SessionState};
 ghost use Rattle.wm_store.specs.Spelled.{FitPages};
 
-//use crate::plan::add_row::add_row;
-//use crate::plan::bearing::create_workspace;
-//use crate::plan::create::create;
-//use crate::plan::enable::enable;
+use crate::plan::add_row::add_row;
+use crate::plan::bearing::create_workspace;
+use crate::plan::create::create;
+use crate::plan::enable::enable;
 use crate::plan::going::{goto_savepoint, goto_workspace};
 use crate::plan::listing::listing;
-//use crate::plan::saving::create_savepoint;
+use crate::plan::saving::create_savepoint;
 use crate::planned::Planned;
 use crate::refuse::no_session;
 use crate::session::{Session, session_named};
@@ -38,22 +38,21 @@ fn run_statement(
     ensures fit { IfOk result (λ p. FitPages p.changes) }
 {
     match statement {
-//        Statement::Create { table, key, value } => create(alloc, image, moment, table, key, value),
-//        Statement::Enable { table, history } => enable(alloc, image, moment, table, history),
-//        Statement::Insert { table, key, value } => {
-//            add_row(alloc, image, moment, session, table, key, value)
-//        }
+        Statement::Create { table, key, value } => create(alloc, image, moment, table, key, value),
+        Statement::Enable { table, history } => enable(alloc, image, moment, table, history),
+        Statement::Insert { table, key, value } => {
+            add_row(alloc, image, moment, session, table, key, value)
+        }
         Statement::Select { table } => listing(alloc, image, session, table),
-//        Statement::CreateWorkspace { workspace } => {
-//            create_workspace(alloc, image, moment, session, workspace)
-//        }
-//        Statement::CreateSavepoint {
-//            workspace,
-//            savepoint,
-//        } => create_savepoint(alloc, image, moment, workspace, savepoint),
+        Statement::CreateWorkspace { workspace } => {
+            create_workspace(alloc, image, moment, session, workspace)
+        }
+        Statement::CreateSavepoint {
+            workspace,
+            savepoint,
+        } => create_savepoint(alloc, image, moment, workspace, savepoint),
         Statement::GotoWorkspace { workspace } => goto_workspace(alloc, image, session, workspace),
         Statement::GotoSavepoint { savepoint } => goto_savepoint(alloc, image, session, savepoint),
-        _ => Ok(Planned::answered(alloc, crate::refuse::not_built())),
     }
 }
 

@@ -1,0 +1,226 @@
+//! The records and the changes that lines make.
+ghost use Rattle.std.specs.Prelude.{◌≡◌, ◌+◌, ◌<◌, ◌≤◌, ◌^◌, ◌∷◌, [], ◌++◌, map, IfOk, OnOk};
+ghost use Rattle.wm_spec.specs.declared.record.Record.TheVariants as records;
+ghost use Rattle.wm_state.specs.Batches.{put, drop_one, create_batch, ready, savepoint_batch};
+ghost use Rattle.wm_state.specs.Effects.{longer, marked};
+
+use std::alloc::Global;
+use wm_base::Memory;
+use wm_spec::record::{
+    Change, Changes, Counters, PieceRecord, Record, RowRecord, Savepoint, Space, Table,
+    TableColumn, TableColumns, Version,
+};
+
+/// A record takes the place of the one of its id, or is new.
+fn put(id: u64, new: Record) -> Change
+    ensures { result ≡ put id new }
+{
+    Change {
+        id,
+        becomes: Some(new),
+    }
+}
+
+/// Drops the records of these ids.
+fn drop_all(changes: &mut Changes, ids: &[u64]) -> Result<(), Memory>
+    ensures { OnOk result (changes.new ≡ changes.old ++ map drop_one ids.now) }
+{
+    for id in ids {
+        changes.push(Change {
+            id: *id,
+            becomes: None,
+        })?;
+    }
+    Ok(())
+}
+
+/// What becomes of the counters and of a table.
+pub fn table_changes(
+    alloc: Global,
+    counters_id: u64,
+    counters: Counters,
+    id: u64,
+    table: Table,
+) -> Result<Changes, Memory>
+    ensures { IfOk result (λ changes. changes ≡ create_batch counters_id counters id table) }
+{
+    let mut changes = Changes::new(alloc);
+    changes.push(put(counters_id, Record::Counters(counters)))?;
+    changes.push(put(id, Record::Table(table)))?;
+    Ok(changes)
+}
+
+/// What is put for a row in the place of the records of some ids.
+pub fn row_changes(
+    alloc: Global,
+    counters_id: u64,
+    counters: Counters,
+    space_id: u64,
+    space: Space,
+    dropped: &[u64],
+    id: u64,
+    row: RowRecord,
+    piece: PieceRecord,
+) -> Result<Changes, Memory>
+    requires { id + 1 < 2 ^ 64 }
+    ensures { IfOk result (λ changes. changes ≡ put counters_id (records.Counters counters) ∷ put space_id (records.Space space) ∷ map drop_one dropped.now ++ put id (records.Row row) ∷ put (id + 1) (records.Piece piece) ∷ []) }
+{
+    let mut changes = Changes::new(alloc);
+    changes.push(put(counters_id, Record::Counters(counters)))?;
+    changes.push(put(space_id, Record::Space(space)))?;
+    drop_all(&mut changes, dropped)?;
+    changes.push(put(id, Record::Row(row)))?;
+    changes.push(put(id + 1, Record::Piece(piece)))?;
+    Ok(changes)
+}
+
+/// The same in a version more.
+pub fn row_changes_above(
+    alloc: Global,
+    counters_id: u64,
+    counters: Counters,
+    space_id: u64,
+    space: Space,
+    id: u64,
+    version: Version,
+    row: RowRecord,
+    piece: PieceRecord,
+) -> Result<Changes, Memory>
+    requires { id + 2 < 2 ^ 64 }
+    ensures { IfOk result (λ changes. changes ≡ put counters_id (records.Counters counters) ∷ put space_id (records.Space space) ∷ put (id + 1) (records.Row row) ∷ put (id + 1 + 1) (records.Piece piece) ∷ put id (records.Version version) ∷ []) }
+{
+    let mut changes = row_changes(
+        alloc,
+        counters_id,
+        counters,
+        space_id,
+        space,
+        &[],
+        id + 1,
+        row,
+        piece,
+    )?;
+    changes.push(put(id, Record::Version(version)))?;
+    Ok(changes)
+}
+
+/// A copy of a workspace.
+fn space_copy(alloc: Global, space: &Space) -> Result<Space, Memory>
+    ensures { IfOk result (λ new. new ≡ space.now) }
+{
+    let name = space.name.copy(alloc)?;
+    let writer = space.writer.copy(alloc)?;
+    Ok(Space {
+        number: space.number,
+        name,
+        parent: space.parent,
+        born: space.born,
+        birth_version: space.birth_version,
+        birth_place: space.birth_place,
+        base_version: space.base_version,
+        from: space.from,
+        log_length: space.log_length,
+        rebases: space.rebases,
+        next_place: space.next_place,
+        next_implicit: space.next_implicit,
+        freeze: space.freeze,
+        writer,
+    })
+}
+
+/// The workspace with a log that is longer by one.
+pub fn longer(alloc: Global, space: &Space) -> Result<Space, Memory>
+    requires { space.now.log_length + 1 < 2 ^ 64 }
+    ensures { IfOk result (λ new. new ≡ longer space.now) }
+{
+    let mut new = space_copy(alloc, space)?;
+    new.log_length += 1;
+    Ok(new)
+}
+
+/// The workspace, the next place and the next number of an implicit savepoint being these.
+pub fn marked(alloc: Global, place: u32, implicit: u32, space: &Space) -> Result<Space, Memory>
+    ensures { IfOk result (λ new. new ≡ marked place implicit space.now) }
+{
+    let mut new = space_copy(alloc, space)?;
+    new.next_place = place;
+    new.next_implicit = implicit;
+    Ok(new)
+}
+
+/// What is put for a savepoint of a workspace.
+pub fn savepoint_changes(
+    alloc: Global,
+    counters_id: u64,
+    counters: Counters,
+    space_id: u64,
+    space: Space,
+    id: u64,
+    savepoint: Savepoint,
+) -> Result<Changes, Memory>
+    ensures { IfOk result (λ changes. changes ≡ savepoint_batch counters_id counters space_id space id savepoint) }
+{
+    let mut changes = Changes::new(alloc);
+    changes.push(put(counters_id, Record::Counters(counters)))?;
+    changes.push(put(space_id, Record::Space(space)))?;
+    changes.push(put(id, Record::Savepoint(savepoint)))?;
+    Ok(changes)
+}
+
+/// What is put for a workspace that is born at a savepoint, beside what is put for that.
+pub fn birth_changes(
+    saved: Changes,
+    id: u64,
+    child: Space,
+    version: Version,
+) -> Result<Changes, Memory>
+    requires { id + 2 < 2 ^ 64 }
+    ensures { IfOk result (λ changes. changes ≡ saved ++ put (id + 1) (records.Space child) ∷ put (id + 2) (records.Version version) ∷ []) }
+{
+    let mut changes = saved;
+    changes.push(put(id + 1, Record::Space(child)))?;
+    changes.push(put(id + 2, Record::Version(version)))?;
+    Ok(changes)
+}
+
+/// A copy of a column.
+fn column_copy(alloc: Global, column: &TableColumn) -> Result<TableColumn, Memory>
+    ensures { IfOk result (λ new. new ≡ column.now) }
+{
+    let name = column.name.copy(alloc)?;
+    Ok(TableColumn {
+        name,
+        kind: column.kind,
+        size: column.size,
+        not_null: column.not_null,
+    })
+}
+
+/// A copy of some columns.
+fn column_copies(alloc: Global, columns: &TableColumns) -> Result<TableColumns, Memory>
+    ensures { IfOk result (λ new. new ≡ columns.now) }
+{
+    let mut copies = TableColumns::new(alloc);
+    for column in columns.as_slice() {
+        copies.push(column_copy(alloc, column)?)?;
+    }
+    Ok(copies)
+}
+
+/// The table, ready for rows, with or without its history.
+pub fn readied(alloc: Global, history: bool, table: &Table) -> Result<Table, Memory>
+    ensures { IfOk result (λ new. new ≡ ready history table.now) }
+{
+    let name = table.name.copy(alloc)?;
+    let columns = column_copies(alloc, &table.columns)?;
+    Ok(Table {
+        number: table.number,
+        name,
+        versioned: true,
+        valid: table.valid,
+        history,
+        has_key: table.has_key,
+        key_column: table.key_column,
+        columns,
+    })
+}

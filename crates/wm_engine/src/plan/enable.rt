@@ -1,0 +1,74 @@
+//! EnableVersioning.
+ghost use Rattle.std.specs.Prelude.{◌≡◌, ◌<◌, List, true, false, Some, IfOk};
+ghost use Rattle.wm_base.specs.declared.instant.TheConstants.{END};
+ghost use Rattle.wm_graph.specs.Parts.{parts_of};
+ghost use Rattle.wm_graph.specs.Rules.{keep_rules};
+ghost use Rattle.wm_model.specs.Planning.{named};
+ghost use Rattle.wm_model.specs.Step.{enable};
+ghost use Rattle.wm_state.specs.State.{Session as SessionState};
+ghost use Rattle.wm_store.specs.Spelled.{FitPages};
+ghost use Rattle.wm_engine.specs.Planning.{DoesIt};
+ghost use Rattle.wm_reader.specs.Views.{folded};
+
+use crate::answer::Answer;
+use crate::count::counted;
+use crate::plan::batch::{readied, table_changes};
+use crate::planned::Planned;
+use crate::refuse::{at_its_end, no_key, no_table, versioning};
+use std::alloc::Global;
+use wm_base::{Memory, Name};
+use wm_image::Image;
+use wm_reader::capitals_of;
+use wm_spec::record::Table;
+
+/// Makes a table that has a key, and is not ready yet, ready for rows.
+fn make_ready(
+    alloc: Global,
+    image: &Image,
+    moment: u64,
+    name: &Name,
+    history: bool,
+    table: &Table,
+) -> Result<Planned, Memory>
+    requires rules { keep_rules (parts_of image.now) ≡ true }
+    requires moment { moment < END }
+    requires named { named image.now name.now ≡ Some table.now }
+    requires off { table.now.versioned ≡ false }
+    requires key { table.now.has_key ≡ true }
+    ensures does { IfOk result (λ p. (xs : List SessionState) → DoesIt image.now xs moment p (enable name.now history)) }
+    ensures fit { IfOk result (λ p. FitPages p.changes) }
+{
+    let Some(counters) = counted(&image.counters(), moment) else {
+        return Ok(Planned::answered(alloc, at_its_end(alloc, b"WORK")?));
+    };
+    let id = image.id_of_table(name.as_bytes()).unwrap();
+    let new = readied(alloc, history, table)?;
+    let changes = table_changes(alloc, image.id_of_counters(), counters, id, new)?;
+    Ok(Planned::changing(changes, Answer::Fine))
+}
+
+/// EnableVersioning makes a table ready for rows, once, with or without its history.
+pub fn enable(
+    alloc: Global,
+    image: &Image,
+    moment: u64,
+    name: &[u8],
+    history: bool,
+) -> Result<Planned, Memory>
+    requires rules { keep_rules (parts_of image.now) ≡ true }
+    requires moment { moment < END }
+    ensures does { IfOk result (λ p. (xs : List SessionState) → DoesIt image.now xs moment p (enable (folded name.now) history)) }
+    ensures fit { IfOk result (λ p. FitPages p.changes) }
+{
+    let name = capitals_of(alloc, name)?;
+    let Some(table) = image.table(name.as_bytes()) else {
+        return Ok(Planned::answered(alloc, no_table(name)));
+    };
+    if table.versioned {
+        return Ok(Planned::answered(alloc, versioning(name, true)));
+    }
+    if !table.has_key {
+        return Ok(Planned::answered(alloc, no_key(name)));
+    }
+    make_ready(alloc, image, moment, &name, history, table)
+}

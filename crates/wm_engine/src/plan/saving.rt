@@ -1,0 +1,114 @@
+//! CreateSavepoint.
+ghost use Rattle.std.specs.Prelude.{◌≡◌, ◌<◌, ℕ, List, true, IfOk};
+ghost use Rattle.wm_base.specs.declared.instant.TheConstants.{END};
+ghost use Rattle.wm_engine.specs.Planning.{DoesIt};
+ghost use Rattle.wm_graph.specs.Parts.{parts_of};
+ghost use Rattle.wm_graph.specs.Rules.{keep_rules};
+ghost use Rattle.wm_model.specs.Step.{create_savepoint};
+ghost use Rattle.wm_reader.specs.Reading.{unquoted};
+ghost use Rattle.wm_state.specs.State.{Session as SessionState};
+ghost use Rattle.wm_store.specs.Spelled.{FitPages};
+
+use crate::answer::Answer;
+use crate::count::counted;
+use crate::names::{is_name, names_no_savepoint};
+use crate::plan::batch::{marked, savepoint_changes};
+use crate::planned::Planned;
+use crate::refuse::{
+    at_its_end, bad_name, most_savepoints, no_workspace, reserved_name, savepoint_there,
+};
+use std::alloc::Global;
+use wm_base::{Memory, Name};
+use wm_image::Image;
+use wm_reader::unquoted_of;
+use wm_spec::record::{Savepoint, Space};
+
+/// The most savepoints of a workspace.
+pub const SAVEPOINT_LIMIT: usize = 4_096;
+
+/// The savepoint of what is newest in a workspace.
+fn savepoint_of(image: &Image, moment: u64, space: &Space, name: Name) -> Savepoint {
+    Savepoint {
+        space: space.number,
+        name,
+        implicit: false,
+        place: space.next_place,
+        making: image.next_making(),
+        moment,
+        version: image.latest(space.number),
+        base_version: space.base_version,
+        from: space.from,
+        log_length: space.log_length,
+        rebases: space.rebases,
+    }
+}
+
+/// Keeps what is newest in a workspace under a new name, the next place being this one.
+fn save(
+    alloc: Global,
+    image: &Image,
+    moment: u64,
+    space: &Space,
+    place: u32,
+    name: Name,
+) -> Result<Planned, Memory> {
+    let Some(counters) = counted(&image.counters(), moment) else {
+        return Ok(Planned::answered(alloc, at_its_end(alloc, b"WORK")?));
+    };
+    let Some(id) = image.next_id() else {
+        return Err(Memory);
+    };
+    let savepoint = savepoint_of(image, moment, space, name);
+    let space_id = image.id_of_space(space.number).unwrap();
+    let counters_id = image.id_of_counters();
+    let space = marked(alloc, place, space.next_implicit, space)?;
+    let changes = savepoint_changes(alloc, counters_id, counters, space_id, space, id, savepoint)?;
+    Ok(Planned::changing(changes, Answer::Fine))
+}
+
+/// Keeps what is newest in a workspace under a name, where there is room.
+fn save_in(
+    alloc: Global,
+    image: &Image,
+    moment: u64,
+    space: &Space,
+    name: Name,
+) -> Result<Planned, Memory> {
+    if image.savepoint_named(space.number, name.as_bytes()).is_some() {
+        return Ok(Planned::answered(alloc, savepoint_there(name)));
+    }
+    if image.savepoint_count(space.number) >= SAVEPOINT_LIMIT {
+        return Ok(Planned::answered(alloc, most_savepoints()));
+    }
+    let Some(place) = space.next_place.checked_add(1) else {
+        return Ok(Planned::answered(alloc, at_its_end(alloc, b"PLACE")?));
+    };
+    save(alloc, image, moment, space, place, name)
+}
+
+/// CreateSavepoint keeps what is newest in a workspace under a name.
+pub fn create_savepoint(
+    alloc: Global,
+    image: &Image,
+    moment: u64,
+    workspace: &[u8],
+    name: &[u8],
+) -> Result<Planned, Memory>
+    requires rules { keep_rules (parts_of image.now) ≡ true }
+    requires moment { moment < END }
+    ensures does { IfOk result (λ p. (xs : List SessionState) → DoesIt image.now xs moment p (create_savepoint (unquoted workspace.now) (unquoted name.now))) }
+    ensures fit { IfOk result (λ p. FitPages p.changes) }
+{
+    let name = unquoted_of(alloc, name)?;
+    if !is_name(name.as_bytes()) {
+        return Ok(Planned::answered(alloc, bad_name()));
+    }
+    if names_no_savepoint(name.as_bytes()) {
+        return Ok(Planned::answered(alloc, reserved_name(name)));
+    }
+    let workspace = unquoted_of(alloc, workspace)?;
+    let Some(space) = image.space_named(workspace.as_bytes()) else {
+        return Ok(Planned::answered(alloc, no_workspace(workspace)));
+    };
+    save_in(alloc, image, moment, space, name)
+}

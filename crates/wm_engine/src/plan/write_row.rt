@@ -1,0 +1,198 @@
+//! A row that is written into a workspace.
+ghost use Rattle.std.specs.Prelude.{◌≡◌, ◌+◌, ◌<◌, ◌≤◌, ◌^◌, ◌∷◌, [], ℕ, List, nat_lt, true, false, None, Some, is_some, IfOk};
+ghost use Rattle.wm_base.specs.declared.instant.TheConstants.{END};
+ghost use Rattle.wm_base.specs.declared.value.Value.TheVariants.{Num};
+ghost use Rattle.wm_graph.specs.Parts.{parts_of};
+ghost use Rattle.wm_model.specs.Planning.{moved, named, row_values};
+ghost use Rattle.wm_model.specs.Step.{add_row, counter_limit, line_work};
+ghost use Rattle.wm_spec.specs.Records.{record_at};
+ghost use Rattle.wm_state.specs.Effects.{IsFree, IsLeaf};
+ghost use Rattle.wm_state.specs.Standing.{latest, newest_first};
+ghost use Rattle.wm_state.specs.State.{Session as SessionState};
+ghost use Rattle.wm_store.specs.Spelled.{FitPages};
+ghost use Rattle.wm_engine.specs.Planning.{DoesIt, MayWrite};
+
+use crate::answer::Answer;
+use crate::count::counted;
+use crate::plan::batch::{longer, row_changes, row_changes_above};
+use crate::planned::Planned;
+use crate::refuse::at_its_end;
+use crate::session::Session;
+use std::alloc::Global;
+use wm_base::{END, Key, Kind, Memory, Value, Values};
+use wm_image::Image;
+use wm_spec::record::{CellRange, Counters, PieceRecord, RowRecord, Space, Table, Version};
+
+/// The greatest id that leaves room for two more.
+const ID_LIMIT: u64 = u64::MAX - 2;
+
+/// A row to be written, with what was looked up for it.
+#[derive(Drop)]
+pub struct Writing<'a> {
+    pub table: &'a Table,
+    pub space: &'a Space,
+    pub counters: Counters,
+}
+
+/// A row of two numbers.
+fn row_of(alloc: Global, stamp: u64, table: u16, key: i64, value: i64) -> Result<RowRecord, Memory>
+    ensures { IfOk result (λ row. row ≡ record { stamp = stamp; table = table; values = row_values key value }) }
+{
+    let mut values = Values::new(alloc);
+    values.push(Value::Num(key))?;
+    values.push(Value::Num(value))?;
+    Ok(RowRecord {
+        stamp,
+        table,
+        values,
+    })
+}
+
+/// What a version holds for a key at all moments, once a row was inserted.
+fn piece_of(version: u64, table: u16, key: Key, stamp: u64) -> PieceRecord
+    ensures { result ≡ record { version = version; cells = record { table = table; key = key; from = 0; till = END }; stamp = stamp; kind = Kind.Insert; gone = false } }
+{
+    PieceRecord {
+        version,
+        cells: CellRange {
+            table,
+            key,
+            from: 0,
+            till: END,
+        },
+        stamp,
+        kind: Kind::Insert,
+        gone: false,
+    }
+}
+
+/// Writes a row into the newest version of the session's workspace, under which none stands and which nothing names.
+fn write_here(
+    alloc: Global,
+    image: &Image,
+    moment: u64,
+    session: &Session,
+    writing: &Writing<'_>,
+    key: i64,
+    value: i64,
+    counters: Counters,
+    id: u64,
+) -> Result<Planned, Memory>
+    requires may { MayWrite image.now session.now moment writing.now.table.now writing.now.space.now writing.now.counters key value }
+    requires counters { counters ≡ moved writing.now.counters moment }
+    requires work { nat_lt counter_limit (writing.now.counters.work + line_work) ≡ false }
+    requires leaf { IsLeaf (latest (parts_of image.now) session.now.space) (newest_first (parts_of image.now).versions) }
+    requires free { IsFree (parts_of image.now) (latest (parts_of image.now) session.now.space) }
+    requires ids { (i : ℕ) → id ≤ i → record_at image.now i ≡ None }
+    requires room { id + 2 < 2 ^ 64 }
+    ensures does { IfOk result (λ p. (xs : List SessionState) (name : List ℕ) → named image.now name ≡ Some writing.now.table.now → DoesIt image.now xs moment p (add_row session.now name key value)) }
+    ensures fit { IfOk result (λ p. FitPages p.changes) }
+{
+    let version = image.latest(session.space());
+    let stamp = writing.counters.next_stamp;
+    let table = writing.table.number;
+    let row_key = Key::single(alloc, Value::Num(key))?;
+    let dropped = image.pieces_in(alloc, version, table, &row_key)?;
+    let row = row_of(alloc, stamp, table, key, value)?;
+    let piece = piece_of(version, table, row_key, stamp);
+    let space = longer(alloc, writing.space)?;
+    let space_id = image.id_of_space(session.space()).unwrap();
+    let counters = Counters {
+        next_stamp: stamp + 1,
+        ..counters
+    };
+    let changes = row_changes(
+        alloc,
+        image.id_of_counters(),
+        counters,
+        space_id,
+        space,
+        dropped.as_slice(),
+        id,
+        row,
+        piece,
+    )?;
+    Ok(Planned::changing(changes, Answer::Done(1)))
+}
+
+/// Writes a row into a version more of the session's workspace.
+fn write_above(
+    alloc: Global,
+    image: &Image,
+    moment: u64,
+    session: &Session,
+    writing: &Writing<'_>,
+    key: i64,
+    value: i64,
+    counters: Counters,
+    id: u64,
+) -> Result<Planned, Memory>
+    requires may { MayWrite image.now session.now moment writing.now.table.now writing.now.space.now writing.now.counters key value }
+    requires counters { counters ≡ moved writing.now.counters moment }
+    requires work { nat_lt counter_limit (writing.now.counters.work + line_work) ≡ false }
+    requires ids { (i : ℕ) → id ≤ i → record_at image.now i ≡ None }
+    requires room { id + 2 < 2 ^ 64 }
+    ensures does { IfOk result (λ p. (xs : List SessionState) (name : List ℕ) → named image.now name ≡ Some writing.now.table.now → DoesIt image.now xs moment p (add_row session.now name key value)) }
+    ensures fit { IfOk result (λ p. FitPages p.changes) }
+{
+    let version = Version {
+        number: writing.counters.next_version,
+        space: session.space(),
+        parent: image.latest(session.space()),
+    };
+    let stamp = writing.counters.next_stamp;
+    let table = writing.table.number;
+    let row_key = Key::single(alloc, Value::Num(key))?;
+    let row = row_of(alloc, stamp, table, key, value)?;
+    let piece = piece_of(version.number, table, row_key, stamp);
+    let space = longer(alloc, writing.space)?;
+    let space_id = image.id_of_space(session.space()).unwrap();
+    let counters = Counters {
+        next_stamp: stamp + 1,
+        next_version: version.number + 1,
+        ..counters
+    };
+    let changes = row_changes_above(
+        alloc,
+        image.id_of_counters(),
+        counters,
+        space_id,
+        space,
+        id,
+        version,
+        row,
+        piece,
+    )?;
+    Ok(Planned::changing(changes, Answer::Done(1)))
+}
+
+/// Writes a row into the session's workspace: into its newest version, or into a version more where another stands under that
+/// one or a savepoint or a workspace names it.
+pub fn write_row(
+    alloc: Global,
+    image: &Image,
+    moment: u64,
+    session: &Session,
+    writing: &Writing<'_>,
+    key: i64,
+    value: i64,
+) -> Result<Planned, Memory>
+    requires may { MayWrite image.now session.now moment writing.now.table.now writing.now.space.now writing.now.counters key value }
+    ensures does { IfOk result (λ p. (xs : List SessionState) (name : List ℕ) → named image.now name ≡ Some writing.now.table.now → DoesIt image.now xs moment p (add_row session.now name key value)) }
+    ensures fit { IfOk result (λ p. FitPages p.changes) }
+{
+    let Some(counters) = counted(&writing.counters, moment) else {
+        return Ok(Planned::answered(alloc, at_its_end(alloc, b"WORK")?));
+    };
+    let Some(id) = image.next_id() else {
+        return Err(Memory);
+    };
+    if id >= ID_LIMIT {
+        return Err(Memory);
+    }
+    let version = image.latest(session.space());
+    if image.is_leaf(version) && image.is_free(version) {
+        return write_here(alloc, image, moment, session, writing, key, value, counters, id);
+    }
+    write_above(alloc, image, moment, session, writing, key, value, counters, id)
+}
