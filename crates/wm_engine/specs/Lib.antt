@@ -1,4 +1,5 @@
 pub mod Working
+pub mod Stands
 pub mod Views
 pub mod Planning
 pub mod Forks
