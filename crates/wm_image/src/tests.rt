@@ -310,15 +310,21 @@ fn savepoint(alloc: Global, making: u64, name: &[u8], version: u64) -> Result<Re
     }))
 }
 
-/// Two workspaces, and three versions in LIVE, of which savepoints keep the second.
-fn third_batch(alloc: Global) -> Result<Batch, Memory> {
+/// Two workspaces, and three versions in LIVE.
+fn spaces_batch(alloc: Global) -> Result<Batch, Memory> {
     let changes = vec![in alloc;
-        becomes(1, counters()),
         becomes(2, live(alloc)?),
         becomes(3, child(alloc)?),
         becomes(4, version(1, 0)),
         becomes(5, version(2, 1)),
         becomes(6, version(3, 2)),
+    ]?;
+    Ok(batch_of(changes))
+}
+
+/// Two savepoints that keep the second version.
+fn savepoints_batch(alloc: Global) -> Result<Batch, Memory> {
+    let changes = vec![in alloc;
         becomes(7, savepoint(alloc, 6, b"B", 2)?),
         becomes(8, savepoint(alloc, 2, b"A", 2)?),
     ]?;
@@ -330,7 +336,8 @@ fn workspaces_are_found(rt: HostRuntime) -> Result<(), Fail> {
     let alloc = rt.alloc();
     let mut image = Image::new(alloc);
     assert_eq!(rt; (image.space_count(), image.next_space()), (0, 0));
-    image.apply(alloc, third_batch(alloc)?)?;
+    image.apply(alloc, spaces_batch(alloc)?)?;
+    image.apply(alloc, savepoints_batch(alloc)?)?;
     assert_eq!(rt; (image.space_count(), image.next_space()), (2, 5));
     let found = image.space_named(b"W").ok_or("a workspace")?;
     assert_eq!(rt; found.number, 4);
@@ -346,7 +353,8 @@ fn workspaces_are_found(rt: HostRuntime) -> Result<(), Fail> {
 fn savepoints_are_found(rt: HostRuntime) -> Result<(), Fail> {
     let alloc = rt.alloc();
     let mut image = Image::new(alloc);
-    image.apply(alloc, third_batch(alloc)?)?;
+    image.apply(alloc, spaces_batch(alloc)?)?;
+    image.apply(alloc, savepoints_batch(alloc)?)?;
     let found = image.savepoint(0, 2).ok_or("a savepoint")?;
     assert_eq!(rt; found.name.as_bytes(), b"A".as_slice());
     assert!(rt; image.savepoint(4, 2).is_none() && image.savepoint(0, 3).is_none());
