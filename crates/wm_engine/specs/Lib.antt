@@ -3,3 +3,4 @@ pub mod Stands
 pub mod Views
 pub mod Planning
 pub mod Forks
+pub mod Points
