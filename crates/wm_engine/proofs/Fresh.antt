@@ -1,19 +1,15 @@
 -- A store that was just made stands for a state in which nothing was done.
-use Rattle.std.proofs.Common.{◌≡◌, ℕ, ◌+◌, ◌<◌, ◌≤◌, ◌==◌, nat_le, Bool, true, false, cond, List, [], ◌∷◌, ◌++◌, map, Option, Some, None, is_some, refl, sym, ap, ◌∙◌, arith}
+use Rattle.std.proofs.Common.{◌≡◌, ℕ, ◌+◌, ◌<◌, ◌≤◌, ◌==◌, nat_le, Bool, true, false, cond, [], ◌∷◌, map, Option, Some, None, is_some, refl, sym, ap, ◌∙◌, arith}
 use Rattle.std.proofs.lemmas.Bool.Decides.{nat_tests}
 use Rattle.std.specs.Option.{option_map}
-use Rattle.wm_base.specs.declared.row.Row.{Row}
-use Rattle.wm_graph.specs.Parts.{Parts, parts_of, row_of, space_of}
+use Rattle.wm_graph.specs.Parts.{Parts, parts_of, space_of}
 use Rattle.wm_graph.specs.Rules.{keep_rules, are_counters}
 use Rattle.wm_period.specs.Pieces.{Held}
-use Rattle.wm_spec.specs.Lists.{Cell, Told, told, touched}
-use Rattle.wm_spec.specs.declared.record.row.RowRecord.{RowRecord}
+use Rattle.wm_spec.specs.Lists.{Cell, Told, told}
 use Rattle.wm_spec.specs.declared.record.savepoint.Savepoint.{Savepoint as Record}
-use Rattle.wm_spec.specs.declared.record.space.Space.{Space}
-use Rattle.wm_spec.specs.declared.record.version.Version.{Version}
 use Rattle.wm_state.specs.ById.{by_id}
-use Rattle.wm_state.specs.State.{State, Workspace, Savepoint, content, fresh, fresh_live, savepoint_made, savepoints_of, workspace_of}
-use Rattle.wm_state.specs.Standing.{Stands, fields_of, fields_in, fields_saved, held_of, seen_at, own_at, shown, owned, latest}
+use Rattle.wm_state.specs.State.{Workspace, Savepoint, content, fresh, fresh_live, savepoint_made, savepoints_of, workspace_of}
+use Rattle.wm_state.specs.Standing.{Stands, fields_of, fields_in, fields_saved, held_of, shown, owned, latest}
 use Rattle.wm_store.specs.Fresh.{fresh_records, fresh_counters, live, first_version}
 
 -- the records of a store that was just made
