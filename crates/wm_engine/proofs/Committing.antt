@@ -1,12 +1,12 @@
 -- What a commit makes of the records that an engine keeps over its store.
-use Rattle.std.proofs.Common.{◌≡◌, ℕ, List, [], ◌⊎◌, inl, inr, ap, sym, ◌∙◌, subst, refl}
-use Rattle.wm_spec.specs.Records.{AreRecords, AreChanges, AfterBatch}
+use Rattle.std.proofs.Common.{◌≡◌, ℕ, List, [], ◌⊎◌, inl, inr, ap, sym, ◌∙◌, refl}
+use Rattle.wm_spec.specs.Records.{AreChanges, AfterBatch}
 use Rattle.wm_spec.specs.declared.record.batch.Change.{Change}
 use Rattle.wm_spec.specs.declared.record.stored.Stored.{Stored}
 use Rattle.wm_state.specs.ById.{by_id, applied}
 use Rattle.wm_state.proofs.Batches.{after_batch}
-use Rattle.wm_station.specs.History.{History, now, said, Leaves}
-use Rattle.wm_station.specs.Moments.{Holds, Ended, During, Silent}
+use Rattle.wm_station.specs.History.{History, now}
+use Rattle.wm_station.specs.Moments.{Holds, Ended, Silent}
 use Rattle.wm_station.proofs.Steps.{during_begun, weaken}
 use Rattle.wm_store.specs.Opened.{Held}
 use Rattle.wm_store.specs.Stores.{IsStoreOf, OldOrAfter}

@@ -1,23 +1,20 @@
 -- A store that was just made stands for a state in which nothing was done.
-use Rattle.std.proofs.Common.{◌≡◌, ℕ, ◌+◌, ◌≤◌, ◌==◌, nat_le, Bool, true, false, cond, List, [], ◌∷◌, ◌++◌, Option, Some, None, is_some, refl, sym, ap, ◌∙◌, arith}
+use Rattle.std.proofs.Common.{◌≡◌, ℕ, ◌+◌, ◌<◌, ◌≤◌, ◌==◌, nat_le, Bool, true, false, cond, [], ◌∷◌, map, Option, Some, None, is_some, refl, sym, ap, ◌∙◌, arith}
 use Rattle.std.proofs.lemmas.Bool.Decides.{nat_tests}
 use Rattle.std.specs.Option.{option_map}
-use Rattle.wm_base.specs.declared.row.Row.{Row}
-use Rattle.wm_graph.specs.Parts.{Parts, parts_of, row_of, space_of}
+use Rattle.wm_graph.specs.Parts.{Parts, parts_of, space_of}
 use Rattle.wm_graph.specs.Rules.{keep_rules, are_counters}
 use Rattle.wm_period.specs.Pieces.{Held}
-use Rattle.wm_spec.specs.Lists.{Cell, Told, told, touched}
-use Rattle.wm_spec.specs.declared.record.row.RowRecord.{RowRecord}
-use Rattle.wm_spec.specs.declared.record.space.Space.{Space}
-use Rattle.wm_spec.specs.declared.record.version.Version.{Version}
+use Rattle.wm_spec.specs.Lists.{Cell, Told, told}
+use Rattle.wm_spec.specs.declared.record.savepoint.Savepoint.{Savepoint as Record}
 use Rattle.wm_state.specs.ById.{by_id}
-use Rattle.wm_state.specs.State.{State, Workspace, content, fresh, fresh_live, workspace_of}
-use Rattle.wm_state.specs.Standing.{Stands, fields_of, fields_in, held_of, seen_at, own_at, shown, owned, latest}
+use Rattle.wm_state.specs.State.{Workspace, Savepoint, content, fresh, fresh_live, savepoint_made, savepoints_of, workspace_of}
+use Rattle.wm_state.specs.Standing.{Stands, fields_of, fields_in, fields_saved, held_of, shown, owned, latest}
 use Rattle.wm_store.specs.Fresh.{fresh_records, fresh_counters, live, first_version}
 
 -- the records of a store that was just made
 abbrev pub fresh_parts : ℕ → Parts
-fresh_parts limit = record { counters = fresh_counters limit ∷ []; tables = []; spaces = live ∷ []; versions = first_version ∷ []; rows = []; pieces = [] }
+fresh_parts limit = record { counters = fresh_counters limit ∷ []; tables = []; spaces = live ∷ []; versions = first_version ∷ []; savepoints = []; rows = []; pieces = []; hists = [] }
 
 -- without pieces nothing is seen
 seen_none : (limit n : ℕ) (c : Cell) → shown (fresh_parts limit) n c ≡ None
@@ -65,6 +62,33 @@ fields_same limit n = by_test (0 == n)
     by_test true = refl
     by_test false = refl
 
+-- and no other workspace
+alone : (n : ℕ) (w : Workspace) → 0 < n → workspace_of (fresh_live ∷ []) n ≡ Some w → ⊥
+alone n w some found = none_some (rw (away n some) at found)
+  where
+    away : (m : ℕ) → 0 < m → (0 == m) ≡ false
+    away m lt = grind (arith, nat_tests, lt)
+
+    none_some : (let nothing : Option Workspace = None in nothing) ≡ Some w → ⊥
+    none_some e = cc
+
+-- nor a savepoint
+none_saved : (n : ℕ) → [] ≡ map fields_saved (savepoints_of (fresh_live ∷ []) n)
+none_saved n = by_space (workspace_of (fresh_live ∷ []) n) refl
+  where
+    by_space : (o : Option Workspace) → workspace_of (fresh_live ∷ []) n ≡ o → [] ≡ map fields_saved (savepoints_of (fresh_live ∷ []) n)
+    by_space None e = rw e refl
+    by_space (Some w) e = rw e (ap (λ (v : Workspace). map fields_saved v.savepoints) (sym (only_live n w e)))
+
+no_record : (x : Record) → (let nothing : Option Record = None in nothing) ≡ Some x → ⊥
+no_record x e = cc
+
+none_made : (n making : ℕ) (w : Workspace) (k : Savepoint) → workspace_of (fresh_live ∷ []) n ≡ Some w → savepoint_made making w.savepoints ≡ Some k → ⊥
+none_made n making w k is made = none_some (ap (λ (v : Workspace). savepoint_made making v.savepoints) (sym (only_live n w is)) ∙ made)
+  where
+    none_some : (let nothing : Option Savepoint = None in nothing) ≡ Some k → ⊥
+    none_some e = cc
+
 counted : (limit : ℕ) → 1 ≤ limit → limit ≤ 1048576 → are_counters (fresh_counters limit) ≡ true
 counted limit some most = rw (one limit some, few limit most, next limit) refl
   where
@@ -84,9 +108,19 @@ fresh_stands limit some most = record {
   counters = record { counters = fresh_counters limit; one = refl; next_stamp = refl; last_moment = refl; limit = refl; work = refl };
   tables = record { same = refl };
   spaces = record { same = fields_same limit };
+  once = record { numbers = refl; count = refl };
   latest = record { told = λ n w is c. seen_none limit n c ∙ ap (option_map held_of) (sym (told_none w c (only_live n w is))) };
   own = record { covered = λ n w r is found c. rw (only_live n w is) (ap is_some (own_none limit n r.base_version c)) };
-  rows = record { there = λ n w is c t row e h. absurd (none_told t (told (content w) c) (told_none w c (only_live n w is)) e) };
+  savepoints = record { same = λ n. none_saved n };
+  kept = record { told = λ n making w k x is made recorded c. absurd (no_record x recorded) };
+  kept_own = record { covered = λ n making w k x is made recorded same c. absurd (no_record x recorded) };
+  bases = record { birth = λ n w r some is found c. absurd (alone n w some is); base = λ n w r some is found c. absurd (alone n w some is) };
+  rows = record {
+    there = λ n w is c t row e h. absurd (none_told t (told (content w) c) (told_none w c (only_live n w is)) e);
+    births = λ n w is c t row e h. absurd (none_told t (told w.lists.at_birth c) (ap (λ (v : Workspace). told v.lists.at_birth c) (only_live n w is)) e);
+    bases = λ n w is c t row e h. absurd (none_told t (told w.lists.base c) (ap (λ (v : Workspace). told v.lists.base c) (only_live n w is)) e);
+    saved = λ n making w k is made c t row e h. absurd (none_made n making w k is made);
+  };
 }
   where
     none_told : (t : Told) (o : Option Told) → o ≡ None → o ≡ Some t → ⊥

@@ -9,7 +9,7 @@ use Rattle.wm_spec.specs.declared.record.stored.Stored.{Stored}
 use Rattle.wm_state.specs.ById.{applied}
 use Rattle.wm_state.specs.State.{State, Session}
 use Rattle.wm_station.specs.History.{History}
-use Rattle.wm_station.specs.Moments.{Holds, Ended}
+use Rattle.wm_station.specs.Moments.{Ended}
 use Rattle.wm_store.specs.declared.store.Store.{Store}
 use Rattle.wm_engine.proofs.Committing.{ended_begun, ended_weaken, holds_weaken}
 use Rattle.wm_engine.proofs.Working.{file_stands}

@@ -1,5 +1,5 @@
 -- What a store that was opened stands for.
-use Rattle.std.proofs.Common.{◌≡◌, ℕ, ◌<◌, ◌==◌, ◌&&◌, nat_lt, nat_le, ◌+◌, ◌^◌, max, Bool, true, false, List, [], ◌∷◌, Result, Ok, Err, refl, sym, ap, subst, ◌∙◌, arith}
+use Rattle.std.proofs.Common.{◌≡◌, ℕ, ◌<◌, ◌&&◌, nat_lt, nat_le, ◌+◌, ◌^◌, max, Bool, true, false, List, [], ◌∷◌, Result, Ok, refl, sym, ap, subst, ◌∙◌, arith}
 use Rattle.std.proofs.lemmas.Bool.Decides.{nat_tests}
 use Rattle.wm_base.specs.declared.fault.Damage.{Damage}
 use Rattle.wm_base.specs.declared.fault.Damage.TheVariants.{Graph}

@@ -1,14 +1,14 @@
 -- An engine that works over a station, and what its file stands for.
-use Rattle.std.proofs.Common.{◌≡◌, ℕ, List, sym, ◌∙◌, subst}
+use Rattle.std.proofs.Common.{ℕ, List, subst}
 use Rattle.wm_graph.specs.Parts.{parts_of}
 use Rattle.wm_spec.specs.declared.record.stored.Stored.{Stored}
 use Rattle.wm_state.specs.State.{State}
 use Rattle.wm_state.specs.Standing.{Stands}
-use Rattle.wm_station.specs.History.{History, now, said, Leaves, Said}
+use Rattle.wm_station.specs.History.{History, Said}
 use Rattle.wm_station.specs.Moments.{Holds}
 use Rattle.wm_store.proofs.Holding.{store_said}
 use Rattle.wm_engine.proofs.Committing.{holds_weaken}
-use Rattle.wm_engine.specs.Working.{Engaged, FileStands, HoldsSorted, KeepsOver, StandsFor, WorksOver}
+use Rattle.wm_engine.specs.Working.{Engaged, FileStands, HoldsSorted, StandsFor, WorksOver}
 
 -- a file that holds records stands for what they stand for
 pub file_stands : (file : List ℕ) (rs : List Stored) (s : State) → HoldsSorted file rs → Stands (parts_of rs) s → FileStands file s

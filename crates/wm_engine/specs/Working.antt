@@ -13,7 +13,7 @@ use Rattle.wm_state.specs.State.{State, Session}
 use Rattle.wm_state.specs.ById.{by_id}
 use Rattle.wm_state.specs.Standing.{Stands}
 use Rattle.wm_spec.specs.declared.record.stored.Stored.{Stored}
-use Rattle.wm_station.specs.History.{History, now}
+use Rattle.wm_station.specs.History.{History}
 use Rattle.wm_station.specs.Moments.{Holds}
 use Rattle.wm_store.specs.Opened.{Held, opened}
 use Rattle.wm_store.specs.Stores.{IsStoreOf}

@@ -48,10 +48,7 @@ pub fn connect(
     if sessions.len() >= SESSION_LIMIT {
         return Ok(Planned::answered(alloc, most_sessions()));
     }
-    Ok(Planned::seated(
-        alloc,
-        Seating::Open(Session::new(called, user)),
-    ))
+    Ok(Planned::seated(alloc, Seating::Open(Session::new(called, user))))
 }
 
 /// DISCONNECT ends a session.

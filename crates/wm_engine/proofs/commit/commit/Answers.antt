@@ -1,4 +1,4 @@
-use Rattle.std.proofs.Common.{◌≡◌, List, [], sym, ap, ◌∙◌}
+use Rattle.std.proofs.Common.{sym, ◌∙◌}
 use Rattle.wm_engine.proofs.Committing.{commit_ended, commit_works, nothing_ended}
 use Rattle.wm_engine.proofs.Planning.{none_counted}
 use Rattle.wm_engine.proofs.commit.commit.Goals as goal

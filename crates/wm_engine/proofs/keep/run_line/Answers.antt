@@ -1,4 +1,4 @@
-use Rattle.std.proofs.Common.{◌≡◌, List, sym, subst}
+use Rattle.std.proofs.Common.{List, sym, subst}
 use Rattle.wm_model.specs.Planning.{StandsAt}
 use Rattle.wm_model.specs.Step.{step}
 use Rattle.wm_state.specs.State.{Session}

@@ -1,8 +1,22 @@
-use Rattle.std.proofs.Common.{inl}
+use Rattle.std.proofs.Common.{◌≡◌, List, [], Option, unwrap_or, inl, sym, ap, subst}
+use Rattle.wm_graph.specs.Parts.{parts_of}
+use Rattle.wm_model.specs.Planning.{StandsAt}
+use Rattle.wm_spec.specs.declared.record.stored.Stored.{Stored}
+use Rattle.wm_state.specs.State.{State}
+use Rattle.wm_state.specs.Standing.{Stands}
 use Rattle.wm_engine.proofs.Committing.{ended_begun}
 use Rattle.wm_engine.proofs.Working.{stands_over}
+use Rattle.wm_engine.specs.Working.{Engaged, StandsFor}
 use Rattle.wm_engine.proofs.engine.Engine.line.Goals as goal
 
 pub returns-in_default-clause-any_moment : goal.returns-in_default-clause-any_moment
 returns-in_default-clause-any_moment g c = λ told s for.
     let holds = stands_over _ _ s (c.requires.works told) for in ended_begun _ _ (record { here = inl holds.here; left = λ f leaves. inl (holds.left f leaves) })
+
+-- the engine's records, its sessions and its moment stand for what it stands for
+stands_at : (e : Engaged) (rs : List Stored) (s : State) → e.records ≡ rs → StandsFor e s → StandsAt rs e.sessions e.moment s
+stands_at e rs s same for = record { stands = subst (λ (xs : List Stored). Stands (parts_of xs) s) same for.stands; sessions_are = for.sessions; moment_is = for.moment }
+
+pub returns-clause-answered : goal.returns-clause-answered
+returns-clause-answered g c = λ s for.
+    let d = c.in_ok-kept.ensures.answered s (stands_at _ c.in-Some.image s (ap (λ (o : Option (List Stored)). unwrap_or o []) (sym c.in-Some.ensures.value)) (subst (λ (e : Engaged). StandsFor e s) (sym c.self.view_is) for)) in (record { stands = d.0.stands; sessions = d.0.sessions_are; moment = d.0.moment_is }, d.1)

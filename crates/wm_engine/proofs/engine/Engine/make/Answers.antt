@@ -1,4 +1,3 @@
-use Rattle.std.proofs.Common.{List}
 use Rattle.wm_state.specs.State.{fresh}
 use Rattle.wm_store.specs.Fresh.{fresh_records}
 use Rattle.wm_store.specs.Opened.{Held}

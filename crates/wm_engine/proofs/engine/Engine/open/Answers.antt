@@ -1,4 +1,4 @@
-use Rattle.std.proofs.Common.{◌≡◌, ℕ, ◌<◌, max, refl, sym, ap, subst, ◌∙◌}
+use Rattle.std.proofs.Common.{ℕ, ◌<◌, max, sym, ap, subst, ◌∙◌}
 use Rattle.wm_base.specs.declared.instant.TheConstants.{END}
 use Rattle.wm_station.specs.History.{now}
 use Rattle.wm_engine.proofs.Opening.{breaks, begins_before, opens_stand, opens_at, opens_none}

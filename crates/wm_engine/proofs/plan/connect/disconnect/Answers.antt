@@ -1,4 +1,4 @@
-use Rattle.std.proofs.Common.{◌≡◌, ℕ, List, [], sym, ap, ◌∙◌}
+use Rattle.std.proofs.Common.{[], sym, ap, ◌∙◌}
 use Rattle.wm_model.proofs.Seating.{disconnect_none, does_disconnect}
 use Rattle.wm_model.specs.Planning.{Stay, Close}
 use Rattle.wm_model.specs.Step.{disconnect, no_session}

@@ -1,11 +1,10 @@
-use Rattle.std.proofs.Common.{◌≡◌, ℕ, List, [], None, Some, Option, Result, Ok, Err, IfOk, refl, sym, ap, ◌∙◌}
+use Rattle.std.proofs.Common.{[], Some, Option, sym, ap, ◌∙◌}
 use Rattle.wm_model.proofs.Doing.{does_nothing}
 use Rattle.wm_model.specs.Planning.{Stay}
 use Rattle.wm_model.specs.Step.{connect, disconnect, run_for, run_line, session_of, not_built}
 use Rattle.wm_reader.specs.Grammar.{Line, line_of}
 use Rattle.wm_reader.specs.Views.{folded, line_view, statement_view}
 use Rattle.wm_reader.specs.declared.tree.Line.{Line as Tree}
-use Rattle.wm_state.specs.State.{State}
 use Rattle.wm_engine.proofs.Planning.{told, for_records, does_it_same}
 use Rattle.wm_engine.specs.Views.{answer_view, seating_view}
 use Rattle.wm_engine.proofs.plan.line.plan_form.Goals as goal

@@ -1,4 +1,4 @@
-use Rattle.std.proofs.Common.{◌≡◌, ℕ, List, [], None, Some, Option, refl, sym, ap, ◌∙◌}
+use Rattle.std.proofs.Common.{ℕ, [], Option, sym, ap, ◌∙◌}
 use Rattle.wm_model.proofs.Doing.{does_nothing}
 use Rattle.wm_model.specs.Planning.{Stay}
 use Rattle.wm_model.specs.Step.{run_line, run_text, syntax}

@@ -1,5 +1,4 @@
-use Rattle.std.proofs.Common.{◌≡◌, ℕ, List, [], false, sym, ap, subst, ◌∙◌}
-use Rattle.wm_base.specs.declared.row.Row.{Row}
+use Rattle.std.proofs.Common.{◌≡◌, ℕ, [], false, sym, ap, subst, ◌∙◌}
 use Rattle.wm_graph.specs.Parts.{parts_of, space_of}
 use Rattle.wm_model.proofs.Selecting.{list_none, list_off, list_valid, list_homeless, lists}
 use Rattle.wm_model.specs.Planning.{Stay, named}
