@@ -17,18 +17,19 @@ use Rattle.wm_spec.specs.declared.record.column.TableColumn.{TableColumn}
 use Rattle.wm_spec.specs.declared.record.counters.Counters.{Counters}
 use Rattle.wm_spec.specs.declared.record.piece.PieceRecord.{PieceRecord}
 use Rattle.wm_spec.specs.declared.record.row.RowRecord.{RowRecord}
+use Rattle.wm_spec.specs.declared.record.savepoint.Savepoint.{Savepoint}
 use Rattle.wm_spec.specs.declared.record.space.Space.{Space}
 use Rattle.wm_spec.specs.declared.record.stored.Stored.{Stored}
 use Rattle.wm_spec.specs.declared.record.table.Table.{Table}
 use Rattle.wm_spec.specs.declared.record.version.Version.{Version}
-use Rattle.wm_state.specs.Batches.{drop_one, create_batch, enable_batch, ready, insert_batch, insert_new_batch}
+use Rattle.wm_state.specs.Batches.{drop_one, create_batch, enable_batch, ready, insert_batch, insert_new_batch, savepoint_batch, birth_batch}
 use Rattle.wm_state.specs.Effects.{longer}
 use Rattle.wm_state.proofs.Apart.{ruled, found-passes}
 use Rattle.wm_state.proofs.ByKind.{kinds as of_kind, Split, split_of}
 use Rattle.wm_state.proofs.Planning.{tables-split}
 use Rattle.wm_state.proofs.Tests.{bool_apart, both, and_true, all_middle}
 use Rattle.wm_store.specs.Spelled.{FitPages}
-use Rattle.wm_store.proofs.Fitting.{FitsPage, is_spelled, fits_counters, fits_version, fits_space, fits_table, fits_row, fits_piece}
+use Rattle.wm_store.proofs.Fitting.{FitsPage, is_spelled, fits_counters, fits_version, fits_space, fits_savepoint, fits_table, fits_row, fits_piece}
 
 -- ---- what the rules say of a record
 
@@ -88,11 +89,14 @@ small t e =
 table_fits : (t : Table) → is_table t ≡ true → FitsPage (records.Table t)
 table_fits t e = let s = small t e in fits_table t s.name s.few s.names
 
-ready_fits : (t : Table) → is_table t ≡ true → FitsPage (records.Table (ready t))
-ready_fits t e = let s = small t e in fits_table (ready t) s.name s.few s.names
+ready_fits : (history : Bool) (t : Table) → is_table t ≡ true → FitsPage (records.Table (ready history t))
+ready_fits history t e = let s = small t e in fits_table (ready history t) s.name s.few s.names
 
-longer_fits : (a : Space) → is_short a.name ≡ true → is_short a.writer ≡ true → FitsPage (records.Space (longer a))
-longer_fits a name writer = fits_space (longer a) (at_most (length a.name) 30 name) (at_most (length a.writer) 30 writer)
+space_fits : (a : Space) → is_short a.name ≡ true → is_short a.writer ≡ true → FitsPage (records.Space a)
+space_fits a name writer = fits_space a (at_most (length a.name) 30 name) (at_most (length a.writer) 30 writer)
+
+savepoint_fits : (x : Savepoint) → is_short x.name ≡ true → FitsPage (records.Savepoint x)
+savepoint_fits x name = fits_savepoint x (at_most (length x.name) 30 name)
 
 numbers_fit : (r : RowRecord) (i j : ℤ) → r.values ≡ Num i ∷ Num j ∷ [] → FitsPage (records.Row r)
 numbers_fit r i j is = fits_row r (rw is (omega arith)) (rw is refl) (rw is (omega arith))
@@ -167,8 +171,8 @@ piece_fits x t key filled = by_key x.cells.key refl key filled
 pub fits_create : (counters_id : ℕ) (c : Counters) (id : ℕ) (t : Table) → is_table t ≡ true → FitPages (create_batch counters_id c id t)
 fits_create counters_id c id t e = (fits_counters c, (table_fits t e, tt))
 
-pub fits_enable : (counters_id : ℕ) (c : Counters) (id : ℕ) (t : Table) → is_table t ≡ true → FitPages (enable_batch counters_id c id t)
-fits_enable counters_id c id t e = (fits_counters c, (ready_fits t e, tt))
+pub fits_enable : (counters_id : ℕ) (c : Counters) (id : ℕ) (history : Bool) (t : Table) → is_table t ≡ true → FitPages (enable_batch counters_id c id history t)
+fits_enable counters_id c id history t e = (fits_counters c, (ready_fits history t e, tt))
 
 -- what is dropped takes no page
 fits_dropped : (ids : List ℕ) (cs : List Change) → FitPages cs → FitPages (map drop_one ids ++ cs)
@@ -178,11 +182,11 @@ fits_dropped (id ∷ ids) cs fit = (tt, fits_dropped ids cs fit)
 -- a row and a piece of any values that fit
 pub fits_written : (counters_id : ℕ) (c : Counters) (space_id : ℕ) (a : Space) (ids : List ℕ) (id : ℕ) (r : RowRecord) (x : PieceRecord) → is_short a.name ≡ true → is_short a.writer ≡ true
     → FitsPage (records.Row r) → FitsPage (records.Piece x) → FitPages (insert_batch counters_id c space_id a ids id r x)
-fits_written counters_id c space_id a ids id r x name writer row piece = (fits_counters c, (longer_fits a name writer, fits_dropped ids _ (row, (piece, tt))))
+fits_written counters_id c space_id a ids id r x name writer row piece = (fits_counters c, (space_fits (longer a) name writer, fits_dropped ids _ (row, (piece, tt))))
 
 pub fits_written_new : (counters_id : ℕ) (c : Counters) (space_id : ℕ) (a : Space) (id : ℕ) (v : Version) (r : RowRecord) (x : PieceRecord) → is_short a.name ≡ true → is_short a.writer ≡ true
     → FitsPage (records.Row r) → FitsPage (records.Piece x) → FitPages (insert_new_batch counters_id c space_id a id v r x)
-fits_written_new counters_id c space_id a id v r x name writer row piece = (fits_counters c, (longer_fits a name writer, (row, (piece, (fits_version v, tt)))))
+fits_written_new counters_id c space_id a id v r x name writer row piece = (fits_counters c, (space_fits (longer a) name writer, (row, (piece, (fits_version v, tt)))))
 
 -- two numbers, of which the first is the key
 pub fits_insert : (counters_id : ℕ) (c : Counters) (space_id : ℕ) (a : Space) (ids : List ℕ) (id : ℕ) (r : RowRecord) (x : PieceRecord) (i j : ℤ) → is_short a.name ≡ true → is_short a.writer ≡ true
@@ -192,3 +196,14 @@ fits_insert counters_id c space_id a ids id r x i j name writer values key = fit
 pub fits_insert_new : (counters_id : ℕ) (c : Counters) (space_id : ℕ) (a : Space) (id : ℕ) (v : Version) (r : RowRecord) (x : PieceRecord) (i j : ℤ) → is_short a.name ≡ true → is_short a.writer ≡ true
     → r.values ≡ Num i ∷ Num j ∷ [] → x.cells.key ≡ Num i ∷ [] → FitPages (insert_new_batch counters_id c space_id a id v r x)
 fits_insert_new counters_id c space_id a id v r x i j name writer values key = fits_written_new counters_id c space_id a id v r x name writer (numbers_fit r i j values) (number_fits x i key)
+
+-- a savepoint, and the workspace that counts it
+pub fits_savepoint_batch : (counters_id : ℕ) (c : Counters) (space_id : ℕ) (a : Space) (id : ℕ) (x : Savepoint) → is_short a.name ≡ true → is_short a.writer ≡ true → is_short x.name ≡ true
+    → FitPages (savepoint_batch counters_id c space_id a id x)
+fits_savepoint_batch counters_id c space_id a id x name writer saved = (fits_counters c, (space_fits a name writer, (savepoint_fits x saved, tt)))
+
+-- and a workspace that is born there, with its first version
+pub fits_birth_batch : (counters_id : ℕ) (c : Counters) (space_id : ℕ) (a : Space) (id : ℕ) (x : Savepoint) (child : Space) (v : Version) → is_short a.name ≡ true → is_short a.writer ≡ true → is_short x.name ≡ true
+    → is_short child.name ≡ true → is_short child.writer ≡ true → FitPages (birth_batch counters_id c space_id a id x child v)
+fits_birth_batch counters_id c space_id a id x child v name writer saved born born_writer =
+    (fits_counters c, (space_fits a name writer, (savepoint_fits x saved, (space_fits child born born_writer, (fits_version v, tt)))))

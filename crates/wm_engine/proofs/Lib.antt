@@ -6,3 +6,8 @@ pub mod Working
 pub mod Keeping
 pub mod Fresh
 pub mod Opening
+pub mod Forking
+pub mod Saving
+pub mod Bearing
+pub mod Coming
+pub mod FittingForks

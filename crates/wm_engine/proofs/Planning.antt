@@ -26,6 +26,12 @@ pub told : (rs : List Stored) (xs : List Session) (m : ℕ) (p : Planned) (cs : 
     → Does rs xs m cs seating answer act → DoesIt rs xs m p act
 told rs xs m p cs seating answer act changes seats says does = rw (changes, seats, says) does
 
+-- and where a function may find no memory
+pub told_ok : (rs : List Stored) (r : Result Planned Memory) (cs : List Change) (seating : Seating) (answer : Answer) (act : State → State × Answer) → IfOk r (λ p. p.changes ≡ cs) → IfOk r (λ p. seating_view p.seating ≡ seating)
+    → IfOk r (λ p. answer_view p.answer ≡ answer) → ((xs : List Session) (m : ℕ) → Does rs xs m cs seating answer act) → IfOk r (λ p. (xs : List Session) (m : ℕ) → DoesIt rs xs m p act)
+told_ok rs (Ok p) cs seating answer act changes seats says does = λ xs m. told rs xs m p cs seating answer act changes seats says (does xs m)
+told_ok rs (Err e) cs seating answer act changes seats says does = tt
+
 -- two functions that do the same to each state that the records stand for
 pub does_same : (rs : List Stored) (xs : List Session) (m : ℕ) (cs : List Change) (seating : Seating) (answer : Answer) (act other : State → State × Answer) → ((s : State) → StandsAt rs xs m s → other s ≡ act s)
     → Does rs xs m cs seating answer act → Does rs xs m cs seating answer other

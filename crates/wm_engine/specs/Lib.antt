@@ -1,4 +1,6 @@
 pub mod Working
+pub mod Stands
 pub mod Views
 pub mod Planning
 pub mod Forks
+pub mod Points

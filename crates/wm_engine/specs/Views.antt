@@ -1,13 +1,11 @@
--- What the answers, the sessions and what becomes of them mean.
+-- What the answers and what becomes of the sessions mean.
 use Rattle.wm_model.specs.Planning as planning
 use Rattle.wm_print.specs.Texts as texts
-use Rattle.wm_state.specs.State as state
 use Rattle.wm_engine.specs.declared.answer.Answer.{Answer}
 use Rattle.wm_engine.specs.declared.answer.Answer.TheVariants.{Nothing, Fine, Done, Listing, Refused}
 use Rattle.wm_engine.specs.declared.seating.Seating.{Seating}
 use Rattle.wm_engine.specs.declared.seating.Seating.TheVariants.{Stay, Open, Close, Move}
-use Rattle.wm_engine.specs.declared.session.Stand.{Stand}
-use Rattle.wm_engine.specs.declared.session.Stand.TheVariants.{Latest, At}
+use Rattle.wm_engine.specs.Stands.{stand_view}
 
 abbrev pub answer_view : Answer → texts.Answer
 answer_view Nothing = texts.Nothing
@@ -15,10 +13,6 @@ answer_view Fine = texts.Fine
 answer_view (Done count) = texts.Done count
 answer_view (Listing rows) = texts.Listing rows
 answer_view (Refused refusal) = texts.Refused refusal
-
-abbrev pub stand_view : Stand → state.Stand
-stand_view Latest = state.Latest
-stand_view (At making) = state.At making
 
 abbrev pub seating_view : Seating → planning.Seating
 seating_view Stay = planning.Stay

@@ -1,6 +1,8 @@
 //! What becomes of the sessions.
-ghost use Rattle.std.specs.Prelude.{◌≡◌, ◌++◌, ◌∷◌, [], OnOk};
-ghost use Rattle.wm_engine.specs.Views.{seating_view, stand_view};
+ghost use Rattle.std.specs.Prelude.{◌≡◌, ◌++◌, ◌∷◌, [], OnOk, if◌then◌else◌};
+ghost use Rattle.std.specs.Str.{bytes_eq};
+ghost use Rattle.wm_engine.specs.Stands.{stand_view};
+ghost use Rattle.wm_engine.specs.Views.{seating_view};
 ghost use Rattle.wm_model.specs.Planning.{seated};
 ghost use Rattle.wm_model.specs.Step.{closed, moved_to};
 
@@ -31,14 +33,22 @@ fn close(sessions: &mut Vec<Session>, name: &Name)
     sessions.retain(|session| !session.is_called(name));
 }
 
+/// Stands the session elsewhere, where it has this name.
+fn move_one(session: &mut Session, name: &Name, space: u32, stand: Stand)
+    ensures { session.new ≡ (if bytes_eq name.now session.old.name then record session.old { space = space; stand = stand_view stand } else session.old) }
+{
+    if session.is_called(name) {
+        session.go(space, stand);
+    }
+}
+
 /// Stands the sessions of a name elsewhere.
 fn move_to(sessions: &mut [Session], name: &Name, space: u32, stand: Stand)
     ensures { sessions.new ≡ moved_to name.now space (stand_view stand) sessions.old }
 {
-    for session in sessions {
-        if session.is_called(name) {
-            session.go(space, stand);
-        }
+    if let Some((session, rest)) = sessions.split_first_mut() {
+        move_one(session, name, space, stand);
+        move_to(rest, name, space, stand);
     }
 }
 

@@ -1,8 +1,8 @@
 //! Who is connected, and where they stand.
-ghost use Rattle.std.specs.Prelude.{◌≡◌};
+ghost use Rattle.std.specs.Prelude.{◌≡◌, is_some};
 ghost use Rattle.std.specs.Option.{option_copied};
 ghost use Rattle.std.specs.Str.{bytes_eq};
-ghost use Rattle.wm_engine.specs.Views.{stand_view};
+ghost use Rattle.wm_engine.specs.Stands.{stand_view};
 ghost use Rattle.wm_model.specs.Step.{session_of};
 ghost use Rattle.wm_reader.specs.Views.{folded};
 ghost use Rattle.wm_state.specs.State.{Latest};
@@ -31,7 +31,7 @@ pub struct Session {
 }
 
 impl Model for Session {
-    ghost use Rattle.wm_engine.specs.Views.{stand_view};
+    ghost use Rattle.wm_engine.specs.Stands.{stand_view};
     ghost use Rattle.wm_state.specs.State.{Session as SessionState};
 
     ghost Value = { SessionState };
@@ -110,4 +110,11 @@ pub fn session_named<'a>(sessions: &'a [Session], name: &[u8]) -> Option<&'a Ses
         }
     }
     None
+}
+
+/// Whether a session of this name is open.
+pub fn is_open(sessions: &[Session], name: &[u8]) -> bool
+    ensures { result ≡ is_some (session_of (folded name.now) sessions.now) }
+{
+    session_named(sessions, name).is_some()
 }

@@ -1,9 +1,9 @@
 -- What is looked up in records, told by the ids of what is sought.
-use Rattle.std.proofs.Common.{◌≡◌, ℕ, ◌==◌, ◌&&◌, Bool, true, false, cond, List, [], ◌∷◌, map, Option, Some, None, is_some, refl, sym, ap, ◌∙◌}
+use Rattle.std.proofs.Common.{◌≡◌, ℕ, ◌==◌, Bool, true, false, cond, List, [], ◌∷◌, map, Option, Some, None, is_some, refl, sym, ap, ◌∙◌}
 use Rattle.std.specs.BTreeMap.{BTreeMap}
 use Rattle.std.specs.List.{find, filter, filter_map}
 use Rattle.std.specs.Option.{option_and_then, option_map_or, option_to_list}
-use Rattle.wm_graph.specs.Parts.{Parts, parts_of, as_counters, as_table, as_space, as_version, as_row, as_piece, space_of, version_of, row_of}
+use Rattle.wm_graph.specs.Parts.{Parts, parts_of, as_counters, as_space, as_version, as_row, space_of, version_of, row_of}
 use Rattle.wm_graph.specs.Rules.{keep_rules}
 use Rattle.wm_spec.specs.Records.{record_at}
 use Rattle.wm_spec.specs.declared.record.Record.{Record}

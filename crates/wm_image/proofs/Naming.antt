@@ -1,11 +1,11 @@
 -- Tables found by name.
-use Rattle.std.proofs.Common.{◌≡◌, ℕ, ◌<◌, ◌+◌, Bool, true, false, cond, not, ◌&&◌, ◌||◌, ◌==◌, nat_lt, nat_le, List, [], ◌∷◌, length, get_or, drop, Option, Some, None, Bor, is_some, refl, sym, ap, ◌∙◌}
+use Rattle.std.proofs.Common.{◌≡◌, ℕ, ◌<◌, ◌+◌, Bool, true, false, cond, not, ◌==◌, nat_lt, nat_le, List, [], ◌∷◌, length, get_or, drop, Option, Some, None, Bor, is_some, refl, sym, ap, ◌∙◌}
 use Rattle.std.proofs.lemmas.List.{drop_more}
 use Rattle.std.proofs.lemmas.Slice.Eq.{bytes_eq-Decides}
 use Rattle.std.specs.BTreeMap.{BTreeMap}
 use Rattle.std.specs.Bool.{then_some}
-use Rattle.std.specs.List.{find, filter, filter_map, list_any, list_all, cons_option}
-use Rattle.std.specs.Option.{option_copied, option_map, option_or, option_and_then}
+use Rattle.std.specs.List.{find, filter_map, list_any, list_all, cons_option}
+use Rattle.std.specs.Option.{option_copied, option_or, option_and_then}
 use Rattle.std.specs.Str.{bytes_eq}
 use Rattle.wm_graph.specs.Parts.{Parts, parts_of, as_table, table_of}
 use Rattle.wm_graph.specs.Rules.{keep_rules, differ, is_table}
@@ -15,7 +15,8 @@ use Rattle.wm_spec.specs.declared.record.Record.TheVariants as records
 use Rattle.wm_spec.specs.declared.record.stored.Stored.{Stored}
 use Rattle.wm_spec.specs.declared.record.table.Table.{Table}
 use Rattle.wm_state.specs.Standing.{by_number, place_table}
-use Rattle.wm_image.proofs.Finding.{all_of, all_sought, Tests, filter-kind}
+use Rattle.wm_image.proofs.Finding.{Tests}
+use Rattle.wm_image.proofs.Firsts.{sought_kind, filter_all}
 use Rattle.wm_state.proofs.Apart.{ruled}
 use Rattle.wm_state.proofs.Tests.{both, either_false, not_true}
 use Rattle.wm_image.specs.Indexed.{IsIndexed, ids_at, listed}
@@ -129,16 +130,9 @@ tables_test : Tests as_table (λ t. true) (is_sought Tables)
 tables_test (records.Table t) = refl
 tables_test _ = refl
 
-filter_all : (ts : List Table) → filter (λ t. true) ts ≡ ts
-filter_all [] = refl
-filter_all (t ∷ ts) = ap (λ l. t ∷ l) (filter_all ts)
-
-tables_told : (kept : BTreeMap ℕ Record) (x : Index) → IsIndexed kept x → kind_at as_table (listed kept.entries) (ids_at x Tables) ≡ (parts_of (listed kept.entries)).tables
+pub tables_told : (kept : BTreeMap ℕ Record) (x : Index) → IsIndexed kept x → kind_at as_table (listed kept.entries) (ids_at x Tables) ≡ (parts_of (listed kept.entries)).tables
 unfolding parts_of
-tables_told kept x is =
-    ap (filter_map as_table) (all_sought kept x is Tables)
-    ∙ filter-kind as_table (λ t. true) (is_sought Tables) tables_test (all_of (listed kept.entries))
-    ∙ filter_all (filter_map as_table (all_of (listed kept.entries)))
+tables_told kept x is = sought_kind as_table (λ t. true) Tables tables_test kept x is ∙ filter_all (parts_of (listed kept.entries)).tables
 
 pub numbered_told : (kept : BTreeMap ℕ Record) (x : Index) → IsIndexed kept x → (number : ℕ)
     → find (λ (t : Table). t.number == number) (kind_at as_table (listed kept.entries) (ids_at x Tables)) ≡ table_of (parts_of (listed kept.entries)).tables number

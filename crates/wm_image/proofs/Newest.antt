@@ -1,18 +1,16 @@
 -- Versions, the newest first.
-use Rattle.std.proofs.Common.{◌≡◌, ◌≢◌, ◌<◌, ◌≤◌, ℕ, Bool, true, false, cond, not, ◌&&◌, ◌||◌, eqb, ◌==◌, nat_lt, max, List, [], ◌∷◌, Option, Some, None, is_some, refl, sym, ap, ◌∙◌, subst, arith, ◌⊎◌, inl, inr}
-use Rattle.std.proofs.lemmas.Bool.{cases_lt, cases_eq, lt-ltb, le-ltb, eq-eqb, ne_eqb}
-use Rattle.std.specs.List.{filter, find, list_any, list_all}
-use Rattle.std.specs.Option.{IsSome, option_map, option_map_or}
-use Rattle.wm_graph.specs.Parts.{Parts, version_of, space_of, has_version}
-use Rattle.wm_graph.specs.Rules.{keep_rules, are_versions, is_version, is_version_of, stands_under, differ, has_versions}
-use Rattle.wm_spec.specs.declared.record.counters.Counters.{Counters}
-use Rattle.wm_spec.specs.declared.record.space.Space.{Space}
+use Rattle.std.proofs.Common.{◌≡◌, ◌≢◌, ◌<◌, ◌≤◌, ℕ, Bool, true, false, cond, not, ◌&&◌, ◌||◌, eqb, ◌==◌, max, List, [], ◌∷◌, Option, Some, None, refl, sym, ap, ◌∙◌, subst, arith, ◌⊎◌, inl, inr}
+use Rattle.std.proofs.lemmas.Bool.{cases_lt, cases_eq, eq-eqb, ne_eqb}
+use Rattle.std.specs.List.{filter, list_any}
+use Rattle.std.specs.Option.{IsSome, option_map}
+use Rattle.wm_graph.specs.Parts.{version_of}
+use Rattle.wm_graph.specs.Rules.{differ}
 use Rattle.wm_spec.specs.declared.record.version.Version.{Version}
 use Rattle.wm_state.specs.Standing.{newest_first, node_of}
-use Rattle.wm_tree.specs.Versions.{version_in, path_in, latest_in, grow, AllBelow, IsTree}
+use Rattle.wm_tree.specs.Versions.{version_in, latest_in, grow, AllBelow, IsTree}
 use Rattle.wm_tree.specs.declared.version.Version.{Version as Node}
 use Rattle.wm_tree.proofs.Growing.{grow-front, grow-later, version_in-grow, AllBelow-grow}
-use Rattle.wm_tree.proofs.Paths.{version_in-away, AllBelow-more, found, path_in-there, path_in-none}
+use Rattle.wm_tree.proofs.Paths.{version_in-away, AllBelow-more}
 use Rattle.wm_image.specs.Shown.{greatest}
 
 -- ---- the newest of a space

@@ -1,9 +1,9 @@
 -- Savepoints found by name, and the making that comes next.
-use Rattle.std.proofs.Common.{◌≡◌, ℕ, ◌<◌, ◌≤◌, ◌+◌, ◌^◌, ◌==◌, nat_lt, nat_le, Bool, true, false, cond, not, ◌&&◌, ◌||◌, List, [], ◌∷◌, length, Option, Some, None, is_some, refl, sym, ap, ◌∙◌, subst, arith}
+use Rattle.std.proofs.Common.{◌≡◌, ℕ, ◌<◌, ◌≤◌, ◌+◌, ◌^◌, ◌==◌, nat_lt, nat_le, Bool, true, false, cond, not, ◌&&◌, ◌||◌, List, [], ◌∷◌, length, Option, Some, None, refl, sym, ap, ◌∙◌, subst, arith}
 use Rattle.std.proofs.lemmas.Bool.{eq-eqb, eqb-true}
 use Rattle.std.proofs.lemmas.Slice.Eq.{bytes_eq-Decides}
 use Rattle.std.specs.BTreeMap.{BTreeMap, IsOrdered}
-use Rattle.std.specs.List.{count_by, filter, filter_map, find, list_all, list_any}
+use Rattle.std.specs.List.{count_by, filter, find, list_all, list_any}
 use Rattle.std.specs.Option.{option_map_or}
 use Rattle.std.specs.Ordering.{nat_cmp}
 use Rattle.std.specs.Str.{bytes_eq}
@@ -18,7 +18,7 @@ use Rattle.wm_spec.specs.declared.record.stored.Stored.{Stored}
 use Rattle.wm_state.specs.Standing.{by_making, place_making, saved_as, saved_in}
 use Rattle.wm_state.proofs.Apart.{ruled}
 use Rattle.wm_state.proofs.Tests.{both, either_false, not_true}
-use Rattle.wm_image.proofs.Finding.{Tests, all_of}
+use Rattle.wm_image.proofs.Finding.{Tests}
 use Rattle.wm_image.proofs.Firsts.{sought_kind, any_sought, count_sought, find-filter}
 use Rattle.wm_image.proofs.Lasts.{LastOf, has_ids, last-same, last_told}
 use Rattle.wm_image.specs.Indexed.{IsIndexed, ids_at, listed}

@@ -1,45 +1,70 @@
--- Whether there are tables.
-use Rattle.std.proofs.Common.{◌≡◌, ℕ, Bool, true, false, List, [], ◌∷◌, map, refl}
+-- How many tables there are, and the number that comes next.
+use Rattle.std.proofs.Common.{◌≡◌, ℕ, ◌+◌, ◌<◌, suc, max, nat_lt, Bool, true, false, cond, List, [], ◌∷◌, length, map, get_or, drop, Option, Some, None, refl, sym, ap, ◌∙◌, arith}
+use Rattle.std.proofs.lemmas.List.{drop_more}
+use Rattle.std.specs.BTreeMap.{BTreeMap}
+use Rattle.std.specs.List.{filter_map, cons_option}
+use Rattle.std.specs.Option.{option_and_then}
 use Rattle.wm_graph.specs.Parts.{parts_of, as_table}
+use Rattle.wm_spec.specs.Records.{record_at}
 use Rattle.wm_spec.specs.declared.record.Record.{Record}
 use Rattle.wm_spec.specs.declared.record.Record.TheVariants as records
 use Rattle.wm_spec.specs.declared.record.stored.Stored.{Stored}
 use Rattle.wm_spec.specs.declared.record.table.Table.{Table}
+use Rattle.wm_state.specs.Standing.{by_number, place_table}
+use Rattle.wm_state.specs.State.{next_table}
+use Rattle.wm_image.proofs.Naming.{tables_told}
+use Rattle.wm_image.specs.Indexed.{IsIndexed, ids_at, listed}
+use Rattle.wm_image.specs.Shown.{kind_at, past}
 use Rattle.wm_image.specs.Sought.{Tables, is_sought, ids_with}
-use Rattle.std.specs.List.{filter_map}
+use Rattle.wm_image.specs.declared.index.Index.{Index}
 
--- where no id is that of a table there is none
-pub no_tables : (ss : List Stored) → ids_with (is_sought Tables) ss ≡ [] → filter_map as_table (map (λ (s : Stored). s.record) ss) ≡ []
-no_tables [] e = refl
-no_tables (s ∷ ss) e = by_kind (no_tables ss) s.record refl
+-- there are as many ids of tables as tables
+pub tables_counted : (ss : List Stored) → length (ids_with (is_sought Tables) ss) ≡ length (filter_map as_table (map (λ (s : Stored). s.record) ss))
+tables_counted [] = refl
+tables_counted (s ∷ ss) = by_kind (tables_counted ss) s.record
   where
-    some_id : (ids : List ℕ) → s.id ∷ ids ≡ [] → ⊥
-    some_id ids h = cc
+    by_kind : length (ids_with (is_sought Tables) ss) ≡ length (filter_map as_table (map (λ (t : Stored). t.record) ss)) → (r : Record)
+        → length (cond (is_sought Tables r) (s.id ∷ ids_with (is_sought Tables) ss) (ids_with (is_sought Tables) ss)) ≡ length (cons_option (as_table r) (filter_map as_table (map (λ (t : Stored). t.record) ss)))
+    by_kind rest (records.Table t) = ap suc rest
+    by_kind rest (records.Counters t) = rest
+    by_kind rest (records.Space t) = rest
+    by_kind rest (records.Version t) = rest
+    by_kind rest (records.Savepoint t) = rest
+    by_kind rest (records.Row t) = rest
+    by_kind rest (records.Piece t) = rest
+    by_kind rest (records.Hist t) = rest
 
-    by_kind : (ids_with (is_sought Tables) ss ≡ [] → filter_map as_table (map (λ (t : Stored). t.record) ss) ≡ []) → (r : Record) → s.record ≡ r → filter_map as_table (map (λ (t : Stored). t.record) (s ∷ ss)) ≡ []
-    by_kind rest (records.Table t) is = absurd (some_id (ids_with (is_sought Tables) ss) (rw is at e))
-    by_kind rest (records.Counters t) is = rw is (rest (rw is at e))
-    by_kind rest (records.Space t) is = rw is (rest (rw is at e))
-    by_kind rest (records.Version t) is = rw is (rest (rw is at e))
-    by_kind rest (records.Savepoint t) is = rw is (rest (rw is at e))
-    by_kind rest (records.Row t) is = rw is (rest (rw is at e))
-    by_kind rest (records.Piece t) is = rw is (rest (rw is at e))
-    by_kind rest (records.Hist t) is = rw is (rest (rw is at e))
-
--- where an id is, there is a table
-pub some_tables : (ss : List Stored) → filter_map as_table (map (λ (s : Stored). s.record) ss) ≡ [] → ids_with (is_sought Tables) ss ≡ []
-some_tables [] e = refl
-some_tables (s ∷ ss) e = by_kind (some_tables ss) s.record refl
+-- the number that comes next does not turn on the order of the tables
+next-place : (t : Table) (ts : List Table) → next_table (place_table t ts) ≡ max (t.number + 1) (next_table ts)
+next-place t [] = refl
+next-place t (u ∷ us) = by_test (nat_lt u.number t.number) (next-place t us)
   where
-    some_table : (t : Table) (ts : List Table) → t ∷ ts ≡ [] → ⊥
-    some_table t ts h = cc
+    swap : (a b c d : ℕ) → d ≡ max b c → max a d ≡ max b (max a c)
+    swap a b c d is = omega (arith, is)
 
-    by_kind : (filter_map as_table (map (λ (t : Stored). t.record) ss) ≡ [] → ids_with (is_sought Tables) ss ≡ []) → (r : Record) → s.record ≡ r → ids_with (is_sought Tables) (s ∷ ss) ≡ []
-    by_kind rest (records.Table t) is = absurd (some_table t (filter_map as_table (map (λ (u : Stored). u.record) ss)) (rw is at e))
-    by_kind rest (records.Counters t) is = rw is (rest (rw is at e))
-    by_kind rest (records.Space t) is = rw is (rest (rw is at e))
-    by_kind rest (records.Version t) is = rw is (rest (rw is at e))
-    by_kind rest (records.Savepoint t) is = rw is (rest (rw is at e))
-    by_kind rest (records.Row t) is = rw is (rest (rw is at e))
-    by_kind rest (records.Piece t) is = rw is (rest (rw is at e))
-    by_kind rest (records.Hist t) is = rw is (rest (rw is at e))
+    by_test : (b : Bool) → next_table (place_table t us) ≡ max (t.number + 1) (next_table us) → next_table (cond b (u ∷ place_table t us) (t ∷ u ∷ us)) ≡ max (t.number + 1) (max (u.number + 1) (next_table us))
+    by_test true rest = swap (u.number + 1) (t.number + 1) (next_table us) (next_table (place_table t us)) rest
+    by_test false rest = refl
+
+next-by_number : (ts : List Table) → next_table (by_number ts) ≡ next_table ts
+next-by_number [] = refl
+next-by_number (t ∷ ts) = next-place t (by_number ts) ∙ ap (max (t.number + 1)) (next-by_number ts)
+
+-- a table more
+pub past-at : (ss : List Stored) (ids : List ℕ) (i n : ℕ) → i < length ids
+    → max (past n (option_and_then as_table (record_at ss (get_or ids i 0)))) (next_table (kind_at as_table ss (drop (i + 1) ids))) ≡ max n (next_table (kind_at as_table ss (drop i ids)))
+past-at ss ids i n within =
+    by_record (record_at ss (get_or ids i 0)) ∙ sym (ap (λ l. max n (next_table (kind_at as_table ss l))) (drop_more ids i 0 within))
+  where
+    by_kind : (k : Option Table) → max (past n k) (next_table (kind_at as_table ss (drop (i + 1) ids))) ≡ max n (next_table (cons_option k (kind_at as_table ss (drop (i + 1) ids))))
+    by_kind None = refl
+    by_kind (Some t) = omega arith
+
+    by_record : (o : Option Record) → max (past n (option_and_then as_table o)) (next_table (kind_at as_table ss (drop (i + 1) ids)))
+        ≡ max n (next_table (filter_map as_table (cons_option o (filter_map (record_at ss) (drop (i + 1) ids)))))
+    by_record None = refl
+    by_record (Some r) = by_kind (as_table r)
+
+-- the number that comes next, told by the index
+pub next_told : (kept : BTreeMap ℕ Record) (x : Index) → IsIndexed kept x → next_table (kind_at as_table (listed kept.entries) (ids_at x Tables)) ≡ next_table (by_number (parts_of (listed kept.entries)).tables)
+next_told kept x is = ap next_table (tables_told kept x is) ∙ sym (next-by_number (parts_of (listed kept.entries)).tables)

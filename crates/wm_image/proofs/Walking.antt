@@ -1,32 +1,31 @@
 -- The path of a version by the rules, and what is held along it.
-use Rattle.std.proofs.Common.{◌≡◌, ◌≢◌, ◌<◌, ◌≤◌, ◌+◌, ℕ, Bool, true, false, cond, ◌&&◌, ◌||◌, eqb, ◌==◌, nat_lt, nat_le, max, List, [], ◌∷◌, length, get_or, drop, Option, Some, None, Bor, is_some, refl, sym, ap, ◌∙◌, subst, arith, ◌⊎◌, inl, inr}
+use Rattle.std.proofs.Common.{◌≡◌, ◌≢◌, ◌<◌, ◌+◌, ℕ, Bool, true, false, cond, ◌&&◌, ◌||◌, ◌==◌, nat_lt, nat_le, max, List, [], ◌∷◌, length, get_or, drop, Option, Some, None, Bor, is_some, refl, sym, ap, ◌∙◌, subst, arith, ◌⊎◌, inl, inr}
 use Rattle.std.proofs.lemmas.Bool.{cases_eq, eq-eqb, ne_eqb, eqb-true}
-use Rattle.std.proofs.lemmas.List.{drop_more, drop_all}
+use Rattle.std.proofs.lemmas.List.{drop_more}
 use Rattle.std.specs.Bool.{then_some}
 use Rattle.std.specs.BTreeMap.{BTreeMap}
 use Rattle.std.specs.List.{filter, filter_map, list_all, cons_option}
 use Rattle.std.specs.Option.{IsSome, option_copied, option_map, option_map_or, option_or, option_and_then}
 use Rattle.std.specs.Ordering.{is_eq}
 use Rattle.wm_base.specs.Key.{key_order}
-use Rattle.wm_graph.specs.Parts.{Parts, parts_of, version_of, space_of, has_version, as_piece, as_version}
-use Rattle.wm_graph.specs.Rules.{keep_rules, are_counters, are_tables, are_spaces, are_versions, are_rows, are_pieces, differ, has_versions, is_version, is_version_of, stands_under}
+use Rattle.wm_graph.specs.Parts.{Parts, parts_of, version_of, space_of, as_piece, as_version}
+use Rattle.wm_graph.specs.Rules.{keep_rules, is_version, is_version_of, stands_under}
 use Rattle.wm_period.specs.Pieces.{Held}
 use Rattle.wm_spec.specs.Lists.{Cell}
 use Rattle.wm_spec.specs.Records.{record_at}
 use Rattle.wm_spec.specs.declared.record.Record.{Record}
 use Rattle.wm_spec.specs.declared.record.Record.TheVariants as records
-use Rattle.wm_spec.specs.declared.record.counters.Counters.{Counters}
 use Rattle.wm_spec.specs.declared.record.piece.PieceRecord.{PieceRecord}
 use Rattle.wm_spec.specs.declared.record.space.Space.{Space}
 use Rattle.wm_spec.specs.declared.record.stored.Stored.{Stored}
 use Rattle.wm_spec.specs.declared.record.version.Version.{Version}
-use Rattle.wm_state.specs.Standing.{newest_first, node_of, seen_at, stored_at, covers_at, held_by, latest, seen}
+use Rattle.wm_state.specs.Standing.{newest_first, node_of, seen_at, stored_at, held_by, latest, seen}
 use Rattle.wm_state.proofs.Apart.{ruled_versions, ruled as all_ruled}
 use Rattle.wm_tree.specs.Versions.{version_in, path_in, IsTree}
 use Rattle.wm_tree.specs.declared.version.Version.{Version as Node}
 use Rattle.wm_tree.proofs.Paths.{found, path_in-there, path_in-none}
 use Rattle.wm_image.proofs.Finding.{all_of, all_sought, filter-kind, versions_test}
-use Rattle.wm_image.proofs.Newest.{both, Stands, AllStand, AllStand-grow, tree_of, Descends-newest, version_in-newest, latest_in-greatest, same_number}
+use Rattle.wm_image.proofs.Newest.{both, Stands, AllStand, AllStand-grow, tree_of, Descends-newest, version_in-newest, latest_in-greatest}
 use Rattle.wm_image.specs.Indexed.{IsIndexed, ids_at, listed}
 use Rattle.wm_image.specs.Shown.{kind_at, greatest, newer, has_at, held_here, first_held, along}
 use Rattle.wm_image.specs.Sought.{VersionsOf, PiecesAt, is_sought}

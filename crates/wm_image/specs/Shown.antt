@@ -9,6 +9,7 @@ use Rattle.wm_spec.specs.declared.record.Record.{Record}
 use Rattle.wm_spec.specs.declared.record.piece.PieceRecord.{PieceRecord}
 use Rattle.wm_spec.specs.declared.record.space.Space.{Space}
 use Rattle.wm_spec.specs.declared.record.stored.Stored.{Stored}
+use Rattle.wm_spec.specs.declared.record.table.Table.{Table}
 use Rattle.wm_spec.specs.declared.record.version.Version.{Version}
 use Rattle.wm_state.specs.Standing.{held_by}
 
@@ -29,6 +30,11 @@ newer n (Some v) = max n v.number
 -- the piece is the version's own and covers the moment
 abbrev pub has_at : PieceRecord → ℕ → ℕ → Bool
 has_at x version time = (x.version == version) && (nat_le x.cells.from time && nat_lt time x.cells.till)
+
+-- the greater of a number and the one after that of a table, where there is one
+abbrev pub past : ℕ → Option Table → ℕ
+past n None = n
+past n (Some t) = max n (t.number + 1)
 
 -- what a piece says of a moment, where it is a version's own and covers it
 abbrev pub held_here : Option PieceRecord → ℕ → ℕ → Option Held

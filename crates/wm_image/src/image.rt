@@ -23,6 +23,7 @@ ghost use Rattle.wm_spec.specs.declared.record.space.Space.{Space as OneSpace};
 ghost use Rattle.wm_state.specs.Effects.{IsFree};
 ghost use Rattle.wm_state.specs.Listing.{IsListing};
 ghost use Rattle.wm_state.specs.Standing.{by_number, held_by, latest, saved_as, saved_in, seen};
+ghost use Rattle.wm_state.specs.State.{next_table};
 
 use crate::ids::{are_empty, first_id};
 use crate::index::Index;
@@ -35,7 +36,7 @@ use crate::records::{Kept, at, change_all, first, next_id};
 use crate::savepoints::{making_after, savepoint_in, savepoint_of_name};
 use crate::shown::{latest_of, nearest, own_ids, version_at};
 use crate::spaces::{number_after, space_of_name};
-use crate::tables::{first_named, first_numbered, id_named};
+use crate::tables::{after_last, first_named, first_numbered, id_named};
 use std::alloc::Global;
 use std::collections::BTreeMap;
 use std::marker::Model;
@@ -112,12 +113,18 @@ impl Image {
         found.unwrap()
     }
 
-    /// Whether there is a table.
-    pub fn has_tables(&self) -> bool
-        ensures some { result ≡ true → (parts_of self.now).tables ≡ [] → ⊥ }
-        ensures none { result ≡ false → (parts_of self.now).tables ≡ [] }
+    /// How many tables there are.
+    pub fn table_count(&self) -> usize
+        ensures { result ≡ length (parts_of self.now).tables }
     {
-        !self.index.tables.is_empty()
+        self.index.tables.len()
+    }
+
+    /// The number after the greatest of a table, 0 where there is none.
+    pub fn next_table(&self) -> u32
+        ensures { result ≡ next_table (by_number (parts_of self.now).tables) }
+    {
+        after_last(&self.kept, self.index.tables.as_slice())
     }
 
     /// The table of a name.

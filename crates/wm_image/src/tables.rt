@@ -6,9 +6,10 @@ ghost use Rattle.std.specs.Option.{option_copied, option_and_then};
 ghost use Rattle.std.specs.Str.{bytes_eq};
 ghost use Rattle.wm_graph.specs.Parts.{as_table};
 ghost use Rattle.wm_image.specs.Indexed.{listed};
-ghost use Rattle.wm_image.specs.Shown.{kind_at, passing};
+ghost use Rattle.wm_image.specs.Shown.{kind_at, past, passing};
 ghost use Rattle.wm_spec.specs.Records.{record_at};
 ghost use Rattle.wm_spec.specs.declared.record.table.Table.{Table as OneTable};
+ghost use Rattle.wm_state.specs.State.{next_table};
 
 use crate::kinds::table_of;
 use crate::records::{Kept, at};
@@ -75,4 +76,25 @@ pub fn first_numbered<'a>(kept: &'a Kept, ids: &[u64], number: u16) -> Option<&'
         }
     }
     None
+}
+
+/// The greater of a number and the one after that of a table, where there is one.
+fn past(number: u32, found: Option<&Table>) -> u32
+    ensures { result ≡ past number (option_copied found.entry) }
+{
+    match found {
+        Some(table) => number.max(u32::from(table.number) + 1),
+        None => number,
+    }
+}
+
+/// The number after the greatest of some tables, 0 where there is none.
+pub fn after_last(kept: &Kept, ids: &[u64]) -> u32
+    ensures { result ≡ next_table (kind_at as_table (listed kept.now.entries) ids.now) }
+{
+    let mut next = 0;
+    for id in ids {
+        next = past(next, table_of(at(kept, *id)));
+    }
+    next
 }

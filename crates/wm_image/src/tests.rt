@@ -117,6 +117,7 @@ fn records_are_found(rt: HostRuntime) -> Result<(), Fail> {
     assert!(rt; image.space(0).is_some() && image.space(1).is_none());
     assert!(rt; image.row(4).is_some() && image.row(5).is_none());
     assert!(rt; image.version(2).is_some() && image.version(3).is_none());
+    assert_eq!(rt; (image.table_count(), image.next_table()), (0, 0));
     assert!(rt; image.table_numbered(1).is_none() && image.record(7).is_some());
     assert_eq!(rt; (image.is_leaf(1), image.is_leaf(2)), (false, true));
     assert_eq!(rt;
@@ -226,6 +227,7 @@ fn a_store_is_loaded(rt: HostRuntime) -> Result<(), Fail> {
     assert_eq!(rt; image.counters().next_stamp, 2);
     assert_eq!(rt; image.id_of_counters(), 1);
     assert!(rt; image.table(b"T").is_some() && image.table(b"U").is_none());
+    assert_eq!(rt; (image.table_count(), image.next_table()), (1, 2));
     assert_eq!(rt;
         (image.id_of_table(b"T"), image.id_of_table(b"U")),
         (Some(4), None)
@@ -308,15 +310,21 @@ fn savepoint(alloc: Global, making: u64, name: &[u8], version: u64) -> Result<Re
     }))
 }
 
-/// Two workspaces, and three versions in LIVE, of which savepoints keep the second.
-fn third_batch(alloc: Global) -> Result<Batch, Memory> {
+/// Two workspaces, and three versions in LIVE.
+fn spaces_batch(alloc: Global) -> Result<Batch, Memory> {
     let changes = vec![in alloc;
-        becomes(1, counters()),
         becomes(2, live(alloc)?),
         becomes(3, child(alloc)?),
         becomes(4, version(1, 0)),
         becomes(5, version(2, 1)),
         becomes(6, version(3, 2)),
+    ]?;
+    Ok(batch_of(changes))
+}
+
+/// Two savepoints that keep the second version.
+fn savepoints_batch(alloc: Global) -> Result<Batch, Memory> {
+    let changes = vec![in alloc;
         becomes(7, savepoint(alloc, 6, b"B", 2)?),
         becomes(8, savepoint(alloc, 2, b"A", 2)?),
     ]?;
@@ -328,7 +336,8 @@ fn workspaces_are_found(rt: HostRuntime) -> Result<(), Fail> {
     let alloc = rt.alloc();
     let mut image = Image::new(alloc);
     assert_eq!(rt; (image.space_count(), image.next_space()), (0, 0));
-    image.apply(alloc, third_batch(alloc)?)?;
+    image.apply(alloc, spaces_batch(alloc)?)?;
+    image.apply(alloc, savepoints_batch(alloc)?)?;
     assert_eq!(rt; (image.space_count(), image.next_space()), (2, 5));
     let found = image.space_named(b"W").ok_or("a workspace")?;
     assert_eq!(rt; found.number, 4);
@@ -344,7 +353,8 @@ fn workspaces_are_found(rt: HostRuntime) -> Result<(), Fail> {
 fn savepoints_are_found(rt: HostRuntime) -> Result<(), Fail> {
     let alloc = rt.alloc();
     let mut image = Image::new(alloc);
-    image.apply(alloc, third_batch(alloc)?)?;
+    image.apply(alloc, spaces_batch(alloc)?)?;
+    image.apply(alloc, savepoints_batch(alloc)?)?;
     let found = image.savepoint(0, 2).ok_or("a savepoint")?;
     assert_eq!(rt; found.name.as_bytes(), b"A".as_slice());
     assert!(rt; image.savepoint(4, 2).is_none() && image.savepoint(0, 3).is_none());

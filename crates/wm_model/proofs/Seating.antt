@@ -1,11 +1,11 @@
 -- What lines that change the sessions alone do to each state that the engine stands for.
-use Rattle.std.proofs.Common.{◌≡◌, ℕ, ◌&&◌, nat_le, Bool, true, false, not, List, [], ◌∷◌, ◌++◌, length, Option, Some, None, is_some, refl, sym, ap, ◌∙◌}
+use Rattle.std.proofs.Common.{◌≡◌, ℕ, ◌&&◌, nat_le, Bool, true, false, List, [], length, None, is_some, refl, sym, ap, ◌∙◌}
 use Rattle.wm_graph.specs.Parts.{parts_of}
 use Rattle.wm_graph.specs.Rules.{keep_rules}
-use Rattle.wm_print.specs.Texts.{Answer, Fine}
+use Rattle.wm_print.specs.Texts.{Fine}
 use Rattle.wm_spec.specs.declared.record.stored.Stored.{Stored}
 use Rattle.wm_state.specs.State.{State, Session, Latest}
-use Rattle.wm_model.specs.Step.{connect, disconnect, run_for, session_of, is_name, session_there, no_session, bad_name, most_sessions, run_statement}
+use Rattle.wm_model.specs.Step.{connect, disconnect, run_for, session_of, is_name, session_there, no_session, bad_name, most_sessions}
 use Rattle.wm_model.specs.Planning.{StandsAt, Does, Stay, Open, Close}
 use Rattle.wm_model.proofs.Doing.{does_nothing, does_seat}
 use Rattle.wm_reader.specs.Grammar.{Statement}

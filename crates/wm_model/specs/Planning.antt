@@ -1,17 +1,19 @@
 -- What a plan over the records of a store says that a line does and answers.
-use Rattle.std.specs.Prelude.{◌≡◌, ◌+◌, ℕ, ℤ, true, List, [], ◌∷◌, ◌++◌, Option, Some, None}
-use Rattle.wm_graph.specs.Parts.{parts_of}
+use Rattle.std.specs.Prelude.{◌≡◌, ◌+◌, ℕ, ℤ, true, List, [], ◌∷◌, ◌++◌, Option}
+use Rattle.std.specs.Option.{option_map_or}
+use Rattle.wm_graph.specs.Parts.{Parts, parts_of}
 use Rattle.wm_graph.specs.Rules.{keep_rules}
 use Rattle.wm_print.specs.Texts.{Answer}
 use Rattle.wm_spec.specs.Records.{AreChanges}
 use Rattle.wm_spec.specs.declared.record.batch.Change.{Change}
 use Rattle.wm_spec.specs.declared.record.stored.Stored.{Stored}
 use Rattle.wm_state.specs.ById.{applied}
-use Rattle.wm_state.specs.State.{State, Session, Stand, table_named}
+use Rattle.wm_state.specs.State.{State, Session, Stand, Latest, At, table_named}
 use Rattle.wm_model.specs.Step.{closed, moved_to, line_work}
-use Rattle.wm_state.specs.Standing.{Stands, by_number}
+use Rattle.wm_state.specs.Standing.{Stands, by_number, latest, saved_as}
 use Rattle.wm_base.specs.declared.value.Value.{Value}
 use Rattle.wm_base.specs.declared.value.Value.TheVariants.{Num}
+use Rattle.wm_spec.specs.declared.record.savepoint.Savepoint.{Savepoint}
 use Rattle.wm_spec.specs.declared.record.counters.Counters.{Counters}
 use Rattle.wm_spec.specs.declared.record.table.Table.{Table}
 
@@ -53,6 +55,11 @@ stepped c m = record (moved c m) { next_stamp = c.next_stamp + 1 }
 -- the table of a name among records
 abbrev pub named : List Stored → List ℕ → Option Table
 named rs name = table_named name (by_number (parts_of rs).tables)
+
+-- the version that is read by one who stands so in a workspace: at a savepoint that is not there it is 0, the number of none
+abbrev pub version_read : Parts → ℕ → Stand → ℕ
+version_read p n Latest = latest p n
+version_read p n (At making) = option_map_or (λ (x : Savepoint). x.version) (saved_as p n making) 0
 
 -- the values of a row of two numbers
 abbrev pub row_values : ℤ → ℤ → List Value

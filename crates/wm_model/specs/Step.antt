@@ -1,5 +1,5 @@
 -- One line: the state that it leaves, and its answer.
-use Rattle.std.specs.Prelude.{ℕ, ◌+◌, ◌^◌, ◌==◌, List, [], ◌∷◌, ◌++◌, Bool, true, false, not, ◌&&◌, ◌||◌, nat_le, nat_lt, nat_eq, max, if◌then◌else◌, length, map, is_some, Option, None, Some, ℤ, codes}
+use Rattle.std.specs.Prelude.{ℕ, ◌+◌, ◌^◌, ◌==◌, List, [], ◌∷◌, ◌++◌, Bool, true, false, not, ◌&&◌, ◌||◌, nat_le, nat_lt, nat_eq, if◌then◌else◌, length, map, is_some, Option, None, Some, ℤ, codes}
 use Rattle.std.specs.List.{filter, filter_map, find, list_all, starts_with}
 use Rattle.std.specs.Option.{option_map}
 use Rattle.std.specs.Fmt.{decimal}
@@ -7,7 +7,6 @@ use Rattle.std.specs.Str.{bytes_eq, is_utf8}
 use Rattle.wm_base.specs.Period.{Span}
 use Rattle.wm_base.specs.declared.instant.TheConstants.{END}
 use Rattle.wm_base.specs.declared.kind.Kind.TheVariants.{Insert as Inserted}
-use Rattle.wm_base.specs.declared.row.Row.{Row}
 use Rattle.wm_base.specs.declared.value.Value.{Value}
 use Rattle.wm_base.specs.declared.value.Value.TheVariants.{Num}
 use Rattle.wm_base.specs.declared.refusal.Refusal.TheVariants.{Form, Limit}
@@ -335,6 +334,7 @@ goto_savepoint session name s = at_home s session (λ w. if bytes_eq name latest
   where
     go : Stand → State × Answer
     go stand = (record s { sessions = moved_to session.name session.space stand s.sessions }, Fine)
+
     at : Option Savepoint → State × Answer
     at None = (s, no_savepoint name)
     at (Some k) = go (At k.making)

@@ -8,6 +8,8 @@ mod parameters;
 mod parsing;
 mod queries;
 mod statements;
+#[cfg(test)]
+mod tests;
 
 pub use fault::ParseFault;
 pub use parsing::parse;

@@ -41,3 +41,4 @@ pub mod KeepSaved
 pub mod PlannedSaved
 pub mod Greatest
 pub mod Spaces
+pub mod Numbered

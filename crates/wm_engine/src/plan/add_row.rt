@@ -1,7 +1,6 @@
 //! INSERT.
-ghost use Rattle.std.specs.Prelude.{◌≡◌, ◌+◌, ◌<◌, ◌&&◌, ℕ, List, true, false, not, nat_lt, Some, is_some, IfOk};
+ghost use Rattle.std.specs.Prelude.{◌≡◌, ◌<◌, List, true, Some, is_some, IfOk};
 ghost use Rattle.wm_base.specs.declared.instant.TheConstants.{END};
-ghost use Rattle.wm_base.specs.declared.value.Value.TheVariants.{Num};
 ghost use Rattle.wm_graph.specs.Parts.{parts_of, space_of};
 ghost use Rattle.wm_graph.specs.Rules.{keep_rules, fit_columns};
 ghost use Rattle.wm_model.specs.Planning.{named, row_values};
@@ -40,8 +39,7 @@ fn are_two_numbers(columns: &[TableColumn], key: i64, value: i64) -> bool
 fn takes_row(table: &Table, key: i64, value: i64) -> bool
     ensures { result ≡ takes table.now (row_values key value) }
 {
-    !table.valid
-        && (table.key_column == 0 && are_two_numbers(table.columns.as_slice(), key, value))
+    !table.valid && (table.key_column == 0 && are_two_numbers(table.columns.as_slice(), key, value))
 }
 
 /// Whether a workspace has a row of a key.
@@ -119,7 +117,9 @@ fn add_here(
         return Ok(Planned::answered(alloc, not_built()));
     };
     match session.stand() {
-        Stand::Latest => add_to(alloc, image, moment, session, name, table, space, key, value),
+        Stand::Latest => add_to(
+            alloc, image, moment, session, name, table, space, key, value,
+        ),
         Stand::At(_) => Ok(Planned::answered(alloc, not_latest())),
     }
 }

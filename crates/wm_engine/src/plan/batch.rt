@@ -1,5 +1,5 @@
 //! The records and the changes that lines make.
-ghost use Rattle.std.specs.Prelude.{◌≡◌, ◌+◌, ◌<◌, ◌≤◌, ◌^◌, ◌∷◌, [], ◌++◌, map, IfOk, OnOk};
+ghost use Rattle.std.specs.Prelude.{◌≡◌, ◌+◌, ◌<◌, ◌^◌, ◌∷◌, [], ◌++◌, map, IfOk, OnOk};
 ghost use Rattle.wm_spec.specs.declared.record.Record.TheVariants as records;
 ghost use Rattle.wm_state.specs.Batches.{put, drop_one, create_batch, ready, savepoint_batch};
 ghost use Rattle.wm_state.specs.Effects.{longer, marked};

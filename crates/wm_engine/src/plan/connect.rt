@@ -1,9 +1,9 @@
 //! CONNECT and DISCONNECT.
-ghost use Rattle.std.specs.Prelude.{◌≡◌, ℕ, List, true, IfOk};
+ghost use Rattle.std.specs.Prelude.{◌≡◌, ◌&&◌, ℕ, List, true, IfOk};
 ghost use Rattle.wm_engine.specs.Planning.{DoesIt};
 ghost use Rattle.wm_graph.specs.Parts.{parts_of};
 ghost use Rattle.wm_graph.specs.Rules.{keep_rules};
-ghost use Rattle.wm_model.specs.Step.{connect, disconnect};
+ghost use Rattle.wm_model.specs.Step.{connect, disconnect, is_name};
 ghost use Rattle.wm_reader.specs.Views.{folded};
 ghost use Rattle.wm_spec.specs.declared.record.stored.Stored.{Stored};
 ghost use Rattle.wm_store.specs.Spelled.{FitPages};
@@ -12,13 +12,20 @@ use crate::names::is_name;
 use crate::planned::Planned;
 use crate::refuse::{bad_name, most_sessions, no_session, session_there};
 use crate::seating::Seating;
-use crate::session::{Session, session_named};
+use crate::session::{Session, is_open};
 use std::alloc::Global;
-use wm_base::Memory;
+use wm_base::{Memory, Name};
 use wm_reader::capitals_of;
 
 /// The most sessions that may be open.
 const SESSION_LIMIT: usize = 256;
+
+/// Whether a session may have the first name, and its user the second.
+fn are_names(name: &Name, user: &Name) -> bool
+    ensures { result ≡ (is_name name.now && is_name user.now) }
+{
+    is_name(name.as_bytes()) && is_name(user.as_bytes())
+}
 
 /// CONNECT opens a session, which stands in LIVE at what is newest.
 pub fn connect(
@@ -31,11 +38,11 @@ pub fn connect(
     ensures fit { IfOk result (λ p. FitPages p.changes) }
 {
     let called = capitals_of(alloc, name)?;
-    if session_named(sessions, name).is_some() {
+    if is_open(sessions, name) {
         return Ok(Planned::answered(alloc, session_there(called)));
     }
     let user = capitals_of(alloc, user)?;
-    if !(is_name(called.as_bytes()) && is_name(user.as_bytes())) {
+    if !are_names(&called, &user) {
         return Ok(Planned::answered(alloc, bad_name()));
     }
     if sessions.len() >= SESSION_LIMIT {
@@ -53,7 +60,7 @@ pub fn disconnect(alloc: Global, sessions: &[Session], name: &[u8]) -> Result<Pl
     ensures fit { IfOk result (λ p. FitPages p.changes) }
 {
     let called = capitals_of(alloc, name)?;
-    if session_named(sessions, name).is_none() {
+    if !is_open(sessions, name) {
         return Ok(Planned::answered(alloc, no_session(called)));
     }
     Ok(Planned::seated(alloc, Seating::Close(called)))

@@ -53,13 +53,7 @@ fn number_column(name: Name, not_null: bool) -> TableColumn
 }
 
 /// A table of two columns of numbers, of which the first is the key.
-fn table_of(
-    alloc: Global,
-    number: u16,
-    name: Name,
-    key: Name,
-    value: Name,
-) -> Result<Table, Memory>
+fn table_of(alloc: Global, number: u16, name: Name, key: Name, value: Name) -> Result<Table, Memory>
     ensures { IfOk result (λ table. table ≡ two_columns number name key value) }
 {
     let mut columns = TableColumns::new(alloc);

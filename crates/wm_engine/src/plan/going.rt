@@ -1,13 +1,18 @@
 //! GotoWorkspace and GotoSavepoint.
-ghost use Rattle.std.specs.Prelude.{◌≡◌, ℕ, List, true, IfOk};
+ghost use Rattle.std.specs.Prelude.{◌≡◌, ℕ, List, [], true, IfOk};
 ghost use Rattle.wm_engine.specs.Planning.{DoesIt};
+ghost use Rattle.wm_engine.specs.Stands.{stand_view};
+ghost use Rattle.wm_engine.specs.Views.{answer_view, seating_view};
 ghost use Rattle.wm_graph.specs.Parts.{parts_of};
 ghost use Rattle.wm_graph.specs.Rules.{keep_rules};
+ghost use Rattle.wm_model.specs.Planning.{Move};
 ghost use Rattle.wm_model.specs.Step.{goto_savepoint, goto_workspace};
+ghost use Rattle.wm_print.specs.Texts.{Fine};
 ghost use Rattle.wm_reader.specs.Reading.{unquoted};
 ghost use Rattle.wm_state.specs.State.{Session as SessionState};
 ghost use Rattle.wm_store.specs.Spelled.{FitPages};
 
+use crate::names::is_latest;
 use crate::planned::Planned;
 use crate::refuse::{no_savepoint, no_workspace, not_built};
 use crate::seating::Seating;
@@ -18,7 +23,11 @@ use wm_image::Image;
 use wm_reader::unquoted_of;
 
 /// Stands a session elsewhere.
-fn go(alloc: Global, session: &Session, space: u32, stand: Stand) -> Result<Planned, Memory> {
+fn go(alloc: Global, session: &Session, space: u32, stand: Stand) -> Result<Planned, Memory>
+    ensures changes { IfOk result (λ p. p.changes ≡ []) }
+    ensures seating { IfOk result (λ p. seating_view p.seating ≡ Move session.now.name space (stand_view stand)) }
+    ensures answer { IfOk result (λ p. answer_view p.answer ≡ Fine) }
+{
     let name = session.name().copy(alloc)?;
     Ok(Planned::seated(alloc, Seating::Move { name, space, stand }))
 }
@@ -53,11 +62,11 @@ pub fn goto_savepoint(
     ensures fit { IfOk result (λ p. FitPages p.changes) }
 {
     let space = session.space();
-    if image.space(space).is_none() {
+    let Some(_) = image.space(space) else {
         return Ok(Planned::answered(alloc, not_built()));
-    }
+    };
     let name = unquoted_of(alloc, name)?;
-    if name.as_bytes() == b"LATEST".as_slice() {
+    if is_latest(name.as_bytes()) {
         return go(alloc, session, space, Stand::Latest);
     }
     let Some(savepoint) = image.savepoint_named(space, name.as_bytes()) else {

@@ -3,6 +3,8 @@ ghost use Rattle.std.specs.Prelude.{◌≡◌, ℕ, List, true, IfOk};
 ghost use Rattle.wm_engine.specs.Planning.{DoesIt};
 ghost use Rattle.wm_graph.specs.Parts.{parts_of};
 ghost use Rattle.wm_graph.specs.Rules.{keep_rules};
+ghost use Rattle.wm_engine.specs.Stands.{stand_view};
+ghost use Rattle.wm_model.specs.Planning.{version_read};
 ghost use Rattle.wm_model.specs.Step.{listing};
 ghost use Rattle.wm_reader.specs.Views.{folded};
 ghost use Rattle.wm_state.specs.State.{Session as SessionState};
@@ -17,17 +19,24 @@ use wm_base::Memory;
 use wm_image::Image;
 use wm_reader::capitals_of;
 
-/// The version that a session reads, where it is there.
-fn version_of(image: &Image, session: &Session) -> Option<u64> {
-    let space = session.space();
-    image.space(space)?;
-    match session.stand() {
-        Stand::Latest => Some(image.latest(space)),
+/// The version that is read by one who stands so in a workspace. No version has the number 0.
+fn version_at(image: &Image, space: u32, stand: Stand) -> u64
+    ensures { result ≡ version_read (parts_of image.now) space (stand_view stand) }
+{
+    match stand {
+        Stand::Latest => image.latest(space),
         Stand::At(making) => match image.savepoint(space, making) {
-            Some(savepoint) => Some(savepoint.version),
-            None => Some(0),
+            Some(savepoint) => savepoint.version,
+            None => 0,
         },
     }
+}
+
+/// The version that a session reads.
+fn version_of(image: &Image, session: &Session) -> u64
+    ensures { result ≡ version_read (parts_of image.now) session.now.space session.now.stand }
+{
+    version_at(image, session.space(), session.stand())
 }
 
 /// SELECT gives the rows of a table by key, as the session sees them.
@@ -51,9 +60,9 @@ pub fn listing(
     if table.valid {
         return Ok(Planned::answered(alloc, not_built()));
     }
-    let Some(version) = version_of(image, session) else {
+    let Some(_) = image.space(session.space()) else {
         return Ok(Planned::answered(alloc, not_built()));
     };
-    let rows = image.listing(alloc, version, table.number)?;
+    let rows = image.listing(alloc, version_of(image, session), table.number)?;
     Ok(Planned::answered(alloc, Answer::Listing(rows)))
 }

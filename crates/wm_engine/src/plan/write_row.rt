@@ -1,16 +1,13 @@
 //! A row that is written into a workspace.
-ghost use Rattle.std.specs.Prelude.{◌≡◌, ◌+◌, ◌<◌, ◌≤◌, ◌^◌, ◌∷◌, [], ℕ, List, nat_lt, true, false, None, Some, is_some, IfOk};
+ghost use Rattle.std.specs.Prelude.{◌≡◌, ◌+◌, ◌<◌, ◌≤◌, ◌^◌, ℕ, List, nat_lt, false, None, Some, IfOk};
 ghost use Rattle.wm_base.specs.declared.instant.TheConstants.{END};
-ghost use Rattle.wm_base.specs.declared.value.Value.TheVariants.{Num};
-ghost use Rattle.wm_graph.specs.Parts.{parts_of};
 ghost use Rattle.wm_model.specs.Planning.{moved, named, row_values};
-ghost use Rattle.wm_model.specs.Step.{add_row, counter_limit, line_work};
+ghost use Rattle.wm_model.specs.Step.{add_row, counter_limit};
+ghost use Rattle.wm_model.specs.Writing.{IsNew, Served, ServedNew};
 ghost use Rattle.wm_spec.specs.Records.{record_at};
-ghost use Rattle.wm_state.specs.Effects.{IsFree, IsLeaf};
-ghost use Rattle.wm_state.specs.Standing.{latest, newest_first};
-ghost use Rattle.wm_state.specs.State.{Session as SessionState};
+ghost use Rattle.wm_state.specs.State.{Latest, Session as SessionState};
 ghost use Rattle.wm_store.specs.Spelled.{FitPages};
-ghost use Rattle.wm_engine.specs.Planning.{DoesIt, MayWrite};
+ghost use Rattle.wm_engine.specs.Planning.{DoesIt};
 
 use crate::answer::Answer;
 use crate::count::counted;
@@ -78,11 +75,9 @@ fn write_here(
     counters: Counters,
     id: u64,
 ) -> Result<Planned, Memory>
-    requires may { MayWrite image.now session.now moment writing.now.table.now writing.now.space.now writing.now.counters key value }
+    requires served { Served image.now session.now.space moment writing.now.table.now writing.now.space.now writing.now.counters key value }
+    requires latest { session.now.stand ≡ Latest }
     requires counters { counters ≡ moved writing.now.counters moment }
-    requires work { nat_lt counter_limit (writing.now.counters.work + line_work) ≡ false }
-    requires leaf { IsLeaf (latest (parts_of image.now) session.now.space) (newest_first (parts_of image.now).versions) }
-    requires free { IsFree (parts_of image.now) (latest (parts_of image.now) session.now.space) }
     requires ids { (i : ℕ) → id ≤ i → record_at image.now i ≡ None }
     requires room { id + 2 < 2 ^ 64 }
     ensures does { IfOk result (λ p. (xs : List SessionState) (name : List ℕ) → named image.now name ≡ Some writing.now.table.now → DoesIt image.now xs moment p (add_row session.now name key value)) }
@@ -127,9 +122,9 @@ fn write_above(
     counters: Counters,
     id: u64,
 ) -> Result<Planned, Memory>
-    requires may { MayWrite image.now session.now moment writing.now.table.now writing.now.space.now writing.now.counters key value }
+    requires served { ServedNew image.now session.now.space moment writing.now.table.now writing.now.space.now writing.now.counters key value }
+    requires latest { session.now.stand ≡ Latest }
     requires counters { counters ≡ moved writing.now.counters moment }
-    requires work { nat_lt counter_limit (writing.now.counters.work + line_work) ≡ false }
     requires ids { (i : ℕ) → id ≤ i → record_at image.now i ≡ None }
     requires room { id + 2 < 2 ^ 64 }
     ensures does { IfOk result (λ p. (xs : List SessionState) (name : List ℕ) → named image.now name ≡ Some writing.now.table.now → DoesIt image.now xs moment p (add_row session.now name key value)) }
@@ -177,7 +172,10 @@ pub fn write_row(
     key: i64,
     value: i64,
 ) -> Result<Planned, Memory>
-    requires may { MayWrite image.now session.now moment writing.now.table.now writing.now.space.now writing.now.counters key value }
+    requires new { IsNew image.now session.now.space writing.now.table.now writing.now.space.now writing.now.counters key value }
+    requires latest { session.now.stand ≡ Latest }
+    requires short { nat_lt counter_limit (writing.now.space.now.log_length + 1) ≡ false }
+    requires moment { moment < END }
     ensures does { IfOk result (λ p. (xs : List SessionState) (name : List ℕ) → named image.now name ≡ Some writing.now.table.now → DoesIt image.now xs moment p (add_row session.now name key value)) }
     ensures fit { IfOk result (λ p. FitPages p.changes) }
 {
@@ -192,7 +190,11 @@ pub fn write_row(
     }
     let version = image.latest(session.space());
     if image.is_leaf(version) && image.is_free(version) {
-        return write_here(alloc, image, moment, session, writing, key, value, counters, id);
+        return write_here(
+            alloc, image, moment, session, writing, key, value, counters, id,
+        );
     }
-    write_above(alloc, image, moment, session, writing, key, value, counters, id)
+    write_above(
+        alloc, image, moment, session, writing, key, value, counters, id,
+    )
 }

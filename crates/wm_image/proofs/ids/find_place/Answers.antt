@@ -1,4 +1,4 @@
-use Rattle.std.proofs.Common.{◌≡◌, ◌<◌, length, get_or, take, refl, add-one, subst, arith}
+use Rattle.std.proofs.Common.{get_or, refl, add-one, subst, arith}
 use Rattle.std.proofs.lemmas.List.{take_all}
 use Rattle.wm_image.proofs.IdLists.{Apart, Apart-more, remove_found, without-apart}
 use Rattle.wm_image.proofs.ids.find_place.Goals as goal

@@ -1,4 +1,4 @@
-use Rattle.std.proofs.Common.{◌≡◌, ℕ, ◌&&◌, cond, eqb, List, sym, ap, ◌∙◌}
+use Rattle.std.proofs.Common.{◌&&◌, cond, eqb, List, sym, ap, ◌∙◌}
 use Rattle.std.specs.Ordering.{is_eq}
 use Rattle.wm_base.specs.Key.{key_order}
 use Rattle.wm_base.specs.declared.value.Value.{Value}

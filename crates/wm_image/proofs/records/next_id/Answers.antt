@@ -1,4 +1,3 @@
-use Rattle.std.proofs.Common.{◌≡◌, ℕ, ◌<◌, ◌≤◌, arith}
 use Rattle.wm_image.proofs.Listed.{above_last, next_above, next_full, none_there}
 use Rattle.wm_image.proofs.records.next_id.Goals as goal
 

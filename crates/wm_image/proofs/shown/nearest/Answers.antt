@@ -1,7 +1,7 @@
-use Rattle.std.proofs.Common.{◌≡◌, ℕ, List, ◌∷◌, Option, Some, None, true, false, is_some, sym, ap, ◌∙◌}
+use Rattle.std.proofs.Common.{ℕ, Option, true, false, sym, ap, ◌∙◌}
 use Rattle.std.specs.Option.{option_map, option_copied}
-use Rattle.wm_graph.specs.Parts.{parts_of, as_piece, version_of}
-use Rattle.wm_image.proofs.Walking.{Ruled, ruled, path_goes_on, path_ends, near_found, near_on, some_told}
+use Rattle.wm_graph.specs.Parts.{parts_of, as_piece}
+use Rattle.wm_image.proofs.Walking.{ruled, path_goes_on, path_ends, near_found, near_on, some_told}
 use Rattle.wm_image.specs.Indexed.{listed}
 use Rattle.wm_image.specs.Shown.{along, first_held, kind_at}
 use Rattle.wm_period.specs.Pieces.{Held}

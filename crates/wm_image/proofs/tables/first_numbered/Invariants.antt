@@ -1,6 +1,5 @@
 use Rattle.std.proofs.Common.{◌≡◌, ◌==◌, drop}
 use Rattle.std.specs.List.{find}
-use Rattle.std.specs.Str.{bytes_eq}
 use Rattle.wm_graph.specs.Parts.{as_table}
 use Rattle.wm_image.specs.Indexed.{listed}
 use Rattle.wm_image.specs.Shown.{kind_at}

@@ -1,7 +1,7 @@
-use Rattle.std.proofs.Common.{◌≡◌, ℕ, ℤ, ◌<◌, ◌≤◌, ◌&&◌, Bool, false, List, [], ◌∷◌, length, refl, sym, arith}
+use Rattle.std.proofs.Common.{◌≡◌, ℤ, ◌<◌, ◌≤◌, ◌&&◌, Bool, false, List, [], ◌∷◌, length, refl, sym, arith}
 use Rattle.wm_graph.specs.Rules.{fit_columns, fits_column}
 use Rattle.wm_base.specs.declared.value.Value.TheVariants.{Num}
-use Rattle.wm_model.proofs.Adding.{row_values}
+use Rattle.wm_model.specs.Planning.{row_values}
 use Rattle.wm_spec.specs.declared.record.column.TableColumn.{TableColumn}
 use Rattle.wm_engine.proofs.plan.add_row.are_two_numbers.Goals as goal
 

@@ -1,3 +1,4 @@
+-- those that were gone through are copied
 use Rattle.std.proofs.Common.{◌≡◌, take}
 use Rattle.wm_engine.proofs.plan.batch.column_copies.Given as goal
 

@@ -1,3 +1,4 @@
+-- those that were gone through are dropped
 use Rattle.std.proofs.Common.{◌≡◌, ◌++◌, map, take}
 use Rattle.wm_state.specs.Batches.{drop_one}
 use Rattle.wm_engine.proofs.plan.batch.drop_all.Given as goal

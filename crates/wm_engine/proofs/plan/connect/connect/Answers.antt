@@ -1,20 +1,52 @@
-use Rattle.std.proofs.Common.{◌≡◌, ℕ, true, false, not, ◌==◌, List, [], ◌∷◌, Some, None, length, refl, sym, ap, ◌∙◌}
-use Rattle.wm_model.proofs.Doing.{does_connect, does_not_connect}
-use Rattle.wm_model.specs.Step.{connect, not_built}
+use Rattle.std.proofs.Common.{◌≡◌, ℕ, ◌<◌, ◌≤◌, ◌&&◌, nat_le, Bool, true, false, List, [], refl, sym, ap, ◌∙◌, arith}
+use Rattle.std.proofs.lemmas.Bool.Decides.{nat_tests}
+use Rattle.wm_model.proofs.Seating.{connect_there, connect_unnamed, connect_full, does_connect}
+use Rattle.wm_model.specs.Planning.{Stay, Open}
+use Rattle.wm_model.specs.Step.{connect, is_name, session_there, bad_name, most_sessions}
 use Rattle.wm_print.specs.Texts.{Fine}
-use Rattle.wm_state.specs.State.{Session}
-use Rattle.wm_engine.proofs.Planning.{told, none_counted, some_counted}
-use Rattle.wm_engine.specs.Views.{folded, answer_view}
+use Rattle.wm_state.specs.State.{Latest}
+use Rattle.wm_reader.specs.Views.{folded}
+use Rattle.wm_engine.proofs.Planning.{told}
+use Rattle.wm_engine.specs.Views.{answer_view, seating_view}
 use Rattle.wm_engine.proofs.plan.connect.connect.Goals as goal
 
-pub returns-then-not-is_empty-clause-does : goal.returns-then-not-is_empty-clause-does
-returns-then-not-is_empty-clause-does c = λ rs m rules.
-    told rs c.args.sessions.now m c.answered.result [] None not_built (connect (folded c.args.name.now) (folded c.args.user.now)) c.answered.ensures.changes c.answered.ensures.session
-    (ap answer_view c.answered.ensures.answer ∙ c.not_built.ensures)
-    (does_not_connect rs c.args.sessions.now m (folded c.args.name.now) (folded c.args.user.now) rules (some_counted c.args.sessions.now c.if-not-is_empty.ensures))
+-- two names are good, or not, whatever they are called
+both_named : (called user a b : List ℕ) (c : Bool) → called ≡ a → user ≡ b → c ≡ (is_name called && is_name user) → (is_name a && is_name b) ≡ c
+both_named called user a b c one two is = ap (λ n. is_name n && is_name b) (sym one) ∙ ap (λ n. is_name called && is_name n) (sym two) ∙ sym is
+
+full : (n : ℕ) → 256 ≤ n → nat_le 256 n ≡ true
+full n le = grind (arith, nat_tests, le)
+
+room : (n : ℕ) → n < 256 → nat_le 256 n ≡ false
+room n lt = grind (arith, nat_tests, lt)
+
+pub returns-then-is_open-clause-does : goal.returns-then-is_open-clause-does
+returns-then-is_open-clause-does c = λ rs m rules.
+    let name = folded c.args.name.now in
+    let user = folded c.args.user.now in
+    told rs c.args.sessions.now m c.answered.result [] Stay (session_there name) (connect name user) c.answered.ensures.changes (ap seating_view c.answered.ensures.seating)
+    (ap answer_view c.answered.ensures.answer ∙ c.session_there.ensures ∙ ap session_there c.in_ok-called.ensures) (connect_there rs c.args.sessions.now m name user rules (sym c.if-is_open.ensures))
+
+pub returns-then-not-are_names-clause-does : goal.returns-then-not-are_names-clause-does
+returns-then-not-are_names-clause-does c = λ rs m rules.
+    let name = folded c.args.name.now in
+    let user = folded c.args.user.now in
+    told rs c.args.sessions.now m c.answered-then-not-are_names.result [] Stay bad_name (connect name user) c.answered-then-not-are_names.ensures.changes (ap seating_view c.answered-then-not-are_names.ensures.seating)
+    (ap answer_view c.answered-then-not-are_names.ensures.answer ∙ c.bad_name.ensures)
+    (connect_unnamed rs c.args.sessions.now m name user rules (sym c.if-is_open.ensures) (both_named _ _ name user false c.in_ok-called.ensures c.in_ok-user.ensures c.if-not-are_names.ensures))
+
+pub returns-then-sessions-ge-SESSION_LIMIT-clause-does : goal.returns-then-sessions-ge-SESSION_LIMIT-clause-does
+returns-then-sessions-ge-SESSION_LIMIT-clause-does c = λ rs m rules.
+    let name = folded c.args.name.now in
+    let user = folded c.args.user.now in
+    told rs c.args.sessions.now m c.answered-then-sessions-ge-SESSION_LIMIT.result [] Stay most_sessions (connect name user) c.answered-then-sessions-ge-SESSION_LIMIT.ensures.changes (ap seating_view c.answered-then-sessions-ge-SESSION_LIMIT.ensures.seating)
+    (ap answer_view c.answered-then-sessions-ge-SESSION_LIMIT.ensures.answer ∙ c.most_sessions.ensures)
+    (connect_full rs c.args.sessions.now m name user rules (sym c.if-is_open.ensures) (both_named _ _ name user true c.in_ok-called.ensures c.in_ok-user.ensures c.if-not-are_names.ensures) (full _ c.if-sessions-ge-SESSION_LIMIT.true))
 
 pub returns-clause-does : goal.returns-clause-does
 returns-clause-does c = λ rs m rules.
-    told rs c.args.sessions.now m c.opening.result [] (Some (record { name = folded c.args.name.now; user = folded c.args.user.now })) Fine (connect (folded c.args.name.now) (folded c.args.user.now)) c.opening.ensures.changes
-    (c.opening.ensures.session ∙ ap (λ (x : Session). Some x) c.in_ok-session.ensures) (ap answer_view c.opening.ensures.answer)
-    (does_connect rs c.args.sessions.now m (folded c.args.name.now) (folded c.args.user.now) rules (none_counted c.args.sessions.now c.if-not-is_empty.ensures))
+    let name = folded c.args.name.now in
+    let user = folded c.args.user.now in
+    told rs c.args.sessions.now m c.seated.result [] (Open (record { name = name; user = user; space = 0; stand = Latest })) Fine (connect name user) c.seated.ensures.changes
+    (ap seating_view c.seated.ensures.seating ∙ ap Open (c.new.ensures ∙ rw (c.in_ok-called.ensures, c.in_ok-user.ensures) refl)) (ap answer_view c.seated.ensures.answer)
+    (does_connect rs c.args.sessions.now m name user rules (sym c.if-is_open.ensures) (both_named _ _ name user true c.in_ok-called.ensures c.in_ok-user.ensures c.if-not-are_names.ensures) (room _ c.if-sessions-ge-SESSION_LIMIT.false))

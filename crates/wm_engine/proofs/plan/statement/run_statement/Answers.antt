@@ -1,29 +1,59 @@
-use Rattle.std.proofs.Common.{◌≡◌, ℕ, ℤ, List, Result, Ok, Err, IfOk, refl, sym, ap, ◌∙◌, w64, rules}
+use Rattle.std.proofs.Common.{◌≡◌, List, refl, w64, rules}
 use mir.Val.{SFits}
 use Rattle.std.proofs.lemmas.Int.{to_z-of_z}
-use Rattle.wm_base.specs.declared.memory.Memory.{Memory}
-use Rattle.wm_model.specs.Step.{run_statement, create, enable, listing, add_row}
-use Rattle.wm_spec.specs.declared.record.stored.Stored.{Stored}
-use Rattle.wm_state.specs.State.{State, Session}
-use Rattle.wm_engine.specs.Planning.{DoesIt}
-use Rattle.wm_engine.proofs.Planning.{for_users, for_moments, does_for}
-use Rattle.wm_engine.specs.Views.{folded, statement_view}
-use Rattle.wm_engine.specs.declared.read.tree.Statement.TheVariants.{Create, Enable, Insert, Select}
-use Rattle.wm_engine.specs.declared.planned.Planned.{Planned}
+use Rattle.wm_model.specs.Step.{run_statement, create, enable, add_row, listing, create_workspace, create_savepoint, goto_workspace, goto_savepoint}
+use Rattle.wm_reader.specs.Reading.{unquoted}
+use Rattle.wm_reader.specs.Views.{folded, statement_view}
+use Rattle.wm_reader.specs.declared.tree.Statement.TheVariants.{Create, Enable, Insert, Select, CreateWorkspace, CreateSavepoint, GotoWorkspace, GotoSavepoint}
+use Rattle.wm_engine.proofs.Planning.{for_moment, for_sessions}
 use Rattle.wm_engine.proofs.plan.statement.run_statement.Goals as goal
 
+pub returns-in-Select-clause-does : goal.returns-in-Select-clause-does
+returns-in-Select-clause-does c =
+    rw c.in-Select.is
+    (for_moment c.args.image.now c.args.moment c.listing.result (listing c.args.session.now (folded c.in-Select.table.now)) (run_statement c.args.session.now (statement_view (Select c.in-Select.table))) (λ s. refl) c.listing.ensures.does)
+
+pub returns-in-GotoWorkspace-clause-does : goal.returns-in-GotoWorkspace-clause-does
+returns-in-GotoWorkspace-clause-does c =
+    rw c.in-GotoWorkspace.is
+    (for_moment c.args.image.now c.args.moment c.goto_workspace.result (goto_workspace c.args.session.now (unquoted c.in-GotoWorkspace.workspace.now)) (run_statement c.args.session.now (statement_view (GotoWorkspace c.in-GotoWorkspace.workspace))) (λ s. refl)
+    c.goto_workspace.ensures.does)
+
+pub returns-in-GotoSavepoint-clause-does : goal.returns-in-GotoSavepoint-clause-does
+returns-in-GotoSavepoint-clause-does c =
+    rw c.in-GotoSavepoint.is
+    (for_moment c.args.image.now c.args.moment c.goto_savepoint.result (goto_savepoint c.args.session.now (unquoted c.in-GotoSavepoint.savepoint.now)) (run_statement c.args.session.now (statement_view (GotoSavepoint c.in-GotoSavepoint.savepoint))) (λ s. refl)
+    c.goto_savepoint.ensures.does)
+
 pub returns-in-Create-clause-does : goal.returns-in-Create-clause-does
-returns-in-Create-clause-does c = rw c.in-Create.is (for_users c.args.image.now c.args.moment c.create.result (create (folded c.in-Create.table.now) (folded c.in-Create.key.now) (folded c.in-Create.value.now)) (λ user. run_statement user (statement_view (Create c.in-Create.table c.in-Create.key c.in-Create.value))) (λ user s. refl) c.create.ensures.does)
+returns-in-Create-clause-does c =
+    rw c.in-Create.is
+    (for_sessions c.args.image.now c.args.moment c.create.result (create (folded c.in-Create.table.now) (folded c.in-Create.key.now) (folded c.in-Create.value.now))
+    (run_statement c.args.session.now (statement_view (Create c.in-Create.table c.in-Create.key c.in-Create.value))) (λ s. refl) c.create.ensures.does)
 
 pub returns-in-Enable-clause-does : goal.returns-in-Enable-clause-does
-returns-in-Enable-clause-does c = rw c.in-Enable.is (for_users c.args.image.now c.args.moment c.enable.result (enable (folded c.in-Enable.table.now)) (λ user. run_statement user (statement_view (Enable c.in-Enable.table))) (λ user s. refl) c.enable.ensures.does)
+returns-in-Enable-clause-does c =
+    rw c.in-Enable.is
+    (for_sessions c.args.image.now c.args.moment c.enable.result (enable (folded c.in-Enable.table.now) c.in-Enable.history) (run_statement c.args.session.now (statement_view (Enable c.in-Enable.table c.in-Enable.history))) (λ s. refl)
+    c.enable.ensures.does)
 
 pub returns-in-Insert-clause-does : goal.returns-in-Insert-clause-does
 returns-in-Insert-clause-does c =
     let key_fits : SFits w64 c.in-Insert.key = search rules in
     let value_fits : SFits w64 c.in-Insert.value = search rules in
-    rw c.in-Insert.is (does_for c.args.image.now c.args.moment c.add_row.result (λ user. add_row user (folded c.in-Insert.table.now) c.in-Insert.key c.in-Insert.value) (λ user. run_statement user (statement_view (Insert c.in-Insert.table c.in-Insert.key c.in-Insert.value)))
-    (λ user s. refl) (rw (to_z-of_z w64 c.in-Insert.key key_fits, to_z-of_z w64 c.in-Insert.value value_fits) at c.add_row.ensures.does))
+    rw c.in-Insert.is
+    (for_sessions c.args.image.now c.args.moment c.add_row.result (add_row c.args.session.now (folded c.in-Insert.table.now) c.in-Insert.key c.in-Insert.value)
+    (run_statement c.args.session.now (statement_view (Insert c.in-Insert.table c.in-Insert.key c.in-Insert.value))) (λ s. refl)
+    (rw (to_z-of_z w64 c.in-Insert.key key_fits, to_z-of_z w64 c.in-Insert.value value_fits) at c.add_row.ensures.does))
 
-pub returns-in-Select-clause-does : goal.returns-in-Select-clause-does
-returns-in-Select-clause-does c = rw c.in-Select.is (for_moments c.args.image.now c.args.moment c.listing.result (listing (folded c.in-Select.table.now)) (λ user. run_statement user (statement_view (Select c.in-Select.table))) (λ user s. refl) c.listing.ensures.does)
+pub returns-in-CreateWorkspace-clause-does : goal.returns-in-CreateWorkspace-clause-does
+returns-in-CreateWorkspace-clause-does c =
+    rw c.in-CreateWorkspace.is
+    (for_sessions c.args.image.now c.args.moment c.create_workspace.result (create_workspace c.args.session.now (unquoted c.in-CreateWorkspace.workspace.now))
+    (run_statement c.args.session.now (statement_view (CreateWorkspace c.in-CreateWorkspace.workspace))) (λ s. refl) c.create_workspace.ensures.does)
+
+pub returns-in-CreateSavepoint-clause-does : goal.returns-in-CreateSavepoint-clause-does
+returns-in-CreateSavepoint-clause-does c =
+    rw c.in-CreateSavepoint.is
+    (for_sessions c.args.image.now c.args.moment c.create_savepoint.result (create_savepoint (unquoted c.in-CreateSavepoint.workspace.now) (unquoted c.in-CreateSavepoint.savepoint.now))
+    (run_statement c.args.session.now (statement_view (CreateSavepoint c.in-CreateSavepoint.workspace c.in-CreateSavepoint.savepoint))) (λ s. refl) c.create_savepoint.ensures.does)

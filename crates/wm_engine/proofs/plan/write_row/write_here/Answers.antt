@@ -1,34 +1,47 @@
-use Rattle.std.proofs.Common.{◌≡◌, ℕ, List, [], ◌∷◌, None, Some, refl, sym, ap, ◌∙◌}
-use Rattle.std.proofs.Common.{w64}
+use Rattle.std.proofs.Common.{◌≡◌, ap, ◌∙◌, w64}
 use Rattle.std.proofs.lemmas.Int.{to_z-of_z}
-use Rattle.wm_graph.specs.Parts.{parts_of}
+use Rattle.wm_graph.specs.Parts.{parts_of, space_of}
 use Rattle.wm_spec.specs.Records.{record_at}
-use Rattle.wm_spec.specs.declared.record.batch.Change.{Change}
+use Rattle.wm_state.specs.Standing.{latest}
 use Rattle.wm_engine.proofs.Planning.{counters_at}
-use Rattle.wm_engine.proofs.Writing.{Made, Places, here_batch, here_is, here_fits, space_at, wrote_here}
-use Rattle.wm_engine.specs.Views.{answer_view}
+use Rattle.wm_engine.proofs.Writing.{Made, here_batch, here_is, here_fits, space_at, wrote_here}
+use Rattle.wm_engine.specs.Views.{answer_view, seating_view}
 use Rattle.wm_engine.proofs.plan.write_row.write_here.Goals as goal
 
-made : (c : goal.After-drop-dropped-2) → Made c.args.image.now c.args.moment c.args.writing.now.table.now c.args.writing.now.live.now c.args.writing.now.counters c.args.key c.args.value c.latest-version.result c.in_ok-row_key.row_key c.args.counters c.in_ok-space.space c.in_ok-row.row c.piece_of-piece.result
-made c = record { counters_are = c.requires.counters; space_is = c.in_ok-space.ensures; row_is = rw (to_z-of_z w64 c.args.key c.ranges.key, to_z-of_z w64 c.args.value c.ranges.value) at c.in_ok-row.ensures; key_is = rw (to_z-of_z w64 c.args.key c.ranges.key) at c.in_ok-row_key.ensures; piece_is = c.piece_of-piece.ensures }
+made : (c : goal.After-drop-dropped-2)
+    → Made c.args.image.now c.args.moment c.args.writing.now.table.now c.args.writing.now.space.now c.args.writing.now.counters c.args.key c.args.value c.latest-version.result c.in_ok-row_key.row_key c.args.counters c.in_ok-space.space c.in_ok-row.row
+    c.piece_of-piece.result
+made c = record {
+  counters_are = c.requires.counters;
+  space_is = c.in_ok-space.ensures;
+  row_is = rw (to_z-of_z w64 c.args.key c.ranges.key, to_z-of_z w64 c.args.value c.ranges.value) at c.in_ok-row.ensures;
+  key_is = rw (to_z-of_z w64 c.args.key c.ranges.key) at c.in_ok-row_key.ensures;
+  piece_is = c.piece_of-piece.ensures;
+}
 
-changes : (c : goal.After-drop-dropped-2) → c.changing.result.changes ≡ here_batch c.args.image.now c.args.moment c.args.writing.now.table.now c.args.writing.now.live.now c.args.writing.now.counters c.args.key c.args.value c.id_of_counters.result c.unwrap-space_id.result c.args.id
-changes c = c.changing.ensures.changes ∙ c.in_ok-changes.ensures
-    ∙ here_is c.args.image.now c.args.moment c.args.writing.now.table.now c.args.writing.now.live.now c.args.writing.now.counters c.args.key c.args.value c.latest-version.result c.in_ok-row_key.row_key c.args.counters c.in_ok-space.space
-    c.in_ok-row.row c.piece_of-piece.result c.id_of_counters.result c.unwrap-space_id.result c.args.id c.as_slice.result.now (made c) c.latest-version.ensures (c.as_slice.ensures.value ∙ c.in_ok-dropped.ensures)
+changes : (c : goal.After-drop-dropped-2)
+    → c.changing.result.changes
+    ≡ here_batch c.args.image.now c.args.session.now.space c.args.moment c.args.writing.now.table.now c.args.writing.now.space.now c.args.writing.now.counters c.args.key c.args.value c.id_of_counters.result c.unwrap-space_id.result c.args.id
+changes c =
+    c.changing.ensures.changes ∙ c.in_ok-changes.ensures
+    ∙ here_is c.args.image.now c.args.session.now.space c.args.moment c.args.writing.now.table.now c.args.writing.now.space.now c.args.writing.now.counters c.args.key c.args.value c.latest-version.result c.in_ok-row_key.row_key c.args.counters
+    c.in_ok-space.space c.in_ok-row.row c.piece_of-piece.result c.id_of_counters.result c.unwrap-space_id.result c.args.id c.as_slice.result.now (made c) (c.latest-version.ensures ∙ ap (latest (parts_of c.args.image.now)) c.space.ensures)
+    (c.as_slice.ensures.value ∙ c.in_ok-dropped.ensures)
 
 pub returns-clause-does : goal.returns-clause-does
-returns-clause-does c = λ xs user name found.
-    wrote_here c.args.image.now xs c.args.moment user name c.changing.result c.args.writing.now.table.now c.args.writing.now.live.now c.args.writing.now.counters c.args.key c.args.value c.id_of_counters.result c.unwrap-space_id.result c.args.id
-    c.requires.may c.requires.work c.requires.leaf
+returns-clause-does c = λ xs name found.
+    wrote_here c.args.image.now xs c.args.moment c.args.session.now name c.changing.result c.args.writing.now.table.now c.args.writing.now.space.now c.args.writing.now.counters c.args.key c.args.value c.id_of_counters.result
+    c.unwrap-space_id.result c.args.id c.requires.served c.requires.latest
     (record {
       sorted = c.id_of_counters.ensures.ascend;
-      counters = counters_at c.args.writing.now.counters (parts_of c.args.image.now).counters (record_at c.args.image.now c.id_of_counters.result) c.requires.may.one c.id_of_counters.ensures.there;
-      space = space_at c.args.image.now 0 c.id_of_space.result c.unwrap-space_id.result c.args.writing.now.live.now c.unwrap-space_id.ensures c.id_of_space.ensures.there c.requires.may.space;
+      counters = counters_at c.args.writing.now.counters (parts_of c.args.image.now).counters (record_at c.args.image.now c.id_of_counters.result) c.requires.served.new.row.one c.id_of_counters.ensures.there;
+      space = space_at c.args.image.now c.space-2.result c.id_of_space.result c.unwrap-space_id.result c.args.writing.now.space.now c.unwrap-space_id.ensures c.id_of_space.ensures.there
+          (ap (space_of (parts_of c.args.image.now).spaces) c.space-2.ensures ∙ c.requires.served.new.row.aimed.space);
       above = c.requires.ids;
     })
-    (changes c) c.changing.ensures.session (ap answer_view c.changing.ensures.answer) found
+    (changes c) (ap seating_view c.changing.ensures.seating) (ap answer_view c.changing.ensures.answer) found
 
 pub returns-clause-fit : goal.returns-clause-fit
 returns-clause-fit c =
-    here_fits c.args.image.now c.args.moment c.args.writing.now.table.now c.args.writing.now.live.now c.args.writing.now.counters c.args.key c.args.value c.id_of_counters.result c.unwrap-space_id.result c.args.id c.changing.result.changes c.requires.may (changes c)
+    here_fits c.args.image.now c.args.session.now.space c.args.moment c.args.writing.now.table.now c.args.writing.now.space.now c.args.writing.now.counters c.args.key c.args.value c.id_of_counters.result c.unwrap-space_id.result c.args.id
+    c.changing.result.changes c.requires.served.new (changes c)

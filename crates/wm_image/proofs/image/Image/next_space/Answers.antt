@@ -1,7 +1,7 @@
-use Rattle.std.proofs.Common.{◌≡◌, ◌+◌, ◌==◌, ℕ, nat_lt, refl, sym, ap, ◌∙◌}
+use Rattle.std.proofs.Common.{◌==◌, ℕ, nat_lt, refl, sym, ap, ◌∙◌}
 use Rattle.std.specs.List.{list_all}
 use Rattle.std.specs.Option.{option_copied}
-use Rattle.wm_graph.specs.Parts.{parts_of, space_of}
+use Rattle.wm_graph.specs.Parts.{parts_of}
 use Rattle.wm_image.proofs.Firsts.{some_found}
 use Rattle.wm_image.proofs.Lasts.{LastOf, all_before, last_there}
 use Rattle.wm_image.proofs.Spaced.{is_numbered, last_numbered}

@@ -1,4 +1,4 @@
-use Rattle.std.proofs.Common.{◌≡◌, true, ℕ, List, sym, ap, ◌∙◌, subst}
+use Rattle.std.proofs.Common.{◌≡◌, true, ℕ, List, ap, ◌∙◌}
 use Rattle.std.specs.List.{find}
 use Rattle.wm_graph.specs.Parts.{parts_of, as_table}
 use Rattle.wm_graph.specs.Rules.{keep_rules}
