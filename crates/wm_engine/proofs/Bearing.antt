@@ -1,12 +1,12 @@
 -- What is told of the plan by which a workspace is born.
-use Rattle.std.proofs.Common.{◌≡◌, ℕ, ◌+◌, ◌<◌, ◌≤◌, ◌^◌, ◌&&◌, nat_lt, nat_le, true, false, List, [], ◌∷◌, ◌++◌, length, length-append, Some, Result, Ok, Err, IfOk, refl, ap, ◌∙◌, arith}
+use Rattle.std.proofs.Common.{◌≡◌, ℕ, ◌+◌, ◌<◌, ◌≤◌, ◌^◌, ◌&&◌, nat_lt, nat_le, true, false, List, [], ◌∷◌, ◌++◌, length, length-append, Some, Result, Ok, Err, IfOk, refl, ap, subst, ◌∙◌, arith}
 use Rattle.std.proofs.lemmas.Fmt.{length-decimal-le}
 use Rattle.std.specs.Fmt.{decimal}
 use Rattle.wm_base.specs.declared.instant.TheConstants.{END}
 use Rattle.wm_base.specs.declared.memory.Memory.{Memory}
 use Rattle.wm_graph.specs.Parts.{Parts, parts_of, space_of}
 use Rattle.wm_graph.specs.Rules.{keep_rules, is_short}
-use Rattle.wm_model.specs.Saving.{Point, BearsIn, MayBearIn, point_at, next_place_at, made_at, implicit_of, birth_record, child_record, child_version, versioned}
+use Rattle.wm_model.specs.Saving.{Point, BearsIn, BearsRoomy, MayBearIn, point_at, next_place_at, made_at, implicit_of, birth_record, child_record, child_version, versioned}
 use Rattle.wm_model.specs.Step.{create_workspace, number_limit, implicit_front}
 use Rattle.wm_model.proofs.Points.{counted_well}
 use Rattle.wm_spec.specs.declared.record.Record.TheVariants as records
@@ -15,13 +15,13 @@ use Rattle.wm_spec.specs.declared.record.counters.Counters.{Counters}
 use Rattle.wm_spec.specs.declared.record.savepoint.Savepoint.{Savepoint}
 use Rattle.wm_spec.specs.declared.record.space.Space.{Space}
 use Rattle.wm_spec.specs.declared.record.stored.Stored.{Stored}
-use Rattle.wm_spec.specs.declared.record.version.Version.{Version}
 use Rattle.wm_state.specs.Batches.{put, savepoint_batch, birth_batch}
 use Rattle.wm_state.specs.Effects.{marked}
 use Rattle.wm_state.specs.Standing.{space_after}
-use Rattle.wm_state.specs.State.{Session}
+use Rattle.wm_state.specs.State.{Session, Stand}
 use Rattle.wm_state.proofs.Named.{space_number}
 use Rattle.wm_state.proofs.Tests.{both}
+use Rattle.wm_engine.proofs.Saving.{in_bytes}
 use Rattle.wm_engine.specs.Planning.{DoesIt}
 use Rattle.wm_engine.specs.declared.planned.Planned.{Planned}
 
@@ -63,11 +63,21 @@ pub bearing_is : (rs : List Stored) (a : Space) (c : Counters) (m : ℕ) (name g
 bearing_is rs a c m name given pt place implicit number counters_id space_id id counters space child x count mark next saved named born last = rw (count, mark, next, saved, named, born, last) refl
 
 -- the number of a workspace
-pub number_left : (k n limit : ℕ) → n ≡ k → limit ≡ 4294967295 → n ≤ limit → nat_lt number_limit k ≡ false
+number_left : (k n limit : ℕ) → n ≡ k → limit ≡ 4294967295 → n ≤ limit → nat_lt number_limit k ≡ false
 number_left k n limit is most le = grind (arith, is, most, le)
 
 pub number_end : (k n limit : ℕ) → n ≡ k → limit ≡ 4294967295 → limit < n → nat_lt number_limit k ≡ true
 number_end k n limit is most lt = grind (arith, is, most, lt)
+
+-- nothing is at its end
+pub may_bear_in : (rs : List Stored) (session : Session) (name : List ℕ) (a : Space) (stand : Stand) (number limit : ℕ) → BearsRoomy rs session name a → stand ≡ session.stand → nat_lt number_limit (next_place_at a stand) ≡ false
+    → a.next_implicit + 1 < 2 ^ 32 → number ≡ space_after (parts_of rs).spaces → limit ≡ 4294967295 → number ≤ limit → MayBearIn rs session name a
+may_bear_in rs session name a stand number limit roomy stands places implicits last most le = record {
+  roomy = roomy;
+  places = subst (λ x. nat_lt number_limit (next_place_at a x) ≡ false) stands places;
+  implicits = in_bytes (a.next_implicit + 1) (a.next_implicit + 1) refl implicits;
+  numbers = number_left (space_after (parts_of rs).spaces) number limit last most le;
+}
 
 -- the session's workspace is found by its own number
 pub home_there : (rs : List Stored) (session : Session) (name : List ℕ) (a : Space) → BearsIn rs session name a → space_of (parts_of rs).spaces a.number ≡ Some a

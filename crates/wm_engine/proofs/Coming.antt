@@ -1,5 +1,5 @@
 -- The number of the workspace and the making of the savepoint that come next are known by their bounds.
-use Rattle.std.proofs.Common.{◌≡◌, ℕ, zero, suc, ◌+◌, ◌≤◌, ◌==◌, ◌||◌, nat_lt, max, Bool, true, false, cond, List, [], ◌∷◌, Option, Some, is_some, refl, sym, arith}
+use Rattle.std.proofs.Common.{◌≡◌, ℕ, zero, suc, ◌+◌, ◌≤◌, ◌==◌, ◌||◌, nat_lt, max, Bool, true, false, cond, List, [], ◌∷◌, Some, is_some, refl, sym, arith}
 use Rattle.std.specs.List.{list_all, list_any}
 use Rattle.wm_graph.specs.Parts.{space_of}
 use Rattle.wm_spec.specs.declared.record.savepoint.Savepoint.{Savepoint}

@@ -1,5 +1,5 @@
 -- What the batches of a savepoint and of a birth change: a few ids, and no row, piece or entry of a log.
-use Rattle.std.proofs.Common.{◌≡◌, ◌≢◌, ℕ, ◌+◌, ◌<◌, ◌≤◌, ◌==◌, ◌&&◌, ◌||◌, Bool, true, false, cond, List, [], ◌∷◌, ◌++◌, length, map, Option, Some, None, refl, sym, ap, subst, ◌∙◌, arith}
+use Rattle.std.proofs.Common.{◌≡◌, ◌≢◌, ℕ, ◌+◌, ◌≤◌, ◌==◌, ◌&&◌, ◌||◌, Bool, true, false, cond, List, [], ◌∷◌, ◌++◌, length, map, Option, Some, None, refl, sym, ap, subst, ◌∙◌, arith}
 use Rattle.std.proofs.lemmas.Bool.{eq-eqb}
 use Rattle.std.specs.List.{list_any, find}
 use Rattle.std.specs.Option.{option_and_then}
@@ -34,7 +34,6 @@ pub few_nothing : (rs : List Stored) (cs : List Change) → cs ≡ [] → Change
 few_nothing rs cs none = rw none (record { ids = []; few = omega arith; others = λ id e. refl; rows = refl; pieces = refl; hists = refl })
 
 -- ---- the ids of a batch
-
 
 outside : (cs : List Change) (id : ℕ) → list_any (λ k. k == id) (map (λ (c : Change). c.id) cs) ≡ false → change_at cs id ≡ None
 unfolding change_at
@@ -137,13 +136,11 @@ space_at rs n o id a is there found = by_record (record_at rs id) (ap (λ (k : O
 
 -- the counters and a workspace have their ids, and all ids are under the next
 pub record Placed (rs : List Stored) (a : Space) (c : Counters) (counters_id space_id id : ℕ) : Type 0 where
-  pub rules : keep_rules (parts_of rs) ≡ true
   pub sorted : Ascend rs
   pub one : (parts_of rs).counters ≡ c ∷ []
   pub counters : record_at rs counters_id ≡ Some (records.Counters c)
   pub space : record_at rs space_id ≡ Some (records.Space a)
   pub under : AllUnder id rs
-  pub there : space_of (parts_of rs).spaces a.number ≡ Some a
 
 -- what a name finds, its number finds
 pub named_there : (rs : List Stored) (name : List ℕ) (a : Space) → keep_rules (parts_of rs) ≡ true → find (λ (r : Space). bytes_eq name r.name) (parts_of rs).spaces ≡ Some a → space_of (parts_of rs).spaces a.number ≡ Some a

@@ -300,7 +300,10 @@ fn bear_in(
     ensures few { IfOk result (λ p. ChangesFew image.now (applied p.changes image.now)) }
 {
     let implicit = implicit_name(alloc, space.next_implicit)?;
-    if image.savepoint_named(space.number, implicit.as_bytes()).is_some() {
+    if image
+        .savepoint_named(space.number, implicit.as_bytes())
+        .is_some()
+    {
         return Ok(Planned::answered(alloc, savepoint_there(implicit)));
     }
     if image.space_count() >= SPACE_LIMIT {

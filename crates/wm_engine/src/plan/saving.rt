@@ -107,7 +107,10 @@ fn save_in(
     ensures fit { IfOk result (λ p. FitPages p.changes) }
     ensures few { IfOk result (λ p. ChangesFew image.now (applied p.changes image.now)) }
 {
-    if image.savepoint_named(space.number, name.as_bytes()).is_some() {
+    if image
+        .savepoint_named(space.number, name.as_bytes())
+        .is_some()
+    {
         return Ok(Planned::answered(alloc, savepoint_there(name)));
     }
     if image.savepoint_count(space.number) >= SAVEPOINT_LIMIT {

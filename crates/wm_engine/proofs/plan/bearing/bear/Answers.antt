@@ -1,4 +1,4 @@
-use Rattle.std.proofs.Common.{◌≡◌, ◌+◌, ◌++◌, ◌∷◌, ℕ, List, [], refl, sym, ap, ◌∙◌, codes, subst}
+use Rattle.std.proofs.Common.{◌≡◌, ◌+◌, ◌++◌, ◌∷◌, List, [], refl, sym, ap, ◌∙◌, codes, subst}
 use Rattle.wm_graph.specs.Parts.{parts_of}
 use Rattle.wm_model.proofs.BearingLine.{bear_spent, does_bear}
 use Rattle.wm_model.proofs.SavingLine.{name_short}
@@ -35,13 +35,11 @@ returns-in_default-clause-does c = λ xs session may next there.
 -- what is where
 placed : (c : goal.After-changing) → Placed c.args.image.now c.args.space.now c.counters-old.result c.id_of_counters-counters_id.result c.unwrap-space_id.result c.in-Some-next_id.id
 placed c = record {
-  rules = c.requires.rules;
   sorted = c.id_of_counters-counters_id.ensures.ascend;
   one = c.counters-old.ensures;
   counters = counters_at c.counters-old.result (parts_of c.args.image.now).counters (record_at c.args.image.now c.id_of_counters-counters_id.result) c.counters-old.ensures c.id_of_counters-counters_id.ensures.there;
   space = space_at c.args.image.now c.args.space.now.number c.id_of_space.result c.unwrap-space_id.result c.args.space.now c.unwrap-space_id.ensures c.id_of_space.ensures.there c.requires.there;
   under = under_next c.in-Some-next_id.id c.args.image.now c.in-Some-next_id.ensures.above;
-  there = c.requires.there;
 }
 
 -- what changes

@@ -1,14 +1,15 @@
-use Rattle.std.proofs.Common.{◌≡◌, ◌+◌, nat_lt, true, false, ℕ, List, [], Some, None, refl, sym, ap, ◌∙◌, codes, subst}
-use Rattle.wm_graph.specs.Parts.{parts_of, space_of}
+use Rattle.std.proofs.Common.{◌≡◌, ◌+◌, nat_lt, true, false, [], refl, sym, ap, ◌∙◌, codes, subst}
+use Rattle.wm_graph.specs.Parts.{parts_of}
 use Rattle.wm_model.proofs.BearingLine.{bear_placeless, bear_nameless, bear_numberless, bear_nowhere}
 use Rattle.wm_model.specs.Planning.{Stay}
-use Rattle.wm_model.specs.Saving.{MayBearIn, next_place_at, point_at}
+use Rattle.wm_model.specs.Saving.{next_place_at, point_at}
 use Rattle.wm_model.specs.Step.{create_workspace, at_its_end, not_built, number_limit}
-use Rattle.wm_engine.proofs.Bearing.{number_left, number_end, home_there, bears_as}
+use Rattle.wm_engine.proofs.Bearing.{may_bear_in, number_end, home_there, bears_as}
 use Rattle.wm_engine.proofs.Planning.{told}
 use Rattle.wm_state.specs.Standing.{space_after}
 use Rattle.wm_engine.proofs.Saving.{in_bytes, at_end}
 use Rattle.wm_engine.specs.Points.{point_view}
+use Rattle.wm_engine.specs.Stands.{stand_view}
 use Rattle.wm_engine.specs.Views.{answer_view, seating_view}
 use Rattle.wm_engine.proofs.plan.bearing.bear_where.Goals as goal
 
@@ -40,12 +41,8 @@ returns-in_default-point_at-clause-does c = λ xs.
     told c.args.image.now xs c.args.moment c.answered-in_default-point_at.result [] Stay not_built (create_workspace c.args.session.now c.args.name) c.answered-in_default-point_at.ensures.changes
     (ap seating_view c.answered-in_default-point_at.ensures.seating) (ap answer_view c.answered-in_default-point_at.ensures.answer ∙ c.not_built.ensures)
     (bear_nowhere c.args.image.now xs c.args.moment c.args.session.now c.args.name c.args.space.now
-    (record {
-      roomy = c.requires.roomy;
-      places = subst (λ x. nat_lt number_limit (next_place_at c.args.space.now x) ≡ false) c.stand.ensures c.in-Some.ensures.room;
-      implicits = in_bytes (c.args.space.now.next_implicit + 1) (c.args.space.now.next_implicit + 1) refl c.in-Some-checked_add.ensures.0;
-      numbers = number_left (space_after (parts_of c.args.image.now).spaces) c.coming_space-number.result c.from.result c.coming_space-number.ensures c.from.ensures c.if-number-from.false;
-    })
+    (may_bear_in c.args.image.now c.args.session.now c.args.name c.args.space.now (stand_view c.stand.result) c.coming_space-number.result c.from.result c.requires.roomy c.stand.ensures c.in-Some.ensures.room
+    c.in-Some-checked_add.ensures.0 c.coming_space-number.ensures c.from.ensures c.if-number-from.false)
     (sym (c.in_default-point_at.ensures ∙ ap (point_at (parts_of c.args.image.now) c.args.space.now c.args.moment) c.stand-2.ensures)))
 
 pub bear-requires-clause-there : goal.bear-requires-clause-there
@@ -54,11 +51,7 @@ bear-requires-clause-there c = home_there c.args.image.now c.args.session.now c.
 pub returns-clause-does : goal.returns-clause-does
 returns-clause-does c =
     bears_as c.args.image.now c.args.moment c.bear.result c.args.session.now c.args.name c.args.space.now (point_view c.in-Some-point_at.point) c.in-Some.next_place
-    (record {
-      roomy = c.requires.roomy;
-      places = subst (λ x. nat_lt number_limit (next_place_at c.args.space.now x) ≡ false) c.stand.ensures c.in-Some.ensures.room;
-      implicits = in_bytes (c.args.space.now.next_implicit + 1) (c.args.space.now.next_implicit + 1) refl c.in-Some-checked_add.ensures.0;
-      numbers = number_left (space_after (parts_of c.args.image.now).spaces) c.coming_space-number.result c.from.result c.coming_space-number.ensures c.from.ensures c.if-number-from.false;
-    })
+    (may_bear_in c.args.image.now c.args.session.now c.args.name c.args.space.now (stand_view c.stand.result) c.coming_space-number.result c.from.result c.requires.roomy c.stand.ensures c.in-Some.ensures.room
+    c.in-Some-checked_add.ensures.0 c.coming_space-number.ensures c.from.ensures c.if-number-from.false)
     (c.in-Some.ensures.next ∙ ap (next_place_at c.args.space.now) c.stand.ensures)
     (sym (c.in-Some-point_at.ensures ∙ ap (point_at (parts_of c.args.image.now) c.args.space.now c.args.moment) c.stand-2.ensures)) c.bear.ensures.does

@@ -1,4 +1,3 @@
-use Rattle.std.proofs.Common.{◌≡◌}
 use Rattle.wm_graph.specs.Parts.{parts_of}
 use Rattle.wm_engine.proofs.Coming.{space_after_is}
 use Rattle.wm_engine.proofs.plan.bearing.coming_space.Goals as goal

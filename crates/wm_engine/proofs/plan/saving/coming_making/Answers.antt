@@ -1,8 +1,5 @@
-use Rattle.std.proofs.Common.{◌≡◌}
 use Rattle.wm_graph.specs.Parts.{parts_of}
 use Rattle.wm_engine.proofs.Coming.{making_behind_is}
-use Rattle.wm_engine.proofs.Forking.{few_nothing}
-use Rattle.wm_engine.proofs.FittingForks.{fits_birth_batch}
 use Rattle.wm_engine.proofs.plan.saving.coming_making.Goals as goal
 
 pub returns : goal.returns

@@ -28,13 +28,11 @@ returns-in_default-clause-does c = λ xs workspace saves.
 -- what is where
 placed : (c : goal.After-changing) → Placed c.args.image.now c.args.space.now c.counters.result c.id_of_counters-counters_id.result c.unwrap-space_id.result c.in-Some-next_id.id
 placed c = record {
-  rules = c.requires.rules;
   sorted = c.id_of_counters-counters_id.ensures.ascend;
   one = c.counters.ensures;
   counters = counters_at c.counters.result (parts_of c.args.image.now).counters (record_at c.args.image.now c.id_of_counters-counters_id.result) c.counters.ensures c.id_of_counters-counters_id.ensures.there;
   space = space_at c.args.image.now c.args.space.now.number c.id_of_space.result c.unwrap-space_id.result c.args.space.now c.unwrap-space_id.ensures c.id_of_space.ensures.there c.requires.there;
   under = under_next c.in-Some-next_id.id c.args.image.now c.in-Some-next_id.ensures.above;
-  there = c.requires.there;
 }
 
 -- what changes
