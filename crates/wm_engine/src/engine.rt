@@ -3,6 +3,8 @@ ghost use Rattle.std.specs.Prelude.{◌≡◌, ℕ, ◌<◌, ◌≤◌, ◌⊎�
 ghost use Rattle.wm_base.specs.declared.fault.MakeFault.TheVariants as making;
 ghost use Rattle.wm_base.specs.declared.fault.OpenFault.TheVariants as opening;
 ghost use Rattle.wm_base.specs.declared.instant.TheConstants.{END};
+ghost use Rattle.wm_engine.specs.Forks.{ChangesFew, is_fork};
+ghost use Rattle.wm_reader.specs.Grammar.{line_of};
 ghost use Rattle.wm_engine.specs.Working.{FileStands, StandsFor, WorksOver, Tells};
 ghost use Rattle.wm_engine.specs.declared.fault.LineFault.TheVariants as faults;
 ghost use Rattle.wm_state.specs.State.{State, begin, fresh};
@@ -118,6 +120,8 @@ impl Engine {
         requires works { P.tells → WorksOver self.old (P.history station.old) }
         ensures answered { IfOk result (λ answer. (s : State) → StandsFor self.old s → StandsFor self.new (step s line.now).0 × (answer ≡ answer_text (step s line.now).1)) }
         ensures works { P.tells → OnOk result (WorksOver self.new (P.history station.new)) }
+        // A line that makes a savepoint or a workspace changes few records, and none of a row, a piece or an entry of a log.
+        ensures few { is_fork (line_of line.now) ≡ true → OnOk result (ChangesFew self.old.records self.new.records) }
         // A crash at any moment of the call, and a read after it, finds a file that stands for the state before the line or after it.
         ensures any_moment { P.tells → (s : State) → StandsFor self.old s → Ended (P.history station.old) (P.history station.new) (λ file. FileStands file s ⊎ FileStands file (step s line.now).0) }
         ensures later { P.disk_faults station.old ≤ P.disk_faults station.new }

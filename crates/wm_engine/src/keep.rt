@@ -1,6 +1,7 @@
 //! A line over a store: what it does is planned and printed, and only then kept.
 ghost use Rattle.std.specs.Prelude.{◌≡◌, ◌<◌, ◌≤◌, ◌⊎◌, ℕ, List, true, OnOk, IfOk, IsErrOf};
 ghost use Rattle.wm_base.specs.declared.instant.TheConstants.{END};
+ghost use Rattle.wm_engine.specs.Forks.{ChangesFew, is_fork};
 ghost use Rattle.wm_engine.specs.Working.{FileStands, HoldsSorted, KeepsOver};
 ghost use Rattle.wm_engine.specs.declared.fault.LineFault.TheVariants as faults;
 ghost use Rattle.wm_graph.specs.Parts.{parts_of};
@@ -8,6 +9,7 @@ ghost use Rattle.wm_graph.specs.Rules.{keep_rules};
 ghost use Rattle.wm_engine.specs.Views.{seating_view};
 ghost use Rattle.wm_model.specs.Planning.{StandsAt, seated};
 ghost use Rattle.wm_model.specs.Step.{step, answer_text};
+ghost use Rattle.wm_reader.specs.Grammar.{line_of};
 ghost use Rattle.wm_spec.specs.Records.{AreChanges};
 ghost use Rattle.wm_state.specs.ById.{applied};
 ghost use Rattle.wm_state.specs.State.{State};
@@ -78,6 +80,7 @@ pub fn run_line<P: Station>(
     requires works { P.tells → KeepsOver store.old image (P.history station.old) }
     ensures answered { IfOk result (λ k. (s : State) → StandsAt image sessions.old.items moment s → StandsAt k.image sessions.new.items moment (step s line.now).0 × (k.bytes ≡ answer_text (step s line.now).1)) }
     ensures rules { IfOk result (λ k. keep_rules (parts_of k.image) ≡ true) }
+    ensures few { is_fork (line_of line.now) ≡ true → IfOk result (λ k. ChangesFew image k.image) }
     ensures works { P.tells → IfOk result (λ k. KeepsOver store.new k.image (P.history station.new)) }
     ensures any_moment { P.tells → (s : State) → StandsAt image sessions.old.items moment s → Ended (P.history station.old) (P.history station.new) (λ file. FileStands file s ⊎ FileStands file (step s line.now).0) }
     ensures later { P.disk_faults station.old ≤ P.disk_faults station.new }

@@ -6,7 +6,9 @@ ghost use Rattle.wm_graph.specs.Rules.{keep_rules};
 ghost use Rattle.wm_model.specs.Step.{run_line, run_text, step};
 ghost use Rattle.wm_reader.specs.Grammar.{line_of, start_fault};
 ghost use Rattle.wm_state.specs.State.{State};
+ghost use Rattle.wm_state.specs.ById.{applied};
 ghost use Rattle.wm_store.specs.Spelled.{FitPages};
+ghost use Rattle.wm_engine.specs.Forks.{ChangesFew, is_fork};
 ghost use Rattle.wm_engine.specs.Planning.{DoesIt};
 
 use crate::answer::Answer;
@@ -35,6 +37,7 @@ fn plan_form(
     requires moment { moment < END }
     ensures does { IfOk result (λ p. DoesIt image.now sessions.now moment p (run_line (line_of text.now))) }
     ensures fit { IfOk result (λ p. FitPages p.changes) }
+    ensures few { is_fork (line_of text.now) ≡ true → IfOk result (λ p. ChangesFew image.now (applied p.changes image.now)) }
 {
     match line_of(text) {
         None => Ok(Planned::answered(alloc, not_built())),
@@ -59,6 +62,7 @@ fn plan_text(
     requires fits { length text.now ≤ 16384 }
     ensures does { IfOk result (λ p. DoesIt image.now sessions.now moment p (run_text (start_fault text.now) text.now)) }
     ensures fit { IfOk result (λ p. FitPages p.changes) }
+    ensures few { is_fork (line_of text.now) ≡ true → IfOk result (λ p. ChangesFew image.now (applied p.changes image.now)) }
 {
     if let Some(column) = start_fault(text) {
         return Ok(Planned::answered(alloc, syntax(column)));
@@ -78,6 +82,7 @@ pub fn plan(
     requires moment { moment < END }
     ensures does { IfOk result (λ p. DoesIt image.now sessions.now moment p (λ s. step s text.now)) }
     ensures fit { IfOk result (λ p. FitPages p.changes) }
+    ensures few { is_fork (line_of text.now) ≡ true → IfOk result (λ p. ChangesFew image.now (applied p.changes image.now)) }
 {
     if text.len() > LINE_LIMIT {
         return Ok(Planned::answered(alloc, not_built()));

@@ -1,11 +1,13 @@
 //! A statement of a session.
 ghost use Rattle.std.specs.Prelude.{◌≡◌, ◌<◌, ℕ, List, true, IfOk};
 ghost use Rattle.wm_base.specs.declared.instant.TheConstants.{END};
+ghost use Rattle.wm_engine.specs.Forks.{ChangesFew, forks};
 ghost use Rattle.wm_engine.specs.Planning.{DoesIt};
 ghost use Rattle.wm_graph.specs.Parts.{parts_of};
 ghost use Rattle.wm_graph.specs.Rules.{keep_rules};
 ghost use Rattle.wm_model.specs.Step.{run_for, run_statement, session_of};
 ghost use Rattle.wm_reader.specs.Views.{folded, statement_view};
+ghost use Rattle.wm_state.specs.ById.{applied};
 ghost use Rattle.wm_state.specs.State.{Session as SessionState};
 ghost use Rattle.wm_store.specs.Spelled.{FitPages};
 
@@ -36,6 +38,8 @@ fn run_statement(
     requires moment { moment < END }
     ensures does { IfOk result (λ p. (xs : List SessionState) → DoesIt image.now xs moment p (run_statement session.now (statement_view statement.entry))) }
     ensures fit { IfOk result (λ p. FitPages p.changes) }
+    // A savepoint or a workspace that is made changes few records.
+    ensures few { forks (statement_view statement.entry) ≡ true → IfOk result (λ p. ChangesFew image.now (applied p.changes image.now)) }
 {
     match statement {
         Statement::Create { table, key, value } => create(alloc, image, moment, table, key, value),
@@ -69,6 +73,7 @@ pub fn run(
     requires moment { moment < END }
     ensures does { IfOk result (λ p. DoesIt image.now sessions.now moment p (λ s. run_for (folded name.now) (session_of (folded name.now) s.sessions) (statement_view statement.entry) s)) }
     ensures fit { IfOk result (λ p. FitPages p.changes) }
+    ensures few { forks (statement_view statement.entry) ≡ true → IfOk result (λ p. ChangesFew image.now (applied p.changes image.now)) }
 {
     let Some(session) = session_named(sessions, name) else {
         let name = capitals_of(alloc, name)?;

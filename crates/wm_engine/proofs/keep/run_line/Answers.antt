@@ -1,8 +1,12 @@
-use Rattle.std.proofs.Common.{List, sym, subst}
+use Rattle.std.proofs.Common.{List, sym, subst, ap, ◌∙◌}
 use Rattle.wm_model.specs.Planning.{StandsAt}
 use Rattle.wm_model.specs.Step.{step}
 use Rattle.wm_state.specs.State.{Session}
 use Rattle.wm_engine.proofs.Keeping.{begun_stands, kept_stands}
+use Rattle.wm_engine.specs.Forks.{ChangesFew}
+use Rattle.wm_spec.specs.declared.record.batch.Change.{Change}
+use Rattle.wm_spec.specs.declared.record.stored.Stored.{Stored}
+use Rattle.wm_state.specs.ById.{applied}
 use Rattle.wm_engine.specs.Views.{answer_view, seating_view}
 use Rattle.wm_engine.proofs.keep.run_line.Goals as goal
 
@@ -25,3 +29,7 @@ returns-clause-any_moment g c = λ told s stands.
     kept_stands c.args.image c.as_slice.result.now c.args.moment c.in_ok-planned.planned.changes c.into_changed.result.changes (seating_view c.in_ok-planned.planned.seating) (answer_view c.in_ok-planned.planned.answer) (λ t. step t c.args.line.now)
     (g.P.Station.history c.args.station.now) (g.P.Station.history c.keep.new.station) s c.in_ok-planned.ensures.does c.into_changed.ensures.changes
     (subst (λ (xs : List Session). StandsAt c.args.image xs c.args.moment s) (sym c.as_slice.ensures.value) stands) (c.in_ok-image.ensures.any_moment told)
+
+pub returns-clause-few : goal.returns-clause-few
+returns-clause-few g c = λ fork.
+    subst (λ (rs : List Stored). ChangesFew c.args.image rs) (sym (c.in_ok-image.ensures.image ∙ ap (λ (cs : List Change). applied cs c.args.image) c.into_changed.ensures.changes)) (c.in_ok-planned.ensures.few fork)

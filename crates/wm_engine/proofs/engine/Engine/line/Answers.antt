@@ -1,4 +1,4 @@
-use Rattle.std.proofs.Common.{◌≡◌, List, [], Option, unwrap_or, inl, sym, ap, subst}
+use Rattle.std.proofs.Common.{◌≡◌, List, [], Option, unwrap_or, inl, sym, ap, subst, ◌∙◌}
 use Rattle.wm_graph.specs.Parts.{parts_of}
 use Rattle.wm_model.specs.Planning.{StandsAt}
 use Rattle.wm_spec.specs.declared.record.stored.Stored.{Stored}
@@ -6,6 +6,7 @@ use Rattle.wm_state.specs.State.{State}
 use Rattle.wm_state.specs.Standing.{Stands}
 use Rattle.wm_engine.proofs.Committing.{ended_begun}
 use Rattle.wm_engine.proofs.Working.{stands_over}
+use Rattle.wm_engine.specs.Forks.{ChangesFew}
 use Rattle.wm_engine.specs.Working.{Engaged, StandsFor}
 use Rattle.wm_engine.proofs.engine.Engine.line.Goals as goal
 
@@ -20,3 +21,9 @@ stands_at e rs s same for = record { stands = subst (λ (xs : List Stored). Stan
 pub returns-clause-answered : goal.returns-clause-answered
 returns-clause-answered g c = λ s for.
     let d = c.in_ok-kept.ensures.answered s (stands_at _ c.in-Some.image s (ap (λ (o : Option (List Stored)). unwrap_or o []) (sym c.in-Some.ensures.value)) (subst (λ (e : Engaged). StandsFor e s) (sym c.self.view_is) for)) in (record { stands = d.0.stands; sessions = d.0.sessions_are; moment = d.0.moment_is }, d.1)
+
+pub returns-clause-few : goal.returns-clause-few
+returns-clause-few g c = λ fork.
+    subst (λ (rs : List Stored). ChangesFew rs c.in_ok-kept.kept.image)
+    (sym (ap (λ (e : Engaged). e.records) (sym c.self.view_is) ∙ ap (λ (o : Option (List Stored)). unwrap_or o []) (sym c.in-Some.ensures.value)))
+    (c.in_ok-kept.ensures.few fork)

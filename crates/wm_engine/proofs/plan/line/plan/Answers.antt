@@ -5,6 +5,7 @@ use Rattle.wm_model.specs.Planning.{Stay}
 use Rattle.wm_model.specs.Step.{step, run_text, not_built}
 use Rattle.wm_print.specs.Texts.{Nothing}
 use Rattle.wm_reader.specs.Grammar.{start_fault}
+use Rattle.wm_engine.proofs.Forking.{few_nothing}
 use Rattle.wm_engine.proofs.Planning.{told, does_it_same}
 use Rattle.wm_engine.specs.Views.{answer_view, seating_view}
 use Rattle.wm_engine.proofs.plan.line.plan.Goals as goal
@@ -42,3 +43,12 @@ returns-clause-does c =
     let text = c.args.text.now in
     does_it_same c.args.image.now c.args.sessions.now c.args.moment c.plan_text.result (run_text (start_fault text) text) (λ s. step s text)
     (λ s st. rw (short (length text) c.if-text-gt-LINE_LIMIT.false, sym c.if-is_remark.ensures, sym c.if-not-is_text.ensures) refl) c.plan_text.ensures.does
+
+pub returns-then-text-gt-LINE_LIMIT-clause-few : goal.returns-then-text-gt-LINE_LIMIT-clause-few
+returns-then-text-gt-LINE_LIMIT-clause-few c = λ fork. few_nothing c.args.image.now c.answered.result.changes c.answered.ensures.changes
+
+pub returns-then-is_remark-clause-few : goal.returns-then-is_remark-clause-few
+returns-then-is_remark-clause-few c = λ fork. few_nothing c.args.image.now c.answered-then-is_remark.result.changes c.answered-then-is_remark.ensures.changes
+
+pub returns-then-not-is_text-clause-few : goal.returns-then-not-is_text-clause-few
+returns-then-not-is_text-clause-few c = λ fork. few_nothing c.args.image.now c.answered-then-not-is_text.result.changes c.answered-then-not-is_text.ensures.changes

@@ -1,4 +1,4 @@
-use Rattle.std.proofs.Common.{[], Some, Option, sym, ap, ◌∙◌}
+use Rattle.std.proofs.Common.{◌≡◌, true, false, [], Some, Option, sym, ap, ◌∙◌}
 use Rattle.wm_model.proofs.Doing.{does_nothing}
 use Rattle.wm_model.specs.Planning.{Stay}
 use Rattle.wm_model.specs.Step.{connect, disconnect, run_for, run_line, session_of, not_built}
@@ -6,6 +6,7 @@ use Rattle.wm_reader.specs.Grammar.{Line, line_of}
 use Rattle.wm_reader.specs.Views.{folded, line_view, statement_view}
 use Rattle.wm_reader.specs.declared.tree.Line.{Line as Tree}
 use Rattle.wm_engine.proofs.Planning.{told, for_records, does_it_same}
+use Rattle.wm_engine.specs.Forks.{is_fork}
 use Rattle.wm_engine.specs.Views.{answer_view, seating_view}
 use Rattle.wm_engine.proofs.plan.line.plan_form.Goals as goal
 
@@ -29,3 +30,19 @@ returns-in-Some-Run-clause-does c =
     let name = folded c.in-Some-Run.session.now in
     does_it_same c.args.image.now c.args.sessions.now c.args.moment c.run.result (λ s. run_for name (session_of name s.sessions) (statement_view c.in-Some-Run.statement) s) (run_line (line_of c.args.text.now))
     (λ s st. ap (λ (o : Option Line). run_line o s) (sym c.in-Some-Run.ensures) ∙ ap (λ (l : Tree). run_line (Some (line_view l)) s) c.in-Some-Run.field-0-is) c.run.ensures.does
+
+-- a line of another kind makes neither a savepoint nor a workspace
+false_true : false ≡ true → ⊥
+false_true e = cc
+
+pub returns-in-None-clause-few : goal.returns-in-None-clause-few
+returns-in-None-clause-few c = λ fork. absurd (false_true (sym (ap is_fork (sym c.in-None.ensures)) ∙ fork))
+
+pub returns-in-Some-Connect-clause-few : goal.returns-in-Some-Connect-clause-few
+returns-in-Some-Connect-clause-few c = λ fork. absurd (false_true (sym (ap is_fork (sym c.in-Some-Connect.ensures) ∙ ap (λ (l : Tree). is_fork (Some (line_view l))) c.in-Some-Connect.field-0-is) ∙ fork))
+
+pub returns-in-Some-Disconnect-clause-few : goal.returns-in-Some-Disconnect-clause-few
+returns-in-Some-Disconnect-clause-few c = λ fork. absurd (false_true (sym (ap is_fork (sym c.in-Some-Disconnect.ensures) ∙ ap (λ (l : Tree). is_fork (Some (line_view l))) c.in-Some-Disconnect.field-0-is) ∙ fork))
+
+pub returns-in-Some-Run-clause-few : goal.returns-in-Some-Run-clause-few
+returns-in-Some-Run-clause-few c = λ fork. c.run.ensures.few (sym (ap is_fork (sym c.in-Some-Run.ensures) ∙ ap (λ (l : Tree). is_fork (Some (line_view l))) c.in-Some-Run.field-0-is) ∙ fork)

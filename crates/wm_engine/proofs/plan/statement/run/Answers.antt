@@ -8,6 +8,7 @@ use Rattle.wm_reader.specs.Grammar.{Statement}
 use Rattle.wm_reader.specs.Views.{folded, statement_view}
 use Rattle.wm_spec.specs.declared.record.stored.Stored.{Stored}
 use Rattle.wm_state.specs.State.{Session}
+use Rattle.wm_engine.proofs.Forking.{few_nothing}
 use Rattle.wm_engine.proofs.Planning.{told}
 use Rattle.wm_engine.specs.Planning.{DoesIt}
 use Rattle.wm_engine.specs.Views.{answer_view, seating_view}
@@ -31,3 +32,6 @@ returns-in_default-clause-does c =
 pub returns-clause-does : goal.returns-clause-does
 returns-clause-does c =
     runs_for c.args.image.now c.args.sessions.now c.args.moment (folded c.args.name.now) c.in-Some.session.now (statement_view c.args.statement) c.run_statement.result (sym c.in-Some.ensures) c.run_statement.ensures.does
+
+pub returns-in_default-clause-few : goal.returns-in_default-clause-few
+returns-in_default-clause-few c = λ fork. few_nothing c.args.image.now c.answered.result.changes c.answered.ensures.changes

@@ -1,11 +1,13 @@
-use Rattle.std.proofs.Common.{◌≡◌, List, refl, w64, rules}
+use Rattle.std.proofs.Common.{◌≡◌, true, false, List, refl, sym, ap, ◌∙◌, w64, rules}
 use mir.Val.{SFits}
 use Rattle.std.proofs.lemmas.Int.{to_z-of_z}
 use Rattle.wm_model.specs.Step.{run_statement, create, enable, add_row, listing, create_workspace, create_savepoint, goto_workspace, goto_savepoint}
 use Rattle.wm_reader.specs.Reading.{unquoted}
 use Rattle.wm_reader.specs.Views.{folded, statement_view}
 use Rattle.wm_reader.specs.declared.tree.Statement.TheVariants.{Create, Enable, Insert, Select, CreateWorkspace, CreateSavepoint, GotoWorkspace, GotoSavepoint}
+use Rattle.wm_reader.specs.declared.tree.Statement.{Statement as Tree}
 use Rattle.wm_engine.proofs.Planning.{for_moment, for_sessions}
+use Rattle.wm_engine.specs.Forks.{forks}
 use Rattle.wm_engine.proofs.plan.statement.run_statement.Goals as goal
 
 pub returns-in-Select-clause-does : goal.returns-in-Select-clause-does
@@ -57,3 +59,31 @@ returns-in-CreateSavepoint-clause-does c =
     rw c.in-CreateSavepoint.is
     (for_sessions c.args.image.now c.args.moment c.create_savepoint.result (create_savepoint (unquoted c.in-CreateSavepoint.workspace.now) (unquoted c.in-CreateSavepoint.savepoint.now))
     (run_statement c.args.session.now (statement_view (CreateSavepoint c.in-CreateSavepoint.workspace c.in-CreateSavepoint.savepoint))) (λ s. refl) c.create_savepoint.ensures.does)
+
+-- a statement of another kind makes neither
+false_true : false ≡ true → ⊥
+false_true e = cc
+
+pub returns-in-Create-clause-few : goal.returns-in-Create-clause-few
+returns-in-Create-clause-few c = λ fork. absurd (false_true (ap (λ (s : Tree). forks (statement_view s)) (sym c.in-Create.is) ∙ fork))
+
+pub returns-in-Enable-clause-few : goal.returns-in-Enable-clause-few
+returns-in-Enable-clause-few c = λ fork. absurd (false_true (ap (λ (s : Tree). forks (statement_view s)) (sym c.in-Enable.is) ∙ fork))
+
+pub returns-in-Insert-clause-few : goal.returns-in-Insert-clause-few
+returns-in-Insert-clause-few c = λ fork. absurd (false_true (ap (λ (s : Tree). forks (statement_view s)) (sym c.in-Insert.is) ∙ fork))
+
+pub returns-in-Select-clause-few : goal.returns-in-Select-clause-few
+returns-in-Select-clause-few c = λ fork. absurd (false_true (ap (λ (s : Tree). forks (statement_view s)) (sym c.in-Select.is) ∙ fork))
+
+pub returns-in-GotoWorkspace-clause-few : goal.returns-in-GotoWorkspace-clause-few
+returns-in-GotoWorkspace-clause-few c = λ fork. absurd (false_true (ap (λ (s : Tree). forks (statement_view s)) (sym c.in-GotoWorkspace.is) ∙ fork))
+
+pub returns-in-GotoSavepoint-clause-few : goal.returns-in-GotoSavepoint-clause-few
+returns-in-GotoSavepoint-clause-few c = λ fork. absurd (false_true (ap (λ (s : Tree). forks (statement_view s)) (sym c.in-GotoSavepoint.is) ∙ fork))
+
+pub returns-in-CreateWorkspace-clause-few : goal.returns-in-CreateWorkspace-clause-few
+returns-in-CreateWorkspace-clause-few c = λ fork. c.create_workspace.ensures.few
+
+pub returns-in-CreateSavepoint-clause-few : goal.returns-in-CreateSavepoint-clause-few
+returns-in-CreateSavepoint-clause-few c = λ fork. c.create_savepoint.ensures.few
