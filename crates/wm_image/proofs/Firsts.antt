@@ -42,7 +42,7 @@ length-kind {A} kind p q tests (s ∷ ss) = by_kind (kind s.record) refl (tests 
 -- how many of a kind pass a test
 pub count_sought : {A : Type 0} (kind : Record → Option A) (p : A → Bool) (q : Sought) → Tests kind p (is_sought q) → (kept : BTreeMap ℕ Record) (x : Index) → IsIndexed kept x
     → length (ids_at x q) ≡ count_by p (filter_map kind (all_of (listed kept.entries)))
-count_sought kind p q tests kept x is = 
+count_sought kind p q tests kept x is =
     ap (λ ids. length ids) (is.told q)
     ∙ length-kind kind p (is_sought q) tests (listed kept.entries)
     ∙ length-filter p (filter_map kind (all_of (listed kept.entries)))

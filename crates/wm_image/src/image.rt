@@ -274,7 +274,13 @@ impl Image {
 
     /// The piece that a version has at a moment for a key of a table: that of the nearest version on its path. Only
     /// the pieces of that key are looked at.
-    pub fn shown_at(&self, version: u64, table: u16, key: &Key, time: Instant) -> Option<&PieceRecord>
+    pub fn shown_at(
+        &self,
+        version: u64,
+        table: u16,
+        key: &Key,
+        time: Instant,
+    ) -> Option<&PieceRecord>
         requires { keep_rules (parts_of self.now) ≡ true }
         ensures { option_map held_by (option_copied result) ≡ seen (parts_of self.now) version (record { table = table; key = key.now; time = time }) }
     {
@@ -283,7 +289,13 @@ impl Image {
     }
 
     /// All that a version has for a key of a table.
-    pub fn shown(&self, alloc: Global, version: u64, table: u16, key: &Key) -> Result<Pieces, Memory>
+    pub fn shown(
+        &self,
+        alloc: Global,
+        version: u64,
+        table: u16,
+        key: &Key,
+    ) -> Result<Pieces, Memory>
         requires { keep_rules (parts_of self.now) ≡ true }
         ensures { IfOk result (λ pieces. (t : ℕ) → t < END → held_at pieces t ≡ seen (parts_of self.now) version (record { table = table; key = key.now; time = t })) }
     {

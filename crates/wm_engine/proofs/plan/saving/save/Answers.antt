@@ -1,8 +1,8 @@
-use Rattle.std.proofs.Common.{◌≡◌, ◌+◌, ℕ, List, [], refl, sym, ap, ◌∙◌, codes, subst}
+use Rattle.std.proofs.Common.{◌≡◌, ◌+◌, [], sym, ap, ◌∙◌, codes, subst}
 use Rattle.wm_graph.specs.Parts.{parts_of}
 use Rattle.wm_model.proofs.SavingLine.{save_spent, does_save, name_short}
 use Rattle.wm_model.specs.Planning.{Stay, moved}
-use Rattle.wm_model.specs.Saving.{SavesIn, MaySaveIn, saved_record}
+use Rattle.wm_model.specs.Saving.{saved_record}
 use Rattle.wm_model.specs.Step.{create_savepoint, at_its_end}
 use Rattle.wm_print.specs.Texts.{Fine}
 use Rattle.wm_spec.specs.Records.{record_at}

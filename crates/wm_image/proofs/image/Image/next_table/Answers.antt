@@ -1,4 +1,4 @@
-use Rattle.std.proofs.Common.{◌≡◌, ℕ, List, ap, ◌∙◌}
+use Rattle.std.proofs.Common.{ℕ, List, ap, ◌∙◌}
 use Rattle.wm_graph.specs.Parts.{parts_of, as_table}
 use Rattle.wm_image.proofs.Tabled.{next_told}
 use Rattle.wm_image.specs.Indexed.{listed}
