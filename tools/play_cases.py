@@ -11,6 +11,7 @@ start, so most cases begin with 'init'. A line of a case is
     > TEXT      a line of its output, with LF         >? REGEX   a line that the expression matches
     = N         its status (0 where there is none)    ! TEXT     its line on standard error
     @ cut N | poke OFFSET HEX | new | save NAME | load NAME      done to the store file between commands
+    @ few NAME N TAGS   at most N records differ from those of the file saved as NAME, and none of them has one of the tags
 
 and a comment begins with '#'. The output of a command is its '>' lines and nothing beside.
 """
@@ -119,11 +120,38 @@ def change(store, words):
         raise ValueError(f"no such change: {kind}")
 
 
+def records(file):
+    """The bytes of each record by its id, the journal's gate being closed."""
+    found = {}
+    for page in range(2, int.from_bytes(file[4096:4104], "big")):
+        at = page * 4096 + 2
+        for _ in range(int.from_bytes(file[at - 2:at], "big")):
+            size = int.from_bytes(file[at + 8:at + 10], "big")
+            found[file[at:at + 8]] = file[at + 10:at + 10 + size]
+            at += 10 + size
+    return found
+
+
+def too_many(store, words):
+    """Which records differ from those of a saved file that should not, or None."""
+    name, most, tags = words[1], int(words[2]), {int(tag) for tag in words[3].split(",")}
+    old, new = records(store.with_name("kept-" + name).read_bytes()), records(store.read_bytes())
+    changed = [record for key in old.keys() | new.keys() if old.get(key) != new.get(key) for record in (old.get(key), new.get(key))]
+    ids = sum(1 for key in old.keys() | new.keys() if old.get(key) != new.get(key))
+    bad = {record[0] for record in changed if record} & tags
+    return f"{ids} records differ, with the tags {sorted({r[0] for r in changed if r})}" if ids > most or ids == 0 or bad else None
+
+
 def play(program, path):
     """The first difference of a case, or None."""
     with tempfile.TemporaryDirectory() as folder:
         store = Path(folder) / "s.wm"
         for step in read_case(path):
+            if isinstance(step, list) and step[0] == "few":
+                why = too_many(store, step)
+                if why is not None:
+                    return f"{path}: @ {' '.join(step)}: {why}"
+                continue
             if isinstance(step, list):
                 change(store, step)
                 continue
