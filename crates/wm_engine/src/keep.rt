@@ -2,6 +2,7 @@
 ghost use Rattle.std.specs.Prelude.{◌≡◌, ◌<◌, ◌≤◌, ◌⊎◌, ℕ, List, true, OnOk, IfOk, IsErrOf};
 ghost use Rattle.wm_base.specs.declared.instant.TheConstants.{END};
 ghost use Rattle.wm_engine.specs.Forks.{ChangesFew, is_fork};
+ghost use Rattle.wm_engine.specs.Idle.{is_idle};
 ghost use Rattle.wm_engine.specs.Working.{FileStands, HoldsSorted, KeepsOver};
 ghost use Rattle.wm_engine.specs.declared.fault.LineFault.TheVariants as faults;
 ghost use Rattle.wm_graph.specs.Parts.{parts_of};
@@ -81,6 +82,7 @@ pub fn run_line<P: Station>(
     ensures answered { IfOk result (λ k. (s : State) → StandsAt image sessions.old.items moment s → StandsAt k.image sessions.new.items moment (step s line.now).0 × (k.bytes ≡ answer_text (step s line.now).1)) }
     ensures rules { IfOk result (λ k. keep_rules (parts_of k.image) ≡ true) }
     ensures few { is_fork (line_of line.now) ≡ true → IfOk result (λ k. ChangesFew image k.image) }
+    ensures idle { IfOk result (λ k. (s : State) → StandsAt image sessions.old.items moment s → is_idle (step s line.now).1 ≡ true → (k.image ≡ image) × (sessions.new.items ≡ sessions.old.items)) }
     ensures works { P.tells → IfOk result (λ k. KeepsOver store.new k.image (P.history station.new)) }
     ensures any_moment { P.tells → (s : State) → StandsAt image sessions.old.items moment s → Ended (P.history station.old) (P.history station.new) (λ file. FileStands file s ⊎ FileStands file (step s line.now).0) }
     ensures later { P.disk_faults station.old ≤ P.disk_faults station.new }

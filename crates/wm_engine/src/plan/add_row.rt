@@ -1,4 +1,5 @@
 //! INSERT.
+ghost use Rattle.wm_engine.specs.Idle.{Idles};
 ghost use Rattle.std.specs.Prelude.{◌≡◌, ◌<◌, List, true, Some, is_some, IfOk};
 ghost use Rattle.wm_base.specs.declared.instant.TheConstants.{END};
 ghost use Rattle.wm_graph.specs.Parts.{parts_of, space_of};
@@ -74,6 +75,7 @@ fn add_to(
     requires latest { session.now.stand ≡ Latest }
     ensures does { IfOk result (λ p. (xs : List SessionState) → DoesIt image.now xs moment p (add_row session.now name.now key value)) }
     ensures fit { IfOk result (λ p. FitPages p.changes) }
+    ensures idle { IfOk result Idles }
 {
     let row_key = Key::single(alloc, Value::Num(key))?;
     if stands(image, session.space(), table.number, &row_key) {
@@ -112,6 +114,7 @@ fn add_here(
     requires takes { takes table.now (row_values key value) ≡ true }
     ensures does { IfOk result (λ p. (xs : List SessionState) → DoesIt image.now xs moment p (add_row session.now name.now key value)) }
     ensures fit { IfOk result (λ p. FitPages p.changes) }
+    ensures idle { IfOk result Idles }
 {
     let Some(space) = image.space(session.space()) else {
         return Ok(Planned::answered(alloc, not_built()));
@@ -138,6 +141,7 @@ pub fn add_row(
     requires moment { moment < END }
     ensures does { IfOk result (λ p. (xs : List SessionState) → DoesIt image.now xs moment p (add_row session.now (folded name.now) key value)) }
     ensures fit { IfOk result (λ p. FitPages p.changes) }
+    ensures idle { IfOk result Idles }
 {
     let name = capitals_of(alloc, name)?;
     let Some(table) = image.table(name.as_bytes()) else {

@@ -1,4 +1,5 @@
 //! CreateWorkspace.
+ghost use Rattle.wm_engine.specs.Idle.{Idles};
 ghost use Rattle.std.specs.Prelude.{◌≡◌, ◌<◌, ◌+◌, ◌++◌, ◌^◌, nat_lt, ℕ, List, true, false, Some, IfOk, IfSome, IfNone};
 ghost use Rattle.std.specs.Fmt.{decimal};
 ghost use Rattle.std.specs.Option.{option_map};
@@ -219,6 +220,7 @@ fn bear(
     requires number { birth.number ≡ space_after (parts_of image.now).spaces }
     ensures does { IfOk result (λ p. (xs : List SessionState) (session : SessionState) → MayBearIn image.now session name space.now → birth.next_place ≡ next_place_at space.now session.stand → point_at (parts_of image.now) space.now moment session.stand ≡ Some (point_view point) → DoesIt image.now xs moment p (create_workspace session name)) }
     ensures fit { IfOk result (λ p. FitPages p.changes) }
+    ensures idle { IfOk result Idles }
     ensures few { IfOk result (λ p. ChangesFew image.now (applied p.changes image.now)) }
 {
     let old = image.counters();
@@ -261,6 +263,7 @@ fn bear_where(
     requires implicit { implicit ≡ implicit_of space.now }
     ensures does { IfOk result (λ p. (xs : List SessionState) → DoesIt image.now xs moment p (create_workspace session.now name)) }
     ensures fit { IfOk result (λ p. FitPages p.changes) }
+    ensures idle { IfOk result Idles }
     ensures few { IfOk result (λ p. ChangesFew image.now (applied p.changes image.now)) }
 {
     let Some(next_place) = next_place_at(space, session.stand()) else {
@@ -297,6 +300,7 @@ fn bear_in(
     requires bears { BearsIn image.now session.now name space.now }
     ensures does { IfOk result (λ p. (xs : List SessionState) → DoesIt image.now xs moment p (create_workspace session.now name)) }
     ensures fit { IfOk result (λ p. FitPages p.changes) }
+    ensures idle { IfOk result Idles }
     ensures few { IfOk result (λ p. ChangesFew image.now (applied p.changes image.now)) }
 {
     let implicit = implicit_name(alloc, space.next_implicit)?;
@@ -327,6 +331,7 @@ pub fn create_workspace(
     requires moment { moment < END }
     ensures does { IfOk result (λ p. (xs : List SessionState) → DoesIt image.now xs moment p (create_workspace session.now (unquoted name.now))) }
     ensures fit { IfOk result (λ p. FitPages p.changes) }
+    ensures idle { IfOk result Idles }
     ensures few { IfOk result (λ p. ChangesFew image.now (applied p.changes image.now)) }
 {
     let name = unquoted_of(alloc, name)?;

@@ -1,4 +1,5 @@
 //! CONNECT and DISCONNECT.
+ghost use Rattle.wm_engine.specs.Idle.{Idles};
 ghost use Rattle.std.specs.Prelude.{◌≡◌, ◌&&◌, ℕ, List, true, IfOk};
 ghost use Rattle.wm_engine.specs.Planning.{DoesIt};
 ghost use Rattle.wm_graph.specs.Parts.{parts_of};
@@ -36,6 +37,7 @@ pub fn connect(
 ) -> Result<Planned, Memory>
     ensures does { IfOk result (λ p. (rs : List Stored) (m : ℕ) → keep_rules (parts_of rs) ≡ true → DoesIt rs sessions.now m p (connect (folded name.now) (folded user.now))) }
     ensures fit { IfOk result (λ p. FitPages p.changes) }
+    ensures idle { IfOk result Idles }
 {
     let called = capitals_of(alloc, name)?;
     if is_open(sessions, name) {
@@ -55,6 +57,7 @@ pub fn connect(
 pub fn disconnect(alloc: Global, sessions: &[Session], name: &[u8]) -> Result<Planned, Memory>
     ensures does { IfOk result (λ p. (rs : List Stored) (m : ℕ) → keep_rules (parts_of rs) ≡ true → DoesIt rs sessions.now m p (disconnect (folded name.now))) }
     ensures fit { IfOk result (λ p. FitPages p.changes) }
+    ensures idle { IfOk result Idles }
 {
     let called = capitals_of(alloc, name)?;
     if !is_open(sessions, name) {

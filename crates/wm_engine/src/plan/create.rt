@@ -1,4 +1,5 @@
 //! CREATE TABLE.
+ghost use Rattle.wm_engine.specs.Idle.{Idles};
 ghost use Rattle.std.specs.Prelude.{◌≡◌, ◌<◌, ℕ, List, true, false, None, IfOk, IfSome, IfNone};
 ghost use Rattle.wm_base.specs.declared.instant.TheConstants.{END};
 ghost use Rattle.wm_graph.specs.Parts.{parts_of};
@@ -101,6 +102,7 @@ fn make(
     requires table { is_table (two_columns number name key value) ≡ true }
     ensures does { IfOk result (λ p. (xs : List SessionState) → DoesIt image.now xs moment p (create name key value)) }
     ensures fit { IfOk result (λ p. FitPages p.changes) }
+    ensures idle { IfOk result Idles }
 {
     let Some(counters) = counted(&image.counters(), moment) else {
         return Ok(Planned::answered(alloc, at_its_end(alloc, b"WORK")?));
@@ -126,6 +128,7 @@ pub fn create(
     requires moment { moment < END }
     ensures does { IfOk result (λ p. (xs : List SessionState) → DoesIt image.now xs moment p (create (folded name.now) (folded key.now) (folded value.now))) }
     ensures fit { IfOk result (λ p. FitPages p.changes) }
+    ensures idle { IfOk result Idles }
 {
     let name = capitals_of(alloc, name)?;
     let key = capitals_of(alloc, key)?;

@@ -1,4 +1,5 @@
 //! EnableVersioning.
+ghost use Rattle.wm_engine.specs.Idle.{Idles};
 ghost use Rattle.std.specs.Prelude.{◌≡◌, ◌<◌, List, true, false, Some, IfOk};
 ghost use Rattle.wm_base.specs.declared.instant.TheConstants.{END};
 ghost use Rattle.wm_graph.specs.Parts.{parts_of};
@@ -37,6 +38,7 @@ fn make_ready(
     requires key { table.now.has_key ≡ true }
     ensures does { IfOk result (λ p. (xs : List SessionState) → DoesIt image.now xs moment p (enable name.now history)) }
     ensures fit { IfOk result (λ p. FitPages p.changes) }
+    ensures idle { IfOk result Idles }
 {
     let Some(counters) = counted(&image.counters(), moment) else {
         return Ok(Planned::answered(alloc, at_its_end(alloc, b"WORK")?));
@@ -59,6 +61,7 @@ pub fn enable(
     requires moment { moment < END }
     ensures does { IfOk result (λ p. (xs : List SessionState) → DoesIt image.now xs moment p (enable (folded name.now) history)) }
     ensures fit { IfOk result (λ p. FitPages p.changes) }
+    ensures idle { IfOk result Idles }
 {
     let name = capitals_of(alloc, name)?;
     let Some(table) = image.table(name.as_bytes()) else {

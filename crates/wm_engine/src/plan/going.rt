@@ -1,4 +1,5 @@
 //! GotoWorkspace and GotoSavepoint.
+ghost use Rattle.wm_engine.specs.Idle.{Idles};
 ghost use Rattle.std.specs.Prelude.{◌≡◌, ℕ, List, [], true, IfOk};
 ghost use Rattle.wm_engine.specs.Planning.{DoesIt};
 ghost use Rattle.wm_engine.specs.Stands.{stand_view};
@@ -42,6 +43,7 @@ pub fn goto_workspace(
     requires rules { keep_rules (parts_of image.now) ≡ true }
     ensures does { IfOk result (λ p. (xs : List SessionState) (m : ℕ) → DoesIt image.now xs m p (goto_workspace session.now (unquoted name.now))) }
     ensures fit { IfOk result (λ p. FitPages p.changes) }
+    ensures idle { IfOk result Idles }
 {
     let name = unquoted_of(alloc, name)?;
     let Some(space) = image.space_named(name.as_bytes()) else {
@@ -60,6 +62,7 @@ pub fn goto_savepoint(
     requires rules { keep_rules (parts_of image.now) ≡ true }
     ensures does { IfOk result (λ p. (xs : List SessionState) (m : ℕ) → DoesIt image.now xs m p (goto_savepoint session.now (unquoted name.now))) }
     ensures fit { IfOk result (λ p. FitPages p.changes) }
+    ensures idle { IfOk result Idles }
 {
     let space = session.space();
     let Some(_) = image.space(space) else {

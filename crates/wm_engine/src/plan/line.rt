@@ -1,4 +1,5 @@
 //! A line.
+ghost use Rattle.wm_engine.specs.Idle.{Idles};
 ghost use Rattle.std.specs.Prelude.{◌≡◌, ◌<◌, ◌≤◌, length, true, IfOk};
 ghost use Rattle.wm_base.specs.declared.instant.TheConstants.{END};
 ghost use Rattle.wm_graph.specs.Parts.{parts_of};
@@ -37,6 +38,7 @@ fn plan_form(
     requires moment { moment < END }
     ensures does { IfOk result (λ p. DoesIt image.now sessions.now moment p (run_line (line_of text.now))) }
     ensures fit { IfOk result (λ p. FitPages p.changes) }
+    ensures idle { IfOk result Idles }
     ensures few { is_fork (line_of text.now) ≡ true → IfOk result (λ p. ChangesFew image.now (applied p.changes image.now)) }
 {
     match line_of(text) {
@@ -62,6 +64,7 @@ fn plan_text(
     requires fits { length text.now ≤ 16384 }
     ensures does { IfOk result (λ p. DoesIt image.now sessions.now moment p (run_text (start_fault text.now) text.now)) }
     ensures fit { IfOk result (λ p. FitPages p.changes) }
+    ensures idle { IfOk result Idles }
     ensures few { is_fork (line_of text.now) ≡ true → IfOk result (λ p. ChangesFew image.now (applied p.changes image.now)) }
 {
     if let Some(column) = start_fault(text) {
@@ -82,6 +85,7 @@ pub fn plan(
     requires moment { moment < END }
     ensures does { IfOk result (λ p. DoesIt image.now sessions.now moment p (λ s. step s text.now)) }
     ensures fit { IfOk result (λ p. FitPages p.changes) }
+    ensures idle { IfOk result Idles }
     ensures few { is_fork (line_of text.now) ≡ true → IfOk result (λ p. ChangesFew image.now (applied p.changes image.now)) }
 {
     if text.len() > LINE_LIMIT {

@@ -1,4 +1,5 @@
 //! SELECT.
+ghost use Rattle.wm_engine.specs.Idle.{Idles};
 ghost use Rattle.std.specs.Prelude.{◌≡◌, ℕ, List, true, IfOk};
 ghost use Rattle.wm_engine.specs.Planning.{DoesIt};
 ghost use Rattle.wm_graph.specs.Parts.{parts_of};
@@ -49,6 +50,7 @@ pub fn listing(
     requires { keep_rules (parts_of image.now) ≡ true }
     ensures does { IfOk result (λ p. (xs : List SessionState) (m : ℕ) → DoesIt image.now xs m p (listing session.now (folded name.now))) }
     ensures fit { IfOk result (λ p. FitPages p.changes) }
+    ensures idle { IfOk result Idles }
 {
     let name = capitals_of(alloc, name)?;
     let Some(table) = image.table(name.as_bytes()) else {

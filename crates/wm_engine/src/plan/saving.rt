@@ -1,4 +1,5 @@
 //! CreateSavepoint.
+ghost use Rattle.wm_engine.specs.Idle.{Idles};
 ghost use Rattle.std.specs.Prelude.{◌≡◌, ◌<◌, ◌+◌, ℕ, List, true, false, Some, IfOk};
 ghost use Rattle.wm_base.specs.declared.instant.TheConstants.{END};
 ghost use Rattle.wm_engine.specs.Forks.{ChangesFew};
@@ -75,6 +76,7 @@ fn save(
     requires place { place ≡ space.now.next_place + 1 }
     ensures does { IfOk result (λ p. (xs : List SessionState) (workspace : List ℕ) → SavesIn image.now workspace name space.now → DoesIt image.now xs moment p (create_savepoint workspace name)) }
     ensures fit { IfOk result (λ p. FitPages p.changes) }
+    ensures idle { IfOk result Idles }
     ensures few { IfOk result (λ p. ChangesFew image.now (applied p.changes image.now)) }
 {
     let Some(counters) = counted(&image.counters(), moment) else {
@@ -105,6 +107,7 @@ fn save_in(
     requires there { space_of (parts_of image.now).spaces space.now.number ≡ Some space.now }
     ensures does { IfOk result (λ p. (xs : List SessionState) (workspace : List ℕ) → SavesIn image.now workspace name space.now → DoesIt image.now xs moment p (create_savepoint workspace name)) }
     ensures fit { IfOk result (λ p. FitPages p.changes) }
+    ensures idle { IfOk result Idles }
     ensures few { IfOk result (λ p. ChangesFew image.now (applied p.changes image.now)) }
 {
     if image
@@ -134,6 +137,7 @@ pub fn create_savepoint(
     requires moment { moment < END }
     ensures does { IfOk result (λ p. (xs : List SessionState) → DoesIt image.now xs moment p (create_savepoint (unquoted workspace.now) (unquoted name.now))) }
     ensures fit { IfOk result (λ p. FitPages p.changes) }
+    ensures idle { IfOk result Idles }
     ensures few { IfOk result (λ p. ChangesFew image.now (applied p.changes image.now)) }
 {
     let name = unquoted_of(alloc, name)?;

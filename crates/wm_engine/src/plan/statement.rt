@@ -1,4 +1,5 @@
 //! A statement of a session.
+ghost use Rattle.wm_engine.specs.Idle.{Idles};
 ghost use Rattle.std.specs.Prelude.{◌≡◌, ◌<◌, ℕ, List, true, IfOk};
 ghost use Rattle.wm_base.specs.declared.instant.TheConstants.{END};
 ghost use Rattle.wm_engine.specs.Forks.{ChangesFew, forks};
@@ -38,6 +39,7 @@ fn run_statement(
     requires moment { moment < END }
     ensures does { IfOk result (λ p. (xs : List SessionState) → DoesIt image.now xs moment p (run_statement session.now (statement_view statement.entry))) }
     ensures fit { IfOk result (λ p. FitPages p.changes) }
+    ensures idle { IfOk result Idles }
     // A savepoint or a workspace that is made changes few records.
     ensures few { forks (statement_view statement.entry) ≡ true → IfOk result (λ p. ChangesFew image.now (applied p.changes image.now)) }
 {
@@ -73,6 +75,7 @@ pub fn run(
     requires moment { moment < END }
     ensures does { IfOk result (λ p. DoesIt image.now sessions.now moment p (λ s. run_for (folded name.now) (session_of (folded name.now) s.sessions) (statement_view statement.entry) s)) }
     ensures fit { IfOk result (λ p. FitPages p.changes) }
+    ensures idle { IfOk result Idles }
     ensures few { forks (statement_view statement.entry) ≡ true → IfOk result (λ p. ChangesFew image.now (applied p.changes image.now)) }
 {
     let Some(session) = session_named(sessions, name) else {

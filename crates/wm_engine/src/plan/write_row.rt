@@ -1,4 +1,5 @@
 //! A row that is written into a workspace.
+ghost use Rattle.wm_engine.specs.Idle.{Idles};
 ghost use Rattle.std.specs.Prelude.{◌≡◌, ◌+◌, ◌<◌, ◌≤◌, ◌^◌, ℕ, List, nat_lt, false, None, Some, IfOk};
 ghost use Rattle.wm_base.specs.declared.instant.TheConstants.{END};
 ghost use Rattle.wm_model.specs.Planning.{moved, named, row_values};
@@ -82,6 +83,7 @@ fn write_here(
     requires room { id + 2 < 2 ^ 64 }
     ensures does { IfOk result (λ p. (xs : List SessionState) (name : List ℕ) → named image.now name ≡ Some writing.now.table.now → DoesIt image.now xs moment p (add_row session.now name key value)) }
     ensures fit { IfOk result (λ p. FitPages p.changes) }
+    ensures idle { IfOk result Idles }
 {
     let version = image.latest(session.space());
     let stamp = writing.counters.next_stamp;
@@ -129,6 +131,7 @@ fn write_above(
     requires room { id + 2 < 2 ^ 64 }
     ensures does { IfOk result (λ p. (xs : List SessionState) (name : List ℕ) → named image.now name ≡ Some writing.now.table.now → DoesIt image.now xs moment p (add_row session.now name key value)) }
     ensures fit { IfOk result (λ p. FitPages p.changes) }
+    ensures idle { IfOk result Idles }
 {
     let version = Version {
         number: writing.counters.next_version,
@@ -178,6 +181,7 @@ pub fn write_row(
     requires moment { moment < END }
     ensures does { IfOk result (λ p. (xs : List SessionState) (name : List ℕ) → named image.now name ≡ Some writing.now.table.now → DoesIt image.now xs moment p (add_row session.now name key value)) }
     ensures fit { IfOk result (λ p. FitPages p.changes) }
+    ensures idle { IfOk result Idles }
 {
     let Some(counters) = counted(&writing.counters, moment) else {
         return Ok(Planned::answered(alloc, at_its_end(alloc, b"WORK")?));

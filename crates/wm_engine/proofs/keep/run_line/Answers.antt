@@ -4,6 +4,10 @@ use Rattle.wm_model.specs.Step.{step}
 use Rattle.wm_state.specs.State.{Session}
 use Rattle.wm_engine.proofs.Keeping.{begun_stands, kept_stands}
 use Rattle.wm_engine.specs.Forks.{ChangesFew}
+use Rattle.wm_engine.specs.Idle.{is_idle}
+use Rattle.wm_engine.specs.declared.seating.Seating.{Seating}
+use Rattle.wm_engine.specs.Views.{seating_view}
+use Rattle.wm_model.specs.Planning.{seated}
 use Rattle.wm_spec.specs.declared.record.batch.Change.{Change}
 use Rattle.wm_spec.specs.declared.record.stored.Stored.{Stored}
 use Rattle.wm_state.specs.ById.{applied}
@@ -33,3 +37,11 @@ returns-clause-any_moment g c = λ told s stands.
 pub returns-clause-few : goal.returns-clause-few
 returns-clause-few g c = λ fork.
     subst (λ (rs : List Stored). ChangesFew c.args.image rs) (sym (c.in_ok-image.ensures.image ∙ ap (λ (cs : List Change). applied cs c.args.image) c.into_changed.ensures.changes)) (c.in_ok-planned.ensures.few fork)
+
+pub returns-clause-idle : goal.returns-clause-idle
+returns-clause-idle g c = λ s stands idle.
+    let d = c.in_ok-planned.ensures.does.does s (subst (λ (xs : List Session). StandsAt c.args.image xs c.args.moment s) (sym c.as_slice.ensures.value) stands) in
+    let quiet = c.in_ok-planned.ensures.idle (ap is_idle d.1 ∙ idle) in (
+      c.in_ok-image.ensures.image ∙ ap (λ (cs : List Change). applied cs c.args.image) (c.into_changed.ensures.changes ∙ quiet.0),
+      c.in_ok-image.ensures.sessions ∙ ap (λ (x : Seating). seated c.args.sessions.now.items (seating_view x)) (c.into_changed.ensures.seating ∙ quiet.1),
+    )

@@ -27,3 +27,11 @@ returns-clause-few g c = λ fork.
     subst (λ (rs : List Stored). ChangesFew rs c.in_ok-kept.kept.image)
     (sym (ap (λ (e : Engaged). e.records) (sym c.self.view_is) ∙ ap (λ (o : Option (List Stored)). unwrap_or o []) (sym c.in-Some.ensures.value)))
     (c.in_ok-kept.ensures.few fork)
+
+pub returns-clause-idle : goal.returns-clause-idle
+returns-clause-idle g c = λ s for idle.
+    let here = ap (λ (o : Option (List Stored)). unwrap_or o []) (sym c.in-Some.ensures.value) in
+    let kept = c.in_ok-kept.ensures.idle s (stands_at _ c.in-Some.image s here (subst (λ (e : Engaged). StandsFor e s) (sym c.self.view_is) for)) idle in (
+      kept.0 ∙ sym (ap (λ (e : Engaged). e.records) (sym c.self.view_is) ∙ here),
+      kept.1 ∙ ap (λ (e : Engaged). e.sessions) c.self.view_is,
+    )

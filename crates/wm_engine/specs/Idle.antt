@@ -1,0 +1,18 @@
+-- Lines that are refused, that read, or that say nothing change no record and no session.
+use Rattle.std.specs.Prelude.{◌≡◌, Bool, true, false, []}
+use Rattle.wm_print.specs.Texts.{Answer, Nothing, Fine, Done, Listing, Refused}
+use Rattle.wm_engine.specs.Views.{answer_view}
+use Rattle.wm_engine.specs.declared.planned.Planned.{Planned}
+use Rattle.wm_engine.specs.declared.seating.Seating.TheVariants.{Stay}
+
+-- the answer of such a line
+abbrev pub is_idle : Answer → Bool
+is_idle Nothing = true
+is_idle Fine = false
+is_idle (Done count) = false
+is_idle (Listing rows) = true
+is_idle (Refused refusal) = true
+
+-- a plan with such an answer changes nothing
+abbrev pub Idles : Planned → Type 0
+Idles p = is_idle (answer_view p.answer) ≡ true → (p.changes ≡ []) × (p.seating ≡ Stay)
