@@ -13,6 +13,8 @@ mod operands;
 pub mod owned;
 mod periods;
 mod seen;
+#[cfg(test)]
+mod tests;
 mod types;
 
 pub use conditions::truth;
