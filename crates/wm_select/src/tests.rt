@@ -4,10 +4,10 @@ mod queries;
 mod tables;
 
 use crate::SelectFault;
-use answers::{count_of, counted, fault_of, pairs_in, pairs_of};
+use answers::{count_of, counted, fault_of, numbers_in, pairs_of};
 use queries::{
     aggregate, and, columns_where, distinct, grouped, ids_where, more, not, of_a, of_both, ordered,
-    pair, plain_col, query, row_count, shown,
+    pair, plain_col, query, row_count, shown, single,
 };
 use std::alloc::Global;
 use std::cell::Cell;
@@ -145,6 +145,172 @@ fn only_the_total_of_a_sum_counts(rt: HostRuntime) -> Result<(), Fail> {
     assert_eq!(rt;
         fault_of(alloc, &query, &tables)?,
         Some(SelectFault::OutOfRange)
+    );
+    Ok(())
+}
+
+/// SELECT ID, AMT FROM A ORDER BY what is given
+fn in_order(alloc: Global, by: OrderBy, descending: bool) -> Result<Query, Memory> {
+    ordered(alloc, columns_where(alloc, None)?, by, descending)
+}
+
+fn by_amount(alloc: Global, descending: bool) -> Result<Query, Memory> {
+    let amount = plain_col(alloc, b"AMT")?;
+    in_order(alloc, OrderBy::Col(amount), descending)
+}
+
+#[test]
+fn null_comes_last_and_in_descending_order_first(rt: HostRuntime) -> Result<(), Fail> {
+    let alloc: Global = rt.alloc();
+    let tables = once(
+        alloc,
+        [Some(2_000), Some(1_500), None, Some(2_000)].as_slice(),
+    )?;
+    let upward = [
+        (Some(2), Some(1_500)),
+        (Some(1), Some(2_000)),
+        (Some(4), Some(2_000)),
+        (Some(3), None),
+    ];
+    let pairs = pairs_of(alloc, &by_amount(alloc, false)?, &tables)?;
+    assert_eq!(rt; pairs.as_slice(), upward.as_slice());
+    let downward = [
+        (Some(3), None),
+        (Some(1), Some(2_000)),
+        (Some(4), Some(2_000)),
+        (Some(2), Some(1_500)),
+    ];
+    let pairs = pairs_of(alloc, &by_amount(alloc, true)?, &tables)?;
+    assert_eq!(rt; pairs.as_slice(), downward.as_slice());
+    let pairs = pairs_of(
+        alloc,
+        &in_order(alloc, OrderBy::Position(2), true)?,
+        &tables,
+    )?;
+    assert_eq!(rt; pairs.as_slice(), downward.as_slice());
+    Ok(())
+}
+
+/// SELECT DISTINCT A.AMT, B.AMT FROM A, B WHERE A.ID = B.ID
+fn distinct_amounts(alloc: Global) -> Result<Query, Memory> {
+    let same = of_both(alloc, b"ID", Cmp::Eq)?;
+    let one = shown(alloc, b"A", b"AMT")?;
+    let outs = pair(alloc, one, shown(alloc, b"B", b"AMT")?)?;
+    Ok(distinct(query(alloc, outs, Some(same))))
+}
+
+#[test]
+fn distinct_rows_stand_in_order(rt: HostRuntime) -> Result<(), Fail> {
+    let alloc: Global = rt.alloc();
+    let amounts = [Some(20), None, Some(10), Some(20), None];
+    let tables = twice(alloc, amounts.as_slice())?;
+    let pairs = pairs_of(alloc, &distinct_amounts(alloc)?, &tables)?;
+    let wanted = [(Some(10), Some(10)), (Some(20), Some(20)), (None, None)];
+    assert_eq!(rt; pairs.as_slice(), wanted.as_slice());
+    Ok(())
+}
+
+/// SELECT ID FROM A WHERE ID = 1
+fn first_id(alloc: Global) -> Result<Query, Memory> {
+    let first = of_a(alloc, b"ID", Cmp::Eq, 1)?;
+    let id = single(alloc, shown(alloc, b"A", b"ID")?)?;
+    Ok(query(alloc, id, Some(first)))
+}
+
+#[test]
+fn the_stored_closure_is_called(rt: HostRuntime) -> Result<(), Fail> {
+    let alloc: Global = rt.alloc();
+    let tables = once(alloc, [Some(10), Some(20)].as_slice())?;
+    let calls = Cell::new(0);
+    let rows = counted(alloc, &first_id(alloc)?, &tables, &calls)??;
+    let numbers = numbers_in(alloc, &rows)?;
+    assert_eq!(rt; numbers.as_slice(), [Some(1)].as_slice());
+    assert_eq!(rt; calls.get() == 0, false);
+    Ok(())
+}
+
+// ---- large answers
+
+#[test]
+fn a_product_of_too_many_rows(rt: HostRuntime) -> Result<(), Fail> {
+    let alloc: Global = rt.alloc();
+    let tables = many_twice(alloc, 320, 320)?;
+    assert_eq!(rt;
+        fault_of(alloc, &ids_where(alloc, None)?, &tables)?,
+        Some(SelectFault::TooMany)
+    );
+    let same = of_both(alloc, b"ID", Cmp::Eq)?;
+    assert_eq!(rt;
+        count_of(alloc, &ids_where(alloc, Some(same))?, &tables)?,
+        320
+    );
+    Ok(())
+}
+
+#[test]
+fn a_thousand_rows_joined_with_a_thousand(rt: HostRuntime) -> Result<(), Fail> {
+    let alloc: Global = rt.alloc();
+    let tables = many_twice(alloc, 1_000, 1_000)?;
+    let same = of_both(alloc, b"ID", Cmp::Eq)?;
+    assert_eq!(rt;
+        count_of(alloc, &ids_where(alloc, Some(same))?, &tables)?,
+        1_000
+    );
+    Ok(())
+}
+
+#[test]
+fn a_hundred_thousand_rows(rt: HostRuntime) -> Result<(), Fail> {
+    let alloc: Global = rt.alloc();
+    let query = columns_where(alloc, None)?;
+    let tables = alone(alloc, many(alloc, b"A", 100_000)?)?;
+    assert_eq!(rt; count_of(alloc, &query, &tables)?, 100_000);
+    Ok(())
+}
+
+#[test]
+fn a_hundred_thousand_rows_and_one(rt: HostRuntime) -> Result<(), Fail> {
+    let alloc: Global = rt.alloc();
+    let query = columns_where(alloc, None)?;
+    let tables = alone(alloc, many(alloc, b"A", 100_001)?)?;
+    assert_eq!(rt;
+        fault_of(alloc, &query, &tables)?,
+        Some(SelectFault::TooMany)
+    );
+    Ok(())
+}
+
+#[test]
+fn a_product_of_a_million_rows(rt: HostRuntime) -> Result<(), Fail> {
+    let alloc: Global = rt.alloc();
+    let tables = many_twice(alloc, 1_000, 1_000)?;
+    assert_eq!(rt;
+        fault_of(alloc, &ids_where(alloc, None)?, &tables)?,
+        Some(SelectFault::TooMany)
+    );
+    Ok(())
+}
+
+/// SELECT A.ID, A.AMT + the number FROM A, B
+fn more_of_each(alloc: Global, number: i64) -> Result<Query, Memory> {
+    let one = shown(alloc, b"A", b"ID")?;
+    let outs = pair(alloc, one, more(alloc, number)?)?;
+    Ok(query(alloc, outs, None))
+}
+
+#[test]
+fn out_of_range_comes_before_too_many(rt: HostRuntime) -> Result<(), Fail> {
+    let alloc: Global = rt.alloc();
+    let tables = many_twice(alloc, 320, 320)?;
+    let query = more_of_each(alloc, i64::MAX)?;
+    assert_eq!(rt;
+        fault_of(alloc, &query, &tables)?,
+        Some(SelectFault::OutOfRange)
+    );
+    let query = more_of_each(alloc, 1)?;
+    assert_eq!(rt;
+        fault_of(alloc, &query, &tables)?,
+        Some(SelectFault::TooMany)
     );
     Ok(())
 }

@@ -72,8 +72,20 @@ fn number_in(value: &Value) -> Option<i64> {
     }
 }
 
+/// The one number of each row.
+pub fn numbers_in(alloc: Global, rows: &RowList) -> Result<Vec<Option<i64>>, Fail> {
+    let mut numbers = Vec::new(alloc);
+    for row in rows.as_slice() {
+        match row.values.as_slice() {
+            [one] => numbers.push(number_in(one))?,
+            _ => Err("not one value")?,
+        }
+    }
+    Ok(numbers)
+}
+
 /// The two numbers of each row.
-pub fn pairs_in(alloc: Global, rows: &RowList) -> Result<Vec<(Option<i64>, Option<i64>)>, Fail> {
+fn pairs_in(alloc: Global, rows: &RowList) -> Result<Vec<(Option<i64>, Option<i64>)>, Fail> {
     let mut pairs = Vec::new(alloc);
     for row in rows.as_slice() {
         match row.values.as_slice() {

@@ -93,6 +93,12 @@ pub fn more(alloc: Global, other: i64) -> Result<Out, Memory> {
     Ok(out(Item::Expr(expr)))
 }
 
+pub fn single(alloc: Global, one: Out) -> Result<Outs, Memory> {
+    let mut outs = Vec::new(alloc);
+    outs.push(one)?;
+    Ok(outs)
+}
+
 pub fn pair(alloc: Global, one: Out, other: Out) -> Result<Outs, Memory> {
     let mut outs = Vec::new(alloc);
     outs.push(one)?;
