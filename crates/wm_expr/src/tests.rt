@@ -666,6 +666,8 @@ fn negative_numbers(rt: HostRuntime) -> Result<(), Fail> {
         Outcome::Number(-9_223_372_036_854_775_807)
     );
     assert_eq!(rt; found_negative(alloc, Some(i64::MIN))?, Outcome::OutOfRange);
+    assert_eq!(rt; found_here(alloc, &plain(Some(7))), Outcome::Number(7));
+    assert_eq!(rt; found_here(alloc, &plain(None)), Outcome::Null);
     Ok(())
 }
 
@@ -793,11 +795,24 @@ fn truth_of_copy(alloc: Global, what: Option<i64>) -> Result<Truth, Memory> {
     Ok(truth_here(alloc, &copy))
 }
 
+/// The truth of a copy of SAL = 30 for a row.
+fn truth_of_column_copy(alloc: Global, columns: &Columns, row: &Row) -> Result<Truth, Memory> {
+    let salary = Operand::Col(salary_column(alloc)?);
+    let cond = compared(salary, Cmp::Eq, operand(Some(30)));
+    let copy = cond_copy(alloc, &cond)?;
+    Ok(truth(&copy, columns, row))
+}
+
 #[test]
 fn a_copy_is_the_same_condition(rt: HostRuntime) -> Result<(), Fail> {
     let alloc: Global = rt.alloc();
     assert_eq!(rt; truth_of_copy(alloc, Some(3))?, Truth::Yes);
     assert_eq!(rt; truth_of_copy(alloc, Some(2))?, Truth::No);
     assert_eq!(rt; truth_of_copy(alloc, None)?, Truth::Unknown);
+    let columns = emp(alloc)?;
+    let row = ada(alloc, Some(30), Value::Null)?;
+    assert_eq!(rt; truth_of_column_copy(alloc, &columns, &row)?, Truth::Yes);
+    let row = ada(alloc, Some(31), Value::Null)?;
+    assert_eq!(rt; truth_of_column_copy(alloc, &columns, &row)?, Truth::No);
     Ok(())
 }
