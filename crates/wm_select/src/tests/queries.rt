@@ -115,6 +115,15 @@ pub fn both_ids(alloc: Global) -> Result<Outs, Memory> {
     )
 }
 
+/// AMT of A and AMT of B.
+pub fn both_amounts(alloc: Global) -> Result<Outs, Memory> {
+    pair(
+        alloc,
+        shown(alloc, b"A", b"AMT")?,
+        shown(alloc, b"B", b"AMT")?,
+    )
+}
+
 /// ID and AMT of A.
 pub fn both_columns(alloc: Global) -> Result<Outs, Memory> {
     pair(
@@ -124,16 +133,68 @@ pub fn both_columns(alloc: Global) -> Result<Outs, Memory> {
     )
 }
 
-/// A query of the items with no GROUP BY and no ORDER BY. Its sources are known by their columns alone.
-pub fn query(alloc: Global, outs: Outs, filter: Option<Cond>) -> Query {
+/// AMT of A and COUNT(*).
+pub fn amount_and_count(alloc: Global) -> Result<Outs, Memory> {
+    pair(alloc, shown(alloc, b"A", b"AMT")?, row_count())
+}
+
+/// GROUP BY AMT
+pub fn amount_groups(alloc: Global) -> Result<Cols, Memory> {
+    let mut groups = Vec::new(alloc);
+    groups.push(plain_col(alloc, b"AMT")?)?;
+    Ok(Cols::from_vec(groups))
+}
+
+/// ORDER BY what is given.
+pub fn orders_by(alloc: Global, by: OrderBy, descending: bool) -> Result<Orders, Memory> {
+    let mut orders = Vec::new(alloc);
+    orders.push(Order { by, descending })?;
+    Ok(Orders::from_vec(orders))
+}
+
+/// ORDER BY AMT
+pub fn amount_orders(alloc: Global, descending: bool) -> Result<Orders, Memory> {
+    let amount = plain_col(alloc, b"AMT")?;
+    orders_by(alloc, OrderBy::Col(amount), descending)
+}
+
+pub fn no_groups(alloc: Global) -> Cols {
+    Cols::from_vec(Vec::new(alloc))
+}
+
+pub fn no_orders(alloc: Global) -> Orders {
+    Orders::from_vec(Vec::new(alloc))
+}
+
+/// A query of its parts. Its sources are known by their columns alone.
+pub fn query_of(
+    alloc: Global,
+    distinct: bool,
+    outs: Outs,
+    filter: Option<Cond>,
+    groups: Cols,
+    orders: Orders,
+) -> Query {
     Query {
-        distinct: false,
+        distinct,
         projection: Projection::Outs(outs),
         sources: Vec::<Src>::new(alloc),
         filter,
-        groups: Cols::from_vec(Vec::new(alloc)),
-        orders: Orders::from_vec(Vec::new(alloc)),
+        groups,
+        orders,
     }
+}
+
+/// A query of the items with no GROUP BY and no ORDER BY.
+pub fn query(alloc: Global, outs: Outs, filter: Option<Cond>) -> Query {
+    query_of(
+        alloc,
+        false,
+        outs,
+        filter,
+        no_groups(alloc),
+        no_orders(alloc),
+    )
 }
 
 /// The numbers of both sources, where the condition is true.
@@ -146,39 +207,4 @@ pub fn ids_where(alloc: Global, filter: Option<Cond>) -> Result<Query, Memory> {
 pub fn columns_where(alloc: Global, filter: Option<Cond>) -> Result<Query, Memory> {
     let outs = both_columns(alloc)?;
     Ok(query(alloc, outs, filter))
-}
-
-/// The query with ORDER BY.
-pub fn ordered(
-    alloc: Global,
-    query: Query,
-    by: OrderBy,
-    descending: bool,
-) -> Result<Query, Memory> {
-    let mut orders = Vec::new(alloc);
-    orders.push(Order { by, descending })?;
-    Ok(with_orders(query, Orders::from_vec(orders)))
-}
-
-fn with_orders(query: Query, orders: Orders) -> Query {
-    Query { orders, ..query }
-}
-
-/// The query with GROUP BY AMT.
-pub fn grouped(alloc: Global, query: Query) -> Result<Query, Memory> {
-    let mut groups = Vec::new(alloc);
-    groups.push(plain_col(alloc, b"AMT")?)?;
-    Ok(with_groups(query, Cols::from_vec(groups)))
-}
-
-fn with_groups(query: Query, groups: Cols) -> Query {
-    Query { groups, ..query }
-}
-
-/// The query with DISTINCT.
-pub fn distinct(query: Query) -> Query {
-    Query {
-        distinct: true,
-        ..query
-    }
 }
