@@ -1,98 +1,22 @@
 //! Truths and values that were worked by hand.
+mod trees;
+
 use crate::copies::cond_copy;
 use crate::owned::column_value;
 use crate::{ValueFault, fits, has_no_empty_period, truth, typed, value};
 use std::alloc::Global;
 use std::test::Fail;
+use trees::{
+    and, compared, constants, known, list_test, no_columns, no_values, not, null_test, operand, or,
+    range_test, truth_here,
+};
 use wm_base::columns::{NUMBER, PERIOD, TEXT};
 use wm_base::tree::column::{Col, Suffix};
-use wm_base::tree::cond::{Cmp, Cond};
-use wm_base::tree::constant::{Const, Consts, PeriodEnd};
+use wm_base::tree::cond::Cmp;
+use wm_base::tree::constant::{Const, PeriodEnd};
 use wm_base::tree::expr::Expr;
 use wm_base::tree::operand::{Operand, Operator, Per};
 use wm_base::{Column, Columns, Instant, Memory, Period, Row, Text, Truth, Value, Values};
-
-// ---- operands and conditions over constants
-
-fn constant(number: Option<i64>) -> Const {
-    match number {
-        Some(number) => Const::Num(number),
-        None => Const::Null,
-    }
-}
-
-fn operand(number: Option<i64>) -> Operand {
-    Operand::Const(constant(number))
-}
-
-fn compared(left: Operand, cmp: Cmp, right: Operand) -> Cond {
-    Cond::Compare { left, cmp, right }
-}
-
-fn null_test(what: Operand, negated: bool) -> Cond {
-    Cond::IsNull { what, negated }
-}
-
-fn list_test(what: Operand, negated: bool, list: Consts) -> Cond {
-    Cond::OneOf {
-        what,
-        negated,
-        list,
-    }
-}
-
-fn range_test(what: Operand, negated: bool, low: Operand, high: Operand) -> Cond {
-    Cond::Between {
-        what,
-        negated,
-        low,
-        high,
-    }
-}
-
-fn and(alloc: Global, left: Cond, right: Cond) -> Result<Cond, Memory> {
-    Ok(Cond::And(Box::new(alloc, left)?, Box::new(alloc, right)?))
-}
-
-fn or(alloc: Global, left: Cond, right: Cond) -> Result<Cond, Memory> {
-    Ok(Cond::Or(Box::new(alloc, left)?, Box::new(alloc, right)?))
-}
-
-fn not(alloc: Global, inner: Cond) -> Result<Cond, Memory> {
-    Ok(Cond::Not(Box::new(alloc, inner)?))
-}
-
-fn constants(alloc: Global, numbers: &[Option<i64>]) -> Result<Consts, Memory> {
-    let mut list = Vec::new(alloc);
-    for number in numbers {
-        list.push(constant(*number))?;
-    }
-    Ok(Consts::from_vec(list))
-}
-
-fn no_columns(alloc: Global) -> Columns {
-    Columns::from_vec(Vec::new(alloc))
-}
-
-fn no_values(alloc: Global) -> Row {
-    Row {
-        values: Values::new(alloc),
-    }
-}
-
-/// How true a condition over constants is.
-fn truth_here(alloc: Global, cond: &Cond) -> Truth {
-    truth(cond, &no_columns(alloc), &no_values(alloc))
-}
-
-/// A condition of that truth.
-fn known(truth: Truth) -> Cond {
-    match truth {
-        Truth::Yes => compared(operand(Some(1)), Cmp::Eq, operand(Some(1))),
-        Truth::No => compared(operand(Some(1)), Cmp::Eq, operand(Some(2))),
-        Truth::Unknown => compared(operand(None), Cmp::Eq, operand(Some(1))),
-    }
-}
 
 fn truth_of_and(alloc: Global, left: Truth, right: Truth) -> Result<Truth, Memory> {
     let cond = and(alloc, known(left), known(right))?;
