@@ -57,12 +57,6 @@ fn piece(alloc: Global, version: u64, stamp: u64, from: u64) -> Result<Record, M
     }))
 }
 
-fn batch_of(changes: Vec<Change>) -> Batch {
-    Batch {
-        changes: Changes::from_vec(changes),
-    }
-}
-
 fn becomes(id: u64, new: Record) -> Change {
     Change {
         id,
@@ -70,28 +64,27 @@ fn becomes(id: u64, new: Record) -> Change {
     }
 }
 
+fn gone(id: u64) -> Change {
+    Change { id, becomes: None }
+}
+
 fn first_batch(alloc: Global) -> Result<Batch, Memory> {
-    let changes = vec![in alloc;
-        becomes(9, piece(alloc, 2, 4, 10)?),
-        becomes(2, live(alloc)?),
-        becomes(3, version(1, 0)),
-        becomes(5, version(2, 1)),
-        becomes(6, row(alloc, 4)),
-        becomes(7, piece(alloc, 1, 3, 0)?),
-    ]?;
-    Ok(batch_of(changes))
+    let mut changes = Changes::new(alloc);
+    changes.push(becomes(9, piece(alloc, 2, 4, 10)?))?;
+    changes.push(becomes(2, live(alloc)?))?;
+    changes.push(becomes(3, version(1, 0)))?;
+    changes.push(becomes(5, version(2, 1)))?;
+    changes.push(becomes(6, row(alloc, 4)))?;
+    changes.push(becomes(7, piece(alloc, 1, 3, 0)?))?;
+    Ok(Batch { changes })
 }
 
 fn second_batch(alloc: Global) -> Result<Batch, Memory> {
-    let changes = vec![in alloc;
-        Change {
-            id: 9,
-            becomes: None,
-        },
-        becomes(7, row(alloc, 8)),
-        becomes(12, piece(alloc, 2, 8, 20)?),
-    ]?;
-    Ok(batch_of(changes))
+    let mut changes = Changes::new(alloc);
+    changes.push(gone(9))?;
+    changes.push(becomes(7, row(alloc, 8)))?;
+    changes.push(becomes(12, piece(alloc, 2, 8, 20)?))?;
+    Ok(Batch { changes })
 }
 
 #[test]
@@ -158,17 +151,16 @@ fn later_piece(alloc: Global) -> Result<Record, Memory> {
 
 /// LIVE with two versions, a table and a row that the versions have at a key, one behind the other.
 fn small_store(alloc: Global) -> Result<Records, Memory> {
-    let list = vec![in alloc;
-        stored(9, piece(alloc, 2, 1, 10)?),
-        stored(1, counters()),
-        stored(2, live(alloc)?),
-        stored(3, version(1, 0)),
-        stored(5, version(2, 1)),
-        stored(6, full_row(alloc, 1)?),
-        stored(4, table(alloc)?),
-        stored(7, later_piece(alloc)?),
-    ]?;
-    Ok(Records::from_vec(list))
+    let mut records = Records::new(alloc);
+    records.push(stored(9, piece(alloc, 2, 1, 10)?))?;
+    records.push(stored(1, counters()))?;
+    records.push(stored(2, live(alloc)?))?;
+    records.push(stored(3, version(1, 0)))?;
+    records.push(stored(5, version(2, 1)))?;
+    records.push(stored(6, full_row(alloc, 1)?))?;
+    records.push(stored(4, table(alloc)?))?;
+    records.push(stored(7, later_piece(alloc)?))?;
+    Ok(records)
 }
 
 fn stored(id: u64, new: Record) -> Stored {
@@ -312,23 +304,21 @@ fn savepoint(alloc: Global, making: u64, name: &[u8], version: u64) -> Result<Re
 
 /// Two workspaces, and three versions in LIVE.
 fn spaces_batch(alloc: Global) -> Result<Batch, Memory> {
-    let changes = vec![in alloc;
-        becomes(2, live(alloc)?),
-        becomes(3, child(alloc)?),
-        becomes(4, version(1, 0)),
-        becomes(5, version(2, 1)),
-        becomes(6, version(3, 2)),
-    ]?;
-    Ok(batch_of(changes))
+    let mut changes = Changes::new(alloc);
+    changes.push(becomes(2, live(alloc)?))?;
+    changes.push(becomes(3, child(alloc)?))?;
+    changes.push(becomes(4, version(1, 0)))?;
+    changes.push(becomes(5, version(2, 1)))?;
+    changes.push(becomes(6, version(3, 2)))?;
+    Ok(Batch { changes })
 }
 
 /// Two savepoints that keep the second version.
 fn savepoints_batch(alloc: Global) -> Result<Batch, Memory> {
-    let changes = vec![in alloc;
-        becomes(7, savepoint(alloc, 6, b"B", 2)?),
-        becomes(8, savepoint(alloc, 2, b"A", 2)?),
-    ]?;
-    Ok(batch_of(changes))
+    let mut changes = Changes::new(alloc);
+    changes.push(becomes(7, savepoint(alloc, 6, b"B", 2)?))?;
+    changes.push(becomes(8, savepoint(alloc, 2, b"A", 2)?))?;
+    Ok(Batch { changes })
 }
 
 #[test]
