@@ -4,12 +4,13 @@
 #   make test    the merge gate: every proof, edit, test and program, and then the cases
 #   make wm      the program alone, at build/wm
 #   make cases   plays cases/ through the built program on real files
+#   make bench   times 10,000 INSERT lines, a SELECT of them and a join of two tables of 1,000 rows
 
 RT ?= rt
 PYTHON ?= python3
 SOURCES := crates.txt $(shell find crates -path '*/out' -prune -o -type f -print)
 
-.PHONY: demo test wm cases clean
+.PHONY: demo test wm cases bench clean
 
 wm: build/wm
 
@@ -36,6 +37,9 @@ cases: build/wm
 	@if command -v $(PYTHON) > /dev/null; \
 	then $(PYTHON) tools/play_cases.py build/wm cases; \
 	else echo "cases: skipped, for there is no $(PYTHON)"; fi
+
+bench: build/wm
+	$(PYTHON) bench/statements.py build/wm
 
 clean:
 	rm -rf build crates/*/out

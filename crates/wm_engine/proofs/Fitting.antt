@@ -1,12 +1,12 @@
 -- The records of the batches that lines make fit pages.
-use Rattle.std.proofs.Common.{◌≡◌, ℕ, suc, ℤ, ◌≤◌, ◌==◌, ◌&&◌, nat_le, nat_lt, Bool, true, false, List, [], ◌∷◌, ◌++◌, length, map, Option, Some, None, is_some, slice_get, refl, sym, ap, ◌∙◌, arith}
+use Rattle.std.proofs.Common.{◌≡◌, ℕ, zero, suc, ◌≤◌, ◌==◌, ◌&&◌, nat_le, Bool, true, false, List, [], ◌∷◌, ◌++◌, length, map, Option, Some, None, is_some, unwrap_or, if◌then◌else◌, slice_get, refl, sym, ap, ◌∙◌, arith}
 use Rattle.std.specs.List.{list_all, AllByRecursion}
-use Rattle.std.specs.Option.{option_map_or}
+use Rattle.std.specs.Option.{option_and_then, option_map_or}
 use Rattle.std.specs.Str.{bytes_eq}
 use Rattle.wm_base.specs.Value.{type_place, weight_of}
 use Rattle.wm_base.specs.declared.value.Value.{Value}
 use Rattle.wm_base.specs.declared.value.Value.TheVariants.{Null, Num, Text, Time, Span}
-use Rattle.wm_graph.specs.Parts.{parts_of, as_table, space_of}
+use Rattle.wm_graph.specs.Parts.{parts_of, as_table, space_of, table_of}
 use Rattle.wm_graph.specs.Rules.{keep_rules, is_short, is_table, same_column, differ, is_space, is_placed, fit_columns, fits_column, type_of, weight, is_row_of, is_light_key, key_of, is_key_of}
 use Rattle.wm_spec.specs.Records.{record_at}
 use Rattle.wm_spec.specs.declared.record.Record.TheVariants as records
@@ -28,8 +28,10 @@ use Rattle.wm_state.proofs.Apart.{ruled, found-passes}
 use Rattle.wm_state.proofs.ByKind.{kinds as of_kind, Split, split_of}
 use Rattle.wm_state.proofs.Planning.{tables-split}
 use Rattle.wm_state.proofs.Tests.{bool_apart, both, and_true, all_middle}
+use Rattle.wm_model.specs.Step.{row_key}
 use Rattle.wm_store.specs.Spelled.{FitPages}
 use Rattle.wm_store.proofs.Fitting.{FitsPage, is_spelled, fits_counters, fits_version, fits_space, fits_savepoint, fits_table, fits_row, fits_piece}
+use Rattle.wm_making.specs.Rows.{is_filled}
 
 -- ---- what the rules say of a record
 
@@ -48,6 +50,15 @@ table_well rs id t rules found = by_split (split_of rs id (records.Table t) foun
     by_split s =
         let tables : (parts_of rs).tables ≡ of_kind as_table s.front ++ t ∷ of_kind as_table s.back = ap (λ xs. (parts_of xs).tables) s.is ∙ tables-split s.front s.back id t in
         all_middle is_table t (of_kind as_table s.front) (of_kind as_table s.back) (ap (list_all is_table) (sym tables) ∙ each)
+
+-- and so is one that is found by its number
+pub table_in_order : (rs : List Stored) (n : ℕ) (t : Table) → keep_rules (parts_of rs) ≡ true → table_of (parts_of rs).tables n ≡ Some t → is_table t ≡ true
+table_in_order rs n t rules found =
+    let ts = (parts_of rs).tables in
+    let h = both (nat_le (length ts) 256) _ (ruled (parts_of rs) rules).tables in
+    let g = both (differ (λ (t u : Table). t.number == u.number) ts) _ h.1 in
+    let each = (both (differ (λ (t u : Table). bytes_eq t.name u.name) ts) (list_all is_table ts) g.1).1 in
+    (found-passes (λ (u : Table). u.number == n) is_table ts t found each).1
 
 -- the names in a workspace's record are short
 pub space_well : (rs : List Stored) (n : ℕ) (a : Space) → keep_rules (parts_of rs) ≡ true → space_of (parts_of rs).spaces n ≡ Some a → (is_short a.name ≡ true) × (is_short a.writer ≡ true)
@@ -92,24 +103,13 @@ table_fits t e = let s = small t e in fits_table t s.name s.few s.names
 ready_fits : (history : Bool) (t : Table) → is_table t ≡ true → FitsPage (records.Table (ready history t))
 ready_fits history t e = let s = small t e in fits_table (ready history t) s.name s.few s.names
 
-space_fits : (a : Space) → is_short a.name ≡ true → is_short a.writer ≡ true → FitsPage (records.Space a)
+pub space_fits : (a : Space) → is_short a.name ≡ true → is_short a.writer ≡ true → FitsPage (records.Space a)
 space_fits a name writer = fits_space a (at_most (length a.name) 30 name) (at_most (length a.writer) 30 writer)
 
 savepoint_fits : (x : Savepoint) → is_short x.name ≡ true → FitsPage (records.Savepoint x)
 savepoint_fits x name = fits_savepoint x (at_most (length x.name) 30 name)
 
-numbers_fit : (r : RowRecord) (i j : ℤ) → r.values ≡ Num i ∷ Num j ∷ [] → FitsPage (records.Row r)
-numbers_fit r i j is = fits_row r (rw is (omega arith)) (rw is refl) (rw is (omega arith))
-
-number_fits : (x : PieceRecord) (i : ℤ) → x.cells.key ≡ Num i ∷ [] → FitsPage (records.Piece x)
-number_fits x i is = fits_piece x (Num i) is refl (omega arith)
-
 -- ---- rows of any values
-
--- a value that is no empty text
-abbrev pub is_filled : Value → Bool
-is_filled (Text t) = nat_lt 0 (length t)
-is_filled v = true
 
 -- columns have no periods
 not_span : (k : ColumnKind) → (4 == type_of k) ≡ true → ⊥
@@ -166,6 +166,19 @@ piece_fits x t key filled = by_key x.cells.key refl key filled
         by_column None g = absurd (bool_apart (sym g))
         by_column (Some c) g = spelled_of c.kind v (both (is_filled v) true f).0 (λ p is. sym (ap (λ w. type_place w == type_of c.kind) is) ∙ g)
 
+-- the key of a row in which no text is empty is no empty text
+pub filled_key : (t : Table) (row : List Value) → list_all is_filled row ≡ true → list_all is_filled (row_key t row) ≡ true
+filled_key t row filled = by_place row t.key_column filled
+  where
+    alone : (v : Value) (b : Bool) → is_filled v ≡ true → list_all is_filled (unwrap_or (if b then Some (v ∷ []) else None) []) ≡ true
+    alone v true e = and_true (is_filled v) true e refl
+    alone v false e = refl
+
+    by_place : (vs : List Value) (i : ℕ) → list_all is_filled vs ≡ true → list_all is_filled (unwrap_or (option_and_then (λ v. if t.has_key then Some (v ∷ []) else None) (slice_get vs i)) []) ≡ true
+    by_place [] i e = refl
+    by_place (v ∷ vs) zero e = alone v t.has_key (both (is_filled v) (list_all is_filled vs) e).0
+    by_place (v ∷ vs) (suc i) e = by_place vs i (both (is_filled v) (list_all is_filled vs) e).1
+
 -- ---- the batches
 
 pub fits_create : (counters_id : ℕ) (c : Counters) (id : ℕ) (t : Table) → is_table t ≡ true → FitPages (create_batch counters_id c id t)
@@ -175,7 +188,7 @@ pub fits_enable : (counters_id : ℕ) (c : Counters) (id : ℕ) (history : Bool)
 fits_enable counters_id c id history t e = (fits_counters c, (ready_fits history t e, tt))
 
 -- what is dropped takes no page
-fits_dropped : (ids : List ℕ) (cs : List Change) → FitPages cs → FitPages (map drop_one ids ++ cs)
+pub fits_dropped : (ids : List ℕ) (cs : List Change) → FitPages cs → FitPages (map drop_one ids ++ cs)
 fits_dropped [] cs fit = fit
 fits_dropped (id ∷ ids) cs fit = (tt, fits_dropped ids cs fit)
 
@@ -187,15 +200,6 @@ fits_written counters_id c space_id a ids id r x name writer row piece = (fits_c
 pub fits_written_new : (counters_id : ℕ) (c : Counters) (space_id : ℕ) (a : Space) (id : ℕ) (v : Version) (r : RowRecord) (x : PieceRecord) → is_short a.name ≡ true → is_short a.writer ≡ true
     → FitsPage (records.Row r) → FitsPage (records.Piece x) → FitPages (insert_new_batch counters_id c space_id a id v r x)
 fits_written_new counters_id c space_id a id v r x name writer row piece = (fits_counters c, (space_fits (longer a) name writer, (row, (piece, (fits_version v, tt)))))
-
--- two numbers, of which the first is the key
-pub fits_insert : (counters_id : ℕ) (c : Counters) (space_id : ℕ) (a : Space) (ids : List ℕ) (id : ℕ) (r : RowRecord) (x : PieceRecord) (i j : ℤ) → is_short a.name ≡ true → is_short a.writer ≡ true
-    → r.values ≡ Num i ∷ Num j ∷ [] → x.cells.key ≡ Num i ∷ [] → FitPages (insert_batch counters_id c space_id a ids id r x)
-fits_insert counters_id c space_id a ids id r x i j name writer values key = fits_written counters_id c space_id a ids id r x name writer (numbers_fit r i j values) (number_fits x i key)
-
-pub fits_insert_new : (counters_id : ℕ) (c : Counters) (space_id : ℕ) (a : Space) (id : ℕ) (v : Version) (r : RowRecord) (x : PieceRecord) (i j : ℤ) → is_short a.name ≡ true → is_short a.writer ≡ true
-    → r.values ≡ Num i ∷ Num j ∷ [] → x.cells.key ≡ Num i ∷ [] → FitPages (insert_new_batch counters_id c space_id a id v r x)
-fits_insert_new counters_id c space_id a id v r x i j name writer values key = fits_written_new counters_id c space_id a id v r x name writer (numbers_fit r i j values) (number_fits x i key)
 
 -- a savepoint, and the workspace that counts it
 pub fits_savepoint_batch : (counters_id : ℕ) (c : Counters) (space_id : ℕ) (a : Space) (id : ℕ) (x : Savepoint) → is_short a.name ≡ true → is_short a.writer ≡ true → is_short x.name ≡ true

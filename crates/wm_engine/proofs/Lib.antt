@@ -11,3 +11,16 @@ pub mod Saving
 pub mod Bearing
 pub mod Coming
 pub mod FittingForks
+pub mod Inserting
+pub mod Lasting
+pub mod Lengths
+pub mod Creating
+pub mod Calling
+pub mod Listing
+pub mod Fits
+pub mod Changing
+pub mod ChangesWritten
+pub mod Querying
+pub mod Stood
+pub mod Acting
+pub mod Choosing

@@ -5,3 +5,9 @@ pub mod Planning
 pub mod Forks
 pub mod Idle
 pub mod Points
+pub mod Inserting
+pub mod Changing
+pub mod Lacking
+pub mod Lasting
+pub mod Chosen
+pub mod Acting

@@ -5,7 +5,7 @@ ghost use Rattle.wm_base.specs.declared.fault.OpenFault.TheVariants as opening;
 ghost use Rattle.wm_base.specs.declared.instant.TheConstants.{END};
 ghost use Rattle.wm_engine.specs.Forks.{ChangesFew, is_fork};
 ghost use Rattle.wm_engine.specs.Idle.{is_idle};
-ghost use Rattle.wm_reader.specs.Grammar.{line_of};
+ghost use Rattle.wm_parser.specs.Parsed.{parsed};
 ghost use Rattle.wm_engine.specs.Working.{FileStands, StandsFor, WorksOver, Tells};
 ghost use Rattle.wm_engine.specs.declared.fault.LineFault.TheVariants as faults;
 ghost use Rattle.wm_state.specs.State.{State, begin, fresh};
@@ -122,7 +122,7 @@ impl Engine {
         ensures answered { IfOk result (λ answer. (s : State) → StandsFor self.old s → StandsFor self.new (step s line.now).0 × (answer ≡ answer_text (step s line.now).1)) }
         ensures works { P.tells → OnOk result (WorksOver self.new (P.history station.new)) }
         // A line that makes a savepoint or a workspace changes few records, and none of a row, a piece or an entry of a log.
-        ensures few { is_fork (line_of line.now) ≡ true → OnOk result (ChangesFew self.old.records self.new.records) }
+        ensures few { is_fork (parsed line.now) ≡ true → OnOk result (ChangesFew self.old.records self.new.records) }
         // A line that is refused, that reads, or that says nothing changes no record and no session.
         ensures idle { (s : State) → StandsFor self.old s → is_idle (step s line.now).1 ≡ true → OnOk result ((self.new.records ≡ self.old.records) × (self.new.sessions ≡ self.old.sessions)) }
         // A crash at any moment of the call, and a read after it, finds a file that stands for the state before the line or after it.

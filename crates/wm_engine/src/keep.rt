@@ -10,7 +10,7 @@ ghost use Rattle.wm_graph.specs.Rules.{keep_rules};
 ghost use Rattle.wm_engine.specs.Views.{seating_view};
 ghost use Rattle.wm_model.specs.Planning.{StandsAt, seated};
 ghost use Rattle.wm_model.specs.Step.{step, answer_text};
-ghost use Rattle.wm_reader.specs.Grammar.{line_of};
+ghost use Rattle.wm_parser.specs.Parsed.{parsed};
 ghost use Rattle.wm_spec.specs.Records.{AreChanges};
 ghost use Rattle.wm_state.specs.ById.{applied};
 ghost use Rattle.wm_state.specs.State.{State};
@@ -81,7 +81,7 @@ pub fn run_line<P: Station>(
     requires works { P.tells → KeepsOver store.old image (P.history station.old) }
     ensures answered { IfOk result (λ k. (s : State) → StandsAt image sessions.old.items moment s → StandsAt k.image sessions.new.items moment (step s line.now).0 × (k.bytes ≡ answer_text (step s line.now).1)) }
     ensures rules { IfOk result (λ k. keep_rules (parts_of k.image) ≡ true) }
-    ensures few { is_fork (line_of line.now) ≡ true → IfOk result (λ k. ChangesFew image k.image) }
+    ensures few { is_fork (parsed line.now) ≡ true → IfOk result (λ k. ChangesFew image k.image) }
     ensures idle { IfOk result (λ k. (s : State) → StandsAt image sessions.old.items moment s → is_idle (step s line.now).1 ≡ true → (k.image ≡ image) × (sessions.new.items ≡ sessions.old.items)) }
     ensures works { P.tells → IfOk result (λ k. KeepsOver store.new k.image (P.history station.new)) }
     ensures any_moment { P.tells → (s : State) → StandsAt image sessions.old.items moment s → Ended (P.history station.old) (P.history station.new) (λ file. FileStands file s ⊎ FileStands file (step s line.now).0) }

@@ -2,8 +2,7 @@
 ghost use Rattle.std.specs.Prelude.{◌≡◌, ◌&&◌, nat_le};
 ghost use Rattle.std.specs.List.{list_all};
 ghost use Rattle.std.specs.Str.{bytes_eq};
-ghost use Rattle.wm_model.specs.Step.{is_name, names_no_savepoint, names_no_workspace};
-ghost use Rattle.wm_reader.specs.Grammar.{latest};
+ghost use Rattle.wm_model.specs.Step.{is_name, latest, names_no_savepoint, names_no_workspace};
 
 /// The most bytes that a name may have.
 const NAME_LIMIT: usize = 30;

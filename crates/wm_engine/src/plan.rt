@@ -1,14 +1,18 @@
 //! What a line does and answers, worked out over the records before anything changes.
 
-mod add_row;
+mod add_values;
 mod batch;
 mod bearing;
+mod call;
+mod change;
 mod connect;
 mod create;
 mod enable;
 mod going;
+mod insert;
 pub mod line;
-mod listing;
 mod saving;
+mod select;
 mod statement;
+mod write_changes;
 mod write_row;

@@ -1,7 +1,7 @@
-//! The refusals of today's lines.
+//! The refusals of lines.
 ghost use Rattle.std.specs.Prelude.{◌≡◌, IfOk};
 ghost use Rattle.wm_engine.specs.Views.{answer_view};
-ghost use Rattle.wm_model.specs.Step.{at_its_end, bad_name, change_limit, key_there, most_savepoints, most_sessions, most_tables, most_workspaces, no_key, no_savepoint, no_session, no_table, no_workspace, not_built, not_latest, reserved_name, savepoint_there, session_there, syntax, table_there, versioning, workspace_there};
+ghost use Rattle.wm_model.specs.Step.{at_its_end, bad_literal, bad_name, change_limit, key_there, long_name, mistyped, most_rows, most_savepoints, most_sessions, most_tables, most_workspaces, no_key, no_savepoint, no_session, no_table, no_workspace, no_text, not_built, not_latest, out_of_range, reserved_name, savepoint_there, session_there, syntax, table_there, too_long_line, versioning, workspace_there};
 
 use crate::answer::Answer;
 use std::alloc::Global;
@@ -14,7 +14,28 @@ pub fn not_built() -> Answer
     Answer::Refused(Refusal::Limit(LimitRefusal::Wm099))
 }
 
-/// That the line begins as none does, at a column from 1 on.
+/// That the line has more bytes than a line may have.
+pub fn too_long_line() -> Answer
+    ensures { answer_view result ≡ too_long_line }
+{
+    Answer::Refused(Refusal::Form(FormRefusal::Wm001))
+}
+
+/// That the line is no text.
+pub fn no_text() -> Answer
+    ensures { answer_view result ≡ no_text }
+{
+    Answer::Refused(Refusal::Form(FormRefusal::Wm002))
+}
+
+/// That a literal at this column is out of range.
+pub fn bad_literal(column: u32) -> Answer
+    ensures { answer_view result ≡ bad_literal column }
+{
+    Answer::Refused(Refusal::Cell(CellRefusal::Wm065(column)))
+}
+
+/// That no line goes on so at this column, from 1 on.
 pub fn syntax(column: u32) -> Answer
     ensures { answer_view result ≡ syntax column }
 {
@@ -47,6 +68,34 @@ pub fn table_there(name: Name) -> Answer
     ensures { answer_view result ≡ table_there name }
 {
     Answer::Refused(Refusal::Form(FormRefusal::Wm011(name)))
+}
+
+/// That an argument of a call does not fit its parameter, or is missing.
+pub fn mistyped(parameter: Name) -> Answer
+    ensures { answer_view result ≡ mistyped parameter }
+{
+    Answer::Refused(Refusal::Form(FormRefusal::Wm013(parameter)))
+}
+
+/// That a table of such a name has no views.
+pub fn long_name() -> Answer
+    ensures { answer_view result ≡ long_name }
+{
+    Answer::Refused(Refusal::Form(FormRefusal::Wm016(25)))
+}
+
+/// That a number is out of range.
+pub fn out_of_range() -> Answer
+    ensures { answer_view result ≡ out_of_range }
+{
+    Answer::Refused(Refusal::Cell(CellRefusal::Wm064))
+}
+
+/// That an answer has more rows than it may.
+pub fn most_rows() -> Answer
+    ensures { answer_view result ≡ most_rows }
+{
+    Answer::Refused(Refusal::Limit(LimitRefusal::Wm074))
 }
 
 /// That the table has no key.

@@ -30,14 +30,14 @@ pub enum Seating {
 fn close(sessions: &mut Vec<Session>, name: &Name)
     ensures { sessions.new.items ≡ closed name.now sessions.old.items }
 {
-    sessions.retain(|session| !session.is_called(name));
+    sessions.retain(|session| !session.is_named(name));
 }
 
 /// Stands the session elsewhere, where it has this name.
 fn move_one(session: &mut Session, name: &Name, space: u32, stand: Stand)
     ensures { session.new ≡ (if bytes_eq name.now session.old.name then record session.old { space = space; stand = stand_view stand } else session.old) }
 {
-    if session.is_called(name) {
+    if session.is_named(name) {
         session.go(space, stand);
     }
 }

@@ -4,12 +4,10 @@ ghost use Rattle.std.specs.Option.{option_copied};
 ghost use Rattle.std.specs.Str.{bytes_eq};
 ghost use Rattle.wm_engine.specs.Stands.{stand_view};
 ghost use Rattle.wm_model.specs.Step.{session_of};
-ghost use Rattle.wm_reader.specs.Views.{folded};
 ghost use Rattle.wm_state.specs.State.{Latest};
 
 use std::marker::Model;
 use wm_base::Name;
-use wm_reader::is_word;
 
 /// Where a session stands in its workspace.
 #[derive(Clone, Copy, Debug, PartialEq)]
@@ -77,15 +75,8 @@ impl Session {
         self.stand
     }
 
-    /// Whether the word is the session's name.
-    pub fn is_named(&self, name: &[u8]) -> bool
-        ensures { result ≡ bytes_eq (folded name.now) self.now.name }
-    {
-        is_word(name, self.name.as_bytes())
-    }
-
-    /// Whether the session has this name, which is in capitals.
-    pub fn is_called(&self, name: &Name) -> bool
+    /// Whether the session has this name.
+    pub fn is_named(&self, name: &Name) -> bool
         ensures { result ≡ bytes_eq name.now self.now.name }
     {
         name.as_bytes() == self.name.as_bytes()
@@ -101,8 +92,8 @@ impl Session {
 }
 
 /// The session of this name, where it is open.
-pub fn session_named<'a>(sessions: &'a [Session], name: &[u8]) -> Option<&'a Session>
-    ensures { option_copied result ≡ session_of (folded name.now) sessions.now }
+pub fn session_named<'a>(sessions: &'a [Session], name: &Name) -> Option<&'a Session>
+    ensures { option_copied result ≡ session_of name.now sessions.now }
 {
     for session in sessions {
         if session.is_named(name) {
@@ -113,8 +104,8 @@ pub fn session_named<'a>(sessions: &'a [Session], name: &[u8]) -> Option<&'a Ses
 }
 
 /// Whether a session of this name is open.
-pub fn is_open(sessions: &[Session], name: &[u8]) -> bool
-    ensures { result ≡ is_some (session_of (folded name.now) sessions.now) }
+pub fn is_open(sessions: &[Session], name: &Name) -> bool
+    ensures { result ≡ is_some (session_of name.now sessions.now) }
 {
     session_named(sessions, name).is_some()
 }

@@ -13,7 +13,9 @@ mod operands;
 pub mod owned;
 mod periods;
 mod seen;
-mod types;
+#[cfg(test)]
+mod tests;
+pub mod types;
 
 pub use conditions::truth;
 pub use expressions::value;

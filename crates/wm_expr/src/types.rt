@@ -16,7 +16,7 @@ use wm_base::{Column, Columns};
 const ANY: u8 = 0;
 
 /// The kind of a column with that suffix: an end of a period is a time, and nothing else has ends.
-fn kind_at_end(suffix: Option<Suffix>, kind: Option<u8>) -> Option<u8>
+pub fn kind_at_end(suffix: Option<Suffix>, kind: Option<u8>) -> Option<u8>
     ensures { result ≡ suffixed_kind suffix kind }
 {
     match (suffix, kind) {
@@ -26,7 +26,8 @@ fn kind_at_end(suffix: Option<Suffix>, kind: Option<u8>) -> Option<u8>
     }
 }
 
-fn constant_kind(constant: &Const) -> u8
+/// The kind of a constant.
+pub fn constant_kind(constant: &Const) -> u8
     ensures { result ≡ kind_of_constant constant.now }
 {
     match constant {
@@ -39,7 +40,7 @@ fn constant_kind(constant: &Const) -> u8
 }
 
 /// Whether it is a period that is written, or WM_VALID is a column of periods there.
-fn is_period(period: &Per, columns: &[Column]) -> bool
+pub fn is_period(period: &Per, columns: &[Column]) -> bool
     ensures { result ≡ period_for period.now columns.now }
 {
     match period {
@@ -52,7 +53,7 @@ fn is_period(period: &Per, columns: &[Column]) -> bool
 }
 
 /// The kind of an operand, or None where it names what is none of the columns.
-fn operand_kind(operand: &Operand, columns: &[Column]) -> Option<u8>
+pub fn operand_kind(operand: &Operand, columns: &[Column]) -> Option<u8>
     ensures { result ≡ kind_of_operand operand.now columns.now }
 {
     match operand {
@@ -79,7 +80,7 @@ fn is_one_type(kind: u8, other: u8) -> bool
 }
 
 /// Whether operands of these kinds may be compared.
-fn may_compare(kind: Option<u8>, other: Option<u8>) -> bool
+pub fn may_compare(kind: Option<u8>, other: Option<u8>) -> bool
     ensures { result ≡ comparable kind other }
 {
     match (kind, other) {
@@ -89,7 +90,7 @@ fn may_compare(kind: Option<u8>, other: Option<u8>) -> bool
 }
 
 /// Whether the kind may be compared with that of each constant.
-fn may_compare_all(kind: Option<u8>, list: &[Const]) -> bool
+pub fn may_compare_all(kind: Option<u8>, list: &[Const]) -> bool
     ensures { result ≡ list_all (λ constant. comparable kind (Some (kind_of_constant constant))) list.now }
 {
     list.iter().all(|constant| may_compare(kind, Some(constant_kind(constant))))

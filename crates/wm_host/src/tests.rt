@@ -409,8 +409,8 @@ fn a_line_counts_up_to_16384_bytes(rt: HostRuntime) -> Result<(), Fail> {
     let made = store(alloc, "1000")?;
     for (count, answer) in [
         (16_384, b"".as_slice()),
-        (16_385, b"WM-099 not built yet\n"),
-        (17_000, b"WM-099 not built yet\n"),
+        (16_385, b"WM-001 line too long\n"),
+        (17_000, b"WM-001 line too long\n"),
     ] {
         let mut script = vec![in alloc; b' '; count]?;
         script.extend_from_slice(b"\r\n")?;

@@ -15,7 +15,7 @@ use Rattle.wm_state.proofs.Ids.{are_under, changes-insert}
 use Rattle.wm_image.proofs.Lists.{record_at-none, record_at-here, record_at-away}
 use Rattle.wm_image.specs.Sought.{ids_with}
 
-none_some : (o : Option Record) (r : Record) → o ≡ None → o ≡ Some r → ⊥
+pub none_some : (o : Option Record) (r : Record) → o ≡ None → o ≡ Some r → ⊥
 none_some o r none some = cc
 
 one_record : (o : Option Record) (q r : Record) → o ≡ Some q → o ≡ Some r → q ≡ r
@@ -33,7 +33,7 @@ away-with p id (s ∷ ss) above = by_test (p s.record) (away-with p id ss above.
     by_test false rest = rest
 
 -- an id is among those of a test where its record passes it
-told-with : (p : Record → Bool) (ss : List Stored) → Ascend ss → (id : ℕ) (r : Record) → record_at ss id ≡ Some r → is_dropped (ids_with p ss) id ≡ p r
+pub told-with : (p : Record → Bool) (ss : List Stored) → Ascend ss → (id : ℕ) (r : Record) → record_at ss id ≡ Some r → is_dropped (ids_with p ss) id ≡ p r
 told-with p [] sorted id r is = absurd (none_some (record_at [] id) r (record_at-none id) is)
 told-with p (s ∷ ss) sorted id r is = by_id (cases_eq s.id id) (told-with p ss sorted.1 id r)
   where
@@ -54,7 +54,7 @@ are_dropped test ss sorted = λ id r is. told-with (λ q. not (keeps test q)) ss
 
 -- ---- a batch that drops them
 
-differ-with : (p : Record → Bool) (ss : List Stored) → Ascend ss → ids_differ (ids_with p ss) ≡ true
+pub differ-with : (p : Record → Bool) (ss : List Stored) → Ascend ss → ids_differ (ids_with p ss) ≡ true
 unfolding ids_differ
 differ-with p [] sorted = refl
 differ-with p (s ∷ ss) sorted = by_test (p s.record) (differ-with p ss sorted.1)
@@ -63,7 +63,7 @@ differ-with p (s ∷ ss) sorted = by_test (p s.record) (differ-with p ss sorted.
     by_test true rest = rw (away-with p s.id ss sorted.0) rest
     by_test false rest = rest
 
-under-with : (p : Record → Bool) (next : ℕ) (ss : List Stored) → AllUnder next ss → are_under next (ids_with p ss) ≡ true
+pub under-with : (p : Record → Bool) (next : ℕ) (ss : List Stored) → AllUnder next ss → are_under next (ids_with p ss) ≡ true
 under-with p next [] under = refl
 under-with p next (s ∷ ss) under = by_test (p s.record) (under-with p next ss under.1)
   where
@@ -72,7 +72,7 @@ under-with p next (s ∷ ss) under = by_test (p s.record) (under-with p next ss 
     by_test false rest = rest
 
 -- an id that has a record is below
-under-found : (next : ℕ) (ss : List Stored) → AllUnder next ss → (id : ℕ) (r : Record) → record_at ss id ≡ Some r → nat_lt id next ≡ true
+pub under-found : (next : ℕ) (ss : List Stored) → AllUnder next ss → (id : ℕ) (r : Record) → record_at ss id ≡ Some r → nat_lt id next ≡ true
 under-found next [] under id r is = absurd (none_some (record_at [] id) r (record_at-none id) is)
 under-found next (s ∷ ss) under id r is = by_id (cases_eq s.id id) (under-found next ss under.1 id r)
   where
@@ -81,18 +81,18 @@ under-found next (s ∷ ss) under id r is = by_id (cases_eq s.id id) (under-foun
     by_id (inr away) rest = rest (sym (record_at-away s ss id away) ∙ is)
 
 -- counters and a workspace have two ids
-ids_apart : (ss : List Stored) (m n : ℕ) (c : Counters) (a : Space) → record_at ss m ≡ Some (records.Counters c) → record_at ss n ≡ Some (records.Space a) → (n == m) ≡ false
+pub ids_apart : (ss : List Stored) (m n : ℕ) (c : Counters) (a : Space) → record_at ss m ≡ Some (records.Counters c) → record_at ss n ≡ Some (records.Space a) → (n == m) ≡ false
 ids_apart ss m n c a counters space = ne_eqb n m (λ same. kinds (one_record (record_at ss m) (records.Counters c) (records.Space a) counters (ap (record_at ss) (sym same) ∙ space)))
   where
     kinds : records.Counters c ≡ records.Space a → ⊥
     kinds e = cc
 
 -- two ids before others
-differ-two : (m n : ℕ) (ids : List ℕ) → (n == m) ≡ false → is_dropped ids m ≡ false → is_dropped ids n ≡ false → ids_differ ids ≡ true → ids_differ (m ∷ n ∷ ids) ≡ true
+pub differ-two : (m n : ℕ) (ids : List ℕ) → (n == m) ≡ false → is_dropped ids m ≡ false → is_dropped ids n ≡ false → ids_differ ids ≡ true → ids_differ (m ∷ n ∷ ids) ≡ true
 unfolding ids_differ
 differ-two m n ids apart no_m no_n rest = rw (apart, no_m, no_n) rest
 
-under-two : (next m n : ℕ) (ids : List ℕ) → nat_lt m next ≡ true → nat_lt n next ≡ true → are_under next ids ≡ true → are_under next (m ∷ n ∷ ids) ≡ true
+pub under-two : (next m n : ℕ) (ids : List ℕ) → nat_lt m next ≡ true → nat_lt n next ≡ true → are_under next ids ≡ true → are_under next (m ∷ n ∷ ids) ≡ true
 under-two next m n ids one two rest = rw (one, two) rest
 
 pub changes_dropped : (test : PieceRecord → Bool) (ss : List Stored) (counters_id space_id id : ℕ) (c : Counters) (a : Space) (new : Counters) (r : RowRecord) (x : PieceRecord) → Ascend ss

@@ -11,6 +11,7 @@ pub mod Naming
 pub mod Using
 pub mod Tabled
 pub mod Dropping
+pub mod DroppingAll
 pub mod Leaves
 pub mod Spans
 pub mod Gathering

@@ -2,3 +2,4 @@ pub mod Sought
 pub mod Indexed
 pub mod Shown
 pub mod Listing
+pub mod Gone

@@ -1,18 +1,16 @@
--- What an INSERT that is served does to each state that the records stand for: the row goes into the newest version of the workspace.
-use Rattle.std.proofs.Common.{◌≡◌, ℕ, ℤ, ◌≤◌, ◌+◌, ◌^◌, ◌==◌, ◌&&◌, nat_lt, nat_le, true, false, not, List, [], ◌∷◌, ◌++◌, Some, is_some, refl, sym, ap, subst, ◌∙◌, arith}
-use Rattle.std.proofs.lemmas.Bool.{eq-eqb, eqb-true}
+-- What adding a row that is served does to each state that the records stand for: the row goes into the newest version of the workspace.
+use Rattle.std.proofs.Common.{◌≡◌, ℕ, ◌≤◌, ◌+◌, ◌^◌, ◌==◌, ◌&&◌, nat_lt, nat_le, true, false, not, List, [], ◌∷◌, ◌++◌, Option, Some, None, is_some, unwrap_or, refl, sym, ap, subst, ◌∙◌, arith}
+use Rattle.std.proofs.lemmas.Bool.{eq-eqb}
 use Rattle.std.specs.Option.{option_and_then, option_map_or}
 use Rattle.wm_base.specs.declared.instant.TheConstants.{END}
 use Rattle.wm_base.specs.declared.kind.Kind.TheVariants.{Insert as Inserting}
 use Rattle.wm_base.specs.declared.value.Value.{Value}
-use Rattle.wm_base.specs.declared.value.Value.TheVariants.{Num}
 use Rattle.wm_graph.specs.Parts.{Parts, parts_of, table_of}
-use Rattle.wm_graph.specs.Rules.{keep_rules, are_counters, fit_columns, fits_column, is_row, is_row_of, is_row_at, are_cells, is_key_of, key_of, is_key, collide}
+use Rattle.wm_graph.specs.Rules.{keep_rules, are_counters, is_row, is_row_of, is_row_at, are_cells, is_key_of, key_of, is_key, collide}
 use Rattle.wm_period.specs.Pieces.{Held}
 use Rattle.wm_print.specs.Texts.{Done}
 use Rattle.wm_spec.specs.Records.{record_at, AreChanges}
 use Rattle.wm_spec.specs.declared.record.Record.TheVariants as records
-use Rattle.wm_spec.specs.declared.record.column.TableColumn.{TableColumn}
 use Rattle.wm_spec.specs.declared.record.counters.Counters.{Counters}
 use Rattle.wm_spec.specs.declared.record.piece.PieceRecord.{PieceRecord}
 use Rattle.wm_spec.specs.declared.record.row.RowRecord.{RowRecord}
@@ -32,60 +30,43 @@ use Rattle.wm_state.proofs.Laying.{key_itself}
 use Rattle.wm_state.proofs.Named.{space_number}
 use Rattle.wm_state.proofs.Planned.{plan_inserted, Inserted, parts-inserted}
 use Rattle.wm_state.proofs.Tests.{bool_apart, both, and_true, not_true}
-use Rattle.wm_model.specs.Step.{add_row, counter_limit, line_work, takes, new_entry, written}
-use Rattle.wm_model.specs.Planning.{StandsAt, Does, Stay, moved, stepped, named, row_values}
-use Rattle.wm_model.specs.Writing.{IsNew, ServedNew, Served, new_row, piece_in, new_piece}
+use Rattle.wm_model.specs.Step.{counter_limit, line_work, row_key, new_entry, written}
+use Rattle.wm_model.specs.Planning.{StandsAt, Does, Stay, moved, stepped}
+use Rattle.wm_model.specs.Writing.{IsNew, ServedNew, Served, add_values, new_row, piece_in, new_piece}
 use Rattle.wm_model.proofs.Adding.{added_is}
 use Rattle.wm_model.proofs.Doing.{counts_as, counters_move, not_spent}
-use Rattle.wm_model.proofs.Named.{IsTableOf, named_is, has_key}
 
--- ---- a table that takes the row
+-- ---- a row of the table
 
-record Taking (t : Table) (key value : ℤ) : Type 0 where
-  row : is_row_of (row_values key value) t ≡ true
-  key_is : key_of t (row_values key value) ≡ Some (Num key ∷ [])
-  key_fits : is_key_of (Num key ∷ []) t ≡ true
-
-taking : (t : Table) (key value : ℤ) → t.has_key ≡ true → takes t (row_values key value) ≡ true → Taking t key value
-taking t key value keyed e =
-    let h = both (not t.valid) ((t.key_column == 0) && fit_columns t.columns (row_values key value)) e in
-    let g = both (t.key_column == 0) (fit_columns t.columns (row_values key value)) h.1 in
-    by_columns t.columns refl (eqb-true t.key_column 0 g.0) g.1
+-- the key of a row that has one is its key
+key_is : (t : Table) (row : List Value) → is_key_of (row_key t row) t ≡ true → key_of t row ≡ Some (row_key t row)
+key_is t row keyed = by_key (key_of t row) refl keyed
   where
-    by_columns : (cs : List TableColumn) → t.columns ≡ cs → t.key_column ≡ 0 → fit_columns t.columns (row_values key value) ≡ true → Taking t key value
-    by_columns [] is first fit = absurd (bool_apart (sym fit ∙ ap (λ cs. fit_columns cs (row_values key value)) is))
-    by_columns (c ∷ cs) is first fit =
-        let k : fits_column c (Num key) ≡ true = (both (fits_column c (Num key)) (fit_columns cs (Num value ∷ [])) (ap (λ cs. fit_columns cs (row_values key value)) (sym is) ∙ fit)).0 in
-        record {
-          row = rw (fit, first, keyed) refl;
-          key_is = rw (first, keyed) refl;
-          key_fits = rw (keyed, first, is, k) refl;
-        }
+    by_key : (o : Option (List Value)) → key_of t row ≡ o → is_key_of (unwrap_or o []) t ≡ true → o ≡ Some (unwrap_or o [])
+    by_key None is e = absurd (bool_apart (sym e))
+    by_key (Some k) is e = refl
 
 -- the row and its piece in a version keep the rules of their tables
-pub record Fits (rs : List Stored) (t : Table) (c : Counters) (key value : ℤ) (version : ℕ) : Type 0 where
-  pub row : is_row (table_of (parts_of rs).tables) (c.next_stamp + 1) (new_row c t key value) ≡ true
-  pub cells : are_cells (table_of (parts_of rs).tables) (piece_in version c t key).cells ≡ true
-  pub row_there : is_row_at (table_of (parts_of rs).tables) (piece_in version c t key).cells (new_row c t key value) ≡ true
+pub record Fits (rs : List Stored) (t : Table) (c : Counters) (row : List Value) (version : ℕ) : Type 0 where
+  pub row_well : is_row (table_of (parts_of rs).tables) (c.next_stamp + 1) (new_row c t row) ≡ true
+  pub cells : are_cells (table_of (parts_of rs).tables) (piece_in version c t row).cells ≡ true
+  pub row_there : is_row_at (table_of (parts_of rs).tables) (piece_in version c t row).cells (new_row c t row) ≡ true
 
-pub row_fits : (rs : List Stored) (n : ℕ) (t : Table) (a : Space) (c : Counters) (key value : ℤ) (version : ℕ) → IsNew rs n t a c key value → IsTableOf rs t → Fits rs t c key value version
-row_fits rs n t a c key value version new table = record {
-  row = and_true (nat_lt c.next_stamp (c.next_stamp + 1)) _ (less_next c.next_stamp) (ap (λ o. option_map_or (is_row_of (row_values key value)) o false) table.there ∙ k.row);
-  cells = and_true (nat_lt 0 END && nat_le END END) _ refl (ap (λ o. option_map_or (is_key_of (Num key ∷ [])) o false) table.there ∙ k.key_fits);
+pub row_fits : (rs : List Stored) (n : ℕ) (t : Table) (a : Space) (c : Counters) (row : List Value) (version : ℕ) → IsNew rs n t a c row → Fits rs t c row version
+row_fits rs n t a c row version new = record {
+  row_well = and_true (nat_lt c.next_stamp (c.next_stamp + 1)) _ (less_next c.next_stamp) (ap (λ o. option_map_or (is_row_of (row)) o false) new.aimed.there ∙ new.aimed.fits);
+  cells = and_true (nat_lt 0 END && nat_le END END) _ refl (ap (λ o. option_map_or (is_key_of (row_key t row)) o false) new.aimed.there ∙ new.aimed.keyed);
   row_there = and_true (t.number == t.number) _ (eq-eqb t.number t.number refl)
-      (ap (is_key (Num key ∷ [])) (ap (option_and_then (λ (u : Table). key_of u (row_values key value))) table.there ∙ k.key_is) ∙ key_itself (Num key ∷ []));
+      (ap (is_key (row_key t row)) (ap (option_and_then (λ (u : Table). key_of u (row))) new.aimed.there ∙ key_is t row new.aimed.keyed) ∙ key_itself (row_key t row));
 }
   where
-    k : Taking t key value
-    k = taking t key value (has_key t table.well new.aimed.on) new.aimed.takes_it
-
     less_next : (n : ℕ) → nat_lt n (n + 1) ≡ true
     less_next n = grind arith
 
 -- ---- what is counted
 
-pub counted_well : (rs : List Stored) (n : ℕ) (t : Table) (a : Space) (c : Counters) (key value : ℤ) → IsNew rs n t a c key value → are_counters c ≡ true
-counted_well rs n t a c key value new = let r = ruled (parts_of rs) new.aimed.rules in ap are_counters (sym (same_counters (parts_of rs) c r.counters new.one r.one)) ∙ r.counted
+pub counted_well : (rs : List Stored) (n : ℕ) (t : Table) (a : Space) (c : Counters) (row : List Value) → IsNew rs n t a c row → are_counters c ≡ true
+counted_well rs n t a c row new = let r = ruled (parts_of rs) new.aimed.rules in ap are_counters (sym (same_counters (parts_of rs) c r.counters new.one r.one)) ∙ r.counted
 
 -- one stamp more is given
 pub stamped_well : (c : Counters) → are_counters c ≡ true → nat_lt c.limit c.next_stamp ≡ false → are_counters (record c { next_stamp = c.next_stamp + 1 }) ≡ true
@@ -115,32 +96,32 @@ pub kept_apart : (v table : ℕ) (key : List Value) (x : PieceRecord) → x.vers
 kept_apart v table key x version of_table of_key y out =
     rw (version, of_table, of_key, not_true (is_in v table key y) out) refl
 
-may_insert : (rs : List Stored) (n m : ℕ) (t : Table) (a : Space) (c : Counters) (key value : ℤ) → ServedNew rs n m t a c key value → IsTableOf rs t → (front back : List Space) → (parts_of rs).spaces ≡ front ++ a ∷ back
-    → MayInsert (parts_of rs) c (stepped c m) front a back (is_out (latest (parts_of rs) n) t.number (Num key ∷ [])) (new_row c t key value) (new_piece (parts_of rs) n c t key)
-may_insert rs n m t a c key value v table front back spaces = record {
-  one = v.row.one;
-  counters = stamped_well (moved c m) (counters_move c m (counted_well rs n t a c key value v.row) v.early v.room) v.row.left;
+may_insert : (rs : List Stored) (n m : ℕ) (t : Table) (a : Space) (c : Counters) (row : List Value) → ServedNew rs n m t a c row → (front back : List Space) → (parts_of rs).spaces ≡ front ++ a ∷ back
+    → MayInsert (parts_of rs) c (stepped c m) front a back (is_out (latest (parts_of rs) n) t.number (row_key t row)) (new_row c t row) (new_piece (parts_of rs) n c t row)
+may_insert rs n m t a c row v front back spaces = record {
+  one = v.new.one;
+  counters = stamped_well (moved c m) (counters_move c m (counted_well rs n t a c row v.new) v.early v.room) v.new.left;
   stamps = refl;
   versions = refl;
   work = work_grows c.work;
   spaces = spaces;
   room = short_enough a.log_length v.short;
   row_stamp = refl;
-  row = fits.row;
+  row = fits.row_well;
   piece_stamp = refl;
-  version = ap is_some (newest_record (parts_of rs) v.row.aimed.rules n a v.row.aimed.space).1;
+  version = ap is_some (newest_record (parts_of rs) v.new.aimed.rules n a v.new.aimed.space).1;
   cells = fits.cells;
   row_there = fits.row_there;
-  apart = kept_apart (latest (parts_of rs) n) t.number (Num key ∷ []) (new_piece (parts_of rs) n c t key) refl refl refl;
+  apart = kept_apart (latest (parts_of rs) n) t.number (row_key t row) (new_piece (parts_of rs) n c t row) refl refl refl;
 }
   where
-    fits : Fits rs t c key value (latest (parts_of rs) n)
-    fits = row_fits rs n t a c key value (latest (parts_of rs) n) v.row table
+    fits : Fits rs t c row (latest (parts_of rs) n)
+    fits = row_fits rs n t a c row (latest (parts_of rs) n) v.new
 
 -- the entry of the state is the row and its piece in the newest version
-pub may_write : (p : Parts) (n : ℕ) (user : List ℕ) (t : Table) (a : Space) (c : Counters) (key value : ℤ) (version : ℕ) (s : State) → a.number ≡ n → version ≡ latest p n → IsLeaf (latest p n) (newest_first p.versions) → IsFree p (latest p n)
-    → c.next_stamp ≡ s.next_stamp → MayWrite p n (new_entry s user t key value) (record { values = row_values key value }) a (new_row c t key value) (piece_in version c t key)
-may_write p n user t a c key value version s number newest leaf free stamp = record {
+pub may_write : (p : Parts) (n : ℕ) (user : List ℕ) (t : Table) (a : Space) (c : Counters) (row : List Value) (version : ℕ) (s : State) → a.number ≡ n → version ≡ latest p n → IsLeaf (latest p n) (newest_first p.versions) → IsFree p (latest p n)
+    → c.next_stamp ≡ s.next_stamp → MayWrite p n (new_entry s user t row) (record { values = row }) a (new_row c t row) (piece_in version c t row)
+may_write p n user t a c row version s number newest leaf free stamp = record {
   number = number;
   version = newest;
   leaf = leaf;
@@ -158,28 +139,28 @@ may_write p n user t a c key value version s number newest leaf free stamp = rec
     says_of n = record { stamp = record { number = n }; kind = Inserting; gone = false }
 
 -- what becomes of the state
-pub adds : (rs : List Stored) (xs : List Session) (m : ℕ) (session : Session) (name : List ℕ) (key value : ℤ) (t : Table) (a : Space) (c : Counters) (s : State) → StandsAt rs xs m s → named rs name ≡ Some t → session.stand ≡ Latest
-    → ServedNew rs session.space m t a c key value
-    → add_row session name key value s ≡ (record (written session.space (new_entry s session.user t key value) s) { last_moment = s.moment; work = s.work + line_work }, Done 1)
-adds rs xs m session name key value t a c s st some at v =
-    added_is rs xs m session name key value t a c s st some at v.row
-    ∙ not_spent s (a.log_length + 1) (written session.space (new_entry s session.user t key value) s, Done 1) v.short (ap (λ w. nat_lt counter_limit (w + line_work)) (sym (counts_as rs xs m s c st v.row.one).work) ∙ v.room)
+pub adds : (rs : List Stored) (xs : List Session) (m : ℕ) (session : Session) (t : Table) (row : List Value) (a : Space) (c : Counters) (s : State) → StandsAt rs xs m s → session.stand ≡ Latest
+    → ServedNew rs session.space m t a c row
+    → add_values session t row s ≡ (record (written session.space (new_entry s session.user t row) s) { last_moment = s.moment; work = s.work + line_work }, Done 1)
+adds rs xs m session t row a c s st at v =
+    added_is rs xs m session t row a c s st at v.new
+    ∙ not_spent s (a.log_length + 1) (written session.space (new_entry s session.user t row) s, Done 1) v.short (ap (λ w. nat_lt counter_limit (w + line_work)) (sym (counts_as rs xs m s c st v.new.one).work) ∙ v.room)
 
-pub does_add : (rs : List Stored) (xs : List Session) (m : ℕ) (session : Session) (name : List ℕ) (key value : ℤ) (t : Table) (a : Space) (c : Counters) (counters_id space_id : ℕ) (ids : List ℕ) (id : ℕ)
-    → named rs name ≡ Some t → session.stand ≡ Latest → Served rs session.space m t a c key value → record_at rs counters_id ≡ Some (records.Counters c) → record_at rs space_id ≡ Some (records.Space a)
-    → AreDropped (keeps (is_out (latest (parts_of rs) session.space) t.number (Num key ∷ []))) ids rs → Ascend rs → AllUnder id rs
-    → AreChanges (insert_batch counters_id (stepped c m) space_id a ids id (new_row c t key value) (new_piece (parts_of rs) session.space c t key))
-    → Does rs xs m (insert_batch counters_id (stepped c m) space_id a ids id (new_row c t key value) (new_piece (parts_of rs) session.space c t key)) Stay (Done 1) (add_row session name key value)
-does_add rs xs m session name key value t a c counters_id space_id ids id some at v there space_there dropped sorted under once = record {
-  keeps = by_parts (parts-inserted rs counters_id space_id c (stepped c m) a (is_out (latest (parts_of rs) n) t.number (Num key ∷ [])) ids id r x sorted there new.row.one space_there dropped under);
+pub does_add : (rs : List Stored) (xs : List Session) (m : ℕ) (session : Session) (t : Table) (row : List Value) (a : Space) (c : Counters) (counters_id space_id : ℕ) (ids : List ℕ) (id : ℕ)
+    → session.stand ≡ Latest → Served rs session.space m t a c row → record_at rs counters_id ≡ Some (records.Counters c) → record_at rs space_id ≡ Some (records.Space a)
+    → AreDropped (keeps (is_out (latest (parts_of rs) session.space) t.number (row_key t row))) ids rs → Ascend rs → AllUnder id rs
+    → AreChanges (insert_batch counters_id (stepped c m) space_id a ids id (new_row c t row) (new_piece (parts_of rs) session.space c t row))
+    → Does rs xs m (insert_batch counters_id (stepped c m) space_id a ids id (new_row c t row) (new_piece (parts_of rs) session.space c t row)) Stay (Done 1) (add_values session t row)
+does_add rs xs m session t row a c counters_id space_id ids id at v there space_there dropped sorted under once = record {
+  keeps = by_parts (parts-inserted rs counters_id space_id c (stepped c m) a (is_out (latest (parts_of rs) n) t.number (row_key t row)) ids id r x sorted there new.new.one space_there dropped under);
   once = once;
   does = λ s st.
-      let counts = counts_as rs xs m s c st new.row.one in
-      let is = adds rs xs m session name key value t a c s st some at new in (
+      let counts = counts_as rs xs m s c st new.new.one in
+      let is = adds rs xs m session t row a c s st at new in (
         subst (λ q. StandsAt (applied (insert_batch counters_id (stepped c m) space_id a ids id r x) rs) xs m q.0) (sym is) (record {
-          stands = plan_inserted rs counters_id space_id c (stepped c m) a ids id r x n (new_entry s session.user t key value) (record { values = row_values key value }) s _ st.stands sorted there new.row.one space_there dropped under
-              (may_insert rs n m t a c key value new table)
-              (may_write (parts_of rs) n session.user t a c key value (latest (parts_of rs) n) s (space_number (parts_of rs) n a new.row.aimed.space) refl v.leaf v.free counts.next_stamp) refl refl
+          stands = plan_inserted rs counters_id space_id c (stepped c m) a ids id r x n (new_entry s session.user t row) (record { values = row }) s _ st.stands sorted there new.new.one space_there dropped under
+              (may_insert rs n m t a c row new)
+              (may_write (parts_of rs) n session.user t a c row (latest (parts_of rs) n) s (space_number (parts_of rs) n a new.new.aimed.space) refl v.leaf v.free counts.next_stamp) refl refl
               (λ front back. record { counters = stepped c m; one = refl; next_stamp = ap (λ n. n + 1) counts.next_stamp; last_moment = st.moment_is; limit = counts.limit; work = ap (λ w. w + line_work) counts.work });
           sessions_are = st.sessions_are;
           moment_is = st.moment_is;
@@ -191,19 +172,16 @@ does_add rs xs m session name key value t a c counters_id space_id ids id some a
     n : ℕ
     n = session.space
 
-    new : ServedNew rs n m t a c key value
-    new = v.new
-
-    table : IsTableOf rs t
-    table = named_is rs name t new.row.aimed.rules some
+    new : ServedNew rs n m t a c row
+    new = v.served
 
     r : RowRecord
-    r = new_row c t key value
+    r = new_row c t row
 
     x : PieceRecord
-    x = new_piece (parts_of rs) n c t key
+    x = new_piece (parts_of rs) n c t row
 
-    by_parts : Inserted rs (insert_batch counters_id (stepped c m) space_id a ids id r x) (stepped c m) a (is_out (latest (parts_of rs) n) t.number (Num key ∷ [])) r x
+    by_parts : Inserted rs (insert_batch counters_id (stepped c m) space_id a ids id r x) (stepped c m) a (is_out (latest (parts_of rs) n) t.number (row_key t row)) r x
         → keep_rules (parts_of (applied (insert_batch counters_id (stepped c m) space_id a ids id r x) rs)) ≡ true
     by_parts i = subst (λ p. keep_rules p ≡ true) (sym i.is)
-        (keep-inserted (parts_of rs) c (stepped c m) i.front a i.back (is_out (latest (parts_of rs) n) t.number (Num key ∷ [])) r x (may_insert rs n m t a c key value new table i.front i.back i.old) new.row.aimed.rules)
+        (keep-inserted (parts_of rs) c (stepped c m) i.front a i.back (is_out (latest (parts_of rs) n) t.number (row_key t row)) r x (may_insert rs n m t a c row new i.front i.back i.old) new.new.aimed.rules)

@@ -33,30 +33,23 @@ use Rattle.wm_state.proofs.Spaces.{IsSpace, space_is, space_none, named_space, n
 use Rattle.wm_state.proofs.Tests.{both}
 use Rattle.wm_model.specs.Planning.{StandsAt, Does, Stay}
 use Rattle.wm_model.specs.Saving.{Point, point_at, next_place_at, BearsIn, BearsRoomy, MayBearIn, implicit_of, birth_record, child_record, child_version, versioned}
-use Rattle.wm_model.specs.Step.{create_workspace, bear, born, child_of, implicit_name, implicit_front, place_behind, saved_at, durably, is_name, names_no_workspace, bad_name, reserved_name, workspace_there, not_built, savepoint_there, most_workspaces, most_savepoints, at_its_end, number_limit, counter_limit, line_work}
+use Rattle.wm_model.specs.Step.{create_workspace, bear, born, child_of, implicit_name, implicit_front, place_behind, saved_at, durably, is_name, names_no_workspace, workspace_there, not_built, savepoint_there, most_workspaces, most_savepoints, at_its_end, number_limit, counter_limit, line_work}
 use Rattle.wm_model.proofs.Doing.{does_nothing, counts_as, spent_work, not_spent}
 use Rattle.wm_model.proofs.Points.{MakesAt, MadeAt, is_point, counted_well, may_save, place_same, name_taken, name_free, few_same, made_there, made_nowhere}
 use Rattle.wm_model.proofs.SavingLine.{name_short}
 
 -- ---- the name
 
-pub bear_unnamed : (rs : List Stored) (xs : List Session) (m : ℕ) (session : Session) (name : List ℕ) → keep_rules (parts_of rs) ≡ true → is_name name ≡ false → Does rs xs m [] Stay bad_name (create_workspace session name)
-bear_unnamed rs xs m session name rules bad = does_nothing rs xs m bad_name (create_workspace session name) rules (λ s st. rw bad refl)
-
-pub bear_reserved : (rs : List Stored) (xs : List Session) (m : ℕ) (session : Session) (name : List ℕ) → keep_rules (parts_of rs) ≡ true → is_name name ≡ true → names_no_workspace name ≡ true
-    → Does rs xs m [] Stay (reserved_name name) (create_workspace session name)
-bear_reserved rs xs m session name rules good reserved = does_nothing rs xs m (reserved_name name) (create_workspace session name) rules (λ s st. rw (good, reserved) refl)
-
 pub bear_there : (rs : List Stored) (xs : List Session) (m : ℕ) (session : Session) (name : List ℕ) (b : Space) → keep_rules (parts_of rs) ≡ true → is_name name ≡ true → names_no_workspace name ≡ false
     → find (λ (r : Space). bytes_eq name r.name) (parts_of rs).spaces ≡ Some b → Does rs xs m [] Stay (workspace_there name) (create_workspace session name)
 bear_there rs xs m session name b rules good plain there =
-    does_nothing rs xs m (workspace_there name) (create_workspace session name) rules (λ s st. rw (good, plain, (named_space (parts_of rs) s name b st.stands there).named) refl)
+    does_nothing rs xs m (workspace_there name) (create_workspace session name) rules (λ s st. rw ((named_space (parts_of rs) s name b st.stands there).named) refl)
 
 pub bear_homeless : (rs : List Stored) (xs : List Session) (m : ℕ) (session : Session) (name : List ℕ) → keep_rules (parts_of rs) ≡ true → is_name name ≡ true → names_no_workspace name ≡ false
     → find (λ (r : Space). bytes_eq name r.name) (parts_of rs).spaces ≡ None → space_of (parts_of rs).spaces session.space ≡ None → Does rs xs m [] Stay not_built (create_workspace session name)
 bear_homeless rs xs m session name rules good plain new none =
     does_nothing rs xs m not_built (create_workspace session name) rules
-    (λ s st. rw (good, plain, named_no_space (parts_of rs) s name st.stands new, space_none (parts_of rs) s session.space st.stands none) refl)
+    (λ s st. rw (named_no_space (parts_of rs) s name st.stands new, space_none (parts_of rs) s session.space st.stands none) refl)
 
 -- ---- the session's workspace
 
@@ -80,7 +73,7 @@ home rs xs m session name a s bears st =
     record {
       workspace = h.workspace;
       is = subst (λ n. IsSpace (parts_of rs) s n a h.workspace) (sym h.is.record_number) h.is;
-      runs = rw (bears.good, bears.plain, named_no_space (parts_of rs) s name st.stands bears.new, h.is.found) refl;
+      runs = rw (named_no_space (parts_of rs) s name st.stands bears.new, h.is.found) refl;
       implicit = ap (λ (f : SpaceFields). implicit_front ++ decimal f.next_implicit) (sym h.is.fields);
     }
 

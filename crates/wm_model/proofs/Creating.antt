@@ -6,7 +6,10 @@ use Rattle.std.specs.Str.{bytes_eq}
 use Rattle.wm_base.specs.declared.instant.TheConstants.{END}
 use Rattle.wm_graph.specs.Parts.{parts_of}
 use Rattle.wm_graph.specs.Rules.{keep_rules, are_counters, is_table}
-use Rattle.wm_print.specs.Texts.{Answer, Fine}
+use Rattle.wm_base.specs.declared.refusal.Refusal.{Refusal}
+use Rattle.wm_base.specs.declared.tree.statement.CreateItem.{CreateItem}
+use Rattle.wm_making.specs.Creating.{names_fault, shape_fault, table_of}
+use Rattle.wm_print.specs.Texts.{Answer, Fine, Refused}
 use Rattle.wm_spec.specs.Records.{record_at}
 use Rattle.wm_spec.specs.declared.record.Record.TheVariants as records
 use Rattle.wm_spec.specs.declared.record.counters.Counters.{Counters}
@@ -14,7 +17,6 @@ use Rattle.wm_spec.specs.declared.record.stored.Stored.{Stored}
 use Rattle.wm_spec.specs.declared.record.table.Table.{Table}
 use Rattle.wm_state.specs.Batches.{put, create_batch, AllUnder}
 use Rattle.wm_state.specs.ById.{Ascend, applied}
-use Rattle.wm_state.specs.Standing.{by_number}
 use Rattle.wm_state.specs.State.{State, Session, table_named, next_table}
 use Rattle.wm_state.proofs.Apart.{Ruled, ruled}
 use Rattle.wm_state.proofs.ByKind.{under_found}
@@ -23,17 +25,13 @@ use Rattle.wm_state.proofs.Planned.{plan_created}
 use Rattle.wm_state.proofs.Planning.{parts-created}
 use Rattle.wm_state.proofs.Tables.{MayCreate, keep-created, by_number-all, by_number-any, by_number-length}
 use Rattle.wm_state.proofs.Tests.{and_true, all_if, either_false}
-use Rattle.wm_model.specs.Step.{create, durably, counter_limit, line_work, two_columns, is_full, not_built, table_there, most_tables, at_its_end}
-use Rattle.wm_model.specs.Planning.{StandsAt, Does, Stay, moved, named}
+use Rattle.wm_model.specs.Step.{create, durably, counter_limit, line_work, unless, is_full, table_there, most_tables, at_its_end}
+use Rattle.wm_model.specs.Planning.{StandsAt, Does, Stay, moved, named, tables_in}
 use Rattle.wm_model.proofs.Doing.{does_nothing, counts_as, counters_move, spent_work, not_spent, two_changes}
 
--- the tables of the records, in the order of their making
-abbrev pub tables_of : List Stored → List Table
-tables_of rs = by_number (parts_of rs).tables
-
 -- the table that is to be made
-abbrev pub table_to_make : List Stored → List ℕ → List ℕ → List ℕ → Table
-table_to_make rs name key value = two_columns (next_table (tables_of rs)) name key value
+abbrev pub table_to_make : List Stored → List ℕ → List CreateItem → Table
+table_to_make rs name items = table_of (next_table (tables_in rs)) name items
 
 -- ---- what is there
 
@@ -63,70 +61,84 @@ unnamed ts name none =
 -- ---- what is refused
 
 -- what is done where these are the tables
-abbrev making : List ℕ → List ℕ → List ℕ → State → List Table → State × Answer
-making name key value s ts =
-    let table = two_columns (next_table ts) name key value in
-    if not (is_table table) then (s, not_built) else
+abbrev making : List ℕ → List CreateItem → State → List Table → State × Answer
+making name items s ts =
+    unless (names_fault name items) s
     (if is_some (table_named name ts) then (s, table_there name) else
-    (if is_full ts then (s, most_tables) else durably s 0 (record s { tables = ts ++ table ∷ [] }, Fine)))
+    unless (shape_fault items) s
+    (if is_full ts then (s, most_tables) else durably s 0 (record s { tables = ts ++ table_of (next_table ts) name items ∷ [] }, Fine)))
 
-created_is : (rs : List Stored) (xs : List Session) (m : ℕ) (s : State) (name key value : List ℕ) → StandsAt rs xs m s → create name key value s ≡ making name key value s (tables_of rs)
-created_is rs xs m s name key value st = ap (making name key value s) (sym st.stands.tables.same)
+created_is : (rs : List Stored) (xs : List Session) (m : ℕ) (s : State) (name : List ℕ) (items : List CreateItem) → StandsAt rs xs m s → create name items s ≡ making name items s (tables_in rs)
+created_is rs xs m s name items st = ap (making name items s) (sym st.stands.tables.same)
 
--- the table breaks a rule of tables
-pub create_unfit : (rs : List Stored) (xs : List Session) (m : ℕ) (name key value : List ℕ) → keep_rules (parts_of rs) ≡ true → is_table (table_to_make rs name key value) ≡ false → Does rs xs m [] Stay not_built (create name key value)
-create_unfit rs xs m name key value rules unfit = does_nothing rs xs m not_built (create name key value) rules (λ s st. created_is rs xs m s name key value st ∙ rw unfit refl)
+-- a name is too long or reserved
+pub create_misnamed : (rs : List Stored) (xs : List Session) (m : ℕ) (name : List ℕ) (items : List CreateItem) (refusal : Refusal) → keep_rules (parts_of rs) ≡ true → names_fault name items ≡ Some refusal
+    → Does rs xs m [] Stay (Refused refusal) (create name items)
+create_misnamed rs xs m name items refusal rules bad = does_nothing rs xs m (Refused refusal) (create name items) rules (λ s st. created_is rs xs m s name items st ∙ rw bad refl)
 
-pub create_there : (rs : List Stored) (xs : List Session) (m : ℕ) (name key value : List ℕ) (t : Table) → keep_rules (parts_of rs) ≡ true → is_table (table_to_make rs name key value) ≡ true → named rs name ≡ Some t
-    → Does rs xs m [] Stay (table_there name) (create name key value)
-create_there rs xs m name key value t rules fit some = does_nothing rs xs m (table_there name) (create name key value) rules (λ s st. created_is rs xs m s name key value st ∙ rw (fit, some) refl)
+pub create_there : (rs : List Stored) (xs : List Session) (m : ℕ) (name : List ℕ) (items : List CreateItem) (t : Table) → keep_rules (parts_of rs) ≡ true → names_fault name items ≡ None → named rs name ≡ Some t
+    → Does rs xs m [] Stay (table_there name) (create name items)
+create_there rs xs m name items t rules good some = does_nothing rs xs m (table_there name) (create name items) rules (λ s st. created_is rs xs m s name items st ∙ rw (good, some) refl)
 
-pub create_full : (rs : List Stored) (xs : List Session) (m : ℕ) (name key value : List ℕ) → keep_rules (parts_of rs) ≡ true → is_table (table_to_make rs name key value) ≡ true → named rs name ≡ None
-    → is_full (tables_of rs) ≡ true → Does rs xs m [] Stay most_tables (create name key value)
-create_full rs xs m name key value rules fit none full = does_nothing rs xs m most_tables (create name key value) rules (λ s st. created_is rs xs m s name key value st ∙ rw (fit, none, full) refl)
+-- the columns or the key are not those of a table
+pub create_misshaped : (rs : List Stored) (xs : List Session) (m : ℕ) (name : List ℕ) (items : List CreateItem) (refusal : Refusal) → keep_rules (parts_of rs) ≡ true → names_fault name items ≡ None → named rs name ≡ None
+    → shape_fault items ≡ Some refusal → Does rs xs m [] Stay (Refused refusal) (create name items)
+create_misshaped rs xs m name items refusal rules good none bad = does_nothing rs xs m (Refused refusal) (create name items) rules (λ s st. created_is rs xs m s name items st ∙ rw (good, none, bad) refl)
+
+-- nothing is wrong with the line itself, and the name is new
+pub record MayMake (rs : List Stored) (name : List ℕ) (items : List CreateItem) : Type 0 where
+  pub good : names_fault name items ≡ None
+  pub new : named rs name ≡ None
+  pub shaped : shape_fault items ≡ None
+  pub fit : is_table (table_to_make rs name items) ≡ true
+
+pub create_full : (rs : List Stored) (xs : List Session) (m : ℕ) (name : List ℕ) (items : List CreateItem) → keep_rules (parts_of rs) ≡ true → MayMake rs name items
+    → is_full (tables_in rs) ≡ true → Does rs xs m [] Stay most_tables (create name items)
+create_full rs xs m name items rules new full = does_nothing rs xs m most_tables (create name items) rules (λ s st. created_is rs xs m s name items st ∙ rw (new.good, new.new, new.shaped, full) refl)
 
 -- ---- a table is made
 
-made_is : (rs : List Stored) (xs : List Session) (m : ℕ) (s : State) (name key value : List ℕ) → StandsAt rs xs m s → is_table (table_to_make rs name key value) ≡ true → named rs name ≡ None → is_full (tables_of rs) ≡ false
-    → create name key value s ≡ durably s 0 (record s { tables = tables_of rs ++ table_to_make rs name key value ∷ [] }, Fine)
-made_is rs xs m s name key value st fit none room = created_is rs xs m s name key value st ∙ rw (fit, none, room) refl
+made_is : (rs : List Stored) (xs : List Session) (m : ℕ) (s : State) (name : List ℕ) (items : List CreateItem) → StandsAt rs xs m s → MayMake rs name items → is_full (tables_in rs) ≡ false
+    → create name items s ≡ durably s 0 (record s { tables = tables_in rs ++ table_to_make rs name items ∷ [] }, Fine)
+made_is rs xs m s name items st new room = created_is rs xs m s name items st ∙ rw (new.good, new.new, new.shaped, room) refl
 
-pub create_spent : (rs : List Stored) (xs : List Session) (m : ℕ) (name key value : List ℕ) (c : Counters) → keep_rules (parts_of rs) ≡ true → is_table (table_to_make rs name key value) ≡ true → named rs name ≡ None
-    → is_full (tables_of rs) ≡ false → (parts_of rs).counters ≡ c ∷ [] → nat_lt counter_limit (c.work + line_work) ≡ true → Does rs xs m [] Stay (at_its_end (codes "WORK")) (create name key value)
-create_spent rs xs m name key value c rules fit none room one much =
-    does_nothing rs xs m (at_its_end (codes "WORK")) (create name key value) rules
-    (λ s st. made_is rs xs m s name key value st fit none room
-    ∙ spent_work s 0 (record s { tables = tables_of rs ++ table_to_make rs name key value ∷ [] }, Fine) refl (ap (λ w. nat_lt counter_limit (w + line_work)) (sym (counts_as rs xs m s c st one).work) ∙ much))
+pub create_spent : (rs : List Stored) (xs : List Session) (m : ℕ) (name : List ℕ) (items : List CreateItem) (c : Counters) → keep_rules (parts_of rs) ≡ true → MayMake rs name items
+    → is_full (tables_in rs) ≡ false → (parts_of rs).counters ≡ c ∷ [] → nat_lt counter_limit (c.work + line_work) ≡ true → Does rs xs m [] Stay (at_its_end (codes "WORK")) (create name items)
+create_spent rs xs m name items c rules new room one much =
+    does_nothing rs xs m (at_its_end (codes "WORK")) (create name items) rules
+    (λ s st. made_is rs xs m s name items st new room
+    ∙ spent_work s 0 (record s { tables = tables_in rs ++ table_to_make rs name items ∷ [] }, Fine) refl (ap (λ w. nat_lt counter_limit (w + line_work)) (sym (counts_as rs xs m s c st one).work) ∙ much))
 
 -- such a table may be made
-may_create : (rs : List Stored) (name key value : List ℕ) (old new : Counters) → (parts_of rs).counters ≡ old ∷ [] → are_counters new ≡ true → new.next_version ≡ old.next_version → new.next_stamp ≡ old.next_stamp → old.work ≤ new.work
-    → is_table (table_to_make rs name key value) ≡ true → named rs name ≡ None → is_full (tables_of rs) ≡ false → MayCreate (parts_of rs) old new (table_to_make rs name key value)
-may_create rs name key value old new one counted versions stamps work fit none room = record {
+may_create : (rs : List Stored) (name : List ℕ) (items : List CreateItem) (old new : Counters) → (parts_of rs).counters ≡ old ∷ [] → are_counters new ≡ true → new.next_version ≡ old.next_version → new.next_stamp ≡ old.next_stamp → old.work ≤ new.work
+    → MayMake rs name items → is_full (tables_in rs) ≡ false → MayCreate (parts_of rs) old new (table_to_make rs name items)
+unfolding table_of
+may_create rs name items old new one counted versions stamps work fits room = record {
   one = one;
   counters = counted;
   versions = versions;
   stamps = stamps;
   work = work;
-  is = fit;
-  room = few (length (tables_of rs)) (length (parts_of rs).tables) (by_number-length (parts_of rs).tables) (is_room (tables_of rs) room).0;
-  number = sym (by_number-all (λ (u : Table). nat_lt u.number (next_table (tables_of rs))) (parts_of rs).tables) ∙ numbers_under (tables_of rs);
-  name = sym (by_number-any (λ (u : Table). bytes_eq u.name name) (parts_of rs).tables) ∙ unnamed (tables_of rs) name none;
+  is = fits.fit;
+  room = few (length (tables_in rs)) (length (parts_of rs).tables) (by_number-length (parts_of rs).tables) (is_room (tables_in rs) room).0;
+  number = sym (by_number-all (λ (u : Table). nat_lt u.number (next_table (tables_in rs))) (parts_of rs).tables) ∙ numbers_under (tables_in rs);
+  name = sym (by_number-any (λ (u : Table). bytes_eq u.name name) (parts_of rs).tables) ∙ unnamed (tables_in rs) name fits.new;
 }
   where
     few : (a b : ℕ) → a ≡ b → nat_le 256 a ≡ false → nat_lt b 256 ≡ true
     few a b same room = grind (arith, same, room)
 
-pub does_create : (rs : List Stored) (xs : List Session) (m : ℕ) (name key value : List ℕ) (c : Counters) (counters_id id : ℕ) → keep_rules (parts_of rs) ≡ true → is_table (table_to_make rs name key value) ≡ true → named rs name ≡ None
-    → is_full (tables_of rs) ≡ false → (parts_of rs).counters ≡ c ∷ [] → record_at rs counters_id ≡ Some (records.Counters c) → nat_lt counter_limit (c.work + line_work) ≡ false → nat_lt m END ≡ true → Ascend rs → AllUnder id rs
-    → Does rs xs m (create_batch counters_id (moved c m) id (table_to_make rs name key value)) Stay Fine (create name key value)
-does_create rs xs m name key value c counters_id id rules fit none room one there left early sorted under = record {
+pub does_create : (rs : List Stored) (xs : List Session) (m : ℕ) (name : List ℕ) (items : List CreateItem) (c : Counters) (counters_id id : ℕ) → keep_rules (parts_of rs) ≡ true → MayMake rs name items
+    → is_full (tables_in rs) ≡ false → (parts_of rs).counters ≡ c ∷ [] → record_at rs counters_id ≡ Some (records.Counters c) → nat_lt counter_limit (c.work + line_work) ≡ false → nat_lt m END ≡ true → Ascend rs → AllUnder id rs
+    → Does rs xs m (create_batch counters_id (moved c m) id (table_to_make rs name items)) Stay Fine (create name items)
+does_create rs xs m name items c counters_id id rules new room one there left early sorted under = record {
   keeps = subst (λ p. keep_rules p ≡ true) (sym (parts-created rs counters_id id c (moved c m) made sorted there one under)) (keep-created (parts_of rs) c (moved c m) made may rules);
   once = two_changes (put counters_id (records.Counters (moved c m))) (put id (records.Table made)) (λ e. below counters_id id (under_found id rs counters_id (records.Counters c) under there) e);
   does = λ s st.
       let counts = counts_as rs xs m s c st one in
-      let is : create name key value s ≡ (record s { tables = tables_of rs ++ made ∷ []; last_moment = s.moment; work = s.work + line_work }, Fine) =
-      made_is rs xs m s name key value st fit none room
-      ∙ not_spent s 0 (record s { tables = tables_of rs ++ made ∷ [] }, Fine) refl (ap (λ w. nat_lt counter_limit (w + line_work)) (sym counts.work) ∙ left) in (
+      let is : create name items s ≡ (record s { tables = tables_in rs ++ made ∷ []; last_moment = s.moment; work = s.work + line_work }, Fine) =
+      made_is rs xs m s name items st new room
+      ∙ not_spent s 0 (record s { tables = tables_in rs ++ made ∷ [] }, Fine) refl (ap (λ w. nat_lt counter_limit (w + line_work)) (sym counts.work) ∙ left) in (
         subst (λ r. StandsAt (applied (create_batch counters_id (moved c m) id made) rs) xs m r.0) (sym is) (record {
           stands = plan_created rs counters_id id c (moved c m) made s _ st.stands sorted there under may refl (ap (λ ts. ts ++ made ∷ []) st.stands.tables.same)
               (record { counters = moved c m; one = refl; next_stamp = counts.next_stamp; last_moment = st.moment_is; limit = counts.limit; work = ap (λ w. w + line_work) counts.work });
@@ -138,7 +150,7 @@ does_create rs xs m name key value c counters_id id rules fit none room one ther
 }
   where
     made : Table
-    made = table_to_make rs name key value
+    made = table_to_make rs name items
 
     only : (a b : Counters) → (a ∷ []) ≡ (b ∷ []) → a ≡ b
     only a b h = cc
@@ -156,4 +168,4 @@ does_create rs xs m name key value c counters_id id rules fit none room one ther
         counted_well r = ap are_counters (sym (only r.counters c (sym r.one ∙ one))) ∙ r.counted
 
     may : MayCreate (parts_of rs) c (moved c m) made
-    may = may_create rs name key value c (moved c m) one counts_well refl refl (more c.work) fit none room
+    may = may_create rs name items c (moved c m) one counts_well refl refl (more c.work) new room

@@ -5,7 +5,7 @@ use Rattle.std.specs.Str.{bytes_eq}
 use Rattle.wm_graph.specs.Parts.{parts_of, space_of}
 use Rattle.wm_graph.specs.Rules.{keep_rules}
 use Rattle.wm_print.specs.Texts.{Answer, Fine}
-use Rattle.wm_reader.specs.Grammar.{Statement, latest}
+use Rattle.wm_base.specs.Trees.{Statement}
 use Rattle.wm_spec.specs.declared.record.batch.Change.{Change}
 use Rattle.wm_spec.specs.declared.record.savepoint.Savepoint.{Savepoint as Saved}
 use Rattle.wm_spec.specs.declared.record.space.Space.{Space}
@@ -15,7 +15,7 @@ use Rattle.wm_state.specs.Standing.{saved_in}
 use Rattle.wm_state.specs.State.{State, Session, Workspace, Stand, Latest, At, workspace_named}
 use Rattle.wm_state.proofs.SavedAs.{named_some, named_none}
 use Rattle.wm_state.proofs.Spaces.{named_space, named_no_space}
-use Rattle.wm_model.specs.Step.{run_for, run_statement, session_of, goto_workspace, goto_savepoint, moved_to, no_workspace, no_savepoint, not_built}
+use Rattle.wm_model.specs.Step.{run_for, run_statement, session_of, goto_workspace, goto_savepoint, latest, moved_to, no_workspace, no_savepoint, not_built}
 use Rattle.wm_model.specs.Planning.{StandsAt, Does, Seating, Stay, Move, seated}
 use Rattle.wm_model.proofs.Doing.{does_nothing, does_seat}
 use Rattle.wm_model.proofs.Homes.{home_is, home_none}

@@ -4,7 +4,7 @@ pub mod Creating
 pub mod Enabling
 pub mod Going
 pub mod Steps
-mod Samples
+
 pub mod Doing
 pub mod Homes
 pub mod Named
@@ -12,8 +12,13 @@ pub mod Adding
 pub mod Added
 pub mod NextVersion
 pub mod AddedNew
+pub mod Written
+pub mod WrittenNew
+pub mod ChangeLists
 pub mod Selecting
 pub mod Points
 pub mod SavingLine
 pub mod BearingLine
 pub mod Seating
+pub mod Inserting
+pub mod Updating

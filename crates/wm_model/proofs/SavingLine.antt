@@ -27,23 +27,16 @@ use Rattle.wm_state.proofs.Spaces.{IsSpace, NamedSpace, ruled_spaces, named_spac
 use Rattle.wm_state.proofs.Tests.{both}
 use Rattle.wm_model.specs.Planning.{StandsAt, Does, Stay, moved}
 use Rattle.wm_model.specs.Saving.{SavesIn, HasRoom, MaySaveIn, saved_record, newest_point}
-use Rattle.wm_model.specs.Step.{create_savepoint, save, saved, saved_at, durably, is_name, names_no_savepoint, bad_name, reserved_name, no_workspace, savepoint_there, most_savepoints, at_its_end, number_limit, counter_limit, line_work}
+use Rattle.wm_model.specs.Step.{create_savepoint, save, saved, saved_at, durably, is_name, names_no_savepoint, no_workspace, savepoint_there, most_savepoints, at_its_end, number_limit, counter_limit, line_work}
 use Rattle.wm_model.proofs.Doing.{does_nothing, counts_as, spent_work, not_spent}
 use Rattle.wm_model.proofs.Points.{MakesAt, MadeAt, may_save, made_there, name_taken, name_free, few_same}
 
--- ---- the names
-
-pub save_unnamed : (rs : List Stored) (xs : List Session) (m : ℕ) (workspace name : List ℕ) → keep_rules (parts_of rs) ≡ true → is_name name ≡ false → Does rs xs m [] Stay bad_name (create_savepoint workspace name)
-save_unnamed rs xs m workspace name rules bad = does_nothing rs xs m bad_name (create_savepoint workspace name) rules (λ s st. rw bad refl)
-
-pub save_reserved : (rs : List Stored) (xs : List Session) (m : ℕ) (workspace name : List ℕ) → keep_rules (parts_of rs) ≡ true → is_name name ≡ true → names_no_savepoint name ≡ true
-    → Does rs xs m [] Stay (reserved_name name) (create_savepoint workspace name)
-save_reserved rs xs m workspace name rules good reserved = does_nothing rs xs m (reserved_name name) (create_savepoint workspace name) rules (λ s st. rw (good, reserved) refl)
+-- ---- refusals
 
 pub save_homeless : (rs : List Stored) (xs : List Session) (m : ℕ) (workspace name : List ℕ) → keep_rules (parts_of rs) ≡ true → is_name name ≡ true → names_no_savepoint name ≡ false
     → find (λ (r : Space). bytes_eq workspace r.name) (parts_of rs).spaces ≡ None → Does rs xs m [] Stay (no_workspace workspace) (create_savepoint workspace name)
 save_homeless rs xs m workspace name rules good plain none =
-    does_nothing rs xs m (no_workspace workspace) (create_savepoint workspace name) rules (λ s st. rw (good, plain, named_no_space (parts_of rs) s workspace st.stands none) refl)
+    does_nothing rs xs m (no_workspace workspace) (create_savepoint workspace name) rules (λ s st. rw (named_no_space (parts_of rs) s workspace st.stands none) refl)
 
 -- ---- the workspace
 
@@ -60,7 +53,7 @@ home rs xs m workspace name a s saves st = named_space (parts_of rs) s workspace
 
 at_home : (rs : List Stored) (xs : List Session) (m : ℕ) (workspace name : List ℕ) (a : Space) (s : State) (saves : SavesIn rs workspace name a) (st : StandsAt rs xs m s)
     → create_savepoint workspace name s ≡ body name s (home rs xs m workspace name a s saves st).workspace
-at_home rs xs m workspace name a s saves st = rw (saves.good, saves.plain, (home rs xs m workspace name a s saves st).named) refl
+at_home rs xs m workspace name a s saves st = rw ((home rs xs m workspace name a s saves st).named) refl
 
 pub save_there : (rs : List Stored) (xs : List Session) (m : ℕ) (workspace name : List ℕ) (a : Space) (y : Record) → SavesIn rs workspace name a → find (λ (x : Record). bytes_eq name x.name) (saved_in (parts_of rs) a.number) ≡ Some y
     → Does rs xs m [] Stay (savepoint_there name) (create_savepoint workspace name)

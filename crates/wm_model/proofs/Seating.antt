@@ -8,7 +8,7 @@ use Rattle.wm_state.specs.State.{State, Session, Latest}
 use Rattle.wm_model.specs.Step.{connect, disconnect, run_for, session_of, is_name, session_there, no_session, bad_name, most_sessions}
 use Rattle.wm_model.specs.Planning.{StandsAt, Does, Stay, Open, Close}
 use Rattle.wm_model.proofs.Doing.{does_nothing, does_seat}
-use Rattle.wm_reader.specs.Grammar.{Statement}
+use Rattle.wm_base.specs.Trees.{Statement}
 
 -- ---- CONNECT
 

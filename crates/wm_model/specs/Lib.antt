@@ -4,3 +4,6 @@ pub mod Planning
 pub mod Writing
 pub mod Saving
 pub mod Running
+pub mod Sources
+pub mod Changes
+pub mod Entered

@@ -1,5 +1,5 @@
 -- What a plan over the records of a store says that a line does and answers.
-use Rattle.std.specs.Prelude.{◌≡◌, ◌+◌, ℕ, ℤ, true, List, [], ◌∷◌, ◌++◌, Option}
+use Rattle.std.specs.Prelude.{◌≡◌, ◌+◌, ℕ, true, List, [], ◌∷◌, ◌++◌, Option}
 use Rattle.std.specs.Option.{option_map_or}
 use Rattle.wm_graph.specs.Parts.{Parts, parts_of}
 use Rattle.wm_graph.specs.Rules.{keep_rules}
@@ -11,8 +11,6 @@ use Rattle.wm_state.specs.ById.{applied}
 use Rattle.wm_state.specs.State.{State, Session, Stand, Latest, At, table_named}
 use Rattle.wm_model.specs.Step.{closed, moved_to, line_work}
 use Rattle.wm_state.specs.Standing.{Stands, by_number, latest, saved_as}
-use Rattle.wm_base.specs.declared.value.Value.{Value}
-use Rattle.wm_base.specs.declared.value.Value.TheVariants.{Num}
 use Rattle.wm_spec.specs.declared.record.savepoint.Savepoint.{Savepoint}
 use Rattle.wm_spec.specs.declared.record.counters.Counters.{Counters}
 use Rattle.wm_spec.specs.declared.record.table.Table.{Table}
@@ -52,15 +50,15 @@ moved c m = record c { last_moment = m; work = c.work + line_work }
 abbrev pub stepped : Counters → ℕ → Counters
 stepped c m = record (moved c m) { next_stamp = c.next_stamp + 1 }
 
+-- the tables of the records, in the order of their making
+abbrev pub tables_in : List Stored → List Table
+tables_in rs = by_number (parts_of rs).tables
+
 -- the table of a name among records
 abbrev pub named : List Stored → List ℕ → Option Table
-named rs name = table_named name (by_number (parts_of rs).tables)
+named rs name = table_named name (tables_in rs)
 
 -- the version that is read by one who stands so in a workspace: at a savepoint that is not there it is 0, the number of none
 abbrev pub version_read : Parts → ℕ → Stand → ℕ
 version_read p n Latest = latest p n
 version_read p n (At making) = option_map_or (λ (x : Savepoint). x.version) (saved_as p n making) 0
-
--- the values of a row of two numbers
-abbrev pub row_values : ℤ → ℤ → List Value
-row_values key value = Num key ∷ Num value ∷ []

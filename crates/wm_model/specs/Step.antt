@@ -1,28 +1,55 @@
 -- One line: the state that it leaves, and its answer.
-use Rattle.std.specs.Prelude.{ℕ, ◌+◌, ◌^◌, ◌==◌, List, [], ◌∷◌, ◌++◌, Bool, true, false, not, ◌&&◌, ◌||◌, nat_le, nat_lt, nat_eq, if◌then◌else◌, length, map, is_some, Option, None, Some, ℤ, codes}
-use Rattle.std.specs.List.{filter, filter_map, find, list_all, starts_with}
-use Rattle.std.specs.Option.{option_map}
+use Rattle.std.specs.Prelude.{ℕ, ◌+◌, ◌^◌, ◌==◌, List, [], ◌∷◌, ◌++◌, Bool, true, false, not, ◌&&◌, ◌||◌, nat_le, nat_lt, nat_eq, if◌then◌else◌, length, map, is_some, unwrap_or, Option, None, Some, Result, Ok, Err, codes}
+use Rattle.std.specs.List.{filter, filter_map, find, flat_map, list_all, list_any, starts_with}
+use Rattle.std.specs.Option.{option_map, option_map_or}
 use Rattle.std.specs.Fmt.{decimal}
+use Rattle.std.specs.Ordering.{is_lt}
 use Rattle.std.specs.Str.{bytes_eq, is_utf8}
+use Rattle.wm_base.specs.Key.{key_order}
 use Rattle.wm_base.specs.Period.{Span}
 use Rattle.wm_base.specs.declared.instant.TheConstants.{END}
 use Rattle.wm_base.specs.declared.kind.Kind.TheVariants.{Insert as Inserted}
 use Rattle.wm_base.specs.declared.value.Value.{Value}
-use Rattle.wm_base.specs.declared.value.Value.TheVariants.{Num}
 use Rattle.wm_base.specs.declared.refusal.Refusal.TheVariants.{Form, Limit}
 use Rattle.wm_base.specs.declared.refusal.Refusal.TheVariants as refusals
-use Rattle.wm_base.specs.declared.refusal.FormRefusal.TheVariants.{Wm003, Wm004, Wm005, Wm010, Wm011, Wm015, Wm016, Wm019}
+use Rattle.wm_base.specs.declared.refusal.FormRefusal.TheVariants.{Wm001, Wm002, Wm003, Wm004, Wm005, Wm010, Wm011, Wm013, Wm015, Wm016, Wm019}
 use Rattle.wm_base.specs.declared.refusal.SpaceRefusal.TheVariants.{Wm020, Wm021, Wm022, Wm023, Wm024, Wm030}
-use Rattle.wm_base.specs.declared.refusal.CellRefusal.TheVariants.{Wm060}
-use Rattle.wm_base.specs.declared.refusal.LimitRefusal.TheVariants.{Wm070, Wm071, Wm072, Wm073, Wm075, Wm076, Wm099}
-use Rattle.wm_graph.specs.Rules.{fit_columns, is_table}
+use Rattle.wm_base.specs.declared.refusal.CellRefusal.TheVariants.{Wm060, Wm064, Wm065}
+use Rattle.wm_base.specs.declared.refusal.LimitRefusal.TheVariants.{Wm070, Wm071, Wm072, Wm073, Wm074, Wm075, Wm076, Wm099}
+use Rattle.wm_graph.specs.Rules.{key_of}
 use Rattle.wm_spec.specs.Lists.{Entry, stamp_at}
 use Rattle.wm_spec.specs.Stretches.{rows}
-use Rattle.wm_spec.specs.declared.record.column.ColumnKind.TheVariants.{Number}
 use Rattle.wm_spec.specs.declared.record.space.FreezeMode.TheVariants.{Free}
 use Rattle.wm_spec.specs.declared.record.table.Table.{Table}
 use Rattle.wm_model.specs.Lines.{fits_line}
-use Rattle.wm_reader.specs.Grammar.{Line, Connect, Disconnect, Run, Statement, Create, Enable, Insert, Select, CreateWorkspace, CreateSavepoint, GotoWorkspace, GotoSavepoint, line_of, is_remark, latest, start_fault}
+use Rattle.wm_base.specs.declared.columns.Column.{Column}
+use Rattle.wm_base.specs.declared.listing.Listing.{Listing as Source}
+use Rattle.wm_base.specs.declared.refusal.Refusal.{Refusal}
+use Rattle.wm_base.specs.declared.row.Row.{Row}
+use Rattle.wm_base.specs.declared.tree.statement.Arg.{Arg}
+use Rattle.wm_base.specs.declared.tree.statement.CreateItem.{CreateItem}
+use Rattle.wm_base.specs.Trees.{Line, Connect, Disconnect, At as AtMoment, Run, Statement, Create, Insert, Update, Delete, Select, Call, Cond, Expr, Query, Set, Src}
+use Rattle.wm_dml.specs.Changing.{chosen, gone, updated_rows, rows_fault, replacing}
+use Rattle.wm_dml.specs.Standing.{change_keys}
+use Rattle.wm_dml.specs.declared.change.RowChange.{RowChange}
+use Rattle.wm_grammar.specs.Calls.{procedure_of}
+use Rattle.wm_grammar.specs.declared.procedure.Procedure.{Procedure}
+use Rattle.wm_grammar.specs.declared.procedure.Procedure.TheVariants as procedures
+use Rattle.wm_grammar.specs.declared.procedure.Parameter.TheVariants as parameters
+use Rattle.wm_parser.specs.Parsed.{Bad, Syntax, Literal, parsed}
+use Rattle.wm_calls.specs.Arguments.{text_given}
+use Rattle.wm_calls.specs.Faults.{argument_fault}
+use Rattle.wm_calls.specs.Later.{is_later}
+use Rattle.wm_timed.specs.Timed.{timed}
+use Rattle.wm_making.specs.Creating.{names_fault, shape_fault, table_of}
+use Rattle.wm_making.specs.Inserting.{insert_fault}
+use Rattle.wm_making.specs.Rows.{is_filled, row_of, row_fault}
+use Rattle.wm_select.specs.Query.{answer_of, row_limit}
+use Rattle.wm_model.specs.Entered.{entries_of, written_all}
+use Rattle.wm_typing.specs.Asking.{query_fault}
+use Rattle.wm_typing.specs.Changing.{update_fault, delete_fault}
+use Rattle.wm_typing.specs.Columns.{columns_of_table}
+use Rattle.wm_reader.specs.Reading.{is_remark, folded}
 pub use Rattle.wm_state.specs.State.{State, fresh}
 use Rattle.wm_state.specs.Listing.{row_on}
 use Rattle.wm_state.specs.State.{Workspace, Savepoint, Session, Stand, Latest, At, content, enabled, kept, savepoint_made, seen_from, with_space, with_entries, with_savepoint, workspace_of, table_named, workspace_named, savepoint_named, next_table, next_space, next_making}
@@ -34,8 +61,18 @@ use Rattle.wm_print.specs.Texts.{Nothing, Fine, Done, Listing, Refused}
 abbrev pub not_built : Answer
 not_built = Refused (Limit Wm099)
 
+-- the line has more bytes than a line may have, or is no text
+abbrev pub too_long_line : Answer
+too_long_line = Refused (Form Wm001)
+
+abbrev pub no_text : Answer
+no_text = Refused (Form Wm002)
+
 abbrev pub syntax : ℕ → Answer
 syntax column = Refused (Form (Wm003 column))
+
+abbrev pub bad_literal : ℕ → Answer
+bad_literal column = Refused (refusals.Cell (Wm065 column))
 
 abbrev pub no_session : List ℕ → Answer
 no_session name = Refused (Form (Wm004 name))
@@ -46,6 +83,14 @@ session_there name = Refused (Form (Wm005 name))
 -- a name to be made is not of 1 to 30 plain bytes
 abbrev pub bad_name : Answer
 bad_name = Refused (Form (Wm016 30))
+
+-- a table of such a name has no views
+abbrev pub long_name : Answer
+long_name = Refused (Form (Wm016 25))
+
+-- an argument of a call does not fit its parameter, or is missing
+abbrev pub mistyped : List ℕ → Answer
+mistyped parameter = Refused (Form (Wm013 parameter))
 
 abbrev pub reserved_name : List ℕ → Answer
 reserved_name name = Refused (refusals.Space (Wm024 name))
@@ -93,11 +138,29 @@ most_savepoints = Refused (Limit Wm072)
 abbrev pub most_tables : Answer
 most_tables = Refused (Limit Wm073)
 
+abbrev pub most_rows : Answer
+most_rows = Refused (Limit Wm074)
+
 abbrev pub most_sessions : Answer
 most_sessions = Refused (Limit Wm075)
 
+abbrev pub out_of_range : Answer
+out_of_range = Refused (refusals.Cell Wm064)
+
 abbrev pub at_its_end : List ℕ → Answer
 at_its_end counter = Refused (Limit (Wm076 counter))
+
+-- ---- one refusal behind another
+
+-- the refusal where there is one, and else what is done
+abbrev pub unless : Option Refusal → State → State × Answer → State × Answer
+unless None s done = done
+unless (Some refusal) s done = (s, Refused refusal)
+
+-- so for an argument that does not fit
+abbrev pub unless_mistyped : Option (List ℕ) → State → State × Answer → State × Answer
+unless_mistyped None s done = done
+unless_mistyped (Some parameter) s done = (s, mistyped parameter)
 
 -- ---- what a change counts
 
@@ -134,6 +197,10 @@ names_no_workspace name = bytes_eq name (codes "BASE") || bytes_eq name (codes "
 -- how the names of implicit savepoints begin
 abbrev pub implicit_front : List ℕ
 implicit_front = codes "ICP-"
+
+-- the name of what is newest in a workspace
+abbrev pub latest : List ℕ
+latest = codes "LATEST"
 
 -- a name that no savepoint is given by its own line
 abbrev pub names_no_savepoint : List ℕ → Bool
@@ -194,38 +261,25 @@ disconnect name s =
 
 -- ---- tables
 
--- a table of two columns of numbers, of which the first is the key
-abbrev pub two_columns : ℕ → List ℕ → List ℕ → List ℕ → Table
-two_columns number name key value = record {
-  number = number;
-  name = name;
-  versioned = false;
-  valid = false;
-  history = false;
-  has_key = true;
-  key_column = 0;
-  columns =
-      record { name = key; kind = Number; size = 0; not_null = true }
-      ∷ record { name = value; kind = Number; size = 0; not_null = false }
-      ∷ [];
-}
-
 -- there is no room for another table
 abbrev pub is_full : List Table → Bool
 is_full tables = nat_le 256 (length tables) || nat_lt 65535 (next_table tables)
 
 -- CREATE TABLE makes a table
-abbrev pub create : List ℕ → List ℕ → List ℕ → State → State × Answer
-create name key value s =
-    let table = two_columns (next_table s.tables) name key value in
-    if not (is_table table) then (s, not_built) else
+abbrev pub create : List ℕ → List CreateItem → State → State × Answer
+create name items s =
+    unless (names_fault name items) s
     (if is_some (table_named name s.tables) then (s, table_there name) else
-    (if is_full s.tables then (s, most_tables) else durably s 0 (record s { tables = s.tables ++ table ∷ [] }, Fine)))
+    unless (shape_fault items) s
+    (if is_full s.tables then (s, most_tables) else durably s 0 (record s { tables = s.tables ++ table_of (next_table s.tables) name items ∷ [] }, Fine)))
 
--- EnableVersioning makes a table ready for rows, once
-abbrev pub enable : List ℕ → Bool → State → State × Answer
-enable name history s = with_table s name (λ table.
+-- EnableVersioning makes a table ready for rows, once; the last argument is what is wrong with the others
+abbrev pub enable : List ℕ → Bool → Option (List ℕ) → State → State × Answer
+enable name history fault s =
+    if nat_lt 25 (length name) then (s, long_name) else
+    with_table s name (λ table.
     if table.versioned then (s, versioning name true) else
+    unless_mistyped fault s
     (if not table.has_key then (s, no_key name) else durably s 0 (record s { tables = enabled table.number history s.tables }, Fine)))
 
 -- ---- rows
@@ -234,23 +288,23 @@ enable name history s = with_table s name (λ table.
 abbrev pub stands : List Entry → ℕ → List Value → Bool
 stands es table key = is_some (stamp_at es table key 0)
 
--- what is written for a new row of two numbers
-abbrev pub new_entry : State → List ℕ → Table → ℤ → ℤ → Entry
-new_entry s user table key value = record {
+-- the key of a row of the table; each table in workspaces has one
+abbrev pub row_key : Table → List Value → List Value
+row_key table row = unwrap_or (key_of table row) []
+
+-- what is written for a new row
+abbrev pub new_entry : State → List ℕ → Table → List Value → Entry
+new_entry s user table row = record {
   table = table.number;
-  key = Num key ∷ [];
+  key = row_key table row;
   from = 0;
   till = END;
-  row = Some (record { values = Num key ∷ Num value ∷ [] });
+  row = Some (record { values = row });
   stamp = s.next_stamp;
   kind = Inserted;
   moment = s.moment;
   user = user;
 }
-
--- the table takes such rows: it has no periods, and the two values fit its columns, of which the first is its key
-abbrev pub takes : Table → List Value → Bool
-takes table row = not table.valid && ((table.key_column == 0) && fit_columns table.columns row)
 
 -- the state with one more entry in a workspace, which takes the next stamp
 abbrev pub written : ℕ → Entry → State → State
@@ -261,26 +315,142 @@ abbrev pub at_latest : State → Stand → State × Answer → State × Answer
 at_latest s Latest done = done
 at_latest s (At making) done = (s, not_latest)
 
--- INSERT adds a row under a key that is not there, while changes are left
-abbrev pub add_to : List ℕ → Table → ℤ → ℤ → State → Workspace → State × Answer
-add_to user table key value s w =
-    if stands (content w) table.number (Num key ∷ []) then (s, key_there (Num key ∷ [])) else
+-- a new row comes under a key that is not there, while changes are left
+abbrev pub add_to : List ℕ → Table → List Value → State → Workspace → State × Answer
+add_to user table row s w =
+    if stands (content w) table.number (row_key table row) then (s, key_there (row_key table row)) else
     (if nat_lt s.limit s.next_stamp then (s, change_limit s.limit) else
-    durably s (length w.lists.log + 1) (written w.number (new_entry s user table key value) s, Done 1))
+    durably s (length w.lists.log + 1) (written w.number (new_entry s user table row) s, Done 1))
 
-abbrev pub add_row : Session → List ℕ → ℤ → ℤ → State → State × Answer
-add_row session name key value s = with_table s name (λ table.
-    if not table.versioned then (s, versioning name false) else
-    (if not (takes table (Num key ∷ Num value ∷ [])) then (s, not_built) else
-    at_home s session (λ w. at_latest s session.stand (add_to session.user table key value s w))))
+-- a new row, unless a number on the way to it was out of range, or something is wrong with it
+abbrev pub add_found : List ℕ → Table → Option (List Value) → State → Workspace → State × Answer
+add_found user table None s w = (s, out_of_range)
+add_found user table (Some row) s w = unless (row_fault table row) s (add_to user table row s w)
 
--- SELECT gives the rows of a table by key, as the session sees them
-abbrev pub listing : Session → List ℕ → State → State × Answer
-listing session name s = with_table s name (λ table.
+-- INSERT adds a row
+abbrev pub insert : Session → List ℕ → Option (List (List ℕ)) → List Expr → State → State × Answer
+insert session name names values s = with_table s name (λ table.
     if not table.versioned then (s, versioning name false) else
     (if table.valid then (s, not_built) else
-    at_home s session (λ w.
-    let es = seen_from w session.stand in (s, Listing (filter_map (row_on es table.number) (rows es table.number))))))
+    unless (insert_fault table names values) s
+    (at_home s session (λ w. at_latest s session.stand (add_found session.user table (row_of table names values) s w)))))
+
+-- ---- queries
+
+-- the rows of a table that a list holds, by key
+abbrev pub rows_in : List Entry → Table → List Row
+rows_in es table = filter_map (row_on es table.number) (rows es table.number)
+
+-- the first source that is no table
+abbrev pub lost_source : List Table → List Src → Option (List ℕ)
+lost_source tables [] = None
+lost_source tables (x ∷ xs) = if is_some (table_named x.table tables) then lost_source tables xs else Some x.table
+
+-- the table of each source
+abbrev pub tables_of : List Table → List Src → List Table
+tables_of tables sources = filter_map (λ (x : Src). table_named x.table tables) sources
+
+-- the name of the first table that is not ready for rows
+abbrev pub table_off : List Table → Option (List ℕ)
+table_off [] = None
+table_off (t ∷ ts) = if t.versioned then table_off ts else Some t.name
+
+-- what a source is called in the query
+abbrev pub source_name : Src → List ℕ
+source_name x = unwrap_or x.alias x.table
+
+-- the columns of all sources, one source after another
+abbrev pub columns_in : List Table → List Src → List Column
+columns_in tables sources = flat_map (λ (x : Src). option_map_or (columns_of_table (source_name x)) (table_named x.table tables) []) sources
+
+-- what a source shows of its table
+abbrev pub shown_by : List Entry → Src → Table → Source
+shown_by es x table = record { columns = columns_of_table (source_name x) table; rows = rows_in es table }
+
+-- what all sources show
+abbrev pub sources_in : List Entry → List Table → List Src → List Source
+sources_in es tables sources = filter_map (λ (x : Src). option_map (shown_by es x) (table_named x.table tables)) sources
+
+-- what is answered with the rows that were found, if no number on the way was out of range
+abbrev pub answer_rows : Option (List Row) → Answer
+answer_rows None = out_of_range
+answer_rows (Some found) = if nat_lt row_limit (length found) then most_rows else Listing found
+
+-- a query whose tables are all ready for rows
+abbrev pub select_ready : Session → Query → List Table → State → State × Answer
+select_ready session query tables s =
+    if list_any (λ (t : Table). t.valid) (tables_of tables query.sources) then (s, not_built) else
+    unless (query_fault (columns_in tables query.sources) query) s
+    (at_home s session (λ w. (s, answer_rows (answer_of query (sources_in (seen_from w session.stand) tables query.sources)))))
+
+-- a query whose tables are all there
+abbrev pub select_from : Session → Query → List Table → State → State × Answer
+select_from session query tables s = off (table_off (tables_of tables query.sources))
+  where
+    off : Option (List ℕ) → State × Answer
+    off (Some name) = (s, versioning name false)
+    off None = select_ready session query tables s
+
+-- a query where these are the tables
+abbrev pub select_among : Session → Query → List Table → State → State × Answer
+select_among session query tables s = lost (lost_source tables query.sources)
+  where
+    lost : Option (List ℕ) → State × Answer
+    lost (Some name) = (s, no_table name)
+    lost None = select_from session query tables s
+
+-- SELECT answers a query over what the session sees
+abbrev pub select : Session → Query → State → State × Answer
+select session query s = select_among session query s.tables s
+
+-- ---- UPDATE and DELETE
+
+-- rows are changed, if there are any, while changes are left
+abbrev pub write_all : List ℕ → Table → List RowChange → State → Workspace → State × Answer
+write_all user table [] s w = (s, Done 0)
+write_all user table (x ∷ xs) s w =
+    let changes = x ∷ xs in
+    if not (nat_le (s.next_stamp + length changes) (s.limit + 1)) then (s, change_limit s.limit) else
+    durably s (length w.lists.log + length changes) (written_all w.number (entries_of s user table changes) s, Done (length changes))
+
+-- each key is below the next
+abbrev pub ascend : List (List Value) → Bool
+ascend [] = true
+ascend (k ∷ []) = true
+ascend (k ∷ l ∷ ls) = is_lt (key_order k l) && ascend (l ∷ ls)
+
+-- so they are where each key is changed once; no line makes two rows of one key
+abbrev pub write_ascending : List ℕ → Table → List RowChange → State → Workspace → State × Answer
+write_ascending user table changes s w = if ascend (change_keys changes) then write_all user table changes s w else (s, not_built)
+
+-- what is done with the rows that a session sees of a table at what is newest, unless the statement is wrong for the table
+abbrev pub change_rows : Session → List ℕ → (Table → Option Refusal) → (Table → List Row → State → Workspace → State × Answer) → State → State × Answer
+change_rows session name fault act s = with_table s name (λ table.
+    if not table.versioned then (s, versioning name false) else
+    (if table.valid then (s, not_built) else
+    unless (fault table) s
+    (at_home s session (λ w. at_latest s session.stand (act table (rows_in (content w) table) s w)))))
+
+-- new rows take the places of others, unless a number on the way to them was out of range, or something is wrong with them
+abbrev pub replace_all : List ℕ → Table → Option (List (List Value)) → State → Workspace → State × Answer
+replace_all user table None s w = (s, out_of_range)
+replace_all user table (Some new) s w = unless (rows_fault table new) s (write_ascending user table (replacing table new) s w)
+
+-- rows in which a text is empty, which no line writes, are not changed
+abbrev pub unless_empty : List Row → (List Row → State → Workspace → State × Answer) → State → Workspace → State × Answer
+unless_empty rows act s w = if list_all (λ (r : Row). list_all is_filled r.values) rows then act rows s w else (s, not_built)
+
+-- UPDATE writes a new row for each on which the condition is true
+abbrev pub update : Session → List ℕ → List Set → Option Cond → State → State × Answer
+update session name sets filter =
+    change_rows session name (λ table. update_fault table sets filter)
+    (λ table rows. unless_empty (chosen table filter rows) (λ kept. replace_all session.user table (updated_rows table sets kept)))
+
+-- DELETE makes each of them gone
+abbrev pub delete : Session → List ℕ → Option Cond → State → State × Answer
+delete session name filter =
+    change_rows session name (λ table. delete_fault table filter)
+    (λ table rows. unless_empty (chosen table filter rows) (λ kept. write_ascending session.user table (map (gone table) kept)))
 
 -- ---- savepoints
 
@@ -320,13 +490,10 @@ save name s w = of (saved_at s w Latest name false)
     of (Some k) = durably s 0 (saved w.number (w.next_place + 1) w.next_implicit k s, Fine)
 
 abbrev pub create_savepoint : List ℕ → List ℕ → State → State × Answer
-create_savepoint workspace name s =
-    if not (is_name name) then (s, bad_name) else
-    (if names_no_savepoint name then (s, reserved_name name) else
-    with_named s workspace (λ w.
+create_savepoint workspace name s = with_named s workspace (λ w.
     if is_some (savepoint_named name w.savepoints) then (s, savepoint_there name) else
     (if nat_le 4096 (length w.savepoints) then (s, most_savepoints) else
-    (if nat_lt number_limit (w.next_place + 1) then (s, at_its_end (codes "PLACE")) else save name s w))))
+    (if nat_lt number_limit (w.next_place + 1) then (s, at_its_end (codes "PLACE")) else save name s w)))
 
 -- GotoSavepoint stands the session at a savepoint of its workspace, or at what is newest
 abbrev pub goto_savepoint : Session → List ℕ → State → State × Answer
@@ -383,48 +550,90 @@ bear stand name s w =
 -- CreateWorkspace makes a child of the session's workspace
 abbrev pub create_workspace : Session → List ℕ → State → State × Answer
 create_workspace session name s =
-    if not (is_name name) then (s, bad_name) else
-    (if names_no_workspace name then (s, reserved_name name) else
-    (if is_some (workspace_named name s.spaces) then (s, workspace_there name) else
+    if is_some (workspace_named name s.spaces) then (s, workspace_there name) else
     at_home s session (λ w.
     if is_some (savepoint_named (implicit_name w) w.savepoints) then (s, savepoint_there (implicit_name w)) else
     (if nat_le 1024 (length s.spaces) then (s, most_workspaces) else
-    (if nat_le 4096 (length w.savepoints) then (s, most_savepoints) else bear session.stand name s w)))))
+    (if nat_le 4096 (length w.savepoints) then (s, most_savepoints) else bear session.stand name s w)))
 
 -- GotoWorkspace stands the session in a workspace, at what is newest
 abbrev pub goto_workspace : Session → List ℕ → State → State × Answer
 goto_workspace session name s = with_named s name (λ w. (record s { sessions = moved_to session.name w.number Latest s.sessions }, Fine))
 
+-- ---- calls
+
+-- what is done with a text that is given for a parameter; else something is wrong with the arguments
+abbrev pub given : Option (List ℕ) → Option (List ℕ) → State → (List ℕ → State × Answer) → State × Answer
+given None fault s act = unless_mistyped fault s (s, not_built)
+given (Some text) fault s act = act text
+
+-- a name that is made is tested, then that it is no reserved one, and then the other arguments
+abbrev pub newly_named : List ℕ → Bool → Option (List ℕ) → State → State × Answer → State × Answer
+newly_named name taken fault s done = if not (is_name name) then (s, bad_name) else (if taken then (s, reserved_name name) else unless_mistyped fault s done)
+
+-- the word with which a table keeps its history
+abbrev pub keeps_history : Option (List ℕ) → Bool
+keeps_history None = false
+keeps_history (Some word) = bytes_eq (folded word) (codes "VIEW_WO_OVERWRITE")
+
+-- a call, by the arguments for its parameters and what is wrong with them
+abbrev pub call : Session → Option Procedure → List Arg → State → State × Answer
+call session (Some procedures.EnableVersioning) args s =
+    let fault = argument_fault procedures.EnableVersioning args in
+    given (text_given procedures.EnableVersioning args parameters.TableName) fault s
+    (λ name. enable (folded name) (keeps_history (text_given procedures.EnableVersioning args parameters.Hist)) fault s)
+call session (Some procedures.CreateWorkspace) args s =
+    let fault = argument_fault procedures.CreateWorkspace args in
+    given (text_given procedures.CreateWorkspace args parameters.Workspace) fault s
+    (λ name. newly_named name (names_no_workspace name) fault s (create_workspace session name s))
+call session (Some procedures.CreateSavepoint) args s =
+    let fault = argument_fault procedures.CreateSavepoint args in
+    given (text_given procedures.CreateSavepoint args parameters.SavepointName) fault s
+    (λ name. newly_named name (names_no_savepoint name) fault s (create_savepoint (unwrap_or (text_given procedures.CreateSavepoint args parameters.Workspace) []) name s))
+call session (Some procedures.GotoWorkspace) args s =
+    let fault = argument_fault procedures.GotoWorkspace args in
+    unless_mistyped fault s (goto_workspace session (unwrap_or (text_given procedures.GotoWorkspace args parameters.Workspace) []) s)
+call session (Some procedures.GotoSavepoint) args s =
+    let fault = argument_fault procedures.GotoSavepoint args in
+    unless_mistyped fault s (goto_savepoint session (unwrap_or (text_given procedures.GotoSavepoint args parameters.SavepointName) latest) s)
+call session _ args s = (s, not_built)
+
 -- ---- statements and lines
 
 abbrev pub run_statement : Session → Statement → State → State × Answer
-run_statement session (Create name key value) s = create name key value s
-run_statement session (Enable name history) s = enable name history s
-run_statement session (Insert name key value) s = add_row session name key value s
-run_statement session (Select name) s = listing session name s
-run_statement session (CreateWorkspace name) s = create_workspace session name s
-run_statement session (CreateSavepoint workspace name) s = create_savepoint workspace name s
-run_statement session (GotoWorkspace name) s = goto_workspace session name s
-run_statement session (GotoSavepoint name) s = goto_savepoint session name s
+run_statement session (Create name items) s = create name items s
+run_statement session (Insert name names values) s = insert session name names values s
+run_statement session (Update name sets filter) s = update session name sets filter s
+run_statement session (Delete name filter) s = delete session name filter s
+run_statement session (Select query) s = select session query s
+run_statement session (Call procedure args condition) s = call session (procedure_of procedure) args s
 
 abbrev pub run_for : List ℕ → Option Session → Statement → State → State × Answer
 run_for name None statement s = (s, no_session name)
 run_for name (Some session) statement s = run_statement session statement s
 
-abbrev pub run_line : Option Line → State → State × Answer
-run_line None s = (s, not_built)
-run_line (Some (Connect name user)) s = connect name user s
-run_line (Some (Disconnect name)) s = disconnect name s
-run_line (Some (Run name statement)) s = run_for name (session_of name s.sessions) statement s
+abbrev pub run_line : Line → State → State × Answer
+run_line (Connect name user) s = connect name user s
+run_line (Disconnect name) s = disconnect name s
+run_line (AtMoment instant) s = (s, not_built)
+run_line (Run name statement) s = run_for name (session_of name s.sessions) statement s
 
--- a line that begins as none does is told where; the others are run
-abbrev pub run_text : Option ℕ → List ℕ → State → State × Answer
-run_text (Some column) line s = (s, syntax column)
-run_text None line s = run_line (line_of line) s
+-- the moment stands in the place of SYSDATE
+abbrev pub timed_line : ℕ → Line → Line
+timed_line moment (Connect name user) = Connect name user
+timed_line moment (Disconnect name) = Disconnect name
+timed_line moment (AtMoment instant) = AtMoment instant
+timed_line moment (Run name statement) = Run name (timed moment statement)
+
+-- a line of the grammar that speaks of nothing that comes later is run; where the line is wrong is told
+abbrev pub run_parsed : Result Line Bad → State → State × Answer
+run_parsed (Ok line) s = if is_later line then (s, not_built) else run_line (timed_line s.moment line) s
+run_parsed (Err (Syntax column)) s = (s, syntax column)
+run_parsed (Err (Literal column)) s = (s, bad_literal column)
 
 -- what a line does and answers
 unfoldable pub step : State → List ℕ → State × Answer
 step s line =
-    if not (fits_line line) then (s, not_built) else
+    if not (fits_line line) then (s, too_long_line) else
     (if is_remark line then (s, Nothing) else
-    (if is_utf8 line then run_text (start_fault line) line s else (s, not_built)))
+    (if is_utf8 line then run_parsed (parsed line) s else (s, no_text)))

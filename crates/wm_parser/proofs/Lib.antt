@@ -4,3 +4,4 @@ pub mod Ending
 pub mod Arguments
 pub mod Keyed
 pub mod Clauses
+pub mod Answered

@@ -1,3 +1,4 @@
 pub mod Lines
 pub mod Gathering
 pub mod Parsing
+pub mod Parsed

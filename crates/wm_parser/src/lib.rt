@@ -12,4 +12,5 @@ mod statements;
 mod tests;
 
 pub use fault::ParseFault;
+pub use lines::discard;
 pub use parsing::parse;

@@ -2,6 +2,7 @@ ghost use Rattle.std.specs.Prelude.{◌≡◌, ℕ, ◌≤◌, List, length, IfO
 ghost use Rattle.wm_base.specs.Trees.{Line as Tree};
 ghost use Rattle.wm_base.specs.Views.{line_view};
 ghost use Rattle.wm_literals.specs.Literals.{bad_literal};
+ghost use Rattle.wm_parser.specs.Parsed.{parsed, Gives};
 ghost use Rattle.wm_parser.specs.Parsing.{column_of, judged, IsLine, IsSyntax, IsLiteral, IsFault, Refuses};
 
 use crate::fault::ParseFault;
@@ -49,6 +50,8 @@ pub fn parse(alloc: Global, line: &[u8]) -> Result<Line, ParseFault>
     ensures syntax { (column : ℕ) → IsSyntax line.now column → Refuses result (ParseFault.Syntax column) }
     // So is a line of the grammar in which a literal is out of range.
     ensures literal { (column : ℕ) → IsLiteral line.now column → Refuses result (ParseFault.Literal column) }
+    // All of this as one value: the tree, or the fault with its column.
+    ensures is { Gives result (parsed line.now) }
 {
     let bad = match bad_literal(alloc, line) {
         Ok(bad) => bad,

@@ -1,19 +1,12 @@
-//! Reading a line of today's forms. Nothing is copied: names and texts are slices of the line.
+//! What is known of a line before its grammar: whether it is a remark, whether it is text; and names in capitals.
 #![tactic(auto)]
 
-mod call;
-mod form;
-mod names;
-mod number;
-mod start;
+mod capitals;
+mod remark;
 #[cfg(test)]
 mod tests;
 mod text;
-mod tree;
-mod word;
 
-pub use form::{is_remark, line_of};
-pub use start::start_fault;
-pub use text::{is_text, unquoted_of};
-pub use tree::{Line, Statement};
-pub use word::{capitals_of, is_word};
+pub use capitals::capitals_of;
+pub use remark::is_remark;
+pub use text::is_text;

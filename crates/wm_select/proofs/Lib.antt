@@ -10,3 +10,4 @@ pub mod ItemLemmas
 pub mod SortLemmas
 pub mod KeyLemmas
 pub mod GroupLemmas
+pub mod CountLemmas

@@ -4,3 +4,4 @@ pub mod Aggregates
 pub mod Query
 pub mod Joining
 pub mod Keys
+pub mod Counting

@@ -144,7 +144,7 @@ fn has_aggregate(projection: &Projection) -> bool
 }
 
 /// Whether the query has GROUP BY or an aggregate.
-fn is_grouped(query: &Query) -> bool
+pub fn is_grouped(query: &Query) -> bool
     ensures { result ≡ is_grouped (query_view query.now) }
 {
     !query.groups.as_slice().is_empty() || has_aggregate(&query.projection)

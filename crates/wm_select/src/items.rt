@@ -115,7 +115,7 @@ fn item_values(
 }
 
 /// The row that the answer shows for the group.
-fn projected(
+pub fn projected(
     alloc: Global,
     projection: &Projection,
     columns: &Columns,

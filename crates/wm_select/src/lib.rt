@@ -8,6 +8,7 @@ mod asked;
 mod beside;
 mod buckets;
 mod condition;
+mod counted;
 mod distinct;
 mod equalities;
 mod fault;
@@ -21,6 +22,8 @@ mod order_by;
 mod pair;
 mod shown;
 mod source;
+#[cfg(test)]
+mod tests;
 
 pub use answer::select;
 pub use asked::{columns_of, projection_lasts, rows_fit, where_of};

@@ -90,7 +90,7 @@ none_dropped p next table key rules is =
     out_of : (b c : Bool) → b ≡ false → not (b && c) ≡ true
     out_of b c e = rw e refl
 
-drops_none : (ss : List Stored) (test : PieceRecord → Bool) → list_all test (parts_of ss).pieces ≡ true → AreDropped (keeps test) [] ss
+pub drops_none : (ss : List Stored) (test : PieceRecord → Bool) → list_all test (parts_of ss).pieces ≡ true → AreDropped (keeps test) [] ss
 drops_none ss test all id (records.Piece x) found = ap not (sym (piece_found test ss id x found all))
 drops_none ss test all id (records.Counters c) found = refl
 drops_none ss test all id (records.Table t) found = refl

@@ -52,7 +52,7 @@ split_if false b e = (refl, e)
 apart_lt : (m n : ℕ) → nat_lt m n ≡ true → (n == m) ≡ false
 apart_lt m n lt = grind (arith, lt)
 
-ids_differ-push : (n : ℕ) (ids : List ℕ) → ids_differ ids ≡ true → are_under n ids ≡ true → ids_differ (ids ++ n ∷ []) ≡ true
+pub ids_differ-push : (n : ℕ) (ids : List ℕ) → ids_differ ids ≡ true → are_under n ids ≡ true → ids_differ (ids ++ n ∷ []) ≡ true
 unfolding ids_differ
 ids_differ-push n [] differ under = refl
 ids_differ-push n (id ∷ ids) differ under =
@@ -60,7 +60,7 @@ ids_differ-push n (id ∷ ids) differ under =
     let g = both (nat_lt id n) (are_under n ids) under in
     rw (any_push (λ other. other == id) ids n h.0 (apart_lt id n g.0)) (ids_differ-push n ids h.1 g.1)
 
-are_under-push : (n : ℕ) (ids : List ℕ) → are_under n ids ≡ true → are_under (n + 1) (ids ++ n ∷ []) ≡ true
+pub are_under-push : (n : ℕ) (ids : List ℕ) → are_under n ids ≡ true → are_under (n + 1) (ids ++ n ∷ []) ≡ true
 are_under-push n [] under = rw (lt_self n) refl
   where
     lt_self : (k : ℕ) → nat_lt k (k + 1) ≡ true
@@ -72,7 +72,7 @@ are_under-push n (id ∷ ids) under =
     lt_next : (m k : ℕ) → nat_lt m k ≡ true → nat_lt m (k + 1) ≡ true
     lt_next m k e = grind (arith, e)
 
-ids_of-dropped : (ids : List ℕ) (cs : List Change) → map (λ (c : Change). c.id) (map drop_one ids ++ cs) ≡ ids ++ map (λ (c : Change). c.id) cs
+pub ids_of-dropped : (ids : List ℕ) (cs : List Change) → map (λ (c : Change). c.id) (map drop_one ids ++ cs) ≡ ids ++ map (λ (c : Change). c.id) cs
 ids_of-dropped [] cs = refl
 ids_of-dropped (id ∷ ids) cs = ap (λ xs. id ∷ xs) (ids_of-dropped ids cs)
 

@@ -42,3 +42,11 @@ pub mod PlannedSaved
 pub mod Greatest
 pub mod Spaces
 pub mod Numbered
+pub mod WritingAll
+pub mod Appending
+pub mod KeepWritten
+pub mod LayingAll
+pub mod EntryRecords
+pub mod PlannedWritten
+pub mod WrittenIds
+pub mod PlannedMore

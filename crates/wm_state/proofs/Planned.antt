@@ -98,7 +98,7 @@ pub record Inserted (ss : List Stored) (cs : List Change) (new : Counters) (a : 
   pub old : (parts_of ss).spaces ≡ front ++ a ∷ back
   pub is : parts_of (applied cs ss) ≡ inserted (parts_of ss) new front a back keep r x
 
-AllUnder-filter : (n : ℕ) (keep : Stored → Bool) (ss : List Stored) → AllUnder n ss → AllUnder n (filter keep ss)
+pub AllUnder-filter : (n : ℕ) (keep : Stored → Bool) (ss : List Stored) → AllUnder n ss → AllUnder n (filter keep ss)
 AllUnder-filter n keep [] under = tt
 AllUnder-filter n keep (s ∷ ss) under = by_test (keep s) (AllUnder-filter n keep ss under.1)
   where
@@ -123,7 +123,7 @@ AllUnder-set n ss id r q sorted found under = by_split (split_of ss id r found)
         (AllUnder-put n s.front s.back id r q (subst (λ xs. AllUnder n xs) s.is under))
 
 -- what is dropped is dropped still once a record that is no piece took the place of one that is none
-dropped-still : (test : PieceRecord → Bool) (ids : List ℕ) (ss : List Stored) (id : ℕ) (r q : Record) → Ascend ss → record_at ss id ≡ Some r → keeps test r ≡ true → keeps test q ≡ true
+pub dropped-still : (test : PieceRecord → Bool) (ids : List ℕ) (ss : List Stored) (id : ℕ) (r q : Record) → Ascend ss → record_at ss id ≡ Some r → keeps test r ≡ true → keeps test q ≡ true
     → AreDropped (keeps test) ids ss → AreDropped (keeps test) ids (set_at id (Some q) ss)
 dropped-still test ids ss id r q sorted found kept_r kept_q are other x there = by_id (cases_eq other id) (sym (record_at-set id (Some q) ss sorted other) ∙ there)
   where

@@ -4,3 +4,5 @@ pub mod Standing
 pub mod Effects
 pub mod Batches
 pub mod Listing
+pub mod Entries
+pub mod Writes

@@ -1,8 +1,9 @@
 //! The records and the changes that lines make.
-ghost use Rattle.std.specs.Prelude.{◌≡◌, ◌+◌, ◌<◌, ◌^◌, ◌∷◌, [], ◌++◌, map, IfOk, OnOk};
+ghost use Rattle.std.specs.Prelude.{◌≡◌, ◌+◌, ◌<◌, ◌^◌, ◌∷◌, [], ◌++◌, length, map, IfOk, OnOk};
 ghost use Rattle.wm_spec.specs.declared.record.Record.TheVariants as records;
 ghost use Rattle.wm_state.specs.Batches.{put, drop_one, create_batch, ready, savepoint_batch};
 ghost use Rattle.wm_state.specs.Effects.{longer, marked};
+ghost use Rattle.wm_state.specs.Writes.{longer_by, put_all};
 
 use std::alloc::Global;
 use wm_base::Memory;
@@ -30,6 +31,19 @@ fn drop_all(changes: &mut Changes, ids: &[u64]) -> Result<(), Memory>
             id: *id,
             becomes: None,
         })?;
+    }
+    Ok(())
+}
+
+/// Puts new records, whose ids follow one another from this one on.
+fn put_all(changes: &mut Changes, id: u64, records: Vec<Record>) -> Result<(), Memory>
+    requires { id + length records.items < 2 ^ 64 }
+    ensures { OnOk result (changes.new ≡ changes.old ++ put_all id records.items) }
+{
+    let mut id = id;
+    for record in records {
+        changes.push(put(id, record))?;
+        id += 1;
     }
     Ok(())
 }
@@ -104,6 +118,31 @@ pub fn row_changes_above(
     Ok(changes)
 }
 
+/// What is put for rows and pieces in the place of the records of some ids, behind other changes.
+pub fn written_changes(
+    front: Changes,
+    counters_id: u64,
+    counters: Counters,
+    space_id: u64,
+    space: Space,
+    dropped: &[u64],
+    id: u64,
+    rows: Vec<Record>,
+    pieces: Vec<Record>,
+) -> Result<Changes, Memory>
+    requires { id + length rows.items + length pieces.items < 2 ^ 64 }
+    ensures { IfOk result (λ changes. changes ≡ front ++ (put counters_id (records.Counters counters) ∷ put space_id (records.Space space) ∷ (map drop_one dropped.now ++ (put_all id rows.items ++ put_all (id + length rows.items) pieces.items)))) }
+{
+    let mut changes = front;
+    changes.push(put(counters_id, Record::Counters(counters)))?;
+    changes.push(put(space_id, Record::Space(space)))?;
+    drop_all(&mut changes, dropped)?;
+    let next = id + rows.len() as u64;
+    put_all(&mut changes, id, rows)?;
+    put_all(&mut changes, next, pieces)?;
+    Ok(changes)
+}
+
 /// A copy of a workspace.
 fn space_copy(alloc: Global, space: &Space) -> Result<Space, Memory>
     ensures { IfOk result (λ new. new ≡ space.now) }
@@ -135,6 +174,16 @@ pub fn longer(alloc: Global, space: &Space) -> Result<Space, Memory>
 {
     let mut new = space_copy(alloc, space)?;
     new.log_length += 1;
+    Ok(new)
+}
+
+/// The workspace with a log that is longer by so many.
+pub fn longer_by(alloc: Global, count: u64, space: &Space) -> Result<Space, Memory>
+    requires { space.now.log_length + count < 2 ^ 64 }
+    ensures { IfOk result (λ new. new ≡ longer_by count space.now) }
+{
+    let mut new = space_copy(alloc, space)?;
+    new.log_length += count;
     Ok(new)
 }
 

@@ -11,8 +11,7 @@ ghost use Rattle.wm_engine.specs.Stands.{stand_view};
 ghost use Rattle.wm_graph.specs.Parts.{Parts, parts_of, space_of};
 ghost use Rattle.wm_graph.specs.Rules.{keep_rules};
 ghost use Rattle.wm_model.specs.Saving.{BearsIn, BearsRoomy, MayBearIn, child_record, implicit_of, made_at, newest_point, next_place_at, point_at, saved_point, versioned};
-ghost use Rattle.wm_model.specs.Step.{counter_limit, create_workspace, implicit_front, is_name, line_work, number_limit};
-ghost use Rattle.wm_reader.specs.Reading.{unquoted};
+ghost use Rattle.wm_model.specs.Step.{counter_limit, create_workspace, implicit_front, is_name, line_work, names_no_workspace, number_limit};
 ghost use Rattle.wm_state.specs.ById.{applied};
 ghost use Rattle.wm_state.specs.Standing.{space_after};
 ghost use Rattle.wm_state.specs.State.{Session as SessionState};
@@ -20,19 +19,16 @@ ghost use Rattle.wm_store.specs.Spelled.{FitPages};
 
 use crate::answer::Answer;
 use crate::count::counted;
-use crate::names::{is_name, names_no_workspace};
 use crate::plan::batch::{birth_changes, marked, savepoint_changes};
 use crate::plan::saving::{SAVEPOINT_LIMIT, coming_making};
 use crate::planned::Planned;
 use crate::refuse::{
-    at_its_end, bad_name, most_savepoints, most_workspaces, not_built, reserved_name,
-    savepoint_there, workspace_there,
+    at_its_end, most_savepoints, most_workspaces, not_built, savepoint_there, workspace_there,
 };
 use crate::session::{Session, Stand};
 use std::alloc::Global;
 use wm_base::{Memory, Name};
 use wm_image::Image;
-use wm_reader::unquoted_of;
 use wm_spec::record::{Counters, FreezeMode, Savepoint, Space, Version};
 
 /// The most workspaces of a store.
@@ -325,22 +321,17 @@ pub fn create_workspace(
     image: &Image,
     moment: u64,
     session: &Session,
-    name: &[u8],
+    name: Name,
 ) -> Result<Planned, Memory>
     requires rules { keep_rules (parts_of image.now) ≡ true }
     requires moment { moment < END }
-    ensures does { IfOk result (λ p. (xs : List SessionState) → DoesIt image.now xs moment p (create_workspace session.now (unquoted name.now))) }
+    requires good { is_name name ≡ true }
+    requires plain { names_no_workspace name ≡ false }
+    ensures does { IfOk result (λ p. (xs : List SessionState) → DoesIt image.now xs moment p (create_workspace session.now name)) }
     ensures fit { IfOk result (λ p. FitPages p.changes) }
     ensures idle { IfOk result Idles }
     ensures few { IfOk result (λ p. ChangesFew image.now (applied p.changes image.now)) }
 {
-    let name = unquoted_of(alloc, name)?;
-    if !is_name(name.as_bytes()) {
-        return Ok(Planned::answered(alloc, bad_name()));
-    }
-    if names_no_workspace(name.as_bytes()) {
-        return Ok(Planned::answered(alloc, reserved_name(name)));
-    }
     if image.space_named(name.as_bytes()).is_some() {
         return Ok(Planned::answered(alloc, workspace_there(name)));
     }

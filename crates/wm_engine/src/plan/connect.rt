@@ -5,7 +5,6 @@ ghost use Rattle.wm_engine.specs.Planning.{DoesIt};
 ghost use Rattle.wm_graph.specs.Parts.{parts_of};
 ghost use Rattle.wm_graph.specs.Rules.{keep_rules};
 ghost use Rattle.wm_model.specs.Step.{connect, disconnect, is_name};
-ghost use Rattle.wm_reader.specs.Views.{folded};
 ghost use Rattle.wm_spec.specs.declared.record.stored.Stored.{Stored};
 ghost use Rattle.wm_store.specs.Spelled.{FitPages};
 
@@ -16,7 +15,6 @@ use crate::seating::Seating;
 use crate::session::{Session, is_open};
 use std::alloc::Global;
 use wm_base::{Memory, Name};
-use wm_reader::capitals_of;
 
 /// The most sessions that may be open.
 const SESSION_LIMIT: usize = 256;
@@ -32,36 +30,34 @@ fn are_names(name: &Name, user: &Name) -> bool
 pub fn connect(
     alloc: Global,
     sessions: &[Session],
-    name: &[u8],
-    user: &[u8],
+    name: &Name,
+    user: &Name,
 ) -> Result<Planned, Memory>
-    ensures does { IfOk result (λ p. (rs : List Stored) (m : ℕ) → keep_rules (parts_of rs) ≡ true → DoesIt rs sessions.now m p (connect (folded name.now) (folded user.now))) }
+    ensures does { IfOk result (λ p. (rs : List Stored) (m : ℕ) → keep_rules (parts_of rs) ≡ true → DoesIt rs sessions.now m p (connect name.now user.now)) }
     ensures fit { IfOk result (λ p. FitPages p.changes) }
     ensures idle { IfOk result Idles }
 {
-    let called = capitals_of(alloc, name)?;
     if is_open(sessions, name) {
-        return Ok(Planned::answered(alloc, session_there(called)));
+        return Ok(Planned::answered(alloc, session_there(name.copy(alloc)?)));
     }
-    let user = capitals_of(alloc, user)?;
-    if !are_names(&called, &user) {
+    if !are_names(name, user) {
         return Ok(Planned::answered(alloc, bad_name()));
     }
     if sessions.len() >= SESSION_LIMIT {
         return Ok(Planned::answered(alloc, most_sessions()));
     }
-    Ok(Planned::seated(alloc, Seating::Open(Session::new(called, user))))
+    let session = Session::new(name.copy(alloc)?, user.copy(alloc)?);
+    Ok(Planned::seated(alloc, Seating::Open(session)))
 }
 
 /// DISCONNECT ends a session.
-pub fn disconnect(alloc: Global, sessions: &[Session], name: &[u8]) -> Result<Planned, Memory>
-    ensures does { IfOk result (λ p. (rs : List Stored) (m : ℕ) → keep_rules (parts_of rs) ≡ true → DoesIt rs sessions.now m p (disconnect (folded name.now))) }
+pub fn disconnect(alloc: Global, sessions: &[Session], name: &Name) -> Result<Planned, Memory>
+    ensures does { IfOk result (λ p. (rs : List Stored) (m : ℕ) → keep_rules (parts_of rs) ≡ true → DoesIt rs sessions.now m p (disconnect name.now)) }
     ensures fit { IfOk result (λ p. FitPages p.changes) }
     ensures idle { IfOk result Idles }
 {
-    let called = capitals_of(alloc, name)?;
     if !is_open(sessions, name) {
-        return Ok(Planned::answered(alloc, no_session(called)));
+        return Ok(Planned::answered(alloc, no_session(name.copy(alloc)?)));
     }
-    Ok(Planned::seated(alloc, Seating::Close(called)))
+    Ok(Planned::seated(alloc, Seating::Close(name.copy(alloc)?)))
 }

@@ -1,6 +1,6 @@
 //! EnableVersioning.
 ghost use Rattle.wm_engine.specs.Idle.{Idles};
-ghost use Rattle.std.specs.Prelude.{◌≡◌, ◌<◌, List, true, false, Some, IfOk};
+ghost use Rattle.std.specs.Prelude.{◌≡◌, ◌<◌, nat_lt, length, List, true, false, None, Some, IfOk};
 ghost use Rattle.wm_base.specs.declared.instant.TheConstants.{END};
 ghost use Rattle.wm_graph.specs.Parts.{parts_of};
 ghost use Rattle.wm_graph.specs.Rules.{keep_rules};
@@ -9,18 +9,19 @@ ghost use Rattle.wm_model.specs.Step.{enable};
 ghost use Rattle.wm_state.specs.State.{Session as SessionState};
 ghost use Rattle.wm_store.specs.Spelled.{FitPages};
 ghost use Rattle.wm_engine.specs.Planning.{DoesIt};
-ghost use Rattle.wm_reader.specs.Views.{folded};
 
 use crate::answer::Answer;
 use crate::count::counted;
 use crate::plan::batch::{readied, table_changes};
 use crate::planned::Planned;
-use crate::refuse::{at_its_end, no_key, no_table, versioning};
+use crate::refuse::{at_its_end, long_name, mistyped, no_key, no_table, versioning};
 use std::alloc::Global;
 use wm_base::{Memory, Name};
 use wm_image::Image;
-use wm_reader::capitals_of;
 use wm_spec::record::Table;
+
+/// The most bytes that the name of a table with views may have.
+const NAME_LIMIT: usize = 25;
 
 /// Makes a table that has a key, and is not ready yet, ready for rows.
 fn make_ready(
@@ -36,7 +37,8 @@ fn make_ready(
     requires named { named image.now name.now ≡ Some table.now }
     requires off { table.now.versioned ≡ false }
     requires key { table.now.has_key ≡ true }
-    ensures does { IfOk result (λ p. (xs : List SessionState) → DoesIt image.now xs moment p (enable name.now history)) }
+    requires short { nat_lt 25 (length name.now) ≡ false }
+    ensures does { IfOk result (λ p. (xs : List SessionState) → DoesIt image.now xs moment p (enable name.now history None)) }
     ensures fit { IfOk result (λ p. FitPages p.changes) }
     ensures idle { IfOk result Idles }
 {
@@ -49,26 +51,32 @@ fn make_ready(
     Ok(Planned::changing(changes, Answer::Fine))
 }
 
-/// EnableVersioning makes a table ready for rows, once, with or without its history.
+/// EnableVersioning makes a table ready for rows, once, with or without its history. The fault is what is wrong with its arguments.
 pub fn enable(
     alloc: Global,
     image: &Image,
     moment: u64,
-    name: &[u8],
+    name: Name,
     history: bool,
+    fault: Option<Name>,
 ) -> Result<Planned, Memory>
     requires rules { keep_rules (parts_of image.now) ≡ true }
     requires moment { moment < END }
-    ensures does { IfOk result (λ p. (xs : List SessionState) → DoesIt image.now xs moment p (enable (folded name.now) history)) }
+    ensures does { IfOk result (λ p. (xs : List SessionState) → DoesIt image.now xs moment p (enable name history fault)) }
     ensures fit { IfOk result (λ p. FitPages p.changes) }
     ensures idle { IfOk result Idles }
 {
-    let name = capitals_of(alloc, name)?;
+    if name.len() > NAME_LIMIT {
+        return Ok(Planned::answered(alloc, long_name()));
+    }
     let Some(table) = image.table(name.as_bytes()) else {
         return Ok(Planned::answered(alloc, no_table(name)));
     };
     if table.versioned {
         return Ok(Planned::answered(alloc, versioning(name, true)));
+    }
+    if let Some(parameter) = fault {
+        return Ok(Planned::answered(alloc, mistyped(parameter)));
     }
     if !table.has_key {
         return Ok(Planned::answered(alloc, no_key(name)));

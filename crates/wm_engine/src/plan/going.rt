@@ -9,7 +9,6 @@ ghost use Rattle.wm_graph.specs.Rules.{keep_rules};
 ghost use Rattle.wm_model.specs.Planning.{Move};
 ghost use Rattle.wm_model.specs.Step.{goto_savepoint, goto_workspace};
 ghost use Rattle.wm_print.specs.Texts.{Fine};
-ghost use Rattle.wm_reader.specs.Reading.{unquoted};
 ghost use Rattle.wm_state.specs.State.{Session as SessionState};
 ghost use Rattle.wm_store.specs.Spelled.{FitPages};
 
@@ -19,9 +18,8 @@ use crate::refuse::{no_savepoint, no_workspace, not_built};
 use crate::seating::Seating;
 use crate::session::{Session, Stand};
 use std::alloc::Global;
-use wm_base::Memory;
+use wm_base::{Memory, Name};
 use wm_image::Image;
-use wm_reader::unquoted_of;
 
 /// Stands a session elsewhere.
 fn go(alloc: Global, session: &Session, space: u32, stand: Stand) -> Result<Planned, Memory>
@@ -41,13 +39,12 @@ pub fn goto_workspace(
     name: &[u8],
 ) -> Result<Planned, Memory>
     requires rules { keep_rules (parts_of image.now) ≡ true }
-    ensures does { IfOk result (λ p. (xs : List SessionState) (m : ℕ) → DoesIt image.now xs m p (goto_workspace session.now (unquoted name.now))) }
+    ensures does { IfOk result (λ p. (xs : List SessionState) (m : ℕ) → DoesIt image.now xs m p (goto_workspace session.now name.now)) }
     ensures fit { IfOk result (λ p. FitPages p.changes) }
     ensures idle { IfOk result Idles }
 {
-    let name = unquoted_of(alloc, name)?;
-    let Some(space) = image.space_named(name.as_bytes()) else {
-        return Ok(Planned::answered(alloc, no_workspace(name)));
+    let Some(space) = image.space_named(name) else {
+        return Ok(Planned::answered(alloc, no_workspace(Name::copy_of(alloc, name)?)));
     };
     go(alloc, session, space.number, Stand::Latest)
 }
@@ -60,7 +57,7 @@ pub fn goto_savepoint(
     name: &[u8],
 ) -> Result<Planned, Memory>
     requires rules { keep_rules (parts_of image.now) ≡ true }
-    ensures does { IfOk result (λ p. (xs : List SessionState) (m : ℕ) → DoesIt image.now xs m p (goto_savepoint session.now (unquoted name.now))) }
+    ensures does { IfOk result (λ p. (xs : List SessionState) (m : ℕ) → DoesIt image.now xs m p (goto_savepoint session.now name.now)) }
     ensures fit { IfOk result (λ p. FitPages p.changes) }
     ensures idle { IfOk result Idles }
 {
@@ -68,12 +65,11 @@ pub fn goto_savepoint(
     let Some(_) = image.space(space) else {
         return Ok(Planned::answered(alloc, not_built()));
     };
-    let name = unquoted_of(alloc, name)?;
-    if is_latest(name.as_bytes()) {
+    if is_latest(name) {
         return go(alloc, session, space, Stand::Latest);
     }
-    let Some(savepoint) = image.savepoint_named(space, name.as_bytes()) else {
-        return Ok(Planned::answered(alloc, no_savepoint(name)));
+    let Some(savepoint) = image.savepoint_named(space, name) else {
+        return Ok(Planned::answered(alloc, no_savepoint(Name::copy_of(alloc, name)?)));
     };
     go(alloc, session, space, Stand::At(savepoint.making))
 }

@@ -1,54 +1,93 @@
 //! A line.
-ghost use Rattle.wm_engine.specs.Idle.{Idles};
-ghost use Rattle.std.specs.Prelude.{◌≡◌, ◌<◌, ◌≤◌, length, true, IfOk};
+ghost use Rattle.std.specs.Prelude.{◌≡◌, ◌<◌, ◌≤◌, length, true, IfOk, Ok as Read};
 ghost use Rattle.wm_base.specs.declared.instant.TheConstants.{END};
+ghost use Rattle.wm_base.specs.Views.{line_view};
+ghost use Rattle.wm_engine.specs.Forks.{ChangesFew, is_fork, is_fork_line};
+ghost use Rattle.wm_engine.specs.Idle.{Idles};
+ghost use Rattle.wm_engine.specs.Lasting.{lasts_line};
+ghost use Rattle.wm_engine.specs.Planning.{DoesIt};
 ghost use Rattle.wm_graph.specs.Parts.{parts_of};
 ghost use Rattle.wm_graph.specs.Rules.{keep_rules};
-ghost use Rattle.wm_model.specs.Step.{run_line, run_text, step};
-ghost use Rattle.wm_reader.specs.Grammar.{line_of, start_fault};
-ghost use Rattle.wm_state.specs.State.{State};
+ghost use Rattle.wm_model.specs.Step.{run_line, run_parsed, step, timed_line};
+ghost use Rattle.wm_parser.specs.Parsed.{parsed};
 ghost use Rattle.wm_state.specs.ById.{applied};
 ghost use Rattle.wm_store.specs.Spelled.{FitPages};
-ghost use Rattle.wm_engine.specs.Forks.{ChangesFew, is_fork};
-ghost use Rattle.wm_engine.specs.Planning.{DoesIt};
 
 use crate::answer::Answer;
 use crate::plan::connect::{connect, disconnect};
 use crate::plan::statement::run;
 use crate::planned::Planned;
-use crate::refuse::{not_built, syntax};
+use crate::refuse::{bad_literal, no_text, not_built, syntax, too_long_line};
 use crate::session::Session;
 use std::alloc::Global;
-use wm_base::Memory;
+use wm_base::tree::line::Line;
+use wm_base::{Instant, Memory};
+use wm_calls::is_later;
 use wm_image::Image;
-use wm_reader::{Line, is_remark, is_text, line_of, start_fault};
+use wm_parser::{ParseFault, discard, parse};
+use wm_reader::{is_remark, is_text};
+use wm_timed::set_moment;
 
 /// The most bytes that a line may have.
 const LINE_LIMIT: usize = 16_384;
 
-/// What a line that fits and is no remark does and answers.
-fn plan_form(
+/// What a line of the grammar does and answers.
+fn plan_line(
     alloc: Global,
     image: &Image,
     sessions: &[Session],
     moment: u64,
-    text: &[u8],
+    line: &Line,
 ) -> Result<Planned, Memory>
     requires rules { keep_rules (parts_of image.now) ≡ true }
     requires moment { moment < END }
-    ensures does { IfOk result (λ p. DoesIt image.now sessions.now moment p (run_line (line_of text.now))) }
+    // No item of a query has a written period that is empty.
+    requires lasting { lasts_line (line_view line.now) ≡ true }
+    ensures does { IfOk result (λ p. DoesIt image.now sessions.now moment p (run_line (line_view line.now))) }
     ensures fit { IfOk result (λ p. FitPages p.changes) }
     ensures idle { IfOk result Idles }
-    ensures few { is_fork (line_of text.now) ≡ true → IfOk result (λ p. ChangesFew image.now (applied p.changes image.now)) }
+    ensures few { is_fork_line (line_view line.now) ≡ true → IfOk result (λ p. ChangesFew image.now (applied p.changes image.now)) }
 {
-    match line_of(text) {
-        None => Ok(Planned::answered(alloc, not_built())),
-        Some(Line::Connect { session, user }) => connect(alloc, sessions, session, user),
-        Some(Line::Disconnect { session }) => disconnect(alloc, sessions, session),
-        Some(Line::Run { session, statement }) => {
+    match line {
+        Line::Connect { session, user } => connect(alloc, sessions, session, user),
+        Line::Disconnect { session } => disconnect(alloc, sessions, session),
+        Line::At(_) => Ok(Planned::answered(alloc, not_built())),
+        Line::Run { session, statement } => {
             run(alloc, image, sessions, moment, session, statement)
         }
     }
+}
+
+/// Puts the moment in the place of each SYSDATE of a line.
+fn set_moment_in(alloc: Global, line: &mut Line, moment: Instant)
+    ensures { line_view line.new ≡ timed_line moment (line_view line.old) }
+{
+    if let Line::Run { statement, .. } = line {
+        set_moment(alloc, statement, moment);
+    }
+}
+
+/// What a line that was read does and answers, unless it uses what is not built yet.
+fn plan_read(
+    alloc: Global,
+    image: &Image,
+    sessions: &[Session],
+    moment: u64,
+    line: &mut Line,
+) -> Result<Planned, Memory>
+    requires rules { keep_rules (parts_of image.now) ≡ true }
+    requires moment { moment < END }
+    ensures does { IfOk result (λ p. DoesIt image.now sessions.now moment p (run_parsed (Read (line_view line.old)))) }
+    ensures fit { IfOk result (λ p. FitPages p.changes) }
+    ensures idle { IfOk result Idles }
+    ensures few { is_fork_line (line_view line.old) ≡ true → IfOk result (λ p. ChangesFew image.now (applied p.changes image.now)) }
+{
+    if is_later(line) {
+        return Ok(Planned::answered(alloc, not_built()));
+    }
+    let now = Instant::new(moment).unwrap();
+    set_moment_in(alloc, line, now);
+    plan_line(alloc, image, sessions, moment, line)
 }
 
 /// What a line of plain text that fits and is no remark does and answers.
@@ -62,15 +101,21 @@ fn plan_text(
     requires rules { keep_rules (parts_of image.now) ≡ true }
     requires moment { moment < END }
     requires fits { length text.now ≤ 16384 }
-    ensures does { IfOk result (λ p. DoesIt image.now sessions.now moment p (run_text (start_fault text.now) text.now)) }
+    ensures does { IfOk result (λ p. DoesIt image.now sessions.now moment p (run_parsed (parsed text.now))) }
     ensures fit { IfOk result (λ p. FitPages p.changes) }
     ensures idle { IfOk result Idles }
-    ensures few { is_fork (line_of text.now) ≡ true → IfOk result (λ p. ChangesFew image.now (applied p.changes image.now)) }
+    ensures few { is_fork (parsed text.now) ≡ true → IfOk result (λ p. ChangesFew image.now (applied p.changes image.now)) }
 {
-    if let Some(column) = start_fault(text) {
-        return Ok(Planned::answered(alloc, syntax(column)));
+    match parse(alloc, text) {
+        Ok(mut line) => {
+            let planned = plan_read(alloc, image, sessions, moment, &mut line);
+            discard(line);
+            planned
+        }
+        Err(ParseFault::Syntax { column }) => Ok(Planned::answered(alloc, syntax(column))),
+        Err(ParseFault::Literal { column }) => Ok(Planned::answered(alloc, bad_literal(column))),
+        Err(ParseFault::Memory) => Err(Memory),
     }
-    plan_form(alloc, image, sessions, moment, text)
 }
 
 /// What a line does and answers.
@@ -86,16 +131,16 @@ pub fn plan(
     ensures does { IfOk result (λ p. DoesIt image.now sessions.now moment p (λ s. step s text.now)) }
     ensures fit { IfOk result (λ p. FitPages p.changes) }
     ensures idle { IfOk result Idles }
-    ensures few { is_fork (line_of text.now) ≡ true → IfOk result (λ p. ChangesFew image.now (applied p.changes image.now)) }
+    ensures few { is_fork (parsed text.now) ≡ true → IfOk result (λ p. ChangesFew image.now (applied p.changes image.now)) }
 {
     if text.len() > LINE_LIMIT {
-        return Ok(Planned::answered(alloc, not_built()));
+        return Ok(Planned::answered(alloc, too_long_line()));
     }
     if is_remark(text) {
         return Ok(Planned::answered(alloc, Answer::Nothing));
     }
     if !is_text(text) {
-        return Ok(Planned::answered(alloc, not_built()));
+        return Ok(Planned::answered(alloc, no_text()));
     }
     plan_text(alloc, image, sessions, moment, text)
 }

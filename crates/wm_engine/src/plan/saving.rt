@@ -7,8 +7,7 @@ ghost use Rattle.wm_engine.specs.Planning.{DoesIt};
 ghost use Rattle.wm_graph.specs.Parts.{parts_of, space_of};
 ghost use Rattle.wm_graph.specs.Rules.{keep_rules};
 ghost use Rattle.wm_model.specs.Saving.{HasRoom, SavesIn, saved_record};
-ghost use Rattle.wm_model.specs.Step.{create_savepoint, is_name};
-ghost use Rattle.wm_reader.specs.Reading.{unquoted};
+ghost use Rattle.wm_model.specs.Step.{create_savepoint, is_name, names_no_savepoint};
 ghost use Rattle.wm_state.specs.ById.{applied};
 ghost use Rattle.wm_state.specs.Standing.{making_behind};
 ghost use Rattle.wm_state.specs.State.{Session as SessionState};
@@ -16,16 +15,12 @@ ghost use Rattle.wm_store.specs.Spelled.{FitPages};
 
 use crate::answer::Answer;
 use crate::count::counted;
-use crate::names::{is_name, names_no_savepoint};
 use crate::plan::batch::{marked, savepoint_changes};
 use crate::planned::Planned;
-use crate::refuse::{
-    at_its_end, bad_name, most_savepoints, no_workspace, reserved_name, savepoint_there,
-};
+use crate::refuse::{at_its_end, most_savepoints, no_workspace, savepoint_there};
 use std::alloc::Global;
 use wm_base::{Memory, Name};
 use wm_image::Image;
-use wm_reader::unquoted_of;
 use wm_spec::record::{Savepoint, Space};
 
 /// The most savepoints of a workspace.
@@ -131,25 +126,19 @@ pub fn create_savepoint(
     image: &Image,
     moment: u64,
     workspace: &[u8],
-    name: &[u8],
+    name: Name,
 ) -> Result<Planned, Memory>
     requires rules { keep_rules (parts_of image.now) ≡ true }
     requires moment { moment < END }
-    ensures does { IfOk result (λ p. (xs : List SessionState) → DoesIt image.now xs moment p (create_savepoint (unquoted workspace.now) (unquoted name.now))) }
+    requires good { is_name name ≡ true }
+    requires plain { names_no_savepoint name ≡ false }
+    ensures does { IfOk result (λ p. (xs : List SessionState) → DoesIt image.now xs moment p (create_savepoint workspace.now name)) }
     ensures fit { IfOk result (λ p. FitPages p.changes) }
     ensures idle { IfOk result Idles }
     ensures few { IfOk result (λ p. ChangesFew image.now (applied p.changes image.now)) }
 {
-    let name = unquoted_of(alloc, name)?;
-    if !is_name(name.as_bytes()) {
-        return Ok(Planned::answered(alloc, bad_name()));
-    }
-    if names_no_savepoint(name.as_bytes()) {
-        return Ok(Planned::answered(alloc, reserved_name(name)));
-    }
-    let workspace = unquoted_of(alloc, workspace)?;
-    let Some(space) = image.space_named(workspace.as_bytes()) else {
-        return Ok(Planned::answered(alloc, no_workspace(workspace)));
+    let Some(space) = image.space_named(workspace) else {
+        return Ok(Planned::answered(alloc, no_workspace(Name::copy_of(alloc, workspace)?)));
     };
     save_in(alloc, image, moment, space, name)
 }

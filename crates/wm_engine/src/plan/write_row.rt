@@ -1,14 +1,17 @@
 //! A row that is written into a workspace.
 ghost use Rattle.wm_engine.specs.Idle.{Idles};
-ghost use Rattle.std.specs.Prelude.{◌≡◌, ◌+◌, ◌<◌, ◌≤◌, ◌^◌, ℕ, List, nat_lt, false, None, Some, IfOk};
+ghost use Rattle.std.specs.Prelude.{◌≡◌, ◌+◌, ◌<◌, ◌≤◌, ◌^◌, ℕ, List, nat_lt, true, false, None, IfOk};
+ghost use Rattle.std.specs.List.{list_all};
 ghost use Rattle.wm_base.specs.declared.instant.TheConstants.{END};
-ghost use Rattle.wm_model.specs.Planning.{moved, named, row_values};
-ghost use Rattle.wm_model.specs.Step.{add_row, counter_limit};
+ghost use Rattle.wm_model.specs.Planning.{moved};
+ghost use Rattle.wm_model.specs.Step.{counter_limit, row_key};
+ghost use Rattle.wm_model.specs.Writing.{add_values};
 ghost use Rattle.wm_model.specs.Writing.{IsNew, Served, ServedNew};
 ghost use Rattle.wm_spec.specs.Records.{record_at};
 ghost use Rattle.wm_state.specs.State.{Latest, Session as SessionState};
 ghost use Rattle.wm_store.specs.Spelled.{FitPages};
 ghost use Rattle.wm_engine.specs.Planning.{DoesIt};
+ghost use Rattle.wm_making.specs.Rows.{is_filled};
 
 use crate::answer::Answer;
 use crate::count::counted;
@@ -17,7 +20,7 @@ use crate::planned::Planned;
 use crate::refuse::at_its_end;
 use crate::session::Session;
 use std::alloc::Global;
-use wm_base::{END, Key, Kind, Memory, Value, Values};
+use wm_base::{END, Key, Kind, Memory, Values};
 use wm_image::Image;
 use wm_spec::record::{CellRange, Counters, PieceRecord, RowRecord, Space, Table, Version};
 
@@ -32,18 +35,15 @@ pub struct Writing<'a> {
     pub counters: Counters,
 }
 
-/// A row of two numbers.
-fn row_of(alloc: Global, stamp: u64, table: u16, key: i64, value: i64) -> Result<RowRecord, Memory>
-    ensures { IfOk result (λ row. row ≡ record { stamp = stamp; table = table; values = row_values key value }) }
+/// A row of a table.
+fn row_of(stamp: u64, table: u16, values: Values) -> RowRecord
+    ensures { result ≡ record { stamp = stamp; table = table; values = values } }
 {
-    let mut values = Values::new(alloc);
-    values.push(Value::Num(key))?;
-    values.push(Value::Num(value))?;
-    Ok(RowRecord {
+    RowRecord {
         stamp,
         table,
         values,
-    })
+    }
 }
 
 /// What a version holds for a key at all moments, once a row was inserted.
@@ -71,27 +71,28 @@ fn write_here(
     moment: u64,
     session: &Session,
     writing: &Writing<'_>,
-    key: i64,
-    value: i64,
+    key: Key,
+    row: Values,
     counters: Counters,
     id: u64,
 ) -> Result<Planned, Memory>
-    requires served { Served image.now session.now.space moment writing.now.table.now writing.now.space.now writing.now.counters key value }
+    requires served { Served image.now session.now.space moment writing.now.table.now writing.now.space.now writing.now.counters row }
+    requires key { key ≡ row_key writing.now.table.now row }
+    requires filled { list_all is_filled row ≡ true }
     requires latest { session.now.stand ≡ Latest }
     requires counters { counters ≡ moved writing.now.counters moment }
     requires ids { (i : ℕ) → id ≤ i → record_at image.now i ≡ None }
     requires room { id + 2 < 2 ^ 64 }
-    ensures does { IfOk result (λ p. (xs : List SessionState) (name : List ℕ) → named image.now name ≡ Some writing.now.table.now → DoesIt image.now xs moment p (add_row session.now name key value)) }
+    ensures does { IfOk result (λ p. (xs : List SessionState) → DoesIt image.now xs moment p (add_values session.now writing.now.table.now row)) }
     ensures fit { IfOk result (λ p. FitPages p.changes) }
     ensures idle { IfOk result Idles }
 {
     let version = image.latest(session.space());
     let stamp = writing.counters.next_stamp;
     let table = writing.table.number;
-    let row_key = Key::single(alloc, Value::Num(key))?;
-    let dropped = image.pieces_in(alloc, version, table, &row_key)?;
-    let row = row_of(alloc, stamp, table, key, value)?;
-    let piece = piece_of(version, table, row_key, stamp);
+    let dropped = image.pieces_in(alloc, version, table, &key)?;
+    let row = row_of(stamp, table, row);
+    let piece = piece_of(version, table, key, stamp);
     let space = longer(alloc, writing.space)?;
     let space_id = image.id_of_space(session.space()).unwrap();
     let counters = Counters {
@@ -119,17 +120,19 @@ fn write_above(
     moment: u64,
     session: &Session,
     writing: &Writing<'_>,
-    key: i64,
-    value: i64,
+    key: Key,
+    row: Values,
     counters: Counters,
     id: u64,
 ) -> Result<Planned, Memory>
-    requires served { ServedNew image.now session.now.space moment writing.now.table.now writing.now.space.now writing.now.counters key value }
+    requires served { ServedNew image.now session.now.space moment writing.now.table.now writing.now.space.now writing.now.counters row }
+    requires key { key ≡ row_key writing.now.table.now row }
+    requires filled { list_all is_filled row ≡ true }
     requires latest { session.now.stand ≡ Latest }
     requires counters { counters ≡ moved writing.now.counters moment }
     requires ids { (i : ℕ) → id ≤ i → record_at image.now i ≡ None }
     requires room { id + 2 < 2 ^ 64 }
-    ensures does { IfOk result (λ p. (xs : List SessionState) (name : List ℕ) → named image.now name ≡ Some writing.now.table.now → DoesIt image.now xs moment p (add_row session.now name key value)) }
+    ensures does { IfOk result (λ p. (xs : List SessionState) → DoesIt image.now xs moment p (add_values session.now writing.now.table.now row)) }
     ensures fit { IfOk result (λ p. FitPages p.changes) }
     ensures idle { IfOk result Idles }
 {
@@ -140,9 +143,8 @@ fn write_above(
     };
     let stamp = writing.counters.next_stamp;
     let table = writing.table.number;
-    let row_key = Key::single(alloc, Value::Num(key))?;
-    let row = row_of(alloc, stamp, table, key, value)?;
-    let piece = piece_of(version.number, table, row_key, stamp);
+    let row = row_of(stamp, table, row);
+    let piece = piece_of(version.number, table, key, stamp);
     let space = longer(alloc, writing.space)?;
     let space_id = image.id_of_space(session.space()).unwrap();
     let counters = Counters {
@@ -172,14 +174,16 @@ pub fn write_row(
     moment: u64,
     session: &Session,
     writing: &Writing<'_>,
-    key: i64,
-    value: i64,
+    key: Key,
+    row: Values,
 ) -> Result<Planned, Memory>
-    requires new { IsNew image.now session.now.space writing.now.table.now writing.now.space.now writing.now.counters key value }
+    requires new { IsNew image.now session.now.space writing.now.table.now writing.now.space.now writing.now.counters row }
+    requires key { key ≡ row_key writing.now.table.now row }
+    requires filled { list_all is_filled row ≡ true }
     requires latest { session.now.stand ≡ Latest }
     requires short { nat_lt counter_limit (writing.now.space.now.log_length + 1) ≡ false }
     requires moment { moment < END }
-    ensures does { IfOk result (λ p. (xs : List SessionState) (name : List ℕ) → named image.now name ≡ Some writing.now.table.now → DoesIt image.now xs moment p (add_row session.now name key value)) }
+    ensures does { IfOk result (λ p. (xs : List SessionState) → DoesIt image.now xs moment p (add_values session.now writing.now.table.now row)) }
     ensures fit { IfOk result (λ p. FitPages p.changes) }
     ensures idle { IfOk result Idles }
 {
@@ -195,10 +199,10 @@ pub fn write_row(
     let version = image.latest(session.space());
     if image.is_leaf(version) && image.is_free(version) {
         return write_here(
-            alloc, image, moment, session, writing, key, value, counters, id,
+            alloc, image, moment, session, writing, key, row, counters, id,
         );
     }
     write_above(
-        alloc, image, moment, session, writing, key, value, counters, id,
+        alloc, image, moment, session, writing, key, row, counters, id,
     )
 }

@@ -1,24 +1,23 @@
-use Rattle.std.proofs.Common.{ℕ, [], Option, sym, ap, ◌∙◌}
+use Rattle.std.proofs.Common.{[], refl, ap, ◌∙◌}
 use Rattle.wm_model.proofs.Doing.{does_nothing}
 use Rattle.wm_model.specs.Planning.{Stay}
-use Rattle.wm_model.specs.Step.{run_line, run_text, syntax}
-use Rattle.wm_reader.specs.Grammar.{line_of, start_fault}
-use Rattle.wm_engine.proofs.Forking.{few_nothing}
-use Rattle.wm_engine.proofs.Planning.{told, does_it_same}
+use Rattle.wm_model.specs.Step.{run_parsed, syntax, bad_literal}
+use Rattle.wm_parser.specs.Parsed.{parsed}
+use Rattle.wm_engine.proofs.Planning.{told}
 use Rattle.wm_engine.specs.Views.{answer_view, seating_view}
 use Rattle.wm_engine.proofs.plan.line.plan_text.Goals as goal
 
-pub returns-in-Some-clause-does : goal.returns-in-Some-clause-does
-returns-in-Some-clause-does c =
-    let text = c.args.text.now in
-    told c.args.image.now c.args.sessions.now c.args.moment c.answered.result [] Stay (syntax c.in-Some.column) (run_text (start_fault text) text) c.answered.ensures.changes (ap seating_view c.answered.ensures.seating)
-    (ap answer_view c.answered.ensures.answer ∙ c.syntax.ensures)
-    (does_nothing c.args.image.now c.args.sessions.now c.args.moment (syntax c.in-Some.column) (run_text (start_fault text) text) c.requires.rules (λ s st. ap (λ (o : Option ℕ). run_text o text s) (sym c.in-Some.ensures)))
+pub returns-in-Err-Syntax-clause-does : goal.returns-in-Err-Syntax-clause-does
+returns-in-Err-Syntax-clause-does c =
+    let act = run_parsed (parsed c.args.text.now) in
+    let wrong = rw c.in-Err-Syntax.field-0-is at c.in-Err-Syntax.ensures.is in
+    told c.args.image.now c.args.sessions.now c.args.moment c.answered.result [] Stay (syntax c.in-Err-Syntax.column) act c.answered.ensures.changes (ap seating_view c.answered.ensures.seating) (ap answer_view c.answered.ensures.answer ∙ c.syntax.ensures)
+    (does_nothing c.args.image.now c.args.sessions.now c.args.moment (syntax c.in-Err-Syntax.column) act c.requires.rules (λ s st. rw wrong refl))
 
-pub returns-clause-does : goal.returns-clause-does
-returns-clause-does c =
-    let text = c.args.text.now in
-    does_it_same c.args.image.now c.args.sessions.now c.args.moment c.plan_form.result (run_line (line_of text)) (run_text (start_fault text) text) (λ s st. ap (λ (o : Option ℕ). run_text o text s) (sym c.in_default.ensures)) c.plan_form.ensures.does
-
-pub returns-in-Some-clause-few : goal.returns-in-Some-clause-few
-returns-in-Some-clause-few c = λ fork. few_nothing c.args.image.now c.answered.result.changes c.answered.ensures.changes
+pub returns-in-Err-Literal-clause-does : goal.returns-in-Err-Literal-clause-does
+returns-in-Err-Literal-clause-does c =
+    let act = run_parsed (parsed c.args.text.now) in
+    let wrong = rw c.in-Err-Literal.field-0-is at c.in-Err-Literal.ensures.is in
+    let answered = c.answered-in-Err-Literal in
+    told c.args.image.now c.args.sessions.now c.args.moment answered.result [] Stay (bad_literal c.in-Err-Literal.column) act answered.ensures.changes (ap seating_view answered.ensures.seating) (ap answer_view answered.ensures.answer ∙ c.bad_literal.ensures)
+    (does_nothing c.args.image.now c.args.sessions.now c.args.moment (bad_literal c.in-Err-Literal.column) act c.requires.rules (λ s st. rw wrong refl))

@@ -1,14 +1,13 @@
 use Rattle.std.proofs.Common.{◌≡◌, ℕ, List, [], Some, Result, Ok, Err, IfOk, sym, ap, ◌∙◌}
 use Rattle.wm_base.specs.declared.memory.Memory.{Memory}
+use Rattle.wm_base.specs.Trees.{Statement}
+use Rattle.wm_base.specs.Views.{statement_view}
 use Rattle.wm_model.proofs.Going.{run_some}
 use Rattle.wm_model.proofs.Seating.{run_none}
 use Rattle.wm_model.specs.Planning.{Stay}
 use Rattle.wm_model.specs.Step.{run_for, run_statement, session_of, no_session}
-use Rattle.wm_reader.specs.Grammar.{Statement}
-use Rattle.wm_reader.specs.Views.{folded, statement_view}
 use Rattle.wm_spec.specs.declared.record.stored.Stored.{Stored}
 use Rattle.wm_state.specs.State.{Session}
-use Rattle.wm_engine.proofs.Forking.{few_nothing}
 use Rattle.wm_engine.proofs.Planning.{told}
 use Rattle.wm_engine.specs.Planning.{DoesIt}
 use Rattle.wm_engine.specs.Views.{answer_view, seating_view}
@@ -23,15 +22,12 @@ runs_for rs xs m name session statement (Ok p) some does = run_some rs xs m name
 
 pub returns-in_default-clause-does : goal.returns-in_default-clause-does
 returns-in_default-clause-does c =
-    let name = folded c.args.name.now in
-    let statement = statement_view c.args.statement in
+    let name = c.args.name.now in
+    let statement = statement_view c.args.statement.now in
     told c.args.image.now c.args.sessions.now c.args.moment c.answered.result [] Stay (no_session name) (λ s. run_for name (session_of name s.sessions) statement s) c.answered.ensures.changes (ap seating_view c.answered.ensures.seating)
-    (ap answer_view c.answered.ensures.answer ∙ c.no_session.ensures ∙ ap no_session c.in_ok-name.ensures)
+    (ap answer_view c.answered.ensures.answer ∙ c.no_session.ensures ∙ ap no_session c.in_ok-copy.ensures)
     (run_none c.args.image.now c.args.sessions.now c.args.moment name statement c.requires.rules (sym c.in_default.ensures))
 
 pub returns-clause-does : goal.returns-clause-does
 returns-clause-does c =
-    runs_for c.args.image.now c.args.sessions.now c.args.moment (folded c.args.name.now) c.in-Some.session.now (statement_view c.args.statement) c.run_statement.result (sym c.in-Some.ensures) c.run_statement.ensures.does
-
-pub returns-in_default-clause-few : goal.returns-in_default-clause-few
-returns-in_default-clause-few c = λ fork. few_nothing c.args.image.now c.answered.result.changes c.answered.ensures.changes
+    runs_for c.args.image.now c.args.sessions.now c.args.moment c.args.name.now c.in-Some.session.now (statement_view c.args.statement.now) c.run_statement.result (sym c.in-Some.ensures) c.run_statement.ensures.does

@@ -1,5 +1,4 @@
-use Rattle.std.proofs.Common.{◌≡◌, ap, ◌∙◌, w64}
-use Rattle.std.proofs.lemmas.Int.{to_z-of_z}
+use Rattle.std.proofs.Common.{◌≡◌, ap, ◌∙◌}
 use Rattle.wm_graph.specs.Parts.{parts_of, space_of}
 use Rattle.wm_spec.specs.Records.{record_at}
 use Rattle.wm_state.specs.Standing.{latest}
@@ -9,39 +8,39 @@ use Rattle.wm_engine.specs.Views.{answer_view, seating_view}
 use Rattle.wm_engine.proofs.plan.write_row.write_here.Goals as goal
 
 made : (c : goal.After-drop-dropped-2)
-    → Made c.args.image.now c.args.moment c.args.writing.now.table.now c.args.writing.now.space.now c.args.writing.now.counters c.args.key c.args.value c.latest-version.result c.in_ok-row_key.row_key c.args.counters c.in_ok-space.space c.in_ok-row.row
+    → Made c.args.image.now c.args.moment c.args.writing.now.table.now c.args.writing.now.space.now c.args.writing.now.counters c.args.row c.latest-version.result c.args.key c.args.counters c.in_ok-space.space c.row_of-row.result
     c.piece_of-piece.result
 made c = record {
   counters_are = c.requires.counters;
   space_is = c.in_ok-space.ensures;
-  row_is = rw (to_z-of_z w64 c.args.key c.ranges.key, to_z-of_z w64 c.args.value c.ranges.value) at c.in_ok-row.ensures;
-  key_is = rw (to_z-of_z w64 c.args.key c.ranges.key) at c.in_ok-row_key.ensures;
+  row_is = c.row_of-row.ensures;
+  key_is = c.requires.key;
   piece_is = c.piece_of-piece.ensures;
 }
 
 changes : (c : goal.After-drop-dropped-2)
     → c.changing.result.changes
-    ≡ here_batch c.args.image.now c.args.session.now.space c.args.moment c.args.writing.now.table.now c.args.writing.now.space.now c.args.writing.now.counters c.args.key c.args.value c.id_of_counters.result c.unwrap-space_id.result c.args.id
+    ≡ here_batch c.args.image.now c.args.session.now.space c.args.moment c.args.writing.now.table.now c.args.writing.now.space.now c.args.writing.now.counters c.args.row c.id_of_counters.result c.unwrap-space_id.result c.args.id
 changes c =
     c.changing.ensures.changes ∙ c.in_ok-changes.ensures
-    ∙ here_is c.args.image.now c.args.session.now.space c.args.moment c.args.writing.now.table.now c.args.writing.now.space.now c.args.writing.now.counters c.args.key c.args.value c.latest-version.result c.in_ok-row_key.row_key c.args.counters
-    c.in_ok-space.space c.in_ok-row.row c.piece_of-piece.result c.id_of_counters.result c.unwrap-space_id.result c.args.id c.as_slice.result.now (made c) (c.latest-version.ensures ∙ ap (latest (parts_of c.args.image.now)) c.space.ensures)
+    ∙ here_is c.args.image.now c.args.session.now.space c.args.moment c.args.writing.now.table.now c.args.writing.now.space.now c.args.writing.now.counters c.args.row c.latest-version.result c.args.key c.args.counters
+    c.in_ok-space.space c.row_of-row.result c.piece_of-piece.result c.id_of_counters.result c.unwrap-space_id.result c.args.id c.as_slice.result.now (made c) (c.latest-version.ensures ∙ ap (latest (parts_of c.args.image.now)) c.space.ensures)
     (c.as_slice.ensures.value ∙ c.in_ok-dropped.ensures)
 
 pub returns-clause-does : goal.returns-clause-does
-returns-clause-does c = λ xs name found.
-    wrote_here c.args.image.now xs c.args.moment c.args.session.now name c.changing.result c.args.writing.now.table.now c.args.writing.now.space.now c.args.writing.now.counters c.args.key c.args.value c.id_of_counters.result
+returns-clause-does c = λ xs.
+    wrote_here c.args.image.now xs c.args.moment c.args.session.now c.changing.result c.args.writing.now.table.now c.args.writing.now.space.now c.args.writing.now.counters c.args.row c.id_of_counters.result
     c.unwrap-space_id.result c.args.id c.requires.served c.requires.latest
     (record {
       sorted = c.id_of_counters.ensures.ascend;
-      counters = counters_at c.args.writing.now.counters (parts_of c.args.image.now).counters (record_at c.args.image.now c.id_of_counters.result) c.requires.served.new.row.one c.id_of_counters.ensures.there;
+      counters = counters_at c.args.writing.now.counters (parts_of c.args.image.now).counters (record_at c.args.image.now c.id_of_counters.result) c.requires.served.served.new.one c.id_of_counters.ensures.there;
       space = space_at c.args.image.now c.space-2.result c.id_of_space.result c.unwrap-space_id.result c.args.writing.now.space.now c.unwrap-space_id.ensures c.id_of_space.ensures.there
-          (ap (space_of (parts_of c.args.image.now).spaces) c.space-2.ensures ∙ c.requires.served.new.row.aimed.space);
+          (ap (space_of (parts_of c.args.image.now).spaces) c.space-2.ensures ∙ c.requires.served.served.new.aimed.space);
       above = c.requires.ids;
     })
-    (changes c) (ap seating_view c.changing.ensures.seating) (ap answer_view c.changing.ensures.answer) found
+    (changes c) (ap seating_view c.changing.ensures.seating) (ap answer_view c.changing.ensures.answer)
 
 pub returns-clause-fit : goal.returns-clause-fit
 returns-clause-fit c =
-    here_fits c.args.image.now c.args.session.now.space c.args.moment c.args.writing.now.table.now c.args.writing.now.space.now c.args.writing.now.counters c.args.key c.args.value c.id_of_counters.result c.unwrap-space_id.result c.args.id
-    c.changing.result.changes c.requires.served.new (changes c)
+    here_fits c.args.image.now c.args.session.now.space c.args.moment c.args.writing.now.table.now c.args.writing.now.space.now c.args.writing.now.counters c.args.row c.id_of_counters.result c.unwrap-space_id.result c.args.id
+    c.changing.result.changes c.requires.served.served c.requires.filled (changes c)

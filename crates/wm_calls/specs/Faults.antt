@@ -1,0 +1,37 @@
+-- The first argument of a call that does not fit.
+use Rattle.std.specs.Prelude.{ℕ, ◌+◌, Bool, if◌then◌else◌, length, is_none, List, [], ◌∷◌, Option, Some, None}
+use Rattle.std.specs.Option.{option_or, option_map}
+use Rattle.std.specs.List.{find}
+use Rattle.wm_base.specs.declared.tree.statement.ArgValue.{ArgValue}
+use Rattle.wm_base.specs.declared.tree.statement.Arg.{Arg}
+use Rattle.wm_grammar.specs.declared.procedure.Procedure.{Procedure}
+use Rattle.wm_grammar.specs.declared.procedure.Parameter.{Parameter}
+use Rattle.wm_grammar.specs.Calls.{is_among}
+use Rattle.wm_calls.specs.Takes.{takes_of, parameter_name, fits}
+use Rattle.wm_calls.specs.Places.{is_diff, parameter_at, required_of}
+use Rattle.wm_calls.specs.Arguments.{argument}
+
+abbrev pub fits_parameter : Procedure → ℕ → Parameter → ArgValue → Bool
+fits_parameter procedure count p value = fits (is_among (required_of procedure count) p) (takes_of p) value
+
+-- the parameter, where the value is none that it takes
+abbrev pub misfit : Procedure → ℕ → Option Parameter → ArgValue → Option Parameter
+misfit procedure count None value = None
+misfit procedure count (Some p) value = if fits_parameter procedure count p value then None else Some p
+
+-- the parameter of the first of these arguments that does not fit; they stand from a place on, in a call with so many
+abbrev pub misfit_from : Procedure → ℕ → ℕ → List Arg → Option Parameter
+misfit_from procedure count place [] = None
+misfit_from procedure count place (a ∷ rest) = option_or (misfit procedure count (parameter_at procedure count place a) a.value) (misfit_from procedure count (place + 1) rest)
+
+-- the first required parameter that is not given; the arguments of SetDiffVersions are counted elsewhere
+abbrev pub missing : Procedure → List Arg → Option Parameter
+missing procedure args = if is_diff procedure then None else find (λ p. is_none (argument procedure args p)) (required_of procedure (length args))
+
+-- the parameter whose value does not fit, the first in the line, or else the first that is missing
+unfoldable pub faulty_parameter : Procedure → List Arg → Option Parameter
+faulty_parameter procedure args = option_or (misfit_from procedure (length args) 0 args) (missing procedure args)
+
+-- its name in capitals
+abbrev pub argument_fault : Procedure → List Arg → Option (List ℕ)
+argument_fault procedure args = option_map parameter_name (faulty_parameter procedure args)

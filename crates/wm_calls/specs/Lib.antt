@@ -1,0 +1,6 @@
+pub mod Takes
+pub mod Places
+pub mod Arguments
+pub mod Faults
+pub mod Periods
+pub mod Later

@@ -1,0 +1,42 @@
+ghost use Rattle.std.specs.Prelude.{◌≡◌, List};
+ghost use Rattle.std.specs.Option.{option_copied};
+ghost use Rattle.wm_calls.specs.Arguments.{argument, text_given, is_true_given};
+
+use crate::places::{is_that, parameter_at};
+use wm_base::Text;
+use wm_base::tree::constant::Const;
+use wm_base::tree::statement::{Arg, ArgValue};
+use wm_grammar::{Parameter, Procedure};
+
+/// What a call gives for a parameter, by its name or by its place.
+#[tactic(auto, unfolding(crate::specs::Arguments::argument))]
+pub fn argument(procedure: Procedure, args: &[Arg], parameter: Parameter) -> Option<&ArgValue>
+    ensures { option_copied result ≡ argument procedure args.now parameter }
+{
+    for (place, arg) in args.iter().enumerate() {
+        if is_that(parameter_at(procedure, args.len(), place, arg), parameter) {
+            return Some(&arg.value);
+        }
+    }
+    None
+}
+
+/// The text that a call gives for a parameter. NULL, which the empty text is too, is none.
+pub fn text_given(procedure: Procedure, args: &[Arg], parameter: Parameter) -> Option<&Text>
+    ensures { option_copied result ≡ text_given procedure args.now parameter }
+{
+    match argument(procedure, args, parameter) {
+        Some(ArgValue::Const(Const::Text(text))) => Some(text),
+        _ => None,
+    }
+}
+
+/// Whether a call gives a parameter as TRUE.
+pub fn is_true_given(procedure: Procedure, args: &[Arg], parameter: Parameter) -> bool
+    ensures { result ≡ is_true_given procedure args.now parameter }
+{
+    match argument(procedure, args, parameter) {
+        Some(ArgValue::Bool(value)) => *value,
+        _ => false,
+    }
+}

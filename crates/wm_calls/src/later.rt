@@ -1,0 +1,91 @@
+ghost use Rattle.std.specs.Prelude.{◌≡◌, List};
+ghost use Rattle.std.specs.List.{list_any};
+ghost use Rattle.wm_base.specs.Views.{srcs_view, statement_view, line_view};
+ghost use Rattle.wm_grammar.specs.Calls.{procedure_of};
+ghost use Rattle.wm_calls.specs.Later.{is_later_procedure, is_later_name, later_call, is_view, is_view_source, later_source, is_later_statement, is_later};
+
+use crate::periods::uses_periods;
+use wm_base::tree::line::Line;
+use wm_base::tree::query::Src;
+use wm_base::tree::statement::Statement;
+use wm_grammar::{Procedure, procedure_of};
+
+fn is_later_procedure(procedure: Procedure) -> bool
+    ensures { result ≡ is_later_procedure procedure }
+{
+    match procedure {
+        Procedure::EnableVersioning
+        | Procedure::CreateWorkspace
+        | Procedure::CreateSavepoint
+        | Procedure::GotoWorkspace
+        | Procedure::GotoSavepoint => false,
+        _ => true,
+    }
+}
+
+fn is_later_name(name: &[u8]) -> bool
+    ensures { result ≡ is_later_name (procedure_of name.now) }
+{
+    match procedure_of(name) {
+        Some(procedure) => is_later_procedure(procedure),
+        None => false,
+    }
+}
+
+/// Whether the statement calls a procedure that a later stage serves.
+fn later_call(statement: &Statement) -> bool
+    ensures { result ≡ later_call (statement_view statement.now) }
+{
+    match statement {
+        Statement::Call { procedure, .. } => is_later_name(procedure.as_bytes()),
+        _ => false,
+    }
+}
+
+/// Whether it is the name of a view: of conflicts, differences, history or locks.
+fn is_view(name: &[u8]) -> bool
+    ensures { result ≡ is_view name.now }
+{
+    name.ends_with(b"_CONF")
+        || name.ends_with(b"_DIFF")
+        || name.ends_with(b"_HIST")
+        || name.ends_with(b"_LOCK")
+}
+
+fn any_view(sources: &[Src]) -> bool
+    ensures { result ≡ list_any is_view_source (srcs_view sources.now) }
+{
+    for source in sources {
+        if is_view(source.table.as_bytes()) {
+            return true;
+        }
+    }
+    false
+}
+
+/// Whether the statement is a query over a view.
+fn later_source(statement: &Statement) -> bool
+    ensures { result ≡ later_source (statement_view statement.now) }
+{
+    match statement {
+        Statement::Select(query) => any_view(query.sources.as_slice()),
+        _ => false,
+    }
+}
+
+fn is_later_statement(statement: &Statement) -> bool
+    ensures { result ≡ is_later_statement (statement_view statement.now) }
+{
+    later_call(statement) || later_source(statement) || uses_periods(statement)
+}
+
+/// Whether the line sets the moment, or uses what a later stage serves.
+pub fn is_later(line: &Line) -> bool
+    ensures { result ≡ is_later (line_view line.now) }
+{
+    match line {
+        Line::Connect { .. } | Line::Disconnect { .. } => false,
+        Line::At(_) => true,
+        Line::Run { statement, .. } => is_later_statement(statement),
+    }
+}

@@ -1,0 +1,5 @@
+pub mod Valued
+pub mod Marks
+pub mod Picked
+pub mod Replaced
+pub mod Changed

@@ -1,0 +1,14 @@
+use Rattle.std.proofs.Common.{ap, ◌∙◌}
+use Rattle.std.specs.List.{list_all}
+use Rattle.wm_dml.specs.Standing.{is_change, writes_filled, change_keys}
+use Rattle.wm_dml.proofs.Changed.{replaced_fit, replaced_filled, replaced_keys}
+use Rattle.wm_dml.proofs.replaced_rows.replacing.Goals as goal
+
+pub returns-clause-keys : goal.returns-clause-keys
+returns-clause-keys c = ap change_keys c.in_ok-changes.ensures ∙ replaced_keys c.args.table.now c.args.rows.items
+
+pub returns-clause-fit : goal.returns-clause-fit
+returns-clause-fit c = λ stand. ap (list_all (is_change c.args.table.now)) c.in_ok-changes.ensures ∙ replaced_fit c.args.table.now c.args.rows.items stand
+
+pub returns-clause-filled : goal.returns-clause-filled
+returns-clause-filled c = λ stand. ap (list_all writes_filled) c.in_ok-changes.ensures ∙ replaced_filled c.args.table.now c.args.rows.items stand

@@ -1,0 +1,275 @@
+-- The records stand for the state that a line makes which writes entries.
+use Rattle.std.proofs.Common.{◌≡◌, ◌≢◌, ℕ, cond, List, ◌++◌, append_assoc, Option, Some, None, is_some, refl, sym, ap, ◌∙◌, ◌==◌, ◌⊎◌, inl, inr, ⊎_elim, true, false, ◌+◌, length, length-append}
+use Rattle.std.proofs.lemmas.Bool.{cases_eq, eq-eqb, ne_eqb}
+use Rattle.std.specs.Option.{option_or, option_map}
+use Rattle.wm_base.specs.declared.row.Row.{Row}
+use Rattle.wm_graph.specs.Parts.{Parts, row_of, space_of}
+use Rattle.wm_graph.specs.Rules.{keep_rules}
+use Rattle.wm_period.specs.Pieces.{Held}
+use Rattle.wm_spec.specs.Lists.{Entry, Cell, Told, told, touched}
+use Rattle.wm_spec.specs.declared.record.row.RowRecord.{RowRecord}
+use Rattle.wm_spec.specs.declared.record.space.Space.{Space}
+use Rattle.wm_spec.proofs.Lists.{told-append}
+use Rattle.wm_state.specs.State.{State, Workspace, content, workspace_of, with_space, with_entries, savepoints_of}
+use Rattle.wm_state.specs.Standing.{held_of, stored_at, seen_at, own_at, newest_first, latest, seen, fields_of, fields_in, CountersStand, SpacesStand, LatestStand, OwnStand, RowsStand, Stands, SpaceFields, by_number}
+use Rattle.wm_state.specs.Writes.{AreAllLaid, longer_by, WroteAll}
+use Rattle.wm_state.proofs.Frames.{Framed, Still, StillNames, OnceStand-changed, row-kept, savepoints_of-found, savepoints_of-none, SavepointsStand-framed, KeptStand-framed, KeptOwnStand-framed, BasesStand-framed, RowsStand-framed}
+use Rattle.wm_state.proofs.Nearest.{SameAway, seen-away, seen-here, own-away, own-here}
+use Rattle.wm_state.proofs.Changing.{workspace_of-changed}
+
+-- ---- a workspace with more entries
+
+-- the workspaces with more entries in one of them
+abbrev pub appended_all : ℕ → List Entry → List Workspace → List Workspace
+appended_all n es ws = with_space n (with_entries es) ws
+
+appended-at : (n : ℕ) (es : List Entry) (ws : List Workspace) (m : ℕ) → workspace_of (appended_all n es ws) m ≡ cond (m == n) (option_map (with_entries es) (workspace_of ws m)) (workspace_of ws m)
+appended-at n es ws m = workspace_of-changed n (with_entries es) (λ w. refl) ws m
+
+-- a workspace of after is one of before, with the entries more where it is the one
+pub record Was (n : ℕ) (es : List Entry) (ws : List Workspace) (m : ℕ) (new : Workspace) : Type 0 where
+  pub old : Workspace
+  pub is : workspace_of ws m ≡ Some old
+  pub how : ((m ≡ n) × (new ≡ with_entries es old)) ⊎ ((m ≢ n) × (new ≡ old))
+
+pub was : (n : ℕ) (es : List Entry) (ws : List Workspace) (m : ℕ) (new : Workspace) → workspace_of (appended_all n es ws) m ≡ Some new → Was n es ws m new
+was n es ws m new is = by_number (cases_eq m n) (workspace_of ws m) refl
+  where
+    some_same : (x y : Workspace) → Some x ≡ Some y → x ≡ y
+    some_same x y h = cc
+
+    by_number : (m ≡ n) ⊎ (m ≢ n) → (o : Option Workspace) → workspace_of ws m ≡ o → Was n es ws m new
+    by_number (inl here) None found = absurd (by_none (rw (eq-eqb _ _ here, found) at (sym (appended-at n es ws m) ∙ is)))
+      where
+        by_none : (let nothing : Option Workspace = None in nothing) ≡ Some new → ⊥
+        by_none h = cc
+    by_number (inl here) (Some w) found = record {
+      old = w;
+      is = found;
+      how = inl (here, sym (some_same _ _ (rw (eq-eqb _ _ here, found) at (sym (appended-at n es ws m) ∙ is))));
+    }
+    by_number (inr other) None found = absurd (by_none (rw (ne_eqb _ _ other, found) at (sym (appended-at n es ws m) ∙ is)))
+      where
+        by_none : (let nothing : Option Workspace = None in nothing) ≡ Some new → ⊥
+        by_none h = cc
+    by_number (inr other) (Some w) found = record {
+      old = w;
+      is = found;
+      how = inr (other, sym (some_same _ _ (rw (ne_eqb _ _ other, found) at (sym (appended-at n es ws m) ∙ is))));
+    }
+
+-- more entries in a workspace lie over its content
+told-with_all : (es : List Entry) (w : Workspace) (c : Cell) → told (content (with_entries es w)) c ≡ option_or (told es c) (told (content w) c)
+told-with_all es w c = ap (λ fs. told fs c) (sym (append_assoc w.lists.base w.lists.own es)) ∙ told-append (w.lists.base ++ w.lists.own) es c
+
+-- ---- what more entries do to what is held
+
+map-or : (t o : Option Told) → option_or (option_map held_of t) (option_map held_of o) ≡ option_map held_of (option_or t o)
+map-or None o = refl
+map-or (Some t) o = refl
+
+some-or : (t : Option Told) (h : Option Held) (o : Option Told) → is_some h ≡ is_some o → is_some (option_or (option_map held_of t) h) ≡ is_some (option_or t o)
+some-or None h o same = same
+some-or (Some t) h o same = refl
+
+laid-here : (v : ℕ) (es : List Entry) (old new : _) (c : Cell) → AreAllLaid v es old new → stored_at new v c ≡ option_or (option_map held_of (told es c)) (stored_at old v c)
+laid-here v es old new c laid = rw (eq-eqb v v refl) at (laid v c)
+
+laid-away : (v : ℕ) (es : List Entry) (old new : _) (c : Cell) → AreAllLaid v es old new → SameAway v old new c
+laid-away v es old new c laid m other = rw other at (laid m c)
+
+-- ---- the clauses after a write
+
+some-map : {A B : Type 0} (f : A → B) (o : Option A) → is_some (option_map f o) ≡ is_some o
+some-map f None = refl
+some-map f (Some x) = refl
+
+-- a workspace has a record
+has_record : (p : Parts) (s : State) → SpacesStand p s → (m : ℕ) (w : Workspace) → workspace_of s.spaces m ≡ Some w → is_some (space_of p.spaces m) ≡ true
+has_record p s stand m w found = sym (some-map fields_of (space_of p.spaces m)) ∙ ap is_some (stand.same m) ∙ ap (λ o. is_some (option_map fields_in o)) found
+
+LatestStand-wrote : (p q : Parts) (s t : State) (n : ℕ) (es : List Entry) → WroteAll p q n es → t.spaces ≡ appended_all n es s.spaces → SpacesStand p s → LatestStand p s → LatestStand q t
+LatestStand-wrote p q s t n es w spaces there stand = record { told = λ m new is c. rw w.versions (by_case m c new (was n es s.spaces m new (ap (λ ws. workspace_of ws m) (sym spaces) ∙ is))) }
+  where
+    by_case : (m : ℕ) (c : Cell) (new : Workspace) → Was n es s.spaces m new → seen_at q.pieces (newest_first p.versions) (latest p m) c ≡ option_map held_of (told (content new) c)
+    by_case m c new x = ⊎_elim
+        (λ h. rw (h.0, h.1, told-with_all es x.old c)
+        (seen-here (latest p n) p.pieces q.pieces c _ (laid-away (latest p n) es p.pieces q.pieces c w.pieces) (laid-here (latest p n) es p.pieces q.pieces c w.pieces) (newest_first p.versions) w.leaf w.apart.there
+        ∙ ap (λ o. option_or (option_map held_of (told es c)) o) (stand.told n x.old (ap (workspace_of s.spaces) (sym h.0) ∙ x.is) c)
+        ∙ map-or (told es c) (told (content x.old) c)))
+        (λ h. rw h.1
+        (seen-away (latest p n) p.pieces q.pieces c (laid-away (latest p n) es p.pieces q.pieces c w.pieces) (newest_first p.versions) w.leaf (latest p m) (w.apart.others m (ne_eqb _ _ h.0) (has_record p s there m x.old x.is))
+        ∙ stand.told m x.old x.is c))
+        x.how
+
+-- the record of a workspace before, where it has one after
+pub record Had (p : Parts) (n : ℕ) (es : List Entry) (m : ℕ) (new : Space) : Type 0 where
+  pub old : Space
+  pub is : space_of p.spaces m ≡ Some old
+  pub how : ((m ≡ n) × (new ≡ longer_by (length es) old)) ⊎ ((m ≢ n) × (new ≡ old))
+
+had : (p q : Parts) (n : ℕ) (es : List Entry) → WroteAll p q n es → (m : ℕ) (new : Space) → space_of q.spaces m ≡ Some new → Had p n es m new
+had p q n es w m new is = by_number (cases_eq m n) (space_of p.spaces m) refl
+  where
+    some_same : (x y : Space) → Some x ≡ Some y → x ≡ y
+    some_same x y h = cc
+
+    none_some : (o : Option Space) → o ≡ None → o ≡ Some new → ⊥
+    none_some o none some = cc
+
+    by_number : (m ≡ n) ⊎ (m ≢ n) → (o : Option Space) → space_of p.spaces m ≡ o → Had p n es m new
+    by_number (inl here) None found = absurd (none_some (space_of q.spaces m) (ap (space_of q.spaces) here ∙ w.here ∙ ap (option_map (longer_by (length es))) (ap (space_of p.spaces) (sym here) ∙ found)) is)
+    by_number (inl here) (Some r) found = record {
+      old = r;
+      is = found;
+      how = inl (here, some_same _ _ (sym is ∙ ap (space_of q.spaces) here ∙ w.here ∙ ap (option_map (longer_by (length es))) (ap (space_of p.spaces) (sym here) ∙ found)));
+    }
+    by_number (inr other) None found = absurd (none_some (space_of q.spaces m) (w.elsewhere m (ne_eqb _ _ other) ∙ found) is)
+    by_number (inr other) (Some r) found = record { old = r; is = found; how = inr (other, some_same _ _ (sym is ∙ w.elsewhere m (ne_eqb _ _ other) ∙ found)) }
+
+OwnStand-wrote : (p q : Parts) (s t : State) (n : ℕ) (es : List Entry) → WroteAll p q n es → t.spaces ≡ appended_all n es s.spaces → SpacesStand p s → OwnStand p s → OwnStand q t
+OwnStand-wrote p q s t n es w spaces there stand = record {
+  covered = λ m new r is recorded c. rw w.versions (by_case m c new r (was n es s.spaces m new (ap (λ ws. workspace_of ws m) (sym spaces) ∙ is)) (had p q n es w m r recorded));
+}
+  where
+    by_case : (m : ℕ) (c : Cell) (new : Workspace) (r : Space) → Was n es s.spaces m new → Had p n es m r
+        → is_some (own_at q.pieces (newest_first p.versions) r.base_version (latest p m) c) ≡ touched new.lists.own c
+    by_case m c new r x y = by_both x.how y.how
+      where
+        base_same : (r ≡ longer_by (length es) y.old) → r.base_version ≡ y.old.base_version
+        base_same h = ap (λ (k : Space). k.base_version) h
+
+        by_both : ((m ≡ n) × (new ≡ with_entries es x.old)) ⊎ ((m ≢ n) × (new ≡ x.old)) → ((m ≡ n) × (r ≡ longer_by (length es) y.old)) ⊎ ((m ≢ n) × (r ≡ y.old))
+            → is_some (own_at q.pieces (newest_first p.versions) r.base_version (latest p m) c) ≡ touched new.lists.own c
+        by_both (inl h) (inl k) = rw (base_same k.1, h.0, h.1)
+            (ap is_some (own-here (latest p n) p.pieces q.pieces c (option_map held_of (told es c)) (laid-away (latest p n) es p.pieces q.pieces c w.pieces)
+            (laid-here (latest p n) es p.pieces q.pieces c w.pieces) y.old.base_version (w.apart.above y.old (ap (space_of p.spaces) (sym h.0) ∙ y.is)) (newest_first p.versions) w.leaf w.apart.there)
+            ∙ some-or (told es c) (own_at p.pieces (newest_first p.versions) y.old.base_version (latest p n) c) (told x.old.lists.own c)
+            (stand.covered n x.old y.old (ap (workspace_of s.spaces) (sym h.0) ∙ x.is) (ap (space_of p.spaces) (sym h.0) ∙ y.is) c)
+            ∙ ap is_some (sym (told-append x.old.lists.own es c)))
+        by_both (inl h) (inr k) = absurd (k.0 h.0)
+        by_both (inr h) (inl k) = absurd (h.0 k.0)
+        by_both (inr h) (inr k) = rw (h.1, k.1)
+            (ap is_some (own-away (latest p n) p.pieces q.pieces c (laid-away (latest p n) es p.pieces q.pieces c w.pieces) y.old.base_version (newest_first p.versions) w.leaf (latest p m)
+            (w.apart.others m (ne_eqb _ _ h.0) (has_record p s there m x.old x.is)))
+            ∙ stand.covered m x.old y.old x.is y.is c)
+
+-- what else the clauses look up: no version that is named is written
+framed_wrote : (p q : Parts) (s t : State) (n : ℕ) (es : List Entry) → WroteAll p q n es → t.spaces ≡ appended_all n es s.spaces → Framed p q s t
+framed_wrote p q s t n es w spaces = record {
+  savepoints = w.savepoints;
+  points = λ m. points m (cases_eq m n) (workspace_of s.spaces m) refl;
+  still = λ m new is. still m new (was n es s.spaces m new (ap (λ ws. workspace_of ws m) (sym spaces) ∙ is));
+  names = λ m r recorded. names m r (had p q n es w m r recorded);
+  sees = λ m making x saved c. sees x.version c (w.free.kept m making x saved);
+  has = λ m making x saved c. rw w.versions
+      (own-away (latest p n) p.pieces q.pieces c (laid-away (latest p n) es p.pieces q.pieces c w.pieces) x.base_version (newest_first p.versions) w.leaf x.version (w.free.kept m making x saved));
+  births = λ m r some is c. sees r.birth_version c (w.free.births m r some is);
+  bases = λ m r some is c. sees r.base_version c (w.free.bases m r some is);
+}
+  where
+    sees : (v : ℕ) (c : Cell) → (v == latest p n) ≡ false → seen q v c ≡ seen p v c
+    sees v c other = rw w.versions (seen-away (latest p n) p.pieces q.pieces c (laid-away (latest p n) es p.pieces q.pieces c w.pieces) (newest_first p.versions) w.leaf v other)
+
+    after : (m : ℕ) → workspace_of t.spaces m ≡ cond (m == n) (option_map (with_entries es) (workspace_of s.spaces m)) (workspace_of s.spaces m)
+    after m = ap (λ ws. workspace_of ws m) spaces ∙ appended-at n es s.spaces m
+
+    points : (m : ℕ) → (m ≡ n) ⊎ (m ≢ n) → (o : Option Workspace) → workspace_of s.spaces m ≡ o → savepoints_of t.spaces m ≡ savepoints_of s.spaces m
+    points m (inl here) None found = savepoints_of-none t.spaces m (rw (eq-eqb _ _ here, found) at (after m)) ∙ sym (savepoints_of-none s.spaces m found)
+    points m (inl here) (Some x) found =
+        savepoints_of-found t.spaces m (with_entries es x) (rw (eq-eqb _ _ here, found) at (after m)) ∙ sym (savepoints_of-found s.spaces m x found)
+    points m (inr other) None found = savepoints_of-none t.spaces m (rw (ne_eqb _ _ other, found) at (after m)) ∙ sym (savepoints_of-none s.spaces m found)
+    points m (inr other) (Some x) found = savepoints_of-found t.spaces m x (rw (ne_eqb _ _ other, found) at (after m)) ∙ sym (savepoints_of-found s.spaces m x found)
+
+    still : (m : ℕ) (new : Workspace) → Was n es s.spaces m new → Still s m new
+    still m new x = ⊎_elim
+        (λ h. record {
+          old = x.old;
+          is = x.is;
+          savepoints = ap (λ (w : Workspace). w.savepoints) h.1;
+          rebases = ap (λ (w : Workspace). w.rebases) h.1;
+          at_birth = ap (λ (w : Workspace). w.lists.at_birth) h.1;
+          base = ap (λ (w : Workspace). w.lists.base) h.1;
+        })
+        (λ h. record {
+          old = x.old;
+          is = x.is;
+          savepoints = ap (λ (w : Workspace). w.savepoints) h.1;
+          rebases = ap (λ (w : Workspace). w.rebases) h.1;
+          at_birth = ap (λ (w : Workspace). w.lists.at_birth) h.1;
+          base = ap (λ (w : Workspace). w.lists.base) h.1;
+        })
+        x.how
+
+    names : (m : ℕ) (new : Space) → Had p n es m new → StillNames p m new
+    names m new y = ⊎_elim
+        (λ h. record { old = y.old; is = y.is; birth = ap (λ (k : Space). k.birth_version) h.1; base = ap (λ (k : Space). k.base_version) h.1 })
+        (λ h. record { old = y.old; is = y.is; birth = ap (λ (k : Space). k.birth_version) h.1; base = ap (λ (k : Space). k.base_version) h.1 })
+        y.how
+
+RowsStand-wrote : (p q : Parts) (s t : State) (n : ℕ) (es : List Entry) → WroteAll p q n es → t.spaces ≡ appended_all n es s.spaces → RowsStand p s → RowsStand q t
+RowsStand-wrote p q s t n es w spaces stand =
+    RowsStand-framed p q s t (framed_wrote p q s t n es w spaces) w.rows_kept
+    (λ m new is c x row held standing. by_case m c new x row (was n es s.spaces m new (ap (λ ws. workspace_of ws m) (sym spaces) ∙ is)) held standing)
+    stand
+  where
+    by_case : (m : ℕ) (c : Cell) (new : Workspace) (x : Told) (row : Row) → Was n es s.spaces m new → told (content new) c ≡ Some x → x.row ≡ Some row
+        → option_map (λ (r : RowRecord). r.values) (row_of q.rows x.stamp) ≡ Some row.values
+    by_case m c new x row y held standing = ⊎_elim
+        (λ h. by_told (told es c) refl (sym (told-with_all es y.old c) ∙ ap (λ (v : Workspace). told (content v) c) (sym h.1) ∙ held))
+        (λ h. row-kept p q w.rows_kept x.stamp row (stand.there m y.old y.is c x row (ap (λ (v : Workspace). told (content v) c) (sym h.1) ∙ held) standing))
+        y.how
+      where
+        by_told : (o : Option Told) → told es c ≡ o → option_or o (told (content y.old) c) ≡ Some x → option_map (λ (r : RowRecord). r.values) (row_of q.rows x.stamp) ≡ Some row.values
+        by_told None none h = row-kept p q w.rows_kept x.stamp row (stand.there m y.old y.is c x row h standing)
+        by_told (Some k) found h = w.rows_new c x row (found ∙ h) standing
+
+-- the fields with a log that is longer by so many
+abbrev grown : ℕ → SpaceFields → SpaceFields
+grown k f = record f { log_length = f.log_length + k }
+
+map-longer : (k : ℕ) (o : Option Space) → option_map fields_of (option_map (longer_by k) o) ≡ option_map (grown k) (option_map fields_of o)
+map-longer k None = refl
+map-longer k (Some r) = refl
+
+map-entries : (es : List Entry) (o : Option Workspace) → option_map fields_in (option_map (with_entries es) o) ≡ option_map (grown (length es)) (option_map fields_in o)
+map-entries es None = refl
+map-entries es (Some w) = ap (λ (k : ℕ). Some (record (fields_in w) { log_length = k })) (length-append w.lists.log es)
+
+SpacesStand-wrote : (p q : Parts) (s t : State) (n : ℕ) (es : List Entry) → WroteAll p q n es → t.spaces ≡ appended_all n es s.spaces → SpacesStand p s → SpacesStand q t
+SpacesStand-wrote p q s t n es w spaces stand = record {
+  same = λ m. by_number m (cases_eq m n) ∙ sym (ap (λ ws. option_map fields_in (workspace_of ws m)) spaces ∙ ap (option_map fields_in) (appended-at n es s.spaces m));
+}
+  where
+    by_number : (m : ℕ) → (m ≡ n) ⊎ (m ≢ n) → option_map fields_of (space_of q.spaces m) ≡ option_map fields_in (cond (m == n) (option_map (with_entries es) (workspace_of s.spaces m)) (workspace_of s.spaces m))
+    by_number m (inl here) =
+        ap (λ k. option_map fields_of (space_of q.spaces k)) here
+        ∙ ap (option_map fields_of) w.here
+        ∙ map-longer (length es) (space_of p.spaces n)
+        ∙ ap (option_map (grown (length es))) (stand.same n)
+        ∙ sym (map-entries es (workspace_of s.spaces n))
+        ∙ ap (λ k. option_map fields_in (option_map (with_entries es) (workspace_of s.spaces k))) (sym here)
+        ∙ ap (λ b. option_map fields_in (cond b (option_map (with_entries es) (workspace_of s.spaces m)) (workspace_of s.spaces m))) (sym (eq-eqb _ _ here))
+    by_number m (inr other) =
+        ap (option_map fields_of) (w.elsewhere m (ne_eqb _ _ other))
+        ∙ stand.same m
+        ∙ ap (λ b. option_map fields_in (cond b (option_map (with_entries es) (workspace_of s.spaces m)) (workspace_of s.spaces m))) (sym (ne_eqb _ _ other))
+
+-- ---- the records stand for the state after a line
+
+-- entries were written: the workspace has them, and the counters are set
+pub Stands-wrote_all : (p q : Parts) (s t : State) (n : ℕ) (es : List Entry) → WroteAll p q n es → Stands p s → t.spaces ≡ appended_all n es s.spaces → t.tables ≡ s.tables → CountersStand q t → keep_rules q ≡ true → Stands q t
+Stands-wrote_all p q s t n es w st spaces tables counters rules = record {
+  rules = rules;
+  counters = counters;
+  tables = record { same = ap by_number w.tables ∙ st.tables.same ∙ sym tables };
+  spaces = SpacesStand-wrote p q s t n es w spaces st.spaces;
+  once = OnceStand-changed p q s t n (with_entries es) (λ w. refl) spaces w.count st.once;
+  latest = LatestStand-wrote p q s t n es w spaces st.spaces st.latest;
+  own = OwnStand-wrote p q s t n es w spaces st.spaces st.own;
+  savepoints = SavepointsStand-framed p q s t (framed_wrote p q s t n es w spaces) st.savepoints;
+  kept = KeptStand-framed p q s t (framed_wrote p q s t n es w spaces) st.kept;
+  kept_own = KeptOwnStand-framed p q s t (framed_wrote p q s t n es w spaces) st.kept_own;
+  bases = BasesStand-framed p q s t (framed_wrote p q s t n es w spaces) st.bases;
+  rows = RowsStand-wrote p q s t n es w spaces st.rows;
+}

@@ -1,0 +1,80 @@
+-- Entries that one line writes in one table: what is asked of them, and their rows and pieces.
+use Rattle.std.specs.Prelude.{ℕ, ◌≡◌, ◌+◌, Bool, true, false, ◌&&◌, List, [], ◌∷◌, map, is_none, Option}
+use Rattle.std.specs.List.{list_all, filter_map}
+use Rattle.std.specs.Option.{option_map, option_map_or}
+use Rattle.std.specs.Ordering.{is_eq}
+use Rattle.wm_base.specs.Key.{key_order}
+use Rattle.wm_base.specs.declared.instant.TheConstants.{END}
+use Rattle.wm_base.specs.declared.row.Row.{Row}
+use Rattle.wm_base.specs.declared.value.Value.{Value}
+use Rattle.wm_graph.specs.Rules.{differ, is_row_of, is_key_of, is_key, key_of}
+use Rattle.wm_spec.specs.Lists.{Entry}
+use Rattle.wm_spec.specs.declared.record.piece.PieceRecord.{PieceRecord}
+use Rattle.wm_spec.specs.declared.record.row.RowRecord.{RowRecord}
+use Rattle.wm_spec.specs.declared.record.table.Table.{Table}
+use Rattle.wm_state.specs.Batches.{is_out}
+
+-- ---- what is asked of them
+
+-- the entry is of the table, over all moments, and has the stamp
+pub record IsWhole (in_table with_stamp : ℕ) (e : Entry) : Type 0 where
+  pub table : e.table ≡ in_table
+  pub from : e.from ≡ 0
+  pub till : e.till ≡ END
+  pub stamp : e.stamp ≡ with_stamp
+
+-- all are of the table, over all moments, and their stamps follow one another from this one on
+abbrev pub AreWhole : ℕ → ℕ → List Entry → Type 0
+AreWhole table stamp [] = Unit {0}
+AreWhole table stamp (e ∷ es) = IsWhole table stamp e × AreWhole table (stamp + 1) es
+
+-- the keys of entries
+abbrev pub entry_keys : List Entry → List (List Value)
+entry_keys es = map (λ (e : Entry). e.key) es
+
+abbrev pub same_key : List Value → List Value → Bool
+same_key k l = is_eq (key_order k l)
+
+-- no key is there twice
+abbrev pub KeysDiffer : List (List Value) → Type 0
+KeysDiffer keys = differ same_key keys ≡ true
+
+-- the row is one of the table's, and its key is this one
+abbrev pub is_keyed : Table → List Value → Row → Bool
+is_keyed t key row = is_row_of row.values t && is_key key (key_of t row.values)
+
+-- the key is one of the table's, and the row, where there is one, is one of its rows with this key
+abbrev pub fits_table : List Value → Option Row → Table → Bool
+fits_table key row t = is_key_of key t && option_map_or (is_keyed t key) row true
+
+-- the entry's table is there, and the entry fits it
+abbrev pub is_well : (ℕ → Option Table) → Entry → Bool
+is_well tables e = option_map_or (fits_table e.key e.row) (tables e.table) false
+
+-- ---- their records
+
+-- what a version says of an entry's cells
+abbrev pub piece_of : ℕ → Entry → PieceRecord
+piece_of version e = record {
+  version = version;
+  cells = record { table = e.table; key = e.key; from = e.from; till = e.till };
+  stamp = e.stamp;
+  kind = e.kind;
+  gone = is_none e.row;
+}
+
+abbrev pub pieces_of : ℕ → List Entry → List PieceRecord
+pieces_of version es = map (piece_of version) es
+
+-- the row of an entry, where it has one
+abbrev pub row_in : Entry → Option RowRecord
+row_in e = option_map (λ (row : Row). let made : RowRecord = record { stamp = e.stamp; table = e.table; values = row.values } in made) e.row
+
+abbrev pub rows_in : List Entry → List RowRecord
+rows_in es = filter_map row_in es
+
+-- ---- what goes
+
+-- a piece is not of this version and table with one of these keys
+abbrev pub is_out_all : ℕ → ℕ → List (List Value) → PieceRecord → Bool
+is_out_all version table keys y = list_all (λ key. is_out version table key y) keys

@@ -1,0 +1,37 @@
+-- The first of several texts, however they are put together.
+use Rattle.std.proofs.Common.{◌≡◌, ℕ, ◌+◌, ◌<◌, Bool, cond, List, [], ◌∷◌, length, drop, get_or, Option, None, Some, refl, ap, sym, ◌∙◌}
+use Rattle.std.proofs.lemmas.List.{drop_more}
+use Rattle.std.proofs.lemmas.List.Sums.{sum_by-cons}
+use Rattle.std.specs.List.{count_by}
+use Rattle.std.specs.Option.{option_or}
+use Rattle.wm_base.specs.Trees.{Out}
+use Rattle.wm_base.specs.Views.{out_view, outs_view}
+use Rattle.wm_base.specs.declared.tree.query.Out.{Out as OutNode}
+
+pub or_assoc : (a b c : Option (List ℕ)) → option_or (option_or a b) c ≡ option_or a (option_or b c)
+or_assoc None b c = refl
+or_assoc (Some x) b c = refl
+
+pub or_none : (a : Option (List ℕ)) → option_or a None ≡ a
+or_none None = refl
+or_none (Some x) = refl
+
+-- what a loop finds at a place is the first of all, where nothing was found before that place
+pub found_here : {A : Type 0} (F : List A → Option (List ℕ)) (f : A → Option (List ℕ)) (behind : A → List A → Option (List ℕ)) →
+    ((x : A) (rest : List A) → F (x ∷ rest) ≡ option_or (f x) (behind x rest)) →
+    (xs : List A) (i : ℕ) (x : A) (t : List ℕ) (r : Option (List ℕ)) →
+    i < length xs → x ≡ get_or xs i x → F (drop i xs) ≡ r → Some t ≡ f x → Some t ≡ r
+found_here F f behind step xs i x t r inside there so_far found =
+    ap (λ o. option_or o (behind x (drop (i + 1) xs))) found
+    ∙ sym (step x (drop (i + 1) xs))
+    ∙ ap (λ y. F (y ∷ drop (i + 1) xs)) there
+    ∙ sym (ap F (drop_more xs i x inside))
+    ∙ so_far
+
+-- how many items of a query pass a test, counted where they lie
+pub count_viewed : (test : Out → Bool) (outs : List OutNode) → count_by (λ out. test (out_view out)) outs ≡ count_by test (outs_view outs)
+count_viewed test [] = refl
+count_viewed test (out ∷ outs) =
+    sum_by-cons (λ o. cond (test (out_view o)) 1 0) out outs
+    ∙ ap (λ n. cond (test (out_view out)) 1 0 + n) (count_viewed test outs)
+    ∙ sym (sum_by-cons (λ o. cond (test o) 1 0) (out_view out) (outs_view outs))

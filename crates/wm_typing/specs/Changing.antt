@@ -1,0 +1,75 @@
+-- What UPDATE and DELETE get wrong.
+use Rattle.std.specs.Prelude.{ℕ, Bool, false, ◌&&◌, ◌||◌, not, ◌==◌, List, [], ◌∷◌, ◌++◌, Option, None, Some, is_some, option_map, slice_get, bytes_eq}
+use Rattle.std.specs.List.{list_any, find}
+use Rattle.std.specs.Option.{option_or, option_map_or}
+use Rattle.wm_base.specs.declared.columns.Column.{Column}
+use Rattle.wm_base.specs.declared.refusal.Refusal.{Refusal}
+use Rattle.wm_base.specs.Trees.{Cond, Set}
+use Rattle.wm_spec.specs.declared.record.column.TableColumn.{TableColumn}
+use Rattle.wm_spec.specs.declared.record.table.Table.{Table}
+use Rattle.wm_spec.specs.Operands.{kind_of}
+use Rattle.wm_typing.specs.Columns.{columns_of_table}
+use Rattle.wm_typing.specs.Names.{unless, unknown_in_expr, unknown_in_filter}
+use Rattle.wm_typing.specs.Refusals.{first_refusal}
+use Rattle.wm_typing.specs.Types.{expr_kind, mistyped_in_expr, mistyped_in_filter}
+
+-- ---- names
+
+-- exactly one column has the name, and none that was set before
+abbrev pub may_set : List Column → List Set → List ℕ → Bool
+may_set columns before name = is_some (kind_of None name columns) && not (list_any (λ (s : Set). bytes_eq s.name name) before)
+
+-- the column that is set stands before the columns that its value names
+abbrev pub unknown_in_set : List Column → List Set → Set → Option (List ℕ)
+unknown_in_set columns before set = option_or (unless (may_set columns before set.name) set.name) (unknown_in_expr columns set.becomes)
+
+-- a name that is set twice is wrong at its second place
+abbrev pub unknown_in_sets : List Column → List Set → List Set → Option (List ℕ)
+unknown_in_sets columns before [] = None
+unknown_in_sets columns before (set ∷ sets) = option_or (unknown_in_set columns before set) (unknown_in_sets columns (before ++ set ∷ []) sets)
+
+-- ---- types
+
+-- a value may stand in a column: it has the column's type, or it is NULL and the column is not that of periods
+abbrev pub may_stand : Option ℕ → Option ℕ → Bool
+may_stand (Some column) (Some kind) = (kind == column) || ((kind == 0) && not (column == 4))
+may_stand _ _ = false
+
+-- a value that does not fit its column begins no later than a mark in it
+abbrev pub mistyped_in_set : List Column → Set → Option (List ℕ)
+mistyped_in_set columns set =
+    option_or (unless (may_stand (kind_of None set.name columns) (expr_kind columns set.becomes)) set.name) (mistyped_in_expr columns set.becomes)
+
+abbrev pub mistyped_in_sets : List Column → List Set → Option (List ℕ)
+mistyped_in_sets columns [] = None
+mistyped_in_sets columns (set ∷ sets) = option_or (mistyped_in_set columns set) (mistyped_in_sets columns sets)
+
+-- ---- keys
+
+-- the name is that of the key column
+abbrev pub is_key : Table → List ℕ → Bool
+is_key table name = table.has_key && option_map_or (λ (c : TableColumn). bytes_eq c.name name) (slice_get table.columns table.key_column) false
+
+-- the first key column that is set
+abbrev pub key_set : Table → List Set → Option (List ℕ)
+key_set table sets = option_map (λ (s : Set). s.name) (find (λ (s : Set). is_key table s.name) sets)
+
+-- ---- the first refusal
+
+abbrev pub update_fault_in : List Column → Table → List Set → Option Cond → Option Refusal
+update_fault_in columns table sets filter =
+    first_refusal
+    (option_or (unknown_in_sets columns [] sets) (unknown_in_filter columns filter))
+    (option_or (mistyped_in_sets columns sets) (mistyped_in_filter columns filter))
+    (key_set table sets)
+
+-- why an UPDATE of the table is refused for its names and types
+unfoldable pub update_fault : Table → List Set → Option Cond → Option Refusal
+update_fault table sets filter = update_fault_in (columns_of_table table.name table) table sets filter
+
+abbrev pub delete_fault_in : List Column → Option Cond → Option Refusal
+delete_fault_in columns filter = first_refusal (unknown_in_filter columns filter) (mistyped_in_filter columns filter) None
+
+-- why a DELETE from the table is refused likewise
+unfoldable pub delete_fault : Table → Option Cond → Option Refusal
+delete_fault table filter = delete_fault_in (columns_of_table table.name table) filter

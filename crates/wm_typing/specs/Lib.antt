@@ -1,0 +1,7 @@
+pub mod Names
+pub mod Types
+pub mod Columns
+pub mod Refusals
+pub mod Changing
+pub mod Items
+pub mod Asking

@@ -1,0 +1,179 @@
+ghost use Rattle.std.specs.Prelude.{◌≡◌, [], bytes_eq, slice_get, true, false, None, IfOk, option_copied};
+ghost use Rattle.std.specs.List.{list_any};
+ghost use Rattle.std.specs.Option.{option_map_or};
+ghost use Rattle.wm_spec.specs.declared.record.column.TableColumn.{TableColumn as OneColumn};
+ghost use Rattle.wm_base.specs.Trees.{Set as SetTree};
+ghost use Rattle.wm_base.specs.Views.{filter_view, set_view, sets_view};
+ghost use Rattle.wm_typing.specs.Changing.{may_set, unknown_in_set, unknown_in_sets, may_stand, mistyped_in_set, mistyped_in_sets, is_key, key_set, update_fault, update_fault_in, delete_fault};
+ghost use Rattle.wm_typing.specs.Columns.{columns_of_table};
+ghost use Rattle.wm_typing.specs.Types.{is_filter_typed};
+
+use crate::columns::columns_of_table;
+use crate::first::{first_of, unless};
+use crate::names::{unknown_in_expr, unknown_in_filter};
+use crate::refusals::first_refusal;
+use crate::types::{expr_kind, mistyped_in_expr, mistyped_in_filter};
+use std::alloc::Global;
+use wm_base::columns::PERIOD;
+use wm_base::tree::cond::Cond;
+use wm_base::tree::statement::Set;
+use wm_base::{Column, Memory, Refusal};
+use wm_expr::names::kind_of;
+use wm_spec::record::{Table, TableColumn};
+
+/// Whether one of the changes sets the column of that name.
+fn is_set(before: &[Set], name: &[u8]) -> bool
+    ensures { result ≡ list_any (λ (s : SetTree). bytes_eq s.name name.now) (sets_view before.now) }
+{
+    for set in before {
+        if set.name.equals(name) {
+            return true;
+        }
+    }
+    false
+}
+
+/// Whether exactly one column has the name, and none that was set before.
+fn may_set(columns: &[Column], before: &[Set], name: &[u8]) -> bool
+    ensures { result ≡ may_set columns.now (sets_view before.now) name.now }
+{
+    kind_of(&None, name, columns).is_some() && !is_set(before, name)
+}
+
+fn unknown_in_set<'a>(columns: &[Column], before: &[Set], set: &'a Set) -> Option<&'a [u8]>
+    ensures { option_copied result ≡ unknown_in_set columns.now (sets_view before.now) (set_view set.now) }
+{
+    let name = set.name.as_bytes();
+    first_of(
+        unless(may_set(columns, before, name), name),
+        unknown_in_expr(columns, &set.becomes),
+    )
+}
+
+fn unknown_in_sets<'a>(columns: &[Column], sets: &'a [Set]) -> Option<&'a [u8]>
+    ensures { option_copied result ≡ unknown_in_sets columns.now [] (sets_view sets.now) }
+{
+    for (index, set) in sets.iter().enumerate() {
+        if let Some(name) = unknown_in_set(columns, &sets[..index], set) {
+            return Some(name);
+        }
+    }
+    None
+}
+
+/// Whether a value of that kind may stand in a column: it has the column's kind, or it is NULL and the column is not
+/// that of periods.
+pub fn may_stand(column: Option<u8>, kind: Option<u8>) -> bool
+    ensures { result ≡ may_stand column kind }
+{
+    match (column, kind) {
+        (Some(column), Some(kind)) => kind == column || (kind == 0 && column != PERIOD),
+        _ => false,
+    }
+}
+
+fn mistyped_in_set<'a>(columns: &[Column], set: &'a Set) -> Option<&'a [u8]>
+    ensures { option_copied result ≡ mistyped_in_set columns.now (set_view set.now) }
+{
+    let name = set.name.as_bytes();
+    let fits = may_stand(
+        kind_of(&None, name, columns),
+        expr_kind(columns, &set.becomes),
+    );
+    first_of(unless(fits, name), mistyped_in_expr(columns, &set.becomes))
+}
+
+fn mistyped_in_sets<'a>(columns: &[Column], sets: &'a [Set]) -> Option<&'a [u8]>
+    ensures { option_copied result ≡ mistyped_in_sets columns.now (sets_view sets.now) }
+{
+    for set in sets {
+        if let Some(text) = mistyped_in_set(columns, set) {
+            return Some(text);
+        }
+    }
+    None
+}
+
+/// Whether the column at that place has the name.
+fn is_named_at(columns: &[TableColumn], place: usize, name: &[u8]) -> bool
+    ensures { result ≡ option_map_or (λ (c : OneColumn). bytes_eq c.name name.now) (slice_get columns.now place) false }
+{
+    match columns.get(place) {
+        Some(column) => column.name.as_bytes() == name,
+        None => false,
+    }
+}
+
+/// Whether the name is that of the key column.
+fn is_key(table: &Table, name: &[u8]) -> bool
+    ensures { result ≡ is_key table.now name.now }
+{
+    let place = usize::from(table.key_column);
+    table.has_key && is_named_at(table.columns.as_slice(), place, name)
+}
+
+/// The first key column that is set.
+fn key_set<'a>(table: &Table, sets: &'a [Set]) -> Option<&'a [u8]>
+    ensures { option_copied result ≡ key_set table.now (sets_view sets.now) }
+{
+    for set in sets {
+        if is_key(table, set.name.as_bytes()) {
+            return Some(set.name.as_bytes());
+        }
+    }
+    None
+}
+
+fn update_fault_in(
+    alloc: Global,
+    columns: &[Column],
+    table: &Table,
+    sets: &[Set],
+    filter: &Option<Cond>,
+) -> Result<Option<Refusal>, Memory>
+    ensures { IfOk result (λ refusal. refusal ≡ update_fault_in columns.now table.now (sets_view sets.now) (filter_view filter.now)) }
+{
+    let unknown = first_of(
+        unknown_in_sets(columns, sets),
+        unknown_in_filter(columns, filter),
+    );
+    let mistyped = first_of(
+        mistyped_in_sets(columns, sets),
+        mistyped_in_filter(columns, filter),
+    );
+    first_refusal(alloc, unknown, mistyped, key_set(table, sets))
+}
+
+/// Why an UPDATE of the table is refused for its names and types: a name that is not there, then a type that is wrong,
+/// then a key column that is set, of each the first in the line.
+#[tactic(auto, using(crate::proofs::Typed::update_typed), unfolding(crate::specs::Changing::update_fault))]
+pub fn update_fault(
+    alloc: Global,
+    table: &Table,
+    sets: &[Set],
+    filter: &Option<Cond>,
+) -> Result<Option<Refusal>, Memory>
+    ensures exact { IfOk result (λ refusal. refusal ≡ update_fault table.now (sets_view sets.now) (filter_view filter.now)) }
+    ensures typed { IfOk result (λ refusal. refusal ≡ None → is_filter_typed (columns_of_table table.now.name table.now) (filter_view filter.now) ≡ true) }
+{
+    let columns = columns_of_table(alloc, &table.name, table)?;
+    let refusal = update_fault_in(alloc, columns.as_slice(), table, sets, filter)?;
+    Ok(refusal)
+}
+
+/// Why a DELETE from the table is refused likewise.
+#[tactic(auto, using(crate::proofs::Typed::delete_typed), unfolding(crate::specs::Changing::delete_fault))]
+pub fn delete_fault(
+    alloc: Global,
+    table: &Table,
+    filter: &Option<Cond>,
+) -> Result<Option<Refusal>, Memory>
+    ensures exact { IfOk result (λ refusal. refusal ≡ delete_fault table.now (filter_view filter.now)) }
+    ensures typed { IfOk result (λ refusal. refusal ≡ None → is_filter_typed (columns_of_table table.now.name table.now) (filter_view filter.now) ≡ true) }
+{
+    let columns = columns_of_table(alloc, &table.name, table)?;
+    let unknown = unknown_in_filter(columns.as_slice(), filter);
+    let mistyped = mistyped_in_filter(columns.as_slice(), filter);
+    let refusal = first_refusal(alloc, unknown, mistyped, None)?;
+    Ok(refusal)
+}
