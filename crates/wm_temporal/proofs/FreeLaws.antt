@@ -132,6 +132,7 @@ covered-stretch from till t = by_test (ltb from till) refl
     or_none : (c : Bool) → (c || false) ≡ c
     or_none true = refl
     or_none false = refl
+
     by_test : (v : Bool) → ltb from till ≡ v → covered (option_to_list (then_some v (let s : Span = record { from = from; till = till } in s))) t ≡ (leb from t && ltb t till)
     by_test true e = or_none (leb from t && ltb t till)
     by_test false e = grind (arith, nat_tests)

@@ -1,3 +1,3 @@
-pub mod SplitLaws
+pub mod OrderLaws
 pub mod FreeLaws
 pub mod UncoveredLaws

@@ -81,8 +81,8 @@ longest news old low (p ∷ ps) apart begun same =
           ∙ apart-early p.till ps p.till apart.2 apart.3 (omega arith);
     }) (longest news old p.till ps apart.3 (begun-after p.till ps apart.2)
     (λ t late.
-        let missed : covers p t ≡ false = grind (arith, nat_tests) in
-        ap (λ v. v || covered ps t) (sym missed) ∙ same t (omega (arith, begun, apart.0))))
+    let missed : covers p t ≡ false = grind (arith, nat_tests) in
+    ap (λ v. v || covered ps t) (sym missed) ∙ same t (omega (arith, begun, apart.0))))
 
 -- each part is a longest one of some old period
 pub uncovered-longest : (low high a b : ℕ) (olds news : List Span) → Follow low olds high → high ≤ END → Follow a news b
@@ -143,6 +143,7 @@ behind_past till low high next r news order within is past = by_place (cases_lt 
     after : (l : List Span) (w : ℕ) → Follow w l high → EndsAfter till l → 0 < length l → (v : ℕ) × (till ≤ v) × Follow v (drop 1 l) high
     after [] w follow later some = absurd (omega arith)
     after (p ∷ ps) w follow later some = (p.till, omega arith, follow.2)
+
     by_place : (next < length news) ⊎ (length news ≤ next) → (h : ℕ) × Behind news r till h
     by_place (inl inside) =
         let there = Follow-drop low high next news order in
