@@ -1,17 +1,15 @@
 -- What periods in order leave free between two instants.
-use Rattle.std.proofs.Common.{◌≡◌, ◌<◌, ◌≤◌, ◌+◌, ◌-◌, ℕ, Bool, true, false, ◌&&◌, ◌||◌, not, min, max, leb, ltb, List, [], ◌∷◌, ◌++◌, length, get_or, drop, refl, sym, ap, subst, ◌∙◌, arith, ◌⊎◌, inl, inr}
+use Rattle.std.proofs.Common.{◌≡◌, ◌<◌, ◌≤◌, ◌+◌, ℕ, Bool, true, false, ◌&&◌, ◌||◌, not, min, max, leb, ltb, List, [], ◌∷◌, ◌++◌, length, get_or, drop, refl, sym, ap, ◌∙◌, arith, ◌⊎◌, inl, inr}
 use Rattle.std.proofs.lemmas.Bool.{ltb-true, le-ltb, cases_lt}
 use Rattle.std.proofs.lemmas.Bool.Decides.{nat_tests}
 use Rattle.std.proofs.lemmas.List.{append-nil, append_assoc, drop_more, drop_all}
-use Rattle.std.proofs.lemmas.List.Elements.{All-cons, All-nil}
 use Rattle.std.proofs.lemmas.List.Folds.{list_any-append}
 use Rattle.std.specs.Bool.{then_some}
-use Rattle.std.specs.List.{All}
 use Rattle.std.specs.Option.{option_to_list}
 use Rattle.wm_base.specs.Period.{Span, covers}
 use Rattle.wm_base.specs.declared.instant.TheConstants.{END}
 use Rattle.wm_period.specs.Periods.{covered, HaveEnded, BeginsAfter, AreApart}
-use Rattle.wm_temporal.specs.Uncovered.{Follow, stretch, free, is_left, IsLongest}
+use Rattle.wm_temporal.specs.Uncovered.{Follow, stretch, free}
 
 -- ---- which periods count
 
@@ -57,10 +55,6 @@ pub Follow-append : (a b c : ℕ) (ps qs : List Span) → Follow a ps b → Foll
 Follow-append a b c [] [] first second = omega arith
 Follow-append a b c [] (q ∷ qs) first second = (omega (arith, second.0), second.1, second.2)
 Follow-append a b c (p ∷ ps) qs first second = (first.0, first.1, Follow-append p.till b c ps qs first.2 second)
-
-pub Follow-lower : (a c b : ℕ) (ps : List Span) → c ≤ a → Follow a ps b → Follow c ps b
-Follow-lower a c b [] less order = omega arith
-Follow-lower a c b (p ∷ ps) less order = (omega (arith, order.0), order.1, order.2)
 
 -- the two instants stand in order
 pub Follow-ends : (a b : ℕ) (ps : List Span) → Follow a ps b → a ≤ b

@@ -1,5 +1,5 @@
 -- What new periods leave of old ones.
-use Rattle.std.proofs.Common.{◌≡◌, ◌<◌, ◌≤◌, ◌+◌, ◌-◌, ℕ, Bool, true, false, ◌&&◌, ◌||◌, not, min, max, leb, ltb, List, [], ◌∷◌, ◌++◌, length, get_or, take, drop, length-drop, refl, sym, ap, subst, ◌∙◌, arith, slice_range, zero, suc, ◌⊎◌, inl, inr}
+use Rattle.std.proofs.Common.{◌≡◌, ◌<◌, ◌≤◌, ◌+◌, ◌-◌, ℕ, Bool, true, false, ◌&&◌, ◌||◌, not, min, List, [], ◌∷◌, ◌++◌, length, get_or, take, drop, length-drop, refl, sym, ap, subst, ◌∙◌, arith, slice_range, zero, suc, ◌⊎◌, inl, inr}
 use Rattle.std.proofs.lemmas.Bool.{cases_lt}
 use Rattle.std.proofs.lemmas.Bool.Decides.{nat_tests}
 use Rattle.std.proofs.lemmas.List.{append_assoc, append-nil, take-append-drop, drop_more, drop_all, take_more, drop-drop}
@@ -8,7 +8,7 @@ use Rattle.std.specs.List.{All, Any}
 use Rattle.wm_base.specs.Period.{Span, covers}
 use Rattle.wm_base.specs.declared.instant.TheConstants.{END}
 use Rattle.wm_period.specs.Periods.{covered, HaveEnded, BeginsAfter, AreApart}
-use Rattle.wm_temporal.proofs.FreeLaws.{Follow-append, Follow-lower, Follow-ends, free-order, free-apart, free-covered, free-ended, free-before, covered-append}
+use Rattle.wm_temporal.proofs.FreeLaws.{Follow-append, Follow-ends, free-order, free-apart, free-covered, free-ended, free-before, covered-append}
 use Rattle.wm_temporal.specs.Uncovered.{Follow, free, uncovered, is_left, IsLongest, EndsAfter}
 
 -- ---- what is left of all old periods

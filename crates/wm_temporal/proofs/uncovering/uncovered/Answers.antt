@@ -1,4 +1,4 @@
-use Rattle.std.proofs.Common.{◌≡◌, ◌≤◌, refl, arith}
+use Rattle.std.proofs.Common.{◌≡◌, arith}
 use Rattle.wm_base.specs.declared.instant.TheConstants.{END}
 use Rattle.wm_temporal.specs.Uncovered.{uncovered}
 use Rattle.wm_temporal.proofs.UncoveredLaws.{going_ended, going_all, uncovered-order, uncovered-cells, uncovered-longest}
