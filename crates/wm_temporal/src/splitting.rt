@@ -1,5 +1,5 @@
-ghost use Rattle.std.specs.Prelude.{◌≡◌, ℕ, ◌&&◌, nat_lt, nat_le, ◌∷◌, [], IfSome, IsFalse, IsTrue};
-ghost use Rattle.wm_base.specs.Period.{covers, contains, overlaps};
+ghost use Rattle.std.specs.Prelude.{◌≡◌, ◌↔◌, ℕ, ◌&&◌, nat_lt, nat_le, ◌∷◌, [], IsSome, IfSome, IsFalse, IsTrue};
+ghost use Rattle.wm_base.specs.Period.{covers, overlaps, shared};
 ghost use Rattle.wm_period.specs.Pieces.{Between, held_at};
 ghost use Rattle.wm_temporal.specs.Splitting.{IsPart, in_turn};
 
@@ -24,8 +24,9 @@ pub fn split(row: &Piece, by: &Period) -> Parts
     ensures in_order { Between row.now.period.from (in_turn result) row.now.period.till }
     ensures whole { (t : ℕ) → held_at (in_turn result) t ≡ held_at (row.now ∷ []) t }
     ensures before_apart { IfSome result.before (λ part. IsFalse (overlaps part.period by.now)) }
-    ensures inside_met { IfSome result.inside (λ part. IsTrue (contains by.now part.period)) }
     ensures after_apart { IfSome result.after (λ part. IsFalse (overlaps part.period by.now)) }
+    ensures met { IsSome result.inside ↔ IsTrue (overlaps row.now.period by.now) }
+    ensures cut { IfSome result.inside (λ part. part.period ≡ shared row.now.period by.now) }
 {
     let _row = row.period.till();
     let from = by.from();
