@@ -24,9 +24,6 @@ stored_filled (values.Time i) = refl
 stored_filled (values.Span p) = refl
 stored_filled values.Null = refl
 
-
-
-
 before_filled : (first : Option Value) (rest : Option (List Value)) (vs : List Value) → ((v : Value) → first ≡ Some v → is_filled v ≡ true) → ((ws : List Value) → rest ≡ Some ws → list_all is_filled ws ≡ true)
     → before first rest ≡ Some vs → list_all is_filled vs ≡ true
 before_filled None rest vs one all made = absurd (cc)

@@ -137,7 +137,7 @@ sources_seen rs session s w tables (x ∷ sources) [] rules st found are = absur
 sources_seen rs session s w tables (x ∷ sources) (l ∷ ls) rules st found are =
     let is = are.0 in
     let first : l ≡ shown_by (seen_from w session.stand) x is.table =
-        both (columns_of_table (source_name x) is.table) (rows_in (seen_from w session.stand) is.table) is.columns (seen_read rs session is.table l.rows rules is.rows s w st found) in
+    both (columns_of_table (source_name x) is.table) (rows_in (seen_from w session.stand) is.table) is.columns (seen_read rs session is.table l.rows rules is.rows s w st found) in
     rw is.named (ap (λ y. y ∷ ls) first ∙ ap (λ ys. shown_by (seen_from w session.stand) x is.table ∷ ys) (sources_seen rs session s w tables sources ls rules st found are.1))
   where
     both : (columns : List Column) (out : List Row) → l.columns ≡ columns → l.rows ≡ out → l ≡ record { columns = columns; rows = out }
