@@ -1,9 +1,9 @@
 # wm, a verified store of version-enabled tables.
 #
-#   make demo    builds the proved program, makes a store with it and plays two examples, one after the other
+#   make demo    builds the proved program, makes a store with it and plays the examples, one after the other
 #   make test    the merge gate: every proof, edit, test and program, and then the cases
 #   make wm      the program alone, at build/wm
-#   make cases   plays cases/ through the built program on real files
+#   make cases   plays the demo and cases/ through the built program on real files
 #   make bench   times 10,000 INSERT lines, a SELECT of them and a join of two tables of 1,000 rows
 
 RT ?= rt
@@ -28,12 +28,14 @@ demo: build/wm
 	cmp build/first.answers examples/first.answers
 	build/wm build/demo.wm run --now 2020-01-02 < examples/again.wm | tee build/again.answers
 	cmp build/again.answers examples/again.answers
+	build/wm build/demo.wm run --now 2024-06-01 < examples/budget.wm | tee build/budget.answers
+	cmp build/budget.answers examples/budget.answers
 
 test:
 	$(RT) ci
 	$(MAKE) cases
 
-cases: build/wm
+cases: demo
 	@if command -v $(PYTHON) > /dev/null; \
 	then $(PYTHON) tools/play_cases.py build/wm cases; \
 	else echo "cases: skipped, for there is no $(PYTHON)"; fi

@@ -7,6 +7,7 @@ start, so most cases begin with 'init'. A line of a case is
     $ WORDS     a command: the words behind the store's path, split as a shell splits them
     < TEXT      a line of its input, with LF          <- TEXT    its last line, without LF
     <* N C      a line of N times the character C     <x HEX     a line given in hexadecimal
+    <x* N HEX   a line of N times the bytes given in hexadecimal
     <# A B TEXT lines for the numbers from A to B, each in the place of @ in TEXT; ># A B TEXT the same of the output
     > TEXT      a line of its output, with LF         >? REGEX   a line that the expression matches
     = N         its status (0 where there is none)    ! TEXT     its line on standard error
@@ -42,6 +43,9 @@ class Command:
             self.input += int(count) * char + b"\n"
         elif mark == b"<x":
             self.input += bytes.fromhex(rest.decode()) + b"\n"
+        elif mark == b"<x*":
+            count, digits = rest.decode().split(" ", 1)
+            self.input += int(count) * bytes.fromhex(digits) + b"\n"
         elif mark == b"<#":
             self.input += b"".join(line + b"\n" for line in numbered(rest))
         elif mark == b">#":
