@@ -1,11 +1,14 @@
 -- The batch of the tests.
-use Rattle.std.proofs.Common.{◌≡◌, ℕ, ◌+◌, ◌≤◌, Bool, false, true, cond, ◌||◌, eqb, List, [], ◌∷◌, ◌++◌, length, map, Some, None, IfSome, refl, sym, subst, arith}
+use Rattle.std.proofs.Common.{◌≡◌, ℕ, ℤ, ◌+◌, ◌≤◌, Bool, false, true, cond, ◌||◌, eqb, List, [], ◌∷◌, ◌++◌, length, map, Some, None, IfSome, refl, sym, subst, arith}
 use Rattle.std.specs.List.{list_any}
 use Rattle.std.proofs.lemmas.Bool.{eqb-true}
 use Rattle.wm_spec.specs.declared.record.Record.TheVariants as records
+use Rattle.wm_spec.specs.declared.record.row.RowRecord.{RowRecord}
 use Rattle.wm_spec.specs.declared.record.version.Version.{Version}
 use Rattle.wm_spec.specs.declared.record.batch.Change.{Change}
 use Rattle.wm_spec.specs.Records.{ids_differ, AreChanges}
+use Rattle.wm_base.specs.declared.value.Value.TheVariants.{Num}
+use Rattle.wm_codec.specs.Fields.{spell_value}
 use Rattle.wm_codec.specs.Spelling.{CanSpell, spelling}
 use Rattle.wm_store.specs.Spelled.{FitPages}
 
@@ -26,6 +29,25 @@ trial_differs id v dropped apart = let t : eqb dropped id ≡ false = by_test (e
     by_test : (b : Bool) → eqb dropped id ≡ b → b ≡ false
     by_test true e = absurd (apart (sym (eqb-true dropped id e)))
     by_test false e = refl
+
+-- ---- a row
+
+abbrev pub row_of : ℕ → ℤ → RowRecord
+row_of stamp number = record { stamp = stamp; table = 1; values = Num number ∷ [] }
+
+length-row : (stamp : ℕ) (number : ℤ) → length (spelling (records.Row (row_of stamp number))) ≡ 21
+unfolding spelling spell_value
+length-row stamp number = refl
+
+abbrev pub row_put : ℕ → ℕ → ℤ → List Change
+row_put id stamp number = (record { id = id; becomes = Some (records.Row (row_of stamp number)) }) ∷ []
+
+pub row_put_fits : (id stamp : ℕ) (number : ℤ) → FitPages (row_put id stamp number)
+row_put_fits id stamp number = let len = length-row stamp number in (((tt, (tt, (omega arith, (tt, tt)))), omega arith), tt)
+
+pub row_put_once : (id stamp : ℕ) (number : ℤ) → AreChanges (row_put id stamp number)
+unfolding ids_differ
+row_put_once id stamp number = refl
 
 -- ---- ids that rise
 
