@@ -7,6 +7,7 @@ use Rattle.wm_spec.specs.declared.record.row.RowRecord.{RowRecord}
 use Rattle.wm_spec.specs.declared.record.version.Version.{Version}
 use Rattle.wm_spec.specs.declared.record.batch.Change.{Change}
 use Rattle.wm_spec.specs.Records.{ids_differ, AreChanges}
+use Rattle.wm_base.specs.declared.value.Value.{Value}
 use Rattle.wm_base.specs.declared.value.Value.TheVariants.{Num}
 use Rattle.wm_codec.specs.Fields.{spell_value}
 use Rattle.wm_codec.specs.Spelling.{CanSpell, spelling}
@@ -42,12 +43,14 @@ length-row stamp number = refl
 abbrev pub row_put : ℕ → ℕ → ℤ → List Change
 row_put id stamp number = (record { id = id; becomes = Some (records.Row (row_of stamp number)) }) ∷ []
 
-pub row_put_fits : (id stamp : ℕ) (number : ℤ) → FitPages (row_put id stamp number)
-row_put_fits id stamp number = let len = length-row stamp number in (((tt, (tt, (omega arith, (tt, tt)))), omega arith), tt)
-
-pub row_put_once : (id stamp : ℕ) (number : ℤ) → AreChanges (row_put id stamp number)
+-- as the calls say it
+pub row_put_alone : (id stamp : ℕ) (number : ℤ) (none values : List Value) (before changes : List Change) → none ≡ [] → values ≡ none ++ Num number ∷ [] → before ≡ []
+    → changes ≡ before ++ (record { id = id; becomes = Some (records.Row (record { stamp = stamp; table = 1; values = values })) }) ∷ [] → FitPages changes × AreChanges changes
 unfolding ids_differ
-row_put_once id stamp number = refl
+row_put_alone id stamp number none values before changes none_is values_are before_is changes_are =
+    let len = length-row stamp number in
+    let same : changes ≡ row_put id stamp number = rw (changes_are, before_is, values_are, none_is) refl in
+    subst (λ l. FitPages l × AreChanges l) (sym same) ((((tt, (tt, (omega arith, (tt, tt)))), omega arith), tt), refl)
 
 -- ---- ids that rise
 
