@@ -1,11 +1,15 @@
 -- The batch of the tests.
-use Rattle.std.proofs.Common.{◌≡◌, ℕ, ◌+◌, ◌≤◌, Bool, false, true, cond, ◌||◌, eqb, List, [], ◌∷◌, ◌++◌, length, map, Some, None, IfSome, refl, sym, subst, arith}
+use Rattle.std.proofs.Common.{◌≡◌, ℕ, ℤ, ◌+◌, ◌≤◌, Bool, false, true, cond, ◌||◌, eqb, List, [], ◌∷◌, ◌++◌, length, map, Some, None, IfSome, refl, sym, subst, arith}
 use Rattle.std.specs.List.{list_any}
 use Rattle.std.proofs.lemmas.Bool.{eqb-true}
 use Rattle.wm_spec.specs.declared.record.Record.TheVariants as records
+use Rattle.wm_spec.specs.declared.record.row.RowRecord.{RowRecord}
 use Rattle.wm_spec.specs.declared.record.version.Version.{Version}
 use Rattle.wm_spec.specs.declared.record.batch.Change.{Change}
 use Rattle.wm_spec.specs.Records.{ids_differ, AreChanges}
+use Rattle.wm_base.specs.declared.value.Value.{Value}
+use Rattle.wm_base.specs.declared.value.Value.TheVariants.{Num}
+use Rattle.wm_codec.specs.Fields.{spell_value}
 use Rattle.wm_codec.specs.Spelling.{CanSpell, spelling}
 use Rattle.wm_store.specs.Spelled.{FitPages}
 
@@ -26,6 +30,27 @@ trial_differs id v dropped apart = let t : eqb dropped id ≡ false = by_test (e
     by_test : (b : Bool) → eqb dropped id ≡ b → b ≡ false
     by_test true e = absurd (apart (sym (eqb-true dropped id e)))
     by_test false e = refl
+
+-- ---- a row
+
+abbrev pub row_of : ℕ → ℤ → RowRecord
+row_of stamp number = record { stamp = stamp; table = 1; values = Num number ∷ [] }
+
+length-row : (stamp : ℕ) (number : ℤ) → length (spelling (records.Row (row_of stamp number))) ≡ 21
+unfolding spelling spell_value
+length-row stamp number = refl
+
+abbrev pub row_put : ℕ → ℕ → ℤ → List Change
+row_put id stamp number = (record { id = id; becomes = Some (records.Row (row_of stamp number)) }) ∷ []
+
+-- as the calls say it
+pub row_put_alone : (id stamp : ℕ) (number : ℤ) (none values : List Value) (before changes : List Change) → none ≡ [] → values ≡ none ++ Num number ∷ [] → before ≡ []
+    → changes ≡ before ++ (record { id = id; becomes = Some (records.Row (record { stamp = stamp; table = 1; values = values })) }) ∷ [] → FitPages changes × AreChanges changes
+unfolding ids_differ
+row_put_alone id stamp number none values before changes none_is values_are before_is changes_are =
+    let len = length-row stamp number in
+    let same : changes ≡ row_put id stamp number = rw (changes_are, before_is, values_are, none_is) refl in
+    subst (λ l. FitPages l × AreChanges l) (sym same) ((((tt, (tt, (omega arith, (tt, tt)))), omega arith), tt), refl)
 
 -- ---- ids that rise
 

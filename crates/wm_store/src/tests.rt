@@ -7,8 +7,8 @@ use super::*;
 use std::alloc::Global;
 use std::process::Abort;
 use std::test::Fail;
-use wm_base::MakeFault;
-use wm_spec::record::{Batch, Change, Changes, Record, Records, Version};
+use wm_base::{MakeFault, StoreFault, Value, Values};
+use wm_spec::record::{Batch, Change, Changes, Record, Records, RowRecord, Version};
 use wm_station::{FuseStation, QuietStation, Station, Tear};
 
 // A version of this number is put under the first id, and what is under the second is dropped.
@@ -214,5 +214,44 @@ fn a_batch_changes_records_of_several_pages(rt: HostRuntime) -> Result<(), Fail>
     for (id, number) in list.as_slice() {
         assert!(rt; is_expected(*id, *number), "{number} under {id}");
     }
+    Ok(())
+}
+
+// A row of one number is put under an id.
+fn one_row(alloc: Global, id: u64, stamp: u64, number: i64) -> Result<Batch, Fail>
+    ensures once { IfOk result (λ b. AreChanges b.changes) }
+    ensures fit { IfOk result (λ b. FitPages b.changes) }
+{
+    let mut values = Values::new(alloc);
+    values.push(Value::Num(number))?;
+    let row = RowRecord {
+        stamp,
+        table: 1,
+        values,
+    };
+    let mut changes = Changes::new(alloc);
+    changes.push(Change {
+        id,
+        becomes: Some(Record::Row(row)),
+    })?;
+    Ok(Batch { changes })
+}
+
+#[test]
+fn a_row_is_fetched(rt: HostRuntime) -> Result<(), Fail> {
+    let alloc = rt.alloc();
+    let mut station = QuietStation::new(alloc, Vec::new(alloc))?;
+    let mut store = Store::make(alloc, &mut station, 1000)?;
+    store.commit(alloc, &mut station, &one_row(alloc, 4, 9, 7)?)?;
+    let Some(Record::Row(row)) = store.fetch(alloc, &mut station, 4)? else {
+        return Err("a row".into());
+    };
+    assert_eq!(rt; (row.stamp, row.table), (9, 1));
+    assert!(rt; matches!(row.values.as_slice(), [Value::Num(7)]));
+    assert!(rt; store.fetch(alloc, &mut station, 5)?.is_none());
+    // The size of the file is told, and then the reading of the page fails.
+    let mut failing = FuseStation::new(station, 1);
+    let failed = store.fetch(alloc, &mut failing, 4).err();
+    assert_eq!(rt; failed, Some(StoreFault::Disk));
     Ok(())
 }
