@@ -9,7 +9,7 @@ use Rattle.jiff_core.proofs.SignedLemmas.{signed_arith, one_part}
 use Rattle.wm_base.specs.declared.instant.TheConstants.{END}
 use Rattle.wm_grammar.specs.Meaning.{instant_for, instant_or_first}
 use Rattle.wm_instants.proofs.CivilLemmas.{first_day, first_day-least}
-use Rattle.wm_instants.specs.Instants.{day_start, has_form, instant_at, instant_by, instant_in, is_clock, is_date, forms_of, read_by}
+use Rattle.wm_instants.specs.Instants.{day_letter, day_start, field, has_form, hour_letter, instant_at, instant_by, instant_in, is_clock, is_date, forms_of, minute_letter, month_letter, read_by, second_letter, year_letter}
 use Rattle.wm_instants.specs.declared.form.DateForm.{DateForm}
 use Rattle.wm_instants.specs.declared.refusal.InstantRefusal.{InstantRefusal}
 
@@ -39,7 +39,7 @@ below_end : (k h m s : ℕ) → k ≤ 3_652_058 → h < 24 → m < 60 → s < 60
 below_end k h m s a b c d = omega arith
 
 -- what is there is below the end
-IsBelow : Result ℕ InstantRefusal → Type 0
+abbrev IsBelow : Result ℕ InstantRefusal → Type 0
 IsBelow (Ok n) = n < END
 IsBelow (Err e) = Unit {0}
 
@@ -58,9 +58,13 @@ by_form : (b : Bool) (here there : Result ℕ InstantRefusal) → IsBelow here �
 by_form true here there h t = h
 by_form false here there h t = t
 
+by_below : (form text : List ℕ) → IsBelow (instant_by form text)
+by_below form text =
+    at_below (field year_letter form text) (field month_letter form text) (field day_letter form text) (field hour_letter form text) (field minute_letter form text) (field second_letter form text)
+
 read_below : (forms : List (List ℕ)) (text : List ℕ) → IsBelow (read_by forms text)
 read_below [] text = tt
-read_below (form ∷ forms) text = by_form (has_form form text) (instant_by form text) (read_by forms text) (at_below _ _ _ _ _ _) (read_below forms text)
+read_below (form ∷ forms) text = by_form (has_form form text) (instant_by form text) (read_by forms text) (by_below form text) (read_below forms text)
 
 instant_below : (form : DateForm) (text : List ℕ) → IsBelow (instant_in form text)
 unfolding instant_in

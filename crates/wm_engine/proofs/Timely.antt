@@ -30,17 +30,17 @@ run_timely depth session ts tree w = as_tree tree (trees.Run session w.5.0) w.5.
 pub line_timely : (depth : ℕ) (ts : List Symbol) (tree : Line) → (line depth).Whole ts tree → IsTimely tree
 unfolding line
 line_timely depth ts tree (inl w) = elim w.5 [
-    inl r ↦ run_timely depth w.0 w.2 tree r
+  | inl r ↦ run_timely depth w.0 w.2 tree r
   | inr c ↦ as_tree tree (trees.Connect c.0 c.5.0) c.5.5.1 tt
-  ]
+]
 line_timely depth ts tree (inr (inl w)) = elim w.5 [
-    inl r ↦ run_timely depth w.0 w.2 tree r
+  | inl r ↦ run_timely depth w.0 w.2 tree r
   | inr c ↦ as_tree tree (trees.Disconnect c.0) c.5.1 tt
-  ]
+]
 line_timely depth ts tree (inr (inr (inl w))) = elim w.5 [
-    inl r ↦ run_timely depth w.0 w.2 tree r
+  | inl r ↦ run_timely depth w.0 w.2 tree r
   | inr c ↦ as_tree tree (trees.At c.0) c.5.1 (instant_below c.1 c.0 c.4)
-  ]
+]
 line_timely depth ts tree (inr (inr (inr w))) = run_timely depth w.0 w.2 tree w.5
 
 -- the moment in the place of SYSDATE is not the one that is set

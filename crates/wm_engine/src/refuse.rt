@@ -5,7 +5,9 @@ ghost use Rattle.wm_model.specs.Step.{at_its_end, bad_literal, bad_name, change_
 
 use crate::answer::Answer;
 use std::alloc::Global;
-use wm_base::{CellRefusal, FormRefusal, Instant, Key, LimitRefusal, Memory, Name, Refusal, SpaceRefusal};
+use wm_base::{
+    CellRefusal, FormRefusal, Instant, Key, LimitRefusal, Memory, Name, Refusal, SpaceRefusal,
+};
 
 /// That the line is not built yet.
 pub fn not_built() -> Answer

@@ -4,7 +4,6 @@ pub mod Creating
 pub mod Enabling
 pub mod Going
 pub mod Steps
-
 pub mod Doing
 pub mod Homes
 pub mod Named

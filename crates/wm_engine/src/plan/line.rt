@@ -127,7 +127,11 @@ fn plan_text(
             planned
         }
         Err(ParseFault::Syntax { column }) => Ok(Timed::answered(alloc, moment, syntax(column))),
-        Err(ParseFault::Literal { column }) => Ok(Timed::answered(alloc, moment, bad_literal(column))),
+        Err(ParseFault::Literal { column }) => Ok(Timed::answered(
+            alloc,
+            moment,
+            bad_literal(column),
+        )),
         Err(ParseFault::Memory) => Err(Memory),
     }
 }
