@@ -47,5 +47,5 @@ line_timely depth ts tree (inr (inr (inr w))) = run_timely depth w.0 w.2 tree w.
 pub timely_timed : (m : ℕ) (l : Line) → IsTimely l → IsTimely (timed_line m l)
 timely_timed m (trees.Connect session user) timely = tt
 timely_timed m (trees.Disconnect session) timely = tt
-timely_timed m (trees.At instant) timely = timely
+timely_timed m (trees.At n) timely = timely
 timely_timed m (trees.Run session statement) timely = tt

@@ -1,4 +1,4 @@
-use Rattle.std.proofs.Common.{Ok, sym, ap, ◌∙◌}
+use Rattle.std.proofs.Common.{Ok, refl, sym, ap, ◌∙◌}
 use Rattle.wm_base.specs.Views.{line_view}
 use Rattle.wm_model.specs.Step.{run_line, run_parsed, timed_line, not_built}
 use Rattle.wm_engine.proofs.Lasting.{line_lasts, timed_forks, timed_runs}

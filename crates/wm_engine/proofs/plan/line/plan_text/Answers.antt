@@ -1,5 +1,4 @@
 use Rattle.std.proofs.Common.{refl, ap, ◌∙◌}
-use Rattle.wm_base.specs.Views.{line_view}
 use Rattle.wm_grammar.specs.Scanned.{symbols_of}
 use Rattle.wm_model.specs.Step.{run_parsed, syntax, bad_literal}
 use Rattle.wm_parser.specs.Parsed.{parsed}
@@ -8,8 +7,8 @@ use Rattle.wm_engine.proofs.Timely.{line_timely}
 use Rattle.wm_engine.specs.Views.{answer_view, seating_view}
 use Rattle.wm_engine.proofs.plan.line.plan_text.Goals as goal
 
-pub plan_read-requires-clause-timely : goal.plan_read-requires-clause-timely
-plan_read-requires-clause-timely c = line_timely 64 (symbols_of c.args.text.now) (line_view c.in-Ok.line) c.in-Ok.ensures.found.0
+pub plan_read-planned-requires-clause-timely : goal.plan_read-planned-requires-clause-timely
+plan_read-planned-requires-clause-timely c = line_timely 64 (symbols_of c.args.text.now) _ c.in-Ok.ensures.found.0
 
 pub returns-in-Err-Syntax-clause-does : goal.returns-in-Err-Syntax-clause-does
 returns-in-Err-Syntax-clause-does c =
