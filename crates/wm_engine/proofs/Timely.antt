@@ -3,7 +3,6 @@ use Rattle.std.proofs.Common.{◌≡◌, ℕ, ◌<◌, List, inl, inr, sym, subs
 use Rattle.wm_base.specs.Trees as trees
 use Rattle.wm_base.specs.Trees.{Line}
 use Rattle.wm_base.specs.declared.instant.TheConstants.{END}
-use Rattle.wm_grammar.specs.Forms.{Form}
 use Rattle.wm_grammar.specs.Operands.{instant}
 use Rattle.wm_grammar.specs.Statements.{line, run}
 use Rattle.wm_grammar.specs.Symbols.{Symbol}

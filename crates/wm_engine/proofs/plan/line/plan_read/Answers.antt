@@ -1,8 +1,8 @@
 use Rattle.std.proofs.Common.{Ok, refl, sym, ap, ◌∙◌}
 use Rattle.wm_base.specs.Views.{line_view}
-use Rattle.wm_model.specs.Step.{run_line, run_parsed, timed_line, not_built}
-use Rattle.wm_engine.proofs.Lasting.{line_lasts, timed_forks, timed_runs}
-use Rattle.wm_engine.proofs.Planning.{told_alone, timed_same}
+use Rattle.wm_model.specs.Step.{run_parsed, not_built}
+use Rattle.wm_engine.proofs.Lasting.{line_lasts}
+use Rattle.wm_engine.proofs.Planning.{told_alone}
 use Rattle.wm_engine.proofs.Timely.{timely_timed}
 use Rattle.wm_engine.specs.Views.{answer_view, seating_view}
 use Rattle.wm_engine.proofs.plan.line.plan_read.Goals as goal
