@@ -45,6 +45,7 @@ fn plan_line(
     requires moment { moment < END }
     // No item of a query has a written period that is empty.
     requires lasting { lasts_line (line_view line.now) ≡ true }
+    // AT sets a moment below the end.
     requires timely { IsTimely (line_view line.now) }
     ensures does { IfOk result (λ t. DoesTimed image.now sessions.now moment t (run_line (line_view line.now))) }
     ensures moment { IfOk result (λ t. t.moment < END) }
@@ -88,6 +89,7 @@ fn plan_read(
 ) -> Result<Timed, Memory>
     requires rules { keep_rules (parts_of image.now) ≡ true }
     requires moment { moment < END }
+    // AT sets a moment below the end.
     requires timely { IsTimely (line_view line.old) }
     ensures does { IfOk result (λ t. DoesTimed image.now sessions.now moment t (run_parsed (Read (line_view line.old)))) }
     ensures moment { IfOk result (λ t. t.moment < END) }
