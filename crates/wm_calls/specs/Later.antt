@@ -45,9 +45,9 @@ later_source _ = false
 abbrev pub is_later_statement : Statement → Bool
 is_later_statement s = later_call s || later_source s || uses_periods s
 
--- the line sets the moment, or uses what is not built yet
+-- the line uses what is not built yet
 abbrev pub is_later : Line → Bool
 is_later (Connect session user) = false
 is_later (Disconnect session) = false
-is_later (At moment) = true
+is_later (At moment) = false
 is_later (Run session statement) = is_later_statement statement

@@ -79,13 +79,12 @@ fn is_later_statement(statement: &Statement) -> bool
     later_call(statement) || later_source(statement) || uses_periods(statement)
 }
 
-/// Whether the line sets the moment, or uses what a later stage serves.
+/// Whether the line uses what a later stage serves.
 pub fn is_later(line: &Line) -> bool
     ensures { result ≡ is_later (line_view line.now) }
 {
     match line {
-        Line::Connect { .. } | Line::Disconnect { .. } => false,
-        Line::At(_) => true,
+        Line::Connect { .. } | Line::Disconnect { .. } | Line::At(_) => false,
         Line::Run { statement, .. } => is_later_statement(statement),
     }
 }

@@ -13,6 +13,8 @@ pub mod Coming
 pub mod FittingForks
 pub mod Inserting
 pub mod Lasting
+pub mod Dated
+pub mod Timely
 pub mod Lengths
 pub mod Creating
 pub mod Calling

@@ -16,10 +16,13 @@ use Rattle.wm_spec.specs.declared.record.stored.Stored.{Stored}
 use Rattle.wm_spec.specs.declared.record.table.Table.{Table}
 use Rattle.wm_state.specs.State.{State, Session}
 use Rattle.wm_state.specs.ById.{applied}
-use Rattle.wm_model.specs.Planning.{StandsAt, Does, Seating, seated}
-use Rattle.wm_engine.specs.Planning.{DoesIt}
+use Rattle.wm_model.specs.Planning.{StandsAt, Does, DoesAt, Seating, Stay, seated}
+use Rattle.wm_model.proofs.Doing.{does_nothing}
+use Rattle.wm_model.proofs.Timing.{does_at}
+use Rattle.wm_engine.specs.Planning.{DoesIt, DoesTimed}
 use Rattle.wm_engine.specs.Views.{answer_view, seating_view}
 use Rattle.wm_engine.specs.declared.planned.Planned.{Planned}
+use Rattle.wm_engine.specs.declared.planned.Timed.{Timed}
 
 -- a plan of these changes, of this that becomes of the sessions, and of this answer
 pub told : (rs : List Stored) (xs : List Session) (m : ℕ) (p : Planned) (cs : List Change) (seating : Seating) (answer : Answer) (act : State → State × Answer) → p.changes ≡ cs → seating_view p.seating ≡ seating → answer_view p.answer ≡ answer
@@ -96,11 +99,6 @@ some_of (Some a) e = (a, refl)
 pub does_one : (rs : List Stored) (xs : List Session) (m : ℕ) (p : Planned) (act other : State → State × Answer) → ((s : State) → StandsAt rs xs m s → other s ≡ act s) → DoesIt rs xs m p act → DoesIt rs xs m p other
 does_one rs xs m p act other same does = does_same rs xs m p.changes (seating_view p.seating) (answer_view p.answer) act other same does
 
-pub does_it_same : (rs : List Stored) (xs : List Session) (m : ℕ) (r : Result Planned Memory) (act other : State → State × Answer) → ((s : State) → StandsAt rs xs m s → other s ≡ act s)
-    → IfOk r (λ p. DoesIt rs xs m p act) → IfOk r (λ p. DoesIt rs xs m p other)
-does_it_same rs xs m (Ok p) act other same does = does_one rs xs m p act other same does
-does_it_same rs xs m (Err e) act other same does = tt
-
 -- a plan that looks at no moment
 pub for_moment : (rs : List Stored) (m : ℕ) (r : Result Planned Memory) (act other : State → State × Answer) → ((s : State) → other s ≡ act s)
     → IfOk r (λ p. (xs : List Session) (m : ℕ) → DoesIt rs xs m p act) → IfOk r (λ p. (xs : List Session) → DoesIt rs xs m p other)
@@ -118,3 +116,36 @@ pub for_sessions : (rs : List Stored) (m : ℕ) (r : Result Planned Memory) (act
     → IfOk r (λ p. (xs : List Session) → DoesIt rs xs m p act) → IfOk r (λ p. (xs : List Session) → DoesIt rs xs m p other)
 for_sessions rs m (Ok p) act other same does = λ xs. does_one rs xs m p act other (λ s st. same s) (does xs)
 for_sessions rs m (Err e) act other same does = tt
+
+-- ---- the moment behind a line
+
+-- a plan that leaves the moment
+pub timed : (rs : List Stored) (xs : List Session) (m : ℕ) (p : Planned) (act : State → State × Answer) → DoesIt rs xs m p act → DoesTimed rs xs m (record { planned = p; moment = m }) act
+timed rs xs m p act does = does_at rs xs m p.changes (seating_view p.seating) (answer_view p.answer) act does
+
+-- a plan of this answer alone, and of this moment behind it
+pub told_at : (rs : List Stored) (xs : List Session) (m : ℕ) (t : Timed) (after : ℕ) (answer : Answer) (act : State → State × Answer) → t.planned.changes ≡ [] → seating_view t.planned.seating ≡ Stay → t.moment ≡ after
+    → answer_view t.planned.answer ≡ answer → DoesAt rs xs m [] Stay after answer act → DoesTimed rs xs m t act
+told_at rs xs m t after answer act none stays behind says does = rw (none, stays, behind, says) does
+
+-- a plan that changes nothing at all
+pub told_alone : (rs : List Stored) (xs : List Session) (m : ℕ) (t : Timed) (answer : Answer) (act : State → State × Answer) → keep_rules (parts_of rs) ≡ true → t.planned.changes ≡ [] → seating_view t.planned.seating ≡ Stay → t.moment ≡ m
+    → answer_view t.planned.answer ≡ answer → ((s : State) → StandsAt rs xs m s → act s ≡ (s, answer)) → DoesTimed rs xs m t act
+told_alone rs xs m t answer act rules none stays behind says same =
+    told_at rs xs m t m answer act none stays behind says (does_at rs xs m [] Stay answer act (does_nothing rs xs m answer act rules same))
+
+-- a plan does what another function does to each state that the records stand for
+timed_one : (rs : List Stored) (xs : List Session) (m : ℕ) (t : Timed) (act other : State → State × Answer) → ((s : State) → StandsAt rs xs m s → other s ≡ act s) → DoesTimed rs xs m t act → DoesTimed rs xs m t other
+timed_one rs xs m t act other same does = record {
+  keeps = does.keeps;
+  once = does.once;
+  does = λ s stands. let d = does.does s stands in (
+    subst (λ r. StandsAt (applied t.planned.changes rs) (seated xs (seating_view t.planned.seating)) t.moment r.0) (sym (same s stands)) d.0,
+    d.1 ∙ ap (λ r. r.1) (sym (same s stands)),
+  );
+}
+
+pub timed_same : (rs : List Stored) (xs : List Session) (m : ℕ) (r : Result Timed Memory) (act other : State → State × Answer) → ((s : State) → StandsAt rs xs m s → other s ≡ act s)
+    → IfOk r (λ t. DoesTimed rs xs m t act) → IfOk r (λ t. DoesTimed rs xs m t other)
+timed_same rs xs m (Ok t) act other same does = timed_one rs xs m t act other same does
+timed_same rs xs m (Err e) act other same does = tt

@@ -2,6 +2,7 @@ pub mod Working
 pub mod Stands
 pub mod Views
 pub mod Planning
+pub mod Timely
 pub mod Forks
 pub mod Idle
 pub mod Points

@@ -145,6 +145,7 @@ impl Engine {
             line,
         )?;
         self.image = Some(kept.image);
+        self.moment = kept.moment;
         Ok(kept.bytes)
     }
 }

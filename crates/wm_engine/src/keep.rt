@@ -21,7 +21,7 @@ ghost use Rattle.wm_store.specs.Spelled.{FitPages};
 use crate::commit::commit;
 use crate::fault::LineFault;
 use crate::plan::line::plan;
-use crate::planned::Changed;
+use crate::planned::{Changed, Timed};
 use crate::print::print;
 use crate::seating::seat;
 use crate::session::Session;
@@ -31,10 +31,11 @@ use wm_image::Image;
 use wm_station::Station;
 use wm_store::Store;
 
-/// The records that a line left, and the bytes of its answer.
+/// The records and the moment that a line left, and the bytes of its answer.
 #[derive(Drop)]
 pub struct Kept {
     pub image: Image,
+    pub moment: u64,
     pub bytes: Bytes,
 }
 
@@ -79,8 +80,9 @@ pub fn run_line<P: Station>(
     requires rules { keep_rules (parts_of image) ≡ true }
     requires moment { moment < END }
     requires works { P.tells → KeepsOver store.old image (P.history station.old) }
-    ensures answered { IfOk result (λ k. (s : State) → StandsAt image sessions.old.items moment s → StandsAt k.image sessions.new.items moment (step s line.now).0 × (k.bytes ≡ answer_text (step s line.now).1)) }
+    ensures answered { IfOk result (λ k. (s : State) → StandsAt image sessions.old.items moment s → StandsAt k.image sessions.new.items k.moment (step s line.now).0 × (k.bytes ≡ answer_text (step s line.now).1)) }
     ensures rules { IfOk result (λ k. keep_rules (parts_of k.image) ≡ true) }
+    ensures moment { IfOk result (λ k. k.moment < END) }
     ensures few { is_fork (parsed line.now) ≡ true → IfOk result (λ k. ChangesFew image k.image) }
     ensures idle { IfOk result (λ k. (s : State) → StandsAt image sessions.old.items moment s → is_idle (step s line.now).1 ≡ true → (k.image ≡ image) × (sessions.new.items ≡ sessions.old.items)) }
     ensures works { P.tells → IfOk result (λ k. KeepsOver store.new k.image (P.history station.new)) }
@@ -90,7 +92,7 @@ pub fn run_line<P: Station>(
     ensures say_quiet { P.say_faults station.new ≡ P.say_faults station.old }
     ensures unchanged { P.tells → IsErrOf result faults.Changed → ⊥ }
 {
-    let planned = plan(alloc, &image, sessions.as_slice(), moment, line)?;
+    let Timed { planned, moment } = plan(alloc, &image, sessions.as_slice(), moment, line)?;
     let bytes = print(alloc, &planned.answer)?;
     let image = keep(
         alloc,
@@ -100,5 +102,9 @@ pub fn run_line<P: Station>(
         image,
         planned.into_changed(),
     )?;
-    Ok(Kept { image, bytes })
+    Ok(Kept {
+        image,
+        moment,
+        bytes,
+    })
 }

@@ -1,6 +1,7 @@
 //! What a line does and answers, worked out over the records before anything changes.
 
 mod add_values;
+mod at;
 mod batch;
 mod bearing;
 mod call;

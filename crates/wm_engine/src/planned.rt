@@ -70,6 +70,28 @@ impl Planned {
     }
 }
 
+/// What a line does, and the moment behind it.
+#[derive(Drop)]
+pub struct Timed {
+    pub planned: Planned,
+    pub moment: u64,
+}
+
+impl Timed {
+    /// The answer alone, and the moment: nothing else changes.
+    pub fn answered(alloc: Global, moment: u64, answer: Answer) -> Timed
+        ensures changes { result.planned.changes ≡ [] }
+        ensures seating { result.planned.seating ≡ Stay }
+        ensures answer { result.planned.answer ≡ answer }
+        ensures moment { result.moment ≡ moment }
+    {
+        Timed {
+            planned: Planned::answered(alloc, answer),
+            moment,
+        }
+    }
+}
+
 /// What a line changes: the records, and the sessions.
 #[derive(Drop)]
 pub struct Changed {

@@ -1,11 +1,13 @@
 //! The refusals of lines.
 ghost use Rattle.std.specs.Prelude.{◌≡◌, IfOk};
 ghost use Rattle.wm_engine.specs.Views.{answer_view};
-ghost use Rattle.wm_model.specs.Step.{at_its_end, bad_literal, bad_name, change_limit, key_there, long_name, mistyped, most_rows, most_savepoints, most_sessions, most_tables, most_workspaces, no_key, no_savepoint, no_session, no_table, no_workspace, no_text, not_built, not_latest, out_of_range, reserved_name, savepoint_there, session_there, syntax, table_there, too_long_line, versioning, workspace_there};
+ghost use Rattle.wm_model.specs.Step.{at_its_end, bad_literal, bad_name, change_limit, key_there, long_name, mistyped, moment_back, most_rows, most_savepoints, most_sessions, most_tables, most_workspaces, no_key, no_savepoint, no_session, no_table, no_workspace, no_text, not_built, not_latest, out_of_range, reserved_name, savepoint_there, session_there, syntax, table_there, too_long_line, versioning, workspace_there};
 
 use crate::answer::Answer;
 use std::alloc::Global;
-use wm_base::{CellRefusal, FormRefusal, Key, LimitRefusal, Memory, Name, Refusal, SpaceRefusal};
+use wm_base::{
+    CellRefusal, FormRefusal, Instant, Key, LimitRefusal, Memory, Name, Refusal, SpaceRefusal,
+};
 
 /// That the line is not built yet.
 pub fn not_built() -> Answer
@@ -159,6 +161,13 @@ pub fn not_latest() -> Answer
     ensures { answer_view result ≡ not_latest }
 {
     Answer::Refused(Refusal::Space(SpaceRefusal::Wm030))
+}
+
+/// That the moment is later than one that is to be set.
+pub fn moment_back(moment: Instant) -> Answer
+    ensures { answer_view result ≡ moment_back moment }
+{
+    Answer::Refused(Refusal::Space(SpaceRefusal::Wm031(moment)))
 }
 
 /// That the key is there.

@@ -130,7 +130,7 @@ fn a_table_is_filled_and_read(rt: HostRuntime) -> Result<(), Fail> {
         WM-010 no table NOPE\n\
         WM-003 syntax 4\n\
         WM-004 no session B\n\
-        WM-099 not built yet\n"
+        OK\n"
             .as_slice()
     );
     Ok(())

@@ -19,5 +19,6 @@ pub mod Points
 pub mod SavingLine
 pub mod BearingLine
 pub mod Seating
+pub mod Timing
 pub mod Inserting
 pub mod Updating

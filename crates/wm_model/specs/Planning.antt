@@ -40,6 +40,12 @@ pub record Does (records : List Stored) (sessions : List Session) (moment : ℕ)
   pub once : AreChanges changes
   pub does : (s : State) → StandsAt records sessions moment s → StandsAt (applied changes records) (seated sessions seating) moment (act s).0 × (answer ≡ (act s).1)
 
+-- so, with another moment behind it
+pub record DoesAt (records : List Stored) (sessions : List Session) (moment : ℕ) (changes : List Change) (seating : Seating) (after : ℕ) (answer : Answer) (act : State → State × Answer) : Type 0 where
+  pub keeps : keep_rules (parts_of (applied changes records)) ≡ true
+  pub once : AreChanges changes
+  pub does : (s : State) → StandsAt records sessions moment s → StandsAt (applied changes records) (seated sessions seating) after (act s).0 × (answer ≡ (act s).1)
+
 -- ---- what plans are told by
 
 -- the counters once a line has changed something at a moment

@@ -13,7 +13,7 @@ use Rattle.wm_base.specs.declared.value.Value.{Value}
 use Rattle.wm_base.specs.declared.refusal.Refusal.TheVariants.{Form, Limit}
 use Rattle.wm_base.specs.declared.refusal.Refusal.TheVariants as refusals
 use Rattle.wm_base.specs.declared.refusal.FormRefusal.TheVariants.{Wm001, Wm002, Wm003, Wm004, Wm005, Wm010, Wm011, Wm013, Wm015, Wm016, Wm019}
-use Rattle.wm_base.specs.declared.refusal.SpaceRefusal.TheVariants.{Wm020, Wm021, Wm022, Wm023, Wm024, Wm030}
+use Rattle.wm_base.specs.declared.refusal.SpaceRefusal.TheVariants.{Wm020, Wm021, Wm022, Wm023, Wm024, Wm030, Wm031}
 use Rattle.wm_base.specs.declared.refusal.CellRefusal.TheVariants.{Wm060, Wm064, Wm065}
 use Rattle.wm_base.specs.declared.refusal.LimitRefusal.TheVariants.{Wm070, Wm071, Wm072, Wm073, Wm074, Wm075, Wm076, Wm099}
 use Rattle.wm_graph.specs.Rules.{key_of}
@@ -122,6 +122,10 @@ savepoint_there name = Refused (refusals.Space (Wm023 name))
 
 abbrev pub not_latest : Answer
 not_latest = Refused (refusals.Space Wm030)
+
+-- the moment is later than one that is to be set
+abbrev pub moment_back : ℕ → Answer
+moment_back moment = Refused (refusals.Space (Wm031 moment))
 
 abbrev pub key_there : List Value → Answer
 key_there key = let no_period : Option Span = None in Refused (refusals.Cell (Wm060 key no_period))
@@ -258,6 +262,12 @@ connect name user s =
 abbrev pub disconnect : List ℕ → State → State × Answer
 disconnect name s =
     if is_some (session_of name s.sessions) then (record s { sessions = closed name s.sessions }, Fine) else (s, no_session name)
+
+-- ---- the moment
+
+-- AT sets it, and never back; nothing durable changes
+abbrev pub set_moment : ℕ → State → State × Answer
+set_moment instant s = if nat_lt instant s.moment then (s, moment_back s.moment) else (record s { moment = instant }, Fine)
 
 -- ---- tables
 
@@ -615,7 +625,7 @@ run_for name (Some session) statement s = run_statement session statement s
 abbrev pub run_line : Line → State → State × Answer
 run_line (Connect name user) s = connect name user s
 run_line (Disconnect name) s = disconnect name s
-run_line (AtMoment instant) s = (s, not_built)
+run_line (AtMoment instant) s = set_moment instant s
 run_line (Run name statement) s = run_for name (session_of name s.sessions) statement s
 
 -- the moment stands in the place of SYSDATE

@@ -5,7 +5,8 @@ ghost use Rattle.wm_base.specs.Views.{line_view};
 ghost use Rattle.wm_engine.specs.Forks.{ChangesFew, is_fork, is_fork_line};
 ghost use Rattle.wm_engine.specs.Idle.{Idles};
 ghost use Rattle.wm_engine.specs.Lasting.{lasts_line};
-ghost use Rattle.wm_engine.specs.Planning.{DoesIt};
+ghost use Rattle.wm_engine.specs.Planning.{DoesTimed};
+ghost use Rattle.wm_engine.specs.Timely.{IsTimely};
 ghost use Rattle.wm_graph.specs.Parts.{parts_of};
 ghost use Rattle.wm_graph.specs.Rules.{keep_rules};
 ghost use Rattle.wm_model.specs.Step.{run_line, run_parsed, step, timed_line};
@@ -14,9 +15,10 @@ ghost use Rattle.wm_state.specs.ById.{applied};
 ghost use Rattle.wm_store.specs.Spelled.{FitPages};
 
 use crate::answer::Answer;
+use crate::plan::at::at_moment;
 use crate::plan::connect::{connect, disconnect};
 use crate::plan::statement::run;
-use crate::planned::Planned;
+use crate::planned::Timed;
 use crate::refuse::{bad_literal, no_text, not_built, syntax, too_long_line};
 use crate::session::Session;
 use std::alloc::Global;
@@ -38,22 +40,32 @@ fn plan_line(
     sessions: &[Session],
     moment: u64,
     line: &Line,
-) -> Result<Planned, Memory>
+) -> Result<Timed, Memory>
     requires rules { keep_rules (parts_of image.now) ≡ true }
     requires moment { moment < END }
     // No item of a query has a written period that is empty.
     requires lasting { lasts_line (line_view line.now) ≡ true }
-    ensures does { IfOk result (λ p. DoesIt image.now sessions.now moment p (run_line (line_view line.now))) }
-    ensures fit { IfOk result (λ p. FitPages p.changes) }
-    ensures idle { IfOk result Idles }
-    ensures few { is_fork_line (line_view line.now) ≡ true → IfOk result (λ p. ChangesFew image.now (applied p.changes image.now)) }
+    // AT sets a moment below the end.
+    requires timely { IsTimely (line_view line.now) }
+    ensures does { IfOk result (λ t. DoesTimed image.now sessions.now moment t (run_line (line_view line.now))) }
+    ensures moment { IfOk result (λ t. t.moment < END) }
+    ensures fit { IfOk result (λ t. FitPages t.planned.changes) }
+    ensures idle { IfOk result (λ t. Idles t.planned) }
+    ensures few { is_fork_line (line_view line.now) ≡ true → IfOk result (λ t. ChangesFew image.now (applied t.planned.changes image.now)) }
 {
     match line {
-        Line::Connect { session, user } => connect(alloc, sessions, session, user),
-        Line::Disconnect { session } => disconnect(alloc, sessions, session),
-        Line::At(_) => Ok(Planned::answered(alloc, not_built())),
+        Line::Connect { session, user } => {
+            let planned = connect(alloc, sessions, session, user)?;
+            Ok(Timed { planned, moment })
+        }
+        Line::Disconnect { session } => {
+            let planned = disconnect(alloc, sessions, session)?;
+            Ok(Timed { planned, moment })
+        }
+        Line::At(instant) => Ok(at_moment(alloc, moment, *instant)),
         Line::Run { session, statement } => {
-            run(alloc, image, sessions, moment, session, statement)
+            let planned = run(alloc, image, sessions, moment, session, statement)?;
+            Ok(Timed { planned, moment })
         }
     }
 }
@@ -74,16 +86,19 @@ fn plan_read(
     sessions: &[Session],
     moment: u64,
     line: &mut Line,
-) -> Result<Planned, Memory>
+) -> Result<Timed, Memory>
     requires rules { keep_rules (parts_of image.now) ≡ true }
     requires moment { moment < END }
-    ensures does { IfOk result (λ p. DoesIt image.now sessions.now moment p (run_parsed (Read (line_view line.old)))) }
-    ensures fit { IfOk result (λ p. FitPages p.changes) }
-    ensures idle { IfOk result Idles }
-    ensures few { is_fork_line (line_view line.old) ≡ true → IfOk result (λ p. ChangesFew image.now (applied p.changes image.now)) }
+    // AT sets a moment below the end.
+    requires timely { IsTimely (line_view line.old) }
+    ensures does { IfOk result (λ t. DoesTimed image.now sessions.now moment t (run_parsed (Read (line_view line.old)))) }
+    ensures moment { IfOk result (λ t. t.moment < END) }
+    ensures fit { IfOk result (λ t. FitPages t.planned.changes) }
+    ensures idle { IfOk result (λ t. Idles t.planned) }
+    ensures few { is_fork_line (line_view line.old) ≡ true → IfOk result (λ t. ChangesFew image.now (applied t.planned.changes image.now)) }
 {
     if is_later(line) {
-        return Ok(Planned::answered(alloc, not_built()));
+        return Ok(Timed::answered(alloc, moment, not_built()));
     }
     let now = Instant::new(moment).unwrap();
     set_moment_in(alloc, line, now);
@@ -97,14 +112,15 @@ fn plan_text(
     sessions: &[Session],
     moment: u64,
     text: &[u8],
-) -> Result<Planned, Memory>
+) -> Result<Timed, Memory>
     requires rules { keep_rules (parts_of image.now) ≡ true }
     requires moment { moment < END }
     requires fits { length text.now ≤ 16384 }
-    ensures does { IfOk result (λ p. DoesIt image.now sessions.now moment p (run_parsed (parsed text.now))) }
-    ensures fit { IfOk result (λ p. FitPages p.changes) }
-    ensures idle { IfOk result Idles }
-    ensures few { is_fork (parsed text.now) ≡ true → IfOk result (λ p. ChangesFew image.now (applied p.changes image.now)) }
+    ensures does { IfOk result (λ t. DoesTimed image.now sessions.now moment t (run_parsed (parsed text.now))) }
+    ensures moment { IfOk result (λ t. t.moment < END) }
+    ensures fit { IfOk result (λ t. FitPages t.planned.changes) }
+    ensures idle { IfOk result (λ t. Idles t.planned) }
+    ensures few { is_fork (parsed text.now) ≡ true → IfOk result (λ t. ChangesFew image.now (applied t.planned.changes image.now)) }
 {
     match parse(alloc, text) {
         Ok(mut line) => {
@@ -112,8 +128,12 @@ fn plan_text(
             discard(line);
             planned
         }
-        Err(ParseFault::Syntax { column }) => Ok(Planned::answered(alloc, syntax(column))),
-        Err(ParseFault::Literal { column }) => Ok(Planned::answered(alloc, bad_literal(column))),
+        Err(ParseFault::Syntax { column }) => Ok(Timed::answered(alloc, moment, syntax(column))),
+        Err(ParseFault::Literal { column }) => Ok(Timed::answered(
+            alloc,
+            moment,
+            bad_literal(column),
+        )),
         Err(ParseFault::Memory) => Err(Memory),
     }
 }
@@ -125,22 +145,23 @@ pub fn plan(
     sessions: &[Session],
     moment: u64,
     text: &[u8],
-) -> Result<Planned, Memory>
+) -> Result<Timed, Memory>
     requires rules { keep_rules (parts_of image.now) ≡ true }
     requires moment { moment < END }
-    ensures does { IfOk result (λ p. DoesIt image.now sessions.now moment p (λ s. step s text.now)) }
-    ensures fit { IfOk result (λ p. FitPages p.changes) }
-    ensures idle { IfOk result Idles }
-    ensures few { is_fork (parsed text.now) ≡ true → IfOk result (λ p. ChangesFew image.now (applied p.changes image.now)) }
+    ensures does { IfOk result (λ t. DoesTimed image.now sessions.now moment t (λ s. step s text.now)) }
+    ensures moment { IfOk result (λ t. t.moment < END) }
+    ensures fit { IfOk result (λ t. FitPages t.planned.changes) }
+    ensures idle { IfOk result (λ t. Idles t.planned) }
+    ensures few { is_fork (parsed text.now) ≡ true → IfOk result (λ t. ChangesFew image.now (applied t.planned.changes image.now)) }
 {
     if text.len() > LINE_LIMIT {
-        return Ok(Planned::answered(alloc, too_long_line()));
+        return Ok(Timed::answered(alloc, moment, too_long_line()));
     }
     if is_remark(text) {
-        return Ok(Planned::answered(alloc, Answer::Nothing));
+        return Ok(Timed::answered(alloc, moment, Answer::Nothing));
     }
     if !is_text(text) {
-        return Ok(Planned::answered(alloc, no_text()));
+        return Ok(Timed::answered(alloc, moment, no_text()));
     }
     plan_text(alloc, image, sessions, moment, text)
 }

@@ -24,13 +24,13 @@ returns-in_err-bytes-clause-any_moment g c = λ told s stands.
 
 pub returns-in_err-image-clause-any_moment : goal.returns-in_err-image-clause-any_moment
 returns-in_err-image-clause-any_moment g c = λ told s stands.
-    kept_stands c.args.image c.as_slice.result.now c.args.moment c.in_ok-planned.planned.changes c.into_changed.result.changes (seating_view c.in_ok-planned.planned.seating) (answer_view c.in_ok-planned.planned.answer) (λ t. step t c.args.line.now)
+    kept_stands c.args.image c.as_slice.result.now c.args.moment c.in_ok-planned.field-0.planned.changes c.into_changed.result.changes (seating_view c.in_ok-planned.field-0.planned.seating) c.in_ok-planned.field-0.moment (answer_view c.in_ok-planned.field-0.planned.answer) (λ t. step t c.args.line.now)
     (g.P.Station.history c.args.station.now) (g.P.Station.history c.keep.new.station) s c.in_ok-planned.ensures.does c.into_changed.ensures.changes
     (subst (λ (xs : List Session). StandsAt c.args.image xs c.args.moment s) (sym c.as_slice.ensures.value) stands) (c.in_err-image.ensures.any_moment told)
 
 pub returns-clause-any_moment : goal.returns-clause-any_moment
 returns-clause-any_moment g c = λ told s stands.
-    kept_stands c.args.image c.as_slice.result.now c.args.moment c.in_ok-planned.planned.changes c.into_changed.result.changes (seating_view c.in_ok-planned.planned.seating) (answer_view c.in_ok-planned.planned.answer) (λ t. step t c.args.line.now)
+    kept_stands c.args.image c.as_slice.result.now c.args.moment c.in_ok-planned.field-0.planned.changes c.into_changed.result.changes (seating_view c.in_ok-planned.field-0.planned.seating) c.in_ok-planned.field-0.moment (answer_view c.in_ok-planned.field-0.planned.answer) (λ t. step t c.args.line.now)
     (g.P.Station.history c.args.station.now) (g.P.Station.history c.keep.new.station) s c.in_ok-planned.ensures.does c.into_changed.ensures.changes
     (subst (λ (xs : List Session). StandsAt c.args.image xs c.args.moment s) (sym c.as_slice.ensures.value) stands) (c.in_ok-image.ensures.any_moment told)
 
