@@ -8,6 +8,8 @@ mod later;
 mod periods;
 mod places;
 mod takes;
+#[cfg(test)]
+mod tests;
 
 pub use arguments::{argument, is_true_given, text_given};
 pub use faults::argument_fault;

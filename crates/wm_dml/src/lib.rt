@@ -7,6 +7,8 @@ mod deleting;
 mod faults;
 mod keys;
 mod replaced_rows;
+#[cfg(test)]
+mod tests;
 mod updated;
 
 pub use change::RowChange;

@@ -7,6 +7,8 @@ mod names;
 mod row;
 mod shape;
 mod table;
+#[cfg(test)]
+mod tests;
 mod values;
 
 pub use insert::insert_fault;

@@ -9,6 +9,8 @@ mod items;
 pub mod names;
 mod orders;
 mod refusals;
+#[cfg(test)]
+mod tests;
 pub mod types;
 
 pub use asking::query_fault;
