@@ -11,3 +11,4 @@ pub mod Lacking
 pub mod Lasting
 pub mod Chosen
 pub mod Acting
+pub mod Keyed
