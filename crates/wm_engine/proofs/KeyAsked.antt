@@ -161,10 +161,12 @@ fixes_key t condition constant has is = record { under = λ row e. keyed row.val
         ap (λ (o : Option Value). option_and_then (λ v. if t.has_key then Some (v ∷ []) else None) o) e
         ∙ ap (λ b. if b then Some (constant_value constant ∷ []) else None) has
 
--- the same of what was made of the constant
-pub key_fixed : (r : Result (Option (List Value)) Memory) (t : Table) (condition : Option Cond) (cond : Cond) (columns : List Column) (constant : Const) → condition ≡ Some cond → columns ≡ own_columns t → t.has_key ≡ true
-    → asked columns t.key_column cond ≡ Some constant → IfOk r (λ made. IfSome made (λ key. key ≡ constant_value constant ∷ [])) → IfOk r (λ made. IfSome made (FixesKey t condition))
-key_fixed (Ok (Some key)) t condition cond columns constant some own has is made =
-    rw (some, made) (fixes_key t cond constant has (ap (λ (cs : List Column). asked cs t.key_column cond) (sym own) ∙ is))
-key_fixed (Ok None) t condition cond columns constant some own has is made = tt
-key_fixed (Err e) t condition cond columns constant some own has is made = tt
+-- the same of the key that was made of the constant that was found
+pub key_fixed : (r : Result (Option (List Value)) Memory) (t : Table) (condition : Option Cond) (cond : Cond) (columns : List Column) (place : ℕ) (found : Option Const) (constant : Const) → condition ≡ Some cond
+    → columns ≡ own_columns t → place ≡ t.key_column → t.has_key ≡ true → found ≡ asked columns place cond → found ≡ Some constant → IfOk r (λ made. IfSome made (λ key. key ≡ constant_value constant ∷ []))
+    → IfOk r (λ made. IfSome made (FixesKey t condition))
+key_fixed (Ok (Some key)) t condition cond columns place found constant some own at has is there made =
+    rw (some, made)
+    (fixes_key t cond constant has (ap (λ (cs : List Column). asked cs t.key_column cond) (sym own) ∙ ap (λ n. asked columns n cond) (sym at) ∙ sym is ∙ there))
+key_fixed (Ok None) t condition cond columns place found constant some own at has is there made = tt
+key_fixed (Err e) t condition cond columns place found constant some own at has is there made = tt
