@@ -437,5 +437,14 @@ pub fn update(
         return Ok(Planned::answered(alloc, not_latest()));
     }
     let rows = chosen_rows(alloc, image, image.latest(session.space()), table, filter)?;
-    update_rows(alloc, image, moment, session, space, table, sets, rows.as_slice())
+    update_rows(
+        alloc,
+        image,
+        moment,
+        session,
+        space,
+        table,
+        sets,
+        rows.as_slice(),
+    )
 }
