@@ -26,3 +26,6 @@ pub mod Querying
 pub mod Stood
 pub mod Acting
 pub mod Choosing
+pub mod Listable
+pub mod KeyRows
+pub mod KeyAsked

@@ -12,3 +12,4 @@ pub mod Lacking
 pub mod Lasting
 pub mod Chosen
 pub mod Acting
+pub mod Keyed

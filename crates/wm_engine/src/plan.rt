@@ -11,6 +11,7 @@ mod create;
 mod enable;
 mod going;
 mod insert;
+mod keyed;
 pub mod line;
 mod saving;
 mod select;

@@ -33,7 +33,7 @@ use Rattle.wm_state.proofs.Apart.{ruled}
 use Rattle.wm_state.proofs.Tests.{both}
 use Rattle.wm_tree.specs.declared.version.Version.{Version as Node}
 use Rattle.wm_image.proofs.Spans.{spans, maximal, value, rows_are}
-use Rattle.wm_image.specs.Listing.{AddsRows, rows_on}
+use Rattle.wm_image.specs.Listing.{AddsRows, IsKeyListing, rows_on}
 use Rattle.wm_image.specs.Sought.{PiecesAt, is_sought}
 
 -- ---- nothing is held from the end of time on
@@ -103,6 +103,14 @@ adds_rows p version table key ps old new rules order same added = record {
     by_time : (t : ℕ) (b : Bool) → nat_lt t END ≡ b → held_at ps t ≡ seen p version (cell table key t)
     by_time t true e = same t (below t END e)
     by_time t false e = held_at-past 0 ps END t order (above t END e) ∙ sym (late_seen p version table key t rules (above t END e))
+
+-- what was put behind nothing is all of them
+pub lists_key : (p : Parts) (version table : ℕ) (key : List Value) (old new : List Row) → old ≡ [] → AddsRows p version table key old new → IsKeyListing p version table key new
+lists_key p version table key old new none more = record {
+  stretches = more.stretches;
+  are = more.are;
+  listed = more.added ∙ ap (λ rows. rows ++ filter_map (row_with p) (map (λ s. (key, s)) more.stretches)) none;
+}
 
 -- ---- key by key
 

@@ -33,3 +33,9 @@ pub record AddsRows (p : Parts) (version table : ℕ) (key : List Value) (old ne
   pub stretches : List Stretch
   pub are : AreRowsOf p version table key stretches
   pub added : new ≡ old ++ filter_map (row_with p) (map (λ s. (key, s)) stretches)
+
+-- the rows of one key that a version holds, by from
+pub record IsKeyListing (p : Parts) (version table : ℕ) (key : List Value) (rows : List Row) : Type 0 where
+  pub stretches : List Stretch
+  pub are : AreRowsOf p version table key stretches
+  pub listed : rows ≡ filter_map (row_with p) (map (λ s. (key, s)) stretches)

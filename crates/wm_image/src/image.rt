@@ -17,6 +17,7 @@ ghost use Rattle.wm_spec.specs.Records.{AreRecords, record_at};
 ghost use Rattle.wm_image.specs.Sought.{PiecesAt, ids_with, is_sought};
 ghost use Rattle.wm_state.specs.Batches.{is_out, keeps};
 ghost use Rattle.wm_state.specs.ById.{Ascend, applied, by_id};
+ghost use Rattle.wm_image.specs.Listing.{IsKeyListing};
 ghost use Rattle.wm_image.specs.Shown.{names};
 ghost use Rattle.wm_spec.specs.declared.record.savepoint.Savepoint.{Savepoint as OneSavepoint};
 ghost use Rattle.wm_spec.specs.declared.record.space.Space.{Space as OneSpace};
@@ -30,7 +31,7 @@ use crate::index::Index;
 use crate::keyed::{ids_of, ids_on, keys_on, last_key};
 use crate::kinds;
 use crate::laying::lay_path;
-use crate::listing::list_rows;
+use crate::listing::{list_key, list_rows};
 use crate::load::{ImageFault, put_all, sorted};
 use crate::records::{Kept, at, change_all, first, next_id};
 use crate::savepoints::{making_after, savepoint_in, savepoint_of_name};
@@ -349,6 +350,20 @@ impl Image {
         ensures { IfOk result (λ rows. IsListing (parts_of self.now) version table rows) }
     {
         list_rows(alloc, self, version, table)
+    }
+
+    /// The rows of a key of a table that a version holds, by from. The rest of the table is not looked at.
+    pub fn listing_of_key(
+        &self,
+        alloc: Global,
+        version: u64,
+        table: u16,
+        key: &Key,
+    ) -> Result<RowList, Memory>
+        requires { keep_rules (parts_of self.now) ≡ true }
+        ensures { IfOk result (λ rows. IsKeyListing (parts_of self.now) version table key.now rows) }
+    {
+        list_key(alloc, self, version, table, key)
     }
 
     /// The record of an id.

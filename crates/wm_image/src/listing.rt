@@ -4,7 +4,7 @@ ghost use Rattle.std.specs.Prelude.{◌≡◌, true, ◌++◌, IfOk, OnOk};
 ghost use Rattle.std.specs.Option.{option_and_then, option_to_list};
 ghost use Rattle.wm_graph.specs.Parts.{parts_of};
 ghost use Rattle.wm_graph.specs.Rules.{keep_rules};
-ghost use Rattle.wm_image.specs.Listing.{AddsRows, ending, goes_on, row_under, rows_on};
+ghost use Rattle.wm_image.specs.Listing.{AddsRows, IsKeyListing, ending, goes_on, row_under, rows_on};
 ghost use Rattle.wm_state.specs.Listing.{IsListing};
 
 use crate::image::Image;
@@ -96,6 +96,22 @@ fn push_key(
     let pieces = image.shown(alloc, version, table, key)?;
     push_rows(alloc, image, rows, pieces.list())?;
     Ok(())
+}
+
+/// The rows of a key that a version holds, by from. Only the pieces of that key are looked at.
+pub fn list_key(
+    alloc: Global,
+    image: &Image,
+    version: u64,
+    table: u16,
+    key: &Key,
+) -> Result<RowList, Memory>
+    requires { keep_rules (parts_of image.now) ≡ true }
+    ensures { IfOk result (λ rows. IsKeyListing (parts_of image.now) version table key.now rows) }
+{
+    let mut rows = RowList::new(alloc);
+    push_key(alloc, image, &mut rows, version, table, key)?;
+    Ok(rows)
 }
 
 /// The rows of a table that a version holds, by key and from.

@@ -12,6 +12,7 @@ ghost use Rattle.wm_engine.specs.Acting.{DoesAs, IsUpdate};
 ghost use Rattle.wm_engine.specs.Changing.{is_filled_change};
 ghost use Rattle.wm_engine.specs.Chosen.{AreChosen};
 ghost use Rattle.wm_engine.specs.Idle.{Idles};
+ghost use Rattle.wm_engine.specs.Keyed.{FixesKey};
 ghost use Rattle.wm_engine.specs.Planning.{DoesIt};
 ghost use Rattle.wm_graph.specs.Parts.{parts_of, space_of, table_of};
 ghost use Rattle.wm_graph.specs.Rules.{keep_rules};
@@ -26,6 +27,7 @@ ghost use Rattle.wm_state.specs.State.{Session as SessionState};
 ghost use Rattle.wm_store.specs.Spelled.{FitPages};
 
 use crate::answer::Answer;
+use crate::plan::keyed::key_asked;
 use crate::plan::select::always;
 use crate::plan::write_changes::write_changes;
 use crate::plan::write_row::Writing;
@@ -105,6 +107,50 @@ fn chosen_of(
     }
 }
 
+/// The rows of a table on which the condition is true, found among all that a version holds.
+fn chosen_of_all(
+    alloc: Global,
+    image: &Image,
+    version: u64,
+    table: &Table,
+    columns: &Columns,
+    filter: &Option<Cond>,
+) -> Result<Vec<Row>, Memory>
+    requires rules { keep_rules (parts_of image.now) ≡ true }
+    requires there { table_of (parts_of image.now).tables table.now.number ≡ Some table.now }
+    requires plain { table.now.valid ≡ false }
+    requires own { columns.now ≡ own_columns table.now }
+    requires typed { typed (where_of (filter_view filter.now)) columns.now ≡ true }
+    ensures { IfOk result (λ rows. AreChosen image.now version table.now (filter_view filter.now) rows.items) }
+{
+    let rows = image.listing(alloc, version, table.number)?.into_vec();
+    chosen_of(alloc, columns, filter, rows)
+}
+
+/// The same of a condition that is true on no rows but those of one key: the others are not looked at.
+fn chosen_under(
+    alloc: Global,
+    image: &Image,
+    version: u64,
+    table: &Table,
+    columns: &Columns,
+    filter: &Option<Cond>,
+    key: &Key,
+) -> Result<Vec<Row>, Memory>
+    requires rules { keep_rules (parts_of image.now) ≡ true }
+    requires there { table_of (parts_of image.now).tables table.now.number ≡ Some table.now }
+    requires plain { table.now.valid ≡ false }
+    requires own { columns.now ≡ own_columns table.now }
+    requires typed { typed (where_of (filter_view filter.now)) columns.now ≡ true }
+    requires fixed { FixesKey table.now (filter_view filter.now) key.now }
+    ensures { IfOk result (λ rows. AreChosen image.now version table.now (filter_view filter.now) rows.items) }
+{
+    let rows = image
+        .listing_of_key(alloc, version, table.number, key)?
+        .into_vec();
+    chosen_of(alloc, columns, filter, rows)
+}
+
 /// The rows of a table on which the condition is true, where there is one, of those that a version holds.
 fn chosen_rows(
     alloc: Global,
@@ -120,8 +166,10 @@ fn chosen_rows(
     ensures { IfOk result (λ rows. AreChosen image.now version table.now (filter_view filter.now) rows.items) }
 {
     let columns = columns_of_table(alloc, &table.name, table)?;
-    let rows = image.listing(alloc, version, table.number)?.into_vec();
-    chosen_of(alloc, &columns, filter, rows)
+    match key_asked(alloc, &columns, table, filter)? {
+        Some(key) => chosen_under(alloc, image, version, table, &columns, filter, &key),
+        None => chosen_of_all(alloc, image, version, table, &columns, filter),
+    }
 }
 
 /// Whether the value is no empty text.

@@ -1,0 +1,7 @@
+use Rattle.wm_graph.specs.Parts.{parts_of}
+use Rattle.wm_image.proofs.Gathering.{lists_key}
+use Rattle.wm_image.proofs.listing.list_key.Goals as goal
+
+pub returns : goal.returns
+returns c =
+    lists_key (parts_of c.args.image.now) c.args.version c.args.table c.args.key.now c.new-rows.result c.push_key.new.rows c.new-rows.ensures c.in_ok-push_key.ensures
