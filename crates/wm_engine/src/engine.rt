@@ -60,6 +60,8 @@ impl Engine {
         ensures fresh { P.tells → OnOk result (Holds (P.history station.new) (λ file. FileStands file (fresh limit))) }
         ensures absent { P.tells → OnOk result (is_made (now (P.history station.old)) ≡ false) }
         ensures exists { P.tells → IsErrOf result making.Exists → (is_made (now (P.history station.old)) ≡ true) × (P.history station.new ≡ P.history station.old) }
+        // A store that is there is never touched, whatever the answer.
+        ensures kept { P.tells → is_made (now (P.history station.old)) ≡ true → P.history station.new ≡ P.history station.old }
         ensures quiet { P.tells → said (P.history station.new) ≡ said (P.history station.old) }
         ensures later { P.disk_faults station.old ≤ P.disk_faults station.new }
         ensures disk { IsErrOf result making.Disk → Rises (P.disk_faults station.old) (P.disk_faults station.new) }

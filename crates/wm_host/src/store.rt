@@ -36,6 +36,8 @@ fn make_store<P: Station>(alloc: Global, station: &mut P, limit: u32) -> Result<
     ensures absent { P.tells → OnOk result (is_made (now (P.history station.old)) ≡ false) }
     ensures absent_unsaid { P.tells → IsErrOf result SayFault → is_made (now (P.history station.old)) ≡ false }
     ensures exists { P.tells → IsErrOf result Exists → (is_made (now (P.history station.old)) ≡ true) × (P.history station.new ≡ P.history station.old) }
+    // A store that is there is never touched, whatever the answer.
+    ensures kept { P.tells → is_made (now (P.history station.old)) ≡ true → P.history station.new ≡ P.history station.old }
     ensures unsaid { P.tells → IsErrOf result DiskFault → said (P.history station.new) ≡ said (P.history station.old) }
     ensures say_later { P.say_faults station.old ≤ P.say_faults station.new }
     ensures say_failed { IsErrOf result SayFault → Rises (P.say_faults station.old) (P.say_faults station.new) }
@@ -55,6 +57,8 @@ pub(crate) fn init<P: Station>(alloc: Global, station: &mut P, limit: u32) -> En
     ensures made { (result.status ≡ 0) ⊎ (result.status ≡ 4) → P.tells → Holds (P.history station.new) (λ file. FileStands file (fresh limit)) }
     ensures absent { (result.status ≡ 0) ⊎ (result.status ≡ 4) → P.tells → is_made (now (P.history station.old)) ≡ false }
     ensures exists { result.status ≡ 8 → P.tells → (is_made (now (P.history station.old)) ≡ true) × (P.history station.new ≡ P.history station.old) }
+    // A store that is there is never touched, whatever the answer.
+    ensures kept { P.tells → is_made (now (P.history station.old)) ≡ true → P.history station.new ≡ P.history station.old }
     ensures unsaid { result.status ≡ 5 → P.tells → said (P.history station.new) ≡ said (P.history station.old) }
     ensures say { result.status ≡ 4 → Rises (P.say_faults station.old) (P.say_faults station.new) }
     ensures disk { result.status ≡ 5 → Rises (P.disk_faults station.old) (P.disk_faults station.new) }
