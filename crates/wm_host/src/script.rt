@@ -1,5 +1,5 @@
 //! The loop over the source of a script.
-ghost use Rattle.std.specs.Prelude.{◌≡◌, ◌^◌, ◌≤◌, List, [], length, true, OnOk, OnErr, IsErrOf, IfErr};
+ghost use Rattle.std.specs.Prelude.{◌≡◌, ◌+◌, ◌^◌, ◌≤◌, List, [], length, true, OnOk, OnErr, IsErrOf, IfErr};
 ghost use Rattle.wm_engine.specs.Working.{StandsFor, WorksOver};
 ghost use Rattle.wm_model.specs.Lines.{capped};
 ghost use Rattle.wm_state.specs.State.{State};
@@ -7,6 +7,7 @@ ghost use Rattle.wm_station.specs.Cause.{Rises};
 ghost use Rattle.wm_host.specs.Cause.{IsOfScript};
 ghost use Rattle.wm_host.specs.Crash.{Throughout, CrashAnswers};
 ghost use Rattle.wm_host.specs.Hosting.{Finishes, Halts};
+ghost use Rattle.wm_host.specs.Outcome.{TakesAtMost};
 ghost use Rattle.wm_host.specs.Script.{AnswersTaken, AnswersToLimit};
 ghost use Rattle.wm_host.specs.declared.stop.Stop.TheVariants.{InputLimit, SayFault, SourceFault, DiskFault, Changed};
 

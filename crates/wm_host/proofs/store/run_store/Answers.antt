@@ -1,7 +1,7 @@
 use Rattle.std.proofs.Common.{Err, refl, ◌+◌, ◌^◌, take}
 use Rattle.wm_model.specs.Lines.{lines, ended_lines}
 use Rattle.wm_state.specs.State.{begin}
-use Rattle.wm_host.specs.declared.stop.Stop.TheVariants.{NotStore, SourceFault, InputLimit}
+use Rattle.wm_host.specs.declared.stop.Stop.TheVariants.{SourceFault, InputLimit}
 use Rattle.wm_host.proofs.Ending.{at_done, at_status, answers_all, answers_at_end, answers_ended, crash_opened, crash_ran, stands_ran, stands_unopened, counted_unopened, takes_none, unopened_status}
 use Rattle.wm_host.proofs.store.run_store.Goals as goal
 
@@ -60,6 +60,3 @@ returns-in-Err-clause-opened g c = λ status t. absurd (unopened_status c.in-Err
 
 pub returns-in-Err-clause-few : goal.returns-in-Err-clause-few
 returns-in-Err-clause-few g c = λ r. takes_none (2 ^ 30 + 1) (g.S.Source.left c.args.source.now) (g.S.Source.left c.args.source.now) refl
-
-pub returns-in-Err-clause-synced : goal.returns-in-Err-clause-synced
-returns-in-Err-clause-synced g c = λ six t. c.in-Err.ensures.synced t (at_status (Err c.in-Err.stop) (Err NotStore) c.of-in-Err.result.status c.of-in-Err.ensures.status six refl)
