@@ -1,5 +1,5 @@
 //! What a line changes, committed to the store and made of the records in memory.
-ghost use Rattle.std.specs.Prelude.{◌≡◌, ◌≤◌, ◌⊎◌, ℕ, List, true, OnOk, IsErrOf};
+ghost use Rattle.std.specs.Prelude.{◌≡◌, ◌≤◌, ◌⊎◌, ℕ, List, [], true, OnOk, IsErrOf};
 ghost use Rattle.wm_engine.specs.Working.{HoldsSorted, KeepsOver};
 ghost use Rattle.wm_engine.specs.declared.fault.LineFault.TheVariants as faults;
 ghost use Rattle.wm_spec.specs.Records.{AreChanges};
@@ -29,6 +29,7 @@ pub fn commit<P: Station>(
     ensures image { OnOk result (image.new ≡ applied changes image.old) }
     ensures works { P.tells → OnOk result (KeepsOver store.new (applied changes image.old) (P.history station.new)) }
     ensures any_moment { P.tells → Ended (P.history station.old) (P.history station.new) (λ file. HoldsSorted file image.old ⊎ HoldsSorted file (applied changes image.old)) }
+    ensures nothing { P.tells → changes ≡ [] → P.history station.new ≡ P.history station.old }
     ensures later { P.disk_faults station.old ≤ P.disk_faults station.new }
     ensures disk { IsErrOf result faults.Disk → Rises (P.disk_faults station.old) (P.disk_faults station.new) }
     ensures say_quiet { P.say_faults station.new ≡ P.say_faults station.old }

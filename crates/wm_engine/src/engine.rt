@@ -6,13 +6,16 @@ ghost use Rattle.wm_base.specs.declared.instant.TheConstants.{END};
 ghost use Rattle.wm_engine.specs.Forks.{ChangesFew, is_fork};
 ghost use Rattle.wm_engine.specs.Idle.{is_idle};
 ghost use Rattle.wm_parser.specs.Parsed.{parsed};
-ghost use Rattle.wm_engine.specs.Working.{FileStands, StandsFor, WorksOver, Tells};
+ghost use Rattle.wm_engine.specs.Working.{FileStands, HoldsSorted, StandsFor, WorksOver, Tells};
 ghost use Rattle.wm_engine.specs.declared.fault.LineFault.TheVariants as faults;
 ghost use Rattle.wm_state.specs.State.{State, begin, fresh};
 ghost use Rattle.wm_model.specs.Step.{step, answer_text};
 ghost use Rattle.wm_station.specs.Cause.{Rises};
-ghost use Rattle.wm_station.specs.History.{now, said, Leaves};
+ghost use Rattle.wm_station.specs.History.{now, said, Leaves, Synced};
 ghost use Rattle.wm_journal.specs.Disk.{is_made};
+ghost use Rattle.wm_store.specs.Opened.{HoldsAs};
+ghost use Rattle.wm_graph.specs.Parts.{parts_of};
+ghost use Rattle.wm_graph.specs.Rules.{keep_rules};
 ghost use Rattle.wm_station.specs.Moments.{During, Ended, Holds};
 
 use crate::fault::LineFault;
@@ -60,6 +63,8 @@ impl Engine {
         ensures fresh { P.tells → OnOk result (Holds (P.history station.new) (λ file. FileStands file (fresh limit))) }
         ensures absent { P.tells → OnOk result (is_made (now (P.history station.old)) ≡ false) }
         ensures exists { P.tells → IsErrOf result making.Exists → (is_made (now (P.history station.old)) ≡ true) × (P.history station.new ≡ P.history station.old) }
+        // A store that is there is never touched, whatever the answer.
+        ensures kept { P.tells → is_made (now (P.history station.old)) ≡ true → P.history station.new ≡ P.history station.old }
         ensures quiet { P.tells → said (P.history station.new) ≡ said (P.history station.old) }
         ensures later { P.disk_faults station.old ≤ P.disk_faults station.new }
         ensures disk { IsErrOf result making.Disk → Rises (P.disk_faults station.old) (P.disk_faults station.new) }
@@ -79,6 +84,9 @@ impl Engine {
         // What each answer says of the file as it was.
         ensures fault { P.tells → IfErr result (λ e. Tells e (now (P.history station.old))) }
         ensures works { P.tells → IfOk result (λ e. WorksOver e (P.history station.new)) }
+        // Ok comes only where the file was a store whose records keep the rules, and the engine has these.
+        ensures opened { P.tells → IfOk result (λ e. HoldsSorted (now (P.history station.old)) e.records) }
+        ensures rules { IfOk result (λ e. keep_rules (parts_of e.records) ≡ true) }
         ensures begins { P.tells → IfOk result (λ e. (s : State) → FileStands (now (P.history station.old)) s → StandsFor e (begin s moment)) }
         // A crash at any moment leaves what one could leave before, or a file that stands for what this one stood for.
         ensures any_moment { P.tells → (s : State) → FileStands (now (P.history station.old)) s → During (P.history station.old) (P.history station.new) (λ c out. (Leaves (P.history station.old) c ⊎ FileStands c s) × (out ≡ said (P.history station.old))) }
@@ -86,6 +94,10 @@ impl Engine {
         // Whatever the answer, the file stands for what it stood for; where it is no store, nothing was written.
         ensures keeps { P.tells → (s : State) → FileStands (now (P.history station.old)) s → FileStands (now (P.history station.new)) s }
         ensures untouched { P.tells → IsErrOf result opening.NotStore → now (P.history station.new) ≡ now (P.history station.old) }
+        // Whatever the file was, its pages are held as they were, now and after a crash at any moment; one that is no store was only synced.
+        ensures pages { P.tells → HoldsAs (now (P.history station.old)) (now (P.history station.new)) }
+        ensures pages_any_moment { P.tells → During (P.history station.old) (P.history station.new) (λ c out. (Leaves (P.history station.old) c ⊎ HoldsAs (now (P.history station.old)) c) × (out ≡ said (P.history station.old))) }
+        ensures synced { P.tells → IsErrOf result opening.NotStore → P.history station.new ≡ Synced (P.history station.old) }
         ensures later { P.disk_faults station.old ≤ P.disk_faults station.new }
         ensures disk { IsErrOf result opening.Disk → Rises (P.disk_faults station.old) (P.disk_faults station.new) }
         ensures say_quiet { P.say_faults station.new ≡ P.say_faults station.old }
@@ -125,6 +137,8 @@ impl Engine {
         ensures few { is_fork (parsed line.now) ≡ true → OnOk result (ChangesFew self.old.records self.new.records) }
         // A line that is refused, that reads, or that says nothing changes no record and no session.
         ensures idle { (s : State) → StandsFor self.old s → is_idle (step s line.now).1 ≡ true → OnOk result ((self.new.records ≡ self.old.records) × (self.new.sessions ≡ self.old.sessions)) }
+        // Such a line writes nothing, and syncs nothing.
+        ensures unwritten { P.tells → (s : State) → StandsFor self.old s → is_idle (step s line.now).1 ≡ true → P.history station.new ≡ P.history station.old }
         // A crash at any moment of the call, and a read after it, finds a file that stands for the state before the line or after it.
         ensures any_moment { P.tells → (s : State) → StandsFor self.old s → Ended (P.history station.old) (P.history station.new) (λ file. FileStands file s ⊎ FileStands file (step s line.now).0) }
         ensures later { P.disk_faults station.old ≤ P.disk_faults station.new }

@@ -1,5 +1,5 @@
 //! A line over a store: what it does is planned and printed, and only then kept.
-ghost use Rattle.std.specs.Prelude.{◌≡◌, ◌<◌, ◌≤◌, ◌⊎◌, ℕ, List, true, OnOk, IfOk, IsErrOf};
+ghost use Rattle.std.specs.Prelude.{◌≡◌, ◌<◌, ◌≤◌, ◌⊎◌, ℕ, List, [], true, OnOk, IfOk, IsErrOf};
 ghost use Rattle.wm_base.specs.declared.instant.TheConstants.{END};
 ghost use Rattle.wm_engine.specs.Forks.{ChangesFew, is_fork};
 ghost use Rattle.wm_engine.specs.Idle.{is_idle};
@@ -55,6 +55,7 @@ fn keep<P: Station>(
     ensures sessions { OnOk result (sessions.new.items ≡ seated sessions.old.items (seating_view changed.seating)) }
     ensures works { P.tells → OnOk result (KeepsOver store.new (applied changed.changes image) (P.history station.new)) }
     ensures any_moment { P.tells → Ended (P.history station.old) (P.history station.new) (λ file. HoldsSorted file image ⊎ HoldsSorted file (applied changed.changes image)) }
+    ensures nothing { P.tells → changed.changes ≡ [] → P.history station.new ≡ P.history station.old }
     ensures later { P.disk_faults station.old ≤ P.disk_faults station.new }
     ensures disk { IsErrOf result faults.Disk → Rises (P.disk_faults station.old) (P.disk_faults station.new) }
     ensures say_quiet { P.say_faults station.new ≡ P.say_faults station.old }
@@ -85,6 +86,7 @@ pub fn run_line<P: Station>(
     ensures moment { IfOk result (λ k. k.moment < END) }
     ensures few { is_fork (parsed line.now) ≡ true → IfOk result (λ k. ChangesFew image k.image) }
     ensures idle { IfOk result (λ k. (s : State) → StandsAt image sessions.old.items moment s → is_idle (step s line.now).1 ≡ true → (k.image ≡ image) × (sessions.new.items ≡ sessions.old.items)) }
+    ensures unwritten { P.tells → (s : State) → StandsAt image sessions.old.items moment s → is_idle (step s line.now).1 ≡ true → P.history station.new ≡ P.history station.old }
     ensures works { P.tells → IfOk result (λ k. KeepsOver store.new k.image (P.history station.new)) }
     ensures any_moment { P.tells → (s : State) → StandsAt image sessions.old.items moment s → Ended (P.history station.old) (P.history station.new) (λ file. FileStands file s ⊎ FileStands file (step s line.now).0) }
     ensures later { P.disk_faults station.old ≤ P.disk_faults station.new }

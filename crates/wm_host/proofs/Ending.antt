@@ -1,10 +1,11 @@
 -- What a command comes to.
-use Rattle.std.proofs.Common.{ℕ, ◌≡◌, ◌⊎◌, ⊎_elim, inl, inr, ◌==◌, false, if◌then◌else◌, List, [], ◌++◌, length, map, refl, ap, sym, subst, ◌∙◌, append-nil, arith}
+use Rattle.std.proofs.Common.{ℕ, ◌≡◌, ◌⊎◌, ⊎_elim, inl, inr, ◌==◌, true, false, if◌then◌else◌, List, [], ◌∷◌, ◌++◌, length, map, refl, ap, sym, subst, ◌∙◌, append-nil, arith}
 use Rattle.std.specs.Prelude.{Result, Ok, Err, OnOk, OnErr}
+use Rattle.std.specs.List.{list_any}
 use Rattle.std.proofs.lemmas.List.{length-map}
 use Rattle.wm_engine.specs.Working.{FileStands}
 use Rattle.wm_station.specs.History.{History, now, said, Leaves}
-use Rattle.wm_station.specs.Moments.{During}
+use Rattle.wm_station.specs.Moments.{During, Holds}
 use Rattle.wm_station.proofs.Steps.{weaken, followed}
 use Rattle.wm_model.specs.Lines.{cap, ended_lines}
 use Rattle.wm_state.specs.ById.{by_id}
@@ -16,7 +17,8 @@ use Rattle.wm_graph.specs.Parts.{parts_of}
 use Rattle.wm_host.specs.Crash.{CrashOpens, CrashAnswers, CrashOfRun}
 use Rattle.wm_host.specs.Hosting.{Begins, Finishes, Halts}
 use Rattle.wm_host.specs.Script.{AnswersTaken}
-use Rattle.wm_host.specs.Outcome.{HasSaidFront, Answered, AnswersSome, AnswersEnded}
+use Rattle.wm_host.specs.Outcome.{HasSaidFront, Answered, AnswersSome, AnswersEnded, TakesAtMost}
+use Rattle.wm_host.specs.Cause.{IsOfOpening}
 use Rattle.wm_host.specs.Status.{status_of}
 use Rattle.wm_host.specs.declared.host.Host.{Host}
 use Rattle.wm_host.specs.declared.stop.Stop.{Stop}
@@ -64,6 +66,23 @@ at_status run end number is is_end other = by_end (ended_by-status run) (ended_b
 pub at_done : {P : Type 0} (run : Result (Unit {0}) Stop) (number : ℕ) → number ≡ status_of run → number ≡ 0 → OnOk run P → P
 at_done {P} run number is zero ok = subst (λ r. OnOk r P) (at_status run (Ok tt) number is zero refl) ok
 
+-- a run whose store was not opened ends with none of these
+pub unopened_status : (stop : Stop) (number : ℕ) → number ≡ status_of (Err stop) → IsOfOpening stop → list_any (λ (status : ℕ). status == number) (0 ∷ 3 ∷ 4 ∷ 9 ∷ []) ≡ true → ⊥
+unopened_status DiskFault number is of e = let f : list_any (λ (status : ℕ). status == 5) (0 ∷ 3 ∷ 4 ∷ 9 ∷ []) ≡ true = subst (λ (n : ℕ). list_any (λ (status : ℕ). status == n) (0 ∷ 3 ∷ 4 ∷ 9 ∷ []) ≡ true) is e in cc
+unopened_status NotStore number is of e = let f : list_any (λ (status : ℕ). status == 6) (0 ∷ 3 ∷ 4 ∷ 9 ∷ []) ≡ true = subst (λ (n : ℕ). list_any (λ (status : ℕ). status == n) (0 ∷ 3 ∷ 4 ∷ 9 ∷ []) ≡ true) is e in cc
+unopened_status (Damaged page kind) number is of e = let f : list_any (λ (status : ℕ). status == 7) (0 ∷ 3 ∷ 4 ∷ 9 ∷ []) ≡ true = subst (λ (n : ℕ). list_any (λ (status : ℕ). status == n) (0 ∷ 3 ∷ 4 ∷ 9 ∷ []) ≡ true) is e in cc
+unopened_status Memory number is of e = let f : list_any (λ (status : ℕ). status == 10) (0 ∷ 3 ∷ 4 ∷ 9 ∷ []) ≡ true = subst (λ (n : ℕ). list_any (λ (status : ℕ). status == n) (0 ∷ 3 ∷ 4 ∷ 9 ∷ []) ≡ true) is e in cc
+unopened_status SourceFault number is of e = of
+unopened_status SayFault number is of e = of
+unopened_status Exists number is of e = of
+unopened_status InputLimit number is of e = of
+unopened_status Changed number is of e = of
+
+-- ---- the bytes taken
+
+pub takes_none : (limit : ℕ) (script left : List ℕ) → left ≡ script → TakesAtMost limit script left
+takes_none limit script left same = record { taken = []; script_is = sym same; few = omega arith }
+
 -- ---- where a run begins
 
 -- sessions and the moment stand in no file
@@ -103,7 +122,7 @@ answers_all tells old begun new from to moment ls begins quiet finishes t s stan
   by_lines : Answered begun new (begin s moment) (map cap ls) → Answered old new (begin s moment) ls
   by_lines answered = record {
     says = answered.says ∙ ap (λ (b : List ℕ). b ++ transcript (begin s moment) (map cap ls)) quiet ∙ ap (λ (out : List ℕ). said old ++ out) (transcript-cap (begin s moment) ls);
-    stands = subst (FileStands (now new)) (after-cap (begin s moment) ls) answered.stands;
+    stands = subst (λ (end : State). Holds new (λ file. FileStands file end)) (after-cap (begin s moment) ls) answered.stands;
   }
 
 pub counts_all : (tells : Type 0) (begun new : History) (from to : Host) (ls : List (List ℕ)) → from.lines ≡ 0 → Finishes tells begun new from (map cap ls) to → to.lines ≡ length ls

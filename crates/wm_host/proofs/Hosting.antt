@@ -5,7 +5,7 @@ use Rattle.std.proofs.lemmas.List.{take_more, take-append-drop}
 use Rattle.wm_engine.specs.Working.{Engaged, FileStands, StandsFor, WorksOver}
 use Rattle.wm_engine.proofs.Working.{stands_over, works_said}
 use Rattle.wm_station.specs.History.{History, Said, now, said}
-use Rattle.wm_station.specs.Moments.{During, Ended}
+use Rattle.wm_station.specs.Moments.{During, Ended, Holds}
 use Rattle.wm_model.specs.Lines.{cap, capped, without_cr, HasNoLf, held_more}
 use Rattle.wm_state.specs.State.{State}
 use Rattle.wm_model.specs.Step.{step, answer_text}
@@ -245,7 +245,7 @@ pub finishes_nothing : (tells : Type 0) (history : History) (host : Host) → ho
 unfolding transcript after
 finishes_nothing tells history host none works = rw none (record {
   count = omega arith;
-  each = λ t s for. record { says = has_said_nothing history; stands = (stands_over host.engine history s (works t) for).here };
+  each = λ t s for. record { says = has_said_nothing history; stands = stands_over host.engine history s (works t) for };
 })
 
 pub finishes_line : (tells : Type 0) (old new : History) (from to : Host) (held : List ℕ) → from.line ≡ held → (held ≡ [] → ⊥) → HasNoLf held → Answers tells old new from to → Finishes tells old new from (capped true held) to
@@ -254,8 +254,8 @@ finishes_line tells old new from to (b ∷ held) is more no_lf answers = rw (cap
   count = answers.lines;
   each = λ t s for. record {
     says = subst (λ (out : List ℕ). HasSaid old new out) (ap (λ (l : List ℕ). answer s (cap (without_cr l))) is ∙ sym (transcript-single s (cap (without_cr (b ∷ held))))) (answers.says t s for);
-    stands = subst (FileStands (now new)) (ap (λ (l : List ℕ). (step s (cap (without_cr l))).0) is ∙ sym (after-single s (cap (without_cr (b ∷ held)))))
-        (stands_over to.engine new (step s (line_of from)).0 (answers.works t) (answers.stands s for)).here;
+    stands = subst (λ (end : State). Holds new (λ file. FileStands file end)) (ap (λ (l : List ℕ). (step s (cap (without_cr l))).0) is ∙ sym (after-single s (cap (without_cr (b ∷ held)))))
+        (stands_over to.engine new (step s (line_of from)).0 (answers.works t) (answers.stands s for));
   };
 })
 

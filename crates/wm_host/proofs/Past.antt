@@ -3,14 +3,15 @@ use Rattle.std.proofs.Common.{ℕ, ◌≡◌, ◌≤◌, ◌+◌, ◌^◌, true,
 use Rattle.std.proofs.lemmas.List.{take_at, length-take-le}
 use Rattle.wm_engine.specs.Working.{FileStands, StandsFor, WorksOver}
 use Rattle.wm_engine.proofs.Working.{stands_over}
-use Rattle.wm_station.specs.History.{History, now}
+use Rattle.wm_station.specs.History.{History}
+use Rattle.wm_station.specs.Moments.{Holds}
 use Rattle.wm_model.specs.Lines.{capped, HasNoLf}
 use Rattle.wm_state.specs.State.{State, fresh}
 use Rattle.wm_model.specs.Running.{transcript, after, Stopped}
 use Rattle.wm_model.proofs.Running.{transcript-append, after-append, ran_lines, ran_ended_lines, stopped_after}
 use Rattle.wm_host.specs.Crash.{Throughout, CrashRuns, CrashAnswers}
 use Rattle.wm_host.specs.Hosting.{standing, Says, SaysSome, Breaks, Finishes, Halts}
-use Rattle.wm_host.specs.Outcome.{HasSaid, Answered, AnswersSome}
+use Rattle.wm_host.specs.Outcome.{HasSaid, Answered, AnswersSome, TakesAtMost}
 use Rattle.wm_host.specs.Script.{AnswersTaken, AnswersToLimit}
 use Rattle.wm_host.specs.declared.host.Host.{Host}
 use Rattle.wm_host.proofs.Throughout.{throughout_weaker, throughout_more}
@@ -56,7 +57,7 @@ finishes_more tells first middle last a b c past lines says finishes = record {
   by_lines t s for answered = record {
     says = subst (λ (out : List ℕ). HasSaid first last out) (sym (transcript-append s says.done lines))
         (has_said_more first middle last (transcript s says.done) (transcript (after s says.done) lines) (says.says t s for) answered.says);
-    stands = subst (FileStands (now last)) (sym (after-append s says.done lines)) answered.stands;
+    stands = subst (λ (end : State). Holds last (λ file. FileStands file end)) (sym (after-append s says.done lines)) answered.stands;
   }
 
 halts_more : (tells : Type 0) (first middle last : History) (a b c : Host) (past : List ℕ) (lines : List (List ℕ)) (says : Says tells first middle a past b)
@@ -140,7 +141,7 @@ past_ended source_tells tells script left old new from to taken empty so_far =
       count = so_far.says.lines;
       each = λ t s for. record {
         says = so_far.says.says t s for;
-        stands = (stands_over to.engine new (after s so_far.says.done) (so_far.says.works t) (so_far.says.stands s for)).here;
+        stands = stands_over to.engine new (after s so_far.says.done) (so_far.says.works t) (so_far.says.stands s for);
       };
     })
 
@@ -159,6 +160,25 @@ past_limit source_tells tells script left rest into old new from to taken n empt
   long = omega (arith, ap length (so_far.script_is s), ap length (next s), length-append so_far.past left, length-append (take n into) rest, length-take-le n into within, so_far.size);
   lines = rw (ap (take (2 ^ 30)) (so_far.script_is s) ∙ take_at so_far.past left (2 ^ 30) (so_far.size ∙ full))
       (past_ended source_tells tells script left old new from to taken empty so_far);
+}
+
+-- the bytes taken before a take that failed
+pub past_untaken : (source_tells tells : Type 0) (script left same : List ℕ) (old new : History) (from to : Host) (taken limit : ℕ)
+    → Past source_tells tells script left old new from to taken → (source_tells → same ≡ left) → taken ≤ limit → source_tells → TakesAtMost limit script same
+past_untaken source_tells tells script left same old new from to taken limit so_far untaken few s = record {
+  taken = so_far.past;
+  script_is = so_far.script_is s ∙ ap (λ (l : List ℕ). so_far.past ++ l) (sym (untaken s));
+  few = omega (arith, few, so_far.size);
+}
+
+-- the bytes taken before a take, and those that it took
+pub past_few : (source_tells tells : Type 0) (script left rest into : List ℕ) (old new : History) (from to : Host) (taken n limit : ℕ)
+    → Past source_tells tells script left old new from to taken → n ≤ length into → (source_tells → left ≡ take n into ++ rest) → taken + n ≤ limit
+    → source_tells → TakesAtMost limit script rest
+past_few source_tells tells script left rest into old new from to taken n limit so_far within next few s = record {
+  taken = so_far.past ++ take n into;
+  script_is = so_far.script_is s ∙ ap (λ (l : List ℕ). so_far.past ++ l) (next s) ∙ sym (append_assoc so_far.past (take n into) rest);
+  few = omega (arith, few, so_far.size, length-append so_far.past (take n into), length-take-le n into within);
 }
 
 -- what a crash of a run over the whole script leaves, for each state that the engine stands for

@@ -1,7 +1,11 @@
 -- What a run did with a script whose lines are answered from a state.
-use Rattle.std.specs.Prelude.{ℕ, ◌≡◌, List, ◌∷◌, [], ◌++◌, length, Option, None, Some, codes}
-use Rattle.wm_engine.specs.Working.{FileStands, Tells}
+use Rattle.std.specs.Prelude.{ℕ, ◌≡◌, ◌≤◌, true, List, ◌∷◌, [], ◌++◌, length, Option, None, Some, codes}
+use Rattle.wm_engine.specs.Working.{FileStands, HoldsSorted, Tells}
+use Rattle.wm_graph.specs.Parts.{parts_of}
+use Rattle.wm_graph.specs.Rules.{keep_rules}
+use Rattle.wm_spec.specs.declared.record.stored.Stored.{Stored}
 use Rattle.wm_station.specs.History.{History, now, said}
+use Rattle.wm_station.specs.Moments.{Holds}
 use Rattle.wm_model.specs.Lines.{ended_lines}
 use Rattle.wm_state.specs.State.{State, begin}
 use Rattle.wm_model.specs.Running.{transcript, after, Stopped}
@@ -26,10 +30,10 @@ pub record HasSaidFront (old new : History) (bytes : List ℕ) : Type 0 where
   pub rest : List ℕ
   pub is : bytes ≡ front ++ rest
 
--- these lines were answered, nothing else was said, and the file stands for the state that they leave
+-- these lines were answered, nothing else was said, and the file stands for the state that they leave, now and after a crash
 pub record Answered (old new : History) (s : State) (script_lines : List (List ℕ)) : Type 0 where
   pub says : HasSaid old new (transcript s script_lines)
-  pub stands : FileStands (now new) (after s script_lines)
+  pub stands : Holds new (λ file. FileStands file (after s script_lines))
 
 -- a front of the answers to these lines was said, and nothing else
 abbrev pub FrontOfRun : History → History → State → List (List ℕ) → Type 0
@@ -48,6 +52,18 @@ pub record AnswersEnded (old new : History) (moment : ℕ) (script left : List �
   pub script_is : script ≡ taken ++ left
   pub count_is : count ≡ length (ended_lines taken)
   pub each : (s : State) → FileStands (now old) s → Answered old new (begin s moment) (ended_lines taken)
+
+-- the file is a store whose records keep the rules
+pub record IsSound (file : List ℕ) : Type 0 where
+  pub records : List Stored
+  pub holds : HoldsSorted file records
+  pub rules : keep_rules (parts_of records) ≡ true
+
+-- a front of the script was taken, of at most so many bytes
+pub record TakesAtMost (limit : ℕ) (script left : List ℕ) : Type 0 where
+  pub taken : List ℕ
+  pub script_is : script ≡ taken ++ left
+  pub few : length taken ≤ limit
 
 -- the place is a page
 abbrev pub IsPage : Place → Type 0

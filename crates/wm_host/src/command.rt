@@ -1,15 +1,16 @@
 //! The commands of the program.
-ghost use Rattle.std.specs.Prelude.{◌≡◌, ◌^◌, ◌<◌, ◌≤◌, ◌↔◌, ◌⊎◌, ◌==◌, length, map, take, string_bytes, None, false, true, []};
+ghost use Rattle.std.specs.Prelude.{◌≡◌, ◌+◌, ◌^◌, ◌<◌, ◌≤◌, ◌↔◌, ◌⊎◌, ◌==◌, length, map, take, string_bytes, None, false, true, [], ◌∷◌};
 ghost use Rattle.std.specs.List.{list_any};
 ghost use Rattle.wm_engine.specs.Working.{FileStands};
 ghost use Rattle.wm_model.specs.Lines.{lines, ended_lines};
 ghost use Rattle.wm_state.specs.State.{State, fresh};
 ghost use Rattle.wm_station.specs.Cause.{Rises};
-ghost use Rattle.wm_station.specs.History.{now, said};
+ghost use Rattle.wm_station.specs.History.{now, said, Synced, Leaves};
 ghost use Rattle.wm_station.specs.Moments.{During, Holds};
 ghost use Rattle.wm_journal.specs.Disk.{is_made};
+ghost use Rattle.wm_store.specs.Opened.{HoldsAs};
 ghost use Rattle.wm_host.specs.Crash.{CrashOfRun, CrashAnswers};
-ghost use Rattle.wm_host.specs.Outcome.{HasSaid, HasSaidFront, Answered, AnswersSome, AnswersEnded, IsDamaged, IsPage, OfRun, OfInit, FromEach, FrontOfRun, ok_text, statuses_of};
+ghost use Rattle.wm_host.specs.Outcome.{HasSaid, HasSaidFront, Answered, AnswersSome, AnswersEnded, IsDamaged, IsPage, IsSound, TakesAtMost, OfRun, OfInit, FromEach, FrontOfRun, ok_text, statuses_of};
 ghost use Rattle.wm_host.specs.Words.{command_of as command_in};
 
 use crate::ended::Ended;
@@ -41,6 +42,8 @@ pub fn run<S: Source, P: Station>(
     ensures init_absent { (result.status ≡ 0) ⊎ (result.status ≡ 4) → P.tells → OfInit (command_in (map string_bytes words.now)) (λ limit. is_made (now (P.history station.old)) ≡ false) }
     ensures init_unsaid { result.status ≡ 5 → P.tells → OfInit (command_in (map string_bytes words.now)) (λ limit. said (P.history station.new) ≡ said (P.history station.old)) }
     ensures init_source { OfInit (command_in (map string_bytes words.now)) (λ limit. (source.new ≡ source.old) × (result.lines ≡ 0)) }
+    // A store that is there is never touched, whatever the status.
+    ensures init_kept { P.tells → OfInit (command_in (map string_bytes words.now)) (λ limit. is_made (now (P.history station.old)) ≡ true → P.history station.new ≡ P.history station.old) }
     ensures exists { result.status ≡ 8 → P.tells → (is_made (now (P.history station.old)) ≡ true) × (P.history station.new ≡ P.history station.old) }
 
     // `run`, from each state that the file stands for. Status 0: all lines were answered, the file stands for
@@ -49,6 +52,12 @@ pub fn run<S: Source, P: Station>(
     ensures all { result.status ≡ 0 → S.tells → OfRun (command_in (map string_bytes words.now)) (λ moment. result.lines ≡ length (lines (S.left source.old))) }
     ensures end { result.status ≡ 0 → S.tells → OfRun (command_in (map string_bytes words.now)) (λ moment. S.left source.new ≡ []) }
     ensures within { result.status ≡ 0 → S.tells → OfRun (command_in (map string_bytes words.now)) (λ moment. length (S.left source.old) ≤ 2 ^ 30) }
+
+    // Statuses 0, 3, 4 and 9 come only where the file was a store whose records keep the rules.
+    ensures opened { list_any (λ status. status == result.status) (0 ∷ 3 ∷ 4 ∷ 9 ∷ []) ≡ true → P.tells → OfRun (command_in (map string_bytes words.now)) (λ moment. IsSound (now (P.history station.old))) }
+
+    // Whatever the status, at most one byte is taken past the limit.
+    ensures few { S.tells → TakesAtMost (2 ^ 30 + 1) (S.left source.old) (S.left source.new) }
 
     // Status 3: the lines that LF ended in the bytes taken were answered. Status 9: those in the first 2^30.
     ensures ended { result.status ≡ 3 → S.tells → P.tells → OfRun (command_in (map string_bytes words.now)) (λ moment. AnswersEnded (P.history station.old) (P.history station.new) moment (S.left source.old) (S.left source.new) result.lines) }
@@ -67,10 +76,14 @@ pub fn run<S: Source, P: Station>(
     // was said.
     ensures crash { S.tells → P.tells → FromEach (command_in (map string_bytes words.now)) (P.history station.old) (λ s. During (P.history station.old) (P.history station.new) (CrashOfRun (P.history station.old) s (lines (S.left source.old)))) }
 
-    // Status 6: the file is no store, and stays as it is. Status 7: the first test of opening that fails is
-    // the one that the place names. Neither comes where the file stands for some state.
+    // Status 6: the file is no store, stays as it is, and is only synced. Status 7: the first test of opening that fails is
+    // the one that the place names. Neither comes where the file stands for some state, and at both the pages
+    // are held as they were, also by what a crash within the run leaves.
     ensures not_store { result.status ≡ 6 → P.tells → (is_made (now (P.history station.old)) ≡ false) × (now (P.history station.new) ≡ now (P.history station.old)) }
+    ensures synced { result.status ≡ 6 → P.tells → P.history station.new ≡ Synced (P.history station.old) }
     ensures damaged { result.status ≡ 7 → P.tells → IsDamaged result.place (now (P.history station.old)) }
+    ensures pages { (result.status ≡ 6) ⊎ (result.status ≡ 7) → P.tells → HoldsAs (now (P.history station.old)) (now (P.history station.new)) }
+    ensures pages_any_moment { (result.status ≡ 6) ⊎ (result.status ≡ 7) → P.tells → During (P.history station.old) (P.history station.new) (λ c s. (Leaves (P.history station.old) c ⊎ HoldsAs (now (P.history station.old)) c) × (s ≡ said (P.history station.old))) }
     ensures sound { (result.status ≡ 6) ⊎ (result.status ≡ 7) → P.tells → (s : State) → FileStands (now (P.history station.old)) s → ⊥ }
     ensures unsaid { (result.status ≡ 6) ⊎ (result.status ≡ 7) → P.tells → said (P.history station.new) ≡ said (P.history station.old) }
     ensures unopened { (result.status ≡ 6) ⊎ (result.status ≡ 7) → (source.new ≡ source.old) × (result.lines ≡ 0) }

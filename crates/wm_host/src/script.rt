@@ -1,5 +1,5 @@
 //! The loop over the source of a script.
-ghost use Rattle.std.specs.Prelude.{◌≡◌, ◌^◌, ◌≤◌, List, [], length, true, OnOk, OnErr, IsErrOf, IfErr};
+ghost use Rattle.std.specs.Prelude.{◌≡◌, ◌+◌, ◌^◌, ◌≤◌, List, [], length, true, OnOk, OnErr, IsErrOf, IfErr};
 ghost use Rattle.wm_engine.specs.Working.{StandsFor, WorksOver};
 ghost use Rattle.wm_model.specs.Lines.{capped};
 ghost use Rattle.wm_state.specs.State.{State};
@@ -7,6 +7,7 @@ ghost use Rattle.wm_station.specs.Cause.{Rises};
 ghost use Rattle.wm_host.specs.Cause.{IsOfScript};
 ghost use Rattle.wm_host.specs.Crash.{Throughout, CrashAnswers};
 ghost use Rattle.wm_host.specs.Hosting.{Finishes, Halts};
+ghost use Rattle.wm_host.specs.Outcome.{TakesAtMost};
 ghost use Rattle.wm_host.specs.Script.{AnswersTaken, AnswersToLimit};
 ghost use Rattle.wm_host.specs.declared.stop.Stop.TheVariants.{InputLimit, SayFault, SourceFault, DiskFault, Changed};
 
@@ -39,6 +40,7 @@ pub(crate) fn run_script<S: Source, P: Station>(
     ensures taken { S.tells → IsErrOf result SourceFault → AnswersTaken P.tells (P.history station.old) (P.history station.new) host.old host.new (S.left source.old) (S.left source.new) }
     ensures limit { S.tells → IsErrOf result InputLimit → AnswersToLimit P.tells (P.history station.old) (P.history station.new) host.old host.new (S.left source.old) }
 
+    ensures few { S.tells → TakesAtMost (2 ^ 30 + 1) (S.left source.old) (S.left source.new) }
     ensures crash { S.tells → P.tells → (s : State) → StandsFor host.old.engine s → Throughout (P.history station.old) (P.history station.new) (CrashAnswers (P.history station.old) s (capped true (S.left source.old))) }
     ensures source_later { S.faults source.old ≤ S.faults source.new }
     ensures source_failed { IsErrOf result SourceFault → Rises (S.faults source.old) (S.faults source.new) }

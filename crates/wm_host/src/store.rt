@@ -1,18 +1,19 @@
 //! The two commands over a store.
-ghost use Rattle.std.specs.Prelude.{◌≡◌, ◌^◌, ◌<◌, ◌≤◌, ◌↔◌, ◌⊎◌, [], ◌∷◌, ◌==◌, length, take, true, false, OnOk, IfOk, IsErrOf, IfErr};
+ghost use Rattle.std.specs.Prelude.{◌≡◌, ◌+◌, ◌^◌, ◌<◌, ◌≤◌, ◌↔◌, ◌⊎◌, [], ◌∷◌, ◌==◌, length, take, true, false, OnOk, IfOk, IsErrOf, IfErr};
 ghost use Rattle.std.specs.List.{list_any};
 ghost use Rattle.wm_base.specs.declared.instant.TheConstants.{END};
 ghost use Rattle.wm_engine.specs.Working.{FileStands};
 ghost use Rattle.wm_model.specs.Lines.{lines, ended_lines};
 ghost use Rattle.wm_state.specs.State.{State, begin, fresh};
 ghost use Rattle.wm_station.specs.Cause.{Rises};
-ghost use Rattle.wm_station.specs.History.{now, said};
+ghost use Rattle.wm_station.specs.History.{now, said, Synced, Leaves};
 ghost use Rattle.wm_station.specs.Moments.{During, Holds};
 ghost use Rattle.wm_journal.specs.Disk.{is_made};
+ghost use Rattle.wm_store.specs.Opened.{HoldsAs};
 ghost use Rattle.wm_host.specs.Cause.{IsOfMaking, IsOfOpening, StopTells};
 ghost use Rattle.wm_host.specs.Crash.{CrashOfRun, CrashAnswers, CrashOpens};
 ghost use Rattle.wm_host.specs.Hosting.{Begins};
-ghost use Rattle.wm_host.specs.Outcome.{HasSaid, HasSaidFront, Answered, AnswersSome, AnswersEnded, IsDamaged, IsPage, ok_text};
+ghost use Rattle.wm_host.specs.Outcome.{HasSaid, HasSaidFront, Answered, AnswersSome, AnswersEnded, IsDamaged, IsPage, IsSound, TakesAtMost, ok_text};
 ghost use Rattle.wm_host.specs.declared.ended.Place.TheVariants.{Nowhere};
 ghost use Rattle.wm_host.specs.declared.stop.Stop.TheVariants.{SayFault, DiskFault, Exists, NotStore};
 
@@ -36,6 +37,8 @@ fn make_store<P: Station>(alloc: Global, station: &mut P, limit: u32) -> Result<
     ensures absent { P.tells → OnOk result (is_made (now (P.history station.old)) ≡ false) }
     ensures absent_unsaid { P.tells → IsErrOf result SayFault → is_made (now (P.history station.old)) ≡ false }
     ensures exists { P.tells → IsErrOf result Exists → (is_made (now (P.history station.old)) ≡ true) × (P.history station.new ≡ P.history station.old) }
+    // A store that is there is never touched, whatever the answer.
+    ensures kept { P.tells → is_made (now (P.history station.old)) ≡ true → P.history station.new ≡ P.history station.old }
     ensures unsaid { P.tells → IsErrOf result DiskFault → said (P.history station.new) ≡ said (P.history station.old) }
     ensures say_later { P.say_faults station.old ≤ P.say_faults station.new }
     ensures say_failed { IsErrOf result SayFault → Rises (P.say_faults station.old) (P.say_faults station.new) }
@@ -55,6 +58,8 @@ pub(crate) fn init<P: Station>(alloc: Global, station: &mut P, limit: u32) -> En
     ensures made { (result.status ≡ 0) ⊎ (result.status ≡ 4) → P.tells → Holds (P.history station.new) (λ file. FileStands file (fresh limit)) }
     ensures absent { (result.status ≡ 0) ⊎ (result.status ≡ 4) → P.tells → is_made (now (P.history station.old)) ≡ false }
     ensures exists { result.status ≡ 8 → P.tells → (is_made (now (P.history station.old)) ≡ true) × (P.history station.new ≡ P.history station.old) }
+    // A store that is there is never touched, whatever the answer.
+    ensures kept { P.tells → is_made (now (P.history station.old)) ≡ true → P.history station.new ≡ P.history station.old }
     ensures unsaid { result.status ≡ 5 → P.tells → said (P.history station.new) ≡ said (P.history station.old) }
     ensures say { result.status ≡ 4 → Rises (P.say_faults station.old) (P.say_faults station.new) }
     ensures disk { result.status ≡ 5 → Rises (P.disk_faults station.old) (P.disk_faults station.new) }
@@ -75,6 +80,10 @@ fn open_host<P: Station>(alloc: Global, station: &mut P, moment: Instant) -> Res
     ensures keeps { P.tells → (s : State) → FileStands (now (P.history station.old)) s → FileStands (now (P.history station.new)) s }
     ensures unsaid { P.tells → said (P.history station.new) ≡ said (P.history station.old) }
     ensures not_store { P.tells → IsErrOf result NotStore → now (P.history station.new) ≡ now (P.history station.old) }
+    ensures synced { P.tells → IsErrOf result NotStore → P.history station.new ≡ Synced (P.history station.old) }
+    ensures pages { P.tells → HoldsAs (now (P.history station.old)) (now (P.history station.new)) }
+    ensures pages_any_moment { P.tells → During (P.history station.old) (P.history station.new) (λ c s. (Leaves (P.history station.old) c ⊎ HoldsAs (now (P.history station.old)) c) × (s ≡ said (P.history station.old))) }
+    ensures sound { P.tells → OnOk result (IsSound (now (P.history station.old))) }
     ensures fault { P.tells → IfErr result (λ stop. StopTells stop (now (P.history station.old))) }
     ensures disk_later { P.disk_faults station.old ≤ P.disk_faults station.new }
     ensures disk_failed { IsErrOf result DiskFault → Rises (P.disk_faults station.old) (P.disk_faults station.new) }
@@ -97,6 +106,8 @@ pub(crate) fn run_store<S: Source, P: Station>(
     ensures all { result.status ≡ 0 → S.tells → result.lines ≡ length (lines (S.left source.old)) }
     ensures end { result.status ≡ 0 → S.tells → S.left source.new ≡ [] }
     ensures within { result.status ≡ 0 → S.tells → length (S.left source.old) ≤ 2 ^ 30 }
+    ensures opened { list_any (λ status. status == result.status) (0 ∷ 3 ∷ 4 ∷ 9 ∷ []) ≡ true → P.tells → IsSound (now (P.history station.old)) }
+    ensures few { S.tells → TakesAtMost (2 ^ 30 + 1) (S.left source.old) (S.left source.new) }
     ensures ended { result.status ≡ 3 → S.tells → P.tells → AnswersEnded (P.history station.old) (P.history station.new) moment (S.left source.old) (S.left source.new) result.lines }
     ensures limit { result.status ≡ 9 → S.tells → 2 ^ 30 < length (S.left source.old) }
     ensures to_limit { result.status ≡ 9 → S.tells → P.tells → (s : State) → FileStands (now (P.history station.old)) s → Answered (P.history station.old) (P.history station.new) (begin s moment) (ended_lines (take (2 ^ 30) (S.left source.old))) }
@@ -106,7 +117,10 @@ pub(crate) fn run_store<S: Source, P: Station>(
     ensures crash { S.tells → P.tells → (s : State) → FileStands (now (P.history station.old)) s → During (P.history station.old) (P.history station.new) (CrashOfRun (P.history station.old) (begin s moment) (lines (S.left source.old))) }
 
     ensures not_store { result.status ≡ 6 → P.tells → (is_made (now (P.history station.old)) ≡ false) × (now (P.history station.new) ≡ now (P.history station.old)) }
+    ensures synced { result.status ≡ 6 → P.tells → P.history station.new ≡ Synced (P.history station.old) }
     ensures damaged { result.status ≡ 7 → P.tells → IsDamaged result.place (now (P.history station.old)) }
+    ensures pages { (result.status ≡ 6) ⊎ (result.status ≡ 7) → P.tells → HoldsAs (now (P.history station.old)) (now (P.history station.new)) }
+    ensures pages_any_moment { (result.status ≡ 6) ⊎ (result.status ≡ 7) → P.tells → During (P.history station.old) (P.history station.new) (λ c s. (Leaves (P.history station.old) c ⊎ HoldsAs (now (P.history station.old)) c) × (s ≡ said (P.history station.old))) }
     ensures sound { (result.status ≡ 6) ⊎ (result.status ≡ 7) → P.tells → (s : State) → FileStands (now (P.history station.old)) s → ⊥ }
     ensures unsaid { (result.status ≡ 6) ⊎ (result.status ≡ 7) → P.tells → said (P.history station.new) ≡ said (P.history station.old) }
     ensures unchanged { result.status ≡ 11 → P.tells → ⊥ }

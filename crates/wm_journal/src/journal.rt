@@ -104,6 +104,8 @@ impl Journal {
 
         ensures exists { P.tells → IsErrOf result MakeFault.Exists → (is_made (now (P.history station.old)) ≡ true) × (P.history station.new ≡ P.history station.old) }
         ensures absent { P.tells → OnOk result (is_made (now (P.history station.old)) ≡ false) }
+        // A store that is there is never touched, whatever the answer.
+        ensures kept { P.tells → is_made (now (P.history station.old)) ≡ true → P.history station.new ≡ P.history station.old }
         ensures later { P.disk_faults station.old ≤ P.disk_faults station.new }
         ensures disk { IsErrOf result MakeFault.Disk → Rises (P.disk_faults station.old) (P.disk_faults station.new) }
         ensures say_quiet { P.say_faults station.new ≡ P.say_faults station.old }

@@ -13,10 +13,10 @@ use Rattle.wm_heap.specs.Asking.{Finds}
 use Rattle.wm_heap.specs.Content.{slots_in, content, fault_of}
 use Rattle.wm_heap.specs.Places.{IsHeapOf}
 use Rattle.wm_store.specs.Answers.{SaysOf, FindsIn}
-use Rattle.wm_store.specs.Opened.{records_in, unread_in, pages_opened, opened, Held, SaysAs}
+use Rattle.wm_store.specs.Opened.{records_in, unread_in, pages_opened, opened, Held, SaysAs, HoldsAs}
 use Rattle.wm_store.specs.Stores.{IsStoreOf}
 use Rattle.wm_store.specs.declared.store.Store.{Store}
-use Rattle.wm_store.proofs.Opening.{pages_fault, pages_unread, pages_found, opened_damage, opened-keeps, made-keeps}
+use Rattle.wm_store.proofs.Opening.{pages_fault, pages_unread, pages_found, opened_damage, opened-keeps, made-keeps, opened_behind}
 
 -- ---- the pages
 
@@ -75,6 +75,21 @@ pub moments_say : (old new : History) → During old new (λ c s. (Leaves old c 
 moments_say old new run =
     weaken old new (λ c s. (Leaves old c ⊎ Keeps (now old) c) × (s ≡ said old)) (λ c s. (Leaves old c ⊎ SaysAs (now old) c) × (s ≡ said old))
     (λ c s both. (⊎_elim (λ left. inl left) (λ keeps. inr (says_as (now old) c keeps)) both.0, both.1)) run
+
+pub holds_as : (old file : List ℕ) → Keeps old file → HoldsAs old file
+holds_as old file keeps = record { pages = keeps; says = says_as old file keeps }
+
+pub moments_hold : (old new : History) → During old new (λ c s. (Leaves old c ⊎ Keeps (now old) c) × (s ≡ said old)) → During old new (λ c s. (Leaves old c ⊎ HoldsAs (now old) c) × (s ≡ said old))
+moments_hold old new run =
+    weaken old new (λ c s. (Leaves old c ⊎ Keeps (now old) c) × (s ≡ said old)) (λ c s. (Leaves old c ⊎ HoldsAs (now old) c) × (s ≡ said old))
+    (λ c s both. (⊎_elim (λ left. inl left) (λ keeps. inr (holds_as (now old) c keeps)) both.0, both.1)) run
+
+-- what the pages say is nothing that is found before anything is written
+pub behind_page_0 : (e : OpenFault) (pages : ℕ → List ℕ) (count whole : ℕ) → FindsIn e (pages_opened pages count whole) → IsUntouched e → ⊥
+behind_page_0 faults.Disk pages count whole finds untouched = untouched
+behind_page_0 faults.NotStore pages count whole finds untouched = finds
+behind_page_0 faults.Memory pages count whole finds untouched = untouched
+behind_page_0 (faults.Damaged p kind) pages count whole finds untouched = let high = opened_behind pages count whole (p, kind) finds in omega arith
 
 -- what the pages of the repaired file say is what the file said
 pub says_in : (e : OpenFault) (old file : List ℕ) (count : ℕ) → is_made old ≡ true → opened old ≡ pages_opened (page file) count (length file / 4096) → FindsIn e (pages_opened (page file) count (length file / 4096)) → SaysOf e old

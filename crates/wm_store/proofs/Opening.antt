@@ -1,6 +1,6 @@
 -- What a file says when it is opened, by its pages.
 use Rattle.std.proofs.Common.{◌≡◌, ℕ, zero, suc, ◌+◌, ◌-◌, ◌/◌, ◌<◌, ◌≤◌, ◌⊎◌, inl, inr, Bool, true, false, cond, not, ◌&&◌, eqb, ltb, List, [], ◌++◌, length, Option, Some, None, is_some, unwrap_or, Result, Ok, Err, refl, sym, ap, ◌∙◌, arith}
-use Rattle.std.specs.Option.{option_or}
+use Rattle.std.specs.Option.{option_map, option_or}
 use Rattle.std.proofs.lemmas.Bool.{cases_lt, lt-ltb, le-ltb, ltb-false, ltb-true}
 use Rattle.wm_base.specs.declared.fault.Damage.{Damage}
 use Rattle.wm_base.specs.declared.fault.Damage.TheVariants as damages
@@ -11,8 +11,8 @@ use Rattle.wm_journal.specs.Store.{Stores, Keeps}
 use Rattle.wm_journal.proofs.Stored.{held_closed}
 use Rattle.wm_heap.specs.declared.slot.Slot.{Slot}
 use Rattle.wm_heap.specs.Slots.{slots_of}
-use Rattle.wm_heap.specs.Content.{bytes_at, slots_upto, slots_in, content, is_in, damage_on, fault_in, fault_of}
-use Rattle.wm_store.specs.Opened.{records_in, unread_in, unless, pages_opened, opened}
+use Rattle.wm_heap.specs.Content.{bytes_at, slots_upto, slots_in, content, is_in, damage_in, damage_on, fault_in, fault_of}
+use Rattle.wm_store.specs.Opened.{records_in, are_records, unread_in, unless, pages_opened, opened}
 
 -- ---- the same pages
 
@@ -98,6 +98,51 @@ pages_unread a count whole f sound found = rw (sound, found) refl
 unless_ok : {A : Type 0} (f : Option (ℕ × Damage)) (rest : Result A (ℕ × Damage)) (x : A) → unless f rest ≡ Ok x → (f ≡ None) × (rest ≡ Ok x)
 unless_ok None rest x e = (refl, e)
 unless_ok (Some f) rest x e = absurd cc
+
+or_some : (o p : Option (ℕ × Damage)) (f : ℕ × Damage) → option_or o p ≡ Some f → (o ≡ Some f) ⊎ (p ≡ Some f)
+or_some None p f e = inr e
+or_some (Some x) p f e = inl e
+
+on_page : (o : Option Damage) (p : ℕ) (f : ℕ × Damage) → option_map (λ (kind : Damage). (p, kind)) o ≡ Some f → f.0 ≡ p
+on_page None p f e = absurd cc
+on_page (Some kind) p f e = let same : (p, kind) ≡ f = cc in ap (λ (x : ℕ × Damage). x.0) (sym same)
+
+on_record : (b : Bool) (p : ℕ) (f : ℕ × Damage) → cond b None (Some (p, damages.Record)) ≡ Some f → f.0 ≡ p
+on_record true p f e = absurd cc
+on_record false p f e = let same : (p, damages.Record) ≡ f = cc in ap (λ (x : ℕ × Damage). x.0) (sym same)
+
+fault_behind : (a : ℕ → List ℕ) (whole n : ℕ) (f : ℕ × Damage) → fault_in a whole n ≡ Some f → 2 ≤ f.0
+fault_behind a whole zero f e = absurd cc
+fault_behind a whole (suc n) f e = by_side (or_some (fault_in a whole n) (damage_on (is_in (slots_in a) n) (n + 2) (ltb (n + 2) whole) (slots_of (a (n + 2)))) f e) (fault_behind a whole n f)
+  where
+    by_side : (fault_in a whole n ≡ Some f) ⊎ (damage_on (is_in (slots_in a) n) (n + 2) (ltb (n + 2) whole) (slots_of (a (n + 2))) ≡ Some f) → (fault_in a whole n ≡ Some f → 2 ≤ f.0) → 2 ≤ f.0
+    by_side (inl before) rest = rest before
+    by_side (inr here) rest = let page_is = on_page (damage_in (is_in (slots_in a) n) (ltb (n + 2) whole) (slots_of (a (n + 2)))) (n + 2) f here in omega (arith, page_is)
+
+unread_behind : (slots : ℕ → List Slot) (n : ℕ) (f : ℕ × Damage) → unread_in slots n ≡ Some f → 2 ≤ f.0
+unread_behind slots zero f e = absurd cc
+unread_behind slots (suc n) f e = by_side (or_some (unread_in slots n) (cond (are_records (slots (n + 2))) None (Some (n + 2, damages.Record))) f e) (unread_behind slots n f)
+  where
+    by_side : (unread_in slots n ≡ Some f) ⊎ (cond (are_records (slots (n + 2))) None (Some (n + 2, damages.Record)) ≡ Some f) → (unread_in slots n ≡ Some f → 2 ≤ f.0) → 2 ≤ f.0
+    by_side (inl before) rest = rest before
+    by_side (inr here) rest = let page_is = on_record (are_records (slots (n + 2))) (n + 2) f here in omega (arith, page_is)
+
+unless_err : {A : Type 0} (o : Option (ℕ × Damage)) (rest : Result A (ℕ × Damage)) (f : ℕ × Damage) → unless o rest ≡ Err f → (o ≡ Some f) ⊎ (rest ≡ Err f)
+unless_err None rest f e = inr e
+unless_err (Some x) rest f e = inl cc
+
+-- what pages say is damaged stands behind pages 0 and 1
+pub opened_behind : (a : ℕ → List ℕ) (count whole : ℕ) (f : ℕ × Damage) → pages_opened a count whole ≡ Err f → 2 ≤ f.0
+unfolding pages_opened
+opened_behind a count whole f e = by_first (unless_err (fault_of a count whole) (unless (unread_in (slots_in a) (count - 2)) (Ok (records_in (content a count)))) f e)
+  where
+    by_second : (unread_in (slots_in a) (count - 2) ≡ Some f) ⊎ (◌≡◌ {A = Result (List Stored) (ℕ × Damage)} (Ok (records_in (content a count))) (Err f)) → 2 ≤ f.0
+    by_second (inl unread) = unread_behind (slots_in a) (count - 2) f unread
+    by_second (inr good) = absurd cc
+
+    by_first : (fault_of a count whole ≡ Some f) ⊎ (unless (unread_in (slots_in a) (count - 2)) (Ok (records_in (content a count))) ≡ Err f) → 2 ≤ f.0
+    by_first (inl found) = fault_behind a whole (count - 2) f found
+    by_first (inr rest) = by_second (unless_err (unread_in (slots_in a) (count - 2)) (Ok (records_in (content a count))) f rest)
 
 -- pages that open passed each test
 pub record Passed (a : ℕ → List ℕ) (count whole : ℕ) (records : List Stored) : Type 0 where

@@ -7,6 +7,7 @@ use Rattle.wm_spec.specs.declared.record.Record.{Record}
 use Rattle.wm_spec.specs.declared.record.stored.Stored.{Stored}
 use Rattle.wm_codec.specs.Reading.{record_of}
 use Rattle.wm_journal.specs.Disk.{is_made, held, count_of, damage_of}
+use Rattle.wm_journal.specs.Store.{Keeps}
 use Rattle.wm_heap.specs.declared.slot.Slot.{Slot}
 use Rattle.wm_heap.specs.Content.{slots_in, content, fault_of}
 
@@ -52,3 +53,8 @@ pub record Held (records : List Stored) (file : List ℕ) : Type 0 where
 pub record SaysAs (old file : List ℕ) : Type 0 where
   pub made : is_made file ≡ is_made old
   pub opens : opened file ≡ opened old
+
+-- the file holds what another held: each page, and so its records or its damage
+pub record HoldsAs (old file : List ℕ) : Type 0 where
+  pub pages : Keeps old file
+  pub says : SaysAs old file

@@ -6,13 +6,14 @@ ghost use Rattle.wm_base.specs.declared.fault.StoreFault.TheVariants as storing;
 ghost use Rattle.wm_spec.specs.Records.{AreChanges, AfterBatch, record_at};
 ghost use Rattle.wm_spec.specs.declared.record.stored.Stored.{Stored};
 ghost use Rattle.wm_station.specs.Cause.{Rises};
-ghost use Rattle.wm_station.specs.History.{now, said, Leaves};
+ghost use Rattle.wm_station.specs.History.{now, said, Leaves, Synced};
 ghost use Rattle.wm_station.specs.Moments.{Holds, During, Ended};
 ghost use Rattle.wm_journal.specs.Disk.{is_made};
+ghost use Rattle.wm_journal.specs.Opening.{IsUntouched};
 ghost use Rattle.wm_heap.specs.Places.{place_of};
 ghost use Rattle.wm_store.specs.Answers.{SaysOf};
 ghost use Rattle.wm_store.specs.Fresh.{fresh_records};
-ghost use Rattle.wm_store.specs.Opened.{opened, Held, SaysAs};
+ghost use Rattle.wm_store.specs.Opened.{opened, Held, SaysAs, HoldsAs};
 ghost use Rattle.wm_store.specs.Spelled.{FitPages};
 
 use crate::blobs::spell_changes;
@@ -47,6 +48,8 @@ impl Store {
         ensures quiet { P.tells → said (P.history station.new) ≡ said (P.history station.old) }
         ensures exists { P.tells → IsErrOf result making.Exists → (is_made (now (P.history station.old)) ≡ true) × (P.history station.new ≡ P.history station.old) }
         ensures absent { P.tells → OnOk result (is_made (now (P.history station.old)) ≡ false) }
+        // A store that is there is never touched, whatever the answer.
+        ensures kept { P.tells → is_made (now (P.history station.old)) ≡ true → P.history station.new ≡ P.history station.old }
         ensures later { P.disk_faults station.old ≤ P.disk_faults station.new }
         ensures disk { IsErrOf result making.Disk → Rises (P.disk_faults station.old) (P.disk_faults station.new) }
         ensures say_quiet { P.say_faults station.new ≡ P.say_faults station.old }
@@ -71,6 +74,13 @@ impl Store {
         ensures any_moment { P.tells → During (P.history station.old) (P.history station.new) (λ c s. (Leaves (P.history station.old) c ⊎ SaysAs (now (P.history station.old)) c) × (s ≡ said (P.history station.old))) }
         ensures quiet { P.tells → said (P.history station.new) ≡ said (P.history station.old) }
         ensures untouched { P.tells → IsErrOf result opening.NotStore → now (P.history station.new) ≡ now (P.history station.old) }
+
+        // Whatever the answer, each page is held as it was, now and after a crash at any moment.
+        ensures pages { P.tells → HoldsAs (now (P.history station.old)) (now (P.history station.new)) }
+        ensures pages_any_moment { P.tells → During (P.history station.old) (P.history station.new) (λ c s. (Leaves (P.history station.old) c ⊎ HoldsAs (now (P.history station.old)) c) × (s ≡ said (P.history station.old))) }
+
+        // Where the file is no store, or page 0 is damaged, it was only synced.
+        ensures synced { P.tells → IfErr result (λ e. IsUntouched e → P.history station.new ≡ Synced (P.history station.old)) }
 
         ensures later { P.disk_faults station.old ≤ P.disk_faults station.new }
         ensures disk { IsErrOf result opening.Disk → Rises (P.disk_faults station.old) (P.disk_faults station.new) }

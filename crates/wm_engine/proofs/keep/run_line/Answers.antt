@@ -45,3 +45,15 @@ returns-clause-idle g c = λ s stands idle.
       c.in_ok-image.ensures.image ∙ ap (λ (cs : List Change). applied cs c.args.image) (c.into_changed.ensures.changes ∙ quiet.0),
       c.in_ok-image.ensures.sessions ∙ ap (λ (x : Seating). seated c.args.sessions.now.items (seating_view x)) (c.into_changed.ensures.seating ∙ quiet.1),
     )
+
+pub returns-in_err-image-clause-unwritten : goal.returns-in_err-image-clause-unwritten
+returns-in_err-image-clause-unwritten g c = λ told s stands idle.
+    let d = c.in_ok-planned.ensures.does.does s (subst (λ (xs : List Session). StandsAt c.args.image xs c.args.moment s) (sym c.as_slice.ensures.value) stands) in
+    let quiet = c.in_ok-planned.ensures.idle (ap is_idle d.1 ∙ idle) in
+    c.in_err-image.ensures.nothing told (c.into_changed.ensures.changes ∙ quiet.0)
+
+pub returns-clause-unwritten : goal.returns-clause-unwritten
+returns-clause-unwritten g c = λ told s stands idle.
+    let d = c.in_ok-planned.ensures.does.does s (subst (λ (xs : List Session). StandsAt c.args.image xs c.args.moment s) (sym c.as_slice.ensures.value) stands) in
+    let quiet = c.in_ok-planned.ensures.idle (ap is_idle d.1 ∙ idle) in
+    c.in_ok-image.ensures.nothing told (c.into_changed.ensures.changes ∙ quiet.0)

@@ -1,7 +1,7 @@
-use Rattle.std.proofs.Common.{arith}
+use Rattle.std.proofs.Common.{◌+◌, ◌^◌, arith}
 use Rattle.std.proofs.lemmas.List.{length-take}
 use Rattle.std.proofs.lemmas.Result.{err_from_is_err_and, on_ok_weaker, on_err_weaker}
-use Rattle.wm_host.proofs.Past.{past_begun, past_more, past_finished, past_halted, past_broken, past_stopped, past_taken, past_limit, past_crash, past_crash_finish, past_crash_broken}
+use Rattle.wm_host.proofs.Past.{past_begun, past_more, past_finished, past_halted, past_broken, past_stopped, past_taken, past_few, past_untaken, past_limit, past_crash, past_crash_finish, past_crash_broken}
 use Rattle.wm_host.proofs.Causes.{not_of_source, not_of_limit, handed_on}
 use Rattle.wm_host.proofs.script.run_script.Goals as goal
 
@@ -113,3 +113,23 @@ pub returns-in_err-feed-clause-crash : goal.returns-in_err-feed-clause-crash
 returns-in_err-feed-clause-crash g c =
     past_crash_broken g.S.Source.tells g.P.Station.tells (g.S.Source.left c.args.source.now) (g.S.Source.left c.pieces.source) (g.S.Source.left c.take.new.self) c.take.new.into _ _ _ c.args.host.now c.pieces.host c.pieces.taken c.in_ok-count.count
     c.requires.held c.pieces.invariant.past c.in_ok-count.ensures.taken c.in_err-feed.ensures.crash
+
+pub returns-in_err-count-clause-few : goal.returns-in_err-count-clause-few
+returns-in_err-count-clause-few g c = λ s.
+    past_untaken g.S.Source.tells g.P.Station.tells (g.S.Source.left c.args.source.now) (g.S.Source.left c.pieces.source) (g.S.Source.left c.take.new.self) _ _ c.args.host.now c.pieces.host c.pieces.taken (2 ^ 30 + 1)
+    c.pieces.invariant.past c.in_err-count.ensures.untaken (omega (arith, c.pieces.invariant.within)) s
+
+pub returns-then-count-eq0-clause-few : goal.returns-then-count-eq0-clause-few
+returns-then-count-eq0-clause-few g c =
+    past_few g.S.Source.tells g.P.Station.tells (g.S.Source.left c.args.source.now) (g.S.Source.left c.pieces.source) (g.S.Source.left c.take.new.self) c.take.new.into _ _ c.args.host.now c.pieces.host c.pieces.taken c.in_ok-count.count (2 ^ 30 + 1)
+    c.pieces.invariant.past (omega (arith, c.in_ok-count.ensures.within)) c.in_ok-count.ensures.taken (omega (arith, c.pieces.invariant.within, c.in_ok-count.ensures.within, length-take c.clamp-room.result c.pieces.piece))
+
+pub returns-then-taken-eq-INPUT_LIMIT-clause-few : goal.returns-then-taken-eq-INPUT_LIMIT-clause-few
+returns-then-taken-eq-INPUT_LIMIT-clause-few g c =
+    past_few g.S.Source.tells g.P.Station.tells (g.S.Source.left c.args.source.now) (g.S.Source.left c.pieces.source) (g.S.Source.left c.take.new.self) c.take.new.into _ _ c.args.host.now c.pieces.host c.pieces.taken c.in_ok-count.count (2 ^ 30 + 1)
+    c.pieces.invariant.past (omega (arith, c.in_ok-count.ensures.within)) c.in_ok-count.ensures.taken (omega (arith, c.pieces.invariant.within, c.in_ok-count.ensures.within, length-take c.clamp-room.result c.pieces.piece))
+
+pub returns-in_err-feed-clause-few : goal.returns-in_err-feed-clause-few
+returns-in_err-feed-clause-few g c =
+    past_few g.S.Source.tells g.P.Station.tells (g.S.Source.left c.args.source.now) (g.S.Source.left c.pieces.source) (g.S.Source.left c.take.new.self) c.take.new.into _ _ c.args.host.now c.pieces.host c.pieces.taken c.in_ok-count.count (2 ^ 30 + 1)
+    c.pieces.invariant.past (omega (arith, c.in_ok-count.ensures.within)) c.in_ok-count.ensures.taken (omega (arith, c.pieces.invariant.within, c.in_ok-count.ensures.within, length-take c.clamp-room.result c.pieces.piece))

@@ -1,8 +1,8 @@
-use Rattle.std.proofs.Common.{Err, refl, ◌^◌, take}
+use Rattle.std.proofs.Common.{Err, refl, ◌+◌, ◌^◌, take}
 use Rattle.wm_model.specs.Lines.{lines, ended_lines}
 use Rattle.wm_state.specs.State.{begin}
 use Rattle.wm_host.specs.declared.stop.Stop.TheVariants.{SourceFault, InputLimit}
-use Rattle.wm_host.proofs.Ending.{at_done, at_status, answers_all, answers_at_end, answers_ended, crash_opened, crash_ran, stands_ran, stands_unopened, counted_unopened}
+use Rattle.wm_host.proofs.Ending.{at_done, at_status, answers_all, answers_at_end, answers_ended, crash_opened, crash_ran, stands_ran, stands_unopened, counted_unopened, takes_none, unopened_status}
 use Rattle.wm_host.proofs.store.run_store.Goals as goal
 
 -- once the store is open
@@ -54,3 +54,9 @@ returns-in-Err-clause-stands g c = λ r t s stands.
 pub returns-in-Err-clause-crash : goal.returns-in-Err-clause-crash
 returns-in-Err-clause-crash g c = λ r t s stands.
     crash_opened (g.P.Station.history c.args.station.now) (g.P.Station.history c.open_host.new.station) s c.args.moment (lines (g.S.Source.left c.args.source.now)) (c.in-Err.ensures.crash t s stands)
+
+pub returns-in-Err-clause-opened : goal.returns-in-Err-clause-opened
+returns-in-Err-clause-opened g c = λ status t. absurd (unopened_status c.in-Err.stop c.of-in-Err.result.status c.of-in-Err.ensures.status c.in-Err.ensures.opening status)
+
+pub returns-in-Err-clause-few : goal.returns-in-Err-clause-few
+returns-in-Err-clause-few g c = λ r. takes_none (2 ^ 30 + 1) (g.S.Source.left c.args.source.now) (g.S.Source.left c.args.source.now) refl

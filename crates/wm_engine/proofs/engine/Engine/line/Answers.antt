@@ -35,3 +35,13 @@ returns-clause-idle g c = λ s for idle.
       kept.0 ∙ sym (ap (λ (e : Engaged). e.records) (sym c.self.view_is) ∙ here),
       kept.1 ∙ ap (λ (e : Engaged). e.sessions) c.self.view_is,
     )
+
+pub returns-in_err-kept-clause-unwritten : goal.returns-in_err-kept-clause-unwritten
+returns-in_err-kept-clause-unwritten g c = λ told s for idle.
+    let here = ap (λ (o : Option (List Stored)). unwrap_or o []) (sym c.in-Some.ensures.value) in
+    c.in_err-kept.ensures.unwritten told s (stands_at _ c.in-Some.image s here (subst (λ (e : Engaged). StandsFor e s) (sym c.self.view_is) for)) idle
+
+pub returns-clause-unwritten : goal.returns-clause-unwritten
+returns-clause-unwritten g c = λ told s for idle.
+    let here = ap (λ (o : Option (List Stored)). unwrap_or o []) (sym c.in-Some.ensures.value) in
+    c.in_ok-kept.ensures.unwritten told s (stands_at _ c.in-Some.image s here (subst (λ (e : Engaged). StandsFor e s) (sym c.self.view_is) for)) idle

@@ -23,3 +23,6 @@ returns-clause-begins g c = λ told s stands. record {
       c.max-moment.ensures ∙ ap (λ (n : ℕ). max n c.counters.result.last_moment) c.seconds.ensures.value
       ∙ opens_at (now (g.P.Station.history c.args.station.now)) c.in_ok-store.records c.in-Ok.image c.counters.result c.args.moment s (c.in_ok-store.ensures.records told) c.in-Ok.ensures.image c.counters.ensures stands;
 }
+
+pub returns-clause-opened : goal.returns-clause-opened
+returns-clause-opened g c = λ told. record { records = c.in_ok-store.records; held = c.in_ok-store.ensures.records told; same = c.in-Ok.ensures.image }
