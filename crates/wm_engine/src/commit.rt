@@ -29,6 +29,7 @@ pub fn commit<P: Station>(
     ensures image { OnOk result (image.new ≡ applied changes image.old) }
     ensures works { P.tells → OnOk result (KeepsOver store.new (applied changes image.old) (P.history station.new)) }
     ensures any_moment { P.tells → Ended (P.history station.old) (P.history station.new) (λ file. HoldsSorted file image.old ⊎ HoldsSorted file (applied changes image.old)) }
+    // Where nothing changes the file is not touched.
     ensures nothing { P.tells → changes ≡ [] → P.history station.new ≡ P.history station.old }
     ensures later { P.disk_faults station.old ≤ P.disk_faults station.new }
     ensures disk { IsErrOf result faults.Disk → Rises (P.disk_faults station.old) (P.disk_faults station.new) }

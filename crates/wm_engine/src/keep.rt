@@ -55,6 +55,7 @@ fn keep<P: Station>(
     ensures sessions { OnOk result (sessions.new.items ≡ seated sessions.old.items (seating_view changed.seating)) }
     ensures works { P.tells → OnOk result (KeepsOver store.new (applied changed.changes image) (P.history station.new)) }
     ensures any_moment { P.tells → Ended (P.history station.old) (P.history station.new) (λ file. HoldsSorted file image ⊎ HoldsSorted file (applied changed.changes image)) }
+    // Where nothing changes the file is not touched.
     ensures nothing { P.tells → changed.changes ≡ [] → P.history station.new ≡ P.history station.old }
     ensures later { P.disk_faults station.old ≤ P.disk_faults station.new }
     ensures disk { IsErrOf result faults.Disk → Rises (P.disk_faults station.old) (P.disk_faults station.new) }
@@ -86,6 +87,7 @@ pub fn run_line<P: Station>(
     ensures moment { IfOk result (λ k. k.moment < END) }
     ensures few { is_fork (parsed line.now) ≡ true → IfOk result (λ k. ChangesFew image k.image) }
     ensures idle { IfOk result (λ k. (s : State) → StandsAt image sessions.old.items moment s → is_idle (step s line.now).1 ≡ true → (k.image ≡ image) × (sessions.new.items ≡ sessions.old.items)) }
+    // A line that is refused, that reads, or that says nothing does not touch the file, whatever the result.
     ensures unwritten { P.tells → (s : State) → StandsAt image sessions.old.items moment s → is_idle (step s line.now).1 ≡ true → P.history station.new ≡ P.history station.old }
     ensures works { P.tells → IfOk result (λ k. KeepsOver store.new k.image (P.history station.new)) }
     ensures any_moment { P.tells → (s : State) → StandsAt image sessions.old.items moment s → Ended (P.history station.old) (P.history station.new) (λ file. FileStands file s ⊎ FileStands file (step s line.now).0) }

@@ -4,7 +4,7 @@ use Rattle.std.proofs.lemmas.Bool.{ne_eqb}
 use Rattle.std.proofs.lemmas.List.{take_more, take-append-drop}
 use Rattle.wm_engine.specs.Working.{Engaged, FileStands, StandsFor, WorksOver}
 use Rattle.wm_engine.proofs.Working.{stands_over, works_said}
-use Rattle.wm_station.specs.History.{History, Said, now, said}
+use Rattle.wm_station.specs.History.{History, Said, said}
 use Rattle.wm_station.specs.Moments.{During, Ended, Holds}
 use Rattle.wm_model.specs.Lines.{cap, capped, without_cr, HasNoLf, held_more}
 use Rattle.wm_state.specs.State.{State}

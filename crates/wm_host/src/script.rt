@@ -40,6 +40,7 @@ pub(crate) fn run_script<S: Source, P: Station>(
     ensures taken { S.tells → IsErrOf result SourceFault → AnswersTaken P.tells (P.history station.old) (P.history station.new) host.old host.new (S.left source.old) (S.left source.new) }
     ensures limit { S.tells → IsErrOf result InputLimit → AnswersToLimit P.tells (P.history station.old) (P.history station.new) host.old host.new (S.left source.old) }
 
+    // At most one byte is taken past the limit.
     ensures few { S.tells → TakesAtMost (2 ^ 30 + 1) (S.left source.old) (S.left source.new) }
     ensures crash { S.tells → P.tells → (s : State) → StandsFor host.old.engine s → Throughout (P.history station.old) (P.history station.new) (CrashAnswers (P.history station.old) s (capped true (S.left source.old))) }
     ensures source_later { S.faults source.old ≤ S.faults source.new }

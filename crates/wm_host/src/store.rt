@@ -80,9 +80,11 @@ fn open_host<P: Station>(alloc: Global, station: &mut P, moment: Instant) -> Res
     ensures keeps { P.tells → (s : State) → FileStands (now (P.history station.old)) s → FileStands (now (P.history station.new)) s }
     ensures unsaid { P.tells → said (P.history station.new) ≡ said (P.history station.old) }
     ensures not_store { P.tells → IsErrOf result NotStore → now (P.history station.new) ≡ now (P.history station.old) }
+    // A file that is no store is only synced; whatever the answer, the pages are held as they were, also after a crash.
     ensures synced { P.tells → IsErrOf result NotStore → P.history station.new ≡ Synced (P.history station.old) }
     ensures pages { P.tells → HoldsAs (now (P.history station.old)) (now (P.history station.new)) }
     ensures pages_any_moment { P.tells → During (P.history station.old) (P.history station.new) (λ c s. (Leaves (P.history station.old) c ⊎ HoldsAs (now (P.history station.old)) c) × (s ≡ said (P.history station.old))) }
+    // It opens only where the file was a store whose records keep the rules.
     ensures sound { P.tells → OnOk result (IsSound (now (P.history station.old))) }
     ensures fault { P.tells → IfErr result (λ stop. StopTells stop (now (P.history station.old))) }
     ensures disk_later { P.disk_faults station.old ≤ P.disk_faults station.new }
@@ -106,7 +108,9 @@ pub(crate) fn run_store<S: Source, P: Station>(
     ensures all { result.status ≡ 0 → S.tells → result.lines ≡ length (lines (S.left source.old)) }
     ensures end { result.status ≡ 0 → S.tells → S.left source.new ≡ [] }
     ensures within { result.status ≡ 0 → S.tells → length (S.left source.old) ≤ 2 ^ 30 }
+    // These statuses come only where the file was a store whose records keep the rules.
     ensures opened { list_any (λ status. status == result.status) (0 ∷ 3 ∷ 4 ∷ 9 ∷ []) ≡ true → P.tells → IsSound (now (P.history station.old)) }
+    // At most one byte is taken past the limit.
     ensures few { S.tells → TakesAtMost (2 ^ 30 + 1) (S.left source.old) (S.left source.new) }
     ensures ended { result.status ≡ 3 → S.tells → P.tells → AnswersEnded (P.history station.old) (P.history station.new) moment (S.left source.old) (S.left source.new) result.lines }
     ensures limit { result.status ≡ 9 → S.tells → 2 ^ 30 < length (S.left source.old) }
@@ -117,8 +121,10 @@ pub(crate) fn run_store<S: Source, P: Station>(
     ensures crash { S.tells → P.tells → (s : State) → FileStands (now (P.history station.old)) s → During (P.history station.old) (P.history station.new) (CrashOfRun (P.history station.old) (begin s moment) (lines (S.left source.old))) }
 
     ensures not_store { result.status ≡ 6 → P.tells → (is_made (now (P.history station.old)) ≡ false) × (now (P.history station.new) ≡ now (P.history station.old)) }
+    // A file that is no store is only synced.
     ensures synced { result.status ≡ 6 → P.tells → P.history station.new ≡ Synced (P.history station.old) }
     ensures damaged { result.status ≡ 7 → P.tells → IsDamaged result.place (now (P.history station.old)) }
+    // After 6 and 7 the pages are held as they were, also after a crash.
     ensures pages { (result.status ≡ 6) ⊎ (result.status ≡ 7) → P.tells → HoldsAs (now (P.history station.old)) (now (P.history station.new)) }
     ensures pages_any_moment { (result.status ≡ 6) ⊎ (result.status ≡ 7) → P.tells → During (P.history station.old) (P.history station.new) (λ c s. (Leaves (P.history station.old) c ⊎ HoldsAs (now (P.history station.old)) c) × (s ≡ said (P.history station.old))) }
     ensures sound { (result.status ≡ 6) ⊎ (result.status ≡ 7) → P.tells → (s : State) → FileStands (now (P.history station.old)) s → ⊥ }
