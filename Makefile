@@ -40,6 +40,9 @@ cases: demo
 	then $(PYTHON) tools/play_cases.py build/wm cases; \
 	else echo "cases: skipped, for there is no $(PYTHON)"; fi
 
+against: build/wm
+	$(PYTHON) tools/against build/wm --scripts 300
+
 bench: build/wm
 	$(PYTHON) bench/statements.py build/wm
 

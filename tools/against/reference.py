@@ -1,0 +1,617 @@
+"""The state, and what each line answers, by the rules of the language alone."""
+import itertools
+from dataclasses import dataclass, field
+
+from parser import BadToken, Parser, VIEWS
+from trees import (
+    Aggregate, Arithmetic, At, Both, Call, Comparison, Connect, Constant, Create, Delete, Disconnect, Either, Insert,
+    IsNull, Item, Name, Not, Place, Select, Update,
+)
+from values import GREATEST, Instant, LEAST, ascending, printed, weight
+
+
+class Refused(Exception):
+    """A refusal with its text."""
+
+
+def refuse(text, *values):
+    raise Refused(" ".join([text, *(value.decode("utf-8", "surrogateescape") if isinstance(value, bytes) else str(value) for value in values)]))
+
+
+def first_of(faults):
+    """The thing of the fault whose token stands first; of two at one token the one that comes first in the list."""
+    return min(faults, key=lambda fault: fault[0])[1]
+
+
+@dataclass
+class Table:
+    name: str
+    columns: list
+    key: int | None
+    is_versioned: bool = False
+
+
+@dataclass
+class Session:
+    user: str
+    workspace: bytes = b"LIVE"
+    savepoint: bytes | None = None
+
+
+@dataclass
+class Workspace:
+    content: dict  # table to rows by key
+    savepoints: dict = field(default_factory=dict)  # name to content
+    implicit: int = 0
+
+
+def copied(content):
+    return {table: dict(rows) for table, rows in content.items()}
+
+
+class Scope:
+    """The columns of the sources of a statement, one behind the other."""
+
+    def __init__(self, sources):
+        self.columns = [(label, column) for label, table in sources for column in table.columns]
+
+    def places(self, name):
+        return [place for place, (label, column) in enumerate(self.columns)
+                if column.name == name.name and name.source in (None, label)]
+
+    def place(self, name):
+        return self.places(name)[0]
+
+    def bad_names(self, tree):
+        """The names of a tree that are no column or more than one, with their places in the line."""
+        return [(name.at, name.name) for name in names_of(tree) if len(self.places(name)) != 1]
+
+    def kind(self, tree):
+        if isinstance(tree, Constant):
+            return tree.kind
+        if isinstance(tree, Place):
+            return self.columns[tree.place][1].kind
+        if isinstance(tree, Name):
+            return self.columns[self.place(tree)][1].kind
+        if isinstance(tree, Aggregate):
+            return "number" if tree.word in ("COUNT", "SUM") else self.kind(tree.operand)
+        return "number"
+
+    def bad_kinds(self, tree):
+        """The marks and words of a tree whose operands are of kinds that do not go together."""
+        found = []
+        for part in parts_of(tree):
+            if isinstance(part, Arithmetic):
+                if any(self.kind(operand) not in ("number", "null") for operand in part.operands):
+                    found.append((part.mark_at, part.mark))
+            elif isinstance(part, Aggregate):
+                if part.word == "SUM" and self.kind(part.operand) not in ("number", "null"):
+                    found.append((part.at, part.word))
+            elif isinstance(part, Comparison):
+                if any(not go_together(self.kind(part.left), self.kind(other)) for other in part.others):
+                    found.append((part.at, part.mark))
+        return found
+
+    def misfits(self, column, tree):
+        """What is wrong with the kinds of a value for a column."""
+        found = [] if go_together(column.kind, self.kind(tree)) else [(tree.at, column.name)]
+        return found + self.bad_kinds(tree)
+
+    # What trees are on a row of the scope
+
+    def value(self, tree, row):
+        if isinstance(tree, Constant):
+            return tree.value
+        if isinstance(tree, Place):
+            return row[tree.place]
+        if isinstance(tree, Name):
+            return row[self.place(tree)]
+        values = [self.value(operand, row) for operand in tree.operands]
+        if None in values:
+            return None
+        if tree.mark == "*":
+            return in_range(values[0] * values[1])
+        if tree.mark == "+":
+            return in_range(values[0] + values[1])
+        return in_range(values[0] - values[1] if len(values) == 2 else -values[0])
+
+    def truth(self, tree, row):
+        """True, False or None for unknown."""
+        if tree is None:
+            return True
+        if isinstance(tree, Not):
+            return negation(self.truth(tree.inner, row))
+        if isinstance(tree, (Both, Either)):
+            truths = [self.truth(tree.left, row), self.truth(tree.right, row)]
+            return conjunction(truths) if isinstance(tree, Both) else disjunction(truths)
+        left = self.value(tree.left, row)
+        if isinstance(tree, IsNull):
+            return (left is None) != tree.negated
+        others = [self.value(other, row) for other in tree.others]
+        if tree.mark == "IN":
+            truth = disjunction([compared("=", left, other) for other in others])
+        elif tree.mark == "BETWEEN":
+            truth = conjunction([compared(">=", left, others[0]), compared("<=", left, others[1])])
+        else:
+            truth = compared(tree.mark, left, others[0])
+        return negation(truth) if tree.negated else truth
+
+
+def parts_of(tree):
+    """A tree and all trees within it."""
+    inner = {Arithmetic: lambda: tree.operands, Aggregate: lambda: [tree.operand] if tree.operand else [],
+             Comparison: lambda: [tree.left, *tree.others], IsNull: lambda: [tree.left], Not: lambda: [tree.inner],
+             Both: lambda: [tree.left, tree.right], Either: lambda: [tree.left, tree.right]}.get(type(tree), list)()
+    return [tree] + [part for one in inner for part in parts_of(one)]
+
+
+def names_of(tree):
+    return [part for part in parts_of(tree) if isinstance(part, Name)]
+
+
+def go_together(kind, other):
+    return kind != "period" and other != "period" and (kind == other or "null" in (kind, other))
+
+
+def in_range(number):
+    if not LEAST <= number <= GREATEST:
+        refuse("WM-064 out of range")
+    return number
+
+
+def negation(truth):
+    return None if truth is None else not truth
+
+
+def conjunction(truths):
+    return False if False in truths else None if None in truths else True
+
+
+def disjunction(truths):
+    return True if True in truths else None if None in truths else False
+
+
+def compared(mark, left, right):
+    if left is None or right is None:
+        return None
+    return {"=": left == right, "<>": left != right, "!=": left != right, "<": left < right, "<=": left <= right,
+            ">": left > right, ">=": left >= right}[mark]
+
+
+class Reference:
+    """A store, its sessions, and what each line answers."""
+
+    MOST_ROWS, MOST_SESSIONS, MOST_TABLES, MOST_WORKSPACES, MOST_SAVEPOINTS = 100_000, 256, 256, 1024, 4096
+
+    def __init__(self, limit):
+        self.limit, self.stamps, self.last_moment, self.moment = limit, 0, Instant(0), Instant(0)
+        self.tables, self.workspaces, self.sessions = {}, {b"LIVE": Workspace({})}, {}
+
+    def begin(self, now):
+        self.sessions = {}
+        self.moment = Instant(max(now, self.last_moment))
+
+    def answer(self, line):
+        """The bytes that a line answers."""
+        bare = line.lstrip(b" \t")
+        if len(line) <= 16_384 and (not bare or bare.startswith(b"--")):
+            return b""
+        try:
+            rows, words = self.run(self.read(line))
+            return b"".join(b"|".join(map(printed, row)) + b"\n" for row in rows) + words.encode() + b"\n"
+        except Refused as refused:
+            return str(refused).encode("utf-8", "surrogateescape") + b"\n"
+
+    def read(self, line):
+        if len(line) > 16_384:
+            refuse("WM-001 line too long")
+        try:
+            line.decode("utf-8")
+        except UnicodeDecodeError:
+            refuse("WM-002 not UTF-8")
+        parser = Parser(line, self.moment)
+        try:
+            tree = parser.line()
+        except BadToken as bad:
+            refuse("WM-003 syntax", bad.column)
+        if parser.bad_literals:
+            refuse("WM-065 literal", min(parser.bad_literals))
+        if parser.is_later:
+            refuse("WM-099 not built yet")
+        return tree
+
+    def run(self, tree):
+        """The rows and the word of the answer."""
+        if isinstance(tree, Connect):
+            return self.connect(tree)
+        if isinstance(tree, At):
+            return self.at(tree)
+        if tree.session not in self.sessions:
+            refuse("WM-004 no session", tree.session)
+        session = self.sessions[tree.session]
+        if isinstance(tree, Disconnect):
+            del self.sessions[tree.session]
+            return [], "OK"
+        statement = tree.statement
+        if isinstance(statement, Call):
+            return self.call(session, statement)
+        return {Create: self.create, Insert: self.insert, Update: self.update, Delete: self.delete,
+                Select: self.select}[type(statement)](session, statement)
+
+    def changed(self):
+        self.last_moment = self.moment
+
+    def connect(self, tree):
+        if tree.session in self.sessions:
+            refuse("WM-005 session exists", tree.session)
+        if len(tree.session) > 30 or len(tree.user) > 30:
+            refuse("WM-016 bad name 30")
+        if len(self.sessions) == self.MOST_SESSIONS:
+            refuse("WM-075 sessions", self.MOST_SESSIONS)
+        self.sessions[tree.session] = Session(tree.user)
+        return [], "OK"
+
+    def at(self, tree):
+        if tree.when.value < self.moment:
+            refuse("WM-031 moment goes back", printed(self.moment))
+        self.moment = tree.when.value
+        return [], "OK"
+
+    def content(self, session):
+        workspace = self.workspaces[session.workspace]
+        return workspace.content if session.savepoint is None else workspace.savepoints[session.savepoint]
+
+    def rows(self, session, table):
+        """The rows that a session sees, by key."""
+        found = self.content(session).get(table.name, {})
+        return [found[key] for key in sorted(found)]
+
+    def used(self, names):
+        """The tables of these names, which are all there and version-enabled."""
+        for name in names:
+            if name not in self.tables:
+                refuse("WM-010 no table", name)
+        for name in names:
+            if not self.tables[name].is_versioned:
+                refuse("WM-019 versioning", name, "off")
+        return [self.tables[name] for name in names]
+
+    # CREATE TABLE
+
+    def create(self, session, tree):
+        names = [column.name for column in tree.columns]
+        if any(len(name) > 30 for name in [tree.table, *names]):
+            refuse("WM-016 bad name 30")
+        reserved = [tree.table] if tree.table.endswith(VIEWS) else []
+        reserved += [name for name in names if name.startswith("WM_")]
+        if reserved:
+            refuse("WM-024 reserved", reserved[0])
+        if tree.table in self.tables:
+            refuse("WM-011 table exists", tree.table)
+        keys = tree.keys or []
+        bad = [(column.at, column.name) for place, column in enumerate(tree.columns) if column.name in names[:place]]
+        bad += [(key.at, key.name) for place, key in enumerate(keys)
+                if key.name not in names or key.name in [other.name for other in keys[:place]]]
+        if bad:
+            refuse("WM-012 no column", first_of(bad))
+        too_many = [(keys[1].at, 1)] if len(keys) > 1 else []
+        too_many += [(tree.columns[32].at, 32)] if len(names) > 32 else []
+        if too_many:
+            refuse("WM-014 count", first_of(too_many))
+        if len(self.tables) == self.MOST_TABLES:
+            refuse("WM-073 tables", self.MOST_TABLES)
+        key = names.index(keys[0].name) if keys else None
+        if key is not None:
+            tree.columns[key].not_null = True
+        self.tables[tree.table] = Table(tree.table, tree.columns, key)
+        self.changed()
+        return [], "OK"
+
+    # INSERT, UPDATE, DELETE
+
+    def at_latest(self, session):
+        if session.savepoint is not None:
+            refuse("WM-030 not at LATEST")
+
+    def insert(self, session, tree):
+        [table] = self.used([tree.table])
+        columns = {column.name: column for column in table.columns}
+        names = [name.name for name in tree.names] if tree.names is not None else list(columns)
+        bad = [(name.at, name.name) for place, name in enumerate(tree.names or [])
+               if name.name not in columns or name.name in names[:place]]
+        bad += [(name.at, name.name) for value in tree.values for name in names_of(value)]
+        if bad:
+            refuse("WM-012 no column", first_of(bad))
+        if len(tree.values) != len(names):
+            refuse("WM-014 count", len(names))
+        scope = Scope([])
+        bad = [fault for name, value in zip(names, tree.values) for fault in scope.misfits(columns[name], value)]
+        if bad:
+            refuse("WM-013 type", first_of(bad))
+        self.at_latest(session)
+        given = {name: scope.value(value, ()) for name, value in zip(names, tree.values)}
+        row = tuple(given.get(name) for name in columns)
+        self.test_rows(table, [row])
+        rows = self.content(session).setdefault(table.name, {})
+        if row[table.key] in rows:
+            refuse("WM-060 key there", printed(row[table.key]))
+        self.give_stamps(1)
+        rows[row[table.key]] = row
+        return [], "DONE 1"
+
+    def test_rows(self, table, rows):
+        for row in rows:
+            for column, value in zip(table.columns, row):
+                if value is None and column.not_null:
+                    refuse("WM-061 NULL in", column.name)
+        for row in rows:
+            for place, (column, value) in enumerate(zip(table.columns, row)):
+                if isinstance(value, bytes) and len(value) > column.size or place == table.key and weight(value) > 200:
+                    refuse("WM-063 too heavy", column.name)
+            if sum(map(weight, row)) > 2000:
+                refuse("WM-063 too heavy", "ROW")
+
+    def give_stamps(self, count):
+        if self.stamps + count > self.limit:
+            refuse("WM-070 change limit", self.limit)
+        self.stamps += count
+        if count:
+            self.changed()
+
+    def update(self, session, tree):
+        [table] = self.used([tree.table])
+        scope = Scope([(table.name, table)])
+        names = [name.name for name, _ in tree.settings]
+        trees = [value for _, value in tree.settings] + [tree.condition]
+        bad = [(name.at, name.name) for place, (name, _) in enumerate(tree.settings)
+               if not scope.places(name) or name.name in names[:place]]
+        bad += [fault for one in trees for fault in scope.bad_names(one)]
+        if bad:
+            refuse("WM-012 no column", first_of(bad))
+        places = [scope.place(name) for name, _ in tree.settings]
+        bad = [fault for place, (_, value) in zip(places, tree.settings) for fault in scope.misfits(table.columns[place], value)]
+        bad += scope.bad_kinds(tree.condition)
+        if bad:
+            refuse("WM-013 type", first_of(bad))
+        if table.key in places:
+            refuse("WM-062 key column", table.columns[table.key].name)
+        self.at_latest(session)
+        new_rows = []
+        for row in self.rows(session, table):
+            if scope.truth(tree.condition, row) is True:
+                new = list(row)
+                for place, (_, value) in zip(places, tree.settings):
+                    new[place] = scope.value(value, row)
+                new_rows.append(tuple(new))
+        self.test_rows(table, new_rows)
+        self.give_stamps(len(new_rows))
+        for row in new_rows:
+            self.content(session)[table.name][row[table.key]] = row
+        return [], f"DONE {len(new_rows)}"
+
+    def delete(self, session, tree):
+        [table] = self.used([tree.table])
+        scope = Scope([(table.name, table)])
+        if bad := scope.bad_names(tree.condition):
+            refuse("WM-012 no column", first_of(bad))
+        if bad := scope.bad_kinds(tree.condition):
+            refuse("WM-013 type", first_of(bad))
+        self.at_latest(session)
+        gone = [row for row in self.rows(session, table) if scope.truth(tree.condition, row) is True]
+        self.give_stamps(len(gone))
+        for row in gone:
+            del self.content(session)[table.name][row[table.key]]
+        return [], f"DONE {len(gone)}"
+
+    # SELECT
+
+    def select(self, session, tree):
+        tables = self.used([source.table for source in tree.sources])
+        scope = Scope([(source.label, table) for source, table in zip(tree.sources, tables)])
+        is_grouped = tree.groups is not None or any(isinstance(item.expression, Aggregate) for item in tree.items)
+        star_at = tree.star_at
+        if star_at is not None:
+            # A column of '*' is told by its place, which no name can do where two sources are alike.
+            items = [Item(Place(star_at, place, column.name), None) for place, (_, column) in enumerate(scope.columns)]
+        else:
+            items = [Item(self.placed(scope, item.expression), item.label) for item in tree.items]
+        groups = [self.placed(scope, name) for name in tree.groups or []]
+        bad = []
+        for item in items:
+            bad += self.bad_item(scope, item.expression, is_grouped, groups)
+        for one in tree.conditions + groups:
+            bad += scope.bad_names(one)
+        orders = []
+        for order in tree.orders:
+            by = self.ordered_by(scope, order.by, items, is_grouped or tree.distinct)
+            if by is None:
+                bad.append((order.by.at, order.by.name if isinstance(order.by, Name) else order.by.value))
+            orders.append((by, order.descending))
+        if bad:
+            refuse("WM-012 no column", first_of(bad))
+        bad = [fault for one in [*(item.expression for item in items), *tree.conditions] for fault in scope.bad_kinds(one)]
+        if bad:
+            refuse("WM-013 type", first_of(bad))
+        kept = [row for row in self.tuples(session, tables)
+                if all(scope.truth(condition, row) is True for condition in tree.conditions)]
+        # Each answer stands beside the row that ORDER BY may look at.
+        if is_grouped:
+            answers = self.grouped(scope, kept, items, groups, tree.groups is None)
+        else:
+            answers = [(tuple(scope.value(item.expression, row) for item in items), row) for row in kept]
+        if tree.distinct:
+            different = dict.fromkeys(answer for answer, _ in answers)
+            answers = [(answer, ()) for answer in sorted(different, key=lambda answer: tuple(map(ascending, answer)))]
+        if len(answers) > self.MOST_ROWS:
+            refuse("WM-074 answer rows", self.MOST_ROWS)
+        for (part, place), descending in reversed(orders):
+            answers.sort(key=lambda pair: ascending(pair[part][place]), reverse=descending)
+        return [answer for answer, _ in answers], f"ROWS {len(answers)}"
+
+    def placed(self, scope, tree):
+        """A column alone by its place, where it has one."""
+        if isinstance(tree, Name) and len(scope.places(tree)) == 1:
+            return Place(tree.at, scope.place(tree), tree.name)
+        return tree
+
+    def bad_item(self, scope, tree, is_grouped, groups):
+        if not is_grouped or isinstance(tree, Aggregate):
+            return scope.bad_names(tree)
+        if isinstance(tree, Place):
+            return [] if tree.place in [group.place for group in groups if isinstance(group, Place)] else [(tree.at, tree.name)]
+        return [(name.at, name.name) for name in names_of(tree)]
+
+    def ordered_by(self, scope, by, items, must_be_item):
+        """Where the value to sort by stands: 0 for the answer or 1 for the row, and the place in it. None where it is nowhere."""
+        if isinstance(by, Constant):
+            return (0, by.value - 1) if 1 <= by.value <= len(items) else None
+        labelled = [place for place, item in enumerate(items) if item.label == by.name] if by.source is None else []
+        if labelled:
+            return (0, labelled[0]) if len(labelled) == 1 else None
+        column = self.placed(scope, by)
+        if not isinstance(column, Place):
+            return None
+        if not must_be_item:
+            return 1, column.place
+        at = [place for place, item in enumerate(items) if isinstance(item.expression, Place) and item.expression.place == column.place]
+        return (0, at[0]) if at else None
+
+    def tuples(self, session, tables):
+        return (sum(rows, ()) for rows in itertools.product(*(self.rows(session, table) for table in tables)))
+
+    def grouped(self, scope, rows, items, groups, is_one_group):
+        members = {(): []} if is_one_group else {}
+        for row in rows:
+            members.setdefault(tuple(row[group.place] for group in groups), []).append(row)
+        answers = []
+        for values in sorted(members, key=lambda values: tuple(map(ascending, values))):
+            by_place = {group.place: value for group, value in zip(groups, values)}
+            answer = []
+            for item in items:
+                tree = item.expression
+                if isinstance(tree, Aggregate):
+                    answer.append(self.aggregate(scope, tree, members[values]))
+                elif isinstance(tree, Place):
+                    answer.append(by_place[tree.place])
+                else:
+                    answer.append(scope.value(tree, ()))
+            answers.append((tuple(answer), ()))
+        return answers
+
+    def aggregate(self, scope, tree, rows):
+        if tree.operand is None:
+            return len(rows)
+        values = [value for value in [scope.value(tree.operand, row) for row in rows] if value is not None]
+        if tree.word == "COUNT":
+            return len(values)
+        if not values:
+            return None
+        return in_range(sum(values)) if tree.word == "SUM" else min(values) if tree.word == "MIN" else max(values)
+
+    # Calls
+
+    def call(self, session, tree):
+        given = {parameter: constant.value for parameter, constant in tree.given.items()}
+        return {"ENABLEVERSIONING": self.enable_versioning, "CREATEWORKSPACE": self.create_workspace,
+                "CREATESAVEPOINT": self.create_savepoint, "GOTOWORKSPACE": self.goto_workspace,
+                "GOTOSAVEPOINT": self.goto_savepoint}[tree.procedure](session, tree, given)
+
+    def test_arguments(self, tree, needed, **kinds):
+        """Refuses the first argument that does not fit; 'kinds' tells for each parameter its kind, or the values it takes."""
+        for parameter, constant in tree.given.items():
+            wanted = kinds[parameter]
+            if constant.kind == "null":
+                is_good = parameter not in needed
+            elif isinstance(wanted, str):
+                is_good = constant.kind == wanted
+            else:
+                is_good = any(folded(constant.value) == value and type(constant.value) is type(value) for value in wanted)
+            if not is_good:
+                refuse("WM-013 type", parameter)
+        for parameter in needed:
+            if parameter not in tree.given:
+                refuse("WM-013 type", parameter)
+
+    def enable_versioning(self, session, tree, given):
+        name, table = folded(given.get("TABLE_NAME")), None
+        if isinstance(name, bytes):
+            if len(name) > 25:
+                refuse("WM-016 bad name 25")
+            table = self.tables.get(name.decode())
+            if table is None:
+                refuse("WM-010 no table", name)
+            if table.is_versioned:
+                refuse("WM-019 versioning", table.name, "on")
+        self.test_arguments(tree, ["TABLE_NAME"], TABLE_NAME="text", HIST=[b"NONE", b"VIEW_WO_OVERWRITE"],
+                            ISTOPOLOGY=[False], VALIDTIME="boolean")
+        if table.key is None:
+            refuse("WM-015 no primary key", table.name)
+        table.is_versioned = True
+        self.changed()
+        return [], "OK"
+
+    def create_workspace(self, session, tree, given):
+        name = given.get("WORKSPACE")
+        self.test_new_name(name)
+        if name in (b"BASE", b"DiffBase"):
+            refuse("WM-024 reserved", printed(name))
+        self.test_arguments(tree, ["WORKSPACE"], WORKSPACE="text", ISREFRESHED=[False], DESCRIPTION="text")
+        if name in self.workspaces:
+            refuse("WM-021 workspace exists", printed(name))
+        if len(self.workspaces) == self.MOST_WORKSPACES:
+            refuse("WM-071 workspaces", self.MOST_WORKSPACES)
+        parent = self.workspaces[session.workspace]
+        if len(parent.savepoints) == self.MOST_SAVEPOINTS:
+            refuse("WM-072 savepoints", self.MOST_SAVEPOINTS)
+        parent.implicit += 1
+        parent.savepoints[b"ICP-%d" % parent.implicit] = copied(self.content(session))
+        self.workspaces[name] = Workspace(copied(self.content(session)))
+        self.changed()
+        return [], "OK"
+
+    def test_new_name(self, name):
+        if isinstance(name, bytes) and not (1 <= len(name) <= 30 and all(0x20 <= byte <= 0x7E for byte in name)):
+            refuse("WM-016 bad name 30")
+
+    def create_savepoint(self, session, tree, given):
+        name = given.get("SAVEPOINT_NAME")
+        self.test_new_name(name)
+        if isinstance(name, bytes) and (name == b"LATEST" or name.startswith(b"ICP-")):
+            refuse("WM-024 reserved", printed(name))
+        self.test_arguments(tree, ["WORKSPACE", "SAVEPOINT_NAME"], WORKSPACE="text", SAVEPOINT_NAME="text", DESCRIPTION="text")
+        workspace = self.workspace(given["WORKSPACE"])
+        if name in workspace.savepoints:
+            refuse("WM-023 savepoint exists", printed(name))
+        if len(workspace.savepoints) == self.MOST_SAVEPOINTS:
+            refuse("WM-072 savepoints", self.MOST_SAVEPOINTS)
+        workspace.savepoints[name] = copied(workspace.content)
+        self.changed()
+        return [], "OK"
+
+    def workspace(self, name):
+        if name not in self.workspaces:
+            refuse("WM-020 no workspace", printed(name))
+        return self.workspaces[name]
+
+    def goto_workspace(self, session, tree, given):
+        self.test_arguments(tree, ["WORKSPACE"], WORKSPACE="text")
+        self.workspace(given["WORKSPACE"])
+        session.workspace, session.savepoint = given["WORKSPACE"], None
+        return [], "OK"
+
+    def goto_savepoint(self, session, tree, given):
+        self.test_arguments(tree, [], SAVEPOINT_NAME="text")
+        name = given.get("SAVEPOINT_NAME") or b"LATEST"
+        if name != b"LATEST" and name not in self.workspaces[session.workspace].savepoints:
+            refuse("WM-022 no savepoint", printed(name))
+        session.savepoint = None if name == b"LATEST" else name
+        return [], "OK"
+
+
+def folded(value):
+    return value.upper() if isinstance(value, bytes) else value
+
+
+def ended(line):
+    """A line without the CR that is dropped before its LF."""
+    return line[:-1] if line.endswith(b"\r") else line

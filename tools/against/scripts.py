@@ -1,0 +1,503 @@
+"""Random scripts, in which most lines are in order and the others miss it narrowly."""
+import random
+
+from parser import Parser
+from reference import ended, negation, Reference, Session
+from trees import Column
+from values import Instant, TIMESTAMP_FORMS, instant, printed
+
+KINDS = {"number": ["NUMBER", "NUMBER", "NUMBER ( 5 )", "NUMBER ( 9 , 0 )", "INTEGER"],
+         "text": ["VARCHAR2 ( 4 )", "VARCHAR2 ( 16 )", "VARCHAR2 ( 300 )", "VARCHAR2 ( 2000 )"], "time": ["DATE", "TIMESTAMP"]}
+VALUES = {
+    "number": ["0", "1", "1", "2", "2", "3", "4", "5", "7", "- 1", "- 3", "10", "007", "1", "2", "3"],
+    "text": ["'a'", "'b'", "'a'", "'b'", "'ab'", "'B'", "'it''s'", "'x''''y'", "'\u00e9'", "' '", "'1'"],
+    "time": ["DATE '2020-01-01'", "DATE '2020-01-01'", "DATE '2020-02-29'", "TIMESTAMP '2020-01-01'", "TIMESTAMP '2020-01-01 00:00:01'",
+             "TIMESTAMP '9999-12-31T23:59:59'", "TO_DATE ( '02-29-2020' , 'MM-DD-YYYY' )", "TO_DATE ( '2020-01-01' , 'YYYY-MM-DD' )",
+             "TO_DATE ( '2020-01-01 12:30:00' , 'YYYY-MM-DD HH24:MI:SS' )", "SYSDATE", "DBMS_WM . UNTIL_CHANGED", "DATE '0001-01-01'"],
+}
+WIDE_NUMBERS = ["9223372036854775807", "- 9223372036854775807", "4611686018427387904", "3037000500"]
+WIDE_TEXTS = ["'" + "w" * length + "'" for length in (5, 17, 197, 198, 300, 301, 1000, 1979, 1988, 1989, 2000, 2001)]
+BAD_LITERALS = ["9223372036854775808", "99999999999999999999999", "DATE '2021-02-29'", "DATE '2020-1-1'", "DATE ''", "DATE '0000-01-01'",
+                "TIMESTAMP '2020-01-01 24:00:00'", "TIMESTAMP '2020-01-01 10:00:60'", "TIMESTAMP '2020-01-01  10:00:00'",
+                "DATE '2020-01-01 00:00:00'", "DATE ' 2020-01-01'", "DATE '10000-01-01'", "DATE '2020-13-01'", "DATE '2020-04-31'",
+                "TO_DATE ( '2020-01-01' , 'MM-DD-YYYY' )", "TO_DATE ( '2020-01-01T00:00:00' , 'YYYY-MM-DD HH24:MI:SS' )",
+                "TO_DATE ( '2020-01-01' , 'YYYY-MM-DD HH24:MI:SS' )", "TO_DATE ( '01-32-2020' , 'MM-DD-YYYY' )",
+                "TO_DATE ( '2020-01-01' , 'yyyy-mm-dd' )", "TO_DATE ( '2020-01-01' , 'YYYY-MM-DDTHH24:MI:SS' )", "DATE '2020-01-0\u00e9'"]
+COLUMNS = ["ID", "AMT", "NOTE", "DAY", "X", "Y", "VALIDFROM", "VALIDTILL", "HIST", "C$#_9"]
+TABLES = ["BUD", "EMP", "T", "LOG", "BUDS", "WORKSPACE", "B_CONFX", "WM_MEETS", "L" * 25, "L" * 26]
+LONG_NAME, LONGEST_NAME = "N" * 31, "N" * 30
+STRAY = [",", "(", ")", "*", "+", "-", "=", "<>", "!=", "<", "<=", "=>", ">=", ":", ";", ".", "!", "@", "'", "''", "'a'", "1", "X", "BUD", "\u00e9",
+         "WM_VALID", "WM_PERIOD", "NULL", "NOT", "AND", "OR", "IN", "IS", "BETWEEN", "DISTINCT", "FROM", "WHERE", "GROUP", "BY", "ORDER", "ASC",
+         "AS", "JOIN", "INNER", "ON", "COUNT", "SUM", "PRIMARY", "KEY", "CONSTRAINT", "NUMBER", "VARCHAR2", "DATE", "TO_DATE", "SYSDATE",
+         "DBMS_WM", "TRUE", "VALUES", "SET", "INTO", "TABLE", "AT", "CONNECT", "VALIDFROM", "UNTIL_CHANGED", "WMSYS", "WM_OVERLAPS", "SELECT",
+         "\x0b", "9223372036854775808", "0", "hist", "_", "$", "--"]
+WORKSPACES = ["W", "V", "w", "it''s", "W" * 30]
+SAVEPOINTS = ["S", "R", "s", "ICP", "BASE"]
+LABELS = ["P", "Q", "AMT", "ID", "NOTE", "P"]
+ODD_LINES = [
+    b"", b"  \t", b"-- a remark", b"\t--", b"-", b"- -", b"\r", b"--\xff", b"\xff", b"A: SELECT '\xc3' FROM BUD", b"A", b"A:", b"A :  ",
+    b"-- " + b"x" * 16381, b"-- " + b"x" * 16382, b"x" * 16385, b" " * 16384, b" " * 16385, b"A: SELEC", b"\xc3\xa9", b"1: SELECT", b"AT 5",
+    b"AT", b"AT: SELECT 1 FROM BUD", b"CONNECT", b"CONNECT A", b"CONNECT A B C", b"CONNECT A EVE;", b"CONNECT AT ANN", b"CONNECT Q AT",
+    b"CONNECT AT : X", b"CONNECT:", b"CONNECT A AT:", b"CONNECT : SELECT * FROM BUD", b"CONNECT DISCONNECT: SELECT 1 FROM BUD", b"SELECT",
+    b"DISCONNECT", b"DISCONNECT A B", b"A: SELECT 'a FROM BUD", b"A: SELECT 'a'' FROM BUD", b"A: SELECT 1 FROM BUD ; A",
+    b"A; SELECT * FROM BUD", b"A: SELECT*FROM BUD", b"A: SELECT 1FROM BUD", b"A: SELECT 1 -- FROM BUD", b"A:DELETE BUD WHERE ID=>5",
+    *(b"A: INSERT INTO BUD VALUES (1, '" + b"y" * size + b"')" for size in (1999, 16351, 16352, 16353))]
+LATER = [
+    "SELECT WM_VALID FROM BUD", "SELECT 1 FROM BUD WHERE WM_VALID IS NULL", "SELECT * FROM BUD_CONF", "SELECT * FROM NOPE_HIST X , BUD",
+    "EXEC DBMS_WM . MergeWorkspace ( 'W' , create_savepoint => TRUE )", "EXEC DBMS_WM . RefreshWorkspace", "SELECT 1 FROM X_LOCK , Y_DIFF",
+    "EXEC DBMS_WM . LockRows ( 'W' , 'BUD' , 'ID = 1' , 'E' )", "EXEC DBMS_WM . LockRows ( 'W' , 'BUD' , 'ID = ' , 'E' )",
+    "EXEC DBMS_WM . UnlockRows ( 'W' , 'BUD' , 'ID IN (9223372036854775808)' )", "EXEC DBMS_WM . UnlockRows ( 'W' , 'BUD' , '' )",
+    "EXEC DBMS_WM . ResolveConflicts ( where_clause => '  ' , keep => 'CHILD' )", "EXEC DBMS_WM . SetDiffVersions ( 'A' , 'B' , 'C' , 'D' )",
+    "EXEC DBMS_WM . SetDiffVersions ( 'A' , 'B' , 'C' , 'D' , 'E' )", "EXEC DBMS_WM . SetDiffVersions ( workspace1 => 'A' )",
+    "EXEC DBMS_WM . SetValidTime ( validFrom => SYSDATE , validTill => DBMS_WM . UNTIL_CHANGED )", "EXEC DBMS_WM . SetLockingOFF ( 'E' )",
+    "EXEC DBMS_WM . SetValidTime ( validTill => SYSDATE , validFrom => DATE '2020-02-30' )", "EXEC DBMS_WM . SetLockingOFF ( )",
+    "EXEC DBMS_WM . FreezeWorkspace ( 'W' , freezewriter => 'ANN' , 'READ_ONLY' )", "EXEC DBMS_WM . GotoDate ( SYSDATE )",
+    "EXEC DBMS_WM . UnlockRows ( 'W' , 'BUD' , where_clause => 'ID = ''a'' OR NOT (AMT IS NULL)' )",
+    "EXEC DBMS_WM . UnlockRows ( 'W' , 'BUD' , 'ID = ''a' )", "EXEC DBMS_WM . LockRows ( 'W' , 'BUD' , 'ID = 1 ;' )",
+    "SELECT 1 FROM BUD WHERE WM_EQUALS ( WM_VALID , BUD . WM_VALID ) = 1", "SELECT WM_EQUALS ( 1 , BUD . WM_VALID ) FROM BUD",
+    "INSERT INTO BUD ( ID , WM_VALID ) VALUES ( 1 , NULL )", "UPDATE BUD SET WM_VALID = NULL", "SELECT 1 FROM BUD ORDER BY WM_VALID . VALIDTILL",
+    "SELECT a . WM_VALID . VALIDFROM FROM BUD a", "SELECT a . ID . VALIDFROM FROM BUD a", "SELECT WM_OVERLAPS FROM BUD"]
+
+
+class Writer:
+    """Writes a random script. It plays each line through a reference as it goes, so that it knows which names there are."""
+
+    def __init__(self, seed):
+        self.random = random.Random(seed)
+        self.limit = self.random.choice([1000] * 12 + [1_048_576, 12, 25])
+        self.reference = Reference(self.limit)
+        self.noise = 0.0  # how likely each choice within the line is a bad one
+
+    def chance(self, likely):
+        return self.random.random() < likely
+
+    def is_bad(self, least=0.0):
+        return self.chance(max(self.noise, least))
+
+    def one(self, choices):
+        return self.random.choice(list(choices))
+
+    def weighted(self, choices):
+        """One of the keys, by their weights."""
+        return self.random.choices(list(choices), list(choices.values()))[0]
+
+    def listed(self, items):
+        return " , ".join(items)
+
+    def script(self, length):
+        """A script as runs: each its moment and its lines."""
+        runs, now = [], self.one(["2020-01-01", "2020-01-01", "2020-03-01T12:00:00", "2020-01-01 00:00:01"])
+        for part in range(2 if self.chance(0.3) else 1):
+            self.reference.begin(instant(now.encode(), TIMESTAMP_FORMS))
+            lines = [self.played(line) for line in self.opening(part)]
+            lines += [self.played(self.line()) for _ in range(length // 2 if part else length)]
+            runs.append((now, lines))
+            now = self.one(["2020-01-01", "2019-01-01", "2021-06-01"])
+        return runs
+
+    def played(self, line):
+        self.reference.answer(ended(line))
+        return line
+
+    def opening(self, part):
+        """The lines that most scripts begin with."""
+        self.noise = 0.0
+        yield b"CONNECT A ANN"
+        yield b"CONNECT B BEN"
+        count = 0 if part else self.random.randrange(1, 4)
+        while len(self.reference.tables) < count:
+            line = self.create()
+            yield line.encode()
+            name = line.split()[4]
+            if name in self.reference.tables and self.chance(0.95):
+                yield f"A: EXECUTE DBMS_WM.EnableVersioning('{name}')".encode()
+                for _ in range(self.random.randrange(0, 9)):
+                    yield self.insert(name).encode()
+        if not part and self.chance(0.02):
+            yield b"A: CREATE TABLE WIDE (ID INTEGER PRIMARY KEY)"
+            yield b"A: EXEC DBMS_WM.EnableVersioning('WIDE')"
+            for number in range(self.one([46, 47])):
+                yield b"A: INSERT INTO WIDE VALUES (%d)" % number
+
+    # Lines and their bytes
+
+    def line(self):
+        self.noise = self.one([0, 0, 0, 0, 0, 0, 0.04, 0.1, 0.25])
+        if self.chance(0.04):
+            return self.one(ODD_LINES)
+        words = self.weighted({
+            self.insert: 26, self.update: 13, self.delete: 5, self.select: 32, self.create: 3, self.enable: 3, self.create_workspace: 4,
+            self.create_savepoint: 4, self.goto_workspace: 5, self.goto_savepoint: 6, self.connect: 3, self.disconnect: 1, self.later: 2,
+            self.deep: 1, self.wide: 0.3, self.long: 0.3})().split(" ")
+        if self.chance(0.12):
+            words = self.damaged(words)
+        return self.spaced(words)
+
+    def damaged(self, words):
+        """One or two words are dropped, doubled, put in, changed or swapped, or the rest is cut."""
+        for _ in range(self.one([1, 1, 1, 2])):
+            at = self.random.randrange(len(words))
+            new = {"cut": [], "drop": words[at + 1:], "double": [words[at]] + words[at:], "put": [self.one(STRAY)] + words[at:],
+                   "change": [self.one(STRAY)] + words[at + 1:], "swap": words[at + 1:at + 2] + words[at:at + 1] + words[at + 2:]}
+            words = words[:at] + self.one(new.values()) if self.chance(0.9) else words + [self.one(STRAY)]
+            words = words or ["A"]
+        return words
+
+    def spaced(self, words):
+        if self.chance(0.12):
+            words = [word if "'" in word else self.one([word.lower(), word, word.title()]) for word in words]
+        line = " ".join(words)
+        if self.chance(0.15):
+            line = words[0]
+            for before, after in zip(words, words[1:]):
+                would_join = before[-1:].isalnum() and after[:1].isalnum() or "'" in (before[-1:], after[:1])
+                line += self.one([" ", "  ", "\t"] if would_join else ["", " ", "", "\t"]) + after
+        if self.chance(0.1):
+            line += self.one([" ;", ";", " ", "\t", "; ", "\r", " ; ;", "--", "\r\r"])
+        if self.chance(0.05):
+            line = self.one([" ", "\t", "  \t"]) + line
+        return line.encode()
+
+    def said(self, words):
+        session = self.one(self.reference.sessions or ["A"])
+        return f"{self.one(['Z', 'CONNECT', LONG_NAME]) if self.is_bad() else session} : {words}"
+
+    # Names and values
+
+    def table_name(self):
+        ready = [name for name, table in self.reference.tables.items() if table.is_versioned]
+        if not ready or self.is_bad():
+            return self.one([*self.reference.tables, "NOPE", "BUD_CONF", "BUD_HISTX", "WM_MEETS"])
+        return self.one(ready)
+
+    def columns_of(self, name):
+        table = self.reference.tables.get(name)
+        return table.columns if table else [Column(0, "ID"), Column(0, "AMT")]
+
+    def kind(self):
+        return self.weighted({"number": 5, "text": 3, "time": 2})
+
+    def value(self, kind):
+        """A constant of the kind."""
+        if self.is_bad():
+            choice = self.random.randrange(8)
+            if choice == 0:
+                return self.one(BAD_LITERALS)
+            if choice == 1:
+                return self.one(["WM_PERIOD ( SYSDATE , DBMS_WM . UNTIL_CHANGED )", "WMSYS . WM_PERIOD ( DATE '2020-01-01' , SYSDATE )"])
+            if choice < 4:
+                return "NULL"
+            kind = self.kind()
+        if self.chance(0.07):
+            return self.one(["NULL", "NULL", "''"])
+        if self.chance(0.04) and kind != "time":
+            return self.one(WIDE_NUMBERS if kind == "number" else WIDE_TEXTS)
+        return self.one(VALUES[kind])
+
+    def expression(self, kind, names, depth=3):
+        """An expression of the kind; 'names' gives the columns of a kind."""
+        if self.is_bad():
+            kind = self.kind()
+        columns = names(kind)
+        if kind == "number" and depth and self.chance(0.35):
+            left, right = (self.expression(kind, names, depth - 1) for _ in range(2))
+            return self.one([f"{left} + {right}", f"{left} - {right}", f"{left} * {right}", f"- {left}", f"( {left} )",
+                             f"( {left} - {right} ) * {right}"])
+        if depth and self.chance(0.04):
+            return self.one(["( {} )", "( {} )", "- {}", "1 + {}"] if self.noise else ["( {} )"]).format(self.expression(kind, names, depth - 1))
+        return self.one(columns) if columns and self.chance(0.6) else self.value(kind)
+
+    def namer(self, sources):
+        """A function that gives the names of the columns of a kind that the sources, pairs of a label and columns, have."""
+        def names(kind):
+            if self.is_bad():
+                label = sources[0][0]
+                return [self.one(["NOPE", "Z . ID", f"{label} . NOPE", "WM_VALID", "ID", "Z . NOPE", f"{label} . WM_VALID . VALIDFROM"])]
+            found = []
+            for label, columns in sources:
+                for column in columns:
+                    if column.kind == kind:
+                        found.append(f"{label} . {column.name}")
+                        is_one = sum(other.name == column.name for _, others in sources for other in others) == 1
+                        if is_one or self.noise and self.chance(0.1):
+                            found.append(column.name)
+            return found
+        return names
+
+    def operand(self, kind, names):
+        columns = names(kind)
+        if self.is_bad() and self.chance(0.1):
+            return "WM_OVERLAPS ( WM_VALID , WM_PERIOD ( SYSDATE , DBMS_WM . UNTIL_CHANGED ) )"
+        return self.one(columns) if columns and self.chance(0.7) else self.value(kind)
+
+    def test(self, names):
+        kind = self.kind()
+        if not names(kind) and self.chance(0.8):
+            kind = "number"
+        left, right = self.operand(kind, names), self.operand(self.kind() if self.is_bad() else kind, names)
+        columns = names(kind)
+        if self.chance(0.3) and len(columns) > 1:
+            left, right = self.random.sample(columns, 2)
+        negation = self.one(["", "", "NOT "])
+        return self.weighted({
+            f"{left} {self.one(['=', '=', '<>', '!=', '<', '<=', '>', '>='])} {right}": 6, f"{left} IS {negation}NULL": 1,
+            f"{left} {negation}BETWEEN {right} AND {self.operand(kind, names)}": 1,
+            f"{left} {negation}IN ( {self.listed(self.value(kind) for _ in range(self.random.randrange(1, 4)))} )": 2})
+
+    def condition(self, names, depth=2):
+        if depth and self.chance(0.45):
+            left, right = (self.condition(names, depth - 1) for _ in range(2))
+            return self.one([f"{left} AND {right}", f"{left} OR {right}", f"NOT {left}", f"( {left} )", f"NOT ( {left} OR {right} )",
+                             f"( {left} OR {right} ) AND {left}"])
+        return self.test(names)
+
+    def where(self, names):
+        return f" WHERE {self.condition(names)}" if self.chance(0.6) else ""
+
+    # Lines of each kind
+
+    def create(self):
+        name = self.one([name for name in TABLES if name not in self.reference.tables] or TABLES)
+        if self.is_bad(0.02):
+            name = self.one([LONG_NAME, LONGEST_NAME, "X_CONF", "X_LOCK", LONG_NAME[:26] + "_HIST", *self.reference.tables, "A_DIFF"])
+        names = self.random.sample(COLUMNS, self.random.randrange(1, 6))
+        if "ID" not in names and self.chance(0.8):
+            names.insert(0, "ID")
+        if self.is_bad(0.02):
+            names.insert(self.random.randrange(len(names) + 1), self.one([names[0], "WM_X", LONG_NAME, LONGEST_NAME, "WM_MEETS"]))
+        if self.is_bad(0.02) and self.chance(0.2):
+            names += [f"C{number}" for number in range(self.one([26, 27, 28, 29, 30, 31, 32]))]
+        key = None if self.chance(0.05) else self.random.randrange(len(names)) if self.chance(0.3) else 0
+        is_inline = self.chance(0.7)
+        items = []
+        for place, column in enumerate(names):
+            words = self.one(KINDS[self.kind()])
+            if self.is_bad(0.02):
+                words = self.one(["VARCHAR2 ( 0 )", "VARCHAR2 ( 2001 )", "VARCHAR2", "NUMBER ( 5 , 1 )", "NUMBER ( 5 , 00 )", "NUMBER ( )",
+                                  "NUMBER ( 9223372036854775808 )", "TEXT", "VARCHAR2 ( 99999999999999999999 )", "NUMBER ( 5 , 0 , 0 )"])
+            words += " PRIMARY KEY" * (is_inline and place == key) + " NOT NULL" * self.chance(0.15)
+            if self.is_bad(0.02):
+                words += self.one([" NOT NULL", " PRIMARY KEY", " NULL", " NOT NULL PRIMARY KEY"])
+            items.append(f"{column} {words}")
+        if key is not None and not is_inline or self.is_bad(0.02):
+            keys = [names[key or 0]] + [self.one([names[-1], "NOPE", names[0]]) for _ in range(self.is_bad(0.02))]
+            items.insert(self.random.randrange(len(items) + 1) if self.chance(0.3) else len(items),
+                         f"{self.one(['', 'CONSTRAINT PK '])}PRIMARY KEY ( {self.listed(keys)} )")
+        return self.said(f"CREATE TABLE {name} ( {self.listed(items)} )")
+
+    def insert(self, name=None):
+        name = name or self.table_name()
+        columns, listed = list(self.columns_of(name)), ""
+        names = self.namer([(name, columns)])
+        if self.chance(0.25):
+            columns = [column for column in columns if column.name == "ID" or column.not_null or self.chance(0.7)] or columns
+            self.random.shuffle(columns)
+            written = [column.name for column in columns]
+            if self.is_bad():
+                written[self.random.randrange(len(written))] = self.one(["NOPE", written[0], "WM_VALID", "ID"])
+            listed = f" ( {self.listed(written)} )"
+        values = [self.new_key(name, column.kind) if self.is_key(name, column) and self.chance(0.8) else
+                  self.expression(column.kind, names if self.is_bad() else lambda kind: [], 1) for column in columns]
+        if self.is_bad():
+            values = values[:-1] or ["1", "2"] if self.chance(0.5) else values + ["1"]
+        return self.said(f"INSERT INTO {name}{listed} VALUES ( {self.listed(values)} )")
+
+    def is_key(self, name, column):
+        table = self.reference.tables.get(name)
+        return table is not None and table.key is not None and table.columns[table.key] is column
+
+    def new_key(self, name, kind):
+        """A constant that is most likely no key of a row that is there."""
+        used = {key for workspace in self.reference.workspaces.values() for key in workspace.content.get(name, {})}
+        for _ in range(10):
+            number = self.random.randrange(1, 13)
+            text = {"number": str(number), "text": f"'{chr(96 + number)}'", "time": f"DATE '2020-01-{number:02}'"}[kind]
+            if kind == "text" and self.chance(0.05):
+                text = self.one(WIDE_TEXTS)
+            if Parser(text.encode(), Instant(0)).constant().value not in used or self.chance(0.1):
+                break
+        return text
+
+    def update(self):
+        name = max([self.table_name(), self.table_name()], key=lambda name: len(self.columns_of(name)) > 1)
+        columns, table = self.columns_of(name), self.reference.tables.get(name)
+        names = self.namer([(name, columns)])
+        free = [column for place, column in enumerate(columns) if table is None or place != table.key or self.is_bad()] or columns
+        chosen = self.random.sample(free, self.random.randrange(1, min(3, len(free)) + 1))
+        if self.is_bad():
+            chosen.append(self.one(chosen))
+        settings = [f"{self.one(['NOPE', 'WM_VALID', 'ID']) if self.is_bad() else column.name} = {self.expression(column.kind, names)}"
+                    for column in chosen]
+        return self.said(f"UPDATE {name} SET {self.listed(settings)}{self.where(names)}")
+
+    def delete(self):
+        name = self.table_name()
+        names = self.namer([(name, self.columns_of(name))])
+        condition = self.where(names)
+        key = [column for column in self.columns_of(name) if self.is_key(name, column)]
+        if key and self.chance(0.7):
+            condition = f" WHERE {key[0].name} = {self.value(key[0].kind)}"
+        return self.said(f"DELETE {self.one(['FROM ', ''])}{name}{condition}")
+
+    def select(self):
+        count = self.weighted({1: 60, 2: 25, 3: 6, 4: 2 + 5 * bool(self.noise), 5: 3 * bool(self.noise)})
+        sources, written, tuples = [], [], 1
+        for _ in range(count):
+            name = self.table_name()
+            tuples *= self.rows_in(name)
+            if sources and tuples > 1000:
+                break
+            label = self.one(["A", "B", "C", "D", "BUD"]) if self.chance(0.7 if count > 1 else 0.2) else name
+            if label in [other for other, _ in sources] and not self.is_bad():
+                label = f"S{len(sources)}"
+            sources.append((label, self.columns_of(name)))
+            written.append(name if label == name else f"{name} {label}")
+        names = self.namer(sources)
+        is_grouped = self.chance(0.3) and (len(sources) == 1 or bool(self.noise))
+        groups = []
+        if is_grouped and self.chance(0.75):
+            groups = [self.one(names(self.kind()) or ["ID"]) for _ in range(self.one([1, 1, 2]))]
+        items = [self.item(names, is_grouped, groups) for _ in range(self.one([1, 1, 2, 2, 3]))]
+        if self.chance(0.05 if is_grouped else 0.25):
+            items = ["*"]
+        text = f"SELECT {self.one(['', '', '', 'DISTINCT '])}{self.listed(items)} FROM {written[0]}"
+        for one in written[1:]:
+            text += f" {self.one(['JOIN', 'INNER JOIN'])} {one} ON {self.condition(names, 1)}" if self.chance(0.5) else f" , {one}"
+        text += self.where(names)
+        if groups:
+            text += f" GROUP BY {self.listed(groups)}"
+        if self.chance(0.4):
+            text += f" ORDER BY {self.listed(self.order(names, items, groups, is_grouped) for _ in range(self.one([1, 1, 2])))}"
+        return self.said(text)
+
+    def item(self, names, is_grouped, groups):
+        kind = self.kind()
+        text = self.expression(kind, names, 2)
+        if is_grouped and not self.is_bad():
+            word = self.one(["COUNT", "MIN", "MAX", "SUM"] if kind == "number" or self.is_bad() else ["COUNT", "MIN", "MAX"])
+            text = self.weighted({f"{word} ( {text} )": 4, "COUNT ( * )": 2, self.value(kind): 1, self.one(groups or ["COUNT ( * )"]): 5})
+        return text + (f" AS {self.one(LABELS)}" if self.chance(0.15) else "")
+
+    def order(self, names, items, groups, is_grouped):
+        labels = [item.split(" AS ")[1] for item in items if " AS " in item]
+        plain = [item.split(" AS ")[0] for item in items if item[:1].isalpha() and not set(item) & set("(+-*'")]
+        by = self.one([*labels, *plain, *groups, str(self.random.randrange(1, len(items) + 1))])
+        if not is_grouped and self.chance(0.3):
+            by = self.one(names(self.kind()) or ["1"])
+        if self.is_bad():
+            by = self.one(["0", "9", "NOPE", "Z . ID", "AMT", "ID", "P", "007", "WM_VALID", "9223372036854775808"])
+        return by + self.one(["", "", " ASC", " DESC"])
+
+    def connect(self):
+        session = self.one([LONG_NAME, LONGEST_NAME, "SELECT"] if self.is_bad() else ["A", "B", "C", "D"])
+        return f"CONNECT {session} {self.one([LONG_NAME, 'AT', LONGEST_NAME] if self.is_bad() else ['ANN', 'BEN', 'KIM'])}"
+
+    def disconnect(self):
+        return f"DISCONNECT {self.one(['B', 'C', 'D', 'Z'])}"
+
+    def later(self):
+        """What the language has, and the program has not yet."""
+        return self.said(self.one(LATER))
+
+    def deep(self):
+        """Parentheses, NOT and minus signs, about as deep as they may stand."""
+        is_condition = self.chance(0.5)
+        opened = [self.one(["(", "(", "NOT"] if is_condition else ["(", "-"]) for _ in range(self.one([62, 63, 64, 65, 66]))]
+        closed = [")" for word in opened if word == "("]
+        if is_condition:
+            words = ["DELETE", "FROM", self.table_name(), "WHERE", *opened, "1", "=", self.one(["0", "- 1", "( 1 )"]), *closed]
+        else:
+            words = ["SELECT", *opened, self.one(["1", "1", "- 1", "( 1 )"]), *closed, "FROM", self.table_name()]
+        return self.said(" ".join(words))
+
+    def long(self):
+        """A line of many like parts, up to about as long as a line may be."""
+        name = self.table_name()
+        names, size = self.namer([(name, self.columns_of(name))]), self.one([300, 3000, 15_000])
+        number = self.one([column.name for column in self.columns_of(name) if column.kind == "number"] or ["AMT"])
+        front, part, between = self.one([
+            (f"SELECT COUNT ( * ) FROM {name} WHERE", self.test(names), self.one([" OR ", " AND ", " OR NOT "])),
+            (f"SELECT 1 FROM {name} WHERE 0 NOT IN (", self.value("number"), " , "), (f"UPDATE {name} SET {number} =", "1", self.one([" + ", " - ", " * "])),
+            ("SELECT", self.expression("number", names, 1), " , "), (f"SELECT * FROM {name} ORDER BY", "1", " , "),
+            (f"INSERT INTO {name} VALUES (", self.value("number"), " , "), (f"SELECT SUM (", self.expression("number", names, 1), self.one([" + ", " * "]))])
+        back = " )" * front.count("(") if not front.startswith("SELECT COUNT") else ""
+        middle = between.join([part] * max(1, size // len(part + between)))
+        return self.said(f"{front} {middle}{back}{f' FROM {name}' if 'FROM' not in front and front.startswith('SELECT') else ''}")
+
+    def wide(self):
+        """A product about as large as an answer may be, where a table has the rows; whatever it has, a product with itself."""
+        name = self.table_name()
+        sources = [f"{name} {label}" for label in "ABCD"[:3 if self.rows_in(name) > 20 else 2]]
+        return self.said(f"SELECT {self.one(['', 'DISTINCT '])}{self.one(['1', '*', '2 * 3'])} FROM {self.listed(sources)}")
+
+    def rows_in(self, name):
+        return max(len(workspace.content.get(name, {})) for workspace in self.reference.workspaces.values())
+
+    # Calls
+
+    def call(self, procedure, arguments, bad):
+        """A call; 'bad' has arguments that may be put in."""
+        if self.is_bad():
+            bad = [*bad, "'x'", "nope => 1", "NULL", "TRUE", "- 1", "DATE '2020-01-01'", "WM_PERIOD ( SYSDATE , SYSDATE )"]
+            arguments.insert(self.random.randrange(len(arguments) + 1), self.one(bad))
+        if self.is_bad():
+            arguments = arguments[:-1]
+        brackets = f" ( {self.listed(arguments)} )" if arguments else self.one([" ( )", ""])
+        if self.is_bad():
+            procedure = self.one([procedure + "X", "CompressWorkspace", "SELECT", procedure.lower()])
+        return self.said(f"{self.one(['EXECUTE', 'EXEC'])} DBMS_WM . {procedure}{brackets}")
+
+    def named(self, parameter, argument):
+        """An argument by place or by name."""
+        return f"{parameter} => {argument}" if self.chance(0.1) else argument
+
+    def enable(self):
+        name = self.one([name for name, table in self.reference.tables.items() if not table.is_versioned] or self.reference.tables or TABLES)
+        if self.is_bad(0.08):
+            name = self.one(["NOPE", *self.reference.tables, LONG_NAME[:26], "BUD_CONF", "", "\u00e9"])
+        arguments = [self.named("table_name", f"'{self.one([name, name.lower()])}'")]
+        if self.is_bad():
+            arguments = [self.one(["5", "NULL", "TRUE", "table_name => 'BUD'", "SYSDATE"])]
+        if self.chance(0.3):
+            arguments.append(self.one(["'NONE'", "'none'", "hist => 'VIEW_WO_OVERWRITE'", "NULL", "validTime => FALSE", "isTopology => FALSE",
+                                       "'NONE' , FALSE , FALSE", "'view_wo_overwrite' , NULL"]))
+        return self.call("EnableVersioning", arguments, ["'ALL'", "1", "isTopology => TRUE", "validTime => TRUE", "'NONE' , FALSE , TRUE",
+                                                         "validTime => 'X'", "table_name => 'BUD'", "'NONE' , FALSE , FALSE , FALSE"])
+
+    def workspace_name(self):
+        if self.is_bad(0.08):
+            return self.one(["'NOPE'", "'live'", "5", "NULL", "''", "FALSE", "SYSDATE"])
+        return self.one([printed(name).decode() for name in self.reference.workspaces])
+
+    def create_workspace(self):
+        unused = [name for name in WORKSPACES if name.replace("''", "'").encode() not in self.reference.workspaces]
+        name = "'" + self.one(unused or WORKSPACES) + "'"
+        if self.is_bad(0.08):
+            name = self.one(["'BASE'", "'DiffBase'", "'base'", "'LIVE'", "''", "5", f"'{LONG_NAME}'", "'\u00e9'", "'a\tb'", "NULL", "'W'"])
+        arguments = [self.named("workspace", name)]
+        if self.chance(0.3):
+            arguments.append(self.one(["'words'", "FALSE", "FALSE , 'words'", "description => 'words'", "isrefreshed => FALSE", "NULL", "''",
+                                       "NULL , NULL", "'' , 'words'", "'words' , isrefreshed => FALSE"]))
+        return self.call("CreateWorkspace", arguments, ["TRUE", "isrefreshed => TRUE", "isrefreshed => 'd'", "'d' , 'd'", "5", "description => 5",
+                                                        "description => TRUE , isrefreshed => TRUE", "workspace => 'W'"])
+
+    def create_savepoint(self):
+        name = self.one([f"'{name}'" for name in SAVEPOINTS])
+        if self.is_bad(0.08):
+            name = self.one(["'LATEST'", "'latest'", "'ICP-1'", "'ICP-'", "''", "5", f"'{LONG_NAME}'", "'\u00e9'", "NULL", "'S'"])
+        arguments = [self.workspace_name(), self.named("savepoint_name", name)]
+        if self.chance(0.2):
+            arguments = self.one([[f"savepoint_name => {name}", f"workspace => {arguments[0]}"], [f"savepoint_name => {name}"],
+                                  [*arguments, "description => 'words'"], [*arguments, "NULL"]])
+        return self.call("CreateSavepoint", arguments, ["5", "description => 5", "workspace => 'LIVE'"])
+
+    def goto_workspace(self):
+        return self.call("GotoWorkspace", [self.named("workspace", self.workspace_name())], ["workspace => 'LIVE'", "5"])
+
+    def goto_savepoint(self):
+        session = self.one(list(self.reference.sessions.values()) or [Session("ANN")])
+        names = [printed(name).decode() for name in self.reference.workspaces[session.workspace].savepoints]
+        name = self.one([*names, "'LATEST'", "NULL", ""]) if self.chance(0.5) else self.one(["'LATEST'", ""])
+        if self.is_bad(0.08):
+            name = self.one(["'NOPE'", "'latest'", "5", "'S'", "'ICP-9'"])
+        return self.call("GotoSavepoint", [self.named("savepoint_name", name)] if name else [], ["savepoint_name => 'S'", "TRUE"])
