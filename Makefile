@@ -4,13 +4,14 @@
 #   make test    the merge gate: every proof, edit, test and program, and then the cases
 #   make wm      the program alone, at build/wm
 #   make cases   plays the demo and cases/ through the built program on real files
+#   make against compares the program with a second reading of the language, in Python, on random scripts
 #   make bench   times 10,000 INSERT lines, a SELECT of them and a join of two tables of 1,000 rows
 
 RT ?= rt
 PYTHON ?= python3
 SOURCES := crates.txt $(shell find crates -path '*/out' -prune -o -type f -print)
 
-.PHONY: demo test wm cases bench clean
+.PHONY: demo test wm cases against bench clean
 
 wm: build/wm
 
