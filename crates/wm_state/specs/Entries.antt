@@ -1,5 +1,5 @@
 -- Entries that one line writes in one table: what is asked of them, and their rows and pieces.
-use Rattle.std.specs.Prelude.{ℕ, ◌≡◌, ◌+◌, Bool, true, false, ◌&&◌, List, [], ◌∷◌, map, is_none, Option}
+use Rattle.std.specs.Prelude.{ℕ, ◌≡◌, ◌+◌, Bool, true, false, ◌&&◌, nat_lt, nat_le, List, [], ◌∷◌, map, is_none, Option}
 use Rattle.std.specs.List.{list_all, filter_map}
 use Rattle.std.specs.Option.{option_map, option_map_or}
 use Rattle.std.specs.Ordering.{is_eq}
@@ -16,17 +16,16 @@ use Rattle.wm_state.specs.Batches.{is_out}
 
 -- ---- what is asked of them
 
--- the entry is of the table, over all moments, and has the stamp
-pub record IsWhole (in_table with_stamp : ℕ) (e : Entry) : Type 0 where
+-- the entry is of the table, over a period, and has the stamp
+pub record IsStamped (in_table with_stamp : ℕ) (e : Entry) : Type 0 where
   pub table : e.table ≡ in_table
-  pub from : e.from ≡ 0
-  pub till : e.till ≡ END
+  pub period : (nat_lt e.from e.till && nat_le e.till END) ≡ true
   pub stamp : e.stamp ≡ with_stamp
 
--- all are of the table, over all moments, and their stamps follow one another from this one on
-abbrev pub AreWhole : ℕ → ℕ → List Entry → Type 0
-AreWhole table stamp [] = Unit {0}
-AreWhole table stamp (e ∷ es) = IsWhole table stamp e × AreWhole table (stamp + 1) es
+-- all are of the table, each over a period, and their stamps follow one another from this one on
+abbrev pub AreStamped : ℕ → ℕ → List Entry → Type 0
+AreStamped table stamp [] = Unit {0}
+AreStamped table stamp (e ∷ es) = IsStamped table stamp e × AreStamped table (stamp + 1) es
 
 -- the keys of entries
 abbrev pub entry_keys : List Entry → List (List Value)

@@ -5,4 +5,5 @@ pub mod Effects
 pub mod Batches
 pub mod Listing
 pub mod Entries
+pub mod Drawing
 pub mod Writes

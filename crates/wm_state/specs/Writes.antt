@@ -49,13 +49,13 @@ abbrev pub put_all : ℕ → List Record → List Change
 put_all id [] = []
 put_all id (r ∷ rs) = put id r ∷ put_all (id + 1) rs
 
--- rows are written, and pieces in the place of those that are dropped, one for each entry; the workspace's log is longer by as many
-abbrev pub write_batch : ℕ → Counters → ℕ → Space → List ℕ → ℕ → List RowRecord → List PieceRecord → List Change
-write_batch counters_id counters space_id space dropped id rows pieces =
-    put counters_id (records.Counters counters) ∷ put space_id (records.Space (longer_by (length pieces) space))
+-- so many entries are written: rows, and pieces in the place of those that are dropped; the workspace's log is longer by as many
+abbrev pub write_batch : ℕ → Counters → ℕ → Space → ℕ → List ℕ → ℕ → List RowRecord → List PieceRecord → List Change
+write_batch counters_id counters space_id space count dropped id rows pieces =
+    put counters_id (records.Counters counters) ∷ put space_id (records.Space (longer_by count space))
     ∷ (map drop_one dropped ++ (put_all id (map records.Row rows) ++ put_all (id + length rows) (map records.Piece pieces)))
 
 -- the same in a version more, where no piece is yet
-abbrev pub write_new_batch : ℕ → Counters → ℕ → Space → ℕ → Version → List RowRecord → List PieceRecord → List Change
-write_new_batch counters_id counters space_id space id version rows pieces =
-    put id (records.Version version) ∷ write_batch counters_id counters space_id space [] (id + 1) rows pieces
+abbrev pub write_new_batch : ℕ → Counters → ℕ → Space → ℕ → ℕ → Version → List RowRecord → List PieceRecord → List Change
+write_new_batch counters_id counters space_id space count id version rows pieces =
+    put id (records.Version version) ∷ write_batch counters_id counters space_id space count [] (id + 1) rows pieces
