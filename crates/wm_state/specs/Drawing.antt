@@ -1,0 +1,52 @@
+-- Pieces over other pieces: what lies under a new piece goes, and what lies before it and after it stays.
+use Rattle.std.specs.Prelude.{ℕ, ◌≡◌, ◌<◌, ◌≤◌, Bool, true, not, nat_lt, if◌then◌else◌, min, max, List, [], ◌∷◌, ◌++◌, Option, None}
+use Rattle.std.specs.Bool.{then_some}
+use Rattle.std.specs.List.{list_all, flat_map}
+use Rattle.std.specs.Option.{option_or}
+use Rattle.wm_graph.specs.Rules.{differ, collide}
+use Rattle.wm_period.specs.Pieces.{Held}
+use Rattle.wm_spec.specs.Lists.{Cell}
+use Rattle.wm_spec.specs.declared.record.piece.PieceRecord.{PieceRecord}
+use Rattle.wm_state.specs.Batches.{is_in}
+use Rattle.wm_state.specs.Standing.{covers_at, held_by, stored_at}
+
+-- ---- one piece over others
+
+-- a piece with other ends
+abbrev pub between : ℕ → ℕ → PieceRecord → PieceRecord
+between from till x = record x { cells = record x.cells { from = from; till = till } }
+
+-- the piece with these ends, where the first is below the second
+abbrev pub part : ℕ → ℕ → PieceRecord → List PieceRecord
+part from till x = if nat_lt from till then between from till x ∷ [] else []
+
+-- what a piece has before another one, and what it has after it
+abbrev pub around : PieceRecord → PieceRecord → List PieceRecord
+around over x = part x.cells.from (min x.cells.till over.cells.from) x ++ part (max x.cells.from over.cells.till) x.cells.till x
+
+-- the same of a piece of the other's version, table and key; any other piece stays whole
+abbrev pub left_by : PieceRecord → PieceRecord → List PieceRecord
+left_by over x = if is_in over.version over.cells.table over.cells.key x then around over x else x ∷ []
+
+-- ---- pieces over others
+
+-- new pieces over old ones, each over those before it
+abbrev pub laid : List PieceRecord → List PieceRecord → List PieceRecord
+laid [] xs = xs
+laid (new ∷ news) xs = laid news (new ∷ flat_map (left_by new) xs)
+
+-- what the last of these pieces says of a cell of a version
+abbrev pub stored_last : List PieceRecord → ℕ → Cell → Option Held
+stored_last [] version c = None
+stored_last (x ∷ xs) version c = option_or (stored_last xs version c) (then_some (covers_at x version c) (held_by x))
+
+-- a test that passes a piece passes each part of it
+abbrev pub PassesParts : (PieceRecord → Bool) → Type 0
+PassesParts test = (x : PieceRecord) (from till : ℕ) → test x ≡ true → x.cells.from ≤ from → from < till → till ≤ x.cells.till → test (between from till x) ≡ true
+
+-- pieces that stand for old ones with new ones over them: they hold at each cell what these hold, no two collide, and each is one of
+-- them or a part of one
+pub record AreDrawn (news old drawn : List PieceRecord) : Type 0 where
+  pub held : (version : ℕ) (c : Cell) → stored_at drawn version c ≡ option_or (stored_last news version c) (stored_at old version c)
+  pub differ : differ collide drawn ≡ true
+  pub pass : (test : PieceRecord → Bool) → PassesParts test → list_all test old ≡ true → list_all test news ≡ true → list_all test drawn ≡ true
