@@ -35,7 +35,7 @@ new_rows-push stamp t xs x = new_rows-append stamp t xs (x ∷ [])
 pub new_pieces-push : (version stamp : ℕ) (t : Table) (xs : List RowChange) (x : RowChange) → new_pieces version stamp t (xs ++ x ∷ []) ≡ new_pieces version stamp t xs ++ change_piece version (stamp + length xs) t x ∷ []
 new_pieces-push version stamp t xs x = new_pieces-append version stamp t xs (x ∷ [])
 
--- there is a piece for each change
+-- there is a new piece for each change
 pub length-new_pieces : (version stamp : ℕ) (t : Table) (xs : List RowChange) → length (new_pieces version stamp t xs) ≡ length xs
 length-new_pieces version stamp t [] = refl
 length-new_pieces version stamp t (x ∷ xs) = ap suc (length-new_pieces version (stamp + 1) t xs)

@@ -12,7 +12,7 @@ use Rattle.wm_spec.specs.declared.record.stored.Stored.{Stored}
 use Rattle.wm_spec.specs.declared.record.table.Table.{Table}
 use Rattle.wm_state.specs.Batches.{put, enable_batch, ready}
 use Rattle.wm_state.specs.ById.{Ascend, applied}
-use Rattle.wm_state.specs.State.{State, Session, enabled}
+use Rattle.wm_state.specs.State.{State, Session, Readiness, enabled}
 use Rattle.wm_state.proofs.Apart.{Ruled, ruled}
 use Rattle.wm_state.proofs.Enabling.{keep-readied}
 use Rattle.wm_state.proofs.Planned.{plan_readied, Readied, parts-readied}
@@ -22,66 +22,66 @@ use Rattle.wm_model.proofs.Doing.{does_nothing, counts_as, counters_move, spent_
 use Rattle.wm_model.proofs.Homes.{with_none, with_some}
 
 -- what is done with the table of the name
-abbrev readying : List ℕ → Bool → Option (List ℕ) → State → Table → State × Answer
-readying name history fault s table =
+abbrev readying : List ℕ → Readiness → Option (List ℕ) → State → Table → State × Answer
+readying name how fault s table =
     if table.versioned then (s, versioning name true) else
     unless_mistyped fault s
-    (if not table.has_key then (s, no_key name) else durably s 0 (record s { tables = enabled table.number history s.tables }, Fine))
+    (if not table.has_key then (s, no_key name) else durably s 0 (record s { tables = enabled table.number how s.tables }, Fine))
 
 -- ---- what is refused
 
-pub enable_long : (rs : List Stored) (xs : List Session) (m : ℕ) (name : List ℕ) (history : Bool) (fault : Option (List ℕ)) → keep_rules (parts_of rs) ≡ true → nat_lt 25 (length name) ≡ true
-    → Does rs xs m [] Stay long_name (enable name history fault)
-enable_long rs xs m name history fault rules long = does_nothing rs xs m long_name (enable name history fault) rules (λ s st. rw long refl)
+pub enable_long : (rs : List Stored) (xs : List Session) (m : ℕ) (name : List ℕ) (how : Readiness) (fault : Option (List ℕ)) → keep_rules (parts_of rs) ≡ true → nat_lt 25 (length name) ≡ true
+    → Does rs xs m [] Stay long_name (enable name how fault)
+enable_long rs xs m name how fault rules long = does_nothing rs xs m long_name (enable name how fault) rules (λ s st. rw long refl)
 
-pub enable_none : (rs : List Stored) (xs : List Session) (m : ℕ) (name : List ℕ) (history : Bool) (fault : Option (List ℕ)) → keep_rules (parts_of rs) ≡ true → nat_lt 25 (length name) ≡ false → named rs name ≡ None
-    → Does rs xs m [] Stay (no_table name) (enable name history fault)
-enable_none rs xs m name history fault rules short none =
-    does_nothing rs xs m (no_table name) (enable name history fault) rules (λ s st. rw short (with_none rs xs m s name (readying name history fault s) st none))
+pub enable_none : (rs : List Stored) (xs : List Session) (m : ℕ) (name : List ℕ) (how : Readiness) (fault : Option (List ℕ)) → keep_rules (parts_of rs) ≡ true → nat_lt 25 (length name) ≡ false → named rs name ≡ None
+    → Does rs xs m [] Stay (no_table name) (enable name how fault)
+enable_none rs xs m name how fault rules short none =
+    does_nothing rs xs m (no_table name) (enable name how fault) rules (λ s st. rw short (with_none rs xs m s name (readying name how fault s) st none))
 
-pub enable_twice : (rs : List Stored) (xs : List Session) (m : ℕ) (name : List ℕ) (history : Bool) (fault : Option (List ℕ)) (t : Table) → keep_rules (parts_of rs) ≡ true → nat_lt 25 (length name) ≡ false → named rs name ≡ Some t
-    → t.versioned ≡ true → Does rs xs m [] Stay (versioning name true) (enable name history fault)
-enable_twice rs xs m name history fault t rules short some on =
-    does_nothing rs xs m (versioning name true) (enable name history fault) rules (λ s st. rw short (with_some rs xs m s name (readying name history fault s) t st some ∙ rw on refl))
+pub enable_twice : (rs : List Stored) (xs : List Session) (m : ℕ) (name : List ℕ) (how : Readiness) (fault : Option (List ℕ)) (t : Table) → keep_rules (parts_of rs) ≡ true → nat_lt 25 (length name) ≡ false → named rs name ≡ Some t
+    → t.versioned ≡ true → Does rs xs m [] Stay (versioning name true) (enable name how fault)
+enable_twice rs xs m name how fault t rules short some on =
+    does_nothing rs xs m (versioning name true) (enable name how fault) rules (λ s st. rw short (with_some rs xs m s name (readying name how fault s) t st some ∙ rw on refl))
 
 -- an argument does not fit its parameter
-pub enable_mistyped : (rs : List Stored) (xs : List Session) (m : ℕ) (name : List ℕ) (history : Bool) (parameter : List ℕ) (t : Table) → keep_rules (parts_of rs) ≡ true → nat_lt 25 (length name) ≡ false → named rs name ≡ Some t
-    → t.versioned ≡ false → Does rs xs m [] Stay (mistyped parameter) (enable name history (Some parameter))
-enable_mistyped rs xs m name history parameter t rules short some off =
-    does_nothing rs xs m (mistyped parameter) (enable name history (Some parameter)) rules
-    (λ s st. rw short (with_some rs xs m s name (readying name history (Some parameter) s) t st some ∙ rw off refl))
+pub enable_mistyped : (rs : List Stored) (xs : List Session) (m : ℕ) (name : List ℕ) (how : Readiness) (parameter : List ℕ) (t : Table) → keep_rules (parts_of rs) ≡ true → nat_lt 25 (length name) ≡ false → named rs name ≡ Some t
+    → t.versioned ≡ false → Does rs xs m [] Stay (mistyped parameter) (enable name how (Some parameter))
+enable_mistyped rs xs m name how parameter t rules short some off =
+    does_nothing rs xs m (mistyped parameter) (enable name how (Some parameter)) rules
+    (λ s st. rw short (with_some rs xs m s name (readying name how (Some parameter) s) t st some ∙ rw off refl))
 
-pub enable_keyless : (rs : List Stored) (xs : List Session) (m : ℕ) (name : List ℕ) (history : Bool) (t : Table) → keep_rules (parts_of rs) ≡ true → nat_lt 25 (length name) ≡ false → named rs name ≡ Some t → t.versioned ≡ false → t.has_key ≡ false
-    → Does rs xs m [] Stay (no_key name) (enable name history None)
-enable_keyless rs xs m name history t rules short some off keyless =
-    does_nothing rs xs m (no_key name) (enable name history None) rules (λ s st. rw short (with_some rs xs m s name (readying name history None s) t st some ∙ rw (off, keyless) refl))
+pub enable_keyless : (rs : List Stored) (xs : List Session) (m : ℕ) (name : List ℕ) (how : Readiness) (t : Table) → keep_rules (parts_of rs) ≡ true → nat_lt 25 (length name) ≡ false → named rs name ≡ Some t → t.versioned ≡ false → t.has_key ≡ false
+    → Does rs xs m [] Stay (no_key name) (enable name how None)
+enable_keyless rs xs m name how t rules short some off keyless =
+    does_nothing rs xs m (no_key name) (enable name how None) rules (λ s st. rw short (with_some rs xs m s name (readying name how None s) t st some ∙ rw (off, keyless) refl))
 
 -- ---- the table becomes ready
 
-enabled_is : (rs : List Stored) (xs : List Session) (m : ℕ) (s : State) (name : List ℕ) (history : Bool) (t : Table) → StandsAt rs xs m s → nat_lt 25 (length name) ≡ false → named rs name ≡ Some t → t.versioned ≡ false → t.has_key ≡ true
-    → enable name history None s ≡ durably s 0 (record s { tables = enabled t.number history s.tables }, Fine)
-enabled_is rs xs m s name history t st short some off key = rw short (with_some rs xs m s name (readying name history None s) t st some ∙ rw (off, key) refl)
+enabled_is : (rs : List Stored) (xs : List Session) (m : ℕ) (s : State) (name : List ℕ) (how : Readiness) (t : Table) → StandsAt rs xs m s → nat_lt 25 (length name) ≡ false → named rs name ≡ Some t → t.versioned ≡ false → t.has_key ≡ true
+    → enable name how None s ≡ durably s 0 (record s { tables = enabled t.number how s.tables }, Fine)
+enabled_is rs xs m s name how t st short some off key = rw short (with_some rs xs m s name (readying name how None s) t st some ∙ rw (off, key) refl)
 
-pub enable_spent : (rs : List Stored) (xs : List Session) (m : ℕ) (name : List ℕ) (history : Bool) (t : Table) (c : Counters) → keep_rules (parts_of rs) ≡ true → nat_lt 25 (length name) ≡ false → named rs name ≡ Some t → t.versioned ≡ false → t.has_key ≡ true
-    → (parts_of rs).counters ≡ c ∷ [] → nat_lt counter_limit (c.work + line_work) ≡ true → Does rs xs m [] Stay (at_its_end (codes "WORK")) (enable name history None)
-enable_spent rs xs m name history t c rules short some off key one much =
-    does_nothing rs xs m (at_its_end (codes "WORK")) (enable name history None) rules
-    (λ s st. enabled_is rs xs m s name history t st short some off key
-    ∙ spent_work s 0 (record s { tables = enabled t.number history s.tables }, Fine) refl (ap (λ w. nat_lt counter_limit (w + line_work)) (sym (counts_as rs xs m s c st one).work) ∙ much))
+pub enable_spent : (rs : List Stored) (xs : List Session) (m : ℕ) (name : List ℕ) (how : Readiness) (t : Table) (c : Counters) → keep_rules (parts_of rs) ≡ true → nat_lt 25 (length name) ≡ false → named rs name ≡ Some t → t.versioned ≡ false → t.has_key ≡ true
+    → (parts_of rs).counters ≡ c ∷ [] → nat_lt counter_limit (c.work + line_work) ≡ true → Does rs xs m [] Stay (at_its_end (codes "WORK")) (enable name how None)
+enable_spent rs xs m name how t c rules short some off key one much =
+    does_nothing rs xs m (at_its_end (codes "WORK")) (enable name how None) rules
+    (λ s st. enabled_is rs xs m s name how t st short some off key
+    ∙ spent_work s 0 (record s { tables = enabled t.number how s.tables }, Fine) refl (ap (λ w. nat_lt counter_limit (w + line_work)) (sym (counts_as rs xs m s c st one).work) ∙ much))
 
-pub does_enable : (rs : List Stored) (xs : List Session) (m : ℕ) (name : List ℕ) (history : Bool) (t : Table) (c : Counters) (counters_id id : ℕ) → keep_rules (parts_of rs) ≡ true → nat_lt 25 (length name) ≡ false → named rs name ≡ Some t → t.versioned ≡ false → t.has_key ≡ true
+pub does_enable : (rs : List Stored) (xs : List Session) (m : ℕ) (name : List ℕ) (how : Readiness) (t : Table) (c : Counters) (counters_id id : ℕ) → keep_rules (parts_of rs) ≡ true → nat_lt 25 (length name) ≡ false → named rs name ≡ Some t → t.versioned ≡ false → t.has_key ≡ true
     → (parts_of rs).counters ≡ c ∷ [] → record_at rs counters_id ≡ Some (records.Counters c) → record_at rs id ≡ Some (records.Table t) → nat_lt counter_limit (c.work + line_work) ≡ false → nat_lt m END ≡ true → Ascend rs
-    → Does rs xs m (enable_batch counters_id (moved c m) id history t) Stay Fine (enable name history None)
-does_enable rs xs m name history t c counters_id id rules short some off key one there found room early sorted = record {
-  keeps = by_parts (parts-readied rs counters_id id c (moved c m) history t sorted there one found);
-  once = two_changes (put counters_id (records.Counters (moved c m))) (put id (records.Table (ready history t))) apart;
+    → Does rs xs m (enable_batch counters_id (moved c m) id how t) Stay Fine (enable name how None)
+does_enable rs xs m name how t c counters_id id rules short some off key one there found room early sorted = record {
+  keeps = by_parts (parts-readied rs counters_id id c (moved c m) how t sorted there one found);
+  once = two_changes (put counters_id (records.Counters (moved c m))) (put id (records.Table (ready how t))) apart;
   does = λ s st.
       let counts = counts_as rs xs m s c st one in
-      let is : enable name history None s ≡ (record s { tables = enabled t.number history s.tables; last_moment = s.moment; work = s.work + line_work }, Fine) =
-      enabled_is rs xs m s name history t st short some off key
-      ∙ not_spent s 0 (record s { tables = enabled t.number history s.tables }, Fine) refl (ap (λ w. nat_lt counter_limit (w + line_work)) (sym counts.work) ∙ room) in (
-        subst (λ r. StandsAt (applied (enable_batch counters_id (moved c m) id history t) rs) xs m r.0) (sym is) (record {
-          stands = plan_readied rs counters_id id c (moved c m) history t s _ st.stands sorted there one found key counts_well refl refl (more c.work) refl refl
+      let is : enable name how None s ≡ (record s { tables = enabled t.number how s.tables; last_moment = s.moment; work = s.work + line_work }, Fine) =
+      enabled_is rs xs m s name how t st short some off key
+      ∙ not_spent s 0 (record s { tables = enabled t.number how s.tables }, Fine) refl (ap (λ w. nat_lt counter_limit (w + line_work)) (sym counts.work) ∙ room) in (
+        subst (λ r. StandsAt (applied (enable_batch counters_id (moved c m) id how t) rs) xs m r.0) (sym is) (record {
+          stands = plan_readied rs counters_id id c (moved c m) how t s _ st.stands sorted there one found key counts_well refl refl (more c.work) refl refl
               (λ front back. record { counters = moved c m; one = refl; next_stamp = counts.next_stamp; last_moment = st.moment_is; limit = counts.limit; work = ap (λ w. w + line_work) counts.work });
           sessions_are = st.sessions_are;
           moment_is = st.moment_is;
@@ -111,7 +111,7 @@ does_enable rs xs m name history t c counters_id id rules short some off key one
         counted_well : Ruled (parts_of rs) → are_counters c ≡ true
         counted_well r = ap are_counters (sym (only r.counters c (sym r.one ∙ one))) ∙ r.counted
 
-    by_parts : Readied rs (enable_batch counters_id (moved c m) id history t) (moved c m) history t → keep_rules (parts_of (applied (enable_batch counters_id (moved c m) id history t) rs)) ≡ true
+    by_parts : Readied rs (enable_batch counters_id (moved c m) id how t) (moved c m) how t → keep_rules (parts_of (applied (enable_batch counters_id (moved c m) id how t) rs)) ≡ true
     by_parts r = subst (λ p. keep_rules p ≡ true) (sym r.is)
-        (keep-readied (parts_of rs) (moved c m) r.front history t r.back rules r.old key counts_well
+        (keep-readied (parts_of rs) (moved c m) r.front how t r.back rules r.old key counts_well
         (λ d is_one. let same : c ≡ d = only c d (sym one ∙ is_one) in (ap (λ (k : Counters). k.next_version) same, ap (λ (k : Counters). k.next_stamp) same, subst (λ (k : Counters). k.work ≤ (moved c m).work) same (more c.work))))

@@ -7,10 +7,10 @@ pub mod Steps
 pub mod Doing
 pub mod Homes
 pub mod Named
-pub mod Adding
-pub mod Added
-pub mod NextVersion
-pub mod AddedNew
+pub mod Counting
+pub mod Places
+pub mod Newest
+pub mod Changing
 pub mod Written
 pub mod WrittenNew
 pub mod ChangeLists
@@ -20,5 +20,3 @@ pub mod SavingLine
 pub mod BearingLine
 pub mod Seating
 pub mod Timing
-pub mod Inserting
-pub mod Updating

@@ -1,12 +1,12 @@
 -- What lines that change the sessions alone do to each state that the engine stands for.
-use Rattle.std.proofs.Common.{◌≡◌, ℕ, ◌&&◌, nat_le, Bool, true, false, List, [], length, None, is_some, refl, sym, ap, ◌∙◌}
+use Rattle.std.proofs.Common.{◌≡◌, ℕ, ◌&&◌, nat_le, nat_lt, Bool, true, false, List, [], length, Option, Some, None, is_some, refl, sym, ap, ◌∙◌}
 use Rattle.wm_graph.specs.Parts.{parts_of}
 use Rattle.wm_graph.specs.Rules.{keep_rules}
 use Rattle.wm_print.specs.Texts.{Fine}
 use Rattle.wm_spec.specs.declared.record.stored.Stored.{Stored}
 use Rattle.wm_state.specs.State.{State, Session, Latest}
-use Rattle.wm_model.specs.Step.{connect, disconnect, run_for, session_of, is_name, session_there, no_session, bad_name, most_sessions}
-use Rattle.wm_model.specs.Planning.{StandsAt, Does, Stay, Open, Close}
+use Rattle.wm_model.specs.Step.{connect, disconnect, empty_period, set_period, set_valid_time, run_for, session_of, is_name, session_there, no_session, bad_name, most_sessions}
+use Rattle.wm_model.specs.Planning.{StandsAt, Does, Stay, Open, Close, Limit}
 use Rattle.wm_model.proofs.Doing.{does_nothing, does_seat}
 use Rattle.wm_base.specs.Trees.{Statement}
 
@@ -28,9 +28,9 @@ connect_full rs xs m name user rules new good full =
     does_nothing rs xs m most_sessions (connect name user) rules (λ s st. rw (open_still rs xs m s name false st new, good, ap (λ (ys : List Session). nat_le 256 (length ys)) (sym st.sessions_are) ∙ full) refl)
 
 pub does_connect : (rs : List Stored) (xs : List Session) (m : ℕ) (name user : List ℕ) → keep_rules (parts_of rs) ≡ true → is_some (session_of name xs) ≡ false → (is_name name && is_name user) ≡ true → nat_le 256 (length xs) ≡ false
-    → Does rs xs m [] (Open (record { name = name; user = user; space = 0; stand = Latest })) Fine (connect name user)
+    → Does rs xs m [] (Open (record { name = name; user = user; space = 0; stand = Latest; period = None })) Fine (connect name user)
 does_connect rs xs m name user rules new good room =
-    does_seat rs xs m (Open (record { name = name; user = user; space = 0; stand = Latest })) Fine (connect name user) rules
+    does_seat rs xs m (Open (record { name = name; user = user; space = 0; stand = Latest; period = None })) Fine (connect name user) rules
     (λ s st. rw (open_still rs xs m s name false st new, good, ap (λ (ys : List Session). nat_le 256 (length ys)) (sym st.sessions_are) ∙ room) refl)
 
 -- ---- DISCONNECT
@@ -40,6 +40,33 @@ disconnect_none rs xs m name rules none = does_nothing rs xs m (no_session name)
 
 pub does_disconnect : (rs : List Stored) (xs : List Session) (m : ℕ) (name : List ℕ) → keep_rules (parts_of rs) ≡ true → is_some (session_of name xs) ≡ true → Does rs xs m [] (Close name) Fine (disconnect name)
 does_disconnect rs xs m name rules there = does_seat rs xs m (Close name) Fine (disconnect name) rules (λ s st. rw (open_still rs xs m s name true st there) refl)
+
+-- ---- SetValidTime
+
+-- no period is set any more
+pub does_unset : (rs : List Stored) (xs : List Session) (m : ℕ) (session : Session) (from : Option ℕ) (till : ℕ) → keep_rules (parts_of rs) ≡ true → from ≡ None
+    → Does rs xs m [] (Limit session.name None) Fine (set_valid_time session from till)
+does_unset rs xs m session from till rules none =
+    does_seat rs xs m (Limit session.name None) Fine (set_valid_time session from till) rules (λ s st. ap (λ o. set_valid_time session o till s) none)
+
+-- the period would be empty
+pub sets_empty : (rs : List Stored) (xs : List Session) (m : ℕ) (session : Session) (given : Option ℕ) (from till : ℕ) → keep_rules (parts_of rs) ≡ true → given ≡ Some from → nat_lt from till ≡ false
+    → Does rs xs m [] Stay empty_period (set_valid_time session given till)
+sets_empty rs xs m session given from till rules is empty =
+    does_nothing rs xs m empty_period (set_valid_time session given till) rules (λ s st. ap (λ o. set_valid_time session o till s) is ∙ refused s)
+  where
+    refused : (s : State) → set_valid_time session (Some from) till s ≡ (s, empty_period)
+    refused s = rw empty refl
+
+-- it is set
+pub does_set : (rs : List Stored) (xs : List Session) (m : ℕ) (session : Session) (given : Option ℕ) (from till : ℕ) → keep_rules (parts_of rs) ≡ true → given ≡ Some from → nat_lt from till ≡ true
+    → Does rs xs m [] (Limit session.name (Some (record { from = from; till = till }))) Fine (set_valid_time session given till)
+does_set rs xs m session given from till rules is lasts =
+    does_seat rs xs m (Limit session.name (Some (record { from = from; till = till }))) Fine (set_valid_time session given till) rules
+    (λ s st. ap (λ o. set_valid_time session o till s) is ∙ set s)
+  where
+    set : (s : State) → set_valid_time session (Some from) till s ≡ set_period session (Some (record { from = from; till = till })) s
+    set s = rw lasts refl
 
 -- ---- a statement of a session
 

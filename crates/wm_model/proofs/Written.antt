@@ -1,6 +1,6 @@
 -- What a line that changes rows does to each state that the records stand for.
-use Rattle.std.proofs.Common.{◌≡◌, ℕ, ◌+◌, ◌^◌, nat_lt, nat_le, true, false, ◌&&◌, List, [], ◌∷◌, length, Option, Some, None, refl, sym, ap, subst, ◌∙◌, arith}
-use Rattle.std.specs.List.{list_all}
+use Rattle.std.proofs.Common.{◌≡◌, ℕ, ◌+◌, ◌^◌, nat_lt, nat_le, true, false, not, ◌&&◌, List, [], ◌∷◌, length, Option, Some, None, refl, sym, ap, subst, ◌∙◌, arith}
+use Rattle.std.specs.List.{filter, list_all}
 use Rattle.std.specs.Option.{option_map_or}
 use Rattle.wm_base.specs.declared.value.Value.{Value}
 use Rattle.wm_graph.specs.Parts.{Parts, parts_of, table_of, space_of}
@@ -11,12 +11,14 @@ use Rattle.wm_spec.specs.Records.{record_at, AreChanges}
 use Rattle.wm_spec.specs.declared.record.Record.TheVariants as records
 use Rattle.wm_spec.specs.declared.record.batch.Change.{Change}
 use Rattle.wm_spec.specs.declared.record.counters.Counters.{Counters}
+use Rattle.wm_spec.specs.declared.record.piece.PieceRecord.{PieceRecord}
 use Rattle.wm_spec.specs.declared.record.space.Space.{Space}
 use Rattle.wm_spec.specs.declared.record.stored.Stored.{Stored}
 use Rattle.wm_spec.specs.declared.record.table.Table.{Table}
 use Rattle.wm_state.specs.Batches.{AreDropped, AllUnder, keeps}
 use Rattle.wm_state.specs.ById.{Ascend, applied}
-use Rattle.wm_state.specs.Entries.{AreWhole, entry_keys, is_well, fits_table, pieces_of, rows_in, is_out_all, KeysDiffer}
+use Rattle.wm_state.specs.Drawing.{AreDrawn}
+use Rattle.wm_state.specs.Entries.{AreStamped, entry_keys, is_well, fits_table, pieces_of, rows_in, is_out_all}
 use Rattle.wm_state.specs.State.{State, Session, with_space, with_entries, log_length}
 use Rattle.wm_state.specs.Standing.{SpaceFields, CountersStand, Stands, latest}
 use Rattle.wm_state.specs.Writes.{write_batch}
@@ -26,10 +28,11 @@ use Rattle.wm_state.proofs.PlannedWritten.{MayWriteAll, keep_planned, plan_writt
 use Rattle.wm_state.proofs.Tests.{both, and_true}
 use Rattle.wm_model.specs.Step.{counter_limit, durably, line_work}
 use Rattle.wm_model.specs.Planning.{StandsAt, Does, Stay, moved}
-use Rattle.wm_model.specs.Changes.{write_changes, change_keys, row_before, new_rows, change_piece, new_pieces, stepped_by, is_change, ChangesNew, Changes}
+use Rattle.wm_dml.specs.Standing.{change_keys, is_change}
+use Rattle.wm_model.specs.Changes.{write_changes, row_before, new_rows, change_piece, new_pieces, stepped_by, lasts, ChangesNew, Changes}
 use Rattle.wm_dml.specs.declared.change.RowChange.{RowChange}
 use Rattle.wm_model.specs.Entered.{change_entry, entries_from, entries_of, written_all}
-use Rattle.wm_model.proofs.Added.{work_grows}
+use Rattle.wm_model.proofs.Counting.{work_grows}
 use Rattle.wm_model.proofs.Doing.{CountsAs, counts_as, counters_move, not_spent}
 use Rattle.wm_model.proofs.Homes.{HomeIs, home_is}
 
@@ -43,9 +46,10 @@ pub keys_are : (stamp moment : ℕ) (user : List ℕ) (t : Table) (changes : Lis
 keys_are stamp moment user t [] = refl
 keys_are stamp moment user t (x ∷ xs) = ap (λ keys. x.key ∷ keys) (keys_are (stamp + 1) moment user t xs)
 
-pub whole_are : (stamp moment : ℕ) (user : List ℕ) (t : Table) (changes : List RowChange) → AreWhole t.number stamp (entries_from stamp moment user t changes)
-whole_are stamp moment user t [] = tt
-whole_are stamp moment user t (x ∷ xs) = (record { table = refl; from = refl; till = refl; stamp = refl }, whole_are (stamp + 1) moment user t xs)
+pub stamped_are : (stamp moment : ℕ) (user : List ℕ) (t : Table) (changes : List RowChange) → list_all lasts changes ≡ true → AreStamped t.number stamp (entries_from stamp moment user t changes)
+stamped_are stamp moment user t [] last = tt
+stamped_are stamp moment user t (x ∷ xs) last =
+    let h = both (lasts x) (list_all lasts xs) last in (record { table = refl; period = h.0; stamp = refl }, stamped_are (stamp + 1) moment user t xs h.1)
 
 pub rows_are : (stamp moment : ℕ) (user : List ℕ) (t : Table) (changes : List RowChange) → rows_in (entries_from stamp moment user t changes) ≡ new_rows stamp t changes
 rows_are stamp moment user t [] = refl
@@ -116,10 +120,14 @@ done_is s log k n c es counts short room = not_spent s (log + k) (written_all n 
 
 -- ---- into the newest version
 
+-- the pieces of a version that go where changes come: those of their keys
+abbrev pub go : List Stored → ℕ → Table → List RowChange → List PieceRecord
+go rs version t changes = filter (λ (y : PieceRecord). not (is_out_all version t.number (change_keys changes) y)) (parts_of rs).pieces
+
 -- the batch of changes
-abbrev pub changes_batch : List Stored → ℕ → ℕ → Counters → ℕ → Space → List ℕ → ℕ → ℕ → Table → List RowChange → List Change
-changes_batch rs counters_id m c space_id a ids id n t changes =
-    write_batch counters_id (stepped_by c m (length changes)) space_id a ids id (new_rows c.next_stamp t changes) (new_pieces (latest (parts_of rs) n) c.next_stamp t changes)
+abbrev pub changes_batch : List Stored → ℕ → ℕ → Counters → ℕ → Space → List ℕ → ℕ → Table → List RowChange → List PieceRecord → List Change
+changes_batch rs counters_id m c space_id a ids id t changes drawn =
+    write_batch counters_id (stepped_by c m (length changes)) space_id a (length changes) ids id (new_rows c.next_stamp t changes) drawn
 
 -- what is asked of their entries
 may_write_all : (rs : List Stored) (n m moment : ℕ) (user : List ℕ) (t : Table) (a : Space) (c : Counters) (changes : List RowChange) → Changes rs n m t a c changes
@@ -134,34 +142,34 @@ may_write_all rs n m moment user t a c changes v = record {
   room = ap (λ k. nat_le (a.log_length + k) (2 ^ 62)) (length_entries c.next_stamp moment user t changes) ∙ in_room (a.log_length + length changes) v.new.short;
   leaf = v.leaf;
   free = v.free;
-  whole = whole_are c.next_stamp moment user t changes;
+  stamped = stamped_are c.next_stamp moment user t changes v.new.last;
   well = well_are rs c.next_stamp moment user t changes v.new.there v.new.fit;
-  keys = subst (λ keys. KeysDiffer keys) (sym (keys_are c.next_stamp moment user t changes)) v.new.keys;
 }
 
--- the records that the batch is about, and those that it drops
-pub record ChangePlaces (rs : List Stored) (counters_id space_id id : ℕ) (c : Counters) (a : Space) (version : ℕ) (t : Table) (ids : List ℕ) (changes : List RowChange) : Type 0 where
+-- the records that the batch is about, those that it drops, and the pieces that come
+pub record ChangePlaces (rs : List Stored) (counters_id space_id id : ℕ) (c : Counters) (a : Space) (version : ℕ) (t : Table) (ids : List ℕ) (changes : List RowChange) (drawn : List PieceRecord) : Type 0 where
   pub sorted : Ascend rs
   pub counters : record_at rs counters_id ≡ Some (records.Counters c)
   pub space : record_at rs space_id ≡ Some (records.Space a)
   pub under : AllUnder id rs
   pub dropped : AreDropped (keeps (is_out_all version t.number (change_keys changes))) ids rs
+  pub draws : AreDrawn (new_pieces version c.next_stamp t changes) (go rs version t changes) drawn
 
-pub does_write : (rs : List Stored) (xs : List Session) (m n : ℕ) (user : List ℕ) (t : Table) (changes : List RowChange) (a : Space) (c : Counters) (counters_id space_id : ℕ) (ids : List ℕ) (id : ℕ)
-    (act : State → State × Answer) → Changes rs n m t a c changes → ChangePlaces rs counters_id space_id id c a (latest (parts_of rs) n) t ids changes
-    → AreChanges (changes_batch rs counters_id m c space_id a ids id n t changes)
+pub does_write : (rs : List Stored) (xs : List Session) (m n : ℕ) (user : List ℕ) (t : Table) (changes : List RowChange) (a : Space) (c : Counters) (counters_id space_id : ℕ) (ids : List ℕ) (id : ℕ) (drawn : List PieceRecord)
+    (act : State → State × Answer) → Changes rs n m t a c changes → ChangePlaces rs counters_id space_id id c a (latest (parts_of rs) n) t ids changes drawn
+    → AreChanges (changes_batch rs counters_id m c space_id a ids id t changes drawn)
     → ((s : State) → StandsAt rs xs m s → act s ≡ durably s (a.log_length + length changes) (written_all n (entries_of s user t changes) s, Done (length changes)))
-    → Does rs xs m (changes_batch rs counters_id m c space_id a ids id n t changes) Stay (Done (length changes)) act
-does_write rs xs m n user t changes a c counters_id space_id ids id act v p once same = record {
+    → Does rs xs m (changes_batch rs counters_id m c space_id a ids id t changes drawn) Stay (Done (length changes)) act
+does_write rs xs m n user t changes a c counters_id space_id ids id drawn act v p once same = record {
   keeps = subst (λ cs. keep_rules (parts_of (applied cs rs)) ≡ true) (batch_is 0)
-      (keep_planned rs counters_id space_id c d a ids id n t.number (es 0) v.new.rules p.sorted p.counters p.space (dropped 0) p.under (may_write_all rs n m 0 user t a c changes v));
+      (keep_planned rs counters_id space_id c d a ids id n t.number (es 0) drawn v.new.rules p.sorted p.counters p.space (dropped 0) p.under (may_write_all rs n m 0 user t a c changes v) (draws 0));
   once = once;
   does = λ s st.
       let counts = counts_as rs xs m s c st v.new.one in
       let is = same s st ∙ done_is s a.log_length (length changes) n c (entries_of s user t changes) counts v.new.short v.new.room in (
-        subst (λ q. StandsAt (applied (changes_batch rs counters_id m c space_id a ids id n t changes) rs) xs m q.0) (sym is) (record {
+        subst (λ q. StandsAt (applied (changes_batch rs counters_id m c space_id a ids id t changes drawn) rs) xs m q.0) (sym is) (record {
           stands = subst (λ cs. Stands (parts_of (applied cs rs)) (record (written_all n (entries_of s user t changes) s) { last_moment = s.moment; work = s.work + line_work })) (batch_is s.moment)
-              (plan_written rs counters_id space_id c d a ids id n t.number (es s.moment) s _ st.stands p.sorted p.counters p.space (dropped s.moment) p.under (may_write_all rs n m s.moment user t a c changes v)
+              (plan_written rs counters_id space_id c d a ids id n t.number (es s.moment) drawn s _ st.stands p.sorted p.counters p.space (dropped s.moment) p.under (may_write_all rs n m s.moment user t a c changes v) (draws s.moment)
               (ap (λ k. with_space n (with_entries (entries_from k s.moment user t changes)) s.spaces) (sym counts.next_stamp)) refl
               (counts_on rs xs m n s c d (entries_of s user t changes) (length changes) st counts refl refl refl refl (length_entries s.next_stamp s.moment user t changes)));
           sessions_are = st.sessions_are;
@@ -177,11 +185,14 @@ does_write rs xs m n user t changes a c counters_id space_id ids id act v p once
     es : ℕ → List Entry
     es moment = entries_from c.next_stamp moment user t changes
 
-    batch_is : (moment : ℕ) → write_batch counters_id d space_id a ids id (rows_in (es moment)) (pieces_of (latest (parts_of rs) n) (es moment)) ≡ changes_batch rs counters_id m c space_id a ids id n t changes
-    batch_is moment = rw (rows_are c.next_stamp moment user t changes, pieces_are (latest (parts_of rs) n) c.next_stamp moment user t changes) refl
+    batch_is : (moment : ℕ) → write_batch counters_id d space_id a (length (es moment)) ids id (rows_in (es moment)) drawn ≡ changes_batch rs counters_id m c space_id a ids id t changes drawn
+    batch_is moment = rw (rows_are c.next_stamp moment user t changes, length_entries c.next_stamp moment user t changes) refl
 
     dropped : (moment : ℕ) → AreDropped (keeps (is_out_all (latest (parts_of rs) n) t.number (entry_keys (es moment)))) ids rs
     dropped moment = subst (λ keys. AreDropped (keeps (is_out_all (latest (parts_of rs) n) t.number keys)) ids rs) (sym (keys_are c.next_stamp moment user t changes)) p.dropped
+
+    draws : (moment : ℕ) → AreDrawn (pieces_of (latest (parts_of rs) n) (es moment)) (filter (λ (y : PieceRecord). not (is_out_all (latest (parts_of rs) n) t.number (entry_keys (es moment)) y)) (parts_of rs).pieces) drawn
+    draws moment = rw (pieces_are (latest (parts_of rs) n) c.next_stamp moment user t changes, keys_are c.next_stamp moment user t changes) p.draws
 
 -- ---- the log of the state
 

@@ -1,18 +1,20 @@
 -- What a line that changes rows does where something stands under the newest version of the workspace or names it: the changes go
 -- into a version more.
-use Rattle.std.proofs.Common.{◌≡◌, ℕ, ◌≤◌, ◌+◌, ◌^◌, nat_le, true, List, length, refl, sym, ap, subst, ◌∙◌, arith}
+use Rattle.std.proofs.Common.{◌≡◌, ℕ, ◌≤◌, ◌+◌, ◌^◌, nat_le, true, List, [], length, refl, sym, ap, subst, ◌∙◌, arith}
 use Rattle.wm_graph.specs.Parts.{parts_of}
 use Rattle.wm_graph.specs.Rules.{keep_rules, are_counters}
 use Rattle.wm_print.specs.Texts.{Answer, Done}
 use Rattle.wm_spec.specs.Lists.{Entry}
 use Rattle.wm_spec.specs.declared.record.batch.Change.{Change}
 use Rattle.wm_spec.specs.declared.record.counters.Counters.{Counters}
+use Rattle.wm_spec.specs.declared.record.piece.PieceRecord.{PieceRecord}
 use Rattle.wm_spec.specs.declared.record.space.Space.{Space}
 use Rattle.wm_spec.specs.declared.record.stored.Stored.{Stored}
 use Rattle.wm_spec.specs.declared.record.table.Table.{Table}
 use Rattle.wm_spec.specs.declared.record.version.Version.{Version}
 use Rattle.wm_state.specs.ById.{applied}
-use Rattle.wm_state.specs.Entries.{KeysDiffer, pieces_of, rows_in}
+use Rattle.wm_state.specs.Drawing.{AreDrawn}
+use Rattle.wm_state.specs.Entries.{pieces_of, rows_in}
 use Rattle.wm_state.specs.Standing.{Stands}
 use Rattle.wm_state.specs.State.{State, Session, with_space, with_entries}
 use Rattle.wm_state.specs.Writes.{write_new_batch}
@@ -21,20 +23,18 @@ use Rattle.wm_state.proofs.PlannedMore.{MayWriteMore, Stage, keep_planned_new, p
 use Rattle.wm_state.proofs.WrittenIds.{changes-write_new}
 use Rattle.wm_model.specs.Step.{durably, line_work}
 use Rattle.wm_model.specs.Planning.{StandsAt, Does, Stay}
-use Rattle.wm_model.specs.Writing.{next_version, versioned}
-use Rattle.wm_model.specs.Changes.{new_rows, new_pieces, stepped_new_by, ChangesNew}
+use Rattle.wm_model.specs.Changes.{new_rows, new_pieces, next_version, stepped_new_by, versioned, ChangesNew}
 use Rattle.wm_dml.specs.declared.change.RowChange.{RowChange}
 use Rattle.wm_model.specs.Entered.{entries_from, entries_of, written_all}
-use Rattle.wm_model.proofs.Added.{work_grows}
-use Rattle.wm_model.proofs.AddedNew.{versioned_well}
+use Rattle.wm_model.proofs.Counting.{versioned_well, work_grows}
 use Rattle.wm_model.proofs.Doing.{counts_as}
-use Rattle.wm_model.proofs.NextVersion.{PlacesApart, places_apart}
-use Rattle.wm_model.proofs.Written.{length_entries, keys_are, whole_are, rows_are, pieces_are, well_are, counters_well, stamped_by, in_room, counts_on, done_is}
+use Rattle.wm_model.proofs.Places.{PlacesApart, places_apart}
+use Rattle.wm_model.proofs.Written.{length_entries, stamped_are, rows_are, pieces_are, well_are, counters_well, stamped_by, in_room, counts_on, done_is}
 
 -- the batch of changes in a version more
-abbrev pub changes_new_batch : List Stored → ℕ → ℕ → Counters → ℕ → Space → ℕ → ℕ → Table → List RowChange → List Change
-changes_new_batch rs counters_id m c space_id a id n t changes =
-    write_new_batch counters_id (stepped_new_by c m (length changes)) space_id a id (next_version (parts_of rs) n c) (new_rows c.next_stamp t changes) (new_pieces c.next_version c.next_stamp t changes)
+abbrev pub changes_new_batch : List Stored → ℕ → ℕ → Counters → ℕ → Space → ℕ → ℕ → Table → List RowChange → List PieceRecord → List Change
+changes_new_batch rs counters_id m c space_id a id n t changes drawn =
+    write_new_batch counters_id (stepped_new_by c m (length changes)) space_id a (length changes) id (next_version (parts_of rs) n c) (new_rows c.next_stamp t changes) drawn
 
 versioned_so : (rs : List Stored) (n m : ℕ) (t : Table) (a : Space) (c : Counters) (changes : List RowChange) → ChangesNew rs n m t a c changes → are_counters (versioned c m) ≡ true
 versioned_so rs n m t a c changes v = versioned_well c m (counters_well rs n m t a c changes v) v.early v.room
@@ -61,28 +61,27 @@ may_write_more rs n m moment user t a c changes v = record {
   versions = refl;
   work = same_work (c.work + line_work);
   room = ap (λ k. nat_le (a.log_length + k) (2 ^ 62)) (length_entries c.next_stamp moment user t changes) ∙ in_room (a.log_length + length changes) v.short;
-  whole = whole_are c.next_stamp moment user t changes;
+  stamped = stamped_are c.next_stamp moment user t changes v.last;
   well = well_are rs c.next_stamp moment user t changes v.there v.fit;
-  keys = subst (λ keys. KeysDiffer keys) (sym (keys_are c.next_stamp moment user t changes)) v.keys;
 }
   where
     same_work : (w : ℕ) → w ≤ w
     same_work w = omega arith
 
-pub does_write_new : (rs : List Stored) (xs : List Session) (m n : ℕ) (user : List ℕ) (t : Table) (changes : List RowChange) (a : Space) (c : Counters) (counters_id space_id id : ℕ)
-    (act : State → State × Answer) → ChangesNew rs n m t a c changes → Stage rs counters_id space_id id c a
+pub does_write_new : (rs : List Stored) (xs : List Session) (m n : ℕ) (user : List ℕ) (t : Table) (changes : List RowChange) (a : Space) (c : Counters) (counters_id space_id id : ℕ) (drawn : List PieceRecord)
+    (act : State → State × Answer) → ChangesNew rs n m t a c changes → Stage rs counters_id space_id id c a → AreDrawn (new_pieces c.next_version c.next_stamp t changes) [] drawn
     → ((s : State) → StandsAt rs xs m s → act s ≡ durably s (a.log_length + length changes) (written_all n (entries_of s user t changes) s, Done (length changes)))
-    → Does rs xs m (changes_new_batch rs counters_id m c space_id a id n t changes) Stay (Done (length changes)) act
-does_write_new rs xs m n user t changes a c counters_id space_id id act v p same = record {
+    → Does rs xs m (changes_new_batch rs counters_id m c space_id a id n t changes drawn) Stay (Done (length changes)) act
+does_write_new rs xs m n user t changes a c counters_id space_id id drawn act v p new same = record {
   keeps = subst (λ cs. keep_rules (parts_of (applied cs rs)) ≡ true) (batch_is 0)
-      (keep_planned_new rs counters_id space_id id c (versioned c m) d n a w t.number (es 0) v.rules p (may_write_more rs n m 0 user t a c changes v));
-  once = changes-write_new counters_id d space_id a id w (new_rows c.next_stamp t changes) (new_pieces c.next_version c.next_stamp t changes) apart.apart apart.counters apart.space;
+      (keep_planned_new rs counters_id space_id id c (versioned c m) d n a w t.number (es 0) drawn v.rules p (may_write_more rs n m 0 user t a c changes v) (draws 0));
+  once = changes-write_new counters_id d space_id a (length changes) id w (new_rows c.next_stamp t changes) drawn apart.apart apart.counters apart.space;
   does = λ s st.
       let counts = counts_as rs xs m s c st v.one in
       let is = same s st ∙ done_is s a.log_length (length changes) n c (entries_of s user t changes) counts v.short v.room in (
-        subst (λ q. StandsAt (applied (changes_new_batch rs counters_id m c space_id a id n t changes) rs) xs m q.0) (sym is) (record {
+        subst (λ q. StandsAt (applied (changes_new_batch rs counters_id m c space_id a id n t changes drawn) rs) xs m q.0) (sym is) (record {
           stands = subst (λ cs. Stands (parts_of (applied cs rs)) (record (written_all n (entries_of s user t changes) s) { last_moment = s.moment; work = s.work + line_work })) (batch_is s.moment)
-              (plan_written_new rs counters_id space_id id c (versioned c m) d n a w t.number (es s.moment) s _ st.stands p (may_write_more rs n m s.moment user t a c changes v)
+              (plan_written_new rs counters_id space_id id c (versioned c m) d n a w t.number (es s.moment) drawn s _ st.stands p (may_write_more rs n m s.moment user t a c changes v) (draws s.moment)
               (ap (λ k. with_space n (with_entries (entries_from k s.moment user t changes)) s.spaces) (sym counts.next_stamp)) refl
               (counts_on rs xs m n s c d (entries_of s user t changes) (length changes) st counts refl refl refl refl (length_entries s.next_stamp s.moment user t changes)));
           sessions_are = st.sessions_are;
@@ -104,5 +103,8 @@ does_write_new rs xs m n user t changes a c counters_id space_id id act v p same
     apart : PlacesApart counters_id space_id id
     apart = places_apart rs counters_id space_id id c a (record { sorted = p.sorted; counters = p.counters; one = v.one; space = p.space; under = p.under })
 
-    batch_is : (moment : ℕ) → write_new_batch counters_id d space_id a id w (rows_in (es moment)) (pieces_of w.number (es moment)) ≡ changes_new_batch rs counters_id m c space_id a id n t changes
-    batch_is moment = rw (rows_are c.next_stamp moment user t changes, pieces_are c.next_version c.next_stamp moment user t changes) refl
+    batch_is : (moment : ℕ) → write_new_batch counters_id d space_id a (length (es moment)) id w (rows_in (es moment)) drawn ≡ changes_new_batch rs counters_id m c space_id a id n t changes drawn
+    batch_is moment = rw (rows_are c.next_stamp moment user t changes, length_entries c.next_stamp moment user t changes) refl
+
+    draws : (moment : ℕ) → AreDrawn (pieces_of w.number (es moment)) [] drawn
+    draws moment = subst (λ news. AreDrawn news [] drawn) (sym (pieces_are c.next_version c.next_stamp moment user t changes)) new

@@ -1,25 +1,23 @@
--- What a line writes that changes rows of a table without periods, and what is asked of the records before it does.
+-- What a line writes that changes rows of a table, and what is asked of the records before it does.
 use Rattle.std.specs.Prelude.{◌≡◌, ◌+◌, ℕ, Bool, true, false, ◌&&◌, nat_le, nat_lt, List, [], ◌∷◌, map, length, is_none, Option, Some, None}
 use Rattle.std.specs.List.{list_all}
-use Rattle.std.specs.Option.{option_map, option_map_or}
+use Rattle.std.specs.Option.{option_map}
 use Rattle.wm_base.specs.declared.instant.TheConstants.{END}
-use Rattle.wm_base.specs.declared.kind.Kind.{Kind}
-use Rattle.wm_base.specs.declared.row.Row.{Row}
 use Rattle.wm_base.specs.declared.value.Value.{Value}
-use Rattle.wm_graph.specs.Parts.{parts_of, space_of, table_of}
-use Rattle.wm_graph.specs.Rules.{keep_rules, is_row_of, is_key_of, is_key, key_of}
-use Rattle.wm_spec.specs.Lists.{Entry}
+use Rattle.wm_graph.specs.Parts.{Parts, parts_of, space_of, table_of}
+use Rattle.wm_graph.specs.Rules.{keep_rules}
 use Rattle.wm_spec.specs.declared.record.counters.Counters.{Counters}
 use Rattle.wm_spec.specs.declared.record.piece.PieceRecord.{PieceRecord}
 use Rattle.wm_spec.specs.declared.record.row.RowRecord.{RowRecord}
 use Rattle.wm_spec.specs.declared.record.space.Space.{Space}
 use Rattle.wm_spec.specs.declared.record.stored.Stored.{Stored}
 use Rattle.wm_spec.specs.declared.record.table.Table.{Table}
+use Rattle.wm_spec.specs.declared.record.version.Version.{Version}
 use Rattle.wm_state.specs.Effects.{IsLeaf, IsFree}
-use Rattle.wm_state.specs.Entries.{KeysDiffer}
-use Rattle.wm_state.specs.State.{with_space, with_entries, log_length}
+use Rattle.wm_state.specs.State.{log_length}
 use Rattle.wm_state.specs.Standing.{newest_first, latest}
 use Rattle.wm_model.specs.Step.{Answer, State, counter_limit, durably, line_work}
+use Rattle.wm_dml.specs.Standing.{is_change}
 use Rattle.wm_dml.specs.declared.change.RowChange.{RowChange}
 use Rattle.wm_model.specs.Entered.{entries_of, written_all}
 use Rattle.wm_model.specs.Planning.{moved}
@@ -34,9 +32,6 @@ write_changes n user t changes s =
 
 -- ---- what the records gain
 
-abbrev pub change_keys : List RowChange → List (List Value)
-change_keys changes = map (λ (x : RowChange). x.key) changes
-
 -- a new row before others, where there is one
 abbrev pub row_before : ℕ → Table → Option (List Value) → List RowRecord → List RowRecord
 row_before stamp t None rows = rows
@@ -47,14 +42,27 @@ abbrev pub new_rows : ℕ → Table → List RowChange → List RowRecord
 new_rows stamp t [] = []
 new_rows stamp t (x ∷ xs) = row_before stamp t x.row (new_rows (stamp + 1) t xs)
 
--- what a version says of a key from now on
+-- what a version says of a key from now on, over the period of the change
 abbrev pub change_piece : ℕ → ℕ → Table → RowChange → PieceRecord
-change_piece version stamp t x =
-    record { version = version; cells = record { table = t.number; key = x.key; from = 0; till = END }; stamp = stamp; kind = x.kind; gone = is_none x.row }
+change_piece version stamp t x = record {
+  version = version;
+  cells = record { table = t.number; key = x.key; from = x.period.from; till = x.period.till };
+  stamp = stamp;
+  kind = x.kind;
+  gone = is_none x.row;
+}
 
 abbrev pub new_pieces : ℕ → ℕ → Table → List RowChange → List PieceRecord
 new_pieces version stamp t [] = []
 new_pieces version stamp t (x ∷ xs) = change_piece version stamp t x ∷ new_pieces version (stamp + 1) t xs
+
+-- the version that comes next in a workspace
+abbrev pub next_version : Parts → ℕ → Counters → Version
+next_version p n c = record { number = c.next_version; space = n; parent = latest p n }
+
+-- the counters once a line has made a version
+abbrev pub versioned : Counters → ℕ → Counters
+versioned c m = record (moved c m) { next_version = c.next_version + 1 }
 
 -- the counters once a line has given so many stamps
 abbrev pub stepped_by : Counters → ℕ → ℕ → Counters
@@ -66,17 +74,17 @@ stepped_new_by c m k = record (stepped_by c m k) { next_version = c.next_version
 
 -- ---- what is asked before
 
--- the key is one of the table's, and the row, where there is one, is one of its rows with this key
-abbrev pub is_change : Table → RowChange → Bool
-is_change t x = is_key_of x.key t && option_map_or (λ row. is_row_of row t && is_key x.key (key_of t row)) x.row true
+-- the period of a change has a moment
+abbrev pub lasts : RowChange → Bool
+lasts x = nat_lt x.period.from x.period.till && nat_le x.period.till END
 
--- the table and the workspace are there, the changes fit the table, each with a key of its own, stamps are left for them, and no
--- counter is at its end: they may go into a version more of the workspace
+-- the table and the workspace are there, the changes fit the table, stamps are left for them, and no counter is at its end: they may
+-- go into a version more of the workspace
 pub record ChangesNew (rs : List Stored) (n m : ℕ) (t : Table) (a : Space) (c : Counters) (changes : List RowChange) : Type 0 where
   pub rules : keep_rules (parts_of rs) ≡ true
   pub there : table_of (parts_of rs).tables t.number ≡ Some t
   pub fit : list_all (is_change t) changes ≡ true
-  pub keys : KeysDiffer (change_keys changes)
+  pub last : list_all lasts changes ≡ true
   pub space : space_of (parts_of rs).spaces n ≡ Some a
   pub one : (parts_of rs).counters ≡ c ∷ []
   pub left : nat_le (c.next_stamp + length changes) (c.limit + 1) ≡ true

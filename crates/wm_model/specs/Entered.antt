@@ -1,7 +1,6 @@
--- What a workspace gains when rows of a table without periods change.
+-- What a workspace gains when rows of a table change.
 use Rattle.std.specs.Prelude.{ℕ, ◌+◌, List, [], ◌∷◌, length, Option}
 use Rattle.std.specs.Option.{option_map}
-use Rattle.wm_base.specs.declared.instant.TheConstants.{END}
 use Rattle.wm_base.specs.declared.row.Row.{Row}
 use Rattle.wm_base.specs.declared.value.Value.{Value}
 use Rattle.wm_dml.specs.declared.change.RowChange.{RowChange}
@@ -18,8 +17,8 @@ abbrev pub change_entry : ℕ → ℕ → List ℕ → Table → RowChange → E
 change_entry stamp moment user t x = record {
   table = t.number;
   key = x.key;
-  from = 0;
-  till = END;
+  from = x.period.from;
+  till = x.period.till;
   row = option_map row_value x.row;
   stamp = stamp;
   kind = x.kind;

@@ -1,7 +1,6 @@
 pub mod Lines
 pub mod Step
 pub mod Planning
-pub mod Writing
 pub mod Saving
 pub mod Running
 pub mod Sources

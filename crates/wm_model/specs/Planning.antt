@@ -1,6 +1,7 @@
 -- What a plan over the records of a store says that a line does and answers.
 use Rattle.std.specs.Prelude.{◌≡◌, ◌+◌, ℕ, true, List, [], ◌∷◌, ◌++◌, Option}
 use Rattle.std.specs.Option.{option_map_or}
+use Rattle.wm_base.specs.Period.{Span}
 use Rattle.wm_graph.specs.Parts.{Parts, parts_of}
 use Rattle.wm_graph.specs.Rules.{keep_rules}
 use Rattle.wm_print.specs.Texts.{Answer}
@@ -9,7 +10,7 @@ use Rattle.wm_spec.specs.declared.record.batch.Change.{Change}
 use Rattle.wm_spec.specs.declared.record.stored.Stored.{Stored}
 use Rattle.wm_state.specs.ById.{applied}
 use Rattle.wm_state.specs.State.{State, Session, Stand, Latest, At, table_named}
-use Rattle.wm_model.specs.Step.{closed, moved_to, line_work}
+use Rattle.wm_model.specs.Step.{closed, moved_to, limited, line_work}
 use Rattle.wm_state.specs.Standing.{Stands, by_number, latest, saved_as}
 use Rattle.wm_spec.specs.declared.record.savepoint.Savepoint.{Savepoint}
 use Rattle.wm_spec.specs.declared.record.counters.Counters.{Counters}
@@ -21,18 +22,20 @@ pub record StandsAt (records : List Stored) (sessions : List Session) (moment : 
   pub sessions_are : sessions ≡ s.sessions
   pub moment_is : moment ≡ s.moment
 
--- what becomes of the sessions: nothing, one is opened, those of a name are closed, or stand elsewhere
+-- what becomes of the sessions: nothing, one is opened, those of a name are closed, stand elsewhere, or have another period
 pub data Seating : Type 0 where
   Stay : Seating
   Open : (session : Session) → Seating
   Close : (name : List ℕ) → Seating
   Move : (name : List ℕ) (space : ℕ) (stand : Stand) → Seating
+  Limit : (name : List ℕ) (period : Option Span) → Seating
 
 abbrev pub seated : List Session → Seating → List Session
 seated sessions Stay = sessions
 seated sessions (Open x) = sessions ++ x ∷ []
 seated sessions (Close name) = closed name sessions
 seated sessions (Move name space stand) = moved_to name space stand sessions
+seated sessions (Limit name period) = limited name period sessions
 
 -- the plan does and answers what a function of the state does and answers, for each state that these stand for
 pub record Does (records : List Stored) (sessions : List Session) (moment : ℕ) (changes : List Change) (seating : Seating) (answer : Answer) (act : State → State × Answer) : Type 0 where
@@ -51,10 +54,6 @@ pub record DoesAt (records : List Stored) (sessions : List Session) (moment : �
 -- the counters once a line has changed something at a moment
 abbrev pub moved : Counters → ℕ → Counters
 moved c m = record c { last_moment = m; work = c.work + line_work }
-
--- the counters once a line has written a row
-abbrev pub stepped : Counters → ℕ → Counters
-stepped c m = record (moved c m) { next_stamp = c.next_stamp + 1 }
 
 -- the tables of the records, in the order of their making
 abbrev pub tables_in : List Stored → List Table

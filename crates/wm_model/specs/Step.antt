@@ -3,22 +3,20 @@ use Rattle.std.specs.Prelude.{ℕ, ◌+◌, ◌^◌, ◌==◌, List, [], ◌∷�
 use Rattle.std.specs.List.{filter, filter_map, find, flat_map, list_all, list_any, starts_with}
 use Rattle.std.specs.Option.{option_map, option_map_or}
 use Rattle.std.specs.Fmt.{decimal}
-use Rattle.std.specs.Ordering.{is_lt}
+use Rattle.std.specs.Ordering.{is_gt}
 use Rattle.std.specs.Str.{bytes_eq, is_utf8}
 use Rattle.wm_base.specs.Key.{key_order}
-use Rattle.wm_base.specs.Period.{Span}
+use Rattle.wm_base.specs.Period.{Span, always}
 use Rattle.wm_base.specs.declared.instant.TheConstants.{END}
-use Rattle.wm_base.specs.declared.kind.Kind.TheVariants.{Insert as Inserted}
 use Rattle.wm_base.specs.declared.value.Value.{Value}
 use Rattle.wm_base.specs.declared.refusal.Refusal.TheVariants.{Form, Limit}
 use Rattle.wm_base.specs.declared.refusal.Refusal.TheVariants as refusals
 use Rattle.wm_base.specs.declared.refusal.FormRefusal.TheVariants.{Wm001, Wm002, Wm003, Wm004, Wm005, Wm010, Wm011, Wm013, Wm015, Wm016, Wm019}
-use Rattle.wm_base.specs.declared.refusal.SpaceRefusal.TheVariants.{Wm020, Wm021, Wm022, Wm023, Wm024, Wm030, Wm031}
+use Rattle.wm_base.specs.declared.refusal.SpaceRefusal.TheVariants.{Wm020, Wm021, Wm022, Wm023, Wm024, Wm030, Wm031, Wm033}
 use Rattle.wm_base.specs.declared.refusal.CellRefusal.TheVariants.{Wm060, Wm064, Wm065}
 use Rattle.wm_base.specs.declared.refusal.LimitRefusal.TheVariants.{Wm070, Wm071, Wm072, Wm073, Wm074, Wm075, Wm076, Wm099}
-use Rattle.wm_graph.specs.Rules.{key_of}
-use Rattle.wm_spec.specs.Lists.{Entry, stamp_at}
-use Rattle.wm_spec.specs.Stretches.{rows}
+use Rattle.wm_spec.specs.Lists.{Entry}
+use Rattle.wm_spec.specs.Stretches.{rows, rows_of_key}
 use Rattle.wm_spec.specs.declared.record.space.FreezeMode.TheVariants.{Free}
 use Rattle.wm_spec.specs.declared.record.table.Table.{Table}
 use Rattle.wm_model.specs.Lines.{fits_line}
@@ -29,7 +27,7 @@ use Rattle.wm_base.specs.declared.row.Row.{Row}
 use Rattle.wm_base.specs.declared.tree.statement.Arg.{Arg}
 use Rattle.wm_base.specs.declared.tree.statement.CreateItem.{CreateItem}
 use Rattle.wm_base.specs.Trees.{Line, Connect, Disconnect, At as AtMoment, Run, Statement, Create, Insert, Update, Delete, Select, Call, Cond, Expr, Query, Set, Src}
-use Rattle.wm_dml.specs.Changing.{chosen, gone, updated_rows, rows_fault, replacing}
+use Rattle.wm_dml.specs.Changing.{added, chosen, gone, row_key, updated_rows, rows_fault, replacing}
 use Rattle.wm_dml.specs.Standing.{change_keys}
 use Rattle.wm_dml.specs.declared.change.RowChange.{RowChange}
 use Rattle.wm_grammar.specs.Calls.{procedure_of}
@@ -37,13 +35,14 @@ use Rattle.wm_grammar.specs.declared.procedure.Procedure.{Procedure}
 use Rattle.wm_grammar.specs.declared.procedure.Procedure.TheVariants as procedures
 use Rattle.wm_grammar.specs.declared.procedure.Parameter.TheVariants as parameters
 use Rattle.wm_parser.specs.Parsed.{Bad, Syntax, Literal, parsed}
-use Rattle.wm_calls.specs.Arguments.{text_given}
+use Rattle.wm_calls.specs.Arguments.{text_given, moment_given, is_true_given}
+use Rattle.wm_calls.specs.Empty.{has_empty_period}
 use Rattle.wm_calls.specs.Faults.{argument_fault}
 use Rattle.wm_calls.specs.Later.{is_later}
 use Rattle.wm_timed.specs.Timed.{timed}
 use Rattle.wm_making.specs.Creating.{names_fault, shape_fault, table_of}
 use Rattle.wm_making.specs.Inserting.{insert_fault}
-use Rattle.wm_making.specs.Rows.{is_filled, row_of, row_fault}
+use Rattle.wm_making.specs.Rows.{is_filled, period_given, row_of, row_fault}
 use Rattle.wm_select.specs.Query.{answer_of, row_limit}
 use Rattle.wm_model.specs.Entered.{entries_of, written_all}
 use Rattle.wm_typing.specs.Asking.{query_fault}
@@ -51,8 +50,8 @@ use Rattle.wm_typing.specs.Changing.{update_fault, delete_fault}
 use Rattle.wm_typing.specs.Columns.{columns_of_table}
 use Rattle.wm_reader.specs.Reading.{is_remark, folded}
 pub use Rattle.wm_state.specs.State.{State, fresh}
-use Rattle.wm_state.specs.Listing.{row_on}
-use Rattle.wm_state.specs.State.{Workspace, Savepoint, Session, Stand, Latest, At, content, enabled, kept, savepoint_made, seen_from, with_space, with_entries, with_savepoint, workspace_of, table_named, workspace_named, savepoint_named, next_table, next_space, next_making}
+use Rattle.wm_state.specs.Listing.{first_shared, row_shown}
+use Rattle.wm_state.specs.State.{Workspace, Savepoint, Session, Stand, Readiness, Latest, At, content, enabled, kept, savepoint_made, seen_from, with_space, with_savepoint, workspace_of, table_named, workspace_named, savepoint_named, next_table, next_space, next_making}
 pub use Rattle.wm_print.specs.Texts.{Answer, answer_text}
 use Rattle.wm_print.specs.Texts.{Nothing, Fine, Done, Listing, Refused}
 
@@ -127,8 +126,13 @@ not_latest = Refused (refusals.Space Wm030)
 abbrev pub moment_back : ℕ → Answer
 moment_back moment = Refused (refusals.Space (Wm031 moment))
 
-abbrev pub key_there : List Value → Answer
-key_there key = let no_period : Option Span = None in Refused (refusals.Cell (Wm060 key no_period))
+-- a row of the key stands, in a table with valid time in this period
+abbrev pub key_there : List Value → Option Span → Answer
+key_there key period = Refused (refusals.Cell (Wm060 key period))
+
+-- a period has no moment
+abbrev pub empty_period : Answer
+empty_period = Refused (refusals.Space Wm033)
 
 abbrev pub change_limit : ℕ → Answer
 change_limit limit = Refused (Limit (Wm070 limit))
@@ -250,13 +254,17 @@ closed name sessions = filter (λ (x : Session). not (bytes_eq name x.name)) ses
 abbrev pub moved_to : List ℕ → ℕ → Stand → List Session → List Session
 moved_to name space stand sessions = map (λ (x : Session). if bytes_eq name x.name then record x { space = space; stand = stand } else x) sessions
 
--- CONNECT opens a session, which stands in LIVE at what is newest
+-- a session of this name sees and changes rows in this period, or where it is none in what is left of time
+abbrev pub limited : List ℕ → Option Span → List Session → List Session
+limited name period sessions = map (λ (x : Session). if bytes_eq name x.name then record x { period = period } else x) sessions
+
+-- CONNECT opens a session, which stands in LIVE at what is newest, and for which no period is set
 abbrev pub connect : List ℕ → List ℕ → State → State × Answer
 connect name user s =
     if is_some (session_of name s.sessions) then (s, session_there name) else
     (if not (is_name name && is_name user) then (s, bad_name) else
     (if nat_le 256 (length s.sessions) then (s, most_sessions) else
-    (record s { sessions = s.sessions ++ record { name = name; user = user; space = 0; stand = Latest } ∷ [] }, Fine)))
+    (record s { sessions = s.sessions ++ record { name = name; user = user; space = 0; stand = Latest; period = None } ∷ [] }, Fine)))
 
 -- DISCONNECT ends one
 abbrev pub disconnect : List ℕ → State → State × Answer
@@ -284,72 +292,95 @@ create name items s =
     (if is_full s.tables then (s, most_tables) else durably s 0 (record s { tables = s.tables ++ table_of (next_table s.tables) name items ∷ [] }, Fine)))
 
 -- EnableVersioning makes a table ready for rows, once; the last argument is what is wrong with the others
-abbrev pub enable : List ℕ → Bool → Option (List ℕ) → State → State × Answer
-enable name history fault s =
+abbrev pub enable : List ℕ → Readiness → Option (List ℕ) → State → State × Answer
+enable name how fault s =
     if nat_lt 25 (length name) then (s, long_name) else
     with_table s name (λ table.
     if table.versioned then (s, versioning name true) else
     unless_mistyped fault s
-    (if not table.has_key then (s, no_key name) else durably s 0 (record s { tables = enabled table.number history s.tables }, Fine)))
+    (if not table.has_key then (s, no_key name) else durably s 0 (record s { tables = enabled table.number how s.tables }, Fine)))
+
+-- ---- periods
+
+-- the period in which a session sees rows of a table and changes them: all of time where the table has no valid time, and else the one
+-- that is set for the session, or what is left of time
+abbrev pub within : ℕ → Session → Table → Span
+within moment session table = if table.valid then unwrap_or session.period (record { from = moment; till = END }) else always
+
+-- SetValidTime sets the period, or sets none
+abbrev pub set_period : Session → Option Span → State → State × Answer
+set_period session period s = (record s { sessions = limited session.name period s.sessions }, Fine)
+
+-- from a moment to another
+abbrev pub set_valid_time : Session → Option ℕ → ℕ → State → State × Answer
+set_valid_time session None till s = set_period session None s
+set_valid_time session (Some from) till s = if nat_lt from till then set_period session (Some (record { from = from; till = till })) s else (s, empty_period)
 
 -- ---- rows
-
--- a row of this key stands; a table without periods holds the same at all moments
-abbrev pub stands : List Entry → ℕ → List Value → Bool
-stands es table key = is_some (stamp_at es table key 0)
-
--- the key of a row of the table; each table in workspaces has one
-abbrev pub row_key : Table → List Value → List Value
-row_key table row = unwrap_or (key_of table row) []
-
--- what is written for a new row
-abbrev pub new_entry : State → List ℕ → Table → List Value → Entry
-new_entry s user table row = record {
-  table = table.number;
-  key = row_key table row;
-  from = 0;
-  till = END;
-  row = Some (record { values = row });
-  stamp = s.next_stamp;
-  kind = Inserted;
-  moment = s.moment;
-  user = user;
-}
-
--- the state with one more entry in a workspace, which takes the next stamp
-abbrev pub written : ℕ → Entry → State → State
-written n e s = record s { spaces = with_space n (with_entries (e ∷ [])) s.spaces; next_stamp = s.next_stamp + 1 }
 
 -- what is done at what is newest, and nowhere else
 abbrev pub at_latest : State → Stand → State × Answer → State × Answer
 at_latest s Latest done = done
 at_latest s (At making) done = (s, not_latest)
 
--- a new row comes under a key that is not there, while changes are left
-abbrev pub add_to : List ℕ → Table → List Value → State → Workspace → State × Answer
-add_to user table row s w =
-    if stands (content w) table.number (row_key table row) then (s, key_there (row_key table row)) else
-    (if nat_lt s.limit s.next_stamp then (s, change_limit s.limit) else
-    durably s (length w.lists.log + 1) (written w.number (new_entry s user table row) s, Done 1))
+-- what is done where no period that the statement has is empty
+abbrev pub unless_empty_period : Bool → State → State × Answer → State × Answer
+unless_empty_period empty s done = if empty then (s, empty_period) else done
+
+-- what is done with the table of a name in the workspace that a session stands in at what is newest, unless the statement is wrong
+-- for the table or has an empty period
+abbrev pub at_newest : Session → List ℕ → (Table → Option Refusal) → Bool → (Table → State → Workspace → State × Answer) → State → State × Answer
+at_newest session name fault empty act s = with_table s name (λ table.
+    if not table.versioned then (s, versioning name false) else
+    unless (fault table) s
+    (at_home s session (λ w. at_latest s session.stand (unless_empty_period empty s (act table s w)))))
+
+-- rows are changed, if there are any, while changes are left
+abbrev pub write_all : List ℕ → Table → List RowChange → State → Workspace → State × Answer
+write_all user table [] s w = (s, Done 0)
+write_all user table (x ∷ xs) s w =
+    let changes = x ∷ xs in
+    if not (nat_le (s.next_stamp + length changes) (s.limit + 1)) then (s, change_limit s.limit) else
+    durably s (length w.lists.log + length changes) (written_all w.number (entries_of s user table changes) s, Done (length changes))
+
+-- ---- INSERT
+
+-- the period of a new row: the one that the statement gives, or the one that is set for the session, or all of time
+abbrev pub new_period : Session → Table → Option (List (List ℕ)) → List Expr → Span
+new_period session table names values = if table.valid then unwrap_or (period_given table names values) (unwrap_or session.period always) else always
+
+-- what a period shares with the first row of a key that stands in it
+abbrev pub taken : List Entry → Table → List Value → Span → Option Span
+taken es table key period = first_shared period (rows_of_key es table.number key)
+
+-- a period that is told, which is one of a table with valid time
+abbrev pub told_period : Table → Span → Option Span
+told_period table period = if table.valid then Some period else None
+
+-- a new row comes where no row of its key stands
+abbrev pub add_to : List ℕ → Table → Span → List Value → State → Workspace → State × Answer
+add_to user table period row s w = of (taken (content w) table (row_key table row) period)
+  where
+    of : Option Span → State × Answer
+    of (Some shared) = (s, key_there (row_key table row) (told_period table shared))
+    of None = write_all user table (added table period row ∷ []) s w
 
 -- a new row, unless a number on the way to it was out of range, or something is wrong with it
-abbrev pub add_found : List ℕ → Table → Option (List Value) → State → Workspace → State × Answer
-add_found user table None s w = (s, out_of_range)
-add_found user table (Some row) s w = unless (row_fault table row) s (add_to user table row s w)
+abbrev pub add_found : List ℕ → Table → Span → Option (List Value) → State → Workspace → State × Answer
+add_found user table period None s w = (s, out_of_range)
+add_found user table period (Some row) s w = unless (row_fault table row) s (add_to user table period row s w)
 
 -- INSERT adds a row
-abbrev pub insert : Session → List ℕ → Option (List (List ℕ)) → List Expr → State → State × Answer
-insert session name names values s = with_table s name (λ table.
-    if not table.versioned then (s, versioning name false) else
-    (if table.valid then (s, not_built) else
-    unless (insert_fault table names values) s
-    (at_home s session (λ w. at_latest s session.stand (add_found session.user table (row_of table names values) s w)))))
+abbrev pub insert : Session → List ℕ → Option (List (List ℕ)) → List Expr → Bool → State → State × Answer
+insert session name names values empty =
+    at_newest session name (λ table. insert_fault table names values) empty
+    (λ table. add_found session.user table (new_period session table names values) (row_of table names values))
 
 -- ---- queries
 
--- the rows of a table that a list holds, by key
-abbrev pub rows_in : List Entry → Table → List Row
-rows_in es table = filter_map (row_on es table.number) (rows es table.number)
+-- the rows of a table that a list holds, by key and from: in a table with valid time those in a period, each with its own behind it
+abbrev pub rows_in : Span → List Entry → Table → List Row
+rows_in period es table = filter_map (row_shown es table.number table.valid period) (rows es table.number)
 
 -- the first source that is no table
 abbrev pub lost_source : List Table → List Src → Option (List ℕ)
@@ -373,13 +404,13 @@ source_name x = unwrap_or x.alias x.table
 abbrev pub columns_in : List Table → List Src → List Column
 columns_in tables sources = flat_map (λ (x : Src). option_map_or (columns_of_table (source_name x)) (table_named x.table tables) []) sources
 
--- what a source shows of its table
-abbrev pub shown_by : List Entry → Src → Table → Source
-shown_by es x table = record { columns = columns_of_table (source_name x) table; rows = rows_in es table }
+-- what a source shows a session of its table
+abbrev pub shown_by : ℕ → Session → List Entry → Src → Table → Source
+shown_by moment session es x table = record { columns = columns_of_table (source_name x) table; rows = rows_in (within moment session table) es table }
 
 -- what all sources show
-abbrev pub sources_in : List Entry → List Table → List Src → List Source
-sources_in es tables sources = filter_map (λ (x : Src). option_map (shown_by es x) (table_named x.table tables)) sources
+abbrev pub sources_in : ℕ → Session → List Entry → List Table → List Src → List Source
+sources_in moment session es tables sources = filter_map (λ (x : Src). option_map (shown_by moment session es x) (table_named x.table tables)) sources
 
 -- what is answered with the rows that were found, if no number on the way was out of range
 abbrev pub answer_rows : Option (List Row) → Answer
@@ -387,80 +418,68 @@ answer_rows None = out_of_range
 answer_rows (Some found) = if nat_lt row_limit (length found) then most_rows else Listing found
 
 -- a query whose tables are all ready for rows
-abbrev pub select_ready : Session → Query → List Table → State → State × Answer
-select_ready session query tables s =
-    if list_any (λ (t : Table). t.valid) (tables_of tables query.sources) then (s, not_built) else
+abbrev pub select_ready : Session → Query → Bool → List Table → State → State × Answer
+select_ready session query empty tables s =
     unless (query_fault (columns_in tables query.sources) query) s
-    (at_home s session (λ w. (s, answer_rows (answer_of query (sources_in (seen_from w session.stand) tables query.sources)))))
+    (at_home s session (λ w.
+    unless_empty_period empty s (s, answer_rows (answer_of query (sources_in s.moment session (seen_from w session.stand) tables query.sources)))))
 
 -- a query whose tables are all there
-abbrev pub select_from : Session → Query → List Table → State → State × Answer
-select_from session query tables s = off (table_off (tables_of tables query.sources))
+abbrev pub select_from : Session → Query → Bool → List Table → State → State × Answer
+select_from session query empty tables s = off (table_off (tables_of tables query.sources))
   where
     off : Option (List ℕ) → State × Answer
     off (Some name) = (s, versioning name false)
-    off None = select_ready session query tables s
+    off None = select_ready session query empty tables s
 
 -- a query where these are the tables
-abbrev pub select_among : Session → Query → List Table → State → State × Answer
-select_among session query tables s = lost (lost_source tables query.sources)
+abbrev pub select_among : Session → Query → Bool → List Table → State → State × Answer
+select_among session query empty tables s = lost (lost_source tables query.sources)
   where
     lost : Option (List ℕ) → State × Answer
     lost (Some name) = (s, no_table name)
-    lost None = select_from session query tables s
+    lost None = select_from session query empty tables s
 
 -- SELECT answers a query over what the session sees
-abbrev pub select : Session → Query → State → State × Answer
-select session query s = select_among session query s.tables s
+abbrev pub select : Session → Query → Bool → State → State × Answer
+select session query empty s = select_among session query empty s.tables s
 
 -- ---- UPDATE and DELETE
 
--- rows are changed, if there are any, while changes are left
-abbrev pub write_all : List ℕ → Table → List RowChange → State → Workspace → State × Answer
-write_all user table [] s w = (s, Done 0)
-write_all user table (x ∷ xs) s w =
-    let changes = x ∷ xs in
-    if not (nat_le (s.next_stamp + length changes) (s.limit + 1)) then (s, change_limit s.limit) else
-    durably s (length w.lists.log + length changes) (written_all w.number (entries_of s user table changes) s, Done (length changes))
-
--- each key is below the next
+-- no key is above the next
 abbrev pub ascend : List (List Value) → Bool
 ascend [] = true
 ascend (k ∷ []) = true
-ascend (k ∷ l ∷ ls) = is_lt (key_order k l) && ascend (l ∷ ls)
+ascend (k ∷ l ∷ ls) = not (is_gt (key_order k l)) && ascend (l ∷ ls)
 
--- so they are where each key is changed once; no line makes two rows of one key
+-- so they stand where rows are changed by key
 abbrev pub write_ascending : List ℕ → Table → List RowChange → State → Workspace → State × Answer
 write_ascending user table changes s w = if ascend (change_keys changes) then write_all user table changes s w else (s, not_built)
 
--- what is done with the rows that a session sees of a table at what is newest, unless the statement is wrong for the table
-abbrev pub change_rows : Session → List ℕ → (Table → Option Refusal) → (Table → List Row → State → Workspace → State × Answer) → State → State × Answer
-change_rows session name fault act s = with_table s name (λ table.
-    if not table.versioned then (s, versioning name false) else
-    (if table.valid then (s, not_built) else
-    unless (fault table) s
-    (at_home s session (λ w. at_latest s session.stand (act table (rows_in (content w) table) s w)))))
+-- what is done with the rows of a table that a session sees, and the period in which it changes them
+abbrev pub with_rows : Session → (Table → Span → List Row → State → Workspace → State × Answer) → Table → State → Workspace → State × Answer
+with_rows session act table s w = let period = within s.moment session table in act table period (rows_in period (content w) table) s w
 
 -- new rows take the places of others, unless a number on the way to them was out of range, or something is wrong with them
-abbrev pub replace_all : List ℕ → Table → Option (List (List Value)) → State → Workspace → State × Answer
-replace_all user table None s w = (s, out_of_range)
-replace_all user table (Some new) s w = unless (rows_fault table new) s (write_ascending user table (replacing table new) s w)
+abbrev pub replace_all : List ℕ → Table → Span → List Row → Option (List (List Value)) → State → Workspace → State × Answer
+replace_all user table period rows None s w = (s, out_of_range)
+replace_all user table period rows (Some new) s w = unless (rows_fault table new) s (write_ascending user table (replacing table period rows new) s w)
 
 -- rows in which a text is empty, which no line writes, are not changed
 abbrev pub unless_empty : List Row → (List Row → State → Workspace → State × Answer) → State → Workspace → State × Answer
 unless_empty rows act s w = if list_all (λ (r : Row). list_all is_filled r.values) rows then act rows s w else (s, not_built)
 
 -- UPDATE writes a new row for each on which the condition is true
-abbrev pub update : Session → List ℕ → List Set → Option Cond → State → State × Answer
-update session name sets filter =
-    change_rows session name (λ table. update_fault table sets filter)
-    (λ table rows. unless_empty (chosen table filter rows) (λ kept. replace_all session.user table (updated_rows table sets kept)))
+abbrev pub update : Session → List ℕ → List Set → Option Cond → Bool → State → State × Answer
+update session name sets filter empty =
+    at_newest session name (λ table. update_fault table sets filter) empty
+    (with_rows session (λ table period rows. unless_empty (chosen table filter rows) (λ kept. replace_all session.user table period kept (updated_rows table sets kept))))
 
 -- DELETE makes each of them gone
-abbrev pub delete : Session → List ℕ → Option Cond → State → State × Answer
-delete session name filter =
-    change_rows session name (λ table. delete_fault table filter)
-    (λ table rows. unless_empty (chosen table filter rows) (λ kept. write_ascending session.user table (map (gone table) kept)))
+abbrev pub delete : Session → List ℕ → Option Cond → Bool → State → State × Answer
+delete session name filter empty =
+    at_newest session name (λ table. delete_fault table filter) empty
+    (with_rows session (λ table period rows. unless_empty (chosen table filter rows) (λ kept. write_ascending session.user table (map (gone table period) kept))))
 
 -- ---- savepoints
 
@@ -586,12 +605,19 @@ abbrev pub keeps_history : Option (List ℕ) → Bool
 keeps_history None = false
 keeps_history (Some word) = bytes_eq (folded word) (codes "VIEW_WO_OVERWRITE")
 
+-- how the arguments ask for a table to become ready
+abbrev pub readiness_given : List Arg → Readiness
+readiness_given args = record {
+  valid = is_true_given procedures.EnableVersioning args parameters.ValidTime;
+  history = keeps_history (text_given procedures.EnableVersioning args parameters.Hist);
+}
+
 -- a call, by the arguments for its parameters and what is wrong with them
 abbrev pub call : Session → Option Procedure → List Arg → State → State × Answer
 call session (Some procedures.EnableVersioning) args s =
     let fault = argument_fault procedures.EnableVersioning args in
     given (text_given procedures.EnableVersioning args parameters.TableName) fault s
-    (λ name. enable (folded name) (keeps_history (text_given procedures.EnableVersioning args parameters.Hist)) fault s)
+    (λ name. enable (folded name) (readiness_given args) fault s)
 call session (Some procedures.CreateWorkspace) args s =
     let fault = argument_fault procedures.CreateWorkspace args in
     given (text_given procedures.CreateWorkspace args parameters.Workspace) fault s
@@ -606,16 +632,21 @@ call session (Some procedures.GotoWorkspace) args s =
 call session (Some procedures.GotoSavepoint) args s =
     let fault = argument_fault procedures.GotoSavepoint args in
     unless_mistyped fault s (goto_savepoint session (unwrap_or (text_given procedures.GotoSavepoint args parameters.SavepointName) latest) s)
+call session (Some procedures.SetValidTime) args s =
+    let fault = argument_fault procedures.SetValidTime args in
+    unless_mistyped fault s
+    (set_valid_time session (moment_given procedures.SetValidTime args parameters.ValidFrom) (unwrap_or (moment_given procedures.SetValidTime args parameters.ValidTill) END) s)
 call session _ args s = (s, not_built)
 
 -- ---- statements and lines
 
+-- whether a period in it is empty is told to each statement that may be refused for it
 abbrev pub run_statement : Session → Statement → State → State × Answer
 run_statement session (Create name items) s = create name items s
-run_statement session (Insert name names values) s = insert session name names values s
-run_statement session (Update name sets filter) s = update session name sets filter s
-run_statement session (Delete name filter) s = delete session name filter s
-run_statement session (Select query) s = select session query s
+run_statement session (Insert name names values) s = insert session name names values (has_empty_period (Insert name names values)) s
+run_statement session (Update name sets filter) s = update session name sets filter (has_empty_period (Update name sets filter)) s
+run_statement session (Delete name filter) s = delete session name filter (has_empty_period (Delete name filter)) s
+run_statement session (Select query) s = select session query (has_empty_period (Select query)) s
 run_statement session (Call procedure args condition) s = call session (procedure_of procedure) args s
 
 abbrev pub run_for : List ℕ → Option Session → Statement → State → State × Answer

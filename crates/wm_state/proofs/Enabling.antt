@@ -7,7 +7,7 @@ use Rattle.wm_graph.specs.Parts.{Parts}
 use Rattle.wm_graph.specs.Rules.{keep_rules, are_counters, are_tables, is_table, are_versions, differ}
 use Rattle.wm_spec.specs.declared.record.counters.Counters.{Counters}
 use Rattle.wm_spec.specs.declared.record.table.Table.{Table}
-use Rattle.wm_state.specs.State.{State, enabled}
+use Rattle.wm_state.specs.State.{State, Readiness, enabled}
 use Rattle.wm_state.specs.Batches.{ready}
 use Rattle.wm_state.specs.Standing.{by_number, place_table, CountersStand, Stands}
 use Rattle.wm_state.proofs.Tests.{bool_apart, both, and_true, not_true, either_false, all_swap, all_middle, differ_swap}
@@ -15,33 +15,33 @@ use Rattle.wm_state.proofs.Apart.{Ruled, ruled, keeps_all}
 use Rattle.wm_state.proofs.Standing.{Stands-retabled}
 use Rattle.wm_state.proofs.Keeping.{le_of, le_itself, KeepTables, KeepTables-swap, KeepSpaces-same, KeepVersions-same, KeepRows-same, are_savepoints-kept, are_rows-kept, are_pieces-kept, are_hists-kept, few-same}
 
--- the records with one table ready, with or without its history, and other counters
-abbrev pub readied : Parts → Counters → List Table → Bool → Table → List Table → Parts
-readied p c front history t back = record p { counters = c ∷ []; tables = front ++ ready history t ∷ back }
+-- the records with one table so ready, and other counters
+abbrev pub readied : Parts → Counters → List Table → Readiness → Table → List Table → Parts
+readied p c front how t back = record p { counters = c ∷ []; tables = front ++ ready how t ∷ back }
 
 -- ---- what the rules ask of tables
 
-table_ready : (history : Bool) (t : Table) → t.has_key ≡ true → is_table t ≡ true → is_table (ready history t) ≡ true
-table_ready history t key e =
+table_ready : (how : Readiness) (t : Table) → t.has_key ≡ true → is_table t ≡ true → is_table (ready how t) ≡ true
+table_ready how t key e =
     let h = both _ ((if t.has_key then nat_lt t.key_column (length t.columns) else true) && (if t.versioned then t.has_key else true)) e in
     let g = both (if t.has_key then nat_lt t.key_column (length t.columns) else true) (if t.versioned then t.has_key else true) h.1 in
     and_true _ ((if t.has_key then nat_lt t.key_column (length t.columns) else true) && t.has_key) h.0 (and_true (if t.has_key then nat_lt t.key_column (length t.columns) else true) t.has_key g.0 key)
 
-tables_ready : (front back : List Table) (history : Bool) (t : Table) → t.has_key ≡ true → are_tables (front ++ t ∷ back) ≡ true → are_tables (front ++ ready history t ∷ back) ≡ true
-tables_ready front back history t key e =
+tables_ready : (front back : List Table) (how : Readiness) (t : Table) → t.has_key ≡ true → are_tables (front ++ t ∷ back) ≡ true → are_tables (front ++ ready how t ∷ back) ≡ true
+tables_ready front back how t key e =
     let h = both (nat_le (length (front ++ t ∷ back)) 256) (differ (λ (t u : Table). t.number == u.number) (front ++ t ∷ back) && (differ (λ (t u : Table). bytes_eq t.name u.name) (front ++ t ∷ back) && list_all is_table (front ++ t ∷ back))) e in
     let g = both (differ (λ (t u : Table). t.number == u.number) (front ++ t ∷ back)) (differ (λ (t u : Table). bytes_eq t.name u.name) (front ++ t ∷ back) && list_all is_table (front ++ t ∷ back)) h.1 in
     let k = both (differ (λ (t u : Table). bytes_eq t.name u.name) (front ++ t ∷ back)) (list_all is_table (front ++ t ∷ back)) g.1 in
-    and_true (nat_le (length (front ++ ready history t ∷ back)) 256) _ (ap (λ n. nat_le n 256) (length-append front (ready history t ∷ back) ∙ sym (length-append front (t ∷ back))) ∙ h.0)
-    (and_true (differ (λ (t u : Table). t.number == u.number) (front ++ ready history t ∷ back)) _ (differ_swap (λ (t u : Table). t.number == u.number) t (ready history t) (λ x. refl) (λ x. refl) front back ∙ g.0)
-    (and_true (differ (λ (t u : Table). bytes_eq t.name u.name) (front ++ ready history t ∷ back)) (list_all is_table (front ++ ready history t ∷ back))
-    (differ_swap (λ (t u : Table). bytes_eq t.name u.name) t (ready history t) (λ x. refl) (λ x. refl) front back ∙ k.0)
-    (all_swap is_table is_table t (ready history t) front back (λ x is. is) (table_ready history t key (all_middle is_table t front back k.1)) k.1)))
+    and_true (nat_le (length (front ++ ready how t ∷ back)) 256) _ (ap (λ n. nat_le n 256) (length-append front (ready how t ∷ back) ∙ sym (length-append front (t ∷ back))) ∙ h.0)
+    (and_true (differ (λ (t u : Table). t.number == u.number) (front ++ ready how t ∷ back)) _ (differ_swap (λ (t u : Table). t.number == u.number) t (ready how t) (λ x. refl) (λ x. refl) front back ∙ g.0)
+    (and_true (differ (λ (t u : Table). bytes_eq t.name u.name) (front ++ ready how t ∷ back)) (list_all is_table (front ++ ready how t ∷ back))
+    (differ_swap (λ (t u : Table). bytes_eq t.name u.name) t (ready how t) (λ x. refl) (λ x. refl) front back ∙ k.0)
+    (all_swap is_table is_table t (ready how t) front back (λ x is. is) (table_ready how t key (all_middle is_table t front back k.1)) k.1)))
 
-pub keep-readied : (p : Parts) (new : Counters) (front : List Table) (history : Bool) (t : Table) (back : List Table) → keep_rules p ≡ true → p.tables ≡ front ++ t ∷ back → t.has_key ≡ true → are_counters new ≡ true
-    → ((c : Counters) → p.counters ≡ c ∷ [] → (new.next_version ≡ c.next_version) × (new.next_stamp ≡ c.next_stamp) × (c.work ≤ new.work)) → keep_rules (readied p new front history t back) ≡ true
-keep-readied p new front history t back rules old key counted same = keeps_all q new refl counted
-    (tables_ready front back history t key (ap are_tables (sym old) ∙ r.tables))
+pub keep-readied : (p : Parts) (new : Counters) (front : List Table) (how : Readiness) (t : Table) (back : List Table) → keep_rules p ≡ true → p.tables ≡ front ++ t ∷ back → t.has_key ≡ true → are_counters new ≡ true
+    → ((c : Counters) → p.counters ≡ c ∷ [] → (new.next_version ≡ c.next_version) × (new.next_stamp ≡ c.next_stamp) × (c.work ≤ new.work)) → keep_rules (readied p new front how t back) ≡ true
+keep-readied p new front how t back rules old key counted same = keeps_all q new refl counted
+    (tables_ready front back how t key (ap are_tables (sym old) ∙ r.tables))
     r.spaces
     (ap (are_versions q) c.0 ∙ r.versions)
     (are_savepoints-kept p q r.counters.work new.work (le_of r.counters.work new.work c.2) (KeepSpaces-same p q refl) (KeepVersions-same p q refl) refl (few-same p q r.counters.work refl r.savepoints) r.savepoints)
@@ -50,7 +50,7 @@ keep-readied p new front history t back rules old key counted same = keeps_all q
     (are_hists-kept p q r.counters.next_stamp new.next_stamp stamps tables (KeepSpaces-same p q refl) (KeepRows-same p q refl) refl r.hists)
   where
     q : Parts
-    q = readied p new front history t back
+    q = readied p new front how t back
 
     r : Ruled p
     r = ruled p rules
@@ -59,7 +59,7 @@ keep-readied p new front history t back rules old key counted same = keeps_all q
     c = same r.counters r.one
 
     tables : KeepTables p q
-    tables = KeepTables-swap p q front back t (ready history t) refl refl refl refl old refl
+    tables = KeepTables-swap p q front back t (ready how t) refl refl refl refl old refl
 
     stamps : nat_le r.counters.next_stamp new.next_stamp ≡ true
     stamps = ap (nat_le r.counters.next_stamp) c.1 ∙ le_itself r.counters.next_stamp
@@ -71,9 +71,9 @@ abbrev is_other : ℕ → List Table → Type 0
 is_other n [] = Unit {0}
 is_other n (t ∷ ts) = (t.number ≢ n) × is_other n ts
 
-enabled-none : (n : ℕ) (history : Bool) (ts : List Table) → is_other n ts → enabled n history ts ≡ ts
-enabled-none n history [] other = refl
-enabled-none n history (t ∷ ts) other = rw (ne_eqb _ _ other.0) (ap (λ us. t ∷ us) (enabled-none n history ts other.1))
+enabled-none : (n : ℕ) (how : Readiness) (ts : List Table) → is_other n ts → enabled n how ts ≡ ts
+enabled-none n how [] other = refl
+enabled-none n how (t ∷ ts) other = rw (ne_eqb _ _ other.0) (ap (λ us. t ∷ us) (enabled-none n how ts other.1))
 
 other-place : (n : ℕ) (t : Table) (ts : List Table) → t.number ≢ n → is_other n ts → is_other n (place_table t ts)
 other-place n t [] apart other = (apart, tt)
@@ -88,20 +88,20 @@ other-sorted n [] other = tt
 other-sorted n (t ∷ ts) other = other-place n t (by_number ts) other.0 (other-sorted n ts other.1)
 
 -- the one that is made ready takes its place
-enabled-here : (history : Bool) (t : Table) (ts : List Table) → is_other t.number ts → place_table (ready history t) ts ≡ enabled t.number history (place_table t ts)
-enabled-here history t [] other = rw (eq-eqb t.number t.number refl) refl
-enabled-here history t (u ∷ us) other = by_test (nat_lt u.number t.number) refl (enabled-here history t us other.1)
+enabled-here : (how : Readiness) (t : Table) (ts : List Table) → is_other t.number ts → place_table (ready how t) ts ≡ enabled t.number how (place_table t ts)
+enabled-here how t [] other = rw (eq-eqb t.number t.number refl) refl
+enabled-here how t (u ∷ us) other = by_test (nat_lt u.number t.number) refl (enabled-here how t us other.1)
   where
-    by_test : (b : Bool) → nat_lt u.number t.number ≡ b → place_table (ready history t) us ≡ enabled t.number history (place_table t us) → place_table (ready history t) (u ∷ us) ≡ enabled t.number history (place_table t (u ∷ us))
+    by_test : (b : Bool) → nat_lt u.number t.number ≡ b → place_table (ready how t) us ≡ enabled t.number how (place_table t us) → place_table (ready how t) (u ∷ us) ≡ enabled t.number how (place_table t (u ∷ us))
     by_test true e rest = rw (e, ne_eqb _ _ other.0) (ap (λ vs. u ∷ vs) rest)
     by_test false e rest = rw (e, eq-eqb t.number t.number refl) refl
 
 -- another takes its place as before
-enabled-away : (n : ℕ) (history : Bool) (y : Table) (ts : List Table) → y.number ≢ n → place_table y (enabled n history ts) ≡ enabled n history (place_table y ts)
-enabled-away n history y [] apart = rw (ne_eqb _ _ apart) refl
-enabled-away n history y (u ∷ us) apart = by_number (cases_eq u.number n) (nat_lt u.number y.number) refl (enabled-away n history y us apart)
+enabled-away : (n : ℕ) (how : Readiness) (y : Table) (ts : List Table) → y.number ≢ n → place_table y (enabled n how ts) ≡ enabled n how (place_table y ts)
+enabled-away n how y [] apart = rw (ne_eqb _ _ apart) refl
+enabled-away n how y (u ∷ us) apart = by_number (cases_eq u.number n) (nat_lt u.number y.number) refl (enabled-away n how y us apart)
   where
-    by_number : (u.number ≡ n) ⊎ (u.number ≢ n) → (b : Bool) → nat_lt u.number y.number ≡ b → place_table y (enabled n history us) ≡ enabled n history (place_table y us) → place_table y (enabled n history (u ∷ us)) ≡ enabled n history (place_table y (u ∷ us))
+    by_number : (u.number ≡ n) ⊎ (u.number ≢ n) → (b : Bool) → nat_lt u.number y.number ≡ b → place_table y (enabled n how us) ≡ enabled n how (place_table y us) → place_table y (enabled n how (u ∷ us)) ≡ enabled n how (place_table y (u ∷ us))
     by_number (inl here) true e rest = rw (eq-eqb _ _ here, e, eq-eqb _ _ here) refl
     by_number (inl here) false e rest = rw (eq-eqb _ _ here, e, ne_eqb _ _ apart, eq-eqb _ _ here) refl
     by_number (inr other) true e rest = rw (ne_eqb _ _ other, e, ne_eqb _ _ other) (ap (λ vs. u ∷ vs) rest)
@@ -135,19 +135,19 @@ others_of t (y ∷ front) back e =
     middle P [] back t e = (either_false (P t) (list_any P back) e).0
     middle P (z ∷ front) back t e = middle P front back t (either_false (P z) (list_any P (front ++ t ∷ back)) e).1
 
-sorted-ready : (history : Bool) (t : Table) (front back : List Table) → is_other t.number front → is_other t.number back → by_number (front ++ ready history t ∷ back) ≡ enabled t.number history (by_number (front ++ t ∷ back))
-sorted-ready history t [] back before behind = enabled-here history t (by_number back) (other-sorted t.number back behind)
-sorted-ready history t (y ∷ front) back before behind =
-    ap (place_table y) (sorted-ready history t front back before.1 behind) ∙ enabled-away t.number history y (by_number (front ++ t ∷ back)) before.0
+sorted-ready : (how : Readiness) (t : Table) (front back : List Table) → is_other t.number front → is_other t.number back → by_number (front ++ ready how t ∷ back) ≡ enabled t.number how (by_number (front ++ t ∷ back))
+sorted-ready how t [] back before behind = enabled-here how t (by_number back) (other-sorted t.number back behind)
+sorted-ready how t (y ∷ front) back before behind =
+    ap (place_table y) (sorted-ready how t front back before.1 behind) ∙ enabled-away t.number how y (by_number (front ++ t ∷ back)) before.0
 
-pub Stands-readied : (p : Parts) (new : Counters) (front : List Table) (history : Bool) (t : Table) (back : List Table) (s u : State) → Stands p s → p.tables ≡ front ++ t ∷ back → t.has_key ≡ true → are_counters new ≡ true
-    → ((c : Counters) → p.counters ≡ c ∷ [] → (new.next_version ≡ c.next_version) × (new.next_stamp ≡ c.next_stamp) × (c.work ≤ new.work)) → u.spaces ≡ s.spaces → u.tables ≡ enabled t.number history s.tables
-    → CountersStand (readied p new front history t back) u → Stands (readied p new front history t back) u
-Stands-readied p new front history t back s u st old key counted same spaces tables counters =
+pub Stands-readied : (p : Parts) (new : Counters) (front : List Table) (how : Readiness) (t : Table) (back : List Table) (s u : State) → Stands p s → p.tables ≡ front ++ t ∷ back → t.has_key ≡ true → are_counters new ≡ true
+    → ((c : Counters) → p.counters ≡ c ∷ [] → (new.next_version ≡ c.next_version) × (new.next_stamp ≡ c.next_stamp) × (c.work ≤ new.work)) → u.spaces ≡ s.spaces → u.tables ≡ enabled t.number how s.tables
+    → CountersStand (readied p new front how t back) u → Stands (readied p new front how t back) u
+Stands-readied p new front how t back s u st old key counted same spaces tables counters =
     let rule = ruled p st.rules in
     let h = both (nat_le (length p.tables) 256) (differ (λ (t u : Table). t.number == u.number) p.tables && (differ (λ (t u : Table). bytes_eq t.name u.name) p.tables && list_all is_table p.tables)) rule.tables in
     let g = both (differ (λ (t u : Table). t.number == u.number) p.tables) (differ (λ (t u : Table). bytes_eq t.name u.name) p.tables && list_all is_table p.tables) h.1 in
     let others = others_of t front back (ap (differ (λ (t u : Table). t.number == u.number)) (sym old) ∙ g.0) in
-    Stands-retabled p (readied p new front history t back) s u (record { spaces = refl; versions = refl; savepoints = refl; rows = refl; pieces = refl }) st spaces
-    (record { same = sorted-ready history t front back others.before others.behind ∙ ap (enabled t.number history) (ap by_number (sym old) ∙ st.tables.same) ∙ sym tables })
-    counters (keep-readied p new front history t back st.rules old key counted same)
+    Stands-retabled p (readied p new front how t back) s u (record { spaces = refl; versions = refl; savepoints = refl; rows = refl; pieces = refl }) st spaces
+    (record { same = sorted-ready how t front back others.before others.behind ∙ ap (enabled t.number how) (ap by_number (sym old) ∙ st.tables.same) ∙ sym tables })
+    counters (keep-readied p new front how t back st.rules old key counted same)

@@ -19,7 +19,7 @@ use Rattle.wm_spec.specs.declared.record.table.Table.{Table}
 use Rattle.wm_state.specs.ById.{Ascend, set_at, applied}
 use Rattle.wm_state.specs.Batches.{keeps, is_out, is_dropped, AreDropped, AllUnder, put, drop_one, create_batch, enable_batch, insert_batch, ready}
 use Rattle.wm_state.specs.Effects.{longer}
-use Rattle.wm_state.specs.State.{State, enabled}
+use Rattle.wm_state.specs.State.{State, Readiness, enabled}
 use Rattle.wm_state.specs.Standing.{CountersStand, Stands}
 use Rattle.wm_state.proofs.ById.{Ascend-set, record_at-set}
 use Rattle.wm_state.proofs.ByKind.{kinds, stored, Split, split_of, set-split, set-behind}
@@ -59,15 +59,15 @@ found_still ss counters_id id old new r sorted counters found other =
 
 -- ---- a table becomes ready
 
-pub record Readied (ss : List Stored) (cs : List Change) (new : Counters) (history : Bool) (t : Table) : Type 0 where
+pub record Readied (ss : List Stored) (cs : List Change) (new : Counters) (how : Readiness) (t : Table) : Type 0 where
   pub front : List Table
   pub back : List Table
   pub old : (parts_of ss).tables ≡ front ++ t ∷ back
-  pub is : parts_of (applied cs ss) ≡ readied (parts_of ss) new front history t back
+  pub is : parts_of (applied cs ss) ≡ readied (parts_of ss) new front how t back
 
-pub parts-readied : (ss : List Stored) (counters_id id : ℕ) (old new : Counters) (history : Bool) (t : Table) → Ascend ss → record_at ss counters_id ≡ Some (records.Counters old) → (parts_of ss).counters ≡ old ∷ []
-    → record_at ss id ≡ Some (records.Table t) → Readied ss (enable_batch counters_id new id history t) new history t
-parts-readied ss counters_id id old new history t sorted counters one found =
+pub parts-readied : (ss : List Stored) (counters_id id : ℕ) (old new : Counters) (how : Readiness) (t : Table) → Ascend ss → record_at ss counters_id ≡ Some (records.Counters old) → (parts_of ss).counters ≡ old ∷ []
+    → record_at ss id ≡ Some (records.Table t) → Readied ss (enable_batch counters_id new id how t) new how t
+parts-readied ss counters_id id old new how t sorted counters one found =
     by_split (split_of first id (records.Table t) (found_still ss counters_id id old new (records.Table t) sorted counters found (λ c e. cc)))
   where
     first : List Stored
@@ -76,7 +76,7 @@ parts-readied ss counters_id id old new history t sorted counters one found =
     parts : parts_of first ≡ recounted (parts_of ss) new
     parts = counted ss counters_id old new sorted counters one
 
-    by_split : Split first id (records.Table t) → Readied ss (enable_batch counters_id new id history t) new history t
+    by_split : Split first id (records.Table t) → Readied ss (enable_batch counters_id new id how t) new how t
     by_split s =
         let tables : (parts_of first).tables ≡ kinds as_table s.front ++ t ∷ kinds as_table s.back = ap (λ xs. (parts_of xs).tables) s.is ∙ tables-split s.front s.back id t in
         record {
@@ -84,10 +84,10 @@ parts-readied ss counters_id id old new history t sorted counters one found =
           back = kinds as_table s.back;
           old = sym (ap (λ (p : Parts). p.tables) parts) ∙ tables;
           is =
-              ap parts_of (ap (set_at id (Some (records.Table (ready history t)))) s.is ∙ set-split s.front s.back id (records.Table t) (records.Table (ready history t)) (subst (λ xs. Ascend xs) s.is (Ascend-set counters_id (Some (records.Counters new)) ss sorted)))
-              ∙ parts-tabled s.front s.back id t (ready history t)
-              ∙ ap (λ xs. record (parts_of xs) { tables = kinds as_table s.front ++ ready history t ∷ kinds as_table s.back }) (sym s.is)
-              ∙ ap (λ (p : Parts). record p { tables = kinds as_table s.front ++ ready history t ∷ kinds as_table s.back }) parts;
+              ap parts_of (ap (set_at id (Some (records.Table (ready how t)))) s.is ∙ set-split s.front s.back id (records.Table t) (records.Table (ready how t)) (subst (λ xs. Ascend xs) s.is (Ascend-set counters_id (Some (records.Counters new)) ss sorted)))
+              ∙ parts-tabled s.front s.back id t (ready how t)
+              ∙ ap (λ xs. record (parts_of xs) { tables = kinds as_table s.front ++ ready how t ∷ kinds as_table s.back }) (sym s.is)
+              ∙ ap (λ (p : Parts). record p { tables = kinds as_table s.front ++ ready how t ∷ kinds as_table s.back }) parts;
         }
 
 -- ---- a row is written
@@ -212,14 +212,14 @@ plan_created ss counters_id id old new t s u st sorted counters under may spaces
     (Stands-created (parts_of ss) old new t s u st may spaces tables stands)
 
 -- a table became ready
-pub plan_readied : (ss : List Stored) (counters_id id : ℕ) (old new : Counters) (history : Bool) (t : Table) (s u : State) → Stands (parts_of ss) s → Ascend ss → record_at ss counters_id ≡ Some (records.Counters old)
+pub plan_readied : (ss : List Stored) (counters_id id : ℕ) (old new : Counters) (how : Readiness) (t : Table) (s u : State) → Stands (parts_of ss) s → Ascend ss → record_at ss counters_id ≡ Some (records.Counters old)
     → (parts_of ss).counters ≡ old ∷ [] → record_at ss id ≡ Some (records.Table t) → t.has_key ≡ true → are_counters new ≡ true → new.next_version ≡ old.next_version → new.next_stamp ≡ old.next_stamp → old.work ≤ new.work → u.spaces ≡ s.spaces
-    → u.tables ≡ enabled t.number history s.tables → ((front back : List Table) → CountersStand (readied (parts_of ss) new front history t back) u)
-    → Stands (parts_of (applied (enable_batch counters_id new id history t) ss)) u
-plan_readied ss counters_id id old new history t s u st sorted counters one found key counts versions stamps work spaces tables stands =
-    let r = parts-readied ss counters_id id old new history t sorted counters one found in
+    → u.tables ≡ enabled t.number how s.tables → ((front back : List Table) → CountersStand (readied (parts_of ss) new front how t back) u)
+    → Stands (parts_of (applied (enable_batch counters_id new id how t) ss)) u
+plan_readied ss counters_id id old new how t s u st sorted counters one found key counts versions stamps work spaces tables stands =
+    let r = parts-readied ss counters_id id old new how t sorted counters one found in
     subst (λ p. Stands p u) (sym r.is)
-    (Stands-readied (parts_of ss) new r.front history t r.back s u st r.old key counts
+    (Stands-readied (parts_of ss) new r.front how t r.back s u st r.old key counts
     (λ c is_one.
     let same : old ≡ c = only old c (sym one ∙ is_one) in (
       versions ∙ ap (λ (k : Counters). k.next_version) same,

@@ -17,6 +17,7 @@ use Rattle.wm_spec.specs.declared.record.space.Space.{Space}
 use Rattle.wm_spec.specs.declared.record.version.Version.{Version}
 use Rattle.wm_spec.specs.declared.record.table.Table.{Table}
 use Rattle.wm_state.specs.Effects.{longer}
+use Rattle.wm_state.specs.State.{Readiness}
 
 -- a record takes the place of the one of its id, or is new
 abbrev pub put : ℕ → Record → Change
@@ -30,12 +31,12 @@ drop_one id = let nothing : Option Record = None in record { id = id; becomes = 
 abbrev pub create_batch : ℕ → Counters → ℕ → Table → List Change
 create_batch counters_id counters id t = put counters_id (records.Counters counters) ∷ put id (records.Table t) ∷ []
 
--- a table becomes ready for rows, and keeps its history or does not
-abbrev pub ready : Bool → Table → Table
-ready history t = record t { versioned = true; history = history }
+-- a table becomes so ready for rows
+abbrev pub ready : Readiness → Table → Table
+ready how t = record t { versioned = true; valid = how.valid; history = how.history }
 
-abbrev pub enable_batch : ℕ → Counters → ℕ → Bool → Table → List Change
-enable_batch counters_id counters id history t = put counters_id (records.Counters counters) ∷ put id (records.Table (ready history t)) ∷ []
+abbrev pub enable_batch : ℕ → Counters → ℕ → Readiness → Table → List Change
+enable_batch counters_id counters id how t = put counters_id (records.Counters counters) ∷ put id (records.Table (ready how t)) ∷ []
 
 -- a row is written, with its piece in the place of those of its version, table and key; the workspace's log is longer
 abbrev pub insert_batch : ℕ → Counters → ℕ → Space → List ℕ → ℕ → RowRecord → PieceRecord → List Change

@@ -2,6 +2,7 @@
 use Rattle.std.specs.Prelude.{ℕ, ◌+◌, Bool, true, ◌==◌, if◌then◌else◌, List, [], ◌∷◌, ◌++◌, max, length, Option, Some, None, codes}
 use Rattle.std.specs.List.{find}
 use Rattle.std.specs.Str.{bytes_eq}
+use Rattle.wm_base.specs.Period.{Span}
 use Rattle.wm_spec.specs.Lists.{Entry}
 use Rattle.wm_spec.specs.declared.record.space.FreezeMode.{FreezeMode}
 use Rattle.wm_spec.specs.declared.record.space.FreezeMode.TheVariants.{Free}
@@ -51,12 +52,13 @@ pub data Stand : Type 0 where
   Latest : Stand
   At : (making : ℕ) → Stand
 
--- space: the number of its workspace
+-- space: the number of its workspace; period: the one that SetValidTime set for it, in which it sees rows and changes them
 pub record Session : Type 0 where
   pub name : List ℕ
   pub user : List ℕ
   pub space : ℕ
   pub stand : Stand
+  pub period : Option Span
 
 -- tables in the order of their making; workspaces by number; sessions in the order of CONNECT; next_stamp: the stamp that the
 -- next change gets; limit: the greatest stamp that a change may get; last_moment: that of the last line that changed a
@@ -168,11 +170,16 @@ with_entries es w = record w { lists = record w.lists { own = w.lists.own ++ es;
 abbrev pub with_savepoint : ℕ → ℕ → Savepoint → Workspace → Workspace
 with_savepoint place implicit k w = record w { next_place = place; next_implicit = implicit; savepoints = w.savepoints ++ k ∷ [] }
 
--- the tables with the one of this number ready for rows, with or without its history
-abbrev pub enabled : ℕ → Bool → List Table → List Table
-enabled number history [] = []
-enabled number history (t ∷ ts) =
-    if t.number == number then record t { versioned = true; history = history } ∷ ts else t ∷ enabled number history ts
+-- how a table becomes ready for rows: with or without valid time, and with or without its history
+pub record Readiness : Type 0 where
+  pub valid : Bool
+  pub history : Bool
+
+-- the tables with the one of this number so ready for rows
+abbrev pub enabled : ℕ → Readiness → List Table → List Table
+enabled number how [] = []
+enabled number how (t ∷ ts) =
+    if t.number == number then record t { versioned = true; valid = how.valid; history = how.history } ∷ ts else t ∷ enabled number how ts
 
 -- ---- what is looked up by name, and what comes next
 

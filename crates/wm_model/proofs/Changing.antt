@@ -1,0 +1,75 @@
+-- What is done with the rows of a table in a workspace.
+use Rattle.std.proofs.Common.{◌≡◌, ℕ, true, false, List, [], ◌∷◌, Option, Some, None, refl, ap, ◌∙◌}
+use Rattle.std.specs.List.{list_all}
+use Rattle.wm_base.specs.Period.{Span}
+use Rattle.wm_base.specs.declared.refusal.Refusal.{Refusal}
+use Rattle.wm_base.specs.declared.row.Row.{Row}
+use Rattle.wm_base.specs.declared.value.Value.{Value}
+use Rattle.wm_dml.specs.Changing.{added, row_key, rows_fault, replacing}
+use Rattle.wm_dml.specs.Standing.{change_keys}
+use Rattle.wm_dml.specs.declared.change.RowChange.{RowChange}
+use Rattle.wm_making.specs.Rows.{is_filled, row_fault}
+use Rattle.wm_print.specs.Texts.{Answer, Refused}
+use Rattle.wm_spec.specs.declared.record.table.Table.{Table}
+use Rattle.wm_state.specs.State.{State, Workspace, content}
+use Rattle.wm_model.specs.Step.{add_found, add_to, ascend, key_there, not_built, out_of_range, replace_all, taken, told_period, unless, unless_empty, write_all, write_ascending}
+
+-- ---- INSERT
+
+-- a number on the way to the row is out of range
+pub adds_none : (user : List ℕ) (t : Table) (period : Span) (found : Option (List Value)) (s : State) (w : Workspace) → found ≡ None → add_found user t period found s w ≡ (s, out_of_range)
+adds_none user t period found s w none = ap (λ o. add_found user t period o s w) none
+
+-- something is wrong with it
+pub adds_wrong : (user : List ℕ) (t : Table) (period : Span) (found : Option (List Value)) (row : List Value) (refusal : Refusal) (s : State) (w : Workspace) → found ≡ Some row → row_fault t row ≡ Some refusal
+    → add_found user t period found s w ≡ (s, Refused refusal)
+adds_wrong user t period found row refusal s w is bad = ap (λ o. add_found user t period o s w) is ∙ ap (λ f. unless f s (add_to user t period row s w)) bad
+
+-- nothing is
+pub adds : (user : List ℕ) (t : Table) (period : Span) (found : Option (List Value)) (row : List Value) (s : State) (w : Workspace) → found ≡ Some row → row_fault t row ≡ None
+    → add_found user t period found s w ≡ add_to user t period row s w
+adds user t period found row s w is fine = ap (λ o. add_found user t period o s w) is ∙ ap (λ f. unless f s (add_to user t period row s w)) fine
+
+-- a row of the key stands there
+pub adds_there : (user : List ℕ) (t : Table) (period shared : Span) (row : List Value) (s : State) (w : Workspace) → taken (content w) t (row_key t row) period ≡ Some shared
+    → add_to user t period row s w ≡ (s, key_there (row_key t row) (told_period t shared))
+adds_there user t period shared row s w there = rw there refl
+
+-- none does
+pub adds_new : (user : List ℕ) (t : Table) (period : Span) (row : List Value) (s : State) (w : Workspace) → taken (content w) t (row_key t row) period ≡ None
+    → add_to user t period row s w ≡ write_ascending user t (added t period row ∷ []) s w
+adds_new user t period row s w free = rw free refl
+
+-- ---- UPDATE
+
+-- a number on the way to the new rows is out of range
+pub replaces_none : (user : List ℕ) (t : Table) (period : Span) (rows : List Row) (found : Option (List (List Value))) (s : State) (w : Workspace) → found ≡ None → replace_all user t period rows found s w ≡ (s, out_of_range)
+replaces_none user t period rows found s w none = ap (λ o. replace_all user t period rows o s w) none
+
+-- something is wrong with them
+pub replaces_wrong : (user : List ℕ) (t : Table) (period : Span) (rows : List Row) (found : Option (List (List Value))) (new : List (List Value)) (refusal : Refusal) (s : State) (w : Workspace) → found ≡ Some new → rows_fault t new ≡ Some refusal
+    → replace_all user t period rows found s w ≡ (s, Refused refusal)
+replaces_wrong user t period rows found new refusal s w is bad =
+    ap (λ o. replace_all user t period rows o s w) is ∙ ap (λ f. unless f s (write_ascending user t (replacing t period rows new) s w)) bad
+
+-- nothing is
+pub replaces : (user : List ℕ) (t : Table) (period : Span) (rows : List Row) (found : Option (List (List Value))) (new : List (List Value)) (s : State) (w : Workspace) → found ≡ Some new → rows_fault t new ≡ None
+    → replace_all user t period rows found s w ≡ write_ascending user t (replacing t period rows new) s w
+replaces user t period rows found new s w is fine =
+    ap (λ o. replace_all user t period rows o s w) is ∙ ap (λ f. unless f s (write_ascending user t (replacing t period rows new) s w)) fine
+
+-- ---- rows in which a text is empty
+
+pub kept_filled : (rows : List Row) (act : List Row → State → Workspace → State × Answer) (s : State) (w : Workspace) → list_all (λ (r : Row). list_all is_filled r.values) rows ≡ true → unless_empty rows act s w ≡ act rows s w
+kept_filled rows act s w filled = rw filled refl
+
+pub kept_empty : (rows : List Row) (act : List Row → State → Workspace → State × Answer) (s : State) (w : Workspace) → list_all (λ (r : Row). list_all is_filled r.values) rows ≡ false → unless_empty rows act s w ≡ (s, not_built)
+kept_empty rows act s w empty = rw empty refl
+
+-- ---- keys that do not ascend
+
+pub ascending : (user : List ℕ) (t : Table) (changes : List RowChange) (s : State) (w : Workspace) → ascend (change_keys changes) ≡ true → write_ascending user t changes s w ≡ write_all user t changes s w
+ascending user t changes s w ascends = rw ascends refl
+
+pub not_ascending : (user : List ℕ) (t : Table) (changes : List RowChange) (s : State) (w : Workspace) → ascend (change_keys changes) ≡ false → write_ascending user t changes s w ≡ (s, not_built)
+not_ascending user t changes s w ascends = rw ascends refl
