@@ -22,13 +22,13 @@ use Rattle.wm_spec.specs.declared.record.space.Space.{Space}
 use Rattle.wm_spec.specs.declared.record.stored.Stored.{Stored}
 use Rattle.wm_spec.specs.declared.record.table.Table.{Table}
 use Rattle.wm_spec.specs.declared.record.version.Version.{Version}
-use Rattle.wm_state.specs.Batches.{drop_one, create_batch, enable_batch, ready, insert_batch, insert_new_batch, savepoint_batch, birth_batch}
-use Rattle.wm_state.specs.Effects.{longer}
+use Rattle.wm_state.specs.Batches.{drop_one, create_batch, enable_batch, ready, savepoint_batch, birth_batch}
+use Rattle.wm_state.specs.State.{Readiness}
 use Rattle.wm_state.proofs.Apart.{ruled, found-passes}
 use Rattle.wm_state.proofs.ByKind.{kinds as of_kind, Split, split_of}
 use Rattle.wm_state.proofs.Planning.{tables-split}
 use Rattle.wm_state.proofs.Tests.{bool_apart, both, and_true, all_middle}
-use Rattle.wm_model.specs.Step.{row_key}
+use Rattle.wm_dml.specs.Changing.{row_key}
 use Rattle.wm_store.specs.Spelled.{FitPages}
 use Rattle.wm_store.proofs.Fitting.{FitsPage, is_spelled, fits_counters, fits_version, fits_space, fits_savepoint, fits_table, fits_row, fits_piece}
 use Rattle.wm_making.specs.Rows.{is_filled}
@@ -100,8 +100,8 @@ small t e =
 table_fits : (t : Table) → is_table t ≡ true → FitsPage (records.Table t)
 table_fits t e = let s = small t e in fits_table t s.name s.few s.names
 
-ready_fits : (history : Bool) (t : Table) → is_table t ≡ true → FitsPage (records.Table (ready history t))
-ready_fits history t e = let s = small t e in fits_table (ready history t) s.name s.few s.names
+ready_fits : (how : Readiness) (t : Table) → is_table t ≡ true → FitsPage (records.Table (ready how t))
+ready_fits how t e = let s = small t e in fits_table (ready how t) s.name s.few s.names
 
 pub space_fits : (a : Space) → is_short a.name ≡ true → is_short a.writer ≡ true → FitsPage (records.Space a)
 space_fits a name writer = fits_space a (at_most (length a.name) 30 name) (at_most (length a.writer) 30 writer)
@@ -184,22 +184,13 @@ filled_key t row filled = by_place row t.key_column filled
 pub fits_create : (counters_id : ℕ) (c : Counters) (id : ℕ) (t : Table) → is_table t ≡ true → FitPages (create_batch counters_id c id t)
 fits_create counters_id c id t e = (fits_counters c, (table_fits t e, tt))
 
-pub fits_enable : (counters_id : ℕ) (c : Counters) (id : ℕ) (history : Bool) (t : Table) → is_table t ≡ true → FitPages (enable_batch counters_id c id history t)
-fits_enable counters_id c id history t e = (fits_counters c, (ready_fits history t e, tt))
+pub fits_enable : (counters_id : ℕ) (c : Counters) (id : ℕ) (how : Readiness) (t : Table) → is_table t ≡ true → FitPages (enable_batch counters_id c id how t)
+fits_enable counters_id c id how t e = (fits_counters c, (ready_fits how t e, tt))
 
 -- what is dropped takes no page
 pub fits_dropped : (ids : List ℕ) (cs : List Change) → FitPages cs → FitPages (map drop_one ids ++ cs)
 fits_dropped [] cs fit = fit
 fits_dropped (id ∷ ids) cs fit = (tt, fits_dropped ids cs fit)
-
--- a row and a piece of any values that fit
-pub fits_written : (counters_id : ℕ) (c : Counters) (space_id : ℕ) (a : Space) (ids : List ℕ) (id : ℕ) (r : RowRecord) (x : PieceRecord) → is_short a.name ≡ true → is_short a.writer ≡ true
-    → FitsPage (records.Row r) → FitsPage (records.Piece x) → FitPages (insert_batch counters_id c space_id a ids id r x)
-fits_written counters_id c space_id a ids id r x name writer row piece = (fits_counters c, (space_fits (longer a) name writer, fits_dropped ids _ (row, (piece, tt))))
-
-pub fits_written_new : (counters_id : ℕ) (c : Counters) (space_id : ℕ) (a : Space) (id : ℕ) (v : Version) (r : RowRecord) (x : PieceRecord) → is_short a.name ≡ true → is_short a.writer ≡ true
-    → FitsPage (records.Row r) → FitsPage (records.Piece x) → FitPages (insert_new_batch counters_id c space_id a id v r x)
-fits_written_new counters_id c space_id a id v r x name writer row piece = (fits_counters c, (space_fits (longer a) name writer, (row, (piece, (fits_version v, tt)))))
 
 -- a savepoint, and the workspace that counts it
 pub fits_savepoint_batch : (counters_id : ℕ) (c : Counters) (space_id : ℕ) (a : Space) (id : ℕ) (x : Savepoint) → is_short a.name ≡ true → is_short a.writer ≡ true → is_short x.name ≡ true

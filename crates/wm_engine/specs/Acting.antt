@@ -1,5 +1,5 @@
 -- What a plan does in the workspace that a session stands in.
-use Rattle.std.specs.Prelude.{ℕ, ◌≡◌, true, false, List, length, Option, None}
+use Rattle.std.specs.Prelude.{ℕ, ◌≡◌, true, List, length, Option, Some, None}
 use Rattle.wm_base.specs.Trees.{Cond, Set}
 use Rattle.wm_graph.specs.Rules.{is_table}
 use Rattle.wm_spec.specs.declared.record.table.Table.{Table}
@@ -8,23 +8,22 @@ use Rattle.wm_model.specs.Planning.{StandsAt}
 use Rattle.wm_print.specs.Texts.{Answer}
 use Rattle.wm_spec.specs.declared.record.space.Space.{Space}
 use Rattle.wm_spec.specs.declared.record.stored.Stored.{Stored}
-use Rattle.wm_state.specs.State.{State, Session, Workspace}
+use Rattle.wm_state.specs.State.{State, Session, Workspace, workspace_of}
 use Rattle.wm_engine.specs.Planning.{DoesIt}
 use Rattle.wm_engine.specs.declared.planned.Planned.{Planned}
 
 -- the function does, to each state that records, sessions and a moment stand for, what is done there in the session's workspace
 abbrev pub ActsAs : List Stored → List Session → ℕ → Session → Space → (State → Workspace → State × Answer) → (State → State × Answer) → Type 0
 ActsAs rs xs m session a done act =
-    (s : State) → StandsAt rs xs m s → (w : Workspace) × (w.number ≡ session.space) × (a.log_length ≡ length w.lists.log) × (act s ≡ done s w)
+    (s : State) → StandsAt rs xs m s → (w : Workspace) × (workspace_of s.spaces session.space ≡ Some w) × (w.number ≡ session.space) × (a.log_length ≡ length w.lists.log) × (act s ≡ done s w)
 
 -- the plan does and answers what each such function does and answers
 abbrev pub DoesAs : List Stored → ℕ → Session → Space → (State → Workspace → State × Answer) → Planned → Type 0
 DoesAs rs m session a done p = (xs : List Session) (act : State → State × Answer) → ActsAs rs xs m session a done act → DoesIt rs xs m p act
 
--- the sets are those of an UPDATE of a table in workspaces without periods that is not wrong for the table
+-- the sets are those of an UPDATE of a table in workspaces that is not wrong for the table
 pub record IsUpdate (t : Table) (sets : List Set) : Type 0 where
   pub filter : Option Cond
   pub fine : update_fault t sets filter ≡ None
-  pub plain : t.valid ≡ false
   pub well : is_table t ≡ true
   pub keyed : t.has_key ≡ true

@@ -1,5 +1,6 @@
 pub mod Working
 pub mod Stands
+pub mod Readying
 pub mod Views
 pub mod Planning
 pub mod Timely

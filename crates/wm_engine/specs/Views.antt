@@ -4,7 +4,7 @@ use Rattle.wm_print.specs.Texts as texts
 use Rattle.wm_engine.specs.declared.answer.Answer.{Answer}
 use Rattle.wm_engine.specs.declared.answer.Answer.TheVariants.{Nothing, Fine, Done, Listing, Refused}
 use Rattle.wm_engine.specs.declared.seating.Seating.{Seating}
-use Rattle.wm_engine.specs.declared.seating.Seating.TheVariants.{Stay, Open, Close, Move}
+use Rattle.wm_engine.specs.declared.seating.Seating.TheVariants.{Stay, Open, Close, Move, Limit}
 use Rattle.wm_engine.specs.Stands.{stand_view}
 
 abbrev pub answer_view : Answer → texts.Answer
@@ -19,3 +19,4 @@ seating_view Stay = planning.Stay
 seating_view (Open session) = planning.Open session
 seating_view (Close name) = planning.Close name
 seating_view (Move name space stand) = planning.Move name space (stand_view stand)
+seating_view (Limit name period) = planning.Limit name period

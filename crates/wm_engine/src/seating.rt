@@ -4,10 +4,10 @@ ghost use Rattle.std.specs.Str.{bytes_eq};
 ghost use Rattle.wm_engine.specs.Stands.{stand_view};
 ghost use Rattle.wm_engine.specs.Views.{seating_view};
 ghost use Rattle.wm_model.specs.Planning.{seated};
-ghost use Rattle.wm_model.specs.Step.{closed, moved_to};
+ghost use Rattle.wm_model.specs.Step.{closed, limited, moved_to};
 
 use crate::session::{Session, Stand};
-use wm_base::{Memory, Name};
+use wm_base::{Memory, Name, Period};
 
 /// What a line does to the sessions.
 #[derive(Drop)]
@@ -24,6 +24,8 @@ pub enum Seating {
         space: u32,
         stand: Stand,
     },
+    /// The one of this name has this period set, or none.
+    Limit { name: Name, period: Option<Period> },
 }
 
 /// Closes the sessions of a name.
@@ -52,6 +54,25 @@ fn move_to(sessions: &mut [Session], name: &Name, space: u32, stand: Stand)
     }
 }
 
+/// Sets the period of the session, where it has this name.
+fn limit_one(session: &mut Session, name: &Name, period: Option<Period>)
+    ensures { session.new ≡ (if bytes_eq name.now session.old.name then record session.old { period = period } else session.old) }
+{
+    if session.is_named(name) {
+        session.limit(period);
+    }
+}
+
+/// Sets the period of the sessions of a name.
+fn limit(sessions: &mut [Session], name: &Name, period: Option<Period>)
+    ensures { sessions.new ≡ limited name.now period sessions.old }
+{
+    if let Some((session, rest)) = sessions.split_first_mut() {
+        limit_one(session, name, period);
+        limit(rest, name, period);
+    }
+}
+
 /// Does to the sessions what a line does to them.
 pub fn seat(sessions: &mut Vec<Session>, seating: Seating) -> Result<(), Memory>
     ensures { OnOk result (sessions.new.items ≡ seated sessions.old.items (seating_view seating)) }
@@ -61,6 +82,7 @@ pub fn seat(sessions: &mut Vec<Session>, seating: Seating) -> Result<(), Memory>
         Seating::Open(session) => sessions.push(session)?,
         Seating::Close(name) => close(sessions, &name),
         Seating::Move { name, space, stand } => move_to(sessions, &name, space, stand),
+        Seating::Limit { name, period } => limit(sessions, &name, period),
     }
     Ok(())
 }

@@ -1,5 +1,5 @@
 //! Who is connected, and where they stand.
-ghost use Rattle.std.specs.Prelude.{◌≡◌, is_some};
+ghost use Rattle.std.specs.Prelude.{◌≡◌, None, is_some};
 ghost use Rattle.std.specs.Option.{option_copied};
 ghost use Rattle.std.specs.Str.{bytes_eq};
 ghost use Rattle.wm_engine.specs.Stands.{stand_view};
@@ -7,7 +7,7 @@ ghost use Rattle.wm_model.specs.Step.{session_of};
 ghost use Rattle.wm_state.specs.State.{Latest};
 
 use std::marker::Model;
-use wm_base::Name;
+use wm_base::{Name, Period};
 
 /// Where a session stands in its workspace.
 #[derive(Clone, Copy, Debug, PartialEq)]
@@ -26,6 +26,8 @@ pub struct Session {
     /// The number of the workspace that the session stands in.
     space: u32,
     stand: Stand,
+    /// The period that was set for it.
+    period: Option<Period>,
 }
 
 impl Model for Session {
@@ -34,19 +36,20 @@ impl Model for Session {
 
     ghost Value = { SessionState };
 
-    ghost view = { λ s. record { name = s.name; user = s.user; space = s.space; stand = stand_view s.stand } };
+    ghost view = { λ s. record { name = s.name; user = s.user; space = s.space; stand = stand_view s.stand; period = s.period } };
 }
 
 impl Session {
-    /// A session of this name for this user, which stands in LIVE at what is newest.
+    /// A session of this name for this user, which stands in LIVE at what is newest, and for which no period is set.
     pub fn new(name: Name, user: Name) -> Session
-        ensures { result ≡ record { name = name; user = user; space = 0; stand = Latest } }
+        ensures { result ≡ record { name = name; user = user; space = 0; stand = Latest; period = None } }
     {
         Session {
             name,
             user,
             space: 0,
             stand: Stand::Latest,
+            period: None,
         }
     }
 
@@ -69,6 +72,13 @@ impl Session {
         self.space
     }
 
+    /// The period that was set for it.
+    pub fn period(&self) -> Option<Period>
+        ensures { result ≡ self.now.period }
+    {
+        self.period
+    }
+
     pub fn stand(&self) -> Stand
         ensures { stand_view result ≡ self.now.stand }
     {
@@ -88,6 +98,13 @@ impl Session {
     {
         self.space = space;
         self.stand = stand;
+    }
+
+    /// Sets the period in which it sees rows and changes them, or sets none.
+    pub fn limit(&mut self, period: Option<Period>)
+        ensures { self.new ≡ record self.old { period = period } }
+    {
+        self.period = period;
     }
 }
 

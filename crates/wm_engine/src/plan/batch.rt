@@ -2,9 +2,11 @@
 ghost use Rattle.std.specs.Prelude.{◌≡◌, ◌+◌, ◌<◌, ◌^◌, ◌∷◌, [], ◌++◌, length, map, IfOk, OnOk};
 ghost use Rattle.wm_spec.specs.declared.record.Record.TheVariants as records;
 ghost use Rattle.wm_state.specs.Batches.{put, drop_one, create_batch, ready, savepoint_batch};
-ghost use Rattle.wm_state.specs.Effects.{longer, marked};
+ghost use Rattle.wm_state.specs.Effects.{marked};
 ghost use Rattle.wm_state.specs.Writes.{longer_by, put_all};
+ghost use Rattle.wm_engine.specs.Readying.{readiness_view};
 
+use crate::plan::enable::Readiness;
 use std::alloc::Global;
 use wm_base::Memory;
 use wm_spec::record::{
@@ -64,60 +66,6 @@ pub fn table_changes(
     Ok(changes)
 }
 
-/// What is put for a row in the place of the records of some ids.
-pub fn row_changes(
-    alloc: Global,
-    counters_id: u64,
-    counters: Counters,
-    space_id: u64,
-    space: Space,
-    dropped: &[u64],
-    id: u64,
-    row: RowRecord,
-    piece: PieceRecord,
-) -> Result<Changes, Memory>
-    requires { id + 1 < 2 ^ 64 }
-    ensures { IfOk result (λ changes. changes ≡ put counters_id (records.Counters counters) ∷ put space_id (records.Space space) ∷ map drop_one dropped.now ++ put id (records.Row row) ∷ put (id + 1) (records.Piece piece) ∷ []) }
-{
-    let mut changes = Changes::new(alloc);
-    changes.push(put(counters_id, Record::Counters(counters)))?;
-    changes.push(put(space_id, Record::Space(space)))?;
-    drop_all(&mut changes, dropped)?;
-    changes.push(put(id, Record::Row(row)))?;
-    changes.push(put(id + 1, Record::Piece(piece)))?;
-    Ok(changes)
-}
-
-/// The same in a version more.
-pub fn row_changes_above(
-    alloc: Global,
-    counters_id: u64,
-    counters: Counters,
-    space_id: u64,
-    space: Space,
-    id: u64,
-    version: Version,
-    row: RowRecord,
-    piece: PieceRecord,
-) -> Result<Changes, Memory>
-    requires { id + 2 < 2 ^ 64 }
-    ensures { IfOk result (λ changes. changes ≡ put counters_id (records.Counters counters) ∷ put space_id (records.Space space) ∷ put (id + 1) (records.Row row) ∷ put (id + 1 + 1) (records.Piece piece) ∷ put id (records.Version version) ∷ []) }
-{
-    let mut changes = row_changes(
-        alloc,
-        counters_id,
-        counters,
-        space_id,
-        space,
-        &[],
-        id + 1,
-        row,
-        piece,
-    )?;
-    changes.push(put(id, Record::Version(version)))?;
-    Ok(changes)
-}
-
 /// What is put for rows and pieces in the place of the records of some ids, behind other changes.
 pub fn written_changes(
     front: Changes,
@@ -165,16 +113,6 @@ fn space_copy(alloc: Global, space: &Space) -> Result<Space, Memory>
         freeze: space.freeze,
         writer,
     })
-}
-
-/// The workspace with a log that is longer by one.
-pub fn longer(alloc: Global, space: &Space) -> Result<Space, Memory>
-    requires { space.now.log_length + 1 < 2 ^ 64 }
-    ensures { IfOk result (λ new. new ≡ longer space.now) }
-{
-    let mut new = space_copy(alloc, space)?;
-    new.log_length += 1;
-    Ok(new)
 }
 
 /// The workspace with a log that is longer by so many.
@@ -256,9 +194,9 @@ fn column_copies(alloc: Global, columns: &TableColumns) -> Result<TableColumns, 
     Ok(copies)
 }
 
-/// The table, ready for rows, with or without its history.
-pub fn readied(alloc: Global, history: bool, table: &Table) -> Result<Table, Memory>
-    ensures { IfOk result (λ new. new ≡ ready history table.now) }
+/// The table, so ready for rows.
+pub fn readied(alloc: Global, how: Readiness, table: &Table) -> Result<Table, Memory>
+    ensures { IfOk result (λ new. new ≡ ready (readiness_view how) table.now) }
 {
     let name = table.name.copy(alloc)?;
     let columns = column_copies(alloc, &table.columns)?;
@@ -266,8 +204,8 @@ pub fn readied(alloc: Global, history: bool, table: &Table) -> Result<Table, Mem
         number: table.number,
         name,
         versioned: true,
-        valid: table.valid,
-        history,
+        valid: how.valid,
+        history: how.history,
         has_key: table.has_key,
         key_column: table.key_column,
         columns,

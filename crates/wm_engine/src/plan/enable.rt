@@ -9,6 +9,7 @@ ghost use Rattle.wm_model.specs.Step.{enable};
 ghost use Rattle.wm_state.specs.State.{Session as SessionState};
 ghost use Rattle.wm_store.specs.Spelled.{FitPages};
 ghost use Rattle.wm_engine.specs.Planning.{DoesIt};
+ghost use Rattle.wm_engine.specs.Readying.{readiness_view};
 
 use crate::answer::Answer;
 use crate::count::counted;
@@ -20,6 +21,13 @@ use wm_base::{Memory, Name};
 use wm_image::Image;
 use wm_spec::record::Table;
 
+/// How a table becomes ready for rows: with or without valid time, and with or without its history.
+#[derive(Clone, Copy)]
+pub struct Readiness {
+    pub valid: bool,
+    pub history: bool,
+}
+
 /// The most bytes that the name of a table with views may have.
 const NAME_LIMIT: usize = 25;
 
@@ -29,7 +37,7 @@ fn make_ready(
     image: &Image,
     moment: u64,
     name: &Name,
-    history: bool,
+    how: Readiness,
     table: &Table,
 ) -> Result<Planned, Memory>
     requires rules { keep_rules (parts_of image.now) ≡ true }
@@ -38,7 +46,7 @@ fn make_ready(
     requires off { table.now.versioned ≡ false }
     requires key { table.now.has_key ≡ true }
     requires short { nat_lt 25 (length name.now) ≡ false }
-    ensures does { IfOk result (λ p. (xs : List SessionState) → DoesIt image.now xs moment p (enable name.now history None)) }
+    ensures does { IfOk result (λ p. (xs : List SessionState) → DoesIt image.now xs moment p (enable name.now (readiness_view how) None)) }
     ensures fit { IfOk result (λ p. FitPages p.changes) }
     ensures idle { IfOk result Idles }
 {
@@ -46,23 +54,23 @@ fn make_ready(
         return Ok(Planned::answered(alloc, at_its_end(alloc, b"WORK")?));
     };
     let id = image.id_of_table(name.as_bytes()).unwrap();
-    let new = readied(alloc, history, table)?;
+    let new = readied(alloc, how, table)?;
     let changes = table_changes(alloc, image.id_of_counters(), counters, id, new)?;
     Ok(Planned::changing(changes, Answer::Fine))
 }
 
-/// EnableVersioning makes a table ready for rows, once, with or without its history. The fault is what is wrong with its arguments.
+/// EnableVersioning makes a table ready for rows, once. The fault is what is wrong with its arguments.
 pub fn enable(
     alloc: Global,
     image: &Image,
     moment: u64,
     name: Name,
-    history: bool,
+    how: Readiness,
     fault: Option<Name>,
 ) -> Result<Planned, Memory>
     requires rules { keep_rules (parts_of image.now) ≡ true }
     requires moment { moment < END }
-    ensures does { IfOk result (λ p. (xs : List SessionState) → DoesIt image.now xs moment p (enable name history fault)) }
+    ensures does { IfOk result (λ p. (xs : List SessionState) → DoesIt image.now xs moment p (enable name (readiness_view how) fault)) }
     ensures fit { IfOk result (λ p. FitPages p.changes) }
     ensures idle { IfOk result Idles }
 {
@@ -81,5 +89,5 @@ pub fn enable(
     if !table.has_key {
         return Ok(Planned::answered(alloc, no_key(name)));
     }
-    make_ready(alloc, image, moment, &name, history, table)
+    make_ready(alloc, image, moment, &name, how, table)
 }
