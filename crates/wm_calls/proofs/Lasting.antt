@@ -1,5 +1,6 @@
 -- Where no written period of a statement is empty, each of its expressions may be evaluated.
 use Rattle.std.proofs.Common.{◌≡◌, ℕ, Bool, true, false, not, ◌&&◌, ◌||◌, List, [], ◌∷◌, Option, refl}
+use Rattle.std.specs.Prelude.{nat_lt}
 use Rattle.std.specs.List.{list_any, list_all}
 use Rattle.std.proofs.lemmas.Bool.{or_parts}
 use Rattle.wm_base.specs.declared.tree.constant.Const.{Const}
@@ -8,6 +9,7 @@ use Rattle.wm_base.specs.declared.tree.operand.Operand.{Operand}
 use Rattle.wm_base.specs.declared.tree.operand.Operand.TheVariants as operands
 use Rattle.wm_base.specs.declared.tree.query.Agg.{Agg}
 use Rattle.wm_base.specs.Trees.{Expr, Of, Neg, Add, Sub, Mul, Cond, Item, Plain, CountAll, Aggregate, Out, Query, Set, Insert, Update}
+use Rattle.wm_spec.specs.Operands.{end_seconds}
 use Rattle.wm_spec.specs.Expressions.{lasts, has_no_empty_period}
 use Rattle.wm_calls.specs.Empty.{is_empty_const, operand_has_empty, expr_has_empty, filter_has_empty, item_has_empty, out_has_empty, projection_has_empty, src_has_empty, query_has_empty, set_has_empty, has_empty_period}
 
@@ -28,7 +30,7 @@ const_lasts (consts.Num n) none = refl
 const_lasts (consts.Text text) none = refl
 const_lasts (consts.Time seconds) none = refl
 const_lasts consts.Sysdate none = refl
-const_lasts (consts.Span from till) none = holds _ none
+const_lasts (consts.Span from till) none = holds (nat_lt (end_seconds from) (end_seconds till)) none
 
 operand_lasts : (x : Operand) → operand_has_empty x ≡ false → lasts x ≡ true
 operand_lasts (operands.Col col) none = refl
@@ -79,7 +81,7 @@ insert_lasts table names xs none = exprs_last xs none
 
 -- what the columns of an UPDATE become
 pub update_lasts : (table : List ℕ) (sets : List Set) (filter : Option Cond) → has_empty_period (Update table sets filter) ≡ false → list_all (λ (s : Set). has_no_empty_period s.becomes) sets ≡ true
-update_lasts table sets filter none = sets_last sets (or_parts (list_any set_has_empty sets) (filter_has_empty filter) none).0
+update_lasts table sets filter none = let h = or_parts (list_any set_has_empty sets) (filter_has_empty filter) none in sets_last sets h.0
 
 -- the items of a query
 pub query_lasts : (q : Query) → query_has_empty q ≡ false → projection_has_empty q.projection ≡ false
