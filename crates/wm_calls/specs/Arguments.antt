@@ -1,5 +1,5 @@
 -- What a call gives for a parameter.
-use Rattle.std.specs.Prelude.{ℕ, ◌+◌, Bool, true, false, if◌then◌else◌, length, List, [], ◌∷◌, Option, Some, None}
+use Rattle.std.specs.Prelude.{ℕ, ◌+◌, Bool, true, false, ◌==◌, if◌then◌else◌, length, List, [], ◌∷◌, Option, Some, None}
 use Rattle.wm_base.specs.declared.tree.constant.Const.{Const}
 use Rattle.wm_base.specs.declared.tree.constant.Const.TheVariants as consts
 use Rattle.wm_base.specs.declared.tree.statement.ArgValue.{ArgValue}
@@ -32,6 +32,19 @@ text_of None = None
 abbrev pub text_given : Procedure → List Arg → Parameter → Option (List ℕ)
 text_given procedure args p = text_of (argument procedure args p)
 
+abbrev pub moment_in : Const → Option ℕ
+moment_in (consts.Time seconds) = Some seconds
+moment_in _ = None
+
+abbrev pub moment_of : Option ArgValue → Option ℕ
+moment_of (Some (values.Const c)) = moment_in c
+moment_of (Some (values.Bool b)) = None
+moment_of None = None
+
+-- the time that is given for the parameter; the moment of the line stands in the place of SYSDATE before this is asked
+abbrev pub moment_given : Procedure → List Arg → Parameter → Option ℕ
+moment_given procedure args p = moment_of (argument procedure args p)
+
 abbrev pub is_true : Option ArgValue → Bool
 is_true (Some (values.Const c)) = false
 is_true (Some (values.Bool b)) = b
@@ -40,3 +53,7 @@ is_true None = false
 -- the parameter is given as TRUE
 abbrev pub is_true_given : Procedure → List Arg → Parameter → Bool
 is_true_given procedure args p = is_true (argument procedure args p)
+
+-- no argument is given at all: in SetValidTime this unsets the period of the session
+abbrev pub is_unset : List Arg → Bool
+is_unset args = length args == 0

@@ -2,5 +2,5 @@ pub mod Takes
 pub mod Places
 pub mod Arguments
 pub mod Faults
-pub mod Periods
+pub mod Empty
 pub mod Later

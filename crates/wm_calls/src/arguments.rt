@@ -1,11 +1,11 @@
 ghost use Rattle.std.specs.Prelude.{◌≡◌, List};
 ghost use Rattle.std.specs.Option.{option_copied};
-ghost use Rattle.wm_calls.specs.Arguments.{argument, text_given, is_true_given};
+ghost use Rattle.wm_calls.specs.Arguments.{argument, text_given, moment_given, is_true_given, is_unset};
 
 use crate::places::{is_that, parameter_at};
-use wm_base::Text;
 use wm_base::tree::constant::Const;
 use wm_base::tree::statement::{Arg, ArgValue};
+use wm_base::{Instant, Text};
 use wm_grammar::{Parameter, Procedure};
 
 /// What a call gives for a parameter, by its name or by its place.
@@ -31,6 +31,16 @@ pub fn text_given(procedure: Procedure, args: &[Arg], parameter: Parameter) -> O
     }
 }
 
+/// The time that a call gives for a parameter. UNTIL_CHANGED is one, and NULL is none.
+pub fn moment_given(procedure: Procedure, args: &[Arg], parameter: Parameter) -> Option<Instant>
+    ensures { result ≡ moment_given procedure args.now parameter }
+{
+    match argument(procedure, args, parameter) {
+        Some(ArgValue::Const(Const::Time(instant))) => Some(*instant),
+        _ => None,
+    }
+}
+
 /// Whether a call gives a parameter as TRUE.
 pub fn is_true_given(procedure: Procedure, args: &[Arg], parameter: Parameter) -> bool
     ensures { result ≡ is_true_given procedure args.now parameter }
@@ -39,4 +49,11 @@ pub fn is_true_given(procedure: Procedure, args: &[Arg], parameter: Parameter) -
         Some(ArgValue::Bool(value)) => *value,
         _ => false,
     }
+}
+
+/// Whether a call gives no argument at all. In SetValidTime this unsets the period of the session.
+pub fn is_unset(args: &[Arg]) -> bool
+    ensures { result ≡ is_unset args.now }
+{
+    args.is_empty()
 }

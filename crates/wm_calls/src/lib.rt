@@ -1,17 +1,19 @@
-//! The arguments of a call of DBMS_WM: what is given for each parameter, and the first argument that does not fit.
+//! What is asked of a statement before it is planned: whether a later stage serves it, which argument of a call is the first
+//! that does not fit, what is given for each parameter, and whether a written period is empty.
 #![tactic(auto)]
 
 mod arguments;
+mod empty;
 mod faults;
 mod fits;
 mod later;
-mod periods;
 mod places;
 mod takes;
 #[cfg(test)]
 mod tests;
 
-pub use arguments::{argument, is_true_given, text_given};
+pub use arguments::{argument, is_true_given, is_unset, moment_given, text_given};
+pub use empty::has_empty_period;
 pub use faults::argument_fault;
 pub use later::is_later;
 pub use takes::parameter_name;

@@ -1,11 +1,11 @@
 use Rattle.std.proofs.Common.{◌≡◌, ◌≤◌}
 use Rattle.wm_base.specs.Views.{expr_view}
 use Rattle.wm_base.specs.declared.tree.expr.Expr.{size-Expr}
-use Rattle.wm_calls.specs.Periods.{expr_uses}
-use Rattle.wm_calls.proofs.periods.+expr_uses.Given as goal
+use Rattle.wm_calls.specs.Empty.{expr_has_empty}
+use Rattle.wm_calls.proofs.empty.+expr_has_empty.Given as goal
 
 abbrev pub invariant-loop-rest : goal.invariant-loop-rest
 invariant-loop-rest l = record {
-  same : expr_uses (expr_view l.rest) ≡ expr_uses (expr_view l.initial.rest);
+  same : expr_has_empty (expr_view l.rest) ≡ expr_has_empty (expr_view l.initial.rest);
   no_deeper : size-Expr l.rest ≤ size-Expr l.initial.rest;
 }

@@ -1,8 +1,0 @@
-use Rattle.std.proofs.Common.{◌≡◌, drop}
-use Rattle.std.specs.List.{list_any}
-use Rattle.wm_base.specs.Views.{exprs_view}
-use Rattle.wm_calls.specs.Periods.{expr_uses}
-use Rattle.wm_calls.proofs.periods.any_expr.Given as goal
-
-abbrev pub invariant-loop-expr : goal.invariant-loop-expr
-invariant-loop-expr l = list_any expr_uses (exprs_view l.exprs) ≡ list_any expr_uses (exprs_view (drop l.expr-index l.exprs))

@@ -1,8 +1,0 @@
-use Rattle.std.proofs.Common.{◌≡◌, drop}
-use Rattle.std.specs.List.{list_any}
-use Rattle.wm_base.specs.Views.{outs_view}
-use Rattle.wm_calls.specs.Periods.{out_uses}
-use Rattle.wm_calls.proofs.periods.any_out.Given as goal
-
-abbrev pub invariant-loop-out : goal.invariant-loop-out
-invariant-loop-out l = list_any out_uses (outs_view l.outs) ≡ list_any out_uses (outs_view (drop l.out-index l.outs))
