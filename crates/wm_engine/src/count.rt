@@ -11,13 +11,6 @@ const COUNTER_LIMIT: u64 = 1 << 62;
 /// What a line that changes something adds to the work.
 const LINE_WORK: u64 = 4_096;
 
-/// Whether a log of this length has no room for one entry more.
-pub fn is_log_full(log: u64) -> bool
-    ensures { result ≡ nat_lt counter_limit (log + 1) }
-{
-    log >= COUNTER_LIMIT
-}
-
 /// The counters once a line has changed something at a moment, or None where the work is at its end.
 pub fn counted(counters: &Counters, moment: u64) -> Option<Counters>
     ensures room { IfSome result (λ new. nat_lt counter_limit (counters.now.work + line_work) ≡ false) }

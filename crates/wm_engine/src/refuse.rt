@@ -1,12 +1,13 @@
 //! The refusals of lines.
 ghost use Rattle.std.specs.Prelude.{◌≡◌, IfOk};
 ghost use Rattle.wm_engine.specs.Views.{answer_view};
-ghost use Rattle.wm_model.specs.Step.{at_its_end, bad_literal, bad_name, change_limit, key_there, long_name, mistyped, moment_back, most_rows, most_savepoints, most_sessions, most_tables, most_workspaces, no_key, no_savepoint, no_session, no_table, no_workspace, no_text, not_built, not_latest, out_of_range, reserved_name, savepoint_there, session_there, syntax, table_there, too_long_line, versioning, workspace_there};
+ghost use Rattle.wm_model.specs.Step.{at_its_end, bad_literal, bad_name, change_limit, empty_period, key_there, long_name, mistyped, moment_back, most_rows, most_savepoints, most_sessions, most_tables, most_workspaces, no_key, no_savepoint, no_session, no_table, no_workspace, no_text, not_built, not_latest, out_of_range, reserved_name, savepoint_there, session_there, syntax, table_there, too_long_line, versioning, workspace_there};
 
 use crate::answer::Answer;
 use std::alloc::Global;
 use wm_base::{
-    CellRefusal, FormRefusal, Instant, Key, LimitRefusal, Memory, Name, Refusal, SpaceRefusal,
+    CellRefusal, FormRefusal, Instant, Key, LimitRefusal, Memory, Name, Period, Refusal,
+    SpaceRefusal,
 };
 
 /// That the line is not built yet.
@@ -170,11 +171,18 @@ pub fn moment_back(moment: Instant) -> Answer
     Answer::Refused(Refusal::Space(SpaceRefusal::Wm031(moment)))
 }
 
-/// That the key is there.
-pub fn key_there(key: Key) -> Answer
-    ensures { answer_view result ≡ key_there key }
+/// That a row of the key stands, in a table with valid time in this period.
+pub fn key_there(key: Key, period: Option<Period>) -> Answer
+    ensures { answer_view result ≡ key_there key period }
 {
-    Answer::Refused(Refusal::Cell(CellRefusal::Wm060(key, None)))
+    Answer::Refused(Refusal::Cell(CellRefusal::Wm060(key, period)))
+}
+
+/// That a period has no moment.
+pub fn empty_period() -> Answer
+    ensures { answer_view result ≡ empty_period }
+{
+    Answer::Refused(Refusal::Space(SpaceRefusal::Wm033))
 }
 
 /// That the store takes no more changes.

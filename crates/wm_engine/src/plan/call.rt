@@ -8,6 +8,7 @@ ghost use Rattle.wm_engine.specs.Forks.{ChangesFew, forks_call};
 ghost use Rattle.wm_engine.specs.Idle.{Idles};
 ghost use Rattle.wm_engine.specs.Lacking.{lacks};
 ghost use Rattle.wm_engine.specs.Planning.{DoesIt};
+ghost use Rattle.wm_engine.specs.Readying.{readiness_view};
 ghost use Rattle.wm_engine.specs.Views.{answer_view};
 ghost use Rattle.wm_engine.specs.declared.seating.Seating.TheVariants.{Stay};
 ghost use Rattle.wm_grammar.specs.Calls.{procedure_of};
@@ -15,23 +16,24 @@ ghost use Rattle.wm_grammar.specs.declared.procedure.Parameter.TheVariants as pa
 ghost use Rattle.wm_grammar.specs.declared.procedure.Procedure.TheVariants as procedures;
 ghost use Rattle.wm_graph.specs.Parts.{parts_of};
 ghost use Rattle.wm_graph.specs.Rules.{keep_rules};
-ghost use Rattle.wm_model.specs.Step.{call, keeps_history};
+ghost use Rattle.wm_model.specs.Step.{call, keeps_history, readiness_given};
 ghost use Rattle.wm_state.specs.ById.{applied};
 ghost use Rattle.wm_state.specs.State.{Session as SessionState};
 ghost use Rattle.wm_store.specs.Spelled.{FitPages};
 
 use crate::names::{is_name, names_no_savepoint, names_no_workspace};
 use crate::plan::bearing::create_workspace;
-use crate::plan::enable::enable;
+use crate::plan::enable::{Readiness, enable};
 use crate::plan::going::{goto_savepoint, goto_workspace};
 use crate::plan::saving::create_savepoint;
+use crate::plan::valid_time::set_valid_time;
 use crate::planned::Planned;
 use crate::refuse::{bad_name, mistyped, not_built, reserved_name};
 use crate::session::Session;
 use std::alloc::Global;
 use wm_base::tree::statement::Arg;
-use wm_base::{Memory, Name, Text};
-use wm_calls::{argument_fault, parameter_name, text_given};
+use wm_base::{Instant, Memory, Name, Text};
+use wm_calls::{argument_fault, is_true_given, moment_given, parameter_name, text_given};
 use wm_grammar::{Parameter, Procedure, procedure_of};
 use wm_image::Image;
 use wm_reader::capitals_of;
@@ -86,6 +88,17 @@ fn keeps_history(alloc: Global, word: Option<&Text>) -> Result<bool, Memory>
     }
 }
 
+/// How the arguments of EnableVersioning ask for a table to become ready.
+fn readiness_given(alloc: Global, args: &[Arg]) -> Result<Readiness, Memory>
+    ensures { IfOk result (λ how. readiness_view how ≡ readiness_given args.now) }
+{
+    let history = text_given(Procedure::EnableVersioning, args, Parameter::Hist);
+    Ok(Readiness {
+        valid: is_true_given(Procedure::EnableVersioning, args, Parameter::ValidTime),
+        history: keeps_history(alloc, history)?,
+    })
+}
+
 /// EnableVersioning.
 fn enable_call(
     alloc: Global,
@@ -104,10 +117,9 @@ fn enable_call(
     let Some(table) = text_given(Procedure::EnableVersioning, args, Parameter::TableName) else {
         return Ok(lacking(alloc, fault));
     };
-    let history = text_given(Procedure::EnableVersioning, args, Parameter::Hist);
-    let history = keeps_history(alloc, history)?;
+    let how = readiness_given(alloc, args)?;
     let name = capitals_of(alloc, table.as_bytes())?;
-    enable(alloc, image, moment, name, history, fault)
+    enable(alloc, image, moment, name, how, fault)
 }
 
 /// CreateWorkspace.
@@ -219,6 +231,26 @@ fn goto_savepoint_call(
     goto_savepoint(alloc, image, session, savepoint)
 }
 
+/// SetValidTime.
+fn valid_time_call(
+    alloc: Global,
+    image: &Image,
+    session: &Session,
+    args: &[Arg],
+) -> Result<Planned, Memory>
+    requires rules { keep_rules (parts_of image.now) ≡ true }
+    ensures does { IfOk result (λ p. (xs : List SessionState) (m : ℕ) → DoesIt image.now xs m p (call session.now (Some procedures.SetValidTime) args.now)) }
+    ensures fit { IfOk result (λ p. FitPages p.changes) }
+    ensures idle { IfOk result Idles }
+{
+    if let Some(parameter) = fault_of(alloc, Procedure::SetValidTime, args)? {
+        return Ok(Planned::answered(alloc, mistyped(parameter)));
+    }
+    let from = moment_given(Procedure::SetValidTime, args, Parameter::ValidFrom);
+    let till = moment_given(Procedure::SetValidTime, args, Parameter::ValidTill);
+    set_valid_time(alloc, image, session, from, till.unwrap_or(Instant::end()))
+}
+
 /// What a call of a procedure does and answers.
 fn call_of(
     alloc: Global,
@@ -241,6 +273,7 @@ fn call_of(
         Procedure::CreateSavepoint => savepoint_call(alloc, image, moment, session, args),
         Procedure::GotoWorkspace => goto_workspace_call(alloc, image, session, args),
         Procedure::GotoSavepoint => goto_savepoint_call(alloc, image, session, args),
+        Procedure::SetValidTime => valid_time_call(alloc, image, session, args),
         _ => Ok(Planned::answered(alloc, not_built())),
     }
 }

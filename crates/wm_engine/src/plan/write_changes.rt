@@ -1,62 +1,47 @@
 //! Rows of a table that are changed in a workspace.
 ghost use Rattle.wm_engine.specs.Changing.{WritesAll, is_filled_change};
 ghost use Rattle.wm_engine.specs.Idle.{Idles};
-ghost use Rattle.std.specs.Prelude.{◌≡◌, ◌+◌, ◌<◌, ◌≤◌, ◌-◌, ◌^◌, ◌∷◌, [], ◌++◌, ℕ, length, map, nat_le, nat_lt, true, false, None, Some, IfOk, OnOk};
+ghost use Rattle.std.specs.Prelude.{◌≡◌, ◌+◌, ◌<◌, ◌≤◌, ◌^◌, ◌∷◌, [], ◌++◌, ℕ, length, map, nat_le, nat_lt, true, false, None, Some, IfOk, OnOk};
 ghost use Rattle.std.specs.List.{list_all};
 ghost use Rattle.wm_base.specs.declared.instant.TheConstants.{END};
 ghost use Rattle.wm_graph.specs.Parts.{parts_of, space_of, table_of};
 ghost use Rattle.wm_graph.specs.Rules.{keep_rules};
-ghost use Rattle.wm_image.specs.Gone.{ids_of_keys};
-ghost use Rattle.wm_model.specs.Changes.{Changes as MayChange, ChangesNew, change_keys, change_piece, is_change, new_pieces, new_rows, row_before};
+ghost use Rattle.wm_dml.specs.Standing.{change_keys, is_change};
+ghost use Rattle.wm_model.specs.Changes.{Changes as MayChange, ChangesNew, change_piece, lasts, new_pieces, new_rows, row_before};
 ghost use Rattle.wm_model.specs.Planning.{moved};
-ghost use Rattle.wm_model.specs.Step.{counter_limit};
+ghost use Rattle.wm_model.specs.Step.{ascend, counter_limit};
 ghost use Rattle.wm_spec.specs.Records.{record_at};
 ghost use Rattle.wm_spec.specs.declared.record.Record.TheVariants as records;
 ghost use Rattle.wm_state.specs.Batches.{put};
-ghost use Rattle.wm_state.specs.Entries.{KeysDiffer};
 ghost use Rattle.wm_store.specs.Spelled.{FitPages};
 
 use crate::answer::Answer;
 use crate::count::counted;
 use crate::plan::batch::{longer_by, written_changes};
-use crate::plan::write_row::Writing;
 use crate::planned::Planned;
 use crate::refuse::at_its_end;
 use crate::session::Session;
 use std::alloc::Global;
-use wm_base::{END, Key, Kind, Memory};
+use wm_base::Memory;
 use wm_dml::RowChange;
 use wm_image::Image;
 use wm_spec::record::{
-    CellRange, Change, Changes, Counters, PieceRecord, Record, RowRecord, Table, Version,
+    CellRange, Change, Changes, Counters, PieceRecord, Record, RowRecord, Space, Table, Version,
 };
 
-/// The greatest id that leaves room for the records of as many changes as a store takes.
-const ID_LIMIT: u64 = u64::MAX - (1 << 22);
+/// A table and a workspace in which rows are changed, with the counters before.
+#[derive(Drop)]
+pub struct Writing<'a> {
+    pub table: &'a Table,
+    pub space: &'a Space,
+    pub counters: Counters,
+}
 
 /// The records that changes make: the new rows, and a piece for each change.
 #[derive(Drop)]
 struct Made {
     rows: Vec<Record>,
-    pieces: Vec<Record>,
-}
-
-/// What a version says of a key from now on.
-fn piece_of(version: u64, table: u16, key: Key, stamp: u64, kind: Kind, gone: bool) -> Record
-    ensures { result ≡ records.Piece (record { version = version; cells = record { table = table; key = key; from = 0; till = END }; stamp = stamp; kind = kind; gone = gone }) }
-{
-    Record::Piece(PieceRecord {
-        version,
-        cells: CellRange {
-            table,
-            key,
-            from: 0,
-            till: END,
-        },
-        stamp,
-        kind,
-        gone,
-    })
+    pieces: Vec<PieceRecord>,
 }
 
 /// Adds the records of a change.
@@ -68,12 +53,27 @@ fn add_change(
     change: RowChange,
 ) -> Result<(), Memory>
     ensures rows { OnOk result (made.new.rows.items ≡ made.old.rows.items ++ map records.Row (row_before stamp table.now change.row [])) }
-    ensures pieces { OnOk result (made.new.pieces.items ≡ made.old.pieces.items ++ records.Piece (change_piece version stamp table.now change) ∷ []) }
+    ensures pieces { OnOk result (made.new.pieces.items ≡ made.old.pieces.items ++ change_piece version stamp table.now change ∷ []) }
 {
-    let RowChange { key, row, kind } = change;
+    let RowChange {
+        key,
+        period,
+        row,
+        kind,
+    } = change;
     let table = table.number;
-    let piece = piece_of(version, table, key, stamp, kind, row.is_none());
-    made.pieces.push(piece)?;
+    made.pieces.push(PieceRecord {
+        version,
+        cells: CellRange {
+            table,
+            key,
+            from: period.from().seconds(),
+            till: period.till().seconds(),
+        },
+        stamp,
+        kind,
+        gone: row.is_none(),
+    })?;
     if let Some(values) = row {
         let row = RowRecord {
             stamp,
@@ -95,7 +95,7 @@ fn records_of(
 ) -> Result<Made, Memory>
     requires { stamp + length changes.items < 2 ^ 64 }
     ensures rows { IfOk result (λ made. made.rows.items ≡ map records.Row (new_rows stamp table.now changes.items)) }
-    ensures pieces { IfOk result (λ made. made.pieces.items ≡ map records.Piece (new_pieces version stamp table.now changes.items)) }
+    ensures pieces { IfOk result (λ made. made.pieces.items ≡ new_pieces version stamp table.now changes.items) }
 {
     let mut made = Made {
         rows: Vec::new(alloc),
@@ -109,22 +109,27 @@ fn records_of(
     Ok(made)
 }
 
-/// The ids of the pieces that a version has for the keys of changes.
-fn old_ids(
-    alloc: Global,
-    image: &Image,
-    version: u64,
-    table: u16,
-    changes: &[RowChange],
-) -> Result<Vec<u64>, Memory>
-    ensures { IfOk result (λ ids. ids.items ≡ ids_of_keys image.now version table (change_keys changes.now)) }
+/// Pieces as records.
+fn piece_records(alloc: Global, pieces: Vec<PieceRecord>) -> Result<Vec<Record>, Memory>
+    ensures { IfOk result (λ made. made.items ≡ map records.Piece pieces.items) }
 {
-    let mut ids = Vec::new(alloc);
-    for change in changes {
-        let own = image.pieces_in(alloc, version, table, &change.key)?;
-        ids.extend_from_slice(own.as_slice())?;
+    let mut made = Vec::new(alloc);
+    for piece in pieces {
+        made.push(Record::Piece(piece))?;
     }
-    Ok(ids)
+    Ok(made)
+}
+
+/// Whether ids are left from this one on for new rows and pieces, and one more.
+fn are_ids_left(id: u64, rows: &[Record], pieces: &[Record]) -> bool
+    ensures { result ≡ true → id + 1 + length rows.now + length pieces.now < 2 ^ 64 }
+{
+    let rows = rows.len() as u64;
+    let pieces = pieces.len() as u64;
+    match id.checked_add(rows) {
+        Some(next) => pieces < u64::MAX - next,
+        None => false,
+    }
 }
 
 /// Writes changes into the newest version of the session's workspace, under which none stands and which nothing names.
@@ -139,10 +144,10 @@ fn write_here(
     id: u64,
 ) -> Result<Planned, Memory>
     requires served { MayChange image.now session.now.space moment writing.now.table.now writing.now.space.now writing.now.counters changes.items }
+    requires keys { ascend (change_keys changes.items) ≡ true }
     requires filled { list_all is_filled_change changes.items ≡ true }
     requires counters { counters ≡ moved writing.now.counters moment }
     requires ids { (i : ℕ) → id ≤ i → record_at image.now i ≡ None }
-    requires room { id < 2 ^ 64 - 2 ^ 22 }
     ensures does { IfOk result (WritesAll image.now moment session.now writing.now.space.now writing.now.table.now changes.items) }
     ensures fit { IfOk result (λ p. FitPages p.changes) }
     ensures idle { IfOk result Idles }
@@ -150,9 +155,12 @@ fn write_here(
     let version = image.latest(session.space());
     let count = changes.len() as u64;
     let stamp = writing.counters.next_stamp;
-    let table = writing.table.number;
-    let dropped = old_ids(alloc, image, version, table, changes.as_slice())?;
     let made = records_of(alloc, version, stamp, writing.table, changes)?;
+    let drawn = image.redraw(alloc, version, writing.table.number, made.pieces)?;
+    let pieces = piece_records(alloc, drawn.drawn)?;
+    if !are_ids_left(id, made.rows.as_slice(), pieces.as_slice()) {
+        return Err(Memory);
+    }
     let space = longer_by(alloc, count, writing.space)?;
     let space_id = image.id_of_space(session.space()).unwrap();
     let counters = Counters {
@@ -165,10 +173,10 @@ fn write_here(
         counters,
         space_id,
         space,
-        dropped.as_slice(),
+        drawn.dropped.as_slice(),
         id,
         made.rows,
-        made.pieces,
+        pieces,
     )?;
     Ok(Planned::changing(batch, Answer::Done(count)))
 }
@@ -197,10 +205,10 @@ fn write_above(
     id: u64,
 ) -> Result<Planned, Memory>
     requires served { ChangesNew image.now session.now.space moment writing.now.table.now writing.now.space.now writing.now.counters changes.items }
+    requires keys { ascend (change_keys changes.items) ≡ true }
     requires filled { list_all is_filled_change changes.items ≡ true }
     requires counters { counters ≡ moved writing.now.counters moment }
     requires ids { (i : ℕ) → id ≤ i → record_at image.now i ≡ None }
-    requires room { id < 2 ^ 64 - 2 ^ 22 }
     ensures does { IfOk result (WritesAll image.now moment session.now writing.now.space.now writing.now.table.now changes.items) }
     ensures fit { IfOk result (λ p. FitPages p.changes) }
     ensures idle { IfOk result Idles }
@@ -212,12 +220,18 @@ fn write_above(
     };
     let count = changes.len() as u64;
     let stamp = writing.counters.next_stamp;
-    let made = records_of(alloc, version.number, stamp, writing.table, changes)?;
+    let number = version.number;
+    let made = records_of(alloc, number, stamp, writing.table, changes)?;
+    let drawn = image.redraw(alloc, number, writing.table.number, made.pieces)?;
+    let pieces = piece_records(alloc, drawn.drawn)?;
+    if !are_ids_left(id, made.rows.as_slice(), pieces.as_slice()) {
+        return Err(Memory);
+    }
     let space = longer_by(alloc, count, writing.space)?;
     let space_id = image.id_of_space(session.space()).unwrap();
     let counters = Counters {
         next_stamp: stamp + count,
-        next_version: version.number + 1,
+        next_version: number + 1,
         ..counters
     };
     let batch = written_changes(
@@ -226,10 +240,10 @@ fn write_above(
         counters,
         space_id,
         space,
-        &[],
+        drawn.dropped.as_slice(),
         id + 1,
         made.rows,
-        made.pieces,
+        pieces,
     )?;
     Ok(Planned::changing(batch, Answer::Done(count)))
 }
@@ -250,9 +264,10 @@ pub fn write_changes(
     requires there { table_of (parts_of image.now).tables writing.now.table.now.number ≡ Some writing.now.table.now }
     requires space { space_of (parts_of image.now).spaces session.now.space ≡ Some writing.now.space.now }
     requires one { (parts_of image.now).counters ≡ writing.now.counters ∷ [] }
-    // The changes fit the table, each has a key of its own, and no text in them is empty.
+    // The changes fit the table and stand by key, each over a period that has a moment, and no text in them is empty.
     requires fit { list_all (is_change writing.now.table.now) changes.items ≡ true }
-    requires keys { KeysDiffer (change_keys changes.items) }
+    requires last { list_all lasts changes.items ≡ true }
+    requires keys { ascend (change_keys changes.items) ≡ true }
     requires filled { list_all is_filled_change changes.items ≡ true }
     // Stamps are left for them, and the log has room.
     requires left { nat_le (writing.now.counters.next_stamp + length changes.items) (writing.now.counters.limit + 1) ≡ true }
@@ -267,9 +282,6 @@ pub fn write_changes(
     let Some(id) = image.next_id() else {
         return Err(Memory);
     };
-    if id >= ID_LIMIT {
-        return Err(Memory);
-    }
     let version = image.latest(session.space());
     if image.is_leaf(version) && image.is_free(version) {
         return write_here(

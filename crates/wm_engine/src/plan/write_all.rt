@@ -1,0 +1,111 @@
+//! Changes of rows, once nothing is wrong with them.
+ghost use Rattle.std.specs.Prelude.{◌≡◌, ◌<◌, ◌+◌, nat_le, nat_lt, true, Some, IfOk};
+ghost use Rattle.std.specs.List.{list_all};
+ghost use Rattle.wm_base.specs.declared.instant.TheConstants.{END};
+ghost use Rattle.wm_dml.specs.Standing.{change_keys, is_change};
+ghost use Rattle.wm_engine.specs.Acting.{DoesAs};
+ghost use Rattle.wm_engine.specs.Changing.{is_filled_change};
+ghost use Rattle.wm_engine.specs.Idle.{Idles};
+ghost use Rattle.wm_graph.specs.Parts.{parts_of, space_of, table_of};
+ghost use Rattle.wm_graph.specs.Rules.{keep_rules};
+ghost use Rattle.wm_model.specs.Changes.{lasts};
+ghost use Rattle.wm_model.specs.Step.{ascend, counter_limit, write_ascending};
+ghost use Rattle.wm_store.specs.Spelled.{FitPages};
+
+use crate::answer::Answer;
+use crate::plan::write_changes::{Writing, write_changes};
+use crate::planned::Planned;
+use crate::refuse::{at_its_end, change_limit, not_built};
+use crate::session::Session;
+use std::alloc::Global;
+use std::cmp::Ordering;
+use wm_base::{Key, Memory};
+use wm_dml::RowChange;
+use wm_image::Image;
+use wm_spec::record::{Counters, Space, Table};
+
+/// The greatest length of a log.
+const LOG_LIMIT: u64 = 1 << 62;
+
+/// Whether no key that is changed is above the next.
+fn ascend(changes: &[RowChange]) -> bool
+    ensures { result ≡ ascend (change_keys changes.now) }
+{
+    let mut last: Option<&Key> = None;
+    for change in changes {
+        if let Some(last) = last {
+            if last.compare(&change.key) == Ordering::Greater {
+                return false;
+            }
+        }
+        last = Some(&change.key);
+    }
+    true
+}
+
+/// That the period of each change has a moment, as each period has.
+fn check_periods(changes: &[RowChange])
+    ensures { list_all lasts changes.now ≡ true }
+{
+    for change in changes {
+        let _till = change.period.till();
+    }
+}
+
+/// Whether so many changes are left.
+fn are_left(counters: &Counters, count: u64) -> bool
+    ensures { result ≡ nat_le (counters.now.next_stamp + count) (counters.now.limit + 1) }
+{
+    let limit = u64::from(counters.limit) + 1;
+    counters.next_stamp <= limit && count <= limit - counters.next_stamp
+}
+
+/// Whether a log has no room for so many entries more.
+fn is_log_spent(space: &Space, count: u64) -> bool
+    ensures { result ≡ nat_lt counter_limit (space.now.log_length + count) }
+{
+    count > LOG_LIMIT || space.log_length > LOG_LIMIT - count
+}
+
+/// Writes the changes, if there are any, while changes are left.
+pub fn write_all(
+    alloc: Global,
+    image: &Image,
+    moment: u64,
+    session: &Session,
+    space: &Space,
+    table: &Table,
+    changes: Vec<RowChange>,
+) -> Result<Planned, Memory>
+    requires rules { keep_rules (parts_of image.now) ≡ true }
+    requires moment { moment < END }
+    requires there { table_of (parts_of image.now).tables table.now.number ≡ Some table.now }
+    requires home { space_of (parts_of image.now).spaces session.now.space ≡ Some space.now }
+    requires fit { list_all (is_change table.now) changes.items ≡ true }
+    requires filled { list_all is_filled_change changes.items ≡ true }
+    ensures does { IfOk result (DoesAs image.now moment session.now space.now (write_ascending session.now.user table.now changes.items)) }
+    ensures fit { IfOk result (λ p. FitPages p.changes) }
+    ensures idle { IfOk result Idles }
+{
+    if !ascend(changes.as_slice()) {
+        return Ok(Planned::answered(alloc, not_built()));
+    }
+    check_periods(changes.as_slice());
+    let count = changes.len() as u64;
+    if count == 0 {
+        return Ok(Planned::answered(alloc, Answer::Done(0)));
+    }
+    let counters = image.counters();
+    if !are_left(&counters, count) {
+        return Ok(Planned::answered(alloc, change_limit(counters.limit)));
+    }
+    if is_log_spent(space, count) {
+        return Ok(Planned::answered(alloc, at_its_end(alloc, b"LOG")?));
+    }
+    let writing = Writing {
+        table,
+        space,
+        counters,
+    };
+    write_changes(alloc, image, moment, session, &writing, changes)
+}
