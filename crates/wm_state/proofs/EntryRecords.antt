@@ -9,7 +9,6 @@ use Rattle.wm_base.specs.declared.row.Row.{Row}
 use Rattle.wm_graph.specs.Parts.{row_of}
 use Rattle.wm_graph.specs.Rules.{differ, is_row, is_row_of, is_key_of, is_key, key_of, is_piece, is_row_at, are_cells}
 use Rattle.wm_spec.specs.Lists.{Entry, Cell, Told, told, told_of, covers}
-use Rattle.wm_spec.specs.declared.record.piece.PieceRecord.{PieceRecord}
 use Rattle.wm_spec.specs.declared.record.row.RowRecord.{RowRecord}
 use Rattle.wm_spec.specs.declared.record.table.Table.{Table}
 use Rattle.wm_spec.specs.declared.record.version.Version.{Version}

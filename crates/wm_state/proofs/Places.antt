@@ -10,7 +10,7 @@ use Rattle.wm_spec.specs.Lists.{Entry, Cell}
 use Rattle.wm_spec.specs.declared.record.piece.PieceRecord.{PieceRecord}
 use Rattle.wm_state.specs.Batches.{is_in, is_out}
 use Rattle.wm_state.specs.Drawing.{PassesParts}
-use Rattle.wm_state.specs.Entries.{AreStamped, IsStamped, entry_keys, piece_of, pieces_of, is_out_all}
+use Rattle.wm_state.specs.Entries.{AreStamped, entry_keys, piece_of, pieces_of, is_out_all}
 use Rattle.wm_state.specs.Standing.{covers_at}
 use Rattle.wm_state.proofs.Laying.{key_same, key_itself, false_if}
 use Rattle.wm_state.proofs.Tests.{bool_apart, both, and_true, not_true, all_if, none_if}
