@@ -1,5 +1,5 @@
 -- Pieces over other pieces: what lies under a new piece goes, and what lies before it and after it stays.
-use Rattle.std.specs.Prelude.{ℕ, ◌≡◌, ◌<◌, ◌≤◌, Bool, true, not, nat_lt, if◌then◌else◌, min, max, List, [], ◌∷◌, ◌++◌, Option, None}
+use Rattle.std.specs.Prelude.{ℕ, ◌≡◌, ◌<◌, ◌≤◌, Bool, true, nat_lt, if◌then◌else◌, min, max, List, [], ◌∷◌, ◌++◌, Option, None}
 use Rattle.std.specs.Bool.{then_some}
 use Rattle.std.specs.List.{list_all, flat_map}
 use Rattle.std.specs.Option.{option_or}
