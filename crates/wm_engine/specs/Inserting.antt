@@ -1,18 +1,13 @@
 -- What is known of an INSERT whose statement is in order.
-use Rattle.std.specs.Prelude.{◌≡◌, true, false, List, Some, None}
-use Rattle.std.specs.List.{list_all}
+use Rattle.std.specs.Prelude.{◌≡◌, true, List, Some, None}
 use Rattle.wm_base.specs.Views.{exprs_view}
 use Rattle.wm_making.specs.Inserting.{insert_fault}
 use Rattle.wm_model.specs.Planning.{named}
-use Rattle.wm_spec.specs.Expressions.{has_no_empty_period}
 use Rattle.wm_spec.specs.declared.record.stored.Stored.{Stored}
 use Rattle.wm_engine.specs.declared.plan.insert.Insertion.{Insertion}
 
--- the table that it names is ready for rows without periods, the statement is not wrong for it, and each period written in it has
--- its first end below its second
+-- the table that it names is ready for rows, and the statement is not wrong for it
 pub record IsFine (rs : List Stored) (i : Insertion) : Type 0 where
   pub there : named rs i.name.now ≡ Some i.table.now
   pub on : i.table.now.versioned ≡ true
-  pub plain : i.table.now.valid ≡ false
   pub good : insert_fault i.table.now i.names.now (exprs_view i.values.now) ≡ None
-  pub lasting : list_all has_no_empty_period (exprs_view i.values.now) ≡ true

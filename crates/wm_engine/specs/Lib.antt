@@ -10,7 +10,6 @@ pub mod Points
 pub mod Inserting
 pub mod Changing
 pub mod Lacking
-pub mod Lasting
 pub mod Chosen
 pub mod Acting
 pub mod Keyed

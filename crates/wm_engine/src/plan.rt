@@ -1,11 +1,11 @@
 //! What a line does and answers, worked out over the records before anything changes.
 
-mod add_values;
 mod at;
 mod batch;
 mod bearing;
 mod call;
 mod change;
+mod choosing;
 mod connect;
 mod create;
 mod enable;
@@ -16,5 +16,7 @@ pub mod line;
 mod saving;
 mod select;
 mod statement;
+mod valid_time;
+mod within;
+mod write_all;
 mod write_changes;
-mod write_row;

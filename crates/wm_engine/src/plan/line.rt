@@ -4,7 +4,6 @@ ghost use Rattle.wm_base.specs.declared.instant.TheConstants.{END};
 ghost use Rattle.wm_base.specs.Views.{line_view};
 ghost use Rattle.wm_engine.specs.Forks.{ChangesFew, is_fork, is_fork_line};
 ghost use Rattle.wm_engine.specs.Idle.{Idles};
-ghost use Rattle.wm_engine.specs.Lasting.{lasts_line};
 ghost use Rattle.wm_engine.specs.Planning.{DoesTimed};
 ghost use Rattle.wm_engine.specs.Timely.{IsTimely};
 ghost use Rattle.wm_graph.specs.Parts.{parts_of};
@@ -43,8 +42,6 @@ fn plan_line(
 ) -> Result<Timed, Memory>
     requires rules { keep_rules (parts_of image.now) ≡ true }
     requires moment { moment < END }
-    // No item of a query has a written period that is empty.
-    requires lasting { lasts_line (line_view line.now) ≡ true }
     // AT sets a moment below the end.
     requires timely { IsTimely (line_view line.now) }
     ensures does { IfOk result (λ t. DoesTimed image.now sessions.now moment t (run_line (line_view line.now))) }

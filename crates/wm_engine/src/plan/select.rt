@@ -1,8 +1,8 @@
 //! SELECT.
-ghost use Rattle.std.specs.Prelude.{◌≡◌, ◌<◌, ◌≤◌, ◌++◌, ℕ, List, length, true, None, Some, IfOk, OnOk};
-ghost use Rattle.std.specs.List.{list_any};
+ghost use Rattle.std.specs.Prelude.{◌≡◌, ◌<◌, ◌≤◌, ◌++◌, List, length, true, false, None, Some, IfOk, OnOk};
 ghost use Rattle.std.specs.Option.{IsSomeAnd, option_copied};
 ghost use Rattle.std.specs.Result.{IsErrOf};
+ghost use Rattle.wm_base.specs.declared.instant.TheConstants.{END};
 ghost use Rattle.wm_base.specs.declared.row.Row.{Row as RowOf};
 ghost use Rattle.wm_base.specs.declared.truth.Truth.{Truth as TruthOf};
 ghost use Rattle.wm_base.specs.Views.{cond_view, filter_view, query_view, src_view, srcs_view};
@@ -14,18 +14,20 @@ ghost use Rattle.wm_graph.specs.Parts.{parts_of};
 ghost use Rattle.wm_graph.specs.Rules.{keep_rules};
 ghost use Rattle.wm_model.specs.Planning.{tables_in, version_read};
 ghost use Rattle.wm_model.specs.Sources.{AreListed};
-ghost use Rattle.wm_model.specs.Step.{answer_rows, columns_in, lost_source, select, source_name, table_off, tables_of};
+ghost use Rattle.wm_model.specs.Step.{answer_rows, columns_in, lost_source, select, source_name, table_off, tables_of, within};
 ghost use Rattle.wm_select.specs.Query.{answer_of, columns_of, projection_lasts, row_limit, rows_fit, where_of};
 ghost use Rattle.wm_spec.specs.Conditions.{fits, truth_of, typed};
-ghost use Rattle.wm_spec.specs.declared.record.table.Table.{Table as TableRecord};
-ghost use Rattle.wm_state.specs.Listing.{IsListing};
+ghost use Rattle.wm_state.specs.Listing.{IsShowing};
 ghost use Rattle.wm_state.specs.State.{Session as SessionState, table_named};
 ghost use Rattle.wm_store.specs.Spelled.{FitPages};
 ghost use Rattle.wm_typing.specs.Columns.{columns_of_table};
 
 use crate::answer::Answer;
+use crate::plan::within::within;
 use crate::planned::Planned;
-use crate::refuse::{most_rows, no_table, not_built, out_of_range, versioning};
+use crate::refuse::{
+    empty_period, most_rows, no_table, not_built, out_of_range, versioning,
+};
 use crate::session::{Session, Stand};
 use std::alloc::Global;
 use wm_base::tree::cond::{Cmp, Cond};
@@ -96,21 +98,6 @@ fn table_off<'a>(image: &'a Image, sources: &[Src]) -> Option<&'a Name>
     None
 }
 
-/// Whether the rows of a source have periods.
-fn has_periods(image: &Image, sources: &[Src]) -> bool
-    requires { keep_rules (parts_of image.now) ≡ true }
-    ensures { result ≡ list_any (λ (t : TableRecord). t.valid) (tables_of (tables_in image.now) (srcs_view sources.now)) }
-{
-    for source in sources {
-        if let Some(table) = table_of(image, source) {
-            if table.valid {
-                return true;
-            }
-        }
-    }
-    false
-}
-
 /// What a source is called in the query.
 fn source_name(source: &Src) -> &Name
     ensures { result.now ≡ source_name (src_view source.now) }
@@ -146,38 +133,45 @@ fn columns_in(alloc: Global, image: &Image, sources: &[Src]) -> Result<Columns, 
     Ok(Columns::from_vec(columns))
 }
 
-/// What a source shows of its table in a version.
+/// What a source shows a session of its table in a version.
 fn shown_by(
     alloc: Global,
     image: &Image,
+    moment: u64,
+    session: &Session,
     version: u64,
     source: &Src,
     table: &Table,
 ) -> Result<Listing, Memory>
-    requires { keep_rules (parts_of image.now) ≡ true }
+    requires rules { keep_rules (parts_of image.now) ≡ true }
+    requires moment { moment < END }
     ensures columns { IfOk result (λ l. l.columns ≡ columns_of_table (source_name (src_view source.now)) table.now) }
-    ensures rows { IfOk result (λ l. IsListing (parts_of image.now) version table.now.number l.rows) }
+    ensures rows { IfOk result (λ l. IsShowing (parts_of image.now) version table.now.number table.now.valid (within moment session.now table.now) l.rows) }
 {
     let columns = columns_of_table(alloc, source_name(source), table)?;
-    let rows = image.listing(alloc, version, table.number)?;
+    let rows = image.showing(alloc, version, table, &within(moment, session, table))?;
     Ok(Listing { columns, rows })
 }
 
-/// What all sources show in a version.
+/// What all sources show a session in a version.
 fn sources_in(
     alloc: Global,
     image: &Image,
+    moment: u64,
+    session: &Session,
     version: u64,
     sources: &[Src],
 ) -> Result<Listings, Memory>
     requires rules { keep_rules (parts_of image.now) ≡ true }
+    requires moment { moment < END }
     requires there { lost_source (tables_in image.now) (srcs_view sources.now) ≡ None }
-    ensures { IfOk result (λ ls. AreListed (parts_of image.now) version (tables_in image.now) (srcs_view sources.now) ls) }
+    ensures { IfOk result (λ ls. AreListed (parts_of image.now) version (λ t. within moment session.now t) (tables_in image.now) (srcs_view sources.now) ls) }
 {
     let mut listings = Vec::new(alloc);
     for source in sources {
         if let Some(table) = table_of(image, source) {
-            listings.push(shown_by(alloc, image, version, source, table)?)?;
+            let shown = shown_by(alloc, image, moment, session, version, source, table)?;
+            listings.push(shown)?;
         }
     }
     Ok(Listings::from_vec(listings))
@@ -314,13 +308,16 @@ fn answer(
 pub fn select(
     alloc: Global,
     image: &Image,
+    moment: u64,
     session: &Session,
     query: &Query,
+    empty: bool,
 ) -> Result<Planned, Memory>
     requires rules { keep_rules (parts_of image.now) ≡ true }
-    // No period is written in it: that is not built yet.
-    requires lasting { projection_lasts (query_view query.now).projection ≡ true }
-    ensures does { IfOk result (λ p. (xs : List SessionState) (m : ℕ) → DoesIt image.now xs m p (select session.now (query_view query.now))) }
+    requires moment { moment < END }
+    // Where it has no empty period, none of its items has one.
+    requires lasting { empty ≡ false → projection_lasts (query_view query.now).projection ≡ true }
+    ensures does { IfOk result (λ p. (xs : List SessionState) → DoesIt image.now xs moment p (select session.now (query_view query.now) empty)) }
     ensures fit { IfOk result (λ p. FitPages p.changes) }
     ensures idle { IfOk result Idles }
 {
@@ -331,9 +328,6 @@ pub fn select(
     if let Some(name) = table_off(image, sources) {
         return Ok(Planned::answered(alloc, versioning(name.copy(alloc)?, false)));
     }
-    if has_periods(image, sources) {
-        return Ok(Planned::answered(alloc, not_built()));
-    }
     let columns = columns_in(alloc, image, sources)?;
     if let Some(refusal) = query_fault(alloc, &columns, query)? {
         return Ok(Planned::answered(alloc, Answer::Refused(refusal)));
@@ -341,7 +335,11 @@ pub fn select(
     let Some(_) = image.space(session.space()) else {
         return Ok(Planned::answered(alloc, not_built()));
     };
-    let listings = sources_in(alloc, image, version_of(image, session), sources)?;
+    if empty {
+        return Ok(Planned::answered(alloc, empty_period()));
+    }
+    let version = version_of(image, session);
+    let listings = sources_in(alloc, image, moment, session, version, sources)?;
     let found = answer(alloc, query, &columns, &listings)?;
     Ok(Planned::answered(alloc, found))
 }

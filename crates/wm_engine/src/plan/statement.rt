@@ -4,7 +4,6 @@ ghost use Rattle.wm_base.specs.declared.instant.TheConstants.{END};
 ghost use Rattle.wm_base.specs.Views.{statement_view};
 ghost use Rattle.wm_engine.specs.Forks.{ChangesFew, forks};
 ghost use Rattle.wm_engine.specs.Idle.{Idles};
-ghost use Rattle.wm_engine.specs.Lasting.{lasts_statement};
 ghost use Rattle.wm_engine.specs.Planning.{DoesIt};
 ghost use Rattle.wm_graph.specs.Parts.{parts_of};
 ghost use Rattle.wm_graph.specs.Rules.{keep_rules};
@@ -24,6 +23,7 @@ use crate::session::{Session, session_named};
 use std::alloc::Global;
 use wm_base::tree::statement::Statement;
 use wm_base::{Memory, Name};
+use wm_calls::has_empty_period;
 use wm_image::Image;
 
 /// What a statement does and answers.
@@ -36,14 +36,13 @@ fn run_statement(
 ) -> Result<Planned, Memory>
     requires rules { keep_rules (parts_of image.now) ≡ true }
     requires moment { moment < END }
-    // No item of a query has a written period that is empty.
-    requires lasting { lasts_statement (statement_view statement.now) ≡ true }
     ensures does { IfOk result (λ p. (xs : List SessionState) → DoesIt image.now xs moment p (run_statement session.now (statement_view statement.now))) }
     ensures fit { IfOk result (λ p. FitPages p.changes) }
     ensures idle { IfOk result Idles }
     // A savepoint or a workspace that is made changes few records.
     ensures few { forks (statement_view statement.now) ≡ true → IfOk result (λ p. ChangesFew image.now (applied p.changes image.now)) }
 {
+    let empty = has_empty_period(statement);
     match statement {
         Statement::Create { table, items } => create(alloc, image, moment, table, items),
         Statement::Insert {
@@ -58,6 +57,7 @@ fn run_statement(
             table,
             names,
             values.as_slice(),
+            empty,
         ),
         Statement::Update {
             table,
@@ -71,11 +71,12 @@ fn run_statement(
             table,
             sets.as_slice(),
             filter,
+            empty,
         ),
         Statement::Delete { table, filter } => {
-            delete(alloc, image, moment, session, table, filter)
+            delete(alloc, image, moment, session, table, filter, empty)
         }
-        Statement::Select(query) => select(alloc, image, session, query),
+        Statement::Select(query) => select(alloc, image, moment, session, query, empty),
         Statement::Call {
             procedure,
             args,
@@ -95,8 +96,6 @@ pub fn run(
 ) -> Result<Planned, Memory>
     requires rules { keep_rules (parts_of image.now) ≡ true }
     requires moment { moment < END }
-    // No item of a query has a written period that is empty.
-    requires lasting { lasts_statement (statement_view statement.now) ≡ true }
     ensures does { IfOk result (λ p. DoesIt image.now sessions.now moment p (λ s. run_for name.now (session_of name.now s.sessions) (statement_view statement.now) s)) }
     ensures fit { IfOk result (λ p. FitPages p.changes) }
     ensures idle { IfOk result Idles }
