@@ -39,12 +39,6 @@ record Makes (ps : List Piece) : Type 0 where
 begun_at : (p : Piece) (ps : List Piece) (from : ℕ) → Makes ps → p.gone ≡ false → stretches_from from (p ∷ ps) ≡ earlier from (spans (p ∷ ps))
 begun_at p ps from rest stands = rw stands (by_goes (goes_on p ps) refl)
   where
-    nothing : Option Span
-    nothing = None
-
-    whole : Span
-    whole = record { from = from; till = p.period.till }
-
     by_goes : (b : Bool) → goes_on p ps ≡ b
         → option_to_list (option_map (stretch_of p.stamp.number) (let nothing : Option Span = None in let whole : Span = record { from = from; till = p.period.till } in if b then nothing else Some whole))
         ++ stretches_from (if b then from else first_from ps) ps

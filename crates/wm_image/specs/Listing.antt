@@ -16,7 +16,7 @@ row_under p stamp = option_map (λ (r : RowRecord). let row : Row = record { val
 
 -- what is shown of the rows on stretches
 abbrev pub shown_on : Parts → Bool → Span → List Stretch → List Row
-shown_on p valid within ss = filter_map (λ s. seen_row valid within s (row_under p s.stamp)) ss
+shown_on p valid within ss = filter_map (λ (s : Stretch). seen_row valid within s (row_under p s.stamp)) ss
 
 -- what is shown of the rows of a key that a version holds was put behind others
 pub record AddsRows (p : Parts) (version table : ℕ) (valid : Bool) (within : Span) (key : List Value) (old new : List Row) : Type 0 where

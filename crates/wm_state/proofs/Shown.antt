@@ -73,11 +73,11 @@ listed_step P f a l all = by_some (f a) refl
         ((λ other is. ap P (some_same other row (sym is ∙ e)) ∙ h.0), h.1)
 
 pub all_shown : (P Q : Row → Bool) → ((row : Row) (period : Span) → P row ≡ true → Q (with_span period row) ≡ true) → (f : List Value × Stretch → Option Row) (within : Span) (places : List (List Value × Stretch))
-    → list_all P (filter_map f places) ≡ true → list_all Q (filter_map (λ place. seen_row true within place.1 (f place)) places) ≡ true
+    → list_all P (filter_map f places) ≡ true → list_all Q (filter_map (λ (place : List Value × Stretch). seen_row true within place.1 (f place)) places) ≡ true
 all_shown P Q timed f within [] all = refl
 all_shown P Q timed f within (place ∷ places) all =
     let h = listed_step P f place places all in
-    shown_step Q (λ x. seen_row true within x.1 (f x)) place places (λ row is. passes row (has_period within place.1 (f place) row is) h.0) (all_shown P Q timed f within places h.1)
+    shown_step Q (λ (x : List Value × Stretch). seen_row true within x.1 (f x)) place places (λ row is. passes row (has_period within place.1 (f place) row is) h.0) (all_shown P Q timed f within places h.1)
   where
     passes : (shown : Row) → HasPeriod within place.1 (f place) shown → ((row : Row) → f place ≡ Some row → P row ≡ true) → Q shown ≡ true
     passes shown is first = ap Q is.timed ∙ timed is.row (span_on place.1) (first is.row is.found)
