@@ -1,14 +1,14 @@
 -- What a period shares with the first stretch that it overlaps.
-use Rattle.std.proofs.Common.{◌≡◌, ℕ, ◌<◌, ◌&&◌, nat_lt, nat_le, Bool, true, false, if◌then◌else◌, List, [], ◌∷◌, ◌++◌, Option, Some, None, is_some, max, refl, sym, ap, arith}
+use Rattle.std.proofs.Common.{◌≡◌, ℕ, ◌<◌, ◌&&◌, nat_lt, nat_le, Bool, true, false, if◌then◌else◌, List, [], ◌∷◌, ◌++◌, Option, Some, None, is_some, max, refl, sym, ap, ◌∙◌, arith}
 use Rattle.std.specs.Bool.{then_some}
 use Rattle.std.specs.Option.{option_or}
 use Rattle.wm_base.specs.Period.{Span, covers, overlaps, shared}
 use Rattle.wm_base.specs.declared.value.Value.{Value}
 use Rattle.wm_graph.specs.Parts.{Parts}
-use Rattle.wm_spec.specs.Lists.{Entry}
+use Rattle.wm_spec.specs.Lists.{Entry, stamp_at}
 use Rattle.wm_spec.specs.Stretches.{Stretch, value_at, AreMaximal, rows_of_key}
 use Rattle.wm_state.specs.Listing.{AreRowsOf, first_shared, span_on}
-use Rattle.wm_state.proofs.Listed.{HoldsAll, key_rows}
+use Rattle.wm_state.proofs.Listed.{HoldsAll, key_rows, seen_is}
 use Rattle.wm_state.proofs.Tests.{bool_apart}
 
 -- of stretches one behind others the first that it overlaps is one of the first, where it overlaps one of them
@@ -82,3 +82,15 @@ shared-some period (s ∷ ss) low found lasts maximal e = by_test (overlaps (spa
           in_second s.from s.till period.from period.till lasts e,
         ) (refl, either (value_at ss (max s.from period.from)) s.stamp)
     by_test false e h rest = let both = rest h in (both.0, more (value_at ss found.from) (then_some (has s.from s.till found.from) s.stamp) both.1)
+
+-- ---- the same of what a list of entries holds
+
+pub free_of : (p : Parts) (version : ℕ) (es : List Entry) (table : ℕ) (key : List Value) (period : Span) (ss : List Stretch) → HoldsAll p version es → AreRowsOf p version table key ss → first_shared period ss ≡ None
+    → (t : ℕ) → covers period t ≡ true → stamp_at es table key t ≡ None
+free_of p version es table key period ss holds are none t in_it = sym (are.held t ∙ seen_is p version es holds table key t) ∙ shared-none period ss none t in_it
+
+pub met_of : (p : Parts) (version : ℕ) (es : List Entry) (table : ℕ) (key : List Value) (period : Span) (ss : List Stretch) (found : Span) → HoldsAll p version es → AreRowsOf p version table key ss
+    → period.from < period.till → first_shared period ss ≡ Some found → (covers period found.from ≡ true) × (is_some (stamp_at es table key found.from) ≡ true)
+met_of p version es table key period ss found holds are lasts some =
+    let met = shared-some period ss 0 found lasts are.maximal some in
+    (met.0, ap is_some (sym (are.held found.from ∙ seen_is p version es holds table key found.from)) ∙ met.1)
