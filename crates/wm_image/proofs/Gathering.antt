@@ -10,6 +10,7 @@ use Rattle.std.specs.declared.cmp.Ordering.{Ordering}
 use Rattle.std.specs.declared.cmp.Ordering.TheVariants.{Less, Equal, Greater}
 use Rattle.wm_base.specs.Key.{key_order}
 use Rattle.wm_base.specs.Orders.{key_order_total}
+use Rattle.wm_base.specs.Period.{Span}
 use Rattle.wm_base.specs.declared.instant.TheConstants.{END}
 use Rattle.wm_base.specs.declared.row.Row.{Row}
 use Rattle.wm_base.specs.declared.value.Value.{Value}
@@ -27,13 +28,15 @@ use Rattle.wm_spec.specs.declared.record.row.RowRecord.{RowRecord}
 use Rattle.wm_spec.specs.declared.record.stored.Stored.{Stored}
 use Rattle.wm_spec.specs.declared.record.table.Table.{Table}
 use Rattle.wm_spec.specs.declared.record.version.Version.{Version}
-use Rattle.wm_state.specs.Listing.{standing, ComesBefore, KeysAscend, is_key_in, AreRowsOf, row_with, Groups, keys_of, joined, AreAllRowsOf, IsListing}
+use Rattle.wm_state.specs.Listing.{standing, ComesBefore, KeysAscend, is_key_in, AreRowsOf, row_shown_with, Groups, keys_of, joined, AreAllRowsOf, IsShowing}
 use Rattle.wm_state.specs.Standing.{stored_at, seen_at, newest_first, seen}
 use Rattle.wm_state.proofs.Apart.{ruled}
 use Rattle.wm_state.proofs.Tests.{both}
 use Rattle.wm_tree.specs.declared.version.Version.{Version as Node}
-use Rattle.wm_image.proofs.Spans.{spans, maximal, value, rows_are}
-use Rattle.wm_image.specs.Listing.{AddsRows, IsKeyListing, rows_on}
+use Rattle.wm_image.proofs.Spans.{spans, maximal, value}
+use Rattle.wm_image.proofs.Standing.{stretches_are, shown_keyed}
+use Rattle.wm_image.specs.Listing.{AddsRows, IsKeyListing, IsKeyShowing, shown_on}
+use Rattle.wm_image.specs.Standing.{stretches_on}
 use Rattle.wm_image.specs.Sought.{PiecesAt, is_sought}
 
 -- ---- nothing is held from the end of time on
@@ -92,37 +95,49 @@ late_seen p version table key t rules late =
 
 -- ---- the rows of a key
 
-pub adds_rows : (p : Parts) (version table : ℕ) (key : List Value) (ps : List Piece) (old new : List Row) → keep_rules p ≡ true → Between 0 ps END
-    → ((t : ℕ) → t < END → held_at ps t ≡ seen p version (record { table = table; key = key; time = t })) → new ≡ old ++ rows_on p ps → AddsRows p version table key old new
-adds_rows p version table key ps old new rules order same added = record {
-  stretches = spans ps;
-  are = record { maximal = maximal 0 ps END order; held = λ t. value 0 ps END order t ∙ ap (option_and_then standing) (by_time t (nat_lt t END) refl) };
-  added = added ∙ ap (λ rows. old ++ rows) (rows_are p key ps);
-}
+-- the stretches of the pieces that a version has for a key are those of the rows that it holds
+pub are_rows : (p : Parts) (version table : ℕ) (key : List Value) (ps : List Piece) → keep_rules p ≡ true → Between 0 ps END
+    → ((t : ℕ) → t < END → held_at ps t ≡ seen p version (record { table = table; key = key; time = t })) → AreRowsOf p version table key (stretches_on ps)
+are_rows p version table key ps rules order same =
+    subst (AreRowsOf p version table key) (sym (stretches_are ps))
+    (record { maximal = maximal 0 ps END order; held = λ t. value 0 ps END order t ∙ ap (option_and_then standing) (by_time t (nat_lt t END) refl) })
   where
     by_time : (t : ℕ) (b : Bool) → nat_lt t END ≡ b → held_at ps t ≡ seen p version (cell table key t)
     by_time t true e = same t (below t END e)
     by_time t false e = held_at-past 0 ps END t order (above t END e) ∙ sym (late_seen p version table key t rules (above t END e))
 
+pub adds_rows : (p : Parts) (version table : ℕ) (valid : Bool) (within : Span) (key : List Value) (ps : List Piece) (old new : List Row) → keep_rules p ≡ true → Between 0 ps END
+    → ((t : ℕ) → t < END → held_at ps t ≡ seen p version (record { table = table; key = key; time = t })) → new ≡ old ++ shown_on p valid within (stretches_on ps) → AddsRows p version table valid within key old new
+adds_rows p version table valid within key ps old new rules order same added = record {
+  stretches = stretches_on ps;
+  are = are_rows p version table key ps rules order same;
+  added = added ∙ ap (λ rows. old ++ rows) (shown_keyed p valid within key (stretches_on ps));
+}
+
 -- what was put behind nothing is all of them
-pub lists_key : (p : Parts) (version table : ℕ) (key : List Value) (old new : List Row) → old ≡ [] → AddsRows p version table key old new → IsKeyListing p version table key new
-lists_key p version table key old new none more = record {
+pub lists_key : (p : Parts) (version table : ℕ) (valid : Bool) (within : Span) (key : List Value) (old new : List Row) → old ≡ [] → AddsRows p version table valid within key old new
+    → IsKeyShowing p version table valid within key new
+lists_key p version table valid within key old new none more = record {
   stretches = more.stretches;
   are = more.are;
-  listed = more.added ∙ ap (λ rows. rows ++ filter_map (row_with p) (map (λ s. (key, s)) more.stretches)) none;
+  shown = more.added ∙ ap (λ rows. rows ++ filter_map (row_shown_with p valid within) (map (λ s. (key, s)) more.stretches)) none;
 }
+
+-- without valid time all of them are shown
+pub lists_all : (p : Parts) (version table : ℕ) (within : Span) (key : List Value) (rows : List Row) → IsKeyShowing p version table false within key rows → IsKeyListing p version table key rows
+lists_all p version table within key rows is = record { stretches = is.stretches; are = is.are; listed = is.shown }
 
 -- ---- key by key
 
--- the rows of keys were gathered
-pub record Gathered (p : Parts) (version table : ℕ) (keys : List (List Value)) (rows : List Row) : Type 0 where
+-- what is shown of the rows of keys was gathered
+pub record Gathered (p : Parts) (version table : ℕ) (valid : Bool) (within : Span) (keys : List (List Value)) (rows : List Row) : Type 0 where
   pub groups : Groups
   pub keyed : keys_of groups ≡ keys
   pub held : AreAllRowsOf p version table groups
-  pub are : rows ≡ filter_map (row_with p) (joined groups)
+  pub are : rows ≡ filter_map (row_shown_with p valid within) (joined groups)
 
-pub gathered_none : (p : Parts) (version table : ℕ) (rows : List Row) → rows ≡ [] → Gathered p version table [] rows
-gathered_none p version table rows none = record { groups = []; keyed = refl; held = tt; are = none }
+pub gathered_none : (p : Parts) (version table : ℕ) (valid : Bool) (within : Span) (rows : List Row) → rows ≡ [] → Gathered p version table valid within [] rows
+gathered_none p version table valid within rows none = record { groups = []; keyed = refl; held = tt; are = none }
 
 keys_of-push : (gs : Groups) (key : List Value) (ss : List Stretch) → keys_of (gs ++ (key, ss) ∷ []) ≡ keys_of gs ++ key ∷ []
 keys_of-push [] key ss = refl
@@ -136,24 +151,25 @@ joined-push : (gs : Groups) (key : List Value) (ss : List Stretch) → joined (g
 joined-push [] key ss = append-nil (map (λ s. (key, s)) ss)
 joined-push (g ∷ gs) key ss = ap (λ l. map (λ s. (g.0, s)) g.1 ++ l) (joined-push gs key ss) ∙ sym (append_assoc (map (λ s. (g.0, s)) g.1) (joined gs) (map (λ s. (key, s)) ss))
 
-pub gathered_more : (p : Parts) (version table : ℕ) (keys : List (List Value)) (key : List Value) (old new : List Row) → Gathered p version table keys old → AddsRows p version table key old new
-    → Gathered p version table (keys ++ key ∷ []) new
-gathered_more p version table keys key old new so more = record {
+pub gathered_more : (p : Parts) (version table : ℕ) (valid : Bool) (within : Span) (keys : List (List Value)) (key : List Value) (old new : List Row) → Gathered p version table valid within keys old
+    → AddsRows p version table valid within key old new → Gathered p version table valid within (keys ++ key ∷ []) new
+gathered_more p version table valid within keys key old new so more = record {
   groups = so.groups ++ (key, more.stretches) ∷ [];
   keyed = keys_of-push so.groups key more.stretches ∙ ap (λ ks. ks ++ key ∷ []) so.keyed;
   held = held-push p version table so.groups key more.stretches so.held more.are;
   are =
       more.added
-      ∙ ap (λ rows. rows ++ filter_map (row_with p) (map (λ s. (key, s)) more.stretches)) so.are
-      ∙ sym (filter_map-append (row_with p) (joined so.groups) (map (λ s. (key, s)) more.stretches))
-      ∙ ap (filter_map (row_with p)) (sym (joined-push so.groups key more.stretches));
+      ∙ ap (λ rows. rows ++ filter_map (row_shown_with p valid within) (map (λ s. (key, s)) more.stretches)) so.are
+      ∙ sym (filter_map-append (row_shown_with p valid within) (joined so.groups) (map (λ s. (key, s)) more.stretches))
+      ∙ ap (filter_map (row_shown_with p valid within)) (sym (joined-push so.groups key more.stretches));
 }
 
 -- the same where the keys are gone through in order
-pub gathered_next : (p : Parts) (version table : ℕ) (keys : List (List Value)) (i : ℕ) (key : List Value) (old new : List Row) → i < length keys → key ≡ get_or keys i key
-    → Gathered p version table (take i keys) old → AddsRows p version table key old new → Gathered p version table (take (i + 1) keys) new
-gathered_next p version table keys i key old new within read so more =
-    subst (λ ks. Gathered p version table ks new) (ap (λ k. take i keys ++ k ∷ []) read ∙ sym (take_more keys i key within)) (gathered_more p version table (take i keys) key old new so more)
+pub gathered_next : (p : Parts) (version table : ℕ) (valid : Bool) (within : Span) (keys : List (List Value)) (i : ℕ) (key : List Value) (old new : List Row) → i < length keys → key ≡ get_or keys i key
+    → Gathered p version table valid within (take i keys) old → AddsRows p version table valid within key old new → Gathered p version table valid within (take (i + 1) keys) new
+gathered_next p version table valid within keys i key old new less read so more =
+    subst (λ ks. Gathered p version table valid within ks new) (ap (λ k. take i keys ++ k ∷ []) read ∙ sym (take_more keys i key less))
+    (gathered_more p version table valid within (take i keys) key old new so more)
 
 -- ---- all keys
 
@@ -180,10 +196,11 @@ sought_pieces table k [] = refl
 sought_pieces table k (records.Piece x ∷ rs) = ap (λ b. ((x.cells.table == table) && is_eq (key_order x.cells.key k)) || b) (sought_pieces table k rs)
 sought_pieces table k (_ ∷ rs) = sought_pieces table k rs
 
-pub is_listing : (ss : List Stored) (version table : ℕ) (keys passed : List (List Value)) (rows : List Row) → passed ≡ keys → Gathered (parts_of ss) version table passed rows → IsStrictlySortedBy key_order keys
-    → ((k : List Value) → list_any (λ q. is_eq (key_order k q)) keys ≡ list_any (is_sought (PiecesAt table k)) (map (λ (s : Stored). s.record) ss)) → IsListing (parts_of ss) version table rows
+pub is_showing : (ss : List Stored) (version table : ℕ) (valid : Bool) (within : Span) (keys passed : List (List Value)) (rows : List Row) → passed ≡ keys → Gathered (parts_of ss) version table valid within passed rows
+    → IsStrictlySortedBy key_order keys
+    → ((k : List Value) → list_any (λ q. is_eq (key_order k q)) keys ≡ list_any (is_sought (PiecesAt table k)) (map (λ (s : Stored). s.record) ss)) → IsShowing (parts_of ss) version table valid within rows
 unfolding parts_of
-is_listing ss version table keys passed rows all so sorted each = record {
+is_showing ss version table valid within keys passed rows all so sorted each = record {
   groups = so.groups;
   ascend = subst KeysAscend (sym (so.keyed ∙ all)) (ascend keys sorted);
   whole = λ k out.

@@ -1,28 +1,24 @@
 -- The stretches of the pieces of a key.
-use Rattle.std.proofs.Common.{◌≡◌, ℕ, ◌<◌, ◌≤◌, ◌==◌, ◌&&◌, ◌||◌, nat_lt, nat_le, Bool, true, false, not, if◌then◌else◌, List, [], ◌∷◌, ◌++◌, map, Option, Some, None, refl, sym, ap, ◌∙◌, arith}
+use Rattle.std.proofs.Common.{◌≡◌, ℕ, ◌<◌, ◌≤◌, ◌==◌, ◌&&◌, ◌||◌, nat_lt, nat_le, Bool, true, false, not, if◌then◌else◌, List, [], ◌∷◌, Option, Some, None, refl, sym, ap, ◌∙◌, arith}
 use Rattle.std.proofs.lemmas.Bool.{eq-eqb, eqb-true}
 use Rattle.std.specs.Bool.{then_some}
-use Rattle.std.specs.List.{filter_map, cons_option}
-use Rattle.std.specs.Option.{option_or, option_and_then, option_to_list}
+use Rattle.std.specs.Option.{option_or, option_and_then}
 use Rattle.wm_base.specs.Period.{covers}
-use Rattle.wm_base.specs.declared.row.Row.{Row}
-use Rattle.wm_base.specs.declared.value.Value.{Value}
-use Rattle.wm_graph.specs.Parts.{Parts}
 use Rattle.wm_period.specs.Pieces.{Between, held, held_at}
 use Rattle.wm_period.specs.declared.piece.Piece.{Piece}
 use Rattle.wm_period.proofs.Order.{held_at-early}
 use Rattle.wm_spec.specs.Stretches.{Stretch, value_at, IsApart, AreMaximal}
 use Rattle.wm_spec.proofs.Lists.{option_or-none, option_or_assoc}
-use Rattle.wm_state.specs.Listing.{standing, row_with}
+use Rattle.wm_state.specs.Listing.{standing}
 use Rattle.wm_state.proofs.Tests.{both, not_true, bool_apart}
-use Rattle.wm_image.specs.Listing.{goes_on, row_under, rows_on}
+use Rattle.wm_image.specs.Standing.{goes_on}
 
 -- the stretch of one piece
-abbrev span : Piece → Stretch
+abbrev pub span : Piece → Stretch
 span p = record { from = p.period.from; till = p.period.till; stamp = p.stamp.number }
 
 -- the first begins at an instant
-abbrev earlier : ℕ → List Stretch → List Stretch
+abbrev pub earlier : ℕ → List Stretch → List Stretch
 earlier from [] = []
 earlier from (s ∷ ss) = let first : Stretch = record { from = from; till = s.till; stamp = s.stamp } in first ∷ ss
 
@@ -42,12 +38,12 @@ Begins-earlier from till stamp other [] same begins = begins
 Begins-earlier from till stamp other (s ∷ ss) same begins = (refl, begins.1 ∙ sym same)
 
 -- a row that stands on behind a piece
-record Meets (p q : Piece) : Type 0 where
-  stands : q.gone ≡ false
-  meets : p.period.till ≡ q.period.from
-  stamp : p.stamp.number ≡ q.stamp.number
+pub record Meets (p q : Piece) : Type 0 where
+  pub stands : q.gone ≡ false
+  pub meets : p.period.till ≡ q.period.from
+  pub stamp : p.stamp.number ≡ q.stamp.number
 
-meets : (p q : Piece) (qs : List Piece) → goes_on p (q ∷ qs) ≡ true → Meets p q
+pub meets : (p q : Piece) (qs : List Piece) → goes_on p (q ∷ qs) ≡ true → Meets p q
 meets p q qs e =
     let h = both (not q.gone) ((p.period.till == q.period.from) && (p.stamp.number == q.stamp.number)) e in
     let g = both (p.period.till == q.period.from) (p.stamp.number == q.stamp.number) h.1 in
@@ -203,29 +199,3 @@ value low (p ∷ ps) high order t = by_gone p.gone refl (value p.period.till ps 
         → value_at (if b then spans ps else (if goes_on p ps then earlier p.period.from (spans ps) else span p ∷ spans ps)) t ≡ option_and_then standing (held_at (p ∷ ps) t)
     by_gone true e is = sym (option_or-none (value_at (spans ps) t)) ∙ ap (option_or (value_at (spans ps) t)) (sym (gone_stamp e (covers p.period t))) ∙ shown is
     by_gone false e is = by_goes (goes_on p ps) refl ∙ ap (option_or (value_at (spans ps) t)) (own_stamp e (covers p.period t)) ∙ shown is
-
--- ---- their rows
-
-pub rows_are : (p : Parts) (key : List Value) (ps : List Piece) → rows_on p ps ≡ filter_map (row_with p) (map (λ s. (key, s)) (spans ps))
-rows_are p key [] = refl
-rows_are p key (x ∷ xs) = by_gone x.gone (rows_are p key xs)
-  where
-    consed : (o : Option Row) (rs : List Row) → option_to_list o ++ rs ≡ cons_option o rs
-    consed None rs = refl
-    consed (Some r) rs = refl
-
-    same : (ss : List Stretch) → filter_map (row_with p) (map (λ s. (key, s)) ss) ≡ filter_map (row_with p) (map (λ s. (key, s)) (earlier x.period.from ss))
-    same [] = refl
-    same (s ∷ ss) = refl
-
-    by_goes : (b : Bool) → rows_on p xs ≡ filter_map (row_with p) (map (λ s. (key, s)) (spans xs))
-        → option_to_list (option_and_then (row_under p) (let nothing : Option ℕ = None in if b then nothing else Some x.stamp.number)) ++ rows_on p xs
-        ≡ filter_map (row_with p) (map (λ s. (key, s)) (if b then earlier x.period.from (spans xs) else span x ∷ spans xs))
-    by_goes true is = is ∙ same (spans xs)
-    by_goes false is = consed (row_under p x.stamp.number) (rows_on p xs) ∙ ap (cons_option (row_under p x.stamp.number)) is
-
-    by_gone : (b : Bool) → rows_on p xs ≡ filter_map (row_with p) (map (λ s. (key, s)) (spans xs))
-        → option_to_list (option_and_then (row_under p) (let nothing : Option ℕ = None in if b || goes_on x xs then nothing else Some x.stamp.number)) ++ rows_on p xs
-        ≡ filter_map (row_with p) (map (λ s. (key, s)) (if b then spans xs else (if goes_on x xs then earlier x.period.from (spans xs) else span x ∷ spans xs)))
-    by_gone true is = is
-    by_gone false is = by_goes (goes_on x xs) is

@@ -2,4 +2,5 @@ pub mod Sought
 pub mod Indexed
 pub mod Shown
 pub mod Listing
+pub mod Standing
 pub mod Gone

@@ -1,41 +1,43 @@
--- The rows that the pieces of a key show.
-use Rattle.std.specs.Prelude.{ℕ, ◌≡◌, Bool, false, not, ◌&&◌, ◌||◌, ◌==◌, if◌then◌else◌, List, [], ◌∷◌, ◌++◌, map, Option, None, Some}
+-- What is listed of the rows of a key.
+use Rattle.std.specs.Prelude.{ℕ, ◌≡◌, Bool, List, ◌++◌, map, Option}
 use Rattle.std.specs.List.{filter_map}
-use Rattle.std.specs.Option.{option_and_then, option_map, option_to_list}
+use Rattle.std.specs.Option.{option_map}
+use Rattle.wm_base.specs.Period.{Span}
 use Rattle.wm_base.specs.declared.row.Row.{Row}
 use Rattle.wm_base.specs.declared.value.Value.{Value}
 use Rattle.wm_graph.specs.Parts.{Parts, row_of}
-use Rattle.wm_period.specs.declared.piece.Piece.{Piece}
 use Rattle.wm_spec.specs.Stretches.{Stretch}
 use Rattle.wm_spec.specs.declared.record.row.RowRecord.{RowRecord}
-use Rattle.wm_state.specs.Listing.{AreRowsOf, row_with}
-
--- the row of a piece stands on behind it: the next piece meets it and has a row of the same stamp
-abbrev pub goes_on : Piece → List Piece → Bool
-goes_on p [] = false
-goes_on p (q ∷ qs) = not q.gone && ((p.period.till == q.period.from) && (p.stamp.number == q.stamp.number))
-
--- the stamp of the row that stands on a piece and not behind it
-abbrev pub ending : Piece → List Piece → Option ℕ
-ending p rest = let nothing : Option ℕ = None in if p.gone || goes_on p rest then nothing else Some p.stamp.number
+use Rattle.wm_state.specs.Listing.{AreRowsOf, first_shared, row_shown_with, row_with, seen_row}
 
 -- the row of a stamp, without the stamp
 abbrev pub row_under : Parts → ℕ → Option Row
 row_under p stamp = option_map (λ (r : RowRecord). let row : Row = record { values = r.values } in row) (row_of p.rows stamp)
 
--- the rows that end on pieces, in order
-abbrev pub rows_on : Parts → List Piece → List Row
-rows_on p [] = []
-rows_on p (x ∷ xs) = option_to_list (option_and_then (row_under p) (ending x xs)) ++ rows_on p xs
+-- what is shown of the rows on stretches
+abbrev pub shown_on : Parts → Bool → Span → List Stretch → List Row
+shown_on p valid within ss = filter_map (λ (s : Stretch). seen_row valid within s (row_under p s.stamp)) ss
 
--- the rows of a key that a version holds were put behind others
-pub record AddsRows (p : Parts) (version table : ℕ) (key : List Value) (old new : List Row) : Type 0 where
+-- what is shown of the rows of a key that a version holds was put behind others
+pub record AddsRows (p : Parts) (version table : ℕ) (valid : Bool) (within : Span) (key : List Value) (old new : List Row) : Type 0 where
   pub stretches : List Stretch
   pub are : AreRowsOf p version table key stretches
-  pub added : new ≡ old ++ filter_map (row_with p) (map (λ s. (key, s)) stretches)
+  pub added : new ≡ old ++ filter_map (row_shown_with p valid within) (map (λ s. (key, s)) stretches)
 
 -- the rows of one key that a version holds, by from
 pub record IsKeyListing (p : Parts) (version table : ℕ) (key : List Value) (rows : List Row) : Type 0 where
   pub stretches : List Stretch
   pub are : AreRowsOf p version table key stretches
   pub listed : rows ≡ filter_map (row_with p) (map (λ s. (key, s)) stretches)
+
+-- what is shown of them
+pub record IsKeyShowing (p : Parts) (version table : ℕ) (valid : Bool) (within : Span) (key : List Value) (rows : List Row) : Type 0 where
+  pub stretches : List Stretch
+  pub are : AreRowsOf p version table key stretches
+  pub shown : rows ≡ filter_map (row_shown_with p valid within) (map (λ s. (key, s)) stretches)
+
+-- what a period shares with the first row of a key that it overlaps, of those that a version holds
+pub record IsFirstShared (p : Parts) (version table : ℕ) (key : List Value) (period : Span) (found : Option Span) : Type 0 where
+  pub stretches : List Stretch
+  pub are : AreRowsOf p version table key stretches
+  pub first : found ≡ first_shared period stretches

@@ -17,12 +17,12 @@ ghost use Rattle.wm_spec.specs.Records.{AreRecords, record_at};
 ghost use Rattle.wm_image.specs.Sought.{PiecesAt, ids_with, is_sought};
 ghost use Rattle.wm_state.specs.Batches.{is_out, keeps};
 ghost use Rattle.wm_state.specs.ById.{Ascend, applied, by_id};
-ghost use Rattle.wm_image.specs.Listing.{IsKeyListing};
+ghost use Rattle.wm_image.specs.Listing.{IsFirstShared, IsKeyListing, IsKeyShowing};
 ghost use Rattle.wm_image.specs.Shown.{names};
 ghost use Rattle.wm_spec.specs.declared.record.savepoint.Savepoint.{Savepoint as OneSavepoint};
 ghost use Rattle.wm_spec.specs.declared.record.space.Space.{Space as OneSpace};
 ghost use Rattle.wm_state.specs.Effects.{IsFree};
-ghost use Rattle.wm_state.specs.Listing.{IsListing};
+ghost use Rattle.wm_state.specs.Listing.{IsListing, IsShowing};
 ghost use Rattle.wm_state.specs.Standing.{by_number, held_by, latest, saved_as, saved_in, seen};
 ghost use Rattle.wm_state.specs.State.{next_table};
 
@@ -31,8 +31,9 @@ use crate::index::Index;
 use crate::keyed::{ids_of, ids_on, keys_on, last_key};
 use crate::kinds;
 use crate::laying::lay_path;
-use crate::listing::{list_key, list_rows};
+use crate::listing::{Asked, list_key, list_rows};
 use crate::load::{ImageFault, put_all, sorted};
+use crate::overlap::find_shared;
 use crate::records::{Kept, at, change_all, first, next_id};
 use crate::savepoints::{making_after, savepoint_in, savepoint_of_name};
 use crate::shown::{latest_of, nearest, own_ids, version_at};
@@ -41,7 +42,7 @@ use crate::tables::{after_last, first_named, first_numbered, id_named};
 use std::alloc::Global;
 use std::collections::BTreeMap;
 use std::marker::Model;
-use wm_base::{Instant, Key, Memory, RowList};
+use wm_base::{Instant, Key, Memory, Period, RowList};
 use wm_graph::keeps_rules;
 use wm_period::Pieces;
 use wm_spec::record::{
@@ -349,7 +350,14 @@ impl Image {
         requires { keep_rules (parts_of self.now) ≡ true }
         ensures { IfOk result (λ rows. IsListing (parts_of self.now) version table rows) }
     {
-        list_rows(alloc, self, version, table)
+        let asked = Asked {
+            version,
+            table,
+            valid: false,
+            within: Period::always(),
+        };
+        let rows = list_rows(alloc, self, &asked)?;
+        Ok(rows)
     }
 
     /// The rows of a key of a table that a version holds, by from. The rest of the table is not looked at.
@@ -363,7 +371,72 @@ impl Image {
         requires { keep_rules (parts_of self.now) ≡ true }
         ensures { IfOk result (λ rows. IsKeyListing (parts_of self.now) version table key.now rows) }
     {
-        list_key(alloc, self, version, table, key)
+        let asked = Asked {
+            version,
+            table,
+            valid: false,
+            within: Period::always(),
+        };
+        let rows = list_key(alloc, self, &asked, key)?;
+        Ok(rows)
+    }
+
+    /// What is shown of the rows of a table that a version holds, by key and from: the rows; where the table has valid
+    /// time, those that overlap a period, each with its own behind its values.
+    pub fn showing(
+        &self,
+        alloc: Global,
+        version: u64,
+        table: &Table,
+        within: &Period,
+    ) -> Result<RowList, Memory>
+        requires { keep_rules (parts_of self.now) ≡ true }
+        ensures { IfOk result (λ rows. IsShowing (parts_of self.now) version table.now.number table.now.valid within.now rows) }
+    {
+        let asked = Asked {
+            version,
+            table: table.number,
+            valid: table.valid,
+            within: *within,
+        };
+        list_rows(alloc, self, &asked)
+    }
+
+    /// What is shown of the rows of a key of a table that a version holds, by from. The rest of the table is not looked at.
+    pub fn showing_of_key(
+        &self,
+        alloc: Global,
+        version: u64,
+        table: &Table,
+        within: &Period,
+        key: &Key,
+    ) -> Result<RowList, Memory>
+        requires { keep_rules (parts_of self.now) ≡ true }
+        ensures { IfOk result (λ rows. IsKeyShowing (parts_of self.now) version table.now.number table.now.valid within.now key.now rows) }
+    {
+        let asked = Asked {
+            version,
+            table: table.number,
+            valid: table.valid,
+            within: *within,
+        };
+        list_key(alloc, self, &asked, key)
+    }
+
+    /// What a period shares with the first row of a key that it overlaps, of those that a version holds; None exactly
+    /// where it overlaps none. The rest of the table is not looked at.
+    pub fn overlap(
+        &self,
+        alloc: Global,
+        version: u64,
+        table: u16,
+        key: &Key,
+        period: &Period,
+    ) -> Result<Option<Period>, Memory>
+        requires { keep_rules (parts_of self.now) ≡ true }
+        ensures { IfOk result (λ found. IsFirstShared (parts_of self.now) version table key.now period.now found) }
+    {
+        find_shared(alloc, self, version, table, key, period)
     }
 
     /// The record of an id.

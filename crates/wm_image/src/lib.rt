@@ -9,10 +9,12 @@ pub mod kinds;
 pub mod laying;
 pub mod listing;
 pub mod load;
+mod overlap;
 pub mod records;
 pub mod savepoints;
 pub mod shown;
 pub mod spaces;
+mod standing;
 pub mod tables;
 #[cfg(test)]
 mod tests;

@@ -1,128 +1,145 @@
-//! The rows of a table that a version holds.
+//! The rows of a table that a version holds, and what is shown of them.
 
-ghost use Rattle.std.specs.Prelude.{◌≡◌, true, ◌++◌, IfOk, OnOk};
-ghost use Rattle.std.specs.Option.{option_and_then, option_to_list};
+ghost use Rattle.std.specs.Prelude.{◌≡◌, true, [], ◌∷◌, ◌++◌, if◌then◌else◌, IfOk, OnOk};
+ghost use Rattle.std.specs.Option.{option_to_list};
+ghost use Rattle.wm_base.specs.Period.{overlaps};
+ghost use Rattle.wm_base.specs.declared.value.Value.TheVariants as values;
 ghost use Rattle.wm_graph.specs.Parts.{parts_of};
 ghost use Rattle.wm_graph.specs.Rules.{keep_rules};
-ghost use Rattle.wm_image.specs.Listing.{AddsRows, IsKeyListing, ending, goes_on, row_under, rows_on};
-ghost use Rattle.wm_state.specs.Listing.{IsListing};
+ghost use Rattle.wm_image.specs.Listing.{AddsRows, IsKeyShowing, row_under, shown_on};
+ghost use Rattle.wm_image.specs.Standing.{IsBegun, stretch_ending, stretch_of, stretches_on};
+ghost use Rattle.wm_state.specs.Listing.{IsShowing, seen_row};
 
 use crate::image::Image;
+use crate::standing::{ending, first_from, from_behind};
 use std::alloc::Global;
-use wm_base::{Key, Memory, Row, RowList};
+use wm_base::{Instant, Key, Memory, Period, Row, RowList, Value};
 use wm_period::Piece;
+use wm_spec::record::RowRecord;
 
-/// Whether the row of a piece stands on behind it, where the others follow.
-fn goes_on(piece: &Piece, rest: &[Piece]) -> bool
-    ensures { result ≡ goes_on piece.now rest.now }
-{
-    match rest {
-        [] => false,
-        [next, ..] => {
-            !next.gone
-                && piece.period.meets(&next.period)
-                && piece.stamp.number == next.stamp.number
-        }
-    }
+/// Which rows are asked for: those of a table in a version. Where they have valid time, those that overlap a period
+/// are, and each is shown with its own.
+#[derive(Drop)]
+pub struct Asked {
+    pub version: u64,
+    pub table: u16,
+    pub valid: bool,
+    pub within: Period,
 }
 
-/// The stamp of the row that stands on a piece and not behind it.
-fn ending(piece: &Piece, rest: &[Piece]) -> Option<u64>
-    ensures { result ≡ ending piece.now rest.now }
+/// Whether a row that stands on a period is shown.
+fn is_shown(asked: &Asked, period: &Period) -> bool
+    ensures { result ≡ (if asked.now.valid then overlaps period.now asked.now.within else true) }
 {
-    if piece.gone || goes_on(piece, rest) {
-        None
-    } else {
-        Some(piece.stamp.number)
-    }
+    !asked.valid || period.overlaps(&asked.within)
 }
 
-/// Puts a copy of the row of a stamp behind others, where there is such a row.
-fn push_row(alloc: Global, image: &Image, rows: &mut RowList, stamp: u64) -> Result<(), Memory>
-    ensures { OnOk result (rows.new ≡ rows.old ++ option_to_list (row_under (parts_of image.now) stamp)) }
+/// A copy of a row, with its period behind its values where it has valid time.
+fn copy_of(alloc: Global, found: &RowRecord, valid: bool, period: Period) -> Result<Row, Memory>
+    ensures { IfOk result (λ row. row.values ≡ (if valid then found.now.values ++ values.Span period ∷ [] else found.now.values)) }
 {
+    let mut values = found.values.copy(alloc)?;
+    if valid {
+        values.push(Value::Span(period))?;
+    }
+    Ok(Row { values })
+}
+
+/// Puts what is shown of the row of a stamp on a period behind others.
+fn push_row(
+    alloc: Global,
+    image: &Image,
+    rows: &mut RowList,
+    asked: &Asked,
+    period: Period,
+    stamp: u64,
+) -> Result<(), Memory>
+    ensures { OnOk result (rows.new ≡ rows.old ++ option_to_list (seen_row asked.now.valid asked.now.within (stretch_of stamp period) (row_under (parts_of image.now) stamp))) }
+{
+    if !is_shown(asked, &period) {
+        return Ok(());
+    }
     if let Some(found) = image.row(stamp) {
-        let values = found.values.copy(alloc)?;
-        rows.push(Row { values })?;
+        let row = copy_of(alloc, found, asked.valid, period)?;
+        rows.push(row)?;
     }
     Ok(())
 }
 
-/// Puts the row of a piece behind others, where it stands on the piece and not behind it.
+/// Puts what is shown of the row of a piece behind others, where it stands on the piece and not behind it.
 fn push_ending(
     alloc: Global,
     image: &Image,
     rows: &mut RowList,
+    asked: &Asked,
+    from: Instant,
     piece: &Piece,
     rest: &[Piece],
 ) -> Result<(), Memory>
-    ensures { OnOk result (rows.new ≡ rows.old ++ option_to_list (option_and_then (row_under (parts_of image.now)) (ending piece.now rest.now))) }
+    requires { IsBegun from (piece.now ∷ rest.now) }
+    ensures { OnOk result (rows.new ≡ rows.old ++ shown_on (parts_of image.now) asked.now.valid asked.now.within (stretch_ending from piece.now rest.now)) }
 {
-    if let Some(stamp) = ending(piece, rest) {
-        push_row(alloc, image, rows, stamp)?;
+    if let Some(period) = ending(from, piece, rest) {
+        push_row(alloc, image, rows, asked, period, piece.stamp.number)?;
     }
     Ok(())
 }
 
-/// Puts the rows of pieces behind others: a row once, where it stands on pieces that meet.
+/// Puts what is shown of the rows of pieces behind others: a row once, where it stands on pieces that meet.
 fn push_rows(
     alloc: Global,
     image: &Image,
     rows: &mut RowList,
+    asked: &Asked,
     pieces: &[Piece],
 ) -> Result<(), Memory>
-    ensures { OnOk result (rows.new ≡ rows.old ++ rows_on (parts_of image.now) pieces.now) }
+    ensures { OnOk result (rows.new ≡ rows.old ++ shown_on (parts_of image.now) asked.now.valid asked.now.within (stretches_on pieces.now)) }
 {
     let mut left = pieces;
+    let mut from = first_from(pieces);
     while let [piece, rest @ ..] = left {
-        push_ending(alloc, image, rows, piece, rest)?;
+        push_ending(alloc, image, rows, asked, from, piece, rest)?;
+        from = from_behind(from, piece, rest);
         left = rest;
     }
     Ok(())
 }
 
-/// Puts the rows of a key that a version holds behind others.
+/// Puts what is shown of the rows of a key behind others.
 fn push_key(
     alloc: Global,
     image: &Image,
     rows: &mut RowList,
-    version: u64,
-    table: u16,
+    asked: &Asked,
     key: &Key,
 ) -> Result<(), Memory>
     requires { keep_rules (parts_of image.now) ≡ true }
-    ensures { OnOk result (AddsRows (parts_of image.now) version table key.now rows.old rows.new) }
+    ensures { OnOk result (AddsRows (parts_of image.now) asked.now.version asked.now.table asked.now.valid asked.now.within key.now rows.old rows.new) }
 {
-    let pieces = image.shown(alloc, version, table, key)?;
-    push_rows(alloc, image, rows, pieces.list())?;
+    let pieces = image.shown(alloc, asked.version, asked.table, key)?;
+    push_rows(alloc, image, rows, asked, pieces.list())?;
     Ok(())
 }
 
-/// The rows of a key that a version holds, by from. Only the pieces of that key are looked at.
-pub fn list_key(
-    alloc: Global,
-    image: &Image,
-    version: u64,
-    table: u16,
-    key: &Key,
-) -> Result<RowList, Memory>
+/// What is shown of the rows of a key, by from. Only the pieces of that key are looked at.
+pub fn list_key(alloc: Global, image: &Image, asked: &Asked, key: &Key) -> Result<RowList, Memory>
     requires { keep_rules (parts_of image.now) ≡ true }
-    ensures { IfOk result (λ rows. IsKeyListing (parts_of image.now) version table key.now rows) }
+    ensures { IfOk result (λ rows. IsKeyShowing (parts_of image.now) asked.now.version asked.now.table asked.now.valid asked.now.within key.now rows) }
 {
     let mut rows = RowList::new(alloc);
-    push_key(alloc, image, &mut rows, version, table, key)?;
+    push_key(alloc, image, &mut rows, asked, key)?;
     Ok(rows)
 }
 
-/// The rows of a table that a version holds, by key and from.
-pub fn list_rows(alloc: Global, image: &Image, version: u64, table: u16) -> Result<RowList, Memory>
+/// What is shown of the rows of a table, by key and from.
+pub fn list_rows(alloc: Global, image: &Image, asked: &Asked) -> Result<RowList, Memory>
     requires { keep_rules (parts_of image.now) ≡ true }
-    ensures { IfOk result (λ rows. IsListing (parts_of image.now) version table rows) }
+    ensures { IfOk result (λ rows. IsShowing (parts_of image.now) asked.now.version asked.now.table asked.now.valid asked.now.within rows) }
 {
-    let keys = image.keys(alloc, table)?;
+    let keys = image.keys(alloc, asked.table)?;
     let mut rows = RowList::new(alloc);
     for key in &keys {
-        push_key(alloc, image, &mut rows, version, table, key)?;
+        push_key(alloc, image, &mut rows, asked, key)?;
     }
     Ok(rows)
 }

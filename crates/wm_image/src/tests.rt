@@ -1,7 +1,7 @@
 use crate::image::Image;
 use std::alloc::Global;
 use std::test::Fail;
-use wm_base::{Instant, Key, Kind, Memory, Name, Value, Values};
+use wm_base::{Instant, Key, Kind, Memory, Name, Period, Value, Values};
 use wm_spec::record::{
     Batch, CellRange, Change, Changes, ColumnKind, Counters, FreezeMode, PieceRecord, Record,
     Records, RowRecord, Savepoint, Space, Stored, Table, TableColumn, TableColumns, Version,
@@ -178,6 +178,11 @@ fn counters() -> Record {
 }
 
 fn table(alloc: Global) -> Result<Record, Memory> {
+    Ok(Record::Table(table_with(alloc, false)?))
+}
+
+/// The table, with or without valid time.
+fn table_with(alloc: Global, valid: bool) -> Result<Table, Memory> {
     let mut columns = TableColumns::new(alloc);
     columns.push(TableColumn {
         name: Name::copy_of(alloc, b"ID")?,
@@ -185,16 +190,16 @@ fn table(alloc: Global) -> Result<Record, Memory> {
         size: 0,
         not_null: true,
     })?;
-    Ok(Record::Table(Table {
+    Ok(Table {
         number: 1,
         name: Name::copy_of(alloc, b"T")?,
         versioned: true,
-        valid: false,
+        valid,
         history: false,
         has_key: true,
         key_column: 0,
         columns,
-    }))
+    })
 }
 
 fn full_row(alloc: Global, stamp: u64) -> Result<Record, Memory> {
@@ -247,6 +252,49 @@ fn rows_are_listed(rt: HostRuntime) -> Result<(), Fail> {
     );
     assert_eq!(rt; image.listing(alloc, 2, 2)?.len(), 0);
     assert_eq!(rt; image.listing(alloc, 9, 1)?.len(), 0);
+    Ok(())
+}
+
+fn period(from: u64, till: u64) -> Option<Period> {
+    Period::new(Instant::new(from)?, Instant::new(till)?)
+}
+
+/// Of a table with valid time a period shows the rows that it overlaps, with their whole periods. In the second
+/// version the row stands from 10 to 200, on two pieces.
+#[test]
+fn rows_are_shown_with_their_periods(rt: HostRuntime) -> Result<(), Fail> {
+    let alloc = rt.alloc();
+    let records = small_store(alloc)?;
+    let Ok(image) = Image::load(alloc, records) else {
+        return Ok(());
+    };
+    let key = Key::single(alloc, Value::Num(7))?;
+    let timed = table_with(alloc, true)?;
+    let plain = table_with(alloc, false)?;
+    let whole = period(10, 200).ok_or("a period")?;
+    // from and till; how many rows are shown; the part of the period that the row has
+    let cases = [
+        (0, 10, 0, None),
+        (0, 11, 1, period(10, 11)),
+        (50, 150, 1, period(50, 150)),
+        (199, 300, 1, period(199, 200)),
+        (200, 300, 0, None),
+    ];
+    for (from, till, count, part) in cases {
+        let within = period(from, till).ok_or("a period")?;
+        let rows = image.showing(alloc, 2, &timed, &within)?;
+        assert_eq!(rt; rows.len(), count, "{from}");
+        for row in rows.as_slice() {
+            let values = [Value::Num(7), Value::Span(whole)];
+            assert_eq!(rt; row.values.as_slice(), values.as_slice(), "{from}");
+        }
+        let of_key = image.showing_of_key(alloc, 2, &timed, &within, &key)?;
+        assert_eq!(rt; of_key.len(), count, "{from}");
+        let all = image.showing(alloc, 2, &plain, &within)?;
+        assert_eq!(rt; all.len(), 1);
+        assert_eq!(rt; all.as_slice()[0].values.len(), 1);
+        assert_eq!(rt; image.overlap(alloc, 2, 1, &key, &within)?, part);
+    }
     Ok(())
 }
 

@@ -19,7 +19,10 @@ pub mod Planning
 pub mod Dropping
 pub mod Planned
 pub mod Listing
+pub mod Shown
 pub mod Listed
+pub mod Shared
+pub mod Showing
 pub mod Forking
 pub mod Sprouting
 pub mod Birth

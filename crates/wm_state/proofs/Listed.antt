@@ -6,6 +6,7 @@ use Rattle.std.specs.List.{list_any, filter_map}
 use Rattle.std.specs.Option.{option_or, option_map, option_and_then}
 use Rattle.std.specs.Ordering.{is_eq}
 use Rattle.wm_base.specs.Key.{key_order}
+use Rattle.wm_base.specs.Period.{Span, always}
 use Rattle.wm_base.specs.declared.row.Row.{Row}
 use Rattle.wm_base.specs.declared.value.Value.{Value}
 use Rattle.wm_graph.specs.Parts.{Parts, row_of}
@@ -18,7 +19,8 @@ use Rattle.wm_spec.proofs.Stretches.{value-rows, AreMaximal-rows}
 use Rattle.wm_tree.specs.declared.version.Version.{Version as Node}
 use Rattle.wm_state.specs.State.{State, Workspace, Savepoint, content, kept, workspace_of, savepoint_made}
 use Rattle.wm_state.specs.Standing.{held_of, stored_at, seen_at, seen, newest_first, latest, saved_as, HasRows, Stands}
-use Rattle.wm_state.specs.Listing.{standing, stamp_seen, stamp_shown, is_key_in, listed, row_on, row_with, is_unwritten, IsListing, Groups, keys_of, joined, AreAllRowsOf}
+use Rattle.wm_state.specs.Listing.{standing, stamp_seen, stamp_shown, is_key_in, listed, row_on, row_with, seen_row, row_shown, row_shown_with, is_unwritten, IsListing, IsShowing, AreRowsOf, Groups, keys_of, joined, AreAllRowsOf}
+use Rattle.wm_state.proofs.Shown.{showing_listed}
 use Rattle.wm_state.proofs.Listing.{one_rows, rows_of, Covers, listed_same, first-listed, keys-ascend, no_rows_of, first-held, behind-held, either_false}
 
 -- ---- a key of which there is no piece
@@ -109,22 +111,26 @@ step_same f g a l e rest = by_some (g a) refl
     by_some None h = rw (e ∙ h, h) rest
     by_some (Some row) h = rw (e ∙ h, h) (ap (λ (rows : List Row). row ∷ rows) rest)
 
-rows_there : (p : Parts) (es : List Entry) → HasRows p es → (table : ℕ) (key : List Value) (ss : List Stretch) (low : ℕ) → AreMaximal low ss → ((t : ℕ) → low ≤ t → value_at ss t ≡ stamp_at es table key t)
-    → filter_map (row_with p) (map (λ x. (key, x)) ss) ≡ filter_map (row_on es table) (map (λ x. (key, x)) ss)
-rows_there p es has table key [] low max held = refl
-rows_there p es has table key (x ∷ xs) low max held =
-    step_same (row_with p) (row_on es table) (key, x) (map (λ x. (key, x)) xs)
-    (row_there p es has table (key, x) (sym (held x.from max.0) ∙ first-held low x xs x.from max (omega arith) max.1))
-    (rows_there p es has table key xs x.till max.3 (λ t le. sym (behind-held x xs t le) ∙ held t (omega (arith, max.0, max.1, le))))
+rows_there : (p : Parts) (es : List Entry) → HasRows p es → (table : ℕ) (valid : Bool) (within : Span) (key : List Value) (ss : List Stretch) (low : ℕ) → AreMaximal low ss
+    → ((t : ℕ) → low ≤ t → value_at ss t ≡ stamp_at es table key t)
+    → filter_map (row_shown_with p valid within) (map (λ x. (key, x)) ss) ≡ filter_map (row_shown es table valid within) (map (λ x. (key, x)) ss)
+rows_there p es has table valid within key [] low max held = refl
+rows_there p es has table valid within key (x ∷ xs) low max held =
+    step_same (row_shown_with p valid within) (row_shown es table valid within) (key, x) (map (λ x. (key, x)) xs)
+    (ap (seen_row valid within x) (row_there p es has table (key, x) (sym (held x.from max.0) ∙ first-held low x xs x.from max (omega arith) max.1)))
+    (rows_there p es has table valid within key xs x.till max.3 (λ t le. sym (behind-held x xs t le) ∙ held t (omega (arith, max.0, max.1, le))))
 
-all_there : (p : Parts) (es : List Entry) → HasRows p es → (table : ℕ) (ks : List (List Value)) → filter_map (row_with p) (listed (rows_of_key es table) ks) ≡ filter_map (row_on es table) (listed (rows_of_key es table) ks)
-all_there p es has table [] = refl
-all_there p es has table (k ∷ ks) =
-    filter_map-append (row_with p) (map (λ x. (k, x)) (rows_of_key es table k)) (listed (rows_of_key es table) ks)
-    ∙ ap (λ rs. rs ++ filter_map (row_with p) (listed (rows_of_key es table) ks))
-    (rows_there p es has table k (rows_of_key es table k) 0 (AreMaximal-rows es table k) (λ t le. value-rows es table k t))
-    ∙ ap (λ rs. filter_map (row_on es table) (map (λ x. (k, x)) (rows_of_key es table k)) ++ rs) (all_there p es has table ks)
-    ∙ sym (filter_map-append (row_on es table) (map (λ x. (k, x)) (rows_of_key es table k)) (listed (rows_of_key es table) ks))
+all_there : (p : Parts) (es : List Entry) → HasRows p es → (table : ℕ) (valid : Bool) (within : Span) (ks : List (List Value))
+    → filter_map (row_shown_with p valid within) (listed (rows_of_key es table) ks) ≡ filter_map (row_shown es table valid within) (listed (rows_of_key es table) ks)
+all_there p es has table valid within [] = refl
+all_there p es has table valid within (k ∷ ks) =
+    let with_key : List (List Value × Stretch) = map (λ x. (k, x)) (rows_of_key es table k) in
+    let others : List (List Value × Stretch) = listed (rows_of_key es table) ks in
+    filter_map-append (row_shown_with p valid within) with_key others
+    ∙ ap (λ rs. rs ++ filter_map (row_shown_with p valid within) others)
+    (rows_there p es has table valid within k (rows_of_key es table k) 0 (AreMaximal-rows es table k) (λ t le. value-rows es table k t))
+    ∙ ap (λ rs. filter_map (row_shown es table valid within) with_key ++ rs) (all_there p es has table valid within ks)
+    ∙ sym (filter_map-append (row_shown es table valid within) with_key others)
 
 -- ---- the listing
 
@@ -132,17 +138,18 @@ covered : (f : List Value → List Stretch) (xs ys : List (List Value)) → ((k 
 covered f [] ys none = tt
 covered f (x ∷ xs) ys none = (none x, covered f xs ys none)
 
--- where a version holds what a list of entries holds, and the rows stand, what is listed is what the list has
-pub listing_of : (p : Parts) (version : ℕ) (es : List Entry) (table : ℕ) (out : List Row) → HoldsAll p version es → HasRows p es → IsListing p version table out → out ≡ filter_map (row_on es table) (rows es table)
-listing_of p version es table out holds has l =
+-- where a version holds what a list of entries holds, and the rows stand, what is shown is what the list has
+pub showing_of : (p : Parts) (version : ℕ) (es : List Entry) (table : ℕ) (valid : Bool) (within : Span) (out : List Row) → HoldsAll p version es → HasRows p es → IsShowing p version table valid within out
+    → out ≡ filter_map (row_shown es table valid within) (rows es table)
+showing_of p version es table valid within out holds has l =
     l.are
-    ∙ ap (filter_map (row_with p))
+    ∙ ap (filter_map (row_shown_with p valid within))
     (joined_is l.groups l.held
     ∙ listed_same (rows_of_key es table) (keys_of l.groups) (keys es table) l.ascend (keys-ascend es table)
     (covered (rows_of_key es table) (keys_of l.groups) (keys es table) (no_rows_of es table))
     (covered (rows_of_key es table) (keys es table) (keys_of l.groups) (λ k out. no_rows k (l.whole k out))))
-    ∙ all_there p es has table (keys es table)
-    ∙ ap (filter_map (row_on es table)) (sym (first-listed es table (keys es table)))
+    ∙ all_there p es has table valid within (keys es table)
+    ∙ ap (filter_map (row_shown es table valid within)) (sym (first-listed es table (keys es table)))
   where
     -- a key of which there is no piece has no rows
     no_rows : (k : List Value) → is_unwritten p.pieces table k → rows_of_key es table k ≡ []
@@ -155,13 +162,40 @@ listing_of p version es table out holds has l =
         ap (λ ss. map (λ s. (g.0, s)) ss ++ joined gs) (rows_of p version table g.0 es g.1 (seen_is p version es holds table g.0) held.0)
         ∙ ap (λ rest. map (λ s. (g.0, s)) (rows_of_key es table g.0) ++ rest) (joined_is gs held.1)
 
--- what the newest version of a workspace lists is what its content has
+-- what the newest version of a workspace shows is what its content has
+pub showing_is : (p : Parts) (s : State) (n : ℕ) (w : Workspace) (table : ℕ) (valid : Bool) (within : Span) (out : List Row) → Stands p s → workspace_of s.spaces n ≡ Some w
+    → IsShowing p (latest p n) table valid within out → out ≡ filter_map (row_shown (content w) table valid within) (rows (content w) table)
+showing_is p s n w table valid within out st is = showing_of p (latest p n) (content w) table valid within out (st.latest.told n w is) (st.rows.there n w is)
+
+-- what the version of a savepoint shows is what stood there
+pub showing_saved : (p : Parts) (s : State) (n making : ℕ) (w : Workspace) (k : Savepoint) (x : Record) (table : ℕ) (valid : Bool) (within : Span) (out : List Row) → Stands p s → workspace_of s.spaces n ≡ Some w
+    → savepoint_made making w.savepoints ≡ Some k → saved_as p n making ≡ Some x → IsShowing p x.version table valid within out → out ≡ filter_map (row_shown (kept k) table valid within) (rows (kept k) table)
+showing_saved p s n making w k x table valid within out st is made saved =
+    showing_of p x.version (kept k) table valid within out (st.kept.told n making w k x is made saved) (st.rows.saved n making w k is made)
+
+-- ---- the same of all rows, without their periods
+
+pub listing_of : (p : Parts) (version : ℕ) (es : List Entry) (table : ℕ) (out : List Row) → HoldsAll p version es → HasRows p es → IsListing p version table out → out ≡ filter_map (row_on es table) (rows es table)
+listing_of p version es table out holds has l = showing_of p version es table false always out holds has (showing_listed p version table always out l)
+
 pub listing_is : (p : Parts) (s : State) (n : ℕ) (w : Workspace) (table : ℕ) (out : List Row) → Stands p s → workspace_of s.spaces n ≡ Some w → IsListing p (latest p n) table out
     → out ≡ filter_map (row_on (content w) table) (rows (content w) table)
 listing_is p s n w table out st is = listing_of p (latest p n) (content w) table out (st.latest.told n w is) (st.rows.there n w is)
 
--- what the version of a savepoint lists is what stood there
 pub listing_saved : (p : Parts) (s : State) (n making : ℕ) (w : Workspace) (k : Savepoint) (x : Record) (table : ℕ) (out : List Row) → Stands p s → workspace_of s.spaces n ≡ Some w
     → savepoint_made making w.savepoints ≡ Some k → saved_as p n making ≡ Some x → IsListing p x.version table out → out ≡ filter_map (row_on (kept k) table) (rows (kept k) table)
 listing_saved p s n making w k x table out st is made saved =
     listing_of p x.version (kept k) table out (st.kept.told n making w k x is made saved) (st.rows.saved n making w k is made)
+
+-- ---- one key
+
+-- the stretches of a key are those that the list has
+pub key_rows : (p : Parts) (version : ℕ) (es : List Entry) (table : ℕ) (key : List Value) (ss : List Stretch) → HoldsAll p version es → AreRowsOf p version table key ss → rows_of_key es table key ≡ ss
+key_rows p version es table key ss holds are = sym (rows_of p version table key es ss (seen_is p version es holds table key) are)
+
+-- and what is shown on them is what the list has of the key
+pub key_showing_of : (p : Parts) (version : ℕ) (es : List Entry) (table : ℕ) (valid : Bool) (within : Span) (key : List Value) (ss : List Stretch) → HoldsAll p version es → HasRows p es → AreRowsOf p version table key ss
+    → filter_map (row_shown_with p valid within) (map (λ s. (key, s)) ss) ≡ filter_map (row_shown es table valid within) (map (λ s. (key, s)) (rows_of_key es table key))
+key_showing_of p version es table valid within key ss holds has are =
+    rows_there p es has table valid within key ss 0 are.maximal (λ t le. are.held t ∙ seen_is p version es holds table key t)
+    ∙ ap (λ xs. filter_map (row_shown es table valid within) (map (λ s. (key, s)) xs)) (sym (key_rows p version es table key ss holds are))

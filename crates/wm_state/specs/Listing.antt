@@ -1,12 +1,14 @@
 -- What it takes to list the rows of a table.
-use Rattle.std.specs.Prelude.{ℕ, ◌≡◌, Bool, false, ◌&&◌, ◌==◌, List, [], ◌∷◌, ◌++◌, map, Option, Some, None, if◌then◌else◌}
+use Rattle.std.specs.Prelude.{ℕ, ◌≡◌, Bool, true, false, ◌&&◌, ◌==◌, List, [], ◌∷◌, ◌++◌, map, Option, Some, None, if◌then◌else◌}
 use Rattle.std.specs.List.{list_any, filter_map}
 use Rattle.std.specs.Option.{option_and_then, option_map}
 use Rattle.std.specs.Ordering.{is_eq}
 use Rattle.std.specs.declared.cmp.Ordering.TheVariants.{Less}
 use Rattle.wm_base.specs.Key.{key_order}
+use Rattle.wm_base.specs.Period.{Span, overlaps, shared}
 use Rattle.wm_base.specs.declared.row.Row.{Row}
 use Rattle.wm_base.specs.declared.value.Value.{Value}
+use Rattle.wm_base.specs.declared.value.Value.TheVariants as values
 use Rattle.wm_period.specs.Pieces.{Held}
 use Rattle.wm_spec.specs.Lists.{Entry, Told, told}
 use Rattle.wm_spec.specs.Stretches.{Stretch, AreMaximal, value_at}
@@ -59,6 +61,33 @@ row_on es table place = option_and_then (λ (t : Told). t.row) (told es (record 
 abbrev pub row_with : Parts → List Value × Stretch → Option Row
 row_with p place = option_map (λ (r : RowRecord). let row : Row = record { values = r.values } in row) (row_of p.rows place.1.stamp)
 
+-- a stretch as a period
+abbrev pub span_on : Stretch → Span
+span_on s = record { from = s.from; till = s.till }
+
+-- a row with its period behind its values
+abbrev pub with_span : Span → Row → Row
+with_span period row = record { values = row.values ++ values.Span period ∷ [] }
+
+-- what is shown of the row on a stretch: the row; where it has valid time, the row with its whole period if that overlaps the asked one,
+-- and else nothing
+abbrev pub seen_row : Bool → Span → Stretch → Option Row → Option Row
+seen_row false within s row = row
+seen_row true within s row = let nothing : Option Row = None in if overlaps (span_on s) within then option_map (with_span (span_on s)) row else nothing
+
+-- what is shown of the row that a list holds on a stretch of a key
+abbrev pub row_shown : List Entry → ℕ → Bool → Span → List Value × Stretch → Option Row
+row_shown es table valid within place = seen_row valid within place.1 (row_on es table place)
+
+-- what is shown of the row of a stamp on its stretch
+abbrev pub row_shown_with : Parts → Bool → Span → List Value × Stretch → Option Row
+row_shown_with p valid within place = seen_row valid within place.1 (row_with p place)
+
+-- what a period shares with the first of these stretches that it overlaps
+abbrev pub first_shared : Span → List Stretch → Option Span
+first_shared period [] = None
+first_shared period (s ∷ ss) = if overlaps (span_on s) period then Some (shared (span_on s) period) else first_shared period ss
+
 -- no piece is of the table and the key
 abbrev pub is_unwritten : List PieceRecord → ℕ → List Value → Type 0
 is_unwritten pieces table key = list_any (λ (x : PieceRecord). (x.cells.table == table) && is_eq (key_order x.cells.key key)) pieces ≡ false
@@ -87,3 +116,11 @@ pub record IsListing (p : Parts) (version table : ℕ) (rows : List Row) : Type 
   pub whole : (k : List Value) → is_key_in k (keys_of groups) ≡ false → is_unwritten p.pieces table k
   pub held : AreAllRowsOf p version table groups
   pub are : rows ≡ filter_map (row_with p) (joined groups)
+
+-- what is shown of them: of a table with valid time those that overlap a period, each with its own behind its values
+pub record IsShowing (p : Parts) (version table : ℕ) (valid : Bool) (within : Span) (rows : List Row) : Type 0 where
+  pub groups : Groups
+  pub ascend : KeysAscend (keys_of groups)
+  pub whole : (k : List Value) → is_key_in k (keys_of groups) ≡ false → is_unwritten p.pieces table k
+  pub held : AreAllRowsOf p version table groups
+  pub are : rows ≡ filter_map (row_shown_with p valid within) (joined groups)

@@ -1,0 +1,106 @@
+-- The stretches that are made piece by piece are those of the pieces.
+use Rattle.std.proofs.Common.{◌≡◌, ℕ, ◌<◌, ◌≤◌, Bool, true, false, if◌then◌else◌, List, [], ◌∷◌, ◌++◌, map, Option, Some, None, refl, sym, ap, ◌∙◌, append_assoc, arith}
+use Rattle.std.proofs.lemmas.List.Elements.{filter_map-append}
+use Rattle.std.specs.List.{cons_option, filter_map}
+use Rattle.std.specs.Option.{option_map, option_or, option_to_list}
+use Rattle.wm_base.specs.Period.{Span}
+use Rattle.wm_base.specs.declared.row.Row.{Row}
+use Rattle.wm_base.specs.declared.value.Value.{Value}
+use Rattle.wm_graph.specs.Parts.{Parts}
+use Rattle.wm_period.specs.declared.piece.Piece.{Piece}
+use Rattle.wm_spec.specs.Stretches.{Stretch}
+use Rattle.wm_state.specs.Listing.{first_shared, row_shown_with, seen_row}
+use Rattle.wm_state.proofs.Shared.{shared-append}
+use Rattle.wm_image.proofs.Spans.{earlier, meets, span, spans}
+use Rattle.wm_image.specs.Listing.{row_under, shown_on}
+use Rattle.wm_image.specs.Standing.{IsBegun, ending, first_from, from_behind, goes_on, stretch_ending, stretch_of, stretches_from, stretches_on}
+
+-- ---- the stretches
+
+-- the first piece has a row
+abbrev StandsFirst : List Piece → Type 0
+StandsFirst [] = Unit {0}
+StandsFirst (p ∷ ps) = p.gone ≡ false
+
+stands_first : (p : Piece) (ps : List Piece) → goes_on p ps ≡ true → StandsFirst ps
+stands_first p [] e = tt
+stands_first p (q ∷ qs) e = (meets p q qs e).stands
+
+earlier-twice : (from middle : ℕ) (ss : List Stretch) → earlier from (earlier middle ss) ≡ earlier from ss
+earlier-twice from middle [] = refl
+earlier-twice from middle (s ∷ ss) = refl
+
+-- what a function makes of pieces: the stretches; where the row of the first began earlier, with the first of them beginning there
+record Makes (ps : List Piece) : Type 0 where
+  whole : stretches_on ps ≡ spans ps
+  begun : (from : ℕ) → StandsFirst ps → stretches_from from ps ≡ earlier from (spans ps)
+
+-- a row that stands on a piece and began at an instant
+begun_at : (p : Piece) (ps : List Piece) (from : ℕ) → Makes ps → p.gone ≡ false → stretches_from from (p ∷ ps) ≡ earlier from (spans (p ∷ ps))
+begun_at p ps from rest stands = rw stands (by_goes (goes_on p ps) refl)
+  where
+    by_goes : (b : Bool) → goes_on p ps ≡ b
+        → option_to_list (option_map (stretch_of p.stamp.number) (let nothing : Option Span = None in let whole : Span = record { from = from; till = p.period.till } in if b then nothing else Some whole))
+        ++ stretches_from (if b then from else first_from ps) ps
+        ≡ earlier from (if b then earlier p.period.from (spans ps) else span p ∷ spans ps)
+    by_goes true e = rest.begun from (stands_first p ps e) ∙ sym (earlier-twice from p.period.from (spans ps))
+    by_goes false e = ap (λ ss. stretch_of p.stamp.number (let whole : Span = record { from = from; till = p.period.till } in whole) ∷ ss) rest.whole
+
+own_from : (p : Piece) (ps : List Piece) → p.gone ≡ false → earlier p.period.from (spans (p ∷ ps)) ≡ spans (p ∷ ps)
+own_from p ps stands = rw stands (by_goes (goes_on p ps))
+  where
+    by_goes : (b : Bool) → earlier p.period.from (if b then earlier p.period.from (spans ps) else span p ∷ spans ps) ≡ (if b then earlier p.period.from (spans ps) else span p ∷ spans ps)
+    by_goes true = earlier-twice p.period.from p.period.from (spans ps)
+    by_goes false = refl
+
+makes : (ps : List Piece) → Makes ps
+makes [] = record { whole = refl; begun = λ from first. refl }
+makes (p ∷ ps) = record { whole = by_gone p.gone refl (makes ps); begun = λ from stands. begun_at p ps from (makes ps) stands }
+  where
+    by_gone : (b : Bool) → p.gone ≡ b → Makes ps → stretches_on (p ∷ ps) ≡ spans (p ∷ ps)
+    by_gone true gone rest = rw gone rest.whole
+    by_gone false stands rest = begun_at p ps p.period.from rest stands ∙ own_from p ps stands
+
+pub stretches_are : (ps : List Piece) → stretches_on ps ≡ spans ps
+stretches_are ps = (makes ps).whole
+
+-- ---- where their rows begin
+
+-- a row that stands on behind a piece began before the next one does
+pub begun_behind : (from : ℕ) (p : Piece) (rest : List Piece) → from < p.period.till → IsBegun (from_behind from p rest) rest
+begun_behind from p [] less = tt
+begun_behind from p (q ∷ qs) less = by_gone p.gone
+  where
+    by_goes : (b : Bool) → goes_on p (q ∷ qs) ≡ b → (if b then from else q.period.from) ≤ q.period.from
+    by_goes true e = let m = meets p q qs e in omega (arith, less, m.meets)
+    by_goes false e = omega arith
+
+    by_gone : (b : Bool) → (if b then q.period.from else (if goes_on p (q ∷ qs) then from else q.period.from)) ≤ q.period.from
+    by_gone true = omega arith
+    by_gone false = by_goes (goes_on p (q ∷ qs)) refl
+
+pub begun_first : (ps : List Piece) → IsBegun (first_from ps) ps
+begun_first [] = tt
+begun_first (p ∷ ps) = omega arith
+
+-- ---- what is made of them
+
+-- what is shown of stretches that belong to one key
+pub shown_keyed : (p : Parts) (valid : Bool) (within : Span) (key : List Value) (ss : List Stretch) → shown_on p valid within ss ≡ filter_map (row_shown_with p valid within) (map (λ s. (key, s)) ss)
+shown_keyed p valid within key [] = refl
+shown_keyed p valid within key (s ∷ ss) = ap (cons_option (seen_row valid within s (row_under p s.stamp))) (shown_keyed p valid within key ss)
+
+-- some more were gone over
+pub shown_more : (p : Parts) (valid : Bool) (within : Span) (ending rest : List Stretch) (all done new : List Row) → done ++ shown_on p valid within (ending ++ rest) ≡ all → new ≡ done ++ shown_on p valid within ending
+    → new ++ shown_on p valid within rest ≡ all
+shown_more p valid within ending rest all done new so more =
+    ap (λ rows. rows ++ shown_on p valid within rest) more
+    ∙ append_assoc done (shown_on p valid within ending) (shown_on p valid within rest)
+    ∙ ap (λ rows. done ++ rows) (sym (filter_map-append (λ (s : Stretch). seen_row valid within s (row_under p s.stamp)) ending rest))
+    ∙ so
+
+pub shared_none : (period : Span) (ending rest : List Stretch) → first_shared period ending ≡ None → first_shared period (ending ++ rest) ≡ first_shared period rest
+shared_none period ending rest none = shared-append period ending rest ∙ ap (λ (o : Option Span). option_or o (first_shared period rest)) none
+
+pub shared_some : (period found : Span) (ending rest : List Stretch) → first_shared period ending ≡ Some found → first_shared period (ending ++ rest) ≡ Some found
+shared_some period found ending rest some = shared-append period ending rest ∙ ap (λ (o : Option Span). option_or o (first_shared period rest)) some

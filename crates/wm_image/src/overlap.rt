@@ -1,0 +1,58 @@
+//! What a period shares with the rows of a key.
+
+ghost use Rattle.std.specs.Prelude.{◌≡◌, true, ◌∷◌, IfOk};
+ghost use Rattle.wm_graph.specs.Parts.{parts_of};
+ghost use Rattle.wm_graph.specs.Rules.{keep_rules};
+ghost use Rattle.wm_image.specs.Listing.{IsFirstShared};
+ghost use Rattle.wm_image.specs.Standing.{IsBegun, stretch_ending, stretches_on};
+ghost use Rattle.wm_state.specs.Listing.{first_shared};
+
+use crate::image::Image;
+use crate::standing::{ending, first_from, from_behind};
+use std::alloc::Global;
+use wm_base::{Instant, Key, Memory, Period};
+use wm_period::Piece;
+
+/// What a period shares with the row of a piece, where the row stands on the piece and not behind it.
+fn shared_at(from: Instant, piece: &Piece, rest: &[Piece], period: &Period) -> Option<Period>
+    requires { IsBegun from (piece.now ∷ rest.now) }
+    ensures { result ≡ first_shared period.now (stretch_ending from piece.now rest.now) }
+{
+    let whole = ending(from, piece, rest)?;
+    whole.cut(period)
+}
+
+/// What a period shares with the first row of pieces that it overlaps.
+fn first_shared(pieces: &[Piece], period: &Period) -> Option<Period>
+    ensures { result ≡ first_shared period.now (stretches_on pieces.now) }
+{
+    let mut left = pieces;
+    let mut from = first_from(pieces);
+    while let [piece, rest @ ..] = left {
+        let found = shared_at(from, piece, rest, period);
+        if found.is_some() {
+            return found;
+        }
+        from = from_behind(from, piece, rest);
+        left = rest;
+    }
+    None
+}
+
+/// What a period shares with the first row of a key that it overlaps, of those that a version holds. Only the pieces
+/// of that key are looked at.
+pub fn find_shared(
+    alloc: Global,
+    image: &Image,
+    version: u64,
+    table: u16,
+    key: &Key,
+    period: &Period,
+) -> Result<Option<Period>, Memory>
+    requires { keep_rules (parts_of image.now) ≡ true }
+    ensures { IfOk result (λ found. IsFirstShared (parts_of image.now) version table key.now period.now found) }
+{
+    let pieces = image.shown(alloc, version, table, key)?;
+    let found = first_shared(pieces.list(), period);
+    Ok(found)
+}
