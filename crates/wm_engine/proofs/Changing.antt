@@ -1,14 +1,13 @@
 -- What a plan that changes rows does.
-use Rattle.std.proofs.Common.{◌≡◌, ℕ, ◌+◌, ◌<◌, List, [], ◌∷◌, ◌++◌, length, map, drop, get_or, refl, sym, ap, ◌∙◌, arith}
-use Rattle.std.proofs.lemmas.List.{append_assoc, drop_more, map-append}
+use Rattle.std.proofs.Common.{◌≡◌, ℕ, ◌+◌, List, [], ◌∷◌, ◌++◌, length, map, refl, sym, ap, ◌∙◌, arith}
+use Rattle.std.proofs.lemmas.List.{append_assoc, map-append}
 use Rattle.wm_dml.specs.declared.change.RowChange.{RowChange}
-use Rattle.wm_image.specs.Gone.{ids_of_key, ids_of_keys}
 use Rattle.wm_model.proofs.ChangeLists.{new_pieces-push, new_rows-push}
-use Rattle.wm_model.specs.Changes.{change_keys, change_piece, new_pieces, new_rows, row_before}
+use Rattle.wm_model.specs.Changes.{change_piece, new_pieces, new_rows, row_before}
 use Rattle.wm_spec.specs.declared.record.Record.{Record}
 use Rattle.wm_spec.specs.declared.record.Record.TheVariants as records
 use Rattle.wm_spec.specs.declared.record.batch.Change.{Change}
-use Rattle.wm_spec.specs.declared.record.stored.Stored.{Stored}
+use Rattle.wm_spec.specs.declared.record.piece.PieceRecord.{PieceRecord}
 use Rattle.wm_spec.specs.declared.record.table.Table.{Table}
 use Rattle.wm_state.proofs.WrittenIds.{put_all-append}
 use Rattle.wm_state.specs.Batches.{put}
@@ -44,19 +43,7 @@ rows_more stamp next t xs x before after is place pushed =
     ∙ sym (map-append records.Row (new_rows stamp t xs) (row_before (stamp + length xs) t x.row [])) ∙ ap (λ rows. map records.Row rows) (sym (new_rows-push stamp t xs x))
 
 -- and its piece
-pub pieces_more : (version stamp next : ℕ) (t : Table) (xs : List RowChange) (x : RowChange) (before after : List Record) → before ≡ map records.Piece (new_pieces version stamp t xs) → next ≡ stamp + length xs
-    → after ≡ before ++ records.Piece (change_piece version next t x) ∷ [] → after ≡ map records.Piece (new_pieces version stamp t (xs ++ x ∷ []))
+pub pieces_more : (version stamp next : ℕ) (t : Table) (xs : List RowChange) (x : RowChange) (before after : List PieceRecord) → before ≡ new_pieces version stamp t xs → next ≡ stamp + length xs
+    → after ≡ before ++ change_piece version next t x ∷ [] → after ≡ new_pieces version stamp t (xs ++ x ∷ [])
 pieces_more version stamp next t xs x before after is place pushed =
-    pushed ∙ ap (λ rs. rs ++ records.Piece (change_piece version next t x) ∷ []) is ∙ ap (λ n. map records.Piece (new_pieces version stamp t xs) ++ records.Piece (change_piece version n t x) ∷ []) place
-    ∙ sym (map-append records.Piece (new_pieces version stamp t xs) (change_piece version (stamp + length xs) t x ∷ [])) ∙ ap (λ pieces. map records.Piece pieces) (sym (new_pieces-push version stamp t xs x))
-
--- the ids for one change more, with those for the rest, are the ids for all
-pub ids_more : (ss : List Stored) (version table : ℕ) (xs : List RowChange) (i : ℕ) (x : RowChange) (before own after all : List ℕ) → i < length xs → x ≡ get_or xs i x
-    → before ++ ids_of_keys ss version table (change_keys (drop i xs)) ≡ all → own ≡ ids_of_key ss version table x.key → after ≡ before ++ own
-    → after ++ ids_of_keys ss version table (change_keys (drop (i + 1) xs)) ≡ all
-ids_more ss version table xs i x before own after all lt item is own_is pushed =
-    ap (λ ids. ids ++ rest) (pushed ∙ ap (λ ids. before ++ ids) own_is) ∙ append_assoc before (ids_of_key ss version table x.key) rest
-    ∙ ap (λ ys. before ++ ids_of_keys ss version table (change_keys ys)) (ap (λ y. y ∷ drop (i + 1) xs) item ∙ sym (drop_more xs i x lt)) ∙ is
-  where
-    rest : List ℕ
-    rest = ids_of_keys ss version table (change_keys (drop (i + 1) xs))
+    pushed ∙ ap (λ ps. ps ++ change_piece version next t x ∷ []) is ∙ ap (λ n. new_pieces version stamp t xs ++ change_piece version n t x ∷ []) place ∙ sym (new_pieces-push version stamp t xs x)

@@ -12,10 +12,16 @@ use Rattle.wm_state.specs.State.{State, Session, Workspace, workspace_of}
 use Rattle.wm_engine.specs.Planning.{DoesIt}
 use Rattle.wm_engine.specs.declared.planned.Planned.{Planned}
 
+-- the workspace is the one that a session stands in, and as long is its log as the record says
+pub record IsHome (s : State) (session : Session) (a : Space) (w : Workspace) : Type 0 where
+  pub is : workspace_of s.spaces session.space ≡ Some w
+  pub number : w.number ≡ session.space
+  pub log : a.log_length ≡ length w.lists.log
+
 -- the function does, to each state that records, sessions and a moment stand for, what is done there in the session's workspace
 abbrev pub ActsAs : List Stored → List Session → ℕ → Session → Space → (State → Workspace → State × Answer) → (State → State × Answer) → Type 0
 ActsAs rs xs m session a done act =
-    (s : State) → StandsAt rs xs m s → (w : Workspace) × (workspace_of s.spaces session.space ≡ Some w) × (w.number ≡ session.space) × (a.log_length ≡ length w.lists.log) × (act s ≡ done s w)
+    (s : State) → StandsAt rs xs m s → (w : Workspace) × IsHome s session a w × (act s ≡ done s w)
 
 -- the plan does and answers what each such function does and answers
 abbrev pub DoesAs : List Stored → ℕ → Session → Space → (State → Workspace → State × Answer) → Planned → Type 0

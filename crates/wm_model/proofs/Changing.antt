@@ -12,7 +12,8 @@ use Rattle.wm_making.specs.Rows.{is_filled, row_fault}
 use Rattle.wm_print.specs.Texts.{Answer, Refused}
 use Rattle.wm_spec.specs.declared.record.table.Table.{Table}
 use Rattle.wm_state.specs.State.{State, Workspace, content}
-use Rattle.wm_model.specs.Step.{add_found, add_to, ascend, key_there, not_built, out_of_range, replace_all, taken, told_period, unless, unless_empty, write_all, write_ascending}
+use Rattle.wm_state.specs.Drawing.{are_sorted}
+use Rattle.wm_model.specs.Step.{add_found, add_to, key_there, not_built, out_of_range, replace_all, taken, told_period, unless, unless_empty, write_all, write_ascending}
 
 -- ---- INSERT
 
@@ -68,8 +69,8 @@ kept_empty rows act s w empty = rw empty refl
 
 -- ---- keys that do not ascend
 
-pub ascending : (user : List ℕ) (t : Table) (changes : List RowChange) (s : State) (w : Workspace) → ascend (change_keys changes) ≡ true → write_ascending user t changes s w ≡ write_all user t changes s w
+pub ascending : (user : List ℕ) (t : Table) (changes : List RowChange) (s : State) (w : Workspace) → are_sorted (change_keys changes) ≡ true → write_ascending user t changes s w ≡ write_all user t changes s w
 ascending user t changes s w ascends = rw ascends refl
 
-pub not_ascending : (user : List ℕ) (t : Table) (changes : List RowChange) (s : State) (w : Workspace) → ascend (change_keys changes) ≡ false → write_ascending user t changes s w ≡ (s, not_built)
+pub not_ascending : (user : List ℕ) (t : Table) (changes : List RowChange) (s : State) (w : Workspace) → are_sorted (change_keys changes) ≡ false → write_ascending user t changes s w ≡ (s, not_built)
 not_ascending user t changes s w ascends = rw ascends refl

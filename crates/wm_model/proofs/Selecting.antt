@@ -21,7 +21,8 @@ use Rattle.wm_typing.specs.Columns.{columns_of_table}
 use Rattle.wm_state.specs.Listing.{IsShowing}
 use Rattle.wm_state.specs.State.{State, Session, Workspace, Stand, Latest, At, seen_from, workspace_of}
 use Rattle.wm_state.specs.Standing.{Stands, latest, saved_as}
-use Rattle.wm_state.proofs.Showing.{showing_is, showing_saved, none_shown}
+use Rattle.wm_state.proofs.Listed.{showing_is, showing_saved}
+use Rattle.wm_state.proofs.Showing.{none_shown}
 use Rattle.wm_state.proofs.SavedAs.{made_some, made_none}
 use Rattle.wm_model.specs.Step.{select, select_among, select_from, select_ready, lost_source, tables_of, table_off, columns_in, sources_in, shown_by, source_name, rows_in, answer_rows, unless, unless_empty_period, within, at_home, empty_period, no_table, not_built, versioning}
 use Rattle.wm_model.specs.Planning.{StandsAt, Does, Stay, tables_in, version_read}

@@ -3,9 +3,7 @@ use Rattle.std.specs.Prelude.{ℕ, ◌+◌, ◌^◌, ◌==◌, List, [], ◌∷�
 use Rattle.std.specs.List.{filter, filter_map, find, flat_map, list_all, list_any, starts_with}
 use Rattle.std.specs.Option.{option_map, option_map_or}
 use Rattle.std.specs.Fmt.{decimal}
-use Rattle.std.specs.Ordering.{is_gt}
 use Rattle.std.specs.Str.{bytes_eq, is_utf8}
-use Rattle.wm_base.specs.Key.{key_order}
 use Rattle.wm_base.specs.Period.{Span, always}
 use Rattle.wm_base.specs.declared.instant.TheConstants.{END}
 use Rattle.wm_base.specs.declared.value.Value.{Value}
@@ -50,6 +48,7 @@ use Rattle.wm_typing.specs.Changing.{update_fault, delete_fault}
 use Rattle.wm_typing.specs.Columns.{columns_of_table}
 use Rattle.wm_reader.specs.Reading.{is_remark, folded}
 pub use Rattle.wm_state.specs.State.{State, fresh}
+use Rattle.wm_state.specs.Drawing.{are_sorted}
 use Rattle.wm_state.specs.Listing.{first_shared, row_shown}
 use Rattle.wm_state.specs.State.{Workspace, Savepoint, Session, Stand, Readiness, Latest, At, content, enabled, kept, savepoint_made, seen_from, with_space, with_savepoint, workspace_of, table_named, workspace_named, savepoint_named, next_table, next_space, next_making}
 pub use Rattle.wm_print.specs.Texts.{Answer, answer_text}
@@ -446,15 +445,9 @@ select session query empty s = select_among session query empty s.tables s
 
 -- ---- UPDATE and DELETE
 
--- no key is above the next
-abbrev pub ascend : List (List Value) → Bool
-ascend [] = true
-ascend (k ∷ []) = true
-ascend (k ∷ l ∷ ls) = not (is_gt (key_order k l)) && ascend (l ∷ ls)
-
--- so they stand where rows are changed by key
+-- rows are changed by key: no key is above the next
 abbrev pub write_ascending : List ℕ → Table → List RowChange → State → Workspace → State × Answer
-write_ascending user table changes s w = if ascend (change_keys changes) then write_all user table changes s w else (s, not_built)
+write_ascending user table changes s w = if are_sorted (change_keys changes) then write_all user table changes s w else (s, not_built)
 
 -- what is done with the rows of a table that a session sees, and the period in which it changes them
 abbrev pub with_rows : Session → (Table → Span → List Row → State → Workspace → State × Answer) → Table → State → Workspace → State × Answer

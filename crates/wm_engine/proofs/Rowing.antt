@@ -1,0 +1,47 @@
+-- What a plan that changes the rows of a table that a session sees does.
+use Rattle.std.proofs.Common.{◌≡◌, ℕ, List, Option, Result, IfOk, sym, ap, subst, ◌∙◌}
+use Rattle.wm_base.specs.Period.{Span}
+use Rattle.wm_base.specs.declared.memory.Memory.{Memory}
+use Rattle.wm_base.specs.declared.row.Row.{Row}
+use Rattle.wm_base.specs.Trees.{Cond}
+use Rattle.wm_dml.specs.Changing.{chosen}
+use Rattle.wm_graph.specs.Parts.{parts_of}
+use Rattle.wm_spec.specs.declared.record.space.Space.{Space}
+use Rattle.wm_spec.specs.declared.record.stored.Stored.{Stored}
+use Rattle.wm_spec.specs.declared.record.table.Table.{Table}
+use Rattle.wm_state.proofs.Listed.{showing_is}
+use Rattle.wm_state.specs.Listing.{IsShowing}
+use Rattle.wm_state.specs.Standing.{latest}
+use Rattle.wm_state.specs.State.{State, Session, Workspace, content}
+use Rattle.wm_model.specs.Planning.{StandsAt}
+use Rattle.wm_model.specs.Step.{rows_in, with_rows, within}
+use Rattle.wm_print.specs.Texts.{Answer}
+use Rattle.wm_engine.proofs.Acting.{does_known}
+use Rattle.wm_engine.specs.Acting.{DoesAs, IsHome}
+use Rattle.wm_engine.specs.Chosen.{AreChosen}
+use Rattle.wm_engine.specs.declared.planned.Planned.{Planned}
+
+-- what is done with rows and the period in which they are changed
+abbrev pub OnRows : Type 0
+OnRows = Table → Span → List Row → State → Workspace → State × Answer
+
+-- so with the rows that a condition chooses
+abbrev pub on_chosen : Option Cond → OnRows → OnRows
+on_chosen filter act = λ table period rows. act table period (chosen table filter rows)
+
+-- the statement does with the rows that its condition chooses what the plan does with them
+pub does_rows : (rs : List Stored) (m : ℕ) (r : Result Planned Memory) (session : Session) (a : Space) (filter : Option Cond) (act : OnRows) (t : Table) (period : Span) (version : ℕ) (rows given : List Row)
+    → period ≡ within m session t → version ≡ latest (parts_of rs) session.space → AreChosen rs version t period filter given → rows ≡ given
+    → IfOk r (DoesAs rs m session a (act t period rows)) → IfOk r (DoesAs rs m session a (with_rows session (on_chosen filter act) t))
+does_rows rs m r session a filter act t period version rows given in_it newest are same =
+    does_known rs m r session a (act t period rows) (with_rows session (on_chosen filter act) t) (λ xs s w st home. done xs s w st home)
+  where
+    listed : IsShowing (parts_of rs) (latest (parts_of rs) session.space) t.number t.valid period are.all
+    listed = subst (λ v. IsShowing (parts_of rs) v t.number t.valid period are.all) newest are.listed
+
+    done : (xs : List Session) (s : State) (w : Workspace) → StandsAt rs xs m s → IsHome s session a w → with_rows session (on_chosen filter act) t s w ≡ act t period rows s w
+    done xs s w st home =
+        ap (λ n. act t (within n session t) (chosen t filter (rows_in (within n session t) (content w) t)) s w) (sym st.moment_is)
+        ∙ ap (λ p. act t p (chosen t filter (rows_in p (content w) t)) s w) (sym in_it)
+        ∙ ap (λ all. act t period (chosen t filter all) s w) (sym (showing_is (parts_of rs) s session.space w t.number t.valid period are.all st.stands home.is listed))
+        ∙ ap (λ xs. act t period xs s w) (sym (same ∙ are.are))
