@@ -157,7 +157,13 @@ fn replaced(alloc: Global) -> Result<Vec<RowChange>, Memory> {
     let olds = rows(alloc)?;
     let mut rows = Vec::new(alloc);
     rows.push(values(alloc, 2, Some(30))?)?;
-    replaced_in(alloc, &table, &Period::always(), &olds.as_slice()[1..], rows)
+    replaced_in(
+        alloc,
+        &table,
+        &Period::always(),
+        &olds.as_slice()[1..],
+        rows,
+    )
 }
 
 #[test]

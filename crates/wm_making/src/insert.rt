@@ -104,7 +104,11 @@ fn column_named<'a>(columns: &'a [TableColumn], name: &Name) -> Option<&'a Table
 }
 
 /// The declared column to which the value at this place goes; none where it goes to WM_VALID.
-pub fn column_for<'a>(table: &'a Table, names: &Option<Names>, place: usize) -> Option<&'a TableColumn>
+pub fn column_for<'a>(
+    table: &'a Table,
+    names: &Option<Names>,
+    place: usize,
+) -> Option<&'a TableColumn>
     ensures { option_copied result ≡ column_at table.now names.now place }
 {
     match names {

@@ -111,12 +111,19 @@ fn changes(
 }
 
 /// Whether the change is of that kind, of key 1 and over that period.
-fn is_change(alloc: Global, change: &RowChange, kind: Kind, wanted: Period) -> Result<bool, Memory> {
+fn is_change(
+    alloc: Global,
+    change: &RowChange,
+    kind: Kind,
+    wanted: Period,
+) -> Result<bool, Memory> {
     let key = numbers(alloc, change.key.values())?;
-    Ok(change.kind == kind
-        && change.period.equals(&wanted)
-        && change.row.is_none() == (kind == Kind::Delete)
-        && key.as_slice() == [Some(1)].as_slice())
+    Ok(
+        change.kind == kind
+            && change.period.equals(&wanted)
+            && change.row.is_none() == (kind == Kind::Delete)
+            && key.as_slice() == [Some(1)].as_slice(),
+    )
 }
 
 /// Whether there is that change alone, or none.
