@@ -7,4 +7,5 @@ pub mod Lasting
 pub mod Replaced
 pub mod Replacing
 pub mod Changed
+pub mod Held
 pub mod Plain
