@@ -53,7 +53,9 @@ fn lack_one(columns: &[Column], one: &Col, other: &Col) -> bool
 {
     lacks_period(&one.source, one.name.as_bytes(), columns)
         && lacks_period(&other.source, other.name.as_bytes(), columns)
-        && columns.iter().any(|column| are_of_source(column, one, other))
+        && columns
+            .iter()
+            .any(|column| are_of_source(column, one, other))
 }
 
 /// Whether both name one column, or one end of it. WM_VALID goes by its name, whether it is there or not.

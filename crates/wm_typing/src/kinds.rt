@@ -38,7 +38,9 @@ fn has_column(source: &Option<Name>, name: &[u8], columns: &[Column]) -> bool
 pub fn lacks_period(source: &Option<Name>, name: &[u8], columns: &[Column]) -> bool
     ensures { result ≡ lacks_period source.now name.now columns.now }
 {
-    has_source(source, columns) && name == b"WM_VALID" && !has_column(source, name, columns)
+    has_source(source, columns)
+        && name == b"WM_VALID".as_slice()
+        && !has_column(source, name, columns)
 }
 
 /// The kind of the one column that is named, or None where there is none or more than one. It is that of periods for

@@ -134,10 +134,7 @@ pub fn mistyped_in_cond(columns: &[Column], cond: &Cond) -> Option<&'static [u8]
             }
             Cond::Not(inner) => rest = inner,
             Cond::Compare { left, cmp, right } => {
-                let compares = may_compare(
-                    named_kind(left, columns),
-                    named_kind(right, columns),
-                );
+                let compares = may_compare(named_kind(left, columns), named_kind(right, columns));
                 return first_of(unless(compares, mark_text(*cmp)), found);
             }
             Cond::IsNull { .. } => return found,
