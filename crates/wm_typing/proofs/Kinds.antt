@@ -33,8 +33,11 @@ period_is columns (periods.Valid source) e =
     ap is_kind_of_periods (kind_is source wm_valid columns (has (lacks_period source wm_valid columns) source e)) ∙ is_of_periods (kind_of source wm_valid columns)
 period_is columns (periods.Span from till) e = refl
 
-tested : (a b c d : Bool) → a ≡ c → b ≡ d → (if a && b then Some 1 else None) ≡ (if c && d then Some 1 else None)
-tested a b c d e f = ap (λ x. if x && b then Some 1 else None) e ∙ ap (λ x. if c && x then Some 1 else None) f
+both_are : (a b c d : Bool) → a ≡ c → b ≡ d → a && b ≡ c && d
+both_are a b c d e f = ap (λ x. x && b) e ∙ ap (λ x. c && x) f
+
+abbrev number_if : Bool → Option ℕ
+number_if test = if test then Some 1 else None
 
 -- an operand in which no WM_VALID is lacking has its own kind
 pub operand_is : (columns : List Column) (x : Operand) → lacking_in_operand columns x ≡ None → named_kind x columns ≡ operand_kind x columns
@@ -42,9 +45,10 @@ operand_is columns (operands.Col col) e =
     ap (λ kind. suffixed_kind col.suffix kind) (kind_is col.source col.name columns (has (lacks_period col.source col.name columns) col.source e))
 operand_is columns (operands.Const constant) e = refl
 operand_is columns (operands.Test operator left right) e =
-    tested (named_period left columns) (named_period right columns) (is_period left columns) (is_period right columns)
+    ap (λ test. number_if test)
+    (both_are (named_period left columns) (named_period right columns) (is_period left columns) (is_period right columns)
     (period_is columns left (first_none (lacking_period columns left) (lacking_period columns right) e))
-    (period_is columns right (second_none (lacking_period columns left) (lacking_period columns right) e))
+    (period_is columns right (second_none (lacking_period columns left) (lacking_period columns right) e)))
 
 -- so what is set, and what it becomes
 neither : (a b : Bool) → a || b ≡ false → (a ≡ false) × (b ≡ false)

@@ -47,21 +47,21 @@ listed : (a b : Option ℕ) (list : List Const) → a ≡ b → list_all (λ con
     list_all (λ constant. may_compare b (Some (constant_kind constant))) list ≡ true
 listed a b list e may = sym (ap (λ k. list_all (λ constant. may_compare k (Some (constant_kind constant))) list) e) ∙ may
 
-left : (a b : Bool) → a && b ≡ true → a ≡ true
-left true b e = refl
-left false b e = e
+first_true : (a b : Bool) → a && b ≡ true → a ≡ true
+first_true true b e = refl
+first_true false b e = e
 
-right : (a b : Bool) → a && b ≡ true → b ≡ true
-right true b e = e
-right false b e = cc
+second_true : (a b : Bool) → a && b ≡ true → b ≡ true
+second_true true b e = e
+second_true false b e = cc
 
 between : (columns : List Column) (what low high : Operand) → lacking_in_operand columns what ≡ None → lacking_in_operand columns low ≡ None → lacking_in_operand columns high ≡ None →
     may_compare (named_kind what columns) (named_kind low columns) && may_compare (named_kind what columns) (named_kind high columns) ≡ true →
     may_compare (operand_kind what columns) (operand_kind low columns) && may_compare (operand_kind what columns) (operand_kind high columns) ≡ true
 between columns what low high w l h may =
     both _ _
-    (compared _ _ _ _ (operand_is columns what w) (operand_is columns low l) (left (may_compare (named_kind what columns) (named_kind low columns)) _ may))
-    (compared _ _ _ _ (operand_is columns what w) (operand_is columns high h) (right (may_compare (named_kind what columns) (named_kind low columns)) _ may))
+    (compared _ _ _ _ (operand_is columns what w) (operand_is columns low l) (first_true (may_compare (named_kind what columns) (named_kind low columns)) _ may))
+    (compared _ _ _ _ (operand_is columns what w) (operand_is columns high h) (second_true (may_compare (named_kind what columns) (named_kind low columns)) _ may))
 
 pub typed_where : (columns : List Column) (c : Cond) → unknown_in_cond columns c ≡ None → mistyped_in_cond columns c ≡ None → lacking_in_cond columns c ≡ None → typed_in c columns ≡ true
 typed_where columns (Or c d) u m l =
