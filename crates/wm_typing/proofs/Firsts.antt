@@ -1,4 +1,4 @@
--- The first of several texts, however they are put together.
+-- The first of several texts or sources, however they are put together.
 use Rattle.std.proofs.Common.{◌≡◌, ℕ, ◌+◌, ◌<◌, Bool, cond, List, [], ◌∷◌, length, drop, get_or, Option, None, Some, refl, ap, sym, ◌∙◌}
 use Rattle.std.proofs.lemmas.List.{drop_more}
 use Rattle.std.proofs.lemmas.List.Sums.{sum_by-cons}
@@ -8,18 +8,18 @@ use Rattle.wm_base.specs.Trees.{Out}
 use Rattle.wm_base.specs.Views.{out_view, outs_view}
 use Rattle.wm_base.specs.declared.tree.query.Out.{Out as OutNode}
 
-pub or_assoc : (a b c : Option (List ℕ)) → option_or (option_or a b) c ≡ option_or a (option_or b c)
+pub or_assoc : {T : Type 0} (a b c : Option T) → option_or (option_or a b) c ≡ option_or a (option_or b c)
 or_assoc None b c = refl
 or_assoc (Some x) b c = refl
 
-pub or_none : (a : Option (List ℕ)) → option_or a None ≡ a
+pub or_none : {T : Type 0} (a : Option T) → option_or a None ≡ a
 or_none None = refl
 or_none (Some x) = refl
 
 -- what a loop finds at a place is the first of all, where nothing was found before that place
-pub found_here : {A : Type 0} (F : List A → Option (List ℕ)) (f : A → Option (List ℕ)) (behind : A → List A → Option (List ℕ)) →
+pub found_here : {A T : Type 0} (F : List A → Option T) (f : A → Option T) (behind : A → List A → Option T) →
     ((x : A) (rest : List A) → F (x ∷ rest) ≡ option_or (f x) (behind x rest)) →
-    (xs : List A) (i : ℕ) (x : A) (t : List ℕ) (r : Option (List ℕ)) →
+    (xs : List A) (i : ℕ) (x : A) (t : T) (r : Option T) →
     i < length xs → x ≡ get_or xs i x → F (drop i xs) ≡ r → Some t ≡ f x → Some t ≡ r
 found_here F f behind step xs i x t r inside there so_far found =
     ap (λ o. option_or o (behind x (drop (i + 1) xs))) found

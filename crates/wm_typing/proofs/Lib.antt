@@ -1,2 +1,4 @@
 pub mod Firsts
+pub mod Nones
+pub mod Kinds
 pub mod Typed

@@ -1,34 +1,23 @@
--- A condition that names nothing unknown and compares nothing mistyped is typed.
-use Rattle.std.proofs.Common.{◌≡◌, ℕ, Bool, true, false, ◌&&◌, List, [], ◌∷◌, Option, None, Some, is_some, refl, if◌then◌else◌}
-use Rattle.std.specs.Option.{option_or}
+-- A condition that names nothing unknown or lacking and compares nothing mistyped is typed.
+use Rattle.std.proofs.Common.{◌≡◌, ℕ, Bool, true, false, ◌&&◌, List, [], ◌∷◌, Option, None, Some, is_some, refl, sym, ap, ◌∙◌, if◌then◌else◌}
+use Rattle.std.specs.List.{list_all}
 use Rattle.wm_base.specs.declared.columns.Column.{Column}
+use Rattle.wm_base.specs.declared.tree.constant.Const.{Const}
 use Rattle.wm_base.specs.declared.tree.operand.Operand.{Operand}
 use Rattle.wm_base.specs.declared.tree.operand.Operand.TheVariants as operands
 use Rattle.wm_base.specs.Trees.{Cond, Or, And, Not, Compare, IsNull, OneOf, Between}
-use Rattle.wm_spec.specs.Conditions.{typed_in, typed}
-use Rattle.wm_spec.specs.Operands.{operand_kind}
 use Rattle.wm_base.specs.Trees.{Query, Set, Src}
-use Rattle.wm_typing.specs.Asking.{unknown_in_sources, mistyped_in_sources, are_sources_typed, query_fault_in}
+use Rattle.wm_spec.specs.Conditions.{may_compare, typed_in, typed}
+use Rattle.wm_spec.specs.Operands.{constant_kind, operand_kind}
 use Rattle.wm_spec.specs.declared.record.table.Table.{Table}
+use Rattle.wm_typing.specs.Asking.{unknown_in_sources, mistyped_in_sources, are_sources_typed, query_fault_in}
 use Rattle.wm_typing.specs.Changing.{update_fault, delete_fault}
 use Rattle.wm_typing.specs.Columns.{columns_of_table}
-use Rattle.wm_typing.specs.Refusals.{first_refusal}
-use Rattle.wm_typing.specs.Names.{unless, unknown_in_operand, unknown_in_cond, unknown_in_filter}
+use Rattle.wm_typing.specs.Lacking.{lacking_in_operand, lacking_in_cond, lacking_in_filter, lacking_in_sources, lacking_in_query, table_meant, lacks_in_sets}
+use Rattle.wm_typing.specs.Names.{named_kind, unknown_in_operand, unknown_in_cond, unknown_in_filter}
 use Rattle.wm_typing.specs.Types.{mark_text, mistyped_in_cond, mistyped_in_filter, is_filter_typed}
-
--- neither is there
-first_none : (a b : Option (List ℕ)) → option_or a b ≡ None → a ≡ None
-first_none None b e = refl
-first_none (Some x) b e = e
-
-second_none : (a b : Option (List ℕ)) → option_or a b ≡ None → b ≡ None
-second_none None b e = e
-second_none (Some x) b e = cc
-
--- the test does not fail
-holds : (test : Bool) (text : List ℕ) → unless test text ≡ None → test ≡ true
-holds true text e = refl
-holds false text e = cc
+use Rattle.wm_typing.proofs.Kinds.{operand_is}
+use Rattle.wm_typing.proofs.Nones.{first_none, second_none, map_none, holds, fails, not_some, unknown_none, mistyped_none, lacking_none}
 
 both : (a b : Bool) → a ≡ true → b ≡ true → a && b ≡ true
 both true b e f = f
@@ -40,58 +29,95 @@ tested true true e f = refl
 tested true false e f = cc
 tested false right e f = cc
 
--- the operand has a type
-there : (columns : List Column) (x : Operand) → unknown_in_operand columns x ≡ None → is_some (operand_kind x columns) ≡ true
-there columns (operands.Col col) e = holds _ col.name e
-there columns (operands.Const constant) e = refl
-there columns (operands.Test operator left right) e = tested _ _ (holds _ _ (first_none _ _ e)) (holds _ _ (second_none _ _ e))
+-- the operand has a type by its names
+named : (columns : List Column) (x : Operand) → unknown_in_operand columns x ≡ None → is_some (named_kind x columns) ≡ true
+named columns (operands.Col col) e = holds _ col.name e
+named columns (operands.Const constant) e = refl
+named columns (operands.Test operator left right) e = tested _ _ (holds _ _ (first_none _ _ e)) (holds _ _ (second_none _ _ e))
 
-pub typed_where : (columns : List Column) (c : Cond) → unknown_in_cond columns c ≡ None → mistyped_in_cond columns c ≡ None → typed_in c columns ≡ true
-typed_where columns (Or c d) u m =
-    both _ _ (typed_where columns c (first_none _ _ u) (first_none _ _ m)) (typed_where columns d (second_none _ _ u) (second_none _ _ m))
-typed_where columns (And c d) u m =
-    both _ _ (typed_where columns c (first_none _ _ u) (first_none _ _ m)) (typed_where columns d (second_none _ _ u) (second_none _ _ m))
-typed_where columns (Not c) u m = typed_where columns c u m
-typed_where columns (Compare left cmp right) u m = holds _ (mark_text cmp) m
-typed_where columns (IsNull what negated) u m = there columns what u
-typed_where columns (OneOf what negated list) u m = both _ _ (there columns what u) (holds _ _ m)
-typed_where columns (Between what negated low high) u m = holds _ _ m
+-- and so it has one by its columns
+there : (columns : List Column) (x : Operand) → unknown_in_operand columns x ≡ None → lacking_in_operand columns x ≡ None → is_some (operand_kind x columns) ≡ true
+there columns x u l = ap is_some (sym (operand_is columns x l)) ∙ named columns x u
 
-pub filter_typed : (columns : List Column) (filter : Option Cond) → unknown_in_filter columns filter ≡ None → mistyped_in_filter columns filter ≡ None → is_filter_typed columns filter ≡ true
+-- what may be compared by the names may be compared
+compared : (a b c d : Option ℕ) → a ≡ c → b ≡ d → may_compare a b ≡ true → may_compare c d ≡ true
+compared a b c d e f may = sym (ap (λ k. may_compare k b) e ∙ ap (λ k. may_compare c k) f) ∙ may
+
+listed : (a b : Option ℕ) (list : List Const) → a ≡ b → list_all (λ constant. may_compare a (Some (constant_kind constant))) list ≡ true →
+    list_all (λ constant. may_compare b (Some (constant_kind constant))) list ≡ true
+listed a b list e may = sym (ap (λ k. list_all (λ constant. may_compare k (Some (constant_kind constant))) list) e) ∙ may
+
+first_true : (a b : Bool) → a && b ≡ true → a ≡ true
+first_true true b e = refl
+first_true false b e = e
+
+second_true : (a b : Bool) → a && b ≡ true → b ≡ true
+second_true true b e = e
+second_true false b e = cc
+
+between : (columns : List Column) (what low high : Operand) → lacking_in_operand columns what ≡ None → lacking_in_operand columns low ≡ None → lacking_in_operand columns high ≡ None →
+    may_compare (named_kind what columns) (named_kind low columns) && may_compare (named_kind what columns) (named_kind high columns) ≡ true →
+    may_compare (operand_kind what columns) (operand_kind low columns) && may_compare (operand_kind what columns) (operand_kind high columns) ≡ true
+between columns what low high w l h may =
+    both _ _
+    (compared _ _ _ _ (operand_is columns what w) (operand_is columns low l) (first_true (may_compare (named_kind what columns) (named_kind low columns)) _ may))
+    (compared _ _ _ _ (operand_is columns what w) (operand_is columns high h) (second_true (may_compare (named_kind what columns) (named_kind low columns)) _ may))
+
+pub typed_where : (columns : List Column) (c : Cond) → unknown_in_cond columns c ≡ None → mistyped_in_cond columns c ≡ None → lacking_in_cond columns c ≡ None → typed_in c columns ≡ true
+typed_where columns (Or c d) u m l =
+    both _ _ (typed_where columns c (first_none _ _ u) (first_none _ _ m) (first_none _ _ l)) (typed_where columns d (second_none _ _ u) (second_none _ _ m) (second_none _ _ l))
+typed_where columns (And c d) u m l =
+    both _ _ (typed_where columns c (first_none _ _ u) (first_none _ _ m) (first_none _ _ l)) (typed_where columns d (second_none _ _ u) (second_none _ _ m) (second_none _ _ l))
+typed_where columns (Not c) u m l = typed_where columns c u m l
+typed_where columns (Compare left cmp right) u m l =
+    compared _ _ _ _ (operand_is columns left (first_none _ _ l)) (operand_is columns right (second_none _ _ l)) (holds _ (mark_text cmp) m)
+typed_where columns (IsNull what negated) u m l = there columns what u l
+typed_where columns (OneOf what negated list) u m l = both _ _ (there columns what u l) (listed _ _ list (operand_is columns what l) (holds _ _ m))
+typed_where columns (Between what negated low high) u m l =
+    between columns what low high (first_none _ _ l) (first_none _ _ (second_none _ _ l)) (second_none _ _ (second_none _ _ l)) (holds _ _ m)
+
+pub filter_typed : (columns : List Column) (filter : Option Cond) → unknown_in_filter columns filter ≡ None → mistyped_in_filter columns filter ≡ None → lacking_in_filter columns filter ≡ None →
+    is_filter_typed columns filter ≡ true
 unfolding typed
-filter_typed columns None u m = refl
-filter_typed columns (Some c) u m = typed_where columns c u m
-
-unknown_none : (u m k : Option (List ℕ)) → first_refusal u m k ≡ None → u ≡ None
-unknown_none None m k e = refl
-unknown_none (Some x) m k e = cc
-
-mistyped_none : (u m k : Option (List ℕ)) → first_refusal u m k ≡ None → m ≡ None
-mistyped_none None None k e = refl
-mistyped_none None (Some x) k e = cc
-mistyped_none (Some x) m k e = cc
+filter_typed columns None u m l = refl
+filter_typed columns (Some c) u m l = typed_where columns c u m l
 
 pub update_typed : (table : Table) (sets : List Set) (filter : Option Cond) → update_fault table sets filter ≡ None → is_filter_typed (columns_of_table table.name table) filter ≡ true
 unfolding update_fault
-update_typed table sets filter e = filter_typed _ filter (second_none _ _ (unknown_none _ _ _ e)) (second_none _ _ (mistyped_none _ _ _ e))
+update_typed table sets filter e =
+    filter_typed _ filter (second_none _ _ (unknown_none _ _ _ _ e)) (second_none _ _ (mistyped_none _ _ _ _ e))
+    (not_some _ (fails _ table.name (second_none _ _ (lacking_none _ _ _ _ e))))
+
+-- no WM_VALID is set that the table lacks, and none is in what is set
+pub update_served : (table : Table) (sets : List Set) (filter : Option Cond) → update_fault table sets filter ≡ None → lacks_in_sets (columns_of_table table.name table) sets ≡ false
+unfolding update_fault
+update_served table sets filter e = fails _ table.name (first_none _ _ (lacking_none _ _ _ _ e))
 
 pub delete_typed : (table : Table) (filter : Option Cond) → delete_fault table filter ≡ None → is_filter_typed (columns_of_table table.name table) filter ≡ true
 unfolding delete_fault
-delete_typed table filter e = filter_typed _ filter (unknown_none _ _ _ e) (mistyped_none _ _ _ e)
+delete_typed table filter e =
+    filter_typed _ filter (unknown_none _ _ _ _ e) (mistyped_none _ _ _ _ e) (not_some _ (fails _ table.name (lacking_none _ _ _ _ e)))
 
-each_typed : (columns : List Column) (sources : List Src) → unknown_in_sources columns sources ≡ None → mistyped_in_sources columns sources ≡ None → are_sources_typed columns sources ≡ true
-each_typed columns [] u m = refl
-each_typed columns (source ∷ sources) u m =
-    both _ _ (filter_typed columns source.on (first_none _ _ u) (first_none _ _ m)) (each_typed columns sources (second_none _ _ u) (second_none _ _ m))
+each_typed : (columns : List Column) (sources : List Src) → unknown_in_sources columns sources ≡ None → mistyped_in_sources columns sources ≡ None → lacking_in_sources columns sources ≡ None →
+    are_sources_typed columns sources ≡ true
+each_typed columns [] u m l = refl
+each_typed columns (source ∷ sources) u m l =
+    both _ _ (filter_typed columns source.on (first_none _ _ u) (first_none _ _ m) (first_none _ _ l)) (each_typed columns sources (second_none _ _ u) (second_none _ _ m) (second_none _ _ l))
+
+-- a query that is not refused lacks no WM_VALID
+pub query_served : (columns : List Column) (query : Query) → query_fault_in columns query ≡ None → lacking_in_query columns query ≡ None
+query_served columns query e = map_none (λ source. table_meant query.sources source) (lacking_in_query columns query) (lacking_none _ _ _ _ e)
 
 pub query_typed : (columns : List Column) (query : Query) → query_fault_in columns query ≡ None → is_filter_typed columns query.filter ≡ true
 query_typed columns query e =
     filter_typed columns query.filter
-    (first_none _ _ (second_none _ _ (second_none _ _ (first_none _ _ (unknown_none _ _ _ e)))))
-    (second_none _ _ (second_none _ _ (mistyped_none _ _ _ e)))
+    (first_none _ _ (second_none _ _ (second_none _ _ (first_none _ _ (unknown_none _ _ _ _ e)))))
+    (second_none _ _ (second_none _ _ (mistyped_none _ _ _ _ e)))
+    (first_none _ _ (second_none _ _ (second_none _ _ (query_served columns query e))))
 
 pub sources_typed : (columns : List Column) (query : Query) → query_fault_in columns query ≡ None → are_sources_typed columns query.sources ≡ true
 sources_typed columns query e =
     each_typed columns query.sources
-    (first_none _ _ (second_none _ _ (first_none _ _ (unknown_none _ _ _ e))))
-    (first_none _ _ (second_none _ _ (mistyped_none _ _ _ e)))
+    (first_none _ _ (second_none _ _ (first_none _ _ (unknown_none _ _ _ _ e))))
+    (first_none _ _ (second_none _ _ (mistyped_none _ _ _ _ e)))
+    (first_none _ _ (second_none _ _ (query_served columns query e)))

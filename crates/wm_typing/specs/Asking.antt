@@ -8,6 +8,7 @@ use Rattle.wm_base.specs.declared.tree.query.Agg.{Agg}
 use Rattle.wm_base.specs.declared.tree.query.Agg.TheVariants.{Count, Sum, Min, Max}
 use Rattle.wm_base.specs.Trees.{Item, Plain, CountAll, Aggregate, Out, Projection, All, Outs, Src, Query}
 use Rattle.wm_typing.specs.Items.{unknown_in_projection, unknown_in_cols, unknown_in_orders}
+use Rattle.wm_typing.specs.Lacking.{table_lacking}
 use Rattle.wm_typing.specs.Names.{unless, unknown_in_filter}
 use Rattle.wm_typing.specs.Refusals.{first_refusal}
 use Rattle.wm_typing.specs.Types.{expr_kind, is_number, mistyped_in_expr, mistyped_in_filter, is_filter_typed}
@@ -94,7 +95,7 @@ are_sources_typed columns sources = list_all (λ (source : Src). is_filter_typed
 -- ---- the first refusal
 
 abbrev pub query_fault_in : List Column → Query → Option Refusal
-query_fault_in columns query = first_refusal (unknown_in_query columns query) (mistyped_in_query columns query) None
+query_fault_in columns query = first_refusal (unknown_in_query columns query) (mistyped_in_query columns query) None (table_lacking columns query)
 
 -- why a query over these columns, those of all its sources in order, is refused for its names and types
 unfoldable pub query_fault : List Column → Query → Option Refusal

@@ -13,8 +13,8 @@ use Rattle.wm_base.specs.declared.tree.query.Order.{Order}
 use Rattle.wm_base.specs.declared.tree.query.OrderBy.{OrderBy}
 use Rattle.wm_base.specs.declared.tree.query.OrderBy.TheVariants as orders
 use Rattle.wm_base.specs.Trees.{Expr, Of, Neg, Add, Sub, Mul, Item, Plain, CountAll, Aggregate, Out, Projection, All, Outs}
-use Rattle.wm_spec.specs.Operands.{is_named}
-use Rattle.wm_typing.specs.Names.{unless, unknown_col, unknown_in_expr}
+use Rattle.wm_spec.specs.Operands.{is_of_source, is_named}
+use Rattle.wm_typing.specs.Names.{lacks_period, unless, unknown_col, unknown_in_expr}
 
 -- ---- one column, named in two places
 
@@ -28,9 +28,14 @@ is_same_end _ _ = false
 abbrev pub name_one : List Column → Col → Col → Bool
 name_one columns c d = list_any (λ column. is_named c.source c.name column && is_named d.source d.name column) columns
 
--- both name one of these columns, or one end of it
+-- both name WM_VALID, may mean one source, and it is no column there
+abbrev pub lack_one : List Column → Col → Col → Bool
+lack_one columns c d =
+    (lacks_period c.source c.name columns && lacks_period d.source d.name columns) && list_any (λ column. is_of_source c.source column && is_of_source d.source column) columns
+
+-- both name one column, or one end of it; WM_VALID goes by its name, whether it is there or not
 abbrev pub is_same_col : List Column → Col → Col → Bool
-is_same_col columns c d = is_same_end c.suffix d.suffix && name_one columns c d
+is_same_col columns c d = is_same_end c.suffix d.suffix && (name_one columns c d || lack_one columns c d)
 
 -- one of these names means the column
 abbrev pub is_among : List Column → Col → List Col → Bool
@@ -127,9 +132,9 @@ is_item_col columns col (Plain x) = is_col columns col (col_of x)
 is_item_col columns col CountAll = false
 is_item_col columns col (Aggregate agg x) = false
 
--- the column is an item; * gives each column, and not its ends
+-- the column is an item; * gives each column that is there, and not its ends
 abbrev pub is_item : List Column → Projection → Col → Bool
-is_item columns All col = is_none col.suffix
+is_item columns All col = is_none col.suffix && not (lacks_period col.source col.name columns)
 is_item columns (Outs outs) col = list_any (λ (o : Out). is_item_col columns col o.item) outs
 
 -- a column of the sources; it is to be an item where the query is grouped or DISTINCT

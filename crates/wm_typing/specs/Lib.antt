@@ -4,4 +4,5 @@ pub mod Columns
 pub mod Refusals
 pub mod Changing
 pub mod Items
+pub mod Lacking
 pub mod Asking

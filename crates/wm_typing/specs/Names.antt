@@ -1,13 +1,42 @@
 -- The first column that is named and is not there, in the order of the tokens.
-use Rattle.std.specs.Prelude.{ℕ, Bool, true, false, List, Option, None, Some, is_some}
+use Rattle.std.specs.Prelude.{ℕ, Bool, true, false, ◌&&◌, not, ◌==◌, List, Option, None, Some, is_some, bytes_eq, if◌then◌else◌}
+use Rattle.std.specs.List.{list_any}
 use Rattle.std.specs.Option.{option_or}
 use Rattle.wm_base.specs.declared.columns.Column.{Column}
 use Rattle.wm_base.specs.declared.tree.column.Col.{Col}
 use Rattle.wm_base.specs.declared.tree.operand.Operand.{Operand}
 use Rattle.wm_base.specs.declared.tree.operand.Operand.TheVariants as operands
 use Rattle.wm_base.specs.declared.tree.operand.Per.{Per}
+use Rattle.wm_base.specs.declared.tree.operand.Per.TheVariants as periods
 use Rattle.wm_base.specs.Trees.{Expr, Of, Neg, Add, Sub, Mul, Cond, Or, And, Not, Compare, IsNull, OneOf, Between}
-use Rattle.wm_spec.specs.Operands.{operand_kind, is_period, wm_valid}
+use Rattle.wm_spec.specs.Operands.{is_of_source, is_named, wm_valid, kind_of, suffixed_kind, constant_kind}
+
+-- ---- types by the names
+
+-- WM_VALID is named, and there is a source that it may mean, but no such column
+abbrev pub lacks_period : Option (List ℕ) → List ℕ → List Column → Bool
+lacks_period source name columns = list_any (λ column. is_of_source source column) columns && (bytes_eq name wm_valid && not (list_any (λ column. is_named source name column) columns))
+
+-- the kind of what is named: WM_VALID is a period by its name, and anything else is what its column is
+abbrev pub kind_named : Option (List ℕ) → List ℕ → List Column → Option ℕ
+kind_named source name columns = if lacks_period source name columns then Some 4 else kind_of source name columns
+
+abbrev pub is_kind_of_periods : Option ℕ → Bool
+is_kind_of_periods None = false
+is_kind_of_periods (Some kind) = kind == 4
+
+-- a period that is written, or WM_VALID
+abbrev pub named_period : Per → List Column → Bool
+named_period (periods.Valid source) columns = is_kind_of_periods (kind_named source wm_valid columns)
+named_period (periods.Span from till) columns = true
+
+-- the type of an operand by its names, and nothing where it names what is neither a column nor WM_VALID
+abbrev pub named_kind : Operand → List Column → Option ℕ
+named_kind (operands.Col col) columns = suffixed_kind col.suffix (kind_named col.source col.name columns)
+named_kind (operands.Const constant) columns = Some (constant_kind constant)
+named_kind (operands.Test operator left right) columns = if named_period left columns && named_period right columns then Some 1 else None
+
+-- ---- names that are not there
 
 -- the text, where the test fails
 abbrev pub unless : Bool → List ℕ → Option (List ℕ)
@@ -16,11 +45,11 @@ unless false text = Some text
 
 -- the name, where it is not that of exactly one of these columns, or where an end is asked of a column that has none
 abbrev pub unknown_col : List Column → Col → Option (List ℕ)
-unknown_col columns col = unless (is_some (operand_kind (operands.Col col) columns)) col.name
+unknown_col columns col = unless (is_some (named_kind (operands.Col col) columns)) col.name
 
--- WM_VALID, where it is named and is not exactly one column of periods
+-- WM_VALID, where it is named and is several columns, or that of no source
 abbrev pub unknown_period : List Column → Per → Option (List ℕ)
-unknown_period columns period = unless (is_period period columns) wm_valid
+unknown_period columns period = unless (named_period period columns) wm_valid
 
 abbrev pub unknown_in_operand : List Column → Operand → Option (List ℕ)
 unknown_in_operand columns (operands.Col col) = unknown_col columns col

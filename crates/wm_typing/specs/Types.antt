@@ -7,14 +7,14 @@ use Rattle.wm_base.specs.declared.tree.cond.Cmp.{Cmp}
 use Rattle.wm_base.specs.declared.tree.cond.Cmp.TheVariants.{Eq, NotEq, BangEq, Lt, Le, Gt, Ge}
 use Rattle.wm_base.specs.Trees.{Expr, Of, Neg, Add, Sub, Mul, Cond, Or, And, Not, Compare, IsNull, OneOf, Between}
 use Rattle.wm_spec.specs.Conditions.{may_compare, typed}
-use Rattle.wm_spec.specs.Operands.{operand_kind, constant_kind}
-use Rattle.wm_typing.specs.Names.{unless}
+use Rattle.wm_spec.specs.Operands.{constant_kind}
+use Rattle.wm_typing.specs.Names.{named_kind, unless}
 
 -- ---- expressions
 
--- the type of an expression: an operand's own, and that of numbers for arithmetic; nothing where an operand names no column that is there
+-- the type of an expression: an operand's own, and that of numbers for arithmetic; nothing where an operand names what is not there
 abbrev pub expr_kind : List Column → Expr → Option ℕ
-expr_kind columns (Of operand) = operand_kind operand columns
+expr_kind columns (Of operand) = named_kind operand columns
 expr_kind columns (Neg x) = Some 1
 expr_kind columns (Add x y) = Some 1
 expr_kind columns (Sub x y) = Some 1
@@ -56,12 +56,12 @@ abbrev pub mistyped_in_cond : List Column → Cond → Option (List ℕ)
 mistyped_in_cond columns (Or c d) = option_or (mistyped_in_cond columns c) (mistyped_in_cond columns d)
 mistyped_in_cond columns (And c d) = option_or (mistyped_in_cond columns c) (mistyped_in_cond columns d)
 mistyped_in_cond columns (Not c) = mistyped_in_cond columns c
-mistyped_in_cond columns (Compare left cmp right) = unless (may_compare (operand_kind left columns) (operand_kind right columns)) (mark_text cmp)
+mistyped_in_cond columns (Compare left cmp right) = unless (may_compare (named_kind left columns) (named_kind right columns)) (mark_text cmp)
 mistyped_in_cond columns (IsNull what negated) = None
 mistyped_in_cond columns (OneOf what negated list) =
-    unless (list_all (λ constant. may_compare (operand_kind what columns) (Some (constant_kind constant))) list) (codes "IN")
+    unless (list_all (λ constant. may_compare (named_kind what columns) (Some (constant_kind constant))) list) (codes "IN")
 mistyped_in_cond columns (Between what negated low high) =
-    unless (may_compare (operand_kind what columns) (operand_kind low columns) && may_compare (operand_kind what columns) (operand_kind high columns)) (codes "BETWEEN")
+    unless (may_compare (named_kind what columns) (named_kind low columns) && may_compare (named_kind what columns) (named_kind high columns)) (codes "BETWEEN")
 
 -- the same of a condition that may be left out
 abbrev pub mistyped_in_filter : List Column → Option Cond → Option (List ℕ)

@@ -8,6 +8,7 @@ ghost use Rattle.wm_typing.specs.Types.{is_filter_typed};
 
 use crate::first::{first_of, unless};
 use crate::items::{unknown_in_cols, unknown_in_projection};
+use crate::meant::table_lacking;
 use crate::names::unknown_in_filter;
 use crate::orders::{copy_of, unknown_in_orders};
 use crate::refusals::first_refusal;
@@ -215,11 +216,13 @@ fn query_fault_in(
         bytes_of(&unknown),
         mistyped_in_query(columns, query),
         None,
+        table_lacking(columns, query),
     )
 }
 
 /// Why a query over these columns, those of all its sources in order, is refused for its names and types: a name that
-/// is not there, or may not stand where it stands, then a type that is wrong, of each the first in the line.
+/// is not there, or may not stand where it stands, then a type that is wrong, then WM_VALID of a table that has no valid
+/// time, of each the first in the line.
 #[tactic(auto, unfolding(crate::specs::Asking::query_fault))]
 pub fn query_fault(
     alloc: Global,

@@ -4,12 +4,15 @@ ghost use Rattle.std.specs.Option.{option_map_or};
 ghost use Rattle.wm_spec.specs.declared.record.column.TableColumn.{TableColumn as OneColumn};
 ghost use Rattle.wm_base.specs.Trees.{Set as SetTree};
 ghost use Rattle.wm_base.specs.Views.{filter_view, set_view, sets_view};
-ghost use Rattle.wm_typing.specs.Changing.{may_set, unknown_in_set, unknown_in_sets, may_stand, mistyped_in_set, mistyped_in_sets, is_key, key_set, update_fault, update_fault_in, delete_fault};
+ghost use Rattle.wm_typing.specs.Changing.{may_set, unknown_in_set, unknown_in_sets, may_stand, mistyped_in_set, mistyped_in_sets, is_key, key_set, lacking_where, lacking_anywhere, update_fault, update_fault_in, delete_fault, delete_fault_in};
 ghost use Rattle.wm_typing.specs.Columns.{columns_of_table};
+ghost use Rattle.wm_typing.specs.Lacking.{lacks_in_set, lacks_in_sets};
 ghost use Rattle.wm_typing.specs.Types.{is_filter_typed};
 
 use crate::columns::columns_of_table;
 use crate::first::{first_of, unless};
+use crate::kinds::{kind_named, lacks_period};
+use crate::lacking::{is_found, lacking_in_expr, lacking_in_filter};
 use crate::names::{unknown_in_expr, unknown_in_filter};
 use crate::refusals::first_refusal;
 use crate::types::{expr_kind, mistyped_in_expr, mistyped_in_filter};
@@ -18,7 +21,6 @@ use wm_base::columns::PERIOD;
 use wm_base::tree::cond::Cond;
 use wm_base::tree::statement::Set;
 use wm_base::{Column, Memory, Refusal};
-use wm_expr::names::kind_of;
 use wm_spec::record::{Table, TableColumn};
 
 /// Whether one of the changes sets the column of that name.
@@ -33,11 +35,11 @@ fn is_set(before: &[Set], name: &[u8]) -> bool
     false
 }
 
-/// Whether exactly one column has the name, and none that was set before.
+/// Whether the name is that of exactly one column, or WM_VALID, and was not set before.
 fn may_set(columns: &[Column], before: &[Set], name: &[u8]) -> bool
     ensures { result ≡ may_set columns.now (sets_view before.now) name.now }
 {
-    kind_of(&None, name, columns).is_some() && !is_set(before, name)
+    kind_named(&None, name, columns).is_some() && !is_set(before, name)
 }
 
 fn unknown_in_set<'a>(columns: &[Column], before: &[Set], set: &'a Set) -> Option<&'a [u8]>
@@ -77,7 +79,7 @@ fn mistyped_in_set<'a>(columns: &[Column], set: &'a Set) -> Option<&'a [u8]>
 {
     let name = set.name.as_bytes();
     let fits = may_stand(
-        kind_of(&None, name, columns),
+        kind_named(&None, name, columns),
         expr_kind(columns, &set.becomes),
     );
     first_of(unless(fits, name), mistyped_in_expr(columns, &set.becomes))
@@ -124,6 +126,54 @@ fn key_set<'a>(table: &Table, sets: &'a [Set]) -> Option<&'a [u8]>
     None
 }
 
+/// Whether WM_VALID is set, or in the value that is set, and the table has none.
+fn lacks_in_set(columns: &[Column], set: &Set) -> bool
+    ensures { result ≡ lacks_in_set columns.now (set_view set.now) }
+{
+    lacks_period(&None, set.name.as_bytes(), columns)
+        || is_found(lacking_in_expr(columns, &set.becomes))
+}
+
+fn lacks_in_sets(columns: &[Column], sets: &[Set]) -> bool
+    ensures { result ≡ lacks_in_sets columns.now (sets_view sets.now) }
+{
+    for set in sets {
+        if lacks_in_set(columns, set) {
+            return true;
+        }
+    }
+    false
+}
+
+/// The table, where WM_VALID is named in the condition and the table has none.
+fn lacking_where<'a>(
+    columns: &[Column],
+    table: &'a Table,
+    filter: &Option<Cond>,
+) -> Option<&'a [u8]>
+    ensures { option_copied result ≡ lacking_where columns.now table.now (filter_view filter.now) }
+{
+    unless(
+        !is_found(lacking_in_filter(columns, filter)),
+        table.name.as_bytes(),
+    )
+}
+
+/// The same in what is set too.
+fn lacking_anywhere<'a>(
+    columns: &[Column],
+    table: &'a Table,
+    sets: &[Set],
+    filter: &Option<Cond>,
+) -> Option<&'a [u8]>
+    ensures { option_copied result ≡ lacking_anywhere columns.now table.now (sets_view sets.now) (filter_view filter.now) }
+{
+    first_of(
+        unless(!lacks_in_sets(columns, sets), table.name.as_bytes()),
+        lacking_where(columns, table, filter),
+    )
+}
+
 fn update_fault_in(
     alloc: Global,
     columns: &[Column],
@@ -141,11 +191,12 @@ fn update_fault_in(
         mistyped_in_sets(columns, sets),
         mistyped_in_filter(columns, filter),
     );
-    first_refusal(alloc, unknown, mistyped, key_set(table, sets))
+    let lacking = lacking_anywhere(columns, table, sets, filter);
+    first_refusal(alloc, unknown, mistyped, key_set(table, sets), lacking)
 }
 
 /// Why an UPDATE of the table is refused for its names and types: a name that is not there, then a type that is wrong,
-/// then a key column that is set, of each the first in the line.
+/// then a key column that is set, of each the first in the line; and then WM_VALID, where the table has no valid time.
 #[tactic(auto, using(crate::proofs::Typed::update_typed), unfolding(crate::specs::Changing::update_fault))]
 pub fn update_fault(
     alloc: Global,
@@ -161,6 +212,23 @@ pub fn update_fault(
     Ok(refusal)
 }
 
+fn delete_fault_in(
+    alloc: Global,
+    columns: &[Column],
+    table: &Table,
+    filter: &Option<Cond>,
+) -> Result<Option<Refusal>, Memory>
+    ensures { IfOk result (λ refusal. refusal ≡ delete_fault_in columns.now table.now (filter_view filter.now)) }
+{
+    first_refusal(
+        alloc,
+        unknown_in_filter(columns, filter),
+        mistyped_in_filter(columns, filter),
+        None,
+        lacking_where(columns, table, filter),
+    )
+}
+
 /// Why a DELETE from the table is refused likewise.
 #[tactic(auto, using(crate::proofs::Typed::delete_typed), unfolding(crate::specs::Changing::delete_fault))]
 pub fn delete_fault(
@@ -172,8 +240,6 @@ pub fn delete_fault(
     ensures typed { IfOk result (λ refusal. refusal ≡ None → is_filter_typed (columns_of_table table.now.name table.now) (filter_view filter.now) ≡ true) }
 {
     let columns = columns_of_table(alloc, &table.name, table)?;
-    let unknown = unknown_in_filter(columns.as_slice(), filter);
-    let mistyped = mistyped_in_filter(columns.as_slice(), filter);
-    let refusal = first_refusal(alloc, unknown, mistyped, None)?;
+    let refusal = delete_fault_in(alloc, columns.as_slice(), table, filter)?;
     Ok(refusal)
 }

@@ -1,10 +1,11 @@
 //! The columns that the items of a query and GROUP BY name.
 ghost use Rattle.std.specs.Prelude.{◌≡◌, ◌&&◌, is_none, option_copied};
 ghost use Rattle.wm_base.specs.Views.{expr_view, item_view, outs_view, projection_view};
-ghost use Rattle.wm_spec.specs.Operands.{is_named};
-ghost use Rattle.wm_typing.specs.Items.{is_same_end, name_one, is_same_col, is_among, col_of_operand, col_of, ungrouped, unknown_in_item, unknown_in_outs, is_grouped_by, ungrouped_column, unknown_in_projection, unknown_in_cols};
+ghost use Rattle.wm_spec.specs.Operands.{is_of_source, is_named};
+ghost use Rattle.wm_typing.specs.Items.{is_same_end, name_one, lack_one, is_same_col, is_among, col_of_operand, col_of, ungrouped, unknown_in_item, unknown_in_outs, is_grouped_by, ungrouped_column, unknown_in_projection, unknown_in_cols};
 
 use crate::first::{first_of, unless};
+use crate::kinds::{is_of_source, lacks_period};
 use crate::names::{unknown_col, unknown_in_expr};
 use wm_base::Column;
 use wm_base::tree::column::{Col, Suffix};
@@ -39,11 +40,30 @@ fn name_one(columns: &[Column], one: &Col, other: &Col) -> bool
     columns.iter().any(|column| are_named(column, one, other))
 }
 
-/// Whether both name one of these columns, or one end of it.
+/// Whether both may mean the source of the column.
+fn are_of_source(column: &Column, one: &Col, other: &Col) -> bool
+    ensures { result ≡ (is_of_source one.now.source column.now && is_of_source other.now.source column.now) }
+{
+    is_of_source(&one.source, column) && is_of_source(&other.source, column)
+}
+
+/// Whether both name WM_VALID, may mean one source, and it is no column there.
+fn lack_one(columns: &[Column], one: &Col, other: &Col) -> bool
+    ensures { result ≡ lack_one columns.now one.now other.now }
+{
+    lacks_period(&one.source, one.name.as_bytes(), columns)
+        && lacks_period(&other.source, other.name.as_bytes(), columns)
+        && columns
+            .iter()
+            .any(|column| are_of_source(column, one, other))
+}
+
+/// Whether both name one column, or one end of it. WM_VALID goes by its name, whether it is there or not.
 pub fn is_same_col(columns: &[Column], one: &Col, other: &Col) -> bool
     ensures { result ≡ is_same_col columns.now one.now other.now }
 {
-    is_same_end(one.suffix, other.suffix) && name_one(columns, one, other)
+    is_same_end(one.suffix, other.suffix)
+        && (name_one(columns, one, other) || lack_one(columns, one, other))
 }
 
 /// Whether one of these names means the column.

@@ -4,27 +4,28 @@ ghost use Rattle.wm_base.specs.Views.{cond_view, expr_view, filter_view};
 ghost use Rattle.wm_typing.specs.Names.{unknown_col, unknown_period, unknown_in_operand, unknown_in_expr, unknown_in_cond, unknown_in_filter};
 
 use crate::first::{first_of, unless};
+use crate::kinds::{kind_named, named_period};
 use wm_base::Column;
 use wm_base::tree::column::Col;
 use wm_base::tree::cond::Cond;
 use wm_base::tree::expr::Expr;
 use wm_base::tree::operand::{Operand, Per};
-use wm_expr::names::kind_of;
-use wm_expr::types::{is_period, kind_at_end};
+use wm_expr::types::kind_at_end;
 
-/// The name of the column, where it is not exactly one of these, or where an end is asked of a column that has none.
+/// The name of the column, where it is not exactly one of these, or where an end is asked of a column that has none. That
+/// a table has no WM_VALID is told by another refusal.
 pub fn unknown_col<'a>(columns: &[Column], col: &'a Col) -> Option<&'a [u8]>
     ensures { option_copied result ≡ unknown_col columns.now col.now }
 {
-    let kind = kind_of(&col.source, col.name.as_bytes(), columns);
+    let kind = kind_named(&col.source, col.name.as_bytes(), columns);
     unless(kind_at_end(col.suffix, kind).is_some(), col.name.as_bytes())
 }
 
-/// WM_VALID, where the period names it and it is not exactly one column of periods.
+/// WM_VALID, where the period names it and it is several columns, or that of no source.
 fn unknown_period<'a>(columns: &[Column], period: &'a Per) -> Option<&'a [u8]>
     ensures { option_copied result ≡ unknown_period columns.now period.now }
 {
-    unless(is_period(period, columns), b"WM_VALID")
+    unless(named_period(period, columns), b"WM_VALID")
 }
 
 fn unknown_in_operand<'a>(columns: &[Column], operand: &'a Operand) -> Option<&'a [u8]>

@@ -9,6 +9,7 @@ ghost use Rattle.wm_typing.specs.Items.{item_count, place_of, is_below, has_name
 
 use crate::first::{first_of, unless};
 use crate::items::{col_of, is_same_col};
+use crate::kinds::lacks_period;
 use crate::names::unknown_col;
 use std::alloc::Global;
 use wm_base::tree::column::Col;
@@ -69,7 +70,7 @@ fn count_named(outs: &[Out], col: &Col) -> usize
     outs.iter().filter(|out| is_alias(col, out)).count()
 }
 
-fn alias_count(projection: &Projection, col: &Col) -> usize
+pub fn alias_count(projection: &Projection, col: &Col) -> usize
     ensures { result ≡ alias_count (projection_view projection.now) col.now }
 {
     match projection {
@@ -108,12 +109,14 @@ fn is_out_col(columns: &[Column], col: &Col, outs: &[Out]) -> bool
     false
 }
 
-/// Whether the column is an item. `*` gives each column, and not its ends.
+/// Whether the column is an item. `*` gives each column that is there, and not its ends.
 fn is_item(columns: &[Column], projection: &Projection, col: &Col) -> bool
     ensures { result ≡ is_item columns.now (projection_view projection.now) col.now }
 {
     match projection {
-        Projection::All => col.suffix.is_none(),
+        Projection::All => {
+            col.suffix.is_none() && !lacks_period(&col.source, col.name.as_bytes(), columns)
+        }
         Projection::Outs(outs) => is_out_col(columns, col, outs.as_slice()),
     }
 }

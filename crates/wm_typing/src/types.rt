@@ -2,26 +2,27 @@ ghost use Rattle.std.specs.Prelude.{◌≡◌, ◌&&◌, codes, option_copied};
 ghost use Rattle.std.specs.List.{list_all};
 ghost use Rattle.wm_base.specs.Views.{cond_view, expr_view, filter_view};
 ghost use Rattle.wm_spec.specs.Conditions.{may_compare};
-ghost use Rattle.wm_spec.specs.Operands.{constant_kind, operand_kind};
-ghost use Rattle.wm_typing.specs.Names.{unless};
+ghost use Rattle.wm_spec.specs.Operands.{constant_kind};
+ghost use Rattle.wm_typing.specs.Names.{named_kind, unless};
 ghost use Rattle.wm_typing.specs.Types.{expr_kind, is_number, is_numeric, mistyped_in_expr, mark_text, mistyped_in_cond, mistyped_in_filter};
 
 use crate::first::{first_of, unless};
+use crate::kinds::named_kind;
 use wm_base::Column;
 use wm_base::columns::NUMBER;
 use wm_base::tree::cond::{Cmp, Cond};
 use wm_base::tree::constant::Consts;
 use wm_base::tree::expr::Expr;
 use wm_base::tree::operand::Operand;
-use wm_expr::types::{may_compare, may_compare_all, operand_kind};
+use wm_expr::types::{may_compare, may_compare_all};
 
-/// The kind of an expression: an operand's own, and that of numbers for arithmetic. It is 0 for NULL, and None where an
-/// operand names no column that is there.
+/// The kind of an expression: an operand's own, and that of numbers for arithmetic. It is 0 for NULL, that of periods for
+/// WM_VALID by its name, and None where an operand names what is not there.
 pub fn expr_kind(columns: &[Column], expr: &Expr) -> Option<u8>
     ensures { result ≡ expr_kind columns.now (expr_view expr.now) }
 {
     match expr {
-        Expr::Operand(operand) => operand_kind(operand, columns),
+        Expr::Operand(operand) => named_kind(operand, columns),
         Expr::Neg(_) | Expr::Add(_, _) | Expr::Sub(_, _) | Expr::Mul(_, _) => Some(NUMBER),
     }
 }
@@ -111,9 +112,9 @@ fn mark_text(cmp: Cmp) -> &'static [u8]
 
 /// IN, where a constant of its list may not be compared with the operand.
 fn unless_listed(columns: &[Column], what: &Operand, list: &Consts) -> Option<&'static [u8]>
-    ensures { option_copied result ≡ unless (list_all (λ constant. may_compare (operand_kind what.now columns.now) (Some (constant_kind constant))) list.now) (codes "IN") }
+    ensures { option_copied result ≡ unless (list_all (λ constant. may_compare (named_kind what.now columns.now) (Some (constant_kind constant))) list.now) (codes "IN") }
 {
-    let kind = operand_kind(what, columns);
+    let kind = named_kind(what, columns);
     unless(may_compare_all(kind, list.as_slice()), b"IN")
 }
 
@@ -133,10 +134,7 @@ pub fn mistyped_in_cond(columns: &[Column], cond: &Cond) -> Option<&'static [u8]
             }
             Cond::Not(inner) => rest = inner,
             Cond::Compare { left, cmp, right } => {
-                let compares = may_compare(
-                    operand_kind(left, columns),
-                    operand_kind(right, columns),
-                );
+                let compares = may_compare(named_kind(left, columns), named_kind(right, columns));
                 return first_of(unless(compares, mark_text(*cmp)), found);
             }
             Cond::IsNull { .. } => return found,
@@ -149,9 +147,9 @@ pub fn mistyped_in_cond(columns: &[Column], cond: &Cond) -> Option<&'static [u8]
                 high,
                 ..
             } => {
-                let kind = operand_kind(what, columns);
-                let compares = may_compare(kind, operand_kind(low, columns))
-                    && may_compare(kind, operand_kind(high, columns));
+                let kind = named_kind(what, columns);
+                let compares = may_compare(kind, named_kind(low, columns))
+                    && may_compare(kind, named_kind(high, columns));
                 return first_of(unless(compares, b"BETWEEN"), found);
             }
         }

@@ -10,5 +10,5 @@ returns c =
     c.unless.ensures
     ∙ ap (λ holds. unless holds (codes "IN"))
     (c.may_compare_all.ensures
-    ∙ ap (λ list. list_all (λ constant. may_compare c.operand_kind-kind.result (Some (constant_kind constant))) list) c.as_slice.ensures
-    ∙ ap (λ kind. list_all (λ constant. may_compare kind (Some (constant_kind constant))) c.args.list.now) c.operand_kind-kind.ensures)
+    ∙ ap (λ list. list_all (λ constant. may_compare c.named_kind-kind.result (Some (constant_kind constant))) list) c.as_slice.ensures
+    ∙ ap (λ kind. list_all (λ constant. may_compare kind (Some (constant_kind constant))) c.args.list.now) c.named_kind-kind.ensures)

@@ -1,0 +1,61 @@
+-- Where no WM_VALID is lacking, the kinds by the names are those of the columns.
+use Rattle.std.proofs.Common.{◌≡◌, ℕ, Bool, true, false, ◌&&◌, ◌||◌, ◌==◌, List, Option, None, Some, is_some, refl, ap, ◌∙◌, if◌then◌else◌}
+use Rattle.std.specs.Prelude.{option_and_then, unwrap_or}
+use Rattle.wm_base.specs.declared.columns.Column.{Column}
+use Rattle.wm_base.specs.declared.tree.operand.Operand.{Operand}
+use Rattle.wm_base.specs.declared.tree.operand.Operand.TheVariants as operands
+use Rattle.wm_base.specs.declared.tree.operand.Per.{Per}
+use Rattle.wm_base.specs.declared.tree.operand.Per.TheVariants as periods
+use Rattle.wm_base.specs.Trees.{Set}
+use Rattle.wm_spec.specs.Operands.{wm_valid, kind_of, suffixed_kind, is_period, operand_kind}
+use Rattle.wm_typing.specs.Lacking.{lacking_name, lacking_period, lacking_in_operand, lacking_in_expr, lacks_in_set}
+use Rattle.wm_typing.specs.Names.{lacks_period, kind_named, is_kind_of_periods, named_period, named_kind}
+use Rattle.wm_typing.proofs.Nones.{first_none, second_none, not_some}
+
+there : (lacks : Bool) (kind : Option ℕ) → lacks ≡ false → (if lacks then Some 4 else kind) ≡ kind
+there false kind e = refl
+there true kind e = cc
+
+pub kind_is : (source : Option (List ℕ)) (name : List ℕ) (columns : List Column) → lacks_period source name columns ≡ false → kind_named source name columns ≡ kind_of source name columns
+kind_is source name columns e = there (lacks_period source name columns) (kind_of source name columns) e
+
+-- the name was not found to be lacking
+has : (lacks : Bool) (source : Option (List ℕ)) → (if lacks then Some source else None) ≡ None → lacks ≡ false
+has false source e = refl
+has true source e = cc
+
+is_of_periods : (kind : Option ℕ) → is_kind_of_periods kind ≡ unwrap_or (option_and_then (λ k. Some (k == 4)) kind) false
+is_of_periods None = refl
+is_of_periods (Some kind) = refl
+
+pub period_is : (columns : List Column) (period : Per) → lacking_period columns period ≡ None → named_period period columns ≡ is_period period columns
+period_is columns (periods.Valid source) e =
+    ap is_kind_of_periods (kind_is source wm_valid columns (has (lacks_period source wm_valid columns) source e)) ∙ is_of_periods (kind_of source wm_valid columns)
+period_is columns (periods.Span from till) e = refl
+
+both_are : (a b c d : Bool) → a ≡ c → b ≡ d → a && b ≡ c && d
+both_are a b c d e f = ap (λ x. x && b) e ∙ ap (λ x. c && x) f
+
+abbrev number_if : Bool → Option ℕ
+number_if test = if test then Some 1 else None
+
+-- an operand in which no WM_VALID is lacking has its own kind
+pub operand_is : (columns : List Column) (x : Operand) → lacking_in_operand columns x ≡ None → named_kind x columns ≡ operand_kind x columns
+operand_is columns (operands.Col col) e =
+    ap (λ kind. suffixed_kind col.suffix kind) (kind_is col.source col.name columns (has (lacks_period col.source col.name columns) col.source e))
+operand_is columns (operands.Const constant) e = refl
+operand_is columns (operands.Test operator left right) e =
+    ap (λ test. number_if test)
+    (both_are (named_period left columns) (named_period right columns) (is_period left columns) (is_period right columns)
+    (period_is columns left (first_none (lacking_period columns left) (lacking_period columns right) e))
+    (period_is columns right (second_none (lacking_period columns left) (lacking_period columns right) e)))
+
+-- so what is set, and what it becomes
+neither : (a b : Bool) → a || b ≡ false → (a ≡ false) × (b ≡ false)
+neither false b e = (refl, e)
+neither true b e = (e, cc)
+
+pub set_kind_is : (columns : List Column) (set : Set) → lacks_in_set columns set ≡ false → (kind_named None set.name columns ≡ kind_of None set.name columns) × (lacking_in_expr columns set.becomes ≡ None)
+set_kind_is columns set e =
+    let parts = neither (lacks_period None set.name columns) (is_some (lacking_in_expr columns set.becomes)) e in
+    (kind_is None set.name columns parts.0, not_some (lacking_in_expr columns set.becomes) parts.1)
