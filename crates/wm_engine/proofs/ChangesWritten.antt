@@ -11,15 +11,16 @@ use Rattle.std.specs.Option.{option_map_or}
 use Rattle.wm_base.specs.Key.{key_order}
 use Rattle.wm_base.specs.declared.instant.TheConstants.{END}
 use Rattle.wm_base.specs.declared.value.Value.{Value}
-use Rattle.wm_dml.specs.Standing.{change_keys, is_change}
+use Rattle.wm_dml.specs.Standing.{change_keys, change_lasts, is_change}
 use Rattle.wm_dml.specs.declared.change.RowChange.{RowChange}
 use Rattle.wm_graph.specs.Parts.{parts_of}
 use Rattle.wm_graph.specs.Rules.{is_key, is_key_of, is_row_of, is_table, keep_rules, key_of}
+use Rattle.wm_image.specs.Redraw.{IsRedrawn}
 use Rattle.wm_making.specs.Rows.{is_filled}
 use Rattle.wm_model.proofs.Doing.{counts_as, does_nothing, spent_work}
 use Rattle.wm_model.proofs.Written.{changes_batch, does_write, go}
 use Rattle.wm_model.proofs.WrittenNew.{changes_new_batch, does_write_new}
-use Rattle.wm_model.specs.Changes.{Changes, ChangesNew, change_piece, lasts, new_pieces, new_rows, next_version, row_before, stepped_by, stepped_new_by}
+use Rattle.wm_model.specs.Changes.{Changes, ChangesNew, change_piece, new_pieces, new_rows, next_version, row_before, stepped_by, stepped_new_by}
 use Rattle.wm_model.specs.Entered.{entries_of, written_all}
 use Rattle.wm_model.specs.Planning.{Stay, moved}
 use Rattle.wm_model.specs.Step.{at_its_end, counter_limit, line_work}
@@ -166,7 +167,7 @@ keys_written version stamp t [] = refl
 keys_written version stamp t (x ∷ xs) = ap (λ keys. x.key ∷ keys) (keys_written version (stamp + 1) t xs)
 
 -- the new pieces may be drawn
-pub are_news : (version stamp : ℕ) (t : Table) (changes : List RowChange) → list_all lasts changes ≡ true → are_sorted (change_keys changes) ≡ true → AreNews version t.number (new_pieces version stamp t changes)
+pub are_news : (version stamp : ℕ) (t : Table) (changes : List RowChange) → list_all change_lasts changes ≡ true → are_sorted (change_keys changes) ≡ true → AreNews version t.number (new_pieces version stamp t changes)
 are_news version stamp t changes last sorted = record {
   here = here stamp changes;
   last = lasting stamp changes last;
@@ -180,23 +181,22 @@ are_news version stamp t changes last sorted = record {
     here k [] = refl
     here k (x ∷ xs) = and_true (is_for version t.number (change_piece version k t x)) _ (and_true (version == version) (t.number == t.number) (itself version) (itself t.number)) (here (k + 1) xs)
 
-    lasting : (k : ℕ) (xs : List RowChange) → list_all lasts xs ≡ true → list_all has_moments (new_pieces version k t xs) ≡ true
+    lasting : (k : ℕ) (xs : List RowChange) → list_all change_lasts xs ≡ true → list_all has_moments (new_pieces version k t xs) ≡ true
     lasting k [] all = refl
     lasting k (x ∷ xs) all =
-        let h = both (lasts x) (list_all lasts xs) all in
+        let h = both (change_lasts x) (list_all change_lasts xs) all in
         and_true (has_moments (change_piece version k t x)) _ (both (nat_lt x.period.from x.period.till) (nat_le x.period.till END) h.0).0 (lasting (k + 1) xs h.1)
 
 -- what was drawn for the new pieces is what is asked of it
 pub redrawn_is : (rs : List Stored) (version stamp number : ℕ) (t : Table) (changes : List RowChange) (news : List PieceRecord) (dropped : List ℕ) (drawn : List PieceRecord) → news ≡ new_pieces version stamp t changes → number ≡ t.number
-    → AreDropped (keeps (is_out_all version number (piece_keys news))) dropped rs → ids_differ dropped ≡ true → list_all (λ k. is_some (record_at rs k)) dropped ≡ true
-    → AreDrawn news (filter (λ (y : PieceRecord). not (is_out_all version number (piece_keys news) y)) (parts_of rs).pieces) drawn → Redrawn rs version stamp t changes dropped drawn
-redrawn_is rs version stamp number t changes news dropped drawn news_are of are once there draws = record {
-  dropped = subst (λ n. AreDropped (keeps (is_out_all version n (change_keys changes))) dropped rs) of (subst (λ keys. AreDropped (keeps (is_out_all version number keys)) dropped rs) keys are);
-  once = once;
-  there = there;
+    → IsRedrawn rs version number news dropped drawn → Redrawn rs version stamp t changes dropped drawn
+redrawn_is rs version stamp number t changes news dropped drawn news_are of is = record {
+  dropped = subst (λ n. AreDropped (keeps (is_out_all version n (change_keys changes))) dropped rs) of (subst (λ keys. AreDropped (keeps (is_out_all version number keys)) dropped rs) keys is.gone);
+  once = is.once;
+  there = is.there;
   draws = subst (λ n. AreDrawn (new_pieces version stamp t changes) (filter (λ (y : PieceRecord). not (is_out_all version n (change_keys changes) y)) (parts_of rs).pieces) drawn) of
       (subst (λ keys. AreDrawn (new_pieces version stamp t changes) (filter (λ (y : PieceRecord). not (is_out_all version number keys y)) (parts_of rs).pieces) drawn) keys
-      (subst (λ xs. AreDrawn xs (filter (λ (y : PieceRecord). not (is_out_all version number (piece_keys news) y)) (parts_of rs).pieces) drawn) news_are draws));
+      (subst (λ xs. AreDrawn xs (filter (λ (y : PieceRecord). not (is_out_all version number (piece_keys news) y)) (parts_of rs).pieces) drawn) news_are is.are));
 }
   where
     keys : piece_keys news ≡ change_keys changes

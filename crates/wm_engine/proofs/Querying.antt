@@ -1,6 +1,5 @@
 -- What is known of the sources of a query is known of the query.
-use Rattle.std.proofs.Common.{◌≡◌, Bool, true, List, Option, None, ap, ◌∙◌, sym, subst}
-use Rattle.std.specs.List.{list_any}
+use Rattle.std.proofs.Common.{◌≡◌, true, List, Option, None, ap, ◌∙◌, sym, subst}
 use Rattle.wm_base.specs.declared.columns.Column.{Column}
 use Rattle.wm_base.specs.declared.refusal.Refusal.{Refusal}
 use Rattle.wm_base.specs.declared.tree.query.Query.{Query as QueryNode}
@@ -8,11 +7,10 @@ use Rattle.wm_base.specs.declared.tree.query.Src.{Src as SrcNode}
 use Rattle.wm_base.specs.Views.{query_view, srcs_view}
 use Rattle.wm_graph.specs.Parts.{parts_of}
 use Rattle.wm_graph.specs.Rules.{keep_rules}
-use Rattle.wm_model.proofs.Selecting.{AreReady, asked}
+use Rattle.wm_model.proofs.Selecting.{AreReady}
 use Rattle.wm_model.specs.Planning.{tables_in}
 use Rattle.wm_model.specs.Step.{columns_in, lost_source, table_off, tables_of}
 use Rattle.wm_spec.specs.declared.record.stored.Stored.{Stored}
-use Rattle.wm_spec.specs.declared.record.table.Table.{Table}
 use Rattle.wm_typing.specs.Asking.{query_fault}
 
 -- the sources are tables that are ready for rows
@@ -23,11 +21,6 @@ are_ready rs query sources is rules there on = record {
   there = subst (λ ss. lost_source (tables_in rs) (srcs_view ss) ≡ None) is there;
   on = subst (λ ss. table_off (tables_of (tables_in rs) (srcs_view ss)) ≡ None) is on;
 }
-
--- rows of one of them have periods, or those of none have
-pub have_periods : (rs : List Stored) (query : QueryNode) (sources : List SrcNode) (b : Bool) → sources ≡ query.sources.items → list_any (λ (t : Table). t.valid) (tables_of (tables_in rs) (srcs_view sources)) ≡ b
-    → list_any (λ (t : Table). t.valid) (asked rs (query_view query)) ≡ b
-have_periods rs query sources b is has = subst (λ ss. list_any (λ (t : Table). t.valid) (tables_of (tables_in rs) (srcs_view ss)) ≡ b) is has
 
 -- what the query is refused for over their columns
 pub fault_is : (rs : List Stored) (query : QueryNode) (sources : List SrcNode) (columns : List Column) (fault : Option Refusal) → sources ≡ query.sources.items → columns ≡ columns_in (tables_in rs) (srcs_view sources)

@@ -1,10 +1,11 @@
 -- What a plan that changes the rows of a table that a session sees does.
-use Rattle.std.proofs.Common.{◌≡◌, ℕ, List, Option, Result, IfOk, sym, ap, subst, ◌∙◌}
-use Rattle.wm_base.specs.Period.{Span}
+use Rattle.std.proofs.Common.{◌≡◌, ℕ, false, refl, List, map, Option, Result, IfOk, sym, ap, subst, ◌∙◌}
+use Rattle.wm_base.specs.Period.{Span, always}
 use Rattle.wm_base.specs.declared.memory.Memory.{Memory}
 use Rattle.wm_base.specs.declared.row.Row.{Row}
-use Rattle.wm_base.specs.Trees.{Cond}
-use Rattle.wm_dml.specs.Changing.{chosen}
+use Rattle.wm_base.specs.declared.refusal.Refusal.{Refusal}
+use Rattle.wm_base.specs.Trees.{Cond, Expr, Set}
+use Rattle.wm_dml.specs.Changing.{chosen, gone, updated_rows}
 use Rattle.wm_graph.specs.Parts.{parts_of}
 use Rattle.wm_spec.specs.declared.record.space.Space.{Space}
 use Rattle.wm_spec.specs.declared.record.stored.Stored.{Stored}
@@ -14,12 +15,20 @@ use Rattle.wm_state.specs.Listing.{IsShowing}
 use Rattle.wm_state.specs.Standing.{latest}
 use Rattle.wm_state.specs.State.{State, Session, Workspace, content}
 use Rattle.wm_model.specs.Planning.{StandsAt}
-use Rattle.wm_model.specs.Step.{rows_in, with_rows, within}
+use Rattle.wm_making.specs.Inserting.{insert_fault}
+use Rattle.wm_making.specs.Rows.{row_of}
+use Rattle.wm_model.proofs.Newest.{Acts}
+use Rattle.wm_model.specs.Step.{add_found, new_period, replace_all, rows_in, unless_empty, with_rows, within, write_ascending}
+use Rattle.wm_typing.specs.Changing.{delete_fault, update_fault}
 use Rattle.wm_print.specs.Texts.{Answer}
 use Rattle.wm_engine.proofs.Acting.{does_known}
 use Rattle.wm_engine.specs.Acting.{DoesAs, IsHome}
 use Rattle.wm_engine.specs.Chosen.{AreChosen}
 use Rattle.wm_engine.specs.declared.planned.Planned.{Planned}
+
+-- rows of a table without valid time are seen over all of time
+pub plain_within : (m : ℕ) (session : Session) (t : Table) → t.valid ≡ false → within m session t ≡ always
+plain_within m session t plain = rw plain refl
 
 -- what is done with rows and the period in which they are changed
 abbrev pub OnRows : Type 0
@@ -45,3 +54,35 @@ does_rows rs m r session a filter act t period version rows given in_it newest a
         ∙ ap (λ p. act t p (chosen t filter (rows_in p (content w) t)) s w) (sym in_it)
         ∙ ap (λ all. act t period (chosen t filter all) s w) (sym (showing_is (parts_of rs) s session.space w t.number t.valid period are.all st.stands home.is listed))
         ∙ ap (λ xs. act t period xs s w) (sym (same ∙ are.are))
+
+-- ---- DELETE
+
+-- what is wrong with it
+abbrev pub delete_faults : Option Cond → Table → Option Refusal
+delete_faults filter = λ table. delete_fault table filter
+
+-- what it does with rows
+abbrev pub deletes : Session → OnRows
+deletes session = λ table period rows. unless_empty rows (λ kept. write_ascending session.user table (map (gone table period) kept))
+
+abbrev pub delete_acts : Session → Option Cond → Acts
+delete_acts session filter = with_rows session (on_chosen filter (deletes session))
+
+-- ---- UPDATE
+
+abbrev pub update_faults : List Set → Option Cond → Table → Option Refusal
+update_faults sets filter = λ table. update_fault table sets filter
+
+abbrev pub updates : Session → List Set → OnRows
+updates session sets = λ table period rows. unless_empty rows (λ kept. replace_all session.user table period kept (updated_rows table sets kept))
+
+abbrev pub update_acts : Session → List Set → Option Cond → Acts
+update_acts session sets filter = with_rows session (on_chosen filter (updates session sets))
+
+-- ---- INSERT
+
+abbrev pub insert_faults : Option (List (List ℕ)) → List Expr → Table → Option Refusal
+insert_faults names values = λ table. insert_fault table names values
+
+abbrev pub insert_acts : Session → Option (List (List ℕ)) → List Expr → Acts
+insert_acts session names values = λ table. add_found session.user table (new_period session table names values) (row_of table names values)

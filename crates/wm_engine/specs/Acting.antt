@@ -1,8 +1,10 @@
 -- What a plan does in the workspace that a session stands in.
 use Rattle.std.specs.Prelude.{ℕ, ◌≡◌, true, List, length, Option, Some, None}
+use Rattle.std.specs.List.{list_all}
 use Rattle.wm_base.specs.Trees.{Cond, Set}
 use Rattle.wm_graph.specs.Rules.{is_table}
 use Rattle.wm_spec.specs.declared.record.table.Table.{Table}
+use Rattle.wm_spec.specs.Expressions.{has_no_empty_period}
 use Rattle.wm_typing.specs.Changing.{update_fault}
 use Rattle.wm_model.specs.Planning.{StandsAt}
 use Rattle.wm_print.specs.Texts.{Answer}
@@ -27,9 +29,10 @@ ActsAs rs xs m session a done act =
 abbrev pub DoesAs : List Stored → ℕ → Session → Space → (State → Workspace → State × Answer) → Planned → Type 0
 DoesAs rs m session a done p = (xs : List Session) (act : State → State × Answer) → ActsAs rs xs m session a done act → DoesIt rs xs m p act
 
--- the sets are those of an UPDATE of a table in workspaces that is not wrong for the table
+-- the sets are those of an UPDATE of a table in workspaces that is not wrong for the table, and has no empty period
 pub record IsUpdate (t : Table) (sets : List Set) : Type 0 where
   pub filter : Option Cond
   pub fine : update_fault t sets filter ≡ None
   pub well : is_table t ≡ true
   pub keyed : t.has_key ≡ true
+  pub lasting : list_all (λ (x : Set). has_no_empty_period x.becomes) sets ≡ true

@@ -28,8 +28,8 @@ use Rattle.wm_state.proofs.PlannedWritten.{MayWriteAll, keep_planned, plan_writt
 use Rattle.wm_state.proofs.Tests.{both, and_true}
 use Rattle.wm_model.specs.Step.{counter_limit, durably, line_work}
 use Rattle.wm_model.specs.Planning.{StandsAt, Does, Stay, moved}
-use Rattle.wm_dml.specs.Standing.{change_keys, is_change}
-use Rattle.wm_model.specs.Changes.{write_changes, row_before, new_rows, change_piece, new_pieces, stepped_by, lasts, ChangesNew, Changes}
+use Rattle.wm_dml.specs.Standing.{change_keys, change_lasts, is_change}
+use Rattle.wm_model.specs.Changes.{write_changes, row_before, new_rows, change_piece, new_pieces, stepped_by, ChangesNew, Changes}
 use Rattle.wm_dml.specs.declared.change.RowChange.{RowChange}
 use Rattle.wm_model.specs.Entered.{change_entry, entries_from, entries_of, written_all}
 use Rattle.wm_model.proofs.Counting.{work_grows}
@@ -46,10 +46,10 @@ pub keys_are : (stamp moment : ℕ) (user : List ℕ) (t : Table) (changes : Lis
 keys_are stamp moment user t [] = refl
 keys_are stamp moment user t (x ∷ xs) = ap (λ keys. x.key ∷ keys) (keys_are (stamp + 1) moment user t xs)
 
-pub stamped_are : (stamp moment : ℕ) (user : List ℕ) (t : Table) (changes : List RowChange) → list_all lasts changes ≡ true → AreStamped t.number stamp (entries_from stamp moment user t changes)
+pub stamped_are : (stamp moment : ℕ) (user : List ℕ) (t : Table) (changes : List RowChange) → list_all change_lasts changes ≡ true → AreStamped t.number stamp (entries_from stamp moment user t changes)
 stamped_are stamp moment user t [] last = tt
 stamped_are stamp moment user t (x ∷ xs) last =
-    let h = both (lasts x) (list_all lasts xs) last in (record { table = refl; period = h.0; stamp = refl }, stamped_are (stamp + 1) moment user t xs h.1)
+    let h = both (change_lasts x) (list_all change_lasts xs) last in (record { table = refl; period = h.0; stamp = refl }, stamped_are (stamp + 1) moment user t xs h.1)
 
 pub rows_are : (stamp moment : ℕ) (user : List ℕ) (t : Table) (changes : List RowChange) → rows_in (entries_from stamp moment user t changes) ≡ new_rows stamp t changes
 rows_are stamp moment user t [] = refl

@@ -1,5 +1,5 @@
 -- What a line writes that changes rows of a table, and what is asked of the records before it does.
-use Rattle.std.specs.Prelude.{◌≡◌, ◌+◌, ℕ, Bool, true, false, ◌&&◌, nat_le, nat_lt, List, [], ◌∷◌, map, length, is_none, Option, Some, None}
+use Rattle.std.specs.Prelude.{◌≡◌, ◌+◌, ℕ, true, false, nat_le, nat_lt, List, [], ◌∷◌, map, length, is_none, Option, Some, None}
 use Rattle.std.specs.List.{list_all}
 use Rattle.std.specs.Option.{option_map}
 use Rattle.wm_base.specs.declared.instant.TheConstants.{END}
@@ -17,7 +17,7 @@ use Rattle.wm_state.specs.Effects.{IsLeaf, IsFree}
 use Rattle.wm_state.specs.State.{log_length}
 use Rattle.wm_state.specs.Standing.{newest_first, latest}
 use Rattle.wm_model.specs.Step.{Answer, State, counter_limit, durably, line_work}
-use Rattle.wm_dml.specs.Standing.{is_change}
+use Rattle.wm_dml.specs.Standing.{change_lasts, is_change}
 use Rattle.wm_dml.specs.declared.change.RowChange.{RowChange}
 use Rattle.wm_model.specs.Entered.{entries_of, written_all}
 use Rattle.wm_model.specs.Planning.{moved}
@@ -74,17 +74,13 @@ stepped_new_by c m k = record (stepped_by c m k) { next_version = c.next_version
 
 -- ---- what is asked before
 
--- the period of a change has a moment
-abbrev pub lasts : RowChange → Bool
-lasts x = nat_lt x.period.from x.period.till && nat_le x.period.till END
-
 -- the table and the workspace are there, the changes fit the table, stamps are left for them, and no counter is at its end: they may
 -- go into a version more of the workspace
 pub record ChangesNew (rs : List Stored) (n m : ℕ) (t : Table) (a : Space) (c : Counters) (changes : List RowChange) : Type 0 where
   pub rules : keep_rules (parts_of rs) ≡ true
   pub there : table_of (parts_of rs).tables t.number ≡ Some t
   pub fit : list_all (is_change t) changes ≡ true
-  pub last : list_all lasts changes ≡ true
+  pub last : list_all change_lasts changes ≡ true
   pub space : space_of (parts_of rs).spaces n ≡ Some a
   pub one : (parts_of rs).counters ≡ c ∷ []
   pub left : nat_le (c.next_stamp + length changes) (c.limit + 1) ≡ true

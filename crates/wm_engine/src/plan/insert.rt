@@ -93,6 +93,7 @@ fn add_to(
     ensures fit { IfOk result (λ p. FitPages p.changes) }
     ensures idle { IfOk result Idles }
 {
+    let _till = period.till();
     let change = added(alloc, table, &period, row)?;
     let version = image.latest(session.space());
     let shared = image.overlap(alloc, version, table.number, &change.key, &period)?;

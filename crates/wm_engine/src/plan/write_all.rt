@@ -2,14 +2,14 @@
 ghost use Rattle.std.specs.Prelude.{◌≡◌, ◌<◌, ◌+◌, nat_le, nat_lt, true, Some, IfOk};
 ghost use Rattle.std.specs.List.{list_all};
 ghost use Rattle.wm_base.specs.declared.instant.TheConstants.{END};
-ghost use Rattle.wm_dml.specs.Standing.{change_keys, is_change};
+ghost use Rattle.wm_dml.specs.Standing.{change_keys, change_lasts, is_change};
 ghost use Rattle.wm_engine.specs.Acting.{DoesAs};
 ghost use Rattle.wm_engine.specs.Changing.{is_filled_change};
 ghost use Rattle.wm_engine.specs.Idle.{Idles};
 ghost use Rattle.wm_graph.specs.Parts.{parts_of, space_of, table_of};
 ghost use Rattle.wm_graph.specs.Rules.{keep_rules};
-ghost use Rattle.wm_model.specs.Changes.{lasts};
-ghost use Rattle.wm_model.specs.Step.{ascend, counter_limit, write_ascending};
+ghost use Rattle.wm_model.specs.Step.{counter_limit, write_ascending};
+ghost use Rattle.wm_state.specs.Drawing.{are_sorted};
 ghost use Rattle.wm_store.specs.Spelled.{FitPages};
 
 use crate::answer::Answer;
@@ -28,8 +28,8 @@ use wm_spec::record::{Counters, Space, Table};
 const LOG_LIMIT: u64 = 1 << 62;
 
 /// Whether no key that is changed is above the next.
-fn ascend(changes: &[RowChange]) -> bool
-    ensures { result ≡ ascend (change_keys changes.now) }
+fn are_sorted(changes: &[RowChange]) -> bool
+    ensures { result ≡ are_sorted (change_keys changes.now) }
 {
     let mut last: Option<&Key> = None;
     for change in changes {
@@ -41,15 +41,6 @@ fn ascend(changes: &[RowChange]) -> bool
         last = Some(&change.key);
     }
     true
-}
-
-/// That the period of each change has a moment, as each period has.
-fn check_periods(changes: &[RowChange])
-    ensures { list_all lasts changes.now ≡ true }
-{
-    for change in changes {
-        let _till = change.period.till();
-    }
 }
 
 /// Whether so many changes are left.
@@ -82,15 +73,15 @@ pub fn write_all(
     requires there { table_of (parts_of image.now).tables table.now.number ≡ Some table.now }
     requires home { space_of (parts_of image.now).spaces session.now.space ≡ Some space.now }
     requires fit { list_all (is_change table.now) changes.items ≡ true }
+    requires last { list_all change_lasts changes.items ≡ true }
     requires filled { list_all is_filled_change changes.items ≡ true }
     ensures does { IfOk result (DoesAs image.now moment session.now space.now (write_ascending session.now.user table.now changes.items)) }
     ensures fit { IfOk result (λ p. FitPages p.changes) }
     ensures idle { IfOk result Idles }
 {
-    if !ascend(changes.as_slice()) {
+    if !are_sorted(changes.as_slice()) {
         return Ok(Planned::answered(alloc, not_built()));
     }
-    check_periods(changes.as_slice());
     let count = changes.len() as u64;
     if count == 0 {
         return Ok(Planned::answered(alloc, Answer::Done(0)));

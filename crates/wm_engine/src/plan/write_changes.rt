@@ -6,10 +6,11 @@ ghost use Rattle.std.specs.List.{list_all};
 ghost use Rattle.wm_base.specs.declared.instant.TheConstants.{END};
 ghost use Rattle.wm_graph.specs.Parts.{parts_of, space_of, table_of};
 ghost use Rattle.wm_graph.specs.Rules.{keep_rules};
-ghost use Rattle.wm_dml.specs.Standing.{change_keys, is_change};
-ghost use Rattle.wm_model.specs.Changes.{Changes as MayChange, ChangesNew, change_piece, lasts, new_pieces, new_rows, row_before};
+ghost use Rattle.wm_dml.specs.Standing.{change_keys, change_lasts, is_change};
+ghost use Rattle.wm_model.specs.Changes.{Changes as MayChange, ChangesNew, change_piece, new_pieces, new_rows, row_before};
 ghost use Rattle.wm_model.specs.Planning.{moved};
-ghost use Rattle.wm_model.specs.Step.{ascend, counter_limit};
+ghost use Rattle.wm_model.specs.Step.{counter_limit};
+ghost use Rattle.wm_state.specs.Drawing.{are_sorted};
 ghost use Rattle.wm_spec.specs.Records.{record_at};
 ghost use Rattle.wm_spec.specs.declared.record.Record.TheVariants as records;
 ghost use Rattle.wm_state.specs.Batches.{put};
@@ -144,7 +145,7 @@ fn write_here(
     id: u64,
 ) -> Result<Planned, Memory>
     requires served { MayChange image.now session.now.space moment writing.now.table.now writing.now.space.now writing.now.counters changes.items }
-    requires keys { ascend (change_keys changes.items) ≡ true }
+    requires keys { are_sorted (change_keys changes.items) ≡ true }
     requires filled { list_all is_filled_change changes.items ≡ true }
     requires counters { counters ≡ moved writing.now.counters moment }
     requires ids { (i : ℕ) → id ≤ i → record_at image.now i ≡ None }
@@ -205,7 +206,7 @@ fn write_above(
     id: u64,
 ) -> Result<Planned, Memory>
     requires served { ChangesNew image.now session.now.space moment writing.now.table.now writing.now.space.now writing.now.counters changes.items }
-    requires keys { ascend (change_keys changes.items) ≡ true }
+    requires keys { are_sorted (change_keys changes.items) ≡ true }
     requires filled { list_all is_filled_change changes.items ≡ true }
     requires counters { counters ≡ moved writing.now.counters moment }
     requires ids { (i : ℕ) → id ≤ i → record_at image.now i ≡ None }
@@ -266,8 +267,8 @@ pub fn write_changes(
     requires one { (parts_of image.now).counters ≡ writing.now.counters ∷ [] }
     // The changes fit the table and stand by key, each over a period that has a moment, and no text in them is empty.
     requires fit { list_all (is_change writing.now.table.now) changes.items ≡ true }
-    requires last { list_all lasts changes.items ≡ true }
-    requires keys { ascend (change_keys changes.items) ≡ true }
+    requires last { list_all change_lasts changes.items ≡ true }
+    requires keys { are_sorted (change_keys changes.items) ≡ true }
     requires filled { list_all is_filled_change changes.items ≡ true }
     // Stamps are left for them, and the log has room.
     requires left { nat_le (writing.now.counters.next_stamp + length changes.items) (writing.now.counters.limit + 1) ≡ true }

@@ -1,7 +1,6 @@
 use Rattle.std.proofs.Common.{Ok, refl, sym, ap, ◌∙◌}
 use Rattle.wm_base.specs.Views.{line_view}
 use Rattle.wm_model.specs.Step.{run_parsed, not_built}
-use Rattle.wm_engine.proofs.Lasting.{line_lasts}
 use Rattle.wm_engine.proofs.Planning.{told_alone}
 use Rattle.wm_engine.proofs.Timely.{timely_timed}
 use Rattle.wm_engine.specs.Views.{answer_view, seating_view}
@@ -11,9 +10,6 @@ pub returns-then-is_later-clause-does : goal.returns-then-is_later-clause-does
 returns-then-is_later-clause-does c =
     told_alone c.args.image.now c.args.sessions.now c.args.moment c.answered.result not_built (run_parsed (Ok (line_view c.args.line.now))) c.requires.rules c.answered.ensures.changes (ap seating_view c.answered.ensures.seating)
     c.answered.ensures.moment (ap answer_view c.answered.ensures.answer ∙ c.not_built.ensures) (λ s st. rw (sym c.if-is_later.ensures) refl)
-
-pub plan_line-requires-clause-lasting : goal.plan_line-requires-clause-lasting
-plan_line-requires-clause-lasting c = rw c.set_moment_in.ensures (line_lasts c.unwrap-now.result (line_view c.args.line.now) (sym c.if-is_later.ensures))
 
 pub plan_line-requires-clause-timely : goal.plan_line-requires-clause-timely
 plan_line-requires-clause-timely c = rw c.set_moment_in.ensures (timely_timed c.unwrap-now.result (line_view c.args.line.now) c.requires.timely)
