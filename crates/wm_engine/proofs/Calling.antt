@@ -2,7 +2,8 @@
 use Rattle.std.proofs.Common.{◌≡◌, ℕ, Bool, true, false, List, [], Option, Some, None, unwrap_or, Result, Ok, Err, IfOk, refl, sym, ap, ◌∙◌}
 use Rattle.wm_base.specs.declared.memory.Memory.{Memory}
 use Rattle.wm_base.specs.declared.tree.statement.Arg.{Arg}
-use Rattle.wm_calls.specs.Arguments.{text_given}
+use Rattle.wm_base.specs.declared.instant.TheConstants.{END}
+use Rattle.wm_calls.specs.Arguments.{moment_given, text_given}
 use Rattle.wm_calls.specs.Faults.{argument_fault}
 use Rattle.wm_graph.specs.Parts.{parts_of}
 use Rattle.wm_graph.specs.Rules.{keep_rules}
@@ -10,12 +11,12 @@ use Rattle.wm_grammar.specs.declared.procedure.Parameter.TheVariants as paramete
 use Rattle.wm_grammar.specs.declared.procedure.Procedure.{Procedure}
 use Rattle.wm_grammar.specs.declared.procedure.Procedure.TheVariants as procedures
 use Rattle.wm_model.specs.Planning.{Stay}
-use Rattle.wm_model.specs.Step.{call, given, newly_named, unless_mistyped, keeps_history, enable, create_workspace, create_savepoint, goto_workspace, goto_savepoint, is_name, names_no_workspace, names_no_savepoint, bad_name, reserved_name, mistyped, not_built, latest}
+use Rattle.wm_model.specs.Step.{call, given, newly_named, unless_mistyped, readiness_given, enable, set_valid_time, create_workspace, create_savepoint, goto_workspace, goto_savepoint, is_name, names_no_workspace, names_no_savepoint, bad_name, reserved_name, mistyped, not_built, latest}
 use Rattle.wm_model.proofs.Doing.{does_nothing}
 use Rattle.wm_print.specs.Texts.{Answer}
 use Rattle.wm_reader.specs.Reading.{folded}
 use Rattle.wm_spec.specs.declared.record.stored.Stored.{Stored}
-use Rattle.wm_state.specs.State.{State, Session}
+use Rattle.wm_state.specs.State.{State, Session, Readiness}
 use Rattle.wm_engine.proofs.Planning.{told, does_one}
 use Rattle.wm_engine.specs.Lacking.{lacks}
 use Rattle.wm_engine.specs.Planning.{DoesIt}
@@ -67,13 +68,28 @@ pub enable_lacks : (session : Session) (args : List Arg) (s : State) → text_gi
     → call session (Some procedures.EnableVersioning) args s ≡ (s, lacks (argument_fault procedures.EnableVersioning args))
 enable_lacks session args s none = given_none (text_given procedures.EnableVersioning args parameters.TableName) (argument_fault procedures.EnableVersioning args) s _ none
 
-pub enable_given : (session : Session) (args : List Arg) (s : State) (text name : List ℕ) (history : Bool) (fault : Option (List ℕ)) → text_given procedures.EnableVersioning args parameters.TableName ≡ Some text → name ≡ folded text
-    → history ≡ keeps_history (text_given procedures.EnableVersioning args parameters.Hist) → fault ≡ argument_fault procedures.EnableVersioning args → call session (Some procedures.EnableVersioning) args s ≡ enable name history fault s
-enable_given session args s text name history fault some is keeps wrong =
+pub enable_given : (session : Session) (args : List Arg) (s : State) (text name : List ℕ) (how : Readiness) (fault : Option (List ℕ)) → text_given procedures.EnableVersioning args parameters.TableName ≡ Some text → name ≡ folded text
+    → how ≡ readiness_given args → fault ≡ argument_fault procedures.EnableVersioning args → call session (Some procedures.EnableVersioning) args s ≡ enable name how fault s
+enable_given session args s text name how fault some is asks wrong =
     given_some (text_given procedures.EnableVersioning args parameters.TableName) (argument_fault procedures.EnableVersioning args) text s _ some
-    ∙ ap (λ n. enable n (keeps_history (text_given procedures.EnableVersioning args parameters.Hist)) (argument_fault procedures.EnableVersioning args) s) (sym is)
-    ∙ ap (λ h. enable name h (argument_fault procedures.EnableVersioning args) s) (sym keeps)
-    ∙ ap (λ f. enable name history f s) (sym wrong)
+    ∙ ap (λ n. enable n (readiness_given args) (argument_fault procedures.EnableVersioning args) s) (sym is)
+    ∙ ap (λ h. enable name h (argument_fault procedures.EnableVersioning args) s) (sym asks)
+    ∙ ap (λ f. enable name how f s) (sym wrong)
+
+-- ---- SetValidTime
+
+pub valid_time_mistyped : (session : Session) (args : List Arg) (s : State) (parameter : List ℕ) → argument_fault procedures.SetValidTime args ≡ Some parameter → call session (Some procedures.SetValidTime) args s ≡ (s, mistyped parameter)
+valid_time_mistyped session args s parameter wrong =
+    unless_some (argument_fault procedures.SetValidTime args) parameter s
+    (set_valid_time session (moment_given procedures.SetValidTime args parameters.ValidFrom) (unwrap_or (moment_given procedures.SetValidTime args parameters.ValidTill) END) s) wrong
+
+pub valid_time_done : (session : Session) (args : List Arg) (s : State) (from till : Option ℕ) (end : ℕ) → argument_fault procedures.SetValidTime args ≡ None → from ≡ moment_given procedures.SetValidTime args parameters.ValidFrom
+    → till ≡ moment_given procedures.SetValidTime args parameters.ValidTill → end ≡ unwrap_or till END → call session (Some procedures.SetValidTime) args s ≡ set_valid_time session from end s
+valid_time_done session args s from till end right is_from is_till is_end =
+    unless_none (argument_fault procedures.SetValidTime args) s
+    (set_valid_time session (moment_given procedures.SetValidTime args parameters.ValidFrom) (unwrap_or (moment_given procedures.SetValidTime args parameters.ValidTill) END) s) right
+    ∙ ap (λ f. set_valid_time session f (unwrap_or (moment_given procedures.SetValidTime args parameters.ValidTill) END) s) (sym is_from)
+    ∙ ap (λ t. set_valid_time session from t s) (sym (is_end ∙ ap (λ (o : Option ℕ). unwrap_or o END) is_till))
 
 -- ---- CreateWorkspace
 
@@ -170,10 +186,11 @@ to_savepoint_done session args s savepoint right is = unless_none (argument_faul
 -- ---- the other procedures
 
 pub other_call : (session : Session) (procedure : Procedure) (args : List Arg) (s : State) → (procedure ≡ procedures.EnableVersioning → ⊥) → (procedure ≡ procedures.CreateWorkspace → ⊥) → (procedure ≡ procedures.CreateSavepoint → ⊥)
-    → (procedure ≡ procedures.GotoWorkspace → ⊥) → (procedure ≡ procedures.GotoSavepoint → ⊥) → call session (Some procedure) args s ≡ (s, not_built)
-other_call session procedures.EnableVersioning args s no-enable no-workspace no-savepoint no-goto no-return = absurd (no-enable refl)
-other_call session procedures.CreateWorkspace args s no-enable no-workspace no-savepoint no-goto no-return = absurd (no-workspace refl)
-other_call session procedures.CreateSavepoint args s no-enable no-workspace no-savepoint no-goto no-return = absurd (no-savepoint refl)
-other_call session procedures.GotoWorkspace args s no-enable no-workspace no-savepoint no-goto no-return = absurd (no-goto refl)
-other_call session procedures.GotoSavepoint args s no-enable no-workspace no-savepoint no-goto no-return = absurd (no-return refl)
-other_call session _ args s no-enable no-workspace no-savepoint no-goto no-return = refl
+    → (procedure ≡ procedures.GotoWorkspace → ⊥) → (procedure ≡ procedures.GotoSavepoint → ⊥) → (procedure ≡ procedures.SetValidTime → ⊥) → call session (Some procedure) args s ≡ (s, not_built)
+other_call session procedures.EnableVersioning args s no-enable no-workspace no-savepoint no-goto no-return no-set = absurd (no-enable refl)
+other_call session procedures.CreateWorkspace args s no-enable no-workspace no-savepoint no-goto no-return no-set = absurd (no-workspace refl)
+other_call session procedures.CreateSavepoint args s no-enable no-workspace no-savepoint no-goto no-return no-set = absurd (no-savepoint refl)
+other_call session procedures.GotoWorkspace args s no-enable no-workspace no-savepoint no-goto no-return no-set = absurd (no-goto refl)
+other_call session procedures.GotoSavepoint args s no-enable no-workspace no-savepoint no-goto no-return no-set = absurd (no-return refl)
+other_call session procedures.SetValidTime args s no-enable no-workspace no-savepoint no-goto no-return no-set = absurd (no-set refl)
+other_call session _ args s no-enable no-workspace no-savepoint no-goto no-return no-set = refl

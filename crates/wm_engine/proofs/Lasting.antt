@@ -15,7 +15,7 @@ use Rattle.wm_engine.specs.Forks.{is_fork_line}
 -- a projection without an empty period
 projection_is : (p : Projection) → projection_has_empty p ≡ false → projection_lasts p ≡ true
 projection_is All none = refl
-projection_is (Outs os) none = outs_last item_lasts (record { plain = λ x lasts. lasts; all = refl; aggregate = λ agg x lasts. lasts }) os none
+projection_is (Outs os) none = outs_last item_lasts (record { plain = λ x lasts. lasts; count = refl; aggregate = λ agg x lasts. lasts }) os none
 
 -- no item of a query without an empty period has one
 pub select_lasts : (q : Query) → has_empty_period (Select q) ≡ false → projection_lasts q.projection ≡ true

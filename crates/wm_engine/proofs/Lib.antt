@@ -29,3 +29,6 @@ pub mod Choosing
 pub mod Listable
 pub mod KeyRows
 pub mod KeyAsked
+pub mod Adding
+pub mod Rowing
+pub mod Filled

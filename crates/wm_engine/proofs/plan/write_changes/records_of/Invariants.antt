@@ -7,6 +7,6 @@ use Rattle.wm_engine.proofs.plan.write_changes.records_of.Given as goal
 abbrev pub invariant-loop-change : goal.invariant-loop-change
 invariant-loop-change l = record {
   rows : l.made.rows.items ≡ map records.Row (new_rows l.fn.stamp l.table l.yielded);
-  pieces : l.made.pieces.items ≡ map records.Piece (new_pieces l.version l.fn.stamp l.table l.yielded);
+  pieces : l.made.pieces.items ≡ new_pieces l.version l.fn.stamp l.table l.yielded;
   stamp : l.stamp ≡ l.fn.stamp + length l.yielded;
 }

@@ -1,50 +1,58 @@
-use Rattle.std.proofs.Common.{◌≡◌, ◌+◌, ◌<◌, ◌^◌, length, ap, ◌∙◌, arith}
+use Rattle.std.proofs.Common.{◌≡◌, ◌+◌, ◌<◌, ◌^◌, refl, length, ap, sym, subst, ◌∙◌, arith}
 use Rattle.wm_graph.specs.Parts.{parts_of, space_of}
-use Rattle.wm_image.specs.Gone.{ids_of_keys}
 use Rattle.wm_model.proofs.Written.{changes_batch}
-use Rattle.wm_model.specs.Changes.{change_keys}
 use Rattle.wm_spec.specs.Records.{record_at}
+use Rattle.wm_state.specs.Drawing.{AreNews}
 use Rattle.wm_state.specs.Standing.{latest}
-use Rattle.wm_engine.proofs.ChangesWritten.{MadeAll, counted_as, few_changes, fits_all_here, here_is_all, ids_left, wrote_all_here}
+use Rattle.wm_engine.proofs.ChangesWritten.{MadeAll, Redrawn, are_news, counted_as, fits_all_here, here_is_all, redrawn_is, wrote_all_here}
 use Rattle.wm_engine.proofs.Planning.{counters_at}
 use Rattle.wm_engine.proofs.Writing.{space_at}
 use Rattle.wm_engine.specs.Views.{answer_view, seating_view}
 use Rattle.wm_engine.proofs.plan.write_changes.write_here.Goals as goal
 
+pub redraw-requires-clause-rules : goal.redraw-requires-clause-rules
+redraw-requires-clause-rules c = c.requires.served.new.rules
+
+pub redraw-requires-clause-news : goal.redraw-requires-clause-news
+redraw-requires-clause-news c =
+    subst (AreNews c.latest-version.result c.args.writing.now.table.now.number) (sym c.in_ok-made.ensures.pieces) (are_news c.latest-version.result c.args.writing.now.counters.next_stamp c.args.writing.now.table.now c.args.changes.items c.requires.served.new.last c.requires.keys)
+
 pub written_changes-requires : goal.written_changes-requires
 written_changes-requires c =
-    let h : c.args.id + 1 + length c.in_ok-made.made.rows.items + length c.in_ok-made.made.pieces.items < 2 ^ 64 =
-    ids_left c.args.id c.latest-version.result c.args.writing.now.counters.next_stamp c.args.writing.now.table.now c.args.changes.items c.in_ok-made.made.rows.items c.in_ok-made.made.pieces.items
-    (few_changes c.args.image.now c.args.session.now.space c.args.moment c.args.writing.now.table.now c.args.writing.now.space.now c.args.writing.now.counters c.args.changes.items c.requires.served.new) c.requires.room
-    c.in_ok-made.ensures.rows c.in_ok-made.ensures.pieces in omega (arith, h)
+    let h = c.if-not-are_ids_left.ensures in
+    let l : c.args.id + 1 + length c.as_slice.result.now + length c.as_slice-2.result.now < 2 ^ 64 = h c.if-not-are_ids_left.false in
+    let r : length c.as_slice.result.now ≡ length c.in_ok-made.made.rows.items = ap length c.as_slice.ensures.value in
+    let p : length c.as_slice-2.result.now ≡ length c.in_ok-pieces.pieces.items = ap length c.as_slice-2.ensures.value in
+    omega (arith, l, r, p)
 
-made : (c : goal.After-drop-dropped-2)
-    → MadeAll c.args.moment c.args.writing.now.table.now c.args.writing.now.space.now c.args.writing.now.counters c.args.changes.items c.latest-version.result c.len-count.result c.args.counters c.in_ok-space.space
-    c.in_ok-made.made.rows.items c.in_ok-made.made.pieces.items
+made : (c : goal.After-drop-dropped)
+    → MadeAll c.args.moment c.args.writing.now.table.now c.args.writing.now.space.now c.args.writing.now.counters c.args.changes.items c.in_ok-drawn.drawn.drawn.items c.len-count.result c.args.counters c.in_ok-space.space c.in_ok-made.made.rows.items c.in_ok-pieces.pieces.items
 made c = record {
   count_is = counted_as c.args.changes c.len-count.result c.len-count.ensures;
   counters_are = c.requires.counters;
   space_is = c.in_ok-space.ensures;
   rows_are = c.in_ok-made.ensures.rows;
-  pieces_are = c.in_ok-made.ensures.pieces;
+  pieces_are = c.in_ok-pieces.ensures;
 }
 
-changes : (c : goal.After-drop-dropped-2)
-    → c.changing.result.changes
-    ≡ changes_batch c.args.image.now c.id_of_counters.result c.args.moment c.args.writing.now.counters c.unwrap-space_id.result c.args.writing.now.space.now
-    (ids_of_keys c.args.image.now (latest (parts_of c.args.image.now) c.args.session.now.space) c.args.writing.now.table.now.number (change_keys c.args.changes.items)) c.args.id c.args.session.now.space c.args.writing.now.table.now
-    c.args.changes.items
+newest : (c : goal.After-drop-dropped) → c.latest-version.result ≡ latest (parts_of c.args.image.now) c.args.session.now.space
+newest c = c.latest-version.ensures ∙ ap (latest (parts_of c.args.image.now)) c.space.ensures
+
+redrawn : (c : goal.After-drop-dropped) → Redrawn c.args.image.now (latest (parts_of c.args.image.now) c.args.session.now.space) c.args.writing.now.counters.next_stamp c.args.writing.now.table.now c.args.changes.items c.in_ok-drawn.drawn.dropped.items c.in_ok-drawn.drawn.drawn.items
+redrawn c =
+    subst (λ v. Redrawn c.args.image.now v c.args.writing.now.counters.next_stamp c.args.writing.now.table.now c.args.changes.items c.in_ok-drawn.drawn.dropped.items c.in_ok-drawn.drawn.drawn.items) (newest c)
+    (redrawn_is c.args.image.now c.latest-version.result c.args.writing.now.counters.next_stamp c.args.writing.now.table.now.number c.args.writing.now.table.now c.args.changes.items c.in_ok-made.made.pieces.items c.in_ok-drawn.drawn.dropped.items c.in_ok-drawn.drawn.drawn.items c.in_ok-made.ensures.pieces refl c.in_ok-drawn.ensures)
+
+changes : (c : goal.After-drop-dropped)
+    → c.changing.result.changes ≡ changes_batch c.args.image.now c.id_of_counters.result c.args.moment c.args.writing.now.counters c.unwrap-space_id.result c.args.writing.now.space.now c.in_ok-drawn.drawn.dropped.items c.args.id c.args.writing.now.table.now c.args.changes.items c.in_ok-drawn.drawn.drawn.items
 changes c =
     c.changing.ensures.changes ∙ c.in_ok-batch.ensures
-    ∙ here_is_all c.args.image.now c.args.session.now.space c.args.moment c.args.writing.now.table.now c.args.writing.now.space.now c.args.writing.now.counters c.args.changes.items c.latest-version.result c.len-count.result
-    c.args.counters c.in_ok-space.space c.in_ok-made.made.rows.items c.in_ok-made.made.pieces.items c.id_of_counters.result c.unwrap-space_id.result c.args.id c.as_slice-2.result.now c.new.result (made c)
-    (c.latest-version.ensures ∙ ap (latest (parts_of c.args.image.now)) c.space.ensures)
-    (c.as_slice-2.ensures.value ∙ c.in_ok-dropped.ensures ∙ ap (λ xs. ids_of_keys c.args.image.now c.latest-version.result c.args.writing.now.table.now.number (change_keys xs)) c.as_slice.ensures.value) c.new.ensures
+    ∙ here_is_all c.args.image.now c.args.moment c.args.writing.now.table.now c.args.writing.now.space.now c.args.writing.now.counters c.args.changes.items c.in_ok-drawn.drawn.drawn.items c.len-count.result c.args.counters c.in_ok-space.space c.in_ok-made.made.rows.items c.in_ok-pieces.pieces.items c.id_of_counters.result c.unwrap-space_id.result c.args.id
+    c.as_slice-3.result.now c.in_ok-drawn.drawn.dropped.items c.new.result (made c) c.as_slice-3.ensures.value c.new.ensures
 
 pub returns-clause-does : goal.returns-clause-does
 returns-clause-does c =
-    wrote_all_here c.args.image.now c.args.moment c.args.session.now c.changing.result c.args.writing.now.table.now c.args.writing.now.space.now c.args.writing.now.counters c.args.changes.items c.id_of_counters.result
-    c.unwrap-space_id.result c.args.id c.len-count.result c.requires.served
+    wrote_all_here c.args.image.now c.args.moment c.args.session.now c.changing.result c.args.writing.now.table.now c.args.writing.now.space.now c.args.writing.now.counters c.args.changes.items c.in_ok-drawn.drawn.dropped.items c.in_ok-drawn.drawn.drawn.items c.id_of_counters.result c.unwrap-space_id.result c.args.id c.len-count.result c.requires.served
     (record {
       sorted = c.id_of_counters.ensures.ascend;
       counters = counters_at c.args.writing.now.counters (parts_of c.args.image.now).counters (record_at c.args.image.now c.id_of_counters.result) c.requires.served.new.one c.id_of_counters.ensures.there;
@@ -52,9 +60,9 @@ returns-clause-does c =
           (ap (space_of (parts_of c.args.image.now).spaces) c.space-2.ensures ∙ c.requires.served.new.space);
       above = c.requires.ids;
     })
-    (changes c) (ap seating_view c.changing.ensures.seating) (ap answer_view c.changing.ensures.answer) (counted_as c.args.changes c.len-count.result c.len-count.ensures)
+    (redrawn c) (changes c) (ap seating_view c.changing.ensures.seating) (ap answer_view c.changing.ensures.answer) (counted_as c.args.changes c.len-count.result c.len-count.ensures)
 
 pub returns-clause-fit : goal.returns-clause-fit
 returns-clause-fit c =
-    fits_all_here c.args.image.now c.args.session.now.space c.args.moment c.args.writing.now.table.now c.args.writing.now.space.now c.args.writing.now.counters c.args.changes.items c.id_of_counters.result c.unwrap-space_id.result c.args.id
-    (ids_of_keys c.args.image.now (latest (parts_of c.args.image.now) c.args.session.now.space) c.args.writing.now.table.now.number (change_keys c.args.changes.items)) c.changing.result.changes c.requires.served.new c.requires.filled (changes c)
+    fits_all_here c.args.image.now c.args.session.now.space c.args.moment (latest (parts_of c.args.image.now) c.args.session.now.space) c.args.writing.now.table.now c.args.writing.now.space.now c.args.writing.now.counters c.args.changes.items c.in_ok-drawn.drawn.drawn.items c.id_of_counters.result c.unwrap-space_id.result c.args.id
+    c.in_ok-drawn.drawn.dropped.items c.changing.result.changes c.requires.served.new c.requires.filled (redrawn c).draws (changes c)
