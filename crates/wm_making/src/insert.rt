@@ -148,7 +148,10 @@ fn misfit<'a>(value: &Expr, column: &'a TableColumn) -> Option<&'a [u8]>
 fn is_period(kind: Option<u8>) -> bool
     ensures { result ≡ period_kind kind }
 {
-    kind == Some(PERIOD)
+    match kind {
+        Some(kind) => kind == PERIOD,
+        None => false,
+    }
 }
 
 /// WM_VALID, where the value is no period.

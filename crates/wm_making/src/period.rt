@@ -1,5 +1,5 @@
 //! The period that INSERT gives to its row.
-ghost use Rattle.std.specs.Prelude.{◌≡◌, Some, true, nat_lt, option_copied, option_map};
+ghost use Rattle.std.specs.Prelude.{◌≡◌, true, nat_lt, option_copied, option_map};
 ghost use Rattle.std.specs.List.{list_all};
 ghost use Rattle.wm_base.specs.Views.{expr_view, exprs_view};
 ghost use Rattle.wm_spec.specs.Expressions.{lasts, has_no_empty_period};
@@ -56,11 +56,14 @@ fn end_of(end: &PeriodEnd) -> Instant
 }
 
 /// The period from one end to the other, which is later.
-fn period_between(from: &PeriodEnd, till: &PeriodEnd) -> Option<Period>
+fn period_between(from: &PeriodEnd, till: &PeriodEnd) -> Period
     requires { nat_lt (end_seconds from.now) (end_seconds till.now) ≡ true }
-    ensures { result ≡ Some (span_between from.now till.now) }
+    ensures { result ≡ span_between from.now till.now }
 {
-    Period::new(end_of(from), end_of(till))
+    match Period::new(end_of(from), end_of(till)) {
+        Some(period) => period,
+        None => unreachable!(),
+    }
 }
 
 fn written_in(operand: &Operand) -> Option<Period>
@@ -68,7 +71,7 @@ fn written_in(operand: &Operand) -> Option<Period>
     ensures { result ≡ period_in operand.now }
 {
     match operand {
-        Operand::Const(Const::Span { from, till }) => period_between(from, till),
+        Operand::Const(Const::Span { from, till }) => Some(period_between(from, till)),
         _ => None,
     }
 }

@@ -5,7 +5,7 @@ mod tables;
 
 use crate::{names_fault, row_fault, shape_fault, table_of};
 use inserting::{arranged_row, row_in_order};
-use periods::{CASES, given, outcome};
+use periods::{CASES, Case, given, outcome};
 use std::alloc::Global;
 use std::test::Fail;
 use tables::{is_row, items, row, table};
@@ -98,9 +98,14 @@ fn values_are_a_row(rt: HostRuntime) -> Result<(), Fail> {
 #[test]
 fn a_period_is_given(rt: HostRuntime) -> Result<(), Fail> {
     let alloc: Global = rt.alloc();
-    for case in CASES.iter() {
-        assert_eq!(rt; outcome(alloc, case)?, case.wanted);
-        assert_eq!(rt; given(alloc, case)?, case.wanted == 0);
+    for (valid, named, period, wanted) in CASES {
+        let case = Case {
+            valid,
+            named,
+            period,
+        };
+        assert_eq!(rt; outcome(alloc, case)?, wanted);
+        assert_eq!(rt; given(alloc, case)?, wanted == 0);
     }
     Ok(())
 }

@@ -10,32 +10,23 @@ use wm_base::{FormRefusal, Instant, Memory, Name, Period, Refusal};
 use wm_spec::record::Table;
 
 /// Whether the table has valid time, the columns are named (ID, NOTE, WM_VALID), and the last value is a period (all of
-/// time) or else NULL; and the number of the refusal that is wanted, or 0.
+/// time) or else NULL.
 #[derive(Clone, Copy)]
 pub struct Case {
-    valid: bool,
-    named: bool,
-    period: bool,
-    pub wanted: u64,
+    pub valid: bool,
+    pub named: bool,
+    pub period: bool,
 }
 
-const fn case(valid: bool, named: bool, period: bool, wanted: u64) -> Case {
-    Case {
-        valid,
-        named,
-        period,
-        wanted,
-    }
-}
-
-pub const CASES: [Case; 7] = [
-    case(true, true, true, 0),
-    case(true, false, true, 0),
-    case(true, true, false, 13),
-    case(true, false, false, 13),
-    case(false, true, true, 17),
-    case(false, true, false, 13),
-    case(false, false, true, 14),
+/// The same, and the number of the refusal that is wanted, or 0.
+pub const CASES: [(bool, bool, bool, u64); 7] = [
+    (true, true, true, 0),
+    (true, false, true, 0),
+    (true, true, false, 13),
+    (true, false, false, 13),
+    (false, true, true, 17),
+    (false, true, false, 13),
+    (false, false, true, 14),
 ];
 
 fn last(period: bool) -> Const {
@@ -49,13 +40,13 @@ fn last(period: bool) -> Const {
     }
 }
 
-fn values(alloc: Global, case: &Case) -> Result<Exprs, Memory> {
+fn values(alloc: Global, case: Case) -> Result<Exprs, Memory> {
     let mut values = values_in_order(alloc)?;
     values.push(constant(last(case.period)))?;
     Ok(values)
 }
 
-fn names(alloc: Global, case: &Case) -> Result<Option<Names>, Memory> {
+fn names(alloc: Global, case: Case) -> Result<Option<Names>, Memory> {
     if !case.named {
         return Ok(None);
     }
@@ -77,7 +68,7 @@ fn number_of(refusal: Option<Refusal>) -> u64 {
 }
 
 /// The number of the refusal, or 0.
-pub fn outcome(alloc: Global, case: &Case) -> Result<u64, Memory> {
+pub fn outcome(alloc: Global, case: Case) -> Result<u64, Memory> {
     let table = table(alloc, case.valid)?;
     let names = names(alloc, case)?;
     let values = values(alloc, case)?;
@@ -101,7 +92,7 @@ fn is_given(alloc: Global, table: &Table, names: &Option<Names>, values: &[Expr]
 }
 
 /// Whether it is where the statement is not refused.
-pub fn given(alloc: Global, case: &Case) -> Result<bool, Memory> {
+pub fn given(alloc: Global, case: Case) -> Result<bool, Memory> {
     let table = table(alloc, case.valid)?;
     let names = names(alloc, case)?;
     let values = values(alloc, case)?;
