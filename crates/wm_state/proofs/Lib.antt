@@ -56,3 +56,7 @@ pub mod EntryRecords
 pub mod PlannedWritten
 pub mod WrittenIds
 pub mod PlannedMore
+pub mod DrawingHeld
+pub mod DrawingApart
+pub mod Drawing
+pub mod DrawingKeys

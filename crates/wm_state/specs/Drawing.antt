@@ -1,8 +1,11 @@
 -- Pieces over other pieces: what lies under a new piece goes, and what lies before it and after it stays.
-use Rattle.std.specs.Prelude.{ℕ, ◌≡◌, ◌<◌, ◌≤◌, Bool, true, nat_lt, if◌then◌else◌, min, max, List, [], ◌∷◌, ◌++◌, Option, None}
+use Rattle.std.specs.Prelude.{ℕ, ◌≡◌, ◌<◌, ◌≤◌, ◌==◌, ◌&&◌, Bool, true, not, nat_lt, if◌then◌else◌, min, max, List, [], ◌∷◌, ◌++◌, map, Option, None}
 use Rattle.std.specs.Bool.{then_some}
 use Rattle.std.specs.List.{list_all, flat_map}
 use Rattle.std.specs.Option.{option_or}
+use Rattle.std.specs.Ordering.{is_gt}
+use Rattle.wm_base.specs.Key.{key_order}
+use Rattle.wm_base.specs.declared.value.Value.{Value}
 use Rattle.wm_graph.specs.Rules.{differ, collide}
 use Rattle.wm_period.specs.Pieces.{Held}
 use Rattle.wm_spec.specs.Lists.{Cell}
@@ -50,3 +53,29 @@ pub record AreDrawn (news old drawn : List PieceRecord) : Type 0 where
   pub held : (version : ℕ) (c : Cell) → stored_at drawn version c ≡ option_or (stored_last news version c) (stored_at old version c)
   pub differ : differ collide drawn ≡ true
   pub pass : (test : PieceRecord → Bool) → PassesParts test → list_all test old ≡ true → list_all test news ≡ true → list_all test drawn ≡ true
+
+-- ---- what is asked of new pieces
+
+-- the piece has a moment
+abbrev pub has_moments : PieceRecord → Bool
+has_moments x = nat_lt x.cells.from x.cells.till
+
+-- the piece is of the version and the table
+abbrev pub is_for : ℕ → ℕ → PieceRecord → Bool
+is_for version table x = (x.version == version) && (x.cells.table == table)
+
+-- the keys of pieces
+abbrev pub piece_keys : List PieceRecord → List (List Value)
+piece_keys xs = map (λ (x : PieceRecord). x.cells.key) xs
+
+-- no key is above the next
+abbrev pub are_sorted : List (List Value) → Bool
+are_sorted [] = true
+are_sorted (k ∷ []) = true
+are_sorted (k ∷ l ∷ ls) = not (is_gt (key_order k l)) && are_sorted (l ∷ ls)
+
+-- pieces that a version is to have of a table: each has a moment, and no key is above the next, so those of one key stand together
+pub record AreNews (version table : ℕ) (news : List PieceRecord) : Type 0 where
+  pub here : list_all (is_for version table) news ≡ true
+  pub last : list_all has_moments news ≡ true
+  pub sorted : are_sorted (piece_keys news) ≡ true
