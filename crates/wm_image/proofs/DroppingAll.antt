@@ -30,7 +30,7 @@ use Rattle.wm_image.specs.Sought.{ids_with}
 
 -- ---- which ids they are
 
-dropped-append : (xs ys : List ℕ) (id : ℕ) → is_dropped (xs ++ ys) id ≡ (is_dropped xs id || is_dropped ys id)
+pub dropped-append : (xs ys : List ℕ) (id : ℕ) → is_dropped (xs ++ ys) id ≡ (is_dropped xs id || is_dropped ys id)
 dropped-append [] ys id = refl
 dropped-append (x ∷ xs) ys id = ap (λ b. (x == id) || b) (dropped-append xs ys id) ∙ or_assoc (x == id) (is_dropped xs id) (is_dropped ys id)
   where
@@ -76,7 +76,7 @@ keys_dropped version table (key ∷ keys) ss sorted id r is =
 -- ---- no id is there twice
 
 -- an id is among those of a test only where it has a record
-there-with : (p : Record → Bool) (ss : List Stored) (id : ℕ) → record_at ss id ≡ None → is_dropped (ids_with p ss) id ≡ false
+pub there-with : (p : Record → Bool) (ss : List Stored) (id : ℕ) → record_at ss id ≡ None → is_dropped (ids_with p ss) id ≡ false
 there-with p [] id none = refl
 there-with p (s ∷ ss) id none = by_id (cases_eq s.id id) (there-with p ss id)
   where
@@ -134,7 +134,7 @@ split_if : (a b : Bool) → (if a then false else b) ≡ true → (a ≡ false) 
 split_if true b e = absurd (bool_apart (sym e))
 split_if false b e = (refl, e)
 
-differ-append : (xs ys : List ℕ) → ids_differ xs ≡ true → ids_differ ys ≡ true → ((id : ℕ) → is_dropped xs id ≡ true → is_dropped ys id ≡ false) → ids_differ (xs ++ ys) ≡ true
+pub differ-append : (xs ys : List ℕ) → ids_differ xs ≡ true → ids_differ ys ≡ true → ((id : ℕ) → is_dropped xs id ≡ true → is_dropped ys id ≡ false) → ids_differ (xs ++ ys) ≡ true
 unfolding ids_differ
 differ-append [] ys differ_xs differ_ys apart = differ_ys
 differ-append (x ∷ xs) ys differ_xs differ_ys apart =

@@ -3,3 +3,4 @@ pub mod Indexed
 pub mod Shown
 pub mod Listing
 pub mod Gone
+pub mod Redraw

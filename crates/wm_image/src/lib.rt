@@ -9,7 +9,9 @@ pub mod kinds;
 pub mod laying;
 pub mod listing;
 pub mod load;
+mod over;
 pub mod records;
+pub mod redraw;
 pub mod savepoints;
 pub mod shown;
 pub mod spaces;
@@ -19,3 +21,4 @@ mod tests;
 
 pub use image::Image;
 pub use load::ImageFault;
+pub use redraw::Redrawn;
