@@ -30,7 +30,7 @@ use Rattle.wm_image.specs.Sought.{ids_with}
 
 -- ---- which ids they are
 
-dropped-append : (xs ys : List ℕ) (id : ℕ) → is_dropped (xs ++ ys) id ≡ (is_dropped xs id || is_dropped ys id)
+pub dropped-append : (xs ys : List ℕ) (id : ℕ) → is_dropped (xs ++ ys) id ≡ (is_dropped xs id || is_dropped ys id)
 dropped-append [] ys id = refl
 dropped-append (x ∷ xs) ys id = ap (λ b. (x == id) || b) (dropped-append xs ys id) ∙ or_assoc (x == id) (is_dropped xs id) (is_dropped ys id)
   where
@@ -76,7 +76,7 @@ keys_dropped version table (key ∷ keys) ss sorted id r is =
 -- ---- no id is there twice
 
 -- an id is among those of a test only where it has a record
-there-with : (p : Record → Bool) (ss : List Stored) (id : ℕ) → record_at ss id ≡ None → is_dropped (ids_with p ss) id ≡ false
+pub there-with : (p : Record → Bool) (ss : List Stored) (id : ℕ) → record_at ss id ≡ None → is_dropped (ids_with p ss) id ≡ false
 there-with p [] id none = refl
 there-with p (s ∷ ss) id none = by_id (cases_eq s.id id) (there-with p ss id)
   where
@@ -134,7 +134,7 @@ split_if : (a b : Bool) → (if a then false else b) ≡ true → (a ≡ false) 
 split_if true b e = absurd (bool_apart (sym e))
 split_if false b e = (refl, e)
 
-differ-append : (xs ys : List ℕ) → ids_differ xs ≡ true → ids_differ ys ≡ true → ((id : ℕ) → is_dropped xs id ≡ true → is_dropped ys id ≡ false) → ids_differ (xs ++ ys) ≡ true
+pub differ-append : (xs ys : List ℕ) → ids_differ xs ≡ true → ids_differ ys ≡ true → ((id : ℕ) → is_dropped xs id ≡ true → is_dropped ys id ≡ false) → ids_differ (xs ++ ys) ≡ true
 unfolding ids_differ
 differ-append [] ys differ_xs differ_ys apart = differ_ys
 differ-append (x ∷ xs) ys differ_xs differ_ys apart =
@@ -164,18 +164,3 @@ keys_under : (version table next : ℕ) (keys : List (List Value)) (ss : List St
 keys_under version table next [] ss under = refl
 keys_under version table next (key ∷ keys) ss under =
     all_append (λ id. nat_lt id next) (ids_of_key ss version table key) (ids_of_keys ss version table keys) (under-with (λ r. not (keeps (is_out version table key) r)) next ss under) (keys_under version table next keys ss under)
-
--- ---- a batch that drops them
-
-pub changes_dropped_all : (version table : ℕ) (keys : List (List Value)) (ss : List Stored) (counters_id space_id id : ℕ) (c : Counters) (a : Space) (new : Counters) (rows : List RowRecord) (pieces : List PieceRecord) → Ascend ss
-    → KeysDiffer keys → record_at ss counters_id ≡ Some (records.Counters c) → record_at ss space_id ≡ Some (records.Space a) → AllUnder id ss
-    → AreChanges (write_batch counters_id new space_id a (ids_of_keys ss version table keys) id rows pieces)
-changes_dropped_all version table keys ss counters_id space_id id c a new rows pieces sorted apart counters space under =
-    changes-write counters_id new space_id a ids id rows pieces
-    (differ-two counters_id space_id ids (ids_apart ss counters_id space_id c a counters space)
-    (keys_dropped version table keys ss sorted counters_id (records.Counters c) counters)
-    (keys_dropped version table keys ss sorted space_id (records.Space a) space) (keys_once version table keys ss sorted apart))
-    (under-two id counters_id space_id ids (under-found id ss under counters_id (records.Counters c) counters) (under-found id ss under space_id (records.Space a) space) (keys_under version table id keys ss under))
-  where
-    ids : List ℕ
-    ids = ids_of_keys ss version table keys

@@ -21,3 +21,6 @@ pub mod Firsts
 pub mod Lasts
 pub mod Saved
 pub mod Spaced
+pub mod Redrawing
+pub mod Following
+pub mod Drafting

@@ -4,3 +4,4 @@ pub mod Shown
 pub mod Listing
 pub mod Standing
 pub mod Gone
+pub mod Redraw

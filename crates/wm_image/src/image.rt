@@ -17,7 +17,9 @@ ghost use Rattle.wm_spec.specs.Records.{AreRecords, record_at};
 ghost use Rattle.wm_image.specs.Sought.{PiecesAt, ids_with, is_sought};
 ghost use Rattle.wm_state.specs.Batches.{is_out, keeps};
 ghost use Rattle.wm_state.specs.ById.{Ascend, applied, by_id};
+ghost use Rattle.wm_state.specs.Drawing.{AreNews};
 ghost use Rattle.wm_image.specs.Listing.{IsFirstShared, IsKeyListing, IsKeyShowing};
+ghost use Rattle.wm_image.specs.Redraw.{IsRedrawn};
 ghost use Rattle.wm_image.specs.Shown.{names};
 ghost use Rattle.wm_spec.specs.declared.record.savepoint.Savepoint.{Savepoint as OneSavepoint};
 ghost use Rattle.wm_spec.specs.declared.record.space.Space.{Space as OneSpace};
@@ -35,6 +37,7 @@ use crate::listing::{Asked, list_key, list_rows};
 use crate::load::{ImageFault, put_all, sorted};
 use crate::overlap::find_shared;
 use crate::records::{Kept, at, change_all, first, next_id};
+use crate::redraw::{Redrawn, redraw};
 use crate::savepoints::{making_after, savepoint_in, savepoint_of_name};
 use crate::shown::{latest_of, nearest, own_ids, version_at};
 use crate::spaces::{number_after, space_of_name};
@@ -327,6 +330,23 @@ impl Image {
         let ids = ids_on(&self.index.pieces, table, key);
         let own = own_ids(alloc, &self.kept, ids, version)?;
         Ok(own)
+    }
+
+    /// What goes of the records, and what comes, where new pieces come over those that a version has of a table. Only
+    /// the pieces of their keys are looked at.
+    pub fn redraw(
+        &self,
+        alloc: Global,
+        version: u64,
+        table: u16,
+        news: Vec<PieceRecord>,
+    ) -> Result<Redrawn, Memory>
+        requires rules { keep_rules (parts_of self.now) ≡ true }
+        requires news { AreNews version table news.items }
+        ensures { IfOk result (λ redrawn. IsRedrawn self.now version table news.items redrawn.dropped.items redrawn.drawn.items) }
+    {
+        let redrawn = redraw(alloc, &self.kept, &self.index, version, table, news)?;
+        Ok(redrawn)
     }
 
     /// Each key for which a table has pieces, of any version, once and in order.

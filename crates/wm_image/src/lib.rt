@@ -9,8 +9,10 @@ pub mod kinds;
 pub mod laying;
 pub mod listing;
 pub mod load;
+mod over;
 mod overlap;
 pub mod records;
+pub mod redraw;
 pub mod savepoints;
 pub mod shown;
 pub mod spaces;
@@ -21,3 +23,4 @@ mod tests;
 
 pub use image::Image;
 pub use load::ImageFault;
+pub use redraw::Redrawn;
