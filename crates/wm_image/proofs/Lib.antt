@@ -14,7 +14,7 @@ pub mod Dropping
 pub mod DroppingAll
 pub mod Leaves
 pub mod Spans
-pub mod Standing
+pub mod Stretching
 pub mod Pushing
 pub mod Gathering
 pub mod Firsts
