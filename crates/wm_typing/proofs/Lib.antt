@@ -1,4 +1,4 @@
 pub mod Firsts
 pub mod Nones
-pub mod Kinds
+pub mod ByName
 pub mod Typed

@@ -16,7 +16,7 @@ use Rattle.wm_typing.specs.Columns.{columns_of_table}
 use Rattle.wm_typing.specs.Lacking.{lacking_in_operand, lacking_in_cond, lacking_in_filter, lacking_in_sources, lacking_in_query, table_meant, lacks_in_sets}
 use Rattle.wm_typing.specs.Names.{named_kind, unknown_in_operand, unknown_in_cond, unknown_in_filter}
 use Rattle.wm_typing.specs.Types.{mark_text, mistyped_in_cond, mistyped_in_filter, is_filter_typed}
-use Rattle.wm_typing.proofs.Kinds.{operand_is}
+use Rattle.wm_typing.proofs.ByName.{operand_is}
 use Rattle.wm_typing.proofs.Nones.{first_none, second_none, map_none, holds, fails, not_some, unknown_none, mistyped_none, lacking_none}
 
 both : (a b : Bool) → a ≡ true → b ≡ true → a && b ≡ true

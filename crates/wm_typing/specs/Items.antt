@@ -28,10 +28,13 @@ is_same_end _ _ = false
 abbrev pub name_one : List Column → Col → Col → Bool
 name_one columns c d = list_any (λ column. is_named c.source c.name column && is_named d.source d.name column) columns
 
+-- both may mean one source
+abbrev pub share_source : List Column → Col → Col → Bool
+share_source columns c d = list_any (λ column. is_of_source c.source column && is_of_source d.source column) columns
+
 -- both name WM_VALID, may mean one source, and it is no column there
 abbrev pub lack_one : List Column → Col → Col → Bool
-lack_one columns c d =
-    (lacks_period c.source c.name columns && lacks_period d.source d.name columns) && list_any (λ column. is_of_source c.source column && is_of_source d.source column) columns
+lack_one columns c d = (lacks_period c.source c.name columns && lacks_period d.source d.name columns) && share_source columns c d
 
 -- both name one column, or one end of it; WM_VALID goes by its name, whether it is there or not
 abbrev pub is_same_col : List Column → Col → Col → Bool

@@ -2,7 +2,8 @@
 ghost use Rattle.std.specs.Prelude.{◌≡◌, ◌&&◌, is_none, option_copied};
 ghost use Rattle.wm_base.specs.Views.{expr_view, item_view, outs_view, projection_view};
 ghost use Rattle.wm_spec.specs.Operands.{is_of_source, is_named};
-ghost use Rattle.wm_typing.specs.Items.{is_same_end, name_one, lack_one, is_same_col, is_among, col_of_operand, col_of, ungrouped, unknown_in_item, unknown_in_outs, is_grouped_by, ungrouped_column, unknown_in_projection, unknown_in_cols};
+ghost use Rattle.wm_typing.specs.Names.{lacks_period as lacks};
+ghost use Rattle.wm_typing.specs.Items.{is_same_end, name_one, share_source, lack_one, is_same_col, is_among, col_of_operand, col_of, ungrouped, unknown_in_item, unknown_in_outs, is_grouped_by, ungrouped_column, unknown_in_projection, unknown_in_cols};
 
 use crate::first::{first_of, unless};
 use crate::kinds::{is_of_source, lacks_period};
@@ -47,15 +48,27 @@ fn are_of_source(column: &Column, one: &Col, other: &Col) -> bool
     is_of_source(&one.source, column) && is_of_source(&other.source, column)
 }
 
+/// Whether both may mean one source.
+fn share_source(columns: &[Column], one: &Col, other: &Col) -> bool
+    ensures { result ≡ share_source columns.now one.now other.now }
+{
+    columns
+        .iter()
+        .any(|column| are_of_source(column, one, other))
+}
+
+/// Whether the name is WM_VALID, and it is no column there.
+fn lacks_col(columns: &[Column], col: &Col) -> bool
+    ensures { result ≡ lacks col.now.source col.now.name columns.now }
+{
+    lacks_period(&col.source, col.name.as_bytes(), columns)
+}
+
 /// Whether both name WM_VALID, may mean one source, and it is no column there.
 fn lack_one(columns: &[Column], one: &Col, other: &Col) -> bool
     ensures { result ≡ lack_one columns.now one.now other.now }
 {
-    lacks_period(&one.source, one.name.as_bytes(), columns)
-        && lacks_period(&other.source, other.name.as_bytes(), columns)
-        && columns
-            .iter()
-            .any(|column| are_of_source(column, one, other))
+    lacks_col(columns, one) && lacks_col(columns, other) && share_source(columns, one, other)
 }
 
 /// Whether both name one column, or one end of it. WM_VALID goes by its name, whether it is there or not.
