@@ -1,5 +1,5 @@
 -- Whether a period that is written in a statement is empty. The moment of the line stands in the place of SYSDATE before this is asked.
-use Rattle.std.specs.Prelude.{Bool, true, false, not, ◌||◌, nat_lt, List, Option, Some, None}
+use Rattle.std.specs.Prelude.{Bool, false, not, ◌||◌, nat_lt, Option, Some, None}
 use Rattle.std.specs.List.{list_any}
 use Rattle.wm_base.specs.declared.tree.constant.PeriodEnd.{PeriodEnd}
 use Rattle.wm_base.specs.declared.tree.constant.Const.{Const}

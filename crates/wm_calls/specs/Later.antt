@@ -2,7 +2,7 @@
 use Rattle.std.specs.Prelude.{ℕ, Bool, true, false, ◌||◌, nat_eq, List, Option, Some, None, codes}
 use Rattle.std.specs.List.{list_any, ends_with}
 use Rattle.std.specs.Str.{str_eq_ignore_ascii_case}
-use Rattle.wm_base.specs.Trees.{Src, Query, Set, Statement, Create, Insert, Update, Delete, Select, Call, Line, Connect, Disconnect, At, Run}
+use Rattle.wm_base.specs.Trees.{Src, Set, Statement, Update, Select, Call, Line, Connect, Disconnect, At, Run}
 use Rattle.wm_grammar.specs.declared.procedure.Procedure.{Procedure}
 use Rattle.wm_grammar.specs.declared.procedure.Procedure.TheVariants as procedures
 use Rattle.wm_grammar.specs.Calls.{procedure_of}

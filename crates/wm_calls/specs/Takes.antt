@@ -1,5 +1,5 @@
 -- What each parameter takes, and its name.
-use Rattle.std.specs.Prelude.{ℕ, Bool, true, false, not, ◌||◌, ◌&&◌, List, codes}
+use Rattle.std.specs.Prelude.{ℕ, Bool, true, false, not, ◌||◌, List, codes}
 use Rattle.std.specs.Str.{str_eq_ignore_ascii_case}
 use Rattle.wm_base.specs.declared.tree.constant.Const.{Const}
 use Rattle.wm_base.specs.declared.tree.constant.Const.TheVariants as consts
