@@ -34,7 +34,7 @@ use Rattle.wm_state.proofs.Apart.{ruled}
 use Rattle.wm_state.proofs.Tests.{both}
 use Rattle.wm_tree.specs.declared.version.Version.{Version as Node}
 use Rattle.wm_image.proofs.Spans.{spans, maximal, value}
-use Rattle.wm_image.proofs.Stretching.{stretches_are, shown_keyed}
+use Rattle.wm_image.proofs.Spanning.{stretches_are, shown_keyed}
 use Rattle.wm_image.specs.Listing.{AddsRows, IsKeyListing, IsKeyShowing, shown_on}
 use Rattle.wm_image.specs.Standing.{stretches_on}
 use Rattle.wm_image.specs.Sought.{PiecesAt, is_sought}

@@ -14,8 +14,7 @@ pub mod Dropping
 pub mod DroppingAll
 pub mod Leaves
 pub mod Spans
-pub mod Stretching
-pub mod Pushing
+pub mod Spanning
 pub mod Gathering
 pub mod Firsts
 pub mod Lasts

@@ -1,5 +1,6 @@
 -- The stretches that are made piece by piece are those of the pieces.
-use Rattle.std.proofs.Common.{◌≡◌, ℕ, ◌<◌, ◌≤◌, Bool, true, false, if◌then◌else◌, List, [], ◌∷◌, ◌++◌, map, Option, Some, None, refl, sym, ap, ◌∙◌, append_assoc, arith}
+use Rattle.std.proofs.Common.{◌≡◌, ℕ, ◌<◌, ◌≤◌, Bool, true, false, if◌then◌else◌, List, [], ◌∷◌, ◌++◌, map, suc, ◌-◌, length, take, drop, get_or, Option, Some, None, refl, sym, ap, ◌∙◌, append_assoc, arith}
+use Rattle.std.proofs.lemmas.List.{take_all}
 use Rattle.std.proofs.lemmas.List.Elements.{filter_map-append}
 use Rattle.std.specs.List.{cons_option, filter_map}
 use Rattle.std.specs.Option.{option_map, option_or, option_to_list}
@@ -104,3 +105,21 @@ shared_none period ending rest none = shared-append period ending rest ∙ ap (�
 
 pub shared_some : (period found : Span) (ending rest : List Stretch) → first_shared period ending ≡ Some found → first_shared period (ending ++ rest) ≡ Some found
 shared_some period found ending rest some = shared-append period ending rest ∙ ap (λ (o : Option Span). option_or o (first_shared period rest)) some
+
+-- a piece, and the pieces behind it, as the code takes them off the front
+pub taken_off : (left : List Piece) (piece : Piece) → 1 ≤ length left → piece ≡ get_or left 0 piece → left ≡ piece ∷ take (length left - 1) (drop 1 left)
+taken_off [] piece some is = absurd (omega arith)
+taken_off (p ∷ ps) piece some is = ap (λ (q : Piece). q ∷ ps) (sym is) ∙ ap (λ (qs : List Piece). piece ∷ qs) (sym (all_taken ps))
+  where
+    all_taken : (ps : List Piece) → take (suc (length ps) - 1) ps ≡ ps
+    all_taken ps = take_all (suc (length ps) - 1) ps (omega arith)
+
+-- a piece more was gone over
+pub gone_over : (p : Parts) (valid : Bool) (within : Span) (from next : ℕ) (piece : Piece) (left : List Piece) (all done new : List Row) → 1 ≤ length left → piece ≡ get_or left 0 piece
+    → next ≡ from_behind from piece (take (length left - 1) (drop 1 left)) → done ++ shown_on p valid within (stretches_from from left) ≡ all
+    → new ≡ done ++ shown_on p valid within (stretch_ending from piece (take (length left - 1) (drop 1 left))) → new ++ shown_on p valid within (stretches_from next (take (length left - 1) (drop 1 left))) ≡ all
+gone_over p valid within from next piece left all done new some at is so more =
+    let rest : List Piece = take (length left - 1) (drop 1 left) in
+    ap (λ n. new ++ shown_on p valid within (stretches_from n rest)) is
+    ∙ shown_more p valid within (stretch_ending from piece rest) (stretches_from (from_behind from piece rest) rest) all done new
+    (ap (λ ps. done ++ shown_on p valid within (stretches_from from ps)) (sym (taken_off left piece some at)) ∙ so) more
