@@ -12,6 +12,8 @@ pub mod load;
 mod over;
 pub mod records;
 pub mod redraw;
+#[cfg(test)]
+mod redraw_tests;
 pub mod savepoints;
 pub mod shown;
 pub mod spaces;
