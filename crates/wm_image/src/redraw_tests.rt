@@ -35,7 +35,8 @@ fn piece(alloc: Global, key: i64, from: u64, till: u64) -> Result<PieceRecord, M
     })
 }
 
-/// An image in which version 2 has two pieces of key 7, from 10 up to 100 and from 200 up to 300; None where there is no memory.
+/// An image in which version 2 has two pieces of key 7, from 10 up to 100 and from 200 up to 300. Where the rules are
+/// not looked at for want of memory there is none.
 fn image(alloc: Global) -> Result<Option<Image>, Memory>
     ensures { IfOk result (λ found. IfSome found (λ image. keep_rules (parts_of image) ≡ true)) }
 {
@@ -57,46 +58,69 @@ fn ends(alloc: Global, pieces: &[PieceRecord]) -> Result<Vec<u64>, Memory> {
     Ok(ends)
 }
 
-/// What comes of one new piece.
-fn over(alloc: Global, image: &Image, key: i64, from: u64, till: u64) -> Result<Redrawn, Memory>
+/// Whether pieces with these ends come where one new piece comes.
+fn comes(
+    alloc: Global,
+    image: &Image,
+    key: i64,
+    from: u64,
+    till: u64,
+    shown: &[u64],
+) -> Result<bool, Memory>
     requires rules { keep_rules (parts_of image.now) ≡ true }
     requires lasts { from < till }
 {
     let mut news = Vec::new(alloc);
     news.push(piece(alloc, key, from, till)?)?;
-    image.redraw(alloc, 2, 1, news)
+    let redrawn = image.redraw(alloc, 2, 1, news)?;
+    let ends = ends(alloc, redrawn.drawn.as_slice())?;
+    Ok(ends.as_slice() == shown)
 }
 
+/// The new piece is before the others, behind them, or of another key.
+#[test]
+fn a_piece_comes_beside_others(rt: HostRuntime) -> Result<(), Fail> {
+    let alloc = rt.alloc();
+    let Some(image) = image(alloc)? else {
+        return Ok(());
+    };
+    assert!(rt; comes(alloc, &image, 7, 0, 5, &[0, 5, 10, 100, 200, 300])?);
+    assert!(rt; comes(alloc, &image, 7, 400, 500, &[400, 500, 10, 100, 200, 300])?);
+    assert!(rt; comes(alloc, &image, 8, 20, 30, &[20, 30])?);
+    Ok(())
+}
+
+/// The new piece is inside another, over two of them, or where one is.
 #[test]
 fn a_piece_comes_over_others(rt: HostRuntime) -> Result<(), Fail> {
     let alloc = rt.alloc();
     let Some(image) = image(alloc)? else {
         return Ok(());
     };
-    let before = over(alloc, &image, 7, 0, 5)?;
-    assert_eq!(rt; before.dropped.as_slice(), [9, 10].as_slice());
-    let shown = ends(alloc, before.drawn.as_slice())?;
-    assert_eq!(rt; shown.as_slice(), [0, 5, 10, 100, 200, 300].as_slice());
-    let inside = over(alloc, &image, 7, 20, 30)?;
-    let shown = ends(alloc, inside.drawn.as_slice())?;
-    assert_eq!(rt;
-        shown.as_slice(),
-        [20, 30, 10, 20, 30, 100, 200, 300].as_slice()
+    assert!(rt;
+        comes(
+            alloc,
+            &image,
+            7,
+            20,
+            30,
+            &[20, 30, 10, 20, 30, 100, 200, 300]
+        )?
     );
-    let after = over(alloc, &image, 7, 400, 500)?;
-    let shown = ends(alloc, after.drawn.as_slice())?;
-    assert_eq!(rt; shown.as_slice(), [400, 500, 10, 100, 200, 300].as_slice());
-    let both = over(alloc, &image, 7, 50, 250)?;
-    let shown = ends(alloc, both.drawn.as_slice())?;
-    assert_eq!(rt; shown.as_slice(), [50, 250, 10, 50, 250, 300].as_slice());
-    let exact = over(alloc, &image, 7, 10, 100)?;
-    let shown = ends(alloc, exact.drawn.as_slice())?;
-    assert_eq!(rt; shown.as_slice(), [10, 100, 200, 300].as_slice());
-    let none = over(alloc, &image, 8, 20, 30)?;
-    assert_eq!(rt; none.dropped.len(), 0);
-    let shown = ends(alloc, none.drawn.as_slice())?;
-    assert_eq!(rt; shown.as_slice(), [20, 30].as_slice());
+    assert!(rt; comes(alloc, &image, 7, 50, 250, &[50, 250, 10, 50, 250, 300])?);
+    assert!(rt; comes(alloc, &image, 7, 10, 100, &[10, 100, 200, 300])?);
     Ok(())
+}
+
+/// What comes of three pieces of two keys.
+fn redrawn(alloc: Global, image: &Image) -> Result<Redrawn, Memory>
+    requires { keep_rules (parts_of image.now) ≡ true }
+{
+    let mut news = Vec::new(alloc);
+    news.push(piece(alloc, 7, 20, 50)?)?;
+    news.push(piece(alloc, 7, 40, 80)?)?;
+    news.push(piece(alloc, 8, 0, 5)?)?;
+    image.redraw(alloc, 2, 1, news)
 }
 
 #[test]
@@ -105,11 +129,7 @@ fn pieces_of_two_keys_come(rt: HostRuntime) -> Result<(), Fail> {
     let Some(image) = image(alloc)? else {
         return Ok(());
     };
-    let mut news = Vec::new(alloc);
-    news.push(piece(alloc, 7, 20, 50)?)?;
-    news.push(piece(alloc, 7, 40, 80)?)?;
-    news.push(piece(alloc, 8, 0, 5)?)?;
-    let redrawn = image.redraw(alloc, 2, 1, news)?;
+    let redrawn = redrawn(alloc, &image)?;
     assert_eq!(rt; redrawn.dropped.as_slice(), [9, 10].as_slice());
     let shown = ends(alloc, redrawn.drawn.as_slice())?;
     assert_eq!(rt;
