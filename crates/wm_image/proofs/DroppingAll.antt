@@ -168,11 +168,11 @@ keys_under version table next (key ∷ keys) ss under =
 
 -- ---- a batch that drops them
 
-pub changes_dropped_all : (version table : ℕ) (keys : List (List Value)) (ss : List Stored) (counters_id space_id id : ℕ) (c : Counters) (a : Space) (new : Counters) (rows : List RowRecord) (pieces : List PieceRecord) → Ascend ss
+pub changes_dropped_all : (version table : ℕ) (keys : List (List Value)) (ss : List Stored) (counters_id space_id id : ℕ) (c : Counters) (a : Space) (new : Counters) (count : ℕ) (rows : List RowRecord) (pieces : List PieceRecord) → Ascend ss
     → KeysDiffer keys → record_at ss counters_id ≡ Some (records.Counters c) → record_at ss space_id ≡ Some (records.Space a) → AllUnder id ss
-    → AreChanges (write_batch counters_id new space_id a (ids_of_keys ss version table keys) id rows pieces)
-changes_dropped_all version table keys ss counters_id space_id id c a new rows pieces sorted apart counters space under =
-    changes-write counters_id new space_id a ids id rows pieces
+    → AreChanges (write_batch counters_id new space_id a count (ids_of_keys ss version table keys) id rows pieces)
+changes_dropped_all version table keys ss counters_id space_id id c a new count rows pieces sorted apart counters space under =
+    changes-write counters_id new space_id a count ids id rows pieces
     (differ-two counters_id space_id ids (ids_apart ss counters_id space_id c a counters space)
     (keys_dropped version table keys ss sorted counters_id (records.Counters c) counters)
     (keys_dropped version table keys ss sorted space_id (records.Space a) space) (keys_once version table keys ss sorted apart))
@@ -182,11 +182,11 @@ changes_dropped_all version table keys ss counters_id space_id id c a new rows p
     ids = ids_of_keys ss version table keys
 
 -- the same, where new pieces come over those of their keys
-pub changes_redrawn : (version table : ℕ) (news : List PieceRecord) (dropped : List ℕ) (drawn : List PieceRecord) (ss : List Stored) (counters_id space_id id : ℕ) (c : Counters) (a : Space) (new : Counters) (rows : List RowRecord) (pieces : List PieceRecord)
+pub changes_redrawn : (version table : ℕ) (news : List PieceRecord) (dropped : List ℕ) (drawn : List PieceRecord) (ss : List Stored) (counters_id space_id id : ℕ) (c : Counters) (a : Space) (new : Counters) (count : ℕ) (rows : List RowRecord) (pieces : List PieceRecord)
     → IsRedrawn ss version table news dropped drawn → record_at ss counters_id ≡ Some (records.Counters c) → record_at ss space_id ≡ Some (records.Space a) → AllUnder id ss
-    → AreChanges (write_batch counters_id new space_id a dropped id rows pieces)
-changes_redrawn version table news dropped drawn ss counters_id space_id id c a new rows pieces redrawn counters space under =
-    changes-write counters_id new space_id a dropped id rows pieces
+    → AreChanges (write_batch counters_id new space_id a count dropped id rows pieces)
+changes_redrawn version table news dropped drawn ss counters_id space_id id c a new count rows pieces redrawn counters space under =
+    changes-write counters_id new space_id a count dropped id rows pieces
     (differ-two counters_id space_id dropped (ids_apart ss counters_id space_id c a counters space) (redrawn.gone counters_id (records.Counters c) counters) (redrawn.gone space_id (records.Space a) space) redrawn.once)
     (under-two id counters_id space_id dropped (under-found id ss under counters_id (records.Counters c) counters) (under-found id ss under space_id (records.Space a) space)
     (all_if (λ k. is_some (record_at ss k)) (λ k. nat_lt k id) (λ k there. under_there k (record_at ss k) refl there) dropped redrawn.there))
