@@ -7,16 +7,14 @@ use Rattle.std.specs.Option.{option_or, option_map, option_map_or, option_and_th
 use Rattle.wm_base.specs.declared.instant.TheConstants.{END}
 use Rattle.wm_base.specs.declared.row.Row.{Row}
 use Rattle.wm_graph.specs.Parts.{row_of}
-use Rattle.wm_graph.specs.Rules.{differ, is_row, is_row_of, is_key_of, is_key, key_of, is_piece, is_row_at, are_cells, collide}
+use Rattle.wm_graph.specs.Rules.{differ, is_row, is_row_of, is_key_of, is_key, key_of, is_piece, is_row_at, are_cells}
 use Rattle.wm_spec.specs.Lists.{Entry, Cell, Told, told, told_of, covers}
-use Rattle.wm_spec.specs.declared.record.piece.PieceRecord.{PieceRecord}
 use Rattle.wm_spec.specs.declared.record.row.RowRecord.{RowRecord}
 use Rattle.wm_spec.specs.declared.record.table.Table.{Table}
 use Rattle.wm_spec.specs.declared.record.version.Version.{Version}
-use Rattle.wm_state.specs.Batches.{is_in, is_out}
-use Rattle.wm_state.specs.Entries.{IsWhole, AreWhole, entry_keys, same_key, KeysDiffer, is_keyed, fits_table, is_well, piece_of, pieces_of, rows_in, is_out_all}
+use Rattle.wm_state.specs.Entries.{IsStamped, AreStamped, is_keyed, fits_table, is_well, piece_of, pieces_of, rows_in}
 use Rattle.wm_state.proofs.Apart.{found-passes}
-use Rattle.wm_state.proofs.Tests.{bool_apart, both, and_true, either_false, not_true, none_if}
+use Rattle.wm_state.proofs.Tests.{bool_apart, both, and_true, none_if}
 
 -- the row of an entry
 abbrev row_with : Entry → Row → RowRecord
@@ -54,16 +52,16 @@ well_of tables e well = by_table (tables e.table) refl well
 -- ---- rows
 
 -- the stamps of the rows are not below the first
-pub rows_from : (table stamp low : ℕ) (es : List Entry) → AreWhole table stamp es → nat_le low stamp ≡ true → list_all (λ (r : RowRecord). nat_le low r.stamp) (rows_in es) ≡ true
-rows_from table stamp low [] whole le = refl
-rows_from table stamp low (e ∷ es) whole le = ap (list_all (λ (r : RowRecord). nat_le low r.stamp)) (rows_are e es) ∙ by_row e.row (rows_from table (stamp + 1) low es whole.1 (later low stamp le))
+pub rows_from : (table stamp low : ℕ) (es : List Entry) → AreStamped table stamp es → nat_le low stamp ≡ true → list_all (λ (r : RowRecord). nat_le low r.stamp) (rows_in es) ≡ true
+rows_from table stamp low [] stamped le = refl
+rows_from table stamp low (e ∷ es) stamped le = ap (list_all (λ (r : RowRecord). nat_le low r.stamp)) (rows_are e es) ∙ by_row e.row (rows_from table (stamp + 1) low es stamped.1 (later low stamp le))
   where
     later : (m n : ℕ) → nat_le m n ≡ true → nat_le m (n + 1) ≡ true
     later m n e = grind (arith, e)
 
     by_row : (o : Option Row) → list_all (λ (r : RowRecord). nat_le low r.stamp) (rows_in es) ≡ true → list_all (λ (r : RowRecord). nat_le low r.stamp) (rows_with e o (rows_in es)) ≡ true
     by_row None rest = rest
-    by_row (Some row) rest = and_true (nat_le low e.stamp) _ (ap (nat_le low) whole.0.stamp ∙ le) rest
+    by_row (Some row) rest = and_true (nat_le low e.stamp) _ (ap (nat_le low) stamped.0.stamp ∙ le) rest
 
 not_above : (m n k : ℕ) → m ≡ k → nat_le (k + 1) n ≡ true → (m == n) ≡ false
 not_above m n k same le = grind (arith, same, le)
@@ -71,13 +69,13 @@ not_above m n k same le = grind (arith, same, le)
 le_self : (n : ℕ) → nat_le n n ≡ true
 le_self n = grind arith
 
-pub rows_differ : (table stamp : ℕ) (es : List Entry) → AreWhole table stamp es → differ (λ (r q : RowRecord). r.stamp == q.stamp) (rows_in es) ≡ true
-rows_differ table stamp [] whole = refl
-rows_differ table stamp (e ∷ es) whole = ap (differ (λ (r q : RowRecord). r.stamp == q.stamp)) (rows_are e es) ∙ by_row e.row (rows_differ table (stamp + 1) es whole.1)
+pub rows_differ : (table stamp : ℕ) (es : List Entry) → AreStamped table stamp es → differ (λ (r q : RowRecord). r.stamp == q.stamp) (rows_in es) ≡ true
+rows_differ table stamp [] stamped = refl
+rows_differ table stamp (e ∷ es) stamped = ap (differ (λ (r q : RowRecord). r.stamp == q.stamp)) (rows_are e es) ∙ by_row e.row (rows_differ table (stamp + 1) es stamped.1)
   where
     apart : list_any (λ (q : RowRecord). e.stamp == q.stamp) (rows_in es) ≡ false
-    apart = none_if (λ (q : RowRecord). nat_le (stamp + 1) q.stamp) (λ (q : RowRecord). e.stamp == q.stamp) (λ q le. not_above e.stamp q.stamp stamp whole.0.stamp le) (rows_in es)
-        (rows_from table (stamp + 1) (stamp + 1) es whole.1 (le_self (stamp + 1)))
+    apart = none_if (λ (q : RowRecord). nat_le (stamp + 1) q.stamp) (λ (q : RowRecord). e.stamp == q.stamp) (λ q le. not_above e.stamp q.stamp stamp stamped.0.stamp le) (rows_in es)
+        (rows_from table (stamp + 1) (stamp + 1) es stamped.1 (le_self (stamp + 1)))
 
     by_row : (o : Option Row) → differ (λ (r q : RowRecord). r.stamp == q.stamp) (rows_in es) ≡ true → differ (λ (r q : RowRecord). r.stamp == q.stamp) (rows_with e o (rows_in es)) ≡ true
     by_row None rest = rest
@@ -90,19 +88,19 @@ stamp_below m n k next same le = grind (arith, same, le)
 rest_below : (n k next : ℕ) → nat_le (n + suc k) next ≡ true → nat_le (n + 1 + k) next ≡ true
 rest_below n k next le = grind (arith, le)
 
-pub rows_well : (tables : ℕ → Option Table) (table stamp next : ℕ) (es : List Entry) → AreWhole table stamp es → nat_le (stamp + length es) next ≡ true → list_all (is_well tables) es ≡ true
+pub rows_well : (tables : ℕ → Option Table) (table stamp next : ℕ) (es : List Entry) → AreStamped table stamp es → nat_le (stamp + length es) next ≡ true → list_all (is_well tables) es ≡ true
     → list_all (is_row tables next) (rows_in es) ≡ true
-rows_well tables table stamp next [] whole le well = refl
-rows_well tables table stamp next (e ∷ es) whole le well =
+rows_well tables table stamp next [] stamped le well = refl
+rows_well tables table stamp next (e ∷ es) stamped le well =
     let h = both (is_well tables e) (list_all (is_well tables) es) well in
     ap (list_all (is_row tables next)) (rows_are e es)
-    ∙ by_row e.row refl (well_of tables e h.0) (rows_well tables table (stamp + 1) next es whole.1 (rest_below stamp (length es) next le) h.1)
+    ∙ by_row e.row refl (well_of tables e h.0) (rows_well tables table (stamp + 1) next es stamped.1 (rest_below stamp (length es) next le) h.1)
   where
     by_row : (o : Option Row) → e.row ≡ o → Well tables e → list_all (is_row tables next) (rows_in es) ≡ true → list_all (is_row tables next) (rows_with e o (rows_in es)) ≡ true
     by_row None is w rest = rest
     by_row (Some row) is w rest =
         and_true (is_row tables next (row_with e row)) _
-        (and_true (nat_lt e.stamp next) _ (stamp_below e.stamp stamp (length es) next whole.0.stamp le)
+        (and_true (nat_lt e.stamp next) _ (stamp_below e.stamp stamp (length es) next stamped.0.stamp le)
         (ap (λ o. option_map_or (is_row_of row.values) o false) w.is ∙ (both (is_row_of row.values w.table) (is_key e.key (key_of w.table row.values)) (w.row row is)).0))
         rest
 
@@ -111,24 +109,24 @@ rows_well tables table stamp next (e ∷ es) whole le well =
 row_first : (e : Entry) (es : List Entry) (row : Row) → e.row ≡ Some row → row_of (rows_in (e ∷ es)) e.stamp ≡ Some (row_with e row)
 row_first e es row is = ap (λ rows. row_of rows e.stamp) (rows_are e es ∙ ap (λ o. rows_with e o (rows_in es)) is) ∙ rw (eq-eqb e.stamp e.stamp refl) refl
 
-row_later : (table stamp : ℕ) (e : Entry) (es : List Entry) → AreWhole table stamp (e ∷ es) → (k : ℕ) (r : RowRecord) → row_of (rows_in es) k ≡ Some r → row_of (rows_in (e ∷ es)) k ≡ Some r
-row_later table stamp e es whole k r found = ap (λ rows. row_of rows k) (rows_are e es) ∙ by_row e.row
+row_later : (table stamp : ℕ) (e : Entry) (es : List Entry) → AreStamped table stamp (e ∷ es) → (k : ℕ) (r : RowRecord) → row_of (rows_in es) k ≡ Some r → row_of (rows_in (e ∷ es)) k ≡ Some r
+row_later table stamp e es stamped k r found = ap (λ rows. row_of rows k) (rows_are e es) ∙ by_row e.row
   where
     is_new : ((r.stamp == k) ≡ true) × (nat_le (stamp + 1) r.stamp ≡ true)
     is_new = found-passes (λ (x : RowRecord). x.stamp == k) (λ (x : RowRecord). nat_le (stamp + 1) x.stamp) (rows_in es) r found
-        (rows_from table (stamp + 1) (stamp + 1) es whole.1 (le_self (stamp + 1)))
+        (rows_from table (stamp + 1) (stamp + 1) es stamped.1 (le_self (stamp + 1)))
 
     apart : (m n k s : ℕ) → m ≡ s → (n == k) ≡ true → nat_le (s + 1) n ≡ true → (m == k) ≡ false
     apart m n k s same is le = grind (arith, same, is, le)
 
     by_row : (o : Option Row) → row_of (rows_with e o (rows_in es)) k ≡ Some r
     by_row None = found
-    by_row (Some row) = rw (apart e.stamp r.stamp k stamp whole.0.stamp is_new.0 is_new.1) found
+    by_row (Some row) = rw (apart e.stamp r.stamp k stamp stamped.0.stamp is_new.0 is_new.1) found
 
 -- a stamp that is told is not below the first
-told_from : (table stamp : ℕ) (es : List Entry) → AreWhole table stamp es → (c : Cell) (t : Told) → told es c ≡ Some t → nat_le stamp t.stamp ≡ true
-told_from table stamp [] whole c t found = cc
-told_from table stamp (e ∷ es) whole c t found = by_told (told es c) refl (told_from table (stamp + 1) es whole.1 c t) (covers e c) found
+told_from : (table stamp : ℕ) (es : List Entry) → AreStamped table stamp es → (c : Cell) (t : Told) → told es c ≡ Some t → nat_le stamp t.stamp ≡ true
+told_from table stamp [] stamped c t found = cc
+told_from table stamp (e ∷ es) stamped c t found = by_told (told es c) refl (told_from table (stamp + 1) es stamped.1 c t) (covers e c) found
   where
     lower : (m n : ℕ) → nat_le (m + 1) n ≡ true → nat_le m n ≡ true
     lower m n le = grind (arith, le)
@@ -141,14 +139,14 @@ told_from table stamp (e ∷ es) whole c t found = by_told (told es c) refl (tol
 
     by_told : (o : Option Told) → told es c ≡ o → (told es c ≡ Some t → nat_le (stamp + 1) t.stamp ≡ true) → (b : Bool) → option_or o (then_some b (told_of e)) ≡ Some t → nat_le stamp t.stamp ≡ true
     by_told (Some x) is rest b h = lower stamp t.stamp (rest (is ∙ h))
-    by_told None is rest true h = same_le stamp t.stamp (ap (λ (x : Told). x.stamp) (sym (some_same (told_of e) t h)) ∙ whole.0.stamp)
+    by_told None is rest true h = same_le stamp t.stamp (ap (λ (x : Told). x.stamp) (sym (some_same (told_of e) t h)) ∙ stamped.0.stamp)
     by_told None is rest false h = cc
 
 -- the row that is told at a cell is found by its stamp
-pub told_row : (table stamp : ℕ) (es : List Entry) → AreWhole table stamp es → (c : Cell) (t : Told) (row : Row) → told es c ≡ Some t → t.row ≡ Some row
+pub told_row : (table stamp : ℕ) (es : List Entry) → AreStamped table stamp es → (c : Cell) (t : Told) (row : Row) → told es c ≡ Some t → t.row ≡ Some row
     → option_map (λ (r : RowRecord). r.values) (row_of (rows_in es) t.stamp) ≡ Some row.values
-told_row table stamp [] whole c t row found is = cc
-told_row table stamp (e ∷ es) whole c t row found is = by_told (told es c) refl (told_row table (stamp + 1) es whole.1 c t row) (covers e c) found
+told_row table stamp [] stamped c t row found is = cc
+told_row table stamp (e ∷ es) stamped c t row found is = by_told (told es c) refl (told_row table (stamp + 1) es stamped.1 c t row) (covers e c) found
   where
     some_same : (x y : Told) → Some x ≡ Some y → x ≡ y
     some_same x y h = cc
@@ -156,7 +154,7 @@ told_row table stamp (e ∷ es) whole c t row found is = by_told (told es c) ref
     still : (o : Option RowRecord) → row_of (rows_in es) t.stamp ≡ o → option_map (λ (r : RowRecord). r.values) o ≡ Some row.values
         → option_map (λ (r : RowRecord). r.values) (row_of (rows_in (e ∷ es)) t.stamp) ≡ Some row.values
     still None at h = cc
-    still (Some r) at h = ap (option_map (λ (r : RowRecord). r.values)) (row_later table stamp e es whole t.stamp r at) ∙ h
+    still (Some r) at h = ap (option_map (λ (r : RowRecord). r.values)) (row_later table stamp e es stamped t.stamp r at) ∙ h
 
     by_told : (o : Option Told) → told es c ≡ o
         → (told es c ≡ Some t → t.row ≡ Some row → option_map (λ (r : RowRecord). r.values) (row_of (rows_in es) t.stamp) ≡ Some row.values)
@@ -170,18 +168,15 @@ told_row table stamp (e ∷ es) whole c t row found is = by_told (told es c) ref
 
 -- ---- pieces
 
-piece_well : (tables : ℕ → Option Table) (versions : ℕ → Option Version) (rows : ℕ → Option RowRecord) (table stamp next version : ℕ) (e : Entry) → IsWhole table stamp e → Well tables e
+piece_well : (tables : ℕ → Option Table) (versions : ℕ → Option Version) (rows : ℕ → Option RowRecord) (table stamp next version : ℕ) (e : Entry) → IsStamped table stamp e → Well tables e
     → is_some (versions version) ≡ true → nat_lt e.stamp next ≡ true → ((row : Row) → e.row ≡ Some row → rows e.stamp ≡ Some (row_with e row))
     → is_piece tables versions rows next (piece_of version e) ≡ true
 piece_well tables versions rows table stamp next version e w well there below found =
     and_true (is_some (versions version)) _ there
     (and_true (are_cells tables (piece_of version e).cells) _
-    (and_true (nat_lt e.from e.till && nat_le e.till END) _ times (ap (λ o. option_map_or (is_key_of e.key) o false) well.is ∙ well.key))
+    (and_true (nat_lt e.from e.till && nat_le e.till END) _ w.period (ap (λ o. option_map_or (is_key_of e.key) o false) well.is ∙ well.key))
     (and_true (nat_lt e.stamp next) _ below (by_row e.row refl)))
   where
-    times : (nat_lt e.from e.till && nat_le e.till END) ≡ true
-    times = rw (w.from, w.till) refl
-
     by_row : (o : Option Row) → e.row ≡ o → (is_none o || option_map_or (is_row_at tables (piece_of version e).cells) (rows e.stamp) false) ≡ true
     by_row None is = refl
     by_row (Some row) is =
@@ -189,42 +184,12 @@ piece_well tables versions rows table stamp next version e w well there below fo
         ∙ and_true (e.table == e.table) _ (eq-eqb e.table e.table refl)
         (ap (λ o. is_key e.key (option_and_then (λ (t : Table). key_of t row.values) o)) well.is ∙ (both (is_row_of row.values well.table) (is_key e.key (key_of well.table row.values)) (well.row row is)).1)
 
-pub pieces_well : (tables : ℕ → Option Table) (versions : ℕ → Option Version) (rows : ℕ → Option RowRecord) (table stamp next version : ℕ) (es : List Entry) → AreWhole table stamp es → nat_le (stamp + length es) next ≡ true
+pub pieces_well : (tables : ℕ → Option Table) (versions : ℕ → Option Version) (rows : ℕ → Option RowRecord) (table stamp next version : ℕ) (es : List Entry) → AreStamped table stamp es → nat_le (stamp + length es) next ≡ true
     → list_all (is_well tables) es ≡ true → is_some (versions version) ≡ true → ((k : ℕ) (r : RowRecord) → row_of (rows_in es) k ≡ Some r → rows k ≡ Some r)
     → list_all (is_piece tables versions rows next) (pieces_of version es) ≡ true
-pieces_well tables versions rows table stamp next version [] whole le well there found = refl
-pieces_well tables versions rows table stamp next version (e ∷ es) whole le well there found =
+pieces_well tables versions rows table stamp next version [] stamped le well there found = refl
+pieces_well tables versions rows table stamp next version (e ∷ es) stamped le well there found =
     let h = both (is_well tables e) (list_all (is_well tables) es) well in
     and_true (is_piece tables versions rows next (piece_of version e)) (list_all (is_piece tables versions rows next) (pieces_of version es))
-    (piece_well tables versions rows table stamp next version e whole.0 (well_of tables e h.0) there (stamp_below e.stamp stamp (length es) next whole.0.stamp le) (λ row is. found e.stamp (row_with e row) (row_first e es row is)))
-    (pieces_well tables versions rows table (stamp + 1) next version es whole.1 (rest_below stamp (length es) next le) h.1 there (λ k r at. found k r (row_later table stamp e es whole k r at)))
-
--- a piece of another key collides with none
-apart_from : (version : ℕ) (e : Entry) (es : List Entry) → list_any (same_key e.key) (entry_keys es) ≡ false → list_any (collide (piece_of version e)) (pieces_of version es) ≡ false
-apart_from version e [] other = refl
-apart_from version e (f ∷ es) other =
-    let h = either_false (same_key e.key f.key) (list_any (same_key e.key) (entry_keys es)) other in
-    rw (apart (version == version) (e.table == f.table) (same_key e.key f.key) (nat_lt e.from f.till && nat_lt f.from e.till) h.0, apart_from version e es h.1) refl
-  where
-    apart : (a b k t : Bool) → k ≡ false → ((a && (b && k)) && t) ≡ false
-    apart true true k t e = rw e refl
-    apart true false k t e = refl
-    apart false b k t e = refl
-
-pub pieces_differ : (version : ℕ) (es : List Entry) → KeysDiffer (entry_keys es) → differ collide (pieces_of version es) ≡ true
-pieces_differ version [] apart = refl
-pieces_differ version (e ∷ es) apart =
-    let h = both (not (list_any (same_key e.key) (entry_keys es))) (differ same_key (entry_keys es)) apart in
-    and_true (not (list_any (collide (piece_of version e)) (pieces_of version es))) (differ collide (pieces_of version es))
-    (ap not (apart_from version e es (not_true (list_any (same_key e.key) (entry_keys es)) h.0)))
-    (pieces_differ version es h.1)
-
--- what is kept collides with none of them
-pub kept_apart : (version table stamp : ℕ) (es : List Entry) → AreWhole table stamp es → (y : PieceRecord) → is_out_all version table (entry_keys es) y ≡ true → list_any (collide y) (pieces_of version es) ≡ false
-kept_apart version table stamp [] whole y out = refl
-kept_apart version table stamp (e ∷ es) whole y out =
-    let h = both (is_out version table e.key y) (is_out_all version table (entry_keys es) y) out in
-    rw (first h.0, kept_apart version table (stamp + 1) es whole.1 y h.1) refl
-  where
-    first : is_out version table e.key y ≡ true → collide y (piece_of version e) ≡ false
-    first kept = rw (whole.0.table, not_true (is_in version table e.key y) kept) refl
+    (piece_well tables versions rows table stamp next version e stamped.0 (well_of tables e h.0) there (stamp_below e.stamp stamp (length es) next stamped.0.stamp le) (λ row is. found e.stamp (row_with e row) (row_first e es row is)))
+    (pieces_well tables versions rows table (stamp + 1) next version es stamped.1 (rest_below stamp (length es) next le) h.1 there (λ k r at. found k r (row_later table stamp e es stamped k r at)))

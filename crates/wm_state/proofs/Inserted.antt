@@ -60,7 +60,7 @@ pub record MayWrite (p : Parts) (n : ℕ) (e : Entry) (row : Row) (a : Space) (r
   pub stamp : r.stamp ≡ e.stamp
 
 -- no piece lasts past the end of time
-pub end_in_time : (p : Parts) (next : ℕ) → are_pieces p next ≡ true → list_all EndInTime p.pieces ≡ true
+end_in_time : (p : Parts) (next : ℕ) → are_pieces p next ≡ true → list_all EndInTime p.pieces ≡ true
 end_in_time p next e =
     let h = both (differ collide p.pieces) (list_all (is_piece (table_of p.tables) (version_of p.versions) (row_of p.rows) next) p.pieces) e in
     all_if (is_piece (table_of p.tables) (version_of p.versions) (row_of p.rows) next) EndInTime

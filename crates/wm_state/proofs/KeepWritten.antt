@@ -26,7 +26,7 @@ all_written p c front a back k keep rows pieces = record p {
   pieces = filter keep p.pieces ++ pieces;
 }
 
--- what these are asked: the rows have new stamps, each its own, and the rows of the pieces are among them; no two pieces collide
+-- what these are asked: the rows have new stamps, each its own; the rows of the pieces are among all rows, and no two pieces collide
 pub record MayPut (p : Parts) (old new : Counters) (front : List Space) (a : Space) (back : List Space) (k : ℕ) (keep : PieceRecord → Bool) (rows : List RowRecord) (pieces : List PieceRecord) : Type 0 where
   pub one : p.counters ≡ old ∷ []
   pub counters : are_counters new ≡ true
@@ -38,7 +38,7 @@ pub record MayPut (p : Parts) (old new : Counters) (front : List Space) (a : Spa
   pub rows_well : list_all (is_row (table_of p.tables) new.next_stamp) rows ≡ true
   pub rows_new : list_all (λ (r : RowRecord). nat_le old.next_stamp r.stamp) rows ≡ true
   pub rows_differ : differ (λ (r q : RowRecord). r.stamp == q.stamp) rows ≡ true
-  pub pieces_well : list_all (is_piece (table_of p.tables) (version_of p.versions) (row_of rows) new.next_stamp) pieces ≡ true
+  pub pieces_well : list_all (is_piece (table_of p.tables) (version_of p.versions) (row_of (p.rows ++ rows)) new.next_stamp) pieces ≡ true
   pub pieces_differ : differ collide pieces ≡ true
   pub apart : (y : PieceRecord) → keep y ≡ true → list_any (collide y) pieces ≡ false
 
@@ -89,10 +89,10 @@ KeepRows-append p q rows more stamp r found = ap (λ rs. row_of rs stamp) more �
 -- ---- pieces
 
 pieces_kept : (p q : Parts) (next more : ℕ) (rows : List RowRecord) (keep : PieceRecord → Bool) (pieces : List PieceRecord) → nat_le next more ≡ true → q.tables ≡ p.tables → q.versions ≡ p.versions
-    → q.rows ≡ p.rows ++ rows → q.pieces ≡ filter keep p.pieces ++ pieces → ((stamp : ℕ) (r : RowRecord) → row_of rows stamp ≡ Some r → row_of (p.rows ++ rows) stamp ≡ Some r)
-    → list_all (is_piece (table_of p.tables) (version_of p.versions) (row_of rows) more) pieces ≡ true → differ collide pieces ≡ true
+    → q.rows ≡ p.rows ++ rows → q.pieces ≡ filter keep p.pieces ++ pieces
+    → list_all (is_piece (table_of p.tables) (version_of p.versions) (row_of (p.rows ++ rows)) more) pieces ≡ true → differ collide pieces ≡ true
     → ((y : PieceRecord) → keep y ≡ true → list_any (collide y) pieces ≡ false) → are_pieces p next ≡ true → are_pieces q more ≡ true
-pieces_kept p q next more rows keep pieces le tables versions are_rows are found well differ_so apart e =
+pieces_kept p q next more rows keep pieces le tables versions are_rows are well differ_so apart e =
     let h = both (differ collide p.pieces) (list_all (is_piece (table_of p.tables) (version_of p.versions) (row_of p.rows) next) p.pieces) e in
     rw are
     (and_true (differ collide (filter keep p.pieces ++ pieces)) (list_all (is_piece (table_of q.tables) (version_of q.versions) (row_of q.rows) more) (filter keep p.pieces ++ pieces))
@@ -101,12 +101,7 @@ pieces_kept p q next more rows keep pieces le tables versions are_rows are found
     (all_filter (is_piece (table_of q.tables) (version_of q.versions) (row_of q.rows) more) keep p.pieces
     (all_if (is_piece (table_of p.tables) (version_of p.versions) (row_of p.rows) next) (is_piece (table_of q.tables) (version_of q.versions) (row_of q.rows) more)
     (is_piece-kept p q next more le (KeepTables-same p q tables) (KeepVersions-same p q versions) (KeepRows-append p q rows are_rows)) p.pieces h.1))
-    (all_if (is_piece (table_of p.tables) (version_of p.versions) (row_of rows) more) (is_piece (table_of q.tables) (version_of q.versions) (row_of q.rows) more)
-    (is_piece-kept fresh q more more (le_itself more) (KeepTables-same fresh q tables) (KeepVersions-same fresh q versions) (λ stamp r is. ap (λ rs. row_of rs stamp) are_rows ∙ found stamp r is)) pieces well)))
-  where
-    -- the records with the new rows alone
-    fresh : Parts
-    fresh = record p { rows = rows }
+    (rw (tables, versions, are_rows) well)))
 
 -- ---- workspaces
 
@@ -140,7 +135,7 @@ keep-written p old new front a back k keep rows pieces may e = keeps_all q new r
     ∙ versions_replaced p q front back a (longer_by k a) old.next_version (longer_may a k) may.spaces refl refl (ap (λ (c : Counters). are_versions p c.next_version) same ∙ rule.versions))
     (are_savepoints-kept p q old.work new.work (le_of old.work new.work may.work) spaces (KeepVersions-same p q refl) refl few savepoints)
     (rows_kept p q old.next_stamp new.next_stamp rows later refl refl may.rows_well may.rows_new may.rows_differ rows_before)
-    (pieces_kept p q old.next_stamp new.next_stamp rows keep pieces later refl refl refl refl (rows_found p old.next_stamp rows rows_before may.rows_new) may.pieces_well may.pieces_differ may.apart
+    (pieces_kept p q old.next_stamp new.next_stamp rows keep pieces later refl refl refl refl may.pieces_well may.pieces_differ may.apart
     (ap (λ (c : Counters). are_pieces p c.next_stamp) same ∙ rule.pieces))
     (are_hists-kept p q old.next_stamp new.next_stamp later (KeepTables-same p q refl) spaces (KeepRows-append p q rows refl) refl (ap (λ (c : Counters). are_hists p c.next_stamp) same ∙ rule.hists))
   where

@@ -36,7 +36,7 @@ has y c = nat_le y.cells.from c.time && nat_lt c.time y.cells.till
 and_false : (a b : Bool) → a ≡ false → (a && b) ≡ false
 and_false a b e = rw e refl
 
-false_if : (b : Bool) → (b ≡ true → ⊥) → b ≡ false
+pub false_if : (b : Bool) → (b ≡ true → ⊥) → b ≡ false
 false_if true not_so = absurd (not_so refl)
 false_if false not_so = refl
 
@@ -70,7 +70,7 @@ away version table key v c y apart inside = false_if (covers_at y v c) (λ cover
 
 -- ---- what is stored
 
-stored-append : (xs ys : List PieceRecord) (v : ℕ) (c : Cell) → stored_at (xs ++ ys) v c ≡ option_or (stored_at xs v c) (stored_at ys v c)
+pub stored-append : (xs ys : List PieceRecord) (v : ℕ) (c : Cell) → stored_at (xs ++ ys) v c ≡ option_or (stored_at xs v c) (stored_at ys v c)
 stored-append [] ys v c = refl
 stored-append (x ∷ xs) ys v c = ap (λ o. option_or (then_some (covers_at x v c) (held_by x)) o) (stored-append xs ys v c) ∙ sym (or_assoc (then_some (covers_at x v c) (held_by x)) (stored_at xs v c) (stored_at ys v c))
   where

@@ -1,108 +1,83 @@
--- Pieces over whole keys, each in the place of all that a version has of its key.
-use Rattle.std.proofs.Common.{◌≡◌, ℕ, ◌+◌, ◌==◌, nat_le, Bool, true, false, not, ◌&&◌, cond, List, [], ◌∷◌, ◌++◌, append_assoc, append-nil, Option, Some, None, refl, sym, ap, subst, ◌∙◌}
+-- Pieces that stand for old ones with those of entries over them, in the place of the old ones.
+use Rattle.std.proofs.Common.{◌≡◌, ℕ, ◌==◌, Bool, true, false, not, cond, List, [], ◌∷◌, ◌++◌, Option, Some, None, refl, sym, ap, ◌∙◌}
 use Rattle.std.specs.Bool.{then_some}
-use Rattle.std.specs.List.{filter, list_all, list_any}
+use Rattle.std.specs.List.{filter, list_all}
 use Rattle.std.specs.Option.{option_or, option_map}
-use Rattle.wm_base.specs.declared.instant.TheConstants.{END}
-use Rattle.wm_base.specs.declared.value.Value.{Value}
-use Rattle.wm_graph.specs.Rules.{differ}
 use Rattle.wm_period.specs.Pieces.{Held}
-use Rattle.wm_spec.specs.Lists.{Entry, Told, told, told_of, covers}
+use Rattle.wm_spec.specs.Lists.{Entry, Cell, told}
 use Rattle.wm_spec.specs.declared.record.piece.PieceRecord.{PieceRecord}
-use Rattle.wm_state.specs.Standing.{held_of, stored_at}
-use Rattle.wm_state.specs.Batches.{is_out}
-use Rattle.wm_state.specs.Effects.{AreLaid}
-use Rattle.wm_state.specs.Entries.{IsWhole, AreWhole, entry_keys, same_key, KeysDiffer, piece_of, pieces_of, is_out_all}
+use Rattle.wm_state.specs.Drawing.{stored_last, AreDrawn}
+use Rattle.wm_state.specs.Entries.{AreStamped, entry_keys, pieces_of, is_out_all}
+use Rattle.wm_state.specs.Standing.{held_of, held_by, covers_at, stored_at}
 use Rattle.wm_state.specs.Writes.{AreAllLaid}
-use Rattle.wm_state.proofs.Appending.{all_append}
-use Rattle.wm_state.proofs.Laying.{EndInTime, laid-over}
-use Rattle.wm_state.proofs.Tests.{both, and_true, either_false, not_true, all_filter}
+use Rattle.wm_state.proofs.Entered.{stored-entries}
+use Rattle.wm_state.proofs.Laying.{stored-append, false_if}
+use Rattle.wm_state.proofs.Places.{out_at, goes_all, out-there, entries-go}
+use Rattle.wm_state.proofs.Tests.{bool_apart, both, not_true}
 
--- ---- one entry, and then others
+-- ---- at one cell
 
--- what is laid for an entry and then for others is laid for all of them
-pub laid-on : (version : ℕ) (e : Entry) (es : List Entry) (old mid new : List PieceRecord) → AreLaid version e old mid → AreAllLaid version es mid new → AreAllLaid version (e ∷ es) old new
-laid-on version e es old mid new first rest v c = by_version (v == version) (first v c) (rest v c)
+-- where nothing that covers the cell is kept, nothing is left there
+stored-none : (k : PieceRecord → Bool) (xs : List PieceRecord) (v : ℕ) (c : Cell) → ((y : PieceRecord) → covers_at y v c ≡ true → k y ≡ false) → stored_at (filter k xs) v c ≡ None
+stored-none k [] v c out = refl
+stored-none k (x ∷ xs) v c out = by_test (k x) refl (stored-none k xs v c out)
   where
-    over : (x : Option Told) (b : Bool) (t : Told) (o : Option Held)
-        → option_or (option_map held_of x) (option_or (then_some b (held_of t)) o) ≡ option_or (option_map held_of (option_or x (then_some b t))) o
-    over None true t o = refl
-    over None false t o = refl
-    over (Some x) b t o = refl
+    by_test : (b : Bool) → k x ≡ b → stored_at (filter k xs) v c ≡ None → stored_at (cond b (x ∷ filter k xs) (filter k xs)) v c ≡ None
+    by_test true kept rest = rw (false_if (covers_at x v c) (λ covered. bool_apart (sym kept ∙ out x covered)), rest) refl
+    by_test false gone rest = rest
 
-    by_version : (b : Bool) → stored_at mid v c ≡ cond b (option_or (then_some (covers e c) (held_of (told_of e))) (stored_at old v c)) (stored_at old v c)
-        → stored_at new v c ≡ cond b (option_or (option_map held_of (told es c)) (stored_at mid v c)) (stored_at mid v c)
-        → stored_at new v c ≡ cond b (option_or (option_map held_of (told (e ∷ es) c)) (stored_at old v c)) (stored_at old v c)
-    by_version true one more = more ∙ ap (option_or (option_map held_of (told es c))) one ∙ over (told es c) (covers e c) (told_of e) (stored_at old v c)
-    by_version false one more = more ∙ one
-
--- ---- what is kept
-
--- what two tests keep, one after the other, both of them keep
-filter_both : {A : Type 0} (P Q : A → Bool) (xs : List A) → filter Q (filter P xs) ≡ filter (λ x. P x && Q x) xs
-filter_both P Q [] = refl
-filter_both P Q (x ∷ xs) = by_test (P x) (filter_both P Q xs)
+-- where all that covers the cell is kept, all is left there
+stored-same : (k : PieceRecord → Bool) (xs : List PieceRecord) (v : ℕ) (c : Cell) → ((y : PieceRecord) → covers_at y v c ≡ true → k y ≡ true) → stored_at (filter k xs) v c ≡ stored_at xs v c
+stored-same k [] v c stay = refl
+stored-same k (x ∷ xs) v c stay = by_test (k x) refl (stored-same k xs v c stay)
   where
-    by_test : (b : Bool) → filter Q (filter P xs) ≡ filter (λ x. P x && Q x) xs → filter Q (cond b (x ∷ filter P xs) (filter P xs)) ≡ cond (b && Q x) (x ∷ filter (λ x. P x && Q x) xs) (filter (λ x. P x && Q x) xs)
-    by_test true rest = ap (λ ys. cond (Q x) (x ∷ ys) ys) rest
-    by_test false rest = rest
+    by_test : (b : Bool) → k x ≡ b → stored_at (filter k xs) v c ≡ stored_at xs v c → stored_at (cond b (x ∷ filter k xs) (filter k xs)) v c ≡ stored_at (x ∷ xs) v c
+    by_test true kept rest = ap (λ o. option_or (then_some (covers_at x v c) (held_by x)) o) rest
+    by_test false gone rest = rest ∙ rw (false_if (covers_at x v c) (λ covered. bool_apart (sym (stay x covered) ∙ gone))) refl
 
-filter_join : {A : Type 0} (Q : A → Bool) (xs : List A) (y : A) → Q y ≡ true → filter Q (xs ++ y ∷ []) ≡ filter Q xs ++ y ∷ []
-filter_join Q [] y e = rw e refl
-filter_join Q (x ∷ xs) y e = by_test (Q x) (filter_join Q xs y e)
+-- and what goes says nothing there
+last-none : (k : PieceRecord → Bool) (xs : List PieceRecord) (v : ℕ) (c : Cell) → ((y : PieceRecord) → covers_at y v c ≡ true → k y ≡ true) → list_all (λ y. not (k y)) xs ≡ true → stored_last xs v c ≡ None
+last-none k [] v c stay go = refl
+last-none k (x ∷ xs) v c stay go =
+    let h = both (not (k x)) (list_all (λ y. not (k y)) xs) go in
+    rw (last-none k xs v c stay h.1, false_if (covers_at x v c) (λ covered. bool_apart (sym (stay x covered) ∙ not_true (k x) h.0))) refl
+
+-- ---- at all cells
+
+-- the pieces that stand for those that go, with those of entries over them, beside those that are kept
+pub laid-drawn : (version table stamp : ℕ) (es : List Entry) (old drawn : List PieceRecord) → AreStamped table stamp es
+    → AreDrawn (pieces_of version es) (filter (λ y. not (is_out_all version table (entry_keys es) y)) old) drawn → AreAllLaid version es old (filter (is_out_all version table (entry_keys es)) old ++ drawn)
+laid-drawn version table stamp es old drawn stamped are v c =
+    stored-append (filter keep old) drawn v c
+    ∙ ap (λ o. option_or (stored_at (filter keep old) v c) o) (are.held v c)
+    ∙ by_place (out_at version table (entry_keys es) v c.table c.key) refl
+    ∙ ap (λ o. option_or o (stored_at old v c)) (stored-entries version v es c)
+    ∙ by_version (v == version)
   where
-    by_test : (b : Bool) → filter Q (xs ++ y ∷ []) ≡ filter Q xs ++ y ∷ [] → cond b (x ∷ filter Q (xs ++ y ∷ [])) (filter Q (xs ++ y ∷ [])) ≡ cond b (x ∷ filter Q xs) (filter Q xs) ++ y ∷ []
-    by_test true rest = ap (λ ys. x ∷ ys) rest
-    by_test false rest = rest
+    keep : PieceRecord → Bool
+    keep = is_out_all version table (entry_keys es)
 
-filter_true : {A : Type 0} (xs : List A) → filter (λ x. true) xs ≡ xs
-filter_true [] = refl
-filter_true (x ∷ xs) = ap (λ ys. x ∷ ys) (filter_true xs)
+    goes : PieceRecord → Bool
+    goes = goes_all version table (entry_keys es)
 
--- a piece of a key is none of other keys
-out_of_others : (version table : ℕ) (e : Entry) (keys : List (List Value)) → list_any (same_key e.key) keys ≡ false → is_out_all version table keys (piece_of version e) ≡ true
-out_of_others version table e [] other = refl
-out_of_others version table e (key ∷ keys) other =
-    let h = either_false (same_key e.key key) (list_any (same_key e.key) keys) other in
-    and_true (is_out version table key (piece_of version e)) (is_out_all version table keys (piece_of version e)) (out (version == version) (e.table == table) (same_key e.key key) h.0) (out_of_others version table e keys h.1)
-  where
-    out : (a b k : Bool) → k ≡ false → not (a && (b && k)) ≡ true
-    out true true k f = ap not f
-    out true false k f = refl
-    out false b k f = refl
+    nothing : Option Held
+    nothing = None
 
--- the pieces of all entries in the place of those of their keys, one entry after another
-pieces_step : (version table : ℕ) (e : Entry) (es : List Entry) (xs : List PieceRecord) → list_any (same_key e.key) (entry_keys es) ≡ false
-    → filter (is_out_all version table (entry_keys es)) (filter (is_out version table e.key) xs ++ piece_of version e ∷ []) ++ pieces_of version es
-    ≡ filter (is_out_all version table (entry_keys (e ∷ es))) xs ++ pieces_of version (e ∷ es)
-pieces_step version table e es xs other =
-    ap (λ ys. ys ++ pieces_of version es)
-    (filter_join (is_out_all version table (entry_keys es)) (filter (is_out version table e.key) xs) (piece_of version e) (out_of_others version table e (entry_keys es) other)
-    ∙ ap (λ ys. ys ++ piece_of version e ∷ []) (filter_both (is_out version table e.key) (is_out_all version table (entry_keys es)) xs))
-    ∙ append_assoc (filter (is_out_all version table (entry_keys (e ∷ es))) xs) (piece_of version e ∷ []) (pieces_of version es)
+    or_nothing : (o : Option Held) → option_or o nothing ≡ o
+    or_nothing None = refl
+    or_nothing (Some h) = refl
 
--- ---- all entries
+    by_place : (b : Bool) → out_at version table (entry_keys es) v c.table c.key ≡ b
+        → option_or (stored_at (filter keep old) v c) (option_or (stored_last (pieces_of version es) v c) (stored_at (filter goes old) v c))
+        ≡ option_or (stored_last (pieces_of version es) v c) (stored_at old v c)
+    by_place true away =
+        let stay : (y : PieceRecord) → covers_at y v c ≡ true → keep y ≡ true = λ y covered. out-there version table (entry_keys es) y v c covered ∙ away in
+        rw (stored-same keep old v c stay, stored-none goes old v c (λ y covered. ap not (stay y covered)), last-none keep (pieces_of version es) v c stay (entries-go version table stamp es stamped))
+        (or_nothing (stored_at old v c))
+    by_place false here =
+        let leave : (y : PieceRecord) → covers_at y v c ≡ true → keep y ≡ false = λ y covered. out-there version table (entry_keys es) y v c covered ∙ here in
+        rw (stored-none keep old v c leave, stored-same goes old v c (λ y covered. ap not (leave y covered))) refl
 
-laid_one : (version table stamp : ℕ) (e : Entry) (xs : List PieceRecord) → IsWhole table stamp e → list_all EndInTime xs ≡ true
-    → AreLaid version e xs (filter (is_out version table e.key) xs ++ piece_of version e ∷ [])
-laid_one version table stamp e xs w ended =
-    subst (λ k. AreLaid version e xs (filter (is_out version k e.key) xs ++ piece_of version e ∷ [])) w.table (laid-over e (piece_of version e) xs w.from w.till refl refl ended)
-
-pub laid-all : (version table stamp : ℕ) (es : List Entry) (xs : List PieceRecord) → AreWhole table stamp es → KeysDiffer (entry_keys es) → list_all EndInTime xs ≡ true
-    → AreAllLaid version es xs (filter (is_out_all version table (entry_keys es)) xs ++ pieces_of version es)
-laid-all version table stamp [] xs whole apart ended = λ v c.
-    ap (λ ys. stored_at ys v c) (append-nil (filter (λ x. true) xs) ∙ filter_true xs) ∙ sym (either (v == version) (stored_at xs v c))
-  where
-    either : (b : Bool) (o : Option Held) → cond b o o ≡ o
-    either true o = refl
-    either false o = refl
-laid-all version table stamp (e ∷ es) xs whole apart ended =
-    let differ_so = both (not (list_any (same_key e.key) (entry_keys es))) (differ same_key (entry_keys es)) apart in
-    let one : List PieceRecord = filter (is_out version table e.key) xs ++ piece_of version e ∷ [] in
-    let kept : list_all EndInTime one ≡ true = all_append EndInTime (filter (is_out version table e.key) xs) (piece_of version e ∷ []) (all_filter EndInTime (is_out version table e.key) xs ended) (ends whole.0) in
-    subst (λ ys. AreAllLaid version (e ∷ es) xs ys) (pieces_step version table e es xs (not_true (list_any (same_key e.key) (entry_keys es)) differ_so.0))
-    (laid-on version e es xs one (filter (is_out_all version table (entry_keys es)) one ++ pieces_of version es) (laid_one version table stamp e xs whole.0 ended)
-    (laid-all version table (stamp + 1) es one whole.1 differ_so.1 kept))
-  where
-    ends : IsWhole table stamp e → (nat_le e.till END && true) ≡ true
-    ends w = rw w.till refl
+    by_version : (b : Bool) → option_or (cond b (option_map held_of (told es c)) nothing) (stored_at old v c) ≡ cond b (option_or (option_map held_of (told es c)) (stored_at old v c)) (stored_at old v c)
+    by_version true = refl
+    by_version false = refl

@@ -45,7 +45,10 @@ pub mod Numbered
 pub mod WritingAll
 pub mod Appending
 pub mod KeepWritten
+pub mod Entered
+pub mod Places
 pub mod LayingAll
+pub mod DrawnWell
 pub mod EntryRecords
 pub mod PlannedWritten
 pub mod WrittenIds

@@ -1,7 +1,7 @@
 -- The records stand for the state after the batch of a line that writes entries in a version more.
 use Rattle.std.proofs.Common.{◌≡◌, ℕ, ◌+◌, ◌^◌, ◌≤◌, ◌<◌, ◌==◌, nat_lt, nat_le, Bool, true, false, not, ◌&&◌, cond, if◌then◌else◌, List, [], ◌∷◌, ◌++◌, map, Option, Some, is_some, refl, sym, ap, subst, ◌∙◌, length, arith}
 use Rattle.std.proofs.lemmas.Bool.{eq-eqb}
-use Rattle.std.specs.List.{list_all}
+use Rattle.std.specs.List.{list_all, filter}
 use Rattle.wm_base.specs.declared.value.Value.{Value}
 use Rattle.wm_graph.specs.Parts.{Parts, parts_of, table_of, version_of, row_of}
 use Rattle.wm_graph.specs.Rules.{keep_rules, are_counters, is_piece, collide, differ}
@@ -19,7 +19,8 @@ use Rattle.wm_spec.specs.declared.record.version.Version.{Version}
 use Rattle.wm_state.specs.ById.{Ascend, set_at, applied}
 use Rattle.wm_state.specs.Batches.{keeps, is_out, AreDropped, AllUnder, fork_batch}
 use Rattle.wm_state.specs.Effects.{IsLeaf, IsFree}
-use Rattle.wm_state.specs.Entries.{AreWhole, entry_keys, KeysDiffer, is_well, pieces_of, rows_in, is_out_all}
+use Rattle.wm_state.specs.Drawing.{AreDrawn}
+use Rattle.wm_state.specs.Entries.{AreStamped, entry_keys, is_well, pieces_of, rows_in, is_out_all}
 use Rattle.wm_state.specs.State.{State, with_space, with_entries}
 use Rattle.wm_state.specs.Standing.{newest_first, latest, CountersStand, Stands}
 use Rattle.wm_state.specs.Writes.{longer_by, put_all, write_batch, write_new_batch}
@@ -31,7 +32,7 @@ use Rattle.wm_state.proofs.Forks.{parts-forked, drops_none}
 use Rattle.wm_state.proofs.Growing.{MayFork, forked, forked_of, keep-forked, found-below, below-next, same_counters}
 use Rattle.wm_state.proofs.Leaves.{leaf_new, free_new}
 use Rattle.wm_state.proofs.Planned.{found_still, AllUnder-set, AllUnder-next}
-use Rattle.wm_state.proofs.PlannedWritten.{MayWriteAll, stay, keep_planned, plan_written}
+use Rattle.wm_state.proofs.PlannedWritten.{MayWriteAll, AreDrawnIn, stay, entries_batch, keep_planned, plan_written}
 use Rattle.wm_state.proofs.Tests.{both, and_true, all_if}
 
 -- ---- the version first, and then the entries
@@ -70,15 +71,15 @@ put_twice ss counters_id id mid new v sorted =
     by_id false true o = refl
     by_id false false o = refl
 
-pub one_and_more : (ss : List Stored) (counters_id space_id id : ℕ) (mid new : Counters) (a : Space) (v : Version) (rows : List RowRecord) (pieces : List PieceRecord) → Ascend ss
-    → applied (write_new_batch counters_id new space_id a id v rows pieces) ss ≡ applied (write_batch counters_id new space_id a [] (id + 1) rows pieces) (applied (fork_batch counters_id mid id v) ss)
-one_and_more ss counters_id space_id id mid new a v rows pieces sorted = after (put_twice ss counters_id id mid new v sorted)
+pub one_and_more : (ss : List Stored) (counters_id space_id id : ℕ) (mid new : Counters) (a : Space) (count : ℕ) (v : Version) (rows : List RowRecord) (pieces : List PieceRecord) → Ascend ss
+    → applied (write_new_batch counters_id new space_id a count id v rows pieces) ss ≡ applied (write_batch counters_id new space_id a count [] (id + 1) rows pieces) (applied (fork_batch counters_id mid id v) ss)
+one_and_more ss counters_id space_id id mid new a count v rows pieces sorted = after (put_twice ss counters_id id mid new v sorted)
   where
     after : set_at counters_id (Some (records.Counters new)) (set_at id (Some (records.Version v)) ss)
         ≡ set_at counters_id (Some (records.Counters new)) (set_at id (Some (records.Version v)) (set_at counters_id (Some (records.Counters mid)) ss))
-        → applied (write_new_batch counters_id new space_id a id v rows pieces) ss ≡ applied (write_batch counters_id new space_id a [] (id + 1) rows pieces) (applied (fork_batch counters_id mid id v) ss)
+        → applied (write_new_batch counters_id new space_id a count id v rows pieces) ss ≡ applied (write_batch counters_id new space_id a count [] (id + 1) rows pieces) (applied (fork_batch counters_id mid id v) ss)
     after same =
-        ap (λ rs. applied (put_all (id + 1) (map records.Row rows) ++ put_all (id + 1 + length rows) (map records.Piece pieces)) (set_at space_id (Some (records.Space (longer_by (length pieces) a))) rs)) same
+        ap (λ rs. applied (put_all (id + 1) (map records.Row rows) ++ put_all (id + 1 + length rows) (map records.Piece pieces)) (set_at space_id (Some (records.Space (longer_by count a))) rs)) same
 
 -- ---- nothing goes
 
@@ -114,9 +115,8 @@ pub record MayWriteMore (p : Parts) (old mid new : Counters) (n : ℕ) (a : Spac
   pub versions : new.next_version ≡ mid.next_version
   pub work : mid.work ≤ new.work
   pub room : nat_le (a.log_length + length es) (2 ^ 62) ≡ true
-  pub whole : AreWhole table mid.next_stamp es
+  pub stamped : AreStamped table mid.next_stamp es
   pub well : list_all (is_well (table_of p.tables)) es ≡ true
-  pub keys : KeysDiffer (entry_keys es)
 
 -- the new version is the newest of the workspace
 newest_is : (p : Parts) (old mid : Counters) (n : ℕ) (a : Space) (v : Version) → MayFork p old mid a n v → keep_rules p ≡ true → latest (forked p mid v) n ≡ v.number
@@ -134,9 +134,8 @@ may_after p old mid new n a v table es rules may = record {
   room = may.room;
   leaf = subst (λ k. IsLeaf k (newest_first q.versions)) (sym newest) (leaf_new p old mid a n v may.fork rules);
   free = subst (λ k. IsFree q k) (sym newest) (free_new p old mid a n v may.fork rules);
-  whole = may.whole;
+  stamped = may.stamped;
   well = may.well;
-  keys = may.keys;
 }
   where
     q : Parts
@@ -144,6 +143,20 @@ may_after p old mid new n a v table es rules may = record {
 
     newest : latest q n ≡ v.number
     newest = newest_is p old mid n a v may.fork rules
+
+-- the version has no piece yet that others could stand for
+none_goes : (k : PieceRecord → Bool) (xs : List PieceRecord) → list_all k xs ≡ true → filter (λ y. not (k y)) xs ≡ []
+none_goes k [] e = refl
+none_goes k (x ∷ xs) e = let h = both (k x) (list_all k xs) e in rw (h.0, none_goes k xs h.1) refl
+
+drawn_after : (p : Parts) (old mid : Counters) (n : ℕ) (a : Space) (v : Version) (table : ℕ) (es : List Entry) (drawn : List PieceRecord) → keep_rules p ≡ true → MayFork p old mid a n v
+    → AreDrawn (pieces_of v.number es) [] drawn → AreDrawnIn (forked p mid v) n table es drawn
+drawn_after p old mid n a v table es drawn rules may are =
+    subst (λ k. AreDrawn (pieces_of k es) (filter (λ y. not (is_out_all k table (entry_keys es) y)) p.pieces) drawn) (sym (newest_is p old mid n a v may rules))
+    (subst (λ xs. AreDrawn (pieces_of v.number es) xs drawn)
+    (sym (none_goes (is_out_all v.number table (entry_keys es)) p.pieces
+    (ap (λ k. list_all (is_out_all k table (entry_keys es)) p.pieces) may.number ∙ all_stay p old table (entry_keys es) rules may.one)))
+    are)
 
 -- ---- the records between
 
@@ -161,7 +174,6 @@ record Between (ss : List Stored) (counters_id space_id id : ℕ) (mid : Counter
   pub counters : record_at (applied (fork_batch counters_id mid id v) ss) counters_id ≡ Some (records.Counters mid)
   pub space : record_at (applied (fork_batch counters_id mid id v) ss) space_id ≡ Some (records.Space a)
   pub under : AllUnder (id + 1) (applied (fork_batch counters_id mid id v) ss)
-  pub latest_is : latest (parts_of (applied (fork_batch counters_id mid id v) ss)) n ≡ v.number
   pub none : AreDropped (keeps (stay (parts_of (applied (fork_batch counters_id mid id v) ss)) n table es)) [] (applied (fork_batch counters_id mid id v) ss)
 
 between : (ss : List Stored) (counters_id space_id id : ℕ) (old mid : Counters) (n : ℕ) (a : Space) (v : Version) (table : ℕ) (es : List Entry) → keep_rules (parts_of ss) ≡ true
@@ -177,7 +189,6 @@ between ss counters_id space_id id old mid n a v table es rules stage may = reco
       record_at-set id (Some (records.Version v)) first first_sorted space_id
       ∙ rw (lt_apart space_id id (under_found id ss space_id (records.Space a) stage.under stage.space)) (found_still ss counters_id space_id old mid (records.Space a) stage.sorted stage.counters stage.space (λ c e. cc));
   under = subst (λ rs. AllUnder (id + 1) rs) (sym (set-behind first id (records.Version v) under_first)) (AllUnder-next id first (records.Version v) under_first);
-  latest_is = newest;
   none = drops_none after (stay (parts_of after) n table es)
       (ap (λ (q : Parts). list_all (stay (parts_of after) n table es) q.pieces) parts
       ∙ ap (λ k. list_all (is_out_all k table (entry_keys es)) (parts_of ss).pieces) (newest ∙ may.number)
@@ -207,42 +218,42 @@ between ss counters_id space_id id old mid n a v table es rules stage may = reco
 
 -- ---- the laws
 
--- the batch that writes entries in a version more
-abbrev pub more_batch : ℕ → Counters → ℕ → Space → ℕ → Version → List Entry → List Change
-more_batch counters_id new space_id a id v es = write_new_batch counters_id new space_id a id v (rows_in es) (pieces_of v.number es)
+-- the batch that writes entries in a version more, with pieces drawn over nothing
+abbrev pub more_batch : ℕ → Counters → ℕ → Space → ℕ → Version → List Entry → List PieceRecord → List Change
+more_batch counters_id new space_id a id v es drawn = write_new_batch counters_id new space_id a (length es) id v (rows_in es) drawn
 
 -- it is the one that writes them in the newest version, after the one that makes the version
-in_newest : (ss : List Stored) (counters_id space_id id : ℕ) (old mid new : Counters) (n : ℕ) (a : Space) (v : Version) (table : ℕ) (es : List Entry) → Stage ss counters_id space_id id old a
-    → Between ss counters_id space_id id mid n a v table es
-    → applied (write_batch counters_id new space_id a [] (id + 1) (rows_in es) (pieces_of (latest (parts_of (applied (fork_batch counters_id mid id v) ss)) n) es)) (applied (fork_batch counters_id mid id v) ss)
-    ≡ applied (more_batch counters_id new space_id a id v es) ss
-in_newest ss counters_id space_id id old mid new n a v table es stage b =
-    ap (λ k. applied (write_batch counters_id new space_id a [] (id + 1) (rows_in es) (pieces_of k es)) (applied (fork_batch counters_id mid id v) ss)) b.latest_is
-    ∙ sym (one_and_more ss counters_id space_id id mid new a v (rows_in es) (pieces_of v.number es) stage.sorted)
+in_newest : (ss : List Stored) (counters_id space_id id : ℕ) (old mid new : Counters) (a : Space) (v : Version) (es : List Entry) (drawn : List PieceRecord) → Stage ss counters_id space_id id old a
+    → applied (entries_batch counters_id new space_id a [] (id + 1) es drawn) (applied (fork_batch counters_id mid id v) ss) ≡ applied (more_batch counters_id new space_id a id v es drawn) ss
+in_newest ss counters_id space_id id old mid new a v es drawn stage = sym (one_and_more ss counters_id space_id id mid new a (length es) v (rows_in es) drawn stage.sorted)
 
 -- the rules hold after it
-pub keep_planned_new : (ss : List Stored) (counters_id space_id id : ℕ) (old mid new : Counters) (n : ℕ) (a : Space) (v : Version) (table : ℕ) (es : List Entry) → keep_rules (parts_of ss) ≡ true
-    → Stage ss counters_id space_id id old a → MayWriteMore (parts_of ss) old mid new n a v table es → keep_rules (parts_of (applied (more_batch counters_id new space_id a id v es) ss)) ≡ true
-keep_planned_new ss counters_id space_id id old mid new n a v table es rules stage may =
+pub keep_planned_new : (ss : List Stored) (counters_id space_id id : ℕ) (old mid new : Counters) (n : ℕ) (a : Space) (v : Version) (table : ℕ) (es : List Entry) (drawn : List PieceRecord)
+    → keep_rules (parts_of ss) ≡ true → Stage ss counters_id space_id id old a → MayWriteMore (parts_of ss) old mid new n a v table es → AreDrawn (pieces_of v.number es) [] drawn
+    → keep_rules (parts_of (applied (more_batch counters_id new space_id a id v es drawn) ss)) ≡ true
+keep_planned_new ss counters_id space_id id old mid new n a v table es drawn rules stage may are =
     let b = between ss counters_id space_id id old mid n a v table es rules stage may.fork in
-    subst (λ rs. keep_rules (parts_of rs) ≡ true) (in_newest ss counters_id space_id id old mid new n a v table es stage b)
-    (keep_planned (applied (fork_batch counters_id mid id v) ss) counters_id space_id mid new a [] (id + 1) n table es
+    subst (λ rs. keep_rules (parts_of rs) ≡ true) (in_newest ss counters_id space_id id old mid new a v es drawn stage)
+    (keep_planned (applied (fork_batch counters_id mid id v) ss) counters_id space_id mid new a [] (id + 1) n table es drawn
     (subst (λ p. keep_rules p ≡ true) (sym b.parts) (keep-forked (parts_of ss) old mid a n v may.fork rules)) b.sorted b.counters b.space b.none b.under
-    (subst (λ p. MayWriteAll p mid new n a table es) (sym b.parts) (may_after (parts_of ss) old mid new n a v table es rules may)))
+    (subst (λ p. MayWriteAll p mid new n a table es) (sym b.parts) (may_after (parts_of ss) old mid new n a v table es rules may))
+    (subst (λ p. AreDrawnIn p n table es drawn) (sym b.parts) (drawn_after (parts_of ss) old mid n a v table es drawn rules may.fork are)))
 
 -- the records stand for the state that has the entries
-pub plan_written_new : (ss : List Stored) (counters_id space_id id : ℕ) (old mid new : Counters) (n : ℕ) (a : Space) (v : Version) (table : ℕ) (es : List Entry) (s u : State) → Stands (parts_of ss) s
-    → Stage ss counters_id space_id id old a → MayWriteMore (parts_of ss) old mid new n a v table es → u.spaces ≡ with_space n (with_entries es) s.spaces → u.tables ≡ s.tables
-    → ((q : Parts) → q.counters ≡ new ∷ [] → CountersStand q u) → Stands (parts_of (applied (more_batch counters_id new space_id a id v es) ss)) u
-plan_written_new ss counters_id space_id id old mid new n a v table es s u st stage may spaces tables counted_so =
+pub plan_written_new : (ss : List Stored) (counters_id space_id id : ℕ) (old mid new : Counters) (n : ℕ) (a : Space) (v : Version) (table : ℕ) (es : List Entry) (drawn : List PieceRecord) (s u : State)
+    → Stands (parts_of ss) s → Stage ss counters_id space_id id old a → MayWriteMore (parts_of ss) old mid new n a v table es → AreDrawn (pieces_of v.number es) [] drawn
+    → u.spaces ≡ with_space n (with_entries es) s.spaces → u.tables ≡ s.tables → ((q : Parts) → q.counters ≡ new ∷ [] → CountersStand q u)
+    → Stands (parts_of (applied (more_batch counters_id new space_id a id v es drawn) ss)) u
+plan_written_new ss counters_id space_id id old mid new n a v table es drawn s u st stage may are spaces tables counted_so =
     let b = between ss counters_id space_id id old mid n a v table es st.rules stage may.fork in
-    subst (λ rs. Stands (parts_of rs) u) (in_newest ss counters_id space_id id old mid new n a v table es stage b)
-    (plan_written (applied (fork_batch counters_id mid id v) ss) counters_id space_id mid new a [] (id + 1) n table es t u
+    subst (λ rs. Stands (parts_of rs) u) (in_newest ss counters_id space_id id old mid new a v es drawn stage)
+    (plan_written (applied (fork_batch counters_id mid id v) ss) counters_id space_id mid new a [] (id + 1) n table es drawn t u
     (subst (λ p. Stands p t) (sym b.parts)
     (Stands-forked (parts_of ss) (forked (parts_of ss) mid v) s t n v.number (forked_of (parts_of ss) old mid a n v may.fork st.rules) st refl refl
     (record { counters = mid; one = refl; next_stamp = refl; last_moment = refl; limit = refl; work = refl }) (keep-forked (parts_of ss) old mid a n v may.fork st.rules)))
     b.sorted b.counters b.space b.none b.under
-    (subst (λ p. MayWriteAll p mid new n a table es) (sym b.parts) (may_after (parts_of ss) old mid new n a v table es st.rules may)) spaces tables counted_so)
+    (subst (λ p. MayWriteAll p mid new n a table es) (sym b.parts) (may_after (parts_of ss) old mid new n a v table es st.rules may))
+    (subst (λ p. AreDrawnIn p n table es drawn) (sym b.parts) (drawn_after (parts_of ss) old mid n a v table es drawn st.rules may.fork are)) spaces tables counted_so)
   where
     -- the state between, which nobody sees
     t : State

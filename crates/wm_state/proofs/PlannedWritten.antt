@@ -1,11 +1,11 @@
 -- The records stand for the state after the batch of a line that writes entries.
-use Rattle.std.proofs.Common.{◌≡◌, ℕ, suc, ◌+◌, ◌^◌, ◌≤◌, ◌==◌, nat_le, Bool, true, false, List, [], ◌∷◌, ◌++◌, map, append_assoc, append-nil, Option, Some, None, is_some, refl, sym, ap, subst, ◌∙◌, length, length-append, arith}
+use Rattle.std.proofs.Common.{◌≡◌, ℕ, suc, ◌+◌, ◌^◌, ◌≤◌, ◌==◌, nat_le, Bool, true, false, not, List, [], ◌∷◌, ◌++◌, map, append_assoc, append-nil, Option, Some, None, is_some, refl, sym, ap, subst, ◌∙◌, length, length-append, arith}
 use Rattle.std.proofs.lemmas.List.{length-map}
 use Rattle.std.specs.List.{list_all, filter}
 use Rattle.std.specs.Option.{option_map}
 use Rattle.wm_base.specs.declared.row.Row.{Row}
 use Rattle.wm_graph.specs.Parts.{Parts, parts_of, as_space, table_of, space_of, version_of, row_of}
-use Rattle.wm_graph.specs.Rules.{keep_rules, are_counters, are_spaces, are_rows}
+use Rattle.wm_graph.specs.Rules.{keep_rules, are_counters, are_spaces, are_rows, are_pieces, is_piece, collide, differ}
 use Rattle.wm_spec.specs.Lists.{Entry, Told}
 use Rattle.wm_spec.specs.Records.{record_at}
 use Rattle.wm_spec.specs.declared.record.Record.{Record}
@@ -19,7 +19,8 @@ use Rattle.wm_spec.specs.declared.record.space.Space.{Space}
 use Rattle.wm_state.specs.ById.{Ascend, set_at, applied}
 use Rattle.wm_state.specs.Batches.{keeps, AreDropped, AllUnder, drop_one}
 use Rattle.wm_state.specs.Effects.{IsLeaf, IsFree}
-use Rattle.wm_state.specs.Entries.{AreWhole, entry_keys, KeysDiffer, is_well, pieces_of, piece_of, rows_in, is_out_all}
+use Rattle.wm_state.specs.Drawing.{AreDrawn}
+use Rattle.wm_state.specs.Entries.{AreStamped, entry_keys, is_well, pieces_of, rows_in, is_out_all}
 use Rattle.wm_state.specs.State.{State, with_space, with_entries}
 use Rattle.wm_state.specs.Standing.{newest_first, latest, CountersStand, Stands}
 use Rattle.wm_state.specs.Writes.{longer_by, WroteAll, put_all, write_batch}
@@ -28,14 +29,16 @@ use Rattle.wm_state.proofs.Apart.{Ruled, ruled, apart_of, newest_record}
 use Rattle.wm_state.proofs.ById.{Ascend-set}
 use Rattle.wm_state.proofs.ByKind.{kinds, stored, Split, split_of, set-split, set-behind}
 use Rattle.wm_state.proofs.Dropping.{dropped}
-use Rattle.wm_state.proofs.EntryRecords.{rows_from, rows_differ, rows_well, told_row, pieces_well, pieces_differ, kept_apart}
-use Rattle.wm_state.proofs.Inserted.{end_in_time}
-use Rattle.wm_state.proofs.KeepWritten.{all_written, MayPut, keep-written, rows_found}
-use Rattle.wm_state.proofs.LayingAll.{laid-all}
+use Rattle.wm_state.proofs.DrawnWell.{piece-parts, drawn-apart}
+use Rattle.wm_state.proofs.EntryRecords.{rows_from, rows_differ, rows_well, told_row, pieces_well}
+use Rattle.wm_state.proofs.Keeping.{KeepTables-same, KeepVersions-same, is_piece-kept}
+use Rattle.wm_state.proofs.KeepWritten.{all_written, MayPut, keep-written, rows_found, KeepRows-append}
+use Rattle.wm_state.proofs.LayingAll.{laid-drawn}
 use Rattle.wm_state.proofs.Named.{space_number}
 use Rattle.wm_state.proofs.Planned.{counted, found_still, AllUnder-filter, AllUnder-next, AllUnder-set, applied-append, dropped-still}
 use Rattle.wm_state.proofs.Planning.{recounted, parts-spaced, spaces-split, parts-more_row, parts-more_piece, parts-filtered}
 use Rattle.wm_state.proofs.Respaced.{space_here, space_elsewhere}
+use Rattle.wm_state.proofs.Tests.{both, all_if, all_filter}
 use Rattle.wm_state.proofs.WritingAll.{Stands-wrote_all}
 
 -- ---- new records behind the others
@@ -74,20 +77,21 @@ parts-put_pieces id (x ∷ pieces) ss under =
 
 -- ---- what the batch makes of the records
 
-pub record Put (ss : List Stored) (cs : List Change) (new : Counters) (a : Space) (keep : PieceRecord → Bool) (rows : List RowRecord) (pieces : List PieceRecord) : Type 0 where
+pub record Put (ss : List Stored) (cs : List Change) (new : Counters) (a : Space) (count : ℕ) (keep : PieceRecord → Bool) (rows : List RowRecord) (pieces : List PieceRecord) : Type 0 where
   pub front : List Space
   pub back : List Space
   pub old : (parts_of ss).spaces ≡ front ++ a ∷ back
-  pub is : parts_of (applied cs ss) ≡ all_written (parts_of ss) new front a back (length pieces) keep rows pieces
+  pub is : parts_of (applied cs ss) ≡ all_written (parts_of ss) new front a back count keep rows pieces
 
-pub parts-written : (ss : List Stored) (counters_id space_id : ℕ) (old new : Counters) (a : Space) (test : PieceRecord → Bool) (ids : List ℕ) (id : ℕ) (rows : List RowRecord) (pieces : List PieceRecord) → Ascend ss
+pub parts-written : (ss : List Stored) (counters_id space_id : ℕ) (old new : Counters) (a : Space) (count : ℕ) (test : PieceRecord → Bool) (ids : List ℕ) (id : ℕ) (rows : List RowRecord) (pieces : List PieceRecord)
+    → Ascend ss
     → record_at ss counters_id ≡ Some (records.Counters old) → (parts_of ss).counters ≡ old ∷ [] → record_at ss space_id ≡ Some (records.Space a) → AreDropped (keeps test) ids ss → AllUnder id ss
-    → Put ss (write_batch counters_id new space_id a ids id rows pieces) new a test rows pieces
-parts-written ss counters_id space_id old new a test ids id rows pieces sorted counters one space are under =
+    → Put ss (write_batch counters_id new space_id a count ids id rows pieces) new a count test rows pieces
+parts-written ss counters_id space_id old new a count test ids id rows pieces sorted counters one space are under =
     by_split (split_of first space_id (records.Space a) space_still)
   where
     b : Space
-    b = longer_by (length pieces) a
+    b = longer_by count a
 
     first : List Stored
     first = set_at counters_id (Some (records.Counters new)) ss
@@ -124,7 +128,7 @@ parts-written ss counters_id space_id old new a test ids id rows pieces sorted c
     under_fourth : AllUnder (id + length rows) fourth
     under_fourth = subst (λ n. AllUnder (id + n) fourth) (length-map rows records.Row) (under_put id (map records.Row rows) third under_third)
 
-    all : applied (write_batch counters_id new space_id a ids id rows pieces) ss ≡ applied (put_all (id + length rows) (map records.Piece pieces)) fourth
+    all : applied (write_batch counters_id new space_id a count ids id rows pieces) ss ≡ applied (put_all (id + length rows) (map records.Piece pieces)) fourth
     all =
         applied-append (map drop_one ids) (put_all id (map records.Row rows) ++ put_all (id + length rows) (map records.Piece pieces)) second
         ∙ ap (applied (put_all id (map records.Row rows) ++ put_all (id + length rows) (map records.Piece pieces))) dropped_second
@@ -133,7 +137,7 @@ parts-written ss counters_id space_id old new a test ids id rows pieces sorted c
     parts_first : parts_of first ≡ recounted (parts_of ss) new
     parts_first = counted ss counters_id old new sorted counters one
 
-    by_split : Split first space_id (records.Space a) → Put ss (write_batch counters_id new space_id a ids id rows pieces) new a test rows pieces
+    by_split : Split first space_id (records.Space a) → Put ss (write_batch counters_id new space_id a count ids id rows pieces) new a count test rows pieces
     by_split s =
         let spaces : (parts_of first).spaces ≡ kinds as_space s.front ++ a ∷ kinds as_space s.back = ap (λ xs. (parts_of xs).spaces) s.is ∙ spaces-split s.front s.back space_id a in
         let parts_second : parts_of second ≡ record (recounted (parts_of ss) new) { spaces = kinds as_space s.front ++ b ∷ kinds as_space s.back } =
@@ -166,47 +170,97 @@ pub record MayWriteAll (p : Parts) (old new : Counters) (n : ℕ) (a : Space) (t
   pub room : nat_le (a.log_length + length es) (2 ^ 62) ≡ true
   pub leaf : IsLeaf (latest p n) (newest_first p.versions)
   pub free : IsFree p (latest p n)
-  pub whole : AreWhole table old.next_stamp es
+  pub stamped : AreStamped table old.next_stamp es
   pub well : list_all (is_well (table_of p.tables)) es ≡ true
-  pub keys : KeysDiffer (entry_keys es)
 
 -- the test of the pieces that stay
 abbrev pub stay : Parts → ℕ → ℕ → List Entry → PieceRecord → Bool
 stay p n table es = is_out_all (latest p n) table (entry_keys es)
 
+-- pieces that stand for those of the keys of these entries, with the entries over them
+abbrev pub AreDrawnIn : Parts → ℕ → ℕ → List Entry → List PieceRecord → Type 0
+AreDrawnIn p n table es drawn = AreDrawn (pieces_of (latest p n) es) (filter (λ y. not (stay p n table es y)) p.pieces) drawn
+
 le_self : (n : ℕ) → nat_le n n ≡ true
 le_self n = grind arith
 
--- there are as many pieces
-as_many : (version : ℕ) (es : List Entry) → length (pieces_of version es) ≡ length es
-as_many version es = length-map es (piece_of version)
+-- the records after it
+abbrev drawn_written : Parts → Counters → ℕ → List Space → Space → List Space → ℕ → List Entry → List PieceRecord → Parts
+drawn_written p new n front a back table es drawn = all_written p new front a back (length es) (stay p n table es) (rows_in es) drawn
 
-may_put : (p : Parts) (old new : Counters) (n : ℕ) (a : Space) (table : ℕ) (es : List Entry) → keep_rules p ≡ true → MayWriteAll p old new n a table es → (front back : List Space) → p.spaces ≡ front ++ a ∷ back
-    → MayPut p old new front a back (length (pieces_of (latest p n) es)) (stay p n table es) (rows_in es) (pieces_of (latest p n) es)
-may_put p old new n a table es rules may front back spaces = record {
+-- what is known of the counters and the rows before
+record Before (p : Parts) (old : Counters) : Type 0 where
+  rows : are_rows p old.next_stamp ≡ true
+  pieces : list_all (is_piece (table_of p.tables) (version_of p.versions) (row_of p.rows) old.next_stamp) p.pieces ≡ true
+
+before : (p : Parts) (old : Counters) → keep_rules p ≡ true → p.counters ≡ old ∷ [] → Before p old
+before p old rules one = record {
+  rows = ap (λ (c : Counters). are_rows p c.next_stamp) same_counters ∙ rule.rows;
+  pieces = (both (differ collide p.pieces) (list_all (is_piece (table_of p.tables) (version_of p.versions) (row_of p.rows) old.next_stamp) p.pieces) (ap (λ (c : Counters). are_pieces p c.next_stamp) same_counters ∙ rule.pieces)).1;
+}
+  where
+    rule : Ruled p
+    rule = ruled p rules
+
+    same_counters : old ≡ rule.counters
+    same_counters = first_same old rule.counters (sym one ∙ rule.one)
+      where
+        first_same : (c d : Counters) → (c ∷ []) ≡ (d ∷ []) → c ≡ d
+        first_same c d h = cc
+
+may_put : (p : Parts) (old new : Counters) (n : ℕ) (a : Space) (table : ℕ) (es : List Entry) (drawn : List PieceRecord) → keep_rules p ≡ true → MayWriteAll p old new n a table es → AreDrawnIn p n table es drawn
+    → (front back : List Space) → p.spaces ≡ front ++ a ∷ back → MayPut p old new front a back (length es) (stay p n table es) (rows_in es) drawn
+may_put p old new n a table es drawn rules may are front back spaces = record {
   one = may.one;
   counters = may.counters;
-  stamps = may.stamps ∙ ap (λ k. old.next_stamp + k) (sym (as_many (latest p n) es));
+  stamps = may.stamps;
   versions = may.versions;
   work = may.work;
   spaces = spaces;
-  room = ap (λ k. nat_le (a.log_length + k) (2 ^ 62)) (as_many (latest p n) es) ∙ may.room;
-  rows_well = rows_well (table_of p.tables) table old.next_stamp new.next_stamp es may.whole in_time may.well;
-  rows_new = rows_from table old.next_stamp old.next_stamp es may.whole (le_self old.next_stamp);
-  rows_differ = rows_differ table old.next_stamp es may.whole;
-  pieces_well = pieces_well (table_of p.tables) (version_of p.versions) (row_of (rows_in es)) table old.next_stamp new.next_stamp (latest p n) es may.whole in_time may.well
-      (ap is_some (newest_record p rules n a may.space).1) (λ k r found. found);
-  pieces_differ = pieces_differ (latest p n) es may.keys;
-  apart = kept_apart (latest p n) table old.next_stamp es may.whole;
+  room = may.room;
+  rows_well = rows_well (table_of p.tables) table old.next_stamp new.next_stamp es may.stamped in_time may.well;
+  rows_new = rows_new;
+  rows_differ = rows_differ table old.next_stamp es may.stamped;
+  pieces_well = are.pass well (piece-parts (table_of p.tables) (version_of p.versions) (row_of (p.rows ++ rows_in es)) new.next_stamp) old_well new_well;
+  pieces_differ = are.differ;
+  apart = drawn-apart (latest p n) table old.next_stamp es p.pieces drawn may.stamped are;
 }
   where
+    was : Before p old
+    was = before p old rules may.one
+
+    well : PieceRecord → Bool
+    well = is_piece (table_of p.tables) (version_of p.versions) (row_of (p.rows ++ rows_in es)) new.next_stamp
+
+    -- the records with the new rows
+    q : Parts
+    q = record p { rows = p.rows ++ rows_in es }
+
     in_time : nat_le (old.next_stamp + length es) new.next_stamp ≡ true
     in_time = ap (nat_le (old.next_stamp + length es)) may.stamps ∙ le_self (old.next_stamp + length es)
 
+    later : nat_le old.next_stamp new.next_stamp ≡ true
+    later = ap (nat_le old.next_stamp) may.stamps ∙ le_more old.next_stamp (length es)
+      where
+        le_more : (m k : ℕ) → nat_le m (m + k) ≡ true
+        le_more m k = grind arith
+
+    rows_new : list_all (λ (r : RowRecord). nat_le old.next_stamp r.stamp) (rows_in es) ≡ true
+    rows_new = rows_from table old.next_stamp old.next_stamp es may.stamped (le_self old.next_stamp)
+
+    old_well : list_all well (filter (λ y. not (stay p n table es y)) p.pieces) ≡ true
+    old_well = all_filter well (λ y. not (stay p n table es y)) p.pieces
+        (all_if (is_piece (table_of p.tables) (version_of p.versions) (row_of p.rows) old.next_stamp) well
+        (is_piece-kept p q old.next_stamp new.next_stamp later (KeepTables-same p q refl) (KeepVersions-same p q refl) (KeepRows-append p q (rows_in es) refl)) p.pieces was.pieces)
+
+    new_well : list_all well (pieces_of (latest p n) es) ≡ true
+    new_well = pieces_well (table_of p.tables) (version_of p.versions) (row_of (p.rows ++ rows_in es)) table old.next_stamp new.next_stamp (latest p n) es may.stamped in_time may.well
+        (ap is_some (newest_record p rules n a may.space).1) (rows_found p old.next_stamp (rows_in es) was.rows rows_new)
+
 -- the entries are written
-wrote-all : (p : Parts) (old new : Counters) (n : ℕ) (a : Space) (table : ℕ) (es : List Entry) → keep_rules p ≡ true → MayWriteAll p old new n a table es → (front back : List Space) → p.spaces ≡ front ++ a ∷ back
-    → WroteAll p (all_written p new front a back (length (pieces_of (latest p n) es)) (stay p n table es) (rows_in es) (pieces_of (latest p n) es)) n es
-wrote-all p old new n a table es rules may front back spaces = record {
+wrote-all : (p : Parts) (old new : Counters) (n : ℕ) (a : Space) (table : ℕ) (es : List Entry) (drawn : List PieceRecord) → keep_rules p ≡ true → MayWriteAll p old new n a table es → AreDrawnIn p n table es drawn
+    → (front back : List Space) → p.spaces ≡ front ++ a ∷ back → WroteAll p (drawn_written p new n front a back table es drawn) n es
+wrote-all p old new n a table es drawn rules may are front back spaces = record {
   leaf = may.leaf;
   free = may.free;
   apart = apart_of p rules n a may.space;
@@ -214,27 +268,21 @@ wrote-all p old new n a table es rules may front back spaces = record {
   versions = refl;
   savepoints = refl;
   count = length-append front (b ∷ back) ∙ sym (length-append front (a ∷ back)) ∙ sym (ap length spaces);
-  here = space_here front back b n after number ∙ ap (λ k. Some (longer_by k a)) (as_many (latest p n) es) ∙ sym (ap (option_map (longer_by (length es))) may.space);
+  here = space_here front back b n after number ∙ sym (ap (option_map (longer_by (length es))) may.space);
   elsewhere = λ m other. space_elsewhere front back a b m (λ same. apart m other (sym same ∙ number)) (λ same. apart m other (sym same ∙ number)) ∙ ap (λ ss. space_of ss m) (sym spaces);
-  pieces = laid-all (latest p n) table old.next_stamp es p.pieces may.whole may.keys (end_in_time p rule.counters.next_stamp rule.pieces);
+  pieces = laid-drawn (latest p n) table old.next_stamp es p.pieces drawn may.stamped are;
   rows_kept = λ stamp r found. find_before (λ (x : RowRecord). x.stamp == stamp) p.rows (rows_in es) r found;
-  rows_new = λ c t row found is. by_row t row (row_of (rows_in es) t.stamp) refl (told_row table old.next_stamp es may.whole c t row found is);
+  rows_new = λ c t row found is. by_row t row (row_of (rows_in es) t.stamp) refl (told_row table old.next_stamp es may.stamped c t row found is);
 }
   where
-    rule : Ruled p
-    rule = ruled p rules
-
     b : Space
-    b = longer_by (length (pieces_of (latest p n) es)) a
+    b = longer_by (length es) a
 
-    q : Parts
-    q = all_written p new front a back (length (pieces_of (latest p n) es)) (stay p n table es) (rows_in es) (pieces_of (latest p n) es)
-
-    put_so : MayPut p old new front a back (length (pieces_of (latest p n) es)) (stay p n table es) (rows_in es) (pieces_of (latest p n) es)
-    put_so = may_put p old new n a table es rules may front back spaces
+    put_so : MayPut p old new front a back (length es) (stay p n table es) (rows_in es) drawn
+    put_so = may_put p old new n a table es drawn rules may are front back spaces
 
     after : are_spaces (front ++ b ∷ back) ≡ true
-    after = (ruled q (keep-written p old new front a back (length (pieces_of (latest p n) es)) (stay p n table es) (rows_in es) (pieces_of (latest p n) es) put_so rules)).spaces
+    after = (ruled (drawn_written p new n front a back table es drawn) (keep-written p old new front a back (length es) (stay p n table es) (rows_in es) drawn put_so rules)).spaces
 
     number : a.number ≡ n
     number = space_number p n a may.space
@@ -242,52 +290,43 @@ wrote-all p old new n a table es rules may front back spaces = record {
     apart : (m : ℕ) → (m == n) ≡ false → m ≡ n → ⊥
     apart m other same = grind (arith, other, same)
 
-    same_counters : old ≡ rule.counters
-    same_counters = first_same old rule.counters (sym may.one ∙ rule.one)
-      where
-        first_same : (c d : Counters) → (c ∷ []) ≡ (d ∷ []) → c ≡ d
-        first_same c d h = cc
-
-    rows_before : are_rows p old.next_stamp ≡ true
-    rows_before = ap (λ (c : Counters). are_rows p c.next_stamp) same_counters ∙ rule.rows
-
     by_row : (t : Told) (row : Row) (o : Option RowRecord) → row_of (rows_in es) t.stamp ≡ o → option_map (λ (r : RowRecord). r.values) o ≡ Some row.values
         → option_map (λ (r : RowRecord). r.values) (row_of (p.rows ++ rows_in es) t.stamp) ≡ Some row.values
     by_row t row None found is = cc
-    by_row t row (Some r) found is = ap (option_map (λ (r : RowRecord). r.values)) (rows_found p old.next_stamp (rows_in es) rows_before put_so.rows_new t.stamp r found) ∙ is
+    by_row t row (Some r) found is = ap (option_map (λ (r : RowRecord). r.values)) (rows_found p old.next_stamp (rows_in es) (before p old rules may.one).rows put_so.rows_new t.stamp r found) ∙ is
 
 -- ---- the laws of the batch
 
--- the batch that writes entries
-abbrev pub entries_batch : List Stored → ℕ → Counters → ℕ → Space → List ℕ → ℕ → ℕ → List Entry → List Change
-entries_batch ss counters_id new space_id a ids id n es = write_batch counters_id new space_id a ids id (rows_in es) (pieces_of (latest (parts_of ss) n) es)
+-- the batch that writes entries, with pieces drawn over those that it drops
+abbrev pub entries_batch : ℕ → Counters → ℕ → Space → List ℕ → ℕ → List Entry → List PieceRecord → List Change
+entries_batch counters_id new space_id a ids id es drawn = write_batch counters_id new space_id a (length es) ids id (rows_in es) drawn
 
-parts-entries : (ss : List Stored) (counters_id space_id : ℕ) (old new : Counters) (a : Space) (ids : List ℕ) (id n table : ℕ) (es : List Entry) → Ascend ss
+parts-entries : (ss : List Stored) (counters_id space_id : ℕ) (old new : Counters) (a : Space) (ids : List ℕ) (id n table : ℕ) (es : List Entry) (drawn : List PieceRecord) → Ascend ss
     → record_at ss counters_id ≡ Some (records.Counters old) → record_at ss space_id ≡ Some (records.Space a) → AreDropped (keeps (stay (parts_of ss) n table es)) ids ss → AllUnder id ss
     → MayWriteAll (parts_of ss) old new n a table es
-    → Put ss (entries_batch ss counters_id new space_id a ids id n es) new a (stay (parts_of ss) n table es) (rows_in es) (pieces_of (latest (parts_of ss) n) es)
-parts-entries ss counters_id space_id old new a ids id n table es sorted counters space are under may =
-    parts-written ss counters_id space_id old new a (stay (parts_of ss) n table es) ids id (rows_in es) (pieces_of (latest (parts_of ss) n) es) sorted counters may.one space are under
+    → Put ss (entries_batch counters_id new space_id a ids id es drawn) new a (length es) (stay (parts_of ss) n table es) (rows_in es) drawn
+parts-entries ss counters_id space_id old new a ids id n table es drawn sorted counters space are_dropped under may =
+    parts-written ss counters_id space_id old new a (length es) (stay (parts_of ss) n table es) ids id (rows_in es) drawn sorted counters may.one space are_dropped under
 
 -- the rules hold after it
-pub keep_planned : (ss : List Stored) (counters_id space_id : ℕ) (old new : Counters) (a : Space) (ids : List ℕ) (id n table : ℕ) (es : List Entry) → keep_rules (parts_of ss) ≡ true → Ascend ss
+pub keep_planned : (ss : List Stored) (counters_id space_id : ℕ) (old new : Counters) (a : Space) (ids : List ℕ) (id n table : ℕ) (es : List Entry) (drawn : List PieceRecord) → keep_rules (parts_of ss) ≡ true → Ascend ss
     → record_at ss counters_id ≡ Some (records.Counters old) → record_at ss space_id ≡ Some (records.Space a) → AreDropped (keeps (stay (parts_of ss) n table es)) ids ss → AllUnder id ss
-    → MayWriteAll (parts_of ss) old new n a table es → keep_rules (parts_of (applied (entries_batch ss counters_id new space_id a ids id n es) ss)) ≡ true
-keep_planned ss counters_id space_id old new a ids id n table es rules sorted counters space are under may =
-    let i = parts-entries ss counters_id space_id old new a ids id n table es sorted counters space are under may in
-    let pieces = pieces_of (latest (parts_of ss) n) es in
+    → MayWriteAll (parts_of ss) old new n a table es → AreDrawnIn (parts_of ss) n table es drawn → keep_rules (parts_of (applied (entries_batch counters_id new space_id a ids id es drawn) ss)) ≡ true
+keep_planned ss counters_id space_id old new a ids id n table es drawn rules sorted counters space are_dropped under may are =
+    let i = parts-entries ss counters_id space_id old new a ids id n table es drawn sorted counters space are_dropped under may in
     subst (λ p. keep_rules p ≡ true) (sym i.is)
-    (keep-written (parts_of ss) old new i.front a i.back (length pieces) (stay (parts_of ss) n table es) (rows_in es) pieces (may_put (parts_of ss) old new n a table es rules may i.front i.back i.old) rules)
+    (keep-written (parts_of ss) old new i.front a i.back (length es) (stay (parts_of ss) n table es) (rows_in es) drawn
+    (may_put (parts_of ss) old new n a table es drawn rules may are i.front i.back i.old) rules)
 
 -- the records stand for the state that has the entries
-pub plan_written : (ss : List Stored) (counters_id space_id : ℕ) (old new : Counters) (a : Space) (ids : List ℕ) (id n table : ℕ) (es : List Entry) (s u : State) → Stands (parts_of ss) s → Ascend ss
-    → record_at ss counters_id ≡ Some (records.Counters old) → record_at ss space_id ≡ Some (records.Space a) → AreDropped (keeps (stay (parts_of ss) n table es)) ids ss → AllUnder id ss
-    → MayWriteAll (parts_of ss) old new n a table es → u.spaces ≡ with_space n (with_entries es) s.spaces → u.tables ≡ s.tables → ((q : Parts) → q.counters ≡ new ∷ [] → CountersStand q u)
-    → Stands (parts_of (applied (entries_batch ss counters_id new space_id a ids id n es) ss)) u
-plan_written ss counters_id space_id old new a ids id n table es s u st sorted counters space are under may spaces tables counted_so =
-    let i = parts-entries ss counters_id space_id old new a ids id n table es sorted counters space are under may in
-    let pieces = pieces_of (latest (parts_of ss) n) es in
-    let q = all_written (parts_of ss) new i.front a i.back (length pieces) (stay (parts_of ss) n table es) (rows_in es) pieces in
+pub plan_written : (ss : List Stored) (counters_id space_id : ℕ) (old new : Counters) (a : Space) (ids : List ℕ) (id n table : ℕ) (es : List Entry) (drawn : List PieceRecord) (s u : State) → Stands (parts_of ss) s
+    → Ascend ss → record_at ss counters_id ≡ Some (records.Counters old) → record_at ss space_id ≡ Some (records.Space a) → AreDropped (keeps (stay (parts_of ss) n table es)) ids ss → AllUnder id ss
+    → MayWriteAll (parts_of ss) old new n a table es → AreDrawnIn (parts_of ss) n table es drawn → u.spaces ≡ with_space n (with_entries es) s.spaces → u.tables ≡ s.tables
+    → ((q : Parts) → q.counters ≡ new ∷ [] → CountersStand q u) → Stands (parts_of (applied (entries_batch counters_id new space_id a ids id es drawn) ss)) u
+plan_written ss counters_id space_id old new a ids id n table es drawn s u st sorted counters space are_dropped under may are spaces tables counted_so =
+    let i = parts-entries ss counters_id space_id old new a ids id n table es drawn sorted counters space are_dropped under may in
+    let q = drawn_written (parts_of ss) new n i.front a i.back table es drawn in
     subst (λ p. Stands p u) (sym i.is)
-    (Stands-wrote_all (parts_of ss) q s u n es (wrote-all (parts_of ss) old new n a table es st.rules may i.front i.back i.old) st spaces tables (counted_so q refl)
-    (keep-written (parts_of ss) old new i.front a i.back (length pieces) (stay (parts_of ss) n table es) (rows_in es) pieces (may_put (parts_of ss) old new n a table es st.rules may i.front i.back i.old) st.rules))
+    (Stands-wrote_all (parts_of ss) q s u n es (wrote-all (parts_of ss) old new n a table es drawn st.rules may are i.front i.back i.old) st spaces tables (counted_so q refl)
+    (keep-written (parts_of ss) old new i.front a i.back (length es) (stay (parts_of ss) n table es) (rows_in es) drawn
+    (may_put (parts_of ss) old new n a table es drawn st.rules may are i.front i.back i.old) st.rules))

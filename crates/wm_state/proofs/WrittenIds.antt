@@ -53,18 +53,18 @@ rows_pieces id rows pieces =
     ap (λ n. put_all id (map records.Row rows) ++ put_all (id + n) (map records.Piece pieces)) (sym (length-map rows records.Row)) ∙ sym (put_all-append id (map records.Row rows) (map records.Piece pieces))
 
 -- the batch that writes entries, where what it puts and drops is below the new ids
-pub changes-write : (counters_id : ℕ) (new : Counters) (space_id : ℕ) (a : Space) (ids : List ℕ) (id : ℕ) (rows : List RowRecord) (pieces : List PieceRecord) → ids_differ (counters_id ∷ space_id ∷ ids) ≡ true
-    → are_under id (counters_id ∷ space_id ∷ ids) ≡ true → AreChanges (write_batch counters_id new space_id a ids id rows pieces)
-changes-write counters_id new space_id a ids id rows pieces differ under =
+pub changes-write : (counters_id : ℕ) (new : Counters) (space_id : ℕ) (a : Space) (count : ℕ) (ids : List ℕ) (id : ℕ) (rows : List RowRecord) (pieces : List PieceRecord) → ids_differ (counters_id ∷ space_id ∷ ids) ≡ true
+    → are_under id (counters_id ∷ space_id ∷ ids) ≡ true → AreChanges (write_batch counters_id new space_id a count ids id rows pieces)
+changes-write counters_id new space_id a count ids id rows pieces differ under =
     ap (λ xs. ids_differ (counters_id ∷ space_id ∷ xs)) (ids_of-dropped ids (put_all id (map records.Row rows) ++ put_all (id + length rows) (map records.Piece pieces)))
     ∙ ap (λ cs. ids_differ (counters_id ∷ space_id ∷ (ids ++ ids_of cs))) (rows_pieces id rows pieces)
     ∙ ids-put id (new_records rows pieces) (counters_id ∷ space_id ∷ ids) differ under
 
 -- and the one that makes a version first
-pub changes-write_new : (counters_id : ℕ) (new : Counters) (space_id : ℕ) (a : Space) (id : ℕ) (v : Version) (rows : List RowRecord) (pieces : List PieceRecord) → counters_id ≢ space_id → counters_id < id → space_id < id
-    → AreChanges (write_new_batch counters_id new space_id a id v rows pieces)
+pub changes-write_new : (counters_id : ℕ) (new : Counters) (space_id : ℕ) (a : Space) (count id : ℕ) (v : Version) (rows : List RowRecord) (pieces : List PieceRecord) → counters_id ≢ space_id → counters_id < id → space_id < id
+    → AreChanges (write_new_batch counters_id new space_id a count id v rows pieces)
 unfolding ids_differ
-changes-write_new counters_id new space_id a id v rows pieces apart counters_under space_under =
+changes-write_new counters_id new space_id a count id v rows pieces apart counters_under space_under =
     ap (λ cs. ids_differ (id ∷ counters_id ∷ space_id ∷ ids_of cs)) (rows_pieces (id + 1) rows pieces)
     ∙ ids-put (id + 1) (new_records rows pieces) (id ∷ counters_id ∷ space_id ∷ [])
     (rw (ne_eqb space_id counters_id (λ same. apart (sym same)), below counters_id counters_under, below space_id space_under) refl)
