@@ -1,10 +1,10 @@
 -- What drafts come to, told of results.
-use Rattle.std.proofs.Common.{◌≡◌, ℕ, Bool, true, List, [], ◌∷◌, ◌++◌, map, Result, Ok, Err, IfOk, refl, sym, ap, subst, ◌∙◌}
+use Rattle.std.proofs.Common.{◌≡◌, ℕ, true, List, [], ◌∷◌, ◌++◌, Result, Ok, Err, IfOk, refl, sym, ap, subst, ◌∙◌}
 use Rattle.std.specs.BTreeMap.{BTreeMap}
 use Rattle.std.specs.List.{filter, flat_map}
 use Rattle.wm_base.specs.declared.memory.Memory.{Memory}
 use Rattle.wm_base.specs.declared.value.Value.{Value}
-use Rattle.wm_graph.specs.Parts.{Parts, parts_of, as_piece}
+use Rattle.wm_graph.specs.Parts.{Parts}
 use Rattle.wm_graph.specs.Rules.{keep_rules, differ, collide, is_piece}
 use Rattle.wm_graph.specs.Parts.{table_of, version_of, row_of}
 use Rattle.std.specs.List.{list_all}

@@ -1,5 +1,5 @@
 -- The ids of pieces of many keys that go.
-use Rattle.std.proofs.Common.{◌≡◌, ℕ, ◌==◌, nat_lt, Bool, true, false, not, ◌&&◌, ◌||◌, cond, if◌then◌else◌, List, [], ◌∷◌, ◌++◌, Option, Some, None, refl, sym, ap, ◌∙◌, ◌⊎◌, inl, inr, ◌≢◌, arith}
+use Rattle.std.proofs.Common.{◌≡◌, ℕ, ◌==◌, nat_lt, Bool, true, false, not, ◌&&◌, ◌||◌, cond, if◌then◌else◌, List, [], ◌∷◌, ◌++◌, Option, Some, None, is_some, refl, sym, ap, ◌∙◌, ◌⊎◌, inl, inr, ◌≢◌, arith}
 use Rattle.std.proofs.lemmas.Bool.{cases_eq, ne_eqb}
 use Rattle.std.specs.List.{list_any}
 use Rattle.std.specs.Ordering.{is_eq}
@@ -20,12 +20,13 @@ use Rattle.wm_state.specs.Entries.{KeysDiffer, same_key, is_out_all}
 use Rattle.wm_state.specs.Writes.{write_batch}
 use Rattle.wm_state.proofs.Ids.{are_under}
 use Rattle.wm_state.proofs.Laying.{key_same}
-use Rattle.wm_state.proofs.Tests.{bool_apart, both, and_true, either_false, not_true}
+use Rattle.wm_state.proofs.Tests.{all_if, bool_apart, both, and_true, either_false, not_true}
 use Rattle.wm_state.proofs.WrittenIds.{changes-write}
 use Rattle.wm_state.proofs.Appending.{all_append}
 use Rattle.wm_image.proofs.Dropping.{none_some, told-with, differ-with, under-with, under-found, ids_apart, differ-two, under-two}
 use Rattle.wm_image.proofs.Lists.{record_at-here, record_at-away}
 use Rattle.wm_image.specs.Gone.{ids_of_key, ids_of_keys}
+use Rattle.wm_image.specs.Redraw.{IsRedrawn}
 use Rattle.wm_image.specs.Sought.{ids_with}
 
 -- ---- which ids they are
@@ -164,3 +165,19 @@ keys_under : (version table next : ℕ) (keys : List (List Value)) (ss : List St
 keys_under version table next [] ss under = refl
 keys_under version table next (key ∷ keys) ss under =
     all_append (λ id. nat_lt id next) (ids_of_key ss version table key) (ids_of_keys ss version table keys) (under-with (λ r. not (keeps (is_out version table key) r)) next ss under) (keys_under version table next keys ss under)
+
+-- ---- a batch that drops them
+
+-- new pieces come over those of their keys
+pub changes_redrawn : (version table : ℕ) (news : List PieceRecord) (dropped : List ℕ) (drawn : List PieceRecord) (ss : List Stored) (counters_id space_id id : ℕ) (c : Counters) (a : Space) (new : Counters) (count : ℕ) (rows : List RowRecord) (pieces : List PieceRecord)
+    → IsRedrawn ss version table news dropped drawn → record_at ss counters_id ≡ Some (records.Counters c) → record_at ss space_id ≡ Some (records.Space a) → AllUnder id ss
+    → AreChanges (write_batch counters_id new space_id a count dropped id rows pieces)
+changes_redrawn version table news dropped drawn ss counters_id space_id id c a new count rows pieces redrawn counters space under =
+    changes-write counters_id new space_id a count dropped id rows pieces
+    (differ-two counters_id space_id dropped (ids_apart ss counters_id space_id c a counters space) (redrawn.gone counters_id (records.Counters c) counters) (redrawn.gone space_id (records.Space a) space) redrawn.once)
+    (under-two id counters_id space_id dropped (under-found id ss under counters_id (records.Counters c) counters) (under-found id ss under space_id (records.Space a) space)
+    (all_if (λ k. is_some (record_at ss k)) (λ k. nat_lt k id) (λ k there. under_there k (record_at ss k) refl there) dropped redrawn.there))
+  where
+    under_there : (k : ℕ) (o : Option Record) → record_at ss k ≡ o → is_some o ≡ true → nat_lt k id ≡ true
+    under_there k None none there = absurd (bool_apart (sym there))
+    under_there k (Some r) found there = under-found id ss under k r found

@@ -13,6 +13,8 @@ mod over;
 mod overlap;
 pub mod records;
 pub mod redraw;
+#[cfg(test)]
+mod redraw_tests;
 pub mod savepoints;
 pub mod shown;
 pub mod spaces;

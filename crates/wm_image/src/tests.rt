@@ -150,7 +150,7 @@ fn later_piece(alloc: Global) -> Result<Record, Memory> {
 }
 
 /// LIVE with two versions, a table and a row that the versions have at a key, one behind the other.
-fn small_store(alloc: Global) -> Result<Records, Memory> {
+pub fn small_store(alloc: Global) -> Result<Records, Memory> {
     let mut records = Records::new(alloc);
     records.push(stored(9, piece(alloc, 2, 1, 10)?))?;
     records.push(stored(1, counters()))?;

@@ -8,6 +8,7 @@ use Rattle.std.specs.Ordering.{is_eq}
 use Rattle.wm_base.specs.Key.{key_order}
 use Rattle.wm_base.specs.declared.value.Value.{Value}
 use Rattle.wm_graph.specs.Rules.{differ, collide}
+use Rattle.wm_period.proofs.Cells.{option_or_assoc, option_or-none}
 use Rattle.wm_period.specs.Pieces.{Held}
 use Rattle.wm_spec.specs.Lists.{Cell}
 use Rattle.wm_spec.specs.declared.record.piece.PieceRecord.{PieceRecord}
@@ -15,9 +16,9 @@ use Rattle.wm_state.specs.Batches.{is_in, is_out}
 use Rattle.wm_state.specs.Drawing.{left_by, laid, stored_last, has_moments, PassesParts, AreDrawn}
 use Rattle.wm_state.specs.Standing.{covers_at, held_by, stored_at}
 use Rattle.wm_state.proofs.Appending.{all_append, differ_append}
-use Rattle.wm_state.proofs.Laying.{key_same, key_itself}
+use Rattle.wm_state.proofs.Laying.{key_same, key_itself, stored-append}
 use Rattle.wm_state.proofs.Tests.{both, bool_apart, and_true, not_true, none_if, all_if}
-use Rattle.wm_state.proofs.DrawingHeld.{held_assoc, held_none, stored_append, last_append, over_held, place_of}
+use Rattle.wm_state.proofs.DrawingHeld.{last_append, over_held, place_of}
 use Rattle.wm_state.proofs.DrawingApart.{all_over, over_differ}
 
 -- ---- over one place
@@ -35,7 +36,7 @@ drawn-over news old drawn new so lasts = record {
   held = λ w c.
       over_held new drawn w c
       ∙ ap (option_or (then_some (covers_at new w c) (held_by new))) (so.held w c)
-      ∙ sym (held_assoc (then_some (covers_at new w c) (held_by new)) (stored_last news w c) (stored_at old w c))
+      ∙ sym (option_or_assoc (then_some (covers_at new w c) (held_by new)) (stored_last news w c) (stored_at old w c))
       ∙ ap (λ o. option_or o (stored_at old w c)) (sym (last_append news (new ∷ []) w c));
   differ = over_differ new lasts drawn so.differ;
   pass = λ test parts olds passed.
@@ -130,12 +131,12 @@ pub drawn-more : (version table : ℕ) (key : List Value) (ns xs ds ms ys es : L
     → list_all (is_in version table key) ms ≡ true → list_all (is_in version table key) ys ≡ true → AreDrawn (ns ++ ms) (xs ++ ys) (ds ++ es)
 drawn-more version table key ns xs ds ms ys es first second ns_out xs_out ms_in ys_in = record {
   held = λ w c.
-      stored_append ds es w c
+      stored-append ds es w c
       ∙ ap (λ o. option_or o (stored_at es w c)) (first.held w c)
       ∙ ap (option_or (option_or (stored_last ns w c) (stored_at xs w c))) (second.held w c)
       ∙ by_place w c (is_cell version table key w c) refl
       ∙ ap (λ o. option_or o (option_or (stored_at xs w c) (stored_at ys w c))) (sym (last_append ns ms w c))
-      ∙ ap (option_or (stored_last (ns ++ ms) w c)) (sym (stored_append xs ys w c));
+      ∙ ap (option_or (stored_last (ns ++ ms) w c)) (sym (stored-append xs ys w c));
   differ = differ_append collide ds es first.differ second.differ
       (all_if (is_out version table key) (λ x. not (list_any (collide x) es))
       (λ x outside. ap not (none_if (is_in version table key) (collide x) (λ y inside. places_apart version table key x y outside inside) es (second.pass (is_in version table key) (in-parts version table key) ys_in ms_in)))
@@ -147,10 +148,10 @@ drawn-more version table key ns xs ds ms ys es first second ns_out xs_out ms_in 
 }
   where
     here : (a b d e : Option Held) → a ≡ nothing → b ≡ nothing → option_or (option_or a b) (option_or d e) ≡ option_or (option_or d a) (option_or b e)
-    here a b d e no_a no_b = rw (no_a, no_b) (ap (λ o. option_or o e) (sym (held_none d)))
+    here a b d e no_a no_b = rw (no_a, no_b) (ap (λ o. option_or o e) (sym (option_or-none d)))
 
     elsewhere_held : (a b d e : Option Held) → d ≡ nothing → e ≡ nothing → option_or (option_or a b) (option_or d e) ≡ option_or (option_or d a) (option_or b e)
-    elsewhere_held a b d e no_d no_e = rw (no_d, no_e) (held_none (option_or a b) ∙ ap (option_or a) (sym (held_none b)))
+    elsewhere_held a b d e no_d no_e = rw (no_d, no_e) (option_or-none (option_or a b) ∙ ap (option_or a) (sym (option_or-none b)))
 
     by_place : (w : ℕ) (c : Cell) (p : Bool) → is_cell version table key w c ≡ p
         → option_or (option_or (stored_last ns w c) (stored_at xs w c)) (option_or (stored_last ms w c) (stored_at ys w c)) ≡ option_or (option_or (stored_last ms w c) (stored_last ns w c)) (option_or (stored_at xs w c) (stored_at ys w c))

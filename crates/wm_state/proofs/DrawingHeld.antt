@@ -7,39 +7,26 @@ use Rattle.std.specs.Option.{option_or}
 use Rattle.std.specs.Ordering.{is_eq}
 use Rattle.wm_base.specs.Key.{key_order}
 use Rattle.wm_base.specs.declared.value.Value.{Value}
+use Rattle.wm_period.proofs.Cells.{option_or_assoc, option_or-none}
 use Rattle.wm_period.specs.Pieces.{Held}
 use Rattle.wm_spec.specs.Lists.{Cell}
 use Rattle.wm_spec.specs.declared.record.piece.PieceRecord.{PieceRecord}
 use Rattle.wm_state.specs.Batches.{is_in}
 use Rattle.wm_state.specs.Drawing.{between, part, around, left_by, stored_last}
 use Rattle.wm_state.specs.Standing.{covers_at, held_by, stored_at}
-use Rattle.wm_state.proofs.Laying.{key_same}
+use Rattle.wm_state.proofs.Laying.{key_same, stored-append}
 use Rattle.wm_state.proofs.Tests.{both}
-
--- ---- what stands first
 
 abbrev nothing : Option Held
 nothing = None
 
-pub held_assoc : (a b d : Option Held) → option_or (option_or a b) d ≡ option_or a (option_or b d)
-held_assoc None b d = refl
-held_assoc (Some a) b d = refl
-
-pub held_none : (a : Option Held) → option_or a nothing ≡ a
-held_none None = refl
-held_none (Some a) = refl
-
-pub stored_append : (xs ys : List PieceRecord) (w : ℕ) (c : Cell) → stored_at (xs ++ ys) w c ≡ option_or (stored_at xs w c) (stored_at ys w c)
-stored_append [] ys w c = refl
-stored_append (x ∷ xs) ys w c =
-    ap (λ o. option_or (then_some (covers_at x w c) (held_by x)) o) (stored_append xs ys w c)
-    ∙ sym (held_assoc (then_some (covers_at x w c) (held_by x)) (stored_at xs w c) (stored_at ys w c))
+-- ---- what stands last
 
 pub last_append : (xs ys : List PieceRecord) (w : ℕ) (c : Cell) → stored_last (xs ++ ys) w c ≡ option_or (stored_last ys w c) (stored_last xs w c)
-last_append [] ys w c = sym (held_none (stored_last ys w c))
+last_append [] ys w c = sym (option_or-none (stored_last ys w c))
 last_append (x ∷ xs) ys w c =
     ap (λ o. option_or o (then_some (covers_at x w c) (held_by x))) (last_append xs ys w c)
-    ∙ held_assoc (stored_last ys w c) (stored_last xs w c) (then_some (covers_at x w c) (held_by x))
+    ∙ option_or_assoc (stored_last ys w c) (stored_last xs w c) (then_some (covers_at x w c) (held_by x))
 
 -- ---- the place of a piece
 
@@ -67,7 +54,7 @@ part_held from till x w c = by_test (nat_lt from till) refl
     none false b t e = refl
 
     by_test : (b : Bool) → nat_lt from till ≡ b → stored_at (cond b (between from till x ∷ []) []) w c ≡ then_some (covers_at (between from till x) w c) (held_by x)
-    by_test true e = held_none (then_some (covers_at (between from till x) w c) (held_by x))
+    by_test true e = option_or-none (then_some (covers_at (between from till x) w c) (held_by x))
     by_test false e = sym (none (x.version == w) ((x.cells.table == c.table) && is_eq (key_order x.cells.key c.key)) (nat_le from c.time && nat_lt c.time till) (never from till c.time e))
 
 -- two pieces of one place hold what one over all their moments does
@@ -91,7 +78,7 @@ no_time v k t e f g = sym (rw (f, g) refl) ∙ e
 
 pub around_held : (new x : PieceRecord) (w : ℕ) (c : Cell) → is_in new.version new.cells.table new.cells.key x ≡ true → covers_at new w c ≡ false → stored_at (around new x) w c ≡ then_some (covers_at x w c) (held_by x)
 around_held new x w c inside away =
-    stored_append (part x.cells.from (min x.cells.till new.cells.from) x) (part (max x.cells.from new.cells.till) x.cells.till x) w c
+    stored-append (part x.cells.from (min x.cells.till new.cells.from) x) (part (max x.cells.from new.cells.till) x.cells.till x) w c
     ∙ ap (λ o. option_or o (stored_at (part (max x.cells.from new.cells.till) x.cells.till x) w c)) (part_held x.cells.from (min x.cells.till new.cells.from) x w c)
     ∙ ap (option_or (then_some (covers_at (between x.cells.from (min x.cells.till new.cells.from) x) w c) (held_by x))) (part_held (max x.cells.from new.cells.till) x.cells.till x w c)
     ∙ joined (x.version == w) ((x.cells.table == c.table) && is_eq (key_order x.cells.key c.key))
@@ -117,12 +104,12 @@ left_held new x w c away = by_place (is_in new.version new.cells.table new.cells
   where
     by_place : (b : Bool) → is_in new.version new.cells.table new.cells.key x ≡ b → stored_at (cond b (around new x) (x ∷ [])) w c ≡ then_some (covers_at x w c) (held_by x)
     by_place true e = around_held new x w c e away
-    by_place false e = held_none (then_some (covers_at x w c) (held_by x))
+    by_place false e = option_or-none (then_some (covers_at x w c) (held_by x))
 
 all_held : (new : PieceRecord) (xs : List PieceRecord) (w : ℕ) (c : Cell) → covers_at new w c ≡ false → stored_at (flat_map (left_by new) xs) w c ≡ stored_at xs w c
 all_held new [] w c away = refl
 all_held new (x ∷ xs) w c away =
-    stored_append (left_by new x) (flat_map (left_by new) xs) w c
+    stored-append (left_by new x) (flat_map (left_by new) xs) w c
     ∙ ap (λ o. option_or o (stored_at (flat_map (left_by new) xs) w c)) (left_held new x w c away)
     ∙ ap (option_or (then_some (covers_at x w c) (held_by x))) (all_held new xs w c away)
 

@@ -15,10 +15,10 @@ use Rattle.wm_state.specs.Drawing.{piece_keys, AreDrawn}
 use Rattle.wm_state.specs.Entries.{same_key, is_out_all}
 use Rattle.wm_state.specs.Standing.{covers_at, held_by, stored_at}
 use Rattle.wm_state.proofs.Appending.{all_append, all_kept}
-use Rattle.wm_state.proofs.Laying.{key_same}
+use Rattle.wm_state.proofs.Laying.{key_same, stored-append}
 use Rattle.wm_state.proofs.Tests.{both, bool_apart, and_true, either_false}
 use Rattle.wm_state.proofs.Drawing.{drawn-more, drawn-same}
-use Rattle.wm_state.proofs.DrawingHeld.{place_of, stored_append}
+use Rattle.wm_state.proofs.DrawingHeld.{place_of}
 
 abbrev nothing : Option Held
 nothing = None
@@ -98,6 +98,11 @@ pub of-none : (version table : ℕ) (xs : List PieceRecord) → of_keys version 
 of-none version table [] = refl
 of-none version table (x ∷ xs) = of-none version table xs
 
+-- and there are none where all pieces are of no such key
+pub of-away : (version table : ℕ) (keys : List (List Value)) (xs : List PieceRecord) → list_all (is_out_all version table keys) xs ≡ true → of_keys version table keys xs ≡ []
+of-away version table keys [] away = refl
+of-away version table keys (x ∷ xs) away = let h = both (is_out_all version table keys x) (list_all (is_out_all version table keys) xs) away in rw (h.0, of-away version table keys xs h.1) refl
+
 -- a piece is of no key of others and of one more
 pub out-more : (version table : ℕ) (key : List Value) (y first : PieceRecord) (before more : List PieceRecord) → list_all (is_in version table key) (first ∷ more) ≡ true
     → is_out_all version table (piece_keys (before ++ first ∷ more)) y ≡ (is_out_all version table (piece_keys before) y && is_out version table key y)
@@ -140,7 +145,7 @@ filter_same P Q same (x ∷ xs) = rw (same x) (ap (λ ys. cond (Q x) (x ∷ ys) 
 more-held : (version table : ℕ) (key : List Value) (keys : List (List Value)) (xs : List PieceRecord) (w : ℕ) (c : Cell)
     → stored_at (of_keys version table keys xs ++ filter (is_in version table key) xs) w c ≡ stored_at (filter (at (with_key version table keys key)) xs) w c
 more-held version table key keys xs w c =
-    stored_append (of_keys version table keys xs) (filter (is_in version table key) xs) w c
+    stored-append (of_keys version table keys xs) (filter (is_in version table key) xs) w c
     ∙ ap (λ o. option_or o (stored_at (filter (is_in version table key) xs) w c)) (stored-at (λ v t k. not (outside version table keys v t k)) xs w c)
     ∙ ap (option_or (cond (not (outside version table keys w c.table c.key)) (stored_at xs w c) None)) (stored-at (λ v t k. (v == version) && ((t == table) && is_eq (key_order k key))) xs w c)
     ∙ either (outside version table keys w c.table c.key) ((w == version) && ((c.table == table) && is_eq (key_order c.key key))) (stored_at xs w c)

@@ -60,3 +60,4 @@ pub mod DrawingHeld
 pub mod DrawingApart
 pub mod Drawing
 pub mod DrawingKeys
+pub mod DrawingNews

@@ -1,4 +1,4 @@
-use Rattle.std.proofs.Common.{◌≡◌, ◌∷◌, [], ◌++◌, List, ℕ, sym, ap, subst, ◌∙◌}
+use Rattle.std.proofs.Common.{◌∷◌, [], ◌++◌, List, ℕ, sym, ap, subst, ◌∙◌}
 use Rattle.std.specs.List.{filter, flat_map}
 use Rattle.wm_graph.specs.Parts.{parts_of}
 use Rattle.wm_spec.specs.declared.record.piece.PieceRecord.{PieceRecord}
@@ -7,7 +7,6 @@ use Rattle.wm_state.specs.Drawing.{left_by}
 use Rattle.wm_image.proofs.Drafting.{draft_laid, no_collision}
 use Rattle.wm_image.proofs.Listed.{Ascend-listed}
 use Rattle.wm_image.proofs.Redrawing.{draft_on, draft_turned}
-use Rattle.wm_image.specs.Gone.{ids_of_key}
 use Rattle.wm_image.specs.Indexed.{listed}
 use Rattle.wm_image.specs.Redraw.{IsDraft, is_at_hand}
 use Rattle.wm_image.proofs.redraw.draw_one.Goals as goal

@@ -1,10 +1,10 @@
-use Rattle.std.proofs.Common.{◌≡◌, ◌+◌, ◌∷◌, [], ◌++◌, ℕ, List, length, drop, sym, ap, subst, ◌∙◌}
+use Rattle.std.proofs.Common.{◌+◌, ◌++◌, ℕ, List, length, drop, sym, subst, ◌∙◌}
 use Rattle.std.proofs.lemmas.Iterator.Adapters.{YieldsList-from_vec}
 use Rattle.std.proofs.lemmas.Iterator.Consumers.{YieldsList-turn, YieldsList-end}
 use Rattle.std.proofs.lemmas.List.{length_push, map-id}
 use Rattle.wm_spec.specs.declared.record.piece.PieceRecord.{PieceRecord}
 use Rattle.wm_image.proofs.Drafting.{draft_ended}
-use Rattle.wm_image.proofs.Following.{all_follow, follows, next_here, next_lasts, next_sorted, others_follow}
+use Rattle.wm_image.proofs.Following.{follows, others_follow}
 use Rattle.wm_image.proofs.Listed.{Ascend-listed}
 use Rattle.wm_image.proofs.Redrawing.{draft_ends}
 use Rattle.wm_image.specs.Indexed.{listed}
