@@ -30,7 +30,7 @@ use Rattle.wm_typing.specs.Columns.{declared_column, valid_column}
 use Rattle.wm_dml.specs.Changing.{own_columns, declared_values, row_key, set_value, set_values, updated_row}
 use Rattle.wm_dml.specs.Standing.{stands_in, is_shown}
 use Rattle.wm_dml.proofs.Refused.{Fits, EachFits}
-use Rattle.wm_dml.proofs.Shown.{of_column, shown_parts, shown_fits}
+use Rattle.wm_dml.proofs.ShownRows.{of_column, shown_parts, shown_fits}
 use Rattle.wm_dml.proofs.Valued.{kind_in, kind_place, value_typed}
 
 -- ---- the columns

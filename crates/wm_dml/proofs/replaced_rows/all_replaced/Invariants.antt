@@ -1,5 +1,5 @@
 use Rattle.std.specs.Vec.Iter.{into_iter_items, into_iter_len}
-use Rattle.wm_dml.proofs.Replacing.{Replacing}
+use Rattle.wm_dml.proofs.Replacements.{Replacing}
 use Rattle.wm_dml.proofs.replaced_rows.all_replaced.Given as goal
 
 abbrev pub invariant-loop-old : goal.invariant-loop-old
