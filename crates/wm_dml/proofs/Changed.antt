@@ -20,7 +20,7 @@ use Rattle.wm_dml.specs.Standing.{stands_in, is_shown, all_stand, keys_of, perio
 use Rattle.wm_dml.proofs.Lasting.{sets_last}
 use Rattle.wm_dml.proofs.Refused.{EachFits, update_parts}
 use Rattle.wm_dml.proofs.Replaced.{row_replaces}
-use Rattle.wm_dml.proofs.Shown.{shown_parts}
+use Rattle.wm_dml.proofs.ShownRows.{shown_parts}
 
 -- ---- DELETE
 

@@ -12,7 +12,7 @@ use Rattle.wm_making.proofs.Written.{is_below}
 use Rattle.wm_spec.specs.declared.record.table.Table.{Table}
 use Rattle.wm_dml.specs.Changing.{row_period, all_overlap, gone, replacing}
 use Rattle.wm_dml.specs.Standing.{is_lasting, is_shown, all_stand, change_lasts}
-use Rattle.wm_dml.proofs.Shown.{shown_lasts}
+use Rattle.wm_dml.proofs.ShownRows.{shown_lasts}
 
 no_more : (m n : ℕ) → nat_le m n ≡ true → m ≤ n
 no_more m n is = grind (arith, nat_tests)

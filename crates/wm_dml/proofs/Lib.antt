@@ -1,11 +1,11 @@
 pub mod Valued
 pub mod Marks
 pub mod Picked
-pub mod Shown
+pub mod ShownRows
 pub mod Refused
 pub mod Lasting
 pub mod Replaced
-pub mod Replacing
+pub mod Paired
 pub mod Changed
 pub mod Held
 pub mod Plain
