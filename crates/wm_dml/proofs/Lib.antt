@@ -5,7 +5,7 @@ pub mod ShownRows
 pub mod Refused
 pub mod Lasting
 pub mod Replaced
-pub mod Replacements
+pub mod Paired
 pub mod Changed
 pub mod Held
 pub mod Plain

@@ -61,7 +61,7 @@ kind_is source cs more name k p c apart is there same =
     let declared = map (declared_column source) cs in
     let columns = declared ++ more in
     let at = kind_place None name columns k is in
-    let near : p < length declared = (let e = slice_get_within cs p c there in let l = length-map (declared_column source) cs in omega (arith, e, l)) in
+    let near : p < length declared = (let e = slice_get_within cs p c there in let l = length-map cs (declared_column source) in omega (arith, e, l)) in
     let here : slice_get columns p ≡ Some (declared_column source c) = left_got declared more p near ∙ slice_get-map (declared_column source) cs p ∙ ap (λ o. option_map (declared_column source) o) there in
     let passes : is_named None name (get_or columns p at.1) ≡ true = ap (λ d. is_named None name d) (get_or_from_slice_get columns p (declared_column source c) at.1 here) ∙ ap (λ n. bytes_eq name n) (sym same) ∙ same_bytes name in
     let order = not_behind (is_named None name) columns at.0 p at.1 at.2 passes in

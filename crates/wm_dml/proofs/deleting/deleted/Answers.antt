@@ -17,4 +17,4 @@ returns-clause-fit c = λ stand. ap (list_all (is_change c.args.table.now)) c.in
 pub returns-clause-lasting : goal.returns-clause-lasting
 returns-clause-lasting c = λ stand.
     ap (list_all change_lasts) c.in_ok-changes.ensures
-    ∙ gone_last c.args.table.now c.args.within.now c.args.rows.now (lasts_so c.args.within.now c.till-_till.ensures.order c.till-_till.ensures.bound) c.requires stand
+    ∙ gone_last c.args.table.now c.args.within.now c.args.rows.now (lasts_so c.args.within.now c.till-till.ensures.order c.till-till.ensures.bound) c.requires stand

@@ -20,4 +20,4 @@ returns-clause-filled c = λ stand. ap (list_all writes_filled) c.in_ok-changes.
 pub returns-clause-lasting : goal.returns-clause-lasting
 returns-clause-lasting c = λ stand.
     ap (list_all change_lasts) c.in_ok-changes.ensures
-    ∙ replaced_last c.args.table.now c.args.within.now c.args.olds.now c.args.rows.items (lasts_so c.args.within.now c.till-_till.ensures.order c.till-_till.ensures.bound) c.requires stand
+    ∙ replaced_last c.args.table.now c.args.within.now c.args.olds.now c.args.rows.items (lasts_so c.args.within.now c.till-till.ensures.order c.till-till.ensures.bound) c.requires stand

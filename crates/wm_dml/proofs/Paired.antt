@@ -15,19 +15,28 @@ pub record Replacing (t : Table) (within : Span) (olds : List Row) (rows : List 
   pub overlap : all_overlap t within olds_left ≡ true
   pub counted : left ≡ length rows_left
 
-pub replacing_begins : (t : Table) (within : Span) (olds : List Row) (rows : List (List Value)) (left : ℕ) → all_overlap t within olds ≡ true → left ≡ length rows → Replacing t within olds rows [] olds rows left
-replacing_begins t within olds rows left overlap counted = record { same = refl; overlap = overlap; counted = counted }
+-- none is done
+pub replacing_begins : {t : Table} {within : Span} {olds : List Row} {rows : List (List Value)} {changes : List RowChange} {olds_left : List Row} {rows_left : List (List Value)} {left : ℕ} →
+    all_overlap t within olds ≡ true → changes ≡ [] → olds_left ≡ olds → rows_left ≡ rows → left ≡ length rows → Replacing t within olds rows changes olds_left rows_left left
+replacing_begins {t} {within} {olds} {rows} {changes} {olds_left} {rows_left} {left} overlap none first second counted = record {
+  same = sym (ap (λ cs. cs ++ replacing t within olds_left rows_left) none ∙ ap (λ os. replacing t within os rows_left) first ∙ ap (λ rs. replacing t within olds rs) second);
+  overlap = ap (all_overlap t within) first ∙ overlap;
+  counted = counted ∙ ap length (sym second);
+}
 
+-- an old row that is left overlaps the period
 pub replacing_one : {t : Table} {within : Span} {olds : List Row} {rows : List (List Value)} {changes : List RowChange} {olds_left : List Row} {rows_left : List (List Value)} {left : ℕ} {old : Row} {others : List Row} →
     Replacing t within olds rows changes olds_left rows_left left → olds_left ≡ old ∷ others → overlaps (row_period t old) within ≡ true
 replacing_one {t} {within} {olds} {rows} {changes} {olds_left} {rows_left} {left} {old} {others} f is =
     (both_true (overlaps (row_period t old) within) (all_overlap t within others) (sym (ap (all_overlap t within) is) ∙ f.overlap)).0
 
-pub replacing_more : {t : Table} {within : Span} {olds : List Row} {rows : List (List Value)} {changes : List RowChange} {olds_left : List Row} {rows_left : List (List Value)} {left : ℕ} {old : Row} {others : List Row} {row : List Value} {more : List (List Value)} {fewer : ℕ} →
-    Replacing t within olds rows changes olds_left rows_left left → olds_left ≡ old ∷ others → rows_left ≡ row ∷ more → fewer + 1 ≡ left →
-    Replacing t within olds rows (changes ++ replaced t within old row ∷ []) others more fewer
-replacing_more {t} {within} {olds} {rows} {changes} {olds_left} {rows_left} {left} {old} {others} {row} {more} {fewer} f is new less = record {
-  same = f.same ∙ ap (λ os. changes ++ replacing t within os rows_left) is ∙ ap (λ rs. changes ++ replacing t within (old ∷ others) rs) new ∙ sym (append_assoc changes (replaced t within old row ∷ []) (replacing t within others more));
+-- one more is done
+pub replacing_more : {t : Table} {within : Span} {olds : List Row} {rows : List (List Value)} {changes : List RowChange} {olds_left : List Row} {rows_left : List (List Value)} {left : ℕ} {old : Row} {others : List Row} {row : List Value} {more : List (List Value)} {fewer : ℕ} {change : RowChange} {next : List RowChange} →
+    Replacing t within olds rows changes olds_left rows_left left → olds_left ≡ old ∷ others → rows_left ≡ row ∷ more → fewer + 1 ≡ left → change ≡ replaced t within old row → next ≡ changes ++ change ∷ [] →
+    Replacing t within olds rows next others more fewer
+replacing_more {t} {within} {olds} {rows} {changes} {olds_left} {rows_left} {left} {old} {others} {row} {more} {fewer} {change} {next} f is new less one all = record {
+  same = f.same ∙ ap (λ os. changes ++ replacing t within os rows_left) is ∙ ap (λ rs. changes ++ replacing t within (old ∷ others) rs) new ∙ sym (append_assoc changes (replaced t within old row ∷ []) (replacing t within others more))
+  ∙ sym (ap (λ cs. cs ++ replacing t within others more) (all ∙ ap (λ (x : RowChange). changes ++ x ∷ []) one));
   overlap = (both_true (overlaps (row_period t old) within) (all_overlap t within others) (sym (ap (all_overlap t within) is) ∙ f.overlap)).1;
   counted = omega (arith, less, f.counted, ap length new);
 }
