@@ -1,12 +1,12 @@
 -- The pieces of entries as new pieces.
-use Rattle.std.proofs.Common.{◌≡◌, ℕ, ◌+◌, ◌==◌, nat_lt, nat_le, Bool, true, ◌&&◌, List, [], ◌∷◌, refl, sym, ap, ◌∙◌}
+use Rattle.std.proofs.Common.{◌≡◌, ℕ, ◌+◌, ◌==◌, nat_lt, nat_le, true, List, [], ◌∷◌, refl, ap, ◌∙◌}
 use Rattle.std.proofs.lemmas.Bool.{eq-eqb}
 use Rattle.std.specs.List.{list_all}
 use Rattle.wm_base.specs.declared.instant.TheConstants.{END}
 use Rattle.wm_base.specs.declared.value.Value.{Value}
 use Rattle.wm_spec.specs.Lists.{Entry}
 use Rattle.wm_state.specs.Drawing.{AreNews, are_sorted, has_moments, is_for, piece_keys}
-use Rattle.wm_state.specs.Entries.{AreStamped, IsStamped, entry_keys, piece_of, pieces_of}
+use Rattle.wm_state.specs.Entries.{AreStamped, entry_keys, piece_of, pieces_of}
 use Rattle.wm_state.proofs.Tests.{both, and_true}
 
 -- their keys are those of the entries
