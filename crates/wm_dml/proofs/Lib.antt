@@ -1,5 +1,9 @@
 pub mod Valued
 pub mod Marks
 pub mod Picked
+pub mod Shown
+pub mod Refused
+pub mod Lasting
 pub mod Replaced
 pub mod Changed
+pub mod Plain

@@ -10,11 +10,10 @@ use Rattle.wm_base.specs.Trees.{Expr, Of, Neg, Add, Sub, Mul}
 use Rattle.wm_making.proofs.Fitted.{unless_none, numbers_last}
 use Rattle.wm_making.proofs.Nones.{or_none, both_true, cong_and}
 use Rattle.wm_spec.specs.Expressions.{lasts, has_no_empty_period}
-use Rattle.wm_spec.specs.Operands.{operand_kind}
 use Rattle.wm_typing.specs.Names.{unless}
 use Rattle.wm_typing.specs.Types.{expr_kind, is_numeric, mistyped_in_expr}
 
-operand_lasts : (cs : List Column) (operand : Operand) → (operand_kind operand cs ≡ Some 4 → ⊥) → lasts operand ≡ true
+operand_lasts : (cs : List Column) (operand : Operand) → (expr_kind cs (Of operand) ≡ Some 4 → ⊥) → lasts operand ≡ true
 operand_lasts cs (operands.Col col) other = refl
 operand_lasts cs (operands.Const constants.Null) other = refl
 operand_lasts cs (operands.Const (constants.Num n)) other = refl

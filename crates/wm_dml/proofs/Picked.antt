@@ -62,6 +62,27 @@ none_chosen f p test (x ∷ xs) none =
     choose true one rest = cong_or one rest
     choose false one rest = rest
 
+none_kept : {A : Type 0} (p test : A → Bool) (xs : List A) → list_any test xs ≡ false → list_any test (filter p xs) ≡ false
+none_kept p test [] none = refl
+none_kept p test (x ∷ xs) none =
+    let parts = neither (test x) (list_any test xs) none in
+    choose (p x) parts.0 (none_kept p test xs parts.1)
+  where
+    choose : (b : Bool) → test x ≡ false → list_any test (filter p xs) ≡ false → list_any test (cond b (x ∷ filter p xs) (filter p xs)) ≡ false
+    choose true one rest = cong_or one rest
+    choose false one rest = rest
+
+-- no two are alike where no two of all were
+pub kept_differ : {A : Type 0} (p : A → Bool) (same : A → A → Bool) (xs : List A) → differ same xs ≡ true → differ same (filter p xs) ≡ true
+kept_differ p same [] apart = refl
+kept_differ p same (x ∷ xs) apart =
+    let parts = both_true (not (list_any (same x) xs)) (differ same xs) apart in
+    choose (p x) (none_kept p (same x) xs (is_not (list_any (same x) xs) parts.0)) (kept_differ p same xs parts.1)
+  where
+    choose : (b : Bool) → list_any (same x) (filter p xs) ≡ false → differ same (filter p xs) ≡ true → differ same (cond b (x ∷ filter p xs) (filter p xs)) ≡ true
+    choose true one rest = cong_and (ap not one) rest
+    choose false one rest = rest
+
 -- keys that differ still differ
 pub chosen_differ : {A K : Type 0} (f : A → K) (p : A → Bool) (same : K → K → Bool) (xs : List A) → differ same (map f xs) ≡ true → differ same (map f (filter p xs)) ≡ true
 chosen_differ f p same [] apart = refl

@@ -1,12 +1,12 @@
 -- A row that UPDATE makes of another may stand in its place.
-use Rattle.std.proofs.Common.{◌≡◌, ℕ, zero, suc, ◌<◌, Bool, true, false, cond, List, [], ◌∷◌, ◌++◌, length, map, nat_lt, refl, sym, ap, ◌∙◌, arith, get_or}
-use Rattle.std.specs.Prelude.{Option, Some, None, ◌&&◌, ◌||◌, ◌==◌, not, is_none, slice_get, option_map, unwrap_or}
-use Rattle.std.specs.List.{find, list_all}
+use Rattle.std.proofs.Common.{◌≡◌, ℕ, zero, suc, ◌<◌, ◌≤◌, Bool, true, false, cond, List, [], ◌∷◌, ◌++◌, length, map, take, nat_lt, refl, sym, ap, ◌∙◌, subst, arith, get_or}
+use Rattle.std.specs.Prelude.{Option, Some, None, ◌&&◌, ◌||◌, ◌==◌, slice_get, option_map, unwrap_or}
+use Rattle.std.specs.List.{find, list_all, position}
 use Rattle.std.specs.Option.{option_map_or, option_and_then}
 use Rattle.std.specs.Str.{bytes_eq}
-use Rattle.std.proofs.lemmas.List.{append-nil}
+use Rattle.std.proofs.lemmas.List.{length-map}
 use Rattle.std.proofs.lemmas.List.Quantifiers.{position-Some}
-use Rattle.std.proofs.lemmas.Option.{slice_get-get_or, slice_get-map}
+use Rattle.std.proofs.lemmas.Option.{slice_get-map, slice_get_within, get_or_from_slice_get}
 use Rattle.wm_base.specs.declared.columns.Column.{Column}
 use Rattle.wm_base.specs.declared.row.Row.{Row}
 use Rattle.wm_base.specs.declared.value.Value.{Value}
@@ -15,76 +15,60 @@ use Rattle.wm_base.specs.Trees.{Set}
 use Rattle.wm_base.specs.Value.{type_place}
 use Rattle.wm_graph.specs.Rules.{differ, same_column, is_table, type_of, fits_column, fit_columns, is_row_of, is_key_of}
 use Rattle.wm_making.proofs.Filled.{stored_filled}
-use Rattle.wm_making.proofs.Fitted.{of_type, unless_none, suited_last, suits_on}
-use Rattle.wm_making.proofs.Nones.{or_none, map_none, if_none, both_true, cong_and, same_name}
+use Rattle.wm_making.proofs.Fitted.{of_type, suits_on}
+use Rattle.wm_making.proofs.Nones.{map_none, if_none, both_true, cong_and, not_above, same_bytes, same_name}
 use Rattle.wm_making.proofs.Placed.{got}
-use Rattle.wm_making.proofs.Written.{turned, found_itself, before_some, stored_typed, turned_test, table_parts, is_below, stands}
-use Rattle.wm_making.specs.Inserting.{has_name, suits}
-use Rattle.wm_making.specs.Rows.{stored, is_filled, row_fault}
-use Rattle.wm_spec.specs.Conditions.{fits}
-use Rattle.wm_spec.specs.Expressions.{value_of, has_no_empty_period}
+use Rattle.wm_making.proofs.Written.{turned, found_itself, before_some, stored_typed, table_parts, is_below, stands}
+use Rattle.wm_making.specs.Inserting.{has_name}
+use Rattle.wm_making.specs.Rows.{before, stored, is_filled, row_fault}
+use Rattle.wm_spec.specs.Expressions.{value_of}
 use Rattle.wm_spec.specs.Operands.{is_named, kind_of, fits_columns}
 use Rattle.wm_spec.specs.declared.record.column.TableColumn.{TableColumn}
 use Rattle.wm_spec.specs.declared.record.table.Table.{Table}
-use Rattle.wm_typing.specs.Changing.{may_stand, mistyped_in_set, mistyped_in_sets, is_key, key_set}
+use Rattle.wm_typing.specs.Changing.{is_key, key_set}
 use Rattle.wm_typing.specs.Columns.{declared_column, valid_column}
-use Rattle.wm_typing.specs.Names.{unless}
-use Rattle.wm_typing.specs.Types.{expr_kind, mistyped_in_expr}
-use Rattle.wm_dml.specs.Changing.{own_columns, row_key, set_value, set_values, updated_row}
-use Rattle.wm_dml.specs.Standing.{stands_in, all_stand}
-use Rattle.wm_dml.proofs.Marks.{lasting}
-use Rattle.wm_dml.proofs.Valued.{kind_place, value_typed}
-use Rattle.wm_dml.proofs.Picked.{found_passes}
+use Rattle.wm_dml.specs.Changing.{own_columns, declared_values, row_key, set_value, set_values, updated_row}
+use Rattle.wm_dml.specs.Standing.{stands_in, is_shown}
+use Rattle.wm_dml.proofs.Refused.{Fits, EachFits}
+use Rattle.wm_dml.proofs.Shown.{of_column, shown_parts, shown_fits}
+use Rattle.wm_dml.proofs.Valued.{kind_in, kind_place, value_typed}
 
 -- ---- the columns
-
--- without periods the columns are the declared ones
-own_declared : (t : Table) → t.valid ≡ false → own_columns t ≡ map (declared_column t.name) t.columns
-own_declared t plain =
-    ap (λ b. map (declared_column t.name) t.columns ++ cond b (valid_column t.name ∷ []) []) plain ∙ append-nil (map (declared_column t.name) t.columns)
-
--- NULL, or a value of the column's type
-of_column : (c : TableColumn) (v : Value) → fits_column c v ≡ true → of_type v (type_of c.kind) ≡ true
-of_column c values.Null fit = refl
-of_column c (values.Num n) fit = fit
-of_column c (values.Text text) fit = turned_test (type_of c.kind) 2 (both_true (type_of c.kind == 2) _ fit).0
-of_column c (values.Time instant) fit = fit
-of_column c (values.Span period) fit = fit
-
--- a row of the table fits its columns
-pub declared_fit : (source : List ℕ) (cs : List TableColumn) (vs : List Value) → fit_columns cs vs ≡ true → fits_columns (map (declared_column source) cs) vs ≡ true
-declared_fit source [] [] fit = refl
-declared_fit source [] (v ∷ vs) fit = absurd (cc)
-declared_fit source (c ∷ cs) [] fit = absurd (cc)
-declared_fit source (c ∷ cs) (v ∷ vs) fit =
-    let parts = both_true (fits_column c v) (fit_columns cs vs) fit in
-    cong_and (of_column c v parts.0) (declared_fit source cs vs parts.1)
-
--- rows that stand in the table fit its columns
-pub rows_fit : (t : Table) (rows : List Row) → t.valid ≡ false → all_stand t rows ≡ true → list_all (fits (own_columns t)) rows ≡ true
-unfolding fits
-rows_fit t [] plain all = refl
-rows_fit t (row ∷ rows) plain all =
-    let parts = both_true (stands_in t row.values) (all_stand t rows) all in
-    let one = both_true (is_row_of row.values t) (is_key_of (row_key t row.values) t && list_all is_filled row.values) parts.0 in
-    cong_and
-    (ap (λ cs. fits_columns cs row.values) (own_declared t plain) ∙ declared_fit t.name t.columns row.values (both_true (fit_columns t.columns row.values) _ one.0).0)
-    (rows_fit t rows plain parts.1)
 
 some_declared : (source : List ℕ) (o : Option TableColumn) (d : Column) → option_map (declared_column source) o ≡ Some d → (c : TableColumn) × (o ≡ Some c) × (d ≡ declared_column source c)
 some_declared source None d is = absurd (cc)
 some_declared source (Some c) d is = (c, refl, cc)
 
--- the kind of the columns of a name is the type of the one that has it
-kind_is : (source : List ℕ) (cs : List TableColumn) (name : List ℕ) (k p : ℕ) (c : TableColumn) → differ same_column cs ≡ true → kind_of None name (map (declared_column source) cs) ≡ Some k →
+left_got : {A : Type 0} (xs ys : List A) (p : ℕ) → p < length xs → slice_get (xs ++ ys) p ≡ slice_get xs p
+left_got [] ys p near = absurd (omega arith)
+left_got (x ∷ xs) ys zero near = refl
+left_got (x ∷ xs) ys (suc p) near = left_got xs ys p (omega arith)
+
+-- the first that passes a test is none behind another that does
+not_behind : {A : Type 0} (test : A → Bool) (xs : List A) (q p : ℕ) (d : A) → position test xs ≡ Some q → test (get_or xs p d) ≡ true → q ≤ p
+not_behind test xs q p d first passes = by_order (nat_lt p q) refl
+  where
+    by_order : (b : Bool) → nat_lt p q ≡ b → q ≤ p
+    by_order false is = not_above p q is
+    by_order true is =
+        let fails = (position-Some test xs q d first).2 p (is_below p q is) in
+        absurd (let e : true ≡ false = sym passes ∙ fails in cc)
+
+-- a column of the name of a declared one is that one, where it is the first of the columns of that name
+kind_is : (source : List ℕ) (cs : List TableColumn) (more : List Column) (name : List ℕ) (k p : ℕ) (c : TableColumn) → differ same_column cs ≡ true → kind_of None name (map (declared_column source) cs ++ more) ≡ Some k →
     slice_get cs p ≡ Some c → name ≡ c.name → k ≡ type_of c.kind
-kind_is source cs name k p c apart is there same =
-    let at = kind_place None name (map (declared_column source) cs) k is in
-    let one = some_declared source (slice_get cs at.0) at.1 (sym (slice_get-map (declared_column source) cs at.0) ∙ at.3) in
-    let place = position-Some (is_named None name) (map (declared_column source) cs) at.0 at.1 at.2 in
-    let found : slice_get (map (declared_column source) cs) at.0 ≡ Some (get_or (map (declared_column source) cs) at.0 at.1) = slice_get-get_or (map (declared_column source) cs) at.0 at.1 place.0 in
-    let itself : get_or (map (declared_column source) cs) at.0 at.1 ≡ at.1 = (let both : Some (get_or (map (declared_column source) cs) at.0 at.1) ≡ Some at.1 = sym found ∙ at.3 in cc) in
-    let named : bytes_eq name one.0.name ≡ true = ap (λ (d : Column). bytes_eq name d.name) (sym (itself ∙ one.2)) ∙ place.1 in
+kind_is source cs more name k p c apart is there same =
+    let declared = map (declared_column source) cs in
+    let columns = declared ++ more in
+    let at = kind_place None name columns k is in
+    let near : p < length declared = (let e = slice_get_within cs p c there in let l = length-map (declared_column source) cs in omega (arith, e, l)) in
+    let here : slice_get columns p ≡ Some (declared_column source c) = left_got declared more p near ∙ slice_get-map (declared_column source) cs p ∙ ap (λ o. option_map (declared_column source) o) there in
+    let passes : is_named None name (get_or columns p at.1) ≡ true = ap (λ d. is_named None name d) (get_or_from_slice_get columns p (declared_column source c) at.1 here) ∙ ap (λ n. bytes_eq name n) (sym same) ∙ same_bytes name in
+    let order = not_behind (is_named None name) columns at.0 p at.1 at.2 passes in
+    let found : slice_get declared at.0 ≡ Some at.1 = sym (left_got declared more at.0 (omega (arith, order, near))) ∙ at.3 in
+    let one = some_declared source (slice_get cs at.0) at.1 (sym (slice_get-map (declared_column source) cs at.0) ∙ found) in
+    let itself : get_or columns at.0 at.1 ≡ at.1 = get_or_from_slice_get columns at.0 at.1 at.1 at.3 in
+    let named : bytes_eq name one.0.name ≡ true = ap (λ (d : Column). bytes_eq name d.name) (sym (itself ∙ one.2)) ∙ (position-Some (is_named None name) columns at.0 at.1 at.2).1 in
     let equal : c.name ≡ one.0.name = sym same ∙ same_name name one.0.name named in
     let first : find (has_name c.name) cs ≡ Some c = found_itself cs p c apart there in
     let second : find (has_name one.0.name) cs ≡ Some one.0 = found_itself cs at.0 one.0 apart one.1 in
@@ -106,62 +90,26 @@ found_test test (y ∷ ys) x found = choose (test y) refl (found_test test ys x)
         ap test same ∙ is
     choose false is more = more (sym (ap (λ b. cond b (Some y) (find test ys)) is) ∙ found)
 
-none_is : {A : Type 0} (o : Option A) → is_none o ≡ true → o ≡ None
-none_is None is = refl
-none_is (Some x) is = absurd (cc)
-
-all_typed : (columns : List Column) (sets : List Set) → mistyped_in_sets columns sets ≡ None → list_all (λ (s : Set). is_none (mistyped_in_set columns s)) sets ≡ true
-all_typed columns [] none = refl
-all_typed columns (s ∷ ss) none =
-    let parts = or_none (mistyped_in_set columns s) (mistyped_in_sets columns ss) none in
-    cong_and (ap is_none parts.0) (all_typed columns ss parts.1)
-
-swapped : (a b c : Bool) → (a || (b && c)) ≡ true → (b || a) ≡ true
-swapped true true c is = refl
-swapped true false c is = refl
-swapped false true c is = refl
-swapped false false c is = absurd (cc)
-
--- a value that may stand in a column has its type, or is NULL
-stand_kinds : (column kind : Option ℕ) → may_stand column kind ≡ true → (j k : ℕ) × (column ≡ Some j) × (kind ≡ Some k) × (((k == 0) || (k == j)) ≡ true)
-stand_kinds None kind is = absurd (cc)
-stand_kinds (Some j) None is = absurd (cc)
-stand_kinds (Some j) (Some k) is = (j, k, refl, refl, swapped (k == j) (k == 0) (not (j == 4)) is)
+-- what is found of sets that fit their columns fits its own
+found_fits : (columns : List Column) (test : Set → Bool) (sets : List Set) (s : Set) → EachFits columns sets → find test sets ≡ Some s → Fits columns s
+found_fits columns test [] s each found = absurd (cc)
+found_fits columns test (x ∷ xs) s each found = choose (test x) refl (found_fits columns test xs s each.1)
+  where
+    choose : (b : Bool) → test x ≡ b → (find test xs ≡ Some s → Fits columns s) → Fits columns s
+    choose true is more =
+        let e : Some x ≡ Some s = sym (ap (λ b. cond b (Some x) (find test xs)) is) ∙ found in
+        let same : x ≡ s = cc in
+        subst (λ (y : Set). Fits columns y) same each.0
+    choose false is more = more (sym (ap (λ b. cond b (Some x) (find test xs)) is) ∙ found)
 
 -- what sets a column is of its type
-set_suits : (source : List ℕ) (cs : List TableColumn) (s : Set) (p : ℕ) (c : TableColumn) → differ same_column cs ≡ true → slice_get cs p ≡ Some c → s.name ≡ c.name →
-    mistyped_in_set (map (declared_column source) cs) s ≡ None →
-    (k : ℕ) × (expr_kind (map (declared_column source) cs) s.becomes ≡ Some k) × (((k == 0) || (k == type_of c.kind)) ≡ true)
-set_suits source cs s p c apart there same none =
-    let columns = map (declared_column source) cs in
-    let parts = or_none (unless (may_stand (kind_of None s.name columns) (expr_kind columns s.becomes)) s.name) (mistyped_in_expr columns s.becomes) none in
-    let kinds = stand_kinds (kind_of None s.name columns) (expr_kind columns s.becomes) (unless_none (may_stand (kind_of None s.name columns) (expr_kind columns s.becomes)) s.name parts.0) in
-    (kinds.1, kinds.3, sym (ap (λ j. (kinds.1 == 0) || (kinds.1 == j)) (kind_is source cs s.name kinds.0 p c apart kinds.2 there same)) ∙ kinds.4)
-
--- and no period that is written in it is empty
-set_lasts : (source : List ℕ) (cs : List TableColumn) (s : Set) → mistyped_in_set (map (declared_column source) cs) s ≡ None → has_no_empty_period s.becomes ≡ true
-set_lasts source cs s none =
-    let columns = map (declared_column source) cs in
-    let parts = or_none (unless (may_stand (kind_of None s.name columns) (expr_kind columns s.becomes)) s.name) (mistyped_in_expr columns s.becomes) none in
-    let kinds = stand_kinds (kind_of None s.name columns) (expr_kind columns s.becomes) (unless_none (may_stand (kind_of None s.name columns) (expr_kind columns s.becomes)) s.name parts.0) in
-    let at = kind_place None s.name columns kinds.0 kinds.2 in
-    let one = some_declared source (slice_get cs at.0) at.1 (sym (slice_get-map (declared_column source) cs at.0) ∙ at.3) in
-    let kind : kinds.0 ≡ type_of one.0.kind = sym at.4 ∙ ap (λ (d : Column). d.kind) one.2 in
-    let suited : suits (expr_kind columns s.becomes) one.0.kind ≡ true = ap (λ k. suits k one.0.kind) kinds.3 ∙ sym (ap (λ j. (kinds.1 == 0) || (kinds.1 == j)) kind) ∙ kinds.4 in
-    lasting columns s.becomes parts.1 (suited_last (expr_kind columns s.becomes) one.0.kind suited)
-
-all_last : (source : List ℕ) (cs : List TableColumn) (sets : List Set) → mistyped_in_sets (map (declared_column source) cs) sets ≡ None → list_all (λ (s : Set). has_no_empty_period s.becomes) sets ≡ true
-all_last source cs [] none = refl
-all_last source cs (s ∷ ss) none =
-    let parts = or_none (mistyped_in_set (map (declared_column source) cs) s) (mistyped_in_sets (map (declared_column source) cs) ss) none in
-    cong_and (set_lasts source cs s parts.0) (all_last source cs ss parts.1)
-
--- so it is of all that sets columns of a table without periods
-pub sets_last : (t : Table) (sets : List Set) → t.valid ≡ false → mistyped_in_sets (own_columns t) sets ≡ None → list_all (λ (s : Set). has_no_empty_period s.becomes) sets ≡ true
-sets_last t sets plain none = all_last t.name t.columns sets (ap (λ cs. mistyped_in_sets cs sets) (sym (own_declared t plain)) ∙ none)
+set_suits : (source : List ℕ) (cs : List TableColumn) (more : List Column) (s : Set) (p : ℕ) (c : TableColumn) → differ same_column cs ≡ true → slice_get cs p ≡ Some c → s.name ≡ c.name →
+    (f : Fits (map (declared_column source) cs ++ more) s) → ((f.value == 0) || (f.value == type_of c.kind)) ≡ true
+set_suits source cs more s p c apart there same f =
+    sym (ap (λ j. (f.value == 0) || (f.value == j)) (kind_is source cs more s.name f.column p c apart f.named there same)) ∙ f.suits
 
 -- a stored value of an expression that suits the column
-stored_suits : (columns : List Column) (s : Set) (row : Row) (c : TableColumn) (k : ℕ) (w : Value) → fits_columns columns row.values ≡ true → expr_kind columns s.becomes ≡ Some k →
+stored_suits : (columns : List Column) (s : Set) (row : Row) (c : TableColumn) (k : ℕ) (w : Value) → fits_columns columns row.values ≡ true → kind_in columns s.becomes ≡ Some k →
     ((k == 0) || (k == type_of c.kind)) ≡ true → option_map stored (value_of s.becomes columns row) ≡ Some w → of_type w (type_of c.kind) ≡ true
 stored_suits columns s row c k w fit kind suits made = by_value (value_of s.becomes columns row) refl made
   where
@@ -181,22 +129,21 @@ pub set_becomes : (columns : List Column) (sets : List Set) (row : Row) (c : Tab
     set_value columns sets row c v ≡ option_map stored (value_of s.becomes columns row)
 set_becomes columns sets row c v s found = rw found refl
 
-value_suits : (source : List ℕ) (cs : List TableColumn) (sets : List Set) (row : Row) (p : ℕ) (c : TableColumn) (v w : Value) → differ same_column cs ≡ true →
-    mistyped_in_sets (map (declared_column source) cs) sets ≡ None → fits_columns (map (declared_column source) cs) row.values ≡ true → slice_get cs p ≡ Some c → fits_column c v ≡ true →
-    set_value (map (declared_column source) cs) sets row c v ≡ Some w → of_type w (type_of c.kind) ≡ true
-value_suits source cs sets row p c v w apart typed fit there old made = by_set (find (λ (s : Set). bytes_eq s.name c.name) sets) refl
+value_suits : (source : List ℕ) (cs : List TableColumn) (more : List Column) (sets : List Set) (row : Row) (p : ℕ) (c : TableColumn) (v w : Value) → differ same_column cs ≡ true →
+    EachFits (map (declared_column source) cs ++ more) sets → fits_columns (map (declared_column source) cs ++ more) row.values ≡ true → slice_get cs p ≡ Some c → fits_column c v ≡ true →
+    set_value (map (declared_column source) cs ++ more) sets row c v ≡ Some w → of_type w (type_of c.kind) ≡ true
+value_suits source cs more sets row p c v w apart typed fit there old made = by_set (find (λ (s : Set). bytes_eq s.name c.name) sets) refl
   where
     by_set : (o : Option Set) → find (λ (s : Set). bytes_eq s.name c.name) sets ≡ o → of_type w (type_of c.kind) ≡ true
     by_set None is =
-        let both : Some w ≡ Some v = sym made ∙ unset_value (map (declared_column source) cs) sets row c v is in
+        let both : Some w ≡ Some v = sym made ∙ unset_value (map (declared_column source) cs ++ more) sets row c v is in
         let e : w ≡ v = cc in
         ap (λ u. of_type u (type_of c.kind)) e ∙ of_column c v old
     by_set (Some s) is =
-        let columns = map (declared_column source) cs in
+        let columns = map (declared_column source) cs ++ more in
         let same = same_name s.name c.name (found_test (λ (s : Set). bytes_eq s.name c.name) sets s is) in
-        let none = none_is (mistyped_in_set columns s) (found_passes (λ (s : Set). bytes_eq s.name c.name) (λ (s : Set). is_none (mistyped_in_set columns s)) sets s (all_typed columns sets typed) is) in
-        let suits = set_suits source cs s p c apart there same none in
-        stored_suits columns s row c suits.0 w fit suits.1 suits.2 (sym (set_becomes columns sets row c v s is) ∙ made)
+        let f = found_fits columns (λ (s : Set). bytes_eq s.name c.name) sets s typed is in
+        stored_suits columns s row c f.value w fit f.kind (set_suits source cs more s p c apart there same f) (sym (set_becomes columns sets row c v s is) ∙ made)
 
 -- ---- the new row
 
@@ -214,6 +161,19 @@ each_set columns sets row (d ∷ ds) (u ∷ us) new fit made zero c w column val
 each_set columns sets row (d ∷ ds) (u ∷ us) new fit made (suc p) c w column value =
     let parts = before_some (set_value columns sets row d u) (set_values columns sets row ds us) new made in
     each_set columns sets row ds us parts.1 (both_true (fits_column d u) (fit_columns ds us) fit).1 parts.3 p c w column (sym (ap (λ l. slice_get l (suc p)) parts.4) ∙ value)
+
+-- what stands behind the declared values is not read as one of them
+set_taken : (columns : List Column) (sets : List Set) (row : Row) (cs : List TableColumn) (vs : List Value) → set_values columns sets row cs (take (length cs) vs) ≡ set_values columns sets row cs vs
+set_taken columns sets row [] vs = refl
+set_taken columns sets row (c ∷ cs) [] = refl
+set_taken columns sets row (c ∷ cs) (v ∷ vs) = ap (λ rest. before (set_value columns sets row c v) rest) (set_taken columns sets row cs vs)
+
+set_declared : (columns : List Column) (sets : List Set) (row : Row) (t : Table) (vs : List Value) → set_values columns sets row t.columns (declared_values t vs) ≡ set_values columns sets row t.columns vs
+set_declared columns sets row t vs = by_valid t.valid
+  where
+    by_valid : (valid : Bool) → set_values columns sets row t.columns (cond valid (take (length t.columns) vs) vs) ≡ set_values columns sets row t.columns vs
+    by_valid true = set_taken columns sets row t.columns vs
+    by_valid false = refl
 
 new_length : (columns : List Column) (sets : List Set) (row : Row) (cs : List TableColumn) (vs new : List Value) → fit_columns cs vs ≡ true → set_values columns sets row cs vs ≡ Some new → length cs ≡ length new
 new_length columns sets row [] vs new fit made = let e : new ≡ [] = cc in sym (ap length e)
@@ -258,35 +218,33 @@ not_key t c (s ∷ ss) keyed there none =
     ∙ ap (λ o. option_map_or (λ (c : TableColumn). bytes_eq c.name s.name) o false) there in
     ap (λ b. cond b (Some s) (find (λ (s : Set). bytes_eq s.name c.name) ss)) (turned c.name s.name (sym asked ∙ parts.0)) ∙ not_key t c ss keyed there parts.1
 
-key_stays : (t : Table) (columns : List Column) (sets : List Set) (row : Row) (new : List Value) → is_table t ≡ true → t.has_key ≡ true → key_set t sets ≡ None → fit_columns t.columns row.values ≡ true →
-    set_values columns sets row t.columns row.values ≡ Some new → slice_get new t.key_column ≡ slice_get row.values t.key_column
-key_stays t columns sets row new order keyed none fit made =
+key_stays : (t : Table) (columns : List Column) (sets : List Set) (row : Row) (vs new : List Value) → is_table t ≡ true → t.has_key ≡ true → key_set t sets ≡ None → fit_columns t.columns vs ≡ true →
+    set_values columns sets row t.columns vs ≡ Some new → slice_get new t.key_column ≡ slice_get vs t.key_column
+key_stays t columns sets row vs new order keyed none fit made =
     let near : t.key_column < length t.columns = is_below t.key_column (length t.columns) (sym (ap (λ b. cond b (nat_lt t.key_column (length t.columns)) true) keyed) ∙ (table_parts t order).1) in
-    let same : length t.columns ≡ length new = new_length columns sets row t.columns row.values new fit made in
+    let same : length t.columns ≡ length new = new_length columns sets row t.columns vs new fit made in
     let column = got t.columns t.key_column near in
     let value = got new t.key_column (omega (arith, near, same)) in
-    let old = each_set columns sets row t.columns row.values new fit made t.key_column column.0 value.0 column.1 value.1 in
+    let old = each_set columns sets row t.columns vs new fit made t.key_column column.0 value.0 column.1 value.1 in
     let unset = not_key t column.0 sets keyed column.1 (map_none (λ (s : Set). s.name) (find (λ (s : Set). is_key t s.name) sets) none) in
     value.1 ∙ sym old.3 ∙ unset_value columns sets row column.0 old.0 unset ∙ sym old.1
 
 -- ---- the law
 
--- the row that UPDATE makes of one that stands in the table stands there too, under the same key
-pub row_replaces : (t : Table) (sets : List Set) (row : Row) (new : List Value) → t.valid ≡ false → is_table t ≡ true → t.has_key ≡ true →
-    mistyped_in_sets (own_columns t) sets ≡ None → key_set t sets ≡ None → stands_in t row.values ≡ true → updated_row t sets row ≡ Some new → row_fault t new ≡ None →
-    (stands_in t new ≡ true) × (row_key t new ≡ row_key t row.values)
-row_replaces t sets row new plain order keyed typed unset old made light =
-    let columns = map (declared_column t.name) t.columns in
-    let own = own_declared t plain in
-    let olds = both_true (is_row_of row.values t) (is_key_of (row_key t row.values) t && list_all is_filled row.values) old in
-    let fit = (both_true (fit_columns t.columns row.values) _ olds.0).0 in
-    let filled = (both_true (is_key_of (row_key t row.values) t) (list_all is_filled row.values) olds.1).1 in
-    let set : set_values columns sets row t.columns row.values ≡ Some new = ap (λ cs. set_values cs sets row t.columns row.values) (sym own) ∙ made in
-    let right : mistyped_in_sets columns sets ≡ None = ap (λ cs. mistyped_in_sets cs sets) (sym own) ∙ typed in
-    let stand = stands t new order keyed light (new_length columns sets row t.columns row.values new fit set) (λ p c w column value.
-    let was = each_set columns sets row t.columns row.values new fit set p c w column value in
-    value_suits t.name t.columns sets row p c was.0 w (table_parts t order).0 right (declared_fit t.name t.columns row.values fit) column was.2 was.3) in
+-- the row that UPDATE makes of a shown one stands in the table, under the same key
+pub row_replaces : (t : Table) (sets : List Set) (row : Row) (new : List Value) → is_table t ≡ true → t.has_key ≡ true →
+    EachFits (own_columns t) sets → key_set t sets ≡ None → is_shown t row.values ≡ true → updated_row t sets row ≡ Some new → row_fault t new ≡ None →
+    (stands_in t new ≡ true) × (row_key t new ≡ row_key t (declared_values t row.values))
+row_replaces t sets row new order keyed typed unset old made light =
+    let columns = own_columns t in
+    let vs = declared_values t row.values in
+    let olds = shown_parts t row.values old in
+    let fit = (both_true (fit_columns t.columns vs) _ olds.0).0 in
+    let set : set_values columns sets row t.columns vs ≡ Some new = set_declared columns sets row t row.values ∙ made in
+    let stand = stands t new order keyed light (new_length columns sets row t.columns vs new fit set) (λ p c w column value.
+    let was = each_set columns sets row t.columns vs new fit set p c w column value in
+    value_suits t.name t.columns (cond t.valid (valid_column t.name ∷ []) []) sets row p c was.0 w (table_parts t order).0 typed (shown_fits t row.values old) column was.2 was.3) in
     let key : row_key t new ≡ stand.value ∷ [] = ap (λ o. unwrap_or o []) stand.key in (
-      cong_and stand.fits (cong_and (ap (λ k. is_key_of k t) key ∙ stand.key_fits) (new_filled columns sets row t.columns row.values new filled set)),
-      ap (λ o. unwrap_or (option_and_then (λ v. cond t.has_key (Some (v ∷ [])) None) o) []) (key_stays t columns sets row new order keyed unset fit set),
+      cong_and stand.fits (cong_and (ap (λ k. is_key_of k t) key ∙ stand.key_fits) (new_filled columns sets row t.columns vs new olds.2 set)),
+      ap (λ o. unwrap_or (option_and_then (λ v. cond t.has_key (Some (v ∷ [])) None) o) []) (key_stays t columns sets row vs new order keyed unset fit set),
     )

@@ -16,7 +16,6 @@ use Rattle.wm_making.proofs.Fitted.{of_type, number_typed, constant_typed, teste
 use Rattle.wm_making.proofs.Nones.{both_true}
 use Rattle.wm_spec.specs.Expressions.{number_in, value_of}
 use Rattle.wm_spec.specs.Operands.{is_named, kind_of, suffixed_kind, constant_kind, constant_value, is_period, operand_kind, fits_columns, value_at, suffixed, period_at, tested, operand_value}
-use Rattle.wm_typing.specs.Types.{expr_kind}
 
 some_of : {A : Type 0} (b : Bool) (o : Option A) (x : A) → cond b o None ≡ Some x → o ≡ Some x
 some_of true o x is = is
@@ -93,8 +92,16 @@ operand_typed (operands.Test operator left right) columns vs k fit is =
     ap (λ n. of_type (tested operator (period_at left columns vs) (period_at right columns vs)) n) (one_chosen (is_period left columns && is_period right columns) k is)
     ∙ tested_typed operator (period_at left columns vs) (period_at right columns vs)
 
+-- the type of an expression over columns that are all there
+abbrev pub kind_in : List Column → Expr → Option ℕ
+kind_in columns (Of operand) = operand_kind operand columns
+kind_in columns (Neg x) = Some 1
+kind_in columns (Add x y) = Some 1
+kind_in columns (Sub x y) = Some 1
+kind_in columns (Mul x y) = Some 1
+
 -- the value of an expression has its type, or is NULL
-pub value_typed : (x : Expr) (columns : List Column) (row : Row) (k : ℕ) (v : Value) → fits_columns columns row.values ≡ true → expr_kind columns x ≡ Some k → value_of x columns row ≡ Some v → of_type v k ≡ true
+pub value_typed : (x : Expr) (columns : List Column) (row : Row) (k : ℕ) (v : Value) → fits_columns columns row.values ≡ true → kind_in columns x ≡ Some k → value_of x columns row ≡ Some v → of_type v k ≡ true
 unfolding value_of
 value_typed (Of operand) columns row k v fit is made =
     let e : v ≡ operand_value operand columns row.values = cc in ap (λ w. of_type w k) e ∙ operand_typed operand columns row.values k fit is

@@ -1,6 +1,7 @@
 //! The rows that a condition chooses.
 ghost use Rattle.std.specs.Prelude.{◌≡◌, Bool, true, List, filter, Option, IfOk};
 ghost use Rattle.std.specs.List.{list_all};
+ghost use Rattle.wm_base.specs.declared.row.Row.{Row as RowOf};
 ghost use Rattle.wm_base.specs.declared.value.Value.{Value as ValueOf};
 ghost use Rattle.wm_base.specs.Trees.{Cond as CondTree};
 ghost use Rattle.wm_base.specs.Views.{cond_view};
@@ -44,6 +45,10 @@ pub fn chosen<F: Fn(&Row) -> Truth + Judge>(
 
     // Of a table whose columns the test judges, by a WHERE for which its condition stands.
     ensures chosen { IfOk result (λ kept. (t : TableOf) (condition : Option CondTree) → test.now.columns ≡ own_columns t → cond_view test.now.cond ≡ where_of condition → kept.items ≡ chosen_of t condition rows.items) }
+
+    // What each row passes, each of those passes, and no two of them are alike where no two of all rows are.
+    ensures pass { IfOk result (λ kept. (test : RowOf → Bool) → list_all test rows.items ≡ true → list_all test kept.items ≡ true) }
+    ensures differ { IfOk result (λ kept. (same : RowOf → RowOf → Bool) → differ same rows.items ≡ true → differ same kept.items ≡ true) }
 
     // Those of rows that stand in a table stand in it, and their keys differ where those of all rows do.
     ensures stand { IfOk result (λ kept. (t : TableOf) → all_stand t rows.items ≡ true → all_stand t kept.items ≡ true) }

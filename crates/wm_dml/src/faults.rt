@@ -1,5 +1,5 @@
 //! What UPDATE is refused for by the rows that it would write.
-ghost use Rattle.std.specs.Prelude.{◌≡◌, true, false, List, Option, None, Some, IfOk, option_copied};
+ghost use Rattle.std.specs.Prelude.{◌≡◌, true, List, Option, None, Some, IfOk, option_copied};
 ghost use Rattle.wm_base.specs.Trees.{Cond as CondTree, Set as SetTree};
 ghost use Rattle.wm_base.specs.declared.row.Row.{Row as RowOf};
 ghost use Rattle.wm_graph.specs.Rules.{is_table};
@@ -70,8 +70,8 @@ fn fault_of(alloc: Global, table: &Table, rows: &[Values]) -> Result<Option<Refu
 pub fn rows_fault(alloc: Global, table: &Table, rows: &[Values]) -> Result<Option<Refusal>, Memory>
     ensures fault { IfOk result (λ refusal. refusal ≡ fault_of_rows table.now rows.now) }
 
-    // Rows that an UPDATE makes of rows of the table, where neither is refused, may stand in their places.
-    ensures may_replace { IfOk result (λ refusal. refusal ≡ None → (sets : List SetTree) (filter : Option CondTree) (olds : List RowOf) → update_fault table.now sets filter ≡ None → updated_rows table.now sets olds ≡ Some rows.now → all_stand table.now olds ≡ true → table.now.valid ≡ false → is_table table.now ≡ true → table.now.has_key ≡ true → MayReplace table.now olds rows.now) }
+    // Rows that an UPDATE makes of shown rows of the table, where neither is refused, may stand in their places.
+    ensures may_replace { IfOk result (λ refusal. refusal ≡ None → (sets : List SetTree) (filter : Option CondTree) (olds : List RowOf) → update_fault table.now sets filter ≡ None → updated_rows table.now sets olds ≡ Some rows.now → all_stand table.now olds ≡ true → is_table table.now ≡ true → table.now.has_key ≡ true → MayReplace table.now olds rows.now) }
 {
     let refusal = fault_of(alloc, table, rows)?;
     Ok(refusal)

@@ -20,10 +20,10 @@ fn key_value<'a>(table: &Table, row: &'a [Value]) -> Option<&'a Value>
 }
 
 /// The key of a row of the table: its value in the key column, alone.
-pub fn row_key(alloc: Global, table: &Table, row: &Values) -> Result<Key, Memory>
+pub fn row_key(alloc: Global, table: &Table, row: &[Value]) -> Result<Key, Memory>
     ensures { IfOk result (λ key. key ≡ key_of_row table.now row.now) }
 {
-    match key_value(table, row.as_slice()) {
+    match key_value(table, row) {
         Some(value) => Ok(Key::single(alloc, value.copy(alloc)?)?),
         None => Ok(Key::from_values(Values::new(alloc))),
     }

@@ -1,19 +1,23 @@
-//! What UPDATE and DELETE write, and what UPDATE is refused for by the rows that it would write.
+//! What INSERT, UPDATE and DELETE write, and what UPDATE is refused for by the rows that it would write.
 #![tactic(auto)]
 
+mod adding;
 pub mod change;
 mod choosing;
 mod deleting;
 mod faults;
 mod keys;
 mod replaced_rows;
+mod shown;
 #[cfg(test)]
 mod tests;
 mod updated;
 
+pub use adding::added;
 pub use change::RowChange;
 pub use choosing::chosen;
 pub use deleting::deleted;
 pub use faults::rows_fault;
 pub use replaced_rows::replacing;
-pub use updated::updated_rows;
+pub use shown::{declared_values, row_period};
+pub use updated::{sets_period, updated_rows};

@@ -1,44 +1,71 @@
 //! What UPDATE writes.
-ghost use Rattle.std.specs.Prelude.{◌≡◌, true, map, IfOk};
+ghost use Rattle.std.specs.Prelude.{◌≡◌, true, length, map, IfOk};
 ghost use Rattle.std.specs.List.{list_all};
-ghost use Rattle.wm_dml.specs.Changing.{row_key as key_of_row, replaced as replaced_of, replacing as replacing_of};
-ghost use Rattle.wm_dml.specs.Standing.{stands_in, is_change, writes_filled, change_keys};
+ghost use Rattle.wm_base.specs.Period.{overlaps};
+ghost use Rattle.wm_dml.specs.Changing.{all_overlap, row_key as key_of_row, row_period as period_of_row, replaced as replaced_of, replacing as replacing_of};
+ghost use Rattle.wm_dml.specs.Standing.{stands_in, periods_of, is_change, writes_filled, change_keys, change_periods};
 
 use crate::change::RowChange;
 use crate::keys::row_key;
+use crate::shown::{row_period, shared};
 use std::alloc::Global;
-use wm_base::{Kind, Memory, Values};
+use wm_base::{Kind, Memory, Period, Row, Values};
 use wm_spec::record::Table;
 
-/// The row in the place of the one of its key.
-fn replaced(alloc: Global, table: &Table, row: Values) -> Result<RowChange, Memory>
-    ensures { IfOk result (λ change. change ≡ replaced_of table.now row) }
+/// The row in the place of the old one of its key, over what the period of that one shares with that of the session.
+fn replaced(
+    alloc: Global,
+    table: &Table,
+    within: &Period,
+    old: &Row,
+    row: Values,
+) -> Result<RowChange, Memory>
+    requires { overlaps (period_of_row table.now old.now) within.now ≡ true }
+    ensures { IfOk result (λ change. change ≡ replaced_of table.now within.now old.now row) }
 {
+    let period = row_period(table, old);
     Ok(RowChange {
-        key: row_key(alloc, table, &row)?,
+        key: row_key(alloc, table, row.as_slice())?,
+        period: shared(&period, within),
         row: Some(row),
         kind: Kind::Update,
     })
 }
 
-/// Each row in the place of the one of its key, in order.
-fn all_replaced(alloc: Global, table: &Table, rows: Vec<Values>) -> Result<Vec<RowChange>, Memory>
-    ensures { IfOk result (λ changes. changes.items ≡ replacing_of table.now rows.items) }
+/// Each row in the place of the old one that stands where it stands, in order.
+fn all_replaced(
+    alloc: Global,
+    table: &Table,
+    within: &Period,
+    olds: &[Row],
+    rows: Vec<Values>,
+) -> Result<Vec<RowChange>, Memory>
+    requires { all_overlap table.now within.now olds.now ≡ true }
+    ensures { IfOk result (λ changes. changes.items ≡ replacing_of table.now within.now olds.now rows.items) }
 {
     let mut changes = Vec::new(alloc);
-    for row in rows {
-        changes.push(replaced(alloc, table, row)?)?;
+    for (old, row) in olds.iter().zip(rows) {
+        changes.push(replaced(alloc, table, within, old, row)?)?;
     }
     Ok(changes)
 }
 
-/// What UPDATE writes of the rows that it made: each in the place of the one of its key, in order.
-pub fn replacing(alloc: Global, table: &Table, rows: Vec<Values>) -> Result<Vec<RowChange>, Memory>
-    ensures exact { IfOk result (λ changes. changes.items ≡ replacing_of table.now rows.items) }
-    ensures keys { IfOk result (λ changes. change_keys changes.items ≡ map (key_of_row table.now) rows.items) }
+/// What UPDATE writes of the rows that it made of the shown rows: each in the place of its own, over the session's period,
+/// in order.
+pub fn replacing(
+    alloc: Global,
+    table: &Table,
+    within: &Period,
+    olds: &[Row],
+    rows: Vec<Values>,
+) -> Result<Vec<RowChange>, Memory>
+    requires { all_overlap table.now within.now olds.now ≡ true }
+    ensures exact { IfOk result (λ changes. changes.items ≡ replacing_of table.now within.now olds.now rows.items) }
+    ensures keys { IfOk result (λ changes. length olds.now ≡ length rows.items → change_keys changes.items ≡ map (key_of_row table.now) rows.items) }
+    ensures periods { IfOk result (λ changes. length olds.now ≡ length rows.items → change_periods changes.items ≡ periods_of table.now within.now olds.now) }
     ensures fit { IfOk result (λ changes. list_all (stands_in table.now) rows.items ≡ true → list_all (is_change table.now) changes.items ≡ true) }
     ensures filled { IfOk result (λ changes. list_all (stands_in table.now) rows.items ≡ true → list_all writes_filled changes.items ≡ true) }
 {
-    let changes = all_replaced(alloc, table, rows)?;
+    let changes = all_replaced(alloc, table, within, olds, rows)?;
     Ok(changes)
 }

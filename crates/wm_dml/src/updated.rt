@@ -1,13 +1,14 @@
 //! The rows that UPDATE makes of others.
-ghost use Rattle.std.specs.Prelude.{◌≡◌, true, Some, None, bytes_eq, IfOk};
-ghost use Rattle.std.specs.List.{list_all, find};
+ghost use Rattle.std.specs.Prelude.{◌≡◌, true, Some, None, length, bytes_eq, IfOk};
+ghost use Rattle.std.specs.List.{list_all, list_any, find};
 ghost use Rattle.std.specs.Option.{option_copied, option_map};
 ghost use Rattle.std.specs.Result.{IsErrOf};
 ghost use Rattle.wm_base.specs.Trees.{Set as SetTree};
 ghost use Rattle.wm_base.specs.Views.{expr_view, set_view, sets_view};
 ghost use Rattle.wm_spec.specs.Expressions.{value_of, has_no_empty_period};
+ghost use Rattle.wm_spec.specs.Operands.{wm_valid};
 ghost use Rattle.wm_making.specs.Rows.{stored as as_stored};
-ghost use Rattle.wm_dml.specs.Changing.{own_columns, set_value as value_set, set_values as values_set, updated_rows as rows_of};
+ghost use Rattle.wm_dml.specs.Changing.{own_columns, sets_period as period_set, set_value as value_set, set_values as values_set, updated_rows as rows_of};
 
 use std::alloc::Global;
 use wm_base::tree::statement::Set;
@@ -16,6 +17,26 @@ use wm_expr::{ValueFault, value};
 use wm_making::stored;
 use wm_spec::record::{Table, TableColumn};
 use wm_typing::columns_of_table;
+
+/// Whether one of the changes is of WM_VALID.
+fn is_valid_set(sets: &[Set]) -> bool
+    ensures { result ≡ list_any (λ (s : SetTree). bytes_eq s.name wm_valid) (sets_view sets.now) }
+{
+    for set in sets {
+        if set.name.equals(b"WM_VALID") {
+            return true;
+        }
+    }
+    false
+}
+
+/// Whether the sets give new periods to rows of a table with valid time: then `updated_rows` and `replacing` do not say
+/// what the UPDATE writes.
+pub fn sets_period(table: &Table, sets: &[Set]) -> bool
+    ensures { result ≡ period_set table.now (sets_view sets.now) }
+{
+    table.valid && is_valid_set(sets)
+}
 
 /// What sets the column of that name.
 fn set_of<'a>(sets: &'a [Set], name: &Name) -> Option<&'a Set>
@@ -83,9 +104,8 @@ fn set_values(
     Ok(made)
 }
 
-/// The rows that the sets make of the rows, in order. They are out of range exactly where some number on the way is no
-/// `i64`.
-pub fn updated_rows(
+/// So the rows that are made of all.
+fn all_updated(
     alloc: Global,
     table: &Table,
     sets: &[Set],
@@ -103,5 +123,22 @@ pub fn updated_rows(
         made.push(Values::from_vec(one))
             .map_err(|_| ValueFault::Memory)?;
     }
+    Ok(made)
+}
+
+/// The rows that the sets make of the shown rows, in order, without their periods. They are out of range exactly where
+/// some number on the way is no `i64`.
+pub fn updated_rows(
+    alloc: Global,
+    table: &Table,
+    sets: &[Set],
+    rows: &[Row],
+) -> Result<Vec<Values>, ValueFault>
+    requires { list_all (λ (s : SetTree). has_no_empty_period s.becomes) (sets_view sets.now) ≡ true }
+    ensures ok { IfOk result (λ made. rows_of table.now (sets_view sets.now) rows.now ≡ Some made.items) }
+    ensures out_of_range { IsErrOf result ValueFault.OutOfRange → rows_of table.now (sets_view sets.now) rows.now ≡ None }
+    ensures as_many { IfOk result (λ made. length rows.now ≡ length made.items) }
+{
+    let made = all_updated(alloc, table, sets, rows)?;
     Ok(made)
 }

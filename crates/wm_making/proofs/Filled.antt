@@ -1,5 +1,5 @@
 -- No text of a row that INSERT writes is empty.
-use Rattle.std.proofs.Common.{◌≡◌, ℕ, zero, suc, Bool, true, false, nat_lt, length, arith, List, [], ◌∷◌, map, refl, sym, ap, ◌∙◌}
+use Rattle.std.proofs.Common.{◌≡◌, ℕ, zero, suc, Bool, true, false, nat_lt, length, arith, List, [], ◌∷◌, map, take, refl, sym, ap, ◌∙◌}
 use Rattle.std.proofs.lemmas.Bool.Decides.{nat_tests}
 use Rattle.std.specs.Prelude.{Option, Some, None, option_map, slice_get, unwrap_or, bytes_eq}
 use Rattle.std.specs.List.{list_all, position}
@@ -57,8 +57,13 @@ columns_filled : (names : List (List ℕ)) (vs : List Value) (cs : List TableCol
 columns_filled names vs [] all = refl
 columns_filled names vs (c ∷ cs) all = cong_and (named_filled names vs c.name all) (columns_filled names vs cs all)
 
+taken_filled : (n : ℕ) (vs : List Value) → list_all is_filled vs ≡ true → list_all is_filled (take n vs) ≡ true
+taken_filled zero vs all = refl
+taken_filled (suc n) [] all = refl
+taken_filled (suc n) (v ∷ vs) all = let parts = both_true (is_filled v) (list_all is_filled vs) all in cong_and parts.0 (taken_filled n vs parts.1)
+
 arranged_filled : (t : Table) (names : Option (List (List ℕ))) (vs : List Value) → list_all is_filled vs ≡ true → list_all is_filled (arranged t names vs) ≡ true
-arranged_filled t None vs all = all
+arranged_filled t None vs all = taken_filled (length t.columns) vs all
 arranged_filled t (Some names) vs all = columns_filled names vs t.columns all
 
 pub row_filled : (t : Table) (names : Option (List (List ℕ))) (xs : List Expr) (row : List Value) → row_of t names xs ≡ Some row → list_all is_filled row ≡ true

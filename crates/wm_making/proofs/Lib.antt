@@ -4,3 +4,4 @@ pub mod Fitted
 pub mod Written
 pub mod Placed
 pub mod Filled
+pub mod Given

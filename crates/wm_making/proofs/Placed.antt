@@ -1,62 +1,94 @@
--- Where INSERT is refused for nothing, each value goes to a column, and no period that is written in it is empty.
-use Rattle.std.proofs.Common.{◌≡◌, ℕ, zero, suc, ◌+◌, ◌<◌, Bool, true, false, cond, List, [], ◌∷◌, ◌++◌, length, refl, sym, ap, ◌∙◌, arith, zero-add}
-use Rattle.std.specs.Prelude.{Option, Some, None, ◌&&◌, ◌||◌, ◌==◌, not, slice_get}
-use Rattle.std.specs.List.{find, list_any, list_all}
+-- Where INSERT is refused for nothing, no period that is written in a value for a declared column is empty, and a period is written
+-- in the value for WM_VALID.
+use Rattle.std.proofs.Common.{◌≡◌, ℕ, zero, suc, ◌+◌, ◌<◌, Bool, true, false, cond, List, [], ◌∷◌, length, refl, sym, ap, ◌∙◌, arith}
+use Rattle.std.specs.Prelude.{Option, Some, None, ◌&&◌, is_none, is_some, slice_get}
+use Rattle.std.specs.List.{list_all}
 use Rattle.std.specs.Option.{option_and_then}
-use Rattle.std.specs.Str.{bytes_eq}
-use Rattle.wm_base.specs.Trees.{Expr}
+use Rattle.wm_base.specs.Trees.{Expr, Of, Neg, Add, Sub, Mul}
+use Rattle.wm_base.specs.declared.tree.column.Suffix.{Suffix}
+use Rattle.wm_base.specs.declared.tree.constant.Const.TheVariants as constants
+use Rattle.wm_base.specs.declared.tree.operand.Operand.{Operand}
+use Rattle.wm_base.specs.declared.tree.operand.Operand.TheVariants as operands
 use Rattle.wm_spec.specs.Expressions.{has_no_empty_period}
+use Rattle.wm_spec.specs.Operands.{wm_valid, suffixed_kind, operand_kind, is_period as is_period_there}
 use Rattle.wm_spec.specs.declared.record.column.TableColumn.{TableColumn}
 use Rattle.wm_spec.specs.declared.record.table.Table.{Table}
 use Rattle.wm_typing.specs.Types.{expr_kind, mistyped_in_expr}
-use Rattle.wm_making.specs.Creating.{misplaced}
-use Rattle.wm_making.specs.Inserting.{has_name, has_column, bad_name, values_asked, column_for, suits, misfit, misfit_from}
+use Rattle.wm_making.specs.Inserting.{column_for, suits, is_period, misfit_in, misfit_from, value_for_period}
+use Rattle.wm_making.specs.Rows.{written_in, written_period}
 use Rattle.wm_making.proofs.Fitted.{lasting, suited_last}
-use Rattle.wm_making.proofs.Nones.{or_none, if_not_none, both_true, cong_and}
-
--- a list of which no name is misplaced has names that may stand there
-each_may : (may : List ℕ → Bool) (before names : List (List ℕ)) → misplaced may before names ≡ None → (p : ℕ) (n : List ℕ) → slice_get names p ≡ Some n → may n ≡ true
-each_may may before [] none p n there = absurd (cc)
-each_may may before (name ∷ names) none zero n there =
-    let e : n ≡ name = cc in
-    ap may e ∙ (both_true (may name) (not (list_any (bytes_eq name) before)) (if_not_none (may name && not (list_any (bytes_eq name) before)) name (misplaced may (before ++ name ∷ []) names) none).0).0
-each_may may before (name ∷ names) none (suc p) n there =
-    each_may may (before ++ name ∷ []) names (if_not_none (may name && not (list_any (bytes_eq name) before)) name (misplaced may (before ++ name ∷ []) names) none).1 p n there
-
-found_one : (test : TableColumn → Bool) (cs : List TableColumn) → list_any test cs ≡ true → (c : TableColumn) × (find test cs ≡ Some c)
-found_one test [] there = absurd (cc)
-found_one test (c ∷ cs) there = choose (test c) refl (λ rest. found_one test cs rest)
-  where
-    choose : (b : Bool) → test c ≡ b → (list_any test cs ≡ true → (d : TableColumn) × (find test cs ≡ Some d)) → (d : TableColumn) × (find test (c ∷ cs) ≡ Some d)
-    choose true is more = (c, ap (λ b. cond b (Some c) (find test cs)) is)
-    choose false is more =
-        let rest = more (sym (ap (λ b. b || list_any test cs) is) ∙ there) in
-        (rest.0, ap (λ b. cond b (Some c) (find test cs)) is ∙ rest.1)
+use Rattle.wm_making.proofs.Nones.{or_none, if_none, if_not_none, both_true, cong_and}
 
 pub got : {A : Type 0} (xs : List A) (p : ℕ) → p < length xs → (x : A) × (slice_get xs p ≡ Some x)
 got [] p near = absurd (omega arith)
 got (x ∷ xs) zero near = (x, refl)
 got (x ∷ xs) (suc p) near = got xs p (omega arith)
 
--- each value goes to a column
-goes_to : (t : Table) (names : Option (List (List ℕ))) → bad_name t names ≡ None → (p : ℕ) → p < values_asked t names → (c : TableColumn) × (column_for t names p ≡ Some c)
-goes_to t None good p near = got t.columns p near
-goes_to t (Some names) good p near =
-    let name = got names p near in
-    let column = found_one (has_name name.0) t.columns (each_may (has_column t) [] names good p name.0 name.1) in
-    (column.0, ap (λ o. option_and_then (λ n. find (has_name n) t.columns) o) name.1 ∙ column.1)
+-- ---- values for declared columns
 
-all_last : (t : Table) (names : Option (List (List ℕ))) (place : ℕ) (xs : List Expr) → misfit_from t names place xs ≡ None →
-    ((p : ℕ) → p < place + length xs → (c : TableColumn) × (column_for t names p ≡ Some c)) → list_all has_no_empty_period xs ≡ true
-all_last t names place [] none each = refl
-all_last t names place (x ∷ xs) none each =
-    let parts = or_none (option_and_then (misfit x) (column_for t names place)) (misfit_from t names (place + 1) xs) none in
-    let column = each place (omega arith) in
-    let fit : misfit x column.0 ≡ None = sym (ap (λ o. option_and_then (misfit x) o) column.1) ∙ parts.0 in
-    let typed = if_not_none (suits (expr_kind [] x) column.0.kind) column.0.name (mistyped_in_expr [] x) fit in
-    cong_and (lasting x typed.1 (suited_last (expr_kind [] x) column.0.kind typed.0)) (all_last t names (place + 1) xs parts.1 (λ p near. each p (omega arith)))
+one_lasts : (x : Expr) (column : Option TableColumn) → is_none column ≡ false → misfit_in x column ≡ None → has_no_empty_period x ≡ true
+one_lasts x None there fit = absurd (cc)
+one_lasts x (Some c) there fit =
+    let typed = if_not_none (suits (expr_kind [] x) c.kind) c.name (mistyped_in_expr [] x) fit in
+    lasting x typed.1 (suited_last (expr_kind [] x) c.kind typed.0)
 
--- each period that is written in a value has its first end below its second
-pub periods_last : (t : Table) (names : Option (List (List ℕ))) (xs : List Expr) → bad_name t names ≡ None → length xs ≡ values_asked t names → misfit_from t names 0 xs ≡ None →
+-- each period that is written in a value has its first end below its second, where no value is for WM_VALID
+pub periods_last : (t : Table) (names : Option (List (List ℕ))) (place : ℕ) (xs : List Expr) → misfit_from t names place xs ≡ None → value_for_period t names place xs ≡ None →
     list_all has_no_empty_period xs ≡ true
-periods_last t names xs good count none = all_last t names 0 xs none (λ p near. goes_to t names good p (omega (arith, near, count)))
+periods_last t names place [] none nowhere = refl
+periods_last t names place (x ∷ xs) none nowhere =
+    let parts = or_none (misfit_in x (column_for t names place)) (misfit_from t names (place + 1) xs) none in
+    let others = if_none (is_none (column_for t names place)) x (value_for_period t names (place + 1) xs) nowhere in
+    cong_and (one_lasts x (column_for t names place) others.0 parts.0) (periods_last t names (place + 1) xs parts.1 others.1)
+
+-- ---- the value for WM_VALID
+
+no_end : (suffix : Option Suffix) → is_period (suffixed_kind suffix None) ≡ true → ⊥
+no_end None is = cc
+no_end (Some suffix) is = cc
+
+no_test : (test : Bool) → is_period (cond test (Some 1) None) ≡ true → ⊥
+no_test true is = cc
+no_test false is = cc
+
+operand_written : (operand : Operand) → is_period (operand_kind operand []) ≡ true → is_some (written_in operand) ≡ true
+operand_written (operands.Col col) is = absurd (no_end col.suffix is)
+operand_written (operands.Const constants.Null) is = absurd (cc)
+operand_written (operands.Const (constants.Num n)) is = absurd (cc)
+operand_written (operands.Const (constants.Text text)) is = absurd (cc)
+operand_written (operands.Const (constants.Time instant)) is = absurd (cc)
+operand_written (operands.Const constants.Sysdate) is = absurd (cc)
+operand_written (operands.Const (constants.Span from till)) is = refl
+operand_written (operands.Test operator left right) is = absurd (no_test (is_period_there left [] && is_period_there right []) is)
+
+-- what is a period and names no column is written
+written : (x : Expr) → is_period (expr_kind [] x) ≡ true → is_some (written_period x) ≡ true
+written (Of operand) is = operand_written operand is
+written (Neg x) is = absurd (cc)
+written (Add x y) is = absurd (cc)
+written (Sub x y) is = absurd (cc)
+written (Mul x y) is = absurd (cc)
+
+-- a value for WM_VALID that is not refused is a period that is written
+pub period_written : (t : Table) (names : Option (List (List ℕ))) (place : ℕ) (xs : List Expr) → misfit_from t names place xs ≡ None →
+    is_some (option_and_then written_period (value_for_period t names place xs)) ≡ is_some (value_for_period t names place xs)
+period_written t names place [] none = refl
+period_written t names place (x ∷ xs) none =
+    let parts = or_none (misfit_in x (column_for t names place)) (misfit_from t names (place + 1) xs) none in
+    choose (column_for t names place) (value_for_period t names (place + 1) xs) parts.0 (period_written t names (place + 1) xs parts.1)
+  where
+    choose : (column : Option TableColumn) (rest : Option Expr) → misfit_in x column ≡ None → is_some (option_and_then written_period rest) ≡ is_some rest →
+        is_some (option_and_then written_period (cond (is_none column) (Some x) rest)) ≡ is_some (cond (is_none column) (Some x) rest)
+    choose None rest fit more = written x (if_not_none (is_period (expr_kind [] x)) wm_valid (mistyped_in_expr [] x) fit).0
+    choose (Some c) rest fit more = more
+
+-- what each value passes, the one for WM_VALID passes
+pub value_passes : (test : Expr → Bool) (t : Table) (names : Option (List (List ℕ))) (place : ℕ) (xs : List Expr) (x : Expr) → list_all test xs ≡ true → value_for_period t names place xs ≡ Some x → test x ≡ true
+value_passes test t names place [] x all there = absurd (cc)
+value_passes test t names place (y ∷ ys) x all there =
+    let parts = both_true (test y) (list_all test ys) all in
+    choose (is_none (column_for t names place)) parts.0 (value_passes test t names (place + 1) ys x parts.1) there
+  where
+    choose : (b : Bool) → test y ≡ true → (value_for_period t names (place + 1) ys ≡ Some x → test x ≡ true) → cond b (Some y) (value_for_period t names (place + 1) ys) ≡ Some x → test x ≡ true
+    choose true one more there = let e : x ≡ y = cc in ap test e ∙ one
+    choose false one more there = more there

@@ -1,11 +1,11 @@
 -- A row that INSERT writes may stand in its table.
-use Rattle.std.proofs.Common.{◌≡◌, ℕ, zero, suc, ◌+◌, ◌<◌, ◌≤◌, Bool, true, false, cond, List, [], ◌∷◌, length, map, get_or, refl, sym, ap, ◌∙◌, subst, arith, nat_lt, nat_le, zero-add}
+use Rattle.std.proofs.Common.{◌≡◌, ℕ, zero, suc, ◌+◌, ◌<◌, ◌≤◌, Bool, true, false, cond, List, [], ◌∷◌, length, map, take, get_or, refl, sym, ap, ◌∙◌, subst, arith, nat_lt, nat_le, zero-add}
 use Rattle.std.specs.Prelude.{Option, Some, None, ◌&&◌, ◌||◌, ◌==◌, not, option_map, slice_get, unwrap_or, codes}
 use Rattle.std.specs.List.{find, list_any, list_all, position}
 use Rattle.std.specs.Option.{option_or, option_and_then, option_map_or}
 use Rattle.std.specs.Str.{bytes_eq}
 use Rattle.std.proofs.lemmas.Bool.Decides.{nat_tests}
-use Rattle.std.proofs.lemmas.List.{length-map}
+use Rattle.std.proofs.lemmas.List.{length-map, length-take-le}
 use Rattle.std.proofs.lemmas.List.Quantifiers.{position-Some}
 use Rattle.std.proofs.lemmas.Option.{slice_get-get_or, slice_get-map}
 use Rattle.wm_base.specs.Trees.{Expr}
@@ -20,7 +20,7 @@ use Rattle.wm_spec.specs.declared.record.column.TableColumn.{TableColumn}
 use Rattle.wm_spec.specs.declared.record.table.Table.{Table}
 use Rattle.wm_typing.specs.Types.{expr_kind, mistyped_in_expr}
 use Rattle.wm_making.specs.Creating.{no_column, asked}
-use Rattle.wm_making.specs.Inserting.{has_name, bad_name, column_in, values_asked, column_for, suits, misfit, misfit_from, no_type, name_fault, value_fault, insert_fault}
+use Rattle.wm_making.specs.Inserting.{has_name, bad_name, column_in, values_asked, may_be_so_many, column_for, suits, misfit, misfit_in, misfit_from, no_type, name_fault, value_fault, period_fault, insert_fault}
 use Rattle.wm_making.specs.Rows.{no_row, before, stored, value_alone, values_of, value_named, arranged, row_of, is_key_at, first_column, lacks_value, is_long, is_heavy, heavy_part, null_in, too_heavy, row_fault, MayStand}
 use Rattle.wm_making.proofs.Fitted.{of_type, value_suits}
 use Rattle.wm_making.proofs.Nones.{or_none, map_none, if_none, if_not_none, both_true, neither, is_not, cong_and, at_most, not_above, same_bytes, same_name}
@@ -66,6 +66,14 @@ none_so test place (d ∷ ds) (w ∷ ws) none zero c v column value =
 none_so test place (d ∷ ds) (w ∷ ws) none (suc p) c v column value =
     let n : place + suc p ≡ (place + 1) + p = omega arith in
     ap (λ q. test q c v) n ∙ none_so test (place + 1) ds ws (if_none (test place d w) d.name (first_column test (place + 1) ds ws) none).1 p c v column value
+
+-- what is taken stood there
+got_taken : {A : Type 0} (n : ℕ) (xs : List A) (p : ℕ) (x : A) → slice_get (take n xs) p ≡ Some x → slice_get xs p ≡ Some x
+got_taken zero [] p x there = absurd (cc)
+got_taken zero (y ∷ ys) p x there = absurd (cc)
+got_taken (suc n) [] p x there = absurd (cc)
+got_taken (suc n) (y ∷ ys) zero x there = there
+got_taken (suc n) (y ∷ ys) (suc p) x there = got_taken n ys p x there
 
 -- each value fits its column
 each_fits : (cs : List TableColumn) (vs : List Value) → length cs ≡ length vs →
@@ -116,14 +124,14 @@ typed_at t names place (x ∷ xs) vs none made zero v c value column =
     let same : parts.0 ≡ v = cc in
     let n : place + 0 ≡ place = omega arith in
     let here : column_for t names place ≡ Some c = sym (ap (λ q. column_for t names q) n) ∙ column in
-    let fit = (or_none (option_and_then (misfit x) (column_for t names place)) (misfit_from t names (place + 1) xs) none).0 in
-    let fit_c : misfit x c ≡ None = sym (ap (λ o. option_and_then (misfit x) o) here) ∙ fit in
+    let fit = (or_none (misfit_in x (column_for t names place)) (misfit_from t names (place + 1) xs) none).0 in
+    let fit_c : misfit x c ≡ None = sym (ap (λ o. misfit_in x o) here) ∙ fit in
     alone_suits x c.kind v (if_not_none (suits (expr_kind [] x) c.kind) c.name (mistyped_in_expr [] x) fit_c).0 (parts.2 ∙ ap (λ w. Some w) same)
 typed_at t names place (x ∷ xs) vs none made (suc p) v c value column =
     let parts = before_some (value_alone x) (values_of xs) vs made in
     let e : slice_get vs (suc p) ≡ slice_get parts.1 p = ap (λ l. slice_get l (suc p)) parts.4 in
     let n : place + suc p ≡ (place + 1) + p = omega arith in
-    typed_at t names (place + 1) xs parts.1 (or_none (option_and_then (misfit x) (column_for t names place)) (misfit_from t names (place + 1) xs) none).1 parts.3 p v c
+    typed_at t names (place + 1) xs parts.1 (or_none (misfit_in x (column_for t names place)) (misfit_from t names (place + 1) xs) none).1 parts.3 p v c
     (sym e ∙ value) (sym (ap (λ q. column_for t names q) n) ∙ column)
 
 -- the value that stands where the name of the column stands
@@ -150,15 +158,23 @@ typed_named t names xs vs p c apart there none made = by_place (position (bytes_
 
 typed_row : (t : Table) (names : Option (List (List ℕ))) (xs : List Expr) (vs : List Value) → differ same_column t.columns ≡ true → misfit_from t names 0 xs ≡ None → values_of xs ≡ Some vs →
     (p : ℕ) (c : TableColumn) (v : Value) → slice_get t.columns p ≡ Some c → slice_get (arranged t names vs) p ≡ Some v → of_type v (type_of c.kind) ≡ true
-typed_row t None xs vs apart none made p c v column value = typed_at t None 0 xs vs none made p v c value (ap (λ n. slice_get t.columns n) (zero-add p) ∙ column)
+typed_row t None xs vs apart none made p c v column value =
+    typed_at t None 0 xs vs none made p v c (got_taken (length t.columns) vs p v value) (ap (λ n. slice_get t.columns n) (zero-add p) ∙ column)
 typed_row t (Some names) xs vs apart none made p c v column value =
     let name_value : TableColumn → Value = λ d. value_named names vs d.name in
     let e : slice_get (map name_value t.columns) p ≡ Some (name_value c) = slice_get-map name_value t.columns p ∙ ap (λ o. option_map name_value o) column in
     let same : v ≡ name_value c = cc in
     ap (λ w. of_type w (type_of c.kind)) same ∙ typed_named t names xs vs p c apart column none made
 
-row_length : (t : Table) (names : Option (List (List ℕ))) (xs : List Expr) (vs : List Value) → (length xs == values_asked t names) ≡ true → values_of xs ≡ Some vs → length t.columns ≡ length (arranged t names vs)
-row_length t None xs vs count made = let e = as_many xs vs made in let f : length xs ≡ length t.columns = grind (arith, nat_tests) in omega (arith, e, f)
+enough : (valid : Bool) (columns count : ℕ) → ((count == columns) || (valid && (count == columns + 1))) ≡ true → columns ≤ count
+enough true columns count may = grind (arith, nat_tests)
+enough false columns count may = grind (arith, nat_tests)
+
+row_length : (t : Table) (names : Option (List (List ℕ))) (xs : List Expr) (vs : List Value) → may_be_so_many t names (length xs) ≡ true → values_of xs ≡ Some vs → length t.columns ≡ length (arranged t names vs)
+row_length t None xs vs count made =
+    let e = as_many xs vs made in
+    let f = enough t.valid (length t.columns) (length xs) count in
+    sym (length-take-le (length t.columns) vs (omega (arith, e, f)))
 row_length t (Some names) xs vs count made = let name_value : TableColumn → Value = λ d. value_named names vs d.name in sym (simp length-map)
 
 -- ---- fitting
@@ -183,14 +199,15 @@ typed_full (values.Span period) kind typed full = typed
 
 -- ---- the law
 
-insert_parts : (t : Table) (names : Option (List (List ℕ))) (xs : List Expr) → insert_fault t names xs ≡ None →
-    (bad_name t names ≡ None) × (column_in xs ≡ None) × ((length xs == values_asked t names) ≡ true) × (misfit_from t names 0 xs ≡ None)
+pub insert_parts : (t : Table) (names : Option (List (List ℕ))) (xs : List Expr) → insert_fault t names xs ≡ None →
+    (bad_name t names ≡ None) × (column_in xs ≡ None) × (may_be_so_many t names (length xs) ≡ true) × (misfit_from t names 0 xs ≡ None) × (period_fault t names xs ≡ None)
 unfolding insert_fault
 insert_parts t names xs none =
-    let parts = or_none (name_fault t names xs) (value_fault t names xs) none in
+    let parts = or_none (name_fault t names xs) (option_or (value_fault t names xs) (period_fault t names xs)) none in
     let named = or_none (bad_name t names) (column_in xs) (map_none no_column (option_or (bad_name t names) (column_in xs)) parts.0) in
-    let valued = if_not_none (length xs == values_asked t names) (asked (values_asked t names)) (option_map no_type (misfit_from t names 0 xs)) parts.1 in
-    (named.0, named.1, valued.0, map_none no_type (misfit_from t names 0 xs) valued.1)
+    let typed = or_none (value_fault t names xs) (period_fault t names xs) parts.1 in
+    let valued = if_not_none (may_be_so_many t names (length xs)) (asked (values_asked t names)) (option_map no_type (misfit_from t names 0 xs)) typed.0 in
+    (named.0, named.1, valued.0, map_none no_type (misfit_from t names 0 xs) valued.1, typed.1)
 
 row_made : (t : Table) (names : Option (List (List ℕ))) (xs : List Expr) (row : List Value) → row_of t names xs ≡ Some row → (vs : List Value) × (values_of xs ≡ Some vs) × (row ≡ arranged t names vs)
 unfolding row_of

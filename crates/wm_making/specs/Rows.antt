@@ -1,5 +1,5 @@
 -- INSERT: the row that it writes, and what the row is refused for.
-use Rattle.std.specs.Prelude.{◌≡◌, ℕ, ◌+◌, Bool, true, false, ◌&&◌, ◌||◌, ◌==◌, nat_lt, length, if◌then◌else◌, List, [], ◌∷◌, map, slice_get, Option, Some, None, option_map, unwrap_or, codes}
+use Rattle.std.specs.Prelude.{◌≡◌, ℕ, ◌+◌, Bool, true, false, ◌&&◌, ◌||◌, ◌==◌, nat_lt, length, if◌then◌else◌, List, [], ◌∷◌, map, take, slice_get, Option, Some, None, option_map, unwrap_or, codes}
 use Rattle.std.specs.List.{position}
 use Rattle.std.specs.Option.{option_or, option_and_then}
 use Rattle.std.specs.Str.{bytes_eq}
@@ -9,13 +9,19 @@ use Rattle.wm_base.specs.declared.refusal.CellRefusal.TheVariants.{Wm061, Wm063}
 use Rattle.wm_base.specs.declared.row.Row.{Row}
 use Rattle.wm_base.specs.declared.value.Value.{Value}
 use Rattle.wm_base.specs.declared.value.Value.TheVariants as values
-use Rattle.wm_base.specs.Trees.{Expr}
+use Rattle.wm_base.specs.declared.tree.constant.Const.TheVariants as constants
+use Rattle.wm_base.specs.declared.tree.operand.Operand.{Operand}
+use Rattle.wm_base.specs.declared.tree.operand.Operand.TheVariants as operands
+use Rattle.wm_base.specs.Period.{Span}
+use Rattle.wm_base.specs.Trees.{Expr, Of, Neg, Add, Sub, Mul}
 use Rattle.wm_base.specs.Value.{weight_of}
 use Rattle.wm_graph.specs.Rules.{weight, key_of, is_row_of, is_key_of}
 use Rattle.wm_spec.specs.Conditions.{is_null}
 use Rattle.wm_spec.specs.Expressions.{value_of}
+use Rattle.wm_spec.specs.Operands.{span_between}
 use Rattle.wm_spec.specs.declared.record.column.TableColumn.{TableColumn}
 use Rattle.wm_spec.specs.declared.record.table.Table.{Table}
+use Rattle.wm_making.specs.Inserting.{value_for_period}
 
 -- ---- the row
 
@@ -52,14 +58,33 @@ values_of (x ∷ xs) = before (value_alone x) (values_of xs)
 abbrev pub value_named : List (List ℕ) → List Value → List ℕ → Value
 value_named names vs name = unwrap_or (option_and_then (λ place. slice_get vs place) (position (bytes_eq name) names)) values.Null
 
--- the values in the order of the columns, which is their own where none are named
+-- the values of the declared columns, in their order; where no columns are named they stand so, before the one for WM_VALID
 abbrev pub arranged : Table → Option (List (List ℕ)) → List Value → List Value
-arranged t None vs = vs
+arranged t None vs = take (length t.columns) vs
 arranged t (Some names) vs = map (λ (c : TableColumn). value_named names vs c.name) t.columns
 
--- the values of the new row
+-- the values of the new row, without the one for WM_VALID
 unfoldable pub row_of : Table → Option (List (List ℕ)) → List Expr → Option (List Value)
 row_of t names xs = option_map (arranged t names) (values_of xs)
+
+-- ---- its period
+
+-- the period that is written, where the operand is one
+abbrev pub written_in : Operand → Option Span
+written_in (operands.Const (constants.Span from till)) = Some (span_between from till)
+written_in _ = None
+
+-- the same of an expression
+abbrev pub written_period : Expr → Option Span
+written_period (Of operand) = written_in operand
+written_period (Neg x) = None
+written_period (Add x y) = None
+written_period (Sub x y) = None
+written_period (Mul x y) = None
+
+-- the period that stands for WM_VALID
+unfoldable pub period_given : Table → Option (List (List ℕ)) → List Expr → Option Span
+period_given t names xs = option_and_then written_period (value_for_period t names 0 xs)
 
 -- ---- what it is refused for
 

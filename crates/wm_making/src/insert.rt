@@ -1,14 +1,17 @@
 //! What INSERT is refused for by its names and its types.
-ghost use Rattle.std.specs.Prelude.{◌≡◌, ◌==◌, ℕ, [], true, None, IfOk, slice_get, option_copied, length};
+ghost use Rattle.std.specs.Prelude.{◌≡◌, ◌==◌, ℕ, [], true, false, None, IfOk, is_some, slice_get, option_copied, length};
 ghost use Rattle.std.specs.List.{find, list_all, list_any};
-ghost use Rattle.std.specs.Option.{option_and_then};
+ghost use Rattle.std.specs.Str.{bytes_eq};
 ghost use Rattle.wm_base.specs.Views.{expr_view, exprs_view};
 ghost use Rattle.wm_spec.specs.Expressions.{has_no_empty_period};
-ghost use Rattle.wm_making.specs.Inserting.{has_name as named_so, has_column as column_there, bad_name as bad_in, column_in as first_column_in, values_asked as asked_for, column_for as column_at, suits as suits_kind, misfit as misfit_of, misfit_from, insert_fault as fault_of_insert};
+ghost use Rattle.wm_spec.specs.Operands.{wm_valid};
+ghost use Rattle.wm_making.specs.Inserting.{has_name as named_so, has_column as column_there, bad_name as bad_in, column_in as first_column_in, values_asked as asked_for, may_be_so_many as so_many, column_for as column_at, suits as suits_kind, misfit as misfit_of, is_period as period_kind, misfit_period as misfit_of_period, misfit_in as misfit_at, misfit_from, value_for_period, period_fault as fault_of_period, insert_fault as fault_of_insert};
+ghost use Rattle.wm_making.specs.Rows.{period_given};
 
 use crate::misplaced::{HasColumns, misplaced};
+use crate::period::value_for_period;
 use std::alloc::Global;
-use wm_base::columns::{NUMBER, TEXT, TIME};
+use wm_base::columns::{NUMBER, PERIOD, TEXT, TIME};
 use wm_base::tree::column::Names;
 use wm_base::tree::expr::Expr;
 use wm_base::{FormRefusal, Memory, Name, Refusal, Text};
@@ -28,15 +31,22 @@ fn is_there(name: &Name, columns: &[TableColumn]) -> bool
     columns.iter().any(|column| has_name(name, column))
 }
 
+/// Whether it is the name of the column of periods.
+fn is_valid(name: &Name) -> bool
+    ensures { result ≡ bytes_eq name.now wm_valid }
+{
+    name.as_bytes() == b"WM_VALID".as_slice()
+}
+
 impl HasColumns for Table {
     ghost has = { column_there };
 
     fn has_column(&self, name: &Name) -> bool {
-        is_there(name, self.columns.as_slice())
+        is_there(name, self.columns.as_slice()) || is_valid(name)
     }
 }
 
-/// The first name of the list that is no column of the table, or stands there for the second time.
+/// The first name of the list that is no column of the table and not WM_VALID, or stands there for the second time.
 fn bad_name<'a>(table: &Table, names: &'a Option<Names>) -> Option<&'a Name>
     ensures { option_copied result ≡ bad_in table.now names.now }
 {
@@ -68,6 +78,19 @@ fn values_asked(table: &Table, names: &Option<Names>) -> usize
     }
 }
 
+/// Whether so many values may stand there: one more than there are columns is for WM_VALID.
+fn may_be_so_many(table: &Table, names: &Option<Names>, count: usize) -> bool
+    ensures { result ≡ so_many table.now names.now count }
+{
+    match names {
+        Some(names) => count == names.as_slice().len(),
+        None => {
+            let columns = table.columns.len();
+            count == columns || (table.valid && count > 0 && count - 1 == columns)
+        }
+    }
+}
+
 /// The first column of this name.
 fn column_named<'a>(columns: &'a [TableColumn], name: &Name) -> Option<&'a TableColumn>
     ensures { option_copied result ≡ find (named_so name.now) columns.now }
@@ -80,8 +103,8 @@ fn column_named<'a>(columns: &'a [TableColumn], name: &Name) -> Option<&'a Table
     None
 }
 
-/// The column to which the value at this place goes.
-fn column_for<'a>(table: &'a Table, names: &Option<Names>, place: usize) -> Option<&'a TableColumn>
+/// The declared column to which the value at this place goes; none where it goes to WM_VALID.
+pub fn column_for<'a>(table: &'a Table, names: &Option<Names>, place: usize) -> Option<&'a TableColumn>
     ensures { option_copied result ≡ column_at table.now names.now place }
 {
     match names {
@@ -117,13 +140,31 @@ fn misfit<'a>(value: &Expr, column: &'a TableColumn) -> Option<&'a [u8]>
     }
 }
 
-/// The same, where there is a column.
+/// Whether a value of this kind may stand for WM_VALID.
+fn is_period(kind: Option<u8>) -> bool
+    ensures { result ≡ period_kind kind }
+{
+    kind == Some(PERIOD)
+}
+
+/// WM_VALID, where the value is no period.
+fn misfit_period<'a>(value: &Expr) -> Option<&'a [u8]>
+    ensures { option_copied result ≡ misfit_of_period (expr_view value.now) }
+{
+    if is_period(expr_kind(&[], value)) {
+        mistyped_in_expr(&[], value)
+    } else {
+        Some(b"WM_VALID")
+    }
+}
+
+/// The same of a value for a declared column, or for WM_VALID where there is none.
 fn misfit_in<'a>(value: &Expr, column: Option<&'a TableColumn>) -> Option<&'a [u8]>
-    ensures { option_copied result ≡ option_and_then (misfit_of (expr_view value.now)) (option_copied column.entry) }
+    ensures { option_copied result ≡ misfit_at (expr_view value.now) (option_copied column.entry) }
 {
     match column {
         Some(column) => misfit(value, column),
-        None => None,
+        None => misfit_period(value),
     }
 }
 
@@ -139,19 +180,34 @@ fn first_misfit<'a>(table: &'a Table, names: &Option<Names>, values: &[Expr]) ->
     None
 }
 
-/// What an INSERT into the table is refused for by what it names and by the types of its values: a name that is no
-/// column or stands twice, a column within VALUES, another number of values than is asked, a value that does not fit.
-#[tactic(auto, unfolding(crate::specs::Inserting::insert_fault))]
-pub fn insert_fault(
+/// A value for WM_VALID is refused where the table has no valid time.
+fn period_fault(
     alloc: Global,
     table: &Table,
     names: &Option<Names>,
     values: &[Expr],
 ) -> Result<Option<Refusal>, Memory>
-    ensures fault { IfOk result (λ refusal. refusal ≡ fault_of_insert table.now names.now (exprs_view values.now)) }
+    ensures { IfOk result (λ refusal. refusal ≡ fault_of_period table.now names.now (exprs_view values.now)) }
+{
+    match value_for_period(table, names, values) {
+        Some(_) if !table.valid => {
+            let name = table.name.copy(alloc)?;
+            Ok(Some(Refusal::Form(FormRefusal::Wm017(name))))
+        }
+        _ => Ok(None),
+    }
+}
 
-    // Of what is not refused, each written period has its first end below its second.
-    ensures periods { IfOk result (λ refusal. refusal ≡ None → list_all has_no_empty_period (exprs_view values.now) ≡ true) }
+/// A name that is no column or stands twice, a column within VALUES, another number of values than may be, a value that
+/// does not fit, and a period for a table without valid time, in this order.
+#[tactic(auto, unfolding(crate::specs::Inserting::insert_fault))]
+fn fault_of(
+    alloc: Global,
+    table: &Table,
+    names: &Option<Names>,
+    values: &[Expr],
+) -> Result<Option<Refusal>, Memory>
+    ensures { IfOk result (λ refusal. refusal ≡ fault_of_insert table.now names.now (exprs_view values.now)) }
 {
     if let Some(name) = bad_name(table, names) {
         return Ok(Some(Refusal::Form(FormRefusal::Wm012(name.copy(alloc)?))));
@@ -160,8 +216,8 @@ pub fn insert_fault(
         let name = Text::copy_of(alloc, name)?;
         return Ok(Some(Refusal::Form(FormRefusal::Wm012(name))));
     }
-    let count = values_asked(table, names);
-    if values.len() != count {
+    if !may_be_so_many(table, names, values.len()) {
+        let count = values_asked(table, names);
         return Ok(Some(Refusal::Form(FormRefusal::Wm014(count as u64))));
     }
     match first_misfit(table, names, values) {
@@ -169,6 +225,26 @@ pub fn insert_fault(
             let name = Text::copy_of(alloc, name)?;
             Ok(Some(Refusal::Form(FormRefusal::Wm013(name))))
         }
-        None => Ok(None),
+        None => period_fault(alloc, table, names, values),
     }
+}
+
+/// What an INSERT into the table is refused for by what it names and by the types of its values.
+pub fn insert_fault(
+    alloc: Global,
+    table: &Table,
+    names: &Option<Names>,
+    values: &[Expr],
+) -> Result<Option<Refusal>, Memory>
+    ensures fault { IfOk result (λ refusal. refusal ≡ fault_of_insert table.now names.now (exprs_view values.now)) }
+
+    // Of what is not refused, a period is written where there is a value for WM_VALID, of a table with valid time alone.
+    ensures period { IfOk result (λ refusal. refusal ≡ None → is_some (period_given table.now names.now (exprs_view values.now)) ≡ is_some (value_for_period table.now names.now 0 (exprs_view values.now))) }
+    ensures plain { IfOk result (λ refusal. refusal ≡ None → table.now.valid ≡ false → period_given table.now names.now (exprs_view values.now) ≡ None) }
+
+    // Each other period that is written in it has its first end below its second.
+    ensures periods { IfOk result (λ refusal. refusal ≡ None → period_given table.now names.now (exprs_view values.now) ≡ None → list_all has_no_empty_period (exprs_view values.now) ≡ true) }
+{
+    let refusal = fault_of(alloc, table, names, values)?;
+    Ok(refusal)
 }

@@ -4,6 +4,7 @@
 mod insert;
 mod misplaced;
 mod names;
+mod period;
 mod row;
 mod shape;
 mod table;
@@ -13,6 +14,7 @@ mod values;
 
 pub use insert::insert_fault;
 pub use names::names_fault;
+pub use period::{period_given, value_for_period};
 pub use row::{first_heavy, first_lacking, is_light, row_fault};
 pub use shape::shape_fault;
 pub use table::table_of;

@@ -93,7 +93,7 @@ fn arranged(
     Ok(row)
 }
 
-/// The values in the order of the columns; a column that is not named is NULL.
+/// The values in the order of the columns, without the one for WM_VALID; a column that is not named is NULL.
 #[tactic(auto, unfolding(crate::specs::Rows::row_of))]
 fn made_row(
     alloc: Global,
@@ -105,7 +105,7 @@ fn made_row(
     ensures ok { IfOk result (λ row. values_of_row table.now names.now (exprs_view values.now) ≡ Some row) }
     ensures out_of_range { IsErrOf result ValueFault.OutOfRange → values_of_row table.now names.now (exprs_view values.now) ≡ None }
 {
-    let made = values_of(alloc, values)?;
+    let mut made = values_of(alloc, values)?;
     match names {
         Some(names) => {
             let row = arranged(
@@ -117,11 +117,14 @@ fn made_row(
             .map_err(|_| ValueFault::Memory)?;
             Ok(Values::from_vec(row))
         }
-        None => Ok(Values::from_vec(made)),
+        None => {
+            made.truncate(table.columns.len());
+            Ok(Values::from_vec(made))
+        }
     }
 }
 
-/// The values of the new row, in the order of the columns; a column that is not named is NULL, and so is an empty text.
+/// The values of the new row, without the one for WM_VALID, in the order of the columns; a column that is not named is NULL, and so is an empty text.
 /// They are out of range exactly where some number on the way to one of them is no `i64`.
 pub fn row_of(
     alloc: Global,

@@ -1,13 +1,13 @@
-use Rattle.std.proofs.Common.{sym, ap, ◌∙◌}
-use Rattle.std.proofs.lemmas.List.{length-map}
-use Rattle.std.specs.Option.{option_copied}
-use Rattle.wm_base.specs.Views.{expr_view, exprs_view}
-use Rattle.wm_making.proofs.Placed.{periods_last}
+use Rattle.std.proofs.Common.{sym, ◌∙◌}
+use Rattle.wm_base.specs.Views.{exprs_view}
+use Rattle.wm_making.proofs.Given.{given_written, given_plain, others_last}
 use Rattle.wm_making.proofs.insert.insert_fault.Goals as goal
 
-pub returns-in-None-clause-periods : goal.returns-in-None-clause-periods
-returns-in-None-clause-periods c = λ none.
-    periods_last c.args.table.now c.args.names.now (exprs_view c.args.values.now)
-    (sym c.bad_name.ensures ∙ ap (λ o. option_copied o) c.in_default.is)
-    (length-map c.args.values.now expr_view ∙ c.if-values-count.false ∙ c.values_asked-count.ensures)
-    (sym c.first_misfit.ensures ∙ ap (λ o. option_copied o) c.in-None.is)
+pub returns-clause-period : goal.returns-clause-period
+returns-clause-period c = λ none. given_written c.args.table.now c.args.names.now (exprs_view c.args.values.now) (sym c.in_ok-refusal.ensures ∙ none)
+
+pub returns-clause-plain : goal.returns-clause-plain
+returns-clause-plain c = λ none plain. given_plain c.args.table.now c.args.names.now (exprs_view c.args.values.now) (sym c.in_ok-refusal.ensures ∙ none) plain
+
+pub returns-clause-periods : goal.returns-clause-periods
+returns-clause-periods c = λ none nothing. others_last c.args.table.now c.args.names.now (exprs_view c.args.values.now) (sym c.in_ok-refusal.ensures ∙ none) nothing

@@ -1,0 +1,83 @@
+-- What is known of the sets of an UPDATE that is refused for nothing by its names and its types.
+use Rattle.std.proofs.Common.{◌≡◌, ℕ, Bool, true, false, List, [], ◌∷◌, refl, sym, ap, ◌∙◌}
+use Rattle.std.specs.Prelude.{Option, Some, None, ◌&&◌, ◌||◌, ◌==◌, not}
+use Rattle.std.specs.Option.{option_or}
+use Rattle.wm_base.specs.declared.columns.Column.{Column}
+use Rattle.wm_base.specs.Trees.{Cond, Set, Expr, Of, Neg, Add, Sub, Mul}
+use Rattle.wm_making.proofs.Fitted.{unless_none}
+use Rattle.wm_making.proofs.Nones.{or_none}
+use Rattle.wm_spec.specs.Operands.{kind_of}
+use Rattle.wm_spec.specs.declared.record.table.Table.{Table}
+use Rattle.wm_typing.specs.Changing.{may_stand, mistyped_in_set, mistyped_in_sets, key_set, unknown_in_sets, update_fault}
+use Rattle.wm_typing.specs.Names.{unless, unknown_in_filter}
+use Rattle.wm_typing.specs.Refusals.{first_refusal}
+use Rattle.wm_typing.specs.Types.{expr_kind, mistyped_in_expr, mistyped_in_filter}
+use Rattle.wm_dml.specs.Changing.{own_columns}
+use Rattle.wm_dml.proofs.Valued.{kind_in}
+
+-- the value that is set has the type of its column, or is NULL
+pub record Fits (columns : List Column) (s : Set) : Type 0 where
+  pub column : ℕ
+  pub value : ℕ
+  pub named : kind_of None s.name columns ≡ Some column
+  pub typed : expr_kind columns s.becomes ≡ Some value
+  pub kind : kind_in columns s.becomes ≡ Some value
+  pub suits : ((value == 0) || (value == column)) ≡ true
+  pub marks : mistyped_in_expr columns s.becomes ≡ None
+
+-- so each of them
+abbrev pub EachFits : List Column → List Set → Type 0
+EachFits columns [] = Unit {0}
+EachFits columns (s ∷ ss) = Fits columns s × EachFits columns ss
+
+swapped : (a b c : Bool) → (a || (b && c)) ≡ true → (b || a) ≡ true
+swapped true true c is = refl
+swapped true false c is = refl
+swapped false true c is = refl
+swapped false false c is = absurd (cc)
+
+-- a value that may stand in a column has its type, or is NULL
+stand_kinds : (column kind : Option ℕ) → may_stand column kind ≡ true → (j k : ℕ) × (column ≡ Some j) × (kind ≡ Some k) × (((k == 0) || (k == j)) ≡ true)
+stand_kinds None kind is = absurd (cc)
+stand_kinds (Some j) None is = absurd (cc)
+stand_kinds (Some j) (Some k) is = (j, k, refl, refl, swapped (k == j) (k == 0) (not (j == 4)) is)
+
+same_kind : (columns : List Column) (x : Expr) → kind_in columns x ≡ expr_kind columns x
+same_kind columns (Of operand) = refl
+same_kind columns (Neg x) = refl
+same_kind columns (Add x y) = refl
+same_kind columns (Sub x y) = refl
+same_kind columns (Mul x y) = refl
+
+one_fits : (columns : List Column) (s : Set) → mistyped_in_set columns s ≡ None → Fits columns s
+one_fits columns s none =
+    let parts = or_none (unless (may_stand (kind_of None s.name columns) (expr_kind columns s.becomes)) s.name) (mistyped_in_expr columns s.becomes) none in
+    let kinds = stand_kinds (kind_of None s.name columns) (expr_kind columns s.becomes) (unless_none (may_stand (kind_of None s.name columns) (expr_kind columns s.becomes)) s.name parts.0) in
+    record {
+      column = kinds.0;
+      value = kinds.1;
+      named = kinds.2;
+      typed = kinds.3;
+      kind = same_kind columns s.becomes ∙ kinds.3;
+      suits = kinds.4;
+      marks = parts.1;
+    }
+
+each_fits : (columns : List Column) (sets : List Set) → mistyped_in_sets columns sets ≡ None → EachFits columns sets
+each_fits columns [] none = tt
+each_fits columns (s ∷ ss) none =
+    let parts = or_none (mistyped_in_set columns s) (mistyped_in_sets columns ss) none in
+    (one_fits columns s parts.0, each_fits columns ss parts.1)
+
+refusal_parts : (u m k : Option (List ℕ)) → first_refusal u m k ≡ None → (u ≡ None) × (m ≡ None) × (k ≡ None)
+refusal_parts None None None none = (refl, refl, refl)
+refusal_parts None None (Some x) none = absurd (cc)
+refusal_parts None (Some x) k none = absurd (cc)
+refusal_parts (Some x) m k none = absurd (cc)
+
+-- they have the types of their columns, and set no key
+pub update_parts : (t : Table) (sets : List Set) (filter : Option Cond) → update_fault t sets filter ≡ None → EachFits (own_columns t) sets × (key_set t sets ≡ None)
+unfolding update_fault
+update_parts t sets filter none =
+    let parts = refusal_parts (option_or (unknown_in_sets (own_columns t) [] sets) (unknown_in_filter (own_columns t) filter)) (option_or (mistyped_in_sets (own_columns t) sets) (mistyped_in_filter (own_columns t) filter)) (key_set t sets) none in
+    (each_fits (own_columns t) sets (or_none (mistyped_in_sets (own_columns t) sets) (mistyped_in_filter (own_columns t) filter) parts.1).0, parts.2)
