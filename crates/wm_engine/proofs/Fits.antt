@@ -1,5 +1,5 @@
 -- The rows that are shown of the sources of a query fit their columns.
-use Rattle.std.proofs.Common.{◌≡◌, ℕ, Bool, true, List, [], ◌∷◌, Some, ap, ◌∙◌}
+use Rattle.std.proofs.Common.{◌≡◌, ℕ, true, List, [], ◌∷◌, Some, ap, ◌∙◌}
 use Rattle.std.specs.List.{list_all}
 use Rattle.wm_base.specs.Period.{Span}
 use Rattle.wm_base.specs.Trees.{Src}

@@ -1,7 +1,7 @@
 -- What is known of a row that is shown: its declared values are a row of its table, it fits the columns, its key is that of its declared values, and
 -- its period overlaps the asked one.
-use Rattle.std.proofs.Common.{◌≡◌, ℕ, zero, suc, ◌==◌, ◌&&◌, ◌||◌, Bool, true, false, if◌then◌else◌, List, [], ◌∷◌, ◌++◌, map, length, take, drop, slice_get, Option, Some, None, option_and_then, unwrap_or, refl, sym, ap, ◌∙◌, append-nil}
-use Rattle.std.specs.List.{list_all}
+use Rattle.std.proofs.Common.{◌≡◌, ℕ, zero, suc, ◌==◌, ◌||◌, Bool, true, false, if◌then◌else◌, List, [], ◌∷◌, ◌++◌, map, length, take, drop, slice_get, Option, Some, None, option_and_then, unwrap_or, refl, sym, ap, ◌∙◌, append-nil}
+use Rattle.std.proofs.lemmas.List.{take-append-drop}
 use Rattle.wm_base.specs.Period.{Span, always, overlaps}
 use Rattle.wm_base.specs.Value.{type_place}
 use Rattle.wm_base.specs.declared.columns.Column.{Column}
@@ -53,16 +53,16 @@ kept [] more i v e = absurd (none_some e)
 kept (w ∷ vs) more zero v e = e
 kept (w ∷ vs) more (suc i) v e = kept vs more i v e
 
--- so the key is what it was
-key_kept : (t : Table) (key vs more : List Value) → is_key key (key_of t vs) ≡ true → key_of t (vs ++ more) ≡ key_of t vs
-key_kept t key vs more is = by_value (slice_get vs t.key_column) refl is
+-- so the key is what it was, where there was one
+key_kept : (t : Table) (vs more : List Value) → (key_of t vs ≡ None → ⊥) → key_of t (vs ++ more) ≡ key_of t vs
+key_kept t vs more there = by_value (slice_get vs t.key_column) refl
   where
     keyed : Option Value → Option (List Value)
     keyed o = option_and_then (λ v. if t.has_key then Some (v ∷ []) else None) o
 
-    by_value : (o : Option Value) → slice_get vs t.key_column ≡ o → is_key key (keyed o) ≡ true → key_of t (vs ++ more) ≡ key_of t vs
-    by_value None e h = absurd (bool_apart (sym h))
-    by_value (Some v) e h = ap keyed (kept vs more t.key_column v e ∙ sym e)
+    by_value : (o : Option Value) → slice_get vs t.key_column ≡ o → key_of t (vs ++ more) ≡ key_of t vs
+    by_value None e = absurd (there (ap keyed e))
+    by_value (Some v) e = ap keyed (kept vs more t.key_column v e ∙ sym e)
 
 -- ---- a row of a table fits its columns
 
@@ -132,12 +132,25 @@ pub shown_key : (t : Table) (within : Span) (key : List Value) (shown : Row) →
 shown_key t within key shown is = ap (key_of t) (values_seen t within key shown is) ∙ by_valid t.valid ∙ sym (ap (key_of t) (shown_declared t within key shown is))
   where
     by_valid : (valid : Bool) → key_of t (seen_values valid is.period is.row.values) ≡ key_of t is.row.values
-    by_valid true = key_kept t key is.row.values (values.Span is.period ∷ []) is.under
+    by_valid true = key_kept t is.row.values (values.Span is.period ∷ []) (λ none. bool_apart (sym is.under ∙ ap (is_key key) none))
     by_valid false = refl
 
 -- and is the one under which it is shown
 pub shown_under : (t : Table) (within : Span) (key : List Value) (shown : Row) → IsShownUnder t within key shown → is_key key (key_of t shown.values) ≡ true
 shown_under t within key shown is = ap (is_key key) (shown_key t within key shown is ∙ ap (key_of t) (shown_declared t within key shown is)) ∙ is.under
+
+-- so is that of any row that is keyed
+pub keyed_key : (t : Table) (r : Row) → is_keyed_shown t r ≡ true → key_of t r.values ≡ key_of t (declared_values t r.values)
+keyed_key t r is = by_valid t.valid (both (is_row_of (declared_values t r.values) t) (is_key_of (row_key t (declared_values t r.values)) t) row).1
+  where
+    row : is_keyed_row t (declared_values t r.values) ≡ true
+    row = (both (is_keyed_row t (declared_values t r.values)) (if t.valid then is_period_alone (drop (length t.columns) r.values) else true) is).0
+
+    by_valid : (valid : Bool) → is_key_of (row_key t (declared_in valid t.columns r.values)) t ≡ true → key_of t r.values ≡ key_of t (declared_in valid t.columns r.values)
+    by_valid true e =
+        ap (key_of t) (sym (take-append-drop (length t.columns) r.values))
+        ∙ key_kept t (take (length t.columns) r.values) (drop (length t.columns) r.values) (λ none. bool_apart (sym e ∙ ap (λ (o : Option (List Value)). is_key_of (unwrap_or o []) t) none))
+    by_valid false e = refl
 
 abbrev period_in : Bool → List TableColumn → List Value → Span
 period_in valid cs vs = if valid then unwrap_or (option_and_then period_of (slice_get vs (length cs))) always else always
