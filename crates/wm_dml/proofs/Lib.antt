@@ -5,5 +5,7 @@ pub mod Shown
 pub mod Refused
 pub mod Lasting
 pub mod Replaced
+pub mod Replacing
 pub mod Changed
+pub mod Held
 pub mod Plain

@@ -49,6 +49,10 @@ is_change t x = is_key_of x.key t && option_map_or (λ row. is_row_of row t && i
 abbrev pub writes_filled : RowChange → Bool
 writes_filled x = option_map_or (list_all is_filled) x.row true
 
+-- the period of the change lasts
+abbrev pub change_lasts : RowChange → Bool
+change_lasts x = is_lasting x.period
+
 -- the keys of the changes, in order
 abbrev pub change_keys : List RowChange → List (List Value)
 change_keys changes = map (λ (x : RowChange). x.key) changes

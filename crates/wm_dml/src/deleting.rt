@@ -3,7 +3,7 @@ ghost use Rattle.std.specs.Prelude.{◌≡◌, true, map, IfOk};
 ghost use Rattle.std.specs.List.{list_all};
 ghost use Rattle.wm_base.specs.Period.{overlaps};
 ghost use Rattle.wm_dml.specs.Changing.{all_overlap, row_period as period_of_row, gone as gone_of};
-ghost use Rattle.wm_dml.specs.Standing.{all_stand, keys_of, periods_of, is_change, change_keys, change_periods};
+ghost use Rattle.wm_dml.specs.Standing.{all_stand, keys_of, periods_of, is_change, change_lasts, change_keys, change_periods};
 
 use crate::change::RowChange;
 use crate::keys::row_key;
@@ -56,7 +56,9 @@ pub fn deleted(
     ensures keys { IfOk result (λ changes. change_keys changes.items ≡ keys_of table.now rows.now) }
     ensures periods { IfOk result (λ changes. change_periods changes.items ≡ periods_of table.now within.now rows.now) }
     ensures fit { IfOk result (λ changes. all_stand table.now rows.now ≡ true → list_all (is_change table.now) changes.items ≡ true) }
+    ensures lasting { IfOk result (λ changes. all_stand table.now rows.now ≡ true → list_all change_lasts changes.items ≡ true) }
 {
+    let _till = within.till();
     let changes = all_gone(alloc, table, within, rows)?;
     Ok(changes)
 }

@@ -19,5 +19,5 @@ pub use choosing::chosen;
 pub use deleting::deleted;
 pub use faults::rows_fault;
 pub use replaced_rows::replacing;
-pub use shown::{declared_values, row_period};
+pub use shown::{all_overlap, declared_values, row_period};
 pub use updated::{sets_period, updated_rows};

@@ -3,7 +3,7 @@ ghost use Rattle.std.specs.Prelude.{◌≡◌, true, length, map, IfOk};
 ghost use Rattle.std.specs.List.{list_all};
 ghost use Rattle.wm_base.specs.Period.{overlaps};
 ghost use Rattle.wm_dml.specs.Changing.{all_overlap, row_key as key_of_row, row_period as period_of_row, replaced as replaced_of, replacing as replacing_of};
-ghost use Rattle.wm_dml.specs.Standing.{stands_in, periods_of, is_change, writes_filled, change_keys, change_periods};
+ghost use Rattle.wm_dml.specs.Standing.{stands_in, all_stand, periods_of, is_change, change_lasts, writes_filled, change_keys, change_periods};
 
 use crate::change::RowChange;
 use crate::keys::row_key;
@@ -65,7 +65,9 @@ pub fn replacing(
     ensures periods { IfOk result (λ changes. length olds.now ≡ length rows.items → change_periods changes.items ≡ periods_of table.now within.now olds.now) }
     ensures fit { IfOk result (λ changes. list_all (stands_in table.now) rows.items ≡ true → list_all (is_change table.now) changes.items ≡ true) }
     ensures filled { IfOk result (λ changes. list_all (stands_in table.now) rows.items ≡ true → list_all writes_filled changes.items ≡ true) }
+    ensures lasting { IfOk result (λ changes. all_stand table.now olds.now ≡ true → list_all change_lasts changes.items ≡ true) }
 {
+    let _till = within.till();
     let changes = all_replaced(alloc, table, within, olds, rows)?;
     Ok(changes)
 }

@@ -1,11 +1,13 @@
 //! What becomes of the rows 1|10 and 2|20 of BUD, worked by hand. No tree is let go here: the proof of that is long.
 mod choosing;
+mod periods;
 mod selecting;
 mod tables;
 mod trees;
 
-use crate::{RowChange, deleted, replacing, rows_fault, updated_rows};
+use crate::{RowChange, rows_fault, updated_rows};
 use choosing::chosen_where;
+use periods::{CASES, change_of, deleted_in, replaced_in};
 use selecting::answer;
 use std::alloc::Global;
 use std::cell::Cell;
@@ -15,7 +17,7 @@ use tables::{numbers, numbers_of, rows, table, values};
 use trees::{all_where, first, set};
 use wm_base::tree::statement::Set;
 use wm_base::{
-    CellRefusal, Columns, Kind, Listing, Listings, Memory, Refusal, Row, RowList, Values,
+    CellRefusal, Columns, Kind, Listing, Listings, Memory, Period, Refusal, Row, RowList, Values,
 };
 use wm_expr::has_no_empty_period;
 use wm_spec::record::Table;
@@ -79,7 +81,7 @@ fn the_closure_answers_a_query(rt: HostRuntime) -> Result<(), Fail> {
 fn all_gone(alloc: Global) -> Result<Vec<RowChange>, Memory> {
     let table = table(alloc)?;
     let rows = rows(alloc)?;
-    deleted(alloc, &table, rows.as_slice())
+    deleted_in(alloc, &table, &Period::always(), rows.as_slice())
 }
 
 #[test]
@@ -152,9 +154,16 @@ fn null_is_refused(rt: HostRuntime) -> Result<(), Fail> {
 
 fn replaced(alloc: Global) -> Result<Vec<RowChange>, Memory> {
     let table = table(alloc)?;
+    let olds = rows(alloc)?;
     let mut rows = Vec::new(alloc);
     rows.push(values(alloc, 2, Some(30))?)?;
-    replacing(alloc, &table, rows)
+    replaced_in(
+        alloc,
+        &table,
+        &Period::always(),
+        &olds.as_slice()[1..],
+        rows,
+    )
 }
 
 #[test]
@@ -168,5 +177,14 @@ fn rows_are_replaced(rt: HostRuntime) -> Result<(), Fail> {
     let row = change.row.as_ref().ok_or("a row")?;
     let row = numbers(alloc, row.as_slice())?;
     assert_eq!(rt; row.as_slice(), [Some(2), Some(30)].as_slice());
+    Ok(())
+}
+
+#[test]
+fn periods_are_cut(rt: HostRuntime) -> Result<(), Fail> {
+    let alloc: Global = rt.alloc();
+    for case in CASES.iter() {
+        assert!(rt; change_of(alloc, case)?);
+    }
     Ok(())
 }

@@ -16,7 +16,7 @@ use Rattle.wm_base.specs.declared.value.Value.{Value}
 use Rattle.wm_base.specs.declared.value.Value.TheVariants as values
 use Rattle.wm_graph.specs.Rules.{type_of}
 use Rattle.wm_spec.specs.Expressions.{number_value, number_in, value_in, value_of, lasts, has_no_empty_period}
-use Rattle.wm_spec.specs.Operands.{suffixed_kind, constant_kind, constant_value, is_period, operand_kind, operand_value, tested, period_at}
+use Rattle.wm_spec.specs.Operands.{suffixed_kind, constant_kind, constant_value, operand_value, tested, period_at}
 use Rattle.wm_spec.specs.declared.record.column.ColumnKind.{ColumnKind}
 use Rattle.wm_spec.specs.declared.record.column.ColumnKind.TheVariants as kinds
 use Rattle.wm_typing.specs.Names.{unless}
@@ -39,7 +39,7 @@ suited_last kind kinds.Number suited period = let e : suits kind kinds.Number �
 suited_last kind kinds.Text suited period = let e : suits kind kinds.Text ≡ false = ap (λ k. suits k kinds.Text) period in cc
 suited_last kind kinds.Time suited period = let e : suits kind kinds.Time ≡ false = ap (λ k. suits k kinds.Time) period in cc
 
-operand_lasts : (operand : Operand) → (operand_kind operand [] ≡ Some 4 → ⊥) → lasts operand ≡ true
+operand_lasts : (operand : Operand) → (expr_kind [] (Of operand) ≡ Some 4 → ⊥) → lasts operand ≡ true
 operand_lasts (operands.Col col) other = refl
 operand_lasts (operands.Const constants.Null) other = refl
 operand_lasts (operands.Const (constants.Num n)) other = refl
@@ -103,11 +103,11 @@ pub chosen : (test : Bool) (kind : ℕ) → cond test (Some 1) None ≡ Some kin
 chosen true kind is = cc
 chosen false kind is = absurd (cc)
 
-operand_typed : (operand : Operand) (kind : ℕ) → operand_kind operand [] ≡ Some kind → of_type (operand_value operand [] []) kind ≡ true
+operand_typed : (operand : Operand) (kind : ℕ) → expr_kind [] (Of operand) ≡ Some kind → of_type (operand_value operand [] []) kind ≡ true
 operand_typed (operands.Col col) kind is = absurd (no_kind col.suffix kind is)
 operand_typed (operands.Const constant) kind is = let e : kind ≡ constant_kind constant = cc in ap (λ k. of_type (constant_value constant) k) e ∙ constant_typed constant
 operand_typed (operands.Test operator left right) kind is =
-    ap (λ k. of_type (tested operator (period_at left [] []) (period_at right [] [])) k) (chosen (is_period left [] && is_period right []) kind is)
+    ap (λ k. of_type (tested operator (period_at left [] []) (period_at right [] [])) k) (chosen _ kind is)
     ∙ tested_typed operator (period_at left [] []) (period_at right [] [])
 
 -- the value of an expression has its type, or is NULL

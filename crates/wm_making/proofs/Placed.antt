@@ -1,7 +1,7 @@
 -- Where INSERT is refused for nothing, no period that is written in a value for a declared column is empty, and a period is written
 -- in the value for WM_VALID.
 use Rattle.std.proofs.Common.{◌≡◌, ℕ, zero, suc, ◌+◌, ◌<◌, Bool, true, false, cond, List, [], ◌∷◌, length, refl, sym, ap, ◌∙◌, arith}
-use Rattle.std.specs.Prelude.{Option, Some, None, ◌&&◌, is_none, is_some, slice_get}
+use Rattle.std.specs.Prelude.{Option, Some, None, is_none, is_some, slice_get}
 use Rattle.std.specs.List.{list_all}
 use Rattle.std.specs.Option.{option_and_then}
 use Rattle.wm_base.specs.Trees.{Expr, Of, Neg, Add, Sub, Mul}
@@ -10,7 +10,7 @@ use Rattle.wm_base.specs.declared.tree.constant.Const.TheVariants as constants
 use Rattle.wm_base.specs.declared.tree.operand.Operand.{Operand}
 use Rattle.wm_base.specs.declared.tree.operand.Operand.TheVariants as operands
 use Rattle.wm_spec.specs.Expressions.{has_no_empty_period}
-use Rattle.wm_spec.specs.Operands.{wm_valid, suffixed_kind, operand_kind, is_period as is_period_there}
+use Rattle.wm_spec.specs.Operands.{wm_valid, suffixed_kind}
 use Rattle.wm_spec.specs.declared.record.column.TableColumn.{TableColumn}
 use Rattle.wm_spec.specs.declared.record.table.Table.{Table}
 use Rattle.wm_typing.specs.Types.{expr_kind, mistyped_in_expr}
@@ -51,7 +51,7 @@ no_test : (test : Bool) → is_period (cond test (Some 1) None) ≡ true → ⊥
 no_test true is = cc
 no_test false is = cc
 
-operand_written : (operand : Operand) → is_period (operand_kind operand []) ≡ true → is_some (written_in operand) ≡ true
+operand_written : (operand : Operand) → is_period (expr_kind [] (Of operand)) ≡ true → is_some (written_in operand) ≡ true
 operand_written (operands.Col col) is = absurd (no_end col.suffix is)
 operand_written (operands.Const constants.Null) is = absurd (cc)
 operand_written (operands.Const (constants.Num n)) is = absurd (cc)
@@ -59,7 +59,7 @@ operand_written (operands.Const (constants.Text text)) is = absurd (cc)
 operand_written (operands.Const (constants.Time instant)) is = absurd (cc)
 operand_written (operands.Const constants.Sysdate) is = absurd (cc)
 operand_written (operands.Const (constants.Span from till)) is = refl
-operand_written (operands.Test operator left right) is = absurd (no_test (is_period_there left [] && is_period_there right []) is)
+operand_written (operands.Test operator left right) is = absurd (no_test _ is)
 
 -- what is a period and names no column is written
 written : (x : Expr) → is_period (expr_kind [] x) ≡ true → is_some (written_period x) ≡ true

@@ -104,7 +104,11 @@ fn column_named<'a>(columns: &'a [TableColumn], name: &Name) -> Option<&'a Table
 }
 
 /// The declared column to which the value at this place goes; none where it goes to WM_VALID.
-pub fn column_for<'a>(table: &'a Table, names: &Option<Names>, place: usize) -> Option<&'a TableColumn>
+pub fn column_for<'a>(
+    table: &'a Table,
+    names: &Option<Names>,
+    place: usize,
+) -> Option<&'a TableColumn>
     ensures { option_copied result ≡ column_at table.now names.now place }
 {
     match names {
@@ -144,7 +148,10 @@ fn misfit<'a>(value: &Expr, column: &'a TableColumn) -> Option<&'a [u8]>
 fn is_period(kind: Option<u8>) -> bool
     ensures { result ≡ period_kind kind }
 {
-    kind == Some(PERIOD)
+    match kind {
+        Some(kind) => kind == PERIOD,
+        None => false,
+    }
 }
 
 /// WM_VALID, where the value is no period.

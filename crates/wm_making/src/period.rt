@@ -1,5 +1,5 @@
 //! The period that INSERT gives to its row.
-ghost use Rattle.std.specs.Prelude.{◌≡◌, Some, true, nat_lt, option_copied, option_map};
+ghost use Rattle.std.specs.Prelude.{◌≡◌, true, nat_lt, option_copied, option_map};
 ghost use Rattle.std.specs.List.{list_all};
 ghost use Rattle.wm_base.specs.Views.{expr_view, exprs_view};
 ghost use Rattle.wm_spec.specs.Expressions.{lasts, has_no_empty_period};
@@ -13,6 +13,7 @@ use wm_base::tree::constant::{Const, PeriodEnd};
 use wm_base::tree::expr::Expr;
 use wm_base::tree::operand::Operand;
 use wm_base::{Instant, Period};
+use wm_expr::has_no_empty_period as expr_lasts;
 use wm_spec::record::Table;
 
 /// The value for WM_VALID: the first that goes to no declared column.
@@ -32,6 +33,18 @@ pub fn value_for_period<'a>(
     None
 }
 
+/// Whether each period that is written in the values has its first end below its second.
+pub fn all_last(values: &[Expr]) -> bool
+    ensures { result ≡ list_all has_no_empty_period (exprs_view values.now) }
+{
+    for value in values {
+        if !expr_lasts(value) {
+            return false;
+        }
+    }
+    true
+}
+
 /// The moment of the line stands in the place of SYSDATE before anything is evaluated.
 fn end_of(end: &PeriodEnd) -> Instant
     ensures { result ≡ end_seconds end.now }
@@ -43,11 +56,14 @@ fn end_of(end: &PeriodEnd) -> Instant
 }
 
 /// The period from one end to the other, which is later.
-fn period_between(from: &PeriodEnd, till: &PeriodEnd) -> Option<Period>
+fn period_between(from: &PeriodEnd, till: &PeriodEnd) -> Period
     requires { nat_lt (end_seconds from.now) (end_seconds till.now) ≡ true }
-    ensures { result ≡ Some (span_between from.now till.now) }
+    ensures { result ≡ span_between from.now till.now }
 {
-    Period::new(end_of(from), end_of(till))
+    match Period::new(end_of(from), end_of(till)) {
+        Some(period) => period,
+        None => unreachable!(),
+    }
 }
 
 fn written_in(operand: &Operand) -> Option<Period>
@@ -55,7 +71,7 @@ fn written_in(operand: &Operand) -> Option<Period>
     ensures { result ≡ period_in operand.now }
 {
     match operand {
-        Operand::Const(Const::Span { from, till }) => period_between(from, till),
+        Operand::Const(Const::Span { from, till }) => Some(period_between(from, till)),
         _ => None,
     }
 }

@@ -1,9 +1,11 @@
 //! What becomes of BUD and of the row 7|abc, worked by hand.
 mod inserting;
+mod periods;
 mod tables;
 
 use crate::{names_fault, row_fault, shape_fault, table_of};
 use inserting::{arranged_row, row_in_order};
+use periods::{CASES, Case, given, outcome};
 use std::alloc::Global;
 use std::test::Fail;
 use tables::{is_row, items, row, table};
@@ -63,7 +65,7 @@ fn a_name_is_reserved(rt: HostRuntime) -> Result<(), Fail> {
 }
 
 fn fault_of_row(alloc: Global, note: &[u8]) -> Result<Option<Refusal>, Memory> {
-    let table = table(alloc)?;
+    let table = table(alloc, false)?;
     let row = row(alloc, 7, note)?;
     row_fault(alloc, &table, row.as_slice())
 }
@@ -90,5 +92,20 @@ fn values_are_a_row(rt: HostRuntime) -> Result<(), Fail> {
     assert!(rt; is_row(row.as_slice(), 7, b"abc"));
     let row = arranged_row(alloc)?.ok_or("a row")?;
     assert!(rt; is_row(row.as_slice(), 7, b"abc"));
+    Ok(())
+}
+
+#[test]
+fn a_period_is_given(rt: HostRuntime) -> Result<(), Fail> {
+    let alloc: Global = rt.alloc();
+    for (valid, named, period, wanted) in CASES {
+        let case = Case {
+            valid,
+            named,
+            period,
+        };
+        assert_eq!(rt; outcome(alloc, case)?, wanted);
+        assert_eq!(rt; given(alloc, case)?, wanted == 0);
+    }
     Ok(())
 }

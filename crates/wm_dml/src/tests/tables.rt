@@ -1,6 +1,6 @@
 //! The table BUD (ID NUMBER PRIMARY KEY, AMT NUMBER NOT NULL) with the rows 1|10 and 2|20.
 use std::alloc::Global;
-use wm_base::{Memory, Name, Row, Value, Values};
+use wm_base::{Instant, Memory, Name, Period, Row, Value, Values};
 use wm_spec::record::{ColumnKind, Table, TableColumn, TableColumns};
 
 fn column(alloc: Global, name: &[u8]) -> Result<TableColumn, Memory> {
@@ -20,13 +20,18 @@ fn columns(alloc: Global) -> Result<TableColumns, Memory> {
 }
 
 pub fn table(alloc: Global) -> Result<Table, Memory> {
+    table_with(alloc, false)
+}
+
+/// The table, with or without valid time.
+pub fn table_with(alloc: Global, valid: bool) -> Result<Table, Memory> {
     let name = Name::copy_of(alloc, b"BUD")?;
     let columns = columns(alloc)?;
     Ok(Table {
         number: 1,
         name,
         versioned: true,
-        valid: false,
+        valid,
         history: false,
         has_key: true,
         key_column: 0,
@@ -58,6 +63,20 @@ pub fn rows(alloc: Global) -> Result<Vec<Row>, Memory> {
     rows.push(row(alloc, 1, 10)?)?;
     rows.push(row(alloc, 2, 20)?)?;
     Ok(rows)
+}
+
+pub fn period(from: u64, till: u64) -> Option<Period> {
+    match (Instant::new(from), Instant::new(till)) {
+        (Some(from), Some(till)) => Period::new(from, till),
+        _ => None,
+    }
+}
+
+/// The row 1|10 over a period.
+pub fn row_over(alloc: Global, period: Period) -> Result<Row, Memory> {
+    let mut values = values(alloc, 1, Some(10))?;
+    values.push(Value::Span(period))?;
+    Ok(Row { values })
 }
 
 fn number_in(value: &Value) -> Option<i64> {

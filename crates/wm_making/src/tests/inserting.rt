@@ -9,7 +9,7 @@ use wm_base::tree::operand::Operand;
 use wm_base::{Memory, Name, Text, Values};
 use wm_spec::record::Table;
 
-fn constant(constant: Const) -> Expr {
+pub fn constant(constant: Const) -> Expr {
     Expr::Operand(Operand::Const(constant))
 }
 
@@ -40,13 +40,13 @@ fn inserted_into_bud(
     names: Option<Names>,
     values: Exprs,
 ) -> Result<Option<Values>, Memory> {
-    match table(alloc) {
+    match table(alloc, false) {
         Ok(table) => inserted(alloc, &table, &names, values.as_slice()),
         Err(fault) => Err(fault),
     }
 }
 
-fn values_in_order(alloc: Global) -> Result<Exprs, Memory> {
+pub fn values_in_order(alloc: Global) -> Result<Exprs, Memory> {
     let mut values = Vec::new(alloc);
     values.push(number())?;
     values.push(text(alloc)?)?;

@@ -37,14 +37,15 @@ fn columns(alloc: Global) -> Result<TableColumns, Memory> {
     Ok(columns)
 }
 
-pub fn table(alloc: Global) -> Result<Table, Memory> {
+/// The table, with or without valid time.
+pub fn table(alloc: Global, valid: bool) -> Result<Table, Memory> {
     let name = Name::copy_of(alloc, b"BUD")?;
     let columns = columns(alloc)?;
     Ok(Table {
         number: 1,
         name,
         versioned: true,
-        valid: false,
+        valid,
         history: false,
         has_key: true,
         key_column: 0,
