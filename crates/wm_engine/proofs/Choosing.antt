@@ -1,5 +1,5 @@
 -- The rows that a condition chooses of a table.
-use Rattle.std.proofs.Common.{◌≡◌, ℕ, true, false, List, Option, Some, Result, Ok, Err, IfOk, Vec, Global, ap, ◌∙◌}
+use Rattle.std.proofs.Common.{◌≡◌, ℕ, Bool, true, false, List, Option, Some, Result, Ok, Err, IfOk, Vec, Global, ap, ◌∙◌}
 use Rattle.std.specs.List.{list_all}
 use Rattle.wm_base.specs.Period.{Span, always, overlaps}
 use Rattle.wm_base.specs.declared.columns.Column.{Column}
