@@ -1,5 +1,5 @@
 -- What a version holds of a table can be shown, over any keys that have all of those of which there is a piece.
-use Rattle.std.proofs.Common.{◌≡◌, ℕ, ◌≤◌, ◌==◌, ◌&&◌, ◌||◌, nat_lt, nat_le, Bool, true, false, if◌then◌else◌, List, [], ◌∷◌, map, Option, Some, None, refl, sym, ap, ◌∙◌, arith}
+use Rattle.std.proofs.Common.{◌≡◌, ℕ, ◌==◌, ◌&&◌, ◌||◌, nat_lt, nat_le, Bool, true, false, if◌then◌else◌, List, [], ◌∷◌, None, refl, sym, ap, ◌∙◌, arith}
 use Rattle.std.specs.Bool.{then_some}
 use Rattle.std.specs.List.{filter_map, list_any}
 use Rattle.std.specs.Option.{option_or}
