@@ -1,18 +1,16 @@
 -- A condition is true on no row whose value in a column is another than the constant that it asks of the column.
-use Rattle.std.proofs.Common.{◌≡◌, ℕ, ◌==◌, Bool, true, false, if◌then◌else◌, List, [], ◌∷◌, slice_get, Option, Some, None, Result, Ok, Err, IfOk, IfSome, option_and_then, unwrap_or, refl, sym, ap, ◌∙◌}
+use Rattle.std.proofs.Common.{◌≡◌, ℕ, Bool, true, false, if◌then◌else◌, List, [], ◌∷◌, slice_get, Option, Some, None, Result, Ok, Err, IfOk, IfSome, option_and_then, unwrap_or, refl, sym, ap, ◌∙◌}
 use Rattle.std.proofs.lemmas.Bool.{eqb-true}
 use Rattle.std.specs.List.{position}
 use Rattle.std.specs.Option.{option_or}
-use Rattle.std.specs.Ordering.{is_eq, ordering_then, nat_cmp}
+use Rattle.std.specs.Ordering.{is_eq}
 use Rattle.std.specs.declared.cmp.Ordering.{Ordering}
 use Rattle.std.specs.declared.cmp.Ordering.TheVariants.{Less, Equal, Greater}
 use Rattle.wm_base.specs.Orders.{value_order-equal}
 use Rattle.wm_base.specs.Trees.{Cond, Or, And, Not, Compare, IsNull, OneOf, Between}
 use Rattle.wm_base.specs.Truth.{truth_and}
-use Rattle.wm_base.specs.Value.{compare_of, value_order}
 use Rattle.wm_base.specs.declared.columns.Column.{Column}
 use Rattle.wm_base.specs.declared.memory.Memory.{Memory}
-use Rattle.wm_base.specs.declared.row.Row.{Row}
 use Rattle.wm_base.specs.declared.tree.column.Col.{Col}
 use Rattle.wm_base.specs.declared.tree.column.Suffix.{Suffix}
 use Rattle.wm_base.specs.declared.tree.cond.Cmp.TheVariants.{Eq, NotEq, BangEq, Lt, Le, Gt, Ge}
@@ -23,10 +21,10 @@ use Rattle.wm_base.specs.declared.truth.Truth.{Truth}
 use Rattle.wm_base.specs.declared.truth.Truth.TheVariants.{Yes, No, Unknown}
 use Rattle.wm_base.specs.declared.value.Value.{Value}
 use Rattle.wm_base.specs.declared.value.Value.TheVariants as values
-use Rattle.wm_dml.specs.Changing.{meets, own_columns}
+use Rattle.wm_dml.specs.Changing.{own_columns}
 use Rattle.wm_graph.specs.Rules.{key_of}
 use Rattle.wm_spec.specs.Conditions.{is_yes, test, truth_if, truth_in, truth_of}
-use Rattle.wm_spec.specs.Operands.{constant_value, is_named, operand_value, suffixed, value_at}
+use Rattle.wm_spec.specs.Operands.{constant_value, is_named, operand_value, suffixed}
 use Rattle.wm_spec.specs.declared.record.table.Table.{Table}
 use Rattle.wm_state.proofs.Tests.{bool_apart}
 use Rattle.wm_engine.specs.Keyed.{FixesKey, across, asked, is_place, stands_at}

@@ -1,5 +1,5 @@
 -- Where a condition fixes the key, what it chooses of all rows is what it chooses of those of the key.
-use Rattle.std.proofs.Common.{◌≡◌, ℕ, ◌||◌, Bool, true, false, cond, List, [], ◌∷◌, ◌++◌, map, Option, Some, None, Result, Ok, Err, IfOk, Vec, Global, refl, sym, ap, subst, ◌∙◌}
+use Rattle.std.proofs.Common.{◌≡◌, ℕ, ◌||◌, Bool, true, false, cond, List, [], ◌∷◌, ◌++◌, map, Option, Some, Result, Ok, Err, IfOk, Vec, Global, refl, sym, ap, subst, ◌∙◌}
 use Rattle.std.proofs.lemmas.List.{append-nil}
 use Rattle.std.proofs.lemmas.List.Elements.{filter-append, filter_map-append}
 use Rattle.std.specs.List.{filter, filter_map, list_all}
@@ -7,6 +7,7 @@ use Rattle.std.specs.Ordering.{is_eq}
 use Rattle.std.specs.declared.cmp.Ordering.TheVariants.{Less, Equal}
 use Rattle.wm_base.specs.Key.{key_order}
 use Rattle.wm_base.specs.Orders.{key_order-itself}
+use Rattle.wm_base.specs.Period.{Span}
 use Rattle.wm_base.specs.Trees.{Cond}
 use Rattle.wm_base.specs.declared.columns.Column.{Column}
 use Rattle.wm_base.specs.declared.memory.Memory.{Memory}
@@ -15,18 +16,18 @@ use Rattle.wm_base.specs.declared.value.Value.{Value}
 use Rattle.wm_dml.specs.Changing.{chosen, meets, own_columns}
 use Rattle.wm_graph.specs.Parts.{Parts, parts_of, table_of}
 use Rattle.wm_graph.specs.Rules.{keep_rules, is_key, key_of}
-use Rattle.wm_image.specs.Listing.{IsKeyListing}
-use Rattle.wm_model.specs.Writing.{is_keyed_row}
+use Rattle.wm_image.specs.Listing.{IsKeyShowing}
 use Rattle.wm_spec.specs.Conditions.{fits}
 use Rattle.wm_spec.specs.Stretches.{Stretch}
 use Rattle.wm_spec.specs.declared.record.stored.Stored.{Stored}
 use Rattle.wm_spec.specs.declared.record.table.Table.{Table}
-use Rattle.wm_state.specs.Listing.{ComesBefore, KeysAscend, is_key_in, row_with, joined}
+use Rattle.wm_state.specs.Listing.{ComesBefore, KeysAscend, is_key_in, row_shown_with, joined}
 use Rattle.wm_state.proofs.Laying.{key_same}
 use Rattle.wm_state.proofs.Listing.{one_rows}
 use Rattle.wm_state.proofs.Tests.{bool_apart, both, either_false}
-use Rattle.wm_engine.proofs.Listable.{stretches_of, are_stretches, keys_on, keys_with, ascend-with, key_in-has, groups_of, rows_with, is_listing}
-use Rattle.wm_engine.proofs.Stood.{key_listed_keyed, key_listed_under, keyed_fits}
+use Rattle.wm_engine.proofs.Listable.{stretches_of, are_stretches, keys_on, keys_with, ascend-with, key_in-has, groups_of, rows_with, is_showing}
+use Rattle.wm_engine.proofs.Seen.{shown_fits, shown_under}
+use Rattle.wm_engine.proofs.Stood.{key_showing_all}
 use Rattle.wm_engine.specs.Chosen.{AreChosen}
 use Rattle.wm_engine.specs.Keyed.{FixesKey}
 
@@ -78,18 +79,20 @@ filter_none keep fails apart (row ∷ rows) all =
 
 -- ---- key by key
 
--- the rows of a key on which the condition is true
-abbrev part : Parts → ℕ → ℕ → (Row → Bool) → List Value → List Row
-part p version table keep key = filter keep (filter_map (row_with p) (map (λ s. (key, s)) (stretches_of p version table key)))
+-- the rows that are shown of a key on which the condition is true
+abbrev part : Parts → ℕ → ℕ → Bool → Span → (Row → Bool) → List Value → List Row
+part p version table valid within keep key = filter keep (filter_map (row_shown_with p valid within) (map (λ s. (key, s)) (stretches_of p version table key)))
 
-by_key : (p : Parts) (version table : ℕ) (keep : Row → Bool) (ks : List (List Value)) → filter keep (filter_map (row_with p) (joined (groups_of p version table ks))) ≡ gathered (part p version table keep) ks
-by_key p version table keep [] = refl
-by_key p version table keep (k ∷ ks) =
-    let here : List Row = filter_map (row_with p) (map (λ s. (k, s)) (stretches_of p version table k)) in
-    let rest : List Row = filter_map (row_with p) (joined (groups_of p version table ks)) in
-    ap (filter keep) (filter_map-append (row_with p) (map (λ s. (k, s)) (stretches_of p version table k)) (joined (groups_of p version table ks)))
+by_key : (p : Parts) (version table : ℕ) (valid : Bool) (within : Span) (keep : Row → Bool) (ks : List (List Value))
+    → filter keep (filter_map (row_shown_with p valid within) (joined (groups_of p version table ks))) ≡ gathered (part p version table valid within keep) ks
+by_key p version table valid within keep [] = refl
+by_key p version table valid within keep (k ∷ ks) =
+    let shown = row_shown_with p valid within in
+    let here : List Row = filter_map shown (map (λ s. (k, s)) (stretches_of p version table k)) in
+    let rest : List Row = filter_map shown (joined (groups_of p version table ks)) in
+    ap (filter keep) (filter_map-append shown (map (λ s. (k, s)) (stretches_of p version table k)) (joined (groups_of p version table ks)))
     ∙ filter-append keep here rest
-    ∙ ap (λ rows. filter keep here ++ rows) (by_key p version table keep ks)
+    ∙ ap (λ rows. filter keep here ++ rows) (by_key p version table valid within keep ks)
 
 -- no row under another key is chosen
 other_key : (t : Table) (condition : Option Cond) (key k : List Value) → FixesKey t condition key → is_eq (key_order k key) ≡ false → (row : Row) → is_key k (key_of t row.values) ≡ true
@@ -105,12 +108,12 @@ other_key t condition key k fixed apart row under = by_test (meets condition (ow
     by_test true e = absurd (not_here (ap (is_key k) (sym (fixed.under row e)) ∙ under))
     by_test false e = refl
 
--- the rows that are listed for the key are all that the condition chooses
-pub chosen_under_key : (p : Parts) (version : ℕ) (t : Table) (condition : Option Cond) (key : List Value) (rows : List Row) → keep_rules p ≡ true → table_of p.tables t.number ≡ Some t → FixesKey t condition key
-    → IsKeyListing p version t.number key rows → chosen t condition rows ≡ chosen t condition (rows_with p version t.number key)
-chosen_under_key p version t condition key rows rules there fixed is =
-    ap (chosen t condition) (is.listed ∙ ap (λ (ss : List Stretch). filter_map (row_with p) (map (λ s. (key, s)) ss)) same)
-    ∙ sym (by_key p version t.number keep (keys_with p key) ∙ one_gathered (part p version t.number keep) key others (keys_with p key) (ascend-with p key) key_there)
+-- the rows that are shown for the key are all that the condition chooses
+pub chosen_under_key : (p : Parts) (version : ℕ) (t : Table) (within : Span) (condition : Option Cond) (key : List Value) (rows : List Row) → keep_rules p ≡ true → table_of p.tables t.number ≡ Some t
+    → FixesKey t condition key → IsKeyShowing p version t.number t.valid within key rows → chosen t condition rows ≡ chosen t condition (rows_with p version t.number t.valid within key)
+chosen_under_key p version t within condition key rows rules there fixed is =
+    ap (chosen t condition) (is.shown ∙ ap (λ (ss : List Stretch). filter_map (row_shown_with p t.valid within) (map (λ s. (key, s)) ss)) same)
+    ∙ sym (by_key p version t.number t.valid within keep (keys_with p key) ∙ one_gathered (part p version t.number t.valid within keep) key others (keys_with p key) (ascend-with p key) key_there)
   where
     keep : Row → Bool
     keep = meets condition (own_columns t)
@@ -119,10 +122,11 @@ chosen_under_key p version t condition key rows rules there fixed is =
     same = one_rows is.stretches (stretches_of p version t.number key) 0 is.are.maximal (are_stretches p version t.number key).maximal
         (λ u le. is.are.held u ∙ sym ((are_stretches p version t.number key).held u))
 
-    others : (k : List Value) → is_eq (key_order k key) ≡ false → part p version t.number keep k ≡ []
+    others : (k : List Value) → is_eq (key_order k key) ≡ false → part p version t.number t.valid within keep k ≡ []
     others k apart =
-        filter_none keep (λ (r : Row). is_key k (key_of t r.values)) (other_key t condition key k fixed apart) (filter_map (row_with p) (map (λ s. (k, s)) (stretches_of p version t.number k)))
-        (key_listed_under p version t k (stretches_of p version t.number k) rules there (are_stretches p version t.number k))
+        filter_none keep (λ (r : Row). is_key k (key_of t r.values)) (other_key t condition key k fixed apart)
+        (filter_map (row_shown_with p t.valid within) (map (λ s. (k, s)) (stretches_of p version t.number k)))
+        (key_showing_all (λ (r : Row). is_key k (key_of t r.values)) p version t within k (stretches_of p version t.number k) rules there (are_stretches p version t.number k) (λ row is. shown_under t within k row is))
 
     key_there : is_key_in key (keys_with p key) ≡ true
     key_there = key_in-has key key (keys_on p.pieces) ∙ ap (λ o. is_eq o || is_key_in key (keys_on p.pieces)) (key_order-itself key)
@@ -130,20 +134,20 @@ chosen_under_key p version t condition key rows rules there fixed is =
 -- ---- as the code has them
 
 -- the rows of the key fit the columns of the table
-pub key_rows_fit : (rs : List Stored) (version : ℕ) (t : Table) (key : List Value) (columns : List Column) (rows listed : List Row) → keep_rules (parts_of rs) ≡ true → table_of (parts_of rs).tables t.number ≡ Some t
-    → t.valid ≡ false → columns ≡ own_columns t → rows ≡ listed → IsKeyListing (parts_of rs) version t.number key listed → list_all (fits columns) rows ≡ true
-key_rows_fit rs version t key columns rows listed rules there plain own same is =
-    ap (λ (cs : List Column). list_all (fits cs) rows) own ∙ ap (list_all (fits (own_columns t))) same
-    ∙ keyed_fits t.name t listed plain
-    (ap (list_all (λ (r : Row). is_keyed_row t r.values)) is.listed ∙ key_listed_keyed (parts_of rs) version t key is.stretches rules there is.are)
+pub key_rows_fit : (rs : List Stored) (version : ℕ) (t : Table) (within : Span) (key : List Value) (columns : List Column) (rows shown : List Row) → keep_rules (parts_of rs) ≡ true
+    → table_of (parts_of rs).tables t.number ≡ Some t → columns ≡ own_columns t → rows ≡ shown → IsKeyShowing (parts_of rs) version t.number t.valid within key shown → list_all (fits columns) rows ≡ true
+key_rows_fit rs version t within key columns rows shown rules there own same is =
+    ap (λ (cs : List Column). list_all (fits cs) rows) own ∙ ap (list_all (fits (own_columns t))) (same ∙ is.shown)
+    ∙ key_showing_all (fits (own_columns t)) (parts_of rs) version t within key is.stretches rules there is.are (λ row is. shown_fits t.name t within key row is)
 
 -- those that are chosen of them are those that are chosen of all
-pub are_chosen_under : (r : Result (Vec Row Global) Memory) (rs : List Stored) (version : ℕ) (t : Table) (condition : Option Cond) (key : List Value) (columns : List Column) (rows listed : List Row)
-    → keep_rules (parts_of rs) ≡ true → table_of (parts_of rs).tables t.number ≡ Some t → FixesKey t condition key → columns ≡ own_columns t → rows ≡ listed → IsKeyListing (parts_of rs) version t.number key listed
-    → IfOk r (λ kept. (t : Table) → columns ≡ own_columns t → kept.items ≡ chosen t condition rows) → IfOk r (λ kept. AreChosen rs version t condition kept.items)
-are_chosen_under (Ok kept) rs version t condition key columns rows listed rules there fixed own same is so = record {
-  all = rows_with (parts_of rs) version t.number key;
-  listed = is_listing (parts_of rs) version t.number key;
-  are = so t own ∙ ap (chosen t condition) same ∙ chosen_under_key (parts_of rs) version t condition key listed rules there fixed is;
+pub are_chosen_under : (r : Result (Vec Row Global) Memory) (rs : List Stored) (version : ℕ) (t : Table) (within : Span) (condition : Option Cond) (key : List Value) (columns : List Column) (rows shown : List Row)
+    → keep_rules (parts_of rs) ≡ true → table_of (parts_of rs).tables t.number ≡ Some t → FixesKey t condition key → columns ≡ own_columns t → rows ≡ shown
+    → IsKeyShowing (parts_of rs) version t.number t.valid within key shown → IfOk r (λ kept. (t : Table) → columns ≡ own_columns t → kept.items ≡ chosen t condition rows)
+    → IfOk r (λ kept. AreChosen rs version t within condition kept.items)
+are_chosen_under (Ok kept) rs version t within condition key columns rows shown rules there fixed own same is so = record {
+  all = rows_with (parts_of rs) version t.number t.valid within key;
+  listed = is_showing (parts_of rs) version t.number t.valid within key;
+  are = so t own ∙ ap (chosen t condition) same ∙ chosen_under_key (parts_of rs) version t within condition key shown rules there fixed is;
 }
-are_chosen_under (Err e) rs version t condition key columns rows listed rules there fixed own same is so = tt
+are_chosen_under (Err e) rs version t within condition key columns rows shown rules there fixed own same is so = tt

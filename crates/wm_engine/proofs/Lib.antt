@@ -24,6 +24,7 @@ pub mod Changing
 pub mod ChangesWritten
 pub mod Querying
 pub mod Stood
+pub mod Seen
 pub mod Acting
 pub mod Choosing
 pub mod Listable

@@ -1,5 +1,5 @@
--- What a version holds of a table can be listed, over any keys that have all of those of which there is a piece.
-use Rattle.std.proofs.Common.{◌≡◌, ℕ, ◌≤◌, ◌==◌, ◌&&◌, ◌||◌, nat_lt, nat_le, Bool, true, false, if◌then◌else◌, List, [], ◌∷◌, map, Option, Some, None, refl, sym, ap, ◌∙◌, arith}
+-- What a version holds of a table can be shown, over any keys that have all of those of which there is a piece.
+use Rattle.std.proofs.Common.{◌≡◌, ℕ, ◌==◌, ◌&&◌, ◌||◌, nat_lt, nat_le, Bool, true, false, if◌then◌else◌, List, [], ◌∷◌, None, refl, sym, ap, ◌∙◌, arith}
 use Rattle.std.specs.Bool.{then_some}
 use Rattle.std.specs.List.{filter_map, list_any}
 use Rattle.std.specs.Option.{option_or}
@@ -8,6 +8,7 @@ use Rattle.std.specs.declared.cmp.Ordering.{Ordering}
 use Rattle.std.specs.declared.cmp.Ordering.TheVariants.{Less, Equal, Greater}
 use Rattle.wm_base.specs.Key.{key_order}
 use Rattle.wm_base.specs.Orders.{key_order_total, key_order-equal}
+use Rattle.wm_base.specs.Period.{Span}
 use Rattle.wm_base.specs.declared.row.Row.{Row}
 use Rattle.wm_base.specs.declared.value.Value.{Value}
 use Rattle.wm_graph.specs.Parts.{Parts}
@@ -16,7 +17,7 @@ use Rattle.wm_spec.specs.Lists.{Cell}
 use Rattle.wm_spec.specs.Stretches.{Stretch, cut_in, key_in, stretches}
 use Rattle.wm_spec.specs.declared.record.piece.PieceRecord.{PieceRecord}
 use Rattle.wm_spec.proofs.Stretches.{Up, Steady, Up-cut, Steady-cut, Off-own, Off-cut, Steady-or, Steady-then, Steady-period, AreMaximal-stretches, value-stretches}
-use Rattle.wm_state.specs.Listing.{standing, stamp_seen, ComesBefore, KeysAscend, is_key_in, AreRowsOf, row_with, is_unwritten, IsListing, Groups, keys_of, joined, AreAllRowsOf}
+use Rattle.wm_state.specs.Listing.{standing, stamp_seen, ComesBefore, KeysAscend, is_key_in, AreRowsOf, row_shown_with, is_unwritten, IsShowing, Groups, keys_of, joined, AreAllRowsOf}
 use Rattle.wm_state.specs.Standing.{covers_at, held_by, stored_at, seen_at, newest_first}
 use Rattle.wm_state.proofs.Tests.{either_false}
 use Rattle.wm_tree.specs.declared.version.Version.{Version as Node}
@@ -152,7 +153,7 @@ unwritten-out (x ∷ xs) table k out =
     none true b c e f = rw (e, f) refl
     none false b c e f = f
 
--- ---- and a listing
+-- ---- and what is shown of them
 
 abbrev pub groups_of : Parts → ℕ → ℕ → List (List Value) → Groups
 groups_of p version table [] = []
@@ -166,12 +167,12 @@ groups_held : (p : Parts) (version table : ℕ) (ks : List (List Value)) → Are
 groups_held p version table [] = tt
 groups_held p version table (k ∷ ks) = (are_stretches p version table k, groups_held p version table ks)
 
--- the rows of a table that a version holds, where one key is gone through that may have none
-abbrev pub rows_with : Parts → ℕ → ℕ → List Value → List Row
-rows_with p version table key = filter_map (row_with p) (joined (groups_of p version table (keys_with p key)))
+-- what is shown of the rows of a table that a version holds, where one key is gone through that may have none
+abbrev pub rows_with : Parts → ℕ → ℕ → Bool → Span → List Value → List Row
+rows_with p version table valid within key = filter_map (row_shown_with p valid within) (joined (groups_of p version table (keys_with p key)))
 
-pub is_listing : (p : Parts) (version table : ℕ) (key : List Value) → IsListing p version table (rows_with p version table key)
-is_listing p version table key = record {
+pub is_showing : (p : Parts) (version table : ℕ) (valid : Bool) (within : Span) (key : List Value) → IsShowing p version table valid within (rows_with p version table valid within key)
+is_showing p version table valid within key = record {
   groups = groups_of p version table (keys_with p key);
   ascend = rw (keys_are p version table (keys_with p key)) (ascend-with p key);
   whole = λ k out. unwritten-out p.pieces table k

@@ -2,6 +2,7 @@
 use Rattle.std.proofs.Common.{◌≡◌, ℕ, ◌≤◌, true, List, [], ◌∷◌, ◌++◌, length, drop, Option, Some, None, refl, sym, ap, ◌∙◌, subst, append-nil}
 use Rattle.std.proofs.lemmas.List.{drop_all}
 use Rattle.std.specs.Option.{option_map_or}
+use Rattle.wm_base.specs.Period.{Span}
 use Rattle.wm_base.specs.declared.columns.Column.{Column}
 use Rattle.wm_base.specs.declared.listing.Listing.{Listing as Source}
 use Rattle.wm_base.specs.declared.tree.query.Src.{Src as SrcNode}
@@ -23,15 +24,15 @@ where_typed None columns is = refl
 where_typed (Some condition) columns is = is
 
 -- all sources are listed once the last of them is
-pub listed_all : (p : Parts) (version : ℕ) (tables : List Table) (sources : List SrcNode) (i : ℕ) (items ls : List Source) → length sources ≤ i → ls ≡ items
-    → ((more : List Source) → AreListed p version tables (srcs_view (drop i sources)) more → AreListed p version tables (srcs_view sources) (items ++ more)) → AreListed p version tables (srcs_view sources) ls
-listed_all p version tables sources i items ls end are listed =
-    subst (AreListed p version tables (srcs_view sources)) (append-nil items ∙ sym are) (listed [] (subst (λ ss. AreListed p version tables (srcs_view ss) []) (sym (drop_all i sources end)) refl))
+pub listed_all : (p : Parts) (version : ℕ) (period : Table → Span) (tables : List Table) (sources : List SrcNode) (i : ℕ) (items ls : List Source) → length sources ≤ i → ls ≡ items
+    → ((more : List Source) → AreListed p version period tables (srcs_view (drop i sources)) more → AreListed p version period tables (srcs_view sources) (items ++ more)) → AreListed p version period tables (srcs_view sources) ls
+listed_all p version period tables sources i items ls end are listed =
+    subst (AreListed p version period tables (srcs_view sources)) (append-nil items ∙ sym are) (listed [] (subst (λ ss. AreListed p version period tables (srcs_view ss) []) (sym (drop_all i sources end)) refl))
 
 -- the columns of the sources are those of what is listed of them
-pub columns_listed : (p : Parts) (version : ℕ) (tables : List Table) (sources : List Src) (ls : List Source) → AreListed p version tables sources ls → columns_in tables sources ≡ columns_of ls
-columns_listed p version tables [] ls are = ap columns_of (sym are)
-columns_listed p version tables (x ∷ xs) [] are = absurd are
-columns_listed p version tables (x ∷ xs) (l ∷ ls) are =
+pub columns_listed : (p : Parts) (version : ℕ) (period : Table → Span) (tables : List Table) (sources : List Src) (ls : List Source) → AreListed p version period tables sources ls → columns_in tables sources ≡ columns_of ls
+columns_listed p version period tables [] ls are = ap columns_of (sym are)
+columns_listed p version period tables (x ∷ xs) [] are = absurd are
+columns_listed p version period tables (x ∷ xs) (l ∷ ls) are =
     ap (λ (o : Option Table). option_map_or (columns_of_table (source_name x)) o [] ++ columns_in tables xs) are.0.named
-    ∙ ap (λ (cs : List Column). cs ++ columns_in tables xs) (sym are.0.columns) ∙ ap (λ (cs : List Column). l.columns ++ cs) (columns_listed p version tables xs ls are.1)
+    ∙ ap (λ (cs : List Column). cs ++ columns_in tables xs) (sym are.0.columns) ∙ ap (λ (cs : List Column). l.columns ++ cs) (columns_listed p version period tables xs ls are.1)

@@ -2,7 +2,7 @@ use Rattle.std.proofs.Common.{sym, ap, ◌∙◌}
 use Rattle.wm_base.specs.Views.{cond_view, filter_view}
 use Rattle.wm_select.specs.Query.{where_of}
 use Rattle.wm_engine.proofs.Choosing.{kept_so}
-use Rattle.wm_engine.proofs.plan.change.chosen_of.Goals as goal
+use Rattle.wm_engine.proofs.plan.choosing.chosen_of.Goals as goal
 
 pub returns-in-Some : goal.returns-in-Some
 returns-in-Some c =
