@@ -132,6 +132,11 @@ class Writer:
                 yield f"A: EXECUTE DBMS_WM.EnableVersioning('{name}'{ready})".encode()
                 for _ in range(self.random.randrange(0, 9)):
                     yield self.insert(name).encode()
+        if self.chance(0.4):
+            yield b"A: EXEC DBMS_WM.CreateWorkspace('W')"
+            yield b"B: EXEC DBMS_WM.GotoWorkspace('W')"
+        if self.chance(0.4):
+            yield self.spaced(self.set_valid_time().split(" "))
         if not part and self.chance(0.02):
             yield b"A: CREATE TABLE WIDE (ID INTEGER PRIMARY KEY)"
             yield b"A: EXEC DBMS_WM.EnableVersioning('WIDE')"
@@ -145,9 +150,9 @@ class Writer:
         if self.chance(0.04):
             return self.one(ODD_LINES)
         words = self.weighted({
-            self.insert: 26, self.update: 13, self.delete: 5, self.select: 32, self.create: 3, self.enable: 3, self.create_workspace: 4,
-            self.create_savepoint: 4, self.goto_workspace: 5, self.goto_savepoint: 6, self.connect: 3, self.disconnect: 1, self.later: 1,
-            self.set_valid_time: 8, self.at: 4, self.on_periods: 4, self.deep: 1, self.wide: 0.3, self.long: 0.3})().split(" ")
+            self.insert: 26, self.update: 13, self.delete: 5, self.select: 32, self.create: 3, self.enable: 3, self.create_workspace: 5,
+            self.create_savepoint: 4, self.goto_workspace: 8, self.goto_savepoint: 6, self.connect: 3, self.disconnect: 1, self.later: 1,
+            self.set_valid_time: 10, self.at: 4, self.on_periods: 4, self.deep: 1, self.wide: 0.3, self.long: 0.3})().split(" ")
         if self.chance(0.12):
             words = self.damaged(words)
         return self.spaced(words)
@@ -479,10 +484,11 @@ class Writer:
                               f"AT TO_DATE ( '{month}' , 'MM-DD-YYYY' )": 1, f"AT TO_DATE ( '{moment}' , 'YYYY-MM-DD HH24:MI:SS' )": 1})
 
     def set_valid_time(self):
-        start, till = self.random.sample(ENDS, 2)
+        # Mostly a period that ends, so that it lies within rows.
+        start, till = self.random.sample(ENDS if self.chance(0.3) else ENDS[1:-3], 2)
         if self.instant_of(start) > self.instant_of(till) and not self.is_bad(0.05):
             start, till = till, start
-        arguments = self.weighted({(self.named("validFrom", start), self.named("validTill", till)): 6, (start,): 2, (): 2,
+        arguments = self.weighted({(self.named("validFrom", start), self.named("validTill", till)): 10, (start,): 1, (): 1,
                                    (f"validTill => {till}", f"validFrom => {start}"): 1, (start, "NULL"): 1})
         if self.is_bad(0.05):
             arguments = self.one([("NULL",), ("NULL", till), (f"validTill => {till}",), ("''", "5"), (start, "5"), ("validTill => 'x'",),
