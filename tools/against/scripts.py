@@ -391,16 +391,20 @@ class Writer:
             chosen.append(self.one(chosen))
         settings = [f"{self.one(['NOPE', 'WM_VALID', 'ID']) if self.is_bad() else column.name} = {self.expression(column.kind, names)}"
                     for column in chosen]
-        return self.said(f"UPDATE {name} SET {self.listed(settings)}{self.where(names)}")
+        return self.said(f"UPDATE {name} SET {self.listed(settings)}{self.where_key(name, names, 0.3)}")
+
+    def where_key(self, name, names, likely):
+        """A condition that most likely asks for one key, and for more or not."""
+        key = [column for column in self.columns_of(name) if self.is_key(name, column)]
+        if not key or not self.chance(likely):
+            return self.where(names)
+        test = f"{key[0].name} = {self.new_key(name, key[0].kind) if self.chance(0.5) else self.value(key[0].kind)}"
+        return f" WHERE {self.one([test, test, f'{test} AND {self.test(names)}', f'{self.test(names)} AND {test}'])}"
 
     def delete(self):
         name = self.table_name()
         names = self.namer([(name, self.shown_of(name))])
-        condition = self.where(names)
-        key = [column for column in self.columns_of(name) if self.is_key(name, column)]
-        if key and self.chance(0.7):
-            condition = f" WHERE {key[0].name} = {self.value(key[0].kind)}"
-        return self.said(f"DELETE {self.one(['FROM ', ''])}{name}{condition}")
+        return self.said(f"DELETE {self.one(['FROM ', ''])}{name}{self.where_key(name, names, 0.7)}")
 
     def select(self):
         count = self.weighted({1: 60, 2: 25, 3: 6, 4: 2 + 5 * bool(self.noise), 5: 3 * bool(self.noise)})
@@ -426,7 +430,7 @@ class Writer:
         text = f"SELECT {self.one(['', '', '', 'DISTINCT '])}{self.listed(items)} FROM {written[0]}"
         for one in written[1:]:
             text += f" {self.one(['JOIN', 'INNER JOIN'])} {one} ON {self.condition(names, 1)}" if self.chance(0.5) else f" , {one}"
-        text += self.where(names)
+        text += self.where_key(written[0], names, 0.15) if written[0] == sources[0][0] and len(sources) == 1 else self.where(names)
         if groups:
             text += f" GROUP BY {self.listed(groups)}"
         if self.chance(0.4):
