@@ -31,6 +31,8 @@ demo: build/wm
 	cmp build/again.answers examples/again.answers
 	build/wm build/demo.wm run --now 2024-06-01 < examples/budget.wm | tee build/budget.answers
 	cmp build/budget.answers examples/budget.answers
+	build/wm build/demo.wm run --now 2024-07-01 < examples/survey.wm | tee build/survey.answers
+	cmp build/survey.answers examples/survey.answers
 
 test:
 	$(RT) ci

@@ -3,9 +3,9 @@
 from tokens import OPERATORS, tokens_of
 from trees import (
     Aggregate, Arithmetic, At, Both, Call, Column, Comparison, Connect, Constant, Create, Delete, Disconnect, Either,
-    Insert, IsNull, Item, Name, Not, Order, Said, Select, Source, Update,
+    Insert, IsNull, Item, Name, Not, Operator, Order, Said, Select, Source, Update,
 )
-from values import DATE_FORMS, END, GREATEST, Instant, MASKS, TIMESTAMP_FORMS, instant
+from values import DATE_FORMS, END, GREATEST, Instant, MASKS, Period, TIMESTAMP_FORMS, instant
 
 NEXT_STAGES = {
     "REFRESHWORKSPACE": "WORKSPACE", "REMOVEWORKSPACE": "WORKSPACE", "UNFREEZEWORKSPACE": "WORKSPACE", "SETCONFLICTWORKSPACE": "WORKSPACE",
@@ -13,11 +13,12 @@ NEXT_STAGES = {
     "ROLLBACKTOSP": "WORKSPACE SAVEPOINT_NAME", "MERGEWORKSPACE": "WORKSPACE CREATE_SAVEPOINT REMOVE_WORKSPACE",
     "FREEZEWORKSPACE": "WORKSPACE FREEZEMODE FREEZEWRITER", "SETLOCKINGON": "LOCKMODE", "SETLOCKINGOFF": "",
     "LOCKROWS": "WORKSPACE TABLE_NAME WHERE_CLAUSE LOCK_MODE", "UNLOCKROWS": "WORKSPACE TABLE_NAME WHERE_CLAUSE",
-    "RESOLVECONFLICTS": "WORKSPACE TABLE_NAME WHERE_CLAUSE KEEP", "SETDIFFVERSIONS": "1 2 3 4", "SETVALIDTIME": "VALIDFROM VALIDTILL",
+    "RESOLVECONFLICTS": "WORKSPACE TABLE_NAME WHERE_CLAUSE KEEP", "SETDIFFVERSIONS": "1 2 3 4",
 }
 BUILT = {
     "ENABLEVERSIONING": "TABLE_NAME HIST ISTOPOLOGY VALIDTIME", "CREATEWORKSPACE": "WORKSPACE ISREFRESHED DESCRIPTION",
     "CREATESAVEPOINT": "WORKSPACE SAVEPOINT_NAME DESCRIPTION", "GOTOWORKSPACE": "WORKSPACE", "GOTOSAVEPOINT": "SAVEPOINT_NAME",
+    "SETVALIDTIME": "VALIDFROM VALIDTILL",
 }
 PARAMETERS = {procedure: names.split() for procedure, names in (NEXT_STAGES | BUILT).items()}
 VIEWS = ("_CONF", "_DIFF", "_HIST", "_LOCK")
@@ -38,6 +39,7 @@ class Parser:
         self.moment = moment
         self.bad_literals = []  # columns
         self.is_later = False  # whether the line uses what is not built yet
+        self.has_empty_period = False
 
     @property
     def next(self):
@@ -200,6 +202,7 @@ class Parser:
 
     def setting(self):
         name = self.any_column()
+        self.is_later |= name.name == "WM_VALID"
         self.take("=")
         return name, self.expression()
 
@@ -212,7 +215,6 @@ class Parser:
 
     def any_column(self):
         if self.sees("WM_VALID"):
-            self.is_later = True
             return Name(self.next.column, None, self.step().value)
         return self.column_name()
 
@@ -310,36 +312,35 @@ class Parser:
 
     def operand(self):
         if self.next.kind == "word" and self.next.value in OPERATORS and self.sees_behind("("):
-            self.is_later = True
-            at = self.step().column
+            word = self.step()
             self.take("(")
-            self.operator_period()
+            left = self.operator_period()
             self.take(",")
-            self.operator_period()
+            right = self.operator_period()
             self.take(")")
-            return Constant(at, "number", 0)
+            return Operator(word.column, word.value, [left, right])
         if self.next.is_id() or self.sees("WM_VALID", "VALIDFROM", "VALIDTILL"):
             return self.name()
         return self.constant()
 
     def operator_period(self):
         if self.sees("WMSYS", "WM_PERIOD"):
-            self.period()
-            return
+            return self.period()
+        at, source = self.next.column, None
         if self.next.is_id():
-            self.step()
+            source = self.step().value
             self.take(".")
-        self.take("WM_VALID")
+        return Name(at, source, self.take("WM_VALID").value)
 
     def name(self):
         at, source = self.next.column, None
         if self.next.is_id() and self.sees_behind("."):
             source = self.step().value
             self.step()
-        name = self.any_column().name
+        name, end = self.any_column().name, None
         if name == "WM_VALID" and self.took("."):
-            self.take("VALIDFROM", "VALIDTILL")
-        return Name(at, source, name)
+            end = self.take("VALIDFROM", "VALIDTILL").value
+        return Name(at, source, name, end)
 
     def constant(self):
         at = self.next.column
@@ -353,8 +354,7 @@ class Parser:
         if self.took("NULL"):
             return Constant(at, "null", None)
         if self.sees("WMSYS", "WM_PERIOD"):
-            self.period()
-            return Constant(at, "period", None)
+            return self.period()
         return self.end_of_period()
 
     def end_of_period(self):
@@ -368,15 +368,20 @@ class Parser:
         return self.when()
 
     def period(self):
+        at = self.next.column
         if self.took("WMSYS"):
             self.take(".")
         self.take("WM_PERIOD")
-        self.is_later = True
         self.take("(")
-        self.end_of_period()
+        start = self.end_of_period().value
         self.take(",")
-        self.end_of_period()
+        till = self.end_of_period().value
         self.take(")")
+        # An end that is no time is a bad literal, of which the line is told before.
+        if start is None or till is None:
+            return Constant(at, "period", None)
+        self.has_empty_period |= start >= till
+        return Constant(at, "period", Period(start, till))
 
     def when(self):
         word = self.take("DATE", "TIMESTAMP", "TO_DATE")
@@ -450,7 +455,6 @@ class Parser:
             if not self.sees(")"):
                 self.some(lambda: self.argument(made, by_name, by_place))
             self.take(")")
-        self.is_later |= made.procedure == "ENABLEVERSIONING" and "VALIDTIME" in made.given and made.given["VALIDTIME"].value is True
         return made
 
     def argument(self, made, by_name, by_place):

@@ -4,10 +4,10 @@ from dataclasses import dataclass, field
 
 from parser import BadToken, Parser, VIEWS
 from trees import (
-    Aggregate, Arithmetic, At, Both, Call, Comparison, Connect, Constant, Create, Delete, Disconnect, Either, Insert,
-    IsNull, Item, Name, Not, Place, Select, Update,
+    Aggregate, Arithmetic, At, Both, Call, Column, Comparison, Connect, Constant, Create, Delete, Disconnect, Either, Insert,
+    IsNull, Item, Name, Not, Operator, Place, Select, Update,
 )
-from values import GREATEST, Instant, LEAST, ascending, printed, weight
+from values import ALWAYS, END, GREATEST, Instant, LEAST, Period, ascending, printed, weight
 
 
 class Refused(Exception):
@@ -23,12 +23,20 @@ def first_of(faults):
     return min(faults, key=lambda fault: fault[0])[1]
 
 
+WM_VALID = Column(0, "WM_VALID", "period")
+
+
 @dataclass
 class Table:
     name: str
     columns: list
     key: int | None
     is_versioned: bool = False
+    has_periods: bool = False
+
+    def shown_columns(self):
+        """What '*' gives: the declared columns, and WM_VALID where each row has a period."""
+        return self.columns + [WM_VALID] * self.has_periods
 
 
 @dataclass
@@ -36,39 +44,62 @@ class Session:
     user: str
     workspace: bytes = b"LIVE"
     savepoint: bytes | None = None
+    period: Period | None = None  # of SetValidTime
 
 
 @dataclass
 class Workspace:
-    content: dict  # table to rows by key
+    content: dict  # table to the rows of each key, each a period and its values, in order of time
     savepoints: dict = field(default_factory=dict)  # name to content
     implicit: int = 0
 
 
 def copied(content):
-    return {table: dict(rows) for table, rows in content.items()}
+    return {table: {key: list(pieces) for key, pieces in rows.items()} for table, rows in content.items()}
+
+
+def written(pieces, period, row):
+    """The rows of a key after an entry with a row, or with None where it is gone. What the entry leaves of a row has neighbours of other
+    stamps alone, so no two parts ever meet again and would be one row."""
+    found = [] if row is None else [(period, row)]
+    for old, values in pieces:
+        found += [(part, values) for part in (old.outside(period) if old.overlaps(period) else [old])]
+    return sorted(found, key=lambda piece: piece[0])
 
 
 class Scope:
     """The columns of the sources of a statement, one behind the other."""
 
     def __init__(self, sources):
-        self.columns = [(label, column) for label, table in sources for column in table.columns]
+        self.sources = sources
+        self.columns = [(label, column) for label, table in sources for column in table.shown_columns()]
 
     def places(self, name):
         return [place for place, (label, column) in enumerate(self.columns)
                 if column.name == name.name and name.source in (None, label)]
+
+    def is_lacking(self, tree):
+        """Whether it is WM_VALID of sources that have no periods."""
+        return (isinstance(tree, Name) and tree.name == "WM_VALID" and not self.places(tree)
+                and any(tree.source in (None, label) for label, _ in self.sources))
+
+    def lacking(self, tree):
+        """Each WM_VALID of a source without periods, with the table that is told; the last one where no source stands before it."""
+        return [(name.at, [table.name for label, table in self.sources if name.source == label][0] if name.source else self.sources[-1][1].name)
+                for name in names_of(tree) if self.is_lacking(name)]
 
     def place(self, name):
         return self.places(name)[0]
 
     def bad_names(self, tree):
         """The names of a tree that are no column or more than one, with their places in the line."""
-        return [(name.at, name.name) for name in names_of(tree) if len(self.places(name)) != 1]
+        return [(name.at, name.name) for name in names_of(tree) if len(self.places(name)) != 1 and not self.is_lacking(name)]
 
     def kind(self, tree):
         if isinstance(tree, Constant):
             return tree.kind
+        if isinstance(tree, (Name, Place)) and tree.name == "WM_VALID":
+            return "time" if tree.end else "period"
         if isinstance(tree, Place):
             return self.columns[tree.place][1].kind
         if isinstance(tree, Name):
@@ -87,6 +118,8 @@ class Scope:
             elif isinstance(part, Aggregate):
                 if part.word == "SUM" and self.kind(part.operand) not in ("number", "null"):
                     found.append((part.at, part.word))
+                if part.word in ("MIN", "MAX") and self.kind(part.operand) == "period":
+                    found.append((part.at, part.word))
             elif isinstance(part, Comparison):
                 if any(not go_together(self.kind(part.left), self.kind(other)) for other in part.others):
                     found.append((part.at, part.mark))
@@ -94,18 +127,19 @@ class Scope:
 
     def misfits(self, column, tree):
         """What is wrong with the kinds of a value for a column."""
-        found = [] if go_together(column.kind, self.kind(tree)) else [(tree.at, column.name)]
-        return found + self.bad_kinds(tree)
+        is_good = self.kind(tree) == "period" if column is WM_VALID else go_together(column.kind, self.kind(tree))
+        return ([] if is_good else [(tree.at, column.name)]) + self.bad_kinds(tree)
 
     # What trees are on a row of the scope
 
     def value(self, tree, row):
         if isinstance(tree, Constant):
             return tree.value
-        if isinstance(tree, Place):
-            return row[tree.place]
-        if isinstance(tree, Name):
-            return row[self.place(tree)]
+        if isinstance(tree, (Name, Place)):
+            value = row[tree.place if isinstance(tree, Place) else self.place(tree)]
+            return {None: value, "VALIDFROM": value.start, "VALIDTILL": value.till}[tree.end] if tree.name == "WM_VALID" else value
+        if isinstance(tree, Operator):
+            return int(is_so(tree.word, *(self.value(operand, row) for operand in tree.operands)))
         values = [self.value(operand, row) for operand in tree.operands]
         if None in values:
             return None
@@ -139,7 +173,7 @@ class Scope:
 
 def parts_of(tree):
     """A tree and all trees within it."""
-    inner = {Arithmetic: lambda: tree.operands, Aggregate: lambda: [tree.operand] if tree.operand else [],
+    inner = {Arithmetic: lambda: tree.operands, Operator: lambda: tree.operands, Aggregate: lambda: [tree.operand] if tree.operand else [],
              Comparison: lambda: [tree.left, *tree.others], IsNull: lambda: [tree.left], Not: lambda: [tree.inner],
              Both: lambda: [tree.left, tree.right], Either: lambda: [tree.left, tree.right]}.get(type(tree), list)()
     return [tree] + [part for one in inner for part in parts_of(one)]
@@ -169,6 +203,13 @@ def conjunction(truths):
 
 def disjunction(truths):
     return True if True in truths else None if None in truths else False
+
+
+def is_so(operator, p, q):
+    """The question of an operator about two periods."""
+    return {"WM_OVERLAPS": p.start < q.till and q.start < p.till, "WM_CONTAINS": p.start <= q.start and q.till <= p.till,
+            "WM_MEETS": p.till == q.start, "WM_EQUALS": p.start == q.start and p.till == q.till,
+            "WM_LESSTHAN": p.till < q.start, "WM_GREATERTHAN": p.start > q.till}[operator]
 
 
 def compared(mark, left, right):
@@ -218,6 +259,7 @@ class Reference:
             refuse("WM-065 literal", min(parser.bad_literals))
         if parser.is_later:
             refuse("WM-099 not built yet")
+        self.has_empty_period = parser.has_empty_period
         return tree
 
     def run(self, tree):
@@ -261,10 +303,26 @@ class Reference:
         workspace = self.workspaces[session.workspace]
         return workspace.content if session.savepoint is None else workspace.savepoints[session.savepoint]
 
+    def window(self, session, table):
+        """The period in which the session sees and changes rows of the table."""
+        if not table.has_periods:
+            return ALWAYS
+        return session.period or Period(self.moment, Instant(END))
+
+    def pieces(self, session, table):
+        """The rows that a session is shown, by key and from, each with its whole period."""
+        found, window = self.content(session).get(table.name, {}), self.window(session, table)
+        return [piece for key in sorted(found) for piece in found[key] if piece[0].overlaps(window)]
+
     def rows(self, session, table):
-        """The rows that a session sees, by key."""
-        found = self.content(session).get(table.name, {})
-        return [found[key] for key in sorted(found)]
+        """The same as rows of the columns that '*' gives."""
+        return [values + (period,) * table.has_periods for period, values in self.pieces(session, table)]
+
+    def write(self, session, table, key, period, row):
+        rows = self.content(session).setdefault(table.name, {})
+        rows[key] = written(rows.get(key, []), period, row)
+        if not rows[key]:
+            del rows[key]
 
     def used(self, names):
         """The tables of these names, which are all there and version-enabled."""
@@ -313,30 +371,45 @@ class Reference:
         if session.savepoint is not None:
             refuse("WM-030 not at LATEST")
 
+    def test_periods(self):
+        if self.has_empty_period:
+            refuse("WM-033 empty period")
+
+    def test_lacking(self, scope, trees):
+        if bad := [fault for tree in trees for fault in scope.lacking(tree)]:
+            refuse("WM-017 not valid-time", first_of(bad))
+
     def insert(self, session, tree):
         [table] = self.used([tree.table])
-        columns = {column.name: column for column in table.columns}
-        names = [name.name for name in tree.names] if tree.names is not None else list(columns)
+        columns = {column.name: column for column in [*table.columns, WM_VALID]}
+        declared = [column.name for column in table.columns]
+        names = [name.name for name in tree.names] if tree.names is not None else declared
         bad = [(name.at, name.name) for place, name in enumerate(tree.names or [])
                if name.name not in columns or name.name in names[:place]]
         bad += [(name.at, name.name) for value in tree.values for name in names_of(value)]
         if bad:
             refuse("WM-012 no column", first_of(bad))
+        if tree.names is None and table.has_periods and len(tree.values) == len(names) + 1:
+            names = [*names, "WM_VALID"]
         if len(tree.values) != len(names):
             refuse("WM-014 count", len(names))
         scope = Scope([])
         bad = [fault for name, value in zip(names, tree.values) for fault in scope.misfits(columns[name], value)]
         if bad:
             refuse("WM-013 type", first_of(bad))
+        if "WM_VALID" in names and not table.has_periods:
+            refuse("WM-017 not valid-time", table.name)
         self.at_latest(session)
+        self.test_periods()
         given = {name: scope.value(value, ()) for name, value in zip(names, tree.values)}
-        row = tuple(given.get(name) for name in columns)
+        row = tuple(given.get(name) for name in declared)
         self.test_rows(table, [row])
-        rows = self.content(session).setdefault(table.name, {})
-        if row[table.key] in rows:
-            refuse("WM-060 key there", printed(row[table.key]))
+        key, period = row[table.key], given.get("WM_VALID") or table.has_periods and session.period or ALWAYS
+        for old, _ in self.content(session).get(table.name, {}).get(key, []):
+            if old.overlaps(period):
+                refuse("WM-060 key there", printed(key), *[printed(old.shared(period))] * table.has_periods)
         self.give_stamps(1)
-        rows[row[table.key]] = row
+        self.write(session, table, key, period, row)
         return [], "DONE 1"
 
     def test_rows(self, table, rows):
@@ -375,19 +448,21 @@ class Reference:
             refuse("WM-013 type", first_of(bad))
         if table.key in places:
             refuse("WM-062 key column", table.columns[table.key].name)
+        self.test_lacking(scope, trees)
         self.at_latest(session)
-        new_rows = []
-        for row in self.rows(session, table):
+        self.test_periods()
+        changes = []
+        for (period, values), row in zip(self.pieces(session, table), self.rows(session, table)):
             if scope.truth(tree.condition, row) is True:
-                new = list(row)
+                new = list(values)
                 for place, (_, value) in zip(places, tree.settings):
                     new[place] = scope.value(value, row)
-                new_rows.append(tuple(new))
-        self.test_rows(table, new_rows)
-        self.give_stamps(len(new_rows))
-        for row in new_rows:
-            self.content(session)[table.name][row[table.key]] = row
-        return [], f"DONE {len(new_rows)}"
+                changes.append((period.shared(self.window(session, table)), tuple(new)))
+        self.test_rows(table, [row for _, row in changes])
+        self.give_stamps(len(changes))
+        for period, row in changes:
+            self.write(session, table, row[table.key], period, row)
+        return [], f"DONE {len(changes)}"
 
     def delete(self, session, tree):
         [table] = self.used([tree.table])
@@ -396,11 +471,14 @@ class Reference:
             refuse("WM-012 no column", first_of(bad))
         if bad := scope.bad_kinds(tree.condition):
             refuse("WM-013 type", first_of(bad))
+        self.test_lacking(scope, [tree.condition])
         self.at_latest(session)
-        gone = [row for row in self.rows(session, table) if scope.truth(tree.condition, row) is True]
+        self.test_periods()
+        gone = [(period.shared(self.window(session, table)), row[table.key])
+                for (period, _), row in zip(self.pieces(session, table), self.rows(session, table)) if scope.truth(tree.condition, row) is True]
         self.give_stamps(len(gone))
-        for row in gone:
-            del self.content(session)[table.name][row[table.key]]
+        for period, key in gone:
+            self.write(session, table, key, period, None)
         return [], f"DONE {len(gone)}"
 
     # SELECT
@@ -432,6 +510,8 @@ class Reference:
         bad = [fault for one in [*(item.expression for item in items), *tree.conditions] for fault in scope.bad_kinds(one)]
         if bad:
             refuse("WM-013 type", first_of(bad))
+        self.test_lacking(scope, [*(item.expression for item in items), *tree.conditions, *groups, *(by[1] for by, _ in orders if by[0] == 2)])
+        self.test_periods()
         kept = [row for row in self.tuples(session, tables)
                 if all(scope.truth(condition, row) is True for condition in tree.conditions)]
         # Each answer stands beside the row that ORDER BY may look at.
@@ -444,37 +524,47 @@ class Reference:
             answers = [(answer, ()) for answer in sorted(different, key=lambda answer: tuple(map(ascending, answer)))]
         if len(answers) > self.MOST_ROWS:
             refuse("WM-074 answer rows", self.MOST_ROWS)
-        for (part, place), descending in reversed(orders):
-            answers.sort(key=lambda pair: ascending(pair[part][place]), reverse=descending)
+        for (part, by), descending in reversed(orders):
+            answers.sort(key=lambda pair: ascending(pair[0][by] if part == 0 else scope.value(by, pair[1])), reverse=descending)
         return [answer for answer, _ in answers], f"ROWS {len(answers)}"
 
     def placed(self, scope, tree):
         """A column alone by its place, where it has one."""
         if isinstance(tree, Name) and len(scope.places(tree)) == 1:
-            return Place(tree.at, scope.place(tree), tree.name)
+            return Place(tree.at, scope.place(tree), tree.name, tree.end)
         return tree
+
+    def is_same(self, scope, one, other):
+        """Whether two expressions are one column alone. WM_VALID of a table without periods goes by its name."""
+        if isinstance(one, Place) and isinstance(other, Place):
+            return (one.place, one.end) == (other.place, other.end)
+        return (scope.is_lacking(one) and scope.is_lacking(other) and one.end == other.end
+                and (one.source == other.source or None in (one.source, other.source)))
 
     def bad_item(self, scope, tree, is_grouped, groups):
         if not is_grouped or isinstance(tree, Aggregate):
             return scope.bad_names(tree)
-        if isinstance(tree, Place):
-            return [] if tree.place in [group.place for group in groups if isinstance(group, Place)] else [(tree.at, tree.name)]
+        if isinstance(tree, Place) or scope.is_lacking(tree):
+            return [] if any(self.is_same(scope, tree, group) for group in groups) else [(tree.at, tree.name)]
         return [(name.at, name.name) for name in names_of(tree)]
 
     def ordered_by(self, scope, by, items, must_be_item):
-        """Where the value to sort by stands: 0 for the answer or 1 for the row, and the place in it. None where it is nowhere."""
+        """Where the value to sort by stands: 0 and a place in the answer, or 1 and the column in the row. 2 and WM_VALID where the table has no
+        periods, and None where it is nowhere."""
         if isinstance(by, Constant):
             return (0, by.value - 1) if 1 <= by.value <= len(items) else None
         labelled = [place for place, item in enumerate(items) if item.label == by.name] if by.source is None else []
         if labelled:
             return (0, labelled[0]) if len(labelled) == 1 else None
         column = self.placed(scope, by)
-        if not isinstance(column, Place):
+        if not isinstance(column, Place) and not scope.is_lacking(column):
             return None
-        if not must_be_item:
-            return 1, column.place
-        at = [place for place, item in enumerate(items) if isinstance(item.expression, Place) and item.expression.place == column.place]
-        return (0, at[0]) if at else None
+        at = [place for place, item in enumerate(items) if self.is_same(scope, item.expression, column)]
+        if must_be_item and not at:
+            return None
+        if scope.is_lacking(column):
+            return 2, column
+        return (0, at[0]) if must_be_item else (1, column)
 
     def tuples(self, session, tables):
         return (sum(rows, ()) for rows in itertools.product(*(self.rows(session, table) for table in tables)))
@@ -482,17 +572,17 @@ class Reference:
     def grouped(self, scope, rows, items, groups, is_one_group):
         members = {(): []} if is_one_group else {}
         for row in rows:
-            members.setdefault(tuple(row[group.place] for group in groups), []).append(row)
+            members.setdefault(tuple(scope.value(group, row) for group in groups), []).append(row)
         answers = []
         for values in sorted(members, key=lambda values: tuple(map(ascending, values))):
-            by_place = {group.place: value for group, value in zip(groups, values)}
+            by_place = {(group.place, group.end): value for group, value in zip(groups, values)}
             answer = []
             for item in items:
                 tree = item.expression
                 if isinstance(tree, Aggregate):
                     answer.append(self.aggregate(scope, tree, members[values]))
                 elif isinstance(tree, Place):
-                    answer.append(by_place[tree.place])
+                    answer.append(by_place[tree.place, tree.end])
                 else:
                     answer.append(scope.value(tree, ()))
             answers.append((tuple(answer), ()))
@@ -514,7 +604,7 @@ class Reference:
         given = {parameter: constant.value for parameter, constant in tree.given.items()}
         return {"ENABLEVERSIONING": self.enable_versioning, "CREATEWORKSPACE": self.create_workspace,
                 "CREATESAVEPOINT": self.create_savepoint, "GOTOWORKSPACE": self.goto_workspace,
-                "GOTOSAVEPOINT": self.goto_savepoint}[tree.procedure](session, tree, given)
+                "GOTOSAVEPOINT": self.goto_savepoint, "SETVALIDTIME": self.set_valid_time}[tree.procedure](session, tree, given)
 
     def test_arguments(self, tree, needed, **kinds):
         """Refuses the first argument that does not fit; 'kinds' tells for each parameter its kind, or the values it takes."""
@@ -546,7 +636,7 @@ class Reference:
                             ISTOPOLOGY=[False], VALIDTIME="boolean")
         if table.key is None:
             refuse("WM-015 no primary key", table.name)
-        table.is_versioned = True
+        table.is_versioned, table.has_periods = True, bool(given.get("VALIDTIME"))
         self.changed()
         return [], "OK"
 
@@ -605,6 +695,18 @@ class Reference:
         if name != b"LATEST" and name not in self.workspaces[session.workspace].savepoints:
             refuse("WM-022 no savepoint", printed(name))
         session.savepoint = None if name == b"LATEST" else name
+        return [], "OK"
+
+
+    def set_valid_time(self, session, tree, given):
+        self.test_arguments(tree, ["VALIDFROM"] if tree.given else [], VALIDFROM="time", VALIDTILL="time")
+        period = None
+        if tree.given:
+            till = given.get("VALIDTILL")
+            period = Period(given["VALIDFROM"], Instant(END) if till is None else till)
+            if period.start >= period.till:
+                refuse("WM-033 empty period")
+        session.period = period
         return [], "OK"
 
 

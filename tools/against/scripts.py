@@ -2,9 +2,10 @@
 import random
 
 from parser import Parser
-from reference import ended, negation, Reference, Session
+from reference import ended, Reference, Session
+from tokens import OPERATORS
 from trees import Column
-from values import Instant, TIMESTAMP_FORMS, instant, printed
+from values import END, Instant, TIMESTAMP_FORMS, instant, printed
 
 KINDS = {"number": ["NUMBER", "NUMBER", "NUMBER ( 5 )", "NUMBER ( 9 , 0 )", "INTEGER"],
          "text": ["VARCHAR2 ( 4 )", "VARCHAR2 ( 16 )", "VARCHAR2 ( 300 )", "VARCHAR2 ( 2000 )"], "time": ["DATE", "TIMESTAMP"]}
@@ -15,6 +16,10 @@ VALUES = {
              "TIMESTAMP '9999-12-31T23:59:59'", "TO_DATE ( '02-29-2020' , 'MM-DD-YYYY' )", "TO_DATE ( '2020-01-01' , 'YYYY-MM-DD' )",
              "TO_DATE ( '2020-01-01 12:30:00' , 'YYYY-MM-DD HH24:MI:SS' )", "SYSDATE", "DBMS_WM . UNTIL_CHANGED", "DATE '0001-01-01'"],
 }
+# The ends of periods, near each other, so that periods overlap, meet and contain each other.
+ENDS = ["DATE '0001-01-01'", "DATE '2019-06-01'", "DATE '2020-01-01'", "TIMESTAMP '2020-01-01 00:00:01'", "DATE '2020-01-02'", "DATE '2020-02-01'",
+        "DATE '2020-03-01'", "TO_DATE ( '04-01-2020' , 'MM-DD-YYYY' )", "DATE '2020-05-01'", "DATE '2021-01-01'", "SYSDATE",
+        "TIMESTAMP '9999-12-31 23:59:59'", "DBMS_WM . UNTIL_CHANGED", "DBMS_WM . UNTIL_CHANGED"]
 WIDE_NUMBERS = ["9223372036854775807", "- 9223372036854775807", "4611686018427387904", "3037000500"]
 WIDE_TEXTS = ["'" + "w" * length + "'" for length in (5, 17, 197, 198, 300, 301, 1000, 1979, 1988, 1989, 2000, 2001)]
 BAD_LITERALS = ["9223372036854775808", "99999999999999999999999", "DATE '2021-02-29'", "DATE '2020-1-1'", "DATE ''", "DATE '0000-01-01'",
@@ -43,20 +48,33 @@ ODD_LINES = [
     b"A; SELECT * FROM BUD", b"A: SELECT*FROM BUD", b"A: SELECT 1FROM BUD", b"A: SELECT 1 -- FROM BUD", b"A:DELETE BUD WHERE ID=>5",
     *(b"A: INSERT INTO BUD VALUES (1, '" + b"y" * size + b"')" for size in (1999, 16351, 16352, 16353))]
 LATER = [
-    "SELECT WM_VALID FROM BUD", "SELECT 1 FROM BUD WHERE WM_VALID IS NULL", "SELECT * FROM BUD_CONF", "SELECT * FROM NOPE_HIST X , BUD",
+    "SELECT * FROM BUD_CONF", "SELECT * FROM NOPE_HIST X , BUD", "UPDATE BUD SET WM_VALID = NULL", "UPDATE NOPE SET ID = 1 , WM_VALID = NOPE",
     "EXEC DBMS_WM . MergeWorkspace ( 'W' , create_savepoint => TRUE )", "EXEC DBMS_WM . RefreshWorkspace", "SELECT 1 FROM X_LOCK , Y_DIFF",
     "EXEC DBMS_WM . LockRows ( 'W' , 'BUD' , 'ID = 1' , 'E' )", "EXEC DBMS_WM . LockRows ( 'W' , 'BUD' , 'ID = ' , 'E' )",
     "EXEC DBMS_WM . UnlockRows ( 'W' , 'BUD' , 'ID IN (9223372036854775808)' )", "EXEC DBMS_WM . UnlockRows ( 'W' , 'BUD' , '' )",
     "EXEC DBMS_WM . ResolveConflicts ( where_clause => '  ' , keep => 'CHILD' )", "EXEC DBMS_WM . SetDiffVersions ( 'A' , 'B' , 'C' , 'D' )",
     "EXEC DBMS_WM . SetDiffVersions ( 'A' , 'B' , 'C' , 'D' , 'E' )", "EXEC DBMS_WM . SetDiffVersions ( workspace1 => 'A' )",
-    "EXEC DBMS_WM . SetValidTime ( validFrom => SYSDATE , validTill => DBMS_WM . UNTIL_CHANGED )", "EXEC DBMS_WM . SetLockingOFF ( 'E' )",
-    "EXEC DBMS_WM . SetValidTime ( validTill => SYSDATE , validFrom => DATE '2020-02-30' )", "EXEC DBMS_WM . SetLockingOFF ( )",
+    "EXEC DBMS_WM . SetLockingOFF ( 'E' )", "EXEC DBMS_WM . SetLockingOFF ( )", "UPDATE BUD SET WM_VALID = WM_PERIOD ( SYSDATE , SYSDATE )",
     "EXEC DBMS_WM . FreezeWorkspace ( 'W' , freezewriter => 'ANN' , 'READ_ONLY' )", "EXEC DBMS_WM . GotoDate ( SYSDATE )",
     "EXEC DBMS_WM . UnlockRows ( 'W' , 'BUD' , where_clause => 'ID = ''a'' OR NOT (AMT IS NULL)' )",
-    "EXEC DBMS_WM . UnlockRows ( 'W' , 'BUD' , 'ID = ''a' )", "EXEC DBMS_WM . LockRows ( 'W' , 'BUD' , 'ID = 1 ;' )",
-    "SELECT 1 FROM BUD WHERE WM_EQUALS ( WM_VALID , BUD . WM_VALID ) = 1", "SELECT WM_EQUALS ( 1 , BUD . WM_VALID ) FROM BUD",
-    "INSERT INTO BUD ( ID , WM_VALID ) VALUES ( 1 , NULL )", "UPDATE BUD SET WM_VALID = NULL", "SELECT 1 FROM BUD ORDER BY WM_VALID . VALIDTILL",
-    "SELECT a . WM_VALID . VALIDFROM FROM BUD a", "SELECT a . ID . VALIDFROM FROM BUD a", "SELECT WM_OVERLAPS FROM BUD"]
+    "EXEC DBMS_WM . UnlockRows ( 'W' , 'BUD' , 'ID = ''a' )", "EXEC DBMS_WM . LockRows ( 'W' , 'BUD' , 'ID = 1 ;' )"]
+# Lines on periods, with @ in the place of a table and $ in that of a period.
+PERIODS = [
+    "SELECT WM_VALID FROM @", "SELECT 1 FROM @ WHERE WM_VALID IS NULL", "SELECT * FROM @ WHERE WM_VALID = WM_VALID", "SELECT WM_OVERLAPS FROM @",
+    "SELECT 1 FROM @ WHERE WM_EQUALS ( WM_VALID , @ . WM_VALID ) = 1", "SELECT WM_EQUALS ( 1 , @ . WM_VALID ) FROM @", "SELECT $ FROM @",
+    "INSERT INTO @ ( ID , WM_VALID ) VALUES ( 1 , NULL )", "INSERT INTO @ ( WM_VALID , ID ) VALUES ( $ , 3 )", "SELECT MIN ( WM_VALID ) FROM @",
+    "INSERT INTO @ ( WM_VALID , WM_VALID ) VALUES ( $ , $ )", "INSERT INTO @ ( ID , WM_VALID ) VALUES ( 1 , WM_VALID )", "SELECT SUM ( $ ) FROM @",
+    "INSERT INTO @ ( ID , WM_VALID ) VALUES ( 4 , ( $ ) )", "INSERT INTO @ ( ID , WM_VALID ) VALUES ( 4 , - $ )", "SELECT WM_VALID + 1 FROM @",
+    "INSERT INTO @ ( ID , WM_VALID ) VALUES ( 5 , WM_MEETS ( $ , $ ) )", "INSERT INTO @ ( ID ) VALUES ( $ )", "SELECT COUNT ( WM_VALID ) FROM @",
+    "SELECT 1 FROM @ ORDER BY WM_VALID . VALIDTILL", "SELECT a . WM_VALID . VALIDFROM FROM @ a", "SELECT a . ID . VALIDFROM FROM @ a",
+    "SELECT @ . WM_VALID FROM @ a", "SELECT WM_VALID FROM @ a , @ b", "SELECT a . WM_VALID , b . WM_VALID FROM @ a , @ b ORDER BY WM_VALID",
+    "SELECT DISTINCT WM_VALID FROM @ ORDER BY WM_VALID DESC", "SELECT DISTINCT * FROM @ ORDER BY WM_VALID", "SELECT DISTINCT 1 FROM @ ORDER BY WM_VALID",
+    "SELECT WM_VALID , COUNT ( * ) FROM @ GROUP BY WM_VALID", "SELECT WM_VALID . VALIDFROM , COUNT ( * ) FROM @ GROUP BY WM_VALID . VALIDFROM",
+    "SELECT COUNT ( * ) , WM_VALID FROM @", "SELECT COUNT ( * ) FROM @ GROUP BY ID ORDER BY WM_VALID", "DELETE FROM @ WHERE WM_CONTAINS ( $ , WM_VALID ) = 1",
+    "SELECT * FROM @ WHERE WM_VALID BETWEEN $ AND $", "SELECT * FROM @ WHERE WM_VALID IN ( $ )", "SELECT * FROM @ WHERE $ IS NOT NULL",
+    "SELECT * FROM @ WHERE WM_OVERLAPS ( WM_VALID , $ ) = 'x'", "SELECT MAX ( WM_VALID . VALIDTILL ) , MIN ( WM_VALID . VALIDFROM ) FROM @",
+    "DELETE FROM @ WHERE WM_VALID . VALIDFROM > SYSDATE", "DELETE FROM @ WHERE b . WM_VALID IS NULL", "UPDATE @ SET AMT = $", "SELECT Z . WM_VALID FROM @",
+    "UPDATE @ SET DAY = WM_VALID . VALIDFROM , AMT = WM_OVERLAPS ( $ , WM_VALID )", "SELECT WM_LESSTHAN ( $ , $ ) , WM_GREATERTHAN ( $ , $ ) FROM @"]
 
 
 class Writer:
@@ -110,9 +128,15 @@ class Writer:
             yield line.encode()
             name = line.split()[4]
             if name in self.reference.tables and self.chance(0.95):
-                yield f"A: EXECUTE DBMS_WM.EnableVersioning('{name}')".encode()
+                ready = self.one(["", "", ", 'NONE', FALSE, TRUE", ", validTime => TRUE"])
+                yield f"A: EXECUTE DBMS_WM.EnableVersioning('{name}'{ready})".encode()
                 for _ in range(self.random.randrange(0, 9)):
                     yield self.insert(name).encode()
+        if self.chance(0.4):
+            yield b"A: EXEC DBMS_WM.CreateWorkspace('W')"
+            yield b"B: EXEC DBMS_WM.GotoWorkspace('W')"
+        if self.chance(0.4):
+            yield self.spaced(self.set_valid_time().split(" "))
         if not part and self.chance(0.02):
             yield b"A: CREATE TABLE WIDE (ID INTEGER PRIMARY KEY)"
             yield b"A: EXEC DBMS_WM.EnableVersioning('WIDE')"
@@ -126,9 +150,9 @@ class Writer:
         if self.chance(0.04):
             return self.one(ODD_LINES)
         words = self.weighted({
-            self.insert: 26, self.update: 13, self.delete: 5, self.select: 32, self.create: 3, self.enable: 3, self.create_workspace: 4,
-            self.create_savepoint: 4, self.goto_workspace: 5, self.goto_savepoint: 6, self.connect: 3, self.disconnect: 1, self.later: 2,
-            self.deep: 1, self.wide: 0.3, self.long: 0.3})().split(" ")
+            self.insert: 26, self.update: 13, self.delete: 5, self.select: 32, self.create: 3, self.enable: 3, self.create_workspace: 5,
+            self.create_savepoint: 4, self.goto_workspace: 8, self.goto_savepoint: 6, self.connect: 3, self.disconnect: 1, self.later: 1,
+            self.set_valid_time: 10, self.at: 4, self.on_periods: 4, self.deep: 1, self.wide: 0.3, self.long: 0.3})().split(" ")
         if self.chance(0.12):
             words = self.damaged(words)
         return self.spaced(words)
@@ -174,6 +198,11 @@ class Writer:
         table = self.reference.tables.get(name)
         return table.columns if table else [Column(0, "ID"), Column(0, "AMT")]
 
+    def shown_of(self, name):
+        """The columns that a condition may name."""
+        table = self.reference.tables.get(name)
+        return table.shown_columns() if table else self.columns_of(name)
+
     def kind(self):
         return self.weighted({"number": 5, "text": 3, "time": 2})
 
@@ -184,7 +213,7 @@ class Writer:
             if choice == 0:
                 return self.one(BAD_LITERALS)
             if choice == 1:
-                return self.one(["WM_PERIOD ( SYSDATE , DBMS_WM . UNTIL_CHANGED )", "WMSYS . WM_PERIOD ( DATE '2020-01-01' , SYSDATE )"])
+                return self.period()
             if choice < 4:
                 return "NULL"
             kind = self.kind()
@@ -193,6 +222,27 @@ class Writer:
         if self.chance(0.04) and kind != "time":
             return self.one(WIDE_NUMBERS if kind == "number" else WIDE_TEXTS)
         return self.one(VALUES[kind])
+
+    def instant_of(self, end):
+        return Parser(end.encode(), self.reference.moment).end_of_period().value
+
+    def period(self):
+        """A period, most likely with moments in it."""
+        start, till = self.random.sample(ENDS, 2)
+        if not self.is_bad(0.02) and self.instant_of(start) >= self.instant_of(till):
+            start, till = till, start
+        if self.instant_of(start) == self.instant_of(till) and not self.is_bad(0.1):
+            return self.period()
+        return f"{self.one(['', '', 'WMSYS . '])}WM_PERIOD ( {start} , {till} )"
+
+    def per(self, names):
+        """An operand of an operator on periods."""
+        columns = names("period")
+        return self.one(columns) if columns and self.chance(0.6) else self.period()
+
+    def question(self, names):
+        """An operator on periods."""
+        return f"{self.one(sorted(OPERATORS))} ( {self.per(names)} , {self.per(names)} )"
 
     def expression(self, kind, names, depth=3):
         """An expression of the kind; 'names' gives the columns of a kind."""
@@ -205,32 +255,37 @@ class Writer:
                              f"( {left} - {right} ) * {right}"])
         if depth and self.chance(0.04):
             return self.one(["( {} )", "( {} )", "- {}", "1 + {}"] if self.noise else ["( {} )"]).format(self.expression(kind, names, depth - 1))
+        if kind == "number" and names("period") and self.chance(0.15):
+            return self.question(names)
         return self.one(columns) if columns and self.chance(0.6) else self.value(kind)
 
     def namer(self, sources):
         """A function that gives the names of the columns of a kind that the sources, pairs of a label and columns, have."""
         def names(kind):
-            if self.is_bad():
+            if self.is_bad() and kind != "period":
                 label = sources[0][0]
                 return [self.one(["NOPE", "Z . ID", f"{label} . NOPE", "WM_VALID", "ID", "Z . NOPE", f"{label} . WM_VALID . VALIDFROM"])]
             found = []
             for label, columns in sources:
                 for column in columns:
-                    if column.kind == kind:
-                        found.append(f"{label} . {column.name}")
+                    ends = [" . VALIDFROM", " . VALIDTILL"] if column.kind == "period" and kind == "time" else [""]
+                    if column.kind == kind or len(ends) > 1:
+                        found += [f"{label} . {column.name}{end}" for end in ends]
                         is_one = sum(other.name == column.name for _, others in sources for other in others) == 1
                         if is_one or self.noise and self.chance(0.1):
-                            found.append(column.name)
+                            found += [column.name + end for end in ends]
             return found
         return names
 
     def operand(self, kind, names):
         columns = names(kind)
         if self.is_bad() and self.chance(0.1):
-            return "WM_OVERLAPS ( WM_VALID , WM_PERIOD ( SYSDATE , DBMS_WM . UNTIL_CHANGED ) )"
+            return f"WM_OVERLAPS ( WM_VALID , {self.period()} )"
         return self.one(columns) if columns and self.chance(0.7) else self.value(kind)
 
     def test(self, names):
+        if names("period") and self.chance(0.25):
+            return f"{self.question(names)} {self.one(['=', '=', '=', '<>', '>='])} {self.one('110')}"
         kind = self.kind()
         if not names(kind) and self.chance(0.8):
             kind = "number"
@@ -288,16 +343,21 @@ class Writer:
     def insert(self, name=None):
         name = name or self.table_name()
         columns, listed = list(self.columns_of(name)), ""
-        names = self.namer([(name, columns)])
+        names = self.namer([(name, self.shown_of(name))])
+        table = self.reference.tables.get(name)
+        has_period = table is not None and table.has_periods and self.chance(0.7)
         if self.chance(0.25):
             columns = [column for column in columns if column.name == "ID" or column.not_null or self.chance(0.7)] or columns
+            columns += [Column(0, "WM_VALID", "period")] * has_period
+            has_period = False
             self.random.shuffle(columns)
             written = [column.name for column in columns]
             if self.is_bad():
                 written[self.random.randrange(len(written))] = self.one(["NOPE", written[0], "WM_VALID", "ID"])
             listed = f" ( {self.listed(written)} )"
-        values = [self.new_key(name, column.kind) if self.is_key(name, column) and self.chance(0.8) else
+        values = [self.period() if column.kind == "period" else self.new_key(name, column.kind) if self.is_key(name, column) and self.chance(0.8) else
                   self.expression(column.kind, names if self.is_bad() else lambda kind: [], 1) for column in columns]
+        values += [self.period()] * has_period
         if self.is_bad():
             values = values[:-1] or ["1", "2"] if self.chance(0.5) else values + ["1"]
         return self.said(f"INSERT INTO {name}{listed} VALUES ( {self.listed(values)} )")
@@ -309,8 +369,11 @@ class Writer:
     def new_key(self, name, kind):
         """A constant that is most likely no key of a row that is there."""
         used = {key for workspace in self.reference.workspaces.values() for key in workspace.content.get(name, {})}
+        most = 13
+        if self.reference.tables[name].has_periods:
+            used, most = set(), 5
         for _ in range(10):
-            number = self.random.randrange(1, 13)
+            number = self.random.randrange(1, most)
             text = {"number": str(number), "text": f"'{chr(96 + number)}'", "time": f"DATE '2020-01-{number:02}'"}[kind]
             if kind == "text" and self.chance(0.05):
                 text = self.one(WIDE_TEXTS)
@@ -321,23 +384,27 @@ class Writer:
     def update(self):
         name = max([self.table_name(), self.table_name()], key=lambda name: len(self.columns_of(name)) > 1)
         columns, table = self.columns_of(name), self.reference.tables.get(name)
-        names = self.namer([(name, columns)])
+        names = self.namer([(name, self.shown_of(name))])
         free = [column for place, column in enumerate(columns) if table is None or place != table.key or self.is_bad()] or columns
         chosen = self.random.sample(free, self.random.randrange(1, min(3, len(free)) + 1))
         if self.is_bad():
             chosen.append(self.one(chosen))
         settings = [f"{self.one(['NOPE', 'WM_VALID', 'ID']) if self.is_bad() else column.name} = {self.expression(column.kind, names)}"
                     for column in chosen]
-        return self.said(f"UPDATE {name} SET {self.listed(settings)}{self.where(names)}")
+        return self.said(f"UPDATE {name} SET {self.listed(settings)}{self.where_key(name, names, 0.3)}")
+
+    def where_key(self, name, names, likely):
+        """A condition that most likely asks for one key, and for more or not."""
+        key = [column for column in self.columns_of(name) if self.is_key(name, column)]
+        if not key or not self.chance(likely):
+            return self.where(names)
+        test = f"{key[0].name} = {self.new_key(name, key[0].kind) if self.chance(0.5) else self.value(key[0].kind)}"
+        return f" WHERE {self.one([test, test, f'{test} AND {self.test(names)}', f'{self.test(names)} AND {test}'])}"
 
     def delete(self):
         name = self.table_name()
-        names = self.namer([(name, self.columns_of(name))])
-        condition = self.where(names)
-        key = [column for column in self.columns_of(name) if self.is_key(name, column)]
-        if key and self.chance(0.7):
-            condition = f" WHERE {key[0].name} = {self.value(key[0].kind)}"
-        return self.said(f"DELETE {self.one(['FROM ', ''])}{name}{condition}")
+        names = self.namer([(name, self.shown_of(name))])
+        return self.said(f"DELETE {self.one(['FROM ', ''])}{name}{self.where_key(name, names, 0.7)}")
 
     def select(self):
         count = self.weighted({1: 60, 2: 25, 3: 6, 4: 2 + 5 * bool(self.noise), 5: 3 * bool(self.noise)})
@@ -350,20 +417,20 @@ class Writer:
             label = self.one(["A", "B", "C", "D", "BUD"]) if self.chance(0.7 if count > 1 else 0.2) else name
             if label in [other for other, _ in sources] and not self.is_bad():
                 label = f"S{len(sources)}"
-            sources.append((label, self.columns_of(name)))
+            sources.append((label, self.shown_of(name)))
             written.append(name if label == name else f"{name} {label}")
         names = self.namer(sources)
         is_grouped = self.chance(0.3) and (len(sources) == 1 or bool(self.noise))
         groups = []
         if is_grouped and self.chance(0.75):
-            groups = [self.one(names(self.kind()) or ["ID"]) for _ in range(self.one([1, 1, 2]))]
+            groups = [self.one(names(self.one([self.kind(), self.kind(), "period"])) or ["ID"]) for _ in range(self.one([1, 1, 2]))]
         items = [self.item(names, is_grouped, groups) for _ in range(self.one([1, 1, 2, 2, 3]))]
         if self.chance(0.05 if is_grouped else 0.25):
             items = ["*"]
         text = f"SELECT {self.one(['', '', '', 'DISTINCT '])}{self.listed(items)} FROM {written[0]}"
         for one in written[1:]:
             text += f" {self.one(['JOIN', 'INNER JOIN'])} {one} ON {self.condition(names, 1)}" if self.chance(0.5) else f" , {one}"
-        text += self.where(names)
+        text += self.where_key(written[0], names, 0.15) if written[0] == sources[0][0] and len(sources) == 1 else self.where(names)
         if groups:
             text += f" GROUP BY {self.listed(groups)}"
         if self.chance(0.4):
@@ -372,6 +439,9 @@ class Writer:
 
     def item(self, names, is_grouped, groups):
         kind = self.kind()
+        if names("period") and self.chance(0.2):
+            text = self.one([*names("period"), self.period(), self.question(names)])
+            return f"COUNT ( {text} )" if is_grouped and text not in groups else text
         text = self.expression(kind, names, 2)
         if is_grouped and not self.is_bad():
             word = self.one(["COUNT", "MIN", "MAX", "SUM"] if kind == "number" or self.is_bad() else ["COUNT", "MIN", "MAX"])
@@ -383,7 +453,7 @@ class Writer:
         plain = [item.split(" AS ")[0] for item in items if item[:1].isalpha() and not set(item) & set("(+-*'")]
         by = self.one([*labels, *plain, *groups, str(self.random.randrange(1, len(items) + 1))])
         if not is_grouped and self.chance(0.3):
-            by = self.one(names(self.kind()) or ["1"])
+            by = self.one(names(self.one([self.kind(), "period"])) or ["1"])
         if self.is_bad():
             by = self.one(["0", "9", "NOPE", "Z . ID", "AMT", "ID", "P", "007", "WM_VALID", "9223372036854775808"])
         return by + self.one(["", "", " ASC", " DESC"])
@@ -398,6 +468,36 @@ class Writer:
     def later(self):
         """What the language has, and the program has not yet."""
         return self.said(self.one(LATER))
+
+    def on_periods(self):
+        """What is said of periods, also of tables that have none."""
+        words = self.one(PERIODS).replace("@", self.table_name())
+        while "$" in words:
+            words = words.replace("$", self.period(), 1)
+        return self.said(words)
+
+    def at(self):
+        """The moment that is, a later one, or one just before it."""
+        change = self.weighted({0: 2, 1: 2, 43_200: 1, 86_400: 3, 20 * 86_400: 2, -1: 1, -86_400: 1})
+        moment = printed(Instant(min(max(self.reference.moment + change, 0), END - 1))).decode()
+        if self.is_bad(0.05):
+            return self.one(["AT SYSDATE", "AT DBMS_WM . UNTIL_CHANGED", "AT DATE '2021-02-29'", "AT NULL", f"AT {moment}", "AT DATE '0001-01-01'",
+                             "AT WM_PERIOD ( SYSDATE , DBMS_WM . UNTIL_CHANGED )", f"AT DATE '{moment}'", "AT 5"])
+        day, month = moment[:10], f"{moment[5:10]}-{moment[:4]}"
+        return self.weighted({f"AT TIMESTAMP '{moment}'": 5, f"AT TIMESTAMP '{moment.replace(' ', 'T')}'": 1, f"AT DATE '{day}'": 2,
+                              f"AT TO_DATE ( '{month}' , 'MM-DD-YYYY' )": 1, f"AT TO_DATE ( '{moment}' , 'YYYY-MM-DD HH24:MI:SS' )": 1})
+
+    def set_valid_time(self):
+        # Mostly a period that ends, so that it lies within rows.
+        start, till = self.random.sample(ENDS if self.chance(0.3) else ENDS[1:-3], 2)
+        if self.instant_of(start) > self.instant_of(till) and not self.is_bad(0.05):
+            start, till = till, start
+        arguments = self.weighted({(self.named("validFrom", start), self.named("validTill", till)): 10, (start,): 1, (): 1,
+                                   (f"validTill => {till}", f"validFrom => {start}"): 1, (start, "NULL"): 1})
+        if self.is_bad(0.05):
+            arguments = self.one([("NULL",), ("NULL", till), (f"validTill => {till}",), ("''", "5"), (start, "5"), ("validTill => 'x'",),
+                                  ("SYSDATE", "SYSDATE"), (self.period(),), ("validFrom => TRUE",), ("validTill => NULL",)])
+        return self.call("SetValidTime", list(arguments), ["SYSDATE", "validFrom => SYSDATE", "validTill => 5", "valid => 1"])
 
     def deep(self):
         """Parentheses, NOT and minus signs, about as deep as they may stand."""
@@ -431,7 +531,7 @@ class Writer:
         return self.said(f"SELECT {self.one(['', 'DISTINCT '])}{self.one(['1', '*', '2 * 3'])} FROM {self.listed(sources)}")
 
     def rows_in(self, name):
-        return max(len(workspace.content.get(name, {})) for workspace in self.reference.workspaces.values())
+        return max(sum(map(len, workspace.content.get(name, {}).values())) for workspace in self.reference.workspaces.values())
 
     # Calls
 
@@ -459,6 +559,8 @@ class Writer:
         if self.is_bad():
             arguments = [self.one(["5", "NULL", "TRUE", "table_name => 'BUD'", "SYSDATE"])]
         if self.chance(0.3):
+            arguments.append(self.one(["'NONE' , FALSE , TRUE", "validTime => TRUE", "'view_wo_overwrite' , NULL , TRUE"]))
+        elif self.chance(0.3):
             arguments.append(self.one(["'NONE'", "'none'", "hist => 'VIEW_WO_OVERWRITE'", "NULL", "validTime => FALSE", "isTopology => FALSE",
                                        "'NONE' , FALSE , FALSE", "'view_wo_overwrite' , NULL"]))
         return self.call("EnableVersioning", arguments, ["'ALL'", "1", "isTopology => TRUE", "validTime => TRUE", "'NONE' , FALSE , TRUE",

@@ -16,6 +16,7 @@ class Name:
     at: int
     source: str | None
     name: str
+    end: str | None = None  # VALIDFROM or VALIDTILL, behind WM_VALID
 
 
 @dataclass
@@ -24,6 +25,7 @@ class Place:
     at: int
     place: int
     name: str
+    end: str | None = None
 
 
 @dataclass
@@ -31,6 +33,14 @@ class Arithmetic:
     at: int
     mark_at: int
     mark: str
+    operands: list
+
+
+@dataclass
+class Operator:
+    """A question about two periods."""
+    at: int
+    word: str
     operands: list
 
 

@@ -1,7 +1,8 @@
 """The values of the language: how they are printed and weighed, and what the text of a time means."""
 import datetime
+from typing import NamedTuple
 
-# A value is None, an int, bytes or an Instant.
+# A value is None, an int, bytes, an Instant or a Period.
 
 LEAST, GREATEST = -(2 ** 63), 2 ** 63 - 1
 END = 315_537_897_600
@@ -12,9 +13,32 @@ class Instant(int):
     """Seconds since the first moment of the year 1; END stands for UNTIL_CHANGED."""
 
 
+class Period(NamedTuple):
+    """From an instant to one before another. Periods sort by the first and then by the second."""
+    start: Instant
+    till: Instant
+
+    def overlaps(self, other):
+        return self.start < other.till and other.start < self.till
+
+    def shared(self, other):
+        """What both include, where they overlap."""
+        return Period(max(self.start, other.start), min(self.till, other.till))
+
+    def outside(self, other):
+        """What is left of the period beside another that it overlaps."""
+        parts = [Period(self.start, other.start), Period(other.till, self.till)]
+        return [part for part in parts if part.start < part.till]
+
+
+ALWAYS = Period(Instant(0), Instant(END))
+
+
 def printed(value):
     if value is None:
         return b"NULL"
+    if isinstance(value, Period):
+        return b"[" + printed(value.start) + b", " + printed(value.till) + b")"
     if isinstance(value, bytes):
         return b"'" + value.replace(b"'", b"''") + b"'"
     if not isinstance(value, Instant):
