@@ -8,8 +8,11 @@ use Rattle.wm_making.proofs.Fitted.{unless_none}
 use Rattle.wm_making.proofs.Nones.{or_none}
 use Rattle.wm_spec.specs.Operands.{kind_of}
 use Rattle.wm_spec.specs.declared.record.table.Table.{Table}
-use Rattle.wm_typing.specs.Changing.{may_stand, mistyped_in_set, mistyped_in_sets, key_set, unknown_in_sets, update_fault}
-use Rattle.wm_typing.specs.Names.{unless, unknown_in_filter}
+use Rattle.wm_typing.proofs.ByName.{neither, operand_is, set_kind_is}
+use Rattle.wm_typing.proofs.Typed.{update_served}
+use Rattle.wm_typing.specs.Changing.{lacking_anywhere, may_stand, mistyped_in_set, mistyped_in_sets, key_set, unknown_in_sets, update_fault}
+use Rattle.wm_typing.specs.Lacking.{lacking_in_expr, lacks_in_set, lacks_in_sets}
+use Rattle.wm_typing.specs.Names.{kind_named, unless, unknown_in_filter}
 use Rattle.wm_typing.specs.Refusals.{first_refusal}
 use Rattle.wm_typing.specs.Types.{expr_kind, mistyped_in_expr, mistyped_in_filter}
 use Rattle.wm_dml.specs.Changing.{own_columns}
@@ -42,42 +45,44 @@ stand_kinds None kind is = absurd (cc)
 stand_kinds (Some j) None is = absurd (cc)
 stand_kinds (Some j) (Some k) is = (j, k, refl, refl, swapped (k == j) (k == 0) (not (j == 4)) is)
 
-same_kind : (columns : List Column) (x : Expr) → kind_in columns x ≡ expr_kind columns x
-same_kind columns (Of operand) = refl
-same_kind columns (Neg x) = refl
-same_kind columns (Add x y) = refl
-same_kind columns (Sub x y) = refl
-same_kind columns (Mul x y) = refl
+same_kind : (columns : List Column) (x : Expr) → lacking_in_expr columns x ≡ None → kind_in columns x ≡ expr_kind columns x
+same_kind columns (Of operand) here = sym (operand_is columns operand here)
+same_kind columns (Neg x) here = refl
+same_kind columns (Add x y) here = refl
+same_kind columns (Sub x y) here = refl
+same_kind columns (Mul x y) here = refl
 
-one_fits : (columns : List Column) (s : Set) → mistyped_in_set columns s ≡ None → Fits columns s
-one_fits columns s none =
-    let parts = or_none (unless (may_stand (kind_of None s.name columns) (expr_kind columns s.becomes)) s.name) (mistyped_in_expr columns s.becomes) none in
-    let kinds = stand_kinds (kind_of None s.name columns) (expr_kind columns s.becomes) (unless_none (may_stand (kind_of None s.name columns) (expr_kind columns s.becomes)) s.name parts.0) in
+one_fits : (columns : List Column) (s : Set) → mistyped_in_set columns s ≡ None → lacks_in_set columns s ≡ false → Fits columns s
+one_fits columns s none served =
+    let parts = or_none (unless (may_stand (kind_named None s.name columns) (expr_kind columns s.becomes)) s.name) (mistyped_in_expr columns s.becomes) none in
+    let kinds = stand_kinds (kind_named None s.name columns) (expr_kind columns s.becomes) (unless_none (may_stand (kind_named None s.name columns) (expr_kind columns s.becomes)) s.name parts.0) in
+    let here = set_kind_is columns s served in
     record {
       column = kinds.0;
       value = kinds.1;
-      named = kinds.2;
+      named = sym here.0 ∙ kinds.2;
       typed = kinds.3;
-      kind = same_kind columns s.becomes ∙ kinds.3;
+      kind = same_kind columns s.becomes here.1 ∙ kinds.3;
       suits = kinds.4;
       marks = parts.1;
     }
 
-each_fits : (columns : List Column) (sets : List Set) → mistyped_in_sets columns sets ≡ None → EachFits columns sets
-each_fits columns [] none = tt
-each_fits columns (s ∷ ss) none =
+each_fits : (columns : List Column) (sets : List Set) → mistyped_in_sets columns sets ≡ None → lacks_in_sets columns sets ≡ false → EachFits columns sets
+each_fits columns [] none served = tt
+each_fits columns (s ∷ ss) none served =
     let parts = or_none (mistyped_in_set columns s) (mistyped_in_sets columns ss) none in
-    (one_fits columns s parts.0, each_fits columns ss parts.1)
+    let each = neither (lacks_in_set columns s) (lacks_in_sets columns ss) served in
+    (one_fits columns s parts.0 each.0, each_fits columns ss parts.1 each.1)
 
-refusal_parts : (u m k : Option (List ℕ)) → first_refusal u m k ≡ None → (u ≡ None) × (m ≡ None) × (k ≡ None)
-refusal_parts None None None none = (refl, refl, refl)
-refusal_parts None None (Some x) none = absurd (cc)
-refusal_parts None (Some x) k none = absurd (cc)
-refusal_parts (Some x) m k none = absurd (cc)
+refusal_parts : (u m k t : Option (List ℕ)) → first_refusal u m k t ≡ None → (u ≡ None) × (m ≡ None) × (k ≡ None)
+refusal_parts None None None t none = (refl, refl, refl)
+refusal_parts None None (Some x) t none = absurd (cc)
+refusal_parts None (Some x) k t none = absurd (cc)
+refusal_parts (Some x) m k t none = absurd (cc)
 
--- they have the types of their columns, and set no key
+-- they have the types of their columns, name no WM_VALID that the table lacks, and set no key
 pub update_parts : (t : Table) (sets : List Set) (filter : Option Cond) → update_fault t sets filter ≡ None → EachFits (own_columns t) sets × (key_set t sets ≡ None)
 unfolding update_fault
 update_parts t sets filter none =
-    let parts = refusal_parts (option_or (unknown_in_sets (own_columns t) [] sets) (unknown_in_filter (own_columns t) filter)) (option_or (mistyped_in_sets (own_columns t) sets) (mistyped_in_filter (own_columns t) filter)) (key_set t sets) none in
-    (each_fits (own_columns t) sets (or_none (mistyped_in_sets (own_columns t) sets) (mistyped_in_filter (own_columns t) filter) parts.1).0, parts.2)
+    let parts = refusal_parts (option_or (unknown_in_sets (own_columns t) [] sets) (unknown_in_filter (own_columns t) filter)) (option_or (mistyped_in_sets (own_columns t) sets) (mistyped_in_filter (own_columns t) filter)) (key_set t sets) (lacking_anywhere (own_columns t) t sets filter) none in
+    (each_fits (own_columns t) sets (or_none (mistyped_in_sets (own_columns t) sets) (mistyped_in_filter (own_columns t) filter) parts.1).0 (update_served t sets filter none), parts.2)
