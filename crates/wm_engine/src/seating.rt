@@ -55,17 +55,17 @@ fn move_to(sessions: &mut [Session], name: &Name, space: u32, stand: Stand)
 }
 
 /// Sets the period of the session, where it has this name.
-fn limit_one(session: &mut Session, name: &Name, period: Option<Period>)
-    ensures { session.new ≡ (if bytes_eq name.now session.old.name then record session.old { period = period } else session.old) }
+fn limit_one(session: &mut Session, name: &Name, period: &Option<Period>)
+    ensures { session.new ≡ (if bytes_eq name.now session.old.name then record session.old { period = period.now } else session.old) }
 {
     if session.is_named(name) {
-        session.limit(period);
+        session.limit(*period);
     }
 }
 
 /// Sets the period of the sessions of a name.
-fn limit(sessions: &mut [Session], name: &Name, period: Option<Period>)
-    ensures { sessions.new ≡ limited name.now period sessions.old }
+fn limit(sessions: &mut [Session], name: &Name, period: &Option<Period>)
+    ensures { sessions.new ≡ limited name.now period.now sessions.old }
 {
     if let Some((session, rest)) = sessions.split_first_mut() {
         limit_one(session, name, period);
@@ -82,7 +82,7 @@ pub fn seat(sessions: &mut Vec<Session>, seating: Seating) -> Result<(), Memory>
         Seating::Open(session) => sessions.push(session)?,
         Seating::Close(name) => close(sessions, &name),
         Seating::Move { name, space, stand } => move_to(sessions, &name, space, stand),
-        Seating::Limit { name, period } => limit(sessions, &name, period),
+        Seating::Limit { name, period } => limit(sessions, &name, &period),
     }
     Ok(())
 }

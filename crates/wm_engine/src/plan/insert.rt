@@ -1,5 +1,5 @@
 //! INSERT.
-ghost use Rattle.std.specs.Prelude.{◌≡◌, ◌<◌, List, true, false, Some, IfOk};
+ghost use Rattle.std.specs.Prelude.{◌≡◌, ◌<◌, List, [], ◌∷◌, true, false, Some, IfOk};
 ghost use Rattle.std.specs.List.{list_all};
 ghost use Rattle.wm_base.specs.declared.instant.TheConstants.{END};
 ghost use Rattle.wm_base.specs.Views.{exprs_view};
@@ -45,7 +45,7 @@ pub struct Insertion<'a> {
 /// The period of the new row: the one that the statement gives, or the one that is set for the session, or all of time.
 fn new_period(session: &Session, insertion: Insertion<'_>) -> Period
     requires { list_all has_no_empty_period (exprs_view insertion.values.now) ≡ true }
-    ensures { result ≡ new_period session.now insertion.table.now insertion.names.now (exprs_view insertion.values.now) }
+    ensures { result ≡ new_period session.now insertion.entry.table.now insertion.entry.names.now (exprs_view insertion.entry.values.now) }
 {
     if !insertion.table.valid {
         return Period::always();
