@@ -1,6 +1,7 @@
 -- Where no WM_VALID is lacking, the kinds by the names are those of the columns.
-use Rattle.std.proofs.Common.{◌≡◌, ℕ, Bool, true, false, ◌&&◌, ◌||◌, ◌==◌, List, Option, None, Some, is_some, refl, ap, ◌∙◌, if◌then◌else◌}
-use Rattle.std.specs.Prelude.{option_and_then, unwrap_or}
+use Rattle.std.proofs.Common.{◌≡◌, ℕ, Bool, true, false, ◌&&◌, ◌||◌, ◌==◌, List, [], ◌∷◌, Option, None, Some, is_some, refl, ap, ◌∙◌, if◌then◌else◌}
+use Rattle.std.specs.Prelude.{not, option_and_then, unwrap_or}
+use Rattle.std.specs.List.{list_all}
 use Rattle.wm_base.specs.declared.columns.Column.{Column}
 use Rattle.wm_base.specs.declared.tree.operand.Operand.{Operand}
 use Rattle.wm_base.specs.declared.tree.operand.Operand.TheVariants as operands
@@ -8,7 +9,7 @@ use Rattle.wm_base.specs.declared.tree.operand.Per.{Per}
 use Rattle.wm_base.specs.declared.tree.operand.Per.TheVariants as periods
 use Rattle.wm_base.specs.Trees.{Set}
 use Rattle.wm_spec.specs.Operands.{wm_valid, kind_of, suffixed_kind, is_period, operand_kind}
-use Rattle.wm_typing.specs.Lacking.{lacking_name, lacking_period, lacking_in_operand, lacking_in_expr, lacks_in_set}
+use Rattle.wm_typing.specs.Lacking.{lacking_name, lacking_period, lacking_in_operand, lacking_in_expr, lacks_in_set, lacks_in_sets}
 use Rattle.wm_typing.specs.Names.{lacks_period, kind_named, is_kind_of_periods, named_period, named_kind}
 use Rattle.wm_typing.proofs.Nones.{first_none, second_none, not_some}
 
@@ -51,7 +52,7 @@ operand_is columns (operands.Test operator left right) e =
     (period_is columns right (second_none (lacking_period columns left) (lacking_period columns right) e)))
 
 -- so what is set, and what it becomes
-neither : (a b : Bool) → a || b ≡ false → (a ≡ false) × (b ≡ false)
+pub neither : (a b : Bool) → a || b ≡ false → (a ≡ false) × (b ≡ false)
 neither false b e = (refl, e)
 neither true b e = (e, cc)
 
@@ -59,3 +60,10 @@ pub set_kind_is : (columns : List Column) (set : Set) → lacks_in_set columns s
 set_kind_is columns set e =
     let parts = neither (lacks_period None set.name columns) (is_some (lacking_in_expr columns set.becomes)) e in
     (kind_is None set.name columns parts.0, not_some (lacking_in_expr columns set.becomes) parts.1)
+
+-- none of the sets lacks it where they do not
+pub each_served : (columns : List Column) (sets : List Set) → lacks_in_sets columns sets ≡ false → list_all (λ (set : Set). not (lacks_in_set columns set)) sets ≡ true
+each_served columns [] e = refl
+each_served columns (set ∷ sets) e =
+    let parts = neither (lacks_in_set columns set) (lacks_in_sets columns sets) e in
+    both_are (not (lacks_in_set columns set)) (list_all (λ (set : Set). not (lacks_in_set columns set)) sets) true true (ap not parts.0) (each_served columns sets parts.1)
