@@ -47,3 +47,7 @@ pub pieces_more : (version stamp next : ℕ) (t : Table) (xs : List RowChange) (
     → after ≡ before ++ change_piece version next t x ∷ [] → after ≡ new_pieces version stamp t (xs ++ x ∷ [])
 pieces_more version stamp next t xs x before after is place pushed =
     pushed ∙ ap (λ ps. ps ++ change_piece version next t x ∷ []) is ∙ ap (λ n. new_pieces version stamp t xs ++ change_piece version n t x ∷ []) place ∙ sym (new_pieces-push version stamp t xs x)
+
+-- pieces as records, one more
+pub one_record_more : (ps : List PieceRecord) (p : PieceRecord) (before after : List Record) → before ≡ map records.Piece ps → after ≡ before ++ records.Piece p ∷ [] → after ≡ map records.Piece (ps ++ p ∷ [])
+one_record_more ps p before after is pushed = pushed ∙ ap (λ rs. rs ++ records.Piece p ∷ []) is ∙ sym (map-append records.Piece ps (p ∷ []))
