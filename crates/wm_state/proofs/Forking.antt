@@ -54,10 +54,6 @@ own-under pieces x older base c above empty = rw (above, eq-eqb x.number x.numbe
 
 -- ---- the newest version of each workspace
 
--- the new one, where it is the workspace's, and else the one of before
-latest-forked : (p q : Parts) (n number : ℕ) → Forked p q n number → (m : ℕ) → latest q m ≡ cond (n == m) number (latest p m)
-latest-forked p q n number f m = ap (λ nodes. latest_in nodes m) f.versions
-
 -- a workspace sees what it saw
 pub shown-forked : (p q : Parts) (n number : ℕ) → Forked p q n number → (m : ℕ) (c : Cell) → shown q m c ≡ shown p m c
 shown-forked p q n number f m c =

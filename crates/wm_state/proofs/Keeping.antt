@@ -120,9 +120,6 @@ KeepVersions-push p q w more k v found = ap (λ vs. version_of vs k) more ∙ fi
 pub KeepRows-same : (p q : Parts) → q.rows ≡ p.rows → KeepRows p q
 KeepRows-same p q same stamp r found = ap (λ rs. row_of rs stamp) same ∙ found
 
-pub KeepRows-push : (p q : Parts) (x : RowRecord) → q.rows ≡ p.rows ++ x ∷ [] → KeepRows p q
-KeepRows-push p q x more stamp r found = ap (λ rs. row_of rs stamp) more ∙ find_push (λ (y : RowRecord). y.stamp == stamp) p.rows x r found
-
 -- ---- numbers and tests
 
 lt_le : (m n k : ℕ) → nat_le n k ≡ true → nat_lt m n ≡ true → nat_lt m k ≡ true

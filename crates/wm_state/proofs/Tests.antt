@@ -67,15 +67,6 @@ any_filter P k (x ∷ xs) e = by_test (k x) (either_false (P x) (list_any P xs) 
     by_test true h rest = rw (h.0, rest) refl
     by_test false h rest = rest
 
--- nothing that is kept passes, where what passes is not kept
-pub any_kept : {A : Type 0} (P k : A → Bool) → ((x : A) → k x ≡ true → P x ≡ false) → (xs : List A) → list_any P (filter k xs) ≡ false
-any_kept P k apart [] = refl
-any_kept P k apart (x ∷ xs) = by_test (k x) refl (any_kept P k apart xs)
-  where
-    by_test : (b : Bool) → k x ≡ b → list_any P (filter k xs) ≡ false → list_any P (cond b (x ∷ filter k xs) (filter k xs)) ≡ false
-    by_test true e rest = rw (apart x e, rest) refl
-    by_test false e rest = rest
-
 pub any_swap : {A : Type 0} (P : A → Bool) (a b : A) → P b ≡ P a → (front back : List A) → list_any P (front ++ b ∷ back) ≡ list_any P (front ++ a ∷ back)
 any_swap P a b same [] back = ap (λ t. t || list_any P back) same
 any_swap P a b same (x ∷ front) back = ap (λ t. P x || t) (any_swap P a b same front back)
