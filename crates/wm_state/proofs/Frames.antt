@@ -25,7 +25,7 @@ pub record Counted (p q : Parts) (s t : State) : Type 0 where
   pub there : length t.spaces ≡ length s.spaces
   pub recorded : length q.spaces ≡ length p.spaces
 
-pub OnceStand-frame : (p q : Parts) (s t : State) → Counted p q s t → OnceStand p s → OnceStand q t
+OnceStand-frame : (p q : Parts) (s t : State) → Counted p q s t → OnceStand p s → OnceStand q t
 OnceStand-frame p q s t f stand = record { numbers = f.numbers ∙ stand.numbers; count = f.recorded ∙ stand.count ∙ sym f.there }
 
 -- where one workspace was changed
@@ -56,7 +56,7 @@ pub record Points (p q : Parts) (s t : State) (n : ℕ) : Type 0 where
   pub recorded : saved_in q n ≡ saved_in p n
   pub same : savepoints_of t.spaces n ≡ savepoints_of s.spaces n
 
-pub SavepointsStand-frame : (p q : Parts) (s t : State) → ((n : ℕ) → Points p q s t n ⊎ (map saved_fields (saved_in q n) ≡ map fields_saved (savepoints_of t.spaces n))) → SavepointsStand p s → SavepointsStand q t
+SavepointsStand-frame : (p q : Parts) (s t : State) → ((n : ℕ) → Points p q s t n ⊎ (map saved_fields (saved_in q n) ≡ map fields_saved (savepoints_of t.spaces n))) → SavepointsStand p s → SavepointsStand q t
 SavepointsStand-frame p q s t each stand = record {
   same = λ n. ⊎_elim (λ (f : Points p q s t n). ap (map saved_fields) f.recorded ∙ stand.same n ∙ ap (map fields_saved) (sym f.same)) (λ h. h) (each n);
 }
@@ -71,7 +71,7 @@ pub record Point (p q : Parts) (s : State) (n making : ℕ) (w : Workspace) (k :
   pub sees : (c : Cell) → seen q x.version c ≡ seen p x.version c
   pub has : (c : Cell) → seen_above q x.base_version x.version c ≡ seen_above p x.base_version x.version c
 
-pub KeptStand-frame : (p q : Parts) (s t : State)
+KeptStand-frame : (p q : Parts) (s t : State)
     → ((n making : ℕ) (w : Workspace) (k : Savepoint) (x : Record) → workspace_of t.spaces n ≡ Some w → savepoint_made making w.savepoints ≡ Some k → saved_as q n making ≡ Some x
     → Point p q s n making w k x ⊎ ((c : Cell) → seen q x.version c ≡ option_map held_of (told (kept k) c)))
     → KeptStand p s → KeptStand q t
@@ -80,7 +80,7 @@ KeptStand-frame p q s t each stand = record {
       ⊎_elim (λ (f : Point p q s n making w k x). f.sees c ∙ stand.told n making f.old k x f.is f.point f.recorded c) (λ h. h c) (each n making w k x is point recorded);
 }
 
-pub KeptOwnStand-frame : (p q : Parts) (s t : State)
+KeptOwnStand-frame : (p q : Parts) (s t : State)
     → ((n making : ℕ) (w : Workspace) (k : Savepoint) (x : Record) → workspace_of t.spaces n ≡ Some w → savepoint_made making w.savepoints ≡ Some k → saved_as q n making ≡ Some x
     → Point p q s n making w k x ⊎ (k.rebases ≡ w.rebases → (c : Cell) → is_some (seen_above q x.base_version x.version c) ≡ touched k.own c))
     → KeptOwnStand p s → KeptOwnStand q t
@@ -107,7 +107,7 @@ pub record HasBase (q : Parts) (w : Workspace) (r : Space) : Type 0 where
   pub births : (c : Cell) → seen q r.birth_version c ≡ option_map held_of (told w.lists.at_birth c)
   pub bases : (c : Cell) → seen q r.base_version c ≡ option_map held_of (told w.lists.base c)
 
-pub BasesStand-frame : (p q : Parts) (s t : State) → ((n : ℕ) (w : Workspace) (r : Space) → 0 < n → workspace_of t.spaces n ≡ Some w → space_of q.spaces n ≡ Some r → Base p q s n w r ⊎ HasBase q w r)
+BasesStand-frame : (p q : Parts) (s t : State) → ((n : ℕ) (w : Workspace) (r : Space) → 0 < n → workspace_of t.spaces n ≡ Some w → space_of q.spaces n ≡ Some r → Base p q s n w r ⊎ HasBase q w r)
     → BasesStand p s → BasesStand q t
 BasesStand-frame p q s t each stand = record {
   birth = λ n w r some is recorded c.
@@ -146,7 +146,7 @@ pub record Rows (q : Parts) (w : Workspace) : Type 0 where
   pub bases : HasRows q w.lists.base
   pub saved : (making : ℕ) (k : Savepoint) → savepoint_made making w.savepoints ≡ Some k → HasRows q (kept k)
 
-pub RowsStand-frame : (q : Parts) (t : State) → ((n : ℕ) (w : Workspace) → workspace_of t.spaces n ≡ Some w → Rows q w) → RowsStand q t
+RowsStand-frame : (q : Parts) (t : State) → ((n : ℕ) (w : Workspace) → workspace_of t.spaces n ≡ Some w → Rows q w) → RowsStand q t
 RowsStand-frame q t each = record { there = λ n w is. (each n w is).there; births = λ n w is. (each n w is).births; bases = λ n w is. (each n w is).bases; saved = λ n making w k is point. (each n w is).saved making k point }
 
 -- ---- where no savepoint and no workspace is new

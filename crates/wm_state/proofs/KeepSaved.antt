@@ -176,7 +176,7 @@ keep-saved p old new front a back place implicit x may e =
 
 -- ---- what becomes of the records
 
-pub saved_of : (p : Parts) (old new : Counters) (front : List Space) (a : Space) (back : List Space) (place implicit : ℕ) (x : Savepoint) → MaySave p old new front a back place implicit x → keep_rules p ≡ true
+saved_of : (p : Parts) (old new : Counters) (front : List Space) (a : Space) (back : List Space) (place implicit : ℕ) (x : Savepoint) → MaySave p old new front a back place implicit x → keep_rules p ≡ true
     → Saved p (saved p new front a back place implicit x) x.space place implicit x
 saved_of p old new front a back place implicit x may e = record {
   space = refl;

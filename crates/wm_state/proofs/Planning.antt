@@ -98,7 +98,7 @@ pub spaces-split : (front back : List Stored) (id : ℕ) (a : Space) → (parts_
 unfolding parts_of
 spaces-split front back id a = kinds-one as_space front back id (records.Space a) a refl
 
-pub parts-more_table : (ss : List Stored) (id : ℕ) (t : Table) → parts_of (ss ++ stored id (records.Table t) ∷ []) ≡ record (parts_of ss) { tables = (parts_of ss).tables ++ t ∷ [] }
+parts-more_table : (ss : List Stored) (id : ℕ) (t : Table) → parts_of (ss ++ stored id (records.Table t) ∷ []) ≡ record (parts_of ss) { tables = (parts_of ss).tables ++ t ∷ [] }
 unfolding parts_of
 parts-more_table ss id t = made_same
     (kinds-no_more as_counters ss id (records.Table t) refl)

@@ -21,13 +21,13 @@ use Rattle.wm_state.proofs.Tests.{both, and_true, not_true, either_false, differ
 -- ---- what the rules say of savepoints
 
 -- no two savepoints are of one making
-pub makings_differ : (p : Parts) → keep_rules p ≡ true → differ same_making p.savepoints ≡ true
+makings_differ : (p : Parts) → keep_rules p ≡ true → differ same_making p.savepoints ≡ true
 makings_differ p rules = let r = ruled p rules in (ruled_savepoints p r.counters.work r.savepoints).makings
 
 -- ---- among all records and among those of the workspace
 
 -- the record of a making
-pub saved_sorted : (p : Parts) → keep_rules p ≡ true → (n making : ℕ) → saved_as p n making ≡ find (is_made making) (saved_in p n)
+saved_sorted : (p : Parts) → keep_rules p ≡ true → (n making : ℕ) → saved_as p n making ≡ find (is_made making) (saved_in p n)
 saved_sorted p rules n making =
     sym (find-filter (λ (x : Record). x.space == n) (is_made making) p.savepoints)
     ∙ sym (find-making making (filter (λ (x : Record). x.space == n) p.savepoints) (differ_filter same_making (λ (x : Record). x.space == n) p.savepoints (makings_differ p rules)))
@@ -76,14 +76,14 @@ named_sorted p rules n name =
 -- ---- among records and among savepoints
 
 -- the records of a workspace's savepoints have their fields
-pub saved_alike : (p : Parts) (s : State) (n : ℕ) (w : Workspace) → Stands p s → workspace_of s.spaces n ≡ Some w → map saved_fields (saved_in p n) ≡ map fields_saved w.savepoints
+saved_alike : (p : Parts) (s : State) (n : ℕ) (w : Workspace) → Stands p s → workspace_of s.spaces n ≡ Some w → map saved_fields (saved_in p n) ≡ map fields_saved w.savepoints
 saved_alike p s n w st found = st.savepoints.same n ∙ ap (map fields_saved) (of_found (workspace_of s.spaces n) found)
   where
     of_found : (o : Option Workspace) → o ≡ Some w → savepoints_of s.spaces n ≡ w.savepoints
     of_found o is = rw found refl
 
 -- the first that passes a test of its fields
-pub passed_alike : (p : Parts) (s : State) (n : ℕ) (w : Workspace) → Stands p s → workspace_of s.spaces n ≡ Some w → (P : SavepointFields → Bool)
+passed_alike : (p : Parts) (s : State) (n : ℕ) (w : Workspace) → Stands p s → workspace_of s.spaces n ≡ Some w → (P : SavepointFields → Bool)
     → option_map saved_fields (find (λ (x : Record). P (saved_fields x)) (saved_in p n)) ≡ option_map fields_saved (find (λ (k : Savepoint). P (fields_saved k)) w.savepoints)
 passed_alike p s n w st found P = find-alike saved_fields fields_saved P (saved_in p n) w.savepoints (saved_alike p s n w st found)
 
@@ -123,7 +123,7 @@ both_saved p s n w st found P x k recorded made fields = record {
 }
 
 -- where a record passes a test of its fields, a savepoint does
-pub passed_some : (p : Parts) (s : State) (n : ℕ) (w : Workspace) → Stands p s → workspace_of s.spaces n ≡ Some w → (P : SavepointFields → Bool) (x : Record) → find (λ (y : Record). P (saved_fields y)) (saved_in p n) ≡ Some x
+passed_some : (p : Parts) (s : State) (n : ℕ) (w : Workspace) → Stands p s → workspace_of s.spaces n ≡ Some w → (P : SavepointFields → Bool) (x : Record) → find (λ (y : Record). P (saved_fields y)) (saved_in p n) ≡ Some x
     → (k : Savepoint) × (find (λ (j : Savepoint). P (fields_saved j)) w.savepoints ≡ Some k) × IsSaved p n w x k
 passed_some p s n w st found P x recorded = by_savepoint (find (λ (j : Savepoint). P (fields_saved j)) w.savepoints) refl (sym (ap (option_map saved_fields) recorded) ∙ passed_alike p s n w st found P)
   where
@@ -139,7 +139,7 @@ passed_some p s n w st found P x recorded = by_savepoint (find (λ (j : Savepoin
     by_savepoint (Some k) is same = (k, is, both_saved p s n w st found P x k recorded is (some_fields (saved_fields x) (fields_saved k) (same ∙ ap (option_map fields_saved) is)))
 
 -- and where none does, none does
-pub passed_none : (p : Parts) (s : State) (n : ℕ) (w : Workspace) → Stands p s → workspace_of s.spaces n ≡ Some w → (P : SavepointFields → Bool) → find (λ (y : Record). P (saved_fields y)) (saved_in p n) ≡ None
+passed_none : (p : Parts) (s : State) (n : ℕ) (w : Workspace) → Stands p s → workspace_of s.spaces n ≡ Some w → (P : SavepointFields → Bool) → find (λ (y : Record). P (saved_fields y)) (saved_in p n) ≡ None
     → find (λ (j : Savepoint). P (fields_saved j)) w.savepoints ≡ None
 passed_none p s n w st found P none = by_savepoint (find (λ (j : Savepoint). P (fields_saved j)) w.savepoints) (sym (ap (option_map saved_fields) none) ∙ passed_alike p s n w st found P)
   where

@@ -29,7 +29,7 @@ place-before y (u ∷ us) t lt = by_test (nat_lt u.number y.number) (place-befor
     by_test false rest = refl
 
 -- a table of a greater number is the last
-pub by_number-push : (ts : List Table) (t : Table) → list_all (λ (u : Table). nat_lt u.number t.number) ts ≡ true → by_number (ts ++ t ∷ []) ≡ by_number ts ++ t ∷ []
+by_number-push : (ts : List Table) (t : Table) → list_all (λ (u : Table). nat_lt u.number t.number) ts ≡ true → by_number (ts ++ t ∷ []) ≡ by_number ts ++ t ∷ []
 by_number-push [] t above = refl
 by_number-push (y ∷ ts) t above =
     let h = both (nat_lt y.number t.number) (list_all (λ (u : Table). nat_lt u.number t.number) ts) above in
