@@ -1,4 +1,4 @@
--- A row is written in a version more.
+-- The parts of the records with a version more, and records of which no piece goes.
 use Rattle.std.proofs.Common.{◌≡◌, ℕ, Bool, true, not, List, [], ◌∷◌, ◌++◌, Some, refl, sym, ap, ◌∙◌}
 use Rattle.std.specs.List.{list_all}
 use Rattle.wm_graph.specs.Parts.{Parts, parts_of}

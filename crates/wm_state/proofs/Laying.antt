@@ -1,4 +1,4 @@
--- A piece over a whole key, in the place of all that a version has of it.
+-- Keys that are the same, and what is stored in pieces one behind another.
 use Rattle.std.proofs.Common.{◌≡◌, ℕ, Bool, true, false, List, [], ◌∷◌, ◌++◌, Option, Some, None, refl, sym, ap, ◌∙◌}
 use Rattle.std.specs.Bool.{then_some}
 use Rattle.std.specs.Option.{option_or}
@@ -10,6 +10,8 @@ use Rattle.wm_period.specs.Pieces.{Held}
 use Rattle.wm_spec.specs.Lists.{Cell}
 use Rattle.wm_spec.specs.declared.record.piece.PieceRecord.{PieceRecord}
 use Rattle.wm_state.specs.Standing.{held_by, covers_at, stored_at}
+
+-- ---- keys
 
 pub key_same : (k l : List Value) → is_eq (key_order k l) ≡ true → k ≡ l
 key_same k l e = (key_order-decides k l (key_order k l) (is_eq (key_order k l)) refl refl).0 e

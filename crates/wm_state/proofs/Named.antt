@@ -111,7 +111,7 @@ bases_there p rules n r some found = record { birth = parents.0; base = parents.
         (sym (ap (λ b. if b then (r.birth_version == 1) && (r.base_version == 0) else is_version_of (version_of p.versions) r.birth_version r.parent && is_version_of (version_of p.versions) r.base_version r.parent) away)
         ∙ (both (has_version p.versions r.number) _ (found-passes (λ (x : Space). x.number == n) (has_versions (has_version p.versions) (version_of p.versions)) p.spaces r found versions.spaces).1).1)
 
--- its node is there
+-- the node of a version that is there is there too
 node_there : (p : Parts) → keep_rules p ≡ true → (k : ℕ) → is_some (version_of p.versions k) ≡ true → is_some (version_in (newest_first p.versions) k) ≡ true
 node_there p rules k there =
     ap is_some (version_in-newest p.versions (ruled_versions p (ruled p rules).counters.next_version (ruled p rules).versions).numbers k) ∙ some-map (version_of p.versions k) ∙ there

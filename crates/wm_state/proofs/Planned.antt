@@ -81,7 +81,7 @@ parts-readied ss counters_id id old new how t sorted counters one found =
               ∙ ap (λ (p : Parts). record p { tables = kinds as_table s.front ++ ready how t ∷ kinds as_table s.back }) parts;
         }
 
--- ---- a row is written
+-- ---- ids that are below, and records that are dropped
 
 pub AllUnder-filter : (n : ℕ) (keep : Stored → Bool) (ss : List Stored) → AllUnder n ss → AllUnder n (filter keep ss)
 AllUnder-filter n keep [] under = tt
@@ -121,7 +121,7 @@ dropped-still test ids ss id r q sorted found kept_r kept_q are other x there = 
         are other r (ap (record_at ss) same ∙ found) ∙ ap not (kept_r ∙ sym kept_q ∙ ap (keeps test) is)
     by_id (inr apart) e = are other x (sym (ap (λ b. if b then Some q else record_at ss other) (ne_eqb _ _ apart)) ∙ e)
 
--- ---- the laws of the three batches
+-- ---- the laws of the two batches
 
 -- a table was made
 pub plan_created : (ss : List Stored) (counters_id id : ℕ) (old new : Counters) (t : Table) (s u : State) → Stands (parts_of ss) s → Ascend ss → record_at ss counters_id ≡ Some (records.Counters old)

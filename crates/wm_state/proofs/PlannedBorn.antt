@@ -1,4 +1,4 @@
--- The records stand for the state after the batch by which a workspace is born.
+-- The parts of the records after the second half of a birth.
 use Rattle.std.proofs.Common.{◌≡◌, ℕ, ◌+◌, List, [], ◌∷◌, ◌++◌, Some, ap, ◌∙◌}
 use Rattle.wm_graph.specs.Parts.{Parts, parts_of}
 use Rattle.wm_spec.specs.Records.{record_at}
