@@ -85,7 +85,7 @@ ruled_versions p next e =
 -- ---- the newest version
 
 -- a workspace that has a record has a newest version
-pub newest_of : (p : Parts) → keep_rules p ≡ true → (n : ℕ) (s : Space) → space_of p.spaces n ≡ Some s → IsNewest (newest_first p.versions) n
+newest_of : (p : Parts) → keep_rules p ≡ true → (n : ℕ) (s : Space) → space_of p.spaces n ≡ Some s → IsNewest (newest_first p.versions) n
 newest_of p rules n s is =
     let r = ruled p rules in
     let v = ruled_versions p r.counters.next_version r.versions in

@@ -1,10 +1,9 @@
 -- A workspace is born at a savepoint that is made for it: the records with both.
-use Rattle.std.proofs.Common.{◌≡◌, ℕ, ◌+◌, ◌^◌, ◌<◌, ◌≤◌, nat_lt, nat_le, suc, Bool, true, ◌&&◌, List, [], ◌∷◌, ◌++◌, length, Some, refl, sym, ap, ◌∙◌, arith}
+use Rattle.std.proofs.Common.{◌≡◌, ℕ, ◌<◌, ◌≤◌, nat_lt, suc, Bool, true, List, [], ◌∷◌, ◌++◌, length, Some, refl, sym, ap, ◌∙◌, arith}
 use Rattle.std.specs.List.{list_all, list_any}
 use Rattle.std.specs.Str.{bytes_eq}
-use Rattle.wm_base.specs.declared.instant.TheConstants.{END}
 use Rattle.wm_graph.specs.Parts.{Parts, space_of}
-use Rattle.wm_graph.specs.Rules.{keep_rules, are_counters}
+use Rattle.wm_graph.specs.Rules.{keep_rules}
 use Rattle.wm_spec.specs.Lists.{Entry}
 use Rattle.wm_spec.specs.declared.record.counters.Counters.{Counters}
 use Rattle.wm_spec.specs.declared.record.savepoint.Savepoint.{Savepoint}
@@ -14,7 +13,7 @@ use Rattle.wm_state.specs.State.{State, Workspace, kept, workspace_of, with_spac
 use Rattle.wm_state.specs.State.{Savepoint as Kept}
 use Rattle.wm_state.specs.Standing.{fields_of, fields_in, seen, CountersStand, Stands}
 use Rattle.wm_state.specs.Effects.{marked}
-use Rattle.wm_state.proofs.Tests.{both, and_true, all_swap, all_middle, any_swap}
+use Rattle.wm_state.proofs.Tests.{all_swap, all_middle, any_swap}
 use Rattle.wm_state.proofs.Keeping.{SpaceStill, KeepSpaces-swap, le_itself, le_of}
 use Rattle.wm_state.proofs.Saving.{IsKept}
 use Rattle.wm_state.proofs.KeepSaved.{saved, MaySave, keep-saved, Stands-kept}
@@ -24,18 +23,6 @@ use Rattle.wm_state.proofs.KeepBorn.{born, MayBear, keep-born, born_of}
 -- the counters between, which nobody sees: those of after, before a version was added
 abbrev pub between : Counters → Counters → Counters
 between old new = record new { next_version = old.next_version }
-
-pub between_count : (old new : Counters) → new.next_version ≡ old.next_version + 1 → are_counters new ≡ true → are_counters (between old new) ≡ true
-between_count old new next e =
-    let h = both ((nat_le 1 new.limit && nat_le new.limit 1048576) && (nat_le 1 new.next_stamp && nat_le new.next_stamp (new.limit + 1))) _ e in
-    let k = both (nat_lt new.last_moment END) _ h.1 in
-    let l = both (nat_le new.work (2 ^ 62)) (nat_le new.next_version (new.work + 2)) k.1 in
-    and_true ((nat_le 1 new.limit && nat_le new.limit 1048576) && (nat_le 1 new.next_stamp && nat_le new.next_stamp (new.limit + 1))) _ h.0
-    (and_true (nat_lt new.last_moment END) _ k.0
-    (and_true (nat_le new.work (2 ^ 62)) (nat_le old.next_version (new.work + 2)) l.0 (below old.next_version new.next_version (new.work + 2) next l.1)))
-  where
-    below : (m n k : ℕ) → n ≡ m + 1 → nat_le n k ≡ true → nat_le m k ≡ true
-    below m n k more le = grind (arith, more, le)
 
 -- the records with the savepoint and the workspace
 abbrev pub birthed : Parts → Counters → Counters → List Space → Space → List Space → ℕ → ℕ → Savepoint → Space → Version → Parts

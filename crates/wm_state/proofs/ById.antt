@@ -66,7 +66,7 @@ record_at-place s (t ∷ ts) id fresh = by_test (nat_lt t.id s.id) refl (cases_e
     by_test true e (inr apart) rest = swapped apart rest (cases_eq s.id id) (cases_eq t.id id)
     by_test false e c rest = refl
 
-pub Ascend-place : (s : Stored) (ts : List Stored) → record_at ts s.id ≡ None → Ascend ts → Ascend (place_by_id s ts)
+Ascend-place : (s : Stored) (ts : List Stored) → record_at ts s.id ≡ None → Ascend ts → Ascend (place_by_id s ts)
 Ascend-place s [] fresh sorted = (tt, tt)
 Ascend-place s (t ∷ ts) fresh sorted = by_test (nat_lt t.id s.id) refl (cases_eq t.id s.id) (λ f. Ascend-place s ts f sorted.1)
   where

@@ -18,7 +18,7 @@ kinds as_kind ss = filter_map as_kind (map (λ (s : Stored). s.record) ss)
 abbrev pub stored : ℕ → Record → Stored
 stored id r = record { id = id; «record» = r }
 
-pub kinds-append : {A : Type 0} (as_kind : Record → Option A) (xs ys : List Stored) → kinds as_kind (xs ++ ys) ≡ kinds as_kind xs ++ kinds as_kind ys
+kinds-append : {A : Type 0} (as_kind : Record → Option A) (xs ys : List Stored) → kinds as_kind (xs ++ ys) ≡ kinds as_kind xs ++ kinds as_kind ys
 kinds-append as_kind xs ys = ap (filter_map as_kind) (map-append (λ (s : Stored). s.record) xs ys) ∙ filter_map-append as_kind (map (λ (s : Stored). s.record) xs) (map (λ (s : Stored). s.record) ys)
 
 -- ---- a record in its place

@@ -1,13 +1,10 @@
 -- A workspace that was changed, among the others.
-use Rattle.std.proofs.Common.{◌≡◌, ◌≢◌, ℕ, suc, Bool, true, false, not, ◌&&◌, ◌||◌, cond, List, [], ◌∷◌, ◌++◌, length, Option, None, refl, sym, ap, ◌∙◌, ◌==◌, append_assoc, ◌⊎◌, inl, inr}
+use Rattle.std.proofs.Common.{◌≡◌, ◌≢◌, ℕ, suc, Bool, true, false, not, ◌&&◌, ◌||◌, cond, List, [], ◌∷◌, length, Option, None, refl, sym, ap, ◌∙◌, ◌==◌, ◌⊎◌, inl, inr}
 use Rattle.std.proofs.lemmas.Bool.{cases_eq, eq-eqb, ne_eqb}
-use Rattle.std.specs.Bool.{then_some}
 use Rattle.std.specs.List.{list_any}
-use Rattle.std.specs.Option.{option_or, option_map}
+use Rattle.std.specs.Option.{option_map}
 use Rattle.wm_graph.specs.Rules.{differ}
-use Rattle.wm_spec.specs.Lists.{Entry, Cell, told, told_of, covers}
-use Rattle.wm_spec.proofs.Lists.{told-push}
-use Rattle.wm_state.specs.State.{Workspace, content, workspace_of, with_space, with_entries}
+use Rattle.wm_state.specs.State.{Workspace, workspace_of, with_space}
 
 -- what is found after a change that keeps the number
 pub workspace_of-changed : (n : ℕ) (act : Workspace → Workspace) → ((w : Workspace) → (act w).number ≡ w.number) → (ws : List Workspace) (m : ℕ)
@@ -71,7 +68,3 @@ differ-changed n act same (w ∷ ws) = by_test (w.number == n) (any-changed n ac
         → differ one_number (cond b (act w ∷ ws) (w ∷ with_space n act ws)) ≡ differ one_number (w ∷ ws)
     by_test true none rest = ap (λ m. not (list_any (λ (v : Workspace). m == v.number) ws) && differ one_number ws) (same w)
     by_test false none rest = rw (none, rest) refl
-
--- an entry more in a workspace lies over its content
-pub told-with_entries : (e : Entry) (w : Workspace) (c : Cell) → told (content (with_entries (e ∷ []) w)) c ≡ option_or (then_some (covers e c) (told_of e)) (told (content w) c)
-told-with_entries e w c = ap (λ es. told es c) (sym (append_assoc w.lists.base w.lists.own (e ∷ []))) ∙ told-push (w.lists.base ++ w.lists.own) e c

@@ -71,10 +71,6 @@ abbrev is_other : ℕ → List Table → Type 0
 is_other n [] = Unit {0}
 is_other n (t ∷ ts) = (t.number ≢ n) × is_other n ts
 
-enabled-none : (n : ℕ) (how : Readiness) (ts : List Table) → is_other n ts → enabled n how ts ≡ ts
-enabled-none n how [] other = refl
-enabled-none n how (t ∷ ts) other = rw (ne_eqb _ _ other.0) (ap (λ us. t ∷ us) (enabled-none n how ts other.1))
-
 other-place : (n : ℕ) (t : Table) (ts : List Table) → t.number ≢ n → is_other n ts → is_other n (place_table t ts)
 other-place n t [] apart other = (apart, tt)
 other-place n t (u ∷ us) apart other = by_test (nat_lt u.number t.number) (other-place n t us apart other.1)

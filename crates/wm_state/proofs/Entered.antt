@@ -9,7 +9,7 @@ use Rattle.wm_state.specs.Entries.{piece_of, pieces_of}
 use Rattle.wm_state.specs.Standing.{held_of, held_by}
 
 -- in their version the pieces say what the entries do
-pub told-stored : (version : ℕ) (es : List Entry) (c : Cell) → option_map held_of (told es c) ≡ stored_last (pieces_of version es) version c
+told-stored : (version : ℕ) (es : List Entry) (c : Cell) → option_map held_of (told es c) ≡ stored_last (pieces_of version es) version c
 told-stored version [] c = refl
 told-stored version (e ∷ es) c =
     over (told es c) (covers e c) (told_of e)
@@ -22,7 +22,7 @@ told-stored version (e ∷ es) c =
     over (Some x) b t = refl
 
 -- in any other version they say nothing
-pub stored-elsewhere : (version v : ℕ) (es : List Entry) (c : Cell) → (version == v) ≡ false → stored_last (pieces_of version es) v c ≡ None
+stored-elsewhere : (version v : ℕ) (es : List Entry) (c : Cell) → (version == v) ≡ false → stored_last (pieces_of version es) v c ≡ None
 stored-elsewhere version v [] c other = refl
 stored-elsewhere version v (e ∷ es) c other = rw (stored-elsewhere version v es c other, other) refl
 

@@ -123,25 +123,6 @@ row_later table stamp e es stamped k r found = ap (λ rows. row_of rows k) (rows
     by_row None = found
     by_row (Some row) = rw (apart e.stamp r.stamp k stamp stamped.0.stamp is_new.0 is_new.1) found
 
--- a stamp that is told is not below the first
-told_from : (table stamp : ℕ) (es : List Entry) → AreStamped table stamp es → (c : Cell) (t : Told) → told es c ≡ Some t → nat_le stamp t.stamp ≡ true
-told_from table stamp [] stamped c t found = cc
-told_from table stamp (e ∷ es) stamped c t found = by_told (told es c) refl (told_from table (stamp + 1) es stamped.1 c t) (covers e c) found
-  where
-    lower : (m n : ℕ) → nat_le (m + 1) n ≡ true → nat_le m n ≡ true
-    lower m n le = grind (arith, le)
-
-    same_le : (m n : ℕ) → n ≡ m → nat_le m n ≡ true
-    same_le m n same = grind (arith, same)
-
-    some_same : (x y : Told) → Some x ≡ Some y → x ≡ y
-    some_same x y h = cc
-
-    by_told : (o : Option Told) → told es c ≡ o → (told es c ≡ Some t → nat_le (stamp + 1) t.stamp ≡ true) → (b : Bool) → option_or o (then_some b (told_of e)) ≡ Some t → nat_le stamp t.stamp ≡ true
-    by_told (Some x) is rest b h = lower stamp t.stamp (rest (is ∙ h))
-    by_told None is rest true h = same_le stamp t.stamp (ap (λ (x : Told). x.stamp) (sym (some_same (told_of e) t h)) ∙ stamped.0.stamp)
-    by_told None is rest false h = cc
-
 -- the row that is told at a cell is found by its stamp
 pub told_row : (table stamp : ℕ) (es : List Entry) → AreStamped table stamp es → (c : Cell) (t : Told) (row : Row) → told es c ≡ Some t → t.row ≡ Some row
     → option_map (λ (r : RowRecord). r.values) (row_of (rows_in es) t.stamp) ≡ Some row.values

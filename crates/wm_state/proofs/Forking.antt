@@ -54,12 +54,8 @@ own-under pieces x older base c above empty = rw (above, eq-eqb x.number x.numbe
 
 -- ---- the newest version of each workspace
 
--- the new one, where it is the workspace's, and else the one of before
-latest-forked : (p q : Parts) (n number : ℕ) → Forked p q n number → (m : ℕ) → latest q m ≡ cond (n == m) number (latest p m)
-latest-forked p q n number f m = ap (λ nodes. latest_in nodes m) f.versions
-
 -- a workspace sees what it saw
-pub shown-forked : (p q : Parts) (n number : ℕ) → Forked p q n number → (m : ℕ) (c : Cell) → shown q m c ≡ shown p m c
+shown-forked : (p q : Parts) (n number : ℕ) → Forked p q n number → (m : ℕ) (c : Cell) → shown q m c ≡ shown p m c
 shown-forked p q n number f m c =
     ap (λ nodes. seen_at q.pieces nodes (latest_in nodes m) c) f.versions
     ∙ ap (λ pieces. seen_at pieces (node_under p n number ∷ newest_first p.versions) (cond (n == m) number (latest p m)) c) f.pieces
@@ -70,7 +66,7 @@ shown-forked p q n number f m c =
     by_space (inr other) = rw (ne_eqb n m other) (seen-beside p.pieces (node_under p n number) (newest_first p.versions) (latest p m) c (latest-below number (newest_first p.versions) m f.some f.below))
 
 -- and has above its base what it had
-pub owned-forked : (p q : Parts) (n number : ℕ) → Forked p q n number → (m : ℕ) (r : Space) → space_of p.spaces m ≡ Some r → (c : Cell) → owned q r.base_version m c ≡ owned p r.base_version m c
+owned-forked : (p q : Parts) (n number : ℕ) → Forked p q n number → (m : ℕ) (r : Space) → space_of p.spaces m ≡ Some r → (c : Cell) → owned q r.base_version m c ≡ owned p r.base_version m c
 owned-forked p q n number f m r found c =
     ap (λ nodes. own_at q.pieces nodes r.base_version (latest_in nodes m) c) f.versions
     ∙ ap (λ pieces. own_at pieces (node_under p n number ∷ newest_first p.versions) r.base_version (cond (n == m) number (latest p m)) c) f.pieces
@@ -83,13 +79,13 @@ owned-forked p q n number f m r found c =
         rw (ne_eqb n m other) (own-beside p.pieces (node_under p n number) (newest_first p.versions) r.base_version (latest p m) c (latest-below number (newest_first p.versions) m f.some f.below))
 
 -- a version of before sees what it saw
-pub seen-forked : (p q : Parts) (n number : ℕ) → Forked p q n number → (v : ℕ) → v < number → (c : Cell) → seen q v c ≡ seen p v c
+seen-forked : (p q : Parts) (n number : ℕ) → Forked p q n number → (v : ℕ) → v < number → (c : Cell) → seen q v c ≡ seen p v c
 seen-forked p q n number f v lt c =
     ap (λ nodes. seen_at q.pieces nodes v c) f.versions
     ∙ ap (λ pieces. seen_at pieces (node_under p n number ∷ newest_first p.versions) v c) f.pieces
     ∙ seen-beside p.pieces (node_under p n number) (newest_first p.versions) v c lt
 
-pub above-forked : (p q : Parts) (n number : ℕ) → Forked p q n number → (base v : ℕ) → v < number → (c : Cell) → seen_above q base v c ≡ seen_above p base v c
+above-forked : (p q : Parts) (n number : ℕ) → Forked p q n number → (base v : ℕ) → v < number → (c : Cell) → seen_above q base v c ≡ seen_above p base v c
 above-forked p q n number f base v lt c =
     ap (λ nodes. own_at q.pieces nodes base v c) f.versions
     ∙ ap (λ pieces. own_at pieces (node_under p n number ∷ newest_first p.versions) base v c) f.pieces

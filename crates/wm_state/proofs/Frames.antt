@@ -14,18 +14,10 @@ use Rattle.wm_spec.specs.declared.record.row.RowRecord.{RowRecord}
 use Rattle.wm_spec.specs.declared.record.savepoint.Savepoint.{Savepoint as Record}
 use Rattle.wm_spec.specs.declared.record.space.Space.{Space}
 use Rattle.wm_state.specs.State.{State, Workspace, Savepoint, content, kept, workspace_of, with_space, savepoint_made, savepoints_of}
-use Rattle.wm_state.specs.Standing.{held_of, shown, owned, seen, seen_above, fields_of, fields_in, saved_fields, fields_saved, by_making, saved_in, saved_as, SpacesStand, OnceStand, LatestStand, OwnStand, SavepointsStand, KeptStand, KeptOwnStand, BasesStand, RowsStand, HasRows}
+use Rattle.wm_state.specs.Standing.{held_of, seen, seen_above, saved_fields, fields_saved, by_making, saved_in, saved_as, OnceStand, SavepointsStand, KeptStand, KeptOwnStand, BasesStand, RowsStand, HasRows}
 use Rattle.wm_state.proofs.Changing.{length-changed, differ-changed}
 
 -- ---- workspaces and what they show
-
--- the record of a workspace and the workspace itself are those of before
-pub record Fields (p q : Parts) (s t : State) (n : ℕ) : Type 0 where
-  pub recorded : option_map fields_of (space_of q.spaces n) ≡ option_map fields_of (space_of p.spaces n)
-  pub is : option_map fields_in (workspace_of t.spaces n) ≡ option_map fields_in (workspace_of s.spaces n)
-
-pub SpacesStand-frame : (p q : Parts) (s t : State) → ((n : ℕ) → Fields p q s t n ⊎ (option_map fields_of (space_of q.spaces n) ≡ option_map fields_in (workspace_of t.spaces n))) → SpacesStand p s → SpacesStand q t
-SpacesStand-frame p q s t each stand = record { same = λ n. ⊎_elim (λ (f : Fields p q s t n). f.recorded ∙ stand.same n ∙ sym f.is) (λ h. h) (each n) }
 
 -- the workspaces have the numbers that they had, and there are as many of them and of records as before
 pub record Counted (p q : Parts) (s t : State) : Type 0 where
@@ -33,7 +25,7 @@ pub record Counted (p q : Parts) (s t : State) : Type 0 where
   pub there : length t.spaces ≡ length s.spaces
   pub recorded : length q.spaces ≡ length p.spaces
 
-pub OnceStand-frame : (p q : Parts) (s t : State) → Counted p q s t → OnceStand p s → OnceStand q t
+OnceStand-frame : (p q : Parts) (s t : State) → Counted p q s t → OnceStand p s → OnceStand q t
 OnceStand-frame p q s t f stand = record { numbers = f.numbers ∙ stand.numbers; count = f.recorded ∙ stand.count ∙ sym f.there }
 
 -- where one workspace was changed
@@ -50,36 +42,6 @@ pub OnceStand-same : (p q : Parts) (s t : State) → q.spaces ≡ p.spaces → t
 OnceStand-same p q s t recorded same =
     OnceStand-frame p q s t (record { numbers = ap (differ (λ (v w : Workspace). v.number == w.number)) same; there = ap length same; recorded = ap length recorded })
 
--- a workspace has its content of before, and shows what it showed
-pub record Shown (p q : Parts) (s : State) (n : ℕ) (w : Workspace) : Type 0 where
-  pub old : Workspace
-  pub is : workspace_of s.spaces n ≡ Some old
-  pub content : content w ≡ content old
-  pub shows : (c : Cell) → shown q n c ≡ shown p n c
-
-pub LatestStand-frame : (p q : Parts) (s t : State)
-    → ((n : ℕ) (w : Workspace) → workspace_of t.spaces n ≡ Some w → Shown p q s n w ⊎ ((c : Cell) → shown q n c ≡ option_map held_of (told (content w) c))) → LatestStand p s → LatestStand q t
-LatestStand-frame p q s t each stand = record {
-  told = λ n w is c. ⊎_elim (λ (f : Shown p q s n w). f.shows c ∙ stand.told n f.old f.is c ∙ ap (λ es. option_map held_of (told es c)) (sym f.content)) (λ h. h c) (each n w is);
-}
-
--- a workspace has its own changes of before, and above its base what it had
-pub record Owned (p q : Parts) (s : State) (n : ℕ) (w : Workspace) (r : Space) : Type 0 where
-  pub old : Workspace
-  pub is : workspace_of s.spaces n ≡ Some old
-  pub own : w.lists.own ≡ old.lists.own
-  pub old_record : Space
-  pub recorded : space_of p.spaces n ≡ Some old_record
-  pub has : (c : Cell) → owned q r.base_version n c ≡ owned p old_record.base_version n c
-
-pub OwnStand-frame : (p q : Parts) (s t : State)
-    → ((n : ℕ) (w : Workspace) (r : Space) → workspace_of t.spaces n ≡ Some w → space_of q.spaces n ≡ Some r → Owned p q s n w r ⊎ ((c : Cell) → is_some (owned q r.base_version n c) ≡ touched w.lists.own c))
-    → OwnStand p s → OwnStand q t
-OwnStand-frame p q s t each stand = record {
-  covered = λ n w r is recorded c.
-      ⊎_elim (λ (f : Owned p q s n w r). ap is_some (f.has c) ∙ stand.covered n f.old f.old_record f.is f.recorded c ∙ ap (λ es. touched es c) (sym f.own)) (λ h. h c) (each n w r is recorded);
-}
-
 -- ---- savepoints
 
 -- the savepoints of a number are those of its workspace
@@ -94,7 +56,7 @@ pub record Points (p q : Parts) (s t : State) (n : ℕ) : Type 0 where
   pub recorded : saved_in q n ≡ saved_in p n
   pub same : savepoints_of t.spaces n ≡ savepoints_of s.spaces n
 
-pub SavepointsStand-frame : (p q : Parts) (s t : State) → ((n : ℕ) → Points p q s t n ⊎ (map saved_fields (saved_in q n) ≡ map fields_saved (savepoints_of t.spaces n))) → SavepointsStand p s → SavepointsStand q t
+SavepointsStand-frame : (p q : Parts) (s t : State) → ((n : ℕ) → Points p q s t n ⊎ (map saved_fields (saved_in q n) ≡ map fields_saved (savepoints_of t.spaces n))) → SavepointsStand p s → SavepointsStand q t
 SavepointsStand-frame p q s t each stand = record {
   same = λ n. ⊎_elim (λ (f : Points p q s t n). ap (map saved_fields) f.recorded ∙ stand.same n ∙ ap (map fields_saved) (sym f.same)) (λ h. h) (each n);
 }
@@ -109,7 +71,7 @@ pub record Point (p q : Parts) (s : State) (n making : ℕ) (w : Workspace) (k :
   pub sees : (c : Cell) → seen q x.version c ≡ seen p x.version c
   pub has : (c : Cell) → seen_above q x.base_version x.version c ≡ seen_above p x.base_version x.version c
 
-pub KeptStand-frame : (p q : Parts) (s t : State)
+KeptStand-frame : (p q : Parts) (s t : State)
     → ((n making : ℕ) (w : Workspace) (k : Savepoint) (x : Record) → workspace_of t.spaces n ≡ Some w → savepoint_made making w.savepoints ≡ Some k → saved_as q n making ≡ Some x
     → Point p q s n making w k x ⊎ ((c : Cell) → seen q x.version c ≡ option_map held_of (told (kept k) c)))
     → KeptStand p s → KeptStand q t
@@ -118,7 +80,7 @@ KeptStand-frame p q s t each stand = record {
       ⊎_elim (λ (f : Point p q s n making w k x). f.sees c ∙ stand.told n making f.old k x f.is f.point f.recorded c) (λ h. h c) (each n making w k x is point recorded);
 }
 
-pub KeptOwnStand-frame : (p q : Parts) (s t : State)
+KeptOwnStand-frame : (p q : Parts) (s t : State)
     → ((n making : ℕ) (w : Workspace) (k : Savepoint) (x : Record) → workspace_of t.spaces n ≡ Some w → savepoint_made making w.savepoints ≡ Some k → saved_as q n making ≡ Some x
     → Point p q s n making w k x ⊎ (k.rebases ≡ w.rebases → (c : Cell) → is_some (seen_above q x.base_version x.version c) ≡ touched k.own c))
     → KeptOwnStand p s → KeptOwnStand q t
@@ -145,7 +107,7 @@ pub record HasBase (q : Parts) (w : Workspace) (r : Space) : Type 0 where
   pub births : (c : Cell) → seen q r.birth_version c ≡ option_map held_of (told w.lists.at_birth c)
   pub bases : (c : Cell) → seen q r.base_version c ≡ option_map held_of (told w.lists.base c)
 
-pub BasesStand-frame : (p q : Parts) (s t : State) → ((n : ℕ) (w : Workspace) (r : Space) → 0 < n → workspace_of t.spaces n ≡ Some w → space_of q.spaces n ≡ Some r → Base p q s n w r ⊎ HasBase q w r)
+BasesStand-frame : (p q : Parts) (s t : State) → ((n : ℕ) (w : Workspace) (r : Space) → 0 < n → workspace_of t.spaces n ≡ Some w → space_of q.spaces n ≡ Some r → Base p q s n w r ⊎ HasBase q w r)
     → BasesStand p s → BasesStand q t
 BasesStand-frame p q s t each stand = record {
   birth = λ n w r some is recorded c.
@@ -184,17 +146,8 @@ pub record Rows (q : Parts) (w : Workspace) : Type 0 where
   pub bases : HasRows q w.lists.base
   pub saved : (making : ℕ) (k : Savepoint) → savepoint_made making w.savepoints ≡ Some k → HasRows q (kept k)
 
-pub RowsStand-frame : (q : Parts) (t : State) → ((n : ℕ) (w : Workspace) → workspace_of t.spaces n ≡ Some w → Rows q w) → RowsStand q t
+RowsStand-frame : (q : Parts) (t : State) → ((n : ℕ) (w : Workspace) → workspace_of t.spaces n ≡ Some w → Rows q w) → RowsStand q t
 RowsStand-frame q t each = record { there = λ n w is. (each n w is).there; births = λ n w is. (each n w is).births; bases = λ n w is. (each n w is).bases; saved = λ n making w k is point. (each n w is).saved making k point }
-
--- a workspace of before has its rows still
-pub Rows-kept : (p q : Parts) (s : State) (n : ℕ) (w : Workspace) → KeepRows p q → RowsStand p s → workspace_of s.spaces n ≡ Some w → Rows q w
-Rows-kept p q s n w keep stand is = record {
-  there = HasRows-kept p q keep (content w) (stand.there n w is);
-  births = HasRows-kept p q keep w.lists.at_birth (stand.births n w is);
-  bases = HasRows-kept p q keep w.lists.base (stand.bases n w is);
-  saved = λ making k point. HasRows-kept p q keep (kept k) (stand.saved n making w k is point);
-}
 
 -- ---- where no savepoint and no workspace is new
 

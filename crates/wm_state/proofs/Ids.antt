@@ -1,17 +1,12 @@
 -- The ids of a batch, and those that are free.
 use Rattle.std.proofs.Common.{◌≡◌, ◌≢◌, ℕ, ◌+◌, ◌<◌, ◌≤◌, ◌==◌, nat_lt, Bool, true, false, if◌then◌else◌, List, [], ◌∷◌, ◌++◌, map, Option, Some, None, refl, sym, ap, ◌∙◌, ◌⊎◌, inl, inr, arith}
-use Rattle.std.proofs.lemmas.Bool.{cases_eq, ne_eqb}
+use Rattle.std.proofs.lemmas.Bool.{cases_eq}
 use Rattle.std.specs.List.{list_all, list_any}
-use Rattle.wm_spec.specs.Records.{record_at, ids_differ, AreChanges}
+use Rattle.wm_spec.specs.Records.{record_at, ids_differ}
 use Rattle.wm_spec.specs.declared.record.Record.{Record}
 use Rattle.wm_spec.specs.declared.record.stored.Stored.{Stored}
 use Rattle.wm_spec.specs.declared.record.batch.Change.{Change}
-use Rattle.wm_spec.specs.declared.record.counters.Counters.{Counters}
-use Rattle.wm_spec.specs.declared.record.piece.PieceRecord.{PieceRecord}
-use Rattle.wm_spec.specs.declared.record.row.RowRecord.{RowRecord}
-use Rattle.wm_spec.specs.declared.record.space.Space.{Space}
-use Rattle.wm_spec.specs.declared.record.version.Version.{Version}
-use Rattle.wm_state.specs.Batches.{AllUnder, put, drop_one, insert_batch, insert_new_batch}
+use Rattle.wm_state.specs.Batches.{AllUnder, drop_one}
 use Rattle.wm_state.proofs.ById.{record_at-here, record_at-away}
 use Rattle.wm_state.proofs.Tests.{bool_apart, both, and_true, any_push}
 
@@ -75,55 +70,3 @@ are_under-push n (id ∷ ids) under =
 pub ids_of-dropped : (ids : List ℕ) (cs : List Change) → map (λ (c : Change). c.id) (map drop_one ids ++ cs) ≡ ids ++ map (λ (c : Change). c.id) cs
 ids_of-dropped [] cs = refl
 ids_of-dropped (id ∷ ids) cs = ap (λ xs. id ∷ xs) (ids_of-dropped ids cs)
-
-assoc_two : (xs : List ℕ) (m n : ℕ) → xs ++ m ∷ n ∷ [] ≡ (xs ++ m ∷ []) ++ n ∷ []
-assoc_two [] m n = refl
-assoc_two (x ∷ xs) m n = ap (λ ys. x ∷ ys) (assoc_two xs m n)
-
--- the batch that writes a row, where what it puts and drops is below the new ids
-pub changes-insert : (counters_id : ℕ) (new : Counters) (space_id : ℕ) (a : Space) (ids : List ℕ) (id : ℕ) (r : RowRecord) (x : PieceRecord) → ids_differ (counters_id ∷ space_id ∷ ids) ≡ true
-    → are_under id (counters_id ∷ space_id ∷ ids) ≡ true → AreChanges (insert_batch counters_id new space_id a ids id r x)
-changes-insert counters_id new space_id a ids id r x differ under =
-    ap (λ xs. ids_differ (counters_id ∷ space_id ∷ xs)) (ids_of-dropped ids (put id _ ∷ put (id + 1) _ ∷ []))
-    ∙ ap ids_differ (assoc_two (counters_id ∷ space_id ∷ ids) id (id + 1))
-    ∙ ids_differ-push (id + 1) ((counters_id ∷ space_id ∷ ids) ++ id ∷ []) (ids_differ-push id (counters_id ∷ space_id ∷ ids) differ under) (are_under-push id (counters_id ∷ space_id ∷ ids) under)
-
--- two puts, and a row in a version more
-pub changes-two : (m n : ℕ) (r q : Record) → m ≢ n → AreChanges (put m r ∷ put n q ∷ [])
-unfolding ids_differ
-changes-two m n r q apart = rw (ne_eqb n m (λ same. apart (sym same))) refl
-
-pub changes-insert_new : (counters_id : ℕ) (new : Counters) (space_id : ℕ) (a : Space) (id : ℕ) (v : Version) (r : RowRecord) (x : PieceRecord) → counters_id ≢ space_id → counters_id < id → space_id < id
-    → AreChanges (insert_new_batch counters_id new space_id a id v r x)
-unfolding ids_differ
-changes-insert_new counters_id new space_id a id v r x apart counters_under space_under =
-    rw (
-      ne_eqb space_id counters_id (λ same. apart (sym same)),
-      later counters_id counters_under,
-      later_still counters_id counters_under,
-      above counters_id counters_under,
-      later space_id space_under,
-      later_still space_id space_under,
-      above space_id space_under,
-      next_apart id,
-      turned_apart id,
-      last_apart id,
-    ) refl
-  where
-    above : (m : ℕ) → m < id → (id == m) ≡ false
-    above m lt = grind (arith, lt)
-
-    later : (m : ℕ) → m < id → (id + 1 == m) ≡ false
-    later m lt = grind (arith, lt)
-
-    later_still : (m : ℕ) → m < id → (id + 1 + 1 == m) ≡ false
-    later_still m lt = grind (arith, lt)
-
-    next_apart : (k : ℕ) → (k + 1 + 1 == k + 1) ≡ false
-    next_apart k = grind arith
-
-    turned_apart : (k : ℕ) → (k == k + 1) ≡ false
-    turned_apart k = grind arith
-
-    last_apart : (k : ℕ) → (k == k + 1 + 1) ≡ false
-    last_apart k = grind arith

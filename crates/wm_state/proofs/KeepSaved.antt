@@ -4,7 +4,7 @@ use Rattle.std.proofs.lemmas.Bool.{cases_eq, eq-eqb, ne_eqb}
 use Rattle.std.proofs.lemmas.List.Elements.{filter-append}
 use Rattle.std.proofs.lemmas.List.Sums.{length-filter}
 use Rattle.std.proofs.lemmas.Slice.Eq.{bytes_eq-Decides}
-use Rattle.std.specs.List.{list_all, list_any, filter, find, count_by}
+use Rattle.std.specs.List.{list_all, list_any, filter, count_by}
 use Rattle.std.specs.Option.{option_map}
 use Rattle.std.specs.Str.{bytes_eq}
 use Rattle.wm_graph.specs.Parts.{Parts, space_of, version_of, has_version}
@@ -22,7 +22,7 @@ use Rattle.wm_state.proofs.Mapped.{any-if, none-found}
 use Rattle.wm_state.proofs.Keeping.{KeepSpaces, le_itself, le_of, KeepTables-same, KeepSpaces-swap, KeepVersions-same, KeepRows-same, is_savepoint-kept, are_hists-kept}
 use Rattle.wm_state.proofs.Respaced.{MayReplace, spaces_replaced, versions_replaced, space_here, space_elsewhere}
 use Rattle.wm_state.proofs.Named.{ruled_savepoints, space_number, saved_there}
-use Rattle.wm_state.proofs.SavedAs.{named_as, saved_count, unnamed_record}
+use Rattle.wm_state.proofs.SavedAs.{named_as}
 use Rattle.wm_state.proofs.Saving.{IsKept, Stands-saved}
 use Rattle.wm_state.proofs.Tests.{bool_apart, both, and_true, all_if, all_push, all_swap, all_middle, differ_push, none_if}
 
@@ -176,7 +176,7 @@ keep-saved p old new front a back place implicit x may e =
 
 -- ---- what becomes of the records
 
-pub saved_of : (p : Parts) (old new : Counters) (front : List Space) (a : Space) (back : List Space) (place implicit : ℕ) (x : Savepoint) → MaySave p old new front a back place implicit x → keep_rules p ≡ true
+saved_of : (p : Parts) (old new : Counters) (front : List Space) (a : Space) (back : List Space) (place implicit : ℕ) (x : Savepoint) → MaySave p old new front a back place implicit x → keep_rules p ≡ true
     → Saved p (saved p new front a back place implicit x) x.space place implicit x
 saved_of p old new front a back place implicit x may e = record {
   space = refl;
@@ -285,21 +285,3 @@ greatest_room p old rules one =
     (all_if (is_savepoint (space_of p.spaces) (version_of p.versions) old.work) (λ (y : Savepoint). nat_le y.making (old.work + 2))
     (λ y is. (both (is_short y.name) (nat_le y.making (old.work + 2)) (both (is_short y.name && nat_le y.making (old.work + 2)) _ is).0).1) p.savepoints
     (ap (λ (c : Counters). list_all (is_savepoint (space_of p.spaces) (version_of p.versions) c.work) p.savepoints) (sym same) ∙ (ruled_savepoints p r.counters.work r.savepoints).each))
-
--- nor is the next one where more work was counted
-pub making_room : (p : Parts) (old new : Counters) → keep_rules p ≡ true → p.counters ≡ old ∷ [] → old.work + 1 ≤ new.work → greatest_making p.savepoints + 1 ≤ new.work + 2
-making_room p old new rules one more = next_room (greatest_making p.savepoints) old.work new.work (greatest_room p old rules one) more
-  where
-    next_room : (a b c : ℕ) → a ≤ b + 2 → b + 1 ≤ c → a + 1 ≤ c + 2
-    next_room a b c le more = omega (arith, le, more)
-
--- ---- what the state says of it
-
--- a name that no savepoint of the workspace has is new
-pub unnamed_of : (p : Parts) (s : State) (w : Workspace) (x : Savepoint) → Stands p s → workspace_of s.spaces x.space ≡ Some w → find (λ (k : Kept). bytes_eq x.name k.name) w.savepoints ≡ None
-    → list_any (λ (y : Savepoint). same_savepoint y x) p.savepoints ≡ false
-unnamed_of p s w x st found none = unnamed_if p x (unnamed_record p s x.space w st found x.name none)
-
--- a workspace that has fewer savepoints than it may has room for one
-pub room_of : (p : Parts) (s : State) (n : ℕ) (w : Workspace) → Stands p s → workspace_of s.spaces n ≡ Some w → nat_lt (length w.savepoints) 4096 ≡ true → nat_lt (count_by (λ (y : Savepoint). y.space == n) p.savepoints) 4096 ≡ true
-room_of p s n w st found few = ap (λ k. nat_lt k 4096) (sym (saved_count p s n w st found)) ∙ few

@@ -121,7 +121,7 @@ counted_longer spaces a k room e =
     let l = both (nat_le 1 a.next_implicit) (nat_le a.log_length (2 ^ 62)) j.1 in
     and_true (is_short a.writer) _ i.1 (and_true (nat_le 1 a.next_place) _ j.0 (and_true (nat_le 1 a.next_implicit) _ l.0 room))
 
-pub longer_may : (a : Space) (k : ℕ) → MayReplace a (longer_by k a)
+longer_may : (a : Space) (k : ℕ) → MayReplace a (longer_by k a)
 longer_may a k = record { number = refl; name = refl; parent = refl; birth = refl; base = refl }
 
 -- ---- all rules

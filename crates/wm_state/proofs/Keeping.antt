@@ -120,9 +120,6 @@ KeepVersions-push p q w more k v found = ap (λ vs. version_of vs k) more ∙ fi
 pub KeepRows-same : (p q : Parts) → q.rows ≡ p.rows → KeepRows p q
 KeepRows-same p q same stamp r found = ap (λ rs. row_of rs stamp) same ∙ found
 
-pub KeepRows-push : (p q : Parts) (x : RowRecord) → q.rows ≡ p.rows ++ x ∷ [] → KeepRows p q
-KeepRows-push p q x more stamp r found = ap (λ rs. row_of rs stamp) more ∙ find_push (λ (y : RowRecord). y.stamp == stamp) p.rows x r found
-
 -- ---- numbers and tests
 
 lt_le : (m n k : ℕ) → nat_le n k ≡ true → nat_lt m n ≡ true → nat_lt m k ≡ true
@@ -163,14 +160,14 @@ is_row-kept p q next more le tables r e =
     (asked (is_row_of r.values) (is_row_of r.values) (table_of p.tables r.table) (table_of q.tables r.table)
     (λ t found is. let s = tables r.table t found in rw s.is (row_of_same r.values t s.new s.columns s.has_key s.key_column ∙ is)) h.1)
 
-pub are_cells-kept : (p q : Parts) → KeepTables p q → (c : CellRange) → are_cells (table_of p.tables) c ≡ true → are_cells (table_of q.tables) c ≡ true
+are_cells-kept : (p q : Parts) → KeepTables p q → (c : CellRange) → are_cells (table_of p.tables) c ≡ true → are_cells (table_of q.tables) c ≡ true
 are_cells-kept p q tables c e =
     let h = both (nat_lt c.from c.till && nat_le c.till END) (option_map_or (is_key_of c.key) (table_of p.tables c.table) false) e in
     and_true (nat_lt c.from c.till && nat_le c.till END) _ h.0
     (asked (is_key_of c.key) (is_key_of c.key) (table_of p.tables c.table) (table_of q.tables c.table)
     (λ t found is. let s = tables c.table t found in rw s.is (is_key_of_same c.key t s.new s.columns s.has_key s.key_column ∙ is)) h.1)
 
-pub is_row_at-kept : (p q : Parts) → KeepTables p q → (c : CellRange) (r : RowRecord) → is_row_at (table_of p.tables) c r ≡ true → is_row_at (table_of q.tables) c r ≡ true
+is_row_at-kept : (p q : Parts) → KeepTables p q → (c : CellRange) (r : RowRecord) → is_row_at (table_of p.tables) c r ≡ true → is_row_at (table_of q.tables) c r ≡ true
 is_row_at-kept p q tables c r e =
     let h = both (r.table == c.table) _ e in
     and_true (r.table == c.table) _ h.0 (by_table (table_of p.tables c.table) refl h.1)
@@ -218,7 +215,7 @@ are_pieces-kept p q next more le tables versions rows pieces e =
     (all_if (is_piece (table_of p.tables) (version_of p.versions) (row_of p.rows) next) (is_piece (table_of q.tables) (version_of q.versions) (row_of q.rows) more)
     (is_piece-kept p q next more le tables versions rows) p.pieces h.1))
 
-pub is_hist-kept : (p q : Parts) (next more : ℕ) → nat_le next more ≡ true → KeepTables p q → KeepSpaces p q → KeepRows p q → (x : Hist)
+is_hist-kept : (p q : Parts) (next more : ℕ) → nat_le next more ≡ true → KeepTables p q → KeepSpaces p q → KeepRows p q → (x : Hist)
     → is_hist (table_of p.tables) (space_of p.spaces) (row_of p.rows) next x ≡ true → is_hist (table_of q.tables) (space_of q.spaces) (row_of q.rows) more x ≡ true
 is_hist-kept p q next more le tables spaces rows x e =
     let h = both (is_short x.user && option_map_or (λ (s : Space). nat_lt x.position s.log_length) (space_of p.spaces x.space) false) _ e in
@@ -246,7 +243,7 @@ pub is_version_of-kept : (p q : Parts) → KeepVersions p q → (k space : ℕ) 
 is_version_of-kept p q versions k space =
     asked (λ (v : Version). v.space == space) (λ (v : Version). v.space == space) (version_of p.versions k) (version_of q.versions k) (λ v found is. rw (versions k v found) is)
 
-pub is_base_of-kept : (p q : Parts) → KeepVersions p q → (base : ℕ) (s t : Space) → t.number ≡ s.number → t.parent ≡ s.parent → is_base_of (version_of p.versions) base s ≡ true → is_base_of (version_of q.versions) base t ≡ true
+is_base_of-kept : (p q : Parts) → KeepVersions p q → (base : ℕ) (s t : Space) → t.number ≡ s.number → t.parent ≡ s.parent → is_base_of (version_of p.versions) base s ≡ true → is_base_of (version_of q.versions) base t ≡ true
 is_base_of-kept p q versions base s t number parent e = rw (number, parent) (by_live (s.number == 0) e)
   where
     by_live : (b : Bool) → (if b then base == 0 else is_version_of (version_of p.versions) base s.parent) ≡ true → (if b then base == 0 else is_version_of (version_of q.versions) base s.parent) ≡ true

@@ -99,7 +99,7 @@ free_of p version unsaved unnamed = record {
         (found_fails (λ (x : Space). x.number == n) (names version) p.spaces r found unnamed)
 
 -- a version above all others is free
-pub free_above : (p : Parts) (number : ℕ) → keep_rules p ≡ true → AllBelow number (newest_first p.versions) → IsFree p number
+free_above : (p : Parts) (number : ℕ) → keep_rules p ≡ true → AllBelow number (newest_first p.versions) → IsFree p number
 free_above p number e below = record {
   kept = λ n making x found. apart x.version (version_there (version_of p.versions) x.version n (saved_there p e n making x found).version);
   births = λ n r some found. apart r.birth_version (version_there (version_of p.versions) r.birth_version r.parent (bases_there p e n r some found).birth);

@@ -5,13 +5,11 @@ pub mod ById
 pub mod Batches
 pub mod Standing
 pub mod Tests
-pub mod Inserting
 pub mod Laying
 pub mod Newest
 pub mod Apart
 pub mod Named
 pub mod Keeping
-pub mod Inserted
 pub mod Tables
 pub mod Enabling
 pub mod ByKind

@@ -61,7 +61,7 @@ any-place P y (z ∷ zs) is none = by_test (nat_lt z.making y.making) (either_fa
     by_test true h rest = rw (h.0, rest h.1) refl
     by_test false h rest = rw (is, h.0, h.1) refl
 
-pub any-making : (P : Record → Bool) (xs : List Record) → list_any P xs ≡ false → list_any P (by_making xs) ≡ false
+any-making : (P : Record → Bool) (xs : List Record) → list_any P xs ≡ false → list_any P (by_making xs) ≡ false
 any-making P [] none = refl
 any-making P (x ∷ xs) none = let h = either_false (P x) (list_any P xs) none in any-place P x (by_making xs) h.0 (any-making P xs h.1)
 

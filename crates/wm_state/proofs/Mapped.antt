@@ -8,7 +8,7 @@ use Rattle.wm_state.proofs.Tests.{bool_apart, either_false, both, and_true, not_
 
 -- ---- seen through a map
 
-pub find-map : {A B : Type 0} (f : A → B) (P : B → Bool) (xs : List A) → option_map f (find (λ x. P (f x)) xs) ≡ find P (map f xs)
+find-map : {A B : Type 0} (f : A → B) (P : B → Bool) (xs : List A) → option_map f (find (λ x. P (f x)) xs) ≡ find P (map f xs)
 find-map f P [] = refl
 find-map {A = A} f P (x ∷ xs) = by_test (P (f x)) (find-map f P xs)
   where
@@ -16,15 +16,15 @@ find-map {A = A} f P (x ∷ xs) = by_test (P (f x)) (find-map f P xs)
     by_test true rest = refl
     by_test false rest = rest
 
-pub any-map : {A B : Type 0} (f : A → B) (P : B → Bool) (xs : List A) → list_any P (map f xs) ≡ list_any (λ x. P (f x)) xs
+any-map : {A B : Type 0} (f : A → B) (P : B → Bool) (xs : List A) → list_any P (map f xs) ≡ list_any (λ x. P (f x)) xs
 any-map f P [] = refl
 any-map f P (x ∷ xs) = ap (λ b. P (f x) || b) (any-map f P xs)
 
-pub all-map : {A B : Type 0} (f : A → B) (P : B → Bool) (xs : List A) → list_all P (map f xs) ≡ list_all (λ x. P (f x)) xs
+all-map : {A B : Type 0} (f : A → B) (P : B → Bool) (xs : List A) → list_all P (map f xs) ≡ list_all (λ x. P (f x)) xs
 all-map f P [] = refl
 all-map f P (x ∷ xs) = ap (λ b. P (f x) && b) (all-map f P xs)
 
-pub differ-map : {A B : Type 0} (f : A → B) (same : B → B → Bool) (xs : List A) → differ same (map f xs) ≡ differ (λ x y. same (f x) (f y)) xs
+differ-map : {A B : Type 0} (f : A → B) (same : B → B → Bool) (xs : List A) → differ same (map f xs) ≡ differ (λ x y. same (f x) (f y)) xs
 differ-map f same [] = refl
 differ-map f same (x ∷ xs) = rw (any-map f (same (f x)) xs, differ-map f same xs) refl
 

@@ -4,14 +4,13 @@ use Rattle.std.proofs.lemmas.Bool.{eqb-true}
 use Rattle.std.specs.List.{list_all}
 use Rattle.std.specs.Option.{option_map, option_map_or}
 use Rattle.wm_graph.specs.Parts.{Parts, space_of, version_of, has_version}
-use Rattle.wm_graph.specs.Rules.{keep_rules, is_version, is_version_of, has_versions, is_base_of, is_short, is_saved_in, is_savepoint, same_savepoint, has_few, are_savepoints, differ}
+use Rattle.wm_graph.specs.Rules.{keep_rules, is_version_of, has_versions, is_base_of, is_short, is_saved_in, is_savepoint, same_savepoint, has_few, are_savepoints, differ}
 use Rattle.wm_spec.specs.declared.record.savepoint.Savepoint.{Savepoint}
 use Rattle.wm_spec.specs.declared.record.space.Space.{Space}
 use Rattle.wm_spec.specs.declared.record.version.Version.{Version}
 use Rattle.wm_tree.specs.Versions.{version_in, AllBelow}
 use Rattle.wm_tree.specs.declared.version.Version.{Version as Node}
 use Rattle.wm_state.specs.Standing.{node_of, newest_first, saved_as}
-use Rattle.wm_state.specs.Effects.{is_there}
 use Rattle.wm_state.proofs.Tests.{bool_apart, both}
 use Rattle.wm_state.proofs.Newest.{version_in-newest}
 use Rattle.wm_state.proofs.Apart.{ruled, RuledVersions, ruled_versions, found-passes}
@@ -112,30 +111,7 @@ bases_there p rules n r some found = record { birth = parents.0; base = parents.
         (sym (ap (λ b. if b then (r.birth_version == 1) && (r.base_version == 0) else is_version_of (version_of p.versions) r.birth_version r.parent && is_version_of (version_of p.versions) r.base_version r.parent) away)
         ∙ (both (has_version p.versions r.number) _ (found-passes (λ (x : Space). x.number == n) (has_versions (has_version p.versions) (version_of p.versions)) p.spaces r found versions.spaces).1).1)
 
--- a savepoint of a workspace with a parent keeps a version of that parent too
-pub saved_base : (p : Parts) (n making : ℕ) (x : Savepoint) → 0 < n → (y : SavedThere p n making x) → is_version_of (version_of p.versions) x.base_version y.space.parent ≡ true
-saved_base p n making x some y = sym (ap (λ b. if b then x.base_version == 0 else is_version_of (version_of p.versions) x.base_version y.space.parent) away) ∙ y.base
-  where
-    child : (m : ℕ) → 0 < m → (m == 0) ≡ false
-    child m lt = grind (arith, lt)
-
-    away : (y.space.number == 0) ≡ false
-    away = ap (λ k. k == 0) y.number ∙ child n some
-
--- a version that is there is below the next one
-pub version_below_next : (p : Parts) (rules : keep_rules p ≡ true) (k : ℕ) → is_some (version_of p.versions k) ≡ true → nat_lt k (ruled p rules).counters.next_version ≡ true
-version_below_next p rules k there = by_version (version_of p.versions k) refl there
-  where
-    next : ℕ
-    next = (ruled p rules).counters.next_version
-
-    by_version : (o : Option Version) → version_of p.versions k ≡ o → is_some o ≡ true → nat_lt k next ≡ true
-    by_version None found h = absurd (bool_apart (sym h))
-    by_version (Some v) found h =
-        let g = found-passes (λ (w : Version). w.number == k) (is_version (space_of p.spaces) (version_of p.versions) next) p.versions v found (ruled_versions p next (ruled p rules).versions).each in
-        ap (λ j. nat_lt j next) (sym (eqb-true v.number k g.0)) ∙ (both (nat_lt v.number next) _ g.1).0
-
--- its node is there
+-- the node of a version that is there is there too
 node_there : (p : Parts) → keep_rules p ≡ true → (k : ℕ) → is_some (version_of p.versions k) ≡ true → is_some (version_in (newest_first p.versions) k) ≡ true
 node_there p rules k there =
     ap is_some (version_in-newest p.versions (ruled_versions p (ruled p rules).counters.next_version (ruled p rules).versions).numbers k) ∙ some-map (version_of p.versions k) ∙ there
@@ -143,18 +119,6 @@ node_there p rules k there =
     some-map : (o : Option Version) → is_some (option_map node_of o) ≡ is_some o
     some-map None = refl
     some-map (Some v) = refl
-
--- so it is one of the versions, the newest first
-among : (nodes : List Node) (k : ℕ) → is_some (version_in nodes k) ≡ true → is_there k nodes ≡ true
-among [] k there = there
-among (x ∷ older) k there = by_test (x.number == k) there (among older k)
-  where
-    by_test : (b : Bool) → is_some (cond b (Some x) (version_in older k)) ≡ true → (is_some (version_in older k) ≡ true → is_there k older ≡ true) → cond b true (is_there k older) ≡ true
-    by_test true h rest = refl
-    by_test false h rest = rest h
-
-pub version_among : (p : Parts) → keep_rules p ≡ true → (k : ℕ) → is_some (version_of p.versions k) ≡ true → is_there k (newest_first p.versions) ≡ true
-version_among p rules k there = among (newest_first p.versions) k (node_there p rules k there)
 
 -- what is among versions that are all below is below
 among-below : (nodes : List Node) (n k : ℕ) → AllBelow n nodes → is_some (version_in nodes k) ≡ true → k < n

@@ -1,22 +1,18 @@
 -- No version has the number 0, and so it is read as one that holds nothing.
 use Rattle.std.proofs.Common.{◌≡◌, ℕ, ◌==◌, nat_lt, Bool, true, false, not, if◌then◌else◌, List, [], ◌∷◌, Option, Some, None, refl, sym, arith}
 use Rattle.std.proofs.lemmas.Bool.Decides.{nat_tests}
-use Rattle.std.specs.List.{filter_map, list_all}
+use Rattle.std.specs.List.{list_all}
 use Rattle.std.specs.Option.{option_map_or}
-use Rattle.wm_base.specs.declared.row.Row.{Row}
 use Rattle.wm_graph.specs.Parts.{Parts, space_of, version_of}
 use Rattle.wm_graph.specs.Rules.{keep_rules, is_version, stands_under}
-use Rattle.wm_spec.specs.Lists.{Cell, Told}
-use Rattle.wm_spec.specs.Stretches.{rows}
+use Rattle.wm_spec.specs.Lists.{Cell}
 use Rattle.wm_spec.specs.declared.record.piece.PieceRecord.{PieceRecord}
 use Rattle.wm_spec.specs.declared.record.space.Space.{Space}
 use Rattle.wm_spec.specs.declared.record.version.Version.{Version}
 use Rattle.wm_tree.specs.Versions.{grow}
 use Rattle.wm_tree.specs.declared.version.Version.{Version as Node}
-use Rattle.wm_state.specs.Listing.{IsListing, row_on}
 use Rattle.wm_state.specs.Standing.{newest_first, node_of, seen, seen_at}
 use Rattle.wm_state.proofs.Apart.{ruled, ruled_versions}
-use Rattle.wm_state.proofs.Listed.{listing_of}
 use Rattle.wm_state.proofs.Tests.{all_if, both, bool_apart, not_true}
 
 abbrev some_node : Node → Bool
@@ -63,10 +59,3 @@ none_seen p c rules =
     let v = ruled_versions p r.counters.next_version r.versions in
     none_at p.pieces (newest_first p.versions) c
     (newest_some p.versions (all_if (is_version (space_of p.spaces) (version_of p.versions) r.counters.next_version) (λ (w : Version). not (w.number == 0)) (numbered (space_of p.spaces) (version_of p.versions) r.counters.next_version) p.versions v.each))
-
--- and a listing of it has no rows
-pub none_listed : (p : Parts) (table : ℕ) (out : List Row) → keep_rules p ≡ true → IsListing p 0 table out → out ≡ filter_map (row_on [] table) (rows [] table)
-none_listed p table out rules is = listing_of p 0 [] table out (λ c. none_seen p c rules) (λ c t row there h. absurd (none_told t there)) is
-  where
-    none_told : (t : Told) → (let nothing : Option Told = None in nothing) ≡ Some t → ⊥
-    none_told t h = cc

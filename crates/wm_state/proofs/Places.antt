@@ -36,7 +36,7 @@ out-there version table keys y v c covered =
     out-same version table keys y.version v y.cells.table c.table y.cells.key c.key (eqb-true y.version v h.0) (eqb-true y.cells.table c.table k.0) (key_same y.cells.key c.key k.1)
 
 -- of two that collide both are kept, or none
-pub out-alike : (version table : ℕ) (keys : List (List Value)) (x y : PieceRecord) → collide x y ≡ true → is_out_all version table keys x ≡ is_out_all version table keys y
+out-alike : (version table : ℕ) (keys : List (List Value)) (x y : PieceRecord) → collide x y ≡ true → is_out_all version table keys x ≡ is_out_all version table keys y
 out-alike version table keys x y hit =
     let h = both ((x.version == y.version) && ((x.cells.table == y.cells.table) && is_eq (key_order x.cells.key y.cells.key))) (nat_lt x.cells.from y.cells.till && nat_lt y.cells.from x.cells.till) hit in
     let g = both (x.version == y.version) ((x.cells.table == y.cells.table) && is_eq (key_order x.cells.key y.cells.key)) h.0 in

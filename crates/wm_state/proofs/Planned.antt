@@ -1,11 +1,9 @@
 -- The records stand for the state after the batches that lines make.
-use Rattle.std.proofs.Common.{◌≡◌, ◌≢◌, ℕ, ◌+◌, ◌≤◌, ◌==◌, Bool, true, false, not, cond, if◌then◌else◌, List, [], ◌∷◌, ◌++◌, map, Some, refl, sym, ap, subst, ◌∙◌, ◌⊎◌, inl, inr, arith}
+use Rattle.std.proofs.Common.{◌≡◌, ◌≢◌, ℕ, ◌+◌, ◌≤◌, ◌==◌, Bool, true, false, not, cond, if◌then◌else◌, List, [], ◌∷◌, ◌++◌, Some, refl, sym, ap, subst, ◌∙◌, ◌⊎◌, inl, inr, arith}
 use Rattle.std.proofs.lemmas.Bool.{cases_eq, eq-eqb, ne_eqb}
 use Rattle.std.specs.List.{filter}
-use Rattle.wm_base.specs.declared.row.Row.{Row}
-use Rattle.wm_graph.specs.Parts.{Parts, parts_of, as_table, as_space}
+use Rattle.wm_graph.specs.Parts.{Parts, parts_of, as_table}
 use Rattle.wm_graph.specs.Rules.{are_counters}
-use Rattle.wm_spec.specs.Lists.{Entry}
 use Rattle.wm_spec.specs.Records.{record_at}
 use Rattle.wm_spec.specs.declared.record.Record.{Record}
 use Rattle.wm_spec.specs.declared.record.Record.TheVariants as records
@@ -13,22 +11,15 @@ use Rattle.wm_spec.specs.declared.record.stored.Stored.{Stored}
 use Rattle.wm_spec.specs.declared.record.batch.Change.{Change}
 use Rattle.wm_spec.specs.declared.record.counters.Counters.{Counters}
 use Rattle.wm_spec.specs.declared.record.piece.PieceRecord.{PieceRecord}
-use Rattle.wm_spec.specs.declared.record.row.RowRecord.{RowRecord}
-use Rattle.wm_spec.specs.declared.record.space.Space.{Space}
 use Rattle.wm_spec.specs.declared.record.table.Table.{Table}
 use Rattle.wm_state.specs.ById.{Ascend, set_at, applied}
-use Rattle.wm_state.specs.Batches.{keeps, is_out, is_dropped, AreDropped, AllUnder, put, drop_one, create_batch, enable_batch, insert_batch, ready}
-use Rattle.wm_state.specs.Effects.{longer}
+use Rattle.wm_state.specs.Batches.{keeps, is_dropped, AreDropped, AllUnder, create_batch, enable_batch, ready}
 use Rattle.wm_state.specs.State.{State, Readiness, enabled}
 use Rattle.wm_state.specs.Standing.{CountersStand, Stands}
 use Rattle.wm_state.proofs.ById.{Ascend-set, record_at-set}
-use Rattle.wm_state.proofs.ByKind.{kinds, stored, Split, split_of, set-split, set-behind}
-use Rattle.wm_state.proofs.Planning.{AllUnder-put, recounted, parts-counted, parts-tabled, tables-split, parts-spaced, spaces-split, parts-more_row, parts-more_piece, parts-filtered, parts-created}
-use Rattle.wm_state.proofs.Dropping.{dropped}
+use Rattle.wm_state.proofs.ByKind.{kinds, stored, Split, split_of, set-split}
+use Rattle.wm_state.proofs.Planning.{AllUnder-put, recounted, parts-counted, parts-tabled, tables-split, parts-created}
 use Rattle.wm_state.proofs.Enabling.{readied, Stands-readied}
-use Rattle.wm_state.proofs.Inserting.{inserted, MayInsert}
-use Rattle.wm_state.proofs.Inserted.{MayWrite, Stands-inserted}
-use Rattle.wm_state.proofs.Standing.{appended}
 use Rattle.wm_state.proofs.Tables.{created, MayCreate, Stands-created}
 
 -- ---- counters
@@ -90,13 +81,7 @@ parts-readied ss counters_id id old new how t sorted counters one found =
               ∙ ap (λ (p : Parts). record p { tables = kinds as_table s.front ++ ready how t ∷ kinds as_table s.back }) parts;
         }
 
--- ---- a row is written
-
-pub record Inserted (ss : List Stored) (cs : List Change) (new : Counters) (a : Space) (keep : PieceRecord → Bool) (r : RowRecord) (x : PieceRecord) : Type 0 where
-  pub front : List Space
-  pub back : List Space
-  pub old : (parts_of ss).spaces ≡ front ++ a ∷ back
-  pub is : parts_of (applied cs ss) ≡ inserted (parts_of ss) new front a back keep r x
+-- ---- ids that are below, and records that are dropped
 
 pub AllUnder-filter : (n : ℕ) (keep : Stored → Bool) (ss : List Stored) → AllUnder n ss → AllUnder n (filter keep ss)
 AllUnder-filter n keep [] under = tt
@@ -136,72 +121,7 @@ dropped-still test ids ss id r q sorted found kept_r kept_q are other x there = 
         are other r (ap (record_at ss) same ∙ found) ∙ ap not (kept_r ∙ sym kept_q ∙ ap (keeps test) is)
     by_id (inr apart) e = are other x (sym (ap (λ b. if b then Some q else record_at ss other) (ne_eqb _ _ apart)) ∙ e)
 
-pub parts-inserted : (ss : List Stored) (counters_id space_id : ℕ) (old new : Counters) (a : Space) (test : PieceRecord → Bool) (ids : List ℕ) (id : ℕ) (r : RowRecord) (x : PieceRecord) → Ascend ss
-    → record_at ss counters_id ≡ Some (records.Counters old) → (parts_of ss).counters ≡ old ∷ [] → record_at ss space_id ≡ Some (records.Space a) → AreDropped (keeps test) ids ss → AllUnder id ss
-    → Inserted ss (insert_batch counters_id new space_id a ids id r x) new a test r x
-parts-inserted ss counters_id space_id old new a test ids id r x sorted counters one space are under =
-    by_split (split_of first space_id (records.Space a) space_still)
-  where
-    first : List Stored
-    first = set_at counters_id (Some (records.Counters new)) ss
-
-    second : List Stored
-    second = set_at space_id (Some (records.Space (longer a))) first
-
-    third : List Stored
-    third = filter (λ (s : Stored). keeps test s.record) second
-
-    sorted_first : Ascend first
-    sorted_first = Ascend-set counters_id (Some (records.Counters new)) ss sorted
-
-    sorted_second : Ascend second
-    sorted_second = Ascend-set space_id (Some (records.Space (longer a))) first sorted_first
-
-    space_still : record_at first space_id ≡ Some (records.Space a)
-    space_still = found_still ss counters_id space_id old new (records.Space a) sorted counters space (λ c e. cc)
-
-    dropped_first : AreDropped (keeps test) ids first
-    dropped_first = dropped-still test ids ss counters_id (records.Counters old) (records.Counters new) sorted counters refl refl are
-
-    dropped_second : applied (map drop_one ids) second ≡ third
-    dropped_second = dropped (keeps test) ids second sorted_second (dropped-still test ids first space_id (records.Space a) (records.Space (longer a)) sorted_first space_still refl refl dropped_first)
-
-    under_third : AllUnder id third
-    under_third = AllUnder-filter id (λ (s : Stored). keeps test s.record) second
-        (AllUnder-set id first space_id (records.Space a) (records.Space (longer a)) sorted_first space_still
-        (AllUnder-set id ss counters_id (records.Counters old) (records.Counters new) sorted counters under))
-
-    all : applied (insert_batch counters_id new space_id a ids id r x) ss ≡ (third ++ stored id (records.Row r) ∷ []) ++ stored (id + 1) (records.Piece x) ∷ []
-    all =
-        applied-append (map drop_one ids) (put id (records.Row r) ∷ put (id + 1) (records.Piece x) ∷ []) second
-        ∙ ap (λ xs. set_at (id + 1) (Some (records.Piece x)) (set_at id (Some (records.Row r)) xs)) dropped_second
-        ∙ ap (set_at (id + 1) (Some (records.Piece x))) (set-behind third id (records.Row r) under_third)
-        ∙ set-behind (third ++ stored id (records.Row r) ∷ []) (id + 1) (records.Piece x) (AllUnder-next id third (records.Row r) under_third)
-
-    parts_first : parts_of first ≡ recounted (parts_of ss) new
-    parts_first = counted ss counters_id old new sorted counters one
-
-    by_split : Split first space_id (records.Space a) → Inserted ss (insert_batch counters_id new space_id a ids id r x) new a test r x
-    by_split s =
-        let spaces : (parts_of first).spaces ≡ kinds as_space s.front ++ a ∷ kinds as_space s.back = ap (λ xs. (parts_of xs).spaces) s.is ∙ spaces-split s.front s.back space_id a in
-        let parts_second : parts_of second ≡ record (recounted (parts_of ss) new) { spaces = kinds as_space s.front ++ longer a ∷ kinds as_space s.back } =
-        ap parts_of (ap (set_at space_id (Some (records.Space (longer a)))) s.is ∙ set-split s.front s.back space_id (records.Space a) (records.Space (longer a)) (subst (λ xs. Ascend xs) s.is sorted_first))
-        ∙ parts-spaced s.front s.back space_id a (longer a)
-        ∙ ap (λ xs. record (parts_of xs) { spaces = kinds as_space s.front ++ longer a ∷ kinds as_space s.back }) (sym s.is)
-        ∙ ap (λ (p : Parts). record p { spaces = kinds as_space s.front ++ longer a ∷ kinds as_space s.back }) parts_first in
-        record {
-          front = kinds as_space s.front;
-          back = kinds as_space s.back;
-          old = sym (ap (λ (p : Parts). p.spaces) parts_first) ∙ spaces;
-          is =
-              ap parts_of all
-              ∙ parts-more_piece (third ++ stored id (records.Row r) ∷ []) (id + 1) x
-              ∙ ap (λ (p : Parts). record p { pieces = p.pieces ++ x ∷ [] }) (parts-more_row third id r)
-              ∙ ap (λ (p : Parts). record p { rows = p.rows ++ r ∷ []; pieces = p.pieces ++ x ∷ [] }) (parts-filtered second test)
-              ∙ ap (λ (p : Parts). record p { rows = p.rows ++ r ∷ []; pieces = filter test p.pieces ++ x ∷ [] }) parts_second;
-        }
-
--- ---- the laws of the three batches
+-- ---- the laws of the two batches
 
 -- a table was made
 pub plan_created : (ss : List Stored) (counters_id id : ℕ) (old new : Counters) (t : Table) (s u : State) → Stands (parts_of ss) s → Ascend ss → record_at ss counters_id ≡ Some (records.Counters old)
@@ -230,16 +150,3 @@ plan_readied ss counters_id id old new how t s u st sorted counters one found ke
   where
     only : (a b : Counters) → (a ∷ []) ≡ (b ∷ []) → a ≡ b
     only a b h = cc
-
--- a row was written
-pub plan_inserted : (ss : List Stored) (counters_id space_id : ℕ) (old new : Counters) (a : Space) (ids : List ℕ) (id : ℕ) (r : RowRecord) (x : PieceRecord) (n : ℕ) (e : Entry) (row : Row) (s u : State)
-    → Stands (parts_of ss) s → Ascend ss → record_at ss counters_id ≡ Some (records.Counters old) → (parts_of ss).counters ≡ old ∷ [] → record_at ss space_id ≡ Some (records.Space a)
-    → AreDropped (keeps (is_out x.version e.table e.key)) ids ss → AllUnder id ss
-    → ((front back : List Space) → (parts_of ss).spaces ≡ front ++ a ∷ back → MayInsert (parts_of ss) old new front a back (is_out x.version e.table e.key) r x)
-    → MayWrite (parts_of ss) n e row a r x → u.spaces ≡ appended n e s.spaces → u.tables ≡ s.tables
-    → ((front back : List Space) → CountersStand (inserted (parts_of ss) new front a back (is_out x.version e.table e.key) r x) u)
-    → Stands (parts_of (applied (insert_batch counters_id new space_id a ids id r x) ss)) u
-plan_inserted ss counters_id space_id old new a ids id r x n e row s u st sorted counters one space are under may w spaces tables stands =
-    let i = parts-inserted ss counters_id space_id old new a (is_out x.version e.table e.key) ids id r x sorted counters one space are under in
-    subst (λ p. Stands p u) (sym i.is)
-    (Stands-inserted (parts_of ss) old new i.front a i.back r x n e row s u st (may i.front i.back i.old) w spaces tables (stands i.front i.back))

@@ -128,7 +128,7 @@ pub record BirthParts (ss after : List Stored) (old new : Counters) (a : Space) 
   pub old_spaces : (parts_of ss).spaces ≡ front ++ a ∷ back
   pub is : parts_of after ≡ birthed (parts_of ss) old new front a back place implicit x r v
 
-pub parts-birth : (ss : List Stored) (counters_id space_id id : ℕ) (old new : Counters) (a : Space) (place implicit : ℕ) (x : Savepoint) (b r : Space) (v : Version) → MayBirth ss counters_id space_id id old new a place implicit x b r v
+parts-birth : (ss : List Stored) (counters_id space_id id : ℕ) (old new : Counters) (a : Space) (place implicit : ℕ) (x : Savepoint) (b r : Space) (v : Version) → MayBirth ss counters_id space_id id old new a place implicit x b r v
     → BirthParts ss (applied (birth_batch counters_id new space_id (marked place implicit a) id x r v) ss) old new a place implicit x r v
 parts-birth ss counters_id space_id id old new a place implicit x b r v may = record {
   front = parts.front;

@@ -71,7 +71,7 @@ put_twice ss counters_id id mid new v sorted =
     by_id false true o = refl
     by_id false false o = refl
 
-pub one_and_more : (ss : List Stored) (counters_id space_id id : ℕ) (mid new : Counters) (a : Space) (count : ℕ) (v : Version) (rows : List RowRecord) (pieces : List PieceRecord) → Ascend ss
+one_and_more : (ss : List Stored) (counters_id space_id id : ℕ) (mid new : Counters) (a : Space) (count : ℕ) (v : Version) (rows : List RowRecord) (pieces : List PieceRecord) → Ascend ss
     → applied (write_new_batch counters_id new space_id a count id v rows pieces) ss ≡ applied (write_batch counters_id new space_id a count [] (id + 1) rows pieces) (applied (fork_batch counters_id mid id v) ss)
 one_and_more ss counters_id space_id id mid new a count v rows pieces sorted = after (put_twice ss counters_id id mid new v sorted)
   where

@@ -34,7 +34,7 @@ pub record Spaced (ss : List Stored) (id : ℕ) (a : Space) : Type 0 where
   pub old : (parts_of ss).spaces ≡ front ++ a ∷ back
   pub is : (b : Space) → parts_of (set_at id (Some (records.Space b)) ss) ≡ record (parts_of ss) { spaces = front ++ b ∷ back }
 
-pub spaced : (ss : List Stored) (id : ℕ) (a : Space) → Ascend ss → record_at ss id ≡ Some (records.Space a) → Spaced ss id a
+spaced : (ss : List Stored) (id : ℕ) (a : Space) → Ascend ss → record_at ss id ≡ Some (records.Space a) → Spaced ss id a
 spaced ss id a sorted found = by_split (split_of ss id (records.Space a) found)
   where
     by_split : Split ss id (records.Space a) → Spaced ss id a
@@ -49,7 +49,7 @@ spaced ss id a sorted found = by_split (split_of ss id (records.Space a) found)
     }
 
 -- a new record comes behind those of its kind
-pub more_savepoint : (ss : List Stored) (id : ℕ) (x : Savepoint) → AllUnder id ss → parts_of (set_at id (Some (records.Savepoint x)) ss) ≡ record (parts_of ss) { savepoints = (parts_of ss).savepoints ++ x ∷ [] }
+more_savepoint : (ss : List Stored) (id : ℕ) (x : Savepoint) → AllUnder id ss → parts_of (set_at id (Some (records.Savepoint x)) ss) ≡ record (parts_of ss) { savepoints = (parts_of ss).savepoints ++ x ∷ [] }
 more_savepoint ss id x under = ap parts_of (set-behind ss id (records.Savepoint x) under) ∙ parts-more_savepoint ss id x
 
 pub more_space : (ss : List Stored) (id : ℕ) (a : Space) → AllUnder id ss → parts_of (set_at id (Some (records.Space a)) ss) ≡ record (parts_of ss) { spaces = (parts_of ss).spaces ++ a ∷ [] }

@@ -83,7 +83,7 @@ pub record Put (ss : List Stored) (cs : List Change) (new : Counters) (a : Space
   pub old : (parts_of ss).spaces ≡ front ++ a ∷ back
   pub is : parts_of (applied cs ss) ≡ all_written (parts_of ss) new front a back count keep rows pieces
 
-pub parts-written : (ss : List Stored) (counters_id space_id : ℕ) (old new : Counters) (a : Space) (count : ℕ) (test : PieceRecord → Bool) (ids : List ℕ) (id : ℕ) (rows : List RowRecord) (pieces : List PieceRecord)
+parts-written : (ss : List Stored) (counters_id space_id : ℕ) (old new : Counters) (a : Space) (count : ℕ) (test : PieceRecord → Bool) (ids : List ℕ) (id : ℕ) (rows : List RowRecord) (pieces : List PieceRecord)
     → Ascend ss
     → record_at ss counters_id ≡ Some (records.Counters old) → (parts_of ss).counters ≡ old ∷ [] → record_at ss space_id ≡ Some (records.Space a) → AreDropped (keeps test) ids ss → AllUnder id ss
     → Put ss (write_batch counters_id new space_id a count ids id rows pieces) new a count test rows pieces

@@ -24,10 +24,6 @@ use Rattle.wm_state.proofs.Tests.{all_middle}
 abbrev made : List Counters → List Table → List Space → List Version → List Savepoint → List RowRecord → List PieceRecord → List Hist → Parts
 made c t s v k r p h = record { counters = c; tables = t; spaces = s; versions = v; savepoints = k; rows = r; pieces = p; hists = h }
 
-parts_are : (ss : List Stored) → parts_of ss ≡ made (kinds as_counters ss) (kinds as_table ss) (kinds as_space ss) (kinds as_version ss) (kinds as_savepoint ss) (kinds as_row ss) (kinds as_piece ss) (kinds as_hist ss)
-unfolding parts_of
-parts_are ss = refl
-
 made_same : {c d : List Counters} {t u : List Table} {s x : List Space} {v w : List Version} {k l : List Savepoint} {r q : List RowRecord} {p o : List PieceRecord} {h i : List Hist}
     → c ≡ d → t ≡ u → s ≡ x → v ≡ w → k ≡ l → r ≡ q → p ≡ o → h ≡ i → made c t s v k r p h ≡ made d u x w l q o i
 made_same a b c d e f g h = rw (a, b, c, d, e, f, g, h) refl
@@ -102,7 +98,7 @@ pub spaces-split : (front back : List Stored) (id : ℕ) (a : Space) → (parts_
 unfolding parts_of
 spaces-split front back id a = kinds-one as_space front back id (records.Space a) a refl
 
-pub parts-more_table : (ss : List Stored) (id : ℕ) (t : Table) → parts_of (ss ++ stored id (records.Table t) ∷ []) ≡ record (parts_of ss) { tables = (parts_of ss).tables ++ t ∷ [] }
+parts-more_table : (ss : List Stored) (id : ℕ) (t : Table) → parts_of (ss ++ stored id (records.Table t) ∷ []) ≡ record (parts_of ss) { tables = (parts_of ss).tables ++ t ∷ [] }
 unfolding parts_of
 parts-more_table ss id t = made_same
     (kinds-no_more as_counters ss id (records.Table t) refl)
@@ -182,18 +178,6 @@ parts-more_savepoint ss id x = made_same
     (kinds-no_more as_row ss id (records.Savepoint x) refl)
     (kinds-no_more as_piece ss id (records.Savepoint x) refl)
     (kinds-no_more as_hist ss id (records.Savepoint x) refl)
-
-pub parts-more_hist : (ss : List Stored) (id : ℕ) (x : Hist) → parts_of (ss ++ stored id (records.Hist x) ∷ []) ≡ record (parts_of ss) { hists = (parts_of ss).hists ++ x ∷ [] }
-unfolding parts_of
-parts-more_hist ss id x = made_same
-    (kinds-no_more as_counters ss id (records.Hist x) refl)
-    (kinds-no_more as_table ss id (records.Hist x) refl)
-    (kinds-no_more as_space ss id (records.Hist x) refl)
-    (kinds-no_more as_version ss id (records.Hist x) refl)
-    (kinds-no_more as_savepoint ss id (records.Hist x) refl)
-    (kinds-no_more as_row ss id (records.Hist x) refl)
-    (kinds-no_more as_piece ss id (records.Hist x) refl)
-    (kinds-more as_hist ss id (records.Hist x) x refl)
 
 -- ---- pieces go
 

@@ -14,7 +14,7 @@ use Rattle.wm_state.proofs.Tests.{bool_apart, both, and_true, not_true, either_f
 -- ---- one in the place of another
 
 -- what is asked of the one that is found holds of the one in its place
-pub found_if : {A : Type 0} (P f g : A → Bool) (a b : A) → P b ≡ P a → ((x : A) → f x ≡ true → g x ≡ true) → (f a ≡ true → g b ≡ true) → (front back : List A)
+found_if : {A : Type 0} (P f g : A → Bool) (a b : A) → P b ≡ P a → ((x : A) → f x ≡ true → g x ≡ true) → (f a ≡ true → g b ≡ true) → (front back : List A)
     → option_map_or f (find P (front ++ a ∷ back)) false ≡ true → option_map_or g (find P (front ++ b ∷ back)) false ≡ true
 found_if {A = A} P f g a b same to new [] back = by_test (P a) same
   where
@@ -33,7 +33,7 @@ found_if P f g a b same to new (x ∷ front) back = by_test (P x) (found_if P f 
     by_test false rest e = rest e
 
 -- none before it is the same
-pub before-none : {A : Type 0} (same : A → A → Bool) (front back : List A) (a : A) → differ same (front ++ a ∷ back) ≡ true → list_any (λ y. same y a) front ≡ false
+before-none : {A : Type 0} (same : A → A → Bool) (front back : List A) (a : A) → differ same (front ++ a ∷ back) ≡ true → list_any (λ y. same y a) front ≡ false
 before-none same [] back a e = refl
 before-none same (y ∷ front) back a e =
     let h = both (not (list_any (same y) (front ++ a ∷ back))) (differ same (front ++ a ∷ back)) e in
@@ -43,11 +43,11 @@ before-none same (y ∷ front) back a e =
     middle-none P [] back a e = (either_false (P a) (list_any P back) e).0
     middle-none P (z ∷ front) back a e = middle-none P front back a (either_false (P z) (list_any P (front ++ a ∷ back)) e).1
 
-pub find-middle : {A : Type 0} (P : A → Bool) (front back : List A) (a : A) → list_any P front ≡ false → P a ≡ true → find P (front ++ a ∷ back) ≡ Some a
+find-middle : {A : Type 0} (P : A → Bool) (front back : List A) (a : A) → list_any P front ≡ false → P a ≡ true → find P (front ++ a ∷ back) ≡ Some a
 find-middle P [] back a none is = rw is refl
 find-middle P (y ∷ front) back a none is = let h = either_false (P y) (list_any P front) none in rw h.0 (find-middle P front back a h.1 is)
 
-pub find-past : {A : Type 0} (P : A → Bool) (front back : List A) (a b : A) → P a ≡ false → P b ≡ false → find P (front ++ b ∷ back) ≡ find P (front ++ a ∷ back)
+find-past : {A : Type 0} (P : A → Bool) (front back : List A) (a b : A) → P a ≡ false → P b ≡ false → find P (front ++ b ∷ back) ≡ find P (front ++ a ∷ back)
 find-past P [] back a b e f = rw (e, f) refl
 find-past P (y ∷ front) back a b e f = ap (λ o. cond (P y) (Some y) o) (find-past P front back a b e f)
 
@@ -136,7 +136,7 @@ versions_replaced p q front back a b next may old new same e =
 -- ---- what is found
 
 -- the numbers of workspaces differ
-pub numbers_of : (spaces : List Space) → are_spaces spaces ≡ true → differ (λ (s t : Space). s.number == t.number) spaces ≡ true
+numbers_of : (spaces : List Space) → are_spaces spaces ≡ true → differ (λ (s t : Space). s.number == t.number) spaces ≡ true
 numbers_of spaces e =
     let h = both (nat_le (length spaces) 1024 && is_some (space_of spaces 0)) _ e in
     (both (differ (λ (s t : Space). s.number == t.number) spaces) _ h.1).0

@@ -21,13 +21,13 @@ use Rattle.wm_state.proofs.Tests.{both, and_true, not_true, either_false, differ
 -- ---- what the rules say of savepoints
 
 -- no two savepoints are of one making
-pub makings_differ : (p : Parts) → keep_rules p ≡ true → differ same_making p.savepoints ≡ true
+makings_differ : (p : Parts) → keep_rules p ≡ true → differ same_making p.savepoints ≡ true
 makings_differ p rules = let r = ruled p rules in (ruled_savepoints p r.counters.work r.savepoints).makings
 
 -- ---- among all records and among those of the workspace
 
 -- the record of a making
-pub saved_sorted : (p : Parts) → keep_rules p ≡ true → (n making : ℕ) → saved_as p n making ≡ find (is_made making) (saved_in p n)
+saved_sorted : (p : Parts) → keep_rules p ≡ true → (n making : ℕ) → saved_as p n making ≡ find (is_made making) (saved_in p n)
 saved_sorted p rules n making =
     sym (find-filter (λ (x : Record). x.space == n) (is_made making) p.savepoints)
     ∙ sym (find-making making (filter (λ (x : Record). x.space == n) p.savepoints) (differ_filter same_making (λ (x : Record). x.space == n) p.savepoints (makings_differ p rules)))
@@ -76,26 +76,16 @@ named_sorted p rules n name =
 -- ---- among records and among savepoints
 
 -- the records of a workspace's savepoints have their fields
-pub saved_alike : (p : Parts) (s : State) (n : ℕ) (w : Workspace) → Stands p s → workspace_of s.spaces n ≡ Some w → map saved_fields (saved_in p n) ≡ map fields_saved w.savepoints
+saved_alike : (p : Parts) (s : State) (n : ℕ) (w : Workspace) → Stands p s → workspace_of s.spaces n ≡ Some w → map saved_fields (saved_in p n) ≡ map fields_saved w.savepoints
 saved_alike p s n w st found = st.savepoints.same n ∙ ap (map fields_saved) (of_found (workspace_of s.spaces n) found)
   where
     of_found : (o : Option Workspace) → o ≡ Some w → savepoints_of s.spaces n ≡ w.savepoints
     of_found o is = rw found refl
 
 -- the first that passes a test of its fields
-pub passed_alike : (p : Parts) (s : State) (n : ℕ) (w : Workspace) → Stands p s → workspace_of s.spaces n ≡ Some w → (P : SavepointFields → Bool)
+passed_alike : (p : Parts) (s : State) (n : ℕ) (w : Workspace) → Stands p s → workspace_of s.spaces n ≡ Some w → (P : SavepointFields → Bool)
     → option_map saved_fields (find (λ (x : Record). P (saved_fields x)) (saved_in p n)) ≡ option_map fields_saved (find (λ (k : Savepoint). P (fields_saved k)) w.savepoints)
 passed_alike p s n w st found P = find-alike saved_fields fields_saved P (saved_in p n) w.savepoints (saved_alike p s n w st found)
-
--- the one of a making
-pub made_alike : (p : Parts) (s : State) (n : ℕ) (w : Workspace) → Stands p s → workspace_of s.spaces n ≡ Some w → (making : ℕ)
-    → option_map saved_fields (saved_as p n making) ≡ option_map fields_saved (savepoint_made making w.savepoints)
-made_alike p s n w st found making = ap (option_map saved_fields) (saved_sorted p st.rules n making) ∙ passed_alike p s n w st found (λ f. f.making == making)
-
--- the one of a name
-pub named_alike : (p : Parts) (s : State) (n : ℕ) (w : Workspace) → Stands p s → workspace_of s.spaces n ≡ Some w → (name : List ℕ)
-    → option_map saved_fields (find (λ (x : Record). bytes_eq name x.name) (saved_in p n)) ≡ option_map fields_saved (find (λ (k : Savepoint). bytes_eq name k.name) w.savepoints)
-named_alike p s n w st found name = passed_alike p s n w st found (λ f. bytes_eq name f.name)
 
 -- as many as there are records
 pub saved_count : (p : Parts) (s : State) (n : ℕ) (w : Workspace) → Stands p s → workspace_of s.spaces n ≡ Some w → length w.savepoints ≡ count_by (λ (x : Record). x.space == n) p.savepoints
@@ -113,9 +103,6 @@ pub record IsSaved (p : Parts) (n : ℕ) (w : Workspace) (x : Record) (k : Savep
   pub fields : saved_fields x ≡ fields_saved k
   pub recorded : saved_as p n k.making ≡ Some x
   pub made : savepoint_made k.making w.savepoints ≡ Some k
-
-some_record : (a b : Record) → Some a ≡ Some b → a ≡ b
-some_record a b h = cc
 
 -- the makings of a workspace's savepoints differ
 made-apart : (p : Parts) (s : State) (n : ℕ) (w : Workspace) → Stands p s → workspace_of s.spaces n ≡ Some w → differ (λ (j k : Savepoint). j.making == k.making) w.savepoints ≡ true
@@ -136,7 +123,7 @@ both_saved p s n w st found P x k recorded made fields = record {
 }
 
 -- where a record passes a test of its fields, a savepoint does
-pub passed_some : (p : Parts) (s : State) (n : ℕ) (w : Workspace) → Stands p s → workspace_of s.spaces n ≡ Some w → (P : SavepointFields → Bool) (x : Record) → find (λ (y : Record). P (saved_fields y)) (saved_in p n) ≡ Some x
+passed_some : (p : Parts) (s : State) (n : ℕ) (w : Workspace) → Stands p s → workspace_of s.spaces n ≡ Some w → (P : SavepointFields → Bool) (x : Record) → find (λ (y : Record). P (saved_fields y)) (saved_in p n) ≡ Some x
     → (k : Savepoint) × (find (λ (j : Savepoint). P (fields_saved j)) w.savepoints ≡ Some k) × IsSaved p n w x k
 passed_some p s n w st found P x recorded = by_savepoint (find (λ (j : Savepoint). P (fields_saved j)) w.savepoints) refl (sym (ap (option_map saved_fields) recorded) ∙ passed_alike p s n w st found P)
   where
@@ -152,7 +139,7 @@ passed_some p s n w st found P x recorded = by_savepoint (find (λ (j : Savepoin
     by_savepoint (Some k) is same = (k, is, both_saved p s n w st found P x k recorded is (some_fields (saved_fields x) (fields_saved k) (same ∙ ap (option_map fields_saved) is)))
 
 -- and where none does, none does
-pub passed_none : (p : Parts) (s : State) (n : ℕ) (w : Workspace) → Stands p s → workspace_of s.spaces n ≡ Some w → (P : SavepointFields → Bool) → find (λ (y : Record). P (saved_fields y)) (saved_in p n) ≡ None
+passed_none : (p : Parts) (s : State) (n : ℕ) (w : Workspace) → Stands p s → workspace_of s.spaces n ≡ Some w → (P : SavepointFields → Bool) → find (λ (y : Record). P (saved_fields y)) (saved_in p n) ≡ None
     → find (λ (j : Savepoint). P (fields_saved j)) w.savepoints ≡ None
 passed_none p s n w st found P none = by_savepoint (find (λ (j : Savepoint). P (fields_saved j)) w.savepoints) (sym (ap (option_map saved_fields) none) ∙ passed_alike p s n w st found P)
   where
@@ -176,36 +163,3 @@ made_some p s n w st found making x recorded = passed_some p s n w st found (λ 
 
 pub made_none : (p : Parts) (s : State) (n : ℕ) (w : Workspace) → Stands p s → workspace_of s.spaces n ≡ Some w → (making : ℕ) → saved_as p n making ≡ None → savepoint_made making w.savepoints ≡ None
 made_none p s n w st found making none = passed_none p s n w st found (λ f. f.making == making) (sym (saved_sorted p st.rules n making) ∙ none)
-
--- and where a savepoint passes, a record does
-pub passed_record : (p : Parts) (s : State) (n : ℕ) (w : Workspace) → Stands p s → workspace_of s.spaces n ≡ Some w → (P : SavepointFields → Bool) (k : Savepoint) → find (λ (j : Savepoint). P (fields_saved j)) w.savepoints ≡ Some k
-    → (x : Record) × (find (λ (y : Record). P (saved_fields y)) (saved_in p n) ≡ Some x) × IsSaved p n w x k
-passed_record p s n w st found P k made = by_record (find (λ (y : Record). P (saved_fields y)) (saved_in p n)) refl (passed_alike p s n w st found P ∙ ap (option_map fields_saved) made)
-  where
-    some_fields : (f g : SavepointFields) → Some f ≡ Some g → f ≡ g
-    some_fields f g h = cc
-
-    none_some : (o : Option SavepointFields) (f : SavepointFields) → o ≡ None → o ≡ Some f → ⊥
-    none_some o f none some = cc
-
-    by_record : (o : Option Record) → find (λ (y : Record). P (saved_fields y)) (saved_in p n) ≡ o → option_map saved_fields (find (λ (y : Record). P (saved_fields y)) (saved_in p n)) ≡ Some (fields_saved k)
-        → (x : Record) × (find (λ (y : Record). P (saved_fields y)) (saved_in p n) ≡ Some x) × IsSaved p n w x k
-    by_record None is same = absurd (none_some (option_map saved_fields (find (λ (y : Record). P (saved_fields y)) (saved_in p n))) (fields_saved k) (ap (option_map saved_fields) is) same)
-    by_record (Some x) is same = (x, is, both_saved p s n w st found P x k is made (some_fields (saved_fields x) (fields_saved k) (sym (ap (option_map saved_fields) is) ∙ same)))
-
--- the record of a savepoint of a making
-pub made_record : (p : Parts) (s : State) (n : ℕ) (w : Workspace) → Stands p s → workspace_of s.spaces n ≡ Some w → (making : ℕ) (k : Savepoint) → savepoint_made making w.savepoints ≡ Some k
-    → (x : Record) × (saved_as p n making ≡ Some x) × IsSaved p n w x k
-made_record p s n w st found making k made =
-    let r = passed_record p s n w st found (λ f. f.making == making) k made in
-    (r.0, saved_sorted p st.rules n making ∙ r.1, r.2)
-
--- no record has a name that no savepoint has
-pub unnamed_record : (p : Parts) (s : State) (n : ℕ) (w : Workspace) → Stands p s → workspace_of s.spaces n ≡ Some w → (name : List ℕ) → find (λ (k : Savepoint). bytes_eq name k.name) w.savepoints ≡ None → named_as p n name ≡ None
-unnamed_record p s n w st found name none =
-    named_sorted p st.rules n name
-    ∙ by_record (find (λ (x : Record). bytes_eq name x.name) (saved_in p n)) (named_alike p s n w st found name ∙ ap (option_map fields_saved) none)
-  where
-    by_record : (o : Option Record) → option_map saved_fields o ≡ None → o ≡ None
-    by_record None same = refl
-    by_record (Some x) same = cc

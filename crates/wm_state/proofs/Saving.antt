@@ -44,7 +44,7 @@ some_workspace x y h = cc
 none_workspace : (o : Option Workspace) (x : Workspace) → o ≡ None → o ≡ Some x → ⊥
 none_workspace o x none some = cc
 
-pub was_changed : (n : ℕ) (act : Workspace → Workspace) → ((w : Workspace) → (act w).number ≡ w.number) → (ws : List Workspace) (m : ℕ) (new : Workspace)
+was_changed : (n : ℕ) (act : Workspace → Workspace) → ((w : Workspace) → (act w).number ≡ w.number) → (ws : List Workspace) (m : ℕ) (new : Workspace)
     → workspace_of (with_space n act ws) m ≡ Some new → WasChanged n act ws m new
 was_changed n act same ws m new is = by_number (cases_eq m n) (workspace_of ws m) refl
   where

@@ -29,24 +29,11 @@ place-before y (u ∷ us) t lt = by_test (nat_lt u.number y.number) (place-befor
     by_test false rest = refl
 
 -- a table of a greater number is the last
-pub by_number-push : (ts : List Table) (t : Table) → list_all (λ (u : Table). nat_lt u.number t.number) ts ≡ true → by_number (ts ++ t ∷ []) ≡ by_number ts ++ t ∷ []
+by_number-push : (ts : List Table) (t : Table) → list_all (λ (u : Table). nat_lt u.number t.number) ts ≡ true → by_number (ts ++ t ∷ []) ≡ by_number ts ++ t ∷ []
 by_number-push [] t above = refl
 by_number-push (y ∷ ts) t above =
     let h = both (nat_lt y.number t.number) (list_all (λ (u : Table). nat_lt u.number t.number) ts) above in
     ap (place_table y) (by_number-push ts t h.1) ∙ place-before y (by_number ts) t h.0
-
--- no table is first by number where there is none
-place-some : (t : Table) (ts : List Table) → place_table t ts ≡ [] → ⊥
-place-some t [] e = cc
-place-some t (u ∷ us) e = by_test (nat_lt u.number t.number) e
-  where
-    by_test : (b : Bool) → cond b (u ∷ place_table t us) (t ∷ u ∷ us) ≡ [] → ⊥
-    by_test true h = cc
-    by_test false h = cc
-
-pub by_number-none : (ts : List Table) → by_number ts ≡ [] → ts ≡ []
-by_number-none [] e = refl
-by_number-none (t ∷ ts) e = absurd (place-some t (by_number ts) e)
 
 -- what is asked of all tables, of any, and how many they are does not turn on their order
 all-place : (P : Table → Bool) (t : Table) (ts : List Table) → list_all P (place_table t ts) ≡ (P t && list_all P ts)

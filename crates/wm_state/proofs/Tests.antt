@@ -59,22 +59,13 @@ pub any_push : {A : Type 0} (P : A → Bool) (xs : List A) (x : A) → list_any 
 any_push P [] x e f = rw f refl
 any_push P (y ∷ ys) x e f = let h = either_false (P y) (list_any P ys) e in rw (h.0, any_push P ys x h.1 f) refl
 
-pub any_filter : {A : Type 0} (P k : A → Bool) (xs : List A) → list_any P xs ≡ false → list_any P (filter k xs) ≡ false
+any_filter : {A : Type 0} (P k : A → Bool) (xs : List A) → list_any P xs ≡ false → list_any P (filter k xs) ≡ false
 any_filter P k [] e = refl
 any_filter P k (x ∷ xs) e = by_test (k x) (either_false (P x) (list_any P xs) e) (any_filter P k xs (either_false (P x) (list_any P xs) e).1)
   where
     by_test : (b : Bool) → (P x ≡ false) × (list_any P xs ≡ false) → list_any P (filter k xs) ≡ false → list_any P (cond b (x ∷ filter k xs) (filter k xs)) ≡ false
     by_test true h rest = rw (h.0, rest) refl
     by_test false h rest = rest
-
--- nothing that is kept passes, where what passes is not kept
-pub any_kept : {A : Type 0} (P k : A → Bool) → ((x : A) → k x ≡ true → P x ≡ false) → (xs : List A) → list_any P (filter k xs) ≡ false
-any_kept P k apart [] = refl
-any_kept P k apart (x ∷ xs) = by_test (k x) refl (any_kept P k apart xs)
-  where
-    by_test : (b : Bool) → k x ≡ b → list_any P (filter k xs) ≡ false → list_any P (cond b (x ∷ filter k xs) (filter k xs)) ≡ false
-    by_test true e rest = rw (apart x e, rest) refl
-    by_test false e rest = rest
 
 pub any_swap : {A : Type 0} (P : A → Bool) (a b : A) → P b ≡ P a → (front back : List A) → list_any P (front ++ b ∷ back) ≡ list_any P (front ++ a ∷ back)
 any_swap P a b same [] back = ap (λ t. t || list_any P back) same
@@ -108,7 +99,7 @@ differ_swap same a b left right (x ∷ front) back = rw (any_swap (same x) a b (
 
 -- ---- what is found
 
-pub find_swap : {A B : Type 0} (P : A → Bool) (f : A → B) (d : B) (a b : A) → P b ≡ P a → f b ≡ f a → (front back : List A)
+find_swap : {A B : Type 0} (P : A → Bool) (f : A → B) (d : B) (a b : A) → P b ≡ P a → f b ≡ f a → (front back : List A)
     → option_map_or f (find P (front ++ b ∷ back)) d ≡ option_map_or f (find P (front ++ a ∷ back)) d
 find_swap P f d a b same like [] back = by_test (P a) same
   where

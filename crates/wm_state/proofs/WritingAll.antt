@@ -32,7 +32,7 @@ pub record Was (n : ℕ) (es : List Entry) (ws : List Workspace) (m : ℕ) (new 
   pub is : workspace_of ws m ≡ Some old
   pub how : ((m ≡ n) × (new ≡ with_entries es old)) ⊎ ((m ≢ n) × (new ≡ old))
 
-pub was : (n : ℕ) (es : List Entry) (ws : List Workspace) (m : ℕ) (new : Workspace) → workspace_of (appended_all n es ws) m ≡ Some new → Was n es ws m new
+was : (n : ℕ) (es : List Entry) (ws : List Workspace) (m : ℕ) (new : Workspace) → workspace_of (appended_all n es ws) m ≡ Some new → Was n es ws m new
 was n es ws m new is = by_number (cases_eq m n) (workspace_of ws m) refl
   where
     some_same : (x y : Workspace) → Some x ≡ Some y → x ≡ y

@@ -1,10 +1,7 @@
--- The ids of the batches that write entries; keys that ascend differ.
-use Rattle.std.proofs.Common.{◌≡◌, ◌≢◌, ℕ, suc, ◌+◌, ◌<◌, ◌==◌, nat_lt, true, false, not, List, [], ◌∷◌, ◌++◌, map, append_assoc, append-nil, refl, sym, ap, ◌∙◌, length, arith}
+-- The ids of the batches that write entries.
+use Rattle.std.proofs.Common.{◌≡◌, ◌≢◌, ℕ, suc, ◌+◌, ◌<◌, ◌==◌, nat_lt, true, false, List, [], ◌∷◌, ◌++◌, map, append_assoc, append-nil, refl, sym, ap, ◌∙◌, length, arith}
 use Rattle.std.proofs.lemmas.Bool.{ne_eqb}
 use Rattle.std.proofs.lemmas.List.{length-map}
-use Rattle.std.specs.List.{list_any}
-use Rattle.std.specs.Ordering.{is_eq}
-use Rattle.wm_base.specs.declared.value.Value.{Value}
 use Rattle.wm_spec.specs.Records.{ids_differ, AreChanges}
 use Rattle.wm_spec.specs.declared.record.Record.{Record}
 use Rattle.wm_spec.specs.declared.record.Record.TheVariants as records
@@ -15,11 +12,8 @@ use Rattle.wm_spec.specs.declared.record.row.RowRecord.{RowRecord}
 use Rattle.wm_spec.specs.declared.record.space.Space.{Space}
 use Rattle.wm_spec.specs.declared.record.version.Version.{Version}
 use Rattle.wm_state.specs.Batches.{put}
-use Rattle.wm_state.specs.Entries.{same_key, KeysDiffer}
-use Rattle.wm_state.specs.Listing.{ComesBefore, KeysAscend}
 use Rattle.wm_state.specs.Writes.{put_all, write_batch, write_new_batch}
 use Rattle.wm_state.proofs.Ids.{are_under, ids_differ-push, are_under-push, ids_of-dropped}
-use Rattle.wm_state.proofs.Tests.{and_true}
 
 -- ---- ids
 
@@ -78,14 +72,3 @@ changes-write_new counters_id new space_id a count id v rows pieces apart counte
 
     under_lt : (k : ℕ) → k < id → nat_lt k (id + 1) ≡ true
     under_lt k lt = grind (arith, lt)
-
--- ---- keys
-
--- keys that ascend differ
-pub keys_differ : (keys : List (List Value)) → KeysAscend keys → KeysDiffer keys
-keys_differ [] ascend = refl
-keys_differ (k ∷ ks) ascend = and_true (not (list_any (same_key k) ks)) _ (ap not (before ks ascend.0)) (keys_differ ks ascend.1)
-  where
-    before : (ls : List (List Value)) → ComesBefore k ls → list_any (same_key k) ls ≡ false
-    before [] less = refl
-    before (l ∷ ls) less = rw (ap is_eq less.0, before ls less.1) refl

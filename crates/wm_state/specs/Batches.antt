@@ -1,5 +1,5 @@
 -- The batches that lines make, as changes of records.
-use Rattle.std.specs.Prelude.{ℕ, ◌≡◌, ◌+◌, ◌<◌, ◌==◌, ◌&&◌, Bool, true, not, List, [], ◌∷◌, ◌++◌, map, Option, Some, None}
+use Rattle.std.specs.Prelude.{ℕ, ◌≡◌, ◌+◌, ◌<◌, ◌==◌, ◌&&◌, Bool, true, not, List, [], ◌∷◌, ◌++◌, Option, Some, None}
 use Rattle.std.specs.List.{list_any}
 use Rattle.std.specs.Ordering.{is_eq}
 use Rattle.wm_base.specs.Key.{key_order}
@@ -11,12 +11,10 @@ use Rattle.wm_spec.specs.declared.record.Record.TheVariants as records
 use Rattle.wm_spec.specs.declared.record.batch.Change.{Change}
 use Rattle.wm_spec.specs.declared.record.counters.Counters.{Counters}
 use Rattle.wm_spec.specs.declared.record.piece.PieceRecord.{PieceRecord}
-use Rattle.wm_spec.specs.declared.record.row.RowRecord.{RowRecord}
 use Rattle.wm_spec.specs.declared.record.savepoint.Savepoint.{Savepoint}
 use Rattle.wm_spec.specs.declared.record.space.Space.{Space}
 use Rattle.wm_spec.specs.declared.record.version.Version.{Version}
 use Rattle.wm_spec.specs.declared.record.table.Table.{Table}
-use Rattle.wm_state.specs.Effects.{longer}
 use Rattle.wm_state.specs.State.{Readiness}
 
 -- a record takes the place of the one of its id, or is new
@@ -38,20 +36,9 @@ ready how t = record t { versioned = true; valid = how.valid; history = how.hist
 abbrev pub enable_batch : ℕ → Counters → ℕ → Readiness → Table → List Change
 enable_batch counters_id counters id how t = put counters_id (records.Counters counters) ∷ put id (records.Table (ready how t)) ∷ []
 
--- a row is written, with its piece in the place of those of its version, table and key; the workspace's log is longer
-abbrev pub insert_batch : ℕ → Counters → ℕ → Space → List ℕ → ℕ → RowRecord → PieceRecord → List Change
-insert_batch counters_id counters space_id space dropped id row piece =
-    put counters_id (records.Counters counters) ∷ put space_id (records.Space (longer space))
-    ∷ map drop_one dropped ++ put id (records.Row row) ∷ put (id + 1) (records.Piece piece) ∷ []
-
 -- a workspace has a version more
 abbrev pub fork_batch : ℕ → Counters → ℕ → Version → List Change
 fork_batch counters_id counters id version = put counters_id (records.Counters counters) ∷ put id (records.Version version) ∷ []
-
--- a row is written in a version more, where no piece is yet
-abbrev pub insert_new_batch : ℕ → Counters → ℕ → Space → ℕ → Version → RowRecord → PieceRecord → List Change
-insert_new_batch counters_id counters space_id space id version row piece =
-    insert_batch counters_id counters space_id space [] (id + 1) row piece ++ put id (records.Version version) ∷ []
 
 -- a savepoint is made; the workspace's record has counted it
 abbrev pub savepoint_batch : ℕ → Counters → ℕ → Space → ℕ → Savepoint → List Change

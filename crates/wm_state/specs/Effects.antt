@@ -1,31 +1,19 @@
 -- What becomes of the records, told by what is looked up in them.
 use Rattle.std.specs.Prelude.{ℕ, ◌≡◌, ◌+◌, ◌<◌, Bool, true, false, ◌==◌, nat_lt, if◌then◌else◌, List, [], ◌∷◌, ◌++◌, length, Some, None, is_some}
 use Rattle.std.specs.List.{list_all, list_any}
-use Rattle.std.specs.Bool.{then_some}
-use Rattle.std.specs.Option.{option_or, option_map}
-use Rattle.wm_graph.specs.Parts.{Parts, row_of, space_of, version_of}
-use Rattle.wm_spec.specs.Lists.{Entry, Cell, told_of, covers}
-use Rattle.wm_spec.specs.declared.record.piece.PieceRecord.{PieceRecord}
-use Rattle.wm_spec.specs.declared.record.row.RowRecord.{RowRecord}
+use Rattle.std.specs.Option.{option_map}
+use Rattle.wm_graph.specs.Parts.{Parts, space_of, version_of}
+use Rattle.wm_spec.specs.Lists.{Cell}
 use Rattle.wm_spec.specs.declared.record.space.Space.{Space}
 use Rattle.wm_tree.specs.Versions.{AllBelow}
 use Rattle.wm_tree.specs.declared.version.Version.{Version as Node}
 use Rattle.wm_spec.specs.declared.record.savepoint.Savepoint.{Savepoint}
-use Rattle.wm_state.specs.Standing.{held_of, stored_at, newest_first, latest, saved_as}
+use Rattle.wm_state.specs.Standing.{stored_at, newest_first, latest, saved_as}
 
 -- no version stands under this one
 abbrev pub IsLeaf : ℕ → List Node → Type 0
 IsLeaf version [] = Unit {0}
 IsLeaf version (x ∷ older) = ((x.parent == version) ≡ false) × IsLeaf version older
-
--- a version has these pieces over what it had, and every other version what it had
-abbrev pub AreLaid : ℕ → Entry → List PieceRecord → List PieceRecord → Type 0
-AreLaid version e old new =
-    (v : ℕ) (c : Cell) → stored_at new v c ≡ (if v == version then option_or (then_some (covers e c) (held_of (told_of e))) (stored_at old v c) else stored_at old v c)
-
--- the workspace's record with a longer log, and every other one as it was
-abbrev pub longer : Space → Space
-longer s = record s { log_length = s.log_length + 1 }
 
 -- the version is one of these
 abbrev pub is_there : ℕ → List Node → Bool
@@ -43,22 +31,6 @@ pub record IsFree (p : Parts) (version : ℕ) : Type 0 where
   pub kept : (n making : ℕ) (x : Savepoint) → saved_as p n making ≡ Some x → (x.version == version) ≡ false
   pub births : (n : ℕ) (r : Space) → 0 < n → space_of p.spaces n ≡ Some r → (r.birth_version == version) ≡ false
   pub bases : (n : ℕ) (r : Space) → 0 < n → space_of p.spaces n ≡ Some r → (r.base_version == version) ≡ false
-
--- an entry was written into the newest version of a workspace, which nothing stands under and nothing names, and its row beside
--- the others
-pub record Wrote (p q : Parts) (n : ℕ) (e : Entry) : Type 0 where
-  pub leaf : IsLeaf (latest p n) (newest_first p.versions)
-  pub free : IsFree p (latest p n)
-  pub apart : IsApart p n
-  pub tables : q.tables ≡ p.tables
-  pub versions : q.versions ≡ p.versions
-  pub savepoints : q.savepoints ≡ p.savepoints
-  pub count : length q.spaces ≡ length p.spaces
-  pub here : space_of q.spaces n ≡ option_map longer (space_of p.spaces n)
-  pub elsewhere : (m : ℕ) → (m == n) ≡ false → space_of q.spaces m ≡ space_of p.spaces m
-  pub pieces : AreLaid (latest p n) e p.pieces q.pieces
-  pub rows_kept : (stamp : ℕ) (r : RowRecord) → row_of p.rows stamp ≡ Some r → row_of q.rows stamp ≡ Some r
-  pub row_new : (row : _) → e.row ≡ Some row → option_map (λ (r : RowRecord). r.values) (row_of q.rows e.stamp) ≡ Some row.values
 
 -- the version that comes next in a workspace
 abbrev pub node_under : Parts → ℕ → ℕ → Node

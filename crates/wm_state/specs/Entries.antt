@@ -7,7 +7,7 @@ use Rattle.wm_base.specs.Key.{key_order}
 use Rattle.wm_base.specs.declared.instant.TheConstants.{END}
 use Rattle.wm_base.specs.declared.row.Row.{Row}
 use Rattle.wm_base.specs.declared.value.Value.{Value}
-use Rattle.wm_graph.specs.Rules.{differ, is_row_of, is_key_of, is_key, key_of}
+use Rattle.wm_graph.specs.Rules.{is_row_of, is_key_of, is_key, key_of}
 use Rattle.wm_spec.specs.Lists.{Entry}
 use Rattle.wm_spec.specs.declared.record.piece.PieceRecord.{PieceRecord}
 use Rattle.wm_spec.specs.declared.record.row.RowRecord.{RowRecord}
@@ -33,10 +33,6 @@ entry_keys es = map (λ (e : Entry). e.key) es
 
 abbrev pub same_key : List Value → List Value → Bool
 same_key k l = is_eq (key_order k l)
-
--- no key is there twice
-abbrev pub KeysDiffer : List (List Value) → Type 0
-KeysDiffer keys = differ same_key keys ≡ true
 
 -- the row is one of the table's, and its key is this one
 abbrev pub is_keyed : Table → List Value → Row → Bool

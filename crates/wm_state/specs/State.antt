@@ -106,10 +106,6 @@ fresh_live = record {
 unfoldable pub fresh : ℕ → State
 fresh limit = record { tables = []; spaces = fresh_live ∷ []; sessions = []; next_stamp = 1; last_moment = 0; limit = limit; work = 0; moment = 0 }
 
--- what is left of a state without its sessions
-unfoldable pub durable : State → State
-durable s = record s { sessions = [] }
-
 -- where a run begins at a moment: without sessions, and not before the last moment of the store
 unfoldable pub begin : State → ℕ → State
 begin s now = record s { sessions = []; moment = max now s.last_moment }
@@ -145,14 +141,6 @@ savepoints_of spaces number = of (workspace_of spaces number)
     of : Option Workspace → List Savepoint
     of None = []
     of (Some w) = w.savepoints
-
--- the content of the workspace of this number
-abbrev pub content_of : List Workspace → ℕ → List Entry
-content_of spaces number = of (workspace_of spaces number)
-  where
-    of : Option Workspace → List Entry
-    of None = []
-    of (Some w) = content w
 
 -- how many entries the log of the workspace of this number has
 abbrev pub log_length : List Workspace → ℕ → ℕ
