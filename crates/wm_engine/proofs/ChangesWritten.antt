@@ -155,10 +155,10 @@ written_once rs a c new counters_id space_id id count test ids rows pieces at dr
 -- ---- what it does
 
 -- what is dropped and what is drawn for changes in a version
-pub record Redrawn (rs : List Stored) (version stamp : ℕ) (t : Table) (changes : List RowChange) (dropped : List ℕ) (drawn : List PieceRecord) : Type 0 where
-  pub dropped : AreDropped (keeps (is_out_all version t.number (change_keys changes))) dropped rs
-  pub once : ids_differ dropped ≡ true
-  pub there : list_all (λ k. is_some (record_at rs k)) dropped ≡ true
+pub record Redrawn (rs : List Stored) (version stamp : ℕ) (t : Table) (changes : List RowChange) (ids : List ℕ) (drawn : List PieceRecord) : Type 0 where
+  pub dropped : AreDropped (keeps (is_out_all version t.number (change_keys changes))) ids rs
+  pub once : ids_differ ids ≡ true
+  pub there : list_all (λ k. is_some (record_at rs k)) ids ≡ true
   pub draws : AreDrawn (new_pieces version stamp t changes) (go rs version t changes) drawn
 
 -- the keys of the new pieces are those of the changes
@@ -244,7 +244,13 @@ none_dropped rs version number keys (k ∷ ks) rules out are there =
     by_record : (o : Option Record) → record_at rs k ≡ o → is_some o ≡ true → ⊥
     by_record None found some = bool_apart (sym some)
     by_record (Some (records.Piece x)) found some = bool_apart (sym (piece_found (is_out_all version number keys) rs k x found out) ∙ dropped_first (records.Piece x) found)
-    by_record (Some _) found some = cc
+    by_record (Some (records.Counters x)) found some = bool_apart (dropped_first (records.Counters x) found)
+    by_record (Some (records.Table x)) found some = bool_apart (dropped_first (records.Table x) found)
+    by_record (Some (records.Space x)) found some = bool_apart (dropped_first (records.Space x) found)
+    by_record (Some (records.Version x)) found some = bool_apart (dropped_first (records.Version x) found)
+    by_record (Some (records.Savepoint x)) found some = bool_apart (dropped_first (records.Savepoint x) found)
+    by_record (Some (records.Row x)) found some = bool_apart (dropped_first (records.Row x) found)
+    by_record (Some (records.Hist x)) found some = bool_apart (dropped_first (records.Hist x) found)
 
 -- and what is drawn is drawn over nothing
 pub nothing_under : (rs : List Stored) (news : List PieceRecord) (test : PieceRecord → Bool) (drawn : List PieceRecord) → list_all test (parts_of rs).pieces ≡ true → AreDrawn news (filter (λ (y : PieceRecord). not (test y)) (parts_of rs).pieces) drawn → AreDrawn news [] drawn
@@ -281,7 +287,7 @@ fits_rows stamp id t (x ∷ xs) cs well fit filled rest =
     )
 
 -- and pieces whose keys are the table's, and have no empty text
-is_fitting : Table → PieceRecord → Bool
+abbrev is_fitting : Table → PieceRecord → Bool
 is_fitting t x = is_key_of x.cells.key t && list_all is_filled x.cells.key
 
 fits_drawn : (id : ℕ) (t : Table) (xs : List PieceRecord) → list_all (is_fitting t) xs ≡ true → FitPages (put_all id (map records.Piece xs))
@@ -289,6 +295,7 @@ fits_drawn id t [] all = tt
 fits_drawn id t (x ∷ xs) all =
     let h = both (is_fitting t x) (list_all (is_fitting t) xs) all in
     let g = both (is_key_of x.cells.key t) (list_all is_filled x.cells.key) h.0 in (piece_fits x t g.0 g.1, fits_drawn (id + 1) t xs h.1)
+
 -- the key of a change is such a key
 change_fitting : (t : Table) (x : RowChange) → is_change t x ≡ true → is_filled_change x ≡ true → (is_key_of x.key t && list_all is_filled x.key) ≡ true
 change_fitting t x fit filled =
@@ -297,7 +304,7 @@ change_fitting t x fit filled =
 
 -- so is that of a piece that goes
 goes_fitting : (version : ℕ) (t : Table) (xs : List RowChange) (y : PieceRecord) → list_all (is_change t) xs ≡ true → list_all is_filled_change xs ≡ true → is_out_all version t.number (change_keys xs) y ≡ false → is_fitting t y ≡ true
-goes_fitting version t [] y fit filled goes = absurd (bool_apart (sym goes))
+goes_fitting version t [] y fit filled goes = absurd (bool_apart goes)
 goes_fitting version t (x ∷ xs) y fit filled goes =
     let f = both (is_change t x) (list_all (is_change t) xs) fit in
     let g = both (is_filled_change x) (list_all is_filled_change xs) filled in
@@ -305,7 +312,7 @@ goes_fitting version t (x ∷ xs) y fit filled goes =
   where
     not_false : (b : Bool) → not b ≡ false → b ≡ true
     not_false true e = refl
-    not_false false e = absurd (bool_apart (sym e))
+    not_false false e = absurd (bool_apart e)
 
     behind : (b c : Bool) → b ≡ true → (b && c) ≡ false → c ≡ false
     behind true c is e = e

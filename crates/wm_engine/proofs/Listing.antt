@@ -1,21 +1,23 @@
 -- What is listed of the sources of a query has their columns, and its rows fit them.
-use Rattle.std.proofs.Common.{◌≡◌, ℕ, ◌≤◌, true, List, [], ◌∷◌, ◌++◌, length, drop, Option, Some, None, refl, sym, ap, ◌∙◌, subst, append-nil}
-use Rattle.std.proofs.lemmas.List.{drop_all}
+use Rattle.std.proofs.Common.{◌≡◌, ℕ, ◌+◌, ◌<◌, ◌≤◌, if◌then◌else◌, is_some, get_or, Bool, true, false, List, [], ◌∷◌, ◌++◌, length, drop, Option, Some, None, refl, sym, ap, ◌∙◌, subst, append-nil}
+use Rattle.std.proofs.lemmas.List.{append_assoc, drop_all, drop_more}
 use Rattle.std.specs.Option.{option_map_or}
 use Rattle.wm_base.specs.Period.{Span}
 use Rattle.wm_base.specs.declared.columns.Column.{Column}
 use Rattle.wm_base.specs.declared.listing.Listing.{Listing as Source}
 use Rattle.wm_base.specs.declared.tree.query.Src.{Src as SrcNode}
 use Rattle.wm_base.specs.Trees.{Cond, Src}
-use Rattle.wm_base.specs.Views.{srcs_view}
+use Rattle.wm_base.specs.Views.{src_view, srcs_view}
 use Rattle.wm_graph.specs.Parts.{Parts}
+use Rattle.wm_state.specs.Listing.{IsShowing}
+use Rattle.wm_state.specs.State.{table_named}
 use Rattle.wm_select.specs.Query.{columns_of, where_of}
 use Rattle.wm_spec.specs.Conditions.{typed}
 use Rattle.wm_spec.specs.declared.record.table.Table.{Table}
 use Rattle.wm_typing.specs.Columns.{columns_of_table}
 use Rattle.wm_typing.specs.Types.{is_filter_typed}
 use Rattle.wm_model.specs.Sources.{AreListed}
-use Rattle.wm_model.specs.Step.{columns_in, source_name}
+use Rattle.wm_model.specs.Step.{columns_in, lost_source, source_name}
 
 -- the condition of a query that is typed, which is 1 = 1 where it has none
 pub where_typed : (filter : Option Cond) (columns : List Column) → is_filter_typed columns filter ≡ true → typed (where_of filter) columns ≡ true
@@ -36,3 +38,44 @@ columns_listed p version period tables (x ∷ xs) [] are = absurd are
 columns_listed p version period tables (x ∷ xs) (l ∷ ls) are =
     ap (λ (o : Option Table). option_map_or (columns_of_table (source_name x)) o [] ++ columns_in tables xs) are.0.named
     ∙ ap (λ (cs : List Column). cs ++ columns_in tables xs) (sym are.0.columns) ∙ ap (λ (cs : List Column). l.columns ++ cs) (columns_listed p version period tables xs ls are.1)
+
+-- ---- one source after another
+
+-- a list from a place on has the item at the place before the others
+from_place : {A : Type 0} (xs : List A) (i : ℕ) (x : A) → i < length xs → x ≡ get_or xs i x → drop i xs ≡ x ∷ drop (i + 1) xs
+from_place xs i x within at = drop_more xs i x within ∙ ap (λ y. y ∷ drop (i + 1) xs) (sym at)
+
+-- where no source is lost, the first is a table, and none of the others is lost
+none_lost : (tables : List Table) (x : SrcNode) (xs : List SrcNode) → lost_source tables (srcs_view (x ∷ xs)) ≡ None → (is_some (table_named x.table tables) ≡ true) × (lost_source tables (srcs_view xs) ≡ None)
+none_lost tables x xs none = of (is_some (table_named x.table tables)) none
+  where
+    of : (b : Bool) → (if b then lost_source tables (srcs_view xs) else Some x.table) ≡ None → (b ≡ true) × (lost_source tables (srcs_view xs) ≡ None)
+    of false lost = absurd (cc)
+    of true rest = (refl, rest)
+
+-- none of the sources from a place on is lost, and what is listed of them goes behind what is listed of those before
+abbrev pub Goes : Parts → ℕ → (Table → Span) → List Table → List SrcNode → ℕ → List Source → Type 0
+Goes p version period tables sources i items =
+    (lost_source tables (srcs_view (drop i sources)) ≡ None)
+    × ((more : List Source) → AreListed p version period tables (srcs_view (drop i sources)) more → AreListed p version period tables (srcs_view sources) (items ++ more))
+
+-- the next one is listed
+pub lists_more : (p : Parts) (version : ℕ) (period : Table → Span) (tables : List Table) (sources : List SrcNode) (i : ℕ) (x : SrcNode) (t : Table) (l : Source) (items new : List Source)
+    → i < length sources → x ≡ get_or sources i x → Goes p version period tables sources i items → Some t ≡ table_named x.table tables
+    → l.columns ≡ columns_of_table (source_name (src_view x)) t → IsShowing p version t.number t.valid (period t) l.rows → new ≡ items ++ l ∷ [] → Goes p version period tables sources (i + 1) new
+lists_more p version period tables sources i x t l items new within at before named columns rows pushed = (
+  (none_lost tables x (drop (i + 1) sources) (sym (ap (λ ss. lost_source tables (srcs_view ss)) (from_place sources i x within at)) ∙ before.0)).1,
+  λ more are. subst (AreListed p version period tables (srcs_view sources)) (sym (append_assoc items (l ∷ []) more) ∙ ap (λ ls. ls ++ more) (sym pushed))
+  (before.1 (l ∷ more) (subst (λ ss. AreListed p version period tables (srcs_view ss) (l ∷ more)) (sym (from_place sources i x within at))
+  (record { table = t; named = sym named; columns = columns; rows = rows }, are))),
+)
+
+-- there is a next one
+pub lists_none : (p : Parts) (version : ℕ) (period : Table → Span) (tables : List Table) (sources : List SrcNode) (i : ℕ) (x : SrcNode) (items : List Source)
+    → i < length sources → x ≡ get_or sources i x → Goes p version period tables sources i items → None ≡ table_named x.table tables → ⊥
+lists_none p version period tables sources i x items within at before none =
+    is_none (table_named x.table tables) none (none_lost tables x (drop (i + 1) sources) (sym (ap (λ ss. lost_source tables (srcs_view ss)) (from_place sources i x within at)) ∙ before.0)).0
+  where
+    is_none : (o : Option Table) → None ≡ o → is_some o ≡ true → ⊥
+    is_none None e some = absurd (let f : false ≡ true = some in cc)
+    is_none (Some t) e some = cc

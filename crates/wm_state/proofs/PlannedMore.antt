@@ -84,7 +84,7 @@ one_and_more ss counters_id space_id id mid new a count v rows pieces sorted = a
 -- ---- nothing goes
 
 -- no piece is of the version that comes next
-all_stay : (p : Parts) (old : Counters) (table : ℕ) (keys : List (List Value)) → keep_rules p ≡ true → p.counters ≡ old ∷ [] → list_all (is_out_all old.next_version table keys) p.pieces ≡ true
+pub all_stay : (p : Parts) (old : Counters) (table : ℕ) (keys : List (List Value)) → keep_rules p ≡ true → p.counters ≡ old ∷ [] → list_all (is_out_all old.next_version table keys) p.pieces ≡ true
 all_stay p old table keys rules one =
     let r = ruled p rules in
     let h = both (differ collide p.pieces) (list_all (is_piece (table_of p.tables) (version_of p.versions) (row_of p.rows) r.counters.next_stamp) p.pieces) r.pieces in

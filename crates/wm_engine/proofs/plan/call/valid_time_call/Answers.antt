@@ -1,4 +1,4 @@
-use Rattle.std.proofs.Common.{Some, sym, ap, ◌∙◌}
+use Rattle.std.proofs.Common.{Some, unwrap_or, sym, ap, ◌∙◌}
 use Rattle.wm_grammar.specs.declared.procedure.Procedure.TheVariants as procedures
 use Rattle.wm_model.specs.Step.{call, mistyped, set_valid_time}
 use Rattle.wm_engine.proofs.Calling.{refused, for_all, valid_time_mistyped, valid_time_done}

@@ -65,16 +65,16 @@ delete_rows-requires-clause-there c = (named_is c.args.image.now c.args.name.now
 pub delete_rows-requires-clause-keyed : goal.delete_rows-requires-clause-keyed
 delete_rows-requires-clause-keyed c =
     ap (are_keyed c.in-Some.table.now) c.as_slice.ensures.value
-    ∙ chosen_keyed c.args.image.now c.latest-version.result c.in-Some.table.now c.within.result (filter_view c.args.filter.now) c.in_ok-rows.rows.items c.requires.rules (named_is c.args.image.now c.args.name.now c.in-Some.table.now c.requires.rules (ap (named c.args.image.now) (sym c.as_bytes.ensures) ∙ sym c.in-Some.ensures)).there c.in_ok-rows.ensures
+    ∙ chosen_keyed c.args.image.now c.latest-version.result c.in-Some.table.now c.within-within.result (filter_view c.args.filter.now) c.in_ok-rows.rows.items c.requires.rules (named_is c.args.image.now c.args.name.now c.in-Some.table.now c.requires.rules (ap (named c.args.image.now) (sym c.as_bytes.ensures) ∙ sym c.in-Some.ensures)).there c.in_ok-rows.ensures
 
 pub delete_rows-requires-clause-overlap : goal.delete_rows-requires-clause-overlap
 delete_rows-requires-clause-overlap c =
-    ap (all_overlap c.in-Some.table.now c.within.result) c.as_slice.ensures.value
-    ∙ chosen_overlap c.args.image.now c.latest-version.result c.in-Some.table.now c.within.result (filter_view c.args.filter.now) c.in_ok-rows.rows.items (λ plain. c.within.ensures ∙ plain_within c.args.moment c.args.session.now c.in-Some.table.now plain) c.in_ok-rows.ensures
+    ap (all_overlap c.in-Some.table.now c.within-within.result) c.as_slice.ensures.value
+    ∙ chosen_overlap c.args.image.now c.latest-version.result c.in-Some.table.now c.within-within.result (filter_view c.args.filter.now) c.in_ok-rows.rows.items (λ plain. c.within-within.ensures ∙ plain_within c.args.moment c.args.session.now c.in-Some.table.now plain) c.in_ok-rows.ensures
 
 pub returns-clause-does : goal.returns-clause-does
 returns-clause-does c =
     does_change c.args.image.now c.args.moment c.delete_rows.result c.args.session.now c.args.name.now (delete_faults (filter_view c.args.filter.now)) c.args.empty (delete_acts c.args.session.now (filter_view c.args.filter.now)) c.in-Some.table.now c.in-Some-space.space.now
     (record { good = (record { ready = (record { rules = c.requires.rules; some = ap (named c.args.image.now) (sym c.as_bytes.ensures) ∙ sym c.in-Some.ensures; on = c.if-not-table.false }); good = sym c.in_ok-refusal.ensures.exact ∙ c.in_default-2.is }); found = (ap (space_of (parts_of c.args.image.now).spaces) (sym c.space.ensures) ∙ sym c.in-Some-space.ensures); at = sym c.in_default-stand.ensures }) c.if-empty.false
-    (does_rows c.args.image.now c.args.moment c.delete_rows.result c.args.session.now c.in-Some-space.space.now (filter_view c.args.filter.now) (deletes c.args.session.now) c.in-Some.table.now c.within.result c.latest-version.result c.as_slice.result.now c.in_ok-rows.rows.items
-    c.within.ensures (c.latest-version.ensures ∙ ap (latest (parts_of c.args.image.now)) c.space-3.ensures) c.in_ok-rows.ensures c.as_slice.ensures.value c.delete_rows.ensures.does)
+    (does_rows c.args.image.now c.args.moment c.delete_rows.result c.args.session.now c.in-Some-space.space.now (filter_view c.args.filter.now) (deletes c.args.session.now) c.in-Some.table.now c.within-within.result c.latest-version.result c.as_slice.result.now c.in_ok-rows.rows.items
+    c.within-within.ensures (c.latest-version.ensures ∙ ap (latest (parts_of c.args.image.now)) c.space-3.ensures) c.in_ok-rows.ensures c.as_slice.ensures.value c.delete_rows.ensures.does)

@@ -29,12 +29,12 @@ redraw-requires-clause-news c =
 pub written_changes-requires : goal.written_changes-requires
 written_changes-requires c =
     let h = c.if-not-are_ids_left.ensures in
-    let l : c.args.id + 1 + length c.as_slice.result.now + length c.as_slice-2.result.now < 2 ^ 64 = h c.if-not-are_ids_left.false in
+    let l : c.args.id + 1 + length c.as_slice.result.now + length c.as_slice-2.result.now < 2 ^ 64 = h refl in
     let r : length c.as_slice.result.now ≡ length c.in_ok-made.made.rows.items = ap length c.as_slice.ensures.value in
     let p : length c.as_slice-2.result.now ≡ length c.in_ok-pieces.pieces.items = ap length c.as_slice-2.ensures.value in
     omega (arith, l, r, p)
 
-made : (c : goal.After-drop-dropped)
+made : (c : goal.After-drop-drawn-2)
     → MadeAll c.args.moment c.args.writing.now.table.now c.args.writing.now.space.now c.args.writing.now.counters c.args.changes.items c.in_ok-drawn.drawn.drawn.items c.len-count.result c.args.counters c.in_ok-space.space c.in_ok-made.made.rows.items c.in_ok-pieces.pieces.items
 made c = record {
   count_is = counted_as c.args.changes c.len-count.result c.len-count.ensures;
@@ -44,16 +44,16 @@ made c = record {
   pieces_are = c.in_ok-pieces.ensures;
 }
 
-redrawn : (c : goal.After-drop-dropped) → Redrawn c.args.image.now c.args.writing.now.counters.next_version c.args.writing.now.counters.next_stamp c.args.writing.now.table.now c.args.changes.items c.in_ok-drawn.drawn.dropped.items c.in_ok-drawn.drawn.drawn.items
+redrawn : (c : goal.After-drop-drawn-2) → Redrawn c.args.image.now c.args.writing.now.counters.next_version c.args.writing.now.counters.next_stamp c.args.writing.now.table.now c.args.changes.items c.in_ok-drawn.drawn.dropped.items c.in_ok-drawn.drawn.drawn.items
 redrawn c = redrawn_is c.args.image.now c.args.writing.now.counters.next_version c.args.writing.now.counters.next_stamp c.args.writing.now.table.now.number c.args.writing.now.table.now c.args.changes.items c.in_ok-made.made.pieces.items c.in_ok-drawn.drawn.dropped.items c.in_ok-drawn.drawn.drawn.items c.in_ok-made.ensures.pieces refl c.in_ok-drawn.ensures
 
-stay : (c : goal.After-drop-dropped) → list_all (is_out_all c.args.writing.now.counters.next_version c.args.writing.now.table.now.number (change_keys c.args.changes.items)) (parts_of c.args.image.now).pieces ≡ true
+stay : (c : goal.After-drop-drawn-2) → list_all (is_out_all c.args.writing.now.counters.next_version c.args.writing.now.table.now.number (change_keys c.args.changes.items)) (parts_of c.args.image.now).pieces ≡ true
 stay c = all_stay (parts_of c.args.image.now) c.args.writing.now.counters c.args.writing.now.table.now.number (change_keys c.args.changes.items) c.requires.served.rules c.requires.served.one
 
-draws : (c : goal.After-drop-dropped) → AreDrawn (new_pieces c.args.writing.now.counters.next_version c.args.writing.now.counters.next_stamp c.args.writing.now.table.now c.args.changes.items) [] c.in_ok-drawn.drawn.drawn.items
+draws : (c : goal.After-drop-drawn-2) → AreDrawn (new_pieces c.args.writing.now.counters.next_version c.args.writing.now.counters.next_stamp c.args.writing.now.table.now c.args.changes.items) [] c.in_ok-drawn.drawn.drawn.items
 draws c = nothing_under c.args.image.now (new_pieces c.args.writing.now.counters.next_version c.args.writing.now.counters.next_stamp c.args.writing.now.table.now c.args.changes.items) (is_out_all c.args.writing.now.counters.next_version c.args.writing.now.table.now.number (change_keys c.args.changes.items)) c.in_ok-drawn.drawn.drawn.items (stay c) (redrawn c).draws
 
-changes : (c : goal.After-drop-dropped)
+changes : (c : goal.After-drop-drawn-2)
     → c.changing.result.changes ≡ changes_new_batch c.args.image.now c.id_of_counters.result c.args.moment c.args.writing.now.counters c.unwrap-space_id.result c.args.writing.now.space.now c.args.id c.args.session.now.space c.args.writing.now.table.now c.args.changes.items c.in_ok-drawn.drawn.drawn.items
 changes c =
     c.changing.ensures.changes ∙ c.in_ok-batch.ensures

@@ -20,12 +20,12 @@ redraw-requires-clause-news c =
 pub written_changes-requires : goal.written_changes-requires
 written_changes-requires c =
     let h = c.if-not-are_ids_left.ensures in
-    let l : c.args.id + 1 + length c.as_slice.result.now + length c.as_slice-2.result.now < 2 ^ 64 = h c.if-not-are_ids_left.false in
+    let l : c.args.id + 1 + length c.as_slice.result.now + length c.as_slice-2.result.now < 2 ^ 64 = h refl in
     let r : length c.as_slice.result.now ≡ length c.in_ok-made.made.rows.items = ap length c.as_slice.ensures.value in
     let p : length c.as_slice-2.result.now ≡ length c.in_ok-pieces.pieces.items = ap length c.as_slice-2.ensures.value in
     omega (arith, l, r, p)
 
-made : (c : goal.After-drop-dropped)
+made : (c : goal.After-drop-drawn-2)
     → MadeAll c.args.moment c.args.writing.now.table.now c.args.writing.now.space.now c.args.writing.now.counters c.args.changes.items c.in_ok-drawn.drawn.drawn.items c.len-count.result c.args.counters c.in_ok-space.space c.in_ok-made.made.rows.items c.in_ok-pieces.pieces.items
 made c = record {
   count_is = counted_as c.args.changes c.len-count.result c.len-count.ensures;
@@ -35,15 +35,15 @@ made c = record {
   pieces_are = c.in_ok-pieces.ensures;
 }
 
-newest : (c : goal.After-drop-dropped) → c.latest-version.result ≡ latest (parts_of c.args.image.now) c.args.session.now.space
+newest : (c : goal.After-drop-drawn-2) → c.latest-version.result ≡ latest (parts_of c.args.image.now) c.args.session.now.space
 newest c = c.latest-version.ensures ∙ ap (latest (parts_of c.args.image.now)) c.space.ensures
 
-redrawn : (c : goal.After-drop-dropped) → Redrawn c.args.image.now (latest (parts_of c.args.image.now) c.args.session.now.space) c.args.writing.now.counters.next_stamp c.args.writing.now.table.now c.args.changes.items c.in_ok-drawn.drawn.dropped.items c.in_ok-drawn.drawn.drawn.items
+redrawn : (c : goal.After-drop-drawn-2) → Redrawn c.args.image.now (latest (parts_of c.args.image.now) c.args.session.now.space) c.args.writing.now.counters.next_stamp c.args.writing.now.table.now c.args.changes.items c.in_ok-drawn.drawn.dropped.items c.in_ok-drawn.drawn.drawn.items
 redrawn c =
     subst (λ v. Redrawn c.args.image.now v c.args.writing.now.counters.next_stamp c.args.writing.now.table.now c.args.changes.items c.in_ok-drawn.drawn.dropped.items c.in_ok-drawn.drawn.drawn.items) (newest c)
     (redrawn_is c.args.image.now c.latest-version.result c.args.writing.now.counters.next_stamp c.args.writing.now.table.now.number c.args.writing.now.table.now c.args.changes.items c.in_ok-made.made.pieces.items c.in_ok-drawn.drawn.dropped.items c.in_ok-drawn.drawn.drawn.items c.in_ok-made.ensures.pieces refl c.in_ok-drawn.ensures)
 
-changes : (c : goal.After-drop-dropped)
+changes : (c : goal.After-drop-drawn-2)
     → c.changing.result.changes ≡ changes_batch c.args.image.now c.id_of_counters.result c.args.moment c.args.writing.now.counters c.unwrap-space_id.result c.args.writing.now.space.now c.in_ok-drawn.drawn.dropped.items c.args.id c.args.writing.now.table.now c.args.changes.items c.in_ok-drawn.drawn.drawn.items
 changes c =
     c.changing.ensures.changes ∙ c.in_ok-batch.ensures
