@@ -70,7 +70,8 @@ delete_rows-requires-clause-keyed c =
 pub delete_rows-requires-clause-overlap : goal.delete_rows-requires-clause-overlap
 delete_rows-requires-clause-overlap c =
     ap (all_overlap c.in-Some.table.now c.within-within.result) c.as_slice.ensures.value
-    ∙ chosen_overlap c.args.image.now c.latest-version.result c.in-Some.table.now c.within-within.result (filter_view c.args.filter.now) c.in_ok-rows.rows.items (λ plain. c.within-within.ensures ∙ plain_within c.args.moment c.args.session.now c.in-Some.table.now plain) c.in_ok-rows.ensures
+    ∙ chosen_overlap c.args.image.now c.latest-version.result c.in-Some.table.now c.within-within.result (filter_view c.args.filter.now) c.in_ok-rows.rows.items c.requires.rules (named_is c.args.image.now c.args.name.now c.in-Some.table.now c.requires.rules (ap (named c.args.image.now) (sym c.as_bytes.ensures) ∙ sym c.in-Some.ensures)).there
+    (λ plain. c.within-within.ensures ∙ plain_within c.args.moment c.args.session.now c.in-Some.table.now plain) c.in_ok-rows.ensures
 
 pub returns-clause-does : goal.returns-clause-does
 returns-clause-does c =
