@@ -1,5 +1,5 @@
 -- The rows that UPDATE and DELETE write are in order.
-use Rattle.std.proofs.Common.{◌≡◌, ℕ, suc, true, false, List, [], ◌∷◌, length, map, refl, sym, ap, ◌∙◌, arith}
+use Rattle.std.proofs.Common.{◌≡◌, suc, true, false, List, [], ◌∷◌, length, map, refl, sym, ap, ◌∙◌, arith}
 use Rattle.std.specs.Prelude.{Option, Some, None, ◌&&◌, option_map}
 use Rattle.std.specs.List.{list_all}
 use Rattle.std.specs.Option.{option_or}
@@ -15,7 +15,7 @@ use Rattle.wm_making.specs.Rows.{first_column, lacks_value, heavy_part, is_fille
 use Rattle.wm_spec.specs.Expressions.{has_no_empty_period}
 use Rattle.wm_spec.specs.declared.record.table.Table.{Table}
 use Rattle.wm_typing.specs.Changing.{key_set, update_fault}
-use Rattle.wm_dml.specs.Changing.{own_columns, declared_values, row_period, row_key, gone, sets_period, updated_row, row_before, updated_rows, first_some, rows_fault, replaced, replacing}
+use Rattle.wm_dml.specs.Changing.{own_columns, declared_values, row_period, row_key, gone, sets_period, updated_row, row_before, updated_rows, first_some, rows_fault, replacing}
 use Rattle.wm_dml.specs.Standing.{stands_in, is_shown, all_stand, keys_of, periods_of, is_change, writes_filled, change_keys, change_periods, MayReplace}
 use Rattle.wm_dml.proofs.Lasting.{sets_last}
 use Rattle.wm_dml.proofs.Refused.{EachFits, update_parts}

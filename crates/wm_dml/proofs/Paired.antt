@@ -36,7 +36,7 @@ pub replacing_more : {t : Table} {within : Span} {olds : List Row} {rows : List 
     Replacing t within olds rows next others more fewer
 replacing_more {t} {within} {olds} {rows} {changes} {olds_left} {rows_left} {left} {old} {others} {row} {more} {fewer} {change} {next} f is new less one all = record {
   same = f.same ∙ ap (λ os. changes ++ replacing t within os rows_left) is ∙ ap (λ rs. changes ++ replacing t within (old ∷ others) rs) new ∙ sym (append_assoc changes (replaced t within old row ∷ []) (replacing t within others more))
-  ∙ sym (ap (λ cs. cs ++ replacing t within others more) (all ∙ ap (λ (x : RowChange). changes ++ x ∷ []) one));
+      ∙ sym (ap (λ cs. cs ++ replacing t within others more) (all ∙ ap (λ (x : RowChange). changes ++ x ∷ []) one));
   overlap = (both_true (overlaps (row_period t old) within) (all_overlap t within others) (sym (ap (all_overlap t within) is) ∙ f.overlap)).1;
   counted = omega (arith, less, f.counted, ap length new);
 }

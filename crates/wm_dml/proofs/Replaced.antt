@@ -10,10 +10,9 @@ use Rattle.std.proofs.lemmas.Option.{slice_get-map, slice_get_within, get_or_fro
 use Rattle.wm_base.specs.declared.columns.Column.{Column}
 use Rattle.wm_base.specs.declared.row.Row.{Row}
 use Rattle.wm_base.specs.declared.value.Value.{Value}
-use Rattle.wm_base.specs.declared.value.Value.TheVariants as values
 use Rattle.wm_base.specs.Trees.{Set}
 use Rattle.wm_base.specs.Value.{type_place}
-use Rattle.wm_graph.specs.Rules.{differ, same_column, is_table, type_of, fits_column, fit_columns, is_row_of, is_key_of}
+use Rattle.wm_graph.specs.Rules.{differ, same_column, is_table, type_of, fits_column, fit_columns, is_key_of}
 use Rattle.wm_making.proofs.Filled.{stored_filled}
 use Rattle.wm_making.proofs.Fitted.{of_type, suits_on}
 use Rattle.wm_making.proofs.Nones.{map_none, if_none, both_true, cong_and, not_above, same_bytes, same_name}

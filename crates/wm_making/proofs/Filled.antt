@@ -1,5 +1,5 @@
 -- No text of a row that INSERT writes is empty.
-use Rattle.std.proofs.Common.{◌≡◌, ℕ, zero, suc, Bool, true, false, nat_lt, length, arith, List, [], ◌∷◌, map, take, refl, sym, ap, ◌∙◌}
+use Rattle.std.proofs.Common.{◌≡◌, ℕ, zero, suc, true, nat_lt, length, arith, List, [], ◌∷◌, map, take, refl, sym, ap, ◌∙◌}
 use Rattle.std.proofs.lemmas.Bool.Decides.{nat_tests}
 use Rattle.std.specs.Prelude.{Option, Some, None, option_map, slice_get, unwrap_or, bytes_eq}
 use Rattle.std.specs.List.{list_all, position}

@@ -1,5 +1,5 @@
 -- Expressions that are not refused for their types: their periods last, and their values have their types.
-use Rattle.std.proofs.Common.{◌≡◌, ℕ, Bool, true, false, cond, List, [], ◌∷◌, refl, sym, ap, ◌∙◌, subst, arith, ℤ}
+use Rattle.std.proofs.Common.{◌≡◌, ℕ, Bool, true, false, cond, List, [], refl, sym, ap, ◌∙◌, arith, ℤ}
 use Rattle.std.specs.Prelude.{Option, Some, None, ◌&&◌, ◌||◌, ◌==◌, option_map, codes}
 use Rattle.std.specs.Option.{option_or}
 use Rattle.std.proofs.lemmas.Bool.Decides.{nat_tests}
@@ -15,7 +15,7 @@ use Rattle.wm_base.specs.declared.tree.operand.Operator.{Operator}
 use Rattle.wm_base.specs.declared.value.Value.{Value}
 use Rattle.wm_base.specs.declared.value.Value.TheVariants as values
 use Rattle.wm_graph.specs.Rules.{type_of}
-use Rattle.wm_spec.specs.Expressions.{number_value, number_in, value_in, value_of, lasts, has_no_empty_period}
+use Rattle.wm_spec.specs.Expressions.{number_value, number_in, value_of, lasts, has_no_empty_period}
 use Rattle.wm_spec.specs.Operands.{suffixed_kind, constant_kind, constant_value, operand_value, tested, period_at}
 use Rattle.wm_spec.specs.declared.record.column.ColumnKind.{ColumnKind}
 use Rattle.wm_spec.specs.declared.record.column.ColumnKind.TheVariants as kinds

@@ -1,5 +1,5 @@
 -- A row that INSERT writes may stand in its table.
-use Rattle.std.proofs.Common.{◌≡◌, ℕ, zero, suc, ◌+◌, ◌<◌, ◌≤◌, Bool, true, false, cond, List, [], ◌∷◌, length, map, take, get_or, refl, sym, ap, ◌∙◌, subst, arith, nat_lt, nat_le, zero-add}
+use Rattle.std.proofs.Common.{◌≡◌, ℕ, zero, suc, ◌+◌, ◌<◌, ◌≤◌, Bool, true, false, cond, List, [], ◌∷◌, length, map, take, get_or, refl, sym, ap, ◌∙◌, arith, nat_lt, nat_le, zero-add}
 use Rattle.std.specs.Prelude.{Option, Some, None, ◌&&◌, ◌||◌, ◌==◌, not, option_map, slice_get, unwrap_or, codes}
 use Rattle.std.specs.List.{find, list_any, list_all, position}
 use Rattle.std.specs.Option.{option_or, option_and_then, option_map_or}
@@ -12,9 +12,9 @@ use Rattle.wm_base.specs.Trees.{Expr}
 use Rattle.wm_base.specs.Value.{type_place, weight_of}
 use Rattle.wm_base.specs.declared.value.Value.{Value}
 use Rattle.wm_base.specs.declared.value.Value.TheVariants as values
-use Rattle.wm_graph.specs.Rules.{differ, same_column, is_short, is_table, type_of, fits_column, fit_columns, weight, key_of, is_light_key, is_row_of, is_key_value, is_key_of}
+use Rattle.wm_graph.specs.Rules.{differ, same_column, is_short, is_table, type_of, fits_column, fit_columns, weight, key_of, is_light_key}
 use Rattle.wm_spec.specs.Conditions.{is_null}
-use Rattle.wm_spec.specs.Expressions.{value_of, has_no_empty_period}
+use Rattle.wm_spec.specs.Expressions.{value_of}
 use Rattle.wm_spec.specs.declared.record.column.ColumnKind.{ColumnKind}
 use Rattle.wm_spec.specs.declared.record.column.TableColumn.{TableColumn}
 use Rattle.wm_spec.specs.declared.record.table.Table.{Table}

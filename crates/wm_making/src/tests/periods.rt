@@ -57,12 +57,23 @@ fn names(alloc: Global, case: Case) -> Result<Option<Names>, Memory> {
     Ok(Some(Names::from_vec(names)))
 }
 
+fn number_if(holds: bool, number: u64) -> u64 {
+    if holds { number } else { 99 }
+}
+
+fn number_of_form(fault: FormRefusal) -> u64 {
+    match fault {
+        FormRefusal::Wm013(name) => number_if(name.equals(b"WM_VALID"), 13),
+        FormRefusal::Wm014(count) => number_if(count == 2, 14),
+        FormRefusal::Wm017(name) => number_if(name.equals(b"BUD"), 17),
+        _ => 99,
+    }
+}
+
 fn number_of(refusal: Option<Refusal>) -> u64 {
     match refusal {
         None => 0,
-        Some(Refusal::Form(FormRefusal::Wm013(name))) if name.equals(b"WM_VALID") => 13,
-        Some(Refusal::Form(FormRefusal::Wm014(2))) => 14,
-        Some(Refusal::Form(FormRefusal::Wm017(name))) if name.equals(b"BUD") => 17,
+        Some(Refusal::Form(fault)) => number_of_form(fault),
         Some(_) => 99,
     }
 }

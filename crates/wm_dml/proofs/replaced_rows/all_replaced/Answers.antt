@@ -1,4 +1,4 @@
-use Rattle.std.proofs.Common.{arith, inl, inr, rules}
+use Rattle.std.proofs.Common.{inl, inr, rules}
 use Rattle.wm_dml.proofs.Paired.{replacing_begins, replacing_one, replacing_more, replacing_ends, replacing_stops}
 use Rattle.wm_dml.proofs.replaced_rows.all_replaced.Goals as goal
 

@@ -1,4 +1,4 @@
-use Rattle.std.proofs.Common.{◌≡◌, ◌<◌, ap, sym, ◌∙◌, arith}
+use Rattle.std.proofs.Common.{◌≡◌, ap, ◌∙◌, arith}
 use Rattle.std.specs.Option.{is_some, option_copied}
 use Rattle.wm_making.specs.Creating.{key_name, key_place, columns_of}
 use Rattle.wm_making.proofs.Nones.{some_copied}
