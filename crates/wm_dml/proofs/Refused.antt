@@ -1,5 +1,5 @@
 -- What is known of the sets of an UPDATE that is refused for nothing by its names and its types.
-use Rattle.std.proofs.Common.{◌≡◌, ℕ, Bool, true, false, List, [], ◌∷◌, refl, ◌∙◌}
+use Rattle.std.proofs.Common.{◌≡◌, ℕ, Bool, true, false, List, [], ◌∷◌, refl, sym, ◌∙◌}
 use Rattle.std.specs.Prelude.{Option, Some, None, ◌&&◌, ◌||◌, ◌==◌, not}
 use Rattle.std.specs.Option.{option_or}
 use Rattle.wm_base.specs.declared.columns.Column.{Column}

@@ -136,4 +136,3 @@ none_counted (x ∷ xs) k is none = absurd (omega (arith, is, none))
 
 pub some_counted : (xs : List RowChange) (k : ℕ) → k ≡ length xs → (k ≡ 0 → ⊥) → xs ≡ [] → ⊥
 some_counted xs k is some none = some (is ∙ ap (λ ys. length ys) none)
-

@@ -369,10 +369,11 @@ fits_all_here rs n m version t a c changes drawn counters_id space_id id ids cs 
 pub fits_all_above : (rs : List Stored) (n m : ℕ) (t : Table) (a : Space) (c : Counters) (changes : List RowChange) (drawn : List PieceRecord) (counters_id space_id id : ℕ) (cs : List Change) → ChangesNew rs n m t a c changes
     → list_all is_filled_change changes ≡ true → AreDrawn (new_pieces c.next_version c.next_stamp t changes) [] drawn → cs ≡ changes_new_batch rs counters_id m c space_id a id n t changes drawn → FitPages cs
 fits_all_above rs n m t a c changes drawn counters_id space_id id cs served filled draws is =
-    subst FitPages (sym is)
-    (fits_version (next_version (parts_of rs) n c),
-    fits_write rs n m t a c (stepped_new_by c m (length changes)) changes drawn counters_id space_id (id + 1) [] served filled
-    (drawn_fitting c.next_version c.next_stamp t changes [] drawn served.fit filled refl draws))
+    subst FitPages (sym is) (
+      fits_version (next_version (parts_of rs) n c),
+      fits_write rs n m t a c (stepped_new_by c m (length changes)) changes drawn counters_id space_id (id + 1) [] served filled
+          (drawn_fitting c.next_version c.next_stamp t changes [] drawn served.fit filled refl draws),
+    )
 
 -- ---- where the work is at its end
 

@@ -66,8 +66,8 @@ pub lists_more : (p : Parts) (version : ℕ) (period : Table → Span) (tables :
 lists_more p version period tables sources i x t l items new within at before named columns rows pushed = (
   (none_lost tables x (drop (i + 1) sources) (sym (ap (λ ss. lost_source tables (srcs_view ss)) (from_place sources i x within at)) ∙ before.0)).1,
   λ more are. subst (AreListed p version period tables (srcs_view sources)) (sym (append_assoc items (l ∷ []) more) ∙ ap (λ ls. ls ++ more) (sym pushed))
-  (before.1 (l ∷ more) (subst (λ ss. AreListed p version period tables (srcs_view ss) (l ∷ more)) (sym (from_place sources i x within at))
-  (record { table = t; named = sym named; columns = columns; rows = rows }, are))),
+      (before.1 (l ∷ more) (subst (λ ss. AreListed p version period tables (srcs_view ss) (l ∷ more)) (sym (from_place sources i x within at))
+      (record { table = t; named = sym named; columns = columns; rows = rows }, are))),
 )
 
 -- there is a next one

@@ -25,7 +25,10 @@ pub enum Seating {
         stand: Stand,
     },
     /// The one of this name has this period set, or none.
-    Limit { name: Name, period: Option<Period> },
+    Limit {
+        name: Name,
+        period: Option<Period>,
+    },
 }
 
 /// Closes the sessions of a name.

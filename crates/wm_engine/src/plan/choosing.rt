@@ -142,9 +142,7 @@ pub fn chosen_rows(
 {
     let columns = columns_of_table(alloc, &table.name, table)?;
     match key_asked(alloc, &columns, table, filter)? {
-        Some(key) => chosen_under(
-            alloc, image, version, table, within, &columns, filter, &key,
-        ),
+        Some(key) => chosen_under(alloc, image, version, table, within, &columns, filter, &key),
         None => chosen_of_all(alloc, image, version, table, within, &columns, filter),
     }
 }

@@ -25,9 +25,7 @@ ghost use Rattle.wm_typing.specs.Columns.{columns_of_table};
 use crate::answer::Answer;
 use crate::plan::within::within;
 use crate::planned::Planned;
-use crate::refuse::{
-    empty_period, most_rows, no_table, not_built, out_of_range, versioning,
-};
+use crate::refuse::{empty_period, most_rows, no_table, not_built, out_of_range, versioning};
 use crate::session::{Session, Stand};
 use std::alloc::Global;
 use wm_base::tree::cond::{Cmp, Cond};
