@@ -1,6 +1,6 @@
 //! The row that INSERT makes of 7 and 'abc'.
 use crate::tests::tables::table;
-use crate::{insert_fault, row_of};
+use crate::{all_last, insert_fault, row_of};
 use std::alloc::Global;
 use wm_base::tree::column::Names;
 use wm_base::tree::constant::Const;
@@ -22,17 +22,17 @@ fn text(alloc: Global) -> Result<Expr, Memory> {
     Ok(constant(Const::Text(text)))
 }
 
-/// The row, and none where the statement is refused or a number is out of range.
+/// The row, and none where the statement is refused, a written period is empty or a number is out of range.
 fn inserted(
     alloc: Global,
     table: &Table,
     names: &Option<Names>,
     values: &[Expr],
 ) -> Result<Option<Values>, Memory> {
-    match insert_fault(alloc, table, names, values)? {
-        Some(_) => Ok(None),
-        None => Ok(row_of(alloc, table, names, values).ok()),
+    if insert_fault(alloc, table, names, values)?.is_some() || !all_last(values) {
+        return Ok(None);
     }
+    Ok(row_of(alloc, table, names, values).ok())
 }
 
 fn inserted_into_bud(
