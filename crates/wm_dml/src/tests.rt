@@ -157,13 +157,10 @@ fn replaced(alloc: Global) -> Result<Vec<RowChange>, Memory> {
     let olds = rows(alloc)?;
     let mut rows = Vec::new(alloc);
     rows.push(values(alloc, 2, Some(30))?)?;
-    replaced_in(
-        alloc,
-        &table,
-        &Period::always(),
-        &olds.as_slice()[1..],
-        rows,
-    )
+    match olds.as_slice().split_first() {
+        Some((_, olds)) => replaced_in(alloc, &table, &Period::always(), olds, rows),
+        None => Ok(Vec::new(alloc)),
+    }
 }
 
 #[test]
