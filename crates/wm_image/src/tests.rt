@@ -1,7 +1,7 @@
 use crate::image::Image;
 use std::alloc::Global;
 use std::test::Fail;
-use wm_base::{Instant, Key, Kind, Memory, Name, Period, Value, Values};
+use wm_base::{Instant, Key, Kind, Memory, Name, Period, RowList, Value, Values};
 use wm_spec::record::{
     Batch, CellRange, Change, Changes, ColumnKind, Counters, FreezeMode, PieceRecord, Record,
     Records, RowRecord, Savepoint, Space, Stored, Table, TableColumn, TableColumns, Version,
@@ -259,41 +259,90 @@ fn period(from: u64, till: u64) -> Option<Period> {
     Period::new(Instant::new(from)?, Instant::new(till)?)
 }
 
+/// The period that the last of the rows ends with.
+fn last_period(rows: &RowList) -> Option<Period> {
+    match rows.as_slice().last()?.values.as_slice().last()? {
+        Value::Span(period) => Some(*period),
+        _ => None,
+    }
+}
+
+/// How many rows of the table a period shows, and the period that the last one ends with.
+fn rows_within(
+    alloc: Global,
+    valid: bool,
+    within: Period,
+) -> Result<(usize, Option<Period>), Memory> {
+    let table = table_with(alloc, valid)?;
+    let Ok(image) = Image::load(alloc, small_store(alloc)?) else {
+        return Err(Memory);
+    };
+    let rows = image.showing(alloc, 2, &table, &within)?;
+    Ok((rows.len(), last_period(&rows)))
+}
+
+/// How many rows of the key it shows.
+fn key_rows_within(alloc: Global, within: Period) -> Result<usize, Memory> {
+    let table = table_with(alloc, true)?;
+    let key = Key::single(alloc, Value::Num(7))?;
+    let Ok(image) = Image::load(alloc, small_store(alloc)?) else {
+        return Err(Memory);
+    };
+    let rows = image.showing_of_key(alloc, 2, &table, &within, &key)?;
+    Ok(rows.len())
+}
+
+/// What it shares with the rows of the key.
+fn part_within(alloc: Global, within: Period) -> Result<Option<Period>, Memory> {
+    let key = Key::single(alloc, Value::Num(7))?;
+    let Ok(image) = Image::load(alloc, small_store(alloc)?) else {
+        return Err(Memory);
+    };
+    image.overlap(alloc, 2, 1, &key, &within)
+}
+
+/// A period, and the part of it that the row has.
+type Shown = (u64, u64, Option<(u64, u64)>);
+
+const SHOWN: [Shown; 5] = [
+    (0, 10, None),
+    (0, 11, Some((10, 11))),
+    (50, 150, Some((50, 150))),
+    (199, 300, Some((199, 200))),
+    (200, 300, None),
+];
+
+fn part_of(ends: Option<(u64, u64)>) -> Option<Period> {
+    let (from, till) = ends?;
+    period(from, till)
+}
+
+/// The period shows the row where it has a part of it, with its whole period, and rows without periods always.
+fn is_shown(alloc: Global, (from, till, part): Shown) -> Result<bool, Memory> {
+    let Some(within) = period(from, till) else {
+        return Ok(false);
+    };
+    let count = if part.is_some() { 1 } else { 0 };
+    let whole = if part.is_some() {
+        period(10, 200)
+    } else {
+        None
+    };
+    Ok(
+        rows_within(alloc, true, within)? == (count, whole)
+            && rows_within(alloc, false, within)? == (1, None)
+            && key_rows_within(alloc, within)? == count
+            && part_within(alloc, within)? == part_of(part),
+    )
+}
+
 /// Of a table with valid time a period shows the rows that it overlaps, with their whole periods. In the second
 /// version the row stands from 10 to 200, on two pieces.
 #[test]
 fn rows_are_shown_with_their_periods(rt: HostRuntime) -> Result<(), Fail> {
     let alloc = rt.alloc();
-    let records = small_store(alloc)?;
-    let Ok(image) = Image::load(alloc, records) else {
-        return Ok(());
-    };
-    let key = Key::single(alloc, Value::Num(7))?;
-    let timed = table_with(alloc, true)?;
-    let plain = table_with(alloc, false)?;
-    let whole = period(10, 200).ok_or("a period")?;
-    // from and till; how many rows are shown; the part of the period that the row has
-    let cases = [
-        (0, 10, 0, None),
-        (0, 11, 1, period(10, 11)),
-        (50, 150, 1, period(50, 150)),
-        (199, 300, 1, period(199, 200)),
-        (200, 300, 0, None),
-    ];
-    for (from, till, count, part) in cases {
-        let within = period(from, till).ok_or("a period")?;
-        let rows = image.showing(alloc, 2, &timed, &within)?;
-        assert_eq!(rt; rows.len(), count, "{from}");
-        for row in rows.as_slice() {
-            let values = [Value::Num(7), Value::Span(whole)];
-            assert_eq!(rt; row.values.as_slice(), values.as_slice(), "{from}");
-        }
-        let of_key = image.showing_of_key(alloc, 2, &timed, &within, &key)?;
-        assert_eq!(rt; of_key.len(), count, "{from}");
-        let all = image.showing(alloc, 2, &plain, &within)?;
-        assert_eq!(rt; all.len(), 1);
-        assert_eq!(rt; all.as_slice()[0].values.len(), 1);
-        assert_eq!(rt; image.overlap(alloc, 2, 1, &key, &within)?, part);
+    for shown in SHOWN {
+        assert!(rt; is_shown(alloc, shown)?, "{}", shown.0);
     }
     Ok(())
 }
