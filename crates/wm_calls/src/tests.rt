@@ -1,6 +1,5 @@
 //! What calls give for their parameters, and statements that are refused before they are planned.
 mod empty;
-mod later;
 mod valid_time;
 
 use crate::{argument_fault, is_true_given, parameter_name, text_given};
