@@ -7,6 +7,7 @@ mod choosing;
 mod deleting;
 mod faults;
 mod keys;
+mod moving;
 mod replaced_rows;
 mod shown;
 #[cfg(test)]
@@ -18,6 +19,7 @@ pub use change::RowChange;
 pub use choosing::chosen;
 pub use deleting::deleted;
 pub use faults::rows_fault;
+pub use moving::{Move, Shift, clash_in, moves_of, moving, shifts_of};
 pub use replaced_rows::replacing;
 pub use shown::{all_overlap, declared_values, row_period};
 pub use updated::{sets_period, updated_rows};

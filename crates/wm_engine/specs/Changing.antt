@@ -19,12 +19,13 @@ use Rattle.wm_engine.specs.declared.planned.Planned.{Planned}
 abbrev pub is_filled_change : RowChange → Bool
 is_filled_change x = list_all is_filled x.key && option_map_or (list_all is_filled) x.row true
 
--- the function writes the changes in the session's workspace, to each state that records, sessions and a moment stand for
-abbrev pub ActWrites : List Stored → List Session → ℕ → Session → Space → Table → List RowChange → (State → State × Answer) → Type 0
-ActWrites rs xs m session a t changes act =
+-- the function writes the changes in the session's workspace, to each state that records, sessions and a moment stand for,
+-- and tells how many rows are changed
+abbrev pub ActWrites : List Stored → List Session → ℕ → Session → Space → Table → ℕ → List RowChange → (State → State × Answer) → Type 0
+ActWrites rs xs m session a t count changes act =
     (s : State) → StandsAt rs xs m s
-    → act s ≡ durably s (a.log_length + length changes) (written_all session.space (entries_of s session.user t changes) s, Done (length changes))
+    → act s ≡ durably s (a.log_length + length changes) (written_all session.space (entries_of s session.user t changes) s, Done count)
 
 -- the plan does and answers what each such function does and answers
-abbrev pub WritesAll : List Stored → ℕ → Session → Space → Table → List RowChange → Planned → Type 0
-WritesAll rs m session a t changes p = (xs : List Session) (act : State → State × Answer) → ActWrites rs xs m session a t changes act → DoesIt rs xs m p act
+abbrev pub WritesAll : List Stored → ℕ → Session → Space → Table → ℕ → List RowChange → Planned → Type 0
+WritesAll rs m session a t count changes p = (xs : List Session) (act : State → State × Answer) → ActWrites rs xs m session a t count changes act → DoesIt rs xs m p act

@@ -13,3 +13,4 @@ pub mod Lacking
 pub mod Chosen
 pub mod Acting
 pub mod Keyed
+pub mod Moved

@@ -13,6 +13,7 @@ mod going;
 mod insert;
 mod keyed;
 pub mod line;
+mod moving;
 mod saving;
 mod select;
 mod statement;

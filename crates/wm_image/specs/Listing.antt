@@ -8,7 +8,7 @@ use Rattle.wm_base.specs.declared.value.Value.{Value}
 use Rattle.wm_graph.specs.Parts.{Parts, row_of}
 use Rattle.wm_spec.specs.Stretches.{Stretch}
 use Rattle.wm_spec.specs.declared.record.row.RowRecord.{RowRecord}
-use Rattle.wm_state.specs.Listing.{AreRowsOf, first_shared, row_shown_with, row_with, seen_row}
+use Rattle.wm_state.specs.Listing.{AreRowsOf, first_shared, row_shown_with, row_with, seen_row, span_on}
 
 -- the row of a stamp, without the stamp
 abbrev pub row_under : Parts → ℕ → Option Row
@@ -41,3 +41,9 @@ pub record IsFirstShared (p : Parts) (version table : ℕ) (key : List Value) (p
   pub stretches : List Stretch
   pub are : AreRowsOf p version table key stretches
   pub first : found ≡ first_shared period stretches
+
+-- the periods over which the rows of a key stand, of those that a version holds, by from
+pub record AreSpans (p : Parts) (version table : ℕ) (key : List Value) (spans : List Span) : Type 0 where
+  pub stretches : List Stretch
+  pub are : AreRowsOf p version table key stretches
+  pub same : spans ≡ map span_on stretches

@@ -18,7 +18,7 @@ ghost use Rattle.wm_image.specs.Sought.{PiecesAt, ids_with, is_sought};
 ghost use Rattle.wm_state.specs.Batches.{is_out, keeps};
 ghost use Rattle.wm_state.specs.ById.{Ascend, applied, by_id};
 ghost use Rattle.wm_state.specs.Drawing.{AreNews};
-ghost use Rattle.wm_image.specs.Listing.{IsFirstShared, IsKeyListing, IsKeyShowing};
+ghost use Rattle.wm_image.specs.Listing.{AreSpans, IsFirstShared, IsKeyListing, IsKeyShowing};
 ghost use Rattle.wm_image.specs.Redraw.{IsRedrawn};
 ghost use Rattle.wm_image.specs.Shown.{names};
 ghost use Rattle.wm_spec.specs.declared.record.savepoint.Savepoint.{Savepoint as OneSavepoint};
@@ -35,7 +35,7 @@ use crate::kinds;
 use crate::laying::lay_path;
 use crate::listing::{Asked, list_key, list_rows};
 use crate::load::{ImageFault, put_all, sorted};
-use crate::overlap::find_shared;
+use crate::overlap::{find_shared, find_spans};
 use crate::records::{Kept, at, change_all, first, next_id};
 use crate::redraw::{Redrawn, redraw};
 use crate::savepoints::{making_after, savepoint_in, savepoint_of_name};
@@ -457,6 +457,21 @@ impl Image {
         ensures { IfOk result (λ found. IsFirstShared (parts_of self.now) version table key.now period.now found) }
     {
         find_shared(alloc, self, version, table, key, period)
+    }
+
+    /// The periods over which the rows of a key of a table stand, of those that a version holds, by from. The rest of the
+    /// table is not looked at.
+    pub fn spans_of_key(
+        &self,
+        alloc: Global,
+        version: u64,
+        table: u16,
+        key: &Key,
+    ) -> Result<Vec<Period>, Memory>
+        requires { keep_rules (parts_of self.now) ≡ true }
+        ensures { IfOk result (λ spans. AreSpans (parts_of self.now) version table key.now spans.items) }
+    {
+        find_spans(alloc, self, version, table, key)
     }
 
     /// The record of an id.

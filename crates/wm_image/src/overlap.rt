@@ -1,11 +1,11 @@
-//! What a period shares with the rows of a key.
+//! The periods over which rows of a key stand, and what a period shares with them.
 
-ghost use Rattle.std.specs.Prelude.{◌≡◌, true, ◌∷◌, IfOk};
+ghost use Rattle.std.specs.Prelude.{◌≡◌, true, ◌∷◌, ◌++◌, map, IfOk, OnOk};
 ghost use Rattle.wm_graph.specs.Parts.{parts_of};
 ghost use Rattle.wm_graph.specs.Rules.{keep_rules};
-ghost use Rattle.wm_image.specs.Listing.{IsFirstShared};
+ghost use Rattle.wm_image.specs.Listing.{AreSpans, IsFirstShared};
 ghost use Rattle.wm_image.specs.Standing.{IsBegun, stretch_ending, stretches_on};
-ghost use Rattle.wm_state.specs.Listing.{first_shared};
+ghost use Rattle.wm_state.specs.Listing.{first_shared, span_on};
 
 use crate::image::Image;
 use crate::standing::{ending, first_from, from_behind};
@@ -55,4 +55,38 @@ pub fn find_shared(
     let pieces = image.shown(alloc, version, table, key)?;
     let found = first_shared(pieces.list(), period);
     Ok(found)
+}
+
+/// Puts the periods over which the rows of pieces stand behind others.
+fn push_spans(spans: &mut Vec<Period>, pieces: &[Piece]) -> Result<(), Memory>
+    ensures { OnOk result (spans.new.items ≡ spans.old.items ++ map span_on (stretches_on pieces.now)) }
+{
+    let mut left = pieces;
+    let mut from = first_from(pieces);
+    while let [piece, rest @ ..] = left {
+        if let Some(whole) = ending(from, piece, rest) {
+            spans.push(whole)?;
+        }
+        from = from_behind(from, piece, rest);
+        left = rest;
+    }
+    Ok(())
+}
+
+/// The periods over which the rows of a key stand, of those that a version holds. Only the pieces of that key are looked
+/// at.
+pub fn find_spans(
+    alloc: Global,
+    image: &Image,
+    version: u64,
+    table: u16,
+    key: &Key,
+) -> Result<Vec<Period>, Memory>
+    requires { keep_rules (parts_of image.now) ≡ true }
+    ensures { IfOk result (λ spans. AreSpans (parts_of image.now) version table key.now spans.items) }
+{
+    let pieces = image.shown(alloc, version, table, key)?;
+    let mut spans = Vec::new(alloc);
+    push_spans(&mut spans, pieces.list())?;
+    Ok(spans)
 }

@@ -25,10 +25,10 @@ use Rattle.wm_print.specs.Texts.{Done}
 
 -- ---- what the state gains
 
--- the changes are written where the log of the workspace has room
-abbrev pub write_changes : ℕ → List ℕ → Table → List RowChange → State → State × Answer
-write_changes n user t changes s =
-    durably s (log_length s.spaces n + length changes) (written_all n (entries_of s user t changes) s, Done (length changes))
+-- the changes are written where the log of the workspace has room; told is how many rows are changed
+abbrev pub write_changes : ℕ → List ℕ → Table → ℕ → List RowChange → State → State × Answer
+write_changes n user t count changes s =
+    durably s (log_length s.spaces n + length changes) (written_all n (entries_of s user t changes) s, Done count)
 
 -- ---- what the records gain
 

@@ -1,7 +1,7 @@
 -- One line: the state that it leaves, and its answer.
 use Rattle.std.specs.Prelude.{ℕ, ◌+◌, ◌^◌, ◌==◌, List, [], ◌∷◌, ◌++◌, Bool, true, false, not, ◌&&◌, ◌||◌, nat_le, nat_lt, nat_eq, if◌then◌else◌, length, map, is_some, unwrap_or, Option, None, Some, Result, Ok, Err, codes}
 use Rattle.std.specs.List.{filter, filter_map, find, flat_map, list_all, list_any, starts_with}
-use Rattle.std.specs.Option.{option_map, option_map_or}
+use Rattle.std.specs.Option.{option_map, option_map_or, option_or}
 use Rattle.std.specs.Fmt.{decimal}
 use Rattle.std.specs.Str.{bytes_eq, is_utf8}
 use Rattle.wm_base.specs.Period.{Span, always}
@@ -25,9 +25,11 @@ use Rattle.wm_base.specs.declared.row.Row.{Row}
 use Rattle.wm_base.specs.declared.tree.statement.Arg.{Arg}
 use Rattle.wm_base.specs.declared.tree.statement.CreateItem.{CreateItem}
 use Rattle.wm_base.specs.Trees.{Line, Connect, Disconnect, At as AtMoment, Run, Statement, Create, Insert, Update, Delete, Select, Call, Cond, Expr, Query, Set, Src}
-use Rattle.wm_dml.specs.Changing.{added, chosen, gone, row_key, updated_rows, rows_fault, replacing}
+use Rattle.wm_dml.specs.Changing.{added, chosen, gone, row_key, sets_period, updated_rows, rows_fault, replacing}
+use Rattle.wm_dml.specs.Moving.{clash_in, moves_of, moving, shifts_of}
 use Rattle.wm_dml.specs.Standing.{change_keys}
 use Rattle.wm_dml.specs.declared.change.RowChange.{RowChange}
+use Rattle.wm_dml.specs.declared.moving.Move.{Move}
 use Rattle.wm_grammar.specs.Calls.{procedure_of}
 use Rattle.wm_grammar.specs.declared.procedure.Procedure.{Procedure}
 use Rattle.wm_grammar.specs.declared.procedure.Procedure.TheVariants as procedures
@@ -49,7 +51,7 @@ use Rattle.wm_typing.specs.Columns.{columns_of_table}
 use Rattle.wm_reader.specs.Reading.{is_remark, folded}
 pub use Rattle.wm_state.specs.State.{State, fresh}
 use Rattle.wm_state.specs.Drawing.{are_sorted}
-use Rattle.wm_state.specs.Listing.{first_shared, row_shown}
+use Rattle.wm_state.specs.Listing.{first_shared, row_shown, span_on}
 use Rattle.wm_state.specs.State.{Workspace, Savepoint, Session, Stand, Readiness, Latest, At, content, enabled, kept, savepoint_made, seen_from, with_space, with_savepoint, workspace_of, table_named, workspace_named, savepoint_named, next_table, next_space, next_making}
 pub use Rattle.wm_print.specs.Texts.{Answer, answer_text}
 use Rattle.wm_print.specs.Texts.{Nothing, Fine, Done, Listing, Refused}
@@ -334,13 +336,13 @@ at_newest session name fault empty act s = with_table s name (λ table.
     unless (fault table) s
     (at_home s session (λ w. at_latest s session.stand (unless_empty_period empty s (act table s w)))))
 
--- rows are changed, if there are any, while changes are left
-abbrev pub write_all : List ℕ → Table → List RowChange → State → Workspace → State × Answer
-write_all user table [] s w = (s, Done 0)
-write_all user table (x ∷ xs) s w =
+-- rows are changed, if there are any, while changes are left; told is how many rows are changed
+abbrev pub write_all : List ℕ → Table → ℕ → List RowChange → State → Workspace → State × Answer
+write_all user table count [] s w = (s, Done 0)
+write_all user table count (x ∷ xs) s w =
     let changes = x ∷ xs in
     if not (nat_le (s.next_stamp + length changes) (s.limit + 1)) then (s, change_limit s.limit) else
-    durably s (length w.lists.log + length changes) (written_all w.number (entries_of s user table changes) s, Done (length changes))
+    durably s (length w.lists.log + length changes) (written_all w.number (entries_of s user table changes) s, Done count)
 
 -- ---- INSERT
 
@@ -362,7 +364,7 @@ add_to user table period row s w = of (taken (content w) table (row_key table ro
   where
     of : Option Span → State × Answer
     of (Some shared) = (s, key_there (row_key table row) (told_period table shared))
-    of None = write_all user table (added table period row ∷ []) s w
+    of None = write_all user table 1 (added table period row ∷ []) s w
 
 -- a new row, unless a number on the way to it was out of range, or something is wrong with it
 abbrev pub add_found : List ℕ → Table → Span → Option (List Value) → State → Workspace → State × Answer
@@ -446,17 +448,40 @@ select session query empty s = select_among session query empty s.tables s
 -- ---- UPDATE and DELETE
 
 -- rows are changed by key: no key is above the next
-abbrev pub write_ascending : List ℕ → Table → List RowChange → State → Workspace → State × Answer
-write_ascending user table changes s w = if are_sorted (change_keys changes) then write_all user table changes s w else (s, not_built)
+abbrev pub write_ascending : List ℕ → Table → ℕ → List RowChange → State → Workspace → State × Answer
+write_ascending user table count changes s w = if are_sorted (change_keys changes) then write_all user table count changes s w else (s, not_built)
 
 -- what is done with the rows of a table that a session sees, and the period in which it changes them
 abbrev pub with_rows : Session → (Table → Span → List Row → State → Workspace → State × Answer) → Table → State → Workspace → State × Answer
 with_rows session act table s w = let period = within s.moment session table in act table period (rows_in period (content w) table) s w
 
--- new rows take the places of others, unless a number on the way to them was out of range, or something is wrong with them
-abbrev pub replace_all : List ℕ → Table → Span → List Row → Option (List (List Value)) → State → Workspace → State × Answer
-replace_all user table period rows None s w = (s, out_of_range)
-replace_all user table period rows (Some new) s w = unless (rows_fault table new) s (write_ascending user table (replacing table period rows new) s w)
+-- the key of a row whose new period overlaps a row that stays or another new one, and the earliest part that they share
+abbrev pub clash_at : List Entry → Table → List Move → Move → Option (List Value × Span)
+clash_at es table moves m = option_map (λ (p : Span). (m.key, p)) (clash_in (shifts_of m.key moves) (map span_on (rows_of_key es table.number m.key)))
+
+-- of the first key that has one
+abbrev pub first_clash : List Entry → Table → List Move → List Move → Option (List Value × Span)
+first_clash es table moves [] = None
+first_clash es table moves (m ∷ ms) = option_or (clash_at es table moves m) (first_clash es table moves ms)
+
+-- rows stand over new periods, where no other row of their keys stands
+abbrev pub move_all : List ℕ → Table → List Move → State → Workspace → State × Answer
+move_all user table moves s w = of (first_clash (content w) table moves moves)
+  where
+    of : Option (List Value × Span) → State × Answer
+    of (Some clash) = (s, key_there clash.0 (Some clash.1))
+    of None = write_ascending user table (length moves) (moving moves) s w
+
+-- new rows take the places of others within the period, or stand over the new periods that the sets give them
+abbrev pub change_all : List ℕ → Table → Span → List Set → List Row → List (List Value) → State → Workspace → State × Answer
+change_all user table period sets rows new s w =
+    if sets_period table sets then move_all user table (moves_of table sets rows new) s w
+    else write_ascending user table (length rows) (replacing table period rows new) s w
+
+-- so unless a number on the way to the new rows was out of range, or something is wrong with them
+abbrev pub replace_all : List ℕ → Table → Span → List Set → List Row → Option (List (List Value)) → State → Workspace → State × Answer
+replace_all user table period sets rows None s w = (s, out_of_range)
+replace_all user table period sets rows (Some new) s w = unless (rows_fault table new) s (change_all user table period sets rows new s w)
 
 -- rows in which a text is empty, which no line writes, are not changed
 abbrev pub unless_empty : List Row → (List Row → State → Workspace → State × Answer) → State → Workspace → State × Answer
@@ -466,13 +491,13 @@ unless_empty rows act s w = if list_all (λ (r : Row). list_all is_filled r.valu
 abbrev pub update : Session → List ℕ → List Set → Option Cond → Bool → State → State × Answer
 update session name sets filter empty =
     at_newest session name (λ table. update_fault table sets filter) empty
-    (with_rows session (λ table period rows. unless_empty (chosen table filter rows) (λ kept. replace_all session.user table period kept (updated_rows table sets kept))))
+    (with_rows session (λ table period rows. unless_empty (chosen table filter rows) (λ kept. replace_all session.user table period sets kept (updated_rows table sets kept))))
 
 -- DELETE makes each of them gone
 abbrev pub delete : Session → List ℕ → Option Cond → Bool → State → State × Answer
 delete session name filter empty =
     at_newest session name (λ table. delete_fault table filter) empty
-    (with_rows session (λ table period rows. unless_empty (chosen table filter rows) (λ kept. write_ascending session.user table (map (gone table period) kept))))
+    (with_rows session (λ table period rows. unless_empty (chosen table filter rows) (λ kept. write_ascending session.user table (length kept) (map (gone table period) kept))))
 
 -- ---- savepoints
 

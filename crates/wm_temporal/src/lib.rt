@@ -10,4 +10,4 @@ pub mod uncovering;
 
 pub use order::are_in_order;
 pub use splitting::{Parts, split};
-pub use uncovering::uncovered;
+pub use uncovering::{push_free, uncovered};

@@ -63,8 +63,8 @@ fn first_past(news: &[Period], rest: usize, old: &Period) -> usize
     next
 }
 
-/// Puts what the new periods leave free of one old period behind the list.
-fn push_free(into: &mut Vec<Period>, old: &Period, news: &[Period]) -> Result<(), Memory>
+/// Puts what the new periods, which stand in order, leave free of one old period behind the list.
+pub fn push_free(into: &mut Vec<Period>, old: &Period, news: &[Period]) -> Result<(), Memory>
     ensures { OnOk result (into.new.items ≡ into.old.items ++ free old.now.from old.now.till news.now) }
 {
     let till = old.till();

@@ -1,12 +1,12 @@
 //! UPDATE and DELETE.
-ghost use Rattle.std.specs.Prelude.{◌≡◌, ◌<◌, List, map, true, false, Some, IfOk};
+ghost use Rattle.std.specs.Prelude.{◌≡◌, ◌<◌, List, length, map, true, false, Some, IfOk};
 ghost use Rattle.std.specs.List.{list_all};
 ghost use Rattle.wm_base.specs.declared.instant.TheConstants.{END};
 ghost use Rattle.wm_base.specs.declared.row.Row.{Row as RowOf};
 ghost use Rattle.wm_base.specs.Trees.{Set as SetTree};
 ghost use Rattle.wm_base.specs.Views.{filter_view, sets_view};
 ghost use Rattle.wm_dml.specs.Changing.{all_overlap, gone, updated_rows};
-ghost use Rattle.wm_dml.specs.Standing.{all_stand};
+ghost use Rattle.wm_dml.specs.Standing.{MayReplace, all_stand};
 ghost use Rattle.wm_engine.specs.Acting.{DoesAs, IsUpdate};
 ghost use Rattle.wm_engine.specs.Chosen.{are_keyed};
 ghost use Rattle.wm_engine.specs.Idle.{Idles};
@@ -14,13 +14,14 @@ ghost use Rattle.wm_engine.specs.Planning.{DoesIt};
 ghost use Rattle.wm_graph.specs.Parts.{parts_of, space_of, table_of};
 ghost use Rattle.wm_graph.specs.Rules.{keep_rules};
 ghost use Rattle.wm_making.specs.Rows.{is_filled};
-ghost use Rattle.wm_model.specs.Step.{delete, replace_all, unless_empty, update, write_ascending};
+ghost use Rattle.wm_model.specs.Step.{change_all, delete, replace_all, unless_empty, update, write_ascending};
 ghost use Rattle.wm_spec.specs.Expressions.{has_no_empty_period};
 ghost use Rattle.wm_state.specs.State.{Session as SessionState};
 ghost use Rattle.wm_store.specs.Spelled.{FitPages};
 
 use crate::answer::Answer;
 use crate::plan::choosing::chosen_rows;
+use crate::plan::moving::move_all;
 use crate::plan::within::within;
 use crate::plan::write_all::write_all;
 use crate::planned::Planned;
@@ -29,8 +30,8 @@ use crate::session::{Session, Stand};
 use std::alloc::Global;
 use wm_base::tree::cond::Cond;
 use wm_base::tree::statement::Set;
-use wm_base::{Memory, Name, Period, Row, Value};
-use wm_dml::{deleted, replacing, rows_fault, updated_rows};
+use wm_base::{Memory, Name, Period, Row, Value, Values};
+use wm_dml::{deleted, moves_of, replacing, rows_fault, sets_period, updated_rows};
 use wm_expr::ValueFault;
 use wm_image::Image;
 use wm_spec::record::{Space, Table};
@@ -87,15 +88,16 @@ fn delete_rows(
     requires home { space_of (parts_of image.now).spaces session.now.space ≡ Some space.now }
     requires keyed { are_keyed table.now rows.now ≡ true }
     requires overlap { all_overlap table.now within.now rows.now ≡ true }
-    ensures does { IfOk result (DoesAs image.now moment session.now space.now (unless_empty rows.now (λ kept. write_ascending session.now.user table.now (map (gone table.now within.now) kept)))) }
+    ensures does { IfOk result (DoesAs image.now moment session.now space.now (unless_empty rows.now (λ kept. write_ascending session.now.user table.now (length kept) (map (gone table.now within.now) kept)))) }
     ensures fit { IfOk result (λ p. FitPages p.changes) }
     ensures idle { IfOk result Idles }
 {
     if !are_filled(rows) {
         return Ok(Planned::answered(alloc, not_built()));
     }
+    let count = rows.len() as u64;
     let changes = deleted(alloc, table, within, rows)?;
-    write_all(alloc, image, moment, session, space, table, changes)
+    write_all(alloc, image, moment, session, space, table, count, changes)
 }
 
 /// DELETE makes the rows gone on which the condition is true.
@@ -147,6 +149,41 @@ pub fn delete(
     )
 }
 
+/// Writes the new rows in the places of the old ones, or over the new periods that the sets give them.
+fn change_all(
+    alloc: Global,
+    image: &Image,
+    moment: u64,
+    session: &Session,
+    space: &Space,
+    table: &Table,
+    within: &Period,
+    sets: &[Set],
+    rows: &[Row],
+    news: Vec<Values>,
+) -> Result<Planned, Memory>
+    requires rules { keep_rules (parts_of image.now) ≡ true }
+    requires moment { moment < END }
+    requires there { table_of (parts_of image.now).tables table.now.number ≡ Some table.now }
+    requires home { space_of (parts_of image.now).spaces session.now.space ≡ Some space.now }
+    requires lasting { list_all (λ (s : SetTree). has_no_empty_period s.becomes) (sets_view sets.now) ≡ true }
+    requires stand { all_stand table.now rows.now ≡ true }
+    requires overlap { all_overlap table.now within.now rows.now ≡ true }
+    requires as_many { length rows.now ≡ length news.items }
+    requires may_replace { MayReplace table.now rows.now news.items }
+    ensures does { IfOk result (DoesAs image.now moment session.now space.now (change_all session.now.user table.now within.now (sets_view sets.now) rows.now news.items)) }
+    ensures fit { IfOk result (λ p. FitPages p.changes) }
+    ensures idle { IfOk result Idles }
+{
+    if sets_period(table, sets) {
+        let moves = moves_of(alloc, table, sets, rows, news)?;
+        return move_all(alloc, image, moment, session, space, table, moves);
+    }
+    let count = rows.len() as u64;
+    let changes = replacing(alloc, table, within, rows, news)?;
+    write_all(alloc, image, moment, session, space, table, count, changes)
+}
+
 /// Writes what the sets make of the rows.
 fn replace_all(
     alloc: Global,
@@ -166,7 +203,7 @@ fn replace_all(
     requires update { IsUpdate table.now (sets_view sets.now) }
     requires stand { all_stand table.now rows.now ≡ true }
     requires overlap { all_overlap table.now within.now rows.now ≡ true }
-    ensures does { IfOk result (DoesAs image.now moment session.now space.now (replace_all session.now.user table.now within.now rows.now (updated_rows table.now (sets_view sets.now) rows.now))) }
+    ensures does { IfOk result (DoesAs image.now moment session.now space.now (replace_all session.now.user table.now within.now (sets_view sets.now) rows.now (updated_rows table.now (sets_view sets.now) rows.now))) }
     ensures fit { IfOk result (λ p. FitPages p.changes) }
     ensures idle { IfOk result Idles }
 {
@@ -178,8 +215,9 @@ fn replace_all(
     if let Some(refusal) = rows_fault(alloc, table, news.as_slice())? {
         return Ok(Planned::answered(alloc, Answer::Refused(refusal)));
     }
-    let changes = replacing(alloc, table, within, rows, news)?;
-    write_all(alloc, image, moment, session, space, table, changes)
+    change_all(
+        alloc, image, moment, session, space, table, within, sets, rows, news,
+    )
 }
 
 /// Writes what the sets make of the rows, unless a text in them is empty.
@@ -201,7 +239,7 @@ fn update_rows(
     requires update { IsUpdate table.now (sets_view sets.now) }
     requires keyed { are_keyed table.now rows.now ≡ true }
     requires overlap { all_overlap table.now within.now rows.now ≡ true }
-    ensures does { IfOk result (DoesAs image.now moment session.now space.now (unless_empty rows.now (λ kept. replace_all session.now.user table.now within.now kept (updated_rows table.now (sets_view sets.now) kept)))) }
+    ensures does { IfOk result (DoesAs image.now moment session.now space.now (unless_empty rows.now (λ kept. replace_all session.now.user table.now within.now (sets_view sets.now) kept (updated_rows table.now (sets_view sets.now) kept)))) }
     ensures fit { IfOk result (λ p. FitPages p.changes) }
     ensures idle { IfOk result Idles }
 {

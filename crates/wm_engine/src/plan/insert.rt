@@ -102,7 +102,7 @@ fn add_to(
         return Ok(Planned::answered(alloc, key_there(change.key, told)));
     }
     let changes = alone(alloc, change)?;
-    write_all(alloc, image, moment, session, space, table, changes)
+    write_all(alloc, image, moment, session, space, table, 1, changes)
 }
 
 /// Adds the row of a statement that is in order, unless something is wrong with the row.

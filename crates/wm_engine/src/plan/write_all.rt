@@ -58,7 +58,7 @@ fn is_log_spent(space: &Space, count: u64) -> bool
     count > LOG_LIMIT || space.log_length > LOG_LIMIT - count
 }
 
-/// Writes the changes, if there are any, while changes are left.
+/// Writes the changes, if there are any, while changes are left, and answers that so many rows are changed.
 pub fn write_all(
     alloc: Global,
     image: &Image,
@@ -66,6 +66,7 @@ pub fn write_all(
     session: &Session,
     space: &Space,
     table: &Table,
+    rows: u64,
     changes: Vec<RowChange>,
 ) -> Result<Planned, Memory>
     requires rules { keep_rules (parts_of image.now) ≡ true }
@@ -75,7 +76,7 @@ pub fn write_all(
     requires fit { list_all (is_change table.now) changes.items ≡ true }
     requires last { list_all change_lasts changes.items ≡ true }
     requires filled { list_all is_filled_change changes.items ≡ true }
-    ensures does { IfOk result (DoesAs image.now moment session.now space.now (write_ascending session.now.user table.now changes.items)) }
+    ensures does { IfOk result (DoesAs image.now moment session.now space.now (write_ascending session.now.user table.now rows changes.items)) }
     ensures fit { IfOk result (λ p. FitPages p.changes) }
     ensures idle { IfOk result Idles }
 {
@@ -97,6 +98,7 @@ pub fn write_all(
         table,
         space,
         counters,
+        rows,
     };
     write_changes(alloc, image, moment, session, &writing, changes)
 }

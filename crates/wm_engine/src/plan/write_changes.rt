@@ -30,12 +30,13 @@ use wm_spec::record::{
     CellRange, Change, Changes, Counters, PieceRecord, Record, RowRecord, Space, Table, Version,
 };
 
-/// A table and a workspace in which rows are changed, with the counters before.
+/// A table and a workspace in which rows are changed, with the counters before and how many rows there are.
 #[derive(Drop)]
 pub struct Writing<'a> {
     pub table: &'a Table,
     pub space: &'a Space,
     pub counters: Counters,
+    pub rows: u64,
 }
 
 /// The records that changes make: the new rows, and a piece for each change.
@@ -149,7 +150,7 @@ fn write_here(
     requires filled { list_all is_filled_change changes.items ≡ true }
     requires counters { counters ≡ moved writing.now.counters moment }
     requires ids { (i : ℕ) → id ≤ i → record_at image.now i ≡ None }
-    ensures does { IfOk result (WritesAll image.now moment session.now writing.now.space.now writing.now.table.now changes.items) }
+    ensures does { IfOk result (WritesAll image.now moment session.now writing.now.space.now writing.now.table.now writing.now.rows changes.items) }
     ensures fit { IfOk result (λ p. FitPages p.changes) }
     ensures idle { IfOk result Idles }
 {
@@ -179,7 +180,7 @@ fn write_here(
         made.rows,
         pieces,
     )?;
-    Ok(Planned::changing(batch, Answer::Done(count)))
+    Ok(Planned::changing(batch, Answer::Done(writing.rows)))
 }
 
 /// What is put first where changes go into a version more.
@@ -210,7 +211,7 @@ fn write_above(
     requires filled { list_all is_filled_change changes.items ≡ true }
     requires counters { counters ≡ moved writing.now.counters moment }
     requires ids { (i : ℕ) → id ≤ i → record_at image.now i ≡ None }
-    ensures does { IfOk result (WritesAll image.now moment session.now writing.now.space.now writing.now.table.now changes.items) }
+    ensures does { IfOk result (WritesAll image.now moment session.now writing.now.space.now writing.now.table.now writing.now.rows changes.items) }
     ensures fit { IfOk result (λ p. FitPages p.changes) }
     ensures idle { IfOk result Idles }
 {
@@ -246,7 +247,7 @@ fn write_above(
         made.rows,
         pieces,
     )?;
-    Ok(Planned::changing(batch, Answer::Done(count)))
+    Ok(Planned::changing(batch, Answer::Done(writing.rows)))
 }
 
 /// Writes changes of rows of a table into the session's workspace: into its newest version, or into a version more where
@@ -273,7 +274,7 @@ pub fn write_changes(
     // Stamps are left for them, and the log has room.
     requires left { nat_le (writing.now.counters.next_stamp + length changes.items) (writing.now.counters.limit + 1) ≡ true }
     requires short { nat_lt counter_limit (writing.now.space.now.log_length + length changes.items) ≡ false }
-    ensures does { IfOk result (WritesAll image.now moment session.now writing.now.space.now writing.now.table.now changes.items) }
+    ensures does { IfOk result (WritesAll image.now moment session.now writing.now.space.now writing.now.table.now writing.now.rows changes.items) }
     ensures fit { IfOk result (λ p. FitPages p.changes) }
     ensures idle { IfOk result Idles }
 {

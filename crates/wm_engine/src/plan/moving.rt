@@ -1,0 +1,96 @@
+//! UPDATE that gives rows new periods.
+ghost use Rattle.std.specs.Prelude.{◌≡◌, ◌<◌, true, Some, IfOk};
+ghost use Rattle.std.specs.List.{list_all};
+ghost use Rattle.std.specs.Option.{option_map};
+ghost use Rattle.wm_base.specs.declared.instant.TheConstants.{END};
+ghost use Rattle.wm_dml.specs.declared.moving.Move.{Move as MoveOf};
+ghost use Rattle.wm_dml.specs.Moving.{moved_row};
+ghost use Rattle.wm_dml.specs.Standing.{is_change};
+ghost use Rattle.wm_engine.specs.Acting.{DoesAs};
+ghost use Rattle.wm_engine.specs.Changing.{is_filled_change};
+ghost use Rattle.wm_engine.specs.Idle.{Idles};
+ghost use Rattle.wm_engine.specs.Moved.{Finds};
+ghost use Rattle.wm_graph.specs.Parts.{parts_of, space_of, table_of};
+ghost use Rattle.wm_graph.specs.Rules.{keep_rules};
+ghost use Rattle.wm_model.specs.Step.{clash_at, first_clash, move_all};
+ghost use Rattle.wm_store.specs.Spelled.{FitPages};
+
+use crate::plan::write_all::write_all;
+use crate::planned::Planned;
+use crate::refuse::key_there;
+use crate::session::Session;
+use std::alloc::Global;
+use wm_base::{Key, Memory, Period};
+use wm_dml::{Move, clash_in, moving, shifts_of};
+use wm_image::Image;
+use wm_spec::record::{Space, Table};
+
+/// The earliest part that a new period of the key of a row that moves shares with a row that stays, or with another new one.
+fn clash_at(
+    alloc: Global,
+    image: &Image,
+    version: u64,
+    table: &Table,
+    moves: &[Move],
+    one: &Move,
+) -> Result<Option<Period>, Memory>
+    requires { keep_rules (parts_of image.now) ≡ true }
+    ensures { IfOk result (λ found. Finds (parts_of image.now) version (λ es. clash_at es table.now moves.now one.now) (option_map (λ p. (one.now.key, p)) found)) }
+{
+    let spans = image.spans_of_key(alloc, version, table.number, &one.key)?;
+    let shifts = shifts_of(alloc, &one.key, moves)?;
+    Ok(clash_in(shifts.as_slice(), spans.as_slice()))
+}
+
+/// So of the first key that has one, with the key.
+fn first_clash<'a>(
+    alloc: Global,
+    image: &Image,
+    version: u64,
+    table: &Table,
+    moves: &'a [Move],
+) -> Result<Option<(&'a Key, Period)>, Memory>
+    requires { keep_rules (parts_of image.now) ≡ true }
+    ensures { IfOk result (λ found. Finds (parts_of image.now) version (λ es. first_clash es table.now moves.now moves.now) (option_map (λ f. (f.0.now, f.1)) found)) }
+{
+    let mut left = moves;
+    while let [one, rest @ ..] = left {
+        if let Some(shared) = clash_at(alloc, image, version, table, moves, one)? {
+            return Ok(Some((&one.key, shared)));
+        }
+        left = rest;
+    }
+    Ok(None)
+}
+
+/// Writes rows over new periods, where no other row of their keys stands.
+pub fn move_all(
+    alloc: Global,
+    image: &Image,
+    moment: u64,
+    session: &Session,
+    space: &Space,
+    table: &Table,
+    moves: Vec<Move>,
+) -> Result<Planned, Memory>
+    requires rules { keep_rules (parts_of image.now) ≡ true }
+    requires moment { moment < END }
+    requires there { table_of (parts_of image.now).tables table.now.number ≡ Some table.now }
+    requires home { space_of (parts_of image.now).spaces session.now.space ≡ Some space.now }
+    requires fit { list_all (λ (m : MoveOf). is_change table.now (moved_row m)) moves.items ≡ true }
+    requires filled { list_all (λ (m : MoveOf). is_filled_change (moved_row m)) moves.items ≡ true }
+    ensures does { IfOk result (DoesAs image.now moment session.now space.now (move_all session.now.user table.now moves.items)) }
+    ensures fit { IfOk result (λ p. FitPages p.changes) }
+    ensures idle { IfOk result Idles }
+{
+    let version = image.latest(session.space());
+    if let Some((key, shared)) = first_clash(alloc, image, version, table, moves.as_slice())? {
+        return Ok(Planned::answered(
+            alloc,
+            key_there(key.copy(alloc)?, Some(shared)),
+        ));
+    }
+    let count = moves.len() as u64;
+    let changes = moving(alloc, moves)?;
+    write_all(alloc, image, moment, session, space, table, count, changes)
+}
