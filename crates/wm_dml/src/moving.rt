@@ -1,5 +1,5 @@
 //! What an UPDATE writes that gives rows new periods.
-ghost use Rattle.std.specs.Prelude.{◌≡◌, ◌++◌, Bool, true, map, unwrap_or, IfOk, OnOk};
+ghost use Rattle.std.specs.Prelude.{◌≡◌, ◌∷◌, ◌++◌, [], Bool, true, map, unwrap_or, IfOk, OnOk};
 ghost use Rattle.std.specs.List.{flat_map, list_all, list_any};
 ghost use Rattle.std.specs.Option.{option_and_then};
 ghost use Rattle.wm_base.specs.Period.{Span, always, equals};
@@ -179,6 +179,24 @@ fn earlier(best: Option<Period>, other: Period) -> Option<Period>
     }
 }
 
+/// The earlier of a period and of what another shares with one, if a row stays over that.
+fn earlier_staying(
+    best: Option<Period>,
+    period: &Period,
+    shifts: &[Shift],
+    span: &Period,
+) -> Option<Period>
+    ensures { result ≡ earliest best (shared_with period.now (staying shifts.now (span.now ∷ []))) }
+{
+    if is_old(shifts, span) {
+        return best;
+    }
+    match period.cut(span) {
+        Some(shared) => earlier(best, shared),
+        None => best,
+    }
+}
+
 /// The earliest of a period and of what another shares with the rows that stay.
 fn earliest_staying(
     best: Option<Period>,
@@ -190,11 +208,7 @@ fn earliest_staying(
 {
     let mut best = best;
     for span in spans {
-        if !is_old(shifts, span) {
-            if let Some(shared) = period.cut(span) {
-                best = earlier(best, shared);
-            }
-        }
+        best = earlier_staying(best, period, shifts, span);
     }
     best
 }
@@ -214,6 +228,7 @@ fn earliest_new(best: Option<Period>, period: &Period, shifts: &[Shift]) -> Opti
 
 /// The earliest part that a new period of a key shares with a row that stays or with another new period, where rows of the
 /// key stand over these periods; None exactly where there is none.
+#[tactic(auto, using(crate::proofs::Moves::past_shift))]
 pub fn clash_in(shifts: &[Shift], spans: &[Period]) -> Option<Period>
     ensures { result ≡ clash_of shifts.now spans.now }
 {
@@ -303,7 +318,7 @@ fn all_left(alloc: Global, moves: &[Move]) -> Result<Vec<RowChange>, Memory>
 }
 
 /// The row over its new period.
-fn moved(one: Move) -> RowChange
+fn over_new_period(one: Move) -> RowChange
     ensures exact { result ≡ moved_row one }
     ensures lasting { change_lasts result ≡ true }
 {
@@ -324,7 +339,7 @@ fn push_moved(changes: &mut Vec<RowChange>, moves: Vec<Move>) -> Result<(), Memo
     ensures lasting { OnOk result (list_all change_lasts changes.new.items ≡ true) }
 {
     for one in moves {
-        changes.push(moved(one))?;
+        changes.push(over_new_period(one))?;
     }
     Ok(())
 }
@@ -343,7 +358,7 @@ fn sort_changes(changes: &mut Vec<RowChange>) -> Result<(), Memory>
 
 /// What the UPDATE writes of rows that move, by key and from: each row over its new period, and no row over what the new
 /// periods of its key leave of its old one.
-pub fn moving(alloc: Global, moves: Vec<Move>) -> Result<Vec<RowChange>, Memory>
+pub fn moved(alloc: Global, moves: Vec<Move>) -> Result<Vec<RowChange>, Memory>
     ensures exact { IfOk result (λ changes. changes.items ≡ moving_of moves.items) }
     ensures lasting { IfOk result (λ changes. list_all change_lasts changes.items ≡ true) }
     // What holds of each row over its new period, and then of a part of the old one, holds of all that is written.

@@ -4,7 +4,7 @@ use Rattle.wm_base.specs.Views.{sets_view}
 use Rattle.wm_dml.specs.Moving.{moved_row}
 use Rattle.wm_dml.specs.Standing.{is_change}
 use Rattle.wm_dml.specs.declared.moving.Move.{Move}
-use Rattle.wm_dml.proofs.Moved.{moved_fit}
+use Rattle.wm_dml.proofs.Moves.{moved_fit}
 use Rattle.wm_dml.proofs.moving.moves_of.Goals as goal
 
 pub returns-clause-fit : goal.returns-clause-fit

@@ -6,6 +6,6 @@ use Rattle.wm_dml.proofs.moving.push_left.Given as goal
 
 abbrev pub invariant-loop-part : goal.invariant-loop-part
 invariant-loop-part l = record {
-  same : l.changes.items ≡ l.initial.changes.items ++ map (left_part l.one) (take l.part-index l.parts.items);
+  same : l.changes.items ≡ l.initial.changes.items ++ map (left_part l.one) (take l.part-index l.part-items);
   last : list_all change_lasts l.changes.items ≡ true;
 }

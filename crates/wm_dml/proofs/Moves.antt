@@ -30,35 +30,26 @@ pub earliest_append : (best : Option Span) (xs ys : List Span) → earliest best
 earliest_append best [] ys = refl
 earliest_append best (x ∷ xs) ys = earliest_append (earlier best x) xs ys
 
--- a period that does not overlap another shares nothing with it
-pub past_apart : (best : Option Span) (p q : Span) (qs : List Span) → overlaps p q ≡ false → earliest best (shared_with p (q ∷ qs)) ≡ earliest best (shared_with p qs)
-past_apart best p q qs apart = ap (λ b. earliest best (cond b (shared p q ∷ shared_with p qs) (shared_with p qs))) apart
+-- the earliest of what is shared with the first, if a row stays over it, and then with the others
+pub past_span : (best : Option Span) (p : Span) (shifts : List Shift) (q : Span) (qs : List Span) →
+    earliest best (shared_with p (staying shifts (q ∷ qs))) ≡ earliest (earliest best (shared_with p (staying shifts (q ∷ [])))) (shared_with p (staying shifts qs))
+past_span best p shifts q qs = by_test (list_any (λ (s : Shift). equals s.old q) shifts)
+  where
+    meets : (b : Bool) (rest : List Span) → earliest best (cond b (shared p q ∷ rest) rest) ≡ earliest (earliest best (cond b (shared p q ∷ []) [])) rest
+    meets true rest = refl
+    meets false rest = refl
 
--- what one shares with another that it overlaps comes first
-pub past_both : (best : Option Span) (p q : Span) (qs : List Span) → overlaps p q ≡ true → earliest best (shared_with p (q ∷ qs)) ≡ earliest (earlier best (shared p q)) (shared_with p qs)
-past_both best p q qs both = ap (λ b. earliest best (cond b (shared p q ∷ shared_with p qs) (shared_with p qs))) both
-
--- a period of a row that moves does not stay
-pub past_old : (shifts : List Shift) (q : Span) (qs : List Span) → list_any (λ (s : Shift). equals s.old q) shifts ≡ true → staying shifts (q ∷ qs) ≡ staying shifts qs
-past_old shifts q qs old = ap (λ b. cond (not b) (q ∷ staying shifts qs) (staying shifts qs)) old
-
--- another does
-pub past_staying : (shifts : List Shift) (q : Span) (qs : List Span) → list_any (λ (s : Shift). equals s.old q) shifts ≡ false → staying shifts (q ∷ qs) ≡ q ∷ staying shifts qs
-past_staying shifts q qs stays = ap (λ b. cond (not b) (q ∷ staying shifts qs) (staying shifts qs)) stays
+    by_test : (old : Bool) →
+        earliest best (shared_with p (cond (not old) (q ∷ staying shifts qs) (staying shifts qs)))
+        ≡ earliest (earliest best (shared_with p (cond (not old) (q ∷ []) []))) (shared_with p (staying shifts qs))
+    by_test true = refl
+    by_test false = meets (overlaps p q) (shared_with p (staying shifts qs))
 
 -- the earliest of what the first new period meets, and then of what the others do
 pub past_shift : (best : Option Span) (stay : List Span) (p : Span) (ps : List Span) →
     earliest best (clashes stay (p ∷ ps)) ≡ earliest (earliest (earliest best (shared_with p stay)) (shared_with p ps)) (clashes stay ps)
 past_shift best stay p ps =
     earliest_append best (shared_with p stay ++ shared_with p ps) (clashes stay ps) ∙ ap (λ o. earliest o (clashes stay ps)) (earliest_append best (shared_with p stay) (shared_with p ps))
-
--- ---- the shifts of a key
-
-pub past_key : (key : List Value) (m : Move) (ms : List Move) → is_eq (key_order m.key key) ≡ true → shifts_of key (m ∷ ms) ≡ m.shift ∷ shifts_of key ms
-past_key key m ms same = rw same refl
-
-pub past_other : (key : List Value) (m : Move) (ms : List Move) → is_eq (key_order m.key key) ≡ false → shifts_of key (m ∷ ms) ≡ shifts_of key ms
-past_other key m ms other = rw other refl
 
 -- ---- new rows over new periods
 
