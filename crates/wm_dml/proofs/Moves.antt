@@ -1,6 +1,6 @@
 -- What new periods meet, and what is written of rows that move.
-use Rattle.std.proofs.Common.{◌≡◌, Bool, true, false, cond, List, [], ◌∷◌, ◌++◌, map, refl, sym, ap, ◌∙◌}
-use Rattle.std.proofs.lemmas.List.{append_assoc}
+use Rattle.std.proofs.Common.{◌≡◌, ◌≤◌, ◌-◌, Bool, true, false, cond, List, [], ◌∷◌, ◌++◌, length, get_or, take, drop, map, refl, sym, ap, ◌∙◌, arith}
+use Rattle.std.proofs.lemmas.List.{take_all}
 use Rattle.std.proofs.lemmas.List.Folds.{list_all-append, list_all-map}
 use Rattle.std.specs.Prelude.{Option, not, ◌&&◌}
 use Rattle.std.specs.List.{list_all, list_any, flat_map}
@@ -46,10 +46,21 @@ past_span best p shifts q qs = by_test (list_any (λ (s : Shift). equals s.old q
     by_test false = meets (overlaps p q) (shared_with p (staying shifts qs))
 
 -- the earliest of what the first new period meets, and then of what the others do
-pub past_shift : (best : Option Span) (stay : List Span) (p : Span) (ps : List Span) →
+past_shift : (best : Option Span) (stay : List Span) (p : Span) (ps : List Span) →
     earliest best (clashes stay (p ∷ ps)) ≡ earliest (earliest (earliest best (shared_with p stay)) (shared_with p ps)) (clashes stay ps)
 past_shift best stay p ps =
     earliest_append best (shared_with p stay ++ shared_with p ps) (clashes stay ps) ∙ ap (λ o. earliest o (clashes stay ps)) (earliest_append best (shared_with p stay) (shared_with p ps))
+
+-- so where the first is read, and the others are cut off behind it
+pub past_front : (best : Option Span) (stay : List Span) (shifts : List Shift) (s : Shift) → 1 ≤ length shifts → s ≡ get_or shifts 0 s →
+    earliest best (clashes stay (news_of shifts))
+    ≡ earliest (earliest (earliest best (shared_with s.new stay)) (shared_with s.new (news_of (take (length shifts - 1) (drop 1 shifts))))) (clashes stay (news_of (take (length shifts - 1) (drop 1 shifts))))
+past_front best stay [] s some is = absurd (omega (arith, some))
+past_front best stay (x ∷ xs) s some is =
+    let others : take (length (x ∷ xs) - 1) xs ≡ xs = take_all (length (x ∷ xs) - 1) xs (omega arith) in
+    past_shift best stay x.new (news_of xs)
+    ∙ ap (λ (y : Shift). earliest (earliest (earliest best (shared_with y.new stay)) (shared_with y.new (news_of xs))) (clashes stay (news_of xs))) (sym is)
+    ∙ ap (λ (ys : List Shift). earliest (earliest (earliest best (shared_with s.new stay)) (shared_with s.new (news_of ys))) (clashes stay (news_of ys))) (sym others)
 
 -- ---- new rows over new periods
 

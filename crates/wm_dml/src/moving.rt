@@ -228,7 +228,6 @@ fn earliest_new(best: Option<Period>, period: &Period, shifts: &[Shift]) -> Opti
 
 /// The earliest part that a new period of a key shares with a row that stays or with another new period, where rows of the
 /// key stand over these periods; None exactly where there is none.
-#[tactic(auto, using(crate::proofs::Moves::past_shift))]
 pub fn clash_in(shifts: &[Shift], spans: &[Period]) -> Option<Period>
     ensures { result ≡ clash_of shifts.now spans.now }
 {
