@@ -4,8 +4,6 @@ use Rattle.std.proofs.lemmas.List.{take_all}
 use Rattle.std.proofs.lemmas.List.Folds.{list_all-append, list_all-map}
 use Rattle.std.specs.Prelude.{Option, not, ◌&&◌}
 use Rattle.std.specs.List.{list_all, list_any, flat_map}
-use Rattle.std.specs.Ordering.{is_eq}
-use Rattle.wm_base.specs.Key.{key_order}
 use Rattle.wm_base.specs.Period.{Span, equals, overlaps, shared}
 use Rattle.wm_base.specs.Trees.{Set}
 use Rattle.wm_base.specs.declared.row.Row.{Row}
@@ -17,7 +15,7 @@ use Rattle.wm_select.specs.Sorting.{placed, sorted}
 use Rattle.wm_spec.specs.declared.record.table.Table.{Table}
 use Rattle.wm_temporal.specs.Uncovered.{free}
 use Rattle.wm_dml.specs.Changing.{row_key}
-use Rattle.wm_dml.specs.Moving.{moves_of, has_key, shifts_of, news_of, staying, shared_with, earlier, earliest, clashes, begins_before, moved_row, left_part, left_parts, goes_before, moving}
+use Rattle.wm_dml.specs.Moving.{moves_of, shifts_of, news_of, staying, shared_with, earlier, earliest, clashes, begins_before, moved_row, left_part, left_parts, goes_before, moving}
 use Rattle.wm_dml.specs.Standing.{stands_in, is_change}
 use Rattle.wm_dml.specs.declared.change.RowChange.{RowChange}
 use Rattle.wm_dml.specs.declared.moving.Move.{Move}

@@ -38,7 +38,7 @@ pub fn sets_period(table: &Table, sets: &[Set]) -> bool
     table.valid && is_valid_set(sets)
 }
 
-/// What sets the column of that name.
+/// What sets the column that has this name.
 fn set_of<'a>(sets: &'a [Set], name: &[u8]) -> Option<&'a Set>
     ensures { option_map set_view (option_copied result) ≡ find (λ (s : SetTree). bytes_eq s.name name.now) (sets_view sets.now) }
 {
@@ -48,6 +48,13 @@ fn set_of<'a>(sets: &'a [Set], name: &[u8]) -> Option<&'a Set>
         }
     }
     None
+}
+
+/// What sets the column.
+fn column_set<'a>(sets: &'a [Set], column: &TableColumn) -> Option<&'a Set>
+    ensures { option_map set_view (option_copied result) ≡ find (λ (s : SetTree). bytes_eq s.name column.now.name) (sets_view sets.now) }
+{
+    set_of(sets, column.name.as_bytes())
 }
 
 /// What sets WM_VALID.
@@ -80,7 +87,7 @@ fn set_value(
     ensures ok { IfOk result (λ made. value_set columns.now (sets_view sets.now) row.now column.now old.now ≡ Some made) }
     ensures out_of_range { IsErrOf result ValueFault.OutOfRange → value_set columns.now (sets_view sets.now) row.now column.now old.now ≡ None }
 {
-    match set_of(sets, column.name.as_bytes()) {
+    match column_set(sets, column) {
         Some(set) => becomes(alloc, set, columns, row),
         None => old.copy(alloc).map_err(|_| ValueFault::Memory),
     }
