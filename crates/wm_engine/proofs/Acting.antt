@@ -69,61 +69,61 @@ does_change rs m (Err e) session name fault empty act t a to lasting does = tt
 -- ---- rows are written
 
 -- keys do not ascend
-pub writes_not : (rs : List Stored) (m : ℕ) (p : Planned) (session : Session) (a : Space) (t : Table) (changes : List RowChange) → keep_rules (parts_of rs) ≡ true → are_sorted (change_keys changes) ≡ false
-    → p.changes ≡ [] → seating_view p.seating ≡ Stay → answer_view p.answer ≡ not_built → DoesAs rs m session a (write_ascending session.user t changes) p
-writes_not rs m p session a t changes rules up none seats says =
-    answers_so rs m p session a (write_ascending session.user t changes) not_built rules (λ s w. not_ascending session.user t changes s w up) none seats says
+pub writes_not : (rs : List Stored) (m : ℕ) (p : Planned) (session : Session) (a : Space) (t : Table) (count : ℕ) (changes : List RowChange) → keep_rules (parts_of rs) ≡ true → are_sorted (change_keys changes) ≡ false
+    → p.changes ≡ [] → seating_view p.seating ≡ Stay → answer_view p.answer ≡ not_built → DoesAs rs m session a (write_ascending session.user t count changes) p
+writes_not rs m p session a t count changes rules up none seats says =
+    answers_so rs m p session a (write_ascending session.user t count changes) not_built rules (λ s w. not_ascending session.user t count changes s w up) none seats says
 
 -- there are none
-pub writes_none : (rs : List Stored) (m : ℕ) (p : Planned) (session : Session) (a : Space) (t : Table) (changes : List RowChange) → keep_rules (parts_of rs) ≡ true → changes ≡ []
-    → p.changes ≡ [] → seating_view p.seating ≡ Stay → answer_view p.answer ≡ Done 0 → DoesAs rs m session a (write_ascending session.user t changes) p
-writes_none rs m p session a t changes rules empty none seats says =
-    answers_so rs m p session a (write_ascending session.user t changes) (Done 0) rules (λ s w. ap (λ (xs : List RowChange). write_ascending session.user t xs s w) empty) none seats says
+pub writes_none : (rs : List Stored) (m : ℕ) (p : Planned) (session : Session) (a : Space) (t : Table) (count : ℕ) (changes : List RowChange) → keep_rules (parts_of rs) ≡ true → changes ≡ []
+    → p.changes ≡ [] → seating_view p.seating ≡ Stay → answer_view p.answer ≡ Done 0 → DoesAs rs m session a (write_ascending session.user t count changes) p
+writes_none rs m p session a t count changes rules empty none seats says =
+    answers_so rs m p session a (write_ascending session.user t count changes) (Done 0) rules (λ s w. ap (λ (xs : List RowChange). write_ascending session.user t count xs s w) empty) none seats says
 
 left_is : (c : Counters) (s : State) (k : ℕ) → CountsAs c s → nat_le (s.next_stamp + k) (s.limit + 1) ≡ nat_le (c.next_stamp + k) (c.limit + 1)
 left_is c s k counts = ap (λ n. nat_le (n + k) (s.limit + 1)) (sym counts.next_stamp) ∙ ap (λ n. nat_le (c.next_stamp + k) (n + 1)) (sym counts.limit)
 
 -- no changes are left for so many
-pub writes_full : (rs : List Stored) (m : ℕ) (p : Planned) (session : Session) (a : Space) (t : Table) (c : Counters) (changes : List RowChange) → keep_rules (parts_of rs) ≡ true → are_sorted (change_keys changes) ≡ true
+pub writes_full : (rs : List Stored) (m : ℕ) (p : Planned) (session : Session) (a : Space) (t : Table) (c : Counters) (count : ℕ) (changes : List RowChange) → keep_rules (parts_of rs) ≡ true → are_sorted (change_keys changes) ≡ true
     → (changes ≡ [] → ⊥) → (parts_of rs).counters ≡ c ∷ [] → nat_le (c.next_stamp + length changes) (c.limit + 1) ≡ false
-    → p.changes ≡ [] → seating_view p.seating ≡ Stay → answer_view p.answer ≡ change_limit c.limit → DoesAs rs m session a (write_ascending session.user t changes) p
-writes_full rs m p session a t c [] rules up some one full none seats says = absurd (some refl)
-writes_full rs m p session a t c (x ∷ xs) rules up some one full none seats says =
-    does_answer rs m p session a (write_ascending session.user t (x ∷ xs)) (change_limit c.limit) rules
+    → p.changes ≡ [] → seating_view p.seating ≡ Stay → answer_view p.answer ≡ change_limit c.limit → DoesAs rs m session a (write_ascending session.user t count changes) p
+writes_full rs m p session a t c count [] rules up some one full none seats says = absurd (some refl)
+writes_full rs m p session a t c count (x ∷ xs) rules up some one full none seats says =
+    does_answer rs m p session a (write_ascending session.user t count (x ∷ xs)) (change_limit c.limit) rules
     (λ ys s w st home.
     let counts = counts_as rs ys m s c st one in
-    ascending session.user t (x ∷ xs) s w up
+    ascending session.user t count (x ∷ xs) s w up
     ∙ rw (left_is c s (length (x ∷ xs)) counts ∙ full) (ap (λ limit. let answered : State × Answer = (s, change_limit limit) in answered) (sym counts.limit))) none seats says
 
 -- they are written where changes are left
-writes : (rs : List Stored) (xs : List Session) (m : ℕ) (session : Session) (a : Space) (t : Table) (c : Counters) (changes : List RowChange) (s : State) (w : Workspace) → are_sorted (change_keys changes) ≡ true
+writes : (rs : List Stored) (xs : List Session) (m : ℕ) (session : Session) (a : Space) (t : Table) (c : Counters) (count : ℕ) (changes : List RowChange) (s : State) (w : Workspace) → are_sorted (change_keys changes) ≡ true
     → (changes ≡ [] → ⊥) → (parts_of rs).counters ≡ c ∷ [] → nat_le (c.next_stamp + length changes) (c.limit + 1) ≡ true → StandsAt rs xs m s → a.log_length ≡ length w.lists.log
-    → write_ascending session.user t changes s w ≡ durably s (a.log_length + length changes) (written_all w.number (entries_of s session.user t changes) s, Done (length changes))
-writes rs xs m session a t c [] s w up some one left st log = absurd (some refl)
-writes rs xs m session a t c (x ∷ changes) s w up some one left st log =
-    ascending session.user t (x ∷ changes) s w up
+    → write_ascending session.user t count changes s w ≡ durably s (a.log_length + length changes) (written_all w.number (entries_of s session.user t changes) s, Done count)
+writes rs xs m session a t c count [] s w up some one left st log = absurd (some refl)
+writes rs xs m session a t c count (x ∷ changes) s w up some one left st log =
+    ascending session.user t count (x ∷ changes) s w up
     ∙ rw (left_is c s (length (x ∷ changes)) (counts_as rs xs m s c st one) ∙ left) refl
-    ∙ ap (λ l. durably s (l + length (x ∷ changes)) (written_all w.number (entries_of s session.user t (x ∷ changes)) s, Done (length (x ∷ changes)))) (sym log)
+    ∙ ap (λ l. durably s (l + length (x ∷ changes)) (written_all w.number (entries_of s session.user t (x ∷ changes)) s, Done count)) (sym log)
 
 -- the log is at its end
-pub writes_long : (rs : List Stored) (m : ℕ) (p : Planned) (session : Session) (a : Space) (t : Table) (c : Counters) (changes : List RowChange) → keep_rules (parts_of rs) ≡ true → are_sorted (change_keys changes) ≡ true
+pub writes_long : (rs : List Stored) (m : ℕ) (p : Planned) (session : Session) (a : Space) (t : Table) (c : Counters) (count : ℕ) (changes : List RowChange) → keep_rules (parts_of rs) ≡ true → are_sorted (change_keys changes) ≡ true
     → (changes ≡ [] → ⊥) → (parts_of rs).counters ≡ c ∷ [] → nat_le (c.next_stamp + length changes) (c.limit + 1) ≡ true → nat_lt counter_limit (a.log_length + length changes) ≡ true
-    → p.changes ≡ [] → seating_view p.seating ≡ Stay → answer_view p.answer ≡ at_its_end (codes "LOG") → DoesAs rs m session a (write_ascending session.user t changes) p
-writes_long rs m p session a t c changes rules up some one left long none seats says =
-    does_answer rs m p session a (write_ascending session.user t changes) (at_its_end (codes "LOG")) rules
+    → p.changes ≡ [] → seating_view p.seating ≡ Stay → answer_view p.answer ≡ at_its_end (codes "LOG") → DoesAs rs m session a (write_ascending session.user t count changes) p
+writes_long rs m p session a t c count changes rules up some one left long none seats says =
+    does_answer rs m p session a (write_ascending session.user t count changes) (at_its_end (codes "LOG")) rules
     (λ xs s w st home.
-    writes rs xs m session a t c changes s w up some one left st home.log
-    ∙ spent_log s (a.log_length + length changes) (written_all w.number (entries_of s session.user t changes) s, Done (length changes)) long) none seats says
+    writes rs xs m session a t c count changes s w up some one left st home.log
+    ∙ spent_log s (a.log_length + length changes) (written_all w.number (entries_of s session.user t changes) s, Done count) long) none seats says
 
 -- they are
-pub writes_all : (rs : List Stored) (m : ℕ) (r : Result Planned Memory) (session : Session) (a : Space) (t : Table) (c : Counters) (changes : List RowChange) → are_sorted (change_keys changes) ≡ true
-    → (changes ≡ [] → ⊥) → (parts_of rs).counters ≡ c ∷ [] → nat_le (c.next_stamp + length changes) (c.limit + 1) ≡ true → IfOk r (WritesAll rs m session a t changes)
-    → IfOk r (DoesAs rs m session a (write_ascending session.user t changes))
-writes_all rs m (Ok p) session a t c changes up some one left does = λ xs act acts. does xs act (λ s st.
+pub writes_all : (rs : List Stored) (m : ℕ) (r : Result Planned Memory) (session : Session) (a : Space) (t : Table) (c : Counters) (count : ℕ) (changes : List RowChange) → are_sorted (change_keys changes) ≡ true
+    → (changes ≡ [] → ⊥) → (parts_of rs).counters ≡ c ∷ [] → nat_le (c.next_stamp + length changes) (c.limit + 1) ≡ true → IfOk r (WritesAll rs m session a t count changes)
+    → IfOk r (DoesAs rs m session a (write_ascending session.user t count changes))
+writes_all rs m (Ok p) session a t c count changes up some one left does = λ xs act acts. does xs act (λ s st.
     let h = acts s st in
-    h.2 ∙ writes rs xs m session a t c changes s h.0 up some one left st h.1.log
-    ∙ ap (λ n. durably s (a.log_length + length changes) (written_all n (entries_of s session.user t changes) s, Done (length changes))) h.1.number)
-writes_all rs m (Err e) session a t c changes up some one left does = tt
+    h.2 ∙ writes rs xs m session a t c count changes s h.0 up some one left st h.1.log
+    ∙ ap (λ n. durably s (a.log_length + length changes) (written_all n (entries_of s session.user t changes) s, Done count)) h.1.number)
+writes_all rs m (Err e) session a t c count changes up some one left does = tt
 
 -- ---- how many there are
 

@@ -42,8 +42,8 @@ add_there rs m p session a t period shared row key version found rules newest is
 -- none does
 pub add_new : (rs : List Stored) (m : ℕ) (r : Result Planned Memory) (session : Session) (a : Space) (t : Table) (period : Span) (row key : List Value) (version : ℕ) (found : Option Span)
     → version ≡ latest (parts_of rs) session.space → IsFirstShared (parts_of rs) version t.number key period found → key ≡ row_key t row → found ≡ None
-    → IfOk r (DoesAs rs m session a (write_ascending session.user t (added t period row ∷ []))) → IfOk r (DoesAs rs m session a (add_to session.user t period row))
+    → IfOk r (DoesAs rs m session a (write_ascending session.user t 1 (added t period row ∷ []))) → IfOk r (DoesAs rs m session a (add_to session.user t period row))
 add_new rs m r session a t period row key version found newest is key_is none =
-    does_known rs m r session a (write_ascending session.user t (added t period row ∷ [])) (add_to session.user t period row)
+    does_known rs m r session a (write_ascending session.user t 1 (added t period row ∷ [])) (add_to session.user t period row)
     (λ xs s w st home.
     adds_new session.user t period row s w (ap (λ k. taken (content w) t k period) (sym key_is) ∙ taken_is rs xs m session a t key period version found s w newest is st home ∙ none))

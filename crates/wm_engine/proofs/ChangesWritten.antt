@@ -205,10 +205,10 @@ redrawn_is rs version stamp number t changes news dropped drawn news_are of is =
 -- changes written into the newest version of a session's workspace
 pub wrote_all_here : (rs : List Stored) (m : ℕ) (session : Session) (p : Planned) (t : Table) (a : Space) (c : Counters) (changes : List RowChange) (dropped : List ℕ) (drawn : List PieceRecord) (counters_id space_id id count : ℕ) → Changes rs session.space m t a c changes
     → Places rs a c counters_id space_id id → Redrawn rs (latest (parts_of rs) session.space) c.next_stamp t changes dropped drawn → p.changes ≡ changes_batch rs counters_id m c space_id a dropped id t changes drawn
-    → seating_view p.seating ≡ Stay → answer_view p.answer ≡ Done count → count ≡ length changes → WritesAll rs m session a t changes p
-wrote_all_here rs m session p t a c changes dropped drawn counters_id space_id id count served at r changes_are seats says many = λ xs act same.
-    told rs xs m p (changes_batch rs counters_id m c space_id a dropped id t changes drawn) Stay (Done (length changes)) act changes_are seats (says ∙ ap Done many)
-    (does_write rs xs m session.space session.user t changes a c counters_id space_id dropped id drawn act served
+    → seating_view p.seating ≡ Stay → answer_view p.answer ≡ Done count → WritesAll rs m session a t count changes p
+wrote_all_here rs m session p t a c changes dropped drawn counters_id space_id id count served at r changes_are seats says = λ xs act same.
+    told rs xs m p (changes_batch rs counters_id m c space_id a dropped id t changes drawn) Stay (Done count) act changes_are seats says
+    (does_write rs xs m session.space session.user t count changes a c counters_id space_id dropped id drawn act served
     (record { sorted = at.sorted; counters = at.counters; space = at.space; under = under_next id rs at.above; dropped = r.dropped; draws = r.draws })
     (written_once rs a c (stepped_by c m (length changes)) counters_id space_id id (length changes) (is_out_all (latest (parts_of rs) session.space) t.number (change_keys changes)) dropped (new_rows c.next_stamp t changes) drawn at r.dropped r.once r.there)
     same)
@@ -216,10 +216,10 @@ wrote_all_here rs m session p t a c changes dropped drawn counters_id space_id i
 -- and into a version more
 pub wrote_all_above : (rs : List Stored) (m : ℕ) (session : Session) (p : Planned) (t : Table) (a : Space) (c : Counters) (changes : List RowChange) (drawn : List PieceRecord) (counters_id space_id id count : ℕ) → ChangesNew rs session.space m t a c changes
     → Places rs a c counters_id space_id id → AreDrawn (new_pieces c.next_version c.next_stamp t changes) [] drawn → p.changes ≡ changes_new_batch rs counters_id m c space_id a id session.space t changes drawn
-    → seating_view p.seating ≡ Stay → answer_view p.answer ≡ Done count → count ≡ length changes → WritesAll rs m session a t changes p
-wrote_all_above rs m session p t a c changes drawn counters_id space_id id count served at draws changes_are seats says many = λ xs act same.
-    told rs xs m p (changes_new_batch rs counters_id m c space_id a id session.space t changes drawn) Stay (Done (length changes)) act changes_are seats (says ∙ ap Done many)
-    (does_write_new rs xs m session.space session.user t changes a c counters_id space_id id drawn act served
+    → seating_view p.seating ≡ Stay → answer_view p.answer ≡ Done count → WritesAll rs m session a t count changes p
+wrote_all_above rs m session p t a c changes drawn counters_id space_id id count served at draws changes_are seats says = λ xs act same.
+    told rs xs m p (changes_new_batch rs counters_id m c space_id a id session.space t changes drawn) Stay (Done count) act changes_are seats says
+    (does_write_new rs xs m session.space session.user t count changes a c counters_id space_id id drawn act served
     (record { sorted = at.sorted; counters = at.counters; space = at.space; under = under_next id rs at.above }) draws same)
 
 -- ---- a version more has no piece yet
@@ -377,11 +377,11 @@ fits_all_above rs n m t a c changes drawn counters_id space_id id cs served fill
 
 -- ---- where the work is at its end
 
-pub spent_all : (rs : List Stored) (m : ℕ) (session : Session) (p : Planned) (t : Table) (a : Space) (c : Counters) (changes : List RowChange) → keep_rules (parts_of rs) ≡ true → (parts_of rs).counters ≡ c ∷ []
+pub spent_all : (rs : List Stored) (m : ℕ) (session : Session) (p : Planned) (t : Table) (a : Space) (c : Counters) (count : ℕ) (changes : List RowChange) → keep_rules (parts_of rs) ≡ true → (parts_of rs).counters ≡ c ∷ []
     → nat_lt counter_limit (a.log_length + length changes) ≡ false → nat_lt counter_limit (c.work + line_work) ≡ true → p.changes ≡ [] → seating_view p.seating ≡ Stay → answer_view p.answer ≡ at_its_end (codes "WORK")
-    → WritesAll rs m session a t changes p
-spent_all rs m session p t a c changes rules one short much none seats says = λ xs act same.
+    → WritesAll rs m session a t count changes p
+spent_all rs m session p t a c count changes rules one short much none seats says = λ xs act same.
     told rs xs m p [] Stay (at_its_end (codes "WORK")) act none seats says
     (does_nothing rs xs m (at_its_end (codes "WORK")) act rules
     (λ s st. same s st
-    ∙ spent_work s (a.log_length + length changes) (written_all session.space (entries_of s session.user t changes) s, Done (length changes)) short (ap (λ w. nat_lt counter_limit (w + line_work)) (sym (counts_as rs xs m s c st one).work) ∙ much)))
+    ∙ spent_work s (a.log_length + length changes) (written_all session.space (entries_of s session.user t changes) s, Done count) short (ap (λ w. nat_lt counter_limit (w + line_work)) (sym (counts_as rs xs m s c st one).work) ∙ much)))

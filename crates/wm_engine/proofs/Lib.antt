@@ -33,3 +33,4 @@ pub mod KeyAsked
 pub mod Adding
 pub mod Rowing
 pub mod Filled
+pub mod Moving

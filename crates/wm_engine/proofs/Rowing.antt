@@ -1,5 +1,5 @@
 -- What a plan that changes the rows of a table that a session sees does.
-use Rattle.std.proofs.Common.{◌≡◌, ℕ, false, refl, List, map, Option, Result, IfOk, sym, ap, subst, ◌∙◌}
+use Rattle.std.proofs.Common.{◌≡◌, ℕ, false, refl, List, length, map, Option, Result, IfOk, sym, ap, subst, ◌∙◌}
 use Rattle.wm_base.specs.Period.{Span, always}
 use Rattle.wm_base.specs.declared.memory.Memory.{Memory}
 use Rattle.wm_base.specs.declared.row.Row.{Row}
@@ -63,7 +63,7 @@ delete_faults filter = λ table. delete_fault table filter
 
 -- what it does with rows
 abbrev pub deletes : Session → OnRows
-deletes session = λ table period rows. unless_empty rows (λ kept. write_ascending session.user table (map (gone table period) kept))
+deletes session = λ table period rows. unless_empty rows (λ kept. write_ascending session.user table (length kept) (map (gone table period) kept))
 
 abbrev pub delete_acts : Session → Option Cond → Acts
 delete_acts session filter = with_rows session (on_chosen filter (deletes session))
@@ -74,7 +74,7 @@ abbrev pub update_faults : List Set → Option Cond → Table → Option Refusal
 update_faults sets filter = λ table. update_fault table sets filter
 
 abbrev pub updates : Session → List Set → OnRows
-updates session sets = λ table period rows. unless_empty rows (λ kept. replace_all session.user table period kept (updated_rows table sets kept))
+updates session sets = λ table period rows. unless_empty rows (λ kept. replace_all session.user table period sets kept (updated_rows table sets kept))
 
 abbrev pub update_acts : Session → List Set → Option Cond → Acts
 update_acts session sets filter = with_rows session (on_chosen filter (updates session sets))

@@ -114,9 +114,9 @@ counts_on rs xs m n s c d es k st counts stamp moment limit work many q one = re
 }
 
 -- what is done where no counter is at its end
-pub done_is : (s : State) (log k n : ℕ) (c : Counters) (es : List Entry) → CountsAs c s → nat_lt counter_limit (log + k) ≡ false → nat_lt counter_limit (c.work + line_work) ≡ false
-    → durably s (log + k) (written_all n es s, Done k) ≡ (record (written_all n es s) { last_moment = s.moment; work = s.work + line_work }, Done k)
-done_is s log k n c es counts short room = not_spent s (log + k) (written_all n es s, Done k) short (ap (λ w. nat_lt counter_limit (w + line_work)) (sym counts.work) ∙ room)
+pub done_is : (s : State) (log k count n : ℕ) (c : Counters) (es : List Entry) → CountsAs c s → nat_lt counter_limit (log + k) ≡ false → nat_lt counter_limit (c.work + line_work) ≡ false
+    → durably s (log + k) (written_all n es s, Done count) ≡ (record (written_all n es s) { last_moment = s.moment; work = s.work + line_work }, Done count)
+done_is s log k count n c es counts short room = not_spent s (log + k) (written_all n es s, Done count) short (ap (λ w. nat_lt counter_limit (w + line_work)) (sym counts.work) ∙ room)
 
 -- ---- into the newest version
 
@@ -155,18 +155,18 @@ pub record ChangePlaces (rs : List Stored) (counters_id space_id id : ℕ) (c : 
   pub dropped : AreDropped (keeps (is_out_all version t.number (change_keys changes))) ids rs
   pub draws : AreDrawn (new_pieces version c.next_stamp t changes) (go rs version t changes) drawn
 
-pub does_write : (rs : List Stored) (xs : List Session) (m n : ℕ) (user : List ℕ) (t : Table) (changes : List RowChange) (a : Space) (c : Counters) (counters_id space_id : ℕ) (ids : List ℕ) (id : ℕ) (drawn : List PieceRecord)
+pub does_write : (rs : List Stored) (xs : List Session) (m n : ℕ) (user : List ℕ) (t : Table) (count : ℕ) (changes : List RowChange) (a : Space) (c : Counters) (counters_id space_id : ℕ) (ids : List ℕ) (id : ℕ) (drawn : List PieceRecord)
     (act : State → State × Answer) → Changes rs n m t a c changes → ChangePlaces rs counters_id space_id id c a (latest (parts_of rs) n) t ids changes drawn
     → AreChanges (changes_batch rs counters_id m c space_id a ids id t changes drawn)
-    → ((s : State) → StandsAt rs xs m s → act s ≡ durably s (a.log_length + length changes) (written_all n (entries_of s user t changes) s, Done (length changes)))
-    → Does rs xs m (changes_batch rs counters_id m c space_id a ids id t changes drawn) Stay (Done (length changes)) act
-does_write rs xs m n user t changes a c counters_id space_id ids id drawn act v p once same = record {
+    → ((s : State) → StandsAt rs xs m s → act s ≡ durably s (a.log_length + length changes) (written_all n (entries_of s user t changes) s, Done count))
+    → Does rs xs m (changes_batch rs counters_id m c space_id a ids id t changes drawn) Stay (Done count) act
+does_write rs xs m n user t count changes a c counters_id space_id ids id drawn act v p once same = record {
   keeps = subst (λ cs. keep_rules (parts_of (applied cs rs)) ≡ true) (batch_is 0)
       (keep_planned rs counters_id space_id c d a ids id n t.number (es 0) drawn v.new.rules p.sorted p.counters p.space (dropped 0) p.under (may_write_all rs n m 0 user t a c changes v) (draws 0));
   once = once;
   does = λ s st.
       let counts = counts_as rs xs m s c st v.new.one in
-      let is = same s st ∙ done_is s a.log_length (length changes) n c (entries_of s user t changes) counts v.new.short v.new.room in (
+      let is = same s st ∙ done_is s a.log_length (length changes) count n c (entries_of s user t changes) counts v.new.short v.new.room in (
         subst (λ q. StandsAt (applied (changes_batch rs counters_id m c space_id a ids id t changes drawn) rs) xs m q.0) (sym is) (record {
           stands = subst (λ cs. Stands (parts_of (applied cs rs)) (record (written_all n (entries_of s user t changes) s) { last_moment = s.moment; work = s.work + line_work })) (batch_is s.moment)
               (plan_written rs counters_id space_id c d a ids id n t.number (es s.moment) drawn s _ st.stands p.sorted p.counters p.space (dropped s.moment) p.under (may_write_all rs n m s.moment user t a c changes v) (draws s.moment)
@@ -204,7 +204,7 @@ log_is rs xs m n s a st found = by_home (home_is rs xs m s n a st found)
     by_home home = rw home.is (sym (ap (λ (f : SpaceFields). f.log_length) home.fields))
 
 -- the changes are written in the state as the records say
-pub writes_as : (rs : List Stored) (xs : List Session) (m n : ℕ) (user : List ℕ) (t : Table) (changes : List RowChange) (s : State) (a : Space) → StandsAt rs xs m s → space_of (parts_of rs).spaces n ≡ Some a
-    → write_changes n user t changes s ≡ durably s (a.log_length + length changes) (written_all n (entries_of s user t changes) s, Done (length changes))
-writes_as rs xs m n user t changes s a st found =
-    ap (λ log. durably s (log + length changes) (written_all n (entries_of s user t changes) s, Done (length changes))) (log_is rs xs m n s a st found)
+pub writes_as : (rs : List Stored) (xs : List Session) (m n : ℕ) (user : List ℕ) (t : Table) (count : ℕ) (changes : List RowChange) (s : State) (a : Space) → StandsAt rs xs m s → space_of (parts_of rs).spaces n ≡ Some a
+    → write_changes n user t count changes s ≡ durably s (a.log_length + length changes) (written_all n (entries_of s user t changes) s, Done count)
+writes_as rs xs m n user t count changes s a st found =
+    ap (λ log. durably s (log + length changes) (written_all n (entries_of s user t changes) s, Done count)) (log_is rs xs m n s a st found)

@@ -68,17 +68,17 @@ may_write_more rs n m moment user t a c changes v = record {
     same_work : (w : ℕ) → w ≤ w
     same_work w = omega arith
 
-pub does_write_new : (rs : List Stored) (xs : List Session) (m n : ℕ) (user : List ℕ) (t : Table) (changes : List RowChange) (a : Space) (c : Counters) (counters_id space_id id : ℕ) (drawn : List PieceRecord)
+pub does_write_new : (rs : List Stored) (xs : List Session) (m n : ℕ) (user : List ℕ) (t : Table) (count : ℕ) (changes : List RowChange) (a : Space) (c : Counters) (counters_id space_id id : ℕ) (drawn : List PieceRecord)
     (act : State → State × Answer) → ChangesNew rs n m t a c changes → Stage rs counters_id space_id id c a → AreDrawn (new_pieces c.next_version c.next_stamp t changes) [] drawn
-    → ((s : State) → StandsAt rs xs m s → act s ≡ durably s (a.log_length + length changes) (written_all n (entries_of s user t changes) s, Done (length changes)))
-    → Does rs xs m (changes_new_batch rs counters_id m c space_id a id n t changes drawn) Stay (Done (length changes)) act
-does_write_new rs xs m n user t changes a c counters_id space_id id drawn act v p new same = record {
+    → ((s : State) → StandsAt rs xs m s → act s ≡ durably s (a.log_length + length changes) (written_all n (entries_of s user t changes) s, Done count))
+    → Does rs xs m (changes_new_batch rs counters_id m c space_id a id n t changes drawn) Stay (Done count) act
+does_write_new rs xs m n user t count changes a c counters_id space_id id drawn act v p new same = record {
   keeps = subst (λ cs. keep_rules (parts_of (applied cs rs)) ≡ true) (batch_is 0)
       (keep_planned_new rs counters_id space_id id c (versioned c m) d n a w t.number (es 0) drawn v.rules p (may_write_more rs n m 0 user t a c changes v) (draws 0));
   once = changes-write_new counters_id d space_id a (length changes) id w (new_rows c.next_stamp t changes) drawn apart.apart apart.counters apart.space;
   does = λ s st.
       let counts = counts_as rs xs m s c st v.one in
-      let is = same s st ∙ done_is s a.log_length (length changes) n c (entries_of s user t changes) counts v.short v.room in (
+      let is = same s st ∙ done_is s a.log_length (length changes) count n c (entries_of s user t changes) counts v.short v.room in (
         subst (λ q. StandsAt (applied (changes_new_batch rs counters_id m c space_id a id n t changes drawn) rs) xs m q.0) (sym is) (record {
           stands = subst (λ cs. Stands (parts_of (applied cs rs)) (record (written_all n (entries_of s user t changes) s) { last_moment = s.moment; work = s.work + line_work })) (batch_is s.moment)
               (plan_written_new rs counters_id space_id id c (versioned c m) d n a w t.number (es s.moment) drawn s _ st.stands p (may_write_more rs n m s.moment user t a c changes v) (draws s.moment)

@@ -169,7 +169,6 @@ fn change_all(
     requires lasting { list_all (λ (s : SetTree). has_no_empty_period s.becomes) (sets_view sets.now) ≡ true }
     requires stand { all_stand table.now rows.now ≡ true }
     requires overlap { all_overlap table.now within.now rows.now ≡ true }
-    requires as_many { length rows.now ≡ length news.items }
     requires may_replace { MayReplace table.now rows.now news.items }
     ensures does { IfOk result (DoesAs image.now moment session.now space.now (change_all session.now.user table.now within.now (sets_view sets.now) rows.now news.items)) }
     ensures fit { IfOk result (λ p. FitPages p.changes) }

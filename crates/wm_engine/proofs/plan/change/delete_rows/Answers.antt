@@ -1,4 +1,4 @@
-use Rattle.std.proofs.Common.{map, sym, ap, ◌∙◌}
+use Rattle.std.proofs.Common.{length, map, sym, ap, ◌∙◌}
 use Rattle.std.specs.List.{list_all}
 use Rattle.wm_dml.specs.Changing.{gone}
 use Rattle.wm_model.proofs.Changing.{kept_empty, kept_filled}
@@ -13,8 +13,8 @@ pub returns-then-not-are_filled-clause-does : goal.returns-then-not-are_filled-c
 returns-then-not-are_filled-clause-does c =
     let t = c.args.table.now in
     let user = c.args.session.now.user in
-    answers_so c.args.image.now c.args.moment c.answered.result c.args.session.now c.args.space.now (unless_empty c.args.rows.now (λ kept. write_ascending user t (map (gone t c.args.within.now) kept))) not_built c.requires.rules
-    (λ s w. kept_empty c.args.rows.now (λ kept. write_ascending user t (map (gone t c.args.within.now) kept)) s w (sym c.if-not-are_filled.ensures)) c.answered.ensures.changes (ap seating_view c.answered.ensures.seating)
+    answers_so c.args.image.now c.args.moment c.answered.result c.args.session.now c.args.space.now (unless_empty c.args.rows.now (λ kept. write_ascending user t (length kept) (map (gone t c.args.within.now) kept))) not_built c.requires.rules
+    (λ s w. kept_empty c.args.rows.now (λ kept. write_ascending user t (length kept) (map (gone t c.args.within.now) kept)) s w (sym c.if-not-are_filled.ensures)) c.answered.ensures.changes (ap seating_view c.answered.ensures.seating)
     (ap answer_view c.answered.ensures.answer ∙ c.not_built.ensures)
 
 pub write_all-requires-clause-fit : goal.write_all-requires-clause-fit
@@ -31,7 +31,7 @@ returns-clause-does c =
     let t = c.args.table.now in
     let user = c.args.session.now.user in
     does_so c.args.image.now c.args.moment c.write_all.result c.args.session.now c.args.space.now (write_ascending user t c.in_ok-changes.changes.items)
-    (unless_empty c.args.rows.now (λ kept. write_ascending user t (map (gone t c.args.within.now) kept)))
+    (unless_empty c.args.rows.now (λ kept. write_ascending user t (length kept) (map (gone t c.args.within.now) kept)))
     (λ s w.
-    kept_filled c.args.rows.now (λ kept. write_ascending user t (map (gone t c.args.within.now) kept)) s w (sym c.if-not-are_filled.ensures) ∙ ap (λ xs. write_ascending user t xs s w) (sym c.in_ok-changes.ensures.exact))
+    kept_filled c.args.rows.now (λ kept. write_ascending user t (length kept) (map (gone t c.args.within.now) kept)) s w (sym c.if-not-are_filled.ensures) ∙ ap (λ xs. write_ascending user t xs s w) (sym c.in_ok-changes.ensures.exact))
     c.write_all.ensures.does

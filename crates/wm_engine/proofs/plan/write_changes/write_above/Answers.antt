@@ -63,7 +63,7 @@ changes c =
 
 pub returns-clause-does : goal.returns-clause-does
 returns-clause-does c =
-    wrote_all_above c.args.image.now c.args.moment c.args.session.now c.changing.result c.args.writing.now.table.now c.args.writing.now.space.now c.args.writing.now.counters c.args.changes.items c.in_ok-drawn.drawn.drawn.items c.id_of_counters.result c.unwrap-space_id.result c.args.id c.len-count.result c.requires.served
+    wrote_all_above c.args.image.now c.args.moment c.args.session.now c.changing.result c.args.writing.now.table.now c.args.writing.now.space.now c.args.writing.now.counters c.args.changes.items c.in_ok-drawn.drawn.drawn.items c.id_of_counters.result c.unwrap-space_id.result c.args.id c.args.writing.now.rows c.requires.served
     (record {
       sorted = c.id_of_counters.ensures.ascend;
       counters = counters_at c.args.writing.now.counters (parts_of c.args.image.now).counters (record_at c.args.image.now c.id_of_counters.result) c.requires.served.one c.id_of_counters.ensures.there;
@@ -71,7 +71,7 @@ returns-clause-does c =
           (ap (space_of (parts_of c.args.image.now).spaces) c.space-3.ensures ∙ c.requires.served.space);
       above = c.requires.ids;
     })
-    (draws c) (changes c) (ap seating_view c.changing.ensures.seating) (ap answer_view c.changing.ensures.answer) (counted_as c.args.changes c.len-count.result c.len-count.ensures)
+    (draws c) (changes c) (ap seating_view c.changing.ensures.seating) (ap answer_view c.changing.ensures.answer)
 
 pub returns-clause-fit : goal.returns-clause-fit
 returns-clause-fit c =

@@ -1,0 +1,113 @@
+-- What a plan that gives rows new periods does.
+use Rattle.std.proofs.Common.{◌≡◌, ℕ, ◌&&◌, Bool, true, List, [], ◌∷◌, length, map, Option, Some, None, Result, IfOk, refl, sym, ap, subst, ◌∙◌}
+use Rattle.std.specs.List.{list_all}
+use Rattle.std.specs.Option.{option_map, option_or}
+use Rattle.wm_base.specs.Period.{Span}
+use Rattle.wm_base.specs.Trees.{Set}
+use Rattle.wm_base.specs.declared.memory.Memory.{Memory}
+use Rattle.wm_base.specs.declared.row.Row.{Row}
+use Rattle.wm_base.specs.declared.value.Value.{Value}
+use Rattle.wm_dml.specs.Changing.{row_key}
+use Rattle.wm_dml.specs.Moving.{clash_in, left_part, move_of, moved_row, moves_of, moving, shifts_of}
+use Rattle.wm_dml.specs.Standing.{is_change, stands_in}
+use Rattle.wm_dml.specs.declared.moving.Move.{Move}
+use Rattle.wm_dml.specs.declared.moving.Shift.{Shift}
+use Rattle.wm_graph.specs.Parts.{Parts, parts_of}
+use Rattle.wm_graph.specs.Rules.{is_key, is_key_of, is_row_of, keep_rules, key_of}
+use Rattle.wm_image.specs.Listing.{AreSpans}
+use Rattle.wm_making.specs.Rows.{is_filled}
+use Rattle.wm_spec.specs.Lists.{Entry}
+use Rattle.wm_spec.specs.Stretches.{Stretch}
+use Rattle.wm_spec.specs.declared.record.space.Space.{Space}
+use Rattle.wm_spec.specs.declared.record.stored.Stored.{Stored}
+use Rattle.wm_spec.specs.declared.record.table.Table.{Table}
+use Rattle.wm_state.proofs.Listed.{HoldsAll, key_rows}
+use Rattle.wm_state.proofs.Tests.{and_true, both}
+use Rattle.wm_state.specs.Listing.{span_on}
+use Rattle.wm_state.specs.Standing.{latest}
+use Rattle.wm_state.specs.State.{State, Session, Workspace, content}
+use Rattle.wm_model.proofs.Changing.{moves_new, moves_there}
+use Rattle.wm_model.specs.Planning.{StandsAt, Stay}
+use Rattle.wm_model.specs.Step.{clash_at, first_clash, key_there, move_all, write_ascending}
+use Rattle.wm_engine.proofs.Acting.{does_answer, does_known}
+use Rattle.wm_engine.proofs.Fitting.{filled_key}
+use Rattle.wm_engine.specs.Acting.{DoesAs, IsHome}
+use Rattle.wm_engine.specs.Changing.{is_filled_change}
+use Rattle.wm_engine.specs.Moved.{Finds}
+use Rattle.wm_engine.specs.Views.{answer_view, seating_view}
+use Rattle.wm_engine.specs.declared.planned.Planned.{Planned}
+
+-- ---- what new periods meet
+
+-- a clash with the key of the row that moves
+abbrev keyed : Move → Option Span → Option (List Value × Span)
+keyed m found = option_map (λ (p : Span). (m.key, p)) found
+
+-- where the rows of its key stand as the version has them, what a new period meets is what it meets in a list that the version holds
+pub finds_at : (p : Parts) (version : ℕ) (t : Table) (moves : List Move) (m : Move) (spans : List Span) (shifts : List Shift) (found : Option Span)
+    → AreSpans p version t.number m.key spans → shifts ≡ shifts_of m.key moves → found ≡ clash_in shifts spans → Finds p version (λ es. clash_at es t moves m) (keyed m found)
+finds_at p version t moves m spans shifts found are of is = λ es holds.
+    ap (λ (ss : List Stretch). keyed m (clash_in (shifts_of m.key moves) (map span_on ss))) (key_rows p version es t.number m.key are.stretches holds are.are)
+    ∙ ap (λ ps. keyed m (clash_in (shifts_of m.key moves) ps)) (sym are.same) ∙ ap (λ xs. keyed m (clash_in xs spans)) (sym of) ∙ ap (keyed m) (sym is)
+
+-- what is found among all rows that move is what is found among those that are left
+abbrev pub FindsLeft : Parts → ℕ → Table → List Move → List Move → Type 0
+FindsLeft p version t moves left = (es : List Entry) → HoldsAll p version es → first_clash es t moves left ≡ first_clash es t moves moves
+
+-- the first that is left meets something
+pub finds_here : (p : Parts) (version : ℕ) (t : Table) (moves rest : List Move) (m : Move) (found : Option Span) (shared : Span) → FindsLeft p version t moves (m ∷ rest)
+    → Finds p version (λ es. clash_at es t moves m) (keyed m found) → found ≡ Some shared → Finds p version (λ es. first_clash es t moves moves) (Some (m.key, shared))
+finds_here p version t moves rest m found shared left one there = λ es holds.
+    sym (left es holds) ∙ ap (λ o. option_or o (first_clash es t moves rest)) (one es holds ∙ ap (keyed m) there)
+
+-- it meets nothing
+pub finds_on : (p : Parts) (version : ℕ) (t : Table) (moves rest : List Move) (m : Move) (found : Option Span) → FindsLeft p version t moves (m ∷ rest)
+    → Finds p version (λ es. clash_at es t moves m) (keyed m found) → found ≡ None → FindsLeft p version t moves rest
+finds_on p version t moves rest m found left one none = λ es holds.
+    ap (λ o. option_or o (first_clash es t moves rest)) (sym (one es holds ∙ ap (keyed m) none)) ∙ left es holds
+
+-- ---- what is done
+
+-- what they meet in the newest version is what they meet in the workspace
+clash_is : (rs : List Stored) (xs : List Session) (m : ℕ) (session : Session) (a : Space) (t : Table) (moves : List Move) (version : ℕ) (found : Option (List Value × Span)) (s : State) (w : Workspace)
+    → version ≡ latest (parts_of rs) session.space → Finds (parts_of rs) version (λ es. first_clash es t moves moves) found → StandsAt rs xs m s → IsHome s session a w → first_clash (content w) t moves moves ≡ found
+clash_is rs xs m session a t moves version found s w newest finds st home =
+    let at : Finds (parts_of rs) (latest (parts_of rs) session.space) (λ es. first_clash es t moves moves) found = subst (λ v. Finds (parts_of rs) v (λ es. first_clash es t moves moves) found) newest finds in
+    at (content w) (st.stands.latest.told session.space w home.is)
+
+-- a new period overlaps that of another row
+pub move_there : (rs : List Stored) (m : ℕ) (p : Planned) (session : Session) (a : Space) (t : Table) (moves : List Move) (key : List Value) (shared : Span) (version : ℕ) → keep_rules (parts_of rs) ≡ true
+    → version ≡ latest (parts_of rs) session.space → Finds (parts_of rs) version (λ es. first_clash es t moves moves) (Some (key, shared))
+    → p.changes ≡ [] → seating_view p.seating ≡ Stay → answer_view p.answer ≡ key_there key (Some shared) → DoesAs rs m session a (move_all session.user t moves) p
+move_there rs m p session a t moves key shared version rules newest finds none seats says =
+    does_answer rs m p session a (move_all session.user t moves) (key_there key (Some shared)) rules
+    (λ xs s w st home. moves_there session.user t moves key shared s w (clash_is rs xs m session a t moves version (Some (key, shared)) s w newest finds st home))
+    none seats says
+
+-- none does
+pub move_new : (rs : List Stored) (m : ℕ) (r : Result Planned Memory) (session : Session) (a : Space) (t : Table) (moves : List Move) (version : ℕ)
+    → version ≡ latest (parts_of rs) session.space → Finds (parts_of rs) version (λ es. first_clash es t moves moves) None
+    → IfOk r (DoesAs rs m session a (write_ascending session.user t (length moves) (moving moves))) → IfOk r (DoesAs rs m session a (move_all session.user t moves))
+move_new rs m r session a t moves version newest finds =
+    does_known rs m r session a (write_ascending session.user t (length moves) (moving moves)) (move_all session.user t moves)
+    (λ xs s w st home. moves_new session.user t moves s w (clash_is rs xs m session a t moves version None s w newest finds st home))
+
+-- ---- what is written
+
+-- a part of the old period, where a row over its new one is in order
+pub part_fits : (t : Table) (m : Move) (part : Span) → is_change t (moved_row m) ≡ true → is_change t (left_part m part) ≡ true
+part_fits t m part fit = and_true (is_key_of m.key t) true (both (is_key_of m.key t) (is_row_of m.row t && is_key m.key (key_of t m.row)) fit).0 refl
+
+pub part_filled : (m : Move) (part : Span) → is_filled_change (moved_row m) ≡ true → is_filled_change (left_part m part) ≡ true
+part_filled m part filled = and_true (list_all is_filled m.key) true (both (list_all is_filled m.key) (list_all is_filled m.row) filled).0 refl
+
+-- no text is empty in rows that stand in the table
+pub moved_filled : (t : Table) (sets : List Set) (olds : List Row) (news : List (List Value)) → list_all (stands_in t) news ≡ true → list_all (λ (m : Move). is_filled_change (moved_row m)) (moves_of t sets olds news) ≡ true
+moved_filled t sets [] news all = refl
+moved_filled t sets (o ∷ olds) [] all = refl
+moved_filled t sets (o ∷ olds) (r ∷ rs) all =
+    let h = both (stands_in t r) (list_all (stands_in t) rs) all in
+    let k = both (is_row_of r t) (is_key_of (row_key t r) t && list_all is_filled r) h.0 in
+    let f = (both (is_key_of (row_key t r) t) (list_all is_filled r) k.1).1 in
+    and_true (is_filled_change (moved_row (move_of t sets o r))) (list_all (λ (m : Move). is_filled_change (moved_row m)) (moves_of t sets olds rs))
+    (and_true (list_all is_filled (row_key t r)) (list_all is_filled r) (filled_key t r f) f) (moved_filled t sets olds rs h.1)

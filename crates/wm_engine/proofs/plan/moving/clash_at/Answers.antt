@@ -1,0 +1,12 @@
+use Rattle.std.proofs.Common.{◌≡◌, List, ap, sym, ◌∙◌}
+use Rattle.wm_base.specs.Period.{Span}
+use Rattle.wm_dml.specs.Moving.{clash_in}
+use Rattle.wm_dml.specs.declared.moving.Shift.{Shift}
+use Rattle.wm_graph.specs.Parts.{parts_of}
+use Rattle.wm_engine.proofs.Moving.{finds_at}
+use Rattle.wm_engine.proofs.plan.moving.clash_at.Goals as goal
+
+pub returns : goal.returns
+returns c =
+    finds_at (parts_of c.args.image.now) c.args.version c.args.table.now c.args.moves.now c.args.one.now c.in_ok-spans.spans.items c.in_ok-shifts.shifts.items c.clash_in.result c.in_ok-spans.ensures c.in_ok-shifts.ensures
+    (c.clash_in.ensures ∙ ap (λ (xs : List Shift). clash_in xs c.as_slice-2.result.now) c.as_slice.ensures.value ∙ ap (λ (ps : List Span). clash_in c.in_ok-shifts.shifts.items ps) c.as_slice-2.ensures.value)

@@ -1,0 +1,10 @@
+use Rattle.std.proofs.Common.{length}
+use Rattle.wm_graph.specs.Parts.{parts_of}
+use Rattle.wm_engine.proofs.Moving.{FindsLeft}
+use Rattle.wm_engine.proofs.plan.moving.first_clash.Given as goal
+
+abbrev pub invariant-loop-left : goal.invariant-loop-left
+invariant-loop-left l = FindsLeft (parts_of l.image) l.version l.table l.moves l.left
+
+abbrev pub decreases-loop-left : goal.decreases-loop-left
+decreases-loop-left l = length l.left
