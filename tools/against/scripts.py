@@ -79,7 +79,8 @@ PERIODS = [
     "UPDATE @ SET ID = 1 , WM_VALID = NOPE", "UPDATE @ SET WM_VALID = $ , ID = 7", "UPDATE @ SET WM_VALID = $ , WM_VALID = WM_VALID",
     "UPDATE @ SET WM_VALID = ( $ )", "UPDATE @ SET WM_VALID = - $", "UPDATE @ SET WM_VALID = WM_VALID + $", "UPDATE @ SET WM_VALID = $ WHERE 1 = 0",
     "UPDATE @ SET WM_VALID = WM_VALID . VALIDFROM", "UPDATE @ SET WM_VALID = WM_MEETS ( WM_VALID , $ )", "UPDATE @ SET WM_VALID . VALIDTILL = SYSDATE",
-    "UPDATE @ SET @ . WM_VALID = $", "UPDATE @ SET WM_VALID = Z . WM_VALID", "UPDATE @ SET WM_VALID = @ . WM_VALID", "UPDATE @ SET WM_VALID = $ WHERE $ IS NULL"]
+    "UPDATE @ SET @ . WM_VALID = $", "UPDATE @ SET WM_VALID = Z . WM_VALID", "UPDATE @ SET WM_VALID = @ . WM_VALID",
+    "UPDATE @ SET WM_VALID = $ WHERE $ IS NULL"]
 
 
 class Writer:
@@ -410,7 +411,8 @@ class Writer:
         names, table = self.namer([(name, self.shown_of(name))]), self.reference.tables.get(name)
         key, mine, periods = self.one_row(name, session)
         free = [column for place, column in enumerate(self.columns_of(name)) if table is None or place != table.key or self.is_bad()]
-        settings = [f"{column.name} = {self.expression(column.kind, names)}" for column in self.random.sample(free, min(len(free), self.one([0, 0, 0, 1, 2])))]
+        chosen = self.random.sample(free, min(len(free), self.one([0, 0, 0, 1, 2])))
+        settings = [f"{column.name} = {self.expression(column.kind, names)}" for column in chosen]
         moved = self.weighted({self.near(mine, periods): 4 + 4 * len(periods), "WM_VALID": 2 * len(periods), f"{name} . WM_VALID": 1, self.period(): 1})
         if self.is_bad():
             moved = self.one(["NULL", "''", "WM_VALID . VALIDFROM", self.value("number"), self.question(names), "WM_PERIOD ( SYSDATE , SYSDATE )"])
@@ -438,7 +440,8 @@ class Writer:
         some = f"WM_OVERLAPS ( WM_VALID , {self.near(mine, periods)} ) = 1"
         column = self.reference.tables[name].columns[self.reference.tables[name].key]
         of_key = f"{column.name} = {self.time(key) if column.kind == 'time' else printed(key).decode()}"
-        return " WHERE " + self.weighted({f"{of_key} AND {first}": 6, of_key: 4 * len(periods), first: 1, some: 2, f"{of_key} AND {some}": 3, f"{some} AND NOT {of_key}": 1})
+        return " WHERE " + self.weighted({f"{of_key} AND {first}": 6, of_key: 4 * len(periods), first: 1, some: 2, f"{of_key} AND {some}": 3,
+                                          f"{some} AND NOT {of_key}": 1})
 
     def near(self, mine, periods):
         """A period that lies within, over, across, beside or apart from one of a key's periods, and so from the others."""
