@@ -74,15 +74,23 @@ fn is_span(found: Option<Period>, from: u64, till: u64) -> bool {
     }
 }
 
+/// What clashes of two rows of a key that move.
+fn clash_of(one: Shift, other: Shift) -> Option<Period> {
+    let spans = [one.old, other.old];
+    let shifts = [one, other];
+    clash_in(shifts.as_slice(), spans.as_slice())
+}
+
 /// Whether the new periods [10, 20) and [15, 30) of a key clash over [15, 20).
 pub fn new_periods_clash() -> bool {
-    match (shift((0, 5), (10, 20)), shift((5, 9), (15, 30))) {
-        (Some(one), Some(other)) => {
-            let shifts = [one, other];
-            let spans = [one.old, other.old];
-            is_span(clash_in(shifts.as_slice(), spans.as_slice()), 15, 20)
-        }
-        _ => false,
+    let one = shift((0, 5), (10, 20));
+    let other = shift((5, 9), (15, 30));
+    match one {
+        Some(one) => match other {
+            Some(other) => is_span(clash_of(one, other), 15, 20),
+            None => false,
+        },
+        None => false,
     }
 }
 
