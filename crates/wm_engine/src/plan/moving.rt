@@ -21,7 +21,7 @@ use crate::refuse::key_there;
 use crate::session::Session;
 use std::alloc::Global;
 use wm_base::{Key, Memory, Period};
-use wm_dml::{Move, clash_in, moving, shifts_of};
+use wm_dml::{Move, clash_in, moved, shifts_of};
 use wm_image::Image;
 use wm_spec::record::{Space, Table};
 
@@ -91,6 +91,6 @@ pub fn move_all(
         ));
     }
     let count = moves.len() as u64;
-    let changes = moving(alloc, moves)?;
+    let changes = moved(alloc, moves)?;
     write_all(alloc, image, moment, session, space, table, count, changes)
 }
