@@ -41,7 +41,7 @@ gone_periods t within (row ∷ rows) = ap (λ periods. shared (row_period t row)
 -- ---- UPDATE
 
 -- a key of the table's is that of the row
-same_key : (t : Table) (row : List Value) → is_key_of (row_key t row) t ≡ true → is_key (row_key t row) (key_of t row) ≡ true
+pub same_key : (t : Table) (row : List Value) → is_key_of (row_key t row) t ≡ true → is_key (row_key t row) (key_of t row) ≡ true
 same_key t row fits = by_key (key_of t row) refl
   where
     by_key : (o : Option (List Value)) → key_of t row ≡ o → is_key (row_key t row) (key_of t row) ≡ true

@@ -9,3 +9,5 @@ pub mod Paired
 pub mod Changed
 pub mod Held
 pub mod Plain
+pub mod Moves
+pub mod Shifted

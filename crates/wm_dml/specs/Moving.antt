@@ -1,6 +1,6 @@
 -- What an UPDATE makes of rows to which it gives new periods: each row stands over its new period, and is gone where it stood and no new
 -- period of its key is.
-use Rattle.std.specs.Prelude.{ℕ, Bool, not, if◌then◌else◌, List, [], ◌∷◌, ◌++◌, map, filter, unwrap_or, bytes_eq, Option, Some, None}
+use Rattle.std.specs.Prelude.{Bool, not, if◌then◌else◌, List, [], ◌∷◌, ◌++◌, map, filter, unwrap_or, bytes_eq, Option, Some, None}
 use Rattle.std.specs.List.{find, flat_map, list_any}
 use Rattle.std.specs.Option.{option_and_then}
 use Rattle.std.specs.Ordering.{nat_cmp, ordering_then, is_eq, is_lt}

@@ -19,7 +19,7 @@ pub use change::RowChange;
 pub use choosing::chosen;
 pub use deleting::deleted;
 pub use faults::rows_fault;
-pub use moving::{Move, Shift, clash_in, moves_of, moving, shifts_of};
+pub use moving::{Move, Shift, clash_in, moved, moves_of, shifts_of};
 pub use replaced_rows::replacing;
 pub use shown::{all_overlap, declared_values, row_period};
 pub use updated::{sets_period, updated_rows};

@@ -1,22 +1,33 @@
 //! What an UPDATE writes that gives rows new periods.
-ghost use Rattle.std.specs.Prelude.{◌≡◌, Bool, true, IfOk};
-ghost use Rattle.std.specs.List.{list_all, list_any};
-ghost use Rattle.wm_base.specs.Period.{Span, equals};
+ghost use Rattle.std.specs.Prelude.{◌≡◌, ◌∷◌, ◌++◌, [], Bool, true, map, unwrap_or, IfOk, OnOk};
+ghost use Rattle.std.specs.List.{flat_map, list_all, list_any};
+ghost use Rattle.std.specs.Option.{option_and_then};
+ghost use Rattle.wm_base.specs.Period.{Span, always, equals};
 ghost use Rattle.wm_base.specs.Trees.{Set as SetTree};
-ghost use Rattle.wm_base.specs.Views.{sets_view};
-ghost use Rattle.wm_spec.specs.Expressions.{has_no_empty_period};
+ghost use Rattle.wm_base.specs.Views.{expr_view, sets_view};
+ghost use Rattle.wm_select.specs.Sorting.{sorted};
+ghost use Rattle.wm_spec.specs.Expressions.{value_of, has_no_empty_period};
+ghost use Rattle.wm_spec.specs.Operands.{period_of};
+ghost use Rattle.wm_temporal.specs.Uncovered.{free};
+ghost use Rattle.wm_dml.specs.Changing.{own_columns};
 ghost use Rattle.wm_dml.specs.declared.change.RowChange.{RowChange as ChangeOf};
 ghost use Rattle.wm_dml.specs.declared.moving.Move.{Move as MoveOf};
 ghost use Rattle.wm_dml.specs.declared.moving.Shift.{Shift as ShiftOf};
-ghost use Rattle.wm_dml.specs.Moving.{moves_of as moves_of_rows, shifts_of as shifts_of_key, news_of, staying, shared_with, earlier as earlier_of, earliest, clash_in as clash_of, moved_row, left_part, moving as moving_of};
+ghost use Rattle.wm_dml.specs.Moving.{new_period as period_for_row, move_of as move_of_row, moves_of as moves_of_rows, shifts_of as shifts_of_key, news_of, staying, shared_with, earlier as earlier_of, earliest, clash_in as clash_of, moved_row, begins_before, left_part, left_parts, goes_before, moving as moving_of};
 ghost use Rattle.wm_dml.specs.Standing.{change_lasts, is_change, stands_in};
 
 use crate::change::RowChange;
+use crate::keys::row_key;
+use crate::shown::row_period;
+use crate::updated::valid_set;
 use std::alloc::Global;
 use std::cmp::Ordering;
 use wm_base::tree::statement::Set;
-use wm_base::{Key, Memory, Period, Row, Values};
+use wm_base::{Columns, Key, Kind, Memory, Period, Row, Value, Values};
+use wm_expr::{ValueFault, value};
 use wm_spec::record::Table;
+use wm_temporal::push_free;
+use wm_typing::columns_of_table;
 
 /// Where a row stood, and where it will stand.
 #[derive(Clone, Copy)]
@@ -34,6 +45,89 @@ pub struct Move {
     pub row: Values,
 }
 
+/// The period that a value is, and always where it is none.
+fn period_in(value: &Value) -> Period
+    ensures { result ≡ unwrap_or (period_of value.now) always }
+{
+    match value {
+        Value::Span(period) => *period,
+        _ => Period::always(),
+    }
+}
+
+/// The period that a set gives the row.
+fn period_set(alloc: Global, set: &Set, columns: &Columns, row: &Row) -> Result<Period, Memory>
+    requires { has_no_empty_period (expr_view set.now.becomes) ≡ true }
+    ensures { IfOk result (λ period. period ≡ unwrap_or (option_and_then period_of (value_of (expr_view set.now.becomes) columns.now row.now)) always) }
+{
+    match value(alloc, &set.becomes, columns, row) {
+        Ok(value) => Ok(period_in(&value)),
+        Err(ValueFault::OutOfRange) => Ok(Period::always()),
+        Err(ValueFault::Memory) => Err(Memory),
+    }
+}
+
+/// The period that the set of WM_VALID gives the row.
+fn new_period(
+    alloc: Global,
+    table: &Table,
+    columns: &Columns,
+    sets: &[Set],
+    row: &Row,
+) -> Result<Period, Memory>
+    requires lasting { list_all (λ (s : SetTree). has_no_empty_period s.becomes) (sets_view sets.now) ≡ true }
+    requires own { columns.now ≡ own_columns table.now }
+    ensures { IfOk result (λ period. period ≡ period_for_row table.now (sets_view sets.now) row.now) }
+{
+    match valid_set(sets) {
+        Some(set) => period_set(alloc, set, columns, row),
+        None => Ok(Period::always()),
+    }
+}
+
+/// The row in the place of the old one, with where that one stood and where it will stand.
+fn move_of(
+    alloc: Global,
+    table: &Table,
+    columns: &Columns,
+    sets: &[Set],
+    old: &Row,
+    row: Values,
+) -> Result<Move, Memory>
+    requires lasting { list_all (λ (s : SetTree). has_no_empty_period s.becomes) (sets_view sets.now) ≡ true }
+    requires own { columns.now ≡ own_columns table.now }
+    ensures { IfOk result (λ one. one ≡ move_of_row table.now (sets_view sets.now) old.now row) }
+{
+    let shift = Shift {
+        old: row_period(table, old),
+        new: new_period(alloc, table, columns, sets, old)?,
+    };
+    Ok(Move {
+        key: row_key(alloc, table, row.as_slice())?,
+        shift,
+        row,
+    })
+}
+
+/// Each row in the place of the old one that stands where it stands, in order.
+fn all_moves(
+    alloc: Global,
+    table: &Table,
+    sets: &[Set],
+    olds: &[Row],
+    rows: Vec<Values>,
+) -> Result<Vec<Move>, Memory>
+    requires { list_all (λ (s : SetTree). has_no_empty_period s.becomes) (sets_view sets.now) ≡ true }
+    ensures { IfOk result (λ moves. moves.items ≡ moves_of_rows table.now (sets_view sets.now) olds.now rows.items) }
+{
+    let columns = columns_of_table(alloc, &table.name, table)?;
+    let mut moves = Vec::new(alloc);
+    for (old, row) in olds.iter().zip(rows) {
+        moves.push(move_of(alloc, table, &columns, sets, old, row)?)?;
+    }
+    Ok(moves)
+}
+
 /// The rows that the UPDATE made of the shown rows, each with where it stood and will stand, in order.
 pub fn moves_of(
     alloc: Global,
@@ -46,14 +140,21 @@ pub fn moves_of(
     ensures exact { IfOk result (λ moves. moves.items ≡ moves_of_rows table.now (sets_view sets.now) olds.now rows.items) }
     ensures fit { IfOk result (λ moves. list_all (stands_in table.now) rows.items ≡ true → list_all (λ (m : MoveOf). is_change table.now (moved_row m)) moves.items ≡ true) }
 {
-    Err(Memory)
+    let moves = all_moves(alloc, table, sets, olds, rows)?;
+    Ok(moves)
 }
 
 /// Where the rows of a key stood and will stand.
 pub fn shifts_of(alloc: Global, key: &Key, moves: &[Move]) -> Result<Vec<Shift>, Memory>
     ensures { IfOk result (λ shifts. shifts.items ≡ shifts_of_key key.now moves.now) }
 {
-    Err(Memory)
+    let mut shifts = Vec::new(alloc);
+    for one in moves {
+        if one.key.compare(key).is_eq() {
+            shifts.push(one.shift)?;
+        }
+    }
+    Ok(shifts)
 }
 
 /// Whether a row that moves stood over the period.
@@ -78,6 +179,24 @@ fn earlier(best: Option<Period>, other: Period) -> Option<Period>
     }
 }
 
+/// The earlier of a period and of what another shares with one, if a row stays over that.
+fn earlier_staying(
+    best: Option<Period>,
+    period: &Period,
+    shifts: &[Shift],
+    span: &Period,
+) -> Option<Period>
+    ensures { result ≡ earliest best (shared_with period.now (staying shifts.now (span.now ∷ []))) }
+{
+    if is_old(shifts, span) {
+        return best;
+    }
+    match period.cut(span) {
+        Some(shared) => earlier(best, shared),
+        None => best,
+    }
+}
+
 /// The earliest of a period and of what another shares with the rows that stay.
 fn earliest_staying(
     best: Option<Period>,
@@ -89,11 +208,7 @@ fn earliest_staying(
 {
     let mut best = best;
     for span in spans {
-        if !is_old(shifts, span) {
-            if let Some(shared) = period.cut(span) {
-                best = earlier(best, shared);
-            }
-        }
+        best = earlier_staying(best, period, shifts, span);
     }
     best
 }
@@ -126,13 +241,130 @@ pub fn clash_in(shifts: &[Shift], spans: &[Period]) -> Option<Period>
     best
 }
 
+/// The new periods, in order.
+fn new_periods(alloc: Global, shifts: &[Shift]) -> Result<Vec<Period>, Memory>
+    ensures { IfOk result (λ news. news.items ≡ news_of shifts.now) }
+{
+    let mut news = Vec::new(alloc);
+    for shift in shifts {
+        news.push(shift.new)?;
+    }
+    Ok(news)
+}
+
+/// Puts periods in order, by from and then till.
+fn sort_periods(periods: &mut Vec<Period>) -> Result<(), Memory>
+    ensures { OnOk result (periods.new.items ≡ sorted begins_before periods.old.items) }
+{
+    periods.sort_by(|one, other| one.compare(other))?;
+    Ok(())
+}
+
+/// What the new periods of the key leave of the old period of a row, part by part.
+fn parts_left(alloc: Global, moves: &[Move], one: &Move) -> Result<Vec<Period>, Memory>
+    ensures { IfOk result (λ parts. parts.items ≡ free one.now.shift.old.from one.now.shift.old.till (sorted begins_before (news_of (shifts_of_key one.now.key moves.now)))) }
+{
+    let shifts = shifts_of(alloc, &one.key, moves)?;
+    let mut news = new_periods(alloc, shifts.as_slice())?;
+    sort_periods(&mut news)?;
+    let mut parts = Vec::new(alloc);
+    push_free(&mut parts, &one.shift.old, news.as_slice())?;
+    Ok(parts)
+}
+
+/// No row of the key stands over a part of its old period.
+fn gone_from(alloc: Global, one: &Move, part: Period) -> Result<RowChange, Memory>
+    ensures exact { IfOk result (λ change. change ≡ left_part one.now part) }
+    ensures lasting { IfOk result (λ change. change_lasts change ≡ true) }
+{
+    let _till = part.till();
+    Ok(RowChange {
+        key: one.key.copy(alloc)?,
+        period: part,
+        row: None,
+        kind: Kind::Delete,
+    })
+}
+
+/// Writes that no row stands over what the new periods of the key leave of an old one.
+fn push_left(
+    alloc: Global,
+    changes: &mut Vec<RowChange>,
+    moves: &[Move],
+    one: &Move,
+) -> Result<(), Memory>
+    requires { list_all change_lasts changes.old.items ≡ true }
+    ensures exact { OnOk result (changes.new.items ≡ changes.old.items ++ left_parts moves.now one.now) }
+    ensures lasting { OnOk result (list_all change_lasts changes.new.items ≡ true) }
+{
+    let parts = parts_left(alloc, moves, one)?;
+    for part in parts.as_slice() {
+        changes.push(gone_from(alloc, one, *part)?)?;
+    }
+    Ok(())
+}
+
+/// So for all rows that move.
+fn all_left(alloc: Global, moves: &[Move]) -> Result<Vec<RowChange>, Memory>
+    ensures exact { IfOk result (λ changes. changes.items ≡ flat_map (left_parts moves.now) moves.now) }
+    ensures lasting { IfOk result (λ changes. list_all change_lasts changes.items ≡ true) }
+{
+    let mut changes = Vec::new(alloc);
+    for one in moves {
+        push_left(alloc, &mut changes, moves, one)?;
+    }
+    Ok(changes)
+}
+
+/// The row over its new period.
+fn over_new_period(one: Move) -> RowChange
+    ensures exact { result ≡ moved_row one }
+    ensures lasting { change_lasts result ≡ true }
+{
+    let Move { key, shift, row } = one;
+    let _till = shift.new.till();
+    RowChange {
+        key,
+        period: shift.new,
+        row: Some(row),
+        kind: Kind::Update,
+    }
+}
+
+/// Writes each row over its new period.
+fn push_moved(changes: &mut Vec<RowChange>, moves: Vec<Move>) -> Result<(), Memory>
+    requires { list_all change_lasts changes.old.items ≡ true }
+    ensures exact { OnOk result (changes.new.items ≡ changes.old.items ++ map moved_row moves.items) }
+    ensures lasting { OnOk result (list_all change_lasts changes.new.items ≡ true) }
+{
+    for one in moves {
+        changes.push(over_new_period(one))?;
+    }
+    Ok(())
+}
+
+/// Puts changes in order, by key and from.
+fn sort_changes(changes: &mut Vec<RowChange>) -> Result<(), Memory>
+    ensures { OnOk result (changes.new.items ≡ sorted goes_before changes.old.items) }
+{
+    changes.sort_by(|one, other| {
+        one.key
+            .compare(&other.key)
+            .then(one.period.from().cmp(&other.period.from()))
+    })?;
+    Ok(())
+}
+
 /// What the UPDATE writes of rows that move, by key and from: each row over its new period, and no row over what the new
 /// periods of its key leave of its old one.
-pub fn moving(alloc: Global, moves: Vec<Move>) -> Result<Vec<RowChange>, Memory>
+pub fn moved(alloc: Global, moves: Vec<Move>) -> Result<Vec<RowChange>, Memory>
     ensures exact { IfOk result (λ changes. changes.items ≡ moving_of moves.items) }
     ensures lasting { IfOk result (λ changes. list_all change_lasts changes.items ≡ true) }
     // What holds of each row over its new period, and then of a part of the old one, holds of all that is written.
     ensures all { IfOk result (λ changes. (holds : ChangeOf → Bool) → list_all (λ (m : MoveOf). holds (moved_row m)) moves.items ≡ true → ((m : MoveOf) (part : Span) → holds (moved_row m) ≡ true → holds (left_part m part) ≡ true) → list_all holds changes.items ≡ true) }
 {
-    Err(Memory)
+    let mut changes = all_left(alloc, moves.as_slice())?;
+    push_moved(&mut changes, moves)?;
+    sort_changes(&mut changes)?;
+    Ok(changes)
 }

@@ -1,5 +1,6 @@
 //! What becomes of the rows 1|10 and 2|20 of BUD, worked by hand. No tree is let go here: the proof of that is long.
 mod choosing;
+mod moves;
 mod periods;
 mod selecting;
 mod tables;
@@ -7,6 +8,7 @@ mod trees;
 
 use crate::{RowChange, rows_fault, updated_rows};
 use choosing::chosen_where;
+use moves::{new_periods_clash, own_period_is_read, part_is_gone};
 use periods::{CASES, change_of, deleted_in, replaced_in};
 use selecting::answer;
 use std::alloc::Global;
@@ -183,5 +185,13 @@ fn periods_are_cut(rt: HostRuntime) -> Result<(), Fail> {
     for case in CASES.iter() {
         assert!(rt; change_of(alloc, case)?);
     }
+    Ok(())
+}
+
+#[test]
+fn rows_move(rt: HostRuntime) -> Result<(), Fail> {
+    assert!(rt; part_is_gone(rt.alloc())?);
+    assert!(rt; own_period_is_read(rt.alloc())?);
+    assert!(rt; new_periods_clash());
     Ok(())
 }

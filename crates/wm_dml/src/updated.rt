@@ -12,7 +12,7 @@ ghost use Rattle.wm_dml.specs.Changing.{own_columns, sets_period as period_set, 
 
 use std::alloc::Global;
 use wm_base::tree::statement::Set;
-use wm_base::{Columns, Name, Row, Value, Values};
+use wm_base::{Columns, Row, Value, Values};
 use wm_expr::{ValueFault, value};
 use wm_making::stored;
 use wm_spec::record::{Table, TableColumn};
@@ -38,16 +38,30 @@ pub fn sets_period(table: &Table, sets: &[Set]) -> bool
     table.valid && is_valid_set(sets)
 }
 
-/// What sets the column of that name.
-fn set_of<'a>(sets: &'a [Set], name: &Name) -> Option<&'a Set>
+/// What sets the column that has this name.
+fn set_of<'a>(sets: &'a [Set], name: &[u8]) -> Option<&'a Set>
     ensures { option_map set_view (option_copied result) ≡ find (λ (s : SetTree). bytes_eq s.name name.now) (sets_view sets.now) }
 {
     for set in sets {
-        if set.name.equals(name.as_bytes()) {
+        if set.name.equals(name) {
             return Some(set);
         }
     }
     None
+}
+
+/// What sets the column.
+fn column_set<'a>(sets: &'a [Set], column: &TableColumn) -> Option<&'a Set>
+    ensures { option_map set_view (option_copied result) ≡ find (λ (s : SetTree). bytes_eq s.name column.now.name) (sets_view sets.now) }
+{
+    set_of(sets, column.name.as_bytes())
+}
+
+/// What sets WM_VALID.
+pub fn valid_set(sets: &[Set]) -> Option<&Set>
+    ensures { option_map set_view (option_copied result) ≡ find (λ (s : SetTree). bytes_eq s.name wm_valid) (sets_view sets.now) }
+{
+    set_of(sets, b"WM_VALID")
 }
 
 /// The value of an expression for the row, as a row has it.
@@ -73,7 +87,7 @@ fn set_value(
     ensures ok { IfOk result (λ made. value_set columns.now (sets_view sets.now) row.now column.now old.now ≡ Some made) }
     ensures out_of_range { IsErrOf result ValueFault.OutOfRange → value_set columns.now (sets_view sets.now) row.now column.now old.now ≡ None }
 {
-    match set_of(sets, &column.name) {
+    match column_set(sets, column) {
         Some(set) => becomes(alloc, set, columns, row),
         None => old.copy(alloc).map_err(|_| ValueFault::Memory),
     }

@@ -111,7 +111,7 @@ fn changes(
 }
 
 /// Whether the change is of that kind, of key 1 and over that period.
-fn is_change(
+pub fn is_change(
     alloc: Global,
     change: &RowChange,
     kind: Kind,

@@ -10,4 +10,4 @@ use Rattle.wm_dml.proofs.updated.set_value.Goals as goal
 pub becomes-requires : goal.becomes-requires
 becomes-requires c =
     found_passes (λ (s : Set). bytes_eq s.name c.args.column.now.name) (λ (s : Set). has_no_empty_period s.becomes) (sets_view c.args.sets.now) (set_view c.in-Some.set.now)
-    c.requires (sym c.set_of.ensures ∙ ap (λ o. option_map set_view (option_copied o)) c.in-Some.is)
+    c.requires (sym c.column_set.ensures ∙ ap (λ o. option_map set_view (option_copied o)) c.in-Some.is)

@@ -1,0 +1,5 @@
+use Rattle.wm_dml.proofs.Held.{lasts_so}
+use Rattle.wm_dml.proofs.moving.over_new_period.Goals as goal
+
+pub returns-clause-lasting : goal.returns-clause-lasting
+returns-clause-lasting c = lasts_so c.args.one.shift.new c.till-till.ensures.order c.till-till.ensures.bound
