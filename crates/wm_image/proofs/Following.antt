@@ -1,37 +1,19 @@
 -- New pieces that may follow those that are drawn.
-use Rattle.std.proofs.Common.{◌≡◌, ℕ, ◌+◌, ◌<◌, true, not, List, [], ◌∷◌, ◌++◌, length, drop, get_or, refl, sym, ap, subst, ◌∙◌}
+use Rattle.std.proofs.Common.{◌≡◌, ℕ, ◌+◌, ◌<◌, true, not, List, [], ◌∷◌, ◌++◌, length, drop, get_or, sym, ap, subst, ◌∙◌}
 use Rattle.std.proofs.lemmas.List.{drop_more}
 use Rattle.std.specs.List.{list_all}
 use Rattle.std.specs.Ordering.{is_gt}
 use Rattle.wm_base.specs.Key.{key_order}
 use Rattle.wm_base.specs.declared.value.Value.{Value}
 use Rattle.wm_spec.specs.declared.record.piece.PieceRecord.{PieceRecord}
-use Rattle.wm_state.specs.Drawing.{AreNews, are_sorted, has_moments, is_for, piece_keys}
-use Rattle.wm_state.proofs.Tests.{both, and_true}
+use Rattle.wm_state.specs.Drawing.{are_sorted, has_moments, is_for, piece_keys}
+use Rattle.wm_state.proofs.Tests.{both}
 use Rattle.wm_image.specs.Redraw.{CanFollow, hand_keys}
-
--- all of them, where none are drawn
-pub all_follow : (version table : ℕ) (news : List PieceRecord) → AreNews version table news → CanFollow version table [] news
-all_follow version table news are = record { here = are.here; last = are.last; sorted = are.sorted }
 
 -- what stands next
 pub follows : (version table : ℕ) (hand items : List PieceRecord) (n : ℕ) (new : PieceRecord) → (n < length items) × (new ≡ get_or items n new) → CanFollow version table hand (drop n items) → CanFollow version table hand (new ∷ drop (n + 1) items)
 follows version table hand items n new is can =
     subst (CanFollow version table hand) (drop_more items n new is.0 ∙ ap (λ (x : PieceRecord). x ∷ drop (n + 1) items) (sym is.1)) can
-
-pub next_here : (version table : ℕ) (hand rest : List PieceRecord) (new : PieceRecord) → CanFollow version table hand (new ∷ rest) → is_for version table new ≡ true
-next_here version table hand rest new can = (both (is_for version table new) (list_all (is_for version table) rest) can.here).0
-
-pub next_lasts : (version table : ℕ) (hand rest : List PieceRecord) (new : PieceRecord) → CanFollow version table hand (new ∷ rest) → has_moments new ≡ true
-next_lasts version table hand rest new can = (both (has_moments new) (list_all has_moments rest) can.last).0
-
--- of keys that are sorted the first two are
-two_sorted : (k l : List Value) (ls : List (List Value)) → are_sorted (k ∷ l ∷ ls) ≡ true → are_sorted (k ∷ l ∷ []) ≡ true
-two_sorted k l ls up = and_true (not (is_gt (key_order k l))) true (both (not (is_gt (key_order k l))) (are_sorted (l ∷ ls)) up).0 refl
-
-pub next_sorted : (version table : ℕ) (hand rest : List PieceRecord) (new : PieceRecord) → CanFollow version table hand (new ∷ rest) → are_sorted (hand_keys hand ++ new.cells.key ∷ []) ≡ true
-next_sorted version table [] rest new can = refl
-next_sorted version table (x ∷ xs) rest new can = two_sorted x.cells.key new.cells.key (piece_keys rest) can.sorted
 
 -- the others may follow the next one
 pub others_follow : (version table : ℕ) (hand drawn rest : List PieceRecord) (new : PieceRecord) → hand_keys drawn ≡ new.cells.key ∷ [] → CanFollow version table hand (new ∷ rest) → CanFollow version table drawn rest

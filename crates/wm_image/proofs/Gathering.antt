@@ -33,9 +33,9 @@ use Rattle.wm_state.specs.Standing.{stored_at, seen_at, newest_first, seen}
 use Rattle.wm_state.proofs.Apart.{ruled}
 use Rattle.wm_state.proofs.Tests.{both}
 use Rattle.wm_tree.specs.declared.version.Version.{Version as Node}
-use Rattle.wm_image.proofs.Spans.{spans, maximal, value}
+use Rattle.wm_image.proofs.Spans.{maximal, value}
 use Rattle.wm_image.proofs.Spanning.{stretches_are, shown_keyed}
-use Rattle.wm_image.specs.Listing.{AddsRows, IsKeyListing, IsKeyShowing, shown_on}
+use Rattle.wm_image.specs.Listing.{AddsRows, IsKeyShowing, shown_on}
 use Rattle.wm_image.specs.Standing.{stretches_on}
 use Rattle.wm_image.specs.Sought.{PiecesAt, is_sought}
 
@@ -122,10 +122,6 @@ lists_key p version table valid within key old new none more = record {
   are = more.are;
   shown = more.added ∙ ap (λ rows. rows ++ filter_map (row_shown_with p valid within) (map (λ s. (key, s)) more.stretches)) none;
 }
-
--- without valid time all of them are shown
-pub lists_all : (p : Parts) (version table : ℕ) (within : Span) (key : List Value) (rows : List Row) → IsKeyShowing p version table false within key rows → IsKeyListing p version table key rows
-lists_all p version table within key rows is = record { stretches = is.stretches; are = is.are; listed = is.shown }
 
 -- ---- key by key
 

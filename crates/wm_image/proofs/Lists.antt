@@ -35,15 +35,6 @@ AllAbove-less m n (s ∷ ss) lt above = (omega (arith, lt, above.0), AllAbove-le
 without-cons : (id x : ℕ) (xs : List ℕ) → x ≢ id → without id (x ∷ xs) ≡ x ∷ without id xs
 without-cons id x xs away = rw (ne_eqb x id away) refl
 
-without-above : (p : Record → Bool) (id : ℕ) (ss : List Stored) → AllAbove id ss → without id (ids_with p ss) ≡ ids_with p ss
-without-above p id [] above = refl
-without-above p id (s ∷ ss) above = by_test (p s.record) (without-above p id ss above.1)
-  where
-    by_test : (b : Bool) → without id (ids_with p ss) ≡ ids_with p ss
-        → without id (cond b (s.id ∷ ids_with p ss) (ids_with p ss)) ≡ cond b (s.id ∷ ids_with p ss) (ids_with p ss)
-    by_test true rest = without-cons id s.id (ids_with p ss) (λ e. absurd (let lt = above.0 in omega arith)) ∙ ap (λ l. s.id ∷ l) rest
-    by_test false rest = rest
-
 placed-front : (id x : ℕ) (xs : List ℕ) → id < x → placed id (x ∷ xs) ≡ id ∷ x ∷ xs
 placed-front id x xs lt = ap (λ b. cond b (x ∷ placed id xs) (id ∷ x ∷ xs)) (le-ltb x id (omega (arith, lt)))
 

@@ -12,7 +12,6 @@ use Rattle.wm_state.specs.ById.{Ascend, by_id, set_at}
 use Rattle.wm_state.proofs.ById.{one_order, Ascend-by_id, record_at-by_id, record_at-set}
 use Rattle.wm_image.proofs.Listed.{Ascend-listed, record_at-listed, same_test}
 use Rattle.wm_image.proofs.Lists.{record_at-none}
-use Rattle.wm_image.proofs.TableLists.{is_at-number}
 use Rattle.wm_image.specs.Indexed.{listed}
 
 -- what is left of the records, and what was found so far
@@ -49,12 +48,6 @@ pub left_less : (all left rest : List Stored) (s : Stored) (old new : ℕ → Op
     → Left all left old → Left all rest new
 left_less all left rest s old new is found so id =
     so id ∙ ap (λ l. option_or (record_at l id) (old id)) is ∙ record_at-last rest s id (old id) ∙ ap (option_or (record_at rest id)) (sym (found id))
-
--- a look-up in a map with one record more
-pub found-more : (old new : List (ℕ × Record)) (id : ℕ) (r : Record)
-    → ((q : ℕ) → lookup (is_at (nat_cmp q)) new ≡ cond (is_at (nat_cmp id) q) (Some r) (lookup (is_at (nat_cmp q)) old))
-    → (q : ℕ) → lookup (is_at (nat_cmp q)) new ≡ cond (eqb id q) (Some r) (lookup (is_at (nat_cmp q)) old)
-found-more old new id r updates q = updates q ∙ ap (λ b. cond b (Some r) (lookup (is_at (nat_cmp q)) old)) (is_at-number id q)
 
 -- the same of a list
 pub set-more : (ss new : List Stored) (id : ℕ) (r : Record) → Ascend ss → new ≡ set_at id (Some r) ss → (q : ℕ) → record_at new q ≡ cond (eqb id q) (Some r) (record_at ss q)

@@ -1,18 +1,14 @@
 -- Tables found by name.
-use Rattle.std.proofs.Common.{◌≡◌, ℕ, ◌<◌, ◌+◌, Bool, true, false, cond, not, ◌==◌, nat_lt, nat_le, List, [], ◌∷◌, length, get_or, drop, Option, Some, None, Bor, is_some, refl, sym, ap, ◌∙◌}
-use Rattle.std.proofs.lemmas.List.{drop_more}
+use Rattle.std.proofs.Common.{◌≡◌, ℕ, Bool, true, false, cond, not, ◌==◌, nat_lt, nat_le, List, [], ◌∷◌, length, Option, Some, None, Bor, is_some, refl, sym, ap, ◌∙◌}
 use Rattle.std.proofs.lemmas.Slice.Eq.{bytes_eq-Decides}
 use Rattle.std.specs.BTreeMap.{BTreeMap}
-use Rattle.std.specs.Bool.{then_some}
-use Rattle.std.specs.List.{find, filter_map, list_any, list_all, cons_option}
-use Rattle.std.specs.Option.{option_copied, option_or, option_and_then}
+use Rattle.std.specs.List.{find, list_any, list_all}
+use Rattle.std.specs.Option.{option_copied, option_or}
 use Rattle.std.specs.Str.{bytes_eq}
 use Rattle.wm_graph.specs.Parts.{Parts, parts_of, as_table, table_of}
 use Rattle.wm_graph.specs.Rules.{keep_rules, differ, is_table}
-use Rattle.wm_spec.specs.Records.{record_at}
 use Rattle.wm_spec.specs.declared.record.Record.{Record}
 use Rattle.wm_spec.specs.declared.record.Record.TheVariants as records
-use Rattle.wm_spec.specs.declared.record.stored.Stored.{Stored}
 use Rattle.wm_spec.specs.declared.record.table.Table.{Table}
 use Rattle.wm_state.specs.Standing.{by_number, place_table}
 use Rattle.wm_image.proofs.Finding.{Tests}
@@ -20,31 +16,11 @@ use Rattle.wm_image.proofs.Firsts.{sought_kind, filter_all}
 use Rattle.wm_state.proofs.Apart.{ruled}
 use Rattle.wm_state.proofs.Tests.{both, either_false, not_true}
 use Rattle.wm_image.specs.Indexed.{IsIndexed, ids_at, listed}
-use Rattle.wm_image.specs.Shown.{kind_at, passing}
+use Rattle.wm_image.specs.Shown.{kind_at}
 use Rattle.wm_image.specs.Sought.{Tables, is_sought}
 use Rattle.wm_image.specs.declared.index.Index.{Index}
 
 -- ---- loops over ids
-
-find-cons : (p : Table → Bool) (ss : List Stored) (id : ℕ) (ids : List ℕ)
-    → find p (kind_at as_table ss (id ∷ ids)) ≡ option_or (passing p (option_and_then as_table (record_at ss id))) (find p (kind_at as_table ss ids))
-find-cons p ss id ids = by_record (record_at ss id)
-  where
-    by_test : (b : Bool) (t : Table) (rest : Option Table) → cond b (Some t) rest ≡ option_or (then_some b t) rest
-    by_test true t rest = refl
-    by_test false t rest = refl
-
-    by_kind : (k : Option Table) → find p (cons_option k (kind_at as_table ss ids)) ≡ option_or (passing p k) (find p (kind_at as_table ss ids))
-    by_kind None = refl
-    by_kind (Some t) = by_test (p t) t (find p (kind_at as_table ss ids))
-
-    by_record : (o : Option Record) → find p (filter_map as_table (cons_option o (filter_map (record_at ss) ids))) ≡ option_or (passing p (option_and_then as_table o)) (find p (kind_at as_table ss ids))
-    by_record None = refl
-    by_record (Some r) = by_kind (as_table r)
-
-find-at : (p : Table → Bool) (ss : List Stored) (ids : List ℕ) (i : ℕ) → i < length ids
-    → find p (kind_at as_table ss (drop i ids)) ≡ option_or (passing p (option_and_then as_table (record_at ss (get_or ids i 0)))) (find p (kind_at as_table ss (drop (i + 1) ids)))
-find-at p ss ids i within = ap (λ l. find p (kind_at as_table ss l)) (drop_more ids i 0 within) ∙ find-cons p ss (get_or ids i 0) (drop (i + 1) ids)
 
 or_some : (x y : Option Table) → is_some x ≡ true → option_or x y ≡ x
 or_some None y e = cc
@@ -57,16 +33,6 @@ or_none (Some h) y e = cc
 pub some_table : (o : Option (Bor Table)) (b : Bool) → b ≡ is_some o → is_some (option_copied o) ≡ b
 some_table None b e = sym e
 some_table (Some x) b e = sym e
-
-pub table_here : (p : Table → Bool) (ss : List Stored) (ids : List ℕ) (i : ℕ) (x : Option Table) → i < length ids → x ≡ passing p (option_and_then as_table (record_at ss (get_or ids i 0))) → is_some x ≡ true
-    → x ≡ find p (kind_at as_table ss (drop i ids))
-table_here p ss ids i x within is some =
-    sym (or_some x (find p (kind_at as_table ss (drop (i + 1) ids))) some) ∙ ap (λ o. option_or o (find p (kind_at as_table ss (drop (i + 1) ids)))) is ∙ sym (find-at p ss ids i within)
-
-pub table_later : (p : Table → Bool) (ss : List Stored) (ids : List ℕ) (i : ℕ) (x : Option Table) → i < length ids → x ≡ passing p (option_and_then as_table (record_at ss (get_or ids i 0))) → is_some x ≡ false
-    → find p (kind_at as_table ss (drop (i + 1) ids)) ≡ find p (kind_at as_table ss (drop i ids))
-table_later p ss ids i x within is none =
-    sym (or_none x (find p (kind_at as_table ss (drop (i + 1) ids))) none) ∙ ap (λ o. option_or o (find p (kind_at as_table ss (drop (i + 1) ids)))) is ∙ sym (find-at p ss ids i within)
 
 -- ---- by number
 

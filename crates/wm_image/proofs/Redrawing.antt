@@ -1,6 +1,6 @@
 -- What is drawn, key by key.
 use Rattle.std.proofs.Common.{◌≡◌, ◌≢◌, ℕ, ◌==◌, Bool, true, false, cond, not, ◌&&◌, ◌||◌, List, [], ◌∷◌, ◌++◌, append_assoc, Option, Some, None, is_some, refl, sym, ap, subst, ◌∙◌, ◌⊎◌, inl, inr}
-use Rattle.std.proofs.lemmas.Bool.{cases_eq, eq-eqb}
+use Rattle.std.proofs.lemmas.Bool.{cases_eq}
 use Rattle.std.specs.List.{filter, filter_map, flat_map, list_all, list_any}
 use Rattle.std.specs.Ordering.{is_eq, is_lt, is_gt}
 use Rattle.std.specs.declared.cmp.Ordering.{Ordering}
@@ -21,8 +21,7 @@ use Rattle.wm_state.specs.Drawing.{AreDrawn, are_sorted, has_moments, is_for, le
 use Rattle.wm_state.specs.Entries.{is_out_all, same_key}
 use Rattle.wm_state.proofs.Appending.{all_append}
 use Rattle.wm_state.proofs.Drawing.{drawn-nothing, drawn-old, drawn-over}
-use Rattle.wm_state.proofs.DrawingKeys.{drawn-keys, of-away, of-none, out-keys, out-more}
-use Rattle.wm_state.proofs.Forks.{drops_none}
+use Rattle.wm_state.proofs.DrawingKeys.{drawn-keys, of-none, out-keys, out-more}
 use Rattle.wm_state.proofs.Laying.{key_itself, key_same}
 use Rattle.wm_state.proofs.Tests.{both, bool_apart, and_true, all_if, all_push, differ_filter}
 use Rattle.wm_image.proofs.Dropping.{told-with, differ-with}
@@ -274,20 +273,3 @@ draft_ends ss version table news dropped finished [] sorted so =
 draft_ends ss version table news dropped finished (x ∷ xs) sorted a = settle ss version table x.cells.key news dropped finished (x ∷ xs) sorted a
 
 -- ---- a version without such pieces
-
--- nothing goes, and new pieces come over nothing
-pub redrawn_new : (ss : List Stored) (version table : ℕ) (news : List PieceRecord) (dropped : List ℕ) (drawn : List PieceRecord) → IsRedrawn ss version table news dropped drawn
-    → list_all (is_out_all version table (piece_keys news)) (parts_of ss).pieces ≡ true → (dropped ≡ []) × AreDrawn news [] drawn
-redrawn_new ss version table news dropped drawn so away = (
-  none dropped so.gone so.there,
-  subst (λ (xs : List PieceRecord). AreDrawn news xs drawn) (of-away version table (piece_keys news) (parts_of ss).pieces away) so.are,
-)
-  where
-    none : (ids : List ℕ) → AreDropped (keeps (is_out_all version table (piece_keys news))) ids ss → list_all (λ id. is_some (record_at ss id)) ids ≡ true → ids ≡ []
-    none [] gone there = refl
-    none (id ∷ ids) gone there = absurd (by_record (record_at ss id) refl (both (is_some (record_at ss id)) (list_all (λ k. is_some (record_at ss k)) ids) there).0)
-      where
-        by_record : (o : Option Record) → record_at ss id ≡ o → is_some o ≡ true → ⊥
-        by_record None is some = bool_apart (sym some)
-        by_record (Some r) is some =
-            bool_apart (sym (ap (λ b. b || is_dropped ids id) (eq-eqb id id refl)) ∙ gone id r is ∙ sym (drops_none ss (is_out_all version table (piece_keys news)) away id r is))

@@ -1,20 +1,19 @@
 -- The stretches that are made piece by piece are those of the pieces.
-use Rattle.std.proofs.Common.{◌≡◌, ℕ, ◌<◌, ◌≤◌, Bool, true, false, if◌then◌else◌, List, [], ◌∷◌, ◌++◌, map, suc, ◌-◌, length, take, drop, get_or, Option, Some, None, refl, sym, ap, ◌∙◌, append_assoc, arith}
-use Rattle.std.proofs.lemmas.List.{take_all}
+use Rattle.std.proofs.Common.{◌≡◌, ℕ, ◌≤◌, Bool, true, false, if◌then◌else◌, List, [], ◌∷◌, ◌++◌, map, suc, ◌-◌, length, take, drop, get_or, Option, Some, None, refl, sym, ap, ◌∙◌, append_assoc, arith}
+use Rattle.std.proofs.lemmas.List.{map-append, take_all}
 use Rattle.std.proofs.lemmas.List.Elements.{filter_map-append}
 use Rattle.std.specs.List.{cons_option, filter_map}
-use Rattle.std.specs.Option.{option_map, option_or, option_to_list}
+use Rattle.std.specs.Option.{option_map, option_to_list}
 use Rattle.wm_base.specs.Period.{Span}
 use Rattle.wm_base.specs.declared.row.Row.{Row}
 use Rattle.wm_base.specs.declared.value.Value.{Value}
 use Rattle.wm_graph.specs.Parts.{Parts}
 use Rattle.wm_period.specs.declared.piece.Piece.{Piece}
 use Rattle.wm_spec.specs.Stretches.{Stretch}
-use Rattle.wm_state.specs.Listing.{first_shared, row_shown_with, seen_row}
-use Rattle.wm_state.proofs.Shared.{shared-append}
+use Rattle.wm_state.specs.Listing.{row_shown_with, seen_row, span_on}
 use Rattle.wm_image.proofs.Spans.{earlier, meets, span, spans}
 use Rattle.wm_image.specs.Listing.{row_under, shown_on}
-use Rattle.wm_image.specs.Standing.{IsBegun, ending, first_from, from_behind, goes_on, stretch_ending, stretch_of, stretches_from, stretches_on}
+use Rattle.wm_image.specs.Standing.{ending, first_from, from_behind, goes_on, stretch_ending, stretch_of, stretches_from, stretches_on}
 
 -- ---- the stretches
 
@@ -67,23 +66,6 @@ stretches_are ps = (makes ps).whole
 
 -- ---- where their rows begin
 
--- a row that stands on behind a piece began before the next one does
-pub begun_behind : (from : ℕ) (p : Piece) (rest : List Piece) → from < p.period.till → IsBegun (from_behind from p rest) rest
-begun_behind from p [] less = tt
-begun_behind from p (q ∷ qs) less = by_gone p.gone
-  where
-    by_goes : (b : Bool) → goes_on p (q ∷ qs) ≡ b → (if b then from else q.period.from) ≤ q.period.from
-    by_goes true e = let m = meets p q qs e in omega (arith, less, m.meets)
-    by_goes false e = omega arith
-
-    by_gone : (b : Bool) → (if b then q.period.from else (if goes_on p (q ∷ qs) then from else q.period.from)) ≤ q.period.from
-    by_gone true = omega arith
-    by_gone false = by_goes (goes_on p (q ∷ qs)) refl
-
-pub begun_first : (ps : List Piece) → IsBegun (first_from ps) ps
-begun_first [] = tt
-begun_first (p ∷ ps) = omega arith
-
 -- ---- what is made of them
 
 -- what is shown of stretches that belong to one key
@@ -99,12 +81,6 @@ shown_more p valid within ending rest all done new so more =
     ∙ append_assoc done (shown_on p valid within ending) (shown_on p valid within rest)
     ∙ ap (λ rows. done ++ rows) (sym (filter_map-append (λ (s : Stretch). seen_row valid within s (row_under p s.stamp)) ending rest))
     ∙ so
-
-pub shared_none : (period : Span) (ending rest : List Stretch) → first_shared period ending ≡ None → first_shared period (ending ++ rest) ≡ first_shared period rest
-shared_none period ending rest none = shared-append period ending rest ∙ ap (λ (o : Option Span). option_or o (first_shared period rest)) none
-
-pub shared_some : (period found : Span) (ending rest : List Stretch) → first_shared period ending ≡ Some found → first_shared period (ending ++ rest) ≡ Some found
-shared_some period found ending rest some = shared-append period ending rest ∙ ap (λ (o : Option Span). option_or o (first_shared period rest)) some
 
 -- a piece, and the pieces behind it, as the code takes them off the front
 pub taken_off : (left : List Piece) (piece : Piece) → 1 ≤ length left → piece ≡ get_or left 0 piece → left ≡ piece ∷ take (length left - 1) (drop 1 left)
@@ -123,3 +99,19 @@ gone_over p valid within from next piece left all done new some at is so more =
     ap (λ n. new ++ shown_on p valid within (stretches_from n rest)) is
     ∙ shown_more p valid within (stretch_ending from piece rest) (stretches_from (from_behind from piece rest) rest) all done new
     (ap (λ ps. done ++ shown_on p valid within (stretches_from from ps)) (sym (taken_off left piece some at)) ∙ so) more
+
+-- ---- the periods alone
+
+spans_more : (ending rest : List Stretch) (all done new : List Span) → done ++ map span_on (ending ++ rest) ≡ all → new ≡ done ++ map span_on ending → new ++ map span_on rest ≡ all
+spans_more ending rest all done new so more =
+    ap (λ ps. ps ++ map span_on rest) more ∙ append_assoc done (map span_on ending) (map span_on rest) ∙ ap (λ ps. done ++ ps) (sym (map-append span_on ending rest)) ∙ so
+
+-- so where a piece more was gone over
+pub spans_over : (from next : ℕ) (piece : Piece) (left : List Piece) (all done new : List Span) → 1 ≤ length left → piece ≡ get_or left 0 piece
+    → next ≡ from_behind from piece (take (length left - 1) (drop 1 left)) → done ++ map span_on (stretches_from from left) ≡ all
+    → new ≡ done ++ map span_on (stretch_ending from piece (take (length left - 1) (drop 1 left))) → new ++ map span_on (stretches_from next (take (length left - 1) (drop 1 left))) ≡ all
+spans_over from next piece left all done new some at is so more =
+    let rest : List Piece = take (length left - 1) (drop 1 left) in
+    ap (λ n. new ++ map span_on (stretches_from n rest)) is
+    ∙ spans_more (stretch_ending from piece rest) (stretches_from (from_behind from piece rest) rest) all done new
+    (ap (λ ps. done ++ map span_on (stretches_from from ps)) (sym (taken_off left piece some at)) ∙ so) more

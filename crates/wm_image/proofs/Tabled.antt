@@ -1,11 +1,8 @@
 -- How many tables there are, and the number that comes next.
-use Rattle.std.proofs.Common.{◌≡◌, ℕ, ◌+◌, ◌<◌, suc, max, nat_lt, Bool, true, false, cond, List, [], ◌∷◌, length, map, get_or, drop, Option, Some, None, refl, sym, ap, ◌∙◌, arith}
-use Rattle.std.proofs.lemmas.List.{drop_more}
+use Rattle.std.proofs.Common.{◌≡◌, ℕ, ◌+◌, suc, max, nat_lt, Bool, true, false, cond, List, [], ◌∷◌, length, map, refl, sym, ap, ◌∙◌, arith}
 use Rattle.std.specs.BTreeMap.{BTreeMap}
 use Rattle.std.specs.List.{filter_map, cons_option}
-use Rattle.std.specs.Option.{option_and_then}
 use Rattle.wm_graph.specs.Parts.{parts_of, as_table}
-use Rattle.wm_spec.specs.Records.{record_at}
 use Rattle.wm_spec.specs.declared.record.Record.{Record}
 use Rattle.wm_spec.specs.declared.record.Record.TheVariants as records
 use Rattle.wm_spec.specs.declared.record.stored.Stored.{Stored}
@@ -14,7 +11,7 @@ use Rattle.wm_state.specs.Standing.{by_number, place_table}
 use Rattle.wm_state.specs.State.{next_table}
 use Rattle.wm_image.proofs.Naming.{tables_told}
 use Rattle.wm_image.specs.Indexed.{IsIndexed, ids_at, listed}
-use Rattle.wm_image.specs.Shown.{kind_at, past}
+use Rattle.wm_image.specs.Shown.{kind_at}
 use Rattle.wm_image.specs.Sought.{Tables, is_sought, ids_with}
 use Rattle.wm_image.specs.declared.index.Index.{Index}
 
@@ -49,21 +46,6 @@ next-place t (u ∷ us) = by_test (nat_lt u.number t.number) (next-place t us)
 next-by_number : (ts : List Table) → next_table (by_number ts) ≡ next_table ts
 next-by_number [] = refl
 next-by_number (t ∷ ts) = next-place t (by_number ts) ∙ ap (max (t.number + 1)) (next-by_number ts)
-
--- a table more
-pub past-at : (ss : List Stored) (ids : List ℕ) (i n : ℕ) → i < length ids
-    → max (past n (option_and_then as_table (record_at ss (get_or ids i 0)))) (next_table (kind_at as_table ss (drop (i + 1) ids))) ≡ max n (next_table (kind_at as_table ss (drop i ids)))
-past-at ss ids i n within =
-    by_record (record_at ss (get_or ids i 0)) ∙ sym (ap (λ l. max n (next_table (kind_at as_table ss l))) (drop_more ids i 0 within))
-  where
-    by_kind : (k : Option Table) → max (past n k) (next_table (kind_at as_table ss (drop (i + 1) ids))) ≡ max n (next_table (cons_option k (kind_at as_table ss (drop (i + 1) ids))))
-    by_kind None = refl
-    by_kind (Some t) = omega arith
-
-    by_record : (o : Option Record) → max (past n (option_and_then as_table o)) (next_table (kind_at as_table ss (drop (i + 1) ids)))
-        ≡ max n (next_table (filter_map as_table (cons_option o (filter_map (record_at ss) (drop (i + 1) ids)))))
-    by_record None = refl
-    by_record (Some r) = by_kind (as_table r)
 
 -- the number that comes next, told by the index
 pub next_told : (kept : BTreeMap ℕ Record) (x : Index) → IsIndexed kept x → next_table (kind_at as_table (listed kept.entries) (ids_at x Tables)) ≡ next_table (by_number (parts_of (listed kept.entries)).tables)

@@ -1,5 +1,5 @@
 -- Keys that have ids.
-use Rattle.std.proofs.Common.{◌≡◌, ℕ, Bool, true, false, cond, not, ◌||◌, eqb, List, [], ◌∷◌, ◌++◌, length, refl, sym, ap, ◌∙◌, append_assoc, arith}
+use Rattle.std.proofs.Common.{◌≡◌, ℕ, Bool, true, false, cond, not, ◌||◌, eqb, List, [], ◌∷◌, length, refl, sym, ap, ◌∙◌, arith}
 use Rattle.std.proofs.lemmas.Bool.{ne_eqb}
 use Rattle.std.proofs.lemmas.Cmp.{eq_by_cmp_equiv}
 use Rattle.std.proofs.lemmas.Map.Entries.{none_past_head}
@@ -28,18 +28,6 @@ Keyed = List (List Value × Vec ℕ Global)
 pub nil_told : (xs : List ℕ) → eqb (length xs) 0 ≡ is_nil xs
 nil_told [] = refl
 nil_told (x ∷ xs) = ne_eqb (length (x ∷ xs)) 0 (λ e. omega (arith, e))
-
-pub used-cons : (e : List Value × Vec ℕ Global) (es : Keyed) → used (e ∷ []) ++ used es ≡ used (e ∷ es)
-used-cons e es = by_test (is_nil e.1.items)
-  where
-    by_test : (b : Bool) → cond b [] (e.0 ∷ []) ++ used es ≡ cond b (used es) (e.0 ∷ used es)
-    by_test true = refl
-    by_test false = refl
-
--- one entry more was gone through
-pub used_more : (keys new all : List (List Value)) (e : List Value × Vec ℕ Global) (left rest : Keyed) → left ≡ e ∷ rest → new ≡ keys ++ used (e ∷ []) → keys ++ used left ≡ all → new ++ used rest ≡ all
-used_more keys new all e left rest is pushed so =
-    ap (λ l. l ++ used rest) pushed ∙ append_assoc keys (used (e ∷ [])) (used rest) ∙ ap (λ l. keys ++ l) (used-cons e rest ∙ ap used (sym is)) ∙ so
 
 -- ---- in order
 

@@ -1,11 +1,11 @@
 -- The path of a version by the rules, and what is held along it.
-use Rattle.std.proofs.Common.{◌≡◌, ◌≢◌, ◌<◌, ◌+◌, ℕ, Bool, true, false, cond, ◌&&◌, ◌||◌, ◌==◌, nat_lt, nat_le, max, List, [], ◌∷◌, length, get_or, drop, Option, Some, None, Bor, is_some, refl, sym, ap, ◌∙◌, subst, arith, ◌⊎◌, inl, inr}
+use Rattle.std.proofs.Common.{◌≡◌, ◌≢◌, ◌<◌, ◌+◌, ℕ, Bool, true, false, cond, ◌&&◌, ◌||◌, ◌==◌, nat_lt, nat_le, List, [], ◌∷◌, length, get_or, drop, Option, Some, None, is_some, refl, sym, ap, ◌∙◌, subst, arith, ◌⊎◌, inl, inr}
 use Rattle.std.proofs.lemmas.Bool.{cases_eq, eq-eqb, ne_eqb, eqb-true}
 use Rattle.std.proofs.lemmas.List.{drop_more}
 use Rattle.std.specs.Bool.{then_some}
 use Rattle.std.specs.BTreeMap.{BTreeMap}
 use Rattle.std.specs.List.{filter, filter_map, list_all, cons_option}
-use Rattle.std.specs.Option.{IsSome, option_copied, option_map, option_map_or, option_or, option_and_then}
+use Rattle.std.specs.Option.{IsSome, option_map, option_map_or, option_or, option_and_then}
 use Rattle.std.specs.Ordering.{is_eq}
 use Rattle.wm_base.specs.Key.{key_order}
 use Rattle.wm_graph.specs.Parts.{Parts, parts_of, version_of, space_of, as_piece, as_version}
@@ -27,7 +27,7 @@ use Rattle.wm_tree.proofs.Paths.{found, path_in-there, path_in-none}
 use Rattle.wm_image.proofs.Finding.{all_of, all_sought, filter-kind, versions_test}
 use Rattle.wm_image.proofs.Newest.{both, Stands, AllStand, AllStand-grow, tree_of, Descends-newest, version_in-newest, latest_in-greatest}
 use Rattle.wm_image.specs.Indexed.{IsIndexed, ids_at, listed}
-use Rattle.wm_image.specs.Shown.{kind_at, greatest, newer, has_at, held_here, first_held, along}
+use Rattle.wm_image.specs.Shown.{kind_at, greatest, has_at, held_here, first_held, along}
 use Rattle.wm_image.specs.Sought.{VersionsOf, PiecesAt, is_sought}
 use Rattle.wm_image.specs.declared.index.Index.{Index}
 
@@ -174,41 +174,6 @@ pub piece_found : (ss : List Stored) (ids : List ℕ) (i v t : ℕ) (x : Option 
     → x ≡ first_held (kind_at as_piece ss (drop i ids)) v t
 piece_found ss ids i v t x within is some =
     sym (or_some x (first_held (kind_at as_piece ss (drop (i + 1) ids)) v t) some) ∙ ap (λ o. option_or o (first_held (kind_at as_piece ss (drop (i + 1) ids)) v t)) is ∙ sym (held-at ss ids i v t within)
-
-pub piece_not_found : (ss : List Stored) (ids : List ℕ) (i v t : ℕ) (x : Option Held) → i < length ids → x ≡ held_here (option_and_then as_piece (record_at ss (get_or ids i 0))) v t → is_some x ≡ false
-    → first_held (kind_at as_piece ss (drop (i + 1) ids)) v t ≡ first_held (kind_at as_piece ss (drop i ids)) v t
-piece_not_found ss ids i v t x within is none =
-    sym (or_none x (first_held (kind_at as_piece ss (drop (i + 1) ids)) v t) none) ∙ ap (λ o. option_or o (first_held (kind_at as_piece ss (drop (i + 1) ids)) v t)) is ∙ sym (held-at ss ids i v t within)
-
--- what is said of a piece is there where the piece is
-pub some_told : (o : Option (Bor PieceRecord)) (b : Bool) → b ≡ is_some o → is_some (option_map held_by (option_copied o)) ≡ b
-some_told None b e = sym e
-some_told (Some x) b e = sym e
-
--- the same along a path
-pub near_found : (f : ℕ → Option Held) (path rest : List ℕ) (n : ℕ) (x : Option Held) → path ≡ n ∷ rest → x ≡ f n → is_some x ≡ true → x ≡ along f path
-near_found f path rest n x is here some = sym (or_some x (along f rest) some) ∙ ap (λ o. option_or o (along f rest)) here ∙ sym (ap (along f) is)
-
-pub near_on : (f : ℕ → Option Held) (path rest : List ℕ) (n : ℕ) (x : Option Held) → path ≡ n ∷ rest → x ≡ f n → is_some x ≡ false → along f rest ≡ along f path
-near_on f path rest n x is here none = sym (or_none x (along f rest) none) ∙ ap (λ o. option_or o (along f rest)) here ∙ sym (ap (along f) is)
-
--- a version more
-pub newer-at : (ss : List Stored) (ids : List ℕ) (i n : ℕ) → i < length ids
-    → max (newer n (option_and_then as_version (record_at ss (get_or ids i 0)))) (greatest (kind_at as_version ss (drop (i + 1) ids))) ≡ max n (greatest (kind_at as_version ss (drop i ids)))
-newer-at ss ids i n within =
-    by_record (record_at ss (get_or ids i 0)) ∙ sym (ap (λ l. max n (greatest (kind_at as_version ss l))) (drop_more ids i 0 within))
-  where
-    rest : List Version
-    rest = kind_at as_version ss (drop (i + 1) ids)
-
-    by_kind : (k : Option Version) → max (newer n k) (greatest (kind_at as_version ss (drop (i + 1) ids))) ≡ max n (greatest (cons_option k (kind_at as_version ss (drop (i + 1) ids))))
-    by_kind None = refl
-    by_kind (Some v) = omega arith
-
-    by_record : (o : Option Record) → max (newer n (option_and_then as_version o)) (greatest (kind_at as_version ss (drop (i + 1) ids)))
-        ≡ max n (greatest (filter_map as_version (cons_option o (filter_map (record_at ss) (drop (i + 1) ids)))))
-    by_record None = refl
-    by_record (Some r) = by_kind (as_version r)
 
 -- ---- what an index tells
 

@@ -8,7 +8,7 @@ use Rattle.wm_base.specs.declared.value.Value.{Value}
 use Rattle.wm_graph.specs.Parts.{Parts, row_of}
 use Rattle.wm_spec.specs.Stretches.{Stretch}
 use Rattle.wm_spec.specs.declared.record.row.RowRecord.{RowRecord}
-use Rattle.wm_state.specs.Listing.{AreRowsOf, first_shared, row_shown_with, row_with, seen_row, span_on}
+use Rattle.wm_state.specs.Listing.{AreRowsOf, first_shared, row_shown_with, seen_row, span_on}
 
 -- the row of a stamp, without the stamp
 abbrev pub row_under : Parts → ℕ → Option Row
@@ -24,13 +24,7 @@ pub record AddsRows (p : Parts) (version table : ℕ) (valid : Bool) (within : S
   pub are : AreRowsOf p version table key stretches
   pub added : new ≡ old ++ filter_map (row_shown_with p valid within) (map (λ s. (key, s)) stretches)
 
--- the rows of one key that a version holds, by from
-pub record IsKeyListing (p : Parts) (version table : ℕ) (key : List Value) (rows : List Row) : Type 0 where
-  pub stretches : List Stretch
-  pub are : AreRowsOf p version table key stretches
-  pub listed : rows ≡ filter_map (row_with p) (map (λ s. (key, s)) stretches)
-
--- what is shown of them
+-- what is shown of the rows of one key that a version holds, by from
 pub record IsKeyShowing (p : Parts) (version table : ℕ) (valid : Bool) (within : Span) (key : List Value) (rows : List Row) : Type 0 where
   pub stretches : List Stretch
   pub are : AreRowsOf p version table key stretches

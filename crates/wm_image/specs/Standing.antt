@@ -1,5 +1,5 @@
 -- The stretches of the rows that stand on the pieces of a key, piece by piece.
-use Rattle.std.specs.Prelude.{ℕ, ◌≤◌, Bool, false, not, ◌&&◌, ◌||◌, ◌==◌, if◌then◌else◌, List, [], ◌∷◌, ◌++◌, Option, None, Some}
+use Rattle.std.specs.Prelude.{ℕ, ◌≤◌, Bool, false, not, ◌&&◌, ◌==◌, if◌then◌else◌, List, [], ◌∷◌, ◌++◌, Option, None, Some}
 use Rattle.std.specs.Option.{option_map, option_to_list}
 use Rattle.wm_base.specs.Period.{Span}
 use Rattle.wm_period.specs.declared.piece.Piece.{Piece}

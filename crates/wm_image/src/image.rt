@@ -1,4 +1,4 @@
-ghost use Rattle.std.specs.Prelude.{◌≡◌, ◌<◌, ◌≤◌, ◌+◌, ◌^◌, ◌==◌, ◌||◌, nat_lt, ℕ, not, length, List, map, [], ◌∷◌, true, false, None, option_map, is_some, IsSome, IfSome, IfNone, IfOk, IfErr, OnOk, OnErr};
+ghost use Rattle.std.specs.Prelude.{◌≡◌, ◌<◌, ◌≤◌, ◌+◌, ◌^◌, ◌==◌, ◌||◌, nat_lt, ℕ, not, length, List, map, [], ◌∷◌, true, false, None, is_some, IsSome, IfSome, IfNone, IfOk, IfErr, OnOk, OnErr};
 ghost use Rattle.std.specs.List.{count_by, find, list_all, list_any};
 ghost use Rattle.std.specs.List.Sorted.{IsStrictlySortedBy};
 ghost use Rattle.std.specs.Ordering.{is_eq};
@@ -15,17 +15,16 @@ ghost use Rattle.wm_graph.specs.Parts.{as_counters, as_space, as_table, parts_of
 ghost use Rattle.wm_graph.specs.Rules.{keep_rules};
 ghost use Rattle.wm_spec.specs.Records.{AreRecords, record_at};
 ghost use Rattle.wm_image.specs.Sought.{PiecesAt, ids_with, is_sought};
-ghost use Rattle.wm_state.specs.Batches.{is_out, keeps};
 ghost use Rattle.wm_state.specs.ById.{Ascend, applied, by_id};
 ghost use Rattle.wm_state.specs.Drawing.{AreNews};
-ghost use Rattle.wm_image.specs.Listing.{AreSpans, IsFirstShared, IsKeyListing, IsKeyShowing};
+ghost use Rattle.wm_image.specs.Listing.{AreSpans, IsFirstShared, IsKeyShowing};
 ghost use Rattle.wm_image.specs.Redraw.{IsRedrawn};
 ghost use Rattle.wm_image.specs.Shown.{names};
 ghost use Rattle.wm_spec.specs.declared.record.savepoint.Savepoint.{Savepoint as OneSavepoint};
 ghost use Rattle.wm_spec.specs.declared.record.space.Space.{Space as OneSpace};
 ghost use Rattle.wm_state.specs.Effects.{IsFree};
-ghost use Rattle.wm_state.specs.Listing.{IsListing, IsShowing};
-ghost use Rattle.wm_state.specs.Standing.{by_number, held_by, latest, saved_as, saved_in, seen};
+ghost use Rattle.wm_state.specs.Listing.{IsShowing};
+ghost use Rattle.wm_state.specs.Standing.{by_number, latest, saved_as, saved_in, seen};
 ghost use Rattle.wm_state.specs.State.{next_table};
 
 use crate::ids::{are_empty, first_id};
@@ -39,13 +38,13 @@ use crate::overlap::{find_shared, find_spans};
 use crate::records::{Kept, at, change_all, first, next_id};
 use crate::redraw::{Redrawn, redraw};
 use crate::savepoints::{making_after, savepoint_in, savepoint_of_name};
-use crate::shown::{latest_of, nearest, own_ids, version_at};
+use crate::shown::{latest_of, version_at};
 use crate::spaces::{number_after, space_of_name};
 use crate::tables::{after_last, first_named, first_numbered, id_named};
 use std::alloc::Global;
 use std::collections::BTreeMap;
 use std::marker::Model;
-use wm_base::{Instant, Key, Memory, Period, RowList};
+use wm_base::{Key, Memory, Period, RowList};
 use wm_graph::keeps_rules;
 use wm_period::Pieces;
 use wm_spec::record::{
@@ -277,22 +276,6 @@ impl Image {
         )
     }
 
-    /// The piece that a version has at a moment for a key of a table: that of the nearest version on its path. Only
-    /// the pieces of that key are looked at.
-    pub fn shown_at(
-        &self,
-        version: u64,
-        table: u16,
-        key: &Key,
-        time: Instant,
-    ) -> Option<&PieceRecord>
-        requires { keep_rules (parts_of self.now) ≡ true }
-        ensures { option_map held_by (option_copied result) ≡ seen (parts_of self.now) version (record { table = table; key = key.now; time = time }) }
-    {
-        let ids = ids_on(&self.index.pieces, table, key);
-        nearest(&self.kept, &self.index, ids, version, time.seconds())
-    }
-
     /// All that a version has for a key of a table.
     pub fn shown(
         &self,
@@ -314,22 +297,6 @@ impl Image {
         ensures { result.now ≡ ids_with (is_sought (PiecesAt table key.now)) self.now }
     {
         ids_on(&self.index.pieces, table, key)
-    }
-
-    /// The ids of the pieces that a version itself has for a key of a table, in order. Only the pieces of that key
-    /// are looked at.
-    pub fn pieces_in(
-        &self,
-        alloc: Global,
-        version: u64,
-        table: u16,
-        key: &Key,
-    ) -> Result<Vec<u64>, Memory>
-        ensures { IfOk result (λ ids. ids.items ≡ ids_with (λ r. not (keeps (is_out version table key.now) r)) self.now) }
-    {
-        let ids = ids_on(&self.index.pieces, table, key);
-        let own = own_ids(alloc, &self.kept, ids, version)?;
-        Ok(own)
     }
 
     /// What goes of the records, and what comes, where new pieces come over those that a version has of a table. Only
@@ -363,42 +330,6 @@ impl Image {
         ensures { option_copied result ≡ row_of (parts_of self.now).rows stamp }
     {
         kinds::row_of(first(&self.kept, ids_of(&self.index.rows, &stamp)))
-    }
-
-    /// The rows of a table that a version holds, by key and from.
-    pub fn listing(&self, alloc: Global, version: u64, table: u16) -> Result<RowList, Memory>
-        requires { keep_rules (parts_of self.now) ≡ true }
-        ensures { IfOk result (λ rows. IsListing (parts_of self.now) version table rows) }
-    {
-        let asked = Asked {
-            version,
-            table,
-            valid: false,
-            within: Period::always(),
-        };
-        let rows = list_rows(alloc, self, &asked)?;
-        Ok(rows)
-    }
-
-    /// The rows of a key of a table that a version holds, by from. The rest of the table is not looked at.
-    pub fn listing_of_key(
-        &self,
-        alloc: Global,
-        version: u64,
-        table: u16,
-        key: &Key,
-    ) -> Result<RowList, Memory>
-        requires { keep_rules (parts_of self.now) ≡ true }
-        ensures { IfOk result (λ rows. IsKeyListing (parts_of self.now) version table key.now rows) }
-    {
-        let asked = Asked {
-            version,
-            table,
-            valid: false,
-            within: Period::always(),
-        };
-        let rows = list_key(alloc, self, &asked, key)?;
-        Ok(rows)
     }
 
     /// What is shown of the rows of a table that a version holds, by key and from: the rows; where the table has valid

@@ -57,6 +57,22 @@ pub fn find_shared(
     Ok(found)
 }
 
+/// Puts the whole period of the row of a piece behind others, where it stands on the piece and not behind it.
+fn push_span(
+    spans: &mut Vec<Period>,
+    from: Instant,
+    piece: &Piece,
+    rest: &[Piece],
+) -> Result<(), Memory>
+    requires { IsBegun from (piece.now ∷ rest.now) }
+    ensures { OnOk result (spans.new.items ≡ spans.old.items ++ map span_on (stretch_ending from piece.now rest.now)) }
+{
+    if let Some(whole) = ending(from, piece, rest) {
+        spans.push(whole)?;
+    }
+    Ok(())
+}
+
 /// Puts the periods over which the rows of pieces stand behind others.
 fn push_spans(spans: &mut Vec<Period>, pieces: &[Piece]) -> Result<(), Memory>
     ensures { OnOk result (spans.new.items ≡ spans.old.items ++ map span_on (stretches_on pieces.now)) }
@@ -64,9 +80,7 @@ fn push_spans(spans: &mut Vec<Period>, pieces: &[Piece]) -> Result<(), Memory>
     let mut left = pieces;
     let mut from = first_from(pieces);
     while let [piece, rest @ ..] = left {
-        if let Some(whole) = ending(from, piece, rest) {
-            spans.push(whole)?;
-        }
+        push_span(spans, from, piece, rest)?;
         from = from_behind(from, piece, rest);
         left = rest;
     }

@@ -1,17 +1,15 @@
 //! What the versions of a workspace hold.
 
-ghost use Rattle.std.specs.Prelude.{◌≡◌, true, option_map, IfOk};
+ghost use Rattle.std.specs.Prelude.{◌≡◌, IfOk};
 ghost use Rattle.std.specs.List.{filter};
-ghost use Rattle.std.specs.Option.{option_copied, option_and_then};
-ghost use Rattle.wm_graph.specs.Parts.{parts_of, as_piece, as_version};
-ghost use Rattle.wm_graph.specs.Rules.{keep_rules};
+ghost use Rattle.std.specs.Option.{option_copied};
+ghost use Rattle.wm_graph.specs.Parts.{parts_of, as_version};
 ghost use Rattle.wm_image.specs.Indexed.{IsIndexed, listed};
-ghost use Rattle.wm_image.specs.Shown.{along, first_held, greatest, held_here, kind_at, newer};
+ghost use Rattle.wm_image.specs.Shown.{greatest, kind_at, newer};
 ghost use Rattle.wm_spec.specs.Records.{record_at};
 ghost use Rattle.wm_image.specs.Sought.{has_version};
-ghost use Rattle.wm_state.specs.Standing.{held_by, latest, newest_first};
+ghost use Rattle.wm_state.specs.Standing.{latest};
 ghost use Rattle.wm_graph.specs.Parts as parts;
-ghost use Rattle.wm_tree.specs.Versions.{path_in};
 
 use crate::index::Index;
 use crate::keyed::ids_of;
@@ -19,7 +17,7 @@ use crate::kinds::version_of;
 use crate::records::{Kept, at, first};
 use std::alloc::Global;
 use wm_base::Memory;
-use wm_spec::record::{PieceRecord, Record, Version};
+use wm_spec::record::{Record, Version};
 
 /// The version of a number.
 pub fn version_at(kept: &Kept, index: &Index, number: u64) -> Option<Version>
@@ -58,22 +56,6 @@ pub fn latest_of(kept: &Kept, index: &Index, space: u32) -> u64
     greatest_of(kept, ids_of(&index.versions_of, &space))
 }
 
-/// A record that is a piece of a version and covers a moment.
-fn covering(found: Option<&Record>, version: u64, time: u64) -> Option<&PieceRecord>
-    ensures { option_map held_by (option_copied result) ≡ held_here (option_and_then as_piece (option_copied found.entry)) version time }
-{
-    match found {
-        Some(Record::Piece(piece)) => {
-            if piece.version == version && piece.cells.from <= time && time < piece.cells.till {
-                Some(piece)
-            } else {
-                None
-            }
-        }
-        _ => None,
-    }
-}
-
 /// Whether a record is a piece of a version.
 fn is_own(found: Option<&Record>, version: u64) -> bool
     ensures { result ≡ has_version version (option_copied found.entry) }
@@ -95,40 +77,4 @@ pub fn own_ids(alloc: Global, kept: &Kept, ids: &[u64], version: u64) -> Result<
         }
     }
     Ok(own)
-}
-
-/// The first of some pieces of one table and key that is of a version and covers a moment.
-fn piece_among<'a>(kept: &'a Kept, ids: &[u64], version: u64, time: u64) -> Option<&'a PieceRecord>
-    ensures { option_map held_by (option_copied result) ≡ first_held (kind_at as_piece (listed kept.now.entries) ids.now) version time }
-{
-    for id in ids {
-        let found = covering(at(kept, *id), version, time);
-        if found.is_some() {
-            return found;
-        }
-    }
-    None
-}
-
-/// What the nearest version on the path of one has at a moment, among pieces of one table and key.
-pub fn nearest<'a>(
-    kept: &'a Kept,
-    index: &Index,
-    ids: &[u64],
-    version: u64,
-    time: u64,
-) -> Option<&'a PieceRecord>
-    requires indexed { IsIndexed kept.now index.now }
-    requires rules { keep_rules (parts_of (listed kept.now.entries)) ≡ true }
-    ensures { option_map held_by (option_copied result) ≡ along (λ v. first_held (kind_at as_piece (listed kept.now.entries) ids.now) v time) (path_in (newest_first (parts_of (listed kept.now.entries)).versions) version) }
-{
-    let mut number = version;
-    while let Some(node) = version_at(kept, index, number) {
-        let found = piece_among(kept, ids, number, time);
-        if found.is_some() {
-            return found;
-        }
-        number = node.parent;
-    }
-    None
 }

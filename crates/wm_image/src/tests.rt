@@ -95,7 +95,6 @@ fn records_come(rt: HostRuntime) -> Result<(), Fail> {
     let key = Key::single(alloc, Value::Num(7))?;
     assert_eq!(rt; image.pieces_of(1, &key), [7, 9].as_slice());
     assert_eq!(rt; image.pieces_of(2, &key).len(), 0);
-    assert_eq!(rt; image.pieces_in(alloc, 2, 1, &key)?, vec![in alloc; 9]?);
     assert_eq!(rt; image.keys(alloc, 1)?.len(), 1);
     assert_eq!(rt; image.keys(alloc, 2)?.len(), 0);
     Ok(())
@@ -229,29 +228,7 @@ fn a_store_is_loaded(rt: HostRuntime) -> Result<(), Fail> {
         (image.id_of_table(b"T"), image.id_of_table(b"U")),
         (Some(4), None)
     );
-    let time = Instant::new(12).ok_or("an instant")?;
-    assert!(rt; image.shown_at(2, 1, &key, time).is_some());
-    assert!(rt; image.shown_at(2, 1, &key, Instant::beginning()).is_none());
     assert_eq!(rt; image.shown(alloc, 2, 1, &key)?.len(), 2);
-    Ok(())
-}
-
-/// A row that stands on pieces that meet is listed once.
-#[test]
-fn rows_are_listed(rt: HostRuntime) -> Result<(), Fail> {
-    let alloc = rt.alloc();
-    let records = small_store(alloc)?;
-    let Ok(image) = Image::load(alloc, records) else {
-        return Ok(());
-    };
-    let rows = image.listing(alloc, 2, 1)?;
-    assert_eq!(rt; rows.len(), 1);
-    assert_eq!(rt;
-        rows.as_slice()[0].values.as_slice(),
-        [Value::Num(7)].as_slice()
-    );
-    assert_eq!(rt; image.listing(alloc, 2, 2)?.len(), 0);
-    assert_eq!(rt; image.listing(alloc, 9, 1)?.len(), 0);
     Ok(())
 }
 
