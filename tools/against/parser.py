@@ -202,7 +202,6 @@ class Parser:
 
     def setting(self):
         name = self.any_column()
-        self.is_later |= name.name == "WM_VALID"
         self.take("=")
         return name, self.expression()
 

@@ -435,14 +435,14 @@ class Reference:
         [table] = self.used([tree.table])
         scope = Scope([(table.name, table)])
         names = [name.name for name, _ in tree.settings]
-        trees = [value for _, value in tree.settings] + [tree.condition]
-        bad = [(name.at, name.name) for place, (name, _) in enumerate(tree.settings)
-               if not scope.places(name) or name.name in names[:place]]
+        trees = [part for setting in tree.settings for part in setting] + [tree.condition]
+        bad = [(name.at, name.name) for place, (name, _) in enumerate(tree.settings) if name.name in names[:place]]
         bad += [fault for one in trees for fault in scope.bad_names(one)]
         if bad:
             refuse("WM-012 no column", first_of(bad))
-        places = [scope.place(name) for name, _ in tree.settings]
-        bad = [fault for place, (_, value) in zip(places, tree.settings) for fault in scope.misfits(table.columns[place], value)]
+        columns = [*table.columns, WM_VALID]
+        places = [[column.name for column in columns].index(name) for name in names]
+        bad = [fault for place, (_, value) in zip(places, tree.settings) for fault in scope.misfits(columns[place], value)]
         bad += scope.bad_kinds(tree.condition)
         if bad:
             refuse("WM-013 type", first_of(bad))
@@ -451,18 +451,36 @@ class Reference:
         self.test_lacking(scope, trees)
         self.at_latest(session)
         self.test_periods()
-        changes = []
+        changes = []  # the old period, the new one and the new row
         for (period, values), row in zip(self.pieces(session, table), self.rows(session, table)):
             if scope.truth(tree.condition, row) is True:
-                new = list(values)
+                new = [*values, period.shared(self.window(session, table))]
                 for place, (_, value) in zip(places, tree.settings):
                     new[place] = scope.value(value, row)
-                changes.append((period.shared(self.window(session, table)), tuple(new)))
-        self.test_rows(table, [row for _, row in changes])
-        self.give_stamps(len(changes))
-        for period, row in changes:
-            self.write(session, table, row[table.key], period, row)
+                changes.append((period, new[-1], tuple(new[:-1])))
+        self.test_rows(table, [row for _, _, row in changes])
+        if "WM_VALID" in names:
+            entries = self.moved(session, table, changes)
+        else:
+            entries = [(row[table.key], period, row) for _, period, row in changes]
+        self.give_stamps(len(entries))
+        for key, period, row in entries:
+            self.write(session, table, key, period, row)
         return [], f"DONE {len(changes)}"
+
+    def moved(self, session, table, changes):
+        """The entries of rows that move in time: each over its new period, and gone entries where an old row was and no new one of its key is."""
+        entries = []
+        for key in sorted({row[table.key] for _, _, row in changes}):
+            mine = [change for change in changes if change[2][table.key] == key]
+            old, new = [change[0] for change in mine], [change[1] for change in mine]
+            stays = [period for period, _ in self.content(session)[table.name][key] if period not in old]
+            shared = [one.shared(other) for place, one in enumerate(new) for other in stays + new[:place] if one.overlaps(other)]
+            if shared:
+                refuse("WM-060 key there", printed(key), printed(min(shared)))
+            found = [(key, period, row) for _, period, row in mine] + [(key, period, None) for one in old for period in one.beside(new)]
+            entries += sorted(found, key=lambda entry: entry[1])
+        return entries
 
     def delete(self, session, tree):
         [table] = self.used([tree.table])

@@ -5,7 +5,7 @@ from parser import Parser
 from reference import ended, Reference, Session
 from tokens import OPERATORS
 from trees import Column
-from values import END, Instant, TIMESTAMP_FORMS, instant, printed
+from values import ALWAYS, END, Instant, TIMESTAMP_FORMS, instant, printed
 
 KINDS = {"number": ["NUMBER", "NUMBER", "NUMBER ( 5 )", "NUMBER ( 9 , 0 )", "INTEGER"],
          "text": ["VARCHAR2 ( 4 )", "VARCHAR2 ( 16 )", "VARCHAR2 ( 300 )", "VARCHAR2 ( 2000 )"], "time": ["DATE", "TIMESTAMP"]}
@@ -48,13 +48,13 @@ ODD_LINES = [
     b"A; SELECT * FROM BUD", b"A: SELECT*FROM BUD", b"A: SELECT 1FROM BUD", b"A: SELECT 1 -- FROM BUD", b"A:DELETE BUD WHERE ID=>5",
     *(b"A: INSERT INTO BUD VALUES (1, '" + b"y" * size + b"')" for size in (1999, 16351, 16352, 16353))]
 LATER = [
-    "SELECT * FROM BUD_CONF", "SELECT * FROM NOPE_HIST X , BUD", "UPDATE BUD SET WM_VALID = NULL", "UPDATE NOPE SET ID = 1 , WM_VALID = NOPE",
+    "SELECT * FROM BUD_CONF", "SELECT * FROM NOPE_HIST X , BUD",
     "EXEC DBMS_WM . MergeWorkspace ( 'W' , create_savepoint => TRUE )", "EXEC DBMS_WM . RefreshWorkspace", "SELECT 1 FROM X_LOCK , Y_DIFF",
     "EXEC DBMS_WM . LockRows ( 'W' , 'BUD' , 'ID = 1' , 'E' )", "EXEC DBMS_WM . LockRows ( 'W' , 'BUD' , 'ID = ' , 'E' )",
     "EXEC DBMS_WM . UnlockRows ( 'W' , 'BUD' , 'ID IN (9223372036854775808)' )", "EXEC DBMS_WM . UnlockRows ( 'W' , 'BUD' , '' )",
     "EXEC DBMS_WM . ResolveConflicts ( where_clause => '  ' , keep => 'CHILD' )", "EXEC DBMS_WM . SetDiffVersions ( 'A' , 'B' , 'C' , 'D' )",
     "EXEC DBMS_WM . SetDiffVersions ( 'A' , 'B' , 'C' , 'D' , 'E' )", "EXEC DBMS_WM . SetDiffVersions ( workspace1 => 'A' )",
-    "EXEC DBMS_WM . SetLockingOFF ( 'E' )", "EXEC DBMS_WM . SetLockingOFF ( )", "UPDATE BUD SET WM_VALID = WM_PERIOD ( SYSDATE , SYSDATE )",
+    "EXEC DBMS_WM . SetLockingOFF ( 'E' )", "EXEC DBMS_WM . SetLockingOFF ( )",
     "EXEC DBMS_WM . FreezeWorkspace ( 'W' , freezewriter => 'ANN' , 'READ_ONLY' )", "EXEC DBMS_WM . GotoDate ( SYSDATE )",
     "EXEC DBMS_WM . UnlockRows ( 'W' , 'BUD' , where_clause => 'ID = ''a'' OR NOT (AMT IS NULL)' )",
     "EXEC DBMS_WM . UnlockRows ( 'W' , 'BUD' , 'ID = ''a' )", "EXEC DBMS_WM . LockRows ( 'W' , 'BUD' , 'ID = 1 ;' )"]
@@ -74,7 +74,13 @@ PERIODS = [
     "SELECT * FROM @ WHERE WM_VALID BETWEEN $ AND $", "SELECT * FROM @ WHERE WM_VALID IN ( $ )", "SELECT * FROM @ WHERE $ IS NOT NULL",
     "SELECT * FROM @ WHERE WM_OVERLAPS ( WM_VALID , $ ) = 'x'", "SELECT MAX ( WM_VALID . VALIDTILL ) , MIN ( WM_VALID . VALIDFROM ) FROM @",
     "DELETE FROM @ WHERE WM_VALID . VALIDFROM > SYSDATE", "DELETE FROM @ WHERE b . WM_VALID IS NULL", "UPDATE @ SET AMT = $", "SELECT Z . WM_VALID FROM @",
-    "UPDATE @ SET DAY = WM_VALID . VALIDFROM , AMT = WM_OVERLAPS ( $ , WM_VALID )", "SELECT WM_LESSTHAN ( $ , $ ) , WM_GREATERTHAN ( $ , $ ) FROM @"]
+    "UPDATE @ SET DAY = WM_VALID . VALIDFROM , AMT = WM_OVERLAPS ( $ , WM_VALID )", "SELECT WM_LESSTHAN ( $ , $ ) , WM_GREATERTHAN ( $ , $ ) FROM @",
+    "UPDATE @ SET WM_VALID = NULL", "UPDATE @ SET AMT = 1 , WM_VALID = ''", "UPDATE @ SET WM_VALID = WM_PERIOD ( SYSDATE , SYSDATE )",
+    "UPDATE @ SET ID = 1 , WM_VALID = NOPE", "UPDATE @ SET WM_VALID = $ , ID = 7", "UPDATE @ SET WM_VALID = $ , WM_VALID = WM_VALID",
+    "UPDATE @ SET WM_VALID = ( $ )", "UPDATE @ SET WM_VALID = - $", "UPDATE @ SET WM_VALID = WM_VALID + $", "UPDATE @ SET WM_VALID = $ WHERE 1 = 0",
+    "UPDATE @ SET WM_VALID = WM_VALID . VALIDFROM", "UPDATE @ SET WM_VALID = WM_MEETS ( WM_VALID , $ )", "UPDATE @ SET WM_VALID . VALIDTILL = SYSDATE",
+    "UPDATE @ SET @ . WM_VALID = $", "UPDATE @ SET WM_VALID = Z . WM_VALID", "UPDATE @ SET WM_VALID = @ . WM_VALID",
+    "UPDATE @ SET WM_VALID = $ WHERE $ IS NULL"]
 
 
 class Writer:
@@ -150,7 +156,7 @@ class Writer:
         if self.chance(0.04):
             return self.one(ODD_LINES)
         words = self.weighted({
-            self.insert: 26, self.update: 13, self.delete: 5, self.select: 32, self.create: 3, self.enable: 3, self.create_workspace: 5,
+            self.insert: 26, self.update: 13, self.move: 11, self.delete: 5, self.select: 32, self.create: 3, self.enable: 3, self.create_workspace: 5,
             self.create_savepoint: 4, self.goto_workspace: 8, self.goto_savepoint: 6, self.connect: 3, self.disconnect: 1, self.later: 1,
             self.set_valid_time: 10, self.at: 4, self.on_periods: 4, self.deep: 1, self.wide: 0.3, self.long: 0.3})().split(" ")
         if self.chance(0.12):
@@ -182,9 +188,11 @@ class Writer:
             line = self.one([" ", "\t", "  \t"]) + line
         return line.encode()
 
-    def said(self, words):
-        session = self.one(self.reference.sessions or ["A"])
-        return f"{self.one(['Z', 'CONNECT', LONG_NAME]) if self.is_bad() else session} : {words}"
+    def session(self):
+        return self.one(self.reference.sessions or ["A"])
+
+    def said(self, words, session=None):
+        return f"{self.one(['Z', 'CONNECT', LONG_NAME]) if self.is_bad() else session or self.session()} : {words}"
 
     # Names and values
 
@@ -227,8 +235,9 @@ class Writer:
         return Parser(end.encode(), self.reference.moment).end_of_period().value
 
     def period(self):
-        """A period, most likely with moments in it."""
-        start, till = self.random.sample(ENDS, 2)
+        """A period, most likely with moments in it, and often a short one, so that a key has several rows."""
+        place = self.random.randrange(len(ENDS) - 1)
+        start, till = self.random.sample(ENDS, 2) if self.chance(0.5) else ENDS[place:place + 2]
         if not self.is_bad(0.02) and self.instant_of(start) >= self.instant_of(till):
             start, till = till, start
         if self.instant_of(start) == self.instant_of(till) and not self.is_bad(0.1):
@@ -371,7 +380,7 @@ class Writer:
         used = {key for workspace in self.reference.workspaces.values() for key in workspace.content.get(name, {})}
         most = 13
         if self.reference.tables[name].has_periods:
-            used, most = set(), 5
+            used, most = set(), self.one([3, 3, 5])
         for _ in range(10):
             number = self.random.randrange(1, most)
             text = {"number": str(number), "text": f"'{chr(96 + number)}'", "time": f"DATE '2020-01-{number:02}'"}[kind]
@@ -392,6 +401,57 @@ class Writer:
         settings = [f"{self.one(['NOPE', 'WM_VALID', 'ID']) if self.is_bad() else column.name} = {self.expression(column.kind, names)}"
                     for column in chosen]
         return self.said(f"UPDATE {name} SET {self.listed(settings)}{self.where_key(name, names, 0.3)}")
+
+    def move(self):
+        """An UPDATE that sets WM_VALID, most likely of a row that is there, to a period near those of its key."""
+        ready = [name for name, table in self.reference.tables.items() if table.has_periods]
+        if not ready and self.chance(0.9):
+            return self.update()
+        name, session = self.one(ready) if ready and not self.is_bad() else self.table_name(), self.session()
+        names, table = self.namer([(name, self.shown_of(name))]), self.reference.tables.get(name)
+        key, mine, periods = self.one_row(name, session)
+        free = [column for place, column in enumerate(self.columns_of(name)) if table is None or place != table.key or self.is_bad()]
+        chosen = self.random.sample(free, min(len(free), self.one([0, 0, 0, 1, 2])))
+        settings = [f"{column.name} = {self.expression(column.kind, names)}" for column in chosen]
+        moved = self.weighted({self.near(mine, periods): 4 + 4 * len(periods), "WM_VALID": 2 * len(periods), f"{name} . WM_VALID": 1, self.period(): 1})
+        if self.is_bad():
+            moved = self.one(["NULL", "''", "WM_VALID . VALIDFROM", self.value("number"), self.question(names), "WM_PERIOD ( SYSDATE , SYSDATE )"])
+        settings.insert(self.random.randrange(len(settings) + 1), f"WM_VALID = {moved}")
+        if self.is_bad():
+            settings.append(self.one(settings))
+        return self.said(f"UPDATE {name} SET {self.listed(settings)}{self.where_moved(name, names, key, mine, periods)}", session)
+
+    def one_row(self, name, session):
+        """A key, the period of one of its rows and those of all its rows, most likely of several and a row that the session is shown."""
+        table, session = self.reference.tables.get(name), self.reference.sessions.get(session)
+        rows = self.reference.content(session).get(name) if session and table and table.has_periods else None
+        if not rows:
+            return None, ALWAYS, [ALWAYS]
+        window = self.reference.window(session, table) if self.chance(0.8) else ALWAYS
+        shown = [(key, period) for key in rows for period, _ in rows[key] if period.overlaps(window)]
+        key, mine = max((self.one(shown or [(key, rows[key][0][0]) for key in rows]) for _ in range(3)), key=lambda row: len(rows[row[0]]))
+        return key, mine, [period for period, _ in rows[key]]
+
+    def where_moved(self, name, names, key, mine, periods):
+        """A condition that most likely is true of one row of a key, or of some rows of it."""
+        if key is None or self.chance(0.15):
+            return self.where(names)
+        first = f"WM_VALID . VALIDFROM = {self.time(mine.start)}"
+        some = f"WM_OVERLAPS ( WM_VALID , {self.near(mine, periods)} ) = 1"
+        column = self.reference.tables[name].columns[self.reference.tables[name].key]
+        of_key = f"{column.name} = {self.time(key) if column.kind == 'time' else printed(key).decode()}"
+        return " WHERE " + self.weighted({f"{of_key} AND {first}": 6, of_key: 4 * len(periods), first: 1, some: 2, f"{of_key} AND {some}": 3,
+                                          f"{some} AND NOT {of_key}": 1})
+
+    def near(self, mine, periods):
+        """A period that lies within, over, across, beside or apart from one of a key's periods, and so from the others."""
+        inner = [Instant(at) for at in (mine.start + 1, (mine.start + mine.till) // 2, mine.till - 1) if mine.start < at < mine.till]
+        ends = [*mine, *inner, *(end for period in periods for end in period), *(self.instant_of(self.one(ENDS)) for _ in range(2))]
+        start, till = sorted(self.random.sample(ends, 2))
+        return f"WM_PERIOD ( {self.time(start)} , {self.time(till)} )" if start < till else self.near(mine, periods)
+
+    def time(self, when):
+        return "DBMS_WM . UNTIL_CHANGED" if when == END else f"TIMESTAMP '{printed(when).decode().replace(' ', 'T')}'"
 
     def where_key(self, name, names, likely):
         """A condition that most likely asks for one key, and for more or not."""

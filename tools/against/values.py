@@ -30,6 +30,13 @@ class Period(NamedTuple):
         parts = [Period(self.start, other.start), Period(other.till, self.till)]
         return [part for part in parts if part.start < part.till]
 
+    def beside(self, others):
+        """What is left of the period beside all others."""
+        left = [self]
+        for other in others:
+            left = [part for one in left for part in (one.outside(other) if one.overlaps(other) else [one])]
+        return left
+
 
 ALWAYS = Period(Instant(0), Instant(END))
 

@@ -53,7 +53,3 @@ is_true None = false
 -- the parameter is given as TRUE
 abbrev pub is_true_given : Procedure → List Arg → Parameter → Bool
 is_true_given procedure args p = is_true (argument procedure args p)
-
--- no argument is given at all: in SetValidTime this unsets the period of the session
-abbrev pub is_unset : List Arg → Bool
-is_unset args = length args == 0

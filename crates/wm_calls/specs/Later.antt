@@ -1,8 +1,7 @@
 -- The lines that a later stage serves.
 use Rattle.std.specs.Prelude.{ℕ, Bool, true, false, ◌||◌, nat_eq, List, Option, Some, None, codes}
 use Rattle.std.specs.List.{list_any, ends_with}
-use Rattle.std.specs.Str.{str_eq_ignore_ascii_case}
-use Rattle.wm_base.specs.Trees.{Src, Set, Statement, Update, Select, Call, Line, Connect, Disconnect, At, Run}
+use Rattle.wm_base.specs.Trees.{Src, Statement, Select, Call, Line, Connect, Disconnect, At, Run}
 use Rattle.wm_grammar.specs.declared.procedure.Procedure.{Procedure}
 use Rattle.wm_grammar.specs.declared.procedure.Procedure.TheVariants as procedures
 use Rattle.wm_grammar.specs.Calls.{procedure_of}
@@ -41,24 +40,10 @@ abbrev pub later_source : Statement → Bool
 later_source (Select q) = list_any is_view_source q.sources
 later_source _ = false
 
--- ---- changes of periods
-
--- the name of the column of periods
-abbrev pub is_valid_name : List ℕ → Bool
-is_valid_name name = str_eq_ignore_ascii_case name (codes "WM_VALID")
-
-abbrev pub sets_period : Set → Bool
-sets_period s = is_valid_name s.name
-
--- an UPDATE that sets the periods of rows
-abbrev pub later_change : Statement → Bool
-later_change (Update table sets filter) = list_any sets_period sets
-later_change _ = false
-
 -- ---- lines
 
 abbrev pub is_later_statement : Statement → Bool
-is_later_statement s = later_call s || later_source s || later_change s
+is_later_statement s = later_call s || later_source s
 
 -- the line uses what is not built yet
 abbrev pub is_later : Line → Bool

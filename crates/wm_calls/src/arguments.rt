@@ -1,6 +1,6 @@
 ghost use Rattle.std.specs.Prelude.{◌≡◌, List};
 ghost use Rattle.std.specs.Option.{option_copied};
-ghost use Rattle.wm_calls.specs.Arguments.{argument, text_given, moment_given, is_true_given, is_unset};
+ghost use Rattle.wm_calls.specs.Arguments.{argument, text_given, moment_given, is_true_given};
 
 use crate::places::{is_that, parameter_at};
 use wm_base::tree::constant::Const;
@@ -49,11 +49,4 @@ pub fn is_true_given(procedure: Procedure, args: &[Arg], parameter: Parameter) -
         Some(ArgValue::Bool(value)) => *value,
         _ => false,
     }
-}
-
-/// Whether a call gives no argument at all. In SetValidTime this unsets the period of the session.
-pub fn is_unset(args: &[Arg]) -> bool
-    ensures { result ≡ is_unset args.now }
-{
-    args.is_empty()
 }

@@ -1,13 +1,13 @@
 ghost use Rattle.std.specs.Prelude.{◌≡◌, List};
 ghost use Rattle.std.specs.List.{list_any};
-ghost use Rattle.wm_base.specs.Views.{srcs_view, sets_view, statement_view, line_view};
+ghost use Rattle.wm_base.specs.Views.{srcs_view, statement_view, line_view};
 ghost use Rattle.wm_grammar.specs.Calls.{procedure_of};
-ghost use Rattle.wm_calls.specs.Later.{is_later_procedure, is_later_name, later_call, is_view, is_view_source, later_source, is_valid_name, sets_period, later_change, is_later_statement, is_later};
+ghost use Rattle.wm_calls.specs.Later.{is_later_procedure, is_later_name, later_call, is_view, is_view_source, later_source, is_later_statement, is_later};
 
 use wm_base::tree::line::Line;
 use wm_base::tree::query::Src;
-use wm_base::tree::statement::{Set, Statement};
-use wm_grammar::{Procedure, is_word, procedure_of};
+use wm_base::tree::statement::Statement;
+use wm_grammar::{Procedure, procedure_of};
 
 fn is_later_procedure(procedure: Procedure) -> bool
     ensures { result ≡ is_later_procedure procedure }
@@ -73,38 +73,10 @@ fn later_source(statement: &Statement) -> bool
     }
 }
 
-/// Whether it is the name of the column of periods.
-fn is_valid_name(name: &[u8]) -> bool
-    ensures { result ≡ is_valid_name name.now }
-{
-    is_word(name, b"WM_VALID")
-}
-
-fn any_period(sets: &[Set]) -> bool
-    ensures { result ≡ list_any sets_period (sets_view sets.now) }
-{
-    for set in sets {
-        if is_valid_name(set.name.as_bytes()) {
-            return true;
-        }
-    }
-    false
-}
-
-/// Whether the statement is an UPDATE that sets the periods of rows.
-fn later_change(statement: &Statement) -> bool
-    ensures { result ≡ later_change (statement_view statement.now) }
-{
-    match statement {
-        Statement::Update { sets, .. } => any_period(sets.as_slice()),
-        _ => false,
-    }
-}
-
 fn is_later_statement(statement: &Statement) -> bool
     ensures { result ≡ is_later_statement (statement_view statement.now) }
 {
-    later_call(statement) || later_source(statement) || later_change(statement)
+    later_call(statement) || later_source(statement)
 }
 
 /// Whether the line uses what a later stage serves.

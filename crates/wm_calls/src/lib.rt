@@ -12,7 +12,7 @@ mod takes;
 #[cfg(test)]
 mod tests;
 
-pub use arguments::{argument, is_true_given, is_unset, moment_given, text_given};
+pub use arguments::{argument, is_true_given, moment_given, text_given};
 pub use empty::has_empty_period;
 pub use faults::argument_fault;
 pub use later::is_later;

@@ -1,5 +1,5 @@
 //! The arguments of SetValidTime.
-use crate::{argument_fault, is_unset, moment_given};
+use crate::{argument_fault, moment_given};
 use std::alloc::Global;
 use std::test::Fail;
 use wm_base::tree::constant::Const;
@@ -60,7 +60,6 @@ fn valid_time_is_set(rt: HostRuntime) -> Result<(), Fail> {
         put(&mut args, None, till)?;
         let args = args.as_slice();
         assert_eq!(rt; argument_fault(set, args), fault);
-        assert_eq!(rt; is_unset(args), constant(from).is_none());
         assert_eq!(rt; moment_given(set, args, Parameter::ValidFrom), moment(from));
         assert_eq!(rt; moment_given(set, args, Parameter::ValidTill), moment(till));
     }
@@ -75,6 +74,5 @@ fn its_end_alone_is_not_enough(rt: HostRuntime) -> Result<(), Fail> {
     put(&mut args, Some(name), Given::Time(5))?;
     let fault = argument_fault(Procedure::SetValidTime, args.as_slice());
     assert_eq!(rt; fault, Some(Parameter::ValidFrom));
-    assert!(rt; !is_unset(args.as_slice()));
     Ok(())
 }
