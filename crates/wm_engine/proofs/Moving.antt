@@ -1,5 +1,5 @@
 -- What a plan that gives rows new periods does.
-use Rattle.std.proofs.Common.{◌≡◌, ℕ, ◌≤◌, ◌<◌, ◌-◌, ◌&&◌, Bool, true, List, [], ◌∷◌, length, get_or, take, drop, map, Option, Some, None, Result, IfOk, refl, sym, ap, subst, ◌∙◌, arith}
+use Rattle.std.proofs.Common.{◌≡◌, ℕ, ◌≤◌, ◌<◌, ◌-◌, ◌&&◌, Bool, true, List, [], ◌∷◌, length, get_or, take, drop, map, Option, Some, None, Result, IfOk, refl, sym, ap, subst, ◌∙◌, Vec, Global, vec_len, arith}
 use Rattle.std.proofs.lemmas.List.{take_all}
 use Rattle.std.specs.List.{list_all}
 use Rattle.std.specs.Option.{option_map, option_or}
@@ -63,11 +63,11 @@ front_is (x ∷ xs) m some is =
     ap (λ (y : Move). y ∷ xs) (sym is) ∙ ap (λ (ys : List Move). m ∷ ys) (sym others)
 
 -- the first that is left meets something
-pub finds_here : (p : Parts) (version : ℕ) (t : Table) (moves left : List Move) (m : Move) (found : Option Span) (shared : Span) → FindsLeft p version t moves left → 1 ≤ length left → m ≡ get_or left 0 m
-    → Finds p version (λ es. clash_at es t moves m) (keyed m found) → found ≡ Some shared → Finds p version (λ es. first_clash es t moves moves) (Some (m.key, shared))
-finds_here p version t moves left m found shared before some is one there = λ es holds.
+pub finds_here : (p : Parts) (version : ℕ) (t : Table) (moves left : List Move) (m : Move) (found : Option Span) (key : List Value) (shared : Span) → FindsLeft p version t moves left → 1 ≤ length left → m ≡ get_or left 0 m
+    → Finds p version (λ es. clash_at es t moves m) (keyed m found) → found ≡ Some shared → key ≡ m.key → Finds p version (λ es. first_clash es t moves moves) (Some (key, shared))
+finds_here p version t moves left m found key shared before some is one there copied = λ es holds.
     sym (before es holds) ∙ ap (first_clash es t moves) (front_is left m some is)
-    ∙ ap (λ o. option_or o (first_clash es t moves (take (length left - 1) (drop 1 left)))) (one es holds ∙ ap (keyed m) there)
+    ∙ ap (λ o. option_or o (first_clash es t moves (take (length left - 1) (drop 1 left)))) (one es holds ∙ ap (keyed m) there) ∙ ap (λ k. Some (k, shared)) (sym copied)
 
 -- it meets nothing
 pub finds_on : (p : Parts) (version : ℕ) (t : Table) (moves left : List Move) (m : Move) (found : Option Span) → FindsLeft p version t moves left → 1 ≤ length left → m ≡ get_or left 0 m
@@ -80,6 +80,15 @@ finds_on p version t moves left m found before some is one none = λ es holds.
 pub finds_none : (p : Parts) (version : ℕ) (t : Table) (moves left : List Move) → FindsLeft p version t moves left → length left < 1 → Finds p version (λ es. first_clash es t moves moves) None
 finds_none p version t moves [] before none = λ es holds. sym (before es holds)
 finds_none p version t moves (m ∷ ms) before none = absurd (omega (arith, none))
+
+-- the same of rows that are the same
+pub finds_so : (p : Parts) (version : ℕ) (t : Table) (given moves : List Move) (found other : Option (List Value × Span)) → Finds p version (λ es. first_clash es t given given) found → given ≡ moves → found ≡ other
+    → Finds p version (λ es. first_clash es t moves moves) other
+finds_so p version t given moves found other finds same is = λ es holds. ap (λ ms. first_clash es t ms ms) (sym same) ∙ finds es holds ∙ is
+
+-- how many there are
+pub counted_moves : (v : Vec Move Global) (k : ℕ) → k ≡ vec_len v → k ≡ length v.items
+counted_moves v k is = omega (arith, is)
 
 -- ---- what is done
 
