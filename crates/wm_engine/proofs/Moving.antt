@@ -1,5 +1,6 @@
 -- What a plan that gives rows new periods does.
-use Rattle.std.proofs.Common.{◌≡◌, ℕ, ◌&&◌, Bool, true, List, [], ◌∷◌, length, map, Option, Some, None, Result, IfOk, refl, sym, ap, subst, ◌∙◌}
+use Rattle.std.proofs.Common.{◌≡◌, ℕ, ◌≤◌, ◌<◌, ◌-◌, ◌&&◌, Bool, true, List, [], ◌∷◌, length, get_or, take, drop, map, Option, Some, None, Result, IfOk, refl, sym, ap, subst, ◌∙◌, Vec, Global, vec_len, arith}
+use Rattle.std.proofs.lemmas.List.{take_all}
 use Rattle.std.specs.List.{list_all}
 use Rattle.std.specs.Option.{option_map, option_or}
 use Rattle.wm_base.specs.Period.{Span}
@@ -54,17 +55,40 @@ finds_at p version t moves m spans shifts found are of is = λ es holds.
 abbrev pub FindsLeft : Parts → ℕ → Table → List Move → List Move → Type 0
 FindsLeft p version t moves left = (es : List Entry) → HoldsAll p version es → first_clash es t moves left ≡ first_clash es t moves moves
 
+-- the first of those that are left, before the others
+front_is : (left : List Move) (m : Move) → 1 ≤ length left → m ≡ get_or left 0 m → left ≡ m ∷ take (length left - 1) (drop 1 left)
+front_is [] m some is = absurd (omega (arith, some))
+front_is (x ∷ xs) m some is =
+    let others : take (length (x ∷ xs) - 1) xs ≡ xs = take_all (length (x ∷ xs) - 1) xs (omega arith) in
+    ap (λ (y : Move). y ∷ xs) (sym is) ∙ ap (λ (ys : List Move). m ∷ ys) (sym others)
+
 -- the first that is left meets something
-pub finds_here : (p : Parts) (version : ℕ) (t : Table) (moves rest : List Move) (m : Move) (found : Option Span) (shared : Span) → FindsLeft p version t moves (m ∷ rest)
-    → Finds p version (λ es. clash_at es t moves m) (keyed m found) → found ≡ Some shared → Finds p version (λ es. first_clash es t moves moves) (Some (m.key, shared))
-finds_here p version t moves rest m found shared left one there = λ es holds.
-    sym (left es holds) ∙ ap (λ o. option_or o (first_clash es t moves rest)) (one es holds ∙ ap (keyed m) there)
+pub finds_here : (p : Parts) (version : ℕ) (t : Table) (moves left : List Move) (m : Move) (found : Option Span) (key : List Value) (shared : Span) → FindsLeft p version t moves left → 1 ≤ length left → m ≡ get_or left 0 m
+    → Finds p version (λ es. clash_at es t moves m) (keyed m found) → found ≡ Some shared → key ≡ m.key → Finds p version (λ es. first_clash es t moves moves) (Some (key, shared))
+finds_here p version t moves left m found key shared before some is one there copied = λ es holds.
+    sym (before es holds) ∙ ap (first_clash es t moves) (front_is left m some is)
+    ∙ ap (λ o. option_or o (first_clash es t moves (take (length left - 1) (drop 1 left)))) (one es holds ∙ ap (keyed m) there) ∙ ap (λ k. Some (k, shared)) (sym copied)
 
 -- it meets nothing
-pub finds_on : (p : Parts) (version : ℕ) (t : Table) (moves rest : List Move) (m : Move) (found : Option Span) → FindsLeft p version t moves (m ∷ rest)
-    → Finds p version (λ es. clash_at es t moves m) (keyed m found) → found ≡ None → FindsLeft p version t moves rest
-finds_on p version t moves rest m found left one none = λ es holds.
-    ap (λ o. option_or o (first_clash es t moves rest)) (sym (one es holds ∙ ap (keyed m) none)) ∙ left es holds
+pub finds_on : (p : Parts) (version : ℕ) (t : Table) (moves left : List Move) (m : Move) (found : Option Span) → FindsLeft p version t moves left → 1 ≤ length left → m ≡ get_or left 0 m
+    → Finds p version (λ es. clash_at es t moves m) (keyed m found) → found ≡ None → FindsLeft p version t moves (take (length left - 1) (drop 1 left))
+finds_on p version t moves left m found before some is one none = λ es holds.
+    ap (λ o. option_or o (first_clash es t moves (take (length left - 1) (drop 1 left)))) (sym (one es holds ∙ ap (keyed m) none))
+    ∙ ap (first_clash es t moves) (sym (front_is left m some is)) ∙ before es holds
+
+-- none is left
+pub finds_none : (p : Parts) (version : ℕ) (t : Table) (moves left : List Move) → FindsLeft p version t moves left → length left < 1 → Finds p version (λ es. first_clash es t moves moves) None
+finds_none p version t moves [] before none = λ es holds. sym (before es holds)
+finds_none p version t moves (m ∷ ms) before none = absurd (omega (arith, none))
+
+-- the same of rows that are the same
+pub finds_so : (p : Parts) (version : ℕ) (t : Table) (given moves : List Move) (found other : Option (List Value × Span)) → Finds p version (λ es. first_clash es t given given) found → given ≡ moves → found ≡ other
+    → Finds p version (λ es. first_clash es t moves moves) other
+finds_so p version t given moves found other finds same is = λ es holds. ap (λ ms. first_clash es t ms ms) (sym same) ∙ finds es holds ∙ is
+
+-- how many there are
+pub counted_moves : (v : Vec Move Global) (k : ℕ) → k ≡ vec_len v → k ≡ length v.items
+counted_moves v k is = omega (arith, is)
 
 -- ---- what is done
 

@@ -1,5 +1,5 @@
 -- What rows that move meet, of those that a version holds.
-use Rattle.std.specs.Prelude.{ℕ, ◌≡◌, ◌×◌, List, Option}
+use Rattle.std.specs.Prelude.{ℕ, ◌≡◌, List, Option}
 use Rattle.std.specs.Option.{option_map}
 use Rattle.wm_base.specs.declared.value.Value.{Value}
 use Rattle.wm_base.specs.Period.{Span}

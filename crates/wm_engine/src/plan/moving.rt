@@ -43,20 +43,20 @@ fn clash_at(
 }
 
 /// So of the first key that has one, with the key.
-fn first_clash<'a>(
+fn first_clash(
     alloc: Global,
     image: &Image,
     version: u64,
     table: &Table,
-    moves: &'a [Move],
-) -> Result<Option<(&'a Key, Period)>, Memory>
+    moves: &[Move],
+) -> Result<Option<(Key, Period)>, Memory>
     requires { keep_rules (parts_of image.now) ≡ true }
-    ensures { IfOk result (λ found. Finds (parts_of image.now) version (λ es. first_clash es table.now moves.now moves.now) (option_map (λ f. (f.0.now, f.1)) found)) }
+    ensures { IfOk result (λ found. Finds (parts_of image.now) version (λ es. first_clash es table.now moves.now moves.now) found) }
 {
     let mut left = moves;
     while let [one, rest @ ..] = left {
         if let Some(shared) = clash_at(alloc, image, version, table, moves, one)? {
-            return Ok(Some((&one.key, shared)));
+            return Ok(Some((one.key.copy(alloc)?, shared)));
         }
         left = rest;
     }
@@ -85,10 +85,7 @@ pub fn move_all(
 {
     let version = image.latest(session.space());
     if let Some((key, shared)) = first_clash(alloc, image, version, table, moves.as_slice())? {
-        return Ok(Planned::answered(
-            alloc,
-            key_there(key.copy(alloc)?, Some(shared)),
-        ));
+        return Ok(Planned::answered(alloc, key_there(key, Some(shared))));
     }
     let count = moves.len() as u64;
     let changes = moved(alloc, moves)?;

@@ -30,8 +30,8 @@ pub returns-clause-does : goal.returns-clause-does
 returns-clause-does c =
     let t = c.args.table.now in
     let user = c.args.session.now.user in
-    does_so c.args.image.now c.args.moment c.write_all.result c.args.session.now c.args.space.now (write_ascending user t c.in_ok-changes.changes.items)
+    does_so c.args.image.now c.args.moment c.write_all.result c.args.session.now c.args.space.now (write_ascending user t (length c.args.rows.now) c.in_ok-changes.changes.items)
     (unless_empty c.args.rows.now (λ kept. write_ascending user t (length kept) (map (gone t c.args.within.now) kept)))
     (λ s w.
-    kept_filled c.args.rows.now (λ kept. write_ascending user t (length kept) (map (gone t c.args.within.now) kept)) s w (sym c.if-not-are_filled.ensures) ∙ ap (λ xs. write_ascending user t xs s w) (sym c.in_ok-changes.ensures.exact))
+    kept_filled c.args.rows.now (λ kept. write_ascending user t (length kept) (map (gone t c.args.within.now) kept)) s w (sym c.if-not-are_filled.ensures) ∙ ap (λ xs. write_ascending user t (length c.args.rows.now) xs s w) (sym c.in_ok-changes.ensures.exact))
     c.write_all.ensures.does
