@@ -14,13 +14,13 @@ use Rattle.wm_base.specs.declared.value.Value.{Value}
 use Rattle.wm_dml.specs.Standing.{change_keys, change_lasts, is_change}
 use Rattle.wm_dml.specs.declared.change.RowChange.{RowChange}
 use Rattle.wm_graph.specs.Parts.{parts_of}
-use Rattle.wm_graph.specs.Rules.{is_key, is_key_of, is_row_of, is_table, keep_rules, key_of}
+use Rattle.wm_graph.specs.Rules.{is_key, is_key_of, is_row_of, is_short, is_table, keep_rules, key_of}
 use Rattle.wm_image.specs.Redraw.{IsRedrawn}
 use Rattle.wm_making.specs.Rows.{is_filled}
 use Rattle.wm_model.proofs.Doing.{counts_as, does_nothing, spent_work}
 use Rattle.wm_model.proofs.Written.{changes_batch, does_write, go}
 use Rattle.wm_model.proofs.WrittenNew.{changes_new_batch, does_write_new}
-use Rattle.wm_model.specs.Changes.{Changes, ChangesNew, change_piece, new_pieces, new_rows, next_version, row_before, stepped_by, stepped_new_by}
+use Rattle.wm_model.specs.Changes.{Changes, ChangesNew, change_hist, change_piece, new_hists, new_pieces, new_rows, next_version, row_before, stepped_by, stepped_new_by}
 use Rattle.wm_model.specs.Entered.{entries_of, written_all}
 use Rattle.wm_model.specs.Planning.{Stay, moved}
 use Rattle.wm_model.specs.Step.{at_its_end, counter_limit, line_work}
@@ -30,6 +30,7 @@ use Rattle.wm_spec.specs.declared.record.Record.{Record}
 use Rattle.wm_spec.specs.declared.record.Record.TheVariants as records
 use Rattle.wm_spec.specs.declared.record.batch.Change.{Change}
 use Rattle.wm_spec.specs.declared.record.counters.Counters.{Counters}
+use Rattle.wm_spec.specs.declared.record.hist.Hist.{Hist}
 use Rattle.wm_spec.specs.declared.record.piece.PieceRecord.{PieceRecord}
 use Rattle.wm_spec.specs.declared.record.row.RowRecord.{RowRecord}
 use Rattle.wm_spec.specs.declared.record.space.Space.{Space}
@@ -48,7 +49,7 @@ use Rattle.wm_state.specs.State.{Session}
 use Rattle.wm_state.specs.Writes.{longer_by, put_all, write_batch}
 use Rattle.wm_store.proofs.Fitting.{fits_counters, fits_version}
 use Rattle.wm_store.specs.Spelled.{FitPages}
-use Rattle.wm_engine.proofs.Fitting.{fits_dropped, piece_fits, row_fits, space_fits, space_well, table_in_order}
+use Rattle.wm_engine.proofs.Fitting.{fits_dropped, hist_fits, piece_fits, row_fits, space_fits, space_well, table_in_order}
 use Rattle.wm_engine.proofs.Planning.{told}
 use Rattle.wm_engine.proofs.Writing.{Places}
 use Rattle.wm_engine.specs.Changing.{WritesAll, is_filled_change}
@@ -63,20 +64,21 @@ counted_as v k is = omega (arith, is)
 -- ---- the batch
 
 -- what is written was made of
-pub record MadeAll (m : ℕ) (t : Table) (a : Space) (c : Counters) (changes : List RowChange) (drawn : List PieceRecord) (count : ℕ) (counters : Counters) (space : Space) (rows pieces : List Record) : Type 0 where
+pub record MadeAll (m : ℕ) (user : List ℕ) (t : Table) (a : Space) (c : Counters) (changes : List RowChange) (drawn : List PieceRecord) (count : ℕ) (counters : Counters) (space : Space) (rows pieces hists : List Record) : Type 0 where
   pub count_is : count ≡ length changes
   pub counters_are : counters ≡ moved c m
   pub space_is : space ≡ longer_by count a
   pub rows_are : rows ≡ map records.Row (new_rows c.next_stamp t changes)
   pub pieces_are : pieces ≡ map records.Piece drawn
+  pub hists_are : hists ≡ map records.Hist (new_hists a.number a.log_length m user c.next_stamp t changes)
 
 -- what is put for it
-written_is : (m : ℕ) (t : Table) (a : Space) (c : Counters) (changes : List RowChange) (drawn : List PieceRecord) (count : ℕ) (counters given new : Counters) (space : Space) (rows pieces : List Record) (counters_id space_id id : ℕ) (ids dropped : List ℕ)
-    → MadeAll m t a c changes drawn count counters space rows pieces → given ≡ new → ids ≡ dropped
-    → put counters_id (records.Counters given) ∷ put space_id (records.Space space) ∷ (map drop_one ids ++ (put_all id rows ++ put_all (id + length rows) pieces))
-    ≡ write_batch counters_id new space_id a (length changes) dropped id (new_rows c.next_stamp t changes) drawn
-written_is m t a c changes drawn count counters given new space rows pieces counters_id space_id id ids dropped made given_is ids_are =
-    rw (given_is, ids_are, made.rows_are, made.pieces_are, space_so, many) refl
+written_is : (m : ℕ) (user : List ℕ) (t : Table) (a : Space) (c : Counters) (changes : List RowChange) (drawn : List PieceRecord) (count : ℕ) (counters given new : Counters) (space : Space) (rows pieces hists : List Record) (counters_id space_id id : ℕ) (ids dropped : List ℕ)
+    → MadeAll m user t a c changes drawn count counters space rows pieces hists → given ≡ new → ids ≡ dropped
+    → put counters_id (records.Counters given) ∷ put space_id (records.Space space) ∷ (map drop_one ids ++ (put_all id rows ++ (put_all (id + length rows) pieces ++ put_all (id + length rows + length pieces) hists)))
+    ≡ write_batch counters_id new space_id a (length changes) dropped id (new_rows c.next_stamp t changes) drawn (new_hists a.number a.log_length m user c.next_stamp t changes)
+written_is m user t a c changes drawn count counters given new space rows pieces hists counters_id space_id id ids dropped made given_is ids_are =
+    rw (given_is, ids_are, made.rows_are, made.pieces_are, made.hists_are, space_so, many, many_pieces) refl
   where
     space_so : space ≡ longer_by (length changes) a
     space_so = made.space_is ∙ ap (λ k. longer_by k a) made.count_is
@@ -84,32 +86,35 @@ written_is m t a c changes drawn count counters given new space rows pieces coun
     many : length (map records.Row (new_rows c.next_stamp t changes)) ≡ length (new_rows c.next_stamp t changes)
     many = length-map (new_rows c.next_stamp t changes) records.Row
 
+    many_pieces : length (map records.Piece drawn) ≡ length drawn
+    many_pieces = length-map drawn records.Piece
+
 -- the changes are the batch that writes changes into the newest version of a workspace
-pub here_is_all : (rs : List Stored) (m : ℕ) (t : Table) (a : Space) (c : Counters) (changes : List RowChange) (drawn : List PieceRecord) (count : ℕ) (counters : Counters) (space : Space) (rows pieces : List Record) (counters_id space_id id : ℕ) (ids dropped : List ℕ) (front : List Change)
-    → MadeAll m t a c changes drawn count counters space rows pieces → ids ≡ dropped → front ≡ []
-    → front ++ (put counters_id (records.Counters (record counters { next_stamp = c.next_stamp + count })) ∷ put space_id (records.Space space) ∷ (map drop_one ids ++ (put_all id rows ++ put_all (id + length rows) pieces)))
-    ≡ changes_batch rs counters_id m c space_id a dropped id t changes drawn
-here_is_all rs m t a c changes drawn count counters space rows pieces counters_id space_id id ids dropped front made ids_are none =
+pub here_is_all : (rs : List Stored) (m : ℕ) (user : List ℕ) (t : Table) (a : Space) (c : Counters) (changes : List RowChange) (drawn : List PieceRecord) (count : ℕ) (counters : Counters) (space : Space) (rows pieces hists : List Record) (counters_id space_id id : ℕ) (ids dropped : List ℕ) (front : List Change)
+    → MadeAll m user t a c changes drawn count counters space rows pieces hists → ids ≡ dropped → front ≡ []
+    → front ++ (put counters_id (records.Counters (record counters { next_stamp = c.next_stamp + count })) ∷ put space_id (records.Space space) ∷ (map drop_one ids ++ (put_all id rows ++ (put_all (id + length rows) pieces ++ put_all (id + length rows + length pieces) hists))))
+    ≡ changes_batch rs counters_id m user c space_id a dropped id t changes drawn
+here_is_all rs m user t a c changes drawn count counters space rows pieces hists counters_id space_id id ids dropped front made ids_are none =
     ap (λ (cs : List Change). cs ++ written) none
-    ∙ written_is m t a c changes drawn count counters _ (stepped_by c m (length changes)) space rows pieces counters_id space_id id ids dropped made (rw (made.counters_are, made.count_is) refl) ids_are
+    ∙ written_is m user t a c changes drawn count counters _ (stepped_by c m (length changes)) space rows pieces hists counters_id space_id id ids dropped made (rw (made.counters_are, made.count_is) refl) ids_are
   where
     written : List Change
-    written = put counters_id (records.Counters (record counters { next_stamp = c.next_stamp + count })) ∷ put space_id (records.Space space) ∷ (map drop_one ids ++ (put_all id rows ++ put_all (id + length rows) pieces))
+    written = put counters_id (records.Counters (record counters { next_stamp = c.next_stamp + count })) ∷ put space_id (records.Space space) ∷ (map drop_one ids ++ (put_all id rows ++ (put_all (id + length rows) pieces ++ put_all (id + length rows + length pieces) hists)))
 
 -- or into a version more, where nothing goes
-pub above_is_all : (rs : List Stored) (n m : ℕ) (t : Table) (a : Space) (c : Counters) (changes : List RowChange) (drawn : List PieceRecord) (home parent count : ℕ) (counters : Counters) (space : Space) (rows pieces : List Record) (counters_id space_id id : ℕ) (ids : List ℕ) (front : List Change)
-    → MadeAll m t a c changes drawn count counters space rows pieces → home ≡ n → parent ≡ latest (parts_of rs) n → ids ≡ [] → front ≡ put id (records.Version (record { number = c.next_version; space = home; parent = parent })) ∷ []
-    → front ++ (put counters_id (records.Counters (record counters { next_stamp = c.next_stamp + count; next_version = c.next_version + 1 })) ∷ put space_id (records.Space space) ∷ (map drop_one ids ++ (put_all (id + 1) rows ++ put_all (id + 1 + length rows) pieces)))
-    ≡ changes_new_batch rs counters_id m c space_id a id n t changes drawn
-above_is_all rs n m t a c changes drawn home parent count counters space rows pieces counters_id space_id id ids front made here newest none front_is =
+pub above_is_all : (rs : List Stored) (n m : ℕ) (user : List ℕ) (t : Table) (a : Space) (c : Counters) (changes : List RowChange) (drawn : List PieceRecord) (home parent count : ℕ) (counters : Counters) (space : Space) (rows pieces hists : List Record) (counters_id space_id id : ℕ) (ids : List ℕ) (front : List Change)
+    → MadeAll m user t a c changes drawn count counters space rows pieces hists → home ≡ n → parent ≡ latest (parts_of rs) n → ids ≡ [] → front ≡ put id (records.Version (record { number = c.next_version; space = home; parent = parent })) ∷ []
+    → front ++ (put counters_id (records.Counters (record counters { next_stamp = c.next_stamp + count; next_version = c.next_version + 1 })) ∷ put space_id (records.Space space) ∷ (map drop_one ids ++ (put_all (id + 1) rows ++ (put_all (id + 1 + length rows) pieces ++ put_all (id + 1 + length rows + length pieces) hists))))
+    ≡ changes_new_batch rs counters_id m user c space_id a id n t changes drawn
+above_is_all rs n m user t a c changes drawn home parent count counters space rows pieces hists counters_id space_id id ids front made here newest none front_is =
     ap (λ (cs : List Change). cs ++ written) first
     ∙ ap (λ (cs : List Change). put id (records.Version (next_version (parts_of rs) n c)) ∷ cs)
-    (written_is m t a c changes drawn count counters _ (stepped_new_by c m (length changes)) space rows pieces counters_id space_id (id + 1) ids [] made (rw (made.counters_are, made.count_is) refl) none)
+    (written_is m user t a c changes drawn count counters _ (stepped_new_by c m (length changes)) space rows pieces hists counters_id space_id (id + 1) ids [] made (rw (made.counters_are, made.count_is) refl) none)
   where
     written : List Change
     written =
         put counters_id (records.Counters (record counters { next_stamp = c.next_stamp + count; next_version = c.next_version + 1 })) ∷ put space_id (records.Space space)
-        ∷ (map drop_one ids ++ (put_all (id + 1) rows ++ put_all (id + 1 + length rows) pieces))
+        ∷ (map drop_one ids ++ (put_all (id + 1) rows ++ (put_all (id + 1 + length rows) pieces ++ put_all (id + 1 + length rows + length pieces) hists)))
 
     first : front ≡ put id (records.Version (next_version (parts_of rs) n c)) ∷ []
     first = front_is ∙ ap (λ h. put id (records.Version (record { number = c.next_version; space = h; parent = parent })) ∷ []) here ∙ ap (λ h. put id (records.Version (record { number = c.next_version; space = n; parent = h })) ∷ []) newest
@@ -144,10 +149,10 @@ all_below rs id (k ∷ ks) above all =
     let h = both (is_some (record_at rs k)) (list_all (λ k. is_some (record_at rs k)) ks) all in and_true (nat_lt k id) (are_under id ks) (below rs id k above h.0) (all_below rs id ks above h.1)
 
 -- the ids that are dropped differ from those of the counters and of a workspace, and all are below the new ones
-pub written_once : (rs : List Stored) (a : Space) (c new : Counters) (counters_id space_id id count : ℕ) (test : PieceRecord → Bool) (ids : List ℕ) (rows : List RowRecord) (pieces : List PieceRecord) → Places rs a c counters_id space_id id
-    → AreDropped (keeps test) ids rs → ids_differ ids ≡ true → list_all (λ k. is_some (record_at rs k)) ids ≡ true → AreChanges (write_batch counters_id new space_id a count ids id rows pieces)
-written_once rs a c new counters_id space_id id count test ids rows pieces at dropped differ there =
-    changes-write counters_id new space_id a count ids id rows pieces
+pub written_once : (rs : List Stored) (a : Space) (c new : Counters) (counters_id space_id id count : ℕ) (test : PieceRecord → Bool) (ids : List ℕ) (rows : List RowRecord) (pieces : List PieceRecord) (hists : List Hist) → Places rs a c counters_id space_id id
+    → AreDropped (keeps test) ids rs → ids_differ ids ≡ true → list_all (λ k. is_some (record_at rs k)) ids ≡ true → AreChanges (write_batch counters_id new space_id a count ids id rows pieces hists)
+written_once rs a c new counters_id space_id id count test ids rows pieces hists at dropped differ there =
+    changes-write counters_id new space_id a count ids id rows pieces hists
     (two_before counters_id space_id ids (kinds_apart rs counters_id space_id c a at.counters at.space) (dropped counters_id (records.Counters c) at.counters) (dropped space_id (records.Space a) at.space) differ)
     (and_true (nat_lt counters_id id) _ (below rs id counters_id at.above (ap is_some at.counters))
     (and_true (nat_lt space_id id) _ (below rs id space_id at.above (ap is_some at.space)) (all_below rs id ids at.above there)))
@@ -203,23 +208,24 @@ redrawn_is rs version stamp number t changes news dropped drawn news_are of is =
     keys = ap piece_keys news_are ∙ keys_written version stamp t changes
 
 -- changes written into the newest version of a session's workspace
-pub wrote_all_here : (rs : List Stored) (m : ℕ) (session : Session) (p : Planned) (t : Table) (a : Space) (c : Counters) (changes : List RowChange) (dropped : List ℕ) (drawn : List PieceRecord) (counters_id space_id id count : ℕ) → Changes rs session.space m t a c changes
-    → Places rs a c counters_id space_id id → Redrawn rs (latest (parts_of rs) session.space) c.next_stamp t changes dropped drawn → p.changes ≡ changes_batch rs counters_id m c space_id a dropped id t changes drawn
+pub wrote_all_here : (rs : List Stored) (m : ℕ) (session : Session) (p : Planned) (t : Table) (a : Space) (c : Counters) (changes : List RowChange) (dropped : List ℕ) (drawn : List PieceRecord) (counters_id space_id id count : ℕ) → Changes rs session.space m t a c changes → is_short session.user ≡ true
+    → Places rs a c counters_id space_id id → Redrawn rs (latest (parts_of rs) session.space) c.next_stamp t changes dropped drawn → p.changes ≡ changes_batch rs counters_id m session.user c space_id a dropped id t changes drawn
     → seating_view p.seating ≡ Stay → answer_view p.answer ≡ Done count → WritesAll rs m session a t count changes p
-wrote_all_here rs m session p t a c changes dropped drawn counters_id space_id id count served at r changes_are seats says = λ xs act same.
-    told rs xs m p (changes_batch rs counters_id m c space_id a dropped id t changes drawn) Stay (Done count) act changes_are seats says
-    (does_write rs xs m session.space session.user t count changes a c counters_id space_id dropped id drawn act served
+wrote_all_here rs m session p t a c changes dropped drawn counters_id space_id id count served short at r changes_are seats says = λ xs act same.
+    told rs xs m p (changes_batch rs counters_id m session.user c space_id a dropped id t changes drawn) Stay (Done count) act changes_are seats says
+    (does_write rs xs m session.space session.user t count changes a c counters_id space_id dropped id drawn act served short
     (record { sorted = at.sorted; counters = at.counters; space = at.space; under = under_next id rs at.above; dropped = r.dropped; draws = r.draws })
-    (written_once rs a c (stepped_by c m (length changes)) counters_id space_id id (length changes) (is_out_all (latest (parts_of rs) session.space) t.number (change_keys changes)) dropped (new_rows c.next_stamp t changes) drawn at r.dropped r.once r.there)
+    (written_once rs a c (stepped_by c m (length changes)) counters_id space_id id (length changes) (is_out_all (latest (parts_of rs) session.space) t.number (change_keys changes)) dropped (new_rows c.next_stamp t changes) drawn
+    (new_hists a.number a.log_length m session.user c.next_stamp t changes) at r.dropped r.once r.there)
     same)
 
 -- and into a version more
-pub wrote_all_above : (rs : List Stored) (m : ℕ) (session : Session) (p : Planned) (t : Table) (a : Space) (c : Counters) (changes : List RowChange) (drawn : List PieceRecord) (counters_id space_id id count : ℕ) → ChangesNew rs session.space m t a c changes
-    → Places rs a c counters_id space_id id → AreDrawn (new_pieces c.next_version c.next_stamp t changes) [] drawn → p.changes ≡ changes_new_batch rs counters_id m c space_id a id session.space t changes drawn
+pub wrote_all_above : (rs : List Stored) (m : ℕ) (session : Session) (p : Planned) (t : Table) (a : Space) (c : Counters) (changes : List RowChange) (drawn : List PieceRecord) (counters_id space_id id count : ℕ) → ChangesNew rs session.space m t a c changes → is_short session.user ≡ true
+    → Places rs a c counters_id space_id id → AreDrawn (new_pieces c.next_version c.next_stamp t changes) [] drawn → p.changes ≡ changes_new_batch rs counters_id m session.user c space_id a id session.space t changes drawn
     → seating_view p.seating ≡ Stay → answer_view p.answer ≡ Done count → WritesAll rs m session a t count changes p
-wrote_all_above rs m session p t a c changes drawn counters_id space_id id count served at draws changes_are seats says = λ xs act same.
-    told rs xs m p (changes_new_batch rs counters_id m c space_id a id session.space t changes drawn) Stay (Done count) act changes_are seats says
-    (does_write_new rs xs m session.space session.user t count changes a c counters_id space_id id drawn act served
+wrote_all_above rs m session p t a c changes drawn counters_id space_id id count served short at draws changes_are seats says = λ xs act same.
+    told rs xs m p (changes_new_batch rs counters_id m session.user c space_id a id session.space t changes drawn) Stay (Done count) act changes_are seats says
+    (does_write_new rs xs m session.space session.user t count changes a c counters_id space_id id drawn act served short
     (record { sorted = at.sorted; counters = at.counters; space = at.space; under = under_next id rs at.above }) draws same)
 
 -- ---- a version more has no piece yet
@@ -290,17 +296,27 @@ fits_rows stamp id t (x ∷ xs) cs well fit filled rest =
 abbrev is_fitting : Table → PieceRecord → Bool
 is_fitting t x = is_key_of x.cells.key t && list_all is_filled x.cells.key
 
-fits_drawn : (id : ℕ) (t : Table) (xs : List PieceRecord) → list_all (is_fitting t) xs ≡ true → FitPages (put_all id (map records.Piece xs))
-fits_drawn id t [] all = tt
-fits_drawn id t (x ∷ xs) all =
+fits_drawn : (id : ℕ) (t : Table) (xs : List PieceRecord) (cs : List Change) → list_all (is_fitting t) xs ≡ true → FitPages cs → FitPages (put_all id (map records.Piece xs) ++ cs)
+fits_drawn id t [] cs all rest = rest
+fits_drawn id t (x ∷ xs) cs all rest =
     let h = both (is_fitting t x) (list_all (is_fitting t) xs) all in
-    let g = both (is_key_of x.cells.key t) (list_all is_filled x.cells.key) h.0 in (piece_fits x t g.0 g.1, fits_drawn (id + 1) t xs h.1)
+    let g = both (is_key_of x.cells.key t) (list_all is_filled x.cells.key) h.0 in (piece_fits x t g.0 g.1, fits_drawn (id + 1) t xs cs h.1 rest)
 
 -- the key of a change is such a key
 change_fitting : (t : Table) (x : RowChange) → is_change t x ≡ true → is_filled_change x ≡ true → (is_key_of x.key t && list_all is_filled x.key) ≡ true
 change_fitting t x fit filled =
     and_true (is_key_of x.key t) (list_all is_filled x.key) (both (is_key_of x.key t) (option_map_or (λ r. is_row_of r t && is_key x.key (key_of t r)) x.row true) fit).0
     (both (list_all is_filled x.key) (option_map_or (list_all is_filled) x.row true) filled).0
+
+-- the entries of a log for changes fit
+fits_hists : (n position m stamp id : ℕ) (user : List ℕ) (t : Table) (xs : List RowChange) → is_short user ≡ true → list_all (is_change t) xs ≡ true → list_all is_filled_change xs ≡ true
+    → FitPages (put_all id (map records.Hist (new_hists n position m user stamp t xs)))
+fits_hists n position m stamp id user t [] short fit filled = tt
+fits_hists n position m stamp id user t (x ∷ xs) short fit filled =
+    let f = both (is_change t x) (list_all (is_change t) xs) fit in
+    let g = both (is_filled_change x) (list_all is_filled_change xs) filled in
+    let k = both (is_key_of x.key t) (list_all is_filled x.key) (change_fitting t x f.0 g.0) in
+    (hist_fits (change_hist n position m user stamp t x) t k.0 k.1 short, fits_hists n (position + 1) m (stamp + 1) (id + 1) user t xs short f.1 g.1)
 
 -- so is that of a piece that goes
 goes_fitting : (version : ℕ) (t : Table) (xs : List RowChange) (y : PieceRecord) → list_all (is_change t) xs ≡ true → list_all is_filled_change xs ≡ true → is_out_all version t.number (change_keys xs) y ≡ false → is_fitting t y ≡ true
@@ -348,30 +364,33 @@ drawn_fitting : (version stamp : ℕ) (t : Table) (xs : List RowChange) (old dra
 drawn_fitting version stamp t xs old drawn fit filled olds draws = draws.pass (is_fitting t) (λ x from till e le lt ends. e) olds (all_news_fitting version stamp t xs fit filled)
 
 -- and the whole batch
-fits_write : (rs : List Stored) (n m : ℕ) (t : Table) (a : Space) (c new : Counters) (changes : List RowChange) (drawn : List PieceRecord) (counters_id space_id id : ℕ) (ids : List ℕ) → ChangesNew rs n m t a c changes
-    → list_all is_filled_change changes ≡ true → list_all (is_fitting t) drawn ≡ true → FitPages (write_batch counters_id new space_id a (length changes) ids id (new_rows c.next_stamp t changes) drawn)
-fits_write rs n m t a c new changes drawn counters_id space_id id ids served filled fitting =
+fits_write : (rs : List Stored) (n m : ℕ) (user : List ℕ) (t : Table) (a : Space) (c new : Counters) (changes : List RowChange) (drawn : List PieceRecord) (counters_id space_id id : ℕ) (ids : List ℕ) → ChangesNew rs n m t a c changes
+    → is_short user ≡ true → list_all is_filled_change changes ≡ true → list_all (is_fitting t) drawn ≡ true
+    → FitPages (write_batch counters_id new space_id a (length changes) ids id (new_rows c.next_stamp t changes) drawn (new_hists a.number a.log_length m user c.next_stamp t changes))
+fits_write rs n m user t a c new changes drawn counters_id space_id id ids served user_short filled fitting =
     let short = space_well rs n a served.rules served.space in
     let well = table_in_order rs t.number t served.rules served.there in (
       fits_counters new,
       (
         space_fits (longer_by (length changes) a) short.0 short.1,
-        fits_dropped ids _ (fits_rows c.next_stamp id t changes _ well served.fit filled (fits_drawn (id + length (new_rows c.next_stamp t changes)) t drawn fitting)),
+        fits_dropped ids _ (fits_rows c.next_stamp id t changes _ well served.fit filled
+            (fits_drawn (id + length (new_rows c.next_stamp t changes)) t drawn _ fitting
+            (fits_hists a.number a.log_length m c.next_stamp (id + length (new_rows c.next_stamp t changes) + length drawn) user t changes user_short served.fit filled))),
       ),
     )
 
-pub fits_all_here : (rs : List Stored) (n m version : ℕ) (t : Table) (a : Space) (c : Counters) (changes : List RowChange) (drawn : List PieceRecord) (counters_id space_id id : ℕ) (ids : List ℕ) (cs : List Change) → ChangesNew rs n m t a c changes
-    → list_all is_filled_change changes ≡ true → AreDrawn (new_pieces version c.next_stamp t changes) (go rs version t changes) drawn → cs ≡ changes_batch rs counters_id m c space_id a ids id t changes drawn → FitPages cs
-fits_all_here rs n m version t a c changes drawn counters_id space_id id ids cs served filled draws is =
-    subst FitPages (sym is) (fits_write rs n m t a c (stepped_by c m (length changes)) changes drawn counters_id space_id id ids served filled
+pub fits_all_here : (rs : List Stored) (n m version : ℕ) (user : List ℕ) (t : Table) (a : Space) (c : Counters) (changes : List RowChange) (drawn : List PieceRecord) (counters_id space_id id : ℕ) (ids : List ℕ) (cs : List Change) → ChangesNew rs n m t a c changes
+    → is_short user ≡ true → list_all is_filled_change changes ≡ true → AreDrawn (new_pieces version c.next_stamp t changes) (go rs version t changes) drawn → cs ≡ changes_batch rs counters_id m user c space_id a ids id t changes drawn → FitPages cs
+fits_all_here rs n m version user t a c changes drawn counters_id space_id id ids cs served short filled draws is =
+    subst FitPages (sym is) (fits_write rs n m user t a c (stepped_by c m (length changes)) changes drawn counters_id space_id id ids served short filled
     (drawn_fitting version c.next_stamp t changes (go rs version t changes) drawn served.fit filled (all_go_fitting version t changes (parts_of rs).pieces served.fit filled) draws))
 
-pub fits_all_above : (rs : List Stored) (n m : ℕ) (t : Table) (a : Space) (c : Counters) (changes : List RowChange) (drawn : List PieceRecord) (counters_id space_id id : ℕ) (cs : List Change) → ChangesNew rs n m t a c changes
-    → list_all is_filled_change changes ≡ true → AreDrawn (new_pieces c.next_version c.next_stamp t changes) [] drawn → cs ≡ changes_new_batch rs counters_id m c space_id a id n t changes drawn → FitPages cs
-fits_all_above rs n m t a c changes drawn counters_id space_id id cs served filled draws is =
+pub fits_all_above : (rs : List Stored) (n m : ℕ) (user : List ℕ) (t : Table) (a : Space) (c : Counters) (changes : List RowChange) (drawn : List PieceRecord) (counters_id space_id id : ℕ) (cs : List Change) → ChangesNew rs n m t a c changes
+    → is_short user ≡ true → list_all is_filled_change changes ≡ true → AreDrawn (new_pieces c.next_version c.next_stamp t changes) [] drawn → cs ≡ changes_new_batch rs counters_id m user c space_id a id n t changes drawn → FitPages cs
+fits_all_above rs n m user t a c changes drawn counters_id space_id id cs served short filled draws is =
     subst FitPages (sym is) (
       fits_version (next_version (parts_of rs) n c),
-      fits_write rs n m t a c (stepped_new_by c m (length changes)) changes drawn counters_id space_id (id + 1) [] served filled
+      fits_write rs n m user t a c (stepped_new_by c m (length changes)) changes drawn counters_id space_id (id + 1) [] served short filled
           (drawn_fitting c.next_version c.next_stamp t changes [] drawn served.fit filled refl draws),
     )
 

@@ -1,12 +1,14 @@
 -- What a plan that changes rows does.
-use Rattle.std.proofs.Common.{◌≡◌, ℕ, ◌+◌, List, [], ◌∷◌, ◌++◌, length, map, refl, sym, ap, ◌∙◌, arith}
-use Rattle.std.proofs.lemmas.List.{append_assoc, map-append}
+use Rattle.std.proofs.Common.{◌≡◌, ℕ, suc, ◌+◌, ◌<◌, List, [], ◌∷◌, ◌++◌, length, take, get_or, map, refl, sym, ap, ◌∙◌, arith}
+use Rattle.std.proofs.Math.Seq.{take-suc}
+use Rattle.std.proofs.lemmas.List.{append_assoc, length-take-le, map-append}
 use Rattle.wm_dml.specs.declared.change.RowChange.{RowChange}
-use Rattle.wm_model.proofs.ChangeLists.{new_pieces-push, new_rows-push}
-use Rattle.wm_model.specs.Changes.{change_piece, new_pieces, new_rows, row_before}
+use Rattle.wm_model.proofs.ChangeLists.{new_hists-push, new_pieces-push, new_rows-push}
+use Rattle.wm_model.specs.Changes.{change_hist, change_piece, new_hists, new_pieces, new_rows, row_before}
 use Rattle.wm_spec.specs.declared.record.Record.{Record}
 use Rattle.wm_spec.specs.declared.record.Record.TheVariants as records
 use Rattle.wm_spec.specs.declared.record.batch.Change.{Change}
+use Rattle.wm_spec.specs.declared.record.hist.Hist.{Hist}
 use Rattle.wm_spec.specs.declared.record.piece.PieceRecord.{PieceRecord}
 use Rattle.wm_spec.specs.declared.record.table.Table.{Table}
 use Rattle.wm_state.proofs.WrittenIds.{put_all-append}
@@ -47,6 +49,32 @@ pub pieces_more : (version stamp next : ℕ) (t : Table) (xs : List RowChange) (
     → after ≡ before ++ change_piece version next t x ∷ [] → after ≡ new_pieces version stamp t (xs ++ x ∷ [])
 pieces_more version stamp next t xs x before after is place pushed =
     pushed ∙ ap (λ ps. ps ++ change_piece version next t x ∷ []) is ∙ ap (λ n. new_pieces version stamp t xs ++ change_piece version n t x ∷ []) place ∙ sym (new_pieces-push version stamp t xs x)
+
+-- and the entry of a log for it
+pub hists_more : (n start next m : ℕ) (user : List ℕ) (stamp mark : ℕ) (t : Table) (xs : List RowChange) (i : ℕ) (d : RowChange) (x : Hist) (before after : List Record) → i < length xs → before ≡ map records.Hist (new_hists n start m user stamp t (take i xs))
+    → next ≡ start + i → mark ≡ stamp + i → x ≡ change_hist n next m user mark t (get_or xs i d) → after ≡ before ++ records.Hist x ∷ [] → after ≡ map records.Hist (new_hists n start m user stamp t (take (i + 1) xs))
+hists_more n start next m user stamp mark t xs i d x before after within is place given made pushed =
+    pushed
+    ∙ ap (λ rs. rs ++ records.Hist x ∷ []) is
+    ∙ ap (λ y. map records.Hist (new_hists n start m user stamp t (take i xs)) ++ records.Hist y ∷ []) said
+    ∙ sym (map-append records.Hist (new_hists n start m user stamp t (take i xs)) (change_hist n (start + length (take i xs)) m user (stamp + length (take i xs)) t (get_or xs i d) ∷ []))
+    ∙ ap (map records.Hist) (sym (new_hists-push n start m user stamp t (take i xs) (get_or xs i d)))
+    ∙ ap (λ ys. map records.Hist (new_hists n start m user stamp t ys)) (sym more)
+  where
+    so_many : length (take i xs) ≡ i
+    so_many = length-take-le i xs (omega (arith, within))
+
+    said : x ≡ change_hist n (start + length (take i xs)) m user (stamp + length (take i xs)) t (get_or xs i d)
+    said =
+        made
+        ∙ ap (λ k. change_hist n k m user mark t (get_or xs i d)) (place ∙ ap (λ j. start + j) (sym so_many))
+        ∙ ap (λ k. change_hist n (start + length (take i xs)) m user k t (get_or xs i d)) (given ∙ ap (λ j. stamp + j) (sym so_many))
+
+    more : take (i + 1) xs ≡ take i xs ++ get_or xs i d ∷ []
+    more = ap (λ k. take k xs) (add_one i) ∙ take-suc xs i d within
+      where
+        add_one : (k : ℕ) → k + 1 ≡ suc k
+        add_one k = omega arith
 
 -- pieces as records, one more
 pub one_record_more : (ps : List PieceRecord) (p : PieceRecord) (before after : List Record) → before ≡ map records.Piece ps → after ≡ before ++ records.Piece p ∷ [] → after ≡ map records.Piece (ps ++ p ∷ [])

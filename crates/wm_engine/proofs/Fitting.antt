@@ -15,6 +15,7 @@ use Rattle.wm_spec.specs.declared.record.column.ColumnKind.{ColumnKind}
 use Rattle.wm_spec.specs.declared.record.column.ColumnKind.TheVariants as kinds
 use Rattle.wm_spec.specs.declared.record.column.TableColumn.{TableColumn}
 use Rattle.wm_spec.specs.declared.record.counters.Counters.{Counters}
+use Rattle.wm_spec.specs.declared.record.hist.Hist.{Hist}
 use Rattle.wm_spec.specs.declared.record.piece.PieceRecord.{PieceRecord}
 use Rattle.wm_spec.specs.declared.record.row.RowRecord.{RowRecord}
 use Rattle.wm_spec.specs.declared.record.savepoint.Savepoint.{Savepoint}
@@ -30,7 +31,7 @@ use Rattle.wm_state.proofs.Planning.{tables-split}
 use Rattle.wm_state.proofs.Tests.{bool_apart, both, and_true, all_middle}
 use Rattle.wm_dml.specs.Changing.{row_key}
 use Rattle.wm_store.specs.Spelled.{FitPages}
-use Rattle.wm_store.proofs.Fitting.{FitsPage, is_spelled, fits_counters, fits_version, fits_space, fits_savepoint, fits_table, fits_row, fits_piece}
+use Rattle.wm_store.proofs.Fitting.{FitsPage, is_spelled, fits_counters, fits_version, fits_space, fits_savepoint, fits_table, fits_row, fits_piece, fits_hist}
 use Rattle.wm_making.specs.Rows.{is_filled}
 
 -- ---- what the rules say of a record
@@ -145,26 +146,42 @@ row_fits r t e row filled =
     let f = fitted t.columns r.values filled h.0 in
     fits_row r (omega (arith, f.1, s.few)) f.0 (at_most (weight r.values) 2000 (both (nat_le (weight r.values) 2000) (is_light_key (key_of t r.values)) h.1).0)
 
+-- a key of a table, where no text in it is empty, is one value that is spelled
+record OneKey (key : List Value) : Type 0 where
+  value : Value
+  is : key ≡ value ∷ []
+  spelled : is_spelled value ≡ true
+  light : weight_of value ≤ 2000
+
+one_key : (key : List Value) (t : Table) → is_key_of key t ≡ true → list_all is_filled key ≡ true → OneKey key
+one_key [] t e f = absurd (bool_apart (sym e))
+one_key (v ∷ w ∷ vs) t e f = absurd (bool_apart (sym e))
+one_key (v ∷ []) t e f =
+    let h = both (nat_le (weight_of v) 200) (t.has_key && typed (slice_get t.columns t.key_column)) e in
+    record {
+      value = v;
+      is = refl;
+      spelled = by_column (slice_get t.columns t.key_column) (both t.has_key (typed (slice_get t.columns t.key_column)) h.1).1;
+      light = lighter (weight_of v) h.0;
+    }
+  where
+    lighter : (n : ℕ) → nat_le n 200 ≡ true → n ≤ 2000
+    lighter n e = grind (arith, e)
+
+    typed : Option TableColumn → Bool
+    typed o = option_map_or (λ (c : TableColumn). type_place v == type_of c.kind) o false
+
+    by_column : (o : Option TableColumn) → typed o ≡ true → is_spelled v ≡ true
+    by_column None g = absurd (bool_apart (sym g))
+    by_column (Some c) g = spelled_of c.kind v (both (is_filled v) true f).0 (λ p is. sym (ap (λ w. type_place w == type_of c.kind) is) ∙ g)
+
 -- and a piece whose key is one of the table
 pub piece_fits : (x : PieceRecord) (t : Table) → is_key_of x.cells.key t ≡ true → list_all is_filled x.cells.key ≡ true → FitsPage (records.Piece x)
-piece_fits x t key filled = by_key x.cells.key refl key filled
-  where
-    by_key : (vs : List Value) → x.cells.key ≡ vs → is_key_of vs t ≡ true → list_all is_filled vs ≡ true → FitsPage (records.Piece x)
-    by_key [] is e f = absurd (bool_apart (sym e))
-    by_key (v ∷ w ∷ vs) is e f = absurd (bool_apart (sym e))
-    by_key (v ∷ []) is e f =
-        let h = both (nat_le (weight_of v) 200) (t.has_key && typed (slice_get t.columns t.key_column)) e in
-        fits_piece x v is (by_column (slice_get t.columns t.key_column) (both t.has_key (typed (slice_get t.columns t.key_column)) h.1).1) (lighter (weight_of v) h.0)
-      where
-        lighter : (n : ℕ) → nat_le n 200 ≡ true → n ≤ 2000
-        lighter n e = grind (arith, e)
+piece_fits x t key filled = let k = one_key x.cells.key t key filled in fits_piece x k.value k.is k.spelled k.light
 
-        typed : Option TableColumn → Bool
-        typed o = option_map_or (λ (c : TableColumn). type_place v == type_of c.kind) o false
-
-        by_column : (o : Option TableColumn) → typed o ≡ true → is_spelled v ≡ true
-        by_column None g = absurd (bool_apart (sym g))
-        by_column (Some c) g = spelled_of c.kind v (both (is_filled v) true f).0 (λ p is. sym (ap (λ w. type_place w == type_of c.kind) is) ∙ g)
+-- and an entry of a log, if its user is short
+pub hist_fits : (x : Hist) (t : Table) → is_key_of x.cells.key t ≡ true → list_all is_filled x.cells.key ≡ true → is_short x.user ≡ true → FitsPage (records.Hist x)
+hist_fits x t key filled user = let k = one_key x.cells.key t key filled in fits_hist x k.value k.is k.spelled k.light (at_most (length x.user) 30 user)
 
 -- the key of a row in which no text is empty is no empty text
 pub filled_key : (t : Table) (row : List Value) → list_all is_filled row ≡ true → list_all is_filled (row_key t row) ≡ true

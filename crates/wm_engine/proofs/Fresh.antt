@@ -1,6 +1,8 @@
 -- A store that was just made stands for a state in which nothing was done.
-use Rattle.std.proofs.Common.{◌≡◌, ℕ, ◌+◌, ◌<◌, ◌≤◌, ◌==◌, nat_le, Bool, true, false, cond, [], ◌∷◌, map, Option, Some, None, is_some, refl, sym, ap, ◌∙◌, arith}
+use Rattle.std.proofs.Common.{◌≡◌, ℕ, ◌+◌, ◌<◌, ◌≤◌, ◌==◌, nat_le, Bool, true, false, cond, [], ◌∷◌, map, Option, Some, None, is_some, refl, sym, ap, subst, ◌∙◌, arith}
 use Rattle.std.proofs.lemmas.Bool.Decides.{nat_tests}
+use Rattle.std.proofs.lemmas.List.Elements.{All-nil}
+use Rattle.std.specs.List.{All, slice_get}
 use Rattle.std.specs.Option.{option_map}
 use Rattle.wm_graph.specs.Parts.{Parts, parts_of, space_of}
 use Rattle.wm_graph.specs.Rules.{keep_rules, are_counters}
@@ -8,8 +10,8 @@ use Rattle.wm_period.specs.Pieces.{Held}
 use Rattle.wm_spec.specs.Lists.{Cell, Told, told}
 use Rattle.wm_spec.specs.declared.record.savepoint.Savepoint.{Savepoint as Record}
 use Rattle.wm_state.specs.ById.{by_id}
-use Rattle.wm_state.specs.State.{Workspace, Savepoint, content, fresh, fresh_live, savepoint_made, savepoints_of, workspace_of}
-use Rattle.wm_state.specs.Standing.{Stands, fields_of, fields_in, fields_saved, held_of, shown, owned, latest}
+use Rattle.wm_state.specs.State.{Workspace, Savepoint, content, fresh, fresh_live, log_of, savepoint_made, savepoints_of, workspace_of}
+use Rattle.wm_state.specs.Standing.{HasRow, Stands, logged_as, fields_of, fields_in, fields_saved, held_of, shown, owned, latest}
 use Rattle.wm_store.specs.Fresh.{fresh_records, fresh_counters, live, first_version}
 
 -- the records of a store that was just made
@@ -80,6 +82,14 @@ none_saved n = by_space (workspace_of (fresh_live ∷ []) n) refl
     by_space None e = rw e refl
     by_space (Some w) e = rw e (ap (λ (v : Workspace). map fields_saved v.savepoints) (sym (only_live n w e)))
 
+-- nor an entry of a log
+none_logged : (n : ℕ) → log_of (fresh_live ∷ []) n ≡ []
+none_logged n = by_space (workspace_of (fresh_live ∷ []) n) refl
+  where
+    by_space : (o : Option Workspace) → workspace_of (fresh_live ∷ []) n ≡ o → log_of (fresh_live ∷ []) n ≡ []
+    by_space None e = rw e refl
+    by_space (Some w) e = rw e (ap (λ (v : Workspace). v.lists.log) (only_live n w e))
+
 no_record : (x : Record) → (let nothing : Option Record = None in nothing) ≡ Some x → ⊥
 no_record x e = cc
 
@@ -120,7 +130,9 @@ fresh_stands limit some most = record {
     births = λ n w is c t row e h. absurd (none_told t (told w.lists.at_birth c) (ap (λ (v : Workspace). told v.lists.at_birth c) (only_live n w is)) e);
     bases = λ n w is c t row e h. absurd (none_told t (told w.lists.base c) (ap (λ (v : Workspace). told v.lists.base c) (only_live n w is)) e);
     saved = λ n making w k is made c t row e h. absurd (none_made n making w k is made);
+    logs = λ n. subst (λ es. All (HasRow (parts_of (by_id (fresh_records limit)))) es) (sym (none_logged n)) (All-nil (HasRow (parts_of (by_id (fresh_records limit)))));
   };
+  hists = record { same = λ n position. ap (λ es. option_map logged_as (slice_get es position)) (sym (none_logged n)) };
 }
   where
     none_told : (t : Told) (o : Option Told) → o ≡ None → o ≡ Some t → ⊥

@@ -1,8 +1,9 @@
 //! Who is connected, and where they stand.
-ghost use Rattle.std.specs.Prelude.{◌≡◌, None, is_some};
+ghost use Rattle.std.specs.Prelude.{◌≡◌, None, is_some, true};
 ghost use Rattle.std.specs.Option.{option_copied};
 ghost use Rattle.std.specs.Str.{bytes_eq};
 ghost use Rattle.wm_engine.specs.Stands.{stand_view};
+ghost use Rattle.wm_graph.specs.Rules.{is_short};
 ghost use Rattle.wm_model.specs.Step.{session_of};
 ghost use Rattle.wm_state.specs.State.{Latest};
 
@@ -31,17 +32,23 @@ pub struct Session {
 }
 
 impl Model for Session {
+    ghost use Rattle.std.specs.Prelude.{◌≡◌, true};
     ghost use Rattle.wm_engine.specs.Stands.{stand_view};
+    ghost use Rattle.wm_graph.specs.Rules.{is_short};
     ghost use Rattle.wm_state.specs.State.{Session as SessionState};
 
     ghost Value = { SessionState };
 
     ghost view = { λ s. record { name = s.name; user = s.user; space = s.space; stand = stand_view s.stand; period = s.period } };
+
+    ghost invariant = { λ s. is_short s.user ≡ true };
 }
 
 impl Session {
     /// A session of this name for this user, which stands in LIVE at what is newest, and for which no period is set.
     pub fn new(name: Name, user: Name) -> Session
+        // An entry of a log has room for the user.
+        requires { is_short user ≡ true }
         ensures { result ≡ record { name = name; user = user; space = 0; stand = Latest; period = None } }
     {
         Session {
@@ -60,7 +67,8 @@ impl Session {
     }
 
     pub fn user(&self) -> &Name
-        ensures { result.now ≡ self.now.user }
+        ensures user { result.now ≡ self.now.user }
+        ensures short { is_short self.now.user ≡ true }
     {
         &self.user
     }

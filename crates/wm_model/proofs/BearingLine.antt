@@ -239,7 +239,7 @@ child_same : (p : Parts) (s : State) (a : Space) (m : ℕ) (w : Workspace) (stan
 child_same p s a m w stand name pt st is now k =
     child_kept p w (child_of s w k.savepoint name) k.savepoint (birth_record p a pt) (child_record p a m name pt) k.kept refl
     (ap (λ n. fields n m pt.place pt.log_length) (sym is.number) ∙ ap (λ n. fields w.number n pt.place pt.log_length) now ∙ ap (λ n. fields w.number s.moment n pt.log_length) k.place ∙ ap (fields w.number s.moment k.savepoint.place) k.log)
-    (next_space_same p s st) refl refl refl refl
+    (next_space_same p s st) refl refl refl refl refl
   where
     fields : ℕ → ℕ → ℕ → ℕ → SpaceFields
     fields parent born place from = record {

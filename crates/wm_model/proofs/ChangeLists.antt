@@ -2,7 +2,7 @@
 use Rattle.std.proofs.Common.{◌≡◌, ℕ, suc, ◌+◌, List, [], ◌∷◌, ◌++◌, length, Option, Some, None, refl, ap, ◌∙◌, arith}
 use Rattle.wm_base.specs.declared.value.Value.{Value}
 use Rattle.wm_spec.specs.declared.record.table.Table.{Table}
-use Rattle.wm_model.specs.Changes.{row_before, new_rows, change_piece, new_pieces}
+use Rattle.wm_model.specs.Changes.{row_before, new_rows, change_piece, new_pieces, change_hist, new_hists}
 use Rattle.wm_dml.specs.declared.change.RowChange.{RowChange}
 
 -- the stamp behind all of them
@@ -34,6 +34,15 @@ new_rows-push stamp t xs x = new_rows-append stamp t xs (x ∷ [])
 
 pub new_pieces-push : (version stamp : ℕ) (t : Table) (xs : List RowChange) (x : RowChange) → new_pieces version stamp t (xs ++ x ∷ []) ≡ new_pieces version stamp t xs ++ change_piece version (stamp + length xs) t x ∷ []
 new_pieces-push version stamp t xs x = new_pieces-append version stamp t xs (x ∷ [])
+
+pub new_hists-push : (n position m : ℕ) (user : List ℕ) (stamp : ℕ) (t : Table) (xs : List RowChange) (x : RowChange)
+    → new_hists n position m user stamp t (xs ++ x ∷ []) ≡ new_hists n position m user stamp t xs ++ change_hist n (position + length xs) m user (stamp + length xs) t x ∷ []
+new_hists-push n position m user stamp t [] x = ap (λ k. change_hist n k m user stamp t x ∷ []) (no_more position) ∙ ap (λ k. change_hist n (position + 0) m user k t x ∷ []) (no_more stamp)
+new_hists-push n position m user stamp t (y ∷ xs) x =
+    ap (λ hists. change_hist n position m user stamp t y ∷ hists)
+    (new_hists-push n (position + 1) m user (stamp + 1) t xs x
+    ∙ ap (λ k. new_hists n (position + 1) m user (stamp + 1) t xs ++ change_hist n k m user (stamp + 1 + length xs) t x ∷ []) (next_stamp position (length xs))
+    ∙ ap (λ k. new_hists n (position + 1) m user (stamp + 1) t xs ++ change_hist n (position + suc (length xs)) m user k t x ∷ []) (next_stamp stamp (length xs)))
 
 -- there is a new piece for each change
 pub length-new_pieces : (version stamp : ℕ) (t : Table) (xs : List RowChange) → length (new_pieces version stamp t xs) ≡ length xs

@@ -37,7 +37,8 @@ stands_sessions p s xs st = record {
   kept = record { told = st.kept.told };
   kept_own = record { covered = st.kept_own.covered };
   bases = record { birth = st.bases.birth; base = st.bases.base };
-  rows = record { there = st.rows.there; births = st.rows.births; bases = st.rows.bases; saved = st.rows.saved };
+  rows = record { there = st.rows.there; births = st.rows.births; bases = st.rows.bases; saved = st.rows.saved; logs = st.rows.logs };
+  hists = record { same = st.hists.same };
 }
 
 pub none_changes : AreChanges []

@@ -32,7 +32,8 @@ stands_moment p s m st = record {
   kept = record { told = st.kept.told };
   kept_own = record { covered = st.kept_own.covered };
   bases = record { birth = st.bases.birth; base = st.bases.base };
-  rows = record { there = st.rows.there; births = st.rows.births; bases = st.rows.bases; saved = st.rows.saved };
+  rows = record { there = st.rows.there; births = st.rows.births; bases = st.rows.bases; saved = st.rows.saved; logs = st.rows.logs };
+  hists = record { same = st.hists.same };
 }
 
 -- a line that leaves the moment

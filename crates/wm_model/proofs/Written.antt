@@ -4,7 +4,7 @@ use Rattle.std.specs.List.{filter, list_all}
 use Rattle.std.specs.Option.{option_map_or}
 use Rattle.wm_base.specs.declared.value.Value.{Value}
 use Rattle.wm_graph.specs.Parts.{Parts, parts_of, table_of, space_of}
-use Rattle.wm_graph.specs.Rules.{keep_rules, are_counters}
+use Rattle.wm_graph.specs.Rules.{keep_rules, are_counters, is_short}
 use Rattle.wm_print.specs.Texts.{Answer, Done}
 use Rattle.wm_spec.specs.Lists.{Entry}
 use Rattle.wm_spec.specs.Records.{record_at, AreChanges}
@@ -18,7 +18,7 @@ use Rattle.wm_spec.specs.declared.record.table.Table.{Table}
 use Rattle.wm_state.specs.Batches.{AreDropped, AllUnder, keeps}
 use Rattle.wm_state.specs.ById.{Ascend, applied}
 use Rattle.wm_state.specs.Drawing.{AreDrawn}
-use Rattle.wm_state.specs.Entries.{AreStamped, entry_keys, is_well, fits_table, pieces_of, rows_in, is_out_all}
+use Rattle.wm_state.specs.Entries.{AreStamped, entry_keys, is_well, fits_table, pieces_of, rows_in, hists_from, is_out_all}
 use Rattle.wm_state.specs.State.{State, Session, with_space, with_entries, log_length}
 use Rattle.wm_state.specs.Standing.{SpaceFields, CountersStand, Stands, latest}
 use Rattle.wm_state.specs.Writes.{write_batch}
@@ -29,7 +29,7 @@ use Rattle.wm_state.proofs.Tests.{both, and_true}
 use Rattle.wm_model.specs.Step.{counter_limit, durably, line_work}
 use Rattle.wm_model.specs.Planning.{StandsAt, Does, Stay, moved}
 use Rattle.wm_dml.specs.Standing.{change_keys, change_lasts, is_change}
-use Rattle.wm_model.specs.Changes.{write_changes, row_before, new_rows, change_piece, new_pieces, stepped_by, ChangesNew, Changes}
+use Rattle.wm_model.specs.Changes.{write_changes, row_before, new_rows, change_piece, new_pieces, change_hist, new_hists, stepped_by, ChangesNew, Changes}
 use Rattle.wm_dml.specs.declared.change.RowChange.{RowChange}
 use Rattle.wm_model.specs.Entered.{change_entry, entries_from, entries_of, written_all}
 use Rattle.wm_model.proofs.Counting.{work_grows}
@@ -81,6 +81,20 @@ well_are rs stamp moment user t (x ∷ xs) there fit =
     by_row None is = rw is refl
     by_row (Some row) is = rw is refl
 
+-- the records of the entries of a log
+pub hists_are : (n position stamp moment : ℕ) (user : List ℕ) (t : Table) (changes : List RowChange) → hists_from n position (entries_from stamp moment user t changes) ≡ new_hists n position moment user stamp t changes
+hists_are n position stamp moment user t [] = refl
+hists_are n position stamp moment user t (x ∷ xs) = by_row x.row refl ∙ ap (λ hists. change_hist n position moment user stamp t x ∷ hists) (hists_are n (position + 1) (stamp + 1) moment user t xs)
+  where
+    by_row : (o : Option (List Value)) → x.row ≡ o
+        → hists_from n position (entries_from stamp moment user t (x ∷ xs)) ≡ change_hist n position moment user stamp t x ∷ hists_from n (position + 1) (entries_from (stamp + 1) moment user t xs)
+    by_row None is = rw is refl
+    by_row (Some row) is = rw is refl
+
+pub users_are : (stamp moment : ℕ) (user : List ℕ) (t : Table) (changes : List RowChange) → is_short user ≡ true → list_all (λ (e : Entry). is_short e.user) (entries_from stamp moment user t changes) ≡ true
+users_are stamp moment user t [] short = refl
+users_are stamp moment user t (x ∷ xs) short = and_true (is_short user) _ short (users_are (stamp + 1) moment user t xs short)
+
 -- ---- what is counted
 
 pub counters_well : (rs : List Stored) (n m : ℕ) (t : Table) (a : Space) (c : Counters) (changes : List RowChange) → ChangesNew rs n m t a c changes → are_counters c ≡ true
@@ -125,14 +139,15 @@ abbrev pub go : List Stored → ℕ → Table → List RowChange → List PieceR
 go rs version t changes = filter (λ (y : PieceRecord). not (is_out_all version t.number (change_keys changes) y)) (parts_of rs).pieces
 
 -- the batch of changes
-abbrev pub changes_batch : List Stored → ℕ → ℕ → Counters → ℕ → Space → List ℕ → ℕ → Table → List RowChange → List PieceRecord → List Change
-changes_batch rs counters_id m c space_id a ids id t changes drawn =
+abbrev pub changes_batch : List Stored → ℕ → ℕ → List ℕ → Counters → ℕ → Space → List ℕ → ℕ → Table → List RowChange → List PieceRecord → List Change
+changes_batch rs counters_id m user c space_id a ids id t changes drawn =
     write_batch counters_id (stepped_by c m (length changes)) space_id a (length changes) ids id (new_rows c.next_stamp t changes) drawn
+    (new_hists a.number a.log_length m user c.next_stamp t changes)
 
 -- what is asked of their entries
-may_write_all : (rs : List Stored) (n m moment : ℕ) (user : List ℕ) (t : Table) (a : Space) (c : Counters) (changes : List RowChange) → Changes rs n m t a c changes
+may_write_all : (rs : List Stored) (n m moment : ℕ) (user : List ℕ) (t : Table) (a : Space) (c : Counters) (changes : List RowChange) → Changes rs n m t a c changes → is_short user ≡ true
     → MayWriteAll (parts_of rs) c (stepped_by c m (length changes)) n a t.number (entries_from c.next_stamp moment user t changes)
-may_write_all rs n m moment user t a c changes v = record {
+may_write_all rs n m moment user t a c changes v short = record {
   one = v.new.one;
   counters = stamped_by (moved c m) (length changes) (counters_move c m (counters_well rs n m t a c changes v.new) v.new.early v.new.room) v.new.left;
   stamps = ap (λ k. c.next_stamp + k) (sym (length_entries c.next_stamp moment user t changes));
@@ -144,6 +159,7 @@ may_write_all rs n m moment user t a c changes v = record {
   free = v.free;
   stamped = stamped_are c.next_stamp moment user t changes v.new.last;
   well = well_are rs c.next_stamp moment user t changes v.new.there v.new.fit;
+  users = users_are c.next_stamp moment user t changes short;
 }
 
 -- the records that the batch is about, those that it drops, and the pieces that come
@@ -156,20 +172,20 @@ pub record ChangePlaces (rs : List Stored) (counters_id space_id id : ℕ) (c : 
   pub draws : AreDrawn (new_pieces version c.next_stamp t changes) (go rs version t changes) drawn
 
 pub does_write : (rs : List Stored) (xs : List Session) (m n : ℕ) (user : List ℕ) (t : Table) (count : ℕ) (changes : List RowChange) (a : Space) (c : Counters) (counters_id space_id : ℕ) (ids : List ℕ) (id : ℕ) (drawn : List PieceRecord)
-    (act : State → State × Answer) → Changes rs n m t a c changes → ChangePlaces rs counters_id space_id id c a (latest (parts_of rs) n) t ids changes drawn
-    → AreChanges (changes_batch rs counters_id m c space_id a ids id t changes drawn)
+    (act : State → State × Answer) → Changes rs n m t a c changes → is_short user ≡ true → ChangePlaces rs counters_id space_id id c a (latest (parts_of rs) n) t ids changes drawn
+    → AreChanges (changes_batch rs counters_id m user c space_id a ids id t changes drawn)
     → ((s : State) → StandsAt rs xs m s → act s ≡ durably s (a.log_length + length changes) (written_all n (entries_of s user t changes) s, Done count))
-    → Does rs xs m (changes_batch rs counters_id m c space_id a ids id t changes drawn) Stay (Done count) act
-does_write rs xs m n user t count changes a c counters_id space_id ids id drawn act v p once same = record {
-  keeps = subst (λ cs. keep_rules (parts_of (applied cs rs)) ≡ true) (batch_is 0)
-      (keep_planned rs counters_id space_id c d a ids id n t.number (es 0) drawn v.new.rules p.sorted p.counters p.space (dropped 0) p.under (may_write_all rs n m 0 user t a c changes v) (draws 0));
+    → Does rs xs m (changes_batch rs counters_id m user c space_id a ids id t changes drawn) Stay (Done count) act
+does_write rs xs m n user t count changes a c counters_id space_id ids id drawn act v short p once same = record {
+  keeps = subst (λ cs. keep_rules (parts_of (applied cs rs)) ≡ true) (batch_is m refl)
+      (keep_planned rs counters_id space_id c d a ids id n t.number (es m) drawn v.new.rules p.sorted p.counters p.space (dropped m) p.under (may_write_all rs n m m user t a c changes v short) (draws m));
   once = once;
   does = λ s st.
       let counts = counts_as rs xs m s c st v.new.one in
       let is = same s st ∙ done_is s a.log_length (length changes) count n c (entries_of s user t changes) counts v.new.short v.new.room in (
-        subst (λ q. StandsAt (applied (changes_batch rs counters_id m c space_id a ids id t changes drawn) rs) xs m q.0) (sym is) (record {
-          stands = subst (λ cs. Stands (parts_of (applied cs rs)) (record (written_all n (entries_of s user t changes) s) { last_moment = s.moment; work = s.work + line_work })) (batch_is s.moment)
-              (plan_written rs counters_id space_id c d a ids id n t.number (es s.moment) drawn s _ st.stands p.sorted p.counters p.space (dropped s.moment) p.under (may_write_all rs n m s.moment user t a c changes v) (draws s.moment)
+        subst (λ q. StandsAt (applied (changes_batch rs counters_id m user c space_id a ids id t changes drawn) rs) xs m q.0) (sym is) (record {
+          stands = subst (λ cs. Stands (parts_of (applied cs rs)) (record (written_all n (entries_of s user t changes) s) { last_moment = s.moment; work = s.work + line_work })) (batch_is s.moment st.moment_is)
+              (plan_written rs counters_id space_id c d a ids id n t.number (es s.moment) drawn s _ st.stands p.sorted p.counters p.space (dropped s.moment) p.under (may_write_all rs n m s.moment user t a c changes v short) (draws s.moment)
               (ap (λ k. with_space n (with_entries (entries_from k s.moment user t changes)) s.spaces) (sym counts.next_stamp)) refl
               (counts_on rs xs m n s c d (entries_of s user t changes) (length changes) st counts refl refl refl refl (length_entries s.next_stamp s.moment user t changes)));
           sessions_are = st.sessions_are;
@@ -185,8 +201,12 @@ does_write rs xs m n user t count changes a c counters_id space_id ids id drawn 
     es : ℕ → List Entry
     es moment = entries_from c.next_stamp moment user t changes
 
-    batch_is : (moment : ℕ) → write_batch counters_id d space_id a (length (es moment)) ids id (rows_in (es moment)) drawn ≡ changes_batch rs counters_id m c space_id a ids id t changes drawn
-    batch_is moment = rw (rows_are c.next_stamp moment user t changes, length_entries c.next_stamp moment user t changes) refl
+    -- at the moment of the line
+    batch_is : (moment : ℕ) → m ≡ moment
+        → write_batch counters_id d space_id a (length (es moment)) ids id (rows_in (es moment)) drawn (hists_from a.number a.log_length (es moment)) ≡ changes_batch rs counters_id m user c space_id a ids id t changes drawn
+    batch_is moment same =
+        ap (write_batch counters_id d space_id a (length (es moment)) ids id (rows_in (es moment)) drawn) (hists_are a.number a.log_length c.next_stamp moment user t changes)
+        ∙ rw (rows_are c.next_stamp moment user t changes, length_entries c.next_stamp moment user t changes, same) refl
 
     dropped : (moment : ℕ) → AreDropped (keeps (is_out_all (latest (parts_of rs) n) t.number (entry_keys (es moment)))) ids rs
     dropped moment = subst (λ keys. AreDropped (keeps (is_out_all (latest (parts_of rs) n) t.number keys)) ids rs) (sym (keys_are c.next_stamp moment user t changes)) p.dropped

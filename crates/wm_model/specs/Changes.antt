@@ -7,6 +7,7 @@ use Rattle.wm_base.specs.declared.value.Value.{Value}
 use Rattle.wm_graph.specs.Parts.{Parts, parts_of, space_of, table_of}
 use Rattle.wm_graph.specs.Rules.{keep_rules}
 use Rattle.wm_spec.specs.declared.record.counters.Counters.{Counters}
+use Rattle.wm_spec.specs.declared.record.hist.Hist.{Hist}
 use Rattle.wm_spec.specs.declared.record.piece.PieceRecord.{PieceRecord}
 use Rattle.wm_spec.specs.declared.record.row.RowRecord.{RowRecord}
 use Rattle.wm_spec.specs.declared.record.space.Space.{Space}
@@ -55,6 +56,24 @@ change_piece version stamp t x = record {
 abbrev pub new_pieces : ℕ → ℕ → Table → List RowChange → List PieceRecord
 new_pieces version stamp t [] = []
 new_pieces version stamp t (x ∷ xs) = change_piece version stamp t x ∷ new_pieces version (stamp + 1) t xs
+
+-- the entry of a workspace's log at a position for a change
+abbrev pub change_hist : ℕ → ℕ → ℕ → List ℕ → ℕ → Table → RowChange → Hist
+change_hist space position moment user stamp t x = record {
+  space = space;
+  position = position;
+  cells = record { table = t.number; key = x.key; from = x.period.from; till = x.period.till };
+  stamp = stamp;
+  kind = x.kind;
+  gone = is_none x.row;
+  moment = moment;
+  user = user;
+}
+
+-- the new entries of its log, from a position on
+abbrev pub new_hists : ℕ → ℕ → ℕ → List ℕ → ℕ → Table → List RowChange → List Hist
+new_hists space position moment user stamp t [] = []
+new_hists space position moment user stamp t (x ∷ xs) = change_hist space position moment user stamp t x ∷ new_hists space (position + 1) moment user (stamp + 1) t xs
 
 -- the version that comes next in a workspace
 abbrev pub next_version : Parts → ℕ → Counters → Version

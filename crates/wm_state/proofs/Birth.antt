@@ -10,10 +10,11 @@ use Rattle.wm_spec.specs.declared.record.row.RowRecord.{RowRecord}
 use Rattle.wm_spec.specs.declared.record.savepoint.Savepoint.{Savepoint as Record}
 use Rattle.wm_spec.specs.declared.record.space.Space.{Space}
 use Rattle.wm_tree.specs.declared.version.Version.{Version as Node}
-use Rattle.wm_state.specs.State.{State, Workspace, Savepoint, content, kept, workspace_of, savepoint_made, savepoints_of}
+use Rattle.wm_state.specs.State.{State, Workspace, Savepoint, content, kept, workspace_of, savepoint_made, savepoints_of, log_of}
 use Rattle.wm_state.specs.Standing.{held_of, fields_of, fields_in, saved_fields, fields_saved, by_making, saved_in, saved_as, by_number, latest, seen, seen_above, shown, owned, HasRows, CountersStand, Stands}
 use Rattle.wm_state.specs.Effects.{Born}
 use Rattle.wm_state.proofs.Tests.{either_false, differ_push}
+use Rattle.wm_state.proofs.Logging.{HistsStand-frame, log_of-found, log_of-none, log_of-same, logs-kept}
 use Rattle.wm_state.proofs.Mapped.{none-found}
 use Rattle.wm_state.proofs.Sprouting.{Sprouted, seen-before, above-before, seen-sprout, above-sprout, newest-here, newest-away, newest-lower}
 use Rattle.wm_state.proofs.Named.{saved_there, bases_there, version_there, version_below}
@@ -25,6 +26,7 @@ pub record IsChild (p : Parts) (r : Space) (w : Workspace) (es : List Entry) : T
   pub at_birth : w.lists.at_birth ≡ es
   pub base : w.lists.base ≡ es
   pub own : w.lists.own ≡ []
+  pub log : w.lists.log ≡ []
   pub savepoints : w.savepoints ≡ []
   pub sees : (c : Cell) → seen p r.base_version c ≡ option_map held_of (told es c)
   pub rows : HasRows p es
@@ -113,7 +115,9 @@ Stands-born p q s t r number w es b st child spaces tables counters rules = reco
     births = λ m new is. rows_births m new (workspace_is m new is);
     bases = λ m new is. rows_bases m new (workspace_is m new is);
     saved = λ m making new k is made. rows_saved m making new k (workspace_is m new is) made;
+    logs = logs-kept p q s t (λ stamp y there. ap (λ rs. row_of rs stamp) b.rows ∙ there) logs st.rows.logs;
   };
+  hists = HistsStand-frame p q s t b.hists logs st.hists;
 }
   where
     x : Node
@@ -143,6 +147,15 @@ Stands-born p q s t r number w es b st child spaces tables counters rules = reco
         ap (λ ws. workspace_of ws m) spaces
         ∙ find_numbered (λ (v : Workspace). v.number) s.spaces w m (ap (workspace_of s.spaces) child.number ∙ none)
         ∙ ap (λ k. cond (m == k) (Some w) (workspace_of s.spaces m)) child.number
+
+    -- the child's log is empty
+    logs : (m : ℕ) → log_of t.spaces m ≡ log_of s.spaces m
+    logs m = by_number (cases_eq m r.number)
+      where
+        by_number : (m ≡ r.number) ⊎ (m ≢ r.number) → log_of t.spaces m ≡ log_of s.spaces m
+        by_number (inl same) =
+            log_of-found t.spaces m w (found m ∙ ap (λ d. cond d (Some w) (workspace_of s.spaces m)) (eq-eqb _ _ same)) ∙ child.log ∙ sym (log_of-none s.spaces m (ap (workspace_of s.spaces) same ∙ none))
+        by_number (inr other) = log_of-same t.spaces s.spaces m (found m ∙ ap (λ d. cond d (Some w) (workspace_of s.spaces m)) (ne_eqb _ _ other))
 
     workspace_is : (m : ℕ) (new : Workspace) → workspace_of t.spaces m ≡ Some new → Is (workspace_of s.spaces m) r.number m w new
     workspace_is m new is = is_of (workspace_of s.spaces m) (workspace_of t.spaces m) r.number m w new (found m) is

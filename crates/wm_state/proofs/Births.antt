@@ -104,6 +104,7 @@ Stands-birth p old new front a back place implicit x b r v parent child k es s t
       at_birth = is_child.at_birth;
       base = is_child.base;
       own = is_child.own;
+      log = is_child.log;
       savepoints = is_child.savepoints;
       sees = is_child.sees;
       rows = is_child.rows;
@@ -125,13 +126,14 @@ Stands-birth p old new front a back place implicit x b r v parent child k es s t
 
 -- a workspace that is born where the savepoint is sees what the savepoint keeps
 pub child_kept : (p : Parts) (w child : Workspace) (k : Kept) (x : Savepoint) (r : Space) → IsKept p w k x → r.base_version ≡ x.version → fields_of r ≡ fields_in child → child.number ≡ r.number → child.lists.at_birth ≡ kept k
-    → child.lists.base ≡ kept k → child.lists.own ≡ [] → child.savepoints ≡ [] → IsChild p r child (kept k)
-child_kept p w child k x r is base fields number at_birth from own savepoints = record {
+    → child.lists.base ≡ kept k → child.lists.own ≡ [] → child.lists.log ≡ [] → child.savepoints ≡ [] → IsChild p r child (kept k)
+child_kept p w child k x r is base fields number at_birth from own log savepoints = record {
   fields = fields;
   number = number;
   at_birth = at_birth;
   base = from;
   own = own;
+  log = log;
   savepoints = savepoints;
   sees = λ c. ap (λ v. seen p v c) base ∙ is.holds c;
   rows = is.rows;

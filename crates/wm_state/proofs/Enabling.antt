@@ -144,6 +144,6 @@ Stands-readied p new front how t back s u st old key counted same spaces tables 
     let h = both (nat_le (length p.tables) 256) (differ (λ (t u : Table). t.number == u.number) p.tables && (differ (λ (t u : Table). bytes_eq t.name u.name) p.tables && list_all is_table p.tables)) rule.tables in
     let g = both (differ (λ (t u : Table). t.number == u.number) p.tables) (differ (λ (t u : Table). bytes_eq t.name u.name) p.tables && list_all is_table p.tables) h.1 in
     let others = others_of t front back (ap (differ (λ (t u : Table). t.number == u.number)) (sym old) ∙ g.0) in
-    Stands-retabled p (readied p new front how t back) s u (record { spaces = refl; versions = refl; savepoints = refl; rows = refl; pieces = refl }) st spaces
+    Stands-retabled p (readied p new front how t back) s u (record { spaces = refl; versions = refl; savepoints = refl; rows = refl; pieces = refl; hists = refl }) st spaces
     (record { same = sorted-ready how t front back others.before others.behind ∙ ap (enabled t.number how) (ap by_number (sym old) ∙ st.tables.same) ∙ sym tables })
     counters (keep-readied p new front how t back st.rules old key counted same)

@@ -2,17 +2,21 @@
 use Rattle.std.proofs.Common.{◌≡◌, ℕ, suc, ◌+◌, ◌==◌, nat_lt, nat_le, Bool, true, false, not, ◌&&◌, ◌||◌, List, [], ◌∷◌, length, Option, Some, None, is_none, is_some, refl, sym, ap, ◌∙◌, arith}
 use Rattle.std.proofs.lemmas.Bool.{eq-eqb}
 use Rattle.std.specs.Bool.{then_some}
-use Rattle.std.specs.List.{list_all, list_any}
+use Rattle.std.proofs.lemmas.List.Elements.{All-nil, All-cons}
+use Rattle.std.specs.List.{All, list_all, list_any, slice_index_or}
 use Rattle.std.specs.Option.{option_or, option_map, option_map_or, option_and_then}
 use Rattle.wm_base.specs.declared.instant.TheConstants.{END}
 use Rattle.wm_base.specs.declared.row.Row.{Row}
 use Rattle.wm_graph.specs.Parts.{row_of}
-use Rattle.wm_graph.specs.Rules.{differ, is_row, is_row_of, is_key_of, is_key, key_of, is_piece, is_row_at, are_cells}
+use Rattle.wm_graph.specs.Rules.{differ, is_row, is_row_of, is_key_of, is_key, key_of, is_piece, is_row_at, are_cells, is_short, is_hist, same_position}
 use Rattle.wm_spec.specs.Lists.{Entry, Cell, Told, told, told_of, covers}
+use Rattle.wm_spec.specs.declared.record.cell_range.CellRange.{CellRange}
+use Rattle.wm_spec.specs.declared.record.hist.Hist.{Hist}
 use Rattle.wm_spec.specs.declared.record.row.RowRecord.{RowRecord}
+use Rattle.wm_spec.specs.declared.record.space.Space.{Space}
 use Rattle.wm_spec.specs.declared.record.table.Table.{Table}
 use Rattle.wm_spec.specs.declared.record.version.Version.{Version}
-use Rattle.wm_state.specs.Entries.{IsStamped, AreStamped, is_keyed, fits_table, is_well, piece_of, pieces_of, rows_in}
+use Rattle.wm_state.specs.Entries.{IsStamped, AreStamped, is_keyed, fits_table, is_well, piece_of, pieces_of, rows_in, hist_of, hists_from}
 use Rattle.wm_state.proofs.Apart.{found-passes}
 use Rattle.wm_state.proofs.Tests.{bool_apart, both, and_true, none_if}
 
@@ -149,21 +153,31 @@ told_row table stamp (e ∷ es) stamped c t row found is = by_told (told es c) r
 
 -- ---- pieces
 
+-- the cells of an entry are those of its table, its stamp was given, and its row is there
+cells_well : (tables : ℕ → Option Table) (rows : ℕ → Option RowRecord) (table stamp next : ℕ) (e : Entry) (cells : CellRange) → cells ≡ record { table = e.table; key = e.key; from = e.from; till = e.till } → IsStamped table stamp e
+    → Well tables e → nat_lt e.stamp next ≡ true → ((row : Row) → e.row ≡ Some row → rows e.stamp ≡ Some (row_with e row))
+    → (are_cells tables cells && (nat_lt e.stamp next && (is_none e.row || option_map_or (is_row_at tables cells) (rows e.stamp) false))) ≡ true
+cells_well tables rows table stamp next e cells is_so w well below found =
+    rw is_so
+    (and_true (are_cells tables of_entry) _
+    (and_true (nat_lt e.from e.till && nat_le e.till END) _ w.period (ap (λ o. option_map_or (is_key_of e.key) o false) well.is ∙ well.key))
+    (and_true (nat_lt e.stamp next) _ below (by_row e.row refl)))
+  where
+    of_entry : CellRange
+    of_entry = record { table = e.table; key = e.key; from = e.from; till = e.till }
+
+    by_row : (o : Option Row) → e.row ≡ o → (is_none o || option_map_or (is_row_at tables of_entry) (rows e.stamp) false) ≡ true
+    by_row None is = refl
+    by_row (Some row) is =
+        ap (λ o. option_map_or (is_row_at tables of_entry) o false) (found row is)
+        ∙ and_true (e.table == e.table) _ (eq-eqb e.table e.table refl)
+        (ap (λ o. is_key e.key (option_and_then (λ (t : Table). key_of t row.values) o)) well.is ∙ (both (is_row_of row.values well.table) (is_key e.key (key_of well.table row.values)) (well.row row is)).1)
+
 piece_well : (tables : ℕ → Option Table) (versions : ℕ → Option Version) (rows : ℕ → Option RowRecord) (table stamp next version : ℕ) (e : Entry) → IsStamped table stamp e → Well tables e
     → is_some (versions version) ≡ true → nat_lt e.stamp next ≡ true → ((row : Row) → e.row ≡ Some row → rows e.stamp ≡ Some (row_with e row))
     → is_piece tables versions rows next (piece_of version e) ≡ true
 piece_well tables versions rows table stamp next version e w well there below found =
-    and_true (is_some (versions version)) _ there
-    (and_true (are_cells tables (piece_of version e).cells) _
-    (and_true (nat_lt e.from e.till && nat_le e.till END) _ w.period (ap (λ o. option_map_or (is_key_of e.key) o false) well.is ∙ well.key))
-    (and_true (nat_lt e.stamp next) _ below (by_row e.row refl)))
-  where
-    by_row : (o : Option Row) → e.row ≡ o → (is_none o || option_map_or (is_row_at tables (piece_of version e).cells) (rows e.stamp) false) ≡ true
-    by_row None is = refl
-    by_row (Some row) is =
-        ap (λ o. option_map_or (is_row_at tables (piece_of version e).cells) o false) (found row is)
-        ∙ and_true (e.table == e.table) _ (eq-eqb e.table e.table refl)
-        (ap (λ o. is_key e.key (option_and_then (λ (t : Table). key_of t row.values) o)) well.is ∙ (both (is_row_of row.values well.table) (is_key e.key (key_of well.table row.values)) (well.row row is)).1)
+    and_true (is_some (versions version)) _ there (cells_well tables rows table stamp next e (piece_of version e).cells refl w well below found)
 
 pub pieces_well : (tables : ℕ → Option Table) (versions : ℕ → Option Version) (rows : ℕ → Option RowRecord) (table stamp next version : ℕ) (es : List Entry) → AreStamped table stamp es → nat_le (stamp + length es) next ≡ true
     → list_all (is_well tables) es ≡ true → is_some (versions version) ≡ true → ((k : ℕ) (r : RowRecord) → row_of (rows_in es) k ≡ Some r → rows k ≡ Some r)
@@ -174,3 +188,56 @@ pieces_well tables versions rows table stamp next version (e ∷ es) stamped le 
     and_true (is_piece tables versions rows next (piece_of version e)) (list_all (is_piece tables versions rows next) (pieces_of version es))
     (piece_well tables versions rows table stamp next version e stamped.0 (well_of tables e h.0) there (stamp_below e.stamp stamp (length es) next stamped.0.stamp le) (λ row is. found e.stamp (row_with e row) (row_first e es row is)))
     (pieces_well tables versions rows table (stamp + 1) next version es stamped.1 (rest_below stamp (length es) next le) h.1 there (λ k r at. found k r (row_later table stamp e es stamped k r at)))
+
+-- ---- the entries of a log
+
+-- they are of the workspace, at this position or behind it
+pub hists_on : (n low k : ℕ) (es : List Entry) → nat_le low k ≡ true → list_all (λ (x : Hist). (x.space == n) && nat_le low x.position) (hists_from n k es) ≡ true
+hists_on n low k [] le = refl
+hists_on n low k (e ∷ es) le =
+    and_true ((n == n) && nat_le low k) _ (and_true (n == n) (nat_le low k) (eq-eqb n n refl) le) (hists_on n low (k + 1) es (later low k le))
+  where
+    later : (m j : ℕ) → nat_le m j ≡ true → nat_le m (j + 1) ≡ true
+    later m j le = grind (arith, le)
+
+pub hists_differ : (n k : ℕ) (es : List Entry) → differ same_position (hists_from n k es) ≡ true
+hists_differ n k [] = refl
+hists_differ n k (e ∷ es) = and_true (not (list_any (same_position (hist_of n k e)) (hists_from n (k + 1) es))) _ (ap not apart) (hists_differ n (k + 1) es)
+  where
+    behind : (a b : Bool) → b ≡ false → (a && b) ≡ false
+    behind true b e = e
+    behind false b e = refl
+
+    apart : list_any (same_position (hist_of n k e)) (hists_from n (k + 1) es) ≡ false
+    apart = none_if (λ (x : Hist). (x.space == n) && nat_le (k + 1) x.position) (same_position (hist_of n k e))
+        (λ x is. behind (n == x.space) (k == x.position) (not_above k x.position k refl (both (x.space == n) (nat_le (k + 1) x.position) is).1)) (hists_from n (k + 1) es) (hists_on n (k + 1) (k + 1) es (le_self (k + 1)))
+
+pub hists_well : (tables : ℕ → Option Table) (spaces : ℕ → Option Space) (rows : ℕ → Option RowRecord) (table stamp next n k : ℕ) (a : Space) (es : List Entry) → AreStamped table stamp es → nat_le (stamp + length es) next ≡ true
+    → list_all (is_well tables) es ≡ true → list_all (λ (e : Entry). is_short e.user) es ≡ true → spaces n ≡ Some a → nat_le (k + length es) a.log_length ≡ true
+    → ((s : ℕ) (r : RowRecord) → row_of (rows_in es) s ≡ Some r → rows s ≡ Some r) → list_all (is_hist tables spaces rows next) (hists_from n k es) ≡ true
+hists_well tables spaces rows table stamp next n k a [] stamped le well short there room found = refl
+hists_well tables spaces rows table stamp next n k a (e ∷ es) stamped le well short there room found =
+    let h = both (is_well tables e) (list_all (is_well tables) es) well in
+    let g = both (is_short e.user) (list_all (λ (x : Entry). is_short x.user) es) short in
+    and_true (is_hist tables spaces rows next (hist_of n k e)) (list_all (is_hist tables spaces rows next) (hists_from n (k + 1) es))
+    (and_true (is_short e.user && option_map_or (λ (s : Space). nat_lt k s.log_length) (spaces n) false) _
+    (and_true (is_short e.user) _ g.0 (ap (λ o. option_map_or (λ (s : Space). nat_lt k s.log_length) o false) there ∙ stamp_below k k (length es) a.log_length refl room))
+    (cells_well tables rows table stamp next e (hist_of n k e).cells refl stamped.0 (well_of tables e h.0) (stamp_below e.stamp stamp (length es) next stamped.0.stamp le)
+    (λ row is. found e.stamp (row_with e row) (row_first e es row is))))
+    (hists_well tables spaces rows table (stamp + 1) next n (k + 1) a es stamped.1 (rest_below stamp (length es) next le) h.1 g.1 there (rest_below k (length es) a.log_length room)
+    (λ s r at. found s r (row_later table stamp e es stamped s r at)))
+
+-- the row of each is found by its stamp
+pub each_row : (table stamp : ℕ) (es : List Entry) → AreStamped table stamp es
+    → All (λ (e : Entry). (row : Row) → e.row ≡ Some row → option_map (λ (r : RowRecord). r.values) (row_of (rows_in es) e.stamp) ≡ Some row.values) es
+each_row table stamp [] stamped = All-nil (λ (e : Entry). (row : Row) → e.row ≡ Some row → option_map (λ (r : RowRecord). r.values) (row_of (rows_in []) e.stamp) ≡ Some row.values)
+each_row table stamp (e ∷ es) stamped =
+    All-cons Found e es (λ row is. ap (option_map (λ (r : RowRecord). r.values)) (row_first e es row is)) (λ k d lt row is. later (slice_index_or es k d) row (row_of (rows_in es) (slice_index_or es k d).stamp) refl (each_row table (stamp + 1) es stamped.1 k d lt row is))
+  where
+    Found : Entry → Type 0
+    Found x = (row : Row) → x.row ≡ Some row → option_map (λ (r : RowRecord). r.values) (row_of (rows_in (e ∷ es)) x.stamp) ≡ Some row.values
+
+    later : (x : Entry) (row : Row) (o : Option RowRecord) → row_of (rows_in es) x.stamp ≡ o → option_map (λ (r : RowRecord). r.values) o ≡ Some row.values
+        → option_map (λ (r : RowRecord). r.values) (row_of (rows_in (e ∷ es)) x.stamp) ≡ Some row.values
+    later x row None at h = cc
+    later x row (Some r) at h = ap (option_map (λ (r : RowRecord). r.values)) (row_later table stamp e es stamped x.stamp r at) ∙ h

@@ -10,10 +10,11 @@ use Rattle.wm_spec.specs.declared.record.savepoint.Savepoint.{Savepoint}
 use Rattle.wm_spec.specs.declared.record.space.Space.{Space}
 use Rattle.wm_tree.specs.Versions.{latest_in, AllBelow}
 use Rattle.wm_tree.specs.declared.version.Version.{Version as Node}
-use Rattle.wm_state.specs.State.{State, content, workspace_of, savepoints_of}
+use Rattle.wm_state.specs.State.{State, content, workspace_of, savepoints_of, log_of}
 use Rattle.wm_state.specs.Standing.{stored_at, seen_at, own_at, newest_first, latest, shown, owned, seen, seen_above, saved_as, CountersStand, Stands, by_number}
 use Rattle.wm_state.specs.Effects.{Forked, node_under}
 use Rattle.wm_state.proofs.Frames.{Framed, KeepRows, OnceStand-same, HasRows-kept, SavepointsStand-framed, KeptStand-framed, KeptOwnStand-framed, BasesStand-framed, RowsStand-framed}
+use Rattle.wm_state.proofs.Logging.{HistsStand-frame, logs-kept}
 use Rattle.wm_state.proofs.Named.{saved_there, bases_there, version_there, version_below}
 
 -- the newest version of a workspace is below what all versions are below
@@ -128,7 +129,9 @@ Stands-forked p q s t n number f st spaces tables counters rules = record {
   kept = KeptStand-framed p q s t framed st.kept;
   kept_own = KeptOwnStand-framed p q s t framed st.kept_own;
   bases = BasesStand-framed p q s t framed st.bases;
-  rows = RowsStand-framed p q s t framed rows (λ m w is. HasRows-kept p q rows (content w) (st.rows.there m w (ap (λ ws. workspace_of ws m) (sym spaces) ∙ is))) st.rows;
+  rows = RowsStand-framed p q s t framed rows (λ m w is. HasRows-kept p q rows (content w) (st.rows.there m w (ap (λ ws. workspace_of ws m) (sym spaces) ∙ is))) (logs-kept p q s t rows logs st.rows.logs)
+      st.rows;
+  hists = HistsStand-frame p q s t f.hists logs st.hists;
 }
   where
     framed : Framed p q s t
@@ -136,3 +139,6 @@ Stands-forked p q s t n number f st spaces tables counters rules = record {
 
     rows : KeepRows p q
     rows stamp x found = ap (λ rs. row_of rs stamp) f.rows ∙ found
+
+    logs : (m : ℕ) → log_of t.spaces m ≡ log_of s.spaces m
+    logs m = ap (λ ws. log_of ws m) spaces

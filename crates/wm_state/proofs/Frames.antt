@@ -4,7 +4,7 @@
 -- is as before. Where no savepoint and no workspace is new, the record Framed gives the last five: SavepointsStand-framed and so on.
 -- The module Keeping has the like for the rules, and Named what the rules say of versions that savepoints and workspaces name.
 use Rattle.std.proofs.Common.{◌≡◌, ℕ, ◌<◌, ◌==◌, ◌&&◌, List, [], map, length, Option, Some, None, is_some, refl, sym, ap, ◌∙◌, ◌⊎◌, inl, ⊎_elim}
-use Rattle.std.specs.List.{filter, find}
+use Rattle.std.specs.List.{All, filter, find}
 use Rattle.std.specs.Option.{option_map}
 use Rattle.wm_base.specs.declared.row.Row.{Row}
 use Rattle.wm_graph.specs.Parts.{Parts, row_of, space_of}
@@ -13,8 +13,8 @@ use Rattle.wm_spec.specs.Lists.{Entry, Cell, told, touched}
 use Rattle.wm_spec.specs.declared.record.row.RowRecord.{RowRecord}
 use Rattle.wm_spec.specs.declared.record.savepoint.Savepoint.{Savepoint as Record}
 use Rattle.wm_spec.specs.declared.record.space.Space.{Space}
-use Rattle.wm_state.specs.State.{State, Workspace, Savepoint, content, kept, workspace_of, with_space, savepoint_made, savepoints_of}
-use Rattle.wm_state.specs.Standing.{held_of, seen, seen_above, saved_fields, fields_saved, by_making, saved_in, saved_as, OnceStand, SavepointsStand, KeptStand, KeptOwnStand, BasesStand, RowsStand, HasRows}
+use Rattle.wm_state.specs.State.{State, Workspace, Savepoint, content, kept, workspace_of, with_space, savepoint_made, savepoints_of, log_of}
+use Rattle.wm_state.specs.Standing.{held_of, seen, seen_above, saved_fields, fields_saved, by_making, saved_in, saved_as, OnceStand, SavepointsStand, KeptStand, KeptOwnStand, BasesStand, RowsStand, HasRow, HasRows}
 use Rattle.wm_state.proofs.Changing.{length-changed, differ-changed}
 
 -- ---- workspaces and what they show
@@ -146,8 +146,14 @@ pub record Rows (q : Parts) (w : Workspace) : Type 0 where
   pub bases : HasRows q w.lists.base
   pub saved : (making : ℕ) (k : Savepoint) → savepoint_made making w.savepoints ≡ Some k → HasRows q (kept k)
 
-RowsStand-frame : (q : Parts) (t : State) → ((n : ℕ) (w : Workspace) → workspace_of t.spaces n ≡ Some w → Rows q w) → RowsStand q t
-RowsStand-frame q t each = record { there = λ n w is. (each n w is).there; births = λ n w is. (each n w is).births; bases = λ n w is. (each n w is).bases; saved = λ n making w k is point. (each n w is).saved making k point }
+RowsStand-frame : (q : Parts) (t : State) → ((n : ℕ) (w : Workspace) → workspace_of t.spaces n ≡ Some w → Rows q w) → ((n : ℕ) → All (HasRow q) (log_of t.spaces n)) → RowsStand q t
+RowsStand-frame q t each logs = record {
+  there = λ n w is. (each n w is).there;
+  births = λ n w is. (each n w is).births;
+  bases = λ n w is. (each n w is).bases;
+  saved = λ n making w k is point. (each n w is).saved making k point;
+  logs = logs;
+}
 
 -- ---- where no savepoint and no workspace is new
 
@@ -223,8 +229,9 @@ BasesStand-framed p q s t f = BasesStand-frame p q s t (λ n w r some is recorde
       bases = λ c. ap (λ v. seen q v c) y.base ∙ f.bases n y.old some y.is c;
     }
 
-pub RowsStand-framed : (p q : Parts) (s t : State) → Framed p q s t → KeepRows p q → ((n : ℕ) (w : Workspace) → workspace_of t.spaces n ≡ Some w → HasRows q (content w)) → RowsStand p s → RowsStand q t
-RowsStand-framed p q s t f keep there stand = RowsStand-frame q t (λ n w is. rows_of n w is (f.still n w is))
+pub RowsStand-framed : (p q : Parts) (s t : State) → Framed p q s t → KeepRows p q → ((n : ℕ) (w : Workspace) → workspace_of t.spaces n ≡ Some w → HasRows q (content w))
+    → ((n : ℕ) → All (HasRow q) (log_of t.spaces n)) → RowsStand p s → RowsStand q t
+RowsStand-framed p q s t f keep there logs stand = RowsStand-frame q t (λ n w is. rows_of n w is (f.still n w is)) logs
   where
     rows_of : (n : ℕ) (w : Workspace) → workspace_of t.spaces n ≡ Some w → Still s n w → Rows q w
     rows_of n w is y = record {

@@ -279,6 +279,7 @@ forked_of p old new a n v may e = record {
   savepoints = refl;
   rows = refl;
   pieces = refl;
+  hists = refl;
 }
   where
     r : Ruled p

@@ -271,6 +271,7 @@ born_of p old new a r v may e = record {
   savepoints = refl;
   rows = refl;
   pieces = refl;
+  hists = refl;
 }
   where
     none : space_of p.spaces r.number ≡ None

@@ -189,6 +189,7 @@ saved_of p old new front a back place implicit x may e = record {
   versions = refl;
   rows = refl;
   pieces = refl;
+  hists = refl;
 }
   where
     spaces : are_spaces (front ++ a ∷ back) ≡ true

@@ -215,7 +215,7 @@ are_pieces-kept p q next more le tables versions rows pieces e =
     (all_if (is_piece (table_of p.tables) (version_of p.versions) (row_of p.rows) next) (is_piece (table_of q.tables) (version_of q.versions) (row_of q.rows) more)
     (is_piece-kept p q next more le tables versions rows) p.pieces h.1))
 
-is_hist-kept : (p q : Parts) (next more : ℕ) → nat_le next more ≡ true → KeepTables p q → KeepSpaces p q → KeepRows p q → (x : Hist)
+pub is_hist-kept : (p q : Parts) (next more : ℕ) → nat_le next more ≡ true → KeepTables p q → KeepSpaces p q → KeepRows p q → (x : Hist)
     → is_hist (table_of p.tables) (space_of p.spaces) (row_of p.rows) next x ≡ true → is_hist (table_of q.tables) (space_of q.spaces) (row_of q.rows) more x ≡ true
 is_hist-kept p q next more le tables spaces rows x e =
     let h = both (is_short x.user && option_map_or (λ (s : Space). nat_lt x.position s.log_length) (space_of p.spaces x.space) false) _ e in

@@ -53,6 +53,7 @@ pub mod DrawnWell
 pub mod EntryRecords
 pub mod PlannedWritten
 pub mod WrittenIds
+pub mod Logging
 pub mod PlannedMore
 pub mod DrawingHeld
 pub mod DrawingApart

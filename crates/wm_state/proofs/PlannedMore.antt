@@ -4,7 +4,7 @@ use Rattle.std.proofs.lemmas.Bool.{eq-eqb}
 use Rattle.std.specs.List.{list_all, filter}
 use Rattle.wm_base.specs.declared.value.Value.{Value}
 use Rattle.wm_graph.specs.Parts.{Parts, parts_of, table_of, version_of, row_of}
-use Rattle.wm_graph.specs.Rules.{keep_rules, are_counters, is_piece, collide, differ}
+use Rattle.wm_graph.specs.Rules.{keep_rules, are_counters, is_piece, is_short, collide, differ}
 use Rattle.wm_spec.specs.Lists.{Entry}
 use Rattle.wm_spec.specs.Records.{record_at}
 use Rattle.wm_spec.specs.declared.record.Record.{Record}
@@ -12,6 +12,7 @@ use Rattle.wm_spec.specs.declared.record.Record.TheVariants as records
 use Rattle.wm_spec.specs.declared.record.stored.Stored.{Stored}
 use Rattle.wm_spec.specs.declared.record.batch.Change.{Change}
 use Rattle.wm_spec.specs.declared.record.counters.Counters.{Counters}
+use Rattle.wm_spec.specs.declared.record.hist.Hist.{Hist}
 use Rattle.wm_spec.specs.declared.record.piece.PieceRecord.{PieceRecord}
 use Rattle.wm_spec.specs.declared.record.row.RowRecord.{RowRecord}
 use Rattle.wm_spec.specs.declared.record.space.Space.{Space}
@@ -20,7 +21,7 @@ use Rattle.wm_state.specs.ById.{Ascend, set_at, applied}
 use Rattle.wm_state.specs.Batches.{keeps, is_out, AreDropped, AllUnder, fork_batch}
 use Rattle.wm_state.specs.Effects.{IsLeaf, IsFree}
 use Rattle.wm_state.specs.Drawing.{AreDrawn}
-use Rattle.wm_state.specs.Entries.{AreStamped, entry_keys, is_well, pieces_of, rows_in, is_out_all}
+use Rattle.wm_state.specs.Entries.{AreStamped, entry_keys, is_well, pieces_of, rows_in, hists_from, is_out_all}
 use Rattle.wm_state.specs.State.{State, with_space, with_entries}
 use Rattle.wm_state.specs.Standing.{newest_first, latest, CountersStand, Stands}
 use Rattle.wm_state.specs.Writes.{longer_by, put_all, write_batch, write_new_batch}
@@ -71,15 +72,16 @@ put_twice ss counters_id id mid new v sorted =
     by_id false true o = refl
     by_id false false o = refl
 
-one_and_more : (ss : List Stored) (counters_id space_id id : ℕ) (mid new : Counters) (a : Space) (count : ℕ) (v : Version) (rows : List RowRecord) (pieces : List PieceRecord) → Ascend ss
-    → applied (write_new_batch counters_id new space_id a count id v rows pieces) ss ≡ applied (write_batch counters_id new space_id a count [] (id + 1) rows pieces) (applied (fork_batch counters_id mid id v) ss)
-one_and_more ss counters_id space_id id mid new a count v rows pieces sorted = after (put_twice ss counters_id id mid new v sorted)
+one_and_more : (ss : List Stored) (counters_id space_id id : ℕ) (mid new : Counters) (a : Space) (count : ℕ) (v : Version) (rows : List RowRecord) (pieces : List PieceRecord) (hists : List Hist)
+    → Ascend ss
+    → applied (write_new_batch counters_id new space_id a count id v rows pieces hists) ss ≡ applied (write_batch counters_id new space_id a count [] (id + 1) rows pieces hists) (applied (fork_batch counters_id mid id v) ss)
+one_and_more ss counters_id space_id id mid new a count v rows pieces hists sorted = after (put_twice ss counters_id id mid new v sorted)
   where
     after : set_at counters_id (Some (records.Counters new)) (set_at id (Some (records.Version v)) ss)
         ≡ set_at counters_id (Some (records.Counters new)) (set_at id (Some (records.Version v)) (set_at counters_id (Some (records.Counters mid)) ss))
-        → applied (write_new_batch counters_id new space_id a count id v rows pieces) ss ≡ applied (write_batch counters_id new space_id a count [] (id + 1) rows pieces) (applied (fork_batch counters_id mid id v) ss)
+        → applied (write_new_batch counters_id new space_id a count id v rows pieces hists) ss ≡ applied (write_batch counters_id new space_id a count [] (id + 1) rows pieces hists) (applied (fork_batch counters_id mid id v) ss)
     after same =
-        ap (λ rs. applied (put_all (id + 1) (map records.Row rows) ++ put_all (id + 1 + length rows) (map records.Piece pieces)) (set_at space_id (Some (records.Space (longer_by count a))) rs)) same
+        ap (λ rs. applied (put_all (id + 1) (map records.Row rows) ++ (put_all (id + 1 + length rows) (map records.Piece pieces) ++ put_all (id + 1 + length rows + length pieces) (map records.Hist hists))) (set_at space_id (Some (records.Space (longer_by count a))) rs)) same
 
 -- ---- nothing goes
 
@@ -117,6 +119,7 @@ pub record MayWriteMore (p : Parts) (old mid new : Counters) (n : ℕ) (a : Spac
   pub room : nat_le (a.log_length + length es) (2 ^ 62) ≡ true
   pub stamped : AreStamped table mid.next_stamp es
   pub well : list_all (is_well (table_of p.tables)) es ≡ true
+  pub users : list_all (λ (e : Entry). is_short e.user) es ≡ true
 
 -- the new version is the newest of the workspace
 newest_is : (p : Parts) (old mid : Counters) (n : ℕ) (a : Space) (v : Version) → MayFork p old mid a n v → keep_rules p ≡ true → latest (forked p mid v) n ≡ v.number
@@ -136,6 +139,7 @@ may_after p old mid new n a v table es rules may = record {
   free = subst (λ k. IsFree q k) (sym newest) (free_new p old mid a n v may.fork rules);
   stamped = may.stamped;
   well = may.well;
+  users = may.users;
 }
   where
     q : Parts
@@ -220,12 +224,12 @@ between ss counters_id space_id id old mid n a v table es rules stage may = reco
 
 -- the batch that writes entries in a version more, with pieces drawn over nothing
 abbrev pub more_batch : ℕ → Counters → ℕ → Space → ℕ → Version → List Entry → List PieceRecord → List Change
-more_batch counters_id new space_id a id v es drawn = write_new_batch counters_id new space_id a (length es) id v (rows_in es) drawn
+more_batch counters_id new space_id a id v es drawn = write_new_batch counters_id new space_id a (length es) id v (rows_in es) drawn (hists_from a.number a.log_length es)
 
 -- it is the one that writes them in the newest version, after the one that makes the version
 in_newest : (ss : List Stored) (counters_id space_id id : ℕ) (old mid new : Counters) (a : Space) (v : Version) (es : List Entry) (drawn : List PieceRecord) → Stage ss counters_id space_id id old a
     → applied (entries_batch counters_id new space_id a [] (id + 1) es drawn) (applied (fork_batch counters_id mid id v) ss) ≡ applied (more_batch counters_id new space_id a id v es drawn) ss
-in_newest ss counters_id space_id id old mid new a v es drawn stage = sym (one_and_more ss counters_id space_id id mid new a (length es) v (rows_in es) drawn stage.sorted)
+in_newest ss counters_id space_id id old mid new a v es drawn stage = sym (one_and_more ss counters_id space_id id mid new a (length es) v (rows_in es) drawn (hists_from a.number a.log_length es) stage.sorted)
 
 -- the rules hold after it
 pub keep_planned_new : (ss : List Stored) (counters_id space_id id : ℕ) (old mid new : Counters) (n : ℕ) (a : Space) (v : Version) (table : ℕ) (es : List Entry) (drawn : List PieceRecord)

@@ -5,7 +5,7 @@ use Rattle.std.specs.List.{list_all, filter}
 use Rattle.std.specs.Option.{option_map}
 use Rattle.wm_base.specs.declared.row.Row.{Row}
 use Rattle.wm_graph.specs.Parts.{Parts, parts_of, as_space, table_of, space_of, version_of, row_of}
-use Rattle.wm_graph.specs.Rules.{keep_rules, are_counters, are_spaces, are_rows, are_pieces, is_piece, collide, differ}
+use Rattle.wm_graph.specs.Rules.{keep_rules, are_counters, are_spaces, are_rows, are_pieces, is_piece, is_short, collide, differ}
 use Rattle.wm_spec.specs.Lists.{Entry, Told}
 use Rattle.wm_spec.specs.Records.{record_at}
 use Rattle.wm_spec.specs.declared.record.Record.{Record}
@@ -13,6 +13,7 @@ use Rattle.wm_spec.specs.declared.record.Record.TheVariants as records
 use Rattle.wm_spec.specs.declared.record.stored.Stored.{Stored}
 use Rattle.wm_spec.specs.declared.record.batch.Change.{Change}
 use Rattle.wm_spec.specs.declared.record.counters.Counters.{Counters}
+use Rattle.wm_spec.specs.declared.record.hist.Hist.{Hist}
 use Rattle.wm_spec.specs.declared.record.piece.PieceRecord.{PieceRecord}
 use Rattle.wm_spec.specs.declared.record.row.RowRecord.{RowRecord}
 use Rattle.wm_spec.specs.declared.record.space.Space.{Space}
@@ -20,7 +21,7 @@ use Rattle.wm_state.specs.ById.{Ascend, set_at, applied}
 use Rattle.wm_state.specs.Batches.{keeps, AreDropped, AllUnder, drop_one}
 use Rattle.wm_state.specs.Effects.{IsLeaf, IsFree}
 use Rattle.wm_state.specs.Drawing.{AreDrawn}
-use Rattle.wm_state.specs.Entries.{AreStamped, entry_keys, is_well, pieces_of, rows_in, is_out_all}
+use Rattle.wm_state.specs.Entries.{AreStamped, entry_keys, is_well, pieces_of, rows_in, hists_from, is_out_all}
 use Rattle.wm_state.specs.State.{State, with_space, with_entries}
 use Rattle.wm_state.specs.Standing.{newest_first, latest, CountersStand, Stands}
 use Rattle.wm_state.specs.Writes.{longer_by, WroteAll, put_all, write_batch}
@@ -30,13 +31,13 @@ use Rattle.wm_state.proofs.ById.{Ascend-set}
 use Rattle.wm_state.proofs.ByKind.{kinds, stored, Split, split_of, set-split, set-behind}
 use Rattle.wm_state.proofs.Dropping.{dropped}
 use Rattle.wm_state.proofs.DrawnWell.{piece-parts, drawn-apart}
-use Rattle.wm_state.proofs.EntryRecords.{rows_from, rows_differ, rows_well, told_row, pieces_well}
+use Rattle.wm_state.proofs.EntryRecords.{rows_from, rows_differ, rows_well, told_row, each_row, pieces_well, hists_on, hists_differ, hists_well}
 use Rattle.wm_state.proofs.Keeping.{KeepTables-same, KeepVersions-same, is_piece-kept}
-use Rattle.wm_state.proofs.KeepWritten.{all_written, MayPut, keep-written, rows_found, KeepRows-append}
+use Rattle.wm_state.proofs.KeepWritten.{all_written, MayPut, keep-written, spaces_longer, rows_found, KeepRows-append}
 use Rattle.wm_state.proofs.LayingAll.{laid-drawn}
 use Rattle.wm_state.proofs.Named.{space_number}
 use Rattle.wm_state.proofs.Planned.{counted, found_still, AllUnder-filter, AllUnder-next, AllUnder-set, applied-append, dropped-still}
-use Rattle.wm_state.proofs.Planning.{recounted, parts-spaced, spaces-split, parts-more_row, parts-more_piece, parts-filtered}
+use Rattle.wm_state.proofs.Planning.{recounted, parts-spaced, spaces-split, parts-more_row, parts-more_piece, parts-more_hist, parts-filtered}
 use Rattle.wm_state.proofs.Respaced.{space_here, space_elsewhere}
 use Rattle.wm_state.proofs.Tests.{both, all_if, all_filter}
 use Rattle.wm_state.proofs.WritingAll.{Stands-wrote_all}
@@ -75,19 +76,27 @@ parts-put_pieces id (x ∷ pieces) ss under =
     ∙ ap (λ (p : Parts). record p { pieces = p.pieces ++ pieces }) (parts-more_piece ss id x)
     ∙ ap (λ xs. record (parts_of ss) { pieces = xs }) (append_assoc (parts_of ss).pieces (x ∷ []) pieces)
 
+parts-put_hists : (id : ℕ) (hists : List Hist) (ss : List Stored) → AllUnder id ss → parts_of (applied (put_all id (map records.Hist hists)) ss) ≡ record (parts_of ss) { hists = (parts_of ss).hists ++ hists }
+parts-put_hists id [] ss under = ap (λ xs. record (parts_of ss) { hists = xs }) (sym (append-nil (parts_of ss).hists))
+parts-put_hists id (x ∷ hists) ss under =
+    ap parts_of (put_first id (records.Hist x) (map records.Hist hists) ss under)
+    ∙ parts-put_hists (id + 1) hists (ss ++ stored id (records.Hist x) ∷ []) (AllUnder-next id ss (records.Hist x) under)
+    ∙ ap (λ (p : Parts). record p { hists = p.hists ++ hists }) (parts-more_hist ss id x)
+    ∙ ap (λ xs. record (parts_of ss) { hists = xs }) (append_assoc (parts_of ss).hists (x ∷ []) hists)
+
 -- ---- what the batch makes of the records
 
-pub record Put (ss : List Stored) (cs : List Change) (new : Counters) (a : Space) (count : ℕ) (keep : PieceRecord → Bool) (rows : List RowRecord) (pieces : List PieceRecord) : Type 0 where
+pub record Put (ss : List Stored) (cs : List Change) (new : Counters) (a : Space) (count : ℕ) (keep : PieceRecord → Bool) (rows : List RowRecord) (pieces : List PieceRecord) (hists : List Hist) : Type 0 where
   pub front : List Space
   pub back : List Space
   pub old : (parts_of ss).spaces ≡ front ++ a ∷ back
-  pub is : parts_of (applied cs ss) ≡ all_written (parts_of ss) new front a back count keep rows pieces
+  pub is : parts_of (applied cs ss) ≡ all_written (parts_of ss) new front a back count keep rows pieces hists
 
 parts-written : (ss : List Stored) (counters_id space_id : ℕ) (old new : Counters) (a : Space) (count : ℕ) (test : PieceRecord → Bool) (ids : List ℕ) (id : ℕ) (rows : List RowRecord) (pieces : List PieceRecord)
-    → Ascend ss
+    (hists : List Hist) → Ascend ss
     → record_at ss counters_id ≡ Some (records.Counters old) → (parts_of ss).counters ≡ old ∷ [] → record_at ss space_id ≡ Some (records.Space a) → AreDropped (keeps test) ids ss → AllUnder id ss
-    → Put ss (write_batch counters_id new space_id a count ids id rows pieces) new a count test rows pieces
-parts-written ss counters_id space_id old new a count test ids id rows pieces sorted counters one space are under =
+    → Put ss (write_batch counters_id new space_id a count ids id rows pieces hists) new a count test rows pieces hists
+parts-written ss counters_id space_id old new a count test ids id rows pieces hists sorted counters one space are under =
     by_split (split_of first space_id (records.Space a) space_still)
   where
     b : Space
@@ -104,6 +113,9 @@ parts-written ss counters_id space_id old new a count test ids id rows pieces so
 
     fourth : List Stored
     fourth = applied (put_all id (map records.Row rows)) third
+
+    fifth : List Stored
+    fifth = applied (put_all (id + length rows) (map records.Piece pieces)) fourth
 
     sorted_first : Ascend first
     sorted_first = Ascend-set counters_id (Some (records.Counters new)) ss sorted
@@ -128,16 +140,29 @@ parts-written ss counters_id space_id old new a count test ids id rows pieces so
     under_fourth : AllUnder (id + length rows) fourth
     under_fourth = subst (λ n. AllUnder (id + n) fourth) (length-map rows records.Row) (under_put id (map records.Row rows) third under_third)
 
-    all : applied (write_batch counters_id new space_id a count ids id rows pieces) ss ≡ applied (put_all (id + length rows) (map records.Piece pieces)) fourth
+    under_fifth : AllUnder (id + length rows + length pieces) fifth
+    under_fifth = subst (λ n. AllUnder (id + length rows + n) fifth) (length-map pieces records.Piece) (under_put (id + length rows) (map records.Piece pieces) fourth under_fourth)
+
+    put_rows : List Change
+    put_rows = put_all id (map records.Row rows)
+
+    put_pieces : List Change
+    put_pieces = put_all (id + length rows) (map records.Piece pieces)
+
+    put_hists : List Change
+    put_hists = put_all (id + length rows + length pieces) (map records.Hist hists)
+
+    all : applied (write_batch counters_id new space_id a count ids id rows pieces hists) ss ≡ applied put_hists fifth
     all =
-        applied-append (map drop_one ids) (put_all id (map records.Row rows) ++ put_all (id + length rows) (map records.Piece pieces)) second
-        ∙ ap (applied (put_all id (map records.Row rows) ++ put_all (id + length rows) (map records.Piece pieces))) dropped_second
-        ∙ applied-append (put_all id (map records.Row rows)) (put_all (id + length rows) (map records.Piece pieces)) third
+        applied-append (map drop_one ids) (put_rows ++ (put_pieces ++ put_hists)) second
+        ∙ ap (applied (put_rows ++ (put_pieces ++ put_hists))) dropped_second
+        ∙ applied-append put_rows (put_pieces ++ put_hists) third
+        ∙ applied-append put_pieces put_hists fourth
 
     parts_first : parts_of first ≡ recounted (parts_of ss) new
     parts_first = counted ss counters_id old new sorted counters one
 
-    by_split : Split first space_id (records.Space a) → Put ss (write_batch counters_id new space_id a count ids id rows pieces) new a count test rows pieces
+    by_split : Split first space_id (records.Space a) → Put ss (write_batch counters_id new space_id a count ids id rows pieces hists) new a count test rows pieces hists
     by_split s =
         let spaces : (parts_of first).spaces ≡ kinds as_space s.front ++ a ∷ kinds as_space s.back = ap (λ xs. (parts_of xs).spaces) s.is ∙ spaces-split s.front s.back space_id a in
         let parts_second : parts_of second ≡ record (recounted (parts_of ss) new) { spaces = kinds as_space s.front ++ b ∷ kinds as_space s.back } =
@@ -151,10 +176,11 @@ parts-written ss counters_id space_id old new a count test ids id rows pieces so
           old = sym (ap (λ (p : Parts). p.spaces) parts_first) ∙ spaces;
           is =
               ap parts_of all
-              ∙ parts-put_pieces (id + length rows) pieces fourth under_fourth
-              ∙ ap (λ (p : Parts). record p { pieces = p.pieces ++ pieces }) (parts-put_rows id rows third under_third)
-              ∙ ap (λ (p : Parts). record p { rows = p.rows ++ rows; pieces = p.pieces ++ pieces }) (parts-filtered second test)
-              ∙ ap (λ (p : Parts). record p { rows = p.rows ++ rows; pieces = filter test p.pieces ++ pieces }) parts_second;
+              ∙ parts-put_hists (id + length rows + length pieces) hists fifth under_fifth
+              ∙ ap (λ (p : Parts). record p { hists = p.hists ++ hists }) (parts-put_pieces (id + length rows) pieces fourth under_fourth)
+              ∙ ap (λ (p : Parts). record p { pieces = p.pieces ++ pieces; hists = p.hists ++ hists }) (parts-put_rows id rows third under_third)
+              ∙ ap (λ (p : Parts). record p { rows = p.rows ++ rows; pieces = p.pieces ++ pieces; hists = p.hists ++ hists }) (parts-filtered second test)
+              ∙ ap (λ (p : Parts). record p { rows = p.rows ++ rows; pieces = filter test p.pieces ++ pieces; hists = p.hists ++ hists }) parts_second;
         }
 
 -- ---- entries
@@ -172,6 +198,7 @@ pub record MayWriteAll (p : Parts) (old new : Counters) (n : ℕ) (a : Space) (t
   pub free : IsFree p (latest p n)
   pub stamped : AreStamped table old.next_stamp es
   pub well : list_all (is_well (table_of p.tables)) es ≡ true
+  pub users : list_all (λ (e : Entry). is_short e.user) es ≡ true
 
 -- the test of the pieces that stay
 abbrev pub stay : Parts → ℕ → ℕ → List Entry → PieceRecord → Bool
@@ -186,7 +213,7 @@ le_self n = grind arith
 
 -- the records after it
 abbrev drawn_written : Parts → Counters → ℕ → List Space → Space → List Space → ℕ → List Entry → List PieceRecord → Parts
-drawn_written p new n front a back table es drawn = all_written p new front a back (length es) (stay p n table es) (rows_in es) drawn
+drawn_written p new n front a back table es drawn = all_written p new front a back (length es) (stay p n table es) (rows_in es) drawn (hists_from a.number a.log_length es)
 
 -- what is known of the counters and the rows before
 record Before (p : Parts) (old : Counters) : Type 0 where
@@ -209,7 +236,7 @@ before p old rules one = record {
         first_same c d h = cc
 
 may_put : (p : Parts) (old new : Counters) (n : ℕ) (a : Space) (table : ℕ) (es : List Entry) (drawn : List PieceRecord) → keep_rules p ≡ true → MayWriteAll p old new n a table es → AreDrawnIn p n table es drawn
-    → (front back : List Space) → p.spaces ≡ front ++ a ∷ back → MayPut p old new front a back (length es) (stay p n table es) (rows_in es) drawn
+    → (front back : List Space) → p.spaces ≡ front ++ a ∷ back → MayPut p old new front a back (length es) (stay p n table es) (rows_in es) drawn (hists_from a.number a.log_length es)
 may_put p old new n a table es drawn rules may are front back spaces = record {
   one = may.one;
   counters = may.counters;
@@ -224,6 +251,10 @@ may_put p old new n a table es drawn rules may are front back spaces = record {
   pieces_well = are.pass well (piece-parts (table_of p.tables) (version_of p.versions) (row_of (p.rows ++ rows_in es)) new.next_stamp) old_well new_well;
   pieces_differ = are.differ;
   apart = drawn-apart (latest p n) table old.next_stamp es p.pieces drawn may.stamped are;
+  hists_well = hists_well (table_of p.tables) (space_of (front ++ longer_by (length es) a ∷ back)) (row_of (p.rows ++ rows_in es)) table old.next_stamp new.next_stamp a.number a.log_length (longer_by (length es) a) es may.stamped
+      in_time may.well may.users (space_here front back (longer_by (length es) a) a.number longer_still refl) (le_self (a.log_length + length es)) (rows_found p old.next_stamp (rows_in es) was.rows rows_new);
+  hists_differ = hists_differ a.number a.log_length es;
+  hists_new = hists_on a.number a.log_length a.log_length es (le_self a.log_length);
 }
   where
     was : Before p old
@@ -244,6 +275,9 @@ may_put p old new n a table es drawn rules may are front back spaces = record {
       where
         le_more : (m k : ℕ) → nat_le m (m + k) ≡ true
         le_more m k = grind arith
+
+    longer_still : are_spaces (front ++ longer_by (length es) a ∷ back) ≡ true
+    longer_still = spaces_longer p front back a (length es) rules spaces may.room
 
     rows_new : list_all (λ (r : RowRecord). nat_le old.next_stamp r.stamp) (rows_in es) ≡ true
     rows_new = rows_from table old.next_stamp old.next_stamp es may.stamped (le_self old.next_stamp)
@@ -272,17 +306,21 @@ wrote-all p old new n a table es drawn rules may are front back spaces = record 
   elsewhere = λ m other. space_elsewhere front back a b m (λ same. apart m other (sym same ∙ number)) (λ same. apart m other (sym same ∙ number)) ∙ ap (λ ss. space_of ss m) (sym spaces);
   pieces = laid-drawn (latest p n) table old.next_stamp es p.pieces drawn may.stamped are;
   rows_kept = λ stamp r found. find_before (λ (x : RowRecord). x.stamp == stamp) p.rows (rows_in es) r found;
-  rows_new = λ c t row found is. by_row t row (row_of (rows_in es) t.stamp) refl (told_row table old.next_stamp es may.stamped c t row found is);
+  rows_new = λ c t row found is. by_row t.stamp row (row_of (rows_in es) t.stamp) refl (told_row table old.next_stamp es may.stamped c t row found is);
+  rows_each = λ k d lt row is. by_row _ row (row_of (rows_in es) _) refl (each_row table old.next_stamp es may.stamped k d lt row is);
+  old = a;
+  old_is = may.space;
+  hists = ap (λ k. p.hists ++ hists_from k a.log_length es) number;
 }
   where
     b : Space
     b = longer_by (length es) a
 
-    put_so : MayPut p old new front a back (length es) (stay p n table es) (rows_in es) drawn
+    put_so : MayPut p old new front a back (length es) (stay p n table es) (rows_in es) drawn (hists_from a.number a.log_length es)
     put_so = may_put p old new n a table es drawn rules may are front back spaces
 
     after : are_spaces (front ++ b ∷ back) ≡ true
-    after = (ruled (drawn_written p new n front a back table es drawn) (keep-written p old new front a back (length es) (stay p n table es) (rows_in es) drawn put_so rules)).spaces
+    after = spaces_longer p front back a (length es) rules spaces may.room
 
     number : a.number ≡ n
     number = space_number p n a may.space
@@ -290,23 +328,23 @@ wrote-all p old new n a table es drawn rules may are front back spaces = record 
     apart : (m : ℕ) → (m == n) ≡ false → m ≡ n → ⊥
     apart m other same = grind (arith, other, same)
 
-    by_row : (t : Told) (row : Row) (o : Option RowRecord) → row_of (rows_in es) t.stamp ≡ o → option_map (λ (r : RowRecord). r.values) o ≡ Some row.values
-        → option_map (λ (r : RowRecord). r.values) (row_of (p.rows ++ rows_in es) t.stamp) ≡ Some row.values
-    by_row t row None found is = cc
-    by_row t row (Some r) found is = ap (option_map (λ (r : RowRecord). r.values)) (rows_found p old.next_stamp (rows_in es) (before p old rules may.one).rows put_so.rows_new t.stamp r found) ∙ is
+    by_row : (stamp : ℕ) (row : Row) (o : Option RowRecord) → row_of (rows_in es) stamp ≡ o → option_map (λ (r : RowRecord). r.values) o ≡ Some row.values
+        → option_map (λ (r : RowRecord). r.values) (row_of (p.rows ++ rows_in es) stamp) ≡ Some row.values
+    by_row stamp row None found is = cc
+    by_row stamp row (Some r) found is = ap (option_map (λ (r : RowRecord). r.values)) (rows_found p old.next_stamp (rows_in es) (before p old rules may.one).rows put_so.rows_new stamp r found) ∙ is
 
 -- ---- the laws of the batch
 
 -- the batch that writes entries, with pieces drawn over those that it drops
 abbrev pub entries_batch : ℕ → Counters → ℕ → Space → List ℕ → ℕ → List Entry → List PieceRecord → List Change
-entries_batch counters_id new space_id a ids id es drawn = write_batch counters_id new space_id a (length es) ids id (rows_in es) drawn
+entries_batch counters_id new space_id a ids id es drawn = write_batch counters_id new space_id a (length es) ids id (rows_in es) drawn (hists_from a.number a.log_length es)
 
 parts-entries : (ss : List Stored) (counters_id space_id : ℕ) (old new : Counters) (a : Space) (ids : List ℕ) (id n table : ℕ) (es : List Entry) (drawn : List PieceRecord) → Ascend ss
     → record_at ss counters_id ≡ Some (records.Counters old) → record_at ss space_id ≡ Some (records.Space a) → AreDropped (keeps (stay (parts_of ss) n table es)) ids ss → AllUnder id ss
     → MayWriteAll (parts_of ss) old new n a table es
-    → Put ss (entries_batch counters_id new space_id a ids id es drawn) new a (length es) (stay (parts_of ss) n table es) (rows_in es) drawn
+    → Put ss (entries_batch counters_id new space_id a ids id es drawn) new a (length es) (stay (parts_of ss) n table es) (rows_in es) drawn (hists_from a.number a.log_length es)
 parts-entries ss counters_id space_id old new a ids id n table es drawn sorted counters space are_dropped under may =
-    parts-written ss counters_id space_id old new a (length es) (stay (parts_of ss) n table es) ids id (rows_in es) drawn sorted counters may.one space are_dropped under
+    parts-written ss counters_id space_id old new a (length es) (stay (parts_of ss) n table es) ids id (rows_in es) drawn (hists_from a.number a.log_length es) sorted counters may.one space are_dropped under
 
 -- the rules hold after it
 pub keep_planned : (ss : List Stored) (counters_id space_id : ℕ) (old new : Counters) (a : Space) (ids : List ℕ) (id n table : ℕ) (es : List Entry) (drawn : List PieceRecord) → keep_rules (parts_of ss) ≡ true → Ascend ss
@@ -315,7 +353,7 @@ pub keep_planned : (ss : List Stored) (counters_id space_id : ℕ) (old new : Co
 keep_planned ss counters_id space_id old new a ids id n table es drawn rules sorted counters space are_dropped under may are =
     let i = parts-entries ss counters_id space_id old new a ids id n table es drawn sorted counters space are_dropped under may in
     subst (λ p. keep_rules p ≡ true) (sym i.is)
-    (keep-written (parts_of ss) old new i.front a i.back (length es) (stay (parts_of ss) n table es) (rows_in es) drawn
+    (keep-written (parts_of ss) old new i.front a i.back (length es) (stay (parts_of ss) n table es) (rows_in es) drawn (hists_from a.number a.log_length es)
     (may_put (parts_of ss) old new n a table es drawn rules may are i.front i.back i.old) rules)
 
 -- the records stand for the state that has the entries
@@ -328,5 +366,5 @@ plan_written ss counters_id space_id old new a ids id n table es drawn s u st so
     let q = drawn_written (parts_of ss) new n i.front a i.back table es drawn in
     subst (λ p. Stands p u) (sym i.is)
     (Stands-wrote_all (parts_of ss) q s u n es (wrote-all (parts_of ss) old new n a table es drawn st.rules may are i.front i.back i.old) st spaces tables (counted_so q refl)
-    (keep-written (parts_of ss) old new i.front a i.back (length es) (stay (parts_of ss) n table es) (rows_in es) drawn
+    (keep-written (parts_of ss) old new i.front a i.back (length es) (stay (parts_of ss) n table es) (rows_in es) drawn (hists_from a.number a.log_length es)
     (may_put (parts_of ss) old new n a table es drawn st.rules may are i.front i.back i.old) st.rules))

@@ -155,6 +155,18 @@ parts-more_piece ss id x = made_same
     (kinds-more as_piece ss id (records.Piece x) x refl)
     (kinds-no_more as_hist ss id (records.Piece x) refl)
 
+pub parts-more_hist : (ss : List Stored) (id : ℕ) (x : Hist) → parts_of (ss ++ stored id (records.Hist x) ∷ []) ≡ record (parts_of ss) { hists = (parts_of ss).hists ++ x ∷ [] }
+unfolding parts_of
+parts-more_hist ss id x = made_same
+    (kinds-no_more as_counters ss id (records.Hist x) refl)
+    (kinds-no_more as_table ss id (records.Hist x) refl)
+    (kinds-no_more as_space ss id (records.Hist x) refl)
+    (kinds-no_more as_version ss id (records.Hist x) refl)
+    (kinds-no_more as_savepoint ss id (records.Hist x) refl)
+    (kinds-no_more as_row ss id (records.Hist x) refl)
+    (kinds-no_more as_piece ss id (records.Hist x) refl)
+    (kinds-more as_hist ss id (records.Hist x) x refl)
+
 pub parts-more_space : (ss : List Stored) (id : ℕ) (a : Space) → parts_of (ss ++ stored id (records.Space a) ∷ []) ≡ record (parts_of ss) { spaces = (parts_of ss).spaces ++ a ∷ [] }
 unfolding parts_of
 parts-more_space ss id a = made_same

@@ -10,11 +10,12 @@ use Rattle.wm_graph.specs.Rules.{keep_rules}
 use Rattle.wm_spec.specs.Lists.{Cell, told, touched}
 use Rattle.wm_spec.specs.declared.record.savepoint.Savepoint.{Savepoint as Record}
 use Rattle.wm_spec.specs.declared.record.space.Space.{Space}
-use Rattle.wm_state.specs.State.{State, Workspace, Savepoint, Contents, content, kept, workspace_of, with_space, with_savepoint, savepoint_made, savepoints_of}
+use Rattle.wm_state.specs.State.{State, Workspace, Savepoint, Contents, content, kept, workspace_of, with_space, with_savepoint, savepoint_made, savepoints_of, log_of}
 use Rattle.wm_state.specs.Standing.{held_of, latest, shown, owned, seen, seen_above, SpaceFields, fields_of, fields_in, saved_fields, fields_saved, by_making, saved_in, saved_as, by_number, CountersStand, SpacesStand, SavepointsStand, KeptStand, KeptOwnStand, HasRows, RowsStand, Stands}
 use Rattle.wm_state.specs.Effects.{Saved, marked}
 use Rattle.wm_state.proofs.Changing.{workspace_of-changed}
 use Rattle.wm_state.proofs.Frames.{StillNames, savepoints_of-found, OnceStand-changed, KeepRows, HasRows-kept, HasRows-same}
+use Rattle.wm_state.proofs.Logging.{HistsStand-frame, log_of-changed, logs-kept}
 use Rattle.wm_state.proofs.Keeping.{KeepRows-same}
 use Rattle.wm_state.proofs.Making.{making-push, all-making}
 use Rattle.wm_state.proofs.Mapped.{all-alike, find-skip}
@@ -331,6 +332,10 @@ KeptOwnStand-saved p q s t n place implicit w k x v spaces found new_one stand k
             ∙ ap (λ (i : Savepoint). touched i.own c) (sym h.2)
         by_how (inr h) = kept_before.covered m making z.old j y z.is h.0 (sym (saved_as-away p q n place implicit x v m making h.1) ∙ recorded) (based ∙ z.rebases) c
 
+-- the logs are as they were
+logs_saved : (s t : State) (n place implicit : ℕ) (k : Savepoint) → t.spaces ≡ with_space n (with_savepoint place implicit k) s.spaces → (m : ℕ) → log_of t.spaces m ≡ log_of s.spaces m
+logs_saved s t n place implicit k spaces m = ap (λ ws. log_of ws m) spaces ∙ log_of-changed n (with_savepoint place implicit k) (λ w. refl) (λ w. refl) s.spaces m
+
 RowsStand-saved : (p q : Parts) (s t : State) (n place implicit : ℕ) (w : Workspace) (k : Savepoint) (x : Record) → Saved p q n place implicit x → t.spaces ≡ with_space n (with_savepoint place implicit k) s.spaces
     → IsKept p w k x → SavepointsStand p s → RowsStand p s → RowsStand q t
 RowsStand-saved p q s t n place implicit w k x v spaces new_one stand rows = record {
@@ -339,6 +344,7 @@ RowsStand-saved p q s t n place implicit w k x v spaces new_one stand rows = rec
   bases = λ m new is. let y = before m new is in HasRows-same p q still new.lists.base y.old.lists.base (ap (λ (l : Contents). l.base) y.lists) (rows.bases m y.old y.is);
   saved = λ m making new j is made.
       by_case m making new j (made_case p q s n place implicit k x v new_one.fields stand m making new j (ap (λ ws. workspace_of ws m) (sym spaces) ∙ is) made);
+  logs = logs-kept p q s t still (logs_saved s t n place implicit k spaces) rows.logs;
 }
   where
     still : KeepRows p q
@@ -387,6 +393,7 @@ Stands-saved p q s t n place implicit w k x v st found new_one spaces tables cou
         ∙ ap (λ (l : Contents). option_map held_of (told l.base c)) (sym y.lists);
   };
   rows = RowsStand-saved p q s t n place implicit w k x v spaces new_one st.savepoints st.rows;
+  hists = HistsStand-frame p q s t v.hists (logs_saved s t n place implicit k spaces) st.hists;
 }
   where
     before : (m : ℕ) (new : Workspace) → workspace_of t.spaces m ≡ Some new → WasSaved n k s.spaces m new

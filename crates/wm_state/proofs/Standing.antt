@@ -2,9 +2,10 @@
 use Rattle.std.proofs.Common.{◌≡◌, ℕ, true, refl, sym, ap, ◌∙◌}
 use Rattle.wm_graph.specs.Parts.{Parts, row_of, space_of}
 use Rattle.wm_graph.specs.Rules.{keep_rules}
-use Rattle.wm_state.specs.State.{State, begin, content, workspace_of, savepoints_of}
+use Rattle.wm_state.specs.State.{State, begin, content, workspace_of, savepoints_of, log_of}
 use Rattle.wm_state.specs.Standing.{CountersStand, TablesStand, Stands}
 use Rattle.wm_state.proofs.Frames.{Framed, KeepRows, OnceStand-same, HasRows-kept, SavepointsStand-framed, KeptStand-framed, KeptOwnStand-framed, BasesStand-framed, RowsStand-framed}
+use Rattle.wm_state.proofs.Logging.{HistsStand-frame, logs-kept}
 
 -- ---- the records stand for the state after a line
 
@@ -15,6 +16,7 @@ pub record Retabled (p q : Parts) : Type 0 where
   pub savepoints : q.savepoints ≡ p.savepoints
   pub rows : q.rows ≡ p.rows
   pub pieces : q.pieces ≡ p.pieces
+  pub hists : q.hists ≡ p.hists
 
 framed_retabled : (p q : Parts) (s t : State) → Retabled p q → t.spaces ≡ s.spaces → Framed p q s t
 framed_retabled p q s t r spaces = record {
@@ -42,11 +44,15 @@ Stands-retabled p q s t r st spaces tables counters rules = record {
   kept_own = KeptOwnStand-framed p q s t (framed_retabled p q s t r spaces) st.kept_own;
   bases = BasesStand-framed p q s t (framed_retabled p q s t r spaces) st.bases;
   rows = RowsStand-framed p q s t (framed_retabled p q s t r spaces) rows
-      (λ n w is. HasRows-kept p q rows (content w) (st.rows.there n w (ap (λ ws. workspace_of ws n) (sym spaces) ∙ is))) st.rows;
+      (λ n w is. HasRows-kept p q rows (content w) (st.rows.there n w (ap (λ ws. workspace_of ws n) (sym spaces) ∙ is))) (logs-kept p q s t rows logs st.rows.logs) st.rows;
+  hists = HistsStand-frame p q s t r.hists logs st.hists;
 }
   where
     rows : KeepRows p q
     rows stamp x found = ap (λ rs. row_of rs stamp) r.rows ∙ found
+
+    logs : (n : ℕ) → log_of t.spaces n ≡ log_of s.spaces n
+    logs n = ap (λ ws. log_of ws n) spaces
 
 -- sessions and the moment stand in no record
 pub Stands-begin : (p : Parts) (s : State) (now : ℕ) → Stands p s → Stands p (begin s now)
@@ -70,5 +76,6 @@ Stands-begin p s now st = record {
   kept = record { told = st.kept.told };
   kept_own = record { covered = st.kept_own.covered };
   bases = record { birth = st.bases.birth; base = st.bases.base };
-  rows = record { there = st.rows.there; births = st.rows.births; bases = st.rows.bases; saved = st.rows.saved };
+  rows = record { there = st.rows.there; births = st.rows.births; bases = st.rows.bases; saved = st.rows.saved; logs = st.rows.logs };
+  hists = record { same = st.hists.same };
 }

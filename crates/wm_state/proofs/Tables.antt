@@ -149,6 +149,6 @@ keep-created p old new t may rules = keeps_all q new refl may.counters
 pub Stands-created : (p : Parts) (old new : Counters) (t : Table) (s u : State) → Stands p s → MayCreate p old new t → u.spaces ≡ s.spaces → u.tables ≡ s.tables ++ t ∷ [] → CountersStand (created p new t) u
     → Stands (created p new t) u
 Stands-created p old new t s u st may spaces tables counters =
-    Stands-retabled p (created p new t) s u (record { spaces = refl; versions = refl; savepoints = refl; rows = refl; pieces = refl }) st spaces
+    Stands-retabled p (created p new t) s u (record { spaces = refl; versions = refl; savepoints = refl; rows = refl; pieces = refl; hists = refl }) st spaces
     (record { same = by_number-push p.tables t may.number ∙ ap (λ ts. ts ++ t ∷ []) st.tables.same ∙ sym tables }) counters
     (keep-created p old new t may st.rules)

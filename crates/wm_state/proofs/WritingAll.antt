@@ -1,6 +1,8 @@
 -- The records stand for the state that a line makes which writes entries.
-use Rattle.std.proofs.Common.{◌≡◌, ◌≢◌, ℕ, cond, List, ◌++◌, append_assoc, Option, Some, None, is_some, refl, sym, ap, ◌∙◌, ◌==◌, ◌⊎◌, inl, inr, ⊎_elim, true, false, ◌+◌, length, length-append}
+use Rattle.std.proofs.Common.{◌≡◌, ◌≢◌, ℕ, cond, List, ◌++◌, append_assoc, Option, Some, None, is_some, refl, sym, ap, subst, ◌∙◌, ◌==◌, ◌⊎◌, inl, inr, ⊎_elim, true, false, ◌+◌, length, length-append}
 use Rattle.std.proofs.lemmas.Bool.{cases_eq, eq-eqb, ne_eqb}
+use Rattle.std.proofs.lemmas.List.Elements.{All-append}
+use Rattle.std.specs.List.{All}
 use Rattle.std.specs.Option.{option_or, option_map}
 use Rattle.wm_base.specs.declared.row.Row.{Row}
 use Rattle.wm_graph.specs.Parts.{Parts, row_of, space_of}
@@ -10,10 +12,12 @@ use Rattle.wm_spec.specs.Lists.{Entry, Cell, Told, told, touched}
 use Rattle.wm_spec.specs.declared.record.row.RowRecord.{RowRecord}
 use Rattle.wm_spec.specs.declared.record.space.Space.{Space}
 use Rattle.wm_spec.proofs.Lists.{told-append}
-use Rattle.wm_state.specs.State.{State, Workspace, content, workspace_of, with_space, with_entries, savepoints_of}
-use Rattle.wm_state.specs.Standing.{held_of, stored_at, seen_at, own_at, newest_first, latest, seen, fields_of, fields_in, CountersStand, SpacesStand, LatestStand, OwnStand, RowsStand, Stands, SpaceFields, by_number}
+use Rattle.wm_state.specs.State.{State, Workspace, content, workspace_of, with_space, with_entries, savepoints_of, log_of}
+use Rattle.wm_state.specs.Standing.{held_of, stored_at, seen_at, own_at, newest_first, latest, seen, fields_of, fields_in, CountersStand, SpacesStand, LatestStand, OwnStand, HasRow, RowsStand, HistsStand, Stands, SpaceFields, by_number}
+use Rattle.wm_state.specs.Entries.{hists_from}
 use Rattle.wm_state.specs.Writes.{AreAllLaid, longer_by, WroteAll}
 use Rattle.wm_state.proofs.Frames.{Framed, Still, StillNames, OnceStand-changed, row-kept, savepoints_of-found, savepoints_of-none, SavepointsStand-framed, KeptStand-framed, KeptOwnStand-framed, BasesStand-framed, RowsStand-framed}
+use Rattle.wm_state.proofs.Logging.{HistsStand-longer, log_of-found, log_of-same, rows-kept}
 use Rattle.wm_state.proofs.Nearest.{SameAway, seen-away, seen-here, own-away, own-here}
 use Rattle.wm_state.proofs.Changing.{workspace_of-changed}
 
@@ -207,12 +211,57 @@ framed_wrote p q s t n es w spaces = record {
         (λ h. record { old = y.old; is = y.is; birth = ap (λ (k : Space). k.birth_version) h.1; base = ap (λ (k : Space). k.base_version) h.1 })
         y.how
 
-RowsStand-wrote : (p q : Parts) (s t : State) (n : ℕ) (es : List Entry) → WroteAll p q n es → t.spaces ≡ appended_all n es s.spaces → RowsStand p s → RowsStand q t
-RowsStand-wrote p q s t n es w spaces stand =
+-- the log of the workspace is longer, and every other as it was
+record Longer (s t : State) (n : ℕ) (es : List Entry) (old : Space) : Type 0 where
+  many : old.log_length ≡ length (log_of s.spaces n)
+  here : log_of t.spaces n ≡ log_of s.spaces n ++ es
+  away : (m : ℕ) → m ≢ n → log_of t.spaces m ≡ log_of s.spaces m
+
+longer : (p q : Parts) (s t : State) (n : ℕ) (es : List Entry) (w : WroteAll p q n es) → t.spaces ≡ appended_all n es s.spaces → SpacesStand p s → Longer s t n es w.old
+longer p q s t n es w spaces there = by_space (workspace_of s.spaces n) refl (sym (ap (option_map fields_of) w.old_is) ∙ there.same n)
+  where
+    none_some : (f : SpaceFields) → (let nothing : Option SpaceFields = None in nothing) ≡ Some f → ⊥
+    none_some f e = cc
+
+    some_same : (f g : SpaceFields) → Some f ≡ Some g → f ≡ g
+    some_same f g e = cc
+
+    after : (m : ℕ) → workspace_of t.spaces m ≡ cond (m == n) (option_map (with_entries es) (workspace_of s.spaces m)) (workspace_of s.spaces m)
+    after m = ap (λ ws. workspace_of ws m) spaces ∙ appended-at n es s.spaces m
+
+    by_space : (o : Option Workspace) → workspace_of s.spaces n ≡ o → Some (fields_of w.old) ≡ option_map fields_in o → Longer s t n es w.old
+    by_space None found e = absurd (none_some (fields_of w.old) (sym e))
+    by_space (Some v) found e = record {
+      many = ap (λ (f : SpaceFields). f.log_length) (some_same (fields_of w.old) (fields_in v) e) ∙ ap length (sym (log_of-found s.spaces n v found));
+      here =
+          log_of-found t.spaces n (with_entries es v)
+          (after n ∙ ap (λ b. cond b (option_map (with_entries es) (workspace_of s.spaces n)) (workspace_of s.spaces n)) (eq-eqb n n refl) ∙ ap (option_map (with_entries es)) found)
+          ∙ ap (λ xs. xs ++ es) (sym (log_of-found s.spaces n v found));
+      away = λ m other. log_of-same t.spaces s.spaces m (after m ∙ ap (λ b. cond b (option_map (with_entries es) (workspace_of s.spaces m)) (workspace_of s.spaces m)) (ne_eqb _ _ other));
+    }
+
+HistsStand-wrote : (p q : Parts) (s t : State) (n : ℕ) (es : List Entry) → WroteAll p q n es → t.spaces ≡ appended_all n es s.spaces → SpacesStand p s → HistsStand p s → HistsStand q t
+HistsStand-wrote p q s t n es w spaces there stand =
+    let g = longer p q s t n es w spaces there in HistsStand-longer p q s t n es (w.hists ∙ ap (λ k. p.hists ++ hists_from n k es) g.many) g.here g.away stand
+
+RowsStand-wrote : (p q : Parts) (s t : State) (n : ℕ) (es : List Entry) → WroteAll p q n es → t.spaces ≡ appended_all n es s.spaces → SpacesStand p s → RowsStand p s → RowsStand q t
+RowsStand-wrote p q s t n es w spaces there stand =
     RowsStand-framed p q s t (framed_wrote p q s t n es w spaces) w.rows_kept
     (λ m new is c x row held standing. by_case m c new x row (was n es s.spaces m new (ap (λ ws. workspace_of ws m) (sym spaces) ∙ is)) held standing)
+    (λ m. logs m (cases_eq m n))
     stand
   where
+    g : Longer s t n es w.old
+    g = longer p q s t n es w spaces there
+
+    before : (m : ℕ) → All (HasRow q) (log_of s.spaces m)
+    before m = rows-kept p q w.rows_kept (log_of s.spaces m) (stand.logs m)
+
+    logs : (m : ℕ) → (m ≡ n) ⊎ (m ≢ n) → All (HasRow q) (log_of t.spaces m)
+    logs m (inl same) =
+        subst (λ k. All (HasRow q) (log_of t.spaces k)) (sym same) (subst (λ xs. All (HasRow q) xs) (sym g.here) (All-append (HasRow q) (log_of s.spaces n) es (before n) w.rows_each))
+    logs m (inr other) = subst (λ xs. All (HasRow q) xs) (sym (g.away m other)) (before m)
+
     by_case : (m : ℕ) (c : Cell) (new : Workspace) (x : Told) (row : Row) → Was n es s.spaces m new → told (content new) c ≡ Some x → x.row ≡ Some row
         → option_map (λ (r : RowRecord). r.values) (row_of q.rows x.stamp) ≡ Some row.values
     by_case m c new x row y held standing = ⊎_elim
@@ -271,5 +320,6 @@ Stands-wrote_all p q s t n es w st spaces tables counters rules = record {
   kept = KeptStand-framed p q s t (framed_wrote p q s t n es w spaces) st.kept;
   kept_own = KeptOwnStand-framed p q s t (framed_wrote p q s t n es w spaces) st.kept_own;
   bases = BasesStand-framed p q s t (framed_wrote p q s t n es w spaces) st.bases;
-  rows = RowsStand-wrote p q s t n es w spaces st.rows;
+  rows = RowsStand-wrote p q s t n es w spaces st.spaces st.rows;
+  hists = HistsStand-wrote p q s t n es w spaces st.spaces st.hists;
 }

@@ -48,6 +48,7 @@ pub record Forked (p q : Parts) (n number : ℕ) : Type 0 where
   pub savepoints : q.savepoints ≡ p.savepoints
   pub rows : q.rows ≡ p.rows
   pub pieces : q.pieces ≡ p.pieces
+  pub hists : q.hists ≡ p.hists
 
 -- the workspace's record, the next place and the next number of an implicit savepoint being these
 abbrev pub marked : ℕ → ℕ → Space → Space
@@ -65,6 +66,7 @@ pub record Saved (p q : Parts) (n place implicit : ℕ) (x : Savepoint) : Type 0
   pub versions : q.versions ≡ p.versions
   pub rows : q.rows ≡ p.rows
   pub pieces : q.pieces ≡ p.pieces
+  pub hists : q.hists ≡ p.hists
 
 -- a workspace is born, with a version of this number of its own under the one that it is born from; but for counters all else is as
 -- it was
@@ -83,3 +85,4 @@ pub record Born (p q : Parts) (r : Space) (number : ℕ) : Type 0 where
   pub savepoints : q.savepoints ≡ p.savepoints
   pub rows : q.rows ≡ p.rows
   pub pieces : q.pieces ≡ p.pieces
+  pub hists : q.hists ≡ p.hists

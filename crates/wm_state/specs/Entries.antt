@@ -9,6 +9,7 @@ use Rattle.wm_base.specs.declared.row.Row.{Row}
 use Rattle.wm_base.specs.declared.value.Value.{Value}
 use Rattle.wm_graph.specs.Rules.{is_row_of, is_key_of, is_key, key_of}
 use Rattle.wm_spec.specs.Lists.{Entry}
+use Rattle.wm_spec.specs.declared.record.hist.Hist.{Hist}
 use Rattle.wm_spec.specs.declared.record.piece.PieceRecord.{PieceRecord}
 use Rattle.wm_spec.specs.declared.record.row.RowRecord.{RowRecord}
 use Rattle.wm_spec.specs.declared.record.table.Table.{Table}
@@ -67,6 +68,24 @@ row_in e = option_map (λ (row : Row). let made : RowRecord = record { stamp = e
 
 abbrev pub rows_in : List Entry → List RowRecord
 rows_in es = filter_map row_in es
+
+-- the record of an entry at a position of a workspace's log
+abbrev pub hist_of : ℕ → ℕ → Entry → Hist
+hist_of n position e = record {
+  space = n;
+  position = position;
+  cells = record { table = e.table; key = e.key; from = e.from; till = e.till };
+  stamp = e.stamp;
+  kind = e.kind;
+  gone = is_none e.row;
+  moment = e.moment;
+  user = e.user;
+}
+
+-- and those of all of them, from a position on
+abbrev pub hists_from : ℕ → ℕ → List Entry → List Hist
+hists_from n position [] = []
+hists_from n position (e ∷ es) = hist_of n position e ∷ hists_from n (position + 1) es
 
 -- ---- what goes
 

@@ -1,18 +1,21 @@
 -- Records that stand for a state. The records have one set of pieces, found through the paths of versions; the state has a
 -- whole list for each workspace.
-use Rattle.std.specs.Prelude.{ℕ, ◌≡◌, ◌+◌, ◌<◌, Bool, true, ◌&&◌, ◌==◌, nat_le, nat_lt, max, if◌then◌else◌, List, [], ◌∷◌, map, length, is_none, is_some, Option, None, Some}
+use Rattle.std.specs.Prelude.{ℕ, ◌≡◌, ◌+◌, ◌<◌, Bool, true, ◌&&◌, ◌==◌, nat_le, nat_lt, max, if◌then◌else◌, List, [], ◌∷◌, map, length, slice_get, is_none, is_some, Option, None, Some}
 use Rattle.std.specs.Bool.{then_some}
-use Rattle.std.specs.List.{filter, find}
+use Rattle.std.specs.List.{All, filter, find}
 use Rattle.std.specs.Option.{option_or, option_map}
 use Rattle.std.specs.Ordering.{is_eq}
 use Rattle.wm_base.specs.Key.{key_order}
+use Rattle.wm_base.specs.declared.kind.Kind.{Kind}
 use Rattle.wm_base.specs.declared.row.Row.{Row}
 use Rattle.wm_base.specs.declared.stamp.Stamp.{Stamp}
 use Rattle.wm_graph.specs.Parts.{Parts, row_of, space_of}
 use Rattle.wm_graph.specs.Rules.{keep_rules, differ}
 use Rattle.wm_period.specs.Pieces.{Held}
 use Rattle.wm_spec.specs.Lists.{Cell, Entry, Told, told, touched}
+use Rattle.wm_spec.specs.declared.record.cell_range.CellRange.{CellRange}
 use Rattle.wm_spec.specs.declared.record.counters.Counters.{Counters}
+use Rattle.wm_spec.specs.declared.record.hist.Hist.{Hist}
 use Rattle.wm_spec.specs.declared.record.piece.PieceRecord.{PieceRecord}
 use Rattle.wm_spec.specs.declared.record.row.RowRecord.{RowRecord}
 use Rattle.wm_spec.specs.declared.record.space.FreezeMode.{FreezeMode}
@@ -22,7 +25,7 @@ use Rattle.wm_spec.specs.declared.record.version.Version.{Version}
 use Rattle.wm_tree.specs.Versions.{grow, latest_in}
 use Rattle.wm_tree.specs.declared.version.Version.{Version as Node}
 use Rattle.wm_spec.specs.declared.record.savepoint.Savepoint.{Savepoint as Record}
-use Rattle.wm_state.specs.State.{State, Workspace, Savepoint, content, kept, workspace_of, savepoint_made, savepoints_of}
+use Rattle.wm_state.specs.State.{State, Workspace, Savepoint, content, kept, workspace_of, savepoint_made, savepoints_of, log_of}
 
 -- ---- what versions hold
 
@@ -193,6 +196,32 @@ saved_in p n = by_making (filter (λ (x : Record). x.space == n) p.savepoints)
 abbrev pub saved_as : Parts → ℕ → ℕ → Option Record
 saved_as p n making = find (λ (x : Record). (x.space == n) && (x.making == making)) p.savepoints
 
+-- what the record of a log's entry and the entry itself have in common
+pub record Logged : Type 0 where
+  pub cells : CellRange
+  pub stamp : ℕ
+  pub kind : Kind
+  pub gone : Bool
+  pub moment : ℕ
+  pub user : List ℕ
+
+abbrev pub logged : Hist → Logged
+logged x = record { cells = x.cells; stamp = x.stamp; kind = x.kind; gone = x.gone; moment = x.moment; user = x.user }
+
+abbrev pub logged_as : Entry → Logged
+logged_as e = record {
+  cells = record { table = e.table; key = e.key; from = e.from; till = e.till };
+  stamp = e.stamp;
+  kind = e.kind;
+  gone = is_none e.row;
+  moment = e.moment;
+  user = e.user;
+}
+
+-- the record of the entry at a position of a workspace's log
+abbrev pub hist_at : List Hist → ℕ → ℕ → Option Hist
+hist_at hists n position = find (λ (x : Hist). (x.space == n) && (x.position == position)) hists
+
 -- one more than the greatest number of the record of a workspace, 0 where there is none
 abbrev pub space_after : List Space → ℕ
 space_after [] = 0
@@ -257,12 +286,21 @@ pub record BasesStand (p : Parts) (s : State) : Type 0 where
 abbrev pub HasRows : Parts → List Entry → Type 0
 HasRows p es = (c : Cell) (t : Told) (row : Row) → told es c ≡ Some t → t.row ≡ Some row → option_map (λ (r : RowRecord). r.values) (row_of p.rows t.stamp) ≡ Some row.values
 
--- so it is of each list that a workspace or a savepoint has
+-- the row of an entry, where it has one, stands under its stamp
+abbrev pub HasRow : Parts → Entry → Type 0
+HasRow p e = (row : Row) → e.row ≡ Some row → option_map (λ (r : RowRecord). r.values) (row_of p.rows e.stamp) ≡ Some row.values
+
+-- so it is of each list that a workspace or a savepoint has, and of each entry of a log
 pub record RowsStand (p : Parts) (s : State) : Type 0 where
   pub there : (n : ℕ) (w : Workspace) → workspace_of s.spaces n ≡ Some w → HasRows p (content w)
   pub births : (n : ℕ) (w : Workspace) → workspace_of s.spaces n ≡ Some w → HasRows p w.lists.at_birth
   pub bases : (n : ℕ) (w : Workspace) → workspace_of s.spaces n ≡ Some w → HasRows p w.lists.base
   pub saved : (n making : ℕ) (w : Workspace) (k : Savepoint) → workspace_of s.spaces n ≡ Some w → savepoint_made making w.savepoints ≡ Some k → HasRows p (kept k)
+  pub logs : (n : ℕ) → All (HasRow p) (log_of s.spaces n)
+
+-- each position of each workspace's log has a record of its entry, and there is no other
+pub record HistsStand (p : Parts) (s : State) : Type 0 where
+  pub same : (n position : ℕ) → option_map logged (hist_at p.hists n position) ≡ option_map logged_as (slice_get (log_of s.spaces n) position)
 
 -- the records keep every rule and stand for the state
 pub record Stands (p : Parts) (s : State) : Type 0 where
@@ -278,3 +316,4 @@ pub record Stands (p : Parts) (s : State) : Type 0 where
   pub kept_own : KeptOwnStand p s
   pub bases : BasesStand p s
   pub rows : RowsStand p s
+  pub hists : HistsStand p s

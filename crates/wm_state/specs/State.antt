@@ -142,6 +142,14 @@ savepoints_of spaces number = of (workspace_of spaces number)
     of None = []
     of (Some w) = w.savepoints
 
+-- the log of the workspace of this number
+abbrev pub log_of : List Workspace → ℕ → List Entry
+log_of spaces number = of (workspace_of spaces number)
+  where
+    of : Option Workspace → List Entry
+    of None = []
+    of (Some w) = w.lists.log
+
 -- how many entries the log of the workspace of this number has
 abbrev pub log_length : List Workspace → ℕ → ℕ
 log_length spaces number = of (workspace_of spaces number)

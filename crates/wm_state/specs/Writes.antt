@@ -1,5 +1,6 @@
 -- What becomes of the records where a line writes entries, and the batches that do it.
 use Rattle.std.specs.Prelude.{ℕ, ◌≡◌, ◌+◌, false, ◌==◌, if◌then◌else◌, List, [], ◌∷◌, ◌++◌, map, length, Some}
+use Rattle.std.specs.List.{All}
 use Rattle.std.specs.Option.{option_or, option_map}
 use Rattle.wm_graph.specs.Parts.{Parts, row_of, space_of}
 use Rattle.wm_spec.specs.Lists.{Entry, Cell, told}
@@ -7,13 +8,15 @@ use Rattle.wm_spec.specs.declared.record.Record.{Record}
 use Rattle.wm_spec.specs.declared.record.Record.TheVariants as records
 use Rattle.wm_spec.specs.declared.record.batch.Change.{Change}
 use Rattle.wm_spec.specs.declared.record.counters.Counters.{Counters}
+use Rattle.wm_spec.specs.declared.record.hist.Hist.{Hist}
 use Rattle.wm_spec.specs.declared.record.piece.PieceRecord.{PieceRecord}
 use Rattle.wm_spec.specs.declared.record.row.RowRecord.{RowRecord}
 use Rattle.wm_spec.specs.declared.record.space.Space.{Space}
 use Rattle.wm_spec.specs.declared.record.version.Version.{Version}
 use Rattle.wm_state.specs.Batches.{put, drop_one}
 use Rattle.wm_state.specs.Effects.{IsLeaf, IsFree, IsApart}
-use Rattle.wm_state.specs.Standing.{held_of, stored_at, newest_first, latest, HasRows}
+use Rattle.wm_state.specs.Entries.{hists_from}
+use Rattle.wm_state.specs.Standing.{held_of, stored_at, newest_first, latest, HasRow, HasRows}
 
 -- ---- the effect
 
@@ -26,8 +29,8 @@ AreAllLaid version es old new =
 abbrev pub longer_by : ℕ → Space → Space
 longer_by k s = record s { log_length = s.log_length + k }
 
--- entries were written into the newest version of a workspace, which nothing stands under and nothing names, and their rows beside
--- the others
+-- entries were written into the newest version of a workspace, which nothing stands under and nothing names, their rows beside the
+-- others, and their records behind those of its log
 pub record WroteAll (p q : Parts) (n : ℕ) (es : List Entry) : Type 0 where
   pub leaf : IsLeaf (latest p n) (newest_first p.versions)
   pub free : IsFree p (latest p n)
@@ -41,6 +44,10 @@ pub record WroteAll (p q : Parts) (n : ℕ) (es : List Entry) : Type 0 where
   pub pieces : AreAllLaid (latest p n) es p.pieces q.pieces
   pub rows_kept : (stamp : ℕ) (r : RowRecord) → row_of p.rows stamp ≡ Some r → row_of q.rows stamp ≡ Some r
   pub rows_new : HasRows q es
+  pub rows_each : All (HasRow q) es
+  pub old : Space
+  pub old_is : space_of p.spaces n ≡ Some old
+  pub hists : q.hists ≡ p.hists ++ hists_from n old.log_length es
 
 -- ---- the batches
 
@@ -49,13 +56,16 @@ abbrev pub put_all : ℕ → List Record → List Change
 put_all id [] = []
 put_all id (r ∷ rs) = put id r ∷ put_all (id + 1) rs
 
--- so many entries are written: rows, and pieces in the place of those that are dropped; the workspace's log is longer by as many
-abbrev pub write_batch : ℕ → Counters → ℕ → Space → ℕ → List ℕ → ℕ → List RowRecord → List PieceRecord → List Change
-write_batch counters_id counters space_id space count dropped id rows pieces =
+-- so many entries are written: rows, pieces in the place of those that are dropped, and the entries of the workspace's log, which is
+-- longer by as many
+abbrev pub write_batch : ℕ → Counters → ℕ → Space → ℕ → List ℕ → ℕ → List RowRecord → List PieceRecord → List Hist → List Change
+write_batch counters_id counters space_id space count dropped id rows pieces hists =
     put counters_id (records.Counters counters) ∷ put space_id (records.Space (longer_by count space))
-    ∷ (map drop_one dropped ++ (put_all id (map records.Row rows) ++ put_all (id + length rows) (map records.Piece pieces)))
+    ∷ (map drop_one dropped
+    ++ (put_all id (map records.Row rows)
+    ++ (put_all (id + length rows) (map records.Piece pieces) ++ put_all (id + length rows + length pieces) (map records.Hist hists))))
 
 -- the same in a version more, where no piece is yet
-abbrev pub write_new_batch : ℕ → Counters → ℕ → Space → ℕ → ℕ → Version → List RowRecord → List PieceRecord → List Change
-write_new_batch counters_id counters space_id space count id version rows pieces =
-    put id (records.Version version) ∷ write_batch counters_id counters space_id space count [] (id + 1) rows pieces
+abbrev pub write_new_batch : ℕ → Counters → ℕ → Space → ℕ → ℕ → Version → List RowRecord → List PieceRecord → List Hist → List Change
+write_new_batch counters_id counters space_id space count id version rows pieces hists =
+    put id (records.Version version) ∷ write_batch counters_id counters space_id space count [] (id + 1) rows pieces hists

@@ -66,7 +66,7 @@ pub fn table_changes(
     Ok(changes)
 }
 
-/// What is put for rows and pieces in the place of the records of some ids, behind other changes.
+/// What is put for rows, for pieces in the place of the records of some ids, and for entries of a log, behind other changes.
 pub fn written_changes(
     front: Changes,
     counters_id: u64,
@@ -77,17 +77,20 @@ pub fn written_changes(
     id: u64,
     rows: Vec<Record>,
     pieces: Vec<Record>,
+    hists: Vec<Record>,
 ) -> Result<Changes, Memory>
-    requires { id + length rows.items + length pieces.items < 2 ^ 64 }
-    ensures { IfOk result (λ changes. changes ≡ front ++ (put counters_id (records.Counters counters) ∷ put space_id (records.Space space) ∷ (map drop_one dropped.now ++ (put_all id rows.items ++ put_all (id + length rows.items) pieces.items)))) }
+    requires { id + length rows.items + length pieces.items + length hists.items < 2 ^ 64 }
+    ensures { IfOk result (λ changes. changes ≡ front ++ (put counters_id (records.Counters counters) ∷ put space_id (records.Space space) ∷ (map drop_one dropped.now ++ (put_all id rows.items ++ (put_all (id + length rows.items) pieces.items ++ put_all (id + length rows.items + length pieces.items) hists.items))))) }
 {
     let mut changes = front;
     changes.push(put(counters_id, Record::Counters(counters)))?;
     changes.push(put(space_id, Record::Space(space)))?;
     drop_all(&mut changes, dropped)?;
-    let next = id + rows.len() as u64;
+    let piece_id = id + rows.len() as u64;
+    let hist_id = piece_id + pieces.len() as u64;
     put_all(&mut changes, id, rows)?;
-    put_all(&mut changes, next, pieces)?;
+    put_all(&mut changes, piece_id, pieces)?;
+    put_all(&mut changes, hist_id, hists)?;
     Ok(changes)
 }
 

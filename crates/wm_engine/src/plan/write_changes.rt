@@ -5,9 +5,9 @@ ghost use Rattle.std.specs.Prelude.{◌≡◌, ◌+◌, ◌<◌, ◌≤◌, ◌^
 ghost use Rattle.std.specs.List.{list_all};
 ghost use Rattle.wm_base.specs.declared.instant.TheConstants.{END};
 ghost use Rattle.wm_graph.specs.Parts.{parts_of, space_of, table_of};
-ghost use Rattle.wm_graph.specs.Rules.{keep_rules};
+ghost use Rattle.wm_graph.specs.Rules.{is_short, keep_rules};
 ghost use Rattle.wm_dml.specs.Standing.{change_keys, change_lasts, is_change};
-ghost use Rattle.wm_model.specs.Changes.{Changes as MayChange, ChangesNew, change_piece, new_pieces, new_rows, row_before};
+ghost use Rattle.wm_model.specs.Changes.{Changes as MayChange, ChangesNew, change_hist, change_piece, new_hists, new_pieces, new_rows, row_before};
 ghost use Rattle.wm_model.specs.Planning.{moved};
 ghost use Rattle.wm_model.specs.Step.{counter_limit};
 ghost use Rattle.wm_state.specs.Drawing.{are_sorted};
@@ -27,7 +27,8 @@ use wm_base::Memory;
 use wm_dml::RowChange;
 use wm_image::Image;
 use wm_spec::record::{
-    CellRange, Change, Changes, Counters, PieceRecord, Record, RowRecord, Space, Table, Version,
+    CellRange, Change, Changes, Counters, Hist, PieceRecord, Record, RowRecord, Space, Table,
+    Version,
 };
 
 /// A table and a workspace in which rows are changed, with the counters before and how many rows there are.
@@ -122,14 +123,77 @@ fn piece_records(alloc: Global, pieces: Vec<PieceRecord>) -> Result<Vec<Record>,
     Ok(made)
 }
 
-/// Whether ids are left from this one on for new rows and pieces, and one more.
-fn are_ids_left(id: u64, rows: &[Record], pieces: &[Record]) -> bool
-    ensures { result ≡ true → id + 1 + length rows.now + length pieces.now < 2 ^ 64 }
+/// The entry of the session's log at a position for a change.
+fn hist_of(
+    alloc: Global,
+    moment: u64,
+    session: &Session,
+    space: u32,
+    position: u64,
+    stamp: u64,
+    table: u16,
+    change: &RowChange,
+) -> Result<Hist, Memory>
+    ensures { IfOk result (λ hist. (t : Table) → table ≡ t.number → hist ≡ change_hist space position moment session.now.user stamp t change.now) }
+{
+    Ok(Hist {
+        space,
+        position,
+        cells: CellRange {
+            table,
+            key: change.key.copy(alloc)?,
+            from: change.period.from().seconds(),
+            till: change.period.till().seconds(),
+        },
+        stamp,
+        kind: change.kind,
+        gone: change.row.is_none(),
+        moment,
+        user: session.user().copy(alloc)?,
+    })
+}
+
+/// The entries of the session's log for changes, behind those that are there: when they were written, and by whom.
+fn hists_of(
+    alloc: Global,
+    moment: u64,
+    session: &Session,
+    writing: &Writing<'_>,
+    changes: &[RowChange],
+) -> Result<Vec<Record>, Memory>
+    requires stamps { writing.now.counters.next_stamp + length changes.now < 2 ^ 64 }
+    requires positions { writing.now.space.now.log_length + length changes.now < 2 ^ 64 }
+    ensures hists { IfOk result (λ made. made.items ≡ map records.Hist (new_hists writing.now.space.now.number writing.now.space.now.log_length moment session.now.user writing.now.counters.next_stamp writing.now.table.now changes.now)) }
+    ensures short { is_short session.now.user ≡ true }
+{
+    let mut made = Vec::new(alloc);
+    let space = writing.space.number;
+    let table = writing.table.number;
+    let mut position = writing.space.log_length;
+    let mut stamp = writing.counters.next_stamp;
+    for change in changes {
+        let hist = hist_of(
+            alloc, moment, session, space, position, stamp, table, change,
+        )?;
+        made.push(Record::Hist(hist))?;
+        position += 1;
+        stamp += 1;
+    }
+    Ok(made)
+}
+
+/// Whether ids are left from this one on for new rows, pieces and entries, and one more.
+fn are_ids_left(id: u64, rows: &[Record], pieces: &[Record], hists: &[Record]) -> bool
+    ensures { result ≡ true → id + 1 + length rows.now + length pieces.now + length hists.now < 2 ^ 64 }
 {
     let rows = rows.len() as u64;
     let pieces = pieces.len() as u64;
-    match id.checked_add(rows) {
-        Some(next) => pieces < u64::MAX - next,
+    let hists = hists.len() as u64;
+    let Some(piece_id) = id.checked_add(rows) else {
+        return false;
+    };
+    match piece_id.checked_add(pieces) {
+        Some(hist_id) => hists < u64::MAX - hist_id,
         None => false,
     }
 }
@@ -157,10 +221,16 @@ fn write_here(
     let version = image.latest(session.space());
     let count = changes.len() as u64;
     let stamp = writing.counters.next_stamp;
+    let hists = hists_of(alloc, moment, session, writing, changes.as_slice())?;
     let made = records_of(alloc, version, stamp, writing.table, changes)?;
     let drawn = image.redraw(alloc, version, writing.table.number, made.pieces)?;
     let pieces = piece_records(alloc, drawn.drawn)?;
-    if !are_ids_left(id, made.rows.as_slice(), pieces.as_slice()) {
+    if !are_ids_left(
+        id,
+        made.rows.as_slice(),
+        pieces.as_slice(),
+        hists.as_slice(),
+    ) {
         return Err(Memory);
     }
     let space = longer_by(alloc, count, writing.space)?;
@@ -179,6 +249,7 @@ fn write_here(
         id,
         made.rows,
         pieces,
+        hists,
     )?;
     Ok(Planned::changing(batch, Answer::Done(writing.rows)))
 }
@@ -223,10 +294,16 @@ fn write_above(
     let count = changes.len() as u64;
     let stamp = writing.counters.next_stamp;
     let number = version.number;
+    let hists = hists_of(alloc, moment, session, writing, changes.as_slice())?;
     let made = records_of(alloc, number, stamp, writing.table, changes)?;
     let drawn = image.redraw(alloc, number, writing.table.number, made.pieces)?;
     let pieces = piece_records(alloc, drawn.drawn)?;
-    if !are_ids_left(id, made.rows.as_slice(), pieces.as_slice()) {
+    if !are_ids_left(
+        id,
+        made.rows.as_slice(),
+        pieces.as_slice(),
+        hists.as_slice(),
+    ) {
         return Err(Memory);
     }
     let space = longer_by(alloc, count, writing.space)?;
@@ -246,6 +323,7 @@ fn write_above(
         id + 1,
         made.rows,
         pieces,
+        hists,
     )?;
     Ok(Planned::changing(batch, Answer::Done(writing.rows)))
 }

@@ -1,7 +1,10 @@
-use Rattle.std.proofs.Common.{◌≡◌, ◌+◌, ◌<◌, ◌^◌, refl, length, ap, sym, subst, ◌∙◌, arith}
+use Rattle.std.proofs.Common.{◌≡◌, ◌+◌, ◌<◌, ◌^◌, true, refl, length, map, ap, sym, subst, ◌∙◌, arith}
 use Rattle.wm_graph.specs.Parts.{parts_of, space_of}
+use Rattle.wm_graph.specs.Rules.{is_short}
 use Rattle.wm_model.proofs.Written.{changes_batch}
+use Rattle.wm_model.specs.Changes.{new_hists}
 use Rattle.wm_spec.specs.Records.{record_at}
+use Rattle.wm_spec.specs.declared.record.Record.TheVariants as records
 use Rattle.wm_state.specs.Drawing.{AreNews}
 use Rattle.wm_state.specs.Standing.{latest}
 use Rattle.wm_engine.proofs.ChangesWritten.{MadeAll, Redrawn, are_news, counted_as, fits_all_here, here_is_all, redrawn_is, wrote_all_here}
@@ -20,19 +23,27 @@ redraw-requires-clause-news c =
 pub written_changes-requires : goal.written_changes-requires
 written_changes-requires c =
     let h = c.if-not-are_ids_left.ensures in
-    let l : c.args.id + 1 + length c.as_slice.result.now + length c.as_slice-2.result.now < 2 ^ 64 = h refl in
-    let r : length c.as_slice.result.now ≡ length c.in_ok-made.made.rows.items = ap length c.as_slice.ensures.value in
-    let p : length c.as_slice-2.result.now ≡ length c.in_ok-pieces.pieces.items = ap length c.as_slice-2.ensures.value in
-    omega (arith, l, r, p)
+    let l : c.args.id + 1 + length c.as_slice-2.result.now + length c.as_slice-3.result.now + length c.as_slice-4.result.now < 2 ^ 64 = h refl in
+    let r : length c.as_slice-2.result.now ≡ length c.in_ok-made.made.rows.items = ap length c.as_slice-2.ensures.value in
+    let p : length c.as_slice-3.result.now ≡ length c.in_ok-pieces.pieces.items = ap length c.as_slice-3.ensures.value in
+    let k : length c.as_slice-4.result.now ≡ length c.in_ok-hists.hists.items = ap length c.as_slice-4.ensures.value in
+    omega (arith, l, r, p, k)
+
+-- the user is short, as every session's is
+short : (c : goal.After-drop-drawn-2) → is_short c.args.session.now.user ≡ true
+short c = c.in_ok-hists.ensures.short
 
 made : (c : goal.After-drop-drawn-2)
-    → MadeAll c.args.moment c.args.writing.now.table.now c.args.writing.now.space.now c.args.writing.now.counters c.args.changes.items c.in_ok-drawn.drawn.drawn.items c.len-count.result c.args.counters c.in_ok-space.space c.in_ok-made.made.rows.items c.in_ok-pieces.pieces.items
+    → MadeAll c.args.moment c.args.session.now.user c.args.writing.now.table.now c.args.writing.now.space.now c.args.writing.now.counters c.args.changes.items c.in_ok-drawn.drawn.drawn.items c.len-count.result c.args.counters c.in_ok-space.space c.in_ok-made.made.rows.items c.in_ok-pieces.pieces.items c.in_ok-hists.hists.items
 made c = record {
   count_is = counted_as c.args.changes c.len-count.result c.len-count.ensures;
   counters_are = c.requires.counters;
   space_is = c.in_ok-space.ensures;
   rows_are = c.in_ok-made.ensures.rows;
   pieces_are = c.in_ok-pieces.ensures;
+  hists_are =
+      c.in_ok-hists.ensures.hists
+      ∙ ap (λ xs. map records.Hist (new_hists c.args.writing.now.space.now.number c.args.writing.now.space.now.log_length c.args.moment c.args.session.now.user c.args.writing.now.counters.next_stamp c.args.writing.now.table.now xs)) c.as_slice.ensures.value;
 }
 
 newest : (c : goal.After-drop-drawn-2) → c.latest-version.result ≡ latest (parts_of c.args.image.now) c.args.session.now.space
@@ -44,15 +55,15 @@ redrawn c =
     (redrawn_is c.args.image.now c.latest-version.result c.args.writing.now.counters.next_stamp c.args.writing.now.table.now.number c.args.writing.now.table.now c.args.changes.items c.in_ok-made.made.pieces.items c.in_ok-drawn.drawn.dropped.items c.in_ok-drawn.drawn.drawn.items c.in_ok-made.ensures.pieces refl c.in_ok-drawn.ensures)
 
 changes : (c : goal.After-drop-drawn-2)
-    → c.changing.result.changes ≡ changes_batch c.args.image.now c.id_of_counters.result c.args.moment c.args.writing.now.counters c.unwrap-space_id.result c.args.writing.now.space.now c.in_ok-drawn.drawn.dropped.items c.args.id c.args.writing.now.table.now c.args.changes.items c.in_ok-drawn.drawn.drawn.items
+    → c.changing.result.changes ≡ changes_batch c.args.image.now c.id_of_counters.result c.args.moment c.args.session.now.user c.args.writing.now.counters c.unwrap-space_id.result c.args.writing.now.space.now c.in_ok-drawn.drawn.dropped.items c.args.id c.args.writing.now.table.now c.args.changes.items c.in_ok-drawn.drawn.drawn.items
 changes c =
     c.changing.ensures.changes ∙ c.in_ok-batch.ensures
-    ∙ here_is_all c.args.image.now c.args.moment c.args.writing.now.table.now c.args.writing.now.space.now c.args.writing.now.counters c.args.changes.items c.in_ok-drawn.drawn.drawn.items c.len-count.result c.args.counters c.in_ok-space.space c.in_ok-made.made.rows.items c.in_ok-pieces.pieces.items c.id_of_counters.result c.unwrap-space_id.result c.args.id
-    c.as_slice-3.result.now c.in_ok-drawn.drawn.dropped.items c.new.result (made c) c.as_slice-3.ensures.value c.new.ensures
+    ∙ here_is_all c.args.image.now c.args.moment c.args.session.now.user c.args.writing.now.table.now c.args.writing.now.space.now c.args.writing.now.counters c.args.changes.items c.in_ok-drawn.drawn.drawn.items c.len-count.result c.args.counters c.in_ok-space.space c.in_ok-made.made.rows.items c.in_ok-pieces.pieces.items c.in_ok-hists.hists.items c.id_of_counters.result c.unwrap-space_id.result c.args.id
+    c.as_slice-5.result.now c.in_ok-drawn.drawn.dropped.items c.new.result (made c) c.as_slice-5.ensures.value c.new.ensures
 
 pub returns-clause-does : goal.returns-clause-does
 returns-clause-does c =
-    wrote_all_here c.args.image.now c.args.moment c.args.session.now c.changing.result c.args.writing.now.table.now c.args.writing.now.space.now c.args.writing.now.counters c.args.changes.items c.in_ok-drawn.drawn.dropped.items c.in_ok-drawn.drawn.drawn.items c.id_of_counters.result c.unwrap-space_id.result c.args.id c.args.writing.now.rows c.requires.served
+    wrote_all_here c.args.image.now c.args.moment c.args.session.now c.changing.result c.args.writing.now.table.now c.args.writing.now.space.now c.args.writing.now.counters c.args.changes.items c.in_ok-drawn.drawn.dropped.items c.in_ok-drawn.drawn.drawn.items c.id_of_counters.result c.unwrap-space_id.result c.args.id c.args.writing.now.rows c.requires.served (short c)
     (record {
       sorted = c.id_of_counters.ensures.ascend;
       counters = counters_at c.args.writing.now.counters (parts_of c.args.image.now).counters (record_at c.args.image.now c.id_of_counters.result) c.requires.served.new.one c.id_of_counters.ensures.there;
@@ -64,5 +75,5 @@ returns-clause-does c =
 
 pub returns-clause-fit : goal.returns-clause-fit
 returns-clause-fit c =
-    fits_all_here c.args.image.now c.args.session.now.space c.args.moment (latest (parts_of c.args.image.now) c.args.session.now.space) c.args.writing.now.table.now c.args.writing.now.space.now c.args.writing.now.counters c.args.changes.items c.in_ok-drawn.drawn.drawn.items c.id_of_counters.result c.unwrap-space_id.result c.args.id
-    c.in_ok-drawn.drawn.dropped.items c.changing.result.changes c.requires.served.new c.requires.filled (redrawn c).draws (changes c)
+    fits_all_here c.args.image.now c.args.session.now.space c.args.moment (latest (parts_of c.args.image.now) c.args.session.now.space) c.args.session.now.user c.args.writing.now.table.now c.args.writing.now.space.now c.args.writing.now.counters c.args.changes.items c.in_ok-drawn.drawn.drawn.items c.id_of_counters.result c.unwrap-space_id.result c.args.id
+    c.in_ok-drawn.drawn.dropped.items c.changing.result.changes c.requires.served.new (short c) c.requires.filled (redrawn c).draws (changes c)
