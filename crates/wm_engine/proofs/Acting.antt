@@ -1,5 +1,5 @@
 -- What a plan that changes rows of a table does in the workspace that a session stands in.
-use Rattle.std.proofs.Common.{◌≡◌, ℕ, ◌+◌, nat_le, nat_lt, Bool, true, false, List, [], ◌∷◌, length, Option, Some, Result, Ok, Err, IfOk, refl, sym, ap, ◌∙◌, codes, Vec, Global, vec_len, arith}
+use Rattle.std.proofs.Common.{◌≡◌, ℕ, ◌+◌, nat_le, nat_lt, Bool, true, false, List, [], ◌∷◌, length, Option, Result, Ok, Err, IfOk, refl, sym, ap, ◌∙◌, codes, Vec, Global, vec_len, arith}
 use Rattle.wm_base.specs.declared.memory.Memory.{Memory}
 use Rattle.wm_base.specs.declared.refusal.Refusal.{Refusal}
 use Rattle.wm_dml.specs.Standing.{change_keys}
@@ -16,13 +16,13 @@ use Rattle.wm_state.specs.Standing.{SpaceFields}
 use Rattle.wm_state.specs.State.{State, Session, Workspace}
 use Rattle.wm_model.specs.Entered.{entries_of, written_all}
 use Rattle.wm_model.specs.Planning.{StandsAt, Stay}
-use Rattle.wm_model.specs.Step.{at_newest, change_limit, counter_limit, durably, at_its_end, not_built, write_all, write_ascending}
+use Rattle.wm_model.specs.Step.{at_newest, change_limit, counter_limit, durably, at_its_end, not_built, write_ascending}
 use Rattle.wm_model.proofs.Changing.{ascending, not_ascending}
 use Rattle.wm_model.proofs.Doing.{CountsAs, counts_as, does_nothing, spent_log}
 use Rattle.wm_model.proofs.Homes.{home_is}
 use Rattle.wm_model.proofs.Newest.{Acts, ComesTo, comes_to}
 use Rattle.wm_engine.proofs.Planning.{told}
-use Rattle.wm_engine.specs.Acting.{ActsAs, DoesAs, IsHome}
+use Rattle.wm_engine.specs.Acting.{DoesAs, IsHome}
 use Rattle.wm_engine.specs.Changing.{WritesAll}
 use Rattle.wm_engine.specs.Planning.{DoesIt}
 use Rattle.wm_engine.specs.Views.{answer_view, seating_view}

@@ -1,5 +1,5 @@
 -- What a plan that gives rows new periods does.
-use Rattle.std.proofs.Common.{◌≡◌, ℕ, ◌≤◌, ◌<◌, ◌-◌, ◌&&◌, Bool, true, List, [], ◌∷◌, length, get_or, take, drop, map, Option, Some, None, Result, IfOk, refl, sym, ap, subst, ◌∙◌, Vec, Global, vec_len, arith}
+use Rattle.std.proofs.Common.{◌≡◌, ℕ, ◌≤◌, ◌<◌, ◌-◌, ◌&&◌, true, List, [], ◌∷◌, length, get_or, take, drop, map, Option, Some, None, Result, IfOk, refl, sym, ap, subst, ◌∙◌, Vec, Global, vec_len, arith}
 use Rattle.std.proofs.lemmas.List.{take_all}
 use Rattle.std.specs.List.{list_all}
 use Rattle.std.specs.Option.{option_map, option_or}

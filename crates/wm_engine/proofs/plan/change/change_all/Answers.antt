@@ -1,8 +1,7 @@
 use Rattle.std.proofs.Common.{length, sym, ap, ◌∙◌}
 use Rattle.std.specs.List.{list_all}
 use Rattle.wm_base.specs.Views.{sets_view}
-use Rattle.wm_dml.specs.Changing.{replacing}
-use Rattle.wm_dml.specs.Moving.{moved_row, moves_of}
+use Rattle.wm_dml.specs.Moving.{moved_row}
 use Rattle.wm_dml.specs.declared.moving.Move.{Move}
 use Rattle.wm_model.proofs.Changing.{changes_moved, changes_replaced}
 use Rattle.wm_model.specs.Step.{change_all, move_all, write_ascending}

@@ -1,10 +1,10 @@
-use Rattle.std.proofs.Common.{◌≡◌, ◌∷◌, [], true, refl, sym, ap, subst, ◌∙◌}
+use Rattle.std.proofs.Common.{◌∷◌, [], sym, ap, ◌∙◌}
 use Rattle.std.specs.List.{list_all}
 use Rattle.wm_dml.specs.Changing.{added}
 use Rattle.wm_dml.specs.Standing.{change_lasts, is_change}
 use Rattle.wm_graph.specs.Parts.{parts_of}
 use Rattle.wm_state.specs.Standing.{latest}
-use Rattle.wm_model.specs.Step.{key_there, told_period, write_ascending}
+use Rattle.wm_model.specs.Step.{key_there, write_ascending}
 use Rattle.wm_engine.proofs.Acting.{does_so}
 use Rattle.wm_engine.proofs.Adding.{add_new, add_there}
 use Rattle.wm_engine.proofs.Filled.{added_filled}

@@ -1,4 +1,4 @@
-use Rattle.std.proofs.Common.{◌≡◌, List, ap, sym, ◌∙◌}
+use Rattle.std.proofs.Common.{List, ap, ◌∙◌}
 use Rattle.wm_base.specs.Period.{Span}
 use Rattle.wm_dml.specs.Moving.{clash_in}
 use Rattle.wm_dml.specs.declared.moving.Shift.{Shift}

@@ -1,4 +1,4 @@
-use Rattle.std.proofs.Common.{◌≡◌, ◌+◌, nat_le, nat_lt, true, false, length, sym, ap, ◌∙◌}
+use Rattle.std.proofs.Common.{◌+◌, nat_le, nat_lt, sym, ap, ◌∙◌}
 use Rattle.wm_dml.specs.Standing.{change_keys}
 use Rattle.wm_model.specs.Step.{counter_limit}
 use Rattle.wm_state.specs.Drawing.{are_sorted}
