@@ -23,7 +23,7 @@ use crate::planned::Planned;
 use crate::refuse::at_its_end;
 use crate::session::Session;
 use std::alloc::Global;
-use wm_base::Memory;
+use wm_base::{Memory, Name};
 use wm_dml::RowChange;
 use wm_image::Image;
 use wm_spec::record::{
@@ -122,18 +122,18 @@ fn piece_records(alloc: Global, pieces: Vec<PieceRecord>) -> Result<Vec<Record>,
     Ok(made)
 }
 
-/// The entry of the session's log at a position for a change.
+/// The entry of a workspace's log at a position for a change.
 fn hist_of(
     alloc: Global,
     moment: u64,
-    session: &Session,
+    user: &Name,
     space: u32,
     position: u64,
     stamp: u64,
     table: u16,
     change: &RowChange,
 ) -> Result<Hist, Memory>
-    ensures { IfOk result (λ hist. (t : Table) → table ≡ t.number → hist ≡ change_hist space position moment session.now.user stamp t change.now) }
+    ensures { IfOk result (λ hist. (t : Table) → table ≡ t.number → hist ≡ change_hist space position moment user.now stamp t change.now) }
 {
     Ok(Hist {
         space,
@@ -148,7 +148,7 @@ fn hist_of(
         kind: change.kind,
         gone: change.row.is_none(),
         moment,
-        user: session.user().copy(alloc)?,
+        user: user.copy(alloc)?,
     })
 }
 
@@ -166,14 +166,13 @@ fn hists_of(
     ensures short { is_short session.now.user ≡ true }
 {
     let mut made = Vec::new(alloc);
+    let user = session.user();
     let space = writing.space.number;
     let table = writing.table.number;
     let mut position = writing.space.log_length;
     let mut stamp = writing.counters.next_stamp;
     for change in changes {
-        let hist = hist_of(
-            alloc, moment, session, space, position, stamp, table, change,
-        )?;
+        let hist = hist_of(alloc, moment, user, space, position, stamp, table, change)?;
         made.push(Record::Hist(hist))?;
         position += 1;
         stamp += 1;
