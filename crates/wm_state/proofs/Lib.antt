@@ -54,6 +54,7 @@ pub mod EntryRecords
 pub mod PlannedWritten
 pub mod WrittenIds
 pub mod Logging
+pub mod Told
 pub mod PlannedMore
 pub mod DrawingHeld
 pub mod DrawingApart
