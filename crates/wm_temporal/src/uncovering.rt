@@ -63,7 +63,8 @@ fn first_past(news: &[Period], rest: usize, old: &Period) -> usize
     next
 }
 
-/// Puts what the new periods, which stand in order, leave free of one old period behind the list.
+/// Puts what the new periods leave free of one old period behind the list. Where they stand in order these are its longest
+/// parts that none of them covers; `free` says what else.
 pub fn push_free(into: &mut Vec<Period>, old: &Period, news: &[Period]) -> Result<(), Memory>
     ensures { OnOk result (into.new.items ≡ into.old.items ++ free old.now.from old.now.till news.now) }
 {
