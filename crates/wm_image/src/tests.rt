@@ -236,6 +236,22 @@ fn period(from: u64, till: u64) -> Option<Period> {
     Period::new(Instant::new(from)?, Instant::new(till)?)
 }
 
+/// How many periods the rows of the key stand over, and the first of them.
+fn spans_told(alloc: Global) -> Result<(usize, Option<Period>), Memory> {
+    let key = Key::single(alloc, Value::Num(7))?;
+    let Ok(image) = Image::load(alloc, small_store(alloc)?) else {
+        return Err(Memory);
+    };
+    let spans = image.spans_of_key(alloc, 2, 1, &key)?;
+    Ok((spans.len(), spans.as_slice().first().copied()))
+}
+
+#[test]
+fn periods_of_a_key_are_told(rt: HostRuntime) -> Result<(), Fail> {
+    assert_eq!(rt; spans_told(rt.alloc())?, (1, period(10, 200)));
+    Ok(())
+}
+
 /// The period that the last of the rows ends with.
 fn last_period(rows: &RowList) -> Option<Period> {
     match rows.as_slice().last()?.values.as_slice().last()? {
