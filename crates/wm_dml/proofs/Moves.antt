@@ -28,6 +28,14 @@ pub earliest_append : (best : Option Span) (xs ys : List Span) → earliest best
 earliest_append best [] ys = refl
 earliest_append best (x ∷ xs) ys = earliest_append (earlier best x) xs ys
 
+-- the first, if a row stays over it, and then the others
+pub staying_on : (shifts : List Shift) (q : Span) (qs : List Span) → staying shifts (q ∷ qs) ≡ staying shifts (q ∷ []) ++ staying shifts qs
+staying_on shifts q qs = by_test (list_any (λ (s : Shift). equals s.old q) shifts)
+  where
+    by_test : (old : Bool) → cond (not old) (q ∷ staying shifts qs) (staying shifts qs) ≡ cond (not old) (q ∷ []) [] ++ staying shifts qs
+    by_test true = refl
+    by_test false = refl
+
 -- the earliest of what the first new period shares, and then of what the others do
 past_first : (best : Option Span) (stay : List Span) (p : Span) (ps : List Span) →
     earliest best (clashes stay (p ∷ ps)) ≡ earliest (earliest (earliest best (shared_with p stay)) (shared_with p ps)) (clashes stay ps)

@@ -1,5 +1,5 @@
 //! What an UPDATE writes that gives rows new periods.
-ghost use Rattle.std.specs.Prelude.{◌≡◌, ◌++◌, Bool, true, List, None, map, unwrap_or, IfOk, OnOk};
+ghost use Rattle.std.specs.Prelude.{◌≡◌, ◌∷◌, ◌++◌, [], Bool, true, List, None, map, unwrap_or, IfOk, OnOk};
 ghost use Rattle.std.specs.List.{flat_map, list_all, list_any};
 ghost use Rattle.std.specs.Option.{option_and_then};
 ghost use Rattle.wm_base.specs.Period.{Span, always, equals};
@@ -168,7 +168,18 @@ fn earlier(best: Option<Period>, other: Period) -> Option<Period>
     }
 }
 
-/// Those of the periods over which rows of a key stand that are periods of rows that stay.
+/// Puts a period over which a row of a key stands behind others, if the row stays.
+fn push_staying(stay: &mut Vec<Period>, shifts: &[Shift], span: &Period) -> Result<(), Memory>
+    ensures { OnOk result (stay.new.items ≡ stay.old.items ++ staying shifts.now (span.now ∷ [])) }
+{
+    if is_old(shifts, span) {
+        return Ok(());
+    }
+    stay.push(*span)?;
+    Ok(())
+}
+
+/// The periods of the rows that stay, of those over which rows of a key stand.
 fn staying_spans(
     alloc: Global,
     shifts: &[Shift],
@@ -178,9 +189,7 @@ fn staying_spans(
 {
     let mut stay = Vec::new(alloc);
     for span in spans {
-        if !is_old(shifts, span) {
-            stay.push(*span)?;
-        }
+        push_staying(&mut stay, shifts, span)?;
     }
     Ok(stay)
 }
