@@ -4,7 +4,7 @@ use Rattle.std.proofs.lemmas.List.{take_all}
 use Rattle.std.proofs.lemmas.List.Folds.{list_all-append, list_all-map}
 use Rattle.std.specs.Prelude.{Option, not, ◌&&◌}
 use Rattle.std.specs.List.{list_all, list_any, flat_map}
-use Rattle.wm_base.specs.Period.{Span, equals, overlaps, shared}
+use Rattle.wm_base.specs.Period.{Span, equals}
 use Rattle.wm_base.specs.Trees.{Set}
 use Rattle.wm_base.specs.declared.row.Row.{Row}
 use Rattle.wm_base.specs.declared.value.Value.{Value}

@@ -15,4 +15,4 @@ loop-one-preserved c = λ key.
     c.loop-one.invariant key
     ∙ ap (λ ss. kept key ++ ss) (at_drop_more (shifts_of key) c.args.moves.now c.loop-one.one-index c.one-item.result c.loop-one-test.true ∙ ap (λ (m : Move). shifts_of key (m ∷ rest)) (sym c.one-item.is))
     ∙ one_kept c.loop-one.shifts c.push.new.self c.one-item.result rest key
-      (c.in_ok-push.ensures key ∙ ap (λ (k : List Value). cond (is_eq (key_order k key)) (kept k ++ c.one-item.result.shift ∷ []) (kept key)) c.in_ok-copy.ensures)
+    (c.in_ok-push.ensures key ∙ ap (λ (k : List Value). cond (is_eq (key_order k key)) (kept k ++ c.one-item.result.shift ∷ []) (kept key)) c.in_ok-copy.ensures)
