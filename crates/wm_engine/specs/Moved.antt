@@ -1,4 +1,4 @@
--- What rows that move meet, of those that a version holds.
+-- What rows that move overlap, of those that a version holds.
 use Rattle.std.specs.Prelude.{ℕ, ◌≡◌, List, Option}
 use Rattle.std.specs.Option.{option_map}
 use Rattle.wm_base.specs.declared.value.Value.{Value}

@@ -42,7 +42,7 @@ fn clash_at(
     Ok(clash_in(shifts.as_slice(), spans.as_slice()))
 }
 
-/// So of the first key that has one, with the key.
+/// The first key that has such a part, with that part.
 fn first_clash(
     alloc: Global,
     image: &Image,
