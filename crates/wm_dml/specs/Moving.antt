@@ -1,9 +1,13 @@
 -- What an UPDATE makes of rows to which it gives new periods: each row stands over its new period, and is gone where it stood and no new
 -- period of its key is.
-use Rattle.std.specs.Prelude.{Bool, not, if◌then◌else◌, List, [], ◌∷◌, ◌++◌, map, filter, unwrap_or, bytes_eq, Option, Some, None}
+use Rattle.std.specs.Prelude.{Bool, not, if◌then◌else◌, List, [], ◌∷◌, ◌++◌, map, filter, unwrap_or, bytes_eq, Option, Some, None, option_map}
 use Rattle.std.specs.List.{find, flat_map, list_any}
 use Rattle.std.specs.Option.{option_and_then}
+use Rattle.std.specs.BTreeMap.{is_at}
+use Rattle.std.specs.Map.{lookup}
 use Rattle.std.specs.Ordering.{nat_cmp, ordering_then, is_eq, is_lt}
+use Rattle.std.specs.declared.alloc.Global.{Global}
+use Rattle.std.specs.declared.vec.Vec.{Vec}
 use Rattle.wm_base.specs.Key.{key_order}
 use Rattle.wm_base.specs.declared.kind.Kind.TheVariants.{Update, Delete}
 use Rattle.wm_base.specs.declared.row.Row.{Row}
@@ -36,6 +40,7 @@ abbrev pub moves_of : Table → List Set → List Row → List (List Value) → 
 moves_of t sets (old ∷ olds) (row ∷ rows) = move_of t sets old row ∷ moves_of t sets olds rows
 moves_of t sets _ _ = []
 
+-- the key of the row is this one
 abbrev pub has_key : List Value → Move → Bool
 has_key key m = is_eq (key_order m.key key)
 
@@ -43,12 +48,18 @@ has_key key m = is_eq (key_order m.key key)
 abbrev pub shifts_of : List Value → List Move → List Shift
 shifts_of key moves = map (λ (m : Move). m.shift) (filter (has_key key) moves)
 
+-- where rows will stand
 abbrev pub news_of : List Shift → List Span
 news_of shifts = map (λ (s : Shift). s.new) shifts
 
--- ---- what new periods meet
+-- the shifts that are kept under a key
+abbrev pub shifts_under : List (List Value × Vec Shift Global) → List Value → List Shift
+shifts_under entries key = unwrap_or (option_map (λ v. v.items) (lookup (is_at (key_order key)) entries)) []
 
--- of the periods over which rows of the key stand those of the rows that do not move
+-- ---- what new periods overlap
+
+-- of the periods over which rows of the key stand those of the rows that do not move: a row is known by its period, for rows of one
+-- key have different ones
 abbrev pub staying : List Shift → List Span → List Span
 staying shifts spans = filter (λ p. not (list_any (λ (s : Shift). equals s.old p) shifts)) spans
 
@@ -87,14 +98,15 @@ moved_row m = record { key = m.key; period = m.shift.new; row = Some m.row; kind
 abbrev pub left_part : Move → Span → RowChange
 left_part m part = record { key = m.key; period = part; row = let nothing : Option (List Value) = None in nothing; kind = Delete }
 
+-- by from and then till
 abbrev pub begins_before : Span → Span → Bool
 begins_before p q = is_lt (span_order p q)
 
--- so over each longest part of it that no new period of the key covers
+-- the same for each longest part of it that no new period of the key covers
 abbrev pub left_parts : List Move → Move → List RowChange
 left_parts moves m = map (left_part m) (free m.shift.old.from m.shift.old.till (sorted begins_before (news_of (shifts_of m.key moves))))
 
--- by key and from
+-- a change stands before another: by key and from
 abbrev pub goes_before : RowChange → RowChange → Bool
 goes_before x y = is_lt (ordering_then (key_order x.key y.key) (nat_cmp x.period.from y.period.from))
 

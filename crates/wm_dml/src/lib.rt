@@ -9,6 +9,7 @@ mod faults;
 mod keys;
 mod moving;
 mod replaced_rows;
+mod shifts;
 mod shown;
 #[cfg(test)]
 mod tests;
@@ -19,7 +20,8 @@ pub use change::RowChange;
 pub use choosing::chosen;
 pub use deleting::deleted;
 pub use faults::rows_fault;
-pub use moving::{Move, Shift, clash_in, moved, moves_of, shifts_of};
+pub use moving::{Move, Shift, clash_in, moved, moves_of};
 pub use replaced_rows::replacing;
+pub use shifts::Shifts;
 pub use shown::{all_overlap, declared_values, row_period};
 pub use updated::{sets_period, updated_rows};

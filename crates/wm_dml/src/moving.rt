@@ -1,9 +1,10 @@
 //! What an UPDATE writes that gives rows new periods.
-ghost use Rattle.std.specs.Prelude.{◌≡◌, ◌∷◌, ◌++◌, [], Bool, true, map, unwrap_or, IfOk, OnOk};
+ghost use Rattle.std.specs.Prelude.{◌≡◌, ◌++◌, Bool, true, List, None, map, unwrap_or, IfOk, OnOk};
 ghost use Rattle.std.specs.List.{flat_map, list_all, list_any};
 ghost use Rattle.std.specs.Option.{option_and_then};
 ghost use Rattle.wm_base.specs.Period.{Span, always, equals};
 ghost use Rattle.wm_base.specs.Trees.{Set as SetTree};
+ghost use Rattle.wm_base.specs.declared.value.Value.{Value as OneValue};
 ghost use Rattle.wm_base.specs.Views.{expr_view, sets_view};
 ghost use Rattle.wm_select.specs.Sorting.{sorted};
 ghost use Rattle.wm_spec.specs.Expressions.{value_of, has_no_empty_period};
@@ -13,11 +14,12 @@ ghost use Rattle.wm_dml.specs.Changing.{own_columns};
 ghost use Rattle.wm_dml.specs.declared.change.RowChange.{RowChange as ChangeOf};
 ghost use Rattle.wm_dml.specs.declared.moving.Move.{Move as MoveOf};
 ghost use Rattle.wm_dml.specs.declared.moving.Shift.{Shift as ShiftOf};
-ghost use Rattle.wm_dml.specs.Moving.{new_period as period_for_row, move_of as move_of_row, moves_of as moves_of_rows, shifts_of as shifts_of_key, news_of, staying, shared_with, earlier as earlier_of, earliest, clash_in as clash_of, moved_row, begins_before, left_part, left_parts, goes_before, moving as moving_of};
+ghost use Rattle.wm_dml.specs.Moving.{new_period as period_for_row, move_of as move_of_row, moves_of as moves_of_rows, shifts_of, shifts_under, news_of, staying, shared_with, earlier as earlier_of, earliest, clashes, clash_in as clash_of, moved_row, begins_before, left_part, left_parts, goes_before, moving as moving_of};
 ghost use Rattle.wm_dml.specs.Standing.{change_lasts, is_change, stands_in};
 
 use crate::change::RowChange;
 use crate::keys::row_key;
+use crate::shifts::Shifts;
 use crate::shown::row_period;
 use crate::updated::valid_set;
 use std::alloc::Global;
@@ -144,19 +146,6 @@ pub fn moves_of(
     Ok(moves)
 }
 
-/// Where the rows of a key stood and will stand.
-pub fn shifts_of(alloc: Global, key: &Key, moves: &[Move]) -> Result<Vec<Shift>, Memory>
-    ensures { IfOk result (λ shifts. shifts.items ≡ shifts_of_key key.now moves.now) }
-{
-    let mut shifts = Vec::new(alloc);
-    for one in moves {
-        if one.key.compare(key).is_eq() {
-            shifts.push(one.shift)?;
-        }
-    }
-    Ok(shifts)
-}
-
 /// Whether a row that moves stood over the period.
 fn is_old(shifts: &[Shift], span: &Period) -> bool
     ensures { result ≡ list_any (λ (s : ShiftOf). equals s.old span.now) shifts.now }
@@ -179,63 +168,45 @@ fn earlier(best: Option<Period>, other: Period) -> Option<Period>
     }
 }
 
-/// The earlier of a period and of what another shares with one, if a row stays over that.
-fn earlier_staying(
-    best: Option<Period>,
-    period: &Period,
-    shifts: &[Shift],
-    span: &Period,
-) -> Option<Period>
-    ensures { result ≡ earliest best (shared_with period.now (staying shifts.now (span.now ∷ []))) }
-{
-    if is_old(shifts, span) {
-        return best;
-    }
-    match period.cut(span) {
-        Some(shared) => earlier(best, shared),
-        None => best,
-    }
-}
-
-/// The earliest of a period and of what another shares with the rows that stay.
-fn earliest_staying(
-    best: Option<Period>,
-    period: &Period,
+/// Those of the periods over which rows of a key stand that are periods of rows that stay.
+fn staying_spans(
+    alloc: Global,
     shifts: &[Shift],
     spans: &[Period],
-) -> Option<Period>
-    ensures { result ≡ earliest best (shared_with period.now (staying shifts.now spans.now)) }
+) -> Result<Vec<Period>, Memory>
+    ensures { IfOk result (λ stay. stay.items ≡ staying shifts.now spans.now) }
+{
+    let mut stay = Vec::new(alloc);
+    for span in spans {
+        if !is_old(shifts, span) {
+            stay.push(*span)?;
+        }
+    }
+    Ok(stay)
+}
+
+/// The earliest of a period and of what another shares with some.
+fn earliest_shared(best: Option<Period>, period: &Period, spans: &[Period]) -> Option<Period>
+    ensures { result ≡ earliest best (shared_with period.now spans.now) }
 {
     let mut best = best;
     for span in spans {
-        best = earlier_staying(best, period, shifts, span);
-    }
-    best
-}
-
-/// The earliest of a period and of what another shares with new ones.
-fn earliest_new(best: Option<Period>, period: &Period, shifts: &[Shift]) -> Option<Period>
-    ensures { result ≡ earliest best (shared_with period.now (news_of shifts.now)) }
-{
-    let mut best = best;
-    for shift in shifts {
-        if let Some(shared) = period.cut(&shift.new) {
+        if let Some(shared) = period.cut(span) {
             best = earlier(best, shared);
         }
     }
     best
 }
 
-/// The earliest part that a new period of a key shares with a row that stays or with another new period, where rows of the
-/// key stand over these periods; None exactly where there is none.
-pub fn clash_in(shifts: &[Shift], spans: &[Period]) -> Option<Period>
-    ensures { result ≡ clash_of shifts.now spans.now }
+/// The earliest part that a new period shares with one that stays or with another new one.
+fn earliest_clash(stay: &[Period], news: &[Period]) -> Option<Period>
+    ensures { result ≡ earliest None (clashes stay.now news.now) }
 {
     let mut best = None;
-    let mut left = shifts;
-    while let [shift, rest @ ..] = left {
-        best = earliest_staying(best, &shift.new, shifts, spans);
-        best = earliest_new(best, &shift.new, rest);
+    let mut left = news;
+    while let [period, rest @ ..] = left {
+        best = earliest_shared(best, period, stay);
+        best = earliest_shared(best, period, rest);
         left = rest;
     }
     best
@@ -252,6 +223,20 @@ fn new_periods(alloc: Global, shifts: &[Shift]) -> Result<Vec<Period>, Memory>
     Ok(news)
 }
 
+/// The earliest part that a new period of a key shares with a row that stays or with another new period, where rows of the
+/// key stand over these periods; None exactly where there is none.
+pub fn clash_in(
+    alloc: Global,
+    shifts: &[Shift],
+    spans: &[Period],
+) -> Result<Option<Period>, Memory>
+    ensures { IfOk result (λ found. found ≡ clash_of shifts.now spans.now) }
+{
+    let stay = staying_spans(alloc, shifts, spans)?;
+    let news = new_periods(alloc, shifts)?;
+    Ok(earliest_clash(stay.as_slice(), news.as_slice()))
+}
+
 /// Puts periods in order, by from and then till.
 fn sort_periods(periods: &mut Vec<Period>) -> Result<(), Memory>
     ensures { OnOk result (periods.new.items ≡ sorted begins_before periods.old.items) }
@@ -261,11 +246,10 @@ fn sort_periods(periods: &mut Vec<Period>) -> Result<(), Memory>
 }
 
 /// What the new periods of the key leave of the old period of a row, part by part.
-fn parts_left(alloc: Global, moves: &[Move], one: &Move) -> Result<Vec<Period>, Memory>
-    ensures { IfOk result (λ parts. parts.items ≡ free one.now.shift.old.from one.now.shift.old.till (sorted begins_before (news_of (shifts_of_key one.now.key moves.now)))) }
+fn parts_left(alloc: Global, shifts: &[Shift], one: &Move) -> Result<Vec<Period>, Memory>
+    ensures { IfOk result (λ parts. parts.items ≡ free one.now.shift.old.from one.now.shift.old.till (sorted begins_before (news_of shifts.now))) }
 {
-    let shifts = shifts_of(alloc, &one.key, moves)?;
-    let mut news = new_periods(alloc, shifts.as_slice())?;
+    let mut news = new_periods(alloc, shifts)?;
     sort_periods(&mut news)?;
     let mut parts = Vec::new(alloc);
     push_free(&mut parts, &one.shift.old, news.as_slice())?;
@@ -277,6 +261,7 @@ fn gone_from(alloc: Global, one: &Move, part: Period) -> Result<RowChange, Memor
     ensures exact { IfOk result (λ change. change ≡ left_part one.now part) }
     ensures lasting { IfOk result (λ change. change_lasts change ≡ true) }
 {
+    // Its end is at most END: the type says so.
     let _till = part.till();
     Ok(RowChange {
         key: one.key.copy(alloc)?,
@@ -290,28 +275,29 @@ fn gone_from(alloc: Global, one: &Move, part: Period) -> Result<RowChange, Memor
 fn push_left(
     alloc: Global,
     changes: &mut Vec<RowChange>,
-    moves: &[Move],
+    shifts: &[Shift],
     one: &Move,
 ) -> Result<(), Memory>
     requires { list_all change_lasts changes.old.items ≡ true }
-    ensures exact { OnOk result (changes.new.items ≡ changes.old.items ++ left_parts moves.now one.now) }
+    ensures exact { OnOk result (changes.new.items ≡ changes.old.items ++ map (left_part one.now) (free one.now.shift.old.from one.now.shift.old.till (sorted begins_before (news_of shifts.now)))) }
     ensures lasting { OnOk result (list_all change_lasts changes.new.items ≡ true) }
 {
-    let parts = parts_left(alloc, moves, one)?;
+    let parts = parts_left(alloc, shifts, one)?;
     for part in parts.as_slice() {
         changes.push(gone_from(alloc, one, *part)?)?;
     }
     Ok(())
 }
 
-/// So for all rows that move.
-fn all_left(alloc: Global, moves: &[Move]) -> Result<Vec<RowChange>, Memory>
+/// The same for all rows that move.
+fn all_left(alloc: Global, moves: &[Move], shifts: &Shifts) -> Result<Vec<RowChange>, Memory>
+    requires { (key : List OneValue) → shifts_under shifts.now key ≡ shifts_of key moves.now }
     ensures exact { IfOk result (λ changes. changes.items ≡ flat_map (left_parts moves.now) moves.now) }
     ensures lasting { IfOk result (λ changes. list_all change_lasts changes.items ≡ true) }
 {
     let mut changes = Vec::new(alloc);
     for one in moves {
-        push_left(alloc, &mut changes, moves, one)?;
+        push_left(alloc, &mut changes, shifts.of(&one.key), one)?;
     }
     Ok(changes)
 }
@@ -322,6 +308,7 @@ fn over_new_period(one: Move) -> RowChange
     ensures lasting { change_lasts result ≡ true }
 {
     let Move { key, shift, row } = one;
+    // Its end is at most END: the type says so.
     let _till = shift.new.till();
     RowChange {
         key,
@@ -357,13 +344,18 @@ fn sort_changes(changes: &mut Vec<RowChange>) -> Result<(), Memory>
 
 /// What the UPDATE writes of rows that move, by key and from: each row over its new period, and no row over what the new
 /// periods of its key leave of its old one.
-pub fn moved(alloc: Global, moves: Vec<Move>) -> Result<Vec<RowChange>, Memory>
+pub fn moved(
+    alloc: Global,
+    moves: Vec<Move>,
+    shifts: &Shifts,
+) -> Result<Vec<RowChange>, Memory>
+    requires { (key : List OneValue) → shifts_under shifts.now key ≡ shifts_of key moves.items }
     ensures exact { IfOk result (λ changes. changes.items ≡ moving_of moves.items) }
     ensures lasting { IfOk result (λ changes. list_all change_lasts changes.items ≡ true) }
     // What holds of each row over its new period, and then of a part of the old one, holds of all that is written.
     ensures all { IfOk result (λ changes. (holds : ChangeOf → Bool) → list_all (λ (m : MoveOf). holds (moved_row m)) moves.items ≡ true → ((m : MoveOf) (part : Span) → holds (moved_row m) ≡ true → holds (left_part m part) ≡ true) → list_all holds changes.items ≡ true) }
 {
-    let mut changes = all_left(alloc, moves.as_slice())?;
+    let mut changes = all_left(alloc, moves.as_slice(), shifts)?;
     push_moved(&mut changes, moves)?;
     sort_changes(&mut changes)?;
     Ok(changes)

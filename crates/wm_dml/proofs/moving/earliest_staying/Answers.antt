@@ -1,9 +1,0 @@
-use Rattle.std.proofs.Common.{◌+◌, drop, arith}
-use Rattle.std.proofs.lemmas.Grind.{common_steps}
-use Rattle.wm_dml.proofs.Moves.{past_span}
-use Rattle.wm_dml.proofs.moving.earliest_staying.Goals as goal
-
-pub loop-span-preserved : goal.loop-span-preserved
-loop-span-preserved c =
-    let e = past_span c.loop-span.best c.args.period.now c.args.shifts.now c.span-item.result (drop (c.loop-span.span-index + 1) c.args.spans.now) in
-    grind (arith, common_steps)
