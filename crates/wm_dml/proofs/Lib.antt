@@ -11,3 +11,4 @@ pub mod Held
 pub mod Plain
 pub mod Moves
 pub mod Shifted
+pub mod Kept

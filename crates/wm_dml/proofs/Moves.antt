@@ -1,10 +1,10 @@
--- What new periods meet, and what is written of rows that move.
+-- What new periods overlap, and what is written of rows that move.
 use Rattle.std.proofs.Common.{◌≡◌, ◌≤◌, ◌-◌, Bool, true, false, cond, List, [], ◌∷◌, ◌++◌, length, get_or, take, drop, map, refl, sym, ap, ◌∙◌, arith}
 use Rattle.std.proofs.lemmas.List.{take_all}
 use Rattle.std.proofs.lemmas.List.Folds.{list_all-append, list_all-map}
 use Rattle.std.specs.Prelude.{Option, not, ◌&&◌}
 use Rattle.std.specs.List.{list_all, list_any, flat_map}
-use Rattle.wm_base.specs.Period.{Span, equals, overlaps, shared}
+use Rattle.wm_base.specs.Period.{Span, equals}
 use Rattle.wm_base.specs.Trees.{Set}
 use Rattle.wm_base.specs.declared.row.Row.{Row}
 use Rattle.wm_base.specs.declared.value.Value.{Value}
@@ -22,43 +22,36 @@ use Rattle.wm_dml.specs.declared.moving.Move.{Move}
 use Rattle.wm_dml.specs.declared.moving.Shift.{Shift}
 use Rattle.wm_dml.proofs.Changed.{same_key}
 
--- ---- what new periods meet
+-- ---- what new periods overlap
 
 pub earliest_append : (best : Option Span) (xs ys : List Span) → earliest best (xs ++ ys) ≡ earliest (earliest best xs) ys
 earliest_append best [] ys = refl
 earliest_append best (x ∷ xs) ys = earliest_append (earlier best x) xs ys
 
--- the earliest of what is shared with the first, if a row stays over it, and then with the others
-pub past_span : (best : Option Span) (p : Span) (shifts : List Shift) (q : Span) (qs : List Span) →
-    earliest best (shared_with p (staying shifts (q ∷ qs))) ≡ earliest (earliest best (shared_with p (staying shifts (q ∷ [])))) (shared_with p (staying shifts qs))
-past_span best p shifts q qs = by_test (list_any (λ (s : Shift). equals s.old q) shifts)
+-- the first, if a row stays over it, and then the others
+pub staying_on : (shifts : List Shift) (q : Span) (qs : List Span) → staying shifts (q ∷ qs) ≡ staying shifts (q ∷ []) ++ staying shifts qs
+staying_on shifts q qs = by_test (list_any (λ (s : Shift). equals s.old q) shifts)
   where
-    meets : (b : Bool) (rest : List Span) → earliest best (cond b (shared p q ∷ rest) rest) ≡ earliest (earliest best (cond b (shared p q ∷ []) [])) rest
-    meets true rest = refl
-    meets false rest = refl
-
-    by_test : (old : Bool) →
-        earliest best (shared_with p (cond (not old) (q ∷ staying shifts qs) (staying shifts qs)))
-        ≡ earliest (earliest best (shared_with p (cond (not old) (q ∷ []) []))) (shared_with p (staying shifts qs))
+    by_test : (old : Bool) → cond (not old) (q ∷ staying shifts qs) (staying shifts qs) ≡ cond (not old) (q ∷ []) [] ++ staying shifts qs
     by_test true = refl
-    by_test false = meets (overlaps p q) (shared_with p (staying shifts qs))
+    by_test false = refl
 
--- the earliest of what the first new period meets, and then of what the others do
-past_shift : (best : Option Span) (stay : List Span) (p : Span) (ps : List Span) →
+-- the earliest of what the first new period shares, and then of what the others do
+past_first : (best : Option Span) (stay : List Span) (p : Span) (ps : List Span) →
     earliest best (clashes stay (p ∷ ps)) ≡ earliest (earliest (earliest best (shared_with p stay)) (shared_with p ps)) (clashes stay ps)
-past_shift best stay p ps =
+past_first best stay p ps =
     earliest_append best (shared_with p stay ++ shared_with p ps) (clashes stay ps) ∙ ap (λ o. earliest o (clashes stay ps)) (earliest_append best (shared_with p stay) (shared_with p ps))
 
--- so where the first is read, and the others are cut off behind it
-pub past_front : (best : Option Span) (stay : List Span) (shifts : List Shift) (s : Shift) → 1 ≤ length shifts → s ≡ get_or shifts 0 s →
-    earliest best (clashes stay (news_of shifts))
-    ≡ earliest (earliest (earliest best (shared_with s.new stay)) (shared_with s.new (news_of (take (length shifts - 1) (drop 1 shifts))))) (clashes stay (news_of (take (length shifts - 1) (drop 1 shifts))))
-past_front best stay [] s some is = absurd (omega (arith, some))
-past_front best stay (x ∷ xs) s some is =
-    let others : take (length (x ∷ xs) - 1) xs ≡ xs = take_all (length (x ∷ xs) - 1) xs (omega arith) in
-    past_shift best stay x.new (news_of xs)
-    ∙ ap (λ (y : Shift). earliest (earliest (earliest best (shared_with y.new stay)) (shared_with y.new (news_of xs))) (clashes stay (news_of xs))) (sym is)
-    ∙ ap (λ (ys : List Shift). earliest (earliest (earliest best (shared_with s.new stay)) (shared_with s.new (news_of ys))) (clashes stay (news_of ys))) (sym others)
+-- the same where the first is read, and the others are cut off behind it
+pub past_front : (best : Option Span) (stay news : List Span) (p : Span) → 1 ≤ length news → p ≡ get_or news 0 p →
+    earliest best (clashes stay news)
+    ≡ earliest (earliest (earliest best (shared_with p stay)) (shared_with p (take (length news - 1) (drop 1 news)))) (clashes stay (take (length news - 1) (drop 1 news)))
+past_front best stay [] p some is = absurd (omega (arith, some))
+past_front best stay (q ∷ qs) p some is =
+    let others : take (length (q ∷ qs) - 1) qs ≡ qs = take_all (length (q ∷ qs) - 1) qs (omega arith) in
+    past_first best stay q qs
+    ∙ ap (λ r. earliest (earliest (earliest best (shared_with r stay)) (shared_with r qs)) (clashes stay qs)) (sym is)
+    ∙ ap (λ rs. earliest (earliest (earliest best (shared_with p stay)) (shared_with p rs)) (clashes stay rs)) (sym others)
 
 -- ---- new rows over new periods
 

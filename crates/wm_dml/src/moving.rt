@@ -1,5 +1,5 @@
 //! What an UPDATE writes that gives rows new periods.
-ghost use Rattle.std.specs.Prelude.{◌≡◌, ◌++◌, Bool, true, List, None, map, unwrap_or, IfOk, OnOk};
+ghost use Rattle.std.specs.Prelude.{◌≡◌, ◌∷◌, ◌++◌, [], Bool, true, List, None, map, unwrap_or, IfOk, OnOk};
 ghost use Rattle.std.specs.List.{flat_map, list_all, list_any};
 ghost use Rattle.std.specs.Option.{option_and_then};
 ghost use Rattle.wm_base.specs.Period.{Span, always, equals};
@@ -168,19 +168,24 @@ fn earlier(best: Option<Period>, other: Period) -> Option<Period>
     }
 }
 
-/// Those of the periods over which rows of a key stand that are periods of rows that stay.
-fn staying_spans(
-    alloc: Global,
-    shifts: &[Shift],
-    spans: &[Period],
-) -> Result<Vec<Period>, Memory>
+/// Puts a period over which a row of a key stands behind others, if the row stays.
+fn push_staying(stay: &mut Vec<Period>, shifts: &[Shift], span: &Period) -> Result<(), Memory>
+    ensures { OnOk result (stay.new.items ≡ stay.old.items ++ staying shifts.now (span.now ∷ [])) }
+{
+    if is_old(shifts, span) {
+        return Ok(());
+    }
+    stay.push(*span)?;
+    Ok(())
+}
+
+/// The periods of the rows that stay, of those over which rows of a key stand.
+fn staying_spans(alloc: Global, shifts: &[Shift], spans: &[Period]) -> Result<Vec<Period>, Memory>
     ensures { IfOk result (λ stay. stay.items ≡ staying shifts.now spans.now) }
 {
     let mut stay = Vec::new(alloc);
     for span in spans {
-        if !is_old(shifts, span) {
-            stay.push(*span)?;
-        }
+        push_staying(&mut stay, shifts, span)?;
     }
     Ok(stay)
 }
@@ -225,11 +230,7 @@ fn new_periods(alloc: Global, shifts: &[Shift]) -> Result<Vec<Period>, Memory>
 
 /// The earliest part that a new period of a key shares with a row that stays or with another new period, where rows of the
 /// key stand over these periods; None exactly where there is none.
-pub fn clash_in(
-    alloc: Global,
-    shifts: &[Shift],
-    spans: &[Period],
-) -> Result<Option<Period>, Memory>
+pub fn clash_in(alloc: Global, shifts: &[Shift], spans: &[Period]) -> Result<Option<Period>, Memory>
     ensures { IfOk result (λ found. found ≡ clash_of shifts.now spans.now) }
 {
     let stay = staying_spans(alloc, shifts, spans)?;
@@ -344,11 +345,7 @@ fn sort_changes(changes: &mut Vec<RowChange>) -> Result<(), Memory>
 
 /// What the UPDATE writes of rows that move, by key and from: each row over its new period, and no row over what the new
 /// periods of its key leave of its old one.
-pub fn moved(
-    alloc: Global,
-    moves: Vec<Move>,
-    shifts: &Shifts,
-) -> Result<Vec<RowChange>, Memory>
+pub fn moved(alloc: Global, moves: Vec<Move>, shifts: &Shifts) -> Result<Vec<RowChange>, Memory>
     requires { (key : List OneValue) → shifts_under shifts.now key ≡ shifts_of key moves.items }
     ensures exact { IfOk result (λ changes. changes.items ≡ moving_of moves.items) }
     ensures lasting { IfOk result (λ changes. list_all change_lasts changes.items ≡ true) }

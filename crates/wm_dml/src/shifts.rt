@@ -21,10 +21,10 @@ impl Model for Shifts {
     ghost use Rattle.std.specs.Prelude.{List};
     ghost use Rattle.std.specs.declared.alloc.Global.{Global};
     ghost use Rattle.std.specs.declared.vec.Vec.{Vec};
-    ghost use Rattle.wm_base.specs.declared.value.Value.{Value};
+    ghost use Rattle.wm_base.specs.declared.value.Value.{Value as OneValue};
     ghost use Rattle.wm_dml.specs.declared.moving.Shift.{Shift as OneShift};
 
-    ghost Value = { List (List Value × Vec OneShift Global) };
+    ghost Value = { List (List OneValue × Vec OneShift Global) };
 
     ghost view = { λ s. s.by_key.entries };
 }
@@ -41,7 +41,7 @@ impl Shifts {
 
     /// Puts one behind the others of a key.
     fn push(&mut self, alloc: Global, key: Key, shift: Shift) -> Result<(), Memory>
-        ensures { OnOk result ((q : List Value) → shifts_under self.new q ≡ (if is_eq (key_order key q) then shifts_under self.old q ++ shift ∷ [] else shifts_under self.old q)) }
+        ensures { OnOk result ((q : List Value) → shifts_under self.new q ≡ (if is_eq (key_order key q) then shifts_under self.old key ++ shift ∷ [] else shifts_under self.old q)) }
     {
         let mut shifts = self.by_key.remove(&key).unwrap_or(Vec::new(alloc));
         shifts.push(shift)?;

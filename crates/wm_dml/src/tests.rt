@@ -192,6 +192,6 @@ fn periods_are_cut(rt: HostRuntime) -> Result<(), Fail> {
 fn rows_move(rt: HostRuntime) -> Result<(), Fail> {
     assert!(rt; part_is_gone(rt.alloc())?);
     assert!(rt; own_period_is_read(rt.alloc())?);
-    assert!(rt; new_periods_clash());
+    assert!(rt; new_periods_clash(rt.alloc())?);
     Ok(())
 }

@@ -2,7 +2,7 @@
 use crate::tests::periods::is_change;
 use crate::tests::tables::{period, row_over, table_with, values};
 use crate::tests::trees::set;
-use crate::{Move, RowChange, Shift, clash_in, moved, moves_of, shifts_of};
+use crate::{Move, RowChange, Shift, Shifts, clash_in, moved, moves_of};
 use std::alloc::Global;
 use std::mem::ManuallyDrop;
 use wm_base::tree::statement::Set;
@@ -24,7 +24,8 @@ fn changes(alloc: Global, shift: Shift) -> Result<Vec<RowChange>, Memory> {
         shift,
         row: values(alloc, 1, Some(10))?,
     })?;
-    moved(alloc, moves)
+    let shifts = Shifts::of_moves(alloc, moves.as_slice())?;
+    moved(alloc, moves, &shifts)
 }
 
 /// Whether the change is of that kind, and over that period.
@@ -75,22 +76,19 @@ fn is_span(found: Option<Period>, from: u64, till: u64) -> bool {
 }
 
 /// What clashes of two rows of a key that move.
-fn clash_of(one: Shift, other: Shift) -> Option<Period> {
+fn clash_of(alloc: Global, one: Shift, other: Shift) -> Result<Option<Period>, Memory> {
     let spans = [one.old, other.old];
     let shifts = [one, other];
-    clash_in(shifts.as_slice(), spans.as_slice())
+    clash_in(alloc, shifts.as_slice(), spans.as_slice())
 }
 
 /// Whether the new periods [10, 20) and [15, 30) of a key clash over [15, 20).
-pub fn new_periods_clash() -> bool {
+pub fn new_periods_clash(alloc: Global) -> Result<bool, Memory> {
     let one = shift((0, 5), (10, 20));
     let other = shift((5, 9), (15, 30));
-    match one {
-        Some(one) => match other {
-            Some(other) => is_span(clash_of(one, other), 15, 20),
-            None => false,
-        },
-        None => false,
+    match (one, other) {
+        (Some(one), Some(other)) => Ok(is_span(clash_of(alloc, one, other)?, 15, 20)),
+        _ => Ok(false),
     }
 }
 
@@ -111,8 +109,8 @@ fn moves_by(alloc: Global, set: &[Set; 1], over: Period) -> Option<Vec<Move>> {
 /// The first shift of key 1.
 fn first_shift(alloc: Global, moves: &[Move]) -> Result<Option<Shift>, Memory> {
     let key = Key::single(alloc, Value::Num(1))?;
-    let shifts = shifts_of(alloc, &key, moves)?;
-    Ok(shifts.first().copied())
+    let shifts = Shifts::of_moves(alloc, moves)?;
+    Ok(shifts.of(&key).first().copied())
 }
 
 fn stays_over(alloc: Global, over: Period) -> Result<bool, Memory> {
