@@ -1,6 +1,7 @@
 -- What a plan that gives rows new periods does.
 use Rattle.std.proofs.Common.{◌≡◌, ℕ, ◌≤◌, ◌<◌, ◌-◌, ◌&&◌, true, List, [], ◌∷◌, length, get_or, take, drop, map, Option, Some, None, Result, IfOk, refl, sym, ap, subst, ◌∙◌, Vec, Global, vec_len, arith}
 use Rattle.std.proofs.lemmas.List.{take_all}
+use Rattle.std.proofs.lemmas.Option.{none-some}
 use Rattle.std.specs.List.{list_all}
 use Rattle.std.specs.Option.{option_map, option_or}
 use Rattle.wm_base.specs.Period.{Span}
@@ -9,7 +10,7 @@ use Rattle.wm_base.specs.declared.memory.Memory.{Memory}
 use Rattle.wm_base.specs.declared.row.Row.{Row}
 use Rattle.wm_base.specs.declared.value.Value.{Value}
 use Rattle.wm_dml.specs.Changing.{row_key}
-use Rattle.wm_dml.specs.Moving.{clash_in, left_part, move_of, moved_row, moves_of, moving, shifts_of}
+use Rattle.wm_dml.specs.Moving.{clash_in, left_part, move_of, moved_row, moves_of, moving, shifts_of, shifts_under}
 use Rattle.wm_dml.specs.Standing.{is_change, stands_in}
 use Rattle.wm_dml.specs.declared.moving.Move.{Move}
 use Rattle.wm_dml.specs.declared.moving.Shift.{Shift}
@@ -18,7 +19,7 @@ use Rattle.wm_graph.specs.Rules.{is_key, is_key_of, is_row_of, keep_rules, key_o
 use Rattle.wm_image.specs.Listing.{AreSpans}
 use Rattle.wm_making.specs.Rows.{is_filled}
 use Rattle.wm_spec.specs.Lists.{Entry}
-use Rattle.wm_spec.specs.Stretches.{Stretch}
+use Rattle.wm_spec.specs.Stretches.{Stretch, rows_of_key}
 use Rattle.wm_spec.specs.declared.record.space.Space.{Space}
 use Rattle.wm_spec.specs.declared.record.stored.Stored.{Stored}
 use Rattle.wm_spec.specs.declared.record.table.Table.{Table}
@@ -34,22 +35,27 @@ use Rattle.wm_engine.proofs.Acting.{does_answer, does_known}
 use Rattle.wm_engine.proofs.Fitting.{filled_key}
 use Rattle.wm_engine.specs.Acting.{DoesAs, IsHome}
 use Rattle.wm_engine.specs.Changing.{is_filled_change}
-use Rattle.wm_engine.specs.Moved.{Finds}
+use Rattle.wm_engine.specs.Moved.{AreShifts, Finds, NoneAt}
 use Rattle.wm_engine.specs.Views.{answer_view, seating_view}
 use Rattle.wm_engine.specs.declared.planned.Planned.{Planned}
 
--- ---- what new periods meet
+-- ---- what new periods overlap
+
+-- a clash with its key
+abbrev under : List Value → Option Span → Option (List Value × Span)
+under key found = option_map (λ (p : Span). (key, p)) found
 
 -- a clash with the key of the row that moves
 abbrev keyed : Move → Option Span → Option (List Value × Span)
-keyed m found = option_map (λ (p : Span). (m.key, p)) found
+keyed m found = under m.key found
 
--- where the rows of its key stand as the version has them, what a new period meets is what it meets in a list that the version holds
-pub finds_at : (p : Parts) (version : ℕ) (t : Table) (moves : List Move) (m : Move) (spans : List Span) (shifts : List Shift) (found : Option Span)
-    → AreSpans p version t.number m.key spans → shifts ≡ shifts_of m.key moves → found ≡ clash_in shifts spans → Finds p version (λ es. clash_at es t moves m) (keyed m found)
-finds_at p version t moves m spans shifts found are of is = λ es holds.
-    ap (λ (ss : List Stretch). keyed m (clash_in (shifts_of m.key moves) (map span_on ss))) (key_rows p version es t.number m.key are.stretches holds are.are)
-    ∙ ap (λ ps. keyed m (clash_in (shifts_of m.key moves) ps)) (sym are.same) ∙ ap (λ xs. keyed m (clash_in xs spans)) (sym of) ∙ ap (keyed m) (sym is)
+-- where the rows of a key stand as the version has them, what a new period overlaps is what it overlaps in a list that the version holds
+pub finds_at : (p : Parts) (version : ℕ) (t : Table) (key : List Value) (spans : List Span) (shifts : List (List Value × Vec Shift Global)) (found : Option Span) → AreSpans p version t.number key spans
+    → found ≡ clash_in (shifts_under shifts key) spans → (moves : List Move) (m : Move) → AreShifts shifts moves → m.key ≡ key → Finds p version (λ es. clash_at es t moves m) (under key found)
+finds_at p version t key spans shifts found are is moves m of same = λ es holds.
+    ap (λ k. under k (clash_in (shifts_of k moves) (map span_on (rows_of_key es t.number k)))) same
+    ∙ ap (λ (ss : List Stretch). under key (clash_in (shifts_of key moves) (map span_on ss))) (key_rows p version es t.number key are.stretches holds are.are)
+    ∙ ap (λ ps. under key (clash_in (shifts_of key moves) ps)) (sym are.same) ∙ ap (λ xs. under key (clash_in xs spans)) (sym (of key)) ∙ ap (under key) (sym is)
 
 -- what is found among all rows that move is what is found among those that are left
 abbrev pub FindsLeft : Parts → ℕ → Table → List Move → List Move → Type 0
@@ -62,14 +68,14 @@ front_is (x ∷ xs) m some is =
     let others : take (length (x ∷ xs) - 1) xs ≡ xs = take_all (length (x ∷ xs) - 1) xs (omega arith) in
     ap (λ (y : Move). y ∷ xs) (sym is) ∙ ap (λ (ys : List Move). m ∷ ys) (sym others)
 
--- the first that is left meets something
+-- the first that is left overlaps another
 pub finds_here : (p : Parts) (version : ℕ) (t : Table) (moves left : List Move) (m : Move) (found : Option Span) (key : List Value) (shared : Span) → FindsLeft p version t moves left → 1 ≤ length left → m ≡ get_or left 0 m
     → Finds p version (λ es. clash_at es t moves m) (keyed m found) → found ≡ Some shared → key ≡ m.key → Finds p version (λ es. first_clash es t moves moves) (Some (key, shared))
 finds_here p version t moves left m found key shared before some is one there copied = λ es holds.
     sym (before es holds) ∙ ap (first_clash es t moves) (front_is left m some is)
     ∙ ap (λ o. option_or o (first_clash es t moves (take (length left - 1) (drop 1 left)))) (one es holds ∙ ap (keyed m) there) ∙ ap (λ k. Some (k, shared)) (sym copied)
 
--- it meets nothing
+-- it overlaps none
 pub finds_on : (p : Parts) (version : ℕ) (t : Table) (moves left : List Move) (m : Move) (found : Option Span) → FindsLeft p version t moves left → 1 ≤ length left → m ≡ get_or left 0 m
     → Finds p version (λ es. clash_at es t moves m) (keyed m found) → found ≡ None → FindsLeft p version t moves (take (length left - 1) (drop 1 left))
 finds_on p version t moves left m found before some is one none = λ es holds.
@@ -80,6 +86,26 @@ finds_on p version t moves left m found before some is one none = λ es holds.
 pub finds_none : (p : Parts) (version : ℕ) (t : Table) (moves left : List Move) → FindsLeft p version t moves left → length left < 1 → Finds p version (λ es. first_clash es t moves moves) None
 finds_none p version t moves [] before none = λ es holds. sym (before es holds)
 finds_none p version t moves (m ∷ ms) before none = absurd (omega (arith, none))
+
+same_some : (x y : List Value) → Some x ≡ Some y → x ≡ y
+same_some x y e = ap values_of e
+  where
+    values_of : Option (List Value) → List Value
+    values_of (Some z) = z
+    values_of None = []
+
+-- before the first there is no key
+pub none_before : (p : Parts) (version : ℕ) (t : Table) (moves : List Move) → NoneAt p version t moves None
+none_before p version t moves = λ m is. absurd (none-some m.key is)
+
+-- behind a key of which none was found
+pub none_behind : (p : Parts) (version : ℕ) (t : Table) (moves : List Move) (key : List Value) (found : Option Span) → ((m : Move) → m.key ≡ key → Finds p version (λ es. clash_at es t moves m) (under key found)) → found ≡ None
+    → NoneAt p version t moves (Some key)
+none_behind p version t moves key found finds none = λ m is es holds. finds m (sym (same_some key m.key is)) es holds ∙ ap (under key) none
+
+-- under the key that is the last
+pub none_again : (p : Parts) (version : ℕ) (t : Table) (moves : List Move) (m : Move) (last key : List Value) → NoneAt p version t moves (Some last) → last ≡ key → m.key ≡ key → Finds p version (λ es. clash_at es t moves m) None
+none_again p version t moves m last key none is same = none m (ap (λ k. Some k) (is ∙ sym same))
 
 -- the same of rows that are the same
 pub finds_so : (p : Parts) (version : ℕ) (t : Table) (given moves : List Move) (found other : Option (List Value × Span)) → Finds p version (λ es. first_clash es t given given) found → given ≡ moves → found ≡ other
@@ -92,7 +118,7 @@ counted_moves v k is = omega (arith, is)
 
 -- ---- what is done
 
--- what they meet in the newest version is what they meet in the workspace
+-- what they overlap in the newest version is what they overlap in the workspace
 clash_is : (rs : List Stored) (xs : List Session) (m : ℕ) (session : Session) (a : Space) (t : Table) (moves : List Move) (version : ℕ) (found : Option (List Value × Span)) (s : State) (w : Workspace)
     → version ≡ latest (parts_of rs) session.space → Finds (parts_of rs) version (λ es. first_clash es t moves moves) found → StandsAt rs xs m s → IsHome s session a w → first_clash (content w) t moves moves ≡ found
 clash_is rs xs m session a t moves version found s w newest finds st home =

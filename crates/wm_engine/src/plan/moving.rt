@@ -1,7 +1,7 @@
 //! UPDATE that gives rows new periods.
-ghost use Rattle.std.specs.Prelude.{◌≡◌, ◌<◌, true, Some, IfOk};
+ghost use Rattle.std.specs.Prelude.{◌≡◌, ◌<◌, true, List, Some, IfOk};
 ghost use Rattle.std.specs.List.{list_all};
-ghost use Rattle.std.specs.Option.{option_map};
+ghost use Rattle.std.specs.Option.{option_copied, option_map};
 ghost use Rattle.wm_base.specs.declared.instant.TheConstants.{END};
 ghost use Rattle.wm_dml.specs.declared.moving.Move.{Move as MoveOf};
 ghost use Rattle.wm_dml.specs.Moving.{moved_row};
@@ -9,7 +9,7 @@ ghost use Rattle.wm_dml.specs.Standing.{is_change};
 ghost use Rattle.wm_engine.specs.Acting.{DoesAs};
 ghost use Rattle.wm_engine.specs.Changing.{is_filled_change};
 ghost use Rattle.wm_engine.specs.Idle.{Idles};
-ghost use Rattle.wm_engine.specs.Moved.{Finds};
+ghost use Rattle.wm_engine.specs.Moved.{AreShifts, Finds, NoneAt};
 ghost use Rattle.wm_graph.specs.Parts.{parts_of, space_of, table_of};
 ghost use Rattle.wm_graph.specs.Rules.{keep_rules};
 ghost use Rattle.wm_model.specs.Step.{clash_at, first_clash, move_all};
@@ -21,43 +21,69 @@ use crate::refuse::key_there;
 use crate::session::Session;
 use std::alloc::Global;
 use wm_base::{Key, Memory, Period};
-use wm_dml::{Move, clash_in, moved, shifts_of};
+use wm_dml::{Move, Shifts, clash_in, moved};
 use wm_image::Image;
 use wm_spec::record::{Space, Table};
 
-/// The earliest part that a new period of the key of a row that moves shares with a row that stays, or with another new one.
+/// The earliest part that a new period of a key shares with a row that stays, or with another new one.
 fn clash_at(
     alloc: Global,
     image: &Image,
     version: u64,
     table: &Table,
-    moves: &[Move],
-    one: &Move,
+    shifts: &Shifts,
+    key: &Key,
 ) -> Result<Option<Period>, Memory>
     requires { keep_rules (parts_of image.now) ≡ true }
-    ensures { IfOk result (λ found. Finds (parts_of image.now) version (λ es. clash_at es table.now moves.now one.now) (option_map (λ p. (one.now.key, p)) found)) }
+    ensures { IfOk result (λ found. (moves : List MoveOf) (m : MoveOf) → AreShifts shifts.now moves → m.key ≡ key.now → Finds (parts_of image.now) version (λ es. clash_at es table.now moves m) (option_map (λ p. (key.now, p)) found)) }
 {
-    let spans = image.spans_of_key(alloc, version, table.number, &one.key)?;
-    let shifts = shifts_of(alloc, &one.key, moves)?;
-    Ok(clash_in(shifts.as_slice(), spans.as_slice()))
+    let spans = image.spans_of_key(alloc, version, table.number, key)?;
+    let found = clash_in(alloc, shifts.of(key), spans.as_slice())?;
+    Ok(found)
 }
 
-/// So of the first key that has one, with the key.
+/// The same of a key behind another that has no such part: where it is that one, it is not searched again.
+fn clash_after(
+    alloc: Global,
+    image: &Image,
+    version: u64,
+    table: &Table,
+    shifts: &Shifts,
+    last: Option<&Key>,
+    key: &Key,
+) -> Result<Option<Period>, Memory>
+    requires { keep_rules (parts_of image.now) ≡ true }
+    ensures { IfOk result (λ found. (moves : List MoveOf) (m : MoveOf) → AreShifts shifts.now moves → NoneAt (parts_of image.now) version table.now moves (option_copied last.entry) → m.key ≡ key.now → Finds (parts_of image.now) version (λ es. clash_at es table.now moves m) (option_map (λ p. (key.now, p)) found)) }
+{
+    if let Some(last) = last {
+        if last.equals(key) {
+            return Ok(None);
+        }
+    }
+    let found = clash_at(alloc, image, version, table, shifts, key)?;
+    Ok(found)
+}
+
+/// The first key that has such a part, with that part.
 fn first_clash(
     alloc: Global,
     image: &Image,
     version: u64,
     table: &Table,
     moves: &[Move],
+    shifts: &Shifts,
 ) -> Result<Option<(Key, Period)>, Memory>
-    requires { keep_rules (parts_of image.now) ≡ true }
+    requires rules { keep_rules (parts_of image.now) ≡ true }
+    requires shifts { AreShifts shifts.now moves.now }
     ensures { IfOk result (λ found. Finds (parts_of image.now) version (λ es. first_clash es table.now moves.now moves.now) found) }
 {
+    let mut last: Option<&Key> = None;
     let mut left = moves;
     while let [one, rest @ ..] = left {
-        if let Some(shared) = clash_at(alloc, image, version, table, moves, one)? {
+        if let Some(shared) = clash_after(alloc, image, version, table, shifts, last, &one.key)? {
             return Ok(Some((one.key.copy(alloc)?, shared)));
         }
+        last = Some(&one.key);
         left = rest;
     }
     Ok(None)
@@ -84,10 +110,12 @@ pub fn move_all(
     ensures idle { IfOk result Idles }
 {
     let version = image.latest(session.space());
-    if let Some((key, shared)) = first_clash(alloc, image, version, table, moves.as_slice())? {
+    let shifts = Shifts::of_moves(alloc, moves.as_slice())?;
+    let clash = first_clash(alloc, image, version, table, moves.as_slice(), &shifts)?;
+    if let Some((key, shared)) = clash {
         return Ok(Planned::answered(alloc, key_there(key, Some(shared))));
     }
     let count = moves.len() as u64;
-    let changes = moved(alloc, moves)?;
+    let changes = moved(alloc, moves, &shifts)?;
     write_all(alloc, image, moment, session, space, table, count, changes)
 }

@@ -66,7 +66,7 @@ pub fn write_all(
     session: &Session,
     space: &Space,
     table: &Table,
-    rows: u64,
+    rows_changed: u64,
     changes: Vec<RowChange>,
 ) -> Result<Planned, Memory>
     requires rules { keep_rules (parts_of image.now) ≡ true }
@@ -76,7 +76,7 @@ pub fn write_all(
     requires fit { list_all (is_change table.now) changes.items ≡ true }
     requires last { list_all change_lasts changes.items ≡ true }
     requires filled { list_all is_filled_change changes.items ≡ true }
-    ensures does { IfOk result (DoesAs image.now moment session.now space.now (write_ascending session.now.user table.now rows changes.items)) }
+    ensures does { IfOk result (DoesAs image.now moment session.now space.now (write_ascending session.now.user table.now rows_changed changes.items)) }
     ensures fit { IfOk result (λ p. FitPages p.changes) }
     ensures idle { IfOk result Idles }
 {
@@ -98,7 +98,7 @@ pub fn write_all(
         table,
         space,
         counters,
-        rows,
+        rows_changed,
     };
     write_changes(alloc, image, moment, session, &writing, changes)
 }

@@ -31,13 +31,14 @@ use wm_spec::record::{
     Version,
 };
 
-/// A table and a workspace in which rows are changed, with the counters before and how many rows there are.
+/// A table and a workspace in which rows are changed, with the counters before.
 #[derive(Drop)]
 pub struct Writing<'a> {
     pub table: &'a Table,
     pub space: &'a Space,
     pub counters: Counters,
-    pub rows: u64,
+    /// How many rows are told as changed.
+    pub rows_changed: u64,
 }
 
 /// The records that changes make: the new rows, and a piece for each change.
@@ -153,7 +154,7 @@ fn hist_of(
     })
 }
 
-/// The entries of the session's log for changes, behind those that are there: when they were written, and by whom.
+/// The entries of the workspace's log for changes, behind those that are there: when they were written, and by whom.
 fn hists_of(
     alloc: Global,
     moment: u64,
@@ -213,7 +214,7 @@ fn write_here(
     requires filled { list_all is_filled_change changes.items ≡ true }
     requires counters { counters ≡ moved writing.now.counters moment }
     requires ids { (i : ℕ) → id ≤ i → record_at image.now i ≡ None }
-    ensures does { IfOk result (WritesAll image.now moment session.now writing.now.space.now writing.now.table.now writing.now.rows changes.items) }
+    ensures does { IfOk result (WritesAll image.now moment session.now writing.now.space.now writing.now.table.now writing.now.rows_changed changes.items) }
     ensures fit { IfOk result (λ p. FitPages p.changes) }
     ensures idle { IfOk result Idles }
 {
@@ -250,7 +251,7 @@ fn write_here(
         pieces,
         hists,
     )?;
-    Ok(Planned::changing(batch, Answer::Done(writing.rows)))
+    Ok(Planned::changing(batch, Answer::Done(writing.rows_changed)))
 }
 
 /// What is put first where changes go into a version more.
@@ -281,7 +282,7 @@ fn write_above(
     requires filled { list_all is_filled_change changes.items ≡ true }
     requires counters { counters ≡ moved writing.now.counters moment }
     requires ids { (i : ℕ) → id ≤ i → record_at image.now i ≡ None }
-    ensures does { IfOk result (WritesAll image.now moment session.now writing.now.space.now writing.now.table.now writing.now.rows changes.items) }
+    ensures does { IfOk result (WritesAll image.now moment session.now writing.now.space.now writing.now.table.now writing.now.rows_changed changes.items) }
     ensures fit { IfOk result (λ p. FitPages p.changes) }
     ensures idle { IfOk result Idles }
 {
@@ -324,7 +325,7 @@ fn write_above(
         pieces,
         hists,
     )?;
-    Ok(Planned::changing(batch, Answer::Done(writing.rows)))
+    Ok(Planned::changing(batch, Answer::Done(writing.rows_changed)))
 }
 
 /// Writes changes of rows of a table into the session's workspace: into its newest version, or into a version more where
@@ -351,7 +352,7 @@ pub fn write_changes(
     // Stamps are left for them, and the log has room.
     requires left { nat_le (writing.now.counters.next_stamp + length changes.items) (writing.now.counters.limit + 1) ≡ true }
     requires short { nat_lt counter_limit (writing.now.space.now.log_length + length changes.items) ≡ false }
-    ensures does { IfOk result (WritesAll image.now moment session.now writing.now.space.now writing.now.table.now writing.now.rows changes.items) }
+    ensures does { IfOk result (WritesAll image.now moment session.now writing.now.space.now writing.now.table.now writing.now.rows_changed changes.items) }
     ensures fit { IfOk result (λ p. FitPages p.changes) }
     ensures idle { IfOk result Idles }
 {

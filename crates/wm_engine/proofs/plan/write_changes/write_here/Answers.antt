@@ -63,7 +63,7 @@ changes c =
 
 pub returns-clause-does : goal.returns-clause-does
 returns-clause-does c =
-    wrote_all_here c.args.image.now c.args.moment c.args.session.now c.changing.result c.args.writing.now.table.now c.args.writing.now.space.now c.args.writing.now.counters c.args.changes.items c.in_ok-drawn.drawn.dropped.items c.in_ok-drawn.drawn.drawn.items c.id_of_counters.result c.unwrap-space_id.result c.args.id c.args.writing.now.rows c.requires.served (short c)
+    wrote_all_here c.args.image.now c.args.moment c.args.session.now c.changing.result c.args.writing.now.table.now c.args.writing.now.space.now c.args.writing.now.counters c.args.changes.items c.in_ok-drawn.drawn.dropped.items c.in_ok-drawn.drawn.drawn.items c.id_of_counters.result c.unwrap-space_id.result c.args.id c.args.writing.now.rows_changed c.requires.served (short c)
     (record {
       sorted = c.id_of_counters.ensures.ascend;
       counters = counters_at c.args.writing.now.counters (parts_of c.args.image.now).counters (record_at c.args.image.now c.id_of_counters.result) c.requires.served.new.one c.id_of_counters.ensures.there;
