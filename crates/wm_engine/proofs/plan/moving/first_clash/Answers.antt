@@ -12,11 +12,12 @@ returns-in-Some c =
     (c.in_ok-shared.ensures c.args.moves.now c.one-item.result c.requires.shifts c.loop-left.invariant.1 refl) c.in-Some.is c.in_ok-copy.ensures
 
 pub loop-left-preserved : goal.loop-left-preserved
-loop-left-preserved c =
-    (finds_on (parts_of c.args.image.now) c.args.version c.args.table.now c.args.moves.now c.loop-left.left.now c.one-item.result c.in_ok-shared.field-0 c.loop-left.invariant.0 c.in-len1-up.len_at_least c.one-item.is
-    (c.in_ok-shared.ensures c.args.moves.now c.one-item.result c.requires.shifts c.loop-left.invariant.1 refl) c.in_default-2.is,
-    none_behind (parts_of c.args.image.now) c.args.version c.args.table.now c.args.moves.now c.one-item.result.key c.in_ok-shared.field-0
-    (λ m same. c.in_ok-shared.ensures c.args.moves.now m c.requires.shifts c.loop-left.invariant.1 same) c.in_default-2.is)
+loop-left-preserved c = (
+  finds_on (parts_of c.args.image.now) c.args.version c.args.table.now c.args.moves.now c.loop-left.left.now c.one-item.result c.in_ok-shared.field-0 c.loop-left.invariant.0 c.in-len1-up.len_at_least c.one-item.is
+      (c.in_ok-shared.ensures c.args.moves.now c.one-item.result c.requires.shifts c.loop-left.invariant.1 refl) c.in_default-2.is,
+  none_behind (parts_of c.args.image.now) c.args.version c.args.table.now c.args.moves.now c.one-item.result.key c.in_ok-shared.field-0
+      (λ m same. c.in_ok-shared.ensures c.args.moves.now m c.requires.shifts c.loop-left.invariant.1 same) c.in_default-2.is,
+)
 
 pub returns : goal.returns
 returns c = finds_none (parts_of c.args.image.now) c.args.version c.args.table.now c.args.moves.now c.loop-left.left.now c.loop-left.invariant.0 c.in_default.len_below
