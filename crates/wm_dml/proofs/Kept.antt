@@ -12,7 +12,7 @@ use Rattle.wm_dml.specs.Moving.{shifts_of, shifts_under}
 use Rattle.wm_dml.specs.declared.moving.Move.{Move}
 use Rattle.wm_dml.specs.declared.moving.Shift.{Shift}
 
--- one more is put under its key: of each key the rest is fewer by what is kept
+-- where one more is put under its key, what is kept of a key and what is left of it are together what they were
 pub one_kept : (old next : List (List Value × Vec Shift Global)) (m : Move) (rest : List Move) (key : List Value)
     → shifts_under next key ≡ cond (is_eq (key_order m.key key)) (shifts_under old m.key ++ m.shift ∷ []) (shifts_under old key)
     → shifts_under old key ++ shifts_of key (m ∷ rest) ≡ shifts_under next key ++ shifts_of key rest
