@@ -103,10 +103,6 @@ pub none_behind : (p : Parts) (version : ℕ) (t : Table) (moves : List Move) (k
     → NoneAt p version t moves (Some key)
 none_behind p version t moves key found finds none = λ m is es holds. finds m (sym (same_some key m.key is)) es holds ∙ ap (under key) none
 
--- under the key that is the last
-pub none_again : (p : Parts) (version : ℕ) (t : Table) (moves : List Move) (m : Move) (last key : List Value) → NoneAt p version t moves (Some last) → last ≡ key → m.key ≡ key → Finds p version (λ es. clash_at es t moves m) None
-none_again p version t moves m last key none is same = none m (ap (λ k. Some k) (is ∙ sym same))
-
 -- the same of rows that are the same
 pub finds_so : (p : Parts) (version : ℕ) (t : Table) (given moves : List Move) (found other : Option (List Value × Span)) → Finds p version (λ es. first_clash es t given given) found → given ≡ moves → found ≡ other
     → Finds p version (λ es. first_clash es t moves moves) other

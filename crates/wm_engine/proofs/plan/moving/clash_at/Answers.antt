@@ -9,4 +9,4 @@ use Rattle.wm_engine.proofs.plan.moving.clash_at.Goals as goal
 pub returns : goal.returns
 returns c =
     finds_at (parts_of c.args.image.now) c.args.version c.args.table.now c.args.key.now c.in_ok-spans.spans.items c.args.shifts.now c.in_ok-found.found c.in_ok-spans.ensures
-    (c.in_ok-found.ensures ∙ ap (λ (xs : List Shift). clash_in xs c.as_slice.result.now) c.of.ensures ∙ ap (λ (ps : List Span). clash_in c.of.result.now ps) c.as_slice.ensures.value)
+    (c.in_ok-found.ensures ∙ ap (λ (ps : List Span). clash_in c.of.result.now ps) c.as_slice.ensures.value ∙ ap (λ (xs : List Shift). clash_in xs c.in_ok-spans.spans.items) c.of.ensures)

@@ -1,4 +1,4 @@
-use Rattle.std.proofs.Common.{◌×◌, length}
+use Rattle.std.proofs.Common.{length}
 use Rattle.std.specs.Option.{option_copied}
 use Rattle.wm_graph.specs.Parts.{parts_of}
 use Rattle.wm_engine.proofs.Moving.{FindsLeft}

@@ -10,8 +10,8 @@ use Rattle.wm_engine.specs.Changing.{is_filled_change}
 use Rattle.wm_engine.specs.Views.{answer_view, seating_view}
 use Rattle.wm_engine.proofs.plan.moving.move_all.Goals as goal
 
-pub first_clash-clash-requires-clause-shifts : goal.first_clash-clash-requires-clause-shifts
-first_clash-clash-requires-clause-shifts c = λ key. c.in_ok-shifts.ensures key ∙ ap (shifts_of key) (c.as_slice.ensures.value ∙ sym c.as_slice-2.ensures.value)
+pub first_clash-requires-clause-shifts : goal.first_clash-requires-clause-shifts
+first_clash-requires-clause-shifts c = λ key. c.in_ok-shifts.ensures key ∙ ap (shifts_of key) (c.as_slice.ensures.value ∙ sym c.as_slice-2.ensures.value)
 
 pub moved-requires : goal.moved-requires
 moved-requires c = λ key. c.in_ok-shifts.ensures key ∙ ap (shifts_of key) c.as_slice.ensures.value
