@@ -1,9 +1,12 @@
 pub mod State
+pub mod Editing
 pub mod ById
 pub mod Standing
+pub mod Points
 pub mod Effects
 pub mod Batches
 pub mod Listing
 pub mod Entries
 pub mod Drawing
 pub mod Writes
+pub mod Drafts

@@ -1,3 +1,5 @@
-//! The state between two lines, with whole private lists for each workspace; the records that stand for it; and what
-//! changes of records make of it. Definitions and their laws alone.
+//! The state between two lines, with whole private lists for each workspace; the edits that a line makes of it; the records
+//! that stand for it; and what changes of records make of it. But for the types of the edits, definitions and their laws alone.
 #![tactic(auto)]
+
+pub mod edit;

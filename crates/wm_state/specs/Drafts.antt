@@ -1,0 +1,154 @@
+-- What is asked of records before edits, and what changes of records are to make of them.
+use Rattle.std.specs.Prelude.{ℕ, ◌≡◌, ◌≤◌, ◌+◌, ◌==◌, ◌&&◌, nat_le, nat_lt, Bool, true, false, List, [], ◌∷◌, map, length, Option, Some, None}
+use Rattle.std.specs.List.{find, list_all, list_any}
+use Rattle.std.specs.Option.{option_map_or}
+use Rattle.std.specs.Str.{bytes_eq}
+use Rattle.wm_base.specs.declared.instant.TheConstants.{END}
+use Rattle.wm_base.specs.declared.value.Value.{Value}
+use Rattle.wm_base.specs.declared.value.Value.TheVariants as values
+use Rattle.wm_graph.specs.Parts.{Parts, parts_of, space_of, table_of}
+use Rattle.wm_graph.specs.Rules.{is_short, is_table, keep_rules}
+use Rattle.wm_spec.specs.Lists.{Entry}
+use Rattle.wm_spec.specs.Records.{AreChanges, record_at}
+use Rattle.wm_spec.specs.declared.record.Record.{Record}
+use Rattle.wm_spec.specs.declared.record.Record.TheVariants as records
+use Rattle.wm_spec.specs.declared.record.batch.Change.{Change}
+use Rattle.wm_spec.specs.declared.record.counters.Counters.{Counters}
+use Rattle.wm_spec.specs.declared.record.space.Space.{Space}
+use Rattle.wm_spec.specs.declared.record.stored.Stored.{Stored}
+use Rattle.wm_spec.specs.declared.record.table.Table.{Table}
+use Rattle.wm_state.specs.ById.{applied}
+use Rattle.wm_state.specs.Drawing.{are_sorted}
+use Rattle.wm_state.specs.Editing.{counter_limit, drafted, entry_of, line_work, number_limit, stand_of}
+use Rattle.wm_state.specs.Entries.{AreStamped, entry_keys, is_well}
+use Rattle.wm_state.specs.Points.{HasRoom, Point, implicit_of, next_place_at, point_at}
+use Rattle.wm_state.specs.Standing.{Stands, by_number, space_after}
+use Rattle.wm_state.specs.State.{State, table_named}
+use Rattle.wm_state.specs.declared.edit.Edit.{Edit}
+use Rattle.wm_state.specs.declared.edit.Edit.TheVariants as edits
+
+-- ---- texts
+
+-- a record can keep the value: it is no empty text
+abbrev pub can_keep : Value → Bool
+can_keep (values.Text t) = nat_lt 0 (length t)
+can_keep v = true
+
+-- so are all values of an entry
+abbrev pub can_keep_entry : Entry → Bool
+can_keep_entry e = list_all can_keep e.key && option_map_or (λ row. list_all can_keep row.values) e.row true
+
+-- so are all values in a record
+abbrev pub is_kept : Record → Bool
+is_kept (records.Row r) = list_all can_keep r.values
+is_kept (records.Piece x) = list_all can_keep x.cells.key
+is_kept (records.Hist x) = list_all can_keep x.cells.key
+is_kept r = true
+
+-- so is what comes by a change
+abbrev pub is_kept_change : Change → Bool
+is_kept_change c = option_map_or is_kept c.becomes true
+
+-- ---- what is asked of the records
+
+-- the work is not at its end, and the moment is below the end
+pub record CanWork (p : Parts) (m : ℕ) : Type 0 where
+  pub counters : Counters
+  pub one : p.counters ≡ counters ∷ []
+  pub room : nat_lt counter_limit (counters.work + line_work) ≡ false
+  pub early : nat_lt m END ≡ true
+
+-- there is room for the table, whose number is above all others and whose name is new
+pub record CanCreate (p : Parts) (t : Table) : Type 0 where
+  pub is : is_table t ≡ true
+  pub room : nat_lt (length p.tables) 256 ≡ true
+  pub number : list_all (λ (u : Table). nat_lt u.number t.number) p.tables ≡ true
+  pub name : list_any (λ (u : Table). bytes_eq u.name t.name) p.tables ≡ false
+
+-- the table of the name is there, with a key, and not ready yet
+pub record CanEnable (p : Parts) (name : List ℕ) : Type 0 where
+  pub table : Table
+  pub named : table_named name (by_number p.tables) ≡ Some table
+  pub off : table.versioned ≡ false
+  pub key : table.has_key ≡ true
+
+-- the workspace is there, and the log has room; the entries are of a table that is there and fit it, with the stamps that come next;
+-- no key is above the next
+pub record CanAppend (p : Parts) (n : ℕ) (es : List Entry) : Type 0 where
+  pub space : Space
+  pub there : space_of p.spaces n ≡ Some space
+  pub counters : Counters
+  pub one : p.counters ≡ counters ∷ []
+  pub table : Table
+  pub tabled : table_of p.tables table.number ≡ Some table
+  pub stamped : AreStamped table.number counters.next_stamp es
+  pub well : list_all (is_well (table_of p.tables)) es ≡ true
+  pub users : list_all (λ (e : Entry). is_short e.user) es ≡ true
+  pub kept : list_all can_keep_entry es ≡ true
+  pub sorted : are_sorted (entry_keys es) ≡ true
+  pub left : nat_le (counters.next_stamp + length es) (counters.limit + 1) ≡ true
+  pub short : nat_lt counter_limit (space.log_length + length es) ≡ false
+
+-- the workspace is there and may have a savepoint more, whose name is new in it
+pub record CanSave (p : Parts) (n : ℕ) (name : List ℕ) : Type 0 where
+  pub space : Space
+  pub there : space_of p.spaces n ≡ Some space
+  pub short : is_short name ≡ true
+  pub room : HasRoom p space name
+  pub places : nat_lt number_limit (space.next_place + 1) ≡ false
+
+-- the workspace is there and may have an implicit savepoint more, where one stands in it so; there may be a workspace more, whose name
+-- is new
+pub record CanBear (p : Parts) (m n : ℕ) (at : Option ℕ) (name : List ℕ) : Type 0 where
+  pub space : Space
+  pub there : space_of p.spaces n ≡ Some space
+  pub point : Point
+  pub stands : point_at p space m (stand_of at) ≡ Some point
+  pub short : is_short name ≡ true
+  pub new : find (λ (r : Space). bytes_eq name r.name) p.spaces ≡ None
+  pub few : nat_le 1024 (length p.spaces) ≡ false
+  pub room : HasRoom p space (implicit_of space)
+  pub places : nat_lt number_limit (next_place_at space (stand_of at)) ≡ false
+  pub implicits : nat_lt number_limit (space.next_implicit + 1) ≡ false
+  pub numbers : nat_lt number_limit (space_after p.spaces) ≡ false
+
+-- what is asked before an edit at a moment
+abbrev pub CanEdit : Parts → ℕ → Edit → Type 0
+CanEdit p m (edits.Create t) = CanCreate p t
+CanEdit p m (edits.Enable name valid history) = CanEnable p name
+CanEdit p m (edits.Append n entries) = CanAppend p n (map entry_of entries.items)
+CanEdit p m (edits.Save n name) = CanSave p n name
+CanEdit p m (edits.Bear n at name) = CanBear p m n at name
+
+-- what is asked before the edits of a line; so far a line makes one at most
+abbrev pub CanDraft : Parts → ℕ → List Edit → Type 0
+CanDraft p m [] = Unit {0}
+CanDraft p m (e ∷ []) = CanWork p m × CanEdit p m e
+CanDraft p m (e ∷ f ∷ es) = ⊥
+
+-- ---- what is made of them
+
+-- the edit makes a savepoint, or a workspace and so a savepoint
+abbrev pub is_fork : Edit → Bool
+is_fork (edits.Save n name) = true
+is_fork (edits.Bear n at name) = true
+is_fork e = false
+
+-- records differ at six ids at most, and rows, pieces and entries of logs are what they were
+pub record ChangesFew (old new : List Stored) : Type 0 where
+  pub ids : List ℕ
+  pub few : length ids ≤ 6
+  pub others : (id : ℕ) → list_any (λ k. k == id) ids ≡ false → record_at new id ≡ record_at old id
+  pub rows : (parts_of new).rows ≡ (parts_of old).rows
+  pub pieces : (parts_of new).pieces ≡ (parts_of old).pieces
+  pub hists : (parts_of new).hists ≡ (parts_of old).hists
+
+-- changes make of records what edits make of each state that they stand for: the rules stay kept, no id changes twice, each value that
+-- comes can be kept, without edits there are no changes, and those that make savepoints and workspaces change few records
+pub record Drafts (rs : List Stored) (m : ℕ) (es : List Edit) (changes : List Change) : Type 0 where
+  pub keeps : keep_rules (parts_of (applied changes rs)) ≡ true
+  pub once : AreChanges changes
+  pub stands : (s : State) → Stands (parts_of rs) s → Stands (parts_of (applied changes rs)) (drafted m es s)
+  pub kept : list_all is_kept_change changes ≡ true
+  pub nothing : es ≡ [] → changes ≡ []
+  pub few : list_all is_fork es ≡ true → ChangesFew rs (applied changes rs)

@@ -1,0 +1,151 @@
+-- What edits make of the state.
+use Rattle.std.specs.Prelude.{ℕ, ◌+◌, ◌^◌, Bool, true, false, List, [], ◌∷◌, ◌++◌, map, length, Option, Some, None, unwrap_or, codes}
+use Rattle.std.specs.Fmt.{decimal}
+use Rattle.std.specs.Option.{option_map, option_and_then}
+use Rattle.wm_base.specs.declared.row.Row.{Row}
+use Rattle.wm_base.specs.declared.value.Value.{Value}
+use Rattle.wm_spec.specs.Lists.{Entry}
+use Rattle.wm_spec.specs.declared.record.space.FreezeMode.TheVariants.{Free}
+use Rattle.wm_spec.specs.declared.record.table.Table.{Table}
+use Rattle.wm_state.specs.declared.edit.Edit.{Edit}
+use Rattle.wm_state.specs.declared.edit.Edit.TheVariants as edits
+use Rattle.wm_state.specs.declared.edit.NewEntry.{NewEntry}
+use Rattle.wm_state.specs.State.{State, Workspace, Savepoint, Stand, Latest, At, Readiness, kept, enabled, with_space, with_entries, with_savepoint, workspace_of, savepoint_made, table_named, next_making, next_space}
+
+-- ---- what is counted
+
+-- the greatest length of a log, and the greatest work
+abbrev pub counter_limit : ℕ
+counter_limit = 2 ^ 62
+
+-- the greatest next place, next number of an implicit savepoint, and number of a workspace
+abbrev pub number_limit : ℕ
+number_limit = 4294967295
+
+-- what a line that changes something counts
+abbrev pub line_work : ℕ
+line_work = 4096
+
+-- ---- entries
+
+-- values as a row
+abbrev pub row_value : List Value → Row
+row_value values = record { values = values }
+
+-- an entry as lists have it
+abbrev pub entry_of : NewEntry → Entry
+entry_of e = record {
+  table = e.table;
+  key = e.key;
+  from = e.period.from;
+  till = e.period.till;
+  row = option_map row_value e.row;
+  stamp = e.stamp;
+  kind = e.kind;
+  moment = e.moment;
+  user = e.user;
+}
+
+-- the entries are in the workspace of this number, and their stamps are given
+abbrev pub written_all : ℕ → List Entry → State → State
+written_all n es s = record s { spaces = with_space n (with_entries es) s.spaces; next_stamp = s.next_stamp + length es }
+
+-- ---- savepoints
+
+-- a savepoint that is made at a moment where one stands in a workspace: at what is newest it has a new place, and at a savepoint the
+-- place of that one
+abbrev pub saved_at : ℕ → List Workspace → Workspace → Stand → List ℕ → Bool → Option Savepoint
+saved_at m spaces w Latest name implicit = Some (record {
+  making = next_making spaces;
+  name = name;
+  implicit = implicit;
+  place = w.next_place;
+  moment = m;
+  base = w.lists.base;
+  own = w.lists.own;
+  from = w.from;
+  log_length = length w.lists.log;
+  rebases = w.rebases;
+})
+saved_at m spaces w (At making) name implicit =
+    option_map (λ (k : Savepoint). record k { making = next_making spaces; name = name; implicit = implicit }) (savepoint_made making w.savepoints)
+
+-- the next place behind such a savepoint
+abbrev pub place_behind : Workspace → Stand → ℕ
+place_behind w Latest = w.next_place + 1
+place_behind w (At making) = w.next_place
+
+-- the workspace of this number has a savepoint more
+abbrev pub saved : ℕ → ℕ → ℕ → Savepoint → State → State
+saved n place implicit k s = record s { spaces = with_space n (with_savepoint place implicit k) s.spaces }
+
+-- what is newest in a workspace is kept under a name
+abbrev pub save_in : ℕ → List ℕ → State → Workspace → Option State
+save_in m name s w = option_map (λ (k : Savepoint). saved w.number (w.next_place + 1) w.next_implicit k s) (saved_at m s.spaces w Latest name false)
+
+-- ---- workspaces
+
+-- how the names of implicit savepoints begin
+abbrev pub implicit_front : List ℕ
+implicit_front = codes "ICP-"
+
+-- the name of the implicit savepoint that comes next in a workspace
+abbrev pub implicit_name : Workspace → List ℕ
+implicit_name w = implicit_front ++ decimal w.next_implicit
+
+-- a workspace that is born at a moment, at a savepoint of another
+abbrev pub child_of : ℕ → List Workspace → Workspace → Savepoint → List ℕ → Workspace
+child_of m spaces w k name = record {
+  number = next_space spaces;
+  name = name;
+  parent = w.number;
+  born = m;
+  birth_place = k.place;
+  lists = record { at_birth = kept k; base = kept k; own = []; log = [] };
+  from = k.log_length;
+  rebases = 0;
+  next_place = 1;
+  next_implicit = 1;
+  freeze = Free;
+  writer = [];
+  savepoints = [];
+}
+
+-- the state with a workspace more, born at a savepoint that is made for it
+abbrev pub born : ℕ → Workspace → Stand → List ℕ → Savepoint → State → State
+born m w stand name k s =
+    let t = saved w.number (place_behind w stand) (w.next_implicit + 1) k s in
+    record t { spaces = t.spaces ++ child_of m s.spaces w k name ∷ [] }
+
+-- a workspace is born where one stands in another
+abbrev pub bear_in : ℕ → Stand → List ℕ → State → Workspace → Option State
+bear_in m stand name s w = option_map (λ (k : Savepoint). born m w stand name k s) (saved_at m s.spaces w stand (implicit_name w) true)
+
+-- ---- edits
+
+-- at what is newest, or at the savepoint of a making
+abbrev pub stand_of : Option ℕ → Stand
+stand_of None = Latest
+stand_of (Some making) = At making
+
+-- the table of a name becomes so ready for rows
+abbrev pub enable_named : Readiness → State → Table → State
+enable_named how s t = record s { tables = enabled t.number how s.tables }
+
+-- what an edit makes of a state at a moment; where what it names is not there, nothing
+abbrev pub edited : ℕ → Edit → State → State
+edited m (edits.Create t) s = record s { tables = s.tables ++ t ∷ [] }
+edited m (edits.Enable name valid history) s = unwrap_or (option_map (enable_named (record { valid = valid; history = history }) s) (table_named name s.tables)) s
+edited m (edits.Append n entries) s = written_all n (map entry_of entries.items) s
+edited m (edits.Save n name) s = unwrap_or (option_and_then (save_in m name s) (workspace_of s.spaces n)) s
+edited m (edits.Bear n at name) s = unwrap_or (option_and_then (bear_in m (stand_of at) name s) (workspace_of s.spaces n)) s
+
+-- and what edits make of it in their order
+abbrev pub all_edited : ℕ → List Edit → State → State
+all_edited m [] s = s
+all_edited m (e ∷ es) s = all_edited m es (edited m e s)
+
+-- the state once a line has made edits at a moment: if there are any, they are counted
+abbrev pub drafted : ℕ → List Edit → State → State
+drafted m [] s = s
+drafted m (e ∷ es) s = record (all_edited m (e ∷ es) s) { last_moment = m; work = s.work + line_work }

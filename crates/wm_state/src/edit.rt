@@ -1,0 +1,49 @@
+//! What a line makes of the state: its edits, told without the records that keep them.
+use wm_base::{Key, Kind, Name, Period, Values};
+use wm_spec::record::Table;
+
+/// What is written for a key over a period, by whom and when.
+#[derive(Drop)]
+pub struct NewEntry {
+    pub table: u16,
+    pub key: Key,
+    pub period: Period,
+    /// The row that stands there from now on, or none where it is gone.
+    pub row: Option<Values>,
+    /// The number of the change; those of one list follow one another.
+    pub stamp: u64,
+    pub kind: Kind,
+    /// In seconds, as every moment of the records.
+    pub moment: u64,
+    pub user: Name,
+}
+
+/// One change of the state.
+#[derive(Drop)]
+pub enum Edit {
+    /// A table is made.
+    Create(Table),
+    /// The table of a name becomes ready for rows, with or without valid time and with or without its history.
+    Enable {
+        name: Name,
+        valid: bool,
+        history: bool,
+    },
+    /// Entries of one table come into a workspace, by key.
+    Append {
+        space: u32,
+        entries: Vec<NewEntry>,
+    },
+    /// What is newest in a workspace is kept under a name.
+    Save {
+        space: u32,
+        name: Name,
+    },
+    /// A workspace is born in another at what is newest there, or at the savepoint of a making, with a savepoint that is
+    /// made for it.
+    Bear {
+        parent: u32,
+        at: Option<u64>,
+        name: Name,
+    },
+}
