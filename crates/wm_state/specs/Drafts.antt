@@ -72,8 +72,8 @@ pub record CanEnable (p : Parts) (name : List ℕ) : Type 0 where
   pub off : table.versioned ≡ false
   pub key : table.has_key ≡ true
 
--- the workspace is there, and the log has room; the entries are of a table that is there and fit it, with the stamps that come next;
--- no key is above the next
+-- the workspace is there, and the log has room; there are entries, all of a table that is there, which they fit, with the stamps that
+-- come next; no key is above the next
 pub record CanAppend (p : Parts) (n : ℕ) (es : List Entry) : Type 0 where
   pub space : Space
   pub there : space_of p.spaces n ≡ Some space
@@ -81,6 +81,7 @@ pub record CanAppend (p : Parts) (n : ℕ) (es : List Entry) : Type 0 where
   pub one : p.counters ≡ counters ∷ []
   pub table : Table
   pub tabled : table_of p.tables table.number ≡ Some table
+  pub some : nat_lt 0 (length es) ≡ true
   pub stamped : AreStamped table.number counters.next_stamp es
   pub well : list_all (is_well (table_of p.tables)) es ≡ true
   pub users : list_all (λ (e : Entry). is_short e.user) es ≡ true
