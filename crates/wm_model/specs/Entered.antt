@@ -1,16 +1,11 @@
 -- What a workspace gains when rows of a table change.
-use Rattle.std.specs.Prelude.{ℕ, ◌+◌, List, [], ◌∷◌, length, Option}
+use Rattle.std.specs.Prelude.{ℕ, ◌+◌, List, [], ◌∷◌}
 use Rattle.std.specs.Option.{option_map}
-use Rattle.wm_base.specs.declared.row.Row.{Row}
-use Rattle.wm_base.specs.declared.value.Value.{Value}
 use Rattle.wm_dml.specs.declared.change.RowChange.{RowChange}
 use Rattle.wm_spec.specs.Lists.{Entry}
 use Rattle.wm_spec.specs.declared.record.table.Table.{Table}
-use Rattle.wm_state.specs.State.{State, with_space, with_entries}
-
--- values as a row
-abbrev pub row_value : List Value → Row
-row_value values = record { values = values }
+use Rattle.wm_state.specs.Editing.{row_value}
+use Rattle.wm_state.specs.State.{State}
 
 -- what is written for a change
 abbrev pub change_entry : ℕ → ℕ → List ℕ → Table → RowChange → Entry
@@ -33,7 +28,3 @@ entries_from stamp moment user t (x ∷ xs) = change_entry stamp moment user t x
 
 abbrev pub entries_of : State → List ℕ → Table → List RowChange → List Entry
 entries_of s user t changes = entries_from s.next_stamp s.moment user t changes
-
--- the entries are in the workspace of this number, and their stamps are given
-abbrev pub written_all : ℕ → List Entry → State → State
-written_all n es s = record s { spaces = with_space n (with_entries es) s.spaces; next_stamp = s.next_stamp + length es }

@@ -37,23 +37,22 @@ seated sessions (Close name) = closed name sessions
 seated sessions (Move name space stand) = moved_to name space stand sessions
 seated sessions (Limit name period) = limited name period sessions
 
--- the plan does and answers what a function of the state does and answers, for each state that these stand for
-pub record Does (records : List Stored) (sessions : List Session) (moment : ℕ) (changes : List Change) (seating : Seating) (answer : Answer) (act : State → State × Answer) : Type 0 where
-  pub keeps : keep_rules (parts_of (applied changes records)) ≡ true
-  pub once : AreChanges changes
-  pub does : (s : State) → StandsAt records sessions moment s → StandsAt (applied changes records) (seated sessions seating) moment (act s).0 × (answer ≡ (act s).1)
+-- the state with what a plan makes of it at a moment: its edits, and what becomes of the sessions
+abbrev pub planned : ℕ → List Edit → Seating → State → State
+planned m edits seating s = record (drafted m edits s) { sessions = seated s.sessions seating }
+
+-- the plan may be made of the records, and it does and answers what a function of the state does and answers, for each state that these
+-- stand for
+pub record Does (records : List Stored) (sessions : List Session) (moment : ℕ) (edits : List Edit) (seating : Seating) (answer : Answer) (act : State → State × Answer) : Type 0 where
+  pub can : CanDraft (parts_of records) moment edits
+  pub does : (s : State) → StandsAt records sessions moment s → act s ≡ (planned moment edits seating s, answer)
 
 -- so, with another moment behind it
-pub record DoesAt (records : List Stored) (sessions : List Session) (moment : ℕ) (changes : List Change) (seating : Seating) (after : ℕ) (answer : Answer) (act : State → State × Answer) : Type 0 where
-  pub keeps : keep_rules (parts_of (applied changes records)) ≡ true
-  pub once : AreChanges changes
-  pub does : (s : State) → StandsAt records sessions moment s → StandsAt (applied changes records) (seated sessions seating) after (act s).0 × (answer ≡ (act s).1)
+pub record DoesAt (records : List Stored) (sessions : List Session) (moment : ℕ) (edits : List Edit) (seating : Seating) (after : ℕ) (answer : Answer) (act : State → State × Answer) : Type 0 where
+  pub can : CanDraft (parts_of records) moment edits
+  pub does : (s : State) → StandsAt records sessions moment s → act s ≡ (record (planned moment edits seating s) { moment = after }, answer)
 
 -- ---- what plans are told by
-
--- the counters once a line has changed something at a moment
-abbrev pub moved : Counters → ℕ → Counters
-moved c m = record c { last_moment = m; work = c.work + line_work }
 
 -- the tables of the records, in the order of their making
 abbrev pub tables_in : List Stored → List Table

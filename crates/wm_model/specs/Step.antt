@@ -44,12 +44,13 @@ use Rattle.wm_making.specs.Creating.{names_fault, shape_fault, table_of}
 use Rattle.wm_making.specs.Inserting.{insert_fault}
 use Rattle.wm_making.specs.Rows.{is_filled, period_given, row_of, row_fault}
 use Rattle.wm_select.specs.Query.{answer_of, row_limit}
-use Rattle.wm_model.specs.Entered.{entries_of, written_all}
+use Rattle.wm_model.specs.Entered.{entries_of}
 use Rattle.wm_typing.specs.Asking.{query_fault}
 use Rattle.wm_typing.specs.Changing.{update_fault, delete_fault}
 use Rattle.wm_typing.specs.Columns.{columns_of_table}
 use Rattle.wm_reader.specs.Reading.{is_remark, folded}
 pub use Rattle.wm_state.specs.State.{State, fresh}
+pub use Rattle.wm_state.specs.Editing.{counter_limit, number_limit, line_work, implicit_front, implicit_name, saved_at, place_behind, saved, child_of, born, written_all}
 use Rattle.wm_state.specs.Drawing.{are_sorted}
 use Rattle.wm_state.specs.Listing.{first_shared, row_shown, span_on}
 use Rattle.wm_state.specs.State.{Workspace, Savepoint, Session, Stand, Readiness, Latest, At, content, enabled, kept, savepoint_made, seen_from, with_space, with_savepoint, workspace_of, table_named, workspace_named, savepoint_named, next_table, next_space, next_making}
@@ -173,18 +174,6 @@ unless_mistyped (Some parameter) s done = (s, mistyped parameter)
 
 -- ---- what a change counts
 
--- the greatest length of a log, and the greatest work
-abbrev pub counter_limit : ℕ
-counter_limit = 2 ^ 62
-
--- the greatest next place, next number of an implicit savepoint, and number of a workspace
-abbrev pub number_limit : ℕ
-number_limit = 4294967295
-
--- what a line that changes something counts
-abbrev pub line_work : ℕ
-line_work = 4096
-
 -- a line that changes a durable part: it makes a log so long, sets the last moment and counts its work, unless a counter is
 -- at its end
 abbrev pub durably : State → ℕ → State × Answer → State × Answer
@@ -202,10 +191,6 @@ is_name name = (nat_le 1 (length name) && nat_le (length name) 30) && list_all (
 -- a name that views show in place of a workspace's
 abbrev pub names_no_workspace : List ℕ → Bool
 names_no_workspace name = bytes_eq name (codes "BASE") || bytes_eq name (codes "DiffBase")
-
--- how the names of implicit savepoints begin
-abbrev pub implicit_front : List ℕ
-implicit_front = codes "ICP-"
 
 -- the name of what is newest in a workspace
 abbrev pub latest : List ℕ
@@ -501,36 +486,9 @@ delete session name filter empty =
 
 -- ---- savepoints
 
--- a savepoint of what stands in a workspace where a session stands: at what is newest it has a new place, and at a savepoint the
--- place of that one
-abbrev pub saved_at : State → Workspace → Stand → List ℕ → Bool → Option Savepoint
-saved_at s w Latest name implicit = Some (record {
-  making = next_making s.spaces;
-  name = name;
-  implicit = implicit;
-  place = w.next_place;
-  moment = s.moment;
-  base = w.lists.base;
-  own = w.lists.own;
-  from = w.from;
-  log_length = length w.lists.log;
-  rebases = w.rebases;
-})
-saved_at s w (At making) name implicit =
-    option_map (λ (k : Savepoint). record k { making = next_making s.spaces; name = name; implicit = implicit }) (savepoint_made making w.savepoints)
-
--- the next place behind such a savepoint
-abbrev pub place_behind : Workspace → Stand → ℕ
-place_behind w Latest = w.next_place + 1
-place_behind w (At making) = w.next_place
-
--- the workspace of this number has a savepoint more
-abbrev pub saved : ℕ → ℕ → ℕ → Savepoint → State → State
-saved n place implicit k s = record s { spaces = with_space n (with_savepoint place implicit k) s.spaces }
-
 -- CreateSavepoint keeps what is newest in a workspace under a name
 abbrev pub save : List ℕ → State → Workspace → State × Answer
-save name s w = of (saved_at s w Latest name false)
+save name s w = of (saved_at s.moment s.spaces w Latest name false)
   where
     of : Option Savepoint → State × Answer
     of None = (s, not_built)
@@ -555,44 +513,16 @@ goto_savepoint session name s = at_home s session (λ w. if bytes_eq name latest
 
 -- ---- workspaces
 
--- the name of the implicit savepoint that comes next in a workspace
-abbrev pub implicit_name : Workspace → List ℕ
-implicit_name w = implicit_front ++ decimal w.next_implicit
-
--- a workspace that is born at a savepoint of another
-abbrev pub child_of : State → Workspace → Savepoint → List ℕ → Workspace
-child_of s w k name = record {
-  number = next_space s.spaces;
-  name = name;
-  parent = w.number;
-  born = s.moment;
-  birth_place = k.place;
-  lists = record { at_birth = kept k; base = kept k; own = []; log = [] };
-  from = k.log_length;
-  rebases = 0;
-  next_place = 1;
-  next_implicit = 1;
-  freeze = Free;
-  writer = [];
-  savepoints = [];
-}
-
--- the state with a workspace more, born at a savepoint that is made for it
-abbrev pub born : State → Workspace → Stand → List ℕ → Savepoint → State
-born s w stand name k =
-    let t = saved w.number (place_behind w stand) (w.next_implicit + 1) k s in
-    record t { spaces = t.spaces ++ child_of s w k name ∷ [] }
-
 -- a workspace is born where a session stands, unless a counter is at its end
 abbrev pub bear : Stand → List ℕ → State → Workspace → State × Answer
 bear stand name s w =
     if nat_lt number_limit (place_behind w stand) then (s, at_its_end (codes "PLACE")) else
     (if nat_lt number_limit (w.next_implicit + 1) then (s, at_its_end (codes "ICP")) else
-    (if nat_lt number_limit (next_space s.spaces) then (s, at_its_end (codes "WORKSPACE")) else of (saved_at s w stand (implicit_name w) true)))
+    (if nat_lt number_limit (next_space s.spaces) then (s, at_its_end (codes "WORKSPACE")) else of (saved_at s.moment s.spaces w stand (implicit_name w) true)))
   where
     of : Option Savepoint → State × Answer
     of None = (s, not_built)
-    of (Some k) = durably s 0 (born s w stand name k, Fine)
+    of (Some k) = durably s 0 (born s.moment w stand name k s, Fine)
 
 -- CreateWorkspace makes a child of the session's workspace
 abbrev pub create_workspace : Session → List ℕ → State → State × Answer
