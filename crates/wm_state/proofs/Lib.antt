@@ -61,3 +61,5 @@ pub mod DrawingApart
 pub mod Drawing
 pub mod DrawingKeys
 pub mod DrawingNews
+pub mod Counting
+pub mod Settled
