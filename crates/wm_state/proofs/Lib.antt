@@ -63,3 +63,4 @@ pub mod DrawingKeys
 pub mod DrawingNews
 pub mod Counting
 pub mod Settled
+pub mod Points
