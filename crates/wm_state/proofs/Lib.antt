@@ -64,3 +64,4 @@ pub mod DrawingNews
 pub mod Counting
 pub mod Settled
 pub mod Points
+pub mod Drafted
