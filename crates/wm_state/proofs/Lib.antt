@@ -65,3 +65,5 @@ pub mod Counting
 pub mod Settled
 pub mod Points
 pub mod Drafted
+pub mod FewChanged
+pub mod DraftedSaved
