@@ -67,3 +67,4 @@ pub mod Points
 pub mod Drafted
 pub mod FewChanged
 pub mod DraftedSaved
+pub mod DraftedBorn
