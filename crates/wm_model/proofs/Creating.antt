@@ -1,33 +1,27 @@
 -- What CREATE TABLE does to each state that the records stand for.
-use Rattle.std.proofs.Common.{◌≡◌, ◌≤◌, ◌<◌, ℕ, ◌+◌, nat_lt, nat_le, max, true, false, not, if◌then◌else◌, List, [], ◌∷◌, ◌++◌, length, Some, None, is_some, refl, sym, ap, subst, ◌∙◌, arith, codes}
+use Rattle.std.proofs.Common.{◌≡◌, ℕ, ◌+◌, nat_lt, nat_le, max, true, false, if◌then◌else◌, List, [], ◌∷◌, ◌++◌, length, Some, None, is_some, refl, sym, ap, ◌∙◌, arith, codes}
 use Rattle.std.proofs.lemmas.Slice.Eq.{bytes_eq-Decides}
 use Rattle.std.specs.List.{list_all, list_any}
 use Rattle.std.specs.Str.{bytes_eq}
 use Rattle.wm_base.specs.declared.instant.TheConstants.{END}
-use Rattle.wm_graph.specs.Parts.{parts_of}
-use Rattle.wm_graph.specs.Rules.{keep_rules, are_counters, is_table}
 use Rattle.wm_base.specs.declared.refusal.Refusal.{Refusal}
 use Rattle.wm_base.specs.declared.tree.statement.CreateItem.{CreateItem}
+use Rattle.wm_graph.specs.Parts.{parts_of}
+use Rattle.wm_graph.specs.Rules.{keep_rules, is_table}
 use Rattle.wm_making.specs.Creating.{names_fault, shape_fault, table_of}
 use Rattle.wm_print.specs.Texts.{Answer, Fine, Refused}
-use Rattle.wm_spec.specs.Records.{record_at}
-use Rattle.wm_spec.specs.declared.record.Record.TheVariants as records
 use Rattle.wm_spec.specs.declared.record.counters.Counters.{Counters}
 use Rattle.wm_spec.specs.declared.record.stored.Stored.{Stored}
 use Rattle.wm_spec.specs.declared.record.table.Table.{Table}
-use Rattle.wm_state.specs.Batches.{put, create_batch, AllUnder}
-use Rattle.wm_state.specs.ById.{Ascend, applied}
+use Rattle.wm_state.specs.Drafts.{CanCreate}
 use Rattle.wm_state.specs.State.{State, Session, table_named, next_table}
-use Rattle.wm_state.proofs.Apart.{Ruled, ruled}
-use Rattle.wm_state.proofs.ByKind.{under_found}
+use Rattle.wm_state.specs.declared.edit.Edit.TheVariants as edits
 use Rattle.wm_state.proofs.Mapped.{any-if, none-found}
-use Rattle.wm_state.proofs.Planned.{plan_created}
-use Rattle.wm_state.proofs.Planning.{parts-created}
-use Rattle.wm_state.proofs.Tables.{MayCreate, keep-created, by_number-all, by_number-any, by_number-length}
+use Rattle.wm_state.proofs.Tables.{by_number-all, by_number-any, by_number-length}
 use Rattle.wm_state.proofs.Tests.{and_true, all_if, either_false}
 use Rattle.wm_model.specs.Step.{create, durably, counter_limit, line_work, unless, is_full, table_there, most_tables, at_its_end}
-use Rattle.wm_model.specs.Planning.{StandsAt, Does, Stay, moved, named, tables_in}
-use Rattle.wm_model.proofs.Doing.{does_nothing, counts_as, counters_move, spent_work, not_spent, two_changes}
+use Rattle.wm_model.specs.Planning.{StandsAt, Does, Stay, named, tables_in}
+use Rattle.wm_model.proofs.Doing.{does_nothing, does_edit, spent_at, not_spent_at}
 
 -- the table that is to be made
 abbrev pub table_to_make : List Stored → List ℕ → List CreateItem → Table
@@ -74,16 +68,16 @@ created_is rs xs m s name items st = ap (making name items s) (sym st.stands.tab
 -- a name is too long or reserved
 pub create_misnamed : (rs : List Stored) (xs : List Session) (m : ℕ) (name : List ℕ) (items : List CreateItem) (refusal : Refusal) → keep_rules (parts_of rs) ≡ true → names_fault name items ≡ Some refusal
     → Does rs xs m [] Stay (Refused refusal) (create name items)
-create_misnamed rs xs m name items refusal rules bad = does_nothing rs xs m (Refused refusal) (create name items) rules (λ s st. created_is rs xs m s name items st ∙ rw bad refl)
+create_misnamed rs xs m name items refusal rules bad = does_nothing rs xs m (Refused refusal) (create name items) (λ s st. created_is rs xs m s name items st ∙ rw bad refl)
 
 pub create_there : (rs : List Stored) (xs : List Session) (m : ℕ) (name : List ℕ) (items : List CreateItem) (t : Table) → keep_rules (parts_of rs) ≡ true → names_fault name items ≡ None → named rs name ≡ Some t
     → Does rs xs m [] Stay (table_there name) (create name items)
-create_there rs xs m name items t rules good some = does_nothing rs xs m (table_there name) (create name items) rules (λ s st. created_is rs xs m s name items st ∙ rw (good, some) refl)
+create_there rs xs m name items t rules good some = does_nothing rs xs m (table_there name) (create name items) (λ s st. created_is rs xs m s name items st ∙ rw (good, some) refl)
 
 -- the columns or the key are not those of a table
 pub create_misshaped : (rs : List Stored) (xs : List Session) (m : ℕ) (name : List ℕ) (items : List CreateItem) (refusal : Refusal) → keep_rules (parts_of rs) ≡ true → names_fault name items ≡ None → named rs name ≡ None
     → shape_fault items ≡ Some refusal → Does rs xs m [] Stay (Refused refusal) (create name items)
-create_misshaped rs xs m name items refusal rules good none bad = does_nothing rs xs m (Refused refusal) (create name items) rules (λ s st. created_is rs xs m s name items st ∙ rw (good, none, bad) refl)
+create_misshaped rs xs m name items refusal rules good none bad = does_nothing rs xs m (Refused refusal) (create name items) (λ s st. created_is rs xs m s name items st ∙ rw (good, none, bad) refl)
 
 -- nothing is wrong with the line itself, and the name is new
 pub record MayMake (rs : List Stored) (name : List ℕ) (items : List CreateItem) : Type 0 where
@@ -94,7 +88,7 @@ pub record MayMake (rs : List Stored) (name : List ℕ) (items : List CreateItem
 
 pub create_full : (rs : List Stored) (xs : List Session) (m : ℕ) (name : List ℕ) (items : List CreateItem) → keep_rules (parts_of rs) ≡ true → MayMake rs name items
     → is_full (tables_in rs) ≡ true → Does rs xs m [] Stay most_tables (create name items)
-create_full rs xs m name items rules new full = does_nothing rs xs m most_tables (create name items) rules (λ s st. created_is rs xs m s name items st ∙ rw (new.good, new.new, new.shaped, full) refl)
+create_full rs xs m name items rules new full = does_nothing rs xs m most_tables (create name items) (λ s st. created_is rs xs m s name items st ∙ rw (new.good, new.new, new.shaped, full) refl)
 
 -- ---- a table is made
 
@@ -105,20 +99,14 @@ made_is rs xs m s name items st new room = created_is rs xs m s name items st �
 pub create_spent : (rs : List Stored) (xs : List Session) (m : ℕ) (name : List ℕ) (items : List CreateItem) (c : Counters) → keep_rules (parts_of rs) ≡ true → MayMake rs name items
     → is_full (tables_in rs) ≡ false → (parts_of rs).counters ≡ c ∷ [] → nat_lt counter_limit (c.work + line_work) ≡ true → Does rs xs m [] Stay (at_its_end (codes "WORK")) (create name items)
 create_spent rs xs m name items c rules new room one much =
-    does_nothing rs xs m (at_its_end (codes "WORK")) (create name items) rules
+    does_nothing rs xs m (at_its_end (codes "WORK")) (create name items)
     (λ s st. made_is rs xs m s name items st new room
-    ∙ spent_work s 0 (record s { tables = tables_in rs ++ table_to_make rs name items ∷ [] }, Fine) refl (ap (λ w. nat_lt counter_limit (w + line_work)) (sym (counts_as rs xs m s c st one).work) ∙ much))
+    ∙ spent_at rs xs m s 0 c (record s { tables = tables_in rs ++ table_to_make rs name items ∷ [] }, Fine) st one refl much)
 
 -- such a table may be made
-may_create : (rs : List Stored) (name : List ℕ) (items : List CreateItem) (old new : Counters) → (parts_of rs).counters ≡ old ∷ [] → are_counters new ≡ true → new.next_version ≡ old.next_version → new.next_stamp ≡ old.next_stamp → old.work ≤ new.work
-    → MayMake rs name items → is_full (tables_in rs) ≡ false → MayCreate (parts_of rs) old new (table_to_make rs name items)
+can_create : (rs : List Stored) (name : List ℕ) (items : List CreateItem) → MayMake rs name items → is_full (tables_in rs) ≡ false → CanCreate (parts_of rs) (table_to_make rs name items)
 unfolding table_of
-may_create rs name items old new one counted versions stamps work fits room = record {
-  one = one;
-  counters = counted;
-  versions = versions;
-  stamps = stamps;
-  work = work;
+can_create rs name items fits room = record {
   is = fits.fit;
   room = few (length (tables_in rs)) (length (parts_of rs).tables) (by_number-length (parts_of rs).tables) (is_room (tables_in rs) room).0;
   number = sym (by_number-all (λ (u : Table). nat_lt u.number (next_table (tables_in rs))) (parts_of rs).tables) ∙ numbers_under (tables_in rs);
@@ -128,44 +116,13 @@ may_create rs name items old new one counted versions stamps work fits room = re
     few : (a b : ℕ) → a ≡ b → nat_le 256 a ≡ false → nat_lt b 256 ≡ true
     few a b same room = grind (arith, same, room)
 
-pub does_create : (rs : List Stored) (xs : List Session) (m : ℕ) (name : List ℕ) (items : List CreateItem) (c : Counters) (counters_id id : ℕ) → keep_rules (parts_of rs) ≡ true → MayMake rs name items
-    → is_full (tables_in rs) ≡ false → (parts_of rs).counters ≡ c ∷ [] → record_at rs counters_id ≡ Some (records.Counters c) → nat_lt counter_limit (c.work + line_work) ≡ false → nat_lt m END ≡ true → Ascend rs → AllUnder id rs
-    → Does rs xs m (create_batch counters_id (moved c m) id (table_to_make rs name items)) Stay Fine (create name items)
-does_create rs xs m name items c counters_id id rules new room one there left early sorted under = record {
-  keeps = subst (λ p. keep_rules p ≡ true) (sym (parts-created rs counters_id id c (moved c m) made sorted there one under)) (keep-created (parts_of rs) c (moved c m) made may rules);
-  once = two_changes (put counters_id (records.Counters (moved c m))) (put id (records.Table made)) (λ e. below counters_id id (under_found id rs counters_id (records.Counters c) under there) e);
-  does = λ s st.
-      let counts = counts_as rs xs m s c st one in
-      let is : create name items s ≡ (record s { tables = tables_in rs ++ made ∷ []; last_moment = s.moment; work = s.work + line_work }, Fine) =
-      made_is rs xs m s name items st new room
-      ∙ not_spent s 0 (record s { tables = tables_in rs ++ made ∷ [] }, Fine) refl (ap (λ w. nat_lt counter_limit (w + line_work)) (sym counts.work) ∙ left) in (
-        subst (λ r. StandsAt (applied (create_batch counters_id (moved c m) id made) rs) xs m r.0) (sym is) (record {
-          stands = plan_created rs counters_id id c (moved c m) made s _ st.stands sorted there under may refl (ap (λ ts. ts ++ made ∷ []) st.stands.tables.same)
-              (record { counters = moved c m; one = refl; next_stamp = counts.next_stamp; last_moment = st.moment_is; limit = counts.limit; work = ap (λ w. w + line_work) counts.work });
-          sessions_are = st.sessions_are;
-          moment_is = st.moment_is;
-        }),
-        sym (ap (λ r. r.1) is),
-      );
-}
+pub does_create : (rs : List Stored) (xs : List Session) (m : ℕ) (name : List ℕ) (items : List CreateItem) (c : Counters) → MayMake rs name items → is_full (tables_in rs) ≡ false → (parts_of rs).counters ≡ c ∷ []
+    → nat_lt counter_limit (c.work + line_work) ≡ false → nat_lt m END ≡ true → Does rs xs m (edits.Create (table_to_make rs name items) ∷ []) Stay Fine (create name items)
+does_create rs xs m name items c new room one left early =
+    does_edit rs xs m (edits.Create made) Fine (create name items) (record { counters = c; one = one; room = left; early = early }) (can_create rs name items new room)
+    (λ s st. made_is rs xs m s name items st new room
+    ∙ not_spent_at rs xs m s 0 c (record s { tables = tables_in rs ++ made ∷ [] }, Fine) st one refl left
+    ∙ ap (λ (ts : List Table). (record s { tables = ts ++ made ∷ []; last_moment = m; work = s.work + line_work }, Fine)) st.stands.tables.same)
   where
     made : Table
     made = table_to_make rs name items
-
-    only : (a b : Counters) → (a ∷ []) ≡ (b ∷ []) → a ≡ b
-    only a b h = cc
-
-    below : (a b : ℕ) → a < b → a ≡ b → ⊥
-    below a b lt e = omega (arith, lt, e)
-
-    more : (w : ℕ) → w ≤ w + line_work
-    more w = omega arith
-
-    counts_well : are_counters (moved c m) ≡ true
-    counts_well = counters_move c m (counted_well (ruled (parts_of rs) rules)) early left
-      where
-        counted_well : Ruled (parts_of rs) → are_counters c ≡ true
-        counted_well r = ap are_counters (sym (only r.counters c (sym r.one ∙ one))) ∙ r.counted
-
-    may : MayCreate (parts_of rs) c (moved c m) made
-    may = may_create rs name items c (moved c m) one counts_well refl refl (more c.work) new room

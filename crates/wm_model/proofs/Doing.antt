@@ -1,18 +1,20 @@
 -- What plans do to each state that the engine stands for: what all of them have in common.
-use Rattle.std.proofs.Common.{◌≡◌, ◌≢◌, ℕ, ◌+◌, ◌&&◌, nat_lt, nat_le, Bool, true, false, List, [], ◌∷◌, ◌^◌, refl, sym, ap, subst, ◌∙◌, arith, codes}
-use Rattle.std.proofs.lemmas.Bool.{ne_eqb}
-use Rattle.wm_base.specs.declared.instant.TheConstants.{END}
+use Rattle.std.proofs.Common.{◌≡◌, ℕ, ◌+◌, nat_lt, true, false, List, [], ◌∷◌, Option, Some, None, unwrap_or, refl, sym, ap, ◌∙◌, codes}
+use Rattle.std.specs.Option.{option_map, option_and_then}
 use Rattle.wm_graph.specs.Parts.{Parts, parts_of}
-use Rattle.wm_graph.specs.Rules.{keep_rules, are_counters}
 use Rattle.wm_print.specs.Texts.{Answer}
-use Rattle.wm_spec.specs.Records.{AreChanges, ids_differ}
-use Rattle.wm_spec.specs.declared.record.batch.Change.{Change}
 use Rattle.wm_spec.specs.declared.record.counters.Counters.{Counters}
 use Rattle.wm_spec.specs.declared.record.stored.Stored.{Stored}
-use Rattle.wm_state.specs.State.{State, Session}
+use Rattle.wm_state.specs.Drafts.{CanEdit, CanWork}
+use Rattle.wm_spec.specs.declared.record.table.Table.{Table}
+use Rattle.wm_state.specs.Editing.{bear_in, born, edited, enable_named, implicit_name, save_in, saved_at, stand_of}
+use Rattle.wm_state.specs.State.{Readiness, Savepoint, Session, State, Workspace, table_named, workspace_of}
 use Rattle.wm_state.specs.Standing.{Stands}
+use Rattle.wm_state.specs.declared.edit.Edit.{Edit}
+use Rattle.wm_state.specs.declared.edit.Edit.TheVariants as edits
+use Rattle.wm_state.proofs.Counting.{CountsAs, counts_as as counted_as}
 use Rattle.wm_model.specs.Step.{durably, counter_limit, line_work, at_its_end}
-use Rattle.wm_model.specs.Planning.{StandsAt, Does, Seating, Stay, seated, moved}
+use Rattle.wm_model.specs.Planning.{StandsAt, Does, Seating, Stay, seated}
 
 -- ---- nothing changes
 
@@ -41,77 +43,58 @@ stands_sessions p s xs st = record {
   hists = record { same = st.hists.same };
 }
 
-pub none_changes : AreChanges []
-unfolding ids_differ
-none_changes = refl
-
 -- an answer alone
-pub does_nothing : (rs : List Stored) (xs : List Session) (m : ℕ) (answer : Answer) (act : State → State × Answer) → keep_rules (parts_of rs) ≡ true → ((s : State) → StandsAt rs xs m s → act s ≡ (s, answer))
-    → Does rs xs m [] Stay answer act
-does_nothing rs xs m answer act rules same = record {
-  keeps = rules;
-  once = none_changes;
-  does = λ s stands. (subst (λ t. StandsAt rs xs m t) (sym (ap (λ r. r.0) (same s stands))) stands, sym (ap (λ r. r.1) (same s stands)));
-}
+pub does_nothing : (rs : List Stored) (xs : List Session) (m : ℕ) (answer : Answer) (act : State → State × Answer) → ((s : State) → StandsAt rs xs m s → act s ≡ (s, answer)) → Does rs xs m [] Stay answer act
+does_nothing rs xs m answer act same = record { can = tt; does = λ s st. same s st ∙ ap (λ n. (record s { moment = n }, answer)) (sym st.moment_is) }
 
 -- the sessions alone change
-pub does_seat : (rs : List Stored) (xs : List Session) (m : ℕ) (seating : Seating) (answer : Answer) (act : State → State × Answer) → keep_rules (parts_of rs) ≡ true
+pub does_seat : (rs : List Stored) (xs : List Session) (m : ℕ) (seating : Seating) (answer : Answer) (act : State → State × Answer)
     → ((s : State) → StandsAt rs xs m s → act s ≡ (record s { sessions = seated s.sessions seating }, answer)) → Does rs xs m [] seating answer act
-does_seat rs xs m seating answer act rules same = record {
-  keeps = rules;
-  once = none_changes;
-  does = λ s stands. (
-    subst (λ t. StandsAt rs (seated xs seating) m t) (sym (ap (λ r. r.0) (same s stands))) (record {
-      stands = stands_sessions (parts_of rs) s (seated s.sessions seating) stands.stands;
-      sessions_are = ap (λ ys. seated ys seating) stands.sessions_are;
-      moment_is = stands.moment_is;
-    }),
-    sym (ap (λ r. r.1) (same s stands)),
-  );
+does_seat rs xs m seating answer act same = record { can = tt; does = λ s st. same s st ∙ ap (λ n. (record s { sessions = seated s.sessions seating; moment = n }, answer)) (sym st.moment_is) }
+
+-- an edit leaves the moment and the sessions as they are
+pub edited_stays : (m : ℕ) (e : Edit) (s : State) → ((edited m e s).moment ≡ s.moment) × ((edited m e s).sessions ≡ s.sessions)
+edited_stays m (edits.Create t) s = (refl, refl)
+edited_stays m (edits.Enable name valid history) s = by_table (table_named name s.tables)
+  where
+    how : Readiness
+    how = record { valid = valid; history = history }
+
+    by_table : (o : Option Table) → ((unwrap_or (option_map (enable_named how s) o) s).moment ≡ s.moment) × ((unwrap_or (option_map (enable_named how s) o) s).sessions ≡ s.sessions)
+    by_table None = (refl, refl)
+    by_table (Some t) = (refl, refl)
+edited_stays m (edits.Append n entries) s = (refl, refl)
+edited_stays m (edits.Save n name) s = by_space (workspace_of s.spaces n)
+  where
+    by_space : (o : Option Workspace) → ((unwrap_or (option_and_then (save_in m name s) o) s).moment ≡ s.moment) × ((unwrap_or (option_and_then (save_in m name s) o) s).sessions ≡ s.sessions)
+    by_space None = (refl, refl)
+    by_space (Some w) = (refl, refl)
+edited_stays m (edits.Bear n at name) s = by_space (workspace_of s.spaces n)
+  where
+    by_savepoint : (w : Workspace) (o : Option Savepoint) → ((unwrap_or (option_map (λ (k : Savepoint). born m w (stand_of at) name k s) o) s).moment ≡ s.moment) × ((unwrap_or (option_map (λ (k : Savepoint). born m w (stand_of at) name k s) o) s).sessions ≡ s.sessions)
+    by_savepoint w None = (refl, refl)
+    by_savepoint w (Some k) = (refl, refl)
+
+    by_space : (o : Option Workspace) → ((unwrap_or (option_and_then (bear_in m (stand_of at) name s) o) s).moment ≡ s.moment) × ((unwrap_or (option_and_then (bear_in m (stand_of at) name s) o) s).sessions ≡ s.sessions)
+    by_space None = (refl, refl)
+    by_space (Some w) = by_savepoint w (saved_at m s.spaces w (stand_of at) (implicit_name w) true)
+
+-- one edit is made
+pub does_edit : (rs : List Stored) (xs : List Session) (m : ℕ) (e : Edit) (answer : Answer) (act : State → State × Answer) → CanWork (parts_of rs) m → CanEdit (parts_of rs) m e
+    → ((s : State) → StandsAt rs xs m s → act s ≡ (record (edited m e s) { last_moment = m; work = s.work + line_work }, answer)) → Does rs xs m (e ∷ []) Stay answer act
+does_edit rs xs m e answer act work can same = record {
+  can = (work, can);
+  does = λ s st. let stays = edited_stays m e s in
+      same s st
+      ∙ ap (λ n. (record (edited m e s) { last_moment = m; work = s.work + line_work; moment = n }, answer)) (stays.0 ∙ sym st.moment_is)
+      ∙ ap (λ ys. (record (edited m e s) { last_moment = m; work = s.work + line_work; moment = m; sessions = ys }, answer)) stays.1;
 }
 
 -- ---- what is counted
 
 -- the counters of the records are those of the state
-pub record CountsAs (c : Counters) (s : State) : Type 0 where
-  pub next_stamp : c.next_stamp ≡ s.next_stamp
-  pub last_moment : c.last_moment ≡ s.last_moment
-  pub limit : c.limit ≡ s.limit
-  pub work : c.work ≡ s.work
-
 pub counts_as : (rs : List Stored) (xs : List Session) (m : ℕ) (s : State) (c : Counters) → StandsAt rs xs m s → (parts_of rs).counters ≡ c ∷ [] → CountsAs c s
-counts_as rs xs m s c stands one =
-    let k = stands.stands.counters in
-    let same : k.counters ≡ c = first_same k.counters c (sym k.one ∙ one) in
-    record {
-      next_stamp = ap (λ (x : Counters). x.next_stamp) (sym same) ∙ k.next_stamp;
-      last_moment = ap (λ (x : Counters). x.last_moment) (sym same) ∙ k.last_moment;
-      limit = ap (λ (x : Counters). x.limit) (sym same) ∙ k.limit;
-      work = ap (λ (x : Counters). x.work) (sym same) ∙ k.work;
-    }
-  where
-    first_same : (a b : Counters) → (a ∷ []) ≡ (b ∷ []) → a ≡ b
-    first_same a b h = cc
-
-both : (a b : Bool) → (a && b) ≡ true → (a ≡ true) × (b ≡ true)
-both true b e = (refl, e)
-both false b e = absurd (false_true e)
-  where
-    false_true : false ≡ true → ⊥
-    false_true e = cc
-
-pub counters_move : (c : Counters) (m : ℕ) → are_counters c ≡ true → nat_lt m END ≡ true → nat_lt counter_limit (c.work + line_work) ≡ false → are_counters (moved c m) ≡ true
-counters_move c m e early room =
-    let h = both ((nat_le 1 c.limit && nat_le c.limit 1048576) && (nat_le 1 c.next_stamp && nat_le c.next_stamp (c.limit + 1))) _ e in
-    let g = both (nat_lt c.last_moment END) (nat_le c.work (2 ^ 62) && nat_le c.next_version (c.work + 2)) h.1 in
-    let k = both (nat_le c.work (2 ^ 62)) (nat_le c.next_version (c.work + 2)) g.1 in
-    rw (h.0, early, in_room c.work room, still c.next_version c.work k.1) refl
-  where
-    in_room : (w : ℕ) → nat_lt counter_limit (w + line_work) ≡ false → nat_le (w + line_work) (2 ^ 62) ≡ true
-    in_room w e = grind (arith, e)
-
-    still : (v w : ℕ) → nat_le v (w + 2) ≡ true → nat_le v (w + line_work + 2) ≡ true
-    still v w e = grind (arith, e)
+counts_as rs xs m s c st one = counted_as (parts_of rs) s c st.stands one
 
 -- a line that changes something where a counter is at its end
 pub spent_work : (s : State) (log : ℕ) (done : State × Answer) → nat_lt counter_limit log ≡ false → nat_lt counter_limit (s.work + line_work) ≡ true → durably s log done ≡ (s, at_its_end (codes "WORK"))
@@ -124,7 +107,14 @@ pub not_spent : (s : State) (log : ℕ) (done : State × Answer) → nat_lt coun
     → durably s log done ≡ (record done.0 { last_moment = s.moment; work = s.work + line_work }, done.1)
 not_spent s log done short room = rw (short, room) refl
 
--- two changes of different ids
-pub two_changes : (c d : Change) → c.id ≢ d.id → AreChanges (c ∷ d ∷ [])
-unfolding ids_differ
-two_changes c d apart = rw (ne_eqb d.id c.id (λ e. apart (sym e))) refl
+-- so, at the moment of the plan
+pub not_spent_at : (rs : List Stored) (xs : List Session) (m : ℕ) (s : State) (log : ℕ) (c : Counters) (done : State × Answer) → StandsAt rs xs m s → (parts_of rs).counters ≡ c ∷ [] → nat_lt counter_limit log ≡ false
+    → nat_lt counter_limit (c.work + line_work) ≡ false → durably s log done ≡ (record done.0 { last_moment = m; work = s.work + line_work }, done.1)
+not_spent_at rs xs m s log c done st one short room =
+    not_spent s log done short (ap (λ w. nat_lt counter_limit (w + line_work)) (sym (counts_as rs xs m s c st one).work) ∙ room)
+    ∙ ap (λ n. (record done.0 { last_moment = n; work = s.work + line_work }, done.1)) (sym st.moment_is)
+
+-- and where the work is
+pub spent_at : (rs : List Stored) (xs : List Session) (m : ℕ) (s : State) (log : ℕ) (c : Counters) (done : State × Answer) → StandsAt rs xs m s → (parts_of rs).counters ≡ c ∷ [] → nat_lt counter_limit log ≡ false
+    → nat_lt counter_limit (c.work + line_work) ≡ true → durably s log done ≡ (s, at_its_end (codes "WORK"))
+spent_at rs xs m s log c done st one short much = spent_work s log done short (ap (λ w. nat_lt counter_limit (w + line_work)) (sym (counts_as rs xs m s c st one).work) ∙ much)

@@ -6,11 +6,10 @@ use Rattle.wm_graph.specs.Parts.{parts_of, space_of}
 use Rattle.wm_graph.specs.Rules.{keep_rules}
 use Rattle.wm_print.specs.Texts.{Answer, Fine}
 use Rattle.wm_base.specs.Trees.{Statement}
-use Rattle.wm_spec.specs.declared.record.batch.Change.{Change}
 use Rattle.wm_spec.specs.declared.record.savepoint.Savepoint.{Savepoint as Saved}
 use Rattle.wm_spec.specs.declared.record.space.Space.{Space}
 use Rattle.wm_spec.specs.declared.record.stored.Stored.{Stored}
-use Rattle.wm_state.specs.ById.{applied}
+use Rattle.wm_state.specs.declared.edit.Edit.{Edit}
 use Rattle.wm_state.specs.Standing.{saved_in}
 use Rattle.wm_state.specs.State.{State, Session, Workspace, Stand, Latest, At, workspace_named}
 use Rattle.wm_state.proofs.SavedAs.{named_some, named_none}
@@ -23,18 +22,14 @@ use Rattle.wm_model.proofs.Homes.{home_is, home_none}
 -- ---- a statement of a session
 
 -- what is done by one function is done by another that does the same to each state
-pub does_alike : (rs : List Stored) (xs : List Session) (m : ℕ) (cs : List Change) (seating : Seating) (answer : Answer) (act also : State → State × Answer) → ((s : State) → StandsAt rs xs m s → also s ≡ act s)
-    → Does rs xs m cs seating answer act → Does rs xs m cs seating answer also
-does_alike rs xs m cs seating answer act also same does = record {
-  keeps = does.keeps;
-  once = does.once;
-  does = λ s st. subst (λ (r : State × Answer). StandsAt (applied cs rs) (seated xs seating) m r.0 × (answer ≡ r.1)) (sym (same s st)) (does.does s st);
-}
+pub does_alike : (rs : List Stored) (xs : List Session) (m : ℕ) (es : List Edit) (seating : Seating) (answer : Answer) (act also : State → State × Answer) → ((s : State) → StandsAt rs xs m s → also s ≡ act s)
+    → Does rs xs m es seating answer act → Does rs xs m es seating answer also
+does_alike rs xs m es seating answer act also same does = record { can = does.can; does = λ s st. same s st ∙ does.does s st }
 
-pub run_some : (rs : List Stored) (xs : List Session) (m : ℕ) (name : List ℕ) (session : Session) (statement : Statement) (cs : List Change) (seating : Seating) (answer : Answer) → session_of name xs ≡ Some session
-    → Does rs xs m cs seating answer (run_statement session statement) → Does rs xs m cs seating answer (λ s. run_for name (session_of name s.sessions) statement s)
-run_some rs xs m name session statement cs seating answer some does =
-    does_alike rs xs m cs seating answer (run_statement session statement) (λ s. run_for name (session_of name s.sessions) statement s)
+pub run_some : (rs : List Stored) (xs : List Session) (m : ℕ) (name : List ℕ) (session : Session) (statement : Statement) (es : List Edit) (seating : Seating) (answer : Answer) → session_of name xs ≡ Some session
+    → Does rs xs m es seating answer (run_statement session statement) → Does rs xs m es seating answer (λ s. run_for name (session_of name s.sessions) statement s)
+run_some rs xs m name session statement es seating answer some does =
+    does_alike rs xs m es seating answer (run_statement session statement) (λ s. run_for name (session_of name s.sessions) statement s)
     (λ s st. ap (λ o. run_for name o statement s) (ap (session_of name) (sym st.sessions_are) ∙ some)) does
 
 -- ---- GotoWorkspace
@@ -45,12 +40,12 @@ standing session s space stand = (record s { sessions = moved_to session.name sp
 
 pub goto_no_space : (rs : List Stored) (xs : List Session) (m : ℕ) (session : Session) (name : List ℕ) → keep_rules (parts_of rs) ≡ true → ((s : State) → StandsAt rs xs m s → workspace_named name s.spaces ≡ None)
     → Does rs xs m [] Stay (no_workspace name) (goto_workspace session name)
-goto_no_space rs xs m session name rules none = does_nothing rs xs m (no_workspace name) (goto_workspace session name) rules (λ s st. rw (none s st) refl)
+goto_no_space rs xs m session name rules none = does_nothing rs xs m (no_workspace name) (goto_workspace session name) (λ s st. rw (none s st) refl)
 
 pub does_goto_workspace : (rs : List Stored) (xs : List Session) (m : ℕ) (session : Session) (name : List ℕ) (n : ℕ) → keep_rules (parts_of rs) ≡ true
     → ((s : State) → StandsAt rs xs m s → (w : Workspace) × (workspace_named name s.spaces ≡ Some w) × (w.number ≡ n)) → Does rs xs m [] (Move session.name n Latest) Fine (goto_workspace session name)
 does_goto_workspace rs xs m session name n rules some =
-    does_seat rs xs m (Move session.name n Latest) Fine (goto_workspace session name) rules
+    does_seat rs xs m (Move session.name n Latest) Fine (goto_workspace session name)
     (λ s st. let r = some s st in rw r.1 (ap (λ a. standing session s a Latest) r.2))
 
 -- as the records say
@@ -68,19 +63,19 @@ does_goto_named_space rs xs m session name r rules some =
 -- the session's workspace is not there
 pub goto_homeless : (rs : List Stored) (xs : List Session) (m : ℕ) (session : Session) (name : List ℕ) → keep_rules (parts_of rs) ≡ true → space_of (parts_of rs).spaces session.space ≡ None
     → Does rs xs m [] Stay not_built (goto_savepoint session name)
-goto_homeless rs xs m session name rules none = does_nothing rs xs m not_built (goto_savepoint session name) rules (λ s st. home_none rs xs m s session _ st none)
+goto_homeless rs xs m session name rules none = does_nothing rs xs m not_built (goto_savepoint session name) (λ s st. home_none rs xs m s session _ st none)
 
 -- what is newest
 pub does_goto_latest : (rs : List Stored) (xs : List Session) (m : ℕ) (session : Session) (name : List ℕ) (r : Space) → keep_rules (parts_of rs) ≡ true → space_of (parts_of rs).spaces session.space ≡ Some r
     → bytes_eq name latest ≡ true → Does rs xs m [] (Move session.name session.space Latest) Fine (goto_savepoint session name)
 does_goto_latest rs xs m session name r rules found is =
-    does_seat rs xs m (Move session.name session.space Latest) Fine (goto_savepoint session name) rules (λ s st. rw ((home_is rs xs m s session.space r st found).is, is) refl)
+    does_seat rs xs m (Move session.name session.space Latest) Fine (goto_savepoint session name) (λ s st. rw ((home_is rs xs m s session.space r st found).is, is) refl)
 
 -- no savepoint of the workspace has the name
 pub goto_no_savepoint : (rs : List Stored) (xs : List Session) (m : ℕ) (session : Session) (name : List ℕ) (r : Space) → keep_rules (parts_of rs) ≡ true → space_of (parts_of rs).spaces session.space ≡ Some r
     → bytes_eq name latest ≡ false → find (λ (x : Saved). bytes_eq name x.name) (saved_in (parts_of rs) session.space) ≡ None → Does rs xs m [] Stay (no_savepoint name) (goto_savepoint session name)
 goto_no_savepoint rs xs m session name r rules found other none =
-    does_nothing rs xs m (no_savepoint name) (goto_savepoint session name) rules
+    does_nothing rs xs m (no_savepoint name) (goto_savepoint session name)
     (λ s st. let h = home_is rs xs m s session.space r st found in rw (h.is, other, named_none (parts_of rs) s session.space h.space st.stands h.is name none) refl)
 
 -- the savepoint of the name
@@ -88,7 +83,7 @@ pub does_goto_savepoint : (rs : List Stored) (xs : List Session) (m : ℕ) (sess
     → bytes_eq name latest ≡ false → find (λ (y : Saved). bytes_eq name y.name) (saved_in (parts_of rs) session.space) ≡ Some x
     → Does rs xs m [] (Move session.name session.space (At x.making)) Fine (goto_savepoint session name)
 does_goto_savepoint rs xs m session name r x rules found other some =
-    does_seat rs xs m (Move session.name session.space (At x.making)) Fine (goto_savepoint session name) rules
+    does_seat rs xs m (Move session.name session.space (At x.making)) Fine (goto_savepoint session name)
     (λ s st.
     let h = home_is rs xs m s session.space r st found in
     let k = named_some (parts_of rs) s session.space h.space st.stands h.is name x some in

@@ -7,15 +7,10 @@ pub mod Steps
 pub mod Doing
 pub mod Homes
 pub mod Named
-pub mod Counting
-pub mod Places
 pub mod Newest
 pub mod Changing
 pub mod Written
-pub mod WrittenNew
-pub mod ChangeLists
 pub mod Selecting
-pub mod Points
 pub mod SavingLine
 pub mod BearingLine
 pub mod Seating

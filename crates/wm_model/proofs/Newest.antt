@@ -29,13 +29,13 @@ in_table session name fault empty act s table =
 pub newest_none : (rs : List Stored) (xs : List Session) (m : ℕ) (session : Session) (name : List ℕ) (fault : Table → Option Refusal) (empty : Bool) (act : Acts) → keep_rules (parts_of rs) ≡ true → named rs name ≡ None
     → Does rs xs m [] Stay (no_table name) (at_newest session name fault empty act)
 newest_none rs xs m session name fault empty act rules none =
-    does_nothing rs xs m (no_table name) (at_newest session name fault empty act) rules (λ s st. with_none rs xs m s name (in_table session name fault empty act s) st none)
+    does_nothing rs xs m (no_table name) (at_newest session name fault empty act) (λ s st. with_none rs xs m s name (in_table session name fault empty act s) st none)
 
 -- the table is not ready for rows
 pub newest_off : (rs : List Stored) (xs : List Session) (m : ℕ) (session : Session) (name : List ℕ) (fault : Table → Option Refusal) (empty : Bool) (act : Acts) (t : Table) → keep_rules (parts_of rs) ≡ true → named rs name ≡ Some t
     → t.versioned ≡ false → Does rs xs m [] Stay (versioning name false) (at_newest session name fault empty act)
 newest_off rs xs m session name fault empty act t rules some off =
-    does_nothing rs xs m (versioning name false) (at_newest session name fault empty act) rules (λ s st. with_some rs xs m s name (in_table session name fault empty act s) t st some ∙ rw off refl)
+    does_nothing rs xs m (versioning name false) (at_newest session name fault empty act) (λ s st. with_some rs xs m s name (in_table session name fault empty act s) t st some ∙ rw off refl)
 
 -- the table is ready for rows
 pub record IsReady (rs : List Stored) (name : List ℕ) (t : Table) : Type 0 where
@@ -54,7 +54,7 @@ on_table rs xs m session name fault empty act t s ready st = with_some rs xs m s
 pub newest_faulty : (rs : List Stored) (xs : List Session) (m : ℕ) (session : Session) (name : List ℕ) (fault : Table → Option Refusal) (empty : Bool) (act : Acts) (t : Table) (refusal : Refusal) → IsReady rs name t
     → fault t ≡ Some refusal → Does rs xs m [] Stay (Refused refusal) (at_newest session name fault empty act)
 newest_faulty rs xs m session name fault empty act t refusal ready bad =
-    does_nothing rs xs m (Refused refusal) (at_newest session name fault empty act) ready.rules
+    does_nothing rs xs m (Refused refusal) (at_newest session name fault empty act)
     (λ s st. on_table rs xs m session name fault empty act t s ready st ∙ ap (λ f. unless f s (at_home s session (in_home session empty act s t))) bad)
 
 -- ---- the workspace
@@ -73,7 +73,7 @@ comes_home rs xs m session name fault empty act t s g st =
 pub newest_homeless : (rs : List Stored) (xs : List Session) (m : ℕ) (session : Session) (name : List ℕ) (fault : Table → Option Refusal) (empty : Bool) (act : Acts) (t : Table) → IsGood rs name fault t
     → space_of (parts_of rs).spaces session.space ≡ None → Does rs xs m [] Stay not_built (at_newest session name fault empty act)
 newest_homeless rs xs m session name fault empty act t g none =
-    does_nothing rs xs m not_built (at_newest session name fault empty act) g.ready.rules
+    does_nothing rs xs m not_built (at_newest session name fault empty act)
     (λ s st. comes_home rs xs m session name fault empty act t s g st ∙ home_none rs xs m s session (in_home session empty act s t) st none)
 
 at_stand : (rs : List Stored) (xs : List Session) (m : ℕ) (session : Session) (name : List ℕ) (fault : Table → Option Refusal) (empty : Bool) (act : Acts) (t : Table) (a : Space) (stand : Stand) (s : State) → IsGood rs name fault t
@@ -87,7 +87,7 @@ at_stand rs xs m session name fault empty act t a stand s g found at st =
 pub newest_elsewhere : (rs : List Stored) (xs : List Session) (m : ℕ) (session : Session) (name : List ℕ) (fault : Table → Option Refusal) (empty : Bool) (act : Acts) (t : Table) (a : Space) (making : ℕ) → IsGood rs name fault t
     → space_of (parts_of rs).spaces session.space ≡ Some a → session.stand ≡ At making → Does rs xs m [] Stay not_latest (at_newest session name fault empty act)
 newest_elsewhere rs xs m session name fault empty act t a making g found at =
-    does_nothing rs xs m not_latest (at_newest session name fault empty act) g.ready.rules (λ s st. at_stand rs xs m session name fault empty act t a (At making) s g found at st)
+    does_nothing rs xs m not_latest (at_newest session name fault empty act) (λ s st. at_stand rs xs m session name fault empty act t a (At making) s g found at st)
 
 -- the session stands at what is newest in its workspace
 pub record ComesTo (rs : List Stored) (session : Session) (name : List ℕ) (fault : Table → Option Refusal) (t : Table) (a : Space) : Type 0 where
@@ -99,7 +99,7 @@ pub record ComesTo (rs : List Stored) (session : Session) (name : List ℕ) (fau
 pub newest_empty : (rs : List Stored) (xs : List Session) (m : ℕ) (session : Session) (name : List ℕ) (fault : Table → Option Refusal) (empty : Bool) (act : Acts) (t : Table) (a : Space) → ComesTo rs session name fault t a
     → empty ≡ true → Does rs xs m [] Stay empty_period (at_newest session name fault empty act)
 newest_empty rs xs m session name fault empty act t a to none =
-    does_nothing rs xs m empty_period (at_newest session name fault empty act) to.good.ready.rules
+    does_nothing rs xs m empty_period (at_newest session name fault empty act)
     (λ s st. at_stand rs xs m session name fault empty act t a Latest s to.good to.found to.at st ∙ ap (λ b. unless_empty_period b s (act t s (home_is rs xs m s session.space a st to.found).space)) none)
 
 -- none is: this is done

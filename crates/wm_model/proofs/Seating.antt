@@ -16,30 +16,30 @@ open_still : (rs : List Stored) (xs : List Session) (m : ℕ) (s : State) (name 
 open_still rs xs m s name b st is = ap (λ ys. is_some (session_of name ys)) (sym st.sessions_are) ∙ is
 
 pub connect_there : (rs : List Stored) (xs : List Session) (m : ℕ) (name user : List ℕ) → keep_rules (parts_of rs) ≡ true → is_some (session_of name xs) ≡ true → Does rs xs m [] Stay (session_there name) (connect name user)
-connect_there rs xs m name user rules there = does_nothing rs xs m (session_there name) (connect name user) rules (λ s st. rw (open_still rs xs m s name true st there) refl)
+connect_there rs xs m name user rules there = does_nothing rs xs m (session_there name) (connect name user) (λ s st. rw (open_still rs xs m s name true st there) refl)
 
 pub connect_unnamed : (rs : List Stored) (xs : List Session) (m : ℕ) (name user : List ℕ) → keep_rules (parts_of rs) ≡ true → is_some (session_of name xs) ≡ false → (is_name name && is_name user) ≡ false
     → Does rs xs m [] Stay bad_name (connect name user)
-connect_unnamed rs xs m name user rules new bad = does_nothing rs xs m bad_name (connect name user) rules (λ s st. rw (open_still rs xs m s name false st new, bad) refl)
+connect_unnamed rs xs m name user rules new bad = does_nothing rs xs m bad_name (connect name user) (λ s st. rw (open_still rs xs m s name false st new, bad) refl)
 
 pub connect_full : (rs : List Stored) (xs : List Session) (m : ℕ) (name user : List ℕ) → keep_rules (parts_of rs) ≡ true → is_some (session_of name xs) ≡ false → (is_name name && is_name user) ≡ true → nat_le 256 (length xs) ≡ true
     → Does rs xs m [] Stay most_sessions (connect name user)
 connect_full rs xs m name user rules new good full =
-    does_nothing rs xs m most_sessions (connect name user) rules (λ s st. rw (open_still rs xs m s name false st new, good, ap (λ (ys : List Session). nat_le 256 (length ys)) (sym st.sessions_are) ∙ full) refl)
+    does_nothing rs xs m most_sessions (connect name user) (λ s st. rw (open_still rs xs m s name false st new, good, ap (λ (ys : List Session). nat_le 256 (length ys)) (sym st.sessions_are) ∙ full) refl)
 
 pub does_connect : (rs : List Stored) (xs : List Session) (m : ℕ) (name user : List ℕ) → keep_rules (parts_of rs) ≡ true → is_some (session_of name xs) ≡ false → (is_name name && is_name user) ≡ true → nat_le 256 (length xs) ≡ false
     → Does rs xs m [] (Open (record { name = name; user = user; space = 0; stand = Latest; period = None })) Fine (connect name user)
 does_connect rs xs m name user rules new good room =
-    does_seat rs xs m (Open (record { name = name; user = user; space = 0; stand = Latest; period = None })) Fine (connect name user) rules
+    does_seat rs xs m (Open (record { name = name; user = user; space = 0; stand = Latest; period = None })) Fine (connect name user)
     (λ s st. rw (open_still rs xs m s name false st new, good, ap (λ (ys : List Session). nat_le 256 (length ys)) (sym st.sessions_are) ∙ room) refl)
 
 -- ---- DISCONNECT
 
 pub disconnect_none : (rs : List Stored) (xs : List Session) (m : ℕ) (name : List ℕ) → keep_rules (parts_of rs) ≡ true → is_some (session_of name xs) ≡ false → Does rs xs m [] Stay (no_session name) (disconnect name)
-disconnect_none rs xs m name rules none = does_nothing rs xs m (no_session name) (disconnect name) rules (λ s st. rw (open_still rs xs m s name false st none) refl)
+disconnect_none rs xs m name rules none = does_nothing rs xs m (no_session name) (disconnect name) (λ s st. rw (open_still rs xs m s name false st none) refl)
 
 pub does_disconnect : (rs : List Stored) (xs : List Session) (m : ℕ) (name : List ℕ) → keep_rules (parts_of rs) ≡ true → is_some (session_of name xs) ≡ true → Does rs xs m [] (Close name) Fine (disconnect name)
-does_disconnect rs xs m name rules there = does_seat rs xs m (Close name) Fine (disconnect name) rules (λ s st. rw (open_still rs xs m s name true st there) refl)
+does_disconnect rs xs m name rules there = does_seat rs xs m (Close name) Fine (disconnect name) (λ s st. rw (open_still rs xs m s name true st there) refl)
 
 -- ---- SetValidTime
 
@@ -47,13 +47,13 @@ does_disconnect rs xs m name rules there = does_seat rs xs m (Close name) Fine (
 pub does_unset : (rs : List Stored) (xs : List Session) (m : ℕ) (session : Session) (from : Option ℕ) (till : ℕ) → keep_rules (parts_of rs) ≡ true → from ≡ None
     → Does rs xs m [] (Limit session.name None) Fine (set_valid_time session from till)
 does_unset rs xs m session from till rules none =
-    does_seat rs xs m (Limit session.name None) Fine (set_valid_time session from till) rules (λ s st. ap (λ o. set_valid_time session o till s) none)
+    does_seat rs xs m (Limit session.name None) Fine (set_valid_time session from till) (λ s st. ap (λ o. set_valid_time session o till s) none)
 
 -- the period would be empty
 pub sets_empty : (rs : List Stored) (xs : List Session) (m : ℕ) (session : Session) (given : Option ℕ) (from till : ℕ) → keep_rules (parts_of rs) ≡ true → given ≡ Some from → nat_lt from till ≡ false
     → Does rs xs m [] Stay empty_period (set_valid_time session given till)
 sets_empty rs xs m session given from till rules is empty =
-    does_nothing rs xs m empty_period (set_valid_time session given till) rules (λ s st. ap (λ o. set_valid_time session o till s) is ∙ refused s)
+    does_nothing rs xs m empty_period (set_valid_time session given till) (λ s st. ap (λ o. set_valid_time session o till s) is ∙ refused s)
   where
     refused : (s : State) → set_valid_time session (Some from) till s ≡ (s, empty_period)
     refused s = rw empty refl
@@ -62,7 +62,7 @@ sets_empty rs xs m session given from till rules is empty =
 pub does_set : (rs : List Stored) (xs : List Session) (m : ℕ) (session : Session) (given : Option ℕ) (from till : ℕ) → keep_rules (parts_of rs) ≡ true → given ≡ Some from → nat_lt from till ≡ true
     → Does rs xs m [] (Limit session.name (Some (record { from = from; till = till }))) Fine (set_valid_time session given till)
 does_set rs xs m session given from till rules is lasts =
-    does_seat rs xs m (Limit session.name (Some (record { from = from; till = till }))) Fine (set_valid_time session given till) rules
+    does_seat rs xs m (Limit session.name (Some (record { from = from; till = till }))) Fine (set_valid_time session given till)
     (λ s st. ap (λ o. set_valid_time session o till s) is ∙ set s)
   where
     set : (s : State) → set_valid_time session (Some from) till s ≡ set_period session (Some (record { from = from; till = till })) s
@@ -73,4 +73,4 @@ does_set rs xs m session given from till rules is lasts =
 pub run_none : (rs : List Stored) (xs : List Session) (m : ℕ) (name : List ℕ) (statement : Statement) → keep_rules (parts_of rs) ≡ true → session_of name xs ≡ None
     → Does rs xs m [] Stay (no_session name) (λ s. run_for name (session_of name s.sessions) statement s)
 run_none rs xs m name statement rules none =
-    does_nothing rs xs m (no_session name) (λ s. run_for name (session_of name s.sessions) statement s) rules (λ s st. ap (λ o. run_for name o statement s) (ap (session_of name) (sym st.sessions_are) ∙ none))
+    does_nothing rs xs m (no_session name) (λ s. run_for name (session_of name s.sessions) statement s) (λ s st. ap (λ o. run_for name o statement s) (ap (session_of name) (sym st.sessions_are) ∙ none))

@@ -42,12 +42,12 @@ selects_among rs xs m session query empty s st = ap (λ ts. select_among session
 -- a source is no table
 pub select_lost : (rs : List Stored) (xs : List Session) (m : ℕ) (session : Session) (query : Query) (empty : Bool) (name : List ℕ) → keep_rules (parts_of rs) ≡ true → lost_source (tables_in rs) query.sources ≡ Some name
     → Does rs xs m [] Stay (no_table name) (select session query empty)
-select_lost rs xs m session query empty name rules lost = does_nothing rs xs m (no_table name) (select session query empty) rules (λ s st. selects_among rs xs m session query empty s st ∙ rw lost refl)
+select_lost rs xs m session query empty name rules lost = does_nothing rs xs m (no_table name) (select session query empty) (λ s st. selects_among rs xs m session query empty s st ∙ rw lost refl)
 
 -- a table is not ready for rows
 pub select_off : (rs : List Stored) (xs : List Session) (m : ℕ) (session : Session) (query : Query) (empty : Bool) (name : List ℕ) → keep_rules (parts_of rs) ≡ true → lost_source (tables_in rs) query.sources ≡ None
     → table_off (asked rs query) ≡ Some name → Does rs xs m [] Stay (versioning name false) (select session query empty)
-select_off rs xs m session query empty name rules there off = does_nothing rs xs m (versioning name false) (select session query empty) rules (λ s st. selects_among rs xs m session query empty s st ∙ rw (there, off) refl)
+select_off rs xs m session query empty name rules there off = does_nothing rs xs m (versioning name false) (select session query empty) (λ s st. selects_among rs xs m session query empty s st ∙ rw (there, off) refl)
 
 -- the sources are tables that are ready for rows
 pub record AreReady (rs : List Stored) (query : Query) : Type 0 where
@@ -65,7 +65,7 @@ selects_ready rs xs m session query empty s ready st = selects_among rs xs m ses
 pub select_faulty : (rs : List Stored) (xs : List Session) (m : ℕ) (session : Session) (query : Query) (empty : Bool) (refusal : Refusal) → AreReady rs query
     → query_fault (columns_in (tables_in rs) query.sources) query ≡ Some refusal → Does rs xs m [] Stay (Refused refusal) (select session query empty)
 select_faulty rs xs m session query empty refusal ready bad =
-    does_nothing rs xs m (Refused refusal) (select session query empty) ready.rules (λ s st. selects_ready rs xs m session query empty s ready st ∙ rw bad refl)
+    does_nothing rs xs m (Refused refusal) (select session query empty) (λ s st. selects_ready rs xs m session query empty s ready st ∙ rw bad refl)
 
 -- ---- the workspace
 
@@ -88,7 +88,7 @@ comes_home rs xs m session query empty s fine st = selects_ready rs xs m session
 pub select_homeless : (rs : List Stored) (xs : List Session) (m : ℕ) (session : Session) (query : Query) (empty : Bool) → IsFine rs query → space_of (parts_of rs).spaces session.space ≡ None
     → Does rs xs m [] Stay not_built (select session query empty)
 select_homeless rs xs m session query empty fine none =
-    does_nothing rs xs m not_built (select session query empty) fine.ready.rules
+    does_nothing rs xs m not_built (select session query empty)
     (λ s st. comes_home rs xs m session query empty s fine st ∙ home_none rs xs m s session (in_home session query empty (tables_in rs) s) st none)
 
 comes_in : (rs : List Stored) (xs : List Session) (m : ℕ) (session : Session) (query : Query) (empty : Bool) (a : Space) (s : State) → IsFine rs query → (there : space_of (parts_of rs).spaces session.space ≡ Some a) → (st : StandsAt rs xs m s)
@@ -100,7 +100,7 @@ comes_in rs xs m session query empty a s fine there st =
 pub select_empty : (rs : List Stored) (xs : List Session) (m : ℕ) (session : Session) (query : Query) (empty : Bool) (a : Space) → IsFine rs query → space_of (parts_of rs).spaces session.space ≡ Some a → empty ≡ true
     → Does rs xs m [] Stay empty_period (select session query empty)
 select_empty rs xs m session query empty a fine there none =
-    does_nothing rs xs m empty_period (select session query empty) fine.ready.rules
+    does_nothing rs xs m empty_period (select session query empty)
     (λ s st. comes_in rs xs m session query empty a s fine there st ∙ ap (λ b. in_home session query b (tables_in rs) s (home_is rs xs m s session.space a st there).space) none)
 
 -- ---- the rows
@@ -170,7 +170,7 @@ sources_seen rs moment session s w tables (x ∷ sources) (l ∷ ls) rules st fo
 pub selects : (rs : List Stored) (xs : List Session) (m : ℕ) (session : Session) (query : Query) (empty : Bool) (a : Space) (ls : List Source) → IsFine rs query → space_of (parts_of rs).spaces session.space ≡ Some a → empty ≡ false
     → AreListed (parts_of rs) (version_read (parts_of rs) session.space session.stand) (seen_within m session) (tables_in rs) query.sources ls → Does rs xs m [] Stay (answer_rows (answer_of query ls)) (select session query empty)
 selects rs xs m session query empty a ls fine there lasting are =
-    does_nothing rs xs m (answer_rows (answer_of query ls)) (select session query empty) fine.ready.rules
+    does_nothing rs xs m (answer_rows (answer_of query ls)) (select session query empty)
     (λ s st.
     let home = home_is rs xs m s session.space a st there in
     comes_in rs xs m session query empty a s fine there st ∙ ap (λ b. in_home session query b (tables_in rs) s home.space) lasting

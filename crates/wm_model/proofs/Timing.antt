@@ -3,16 +3,15 @@ use Rattle.std.proofs.Common.{◌≡◌, ℕ, nat_lt, true, false, List, [], ref
 use Rattle.wm_graph.specs.Parts.{Parts, parts_of}
 use Rattle.wm_graph.specs.Rules.{keep_rules}
 use Rattle.wm_print.specs.Texts.{Answer, Fine}
-use Rattle.wm_spec.specs.declared.record.batch.Change.{Change}
 use Rattle.wm_spec.specs.declared.record.stored.Stored.{Stored}
 use Rattle.wm_state.specs.State.{State, Session}
 use Rattle.wm_state.specs.Standing.{Stands}
 use Rattle.wm_model.specs.Step.{set_moment, moment_back}
-use Rattle.wm_model.specs.Planning.{StandsAt, Does, DoesAt, Seating, Stay}
-use Rattle.wm_model.proofs.Doing.{does_nothing, none_changes}
+use Rattle.wm_model.specs.Planning.{Does, DoesAt, Stay}
+use Rattle.wm_model.proofs.Doing.{does_nothing}
 
 -- the state at another moment
-stands_moment : (p : Parts) (s : State) (m : ℕ) → Stands p s → Stands p (record s { moment = m })
+pub stands_moment : (p : Parts) (s : State) (m : ℕ) → Stands p s → Stands p (record s { moment = m })
 stands_moment p s m st = record {
   rules = st.rules;
   counters = record {
@@ -36,10 +35,6 @@ stands_moment p s m st = record {
   hists = record { same = st.hists.same };
 }
 
--- a line that leaves the moment
-pub does_at : (rs : List Stored) (xs : List Session) (m : ℕ) (cs : List Change) (seating : Seating) (answer : Answer) (act : State → State × Answer) → Does rs xs m cs seating answer act → DoesAt rs xs m cs seating m answer act
-does_at rs xs m cs seating answer act does = record { keeps = does.keeps; once = does.once; does = does.does }
-
 earlier : (m instant : ℕ) (s : State) → m ≡ s.moment → nat_lt instant m ≡ true → set_moment instant s ≡ (s, moment_back m)
 earlier m instant s same before = rw (sym same, before) refl
 
@@ -47,17 +42,10 @@ later : (m instant : ℕ) (s : State) → m ≡ s.moment → nat_lt instant m �
 later m instant s same behind = rw (sym same, behind) refl
 
 -- the moment goes not back
-pub moment_stays : (rs : List Stored) (xs : List Session) (m instant : ℕ) → keep_rules (parts_of rs) ≡ true → nat_lt instant m ≡ true → DoesAt rs xs m [] Stay m (moment_back m) (set_moment instant)
-moment_stays rs xs m instant rules before =
-    does_at rs xs m [] Stay (moment_back m) (set_moment instant) (does_nothing rs xs m (moment_back m) (set_moment instant) rules (λ s st. earlier m instant s st.moment_is before))
+pub moment_stays : (rs : List Stored) (xs : List Session) (m instant : ℕ) → nat_lt instant m ≡ true → DoesAt rs xs m [] Stay m (moment_back m) (set_moment instant)
+moment_stays rs xs m instant before =
+    does_nothing rs xs m (moment_back m) (set_moment instant) (λ s st. earlier m instant s st.moment_is before)
 
 -- the moment moves, and the records stay
-pub moment_moves : (rs : List Stored) (xs : List Session) (m instant : ℕ) → keep_rules (parts_of rs) ≡ true → nat_lt instant m ≡ false → DoesAt rs xs m [] Stay instant Fine (set_moment instant)
-moment_moves rs xs m instant rules behind = record {
-  keeps = rules;
-  once = none_changes;
-  does = λ s st. let same = later m instant s st.moment_is behind in (
-    subst (λ (t : State). StandsAt rs xs instant t) (sym (ap (λ r. r.0) same)) (record { stands = stands_moment (parts_of rs) s instant st.stands; sessions_are = st.sessions_are; moment_is = refl }),
-    sym (ap (λ r. r.1) same),
-  );
-}
+pub moment_moves : (rs : List Stored) (xs : List Session) (m instant : ℕ) → nat_lt instant m ≡ false → DoesAt rs xs m [] Stay instant Fine (set_moment instant)
+moment_moves rs xs m instant behind = record { can = tt; does = λ s st. later m instant s st.moment_is behind }

@@ -1,20 +1,18 @@
 -- What a plan over the records of a store says that a line does and answers.
-use Rattle.std.specs.Prelude.{◌≡◌, ◌+◌, ℕ, true, List, [], ◌∷◌, ◌++◌, Option}
+use Rattle.std.specs.Prelude.{◌≡◌, ℕ, List, [], ◌∷◌, ◌++◌, Option}
 use Rattle.std.specs.Option.{option_map_or}
 use Rattle.wm_base.specs.Period.{Span}
 use Rattle.wm_graph.specs.Parts.{Parts, parts_of}
-use Rattle.wm_graph.specs.Rules.{keep_rules}
 use Rattle.wm_print.specs.Texts.{Answer}
-use Rattle.wm_spec.specs.Records.{AreChanges}
-use Rattle.wm_spec.specs.declared.record.batch.Change.{Change}
 use Rattle.wm_spec.specs.declared.record.stored.Stored.{Stored}
-use Rattle.wm_state.specs.ById.{applied}
+use Rattle.wm_state.specs.Drafts.{CanDraft}
+use Rattle.wm_state.specs.Editing.{drafted}
 use Rattle.wm_state.specs.State.{State, Session, Stand, Latest, At, table_named}
-use Rattle.wm_model.specs.Step.{closed, moved_to, limited, line_work}
+use Rattle.wm_model.specs.Step.{closed, moved_to, limited}
 use Rattle.wm_state.specs.Standing.{Stands, by_number, latest, saved_as}
 use Rattle.wm_spec.specs.declared.record.savepoint.Savepoint.{Savepoint}
-use Rattle.wm_spec.specs.declared.record.counters.Counters.{Counters}
 use Rattle.wm_spec.specs.declared.record.table.Table.{Table}
+use Rattle.wm_state.specs.declared.edit.Edit.{Edit}
 
 -- records, sessions and a moment stand for a state
 pub record StandsAt (records : List Stored) (sessions : List Session) (moment : ℕ) (s : State) : Type 0 where
@@ -37,20 +35,19 @@ seated sessions (Close name) = closed name sessions
 seated sessions (Move name space stand) = moved_to name space stand sessions
 seated sessions (Limit name period) = limited name period sessions
 
--- the state with what a plan makes of it at a moment: its edits, and what becomes of the sessions
-abbrev pub planned : ℕ → List Edit → Seating → State → State
-planned m edits seating s = record (drafted m edits s) { sessions = seated s.sessions seating }
+-- the state with what a plan makes of it at a moment: its edits, what becomes of the sessions, and the moment behind it
+abbrev pub planned : ℕ → ℕ → List Edit → Seating → State → State
+planned m after edits seating s = record (drafted m edits s) { sessions = seated s.sessions seating; moment = after }
 
 -- the plan may be made of the records, and it does and answers what a function of the state does and answers, for each state that these
 -- stand for
-pub record Does (records : List Stored) (sessions : List Session) (moment : ℕ) (edits : List Edit) (seating : Seating) (answer : Answer) (act : State → State × Answer) : Type 0 where
-  pub can : CanDraft (parts_of records) moment edits
-  pub does : (s : State) → StandsAt records sessions moment s → act s ≡ (planned moment edits seating s, answer)
-
--- so, with another moment behind it
 pub record DoesAt (records : List Stored) (sessions : List Session) (moment : ℕ) (edits : List Edit) (seating : Seating) (after : ℕ) (answer : Answer) (act : State → State × Answer) : Type 0 where
   pub can : CanDraft (parts_of records) moment edits
-  pub does : (s : State) → StandsAt records sessions moment s → act s ≡ (record (planned moment edits seating s) { moment = after }, answer)
+  pub does : (s : State) → StandsAt records sessions moment s → act s ≡ (planned moment after edits seating s, answer)
+
+-- so, and the moment stays
+abbrev pub Does : List Stored → List Session → ℕ → List Edit → Seating → Answer → (State → State × Answer) → Type 0
+Does records sessions moment edits seating answer act = DoesAt records sessions moment edits seating moment answer act
 
 -- ---- what plans are told by
 

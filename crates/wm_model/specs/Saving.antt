@@ -1,23 +1,16 @@
 -- What was looked up when a savepoint is made and when a workspace is born.
-use Rattle.std.specs.Prelude.{ℕ, ◌≡◌, ◌+◌, ◌==◌, nat_le, nat_lt, Bool, true, false, List, [], ◌++◌, length, Option, None, Some}
-use Rattle.std.specs.Fmt.{decimal}
-use Rattle.std.specs.List.{find, count_by}
-use Rattle.std.specs.Option.{option_map}
+use Rattle.std.specs.Prelude.{ℕ, ◌≡◌, ◌+◌, nat_le, nat_lt, true, false, List, length, None, Some}
+use Rattle.std.specs.List.{find}
 use Rattle.std.specs.Str.{bytes_eq}
-use Rattle.wm_graph.specs.Parts.{Parts, parts_of, space_of}
+use Rattle.wm_graph.specs.Parts.{parts_of, space_of}
 use Rattle.wm_graph.specs.Rules.{keep_rules}
-use Rattle.wm_spec.specs.declared.record.counters.Counters.{Counters}
-use Rattle.wm_spec.specs.declared.record.savepoint.Savepoint.{Savepoint}
-use Rattle.wm_spec.specs.declared.record.space.FreezeMode.TheVariants.{Free}
 use Rattle.wm_spec.specs.declared.record.space.Space.{Space}
 use Rattle.wm_spec.specs.declared.record.stored.Stored.{Stored}
-use Rattle.wm_spec.specs.declared.record.version.Version.{Version}
-use Rattle.wm_state.specs.State.{Session, Stand, Latest, At}
-use Rattle.wm_state.specs.Standing.{latest, saved_in, saved_as, space_after, making_behind}
-use Rattle.wm_model.specs.Planning.{moved}
-use Rattle.wm_model.specs.Step.{is_name, names_no_savepoint, names_no_workspace, number_limit, implicit_front}
-
--- ---- what was looked up
+use Rattle.wm_state.specs.Editing.{number_limit}
+use Rattle.wm_state.specs.Points.{HasRoom, implicit_of, next_place_at}
+use Rattle.wm_state.specs.Standing.{space_after}
+use Rattle.wm_state.specs.State.{Session}
+use Rattle.wm_model.specs.Step.{is_name, names_no_savepoint, names_no_workspace}
 
 -- for a savepoint: the names are good, and the workspace is there
 pub record SavesIn (rs : List Stored) (workspace name : List ℕ) (a : Space) : Type 0 where
