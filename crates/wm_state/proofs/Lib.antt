@@ -68,3 +68,5 @@ pub mod Drafted
 pub mod FewChanged
 pub mod DraftedSaved
 pub mod DraftedBorn
+pub mod WrittenKept
+pub mod DraftedWritten
