@@ -70,3 +70,4 @@ pub mod DraftedSaved
 pub mod DraftedBorn
 pub mod WrittenKept
 pub mod DraftedWritten
+pub mod DraftedWrittenNew

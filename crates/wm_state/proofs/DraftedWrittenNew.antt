@@ -1,0 +1,95 @@
+-- What the batch that writes entries into a version more of a workspace makes of the records.
+use Rattle.std.proofs.Common.{◌≡◌, ℕ, ◌+◌, ◌≤◌, Bool, true, List, [], ◌∷◌, length, is_some, refl, sym, ap, subst, arith}
+use Rattle.std.specs.declared.alloc.Global.{Global}
+use Rattle.std.specs.declared.vec.Vec.{Vec}
+use Rattle.wm_graph.specs.Parts.{Parts, parts_of}
+use Rattle.wm_graph.specs.Rules.{keep_rules}
+use Rattle.wm_spec.specs.Lists.{Entry}
+use Rattle.wm_spec.specs.declared.record.counters.Counters.{Counters}
+use Rattle.wm_spec.specs.declared.record.piece.PieceRecord.{PieceRecord}
+use Rattle.wm_spec.specs.declared.record.space.Space.{Space}
+use Rattle.wm_spec.specs.declared.record.stored.Stored.{Stored}
+use Rattle.wm_spec.specs.declared.record.version.Version.{Version}
+use Rattle.wm_state.specs.Drafts.{CanWork, Drafts}
+use Rattle.wm_state.specs.Drawing.{AreDrawn}
+use Rattle.wm_state.specs.Editing.{drafted, line_work}
+use Rattle.wm_state.specs.Entries.{hists_from, pieces_of, rows_in}
+use Rattle.wm_state.specs.Points.{next_version, stepped_new_by, versioned}
+use Rattle.wm_state.specs.Writes.{write_new_batch}
+use Rattle.wm_state.specs.declared.edit.Edit.TheVariants as edits
+use Rattle.wm_state.specs.declared.edit.NewEntry.{NewEntry}
+use Rattle.wm_state.proofs.Counting.{counts_as, stamped_by, version_well, work_grows}
+use Rattle.wm_state.proofs.Drafted.{some_edit}
+use Rattle.wm_state.proofs.DraftedWritten.{Appends, counts_on, entries_in, log_room, stamps_left}
+use Rattle.wm_state.proofs.Growing.{MayFork}
+use Rattle.wm_state.proofs.PlannedMore.{MayWriteMore, Stage, keep_planned_new, plan_written_new}
+use Rattle.wm_state.proofs.Settled.{Places, PlacesApart, places_apart}
+use Rattle.wm_state.proofs.Tests.{bool_apart}
+use Rattle.wm_state.proofs.WrittenIds.{changes-write_new}
+use Rattle.wm_state.proofs.WrittenKept.{kept_write_new}
+
+-- the version may be made
+may_fork : (p : Parts) (m n table : ℕ) (a : Space) (c : Counters) (es : List Entry) → keep_rules p ≡ true → CanWork p m → Appends p n a c table es → MayFork p c (versioned c m) a n (next_version p n c)
+may_fork p m n table a c es rules work v = record {
+  one = v.one;
+  counters = version_well p m c rules work v.one;
+  stamps = refl;
+  next = refl;
+  work = work_grows c.work;
+  there = v.there;
+  number = refl;
+  space = refl;
+  parent = refl;
+}
+
+-- and the entries be written in it
+may_write_more : (p : Parts) (m n table : ℕ) (a : Space) (c : Counters) (es : List Entry) → keep_rules p ≡ true → CanWork p m → Appends p n a c table es
+    → MayWriteMore p c (versioned c m) (stepped_new_by c m (length es)) n a (next_version p n c) table es
+may_write_more p m n table a c es rules work v = record {
+  fork = may_fork p m n table a c es rules work v;
+  counters = stamped_by (versioned c m) (length es) (version_well p m c rules work v.one) (stamps_left p n table a c es v);
+  stamps = refl;
+  versions = refl;
+  work = same_work (c.work + line_work);
+  room = log_room p n table a c es v;
+  stamped = v.stamped;
+  well = v.can.well;
+  users = v.can.users;
+}
+  where
+    same_work : (w : ℕ) → w ≤ w
+    same_work w = omega arith
+
+pub drafts_written_new : (rs : List Stored) (m n table : ℕ) (entries : Vec NewEntry Global) (a : Space) (c : Counters) (counters_id space_id id : ℕ) (drawn : List PieceRecord) → keep_rules (parts_of rs) ≡ true
+    → CanWork (parts_of rs) m → Appends (parts_of rs) n a c table (entries_in entries) → Places rs counters_id space_id id c a → AreDrawn (pieces_of c.next_version (entries_in entries)) [] drawn
+    → Drafts rs m (edits.Append n entries ∷ [])
+    (write_new_batch counters_id (stepped_new_by c m (length (entries_in entries))) space_id a (length (entries_in entries)) id (next_version (parts_of rs) n c) (rows_in (entries_in entries)) drawn
+    (hists_from a.number a.log_length (entries_in entries)))
+drafts_written_new rs m n table entries a c counters_id space_id id drawn rules work v at are = record {
+  keeps = keep_planned_new rs counters_id space_id id c (versioned c m) d n a w table es drawn rules stage may are;
+  once = changes-write_new counters_id d space_id a (length es) id w (rows_in es) drawn (hists_from a.number a.log_length es) apart.apart apart.counters apart.space;
+  stands = λ s st.
+      plan_written_new rs counters_id space_id id c (versioned c m) d n a w table es drawn s (drafted m (edits.Append n entries ∷ []) s) st stage may are refl refl
+      (counts_on s m n c d entries (counts_as (parts_of rs) s c st v.one) refl refl refl refl);
+  kept = kept_write_new es drawn counters_id space_id id a.number a.log_length d a w v.can.kept are;
+  nothing = some_edit (edits.Append n entries) [] (write_new_batch counters_id d space_id a (length es) id w (rows_in es) drawn (hists_from a.number a.log_length es));
+  few = λ forks. absurd (bool_apart (sym forks));
+}
+  where
+    es : List Entry
+    es = entries_in entries
+
+    d : Counters
+    d = stepped_new_by c m (length es)
+
+    w : Version
+    w = next_version (parts_of rs) n c
+
+    apart : PlacesApart counters_id space_id id
+    apart = places_apart rs counters_id space_id id c a at
+
+    stage : Stage rs counters_id space_id id c a
+    stage = record { sorted = at.sorted; counters = at.counters; space = at.space; under = at.under }
+
+    may : MayWriteMore (parts_of rs) c (versioned c m) d n a w table es
+    may = may_write_more (parts_of rs) m n table a c es rules work v
