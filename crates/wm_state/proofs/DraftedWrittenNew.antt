@@ -1,32 +1,77 @@
 -- What the batch that writes entries into a version more of a workspace makes of the records.
-use Rattle.std.proofs.Common.{◌≡◌, ℕ, ◌+◌, ◌≤◌, Bool, true, List, [], ◌∷◌, length, is_some, refl, sym, ap, subst, arith}
+use Rattle.std.proofs.Common.{◌≡◌, ℕ, ◌+◌, ◌≤◌, ◌||◌, Bool, true, false, List, [], ◌∷◌, length, Option, Some, None, is_some, refl, sym, ap, subst, ◌∙◌, arith}
+use Rattle.std.proofs.lemmas.Bool.{eq-eqb}
+use Rattle.std.specs.List.{list_all}
 use Rattle.std.specs.declared.alloc.Global.{Global}
 use Rattle.std.specs.declared.vec.Vec.{Vec}
 use Rattle.wm_graph.specs.Parts.{Parts, parts_of}
 use Rattle.wm_graph.specs.Rules.{keep_rules}
 use Rattle.wm_spec.specs.Lists.{Entry}
+use Rattle.wm_spec.specs.Records.{record_at}
+use Rattle.wm_spec.specs.declared.record.Record.{Record}
+use Rattle.wm_spec.specs.declared.record.Record.TheVariants as records
 use Rattle.wm_spec.specs.declared.record.counters.Counters.{Counters}
 use Rattle.wm_spec.specs.declared.record.piece.PieceRecord.{PieceRecord}
 use Rattle.wm_spec.specs.declared.record.space.Space.{Space}
 use Rattle.wm_spec.specs.declared.record.stored.Stored.{Stored}
 use Rattle.wm_spec.specs.declared.record.version.Version.{Version}
+use Rattle.wm_state.specs.Batches.{AreDropped, is_dropped, keeps}
 use Rattle.wm_state.specs.Drafts.{CanWork, Drafts}
 use Rattle.wm_state.specs.Drawing.{AreDrawn}
 use Rattle.wm_state.specs.Editing.{drafted, line_work}
-use Rattle.wm_state.specs.Entries.{hists_from, pieces_of, rows_in}
+use Rattle.wm_state.specs.Entries.{entry_keys, hists_from, is_out_all, pieces_of, rows_in}
 use Rattle.wm_state.specs.Points.{next_version, stepped_new_by, versioned}
 use Rattle.wm_state.specs.Writes.{write_new_batch}
 use Rattle.wm_state.specs.declared.edit.Edit.TheVariants as edits
 use Rattle.wm_state.specs.declared.edit.NewEntry.{NewEntry}
 use Rattle.wm_state.proofs.Counting.{counts_as, stamped_by, version_well, work_grows}
 use Rattle.wm_state.proofs.Drafted.{some_edit}
-use Rattle.wm_state.proofs.DraftedWritten.{Appends, counts_on, entries_in, log_room, stamps_left}
+use Rattle.wm_state.proofs.DraftedWritten.{Appends, Redrawn, counts_on, entries_in, log_room, stamps_left}
 use Rattle.wm_state.proofs.Growing.{MayFork}
-use Rattle.wm_state.proofs.PlannedMore.{MayWriteMore, Stage, keep_planned_new, plan_written_new}
+use Rattle.wm_state.proofs.PlannedMore.{MayWriteMore, Stage, all_stay, none_goes, keep_planned_new, plan_written_new}
+use Rattle.wm_state.proofs.Planning.{piece_found}
 use Rattle.wm_state.proofs.Settled.{Places, PlacesApart, places_apart}
-use Rattle.wm_state.proofs.Tests.{bool_apart}
+use Rattle.wm_state.proofs.Tests.{bool_apart, both, not_true}
 use Rattle.wm_state.proofs.WrittenIds.{changes-write_new}
 use Rattle.wm_state.proofs.WrittenKept.{kept_write_new}
+
+-- ---- nothing is there yet
+
+-- where all pieces stay, none is dropped
+none_dropped : (rs : List Stored) (test : PieceRecord → Bool) (ids : List ℕ) → list_all test (parts_of rs).pieces ≡ true → AreDropped (keeps test) ids rs → list_all (λ k. is_some (record_at rs k)) ids ≡ true → ids ≡ []
+none_dropped rs test [] out are there = refl
+none_dropped rs test (k ∷ ks) out are there = let h = both (is_some (record_at rs k)) (list_all (λ k. is_some (record_at rs k)) ks) there in absurd (by_record (record_at rs k) refl h.0)
+  where
+    dropped_first : (r : Record) → record_at rs k ≡ Some r → keeps test r ≡ false
+    dropped_first r found = not_true (keeps test r) (sym (are k r found) ∙ ap (λ b. b || is_dropped ks k) (eq-eqb k k refl))
+
+    by_record : (o : Option Record) → record_at rs k ≡ o → is_some o ≡ true → ⊥
+    by_record None found some = bool_apart (sym some)
+    by_record (Some (records.Piece x)) found some = bool_apart (sym (piece_found test rs k x found out) ∙ dropped_first (records.Piece x) found)
+    by_record (Some (records.Counters x)) found some = bool_apart (dropped_first (records.Counters x) found)
+    by_record (Some (records.Table x)) found some = bool_apart (dropped_first (records.Table x) found)
+    by_record (Some (records.Space x)) found some = bool_apart (dropped_first (records.Space x) found)
+    by_record (Some (records.Version x)) found some = bool_apart (dropped_first (records.Version x) found)
+    by_record (Some (records.Savepoint x)) found some = bool_apart (dropped_first (records.Savepoint x) found)
+    by_record (Some (records.Row x)) found some = bool_apart (dropped_first (records.Row x) found)
+    by_record (Some (records.Hist x)) found some = bool_apart (dropped_first (records.Hist x) found)
+
+-- entries over the pieces of the version that comes next: nothing goes, and what is drawn is their pieces alone
+pub record DrawnAlone (version : ℕ) (es : List Entry) (ids : List ℕ) (drawn : List PieceRecord) : Type 0 where
+  pub none : ids ≡ []
+  pub are : AreDrawn (pieces_of version es) [] drawn
+
+pub drawn_alone : (rs : List Stored) (table : ℕ) (c : Counters) (es : List Entry) (ids : List ℕ) (drawn : List PieceRecord) → keep_rules (parts_of rs) ≡ true → (parts_of rs).counters ≡ c ∷ []
+    → Redrawn rs c.next_version table es ids drawn → DrawnAlone c.next_version es ids drawn
+drawn_alone rs table c es ids drawn rules one r = record {
+  none = none_dropped rs (is_out_all c.next_version table (entry_keys es)) ids all r.gone r.there;
+  are = subst (λ old. AreDrawn (pieces_of c.next_version es) old drawn) (none_goes (is_out_all c.next_version table (entry_keys es)) (parts_of rs).pieces all) r.are;
+}
+  where
+    all : list_all (is_out_all c.next_version table (entry_keys es)) (parts_of rs).pieces ≡ true
+    all = all_stay (parts_of rs) c table (entry_keys es) rules one
+
+-- ---- the batch
 
 -- the version may be made
 may_fork : (p : Parts) (m n table : ℕ) (a : Space) (c : Counters) (es : List Entry) → keep_rules p ≡ true → CanWork p m → Appends p n a c table es → MayFork p c (versioned c m) a n (next_version p n c)
