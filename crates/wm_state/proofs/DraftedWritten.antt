@@ -19,14 +19,13 @@ use Rattle.wm_spec.specs.declared.record.stored.Stored.{Stored}
 use Rattle.wm_state.specs.Batches.{AllUnder, AreDropped, is_dropped, keeps}
 use Rattle.wm_state.specs.Drafts.{CanAppend, CanWork, Drafts}
 use Rattle.wm_state.specs.Drawing.{AreDrawn, piece_keys}
-use Rattle.wm_state.specs.Editing.{counter_limit, drafted, entry_of, line_work, written_all}
+use Rattle.wm_state.specs.Editing.{counter_limit, drafted, entry_of, line_work}
 use Rattle.wm_state.specs.Effects.{IsFree, IsLeaf}
 use Rattle.wm_state.specs.Entries.{AreStamped, entry_keys, hists_from, is_out_all, pieces_of, rows_in}
 use Rattle.wm_state.specs.Points.{moved, stepped_by}
-use Rattle.wm_state.specs.Standing.{CountersStand, Stands, latest, newest_first}
+use Rattle.wm_state.specs.Standing.{CountersStand, latest, newest_first}
 use Rattle.wm_state.specs.State.{State}
 use Rattle.wm_state.specs.Writes.{write_batch}
-use Rattle.wm_state.specs.declared.edit.Edit.{Edit}
 use Rattle.wm_state.specs.declared.edit.Edit.TheVariants as edits
 use Rattle.wm_state.specs.declared.edit.NewEntry.{NewEntry}
 use Rattle.wm_state.proofs.ByKind.{under_found}
@@ -114,10 +113,12 @@ redrawn_so rs version table es news ids drawn news_are are gone once there = rec
 
 -- ---- the ids
 
+-- ids that differ, with two before them
 two_before : (counters_id space_id : ℕ) (ids : List ℕ) → (space_id == counters_id) ≡ false → is_dropped ids counters_id ≡ false → is_dropped ids space_id ≡ false → ids_differ ids ≡ true → ids_differ (counters_id ∷ space_id ∷ ids) ≡ true
 unfolding ids_differ
 two_before counters_id space_id ids apart one two differ = rw (apart, one, two) differ
 
+-- as a test
 lt_test : (k id : ℕ) → k < id → nat_lt k id ≡ true
 lt_test k id lt = grind (arith, lt)
 
@@ -163,6 +164,7 @@ may_write p m n table a c es rules work v leaf free = record {
   users = v.can.users;
 }
 
+-- the batch makes of the records what the entries make of each state
 pub drafts_written : (rs : List Stored) (m n table : ℕ) (entries : Vec NewEntry Global) (a : Space) (c : Counters) (counters_id space_id : ℕ) (ids : List ℕ) (id : ℕ) (drawn : List PieceRecord) → keep_rules (parts_of rs) ≡ true
     → CanWork (parts_of rs) m → Appends (parts_of rs) n a c table (entries_in entries) → Places rs counters_id space_id id c a → IsLeaf (latest (parts_of rs) n) (newest_first (parts_of rs).versions)
     → IsFree (parts_of rs) (latest (parts_of rs) n) → Redrawn rs (latest (parts_of rs) n) table (entries_in entries) ids drawn

@@ -61,6 +61,7 @@ pub record DrawnAlone (version : ℕ) (es : List Entry) (ids : List ℕ) (drawn 
   pub none : ids ≡ []
   pub are : AreDrawn (pieces_of version es) [] drawn
 
+-- so it is of what is drawn anew
 pub drawn_alone : (rs : List Stored) (table : ℕ) (c : Counters) (es : List Entry) (ids : List ℕ) (drawn : List PieceRecord) → keep_rules (parts_of rs) ≡ true → (parts_of rs).counters ≡ c ∷ []
     → Redrawn rs c.next_version table es ids drawn → DrawnAlone c.next_version es ids drawn
 drawn_alone rs table c es ids drawn rules one r = record {
@@ -105,6 +106,7 @@ may_write_more p m n table a c es rules work v = record {
     same_work : (w : ℕ) → w ≤ w
     same_work w = omega arith
 
+-- the batch makes of the records what the entries make of each state
 pub drafts_written_new : (rs : List Stored) (m n table : ℕ) (entries : Vec NewEntry Global) (a : Space) (c : Counters) (counters_id space_id id : ℕ) (drawn : List PieceRecord) → keep_rules (parts_of rs) ≡ true
     → CanWork (parts_of rs) m → Appends (parts_of rs) n a c table (entries_in entries) → Places rs counters_id space_id id c a → AreDrawn (pieces_of c.next_version (entries_in entries)) [] drawn
     → Drafts rs m (edits.Append n entries ∷ [])

@@ -5,7 +5,6 @@ use Rattle.std.specs.Option.{option_map_or}
 use Rattle.std.specs.Ordering.{is_eq}
 use Rattle.wm_base.specs.Key.{key_order}
 use Rattle.wm_base.specs.declared.row.Row.{Row}
-use Rattle.wm_base.specs.declared.value.Value.{Value}
 use Rattle.wm_spec.specs.Lists.{Entry}
 use Rattle.wm_spec.specs.declared.record.Record.{Record}
 use Rattle.wm_spec.specs.declared.record.Record.TheVariants as records
@@ -56,6 +55,7 @@ kept_hists n position (e ∷ es) all =
 abbrev keeps_key : PieceRecord → Bool
 keeps_key x = list_all can_keep x.cells.key
 
+-- pieces of such keys
 kept_pieces : (xs : List PieceRecord) → list_all keeps_key xs ≡ true → list_all is_kept (map records.Piece xs) ≡ true
 kept_pieces [] all = refl
 kept_pieces (x ∷ xs) all = let h = both (keeps_key x) (list_all keeps_key xs) all in and_true (keeps_key x) _ h.0 (kept_pieces xs h.1)
@@ -89,6 +89,7 @@ goes_kept version table (e ∷ es) y all goes =
         let g = both (y.cells.table == table) (is_eq (key_order y.cells.key e.key)) h.1 in
         ap (λ k. list_all can_keep k) (key_same y.cells.key e.key g.1) ∙ one
 
+-- so have all that go
 all_go_kept : (version table : ℕ) (es : List Entry) (ys : List PieceRecord) → list_all can_keep_entry es ≡ true → list_all keeps_key (filter (λ (y : PieceRecord). not (is_out_all version table (entry_keys es) y)) ys) ≡ true
 all_go_kept version table es [] all = refl
 all_go_kept version table es (y ∷ ys) all = by_test (is_out_all version table (entry_keys es) y) refl (all_go_kept version table es ys all)
@@ -100,11 +101,13 @@ all_go_kept version table es (y ∷ ys) all = by_test (is_out_all version table 
     by_test true e rest = rest
     by_test false e rest = and_true (keeps_key y) _ (goes_kept version table es y all e) rest
 
+-- and all that are drawn
 drawn_kept : (version : ℕ) (es : List Entry) (old drawn : List PieceRecord) → list_all can_keep_entry es ≡ true → list_all keeps_key old ≡ true → AreDrawn (pieces_of version es) old drawn → list_all keeps_key drawn ≡ true
 drawn_kept version es old drawn all olds draws = draws.pass keeps_key (λ x from till e le lt ends. e) olds (news_kept version es all)
 
 -- ---- the batches
 
+-- where the keys of the pieces can be kept
 kept_batch : (es : List Entry) (drawn : List PieceRecord) (counters_id space_id id n position : ℕ) (new : Counters) (a : Space) (ids : List ℕ) → list_all can_keep_entry es ≡ true → list_all keeps_key drawn ≡ true
     → list_all is_kept_change (write_batch counters_id new space_id a (length es) ids id (rows_in es) drawn (hists_from n position es)) ≡ true
 kept_batch es drawn counters_id space_id id n position new a ids all keys =
