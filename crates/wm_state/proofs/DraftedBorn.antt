@@ -1,5 +1,5 @@
 -- What the batch by which a workspace is born makes of the records.
-use Rattle.std.proofs.Common.{◌≡◌, ℕ, ◌+◌, ◌<◌, ◌≤◌, ◌^◌, nat_lt, nat_le, Bool, true, false, List, [], ◌∷◌, ◌++◌, length, length-append, Option, Some, refl, sym, ap, subst, ◌∙◌, arith}
+use Rattle.std.proofs.Common.{◌≡◌, ℕ, ◌+◌, ◌<◌, ◌≤◌, ◌^◌, nat_lt, nat_le, true, false, List, [], ◌∷◌, ◌++◌, length, length-append, Option, Some, refl, sym, ap, subst, ◌∙◌, arith}
 use Rattle.std.proofs.lemmas.Fmt.{length-decimal-le}
 use Rattle.std.proofs.lemmas.Slice.Eq.{bytes_eq-Decides}
 use Rattle.std.specs.Fmt.{decimal}
@@ -26,7 +26,7 @@ use Rattle.wm_state.proofs.Birth.{IsChild}
 use Rattle.wm_state.proofs.Births.{child_kept}
 use Rattle.wm_state.proofs.Counting.{counts_as, version_well, work_grows, work_room}
 use Rattle.wm_state.proofs.Drafted.{some_edit}
-use Rattle.wm_state.proofs.DraftedSaved.{Home, home_of, home_there, one_space}
+use Rattle.wm_state.proofs.DraftedSaved.{home_of, home_there, one_space}
 use Rattle.wm_state.proofs.FewChanged.{few_birth}
 use Rattle.wm_state.proofs.Mapped.{any-if, none-found}
 use Rattle.wm_state.proofs.PlannedBirth.{MayBirth, changes-birth, keep_plan_birth, plan_birth}
@@ -66,10 +66,6 @@ bears_so p m n at name a pt c rules work can there point one = record {
     same : can.space ≡ a
     same = one_space can.space a (sym can.there ∙ there)
 
--- the savepoint that the state makes has the name that the record has
-made_so : (p : Parts) (s : State) (m : ℕ) (a : Space) (w : Workspace) (stand : Stand) (pt : Point) → Stands p s → IsSpace p s a.number a w → point_at p a m stand ≡ Some pt → MadeAt p s a w m stand pt (implicit_of a) true
-made_so p s m a w stand pt st is point = made_there p s a w m stand pt (implicit_of a) true st is point
-
 -- ---- the workspace
 
 -- it is born in the state
@@ -105,6 +101,7 @@ child_same p s a m w stand name pt st is k =
       writer = [];
     }
 
+-- the workspaces with the savepoint are those that its record tells
 same_spaces : (p : Parts) (s : State) (a : Space) (w : Workspace) (stand : Stand) (k : Savepoint) → IsSpace p s a.number a w
     → with_space w.number (with_savepoint (place_behind w stand) (w.next_implicit + 1) k) s.spaces ≡ with_space a.number (with_savepoint (next_place_at a stand) (a.next_implicit + 1) k) s.spaces
 same_spaces p s a w stand k is =
@@ -158,6 +155,7 @@ may_birth rs m n at name a pt c counters_id space_id id rules work can there poi
     few : (k : ℕ) → nat_le 1024 k ≡ false → k < 1024
     few k e = grind (arith, e)
 
+-- the batch makes of the records what the birth makes of each state
 pub drafts_born : (rs : List Stored) (m n : ℕ) (at : Option ℕ) (name : List ℕ) (a : Space) (pt : Point) (c : Counters) (counters_id space_id id : ℕ) → keep_rules (parts_of rs) ≡ true → CanWork (parts_of rs) m
     → CanBear (parts_of rs) m n at name → space_of (parts_of rs).spaces n ≡ Some a → point_at (parts_of rs) a m (stand_of at) ≡ Some pt → Places rs counters_id space_id id c a
     → Drafts rs m (edits.Bear n at name ∷ [])
@@ -167,7 +165,7 @@ drafts_born rs m n at name a pt c counters_id space_id id rules work can there p
   once = changes-birth counters_id (versioned c m) space_id (marked place implicit a) id x r v apart.apart apart.counters apart.space;
   stands = λ s st.
       let h = home_of (parts_of rs) s n a st there in
-      let k = made_so (parts_of rs) s m a h.workspace (stand_of at) pt st h.is point in
+      let k = made_there (parts_of rs) s a h.workspace m (stand_of at) pt (implicit_of a) true st h.is point in
       let counts = counts_as (parts_of rs) s c st places.one in
       subst (λ (u : State). Stands (parts_of (applied (birth_batch counters_id (versioned c m) space_id (marked place implicit a) id x r v) rs)) (record u { last_moment = m; work = s.work + line_work }))
       (sym (born_so m n at name s h.workspace k.savepoint h.found (ap (λ i. saved_at m s.spaces h.workspace (stand_of at) i true) (implicit_same (parts_of rs) s a h.workspace h.is) ∙ k.is)))

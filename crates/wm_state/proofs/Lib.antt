@@ -68,3 +68,6 @@ pub mod Drafted
 pub mod FewChanged
 pub mod DraftedSaved
 pub mod DraftedBorn
+pub mod WrittenKept
+pub mod DraftedWritten
+pub mod DraftedWrittenNew
