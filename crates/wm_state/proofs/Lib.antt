@@ -61,3 +61,9 @@ pub mod DrawingApart
 pub mod Drawing
 pub mod DrawingKeys
 pub mod DrawingNews
+pub mod Counting
+pub mod Settled
+pub mod Points
+pub mod Drafted
+pub mod FewChanged
+pub mod DraftedSaved

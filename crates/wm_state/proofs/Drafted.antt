@@ -1,0 +1,131 @@
+-- What the batches that make a table and make one ready make of the records.
+use Rattle.std.proofs.Common.{◌≡◌, ◌≢◌, ◌≤◌, ◌<◌, ℕ, ◌+◌, nat_lt, Bool, true, false, List, [], ◌∷◌, ◌++◌, length, Some, refl, sym, ap, subst, ◌∙◌, arith}
+use Rattle.std.specs.Option.{option_map, unwrap_or}
+use Rattle.wm_graph.specs.Parts.{parts_of}
+use Rattle.wm_graph.specs.Rules.{are_counters, keep_rules}
+use Rattle.wm_spec.specs.Records.{AreChanges, ids_differ, record_at}
+use Rattle.wm_spec.specs.declared.record.Record.{Record}
+use Rattle.wm_spec.specs.declared.record.Record.TheVariants as records
+use Rattle.wm_spec.specs.declared.record.batch.Change.{Change}
+use Rattle.wm_spec.specs.declared.record.counters.Counters.{Counters}
+use Rattle.wm_spec.specs.declared.record.stored.Stored.{Stored}
+use Rattle.wm_spec.specs.declared.record.table.Table.{Table}
+use Rattle.wm_state.specs.Batches.{AllUnder, create_batch, enable_batch, put, ready}
+use Rattle.wm_state.specs.ById.{Ascend, applied}
+use Rattle.wm_state.specs.Drafts.{CanCreate, CanWork, ChangesFew, Drafts}
+use Rattle.wm_state.specs.Editing.{drafted, edited, enable_named, line_work}
+use Rattle.wm_state.specs.Points.{moved}
+use Rattle.wm_state.specs.Standing.{Stands, by_number}
+use Rattle.wm_state.specs.State.{Readiness, State, enabled, table_named}
+use Rattle.wm_state.specs.declared.edit.Edit.{Edit}
+use Rattle.wm_state.specs.declared.edit.Edit.TheVariants as edits
+use Rattle.wm_state.proofs.ByKind.{under_found}
+use Rattle.wm_state.proofs.Counting.{counts_as, moved_well, two_changes, work_grows}
+use Rattle.wm_state.proofs.Enabling.{keep-readied}
+use Rattle.wm_state.proofs.Growing.{same_counters}
+use Rattle.wm_state.proofs.Planned.{Readied, parts-readied, plan_created, plan_readied}
+use Rattle.wm_state.proofs.Planning.{parts-created}
+use Rattle.wm_state.proofs.Tables.{MayCreate, keep-created}
+use Rattle.wm_state.proofs.Tests.{bool_apart}
+
+-- ---- nothing
+
+none_changes : AreChanges []
+unfolding ids_differ
+none_changes = refl
+
+-- without edits nothing changes
+pub drafts_nothing : (rs : List Stored) (m : ℕ) → keep_rules (parts_of rs) ≡ true → Drafts rs m [] []
+drafts_nothing rs m rules = record {
+  keeps = rules;
+  once = none_changes;
+  stands = λ s st. st;
+  kept = refl;
+  nothing = λ none. refl;
+  few = λ forks. record { ids = []; few = omega arith; others = λ id e. refl; rows = refl; pieces = refl; hists = refl };
+}
+
+-- one edit is not none
+pub some_edit : (e : Edit) (es : List Edit) (cs : List Change) → e ∷ es ≡ [] → cs ≡ []
+some_edit e es cs none = cc
+
+-- ---- a table is made
+
+-- such a table may be made
+may_create : (rs : List Stored) (m : ℕ) (t : Table) (c : Counters) → keep_rules (parts_of rs) ≡ true → CanWork (parts_of rs) m → CanCreate (parts_of rs) t → (parts_of rs).counters ≡ c ∷ [] → MayCreate (parts_of rs) c (moved c m) t
+may_create rs m t c rules work can one = record {
+  one = one;
+  counters = moved_well (parts_of rs) m c rules work one;
+  versions = refl;
+  stamps = refl;
+  work = work_grows c.work;
+  is = can.is;
+  room = can.room;
+  number = can.number;
+  name = can.name;
+}
+
+pub drafts_created : (rs : List Stored) (m : ℕ) (t : Table) (c : Counters) (counters_id id : ℕ) → keep_rules (parts_of rs) ≡ true → CanWork (parts_of rs) m → CanCreate (parts_of rs) t
+    → (parts_of rs).counters ≡ c ∷ [] → record_at rs counters_id ≡ Some (records.Counters c) → Ascend rs → AllUnder id rs → Drafts rs m (edits.Create t ∷ []) (create_batch counters_id (moved c m) id t)
+drafts_created rs m t c counters_id id rules work can one there sorted under = record {
+  keeps = subst (λ p. keep_rules p ≡ true) (sym (parts-created rs counters_id id c (moved c m) t sorted there one under)) (keep-created (parts_of rs) c (moved c m) t may rules);
+  once = two_changes (put counters_id (records.Counters (moved c m))) (put id (records.Table t)) (below counters_id id (under_found id rs counters_id (records.Counters c) under there));
+  stands = λ s st.
+      let counts = counts_as (parts_of rs) s c st one in
+      plan_created rs counters_id id c (moved c m) t s (drafted m (edits.Create t ∷ []) s) st sorted there under may refl refl
+      (record { counters = moved c m; one = refl; next_stamp = counts.next_stamp; last_moment = refl; limit = counts.limit; work = ap (λ w. w + line_work) counts.work });
+  kept = refl;
+  nothing = some_edit (edits.Create t) [] (create_batch counters_id (moved c m) id t);
+  few = λ forks. absurd (bool_apart (sym forks));
+}
+  where
+    below : (a b : ℕ) → a < b → a ≡ b → ⊥
+    below a b lt e = omega (arith, lt, e)
+
+    may : MayCreate (parts_of rs) c (moved c m) t
+    may = may_create rs m t c rules work can one
+
+-- ---- a table becomes ready
+
+-- the table of the name is that of the records
+enabled_so : (rs : List Stored) (m : ℕ) (name : List ℕ) (valid history : Bool) (t : Table) (s : State) → Stands (parts_of rs) s → table_named name (by_number (parts_of rs).tables) ≡ Some t
+    → edited m (edits.Enable name valid history) s ≡ enable_named (record { valid = valid; history = history }) s t
+enabled_so rs m name valid history t s st named = ap (λ o. unwrap_or (option_map (enable_named (record { valid = valid; history = history }) s) o) s) (ap (table_named name) (sym st.tables.same) ∙ named)
+
+pub drafts_enabled : (rs : List Stored) (m : ℕ) (name : List ℕ) (valid history : Bool) (t : Table) (c : Counters) (counters_id id : ℕ) → keep_rules (parts_of rs) ≡ true → CanWork (parts_of rs) m
+    → table_named name (by_number (parts_of rs).tables) ≡ Some t → t.has_key ≡ true → (parts_of rs).counters ≡ c ∷ [] → record_at rs counters_id ≡ Some (records.Counters c) → record_at rs id ≡ Some (records.Table t) → Ascend rs
+    → Drafts rs m (edits.Enable name valid history ∷ []) (enable_batch counters_id (moved c m) id (record { valid = valid; history = history }) t)
+drafts_enabled rs m name valid history t c counters_id id rules can named key one there found sorted = record {
+  keeps = by_parts (parts-readied rs counters_id id c (moved c m) how t sorted there one found);
+  once = two_changes (put counters_id (records.Counters (moved c m))) (put id (records.Table (ready how t))) apart;
+  stands = λ s st.
+      let counts = counts_as (parts_of rs) s c st one in
+      subst (λ (u : State). Stands (parts_of (applied (enable_batch counters_id (moved c m) id how t) rs)) (record u { last_moment = m; work = s.work + line_work })) (sym (enabled_so rs m name valid history t s st named))
+      (plan_readied rs counters_id id c (moved c m) how t s _ st sorted there one found key counts_well refl refl (work_grows c.work) refl refl
+      (λ front back. record { counters = moved c m; one = refl; next_stamp = counts.next_stamp; last_moment = refl; limit = counts.limit; work = ap (λ w. w + line_work) counts.work }));
+  kept = refl;
+  nothing = some_edit (edits.Enable name valid history) [] (enable_batch counters_id (moved c m) id how t);
+  few = λ forks. absurd (bool_apart (sym forks));
+}
+  where
+    how : Readiness
+    how = record { valid = valid; history = history }
+
+    some_record : (a b : Record) → Some a ≡ Some b → a ≡ b
+    some_record a b h = cc
+
+    kinds_apart : records.Counters c ≡ records.Table t → ⊥
+    kinds_apart e = cc
+
+    apart : counters_id ≢ id
+    apart e = kinds_apart (some_record _ _ (sym there ∙ ap (record_at rs) e ∙ found))
+
+    counts_well : are_counters (moved c m) ≡ true
+    counts_well = moved_well (parts_of rs) m c rules can one
+
+    by_parts : Readied rs (enable_batch counters_id (moved c m) id how t) (moved c m) how t → keep_rules (parts_of (applied (enable_batch counters_id (moved c m) id how t) rs)) ≡ true
+    by_parts r = subst (λ p. keep_rules p ≡ true) (sym r.is)
+        (keep-readied (parts_of rs) (moved c m) r.front how t r.back rules r.old key counts_well
+        (λ d is_one.
+        let same : c ≡ d = same_counters (parts_of rs) d c is_one one in
+        (ap (λ (k : Counters). k.next_version) same, ap (λ (k : Counters). k.next_stamp) same, subst (λ (k : Counters). k.work ≤ (moved c m).work) same (work_grows c.work))))
