@@ -23,3 +23,4 @@ pub mod Spaced
 pub mod Redrawing
 pub mod Following
 pub mod Drafting
+pub mod Putting
