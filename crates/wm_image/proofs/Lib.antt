@@ -24,3 +24,4 @@ pub mod Redrawing
 pub mod Following
 pub mod Drafting
 pub mod Putting
+pub mod Coming
