@@ -25,3 +25,4 @@ pub mod Following
 pub mod Drafting
 pub mod Putting
 pub mod Coming
+pub mod Entering

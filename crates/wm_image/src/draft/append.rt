@@ -45,40 +45,50 @@ fn add_entry(
     ensures pieces { OnOk result (made.new.pieces.items ≡ made.old.pieces.items ++ piece_of version (entry_of entry) ∷ []) }
     ensures hists { OnOk result (made.new.hists.items ≡ made.old.hists.items ++ records.Hist (hist_of space position (entry_of entry)) ∷ []) }
 {
-    let gone = entry.row.is_none();
-    let from = entry.period.from().seconds();
-    let till = entry.period.till().seconds();
+    let NewEntry {
+        table,
+        key,
+        period,
+        row,
+        stamp,
+        kind,
+        moment,
+        user,
+    } = entry;
+    let gone = row.is_none();
+    let from = period.from().seconds();
+    let till = period.till().seconds();
     made.hists.push(Record::Hist(Hist {
         space,
         position,
         cells: CellRange {
-            table: entry.table,
-            key: entry.key.copy(alloc)?,
+            table,
+            key: key.copy(alloc)?,
             from,
             till,
         },
-        stamp: entry.stamp,
-        kind: entry.kind,
+        stamp,
+        kind,
         gone,
-        moment: entry.moment,
-        user: entry.user,
+        moment,
+        user,
     }))?;
     made.pieces.push(PieceRecord {
         version,
         cells: CellRange {
-            table: entry.table,
-            key: entry.key,
+            table,
+            key,
             from,
             till,
         },
-        stamp: entry.stamp,
-        kind: entry.kind,
+        stamp,
+        kind,
         gone,
     })?;
-    if let Some(values) = entry.row {
+    if let Some(values) = row {
         made.rows.push(Record::Row(RowRecord {
-            stamp: entry.stamp,
-            table: entry.table,
+            stamp,
+            table,
             values,
         }))?;
     }
