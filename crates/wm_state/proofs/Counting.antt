@@ -1,5 +1,5 @@
 -- Counters that a batch moves, and those of the state that the records stand for.
-use Rattle.std.proofs.Common.{◌≡◌, ◌≢◌, ℕ, ◌≤◌, ◌+◌, ◌^◌, ◌&&◌, nat_lt, nat_le, true, false, List, [], ◌∷◌, refl, sym, ap, subst, ◌∙◌, arith}
+use Rattle.std.proofs.Common.{◌≡◌, ◌≢◌, ℕ, ◌≤◌, ◌+◌, ◌^◌, ◌&&◌, nat_lt, nat_le, true, false, [], ◌∷◌, refl, sym, ap, ◌∙◌, arith}
 use Rattle.std.proofs.lemmas.Bool.{ne_eqb}
 use Rattle.wm_base.specs.declared.instant.TheConstants.{END}
 use Rattle.wm_graph.specs.Parts.{Parts}
@@ -10,7 +10,7 @@ use Rattle.wm_spec.specs.declared.record.counters.Counters.{Counters}
 use Rattle.wm_state.specs.Drafts.{CanWork}
 use Rattle.wm_state.specs.Editing.{counter_limit, line_work}
 use Rattle.wm_state.specs.Points.{moved, versioned}
-use Rattle.wm_state.specs.Standing.{CountersStand, Stands}
+use Rattle.wm_state.specs.Standing.{Stands}
 use Rattle.wm_state.specs.State.{State}
 use Rattle.wm_state.proofs.Apart.{ruled}
 use Rattle.wm_state.proofs.Growing.{same_counters}
@@ -31,6 +31,7 @@ record Counted (c : Counters) : Type 0 where
   work : nat_le c.work (2 ^ 62) ≡ true
   versions : nat_le c.next_version (c.work + 2) ≡ true
 
+-- told of counters that pass the test
 counted_so : (c : Counters) → are_counters c ≡ true → Counted c
 counted_so c e =
     let h = both ((nat_le 1 c.limit && nat_le c.limit 1048576) && (nat_le 1 c.next_stamp && nat_le c.next_stamp (c.limit + 1))) _ e in
@@ -74,6 +75,7 @@ in_room n e = grind (arith, e)
 
 -- ---- the counters of the records
 
+-- they are in order
 pub counted_well : (p : Parts) (c : Counters) → keep_rules p ≡ true → p.counters ≡ c ∷ [] → are_counters c ≡ true
 counted_well p c rules one = let r = ruled p rules in ap are_counters (sym (same_counters p c r.counters one r.one)) ∙ r.counted
 
@@ -98,6 +100,7 @@ pub record CountsAs (c : Counters) (s : State) : Type 0 where
   pub limit : c.limit ≡ s.limit
   pub work : c.work ≡ s.work
 
+-- so it is where they stand for it
 pub counts_as : (p : Parts) (s : State) (c : Counters) → Stands p s → p.counters ≡ c ∷ [] → CountsAs c s
 counts_as p s c stands one =
     let k = stands.counters in

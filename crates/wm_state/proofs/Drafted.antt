@@ -1,5 +1,5 @@
 -- What the batches that make a table and make one ready make of the records.
-use Rattle.std.proofs.Common.{◌≡◌, ◌≢◌, ◌≤◌, ◌<◌, ℕ, ◌+◌, nat_lt, Bool, true, false, List, [], ◌∷◌, ◌++◌, length, Some, refl, sym, ap, subst, ◌∙◌, arith}
+use Rattle.std.proofs.Common.{◌≡◌, ◌≢◌, ◌≤◌, ◌<◌, ℕ, ◌+◌, Bool, true, List, [], ◌∷◌, Some, refl, sym, ap, subst, ◌∙◌, arith}
 use Rattle.std.specs.Option.{option_map, unwrap_or}
 use Rattle.wm_graph.specs.Parts.{parts_of}
 use Rattle.wm_graph.specs.Rules.{are_counters, keep_rules}
@@ -12,11 +12,11 @@ use Rattle.wm_spec.specs.declared.record.stored.Stored.{Stored}
 use Rattle.wm_spec.specs.declared.record.table.Table.{Table}
 use Rattle.wm_state.specs.Batches.{AllUnder, create_batch, enable_batch, put, ready}
 use Rattle.wm_state.specs.ById.{Ascend, applied}
-use Rattle.wm_state.specs.Drafts.{CanCreate, CanWork, ChangesFew, Drafts}
+use Rattle.wm_state.specs.Drafts.{CanCreate, CanWork, Drafts}
 use Rattle.wm_state.specs.Editing.{drafted, edited, enable_named, line_work}
 use Rattle.wm_state.specs.Points.{moved}
 use Rattle.wm_state.specs.Standing.{Stands, by_number}
-use Rattle.wm_state.specs.State.{Readiness, State, enabled, table_named}
+use Rattle.wm_state.specs.State.{Readiness, State, table_named}
 use Rattle.wm_state.specs.declared.edit.Edit.{Edit}
 use Rattle.wm_state.specs.declared.edit.Edit.TheVariants as edits
 use Rattle.wm_state.proofs.ByKind.{under_found}
@@ -30,6 +30,7 @@ use Rattle.wm_state.proofs.Tests.{bool_apart}
 
 -- ---- nothing
 
+-- no change is one twice
 none_changes : AreChanges []
 unfolding ids_differ
 none_changes = refl
@@ -65,6 +66,7 @@ may_create rs m t c rules work can one = record {
   name = can.name;
 }
 
+-- the batch makes of the records what the table makes of each state
 pub drafts_created : (rs : List Stored) (m : ℕ) (t : Table) (c : Counters) (counters_id id : ℕ) → keep_rules (parts_of rs) ≡ true → CanWork (parts_of rs) m → CanCreate (parts_of rs) t
     → (parts_of rs).counters ≡ c ∷ [] → record_at rs counters_id ≡ Some (records.Counters c) → Ascend rs → AllUnder id rs → Drafts rs m (edits.Create t ∷ []) (create_batch counters_id (moved c m) id t)
 drafts_created rs m t c counters_id id rules work can one there sorted under = record {
@@ -92,6 +94,7 @@ enabled_so : (rs : List Stored) (m : ℕ) (name : List ℕ) (valid history : Boo
     → edited m (edits.Enable name valid history) s ≡ enable_named (record { valid = valid; history = history }) s t
 enabled_so rs m name valid history t s st named = ap (λ o. unwrap_or (option_map (enable_named (record { valid = valid; history = history }) s) o) s) (ap (table_named name) (sym st.tables.same) ∙ named)
 
+-- the batch makes of the records what its readiness makes of each state
 pub drafts_enabled : (rs : List Stored) (m : ℕ) (name : List ℕ) (valid history : Bool) (t : Table) (c : Counters) (counters_id id : ℕ) → keep_rules (parts_of rs) ≡ true → CanWork (parts_of rs) m
     → table_named name (by_number (parts_of rs).tables) ≡ Some t → t.has_key ≡ true → (parts_of rs).counters ≡ c ∷ [] → record_at rs counters_id ≡ Some (records.Counters c) → record_at rs id ≡ Some (records.Table t) → Ascend rs
     → Drafts rs m (edits.Enable name valid history ∷ []) (enable_batch counters_id (moved c m) id (record { valid = valid; history = history }) t)

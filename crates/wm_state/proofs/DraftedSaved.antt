@@ -1,5 +1,5 @@
 -- What the batch that makes a savepoint makes of the records.
-use Rattle.std.proofs.Common.{◌≡◌, ℕ, ◌+◌, ◌≤◌, Bool, true, false, List, [], ◌∷◌, ◌++◌, Option, Some, refl, sym, ap, subst, ◌∙◌, arith}
+use Rattle.std.proofs.Common.{◌≡◌, ℕ, ◌+◌, ◌≤◌, true, false, List, [], ◌∷◌, ◌++◌, Some, refl, sym, ap, subst, ◌∙◌, arith}
 use Rattle.std.specs.Option.{option_and_then, option_map, unwrap_or}
 use Rattle.wm_graph.specs.Parts.{Parts, parts_of, space_of}
 use Rattle.wm_graph.specs.Rules.{keep_rules}
@@ -22,7 +22,7 @@ use Rattle.wm_state.proofs.FewChanged.{few_saved}
 use Rattle.wm_state.proofs.KeepSaved.{MaySave}
 use Rattle.wm_state.proofs.Named.{space_number}
 use Rattle.wm_state.proofs.PlannedSaved.{changes-saved, keep_plan_saved, plan_saved}
-use Rattle.wm_state.proofs.Points.{MadeAt, MakesAt, made_there, may_save}
+use Rattle.wm_state.proofs.Points.{MakesAt, made_there, may_save}
 use Rattle.wm_state.proofs.Settled.{Places, PlacesApart, places_apart}
 use Rattle.wm_state.proofs.Spaces.{IsSpace, space_is}
 
@@ -34,6 +34,7 @@ pub record Home (p : Parts) (s : State) (n : ℕ) (a : Space) : Type 0 where
   pub found : workspace_of s.spaces n ≡ Some workspace
   pub is : IsSpace p s a.number a workspace
 
+-- a record has it
 pub home_of : (p : Parts) (s : State) (n : ℕ) (a : Space) → Stands p s → space_of p.spaces n ≡ Some a → Home p s n a
 home_of p s n a st there =
     let h = space_is p s n a st there in record { workspace = h.workspace; found = h.is.found; is = subst (λ k. IsSpace p s k a h.workspace) (sym h.is.record_number) h.is }
@@ -48,6 +49,7 @@ one_space a b e = cc
 
 -- ---- the savepoint
 
+-- the workspaces with it are those that its record tells
 same_spaces : (p : Parts) (s : State) (a : Space) (w : Workspace) (k : Savepoint) → IsSpace p s a.number a w
     → with_space w.number (with_savepoint (w.next_place + 1) w.next_implicit k) s.spaces ≡ with_space a.number (with_savepoint (a.next_place + 1) a.next_implicit k) s.spaces
 same_spaces p s a w k is =
@@ -74,6 +76,7 @@ saves_so p m n name a c rules work can there one = record {
   spare = work_room p m c work one;
 }
 
+-- the batch makes of the records what the savepoint makes of each state
 pub drafts_saved : (rs : List Stored) (m n : ℕ) (name : List ℕ) (a : Space) (c : Counters) (counters_id space_id id : ℕ) → keep_rules (parts_of rs) ≡ true → CanWork (parts_of rs) m → CanSave (parts_of rs) n name
     → space_of (parts_of rs).spaces n ≡ Some a → Places rs counters_id space_id id c a
     → Drafts rs m (edits.Save n name ∷ []) (savepoint_batch counters_id (moved c m) space_id (marked (a.next_place + 1) a.next_implicit a) id (saved_record (parts_of rs) a m name))

@@ -1,5 +1,5 @@
 -- What the batches of a savepoint and of a birth change: a few ids, and no row, piece or entry of a log.
-use Rattle.std.proofs.Common.{◌≡◌, ℕ, ◌+◌, ◌≤◌, ◌==◌, ◌||◌, Bool, true, false, cond, List, [], ◌∷◌, ◌++◌, length, map, Option, Some, None, refl, sym, ap, subst, ◌∙◌, arith}
+use Rattle.std.proofs.Common.{◌≡◌, ℕ, ◌+◌, ◌≤◌, ◌==◌, ◌||◌, Bool, true, false, cond, List, [], ◌∷◌, ◌++◌, length, map, Some, None, refl, sym, ap, subst, ◌∙◌, arith}
 use Rattle.std.specs.List.{list_any}
 use Rattle.wm_graph.specs.Parts.{Parts, parts_of}
 use Rattle.wm_spec.specs.Records.{record_at, change_at, AreChanges}
@@ -17,7 +17,7 @@ use Rattle.wm_state.specs.Effects.{marked}
 use Rattle.wm_state.proofs.Batches.{over_it, record_at-applied}
 use Rattle.wm_state.proofs.PlannedSaved.{SavedParts, parts-saved, changes-saved, more_space, more_version, AllUnder-more, AllUnder-saved}
 use Rattle.wm_state.proofs.PlannedBirth.{changes-birth}
-use Rattle.wm_state.proofs.Settled.{Places, PlacesApart, places_apart}
+use Rattle.wm_state.proofs.Settled.{Places, places_apart}
 use Rattle.wm_state.proofs.Tests.{bool_apart}
 
 -- ---- the ids of a batch

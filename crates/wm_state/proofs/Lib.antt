@@ -67,3 +67,7 @@ pub mod Points
 pub mod Drafted
 pub mod FewChanged
 pub mod DraftedSaved
+pub mod DraftedBorn
+pub mod WrittenKept
+pub mod DraftedWritten
+pub mod DraftedWrittenNew

@@ -149,7 +149,7 @@ may_after p old mid new n a v table es rules may = record {
     newest = newest_is p old mid n a v may.fork rules
 
 -- the version has no piece yet that others could stand for
-none_goes : (k : PieceRecord → Bool) (xs : List PieceRecord) → list_all k xs ≡ true → filter (λ y. not (k y)) xs ≡ []
+pub none_goes : (k : PieceRecord → Bool) (xs : List PieceRecord) → list_all k xs ≡ true → filter (λ y. not (k y)) xs ≡ []
 none_goes k [] e = refl
 none_goes k (x ∷ xs) e = let h = both (k x) (list_all k xs) e in rw (h.0, none_goes k xs h.1) refl
 
