@@ -26,3 +26,5 @@ pub mod Drafting
 pub mod Putting
 pub mod Coming
 pub mod Entering
+pub mod Placed
+pub mod Written

@@ -1,19 +1,37 @@
-use Rattle.std.proofs.Common.{rules, ◌≡◌, ◌+◌, ◌<◌, ◌≤◌, ◌^◌, ◌∷◌, [], ◌++◌, ℕ, length, map, true, None, Some, IfOk, OnOk, ◌-◌, ◌*◌, ◌/◌, ◌%◌, Bool, false, nat_eq, nat_lt, List, slice_index_or, slice_set, bit_and, bit_or, Fits, w8, w32, w64, Bor, MutBor}
-use Rattle.wm_graph.specs.Parts.{parts_of, space_of}
-use Rattle.wm_graph.specs.Rules.{keep_rules}
-use Rattle.wm_image.specs.Drafting.{AreWritten}
+use Rattle.std.proofs.Common.{◌≡◌, map, subst, ◌∙◌}
+use Rattle.wm_graph.specs.Parts.{parts_of}
 use Rattle.wm_spec.specs.Records.{record_at}
-use Rattle.wm_spec.specs.declared.record.Record.TheVariants as records
-use Rattle.wm_state.specs.Batches.{put}
-use Rattle.wm_state.specs.Drafts.{CanAppend, CanWork, Drafts}
-use Rattle.wm_state.specs.Drawing.{AreNews}
+use Rattle.wm_state.proofs.Apart.{ruled}
 use Rattle.wm_state.specs.Editing.{entry_of}
-use Rattle.wm_state.specs.Effects.{IsFree, IsLeaf}
-use Rattle.wm_state.specs.Entries.{hist_of, hists_from, piece_of, pieces_of, rows_in}
-use Rattle.wm_state.specs.Standing.{latest, newest_first}
-use Rattle.wm_state.specs.declared.edit.Edit.TheVariants as edits
+use Rattle.wm_image.proofs.Placed.{counters_at, space_at}
+use Rattle.wm_image.proofs.Written.{MadeAll, counted_as, written_is}
+use Rattle.wm_image.specs.Redraw.{IsRedrawn}
 use Rattle.wm_image.proofs.draft.append.written.Goals as goal
 
--- src/draft/append.rt:152:1
+made : (c : goal.After-drop-drawn-2) → MadeAll c.args.space.now c.args.entries.items c.in_ok-drawn.drawn.drawn.items c.len-count.result c.in_ok-longer.longer c.in_ok-made.made.rows.items c.in_ok-pieces.pieces.items c.in_ok-made.made.hists.items
+made c = record {
+  count_is = counted_as c.args.entries c.len-count.result c.len-count.ensures;
+  space_is = c.in_ok-longer.ensures;
+  rows_are = c.in_ok-made.ensures.rows;
+  pieces_are = c.in_ok-pieces.ensures;
+  hists_are = c.in_ok-made.ensures.hists;
+}
+
 pub returns : goal.returns
-returns c = ?
+returns c =
+    let r = ruled (parts_of c.args.image.now) c.requires.rules in
+    record {
+      counters_id = c.id_of_counters.result;
+      old = r.counters;
+      one = r.one;
+      counters_at = counters_at r.counters (parts_of c.args.image.now).counters (record_at c.args.image.now c.id_of_counters.result) r.one c.id_of_counters.ensures.there;
+      space_id = c.unwrap-space_id.result;
+      space_at = space_at c.args.image.now c.args.space.now.number c.id_of_space.result c.unwrap-space_id.result c.args.space.now c.unwrap-space_id.ensures c.id_of_space.ensures.there c.requires.there;
+      sorted = c.id_of_counters.ensures.ascend;
+      dropped = c.in_ok-drawn.drawn.dropped.items;
+      drawn = c.in_ok-drawn.drawn.drawn.items;
+      redrawn = subst (λ news. IsRedrawn c.args.image.now c.args.version c.args.table news c.in_ok-drawn.drawn.dropped.items c.in_ok-drawn.drawn.drawn.items) c.in_ok-made.ensures.pieces c.in_ok-drawn.ensures;
+      are = c.in_ok-changes.ensures
+          ∙ written_is c.args.front c.args.counters c.args.space.now c.args.entries.items c.in_ok-drawn.drawn.drawn.items c.len-count.result c.in_ok-longer.longer c.in_ok-made.made.rows.items c.in_ok-pieces.pieces.items c.in_ok-made.made.hists.items
+          c.id_of_counters.result c.unwrap-space_id.result c.args.id c.as_slice-4.result.now c.in_ok-drawn.drawn.dropped.items (made c) c.as_slice-4.ensures.value;
+    }
