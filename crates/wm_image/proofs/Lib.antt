@@ -28,3 +28,4 @@ pub mod Coming
 pub mod Entering
 pub mod Placed
 pub mod Written
+pub mod Born
