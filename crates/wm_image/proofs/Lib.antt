@@ -29,3 +29,4 @@ pub mod Entering
 pub mod Placed
 pub mod Written
 pub mod Born
+pub mod Appended

@@ -1,9 +1,20 @@
-use Rattle.std.proofs.Common.{rules, ◌≡◌, ◌∷◌, [], true, IfOk, ℕ, ◌+◌, ◌-◌, ◌*◌, ◌<◌, ◌≤◌, length, ◌/◌, ◌%◌, Bool, false, nat_eq, nat_lt, List, ◌++◌, slice_index_or, slice_set, bit_and, bit_or, Fits, w8, w32, w64, Bor, MutBor}
-use Rattle.wm_graph.specs.Parts.{parts_of}
-use Rattle.wm_graph.specs.Rules.{keep_rules}
-use Rattle.wm_state.specs.Drafts.{CanDraft, CanEdit, CanWork, Drafts}
+use Rattle.std.proofs.Common.{◌≡◌, List, [], ◌∷◌, length, vec_len, refl, sym, subst, arith}
+use Rattle.std.specs.declared.alloc.Global.{Global}
+use Rattle.std.specs.declared.vec.Vec.{Vec}
+use Rattle.wm_state.proofs.Drafted.{drafts_nothing}
+use Rattle.wm_state.specs.Drafts.{Drafts}
+use Rattle.wm_state.specs.declared.edit.Edit.{Edit}
 use Rattle.wm_image.proofs.draft.draft.Goals as goal
 
--- src/draft.rt:46:1
+-- what has no length has no items
+no_items : (v : Vec Edit Global) → vec_len v ≡ 0 → v.items ≡ []
+no_items v none = none_of v.items (omega (arith, none))
+  where
+    none_of : (es : List Edit) → length es ≡ 0 → es ≡ []
+    none_of [] e = refl
+    none_of (e ∷ es) h = absurd (omega (arith, h))
+
 pub returns : goal.returns
-returns c = ?
+returns c =
+    subst (λ es. Drafts c.args.image.now c.args.moment es c.new.result) (sym (no_items c.args.edits c.in-None.ensures.cases.0))
+    (subst (Drafts c.args.image.now c.args.moment []) (sym c.new.ensures) (drafts_nothing c.args.image.now c.args.moment c.requires.rules))

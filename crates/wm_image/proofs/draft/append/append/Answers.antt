@@ -1,47 +1,49 @@
-use Rattle.std.proofs.Common.{rules, ◌≡◌, ◌+◌, ◌<◌, ◌≤◌, ◌^◌, ◌∷◌, [], ◌++◌, ℕ, length, map, true, None, Some, IfOk, OnOk, ◌-◌, ◌*◌, ◌/◌, ◌%◌, Bool, false, nat_eq, nat_lt, List, slice_index_or, slice_set, bit_and, bit_or, Fits, w8, w32, w64, Bor, MutBor}
-use Rattle.wm_graph.specs.Parts.{parts_of, space_of}
-use Rattle.wm_graph.specs.Rules.{keep_rules}
-use Rattle.wm_image.specs.Drafting.{AreWritten}
-use Rattle.wm_spec.specs.Records.{record_at}
-use Rattle.wm_spec.specs.declared.record.Record.TheVariants as records
-use Rattle.wm_state.specs.Batches.{put}
-use Rattle.wm_state.specs.Drafts.{CanAppend, CanWork, Drafts}
-use Rattle.wm_state.specs.Drawing.{AreNews}
+use Rattle.std.proofs.Common.{◌≡◌, map, IfOk, [], ◌∷◌, refl, sym, ap, subst, ◌∙◌}
+use Rattle.wm_graph.specs.Parts.{parts_of}
+use Rattle.wm_state.specs.Drafts.{Drafts}
 use Rattle.wm_state.specs.Editing.{entry_of}
-use Rattle.wm_state.specs.Effects.{IsFree, IsLeaf}
-use Rattle.wm_state.specs.Entries.{hist_of, hists_from, piece_of, pieces_of, rows_in}
-use Rattle.wm_state.specs.Standing.{latest, newest_first}
+use Rattle.wm_state.specs.Effects.{IsFree}
+use Rattle.wm_state.specs.Standing.{latest}
 use Rattle.wm_state.specs.declared.edit.Edit.TheVariants as edits
+use Rattle.wm_image.proofs.Appended.{found_so, leaf_here}
 use Rattle.wm_image.proofs.draft.append.append.Goals as goal
 
--- src/draft/append.rt:295:9
 pub append_here-requires-clause-there : goal.append_here-requires-clause-there
-append_here-requires-clause-there c = ?
+append_here-requires-clause-there c =
+    (found_so (parts_of c.args.image.now) c.args.space (map entry_of c.args.entries.items) c.space.result c.unwrap-found.result c.unwrap-found.ensures c.space.ensures c.requires.can).there
 
--- src/draft/append.rt:295:9
 pub append_here-requires-clause-can : goal.append_here-requires-clause-can
-append_here-requires-clause-can c = ?
+append_here-requires-clause-can c =
+    (found_so (parts_of c.args.image.now) c.args.space (map entry_of c.args.entries.items) c.space.result c.unwrap-found.result c.unwrap-found.ensures c.space.ensures c.requires.can).can
 
--- src/draft/append.rt:295:9
+newest : (c : goal.Then-is_free) → c.latest-version.result ≡ latest (parts_of c.args.image.now) c.unwrap-found.result.now.number
+newest c =
+    c.latest-version.ensures
+    ∙ ap (latest (parts_of c.args.image.now))
+    (sym (found_so (parts_of c.args.image.now) c.args.space (map entry_of c.args.entries.items) c.space.result c.unwrap-found.result c.unwrap-found.ensures c.space.ensures c.requires.can).number)
+
 pub append_here-requires-clause-leaf : goal.append_here-requires-clause-leaf
-append_here-requires-clause-leaf c = ?
+append_here-requires-clause-leaf c = leaf_here (parts_of c.args.image.now) c.unwrap-found.result.now.number c.latest-version.result (newest c) c.if-is_leaf.ensures
 
--- src/draft/append.rt:295:9
 pub append_here-requires-clause-free : goal.append_here-requires-clause-free
-append_here-requires-clause-free c = ?
+append_here-requires-clause-free c = subst (IsFree (parts_of c.args.image.now)) (newest c) (c.if-is_free.ensures.free refl)
 
--- src/draft/append.rt:295:9
 pub returns-then-is_free : goal.returns-then-is_free
-returns-then-is_free c = ?
+returns-then-is_free c =
+    subst (λ n. IfOk c.append_here.result (Drafts c.args.image.now c.args.moment (edits.Append n c.args.entries ∷ [])))
+    (found_so (parts_of c.args.image.now) c.args.space (map entry_of c.args.entries.items) c.space.result c.unwrap-found.result c.unwrap-found.ensures c.space.ensures c.requires.can).number
+    c.append_here.ensures
 
--- src/draft/append.rt:297:5
 pub append_above-requires-clause-there : goal.append_above-requires-clause-there
-append_above-requires-clause-there c = ?
+append_above-requires-clause-there c =
+    (found_so (parts_of c.args.image.now) c.args.space (map entry_of c.args.entries.items) c.space.result c.unwrap-found.result c.unwrap-found.ensures c.space.ensures c.requires.can).there
 
--- src/draft/append.rt:297:5
 pub append_above-requires-clause-can : goal.append_above-requires-clause-can
-append_above-requires-clause-can c = ?
+append_above-requires-clause-can c =
+    (found_so (parts_of c.args.image.now) c.args.space (map entry_of c.args.entries.items) c.space.result c.unwrap-found.result c.unwrap-found.ensures c.space.ensures c.requires.can).can
 
--- src/draft/append.rt:277:1
 pub returns : goal.returns
-returns c = ?
+returns c =
+    subst (λ n. IfOk c.append_above.result (Drafts c.args.image.now c.args.moment (edits.Append n c.args.entries ∷ [])))
+    (found_so (parts_of c.args.image.now) c.args.space (map entry_of c.args.entries.items) c.space.result c.unwrap-found.result c.unwrap-found.ensures c.space.ensures c.requires.can).number
+    c.append_above.ensures

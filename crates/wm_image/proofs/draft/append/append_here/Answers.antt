@@ -1,23 +1,22 @@
-use Rattle.std.proofs.Common.{rules, ◌≡◌, ◌+◌, ◌<◌, ◌≤◌, ◌^◌, ◌∷◌, [], ◌++◌, ℕ, length, map, true, None, Some, IfOk, OnOk, ◌-◌, ◌*◌, ◌/◌, ◌%◌, Bool, false, nat_eq, nat_lt, List, slice_index_or, slice_set, bit_and, bit_or, Fits, w8, w32, w64, Bor, MutBor}
-use Rattle.wm_graph.specs.Parts.{parts_of, space_of}
-use Rattle.wm_graph.specs.Rules.{keep_rules}
-use Rattle.wm_image.specs.Drafting.{AreWritten}
-use Rattle.wm_spec.specs.Records.{record_at}
-use Rattle.wm_spec.specs.declared.record.Record.TheVariants as records
-use Rattle.wm_state.specs.Batches.{put}
-use Rattle.wm_state.specs.Drafts.{CanAppend, CanWork, Drafts}
-use Rattle.wm_state.specs.Drawing.{AreNews}
+use Rattle.std.proofs.Common.{map}
+use Rattle.wm_graph.specs.Parts.{parts_of}
+use Rattle.wm_state.proofs.DraftedWritten.{Appends}
+use Rattle.wm_state.proofs.DrawingNews.{news-stamped}
 use Rattle.wm_state.specs.Editing.{entry_of}
-use Rattle.wm_state.specs.Effects.{IsFree, IsLeaf}
-use Rattle.wm_state.specs.Entries.{hist_of, hists_from, piece_of, pieces_of, rows_in}
-use Rattle.wm_state.specs.Standing.{latest, newest_first}
-use Rattle.wm_state.specs.declared.edit.Edit.TheVariants as edits
+use Rattle.wm_image.proofs.Appended.{appends_so, drafts_here}
+use Rattle.wm_image.proofs.Written.{counted_as}
 use Rattle.wm_image.proofs.draft.append.append_here.Goals as goal
 
--- src/draft/append.rt:221:19
-pub written-requires-clause-news : goal.written-requires-clause-news
-written-requires-clause-news c = ?
+-- what is asked of the entries
+asked : (c : goal.After-new-front) → Appends (parts_of c.args.image.now) c.args.space.now.number c.args.space.now c.counters.result c.index.result.now.table (map entry_of c.args.entries.items)
+asked c = appends_so (parts_of c.args.image.now) c.args.space.now c.counters.result c.args.entries.items c.index.result.now c.requires.there c.requires.can c.counters.ensures c.index.ensures
 
--- src/draft/append.rt:199:1
+pub written-requires-clause-news : goal.written-requires-clause-news
+written-requires-clause-news c = news-stamped c.latest-version.result c.index.result.now.table c.counters.result.next_stamp (map entry_of c.args.entries.items) (asked c).stamped c.requires.can.sorted
+
 pub returns : goal.returns
-returns c = ?
+returns c =
+    drafts_here c.args.image.now c.args.moment c.index.result.now.table c.latest-version.result c.args.id c.len-count.result c.args.entries c.args.space.now c.counters.result c.stepped_by-counters.result c.new-front.result
+    c.in_ok-changes.changes c.requires.rules c.requires.work
+    (appends_so (parts_of c.args.image.now) c.args.space.now c.counters.result c.args.entries.items c.index.result.now c.requires.there c.requires.can c.counters.ensures c.index.ensures) c.requires.ids c.requires.leaf c.requires.free
+    c.latest-version.ensures (counted_as c.args.entries c.len-count.result c.len-count.ensures) c.stepped_by-counters.ensures c.new-front.ensures c.in_ok-changes.ensures
