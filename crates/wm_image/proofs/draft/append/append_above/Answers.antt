@@ -1,4 +1,4 @@
-use Rattle.std.proofs.Common.{map, sym}
+use Rattle.std.proofs.Common.{map}
 use Rattle.wm_graph.specs.Parts.{parts_of}
 use Rattle.wm_state.proofs.DrawingNews.{news-stamped}
 use Rattle.wm_state.specs.Editing.{entry_of}

@@ -1,8 +1,7 @@
-use Rattle.std.proofs.Common.{◌≡◌, map, subst, ◌∙◌}
+use Rattle.std.proofs.Common.{subst, ◌∙◌}
 use Rattle.wm_graph.specs.Parts.{parts_of}
 use Rattle.wm_spec.specs.Records.{record_at}
 use Rattle.wm_state.proofs.Apart.{ruled}
-use Rattle.wm_state.specs.Editing.{entry_of}
 use Rattle.wm_image.proofs.Placed.{counters_at, space_at}
 use Rattle.wm_image.proofs.Written.{MadeAll, counted_as, written_is}
 use Rattle.wm_image.specs.Redraw.{IsRedrawn}
