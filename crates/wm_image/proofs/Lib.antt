@@ -23,3 +23,10 @@ pub mod Spaced
 pub mod Redrawing
 pub mod Following
 pub mod Drafting
+pub mod Putting
+pub mod Coming
+pub mod Entering
+pub mod Placed
+pub mod Written
+pub mod Born
+pub mod Appended

@@ -5,3 +5,5 @@ pub mod Listing
 pub mod Standing
 pub mod Gone
 pub mod Redraw
+pub mod Points
+pub mod Drafting
