@@ -422,7 +422,7 @@ impl Image {
     pub fn draft(&self, alloc: Global, moment: u64, edits: Vec<Edit>) -> Result<Batch, Memory>
         requires rules { keep_rules (parts_of self.now) ≡ true }
         requires can { CanDraft (parts_of self.now) moment edits.items }
-        ensures { IfOk result (λ batch. Drafts self.now moment edits.items batch.changes) }
+        ensures drafts { IfOk result (λ batch. Drafts self.now moment edits.items batch.changes) }
     {
         let changes = draft(alloc, self, moment, edits)?;
         Ok(Batch { changes })
