@@ -2,6 +2,7 @@ pub mod Frames
 pub mod Nearest
 pub mod Changing
 pub mod ById
+pub mod Putting
 pub mod Batches
 pub mod Standing
 pub mod Tests
