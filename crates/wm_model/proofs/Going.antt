@@ -1,5 +1,5 @@
 -- What lines that stand a session elsewhere do to each state that the records stand for.
-use Rattle.std.proofs.Common.{◌≡◌, ℕ, true, false, List, [], Some, None, refl, sym, ap, subst, ◌∙◌}
+use Rattle.std.proofs.Common.{◌≡◌, ℕ, true, false, List, [], Some, None, refl, sym, ap, ◌∙◌}
 use Rattle.std.specs.List.{find}
 use Rattle.std.specs.Str.{bytes_eq}
 use Rattle.wm_graph.specs.Parts.{parts_of, space_of}
@@ -15,7 +15,7 @@ use Rattle.wm_state.specs.State.{State, Session, Workspace, Stand, Latest, At, w
 use Rattle.wm_state.proofs.SavedAs.{named_some, named_none}
 use Rattle.wm_state.proofs.Spaces.{named_space, named_no_space}
 use Rattle.wm_model.specs.Step.{run_for, run_statement, session_of, goto_workspace, goto_savepoint, latest, moved_to, no_workspace, no_savepoint, not_built}
-use Rattle.wm_model.specs.Planning.{StandsAt, Does, Seating, Stay, Move, seated}
+use Rattle.wm_model.specs.Planning.{StandsAt, Does, Seating, Stay, Move}
 use Rattle.wm_model.proofs.Doing.{does_nothing, does_seat}
 use Rattle.wm_model.proofs.Homes.{home_is, home_none}
 

@@ -1,5 +1,5 @@
 -- What a statement that changes rows of a table does to each state that the records stand for, up to the workspace where it does it.
-use Rattle.std.proofs.Common.{◌≡◌, ℕ, Bool, true, false, not, if◌then◌else◌, List, [], Option, Some, None, refl, sym, ap, ◌∙◌}
+use Rattle.std.proofs.Common.{◌≡◌, ℕ, Bool, true, false, not, if◌then◌else◌, List, [], Option, Some, None, refl, ap, ◌∙◌}
 use Rattle.wm_base.specs.declared.refusal.Refusal.{Refusal}
 use Rattle.wm_graph.specs.Parts.{parts_of, space_of}
 use Rattle.wm_graph.specs.Rules.{keep_rules}
@@ -11,7 +11,7 @@ use Rattle.wm_state.specs.State.{State, Session, Workspace, Stand, Latest, At}
 use Rattle.wm_model.specs.Planning.{StandsAt, Does, Stay, named}
 use Rattle.wm_model.specs.Step.{at_home, at_latest, at_newest, empty_period, no_table, not_built, not_latest, unless, unless_empty_period, versioning}
 use Rattle.wm_model.proofs.Doing.{does_nothing}
-use Rattle.wm_model.proofs.Homes.{HomeIs, home_is, home_none, home_some, with_none, with_some}
+use Rattle.wm_model.proofs.Homes.{home_is, home_none, home_some, with_none, with_some}
 
 -- what is done with a table in a workspace
 abbrev pub Acts : Type 0

@@ -1,5 +1,5 @@
 -- What SELECT answers for each state that the records stand for.
-use Rattle.std.proofs.Common.{◌≡◌, ℕ, Bool, true, false, not, if◌then◌else◌, List, [], ◌∷◌, Option, Some, None, refl, sym, ap, subst, ◌∙◌}
+use Rattle.std.proofs.Common.{◌≡◌, ℕ, Bool, true, false, List, [], ◌∷◌, Option, Some, None, refl, sym, ap, subst, ◌∙◌}
 use Rattle.std.specs.Option.{option_map_or}
 use Rattle.wm_base.specs.Period.{Span}
 use Rattle.wm_base.specs.declared.columns.Column.{Column}
@@ -10,7 +10,6 @@ use Rattle.wm_base.specs.Trees.{Query, Src}
 use Rattle.wm_graph.specs.Parts.{parts_of, space_of}
 use Rattle.wm_graph.specs.Rules.{keep_rules}
 use Rattle.wm_print.specs.Texts.{Answer, Refused}
-use Rattle.wm_spec.specs.Lists.{Entry}
 use Rattle.wm_spec.specs.declared.record.savepoint.Savepoint.{Savepoint as Record}
 use Rattle.wm_spec.specs.declared.record.space.Space.{Space}
 use Rattle.wm_spec.specs.declared.record.stored.Stored.{Stored}
@@ -24,7 +23,7 @@ use Rattle.wm_state.specs.Standing.{Stands, latest, saved_as}
 use Rattle.wm_state.proofs.Listed.{showing_is, showing_saved}
 use Rattle.wm_state.proofs.Showing.{none_shown}
 use Rattle.wm_state.proofs.SavedAs.{made_some, made_none}
-use Rattle.wm_model.specs.Step.{select, select_among, select_from, select_ready, lost_source, tables_of, table_off, columns_in, sources_in, shown_by, source_name, rows_in, answer_rows, unless, unless_empty_period, within, at_home, empty_period, no_table, not_built, versioning}
+use Rattle.wm_model.specs.Step.{select, select_among, select_ready, lost_source, tables_of, table_off, columns_in, sources_in, shown_by, source_name, rows_in, answer_rows, unless_empty_period, within, at_home, empty_period, no_table, not_built, versioning}
 use Rattle.wm_model.specs.Planning.{StandsAt, Does, Stay, tables_in, version_read}
 use Rattle.wm_model.specs.Sources.{AreListed}
 use Rattle.wm_model.proofs.Doing.{does_nothing}

@@ -1,13 +1,12 @@
 -- What AT does to each state that the engine stands for, and what every other line does to the moment.
-use Rattle.std.proofs.Common.{◌≡◌, ℕ, nat_lt, true, false, List, [], refl, sym, ap, subst, ◌∙◌}
-use Rattle.wm_graph.specs.Parts.{Parts, parts_of}
-use Rattle.wm_graph.specs.Rules.{keep_rules}
-use Rattle.wm_print.specs.Texts.{Answer, Fine}
+use Rattle.std.proofs.Common.{◌≡◌, ℕ, nat_lt, true, false, List, [], refl, sym}
+use Rattle.wm_graph.specs.Parts.{Parts}
+use Rattle.wm_print.specs.Texts.{Fine}
 use Rattle.wm_spec.specs.declared.record.stored.Stored.{Stored}
 use Rattle.wm_state.specs.State.{State, Session}
 use Rattle.wm_state.specs.Standing.{Stands}
 use Rattle.wm_model.specs.Step.{set_moment, moment_back}
-use Rattle.wm_model.specs.Planning.{Does, DoesAt, Stay}
+use Rattle.wm_model.specs.Planning.{DoesAt, Stay}
 use Rattle.wm_model.proofs.Doing.{does_nothing}
 
 -- the state at another moment

@@ -1,5 +1,5 @@
 -- What a line that changes rows does to each state that the records stand for.
-use Rattle.std.proofs.Common.{◌≡◌, ℕ, ◌+◌, nat_lt, nat_le, true, false, ◌&&◌, List, [], ◌∷◌, length, map, Option, Some, None, refl, sym, ap, ◌∙◌}
+use Rattle.std.proofs.Common.{◌≡◌, ℕ, ◌+◌, nat_lt, nat_le, true, false, List, [], ◌∷◌, length, map, Option, Some, None, refl, sym, ap, ◌∙◌}
 use Rattle.std.specs.List.{list_all}
 use Rattle.std.specs.Option.{option_map_or}
 use Rattle.std.specs.declared.alloc.Global.{Global}
@@ -15,7 +15,7 @@ use Rattle.wm_spec.specs.declared.record.counters.Counters.{Counters}
 use Rattle.wm_spec.specs.declared.record.space.Space.{Space}
 use Rattle.wm_spec.specs.declared.record.stored.Stored.{Stored}
 use Rattle.wm_spec.specs.declared.record.table.Table.{Table}
-use Rattle.wm_state.specs.Drafts.{CanAppend, can_keep_entry}
+use Rattle.wm_state.specs.Drafts.{CanAppend}
 use Rattle.wm_state.specs.Drawing.{are_sorted}
 use Rattle.wm_state.specs.Editing.{entry_of}
 use Rattle.wm_state.specs.Entries.{AreStamped, entry_keys, is_well, fits_table}
@@ -76,7 +76,7 @@ can_append rs n m user t a c changes may = record {
   some = ap (nat_lt 0) many ∙ may.some;
   stamped = stamped_are c.next_stamp m user t changes may.last;
   well = well_are rs c.next_stamp m user t changes may.there may.fit;
-  users = users_are c.next_stamp m user t changes may.user;
+  users = users_are c.next_stamp m user t changes may.user_short;
   kept = may.kept;
   sorted = ap are_sorted (keys_are c.next_stamp m user t changes) ∙ may.keys;
   left = ap (λ k. nat_le (c.next_stamp + k) (c.limit + 1)) many ∙ may.left;

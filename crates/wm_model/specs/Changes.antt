@@ -24,7 +24,7 @@ pub record MayWrite (rs : List Stored) (n m : ℕ) (user : List ℕ) (t : Table)
   pub last : list_all change_lasts changes ≡ true
   pub keys : are_sorted (change_keys changes) ≡ true
   pub kept : list_all can_keep_entry (entries_from c.next_stamp m user t changes) ≡ true
-  pub user : is_short user ≡ true
+  pub user_short : is_short user ≡ true
   pub space : space_of (parts_of rs).spaces n ≡ Some a
   pub one : (parts_of rs).counters ≡ c ∷ []
   pub left : nat_le (c.next_stamp + length changes) (c.limit + 1) ≡ true

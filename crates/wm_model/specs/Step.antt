@@ -1,8 +1,7 @@
 -- One line: the state that it leaves, and its answer.
-use Rattle.std.specs.Prelude.{ℕ, ◌+◌, ◌^◌, ◌==◌, List, [], ◌∷◌, ◌++◌, Bool, true, false, not, ◌&&◌, ◌||◌, nat_le, nat_lt, nat_eq, if◌then◌else◌, length, map, is_some, unwrap_or, Option, None, Some, Result, Ok, Err, codes}
-use Rattle.std.specs.List.{filter, filter_map, find, flat_map, list_all, list_any, starts_with}
+use Rattle.std.specs.Prelude.{ℕ, ◌+◌, List, [], ◌∷◌, ◌++◌, Bool, true, false, not, ◌&&◌, ◌||◌, nat_le, nat_lt, nat_eq, if◌then◌else◌, length, map, is_some, unwrap_or, Option, None, Some, Result, Ok, Err, codes}
+use Rattle.std.specs.List.{filter, filter_map, find, flat_map, list_all, starts_with}
 use Rattle.std.specs.Option.{option_map, option_map_or, option_or}
-use Rattle.std.specs.Fmt.{decimal}
 use Rattle.std.specs.Str.{bytes_eq, is_utf8}
 use Rattle.wm_base.specs.Period.{Span, always}
 use Rattle.wm_base.specs.declared.instant.TheConstants.{END}
@@ -15,7 +14,6 @@ use Rattle.wm_base.specs.declared.refusal.CellRefusal.TheVariants.{Wm060, Wm064,
 use Rattle.wm_base.specs.declared.refusal.LimitRefusal.TheVariants.{Wm070, Wm071, Wm072, Wm073, Wm074, Wm075, Wm076, Wm099}
 use Rattle.wm_spec.specs.Lists.{Entry}
 use Rattle.wm_spec.specs.Stretches.{rows, rows_of_key}
-use Rattle.wm_spec.specs.declared.record.space.FreezeMode.TheVariants.{Free}
 use Rattle.wm_spec.specs.declared.record.table.Table.{Table}
 use Rattle.wm_model.specs.Lines.{fits_line}
 use Rattle.wm_base.specs.declared.columns.Column.{Column}
@@ -53,7 +51,7 @@ pub use Rattle.wm_state.specs.State.{State, fresh}
 pub use Rattle.wm_state.specs.Editing.{counter_limit, number_limit, line_work, implicit_front, implicit_name, saved_at, place_behind, saved, child_of, born, written_all}
 use Rattle.wm_state.specs.Drawing.{are_sorted}
 use Rattle.wm_state.specs.Listing.{first_shared, row_shown, span_on}
-use Rattle.wm_state.specs.State.{Workspace, Savepoint, Session, Stand, Readiness, Latest, At, content, enabled, kept, savepoint_made, seen_from, with_space, with_savepoint, workspace_of, table_named, workspace_named, savepoint_named, next_table, next_space, next_making}
+use Rattle.wm_state.specs.State.{Workspace, Savepoint, Session, Stand, Readiness, Latest, At, content, enabled, seen_from, workspace_of, table_named, workspace_named, savepoint_named, next_table, next_space}
 pub use Rattle.wm_print.specs.Texts.{Answer, answer_text}
 use Rattle.wm_print.specs.Texts.{Nothing, Fine, Done, Listing, Refused}
 

@@ -9,7 +9,7 @@ use Rattle.wm_spec.specs.Lists.{Entry}
 use Rattle.wm_spec.specs.declared.record.hist.Hist.{Hist}
 use Rattle.wm_state.specs.Entries.{hist_of, hists_from}
 use Rattle.wm_state.specs.State.{State, Workspace, workspace_of, with_space, log_of}
-use Rattle.wm_state.specs.Standing.{HasRow, HistsStand, Logged, logged, logged_as, hist_at}
+use Rattle.wm_state.specs.Standing.{HasRow, HistsStand, logged, logged_as, hist_at}
 use Rattle.wm_state.proofs.Changing.{workspace_of-changed}
 use Rattle.wm_state.proofs.Frames.{KeepRows, row-kept}
 

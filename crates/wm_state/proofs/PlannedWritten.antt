@@ -6,7 +6,7 @@ use Rattle.std.specs.Option.{option_map}
 use Rattle.wm_base.specs.declared.row.Row.{Row}
 use Rattle.wm_graph.specs.Parts.{Parts, parts_of, as_space, table_of, space_of, version_of, row_of}
 use Rattle.wm_graph.specs.Rules.{keep_rules, are_counters, are_spaces, are_rows, are_pieces, is_piece, is_short, collide, differ}
-use Rattle.wm_spec.specs.Lists.{Entry, Told}
+use Rattle.wm_spec.specs.Lists.{Entry}
 use Rattle.wm_spec.specs.Records.{record_at}
 use Rattle.wm_spec.specs.declared.record.Record.{Record}
 use Rattle.wm_spec.specs.declared.record.Record.TheVariants as records

@@ -1,5 +1,5 @@
 -- The records of a savepoint and of a workspace that are made, and of what is counted then.
-use Rattle.std.specs.Prelude.{ℕ, ◌≡◌, ◌+◌, ◌==◌, nat_le, Bool, true, false, List, [], ◌++◌, length, Option, None, Some}
+use Rattle.std.specs.Prelude.{ℕ, ◌≡◌, ◌+◌, ◌==◌, nat_le, Bool, true, false, List, [], ◌++◌, Option, None, Some}
 use Rattle.std.specs.Fmt.{decimal}
 use Rattle.std.specs.List.{find, count_by}
 use Rattle.std.specs.Option.{option_map}
