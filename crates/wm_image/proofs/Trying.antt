@@ -1,5 +1,5 @@
 -- A small store, before which each edit can be made.
-use Rattle.std.proofs.Common.{◌≡◌, ℕ, ◌+◌, nat_lt, Bool, true, false, List, [], ◌∷◌, ◌++◌, Option, Some, None, Result, Ok, Err, IfOk, IfSome, pos, codes, refl, sym, ap, subst, ◌∙◌}
+use Rattle.std.proofs.Common.{◌≡◌, ℕ, nat_lt, Bool, true, false, List, [], ◌∷◌, ◌++◌, Option, Some, None, Result, Ok, Err, IfOk, IfSome, pos, codes, refl, sym, ap, subst, ◌∙◌}
 use Rattle.std.specs.Result.{result_ok}
 use Rattle.std.specs.Str.{bytes_eq}
 use Rattle.wm_base.specs.declared.value.Value.TheVariants as values
@@ -18,7 +18,6 @@ use Rattle.wm_state.specs.Drafts.{CanAppend, CanBear, CanCreate, CanEnable, CanS
 use Rattle.wm_state.specs.Editing.{row_value}
 use Rattle.wm_state.specs.Entries.{IsStamped}
 use Rattle.wm_state.specs.Points.{newest_point}
-use Rattle.wm_state.proofs.Tests.{and_true}
 use Rattle.wm_image.specs.declared.image.Image.{Image}
 use Rattle.wm_image.specs.declared.load.ImageFault.{ImageFault}
 
