@@ -1,6 +1,5 @@
 -- A small store, before which each edit can be made.
-use Rattle.std.proofs.Common.{◌≡◌, ℕ, nat_lt, Bool, true, false, List, [], ◌∷◌, ◌++◌, Option, Some, None, Result, Ok, Err, IfOk, IfSome, pos, codes, refl, sym, ap, subst, ◌∙◌}
-use Rattle.std.specs.Result.{result_ok}
+use Rattle.std.proofs.Common.{◌≡◌, ℕ, nat_lt, Bool, true, false, List, [], ◌∷◌, ◌++◌, Some, None, pos, codes, refl, sym, ap, subst, ◌∙◌}
 use Rattle.std.specs.Str.{bytes_eq}
 use Rattle.wm_base.specs.declared.value.Value.TheVariants as values
 use Rattle.wm_graph.specs.Parts.{parts_of, space_of}
@@ -18,8 +17,6 @@ use Rattle.wm_state.specs.Drafts.{CanAppend, CanBear, CanCreate, CanEnable, CanS
 use Rattle.wm_state.specs.Editing.{row_value}
 use Rattle.wm_state.specs.Entries.{IsStamped}
 use Rattle.wm_state.specs.Points.{newest_point}
-use Rattle.wm_image.specs.declared.image.Image.{Image}
-use Rattle.wm_image.specs.declared.load.ImageFault.{ImageFault}
 
 -- ---- the store
 
@@ -62,9 +59,8 @@ pub tried_built : (a : Space) (ready : Bool) (none one two three four : List Sto
 tried_built a ready none one two three four r s t u c table e f g h k counts made i j l m = rw (k, h, g, f, e, i, j, l, m, counts, made) refl
 
 -- what is so of the store is so of the image of it
-pub tried_image : (P : List Stored → Type 0) (r : Result Image ImageFault) (o : Option Image) (rs : List Stored) (a : Space) (ready : Bool) → o ≡ result_ok r → IfOk r (λ image. image ≡ by_id rs) → rs ≡ tried a ready → P (tried a ready) → IfSome o P
-tried_image P (Ok image) o rs a ready is same built so = subst (λ q. IfSome q P) (sym is) (subst P (sym (same ∙ ap by_id built)) so)
-tried_image P (Err e) o rs a ready is same built so = subst (λ q. IfSome q P) (sym is) tt
+pub tried_image : (P : List Stored → Type 0) (image rs : List Stored) (a : Space) (ready : Bool) → image ≡ by_id rs → rs ≡ tried a ready → P (tried a ready) → P image
+tried_image P image rs a ready same built so = subst P (sym (same ∙ ap by_id built)) so
 
 -- ---- what can be done
 

@@ -1,6 +1,6 @@
 //! Edits of a small store.
 
-ghost use Rattle.std.specs.Prelude.{◌≡◌, ◌∷◌, [], nat_lt, true, false, map, codes, pos, None, Some, IfOk, IfSome};
+ghost use Rattle.std.specs.Prelude.{◌≡◌, ◌∷◌, [], nat_lt, true, false, map, codes, pos, None, Some, IfOk};
 ghost use Rattle.std.specs.Str.{bytes_eq};
 ghost use Rattle.wm_base.specs.declared.value.Value.TheVariants as values;
 ghost use Rattle.wm_graph.specs.Parts.{parts_of};
@@ -90,16 +90,15 @@ fn stored(id: u64, new: Record) -> Stored
     Stored { id, record: new }
 }
 
-/// An image of LIVE, its version, and a table of number 1, which is ready for rows or not. Where the rules are not looked at
-/// for want of memory there is none.
-fn image(alloc: Global, ready: bool) -> Result<Option<Image>, Memory>
-    ensures rules { IfOk result (λ found. IfSome found (λ image. keep_rules (parts_of image) ≡ true)) }
-    ensures work { IfOk result (λ found. IfSome found (λ image. CanWork (parts_of image) 5)) }
-    ensures create { IfOk result (λ found. IfSome found (λ image. (t : OneTable) → is_table t ≡ true → nat_lt 1 t.number ≡ true → bytes_eq (codes "T") t.name ≡ false → CanCreate (parts_of image) t)) }
-    ensures enable { ready ≡ false → IfOk result (λ found. IfSome found (λ image. CanEnable (parts_of image) (codes "T"))) }
-    ensures append { ready ≡ true → IfOk result (λ found. IfSome found (λ image. (e : Entry) → IsStamped 1 1 e → e.key ≡ values.Num (pos 7) ∷ [] → e.row ≡ Some (row_value (values.Num (pos 7) ∷ [])) → e.user ≡ codes "U" → CanAppend (parts_of image) 0 (e ∷ []))) }
-    ensures save { IfOk result (λ found. IfSome found (λ image. CanSave (parts_of image) 0 (codes "A"))) }
-    ensures bear { IfOk result (λ found. IfSome found (λ image. CanBear (parts_of image) 5 0 None (codes "B"))) }
+/// An image of LIVE, its version, and a table of number 1, which is ready for rows or not.
+fn image(alloc: Global, ready: bool) -> Result<Image, Memory>
+    ensures rules { IfOk result (λ image. keep_rules (parts_of image) ≡ true) }
+    ensures work { IfOk result (λ image. CanWork (parts_of image) 5) }
+    ensures create { IfOk result (λ image. (t : OneTable) → is_table t ≡ true → nat_lt 1 t.number ≡ true → bytes_eq (codes "T") t.name ≡ false → CanCreate (parts_of image) t) }
+    ensures enable { ready ≡ false → IfOk result (λ image. CanEnable (parts_of image) (codes "T")) }
+    ensures append { ready ≡ true → IfOk result (λ image. (e : Entry) → IsStamped 1 1 e → e.key ≡ values.Num (pos 7) ∷ [] → e.row ≡ Some (row_value (values.Num (pos 7) ∷ [])) → e.user ≡ codes "U" → CanAppend (parts_of image) 0 (e ∷ [])) }
+    ensures save { IfOk result (λ image. CanSave (parts_of image) 0 (codes "A")) }
+    ensures bear { IfOk result (λ image. CanBear (parts_of image) 5 0 None (codes "B")) }
 {
     let mut records = Records::new(alloc);
     records.push(stored(1, Record::Counters(counters())))?;
@@ -111,7 +110,10 @@ fn image(alloc: Global, ready: bool) -> Result<Option<Image>, Memory>
     };
     records.push(stored(3, Record::Version(version)))?;
     records.push(stored(4, Record::Table(table(alloc, 1, b"T", ready)?)))?;
-    Ok(Image::load(alloc, records).ok())
+    let Ok(image) = Image::load(alloc, records) else {
+        return Err(Memory);
+    };
+    Ok(image)
 }
 
 /// An edit is made at moment 5: how many records it changes.
@@ -131,9 +133,7 @@ fn drafted(alloc: Global, image: &mut Image, edit: Edit) -> Result<usize, Memory
 #[test]
 fn nothing_is_made(rt: HostRuntime) -> Result<(), Fail> {
     let alloc = rt.alloc();
-    let Some(image) = image(alloc, true)? else {
-        return Ok(());
-    };
+    let image = image(alloc, true)?;
     let batch = image.draft(alloc, 5, Vec::new(alloc))?;
     assert_eq!(rt; batch.changes.len(), 0);
     Ok(())
@@ -142,10 +142,7 @@ fn nothing_is_made(rt: HostRuntime) -> Result<(), Fail> {
 #[test]
 fn a_table_is_made(rt: HostRuntime) -> Result<(), Fail> {
     let alloc = rt.alloc();
-    let Some(image) = image(alloc, true)? else {
-        return Ok(());
-    };
-    let mut image = image;
+    let mut image = image(alloc, true)?;
     let edit = Edit::Create(table(alloc, 2, b"U", false)?);
     assert_eq!(rt; drafted(alloc, &mut image, edit)?, 2);
     assert_eq!(rt; (image.table_count(), image.next_table()), (2, 3));
@@ -163,10 +160,7 @@ fn is_ready(image: &Image) -> bool {
 #[test]
 fn a_table_becomes_ready(rt: HostRuntime) -> Result<(), Fail> {
     let alloc = rt.alloc();
-    let Some(image) = image(alloc, false)? else {
-        return Ok(());
-    };
-    let mut image = image;
+    let mut image = image(alloc, false)?;
     let edit = Edit::Enable {
         name: Name::copy_of(alloc, b"T")?,
         valid: true,
@@ -202,10 +196,7 @@ fn entry(alloc: Global) -> Result<NewEntry, Memory>
 #[test]
 fn entries_come(rt: HostRuntime) -> Result<(), Fail> {
     let alloc = rt.alloc();
-    let Some(image) = image(alloc, true)? else {
-        return Ok(());
-    };
-    let mut image = image;
+    let mut image = image(alloc, true)?;
     let mut entries = Vec::new(alloc);
     entries.push(entry(alloc)?)?;
     let edit = Edit::Append { space: 0, entries };
@@ -218,10 +209,7 @@ fn entries_come(rt: HostRuntime) -> Result<(), Fail> {
 #[test]
 fn what_is_newest_is_kept(rt: HostRuntime) -> Result<(), Fail> {
     let alloc = rt.alloc();
-    let Some(image) = image(alloc, true)? else {
-        return Ok(());
-    };
-    let mut image = image;
+    let mut image = image(alloc, true)?;
     let edit = Edit::Save {
         space: 0,
         name: Name::copy_of(alloc, b"A")?,
@@ -235,10 +223,7 @@ fn what_is_newest_is_kept(rt: HostRuntime) -> Result<(), Fail> {
 #[test]
 fn a_workspace_is_born(rt: HostRuntime) -> Result<(), Fail> {
     let alloc = rt.alloc();
-    let Some(image) = image(alloc, true)? else {
-        return Ok(());
-    };
-    let mut image = image;
+    let mut image = image(alloc, true)?;
     let edit = Edit::Bear {
         parent: 0,
         at: None,

@@ -1,4 +1,4 @@
-use Rattle.std.proofs.Common.{◌≡◌, nat_lt, true, false, List, [], ◌∷◌, Some, None, IfSome, pos, codes, subst, sym}
+use Rattle.std.proofs.Common.{◌≡◌, nat_lt, true, false, List, [], ◌∷◌, Some, None, pos, codes, subst, sym}
 use Rattle.std.specs.Str.{bytes_eq}
 use Rattle.wm_base.specs.declared.value.Value.TheVariants as values
 use Rattle.wm_graph.specs.Parts.{parts_of}
@@ -13,15 +13,15 @@ use Rattle.wm_image.proofs.Trying.{IsTried, can_append, can_bear, can_create, ca
 use Rattle.wm_image.proofs.draft_tests.image.Goals as goal
 
 -- the image is that of the small store
-small : (P : List Stored → Type 0) (c : goal.After-ok) → P (tried c.in_ok-live.field-0 c.args.ready) → IfSome c.ok.result P
+small : (P : List Stored → Type 0) (c : goal.In-Ok) → P (tried c.in_ok-live.field-0 c.args.ready) → P c.in-Ok.image
 small P c so =
-    tried_image P c.load.result c.ok.result c.push-4.new.self c.in_ok-live.field-0 c.args.ready c.ok.ensures.value c.load.ensures.image
+    tried_image P c.in-Ok.image c.push-4.new.self c.in_ok-live.field-0 c.args.ready c.in-Ok.ensures.image
     (tried_built c.in_ok-live.field-0 c.args.ready c.new-records.result c.push.new.self c.push-2.new.self c.push-3.new.self c.push-4.new.self c.stored.result c.stored-2.result c.stored-3.result c.stored-4.result c.counters.result
     c.in_ok-table.field-0 c.new-records.ensures c.in_ok-push.ensures.ok c.in_ok-push-2.ensures.ok c.in_ok-push-3.ensures.ok c.in_ok-push-4.ensures.ok c.counters.ensures c.in_ok-table.ensures c.stored.ensures c.stored-2.ensures
     c.stored-3.ensures c.stored-4.ensures)
     so
 
-live : (c : goal.After-ok) → IsTried c.in_ok-live.field-0
+live : (c : goal.In-Ok) → IsTried c.in_ok-live.field-0
 live c = record { number = c.in_ok-live.ensures.number; name = c.in_ok-live.ensures.name; log = c.in_ok-live.ensures.log; place = c.in_ok-live.ensures.place; implicit = c.in_ok-live.ensures.implicit }
 
 pub returns-clause-work : goal.returns-clause-work
