@@ -2,6 +2,8 @@
 #![tactic(auto)]
 
 pub mod draft;
+#[cfg(test)]
+mod draft_tests;
 mod ids;
 pub mod image;
 pub mod index;

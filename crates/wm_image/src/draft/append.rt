@@ -18,7 +18,7 @@ use crate::draft::changes::{longer_by, written_changes};
 use crate::draft::counts::{stepped_by, stepped_new_by};
 use crate::image::Image;
 use std::alloc::Global;
-use wm_base::Memory;
+use wm_base::{Key, Memory, Period};
 use wm_spec::record::{
     CellRange, Change, Changes, Counters, Hist, PieceRecord, Record, RowRecord, Space, Version,
 };
@@ -30,6 +30,18 @@ struct Made {
     rows: Vec<Record>,
     pieces: Vec<PieceRecord>,
     hists: Vec<Record>,
+}
+
+/// The cells of a key of a table over a period.
+fn cells_of(table: u16, key: Key, period: Period) -> CellRange
+    ensures { result ≡ record { table = table; key = key; from = period.from; till = period.till } }
+{
+    CellRange {
+        table,
+        key,
+        from: period.from().seconds(),
+        till: period.till().seconds(),
+    }
 }
 
 /// Adds the records of an entry, which has a position in the log of a workspace.
@@ -56,17 +68,10 @@ fn add_entry(
         user,
     } = entry;
     let gone = row.is_none();
-    let from = period.from().seconds();
-    let till = period.till().seconds();
     made.hists.push(Record::Hist(Hist {
         space,
         position,
-        cells: CellRange {
-            table,
-            key: key.copy(alloc)?,
-            from,
-            till,
-        },
+        cells: cells_of(table, key.copy(alloc)?, period),
         stamp,
         kind,
         gone,
@@ -75,12 +80,7 @@ fn add_entry(
     }))?;
     made.pieces.push(PieceRecord {
         version,
-        cells: CellRange {
-            table,
-            key,
-            from,
-            till,
-        },
+        cells: cells_of(table, key, period),
         stamp,
         kind,
         gone,

@@ -1,0 +1,120 @@
+-- A small store, before which each edit can be made.
+use Rattle.std.proofs.Common.{◌≡◌, ℕ, nat_lt, Bool, true, false, List, [], ◌∷◌, ◌++◌, Some, None, pos, codes, refl, sym, ap, subst, ◌∙◌}
+use Rattle.std.specs.Str.{bytes_eq}
+use Rattle.wm_base.specs.declared.value.Value.TheVariants as values
+use Rattle.wm_graph.specs.Parts.{parts_of, space_of}
+use Rattle.wm_graph.specs.Rules.{is_table}
+use Rattle.wm_spec.specs.Lists.{Entry}
+use Rattle.wm_spec.specs.declared.record.Record.TheVariants as records
+use Rattle.wm_spec.specs.declared.record.column.ColumnKind.TheVariants as kinds
+use Rattle.wm_spec.specs.declared.record.counters.Counters.{Counters}
+use Rattle.wm_spec.specs.declared.record.space.Space.{Space}
+use Rattle.wm_spec.specs.declared.record.stored.Stored.{Stored}
+use Rattle.wm_spec.specs.declared.record.table.Table.{Table}
+use Rattle.wm_spec.specs.declared.record.version.Version.{Version}
+use Rattle.wm_state.specs.ById.{by_id}
+use Rattle.wm_state.specs.Drafts.{CanAppend, CanBear, CanCreate, CanEnable, CanSave, CanWork}
+use Rattle.wm_state.specs.Editing.{row_value}
+use Rattle.wm_state.specs.Entries.{IsStamped}
+use Rattle.wm_state.specs.Points.{newest_point}
+
+-- ---- the store
+
+abbrev pub tried_counters : Counters
+tried_counters = record { next_stamp = 1; last_moment = 0; limit = 10; next_version = 2; work = 1 }
+
+abbrev pub tried_version : Version
+tried_version = record { number = 1; space = 0; parent = 0 }
+
+-- a table of one column, which is its key
+abbrev pub tried_table : ℕ → List ℕ → Bool → Table
+tried_table number name ready = record {
+  number = number;
+  name = name;
+  versioned = ready;
+  valid = false;
+  history = false;
+  has_key = true;
+  key_column = 0;
+  columns = record { name = codes "ID"; kind = kinds.Number; size = 0; not_null = true } ∷ [];
+}
+
+abbrev pub tried : Space → Bool → List Stored
+tried a ready =
+    record { id = 1; «record» = records.Counters tried_counters } ∷ record { id = 2; «record» = records.Space a } ∷ record { id = 3; «record» = records.Version tried_version }
+    ∷ record { id = 4; «record» = records.Table (tried_table 1 (codes "T") ready) } ∷ []
+
+-- what is known of its workspace
+pub record IsTried (a : Space) : Type 0 where
+  pub number : a.number ≡ 0
+  pub name : a.name ≡ codes "LIVE"
+  pub log : a.log_length ≡ 0
+  pub place : a.next_place ≡ 1
+  pub implicit : a.next_implicit ≡ 1
+
+-- records that are pushed one by one
+pub tried_built : (a : Space) (ready : Bool) (none one two three four : List Stored) (r s t u : Stored) (c : Counters) (table : Table) → none ≡ [] → one ≡ none ++ r ∷ [] → two ≡ one ++ s ∷ [] → three ≡ two ++ t ∷ [] → four ≡ three ++ u ∷ []
+    → c ≡ tried_counters → table ≡ tried_table 1 (codes "T") ready → r ≡ record { id = 1; «record» = records.Counters c } → s ≡ record { id = 2; «record» = records.Space a } → t ≡ record { id = 3; «record» = records.Version tried_version }
+    → u ≡ record { id = 4; «record» = records.Table table } → four ≡ tried a ready
+tried_built a ready none one two three four r s t u c table e f g h k counts made i j l m = rw (k, h, g, f, e, i, j, l, m, counts, made) refl
+
+-- what is so of the store is so of the image of it
+pub tried_image : (P : List Stored → Type 0) (image rs : List Stored) (a : Space) (ready : Bool) → image ≡ by_id rs → rs ≡ tried a ready → P (tried a ready) → P image
+tried_image P image rs a ready same built so = subst P (sym (same ∙ ap by_id built)) so
+
+-- ---- what can be done
+
+pub can_work : (a : Space) (ready : Bool) → CanWork (parts_of (tried a ready)) 5
+unfolding parts_of
+can_work a ready = record { counters = tried_counters; one = refl; room = refl; early = refl }
+
+pub can_create : (a : Space) (ready : Bool) (t : Table) → is_table t ≡ true → nat_lt 1 t.number ≡ true → bytes_eq (codes "T") t.name ≡ false → CanCreate (parts_of (tried a ready)) t
+unfolding parts_of
+can_create a ready t is number name = record { is = is; room = refl; number = rw number refl; name = rw name refl }
+
+pub can_enable : (a : Space) → CanEnable (parts_of (tried a false)) (codes "T")
+unfolding parts_of
+can_enable a = record { table = tried_table 1 (codes "T") false; named = refl; off = refl; key = refl }
+
+there : (a : Space) (ready : Bool) → IsTried a → space_of (parts_of (tried a ready)).spaces 0 ≡ Some a
+unfolding parts_of
+there a ready is = rw is.number refl
+
+pub can_append : (a : Space) (e : Entry) → IsTried a → IsStamped 1 1 e → e.key ≡ values.Num (pos 7) ∷ [] → e.row ≡ Some (row_value (values.Num (pos 7) ∷ [])) → e.user ≡ codes "U" → CanAppend (parts_of (tried a true)) 0 (e ∷ [])
+unfolding parts_of
+can_append a e is stamped key row user = record {
+  space = a;
+  there = there a true is;
+  counters = tried_counters;
+  one = refl;
+  table = tried_table 1 (codes "T") true;
+  tabled = refl;
+  some = refl;
+  stamped = (stamped, tt);
+  well = rw (stamped.table, key, row) refl;
+  users = rw user refl;
+  kept = rw (key, row) refl;
+  sorted = refl;
+  left = refl;
+  short = rw is.log refl;
+}
+
+pub can_save : (a : Space) (ready : Bool) → IsTried a → CanSave (parts_of (tried a ready)) 0 (codes "A")
+unfolding parts_of
+can_save a ready is = record { space = a; there = there a ready is; short = refl; room = record { new = refl; few = refl }; places = rw is.place refl }
+
+pub can_bear : (a : Space) (ready : Bool) → IsTried a → CanBear (parts_of (tried a ready)) 5 0 None (codes "B")
+unfolding parts_of
+can_bear a ready is = record {
+  space = a;
+  there = there a ready is;
+  point = newest_point (parts_of (tried a ready)) a 5;
+  stands = refl;
+  short = refl;
+  new = rw is.name refl;
+  few = refl;
+  room = record { new = refl; few = refl };
+  places = rw is.place refl;
+  implicits = rw is.implicit refl;
+  numbers = rw is.number refl;
+}
