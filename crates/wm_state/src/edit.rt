@@ -1,4 +1,4 @@
-//! What a line makes of the state: its edits, told without the records that keep them.
+//! What a line makes of the state: its edits.
 use wm_base::{Key, Kind, Name, Period, Values};
 use wm_spec::record::Table;
 

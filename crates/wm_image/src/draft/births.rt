@@ -18,7 +18,7 @@ use std::alloc::Global;
 use wm_base::{Memory, Name};
 use wm_spec::record::{Changes, FreezeMode, Space, Version};
 
-/// The greatest id that leaves room for two more.
+/// Three ids from one below this on are left.
 const ID_LIMIT: u64 = u64::MAX - 2;
 
 /// The number of the workspace that comes next.
@@ -29,7 +29,7 @@ fn coming_space(image: &Image) -> u64
 }
 
 /// The name of the implicit savepoint of a number.
-pub fn implicit_name(alloc: Global, number: u32) -> Result<Name, Memory>
+fn implicit_name(alloc: Global, number: u32) -> Result<Name, Memory>
     ensures { IfOk result (λ name. name ≡ implicit_front ++ decimal number) }
 {
     let digits = number.to_string(alloc)?;
