@@ -18,7 +18,7 @@ use std::alloc::Global;
 use wm_base::{Memory, Name};
 use wm_spec::record::{Changes, FreezeMode, Space, Version};
 
-/// Three ids from one below this on are left.
+/// The id from which on a birth finds no room.
 const ID_LIMIT: u64 = u64::MAX - 2;
 
 /// The number of the workspace that comes next.
