@@ -30,4 +30,3 @@ pub mod Placed
 pub mod Written
 pub mod Born
 pub mod Appended
-pub mod Trying

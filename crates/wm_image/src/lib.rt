@@ -2,8 +2,6 @@
 #![tactic(auto)]
 
 pub mod draft;
-#[cfg(test)]
-mod draft_tests;
 mod ids;
 pub mod image;
 pub mod index;
@@ -16,15 +14,11 @@ mod over;
 mod overlap;
 pub mod records;
 pub mod redraw;
-#[cfg(test)]
-mod redraw_tests;
 pub mod savepoints;
 pub mod shown;
 pub mod spaces;
 mod standing;
 pub mod tables;
-#[cfg(test)]
-mod tests;
 
 pub use image::Image;
 pub use load::ImageFault;

@@ -1,7 +1,7 @@
-use crate::image::Image;
 use std::alloc::Global;
 use std::test::Fail;
 use wm_base::{Instant, Key, Kind, Memory, Name, Period, RowList, Value, Values};
+use wm_image::Image;
 use wm_spec::record::{
     Batch, CellRange, Change, Changes, ColumnKind, Counters, FreezeMode, PieceRecord, Record,
     Records, RowRecord, Savepoint, Space, Stored, Table, TableColumn, TableColumns, Version,

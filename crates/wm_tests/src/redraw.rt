@@ -5,12 +5,11 @@ ghost use Rattle.wm_base.specs.declared.value.Value.TheVariants as values;
 ghost use Rattle.wm_graph.specs.Parts.{parts_of};
 ghost use Rattle.wm_graph.specs.Rules.{keep_rules};
 
-use crate::image::Image;
-use crate::redraw::Redrawn;
-use crate::tests::small_store;
+use crate::image::small_store;
 use std::alloc::Global;
 use std::test::Fail;
 use wm_base::{Key, Kind, Memory, Value};
+use wm_image::{Image, Redrawn};
 use wm_spec::record::{CellRange, PieceRecord, Record, Stored};
 
 /// What version 2 holds for a key of table 1 over some moments.

@@ -9,8 +9,8 @@ use Rattle.wm_spec.specs.declared.record.table.Table.{Table}
 use Rattle.wm_state.specs.Drafts.{CanAppend, CanBear, CanCreate, CanEnable, CanSave, CanWork}
 use Rattle.wm_state.specs.Editing.{row_value}
 use Rattle.wm_state.specs.Entries.{IsStamped}
-use Rattle.wm_image.proofs.Trying.{IsTried, can_append, can_bear, can_create, can_enable, can_save, can_work, tried, tried_built, tried_image}
-use Rattle.wm_image.proofs.draft_tests.image.Goals as goal
+use Rattle.wm_tests.proofs.Trying.{IsTried, can_append, can_bear, can_create, can_enable, can_save, can_work, tried, tried_built, tried_image}
+use Rattle.wm_tests.proofs.draft.image.Goals as goal
 
 -- the image is that of the small store
 small : (P : List Stored → Type 0) (c : goal.In-Ok) → P (tried c.in_ok-live.field-0 c.args.ready) → P c.in-Ok.image

@@ -12,10 +12,10 @@ ghost use Rattle.wm_state.specs.Drafts.{CanAppend, CanBear, CanCreate, CanEdit, 
 ghost use Rattle.wm_state.specs.Editing.{entry_of, row_value};
 ghost use Rattle.wm_state.specs.Entries.{IsStamped};
 
-use crate::image::Image;
 use std::alloc::Global;
 use std::test::Fail;
 use wm_base::{Key, Kind, Memory, Name, Period, Value, Values};
+use wm_image::Image;
 use wm_spec::record::{
     ColumnKind, Counters, FreezeMode, Record, Records, Space, Stored, Table, TableColumn,
     TableColumns, Version,
