@@ -25,6 +25,7 @@ use Rattle.wm_state.proofs.Enabling.{keep-readied}
 use Rattle.wm_state.proofs.Growing.{same_counters}
 use Rattle.wm_state.proofs.Planned.{Readied, parts-readied, plan_created, plan_readied}
 use Rattle.wm_state.proofs.Planning.{parts-created}
+use Rattle.wm_state.proofs.RowsStay.{counters_no_row, new_no_row, rows_stay, table_no_row}
 use Rattle.wm_state.proofs.Tables.{MayCreate, keep-created}
 use Rattle.wm_state.proofs.Tests.{bool_apart}
 
@@ -41,9 +42,10 @@ drafts_nothing rs m rules = record {
   keeps = rules;
   once = none_changes;
   stands = λ s st. st;
+  rows = λ id r found. found;
   kept = refl;
   nothing = λ none. refl;
-  few = λ forks. record { ids = []; few = omega arith; others = λ id e. refl; rows = refl; pieces = refl; hists = refl };
+  few = λ forks. record { count = omega arith; rows = refl; pieces = refl; hists = refl };
 }
 
 -- one edit is not none
@@ -76,6 +78,7 @@ drafts_created rs m t c counters_id id rules work can one there sorted under = r
       let counts = counts_as (parts_of rs) s c st one in
       plan_created rs counters_id id c (moved c m) t s (drafted m (edits.Create t ∷ []) s) st sorted there under may refl refl
       (record { counters = moved c m; one = refl; next_stamp = counts.next_stamp; last_moment = refl; limit = counts.limit; work = ap (λ w. w + line_work) counts.work });
+  rows = rows_stay rs (create_batch counters_id (moved c m) id t) (λ k r found. (counters_no_row rs counters_id k c r there found, (new_no_row rs id k r under found, tt)));
   kept = refl;
   nothing = some_edit (edits.Create t) [] (create_batch counters_id (moved c m) id t);
   few = λ forks. absurd (bool_apart (sym forks));
@@ -106,6 +109,7 @@ drafts_enabled rs m name valid history t c counters_id id rules can named key on
       subst (λ (u : State). Stands (parts_of (applied (enable_batch counters_id (moved c m) id how t) rs)) (record u { last_moment = m; work = s.work + line_work })) (sym (enabled_so rs m name valid history t s st named))
       (plan_readied rs counters_id id c (moved c m) how t s _ st sorted there one found key counts_well refl refl (work_grows c.work) refl refl
       (λ front back. record { counters = moved c m; one = refl; next_stamp = counts.next_stamp; last_moment = refl; limit = counts.limit; work = ap (λ w. w + line_work) counts.work }));
+  rows = rows_stay rs (enable_batch counters_id (moved c m) id how t) (λ k r row. (counters_no_row rs counters_id k c r there row, (table_no_row rs id k t r found row, tt)));
   kept = refl;
   nothing = some_edit (edits.Enable name valid history) [] (enable_batch counters_id (moved c m) id how t);
   few = λ forks. absurd (bool_apart (sym forks));

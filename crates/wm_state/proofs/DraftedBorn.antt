@@ -7,6 +7,7 @@ use Rattle.std.specs.Option.{option_and_then, option_map, unwrap_or}
 use Rattle.std.specs.Str.{bytes_eq}
 use Rattle.wm_graph.specs.Parts.{Parts, parts_of, space_of}
 use Rattle.wm_graph.specs.Rules.{keep_rules, is_short}
+use Rattle.wm_spec.specs.declared.record.Record.TheVariants as records
 use Rattle.wm_spec.specs.declared.record.counters.Counters.{Counters}
 use Rattle.wm_spec.specs.declared.record.savepoint.Savepoint.{Savepoint as Record}
 use Rattle.wm_spec.specs.declared.record.space.FreezeMode.TheVariants.{Free}
@@ -24,6 +25,7 @@ use Rattle.wm_state.specs.State.{State, Stand, Workspace, Savepoint, kept, works
 use Rattle.wm_state.specs.declared.edit.Edit.TheVariants as edits
 use Rattle.wm_state.proofs.Birth.{IsChild}
 use Rattle.wm_state.proofs.Births.{child_kept}
+use Rattle.wm_state.proofs.ByKind.{under_found}
 use Rattle.wm_state.proofs.Counting.{counts_as, version_well, work_grows, work_room}
 use Rattle.wm_state.proofs.Drafted.{some_edit}
 use Rattle.wm_state.proofs.DraftedSaved.{home_of, home_there, one_space}
@@ -31,6 +33,7 @@ use Rattle.wm_state.proofs.FewChanged.{few_birth}
 use Rattle.wm_state.proofs.Mapped.{any-if, none-found}
 use Rattle.wm_state.proofs.PlannedBirth.{MayBirth, changes-birth, keep_plan_birth, plan_birth}
 use Rattle.wm_state.proofs.Points.{MadeAt, MakesAt, is_point, made_there, may_save, place_same}
+use Rattle.wm_state.proofs.RowsStay.{below_apart, counters_no_row, rows_stay, space_no_row}
 use Rattle.wm_state.proofs.Settled.{Places, PlacesApart, places_apart}
 use Rattle.wm_state.proofs.Spaces.{IsSpace, next_space_same, numbers_under}
 
@@ -173,6 +176,12 @@ drafts_born rs m n at name a pt c counters_id space_id id rules work can there p
       (child_same (parts_of rs) s a m h.workspace (stand_of at) name pt st h.is k)
       (ap (λ ws. ws ++ child_of m s.spaces h.workspace k.savepoint name ∷ []) (same_spaces (parts_of rs) s a h.workspace (stand_of at) k.savepoint h.is)) refl
       (record { counters = versioned c m; one = refl; next_stamp = counts.next_stamp; last_moment = refl; limit = counts.limit; work = ap (λ w. w + line_work) counts.work }));
+  rows = rows_stay rs (birth_batch counters_id (versioned c m) space_id (marked place implicit a) id x r v)
+      (λ k row found.
+      let low = under_found id rs k (records.Row row) places.under found in (
+        counters_no_row rs counters_id k c row places.counters found,
+        (space_no_row rs space_id k a row places.space found, (below_apart k id low, (below_apart k (id + 1) (behind k 1 low), (below_apart k (id + 2) (behind k 2 low), tt)))),
+      ));
   kept = refl;
   nothing = some_edit (edits.Bear n at name) [] (birth_batch counters_id (versioned c m) space_id (marked place implicit a) id x r v);
   few = λ forks. few_birth rs counters_id space_id c (versioned c m) a place implicit id x r v places;
@@ -195,6 +204,9 @@ drafts_born rs m n at name a pt c counters_id space_id id rules work can there p
 
     apart : PlacesApart counters_id space_id id
     apart = places_apart rs counters_id space_id id c a places
+
+    behind : (k more : ℕ) → k < id → k < id + more
+    behind k more low = omega (arith, low)
 
     birth : MayBirth rs counters_id space_id id c (versioned c m) a place implicit x a r v
     birth = may_birth rs m n at name a pt c counters_id space_id id rules work can there point places

@@ -23,6 +23,7 @@ use Rattle.wm_state.proofs.KeepSaved.{MaySave}
 use Rattle.wm_state.proofs.Named.{space_number}
 use Rattle.wm_state.proofs.PlannedSaved.{changes-saved, keep_plan_saved, plan_saved}
 use Rattle.wm_state.proofs.Points.{MakesAt, made_there, may_save}
+use Rattle.wm_state.proofs.RowsStay.{counters_no_row, new_no_row, rows_stay, space_no_row}
 use Rattle.wm_state.proofs.Settled.{Places, PlacesApart, places_apart}
 use Rattle.wm_state.proofs.Spaces.{IsSpace, space_is}
 
@@ -92,6 +93,8 @@ drafts_saved rs m n name a c counters_id space_id id rules work can there at = r
       (plan_saved rs counters_id space_id c (moved c m) a (a.next_place + 1) a.next_implicit id x h.workspace k.savepoint s _ st at.sorted at.counters at.one at.space at.under may_keep
       h.is.found k.kept (same_spaces (parts_of rs) s a h.workspace k.savepoint h.is) refl
       (record { counters = moved c m; one = refl; next_stamp = counts.next_stamp; last_moment = refl; limit = counts.limit; work = ap (λ w. w + line_work) counts.work }));
+  rows = rows_stay rs (savepoint_batch counters_id (moved c m) space_id (marked (a.next_place + 1) a.next_implicit a) id x)
+      (λ k r found. (counters_no_row rs counters_id k c r at.counters found, (space_no_row rs space_id k a r at.space found, (new_no_row rs id k r at.under found, tt))));
   kept = refl;
   nothing = some_edit (edits.Save n name) [] (savepoint_batch counters_id (moved c m) space_id (marked (a.next_place + 1) a.next_implicit a) id x);
   few = λ forks. few_saved rs counters_id space_id c (moved c m) a (a.next_place + 1) a.next_implicit id x at;

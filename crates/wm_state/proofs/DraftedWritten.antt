@@ -36,6 +36,7 @@ use Rattle.wm_state.proofs.DrawingNews.{news-keys}
 use Rattle.wm_state.proofs.Growing.{same_counters}
 use Rattle.wm_state.proofs.Ids.{are_under}
 use Rattle.wm_state.proofs.PlannedWritten.{MayWriteAll, keep_planned, plan_written}
+use Rattle.wm_state.proofs.RowsStay.{leave_write, rows_stay}
 use Rattle.wm_state.proofs.Settled.{Places, PlacesApart, places_apart}
 use Rattle.wm_state.proofs.Tests.{bool_apart, both, and_true}
 use Rattle.wm_state.proofs.WrittenIds.{changes-write}
@@ -176,6 +177,9 @@ drafts_written rs m n table entries a c counters_id space_id ids id drawn rules 
   stands = λ s st.
       plan_written rs counters_id space_id c d a ids id n table es drawn s (drafted m (edits.Append n entries ∷ []) s) st at.sorted at.counters at.space r.gone at.under may r.are refl refl
       (counts_on s m n c d entries (counts_as (parts_of rs) s c st v.one) refl refl refl refl);
+  rows = rows_stay rs (write_batch counters_id d space_id a (length es) ids id (rows_in es) drawn (hists_from a.number a.log_length es))
+      (leave_write rs counters_id space_id id (length es) c d a ids (rows_in es) drawn (hists_from a.number a.log_length es) at.counters at.space (λ k row found. r.gone k (records.Row row) found)
+      (λ k row found. under_found id rs k (records.Row row) at.under found));
   kept = kept_write (latest (parts_of rs) n) table es (parts_of rs).pieces drawn counters_id space_id id a.number a.log_length d a ids v.can.kept r.are;
   nothing = some_edit (edits.Append n entries) [] (write_batch counters_id d space_id a (length es) ids id (rows_in es) drawn (hists_from a.number a.log_length es));
   few = λ forks. absurd (bool_apart (sym forks));

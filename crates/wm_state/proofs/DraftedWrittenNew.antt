@@ -1,5 +1,5 @@
 -- What the batch that writes entries into a version more of a workspace makes of the records.
-use Rattle.std.proofs.Common.{◌≡◌, ℕ, ◌+◌, ◌≤◌, ◌||◌, Bool, true, false, List, [], ◌∷◌, length, Option, Some, None, is_some, refl, sym, ap, subst, ◌∙◌, arith}
+use Rattle.std.proofs.Common.{◌≡◌, ℕ, ◌+◌, ◌<◌, ◌≤◌, ◌||◌, Bool, true, false, List, [], ◌∷◌, length, Option, Some, None, is_some, refl, sym, ap, subst, ◌∙◌, arith}
 use Rattle.std.proofs.lemmas.Bool.{eq-eqb}
 use Rattle.std.specs.List.{list_all}
 use Rattle.std.specs.declared.alloc.Global.{Global}
@@ -24,12 +24,14 @@ use Rattle.wm_state.specs.Points.{next_version, stepped_new_by, versioned}
 use Rattle.wm_state.specs.Writes.{write_new_batch}
 use Rattle.wm_state.specs.declared.edit.Edit.TheVariants as edits
 use Rattle.wm_state.specs.declared.edit.NewEntry.{NewEntry}
+use Rattle.wm_state.proofs.ByKind.{under_found}
 use Rattle.wm_state.proofs.Counting.{counts_as, stamped_by, version_well, work_grows}
 use Rattle.wm_state.proofs.Drafted.{some_edit}
 use Rattle.wm_state.proofs.DraftedWritten.{Appends, Redrawn, counts_on, entries_in, log_room, stamps_left}
 use Rattle.wm_state.proofs.Growing.{MayFork}
 use Rattle.wm_state.proofs.PlannedMore.{MayWriteMore, Stage, all_stay, none_goes, keep_planned_new, plan_written_new}
 use Rattle.wm_state.proofs.Planning.{piece_found}
+use Rattle.wm_state.proofs.RowsStay.{leave_write, new_no_row, rows_stay}
 use Rattle.wm_state.proofs.Settled.{Places, PlacesApart, places_apart}
 use Rattle.wm_state.proofs.Tests.{bool_apart, both, not_true}
 use Rattle.wm_state.proofs.WrittenIds.{changes-write_new}
@@ -118,6 +120,12 @@ drafts_written_new rs m n table entries a c counters_id space_id id drawn rules 
   stands = λ s st.
       plan_written_new rs counters_id space_id id c (versioned c m) d n a w table es drawn s (drafted m (edits.Append n entries ∷ []) s) st stage may are refl refl
       (counts_on s m n c d entries (counts_as (parts_of rs) s c st v.one) refl refl refl refl);
+  rows = rows_stay rs (write_new_batch counters_id d space_id a (length es) id w (rows_in es) drawn (hists_from a.number a.log_length es))
+      (λ k row found. (
+        new_no_row rs id k row at.under found,
+        leave_write rs counters_id space_id (id + 1) (length es) c d a [] (rows_in es) drawn (hists_from a.number a.log_length es) at.counters at.space (λ j other there. refl)
+            (λ j other there. behind j (under_found id rs j (records.Row other) at.under there)) k row found,
+      ));
   kept = kept_write_new es drawn counters_id space_id id a.number a.log_length d a w v.can.kept are;
   nothing = some_edit (edits.Append n entries) [] (write_new_batch counters_id d space_id a (length es) id w (rows_in es) drawn (hists_from a.number a.log_length es));
   few = λ forks. absurd (bool_apart (sym forks));
@@ -131,6 +139,9 @@ drafts_written_new rs m n table entries a c counters_id space_id id drawn rules 
 
     w : Version
     w = next_version (parts_of rs) n c
+
+    behind : (k : ℕ) → k < id → k < id + 1
+    behind k low = omega (arith, low)
 
     apart : PlacesApart counters_id space_id id
     apart = places_apart rs counters_id space_id id c a at

@@ -1,8 +1,7 @@
--- What the batches of a savepoint and of a birth change: a few ids, and no row, piece or entry of a log.
-use Rattle.std.proofs.Common.{◌≡◌, ℕ, ◌+◌, ◌≤◌, ◌==◌, ◌||◌, Bool, true, false, cond, List, [], ◌∷◌, ◌++◌, length, map, Some, None, refl, sym, ap, subst, ◌∙◌, arith}
-use Rattle.std.specs.List.{list_any}
+-- What the batches of a savepoint and of a birth change: a few records, and no row, piece or entry of a log.
+use Rattle.std.proofs.Common.{◌≡◌, ℕ, ◌+◌, ◌*◌, ◌≤◌, List, [], ◌∷◌, ◌++◌, length, map, Some, sym, ap, subst, ◌∙◌, arith}
+use Rattle.std.proofs.lemmas.List.{length-map}
 use Rattle.wm_graph.specs.Parts.{Parts, parts_of}
-use Rattle.wm_spec.specs.Records.{record_at, change_at, AreChanges}
 use Rattle.wm_spec.specs.declared.record.Record.TheVariants as records
 use Rattle.wm_spec.specs.declared.record.batch.Change.{Change}
 use Rattle.wm_spec.specs.declared.record.counters.Counters.{Counters}
@@ -11,26 +10,13 @@ use Rattle.wm_spec.specs.declared.record.space.Space.{Space}
 use Rattle.wm_spec.specs.declared.record.stored.Stored.{Stored}
 use Rattle.wm_spec.specs.declared.record.version.Version.{Version}
 use Rattle.wm_state.specs.Batches.{AllUnder, savepoint_batch, birth_batch}
-use Rattle.wm_state.specs.ById.{Ascend, set_at, applied}
-use Rattle.wm_state.specs.Drafts.{ChangesFew}
+use Rattle.wm_state.specs.ById.{set_at, applied}
+use Rattle.wm_state.specs.Drafts.{CanDraft, ChangesFew, FewChanges}
 use Rattle.wm_state.specs.Effects.{marked}
-use Rattle.wm_state.proofs.Batches.{over_it, record_at-applied}
-use Rattle.wm_state.proofs.PlannedSaved.{SavedParts, parts-saved, changes-saved, more_space, more_version, AllUnder-more, AllUnder-saved}
-use Rattle.wm_state.proofs.PlannedBirth.{changes-birth}
-use Rattle.wm_state.proofs.Settled.{Places, places_apart}
-use Rattle.wm_state.proofs.Tests.{bool_apart}
-
--- ---- the ids of a batch
-
-outside : (cs : List Change) (id : ℕ) → list_any (λ k. k == id) (map (λ (c : Change). c.id) cs) ≡ false → change_at cs id ≡ None
-unfolding change_at
-outside [] id e = refl
-outside (c ∷ cs) id e = by_test (c.id == id) e (outside cs id)
-  where
-    by_test : (b : Bool) → (b || list_any (λ k. k == id) (map (λ (c : Change). c.id) cs)) ≡ false → (list_any (λ k. k == id) (map (λ (c : Change). c.id) cs) ≡ false → change_at cs id ≡ None)
-        → cond b (Some c.becomes) (change_at cs id) ≡ None
-    by_test true e rest = absurd (bool_apart e)
-    by_test false e rest = rest e
+use Rattle.wm_state.specs.declared.edit.Edit.{Edit}
+use Rattle.wm_state.proofs.PlannedSaved.{SavedParts, parts-saved, more_space, more_version, AllUnder-more, AllUnder-saved}
+use Rattle.wm_state.proofs.RowsStay.{away_outside, stays}
+use Rattle.wm_state.proofs.Settled.{Places}
 
 -- the parts that no fork changes
 record SameData (p q : Parts) : Type 0 where
@@ -38,26 +24,21 @@ record SameData (p q : Parts) : Type 0 where
   pieces : q.pieces ≡ p.pieces
   hists : q.hists ≡ p.hists
 
-few_batch : (rs : List Stored) (cs : List Change) → AreChanges cs → Ascend rs → length (map (λ (c : Change). c.id) cs) ≤ 6 → SameData (parts_of rs) (parts_of (applied cs rs)) → ChangesFew rs (applied cs rs)
-few_batch rs cs are sorted few same = record {
-  ids = map (λ (c : Change). c.id) cs;
-  few = few;
-  others = λ id e. record_at-applied cs rs are sorted id ∙ ap (λ o. over_it o (record_at rs id)) (outside cs id e);
-  rows = same.rows;
-  pieces = same.pieces;
-  hists = same.hists;
-}
+-- a batch that leaves them
+few_batch : (rs : List Stored) (most : ℕ) (cs : List Change) → length cs ≤ most → SameData (parts_of rs) (parts_of (applied cs rs)) → FewChanges rs most cs
+few_batch rs most cs count same = record { count = count; rows = same.rows; pieces = same.pieces; hists = same.hists }
 
 -- ---- a savepoint
 
+-- a batch that makes a savepoint leaves them
 kept_saved : (rs : List Stored) (cs : List Change) (new : Counters) (a : Space) (place implicit : ℕ) (x : Savepoint) → SavedParts rs cs new a place implicit x → SameData (parts_of rs) (parts_of (applied cs rs))
 kept_saved rs cs new a place implicit x parts = record { rows = ap (λ (p : Parts). p.rows) parts.is; pieces = ap (λ (p : Parts). p.pieces) parts.is; hists = ap (λ (p : Parts). p.hists) parts.is }
 
+-- the batch that makes a savepoint
 pub few_saved : (rs : List Stored) (counters_id space_id : ℕ) (old new : Counters) (a : Space) (place implicit id : ℕ) (x : Savepoint) → Places rs counters_id space_id id old a
-    → ChangesFew rs (applied (savepoint_batch counters_id new space_id (marked place implicit a) id x) rs)
+    → FewChanges rs 6 (savepoint_batch counters_id new space_id (marked place implicit a) id x)
 few_saved rs counters_id space_id old new a place implicit id x at =
-    let apart = places_apart rs counters_id space_id id old a at in
-    few_batch rs (savepoint_batch counters_id new space_id (marked place implicit a) id x) (changes-saved counters_id new space_id (marked place implicit a) id x apart.apart apart.counters apart.space) at.sorted (omega arith)
+    few_batch rs 6 (savepoint_batch counters_id new space_id (marked place implicit a) id x) (omega arith)
     (kept_saved rs (savepoint_batch counters_id new space_id (marked place implicit a) id x) new a place implicit x
     (parts-saved rs counters_id space_id old new a place implicit id x at.sorted at.counters at.one at.space at.under))
 
@@ -84,12 +65,34 @@ kept_more rs ss id r v under same = subst (λ k. SameData (parts_of rs) (parts_o
     more : parts_of (set_at (id + 1 + 1) (Some (records.Version v)) second) ≡ record (parts_of second) { versions = (parts_of second).versions ++ v ∷ [] }
     more = more_version second (id + 1 + 1) v (AllUnder-more (id + 1) ss (records.Space r) under)
 
+-- the batch by which a workspace is born
 pub few_birth : (rs : List Stored) (counters_id space_id : ℕ) (old new : Counters) (a : Space) (place implicit id : ℕ) (x : Savepoint) (r : Space) (v : Version) → Places rs counters_id space_id id old a
-    → ChangesFew rs (applied (birth_batch counters_id new space_id (marked place implicit a) id x r v) rs)
+    → FewChanges rs 6 (birth_batch counters_id new space_id (marked place implicit a) id x r v)
 few_birth rs counters_id space_id old new a place implicit id x r v at =
-    let apart = places_apart rs counters_id space_id id old a at in
-    few_batch rs (birth_batch counters_id new space_id (marked place implicit a) id x r v) (changes-birth counters_id new space_id (marked place implicit a) id x r v apart.apart apart.counters apart.space) at.sorted (omega arith)
+    few_batch rs 6 (birth_batch counters_id new space_id (marked place implicit a) id x r v) (omega arith)
     (kept_more rs (applied (savepoint_batch counters_id new space_id (marked place implicit a) id x) rs) id r v
     (AllUnder-saved rs counters_id space_id old new a (marked place implicit a) id x at.sorted at.counters at.space at.under)
     (kept_saved rs (savepoint_batch counters_id new space_id (marked place implicit a) id x) new a place implicit x
     (parts-saved rs counters_id space_id old new a place implicit id x at.sorted at.counters at.one at.space at.under)))
+
+-- ---- what is asked of few changes
+
+-- where they are six at most, the records differ at six ids at most
+pub changes_few : (rs : List Stored) (most : ℕ) (cs : List Change) → FewChanges rs most cs → most ≤ 6 → ChangesFew rs (applied cs rs)
+changes_few rs most cs few le = record {
+  ids = map (λ (c : Change). c.id) cs;
+  few = as_many (length (map (λ (c : Change). c.id) cs)) (length cs) (length-map cs (λ (c : Change). c.id)) few.count;
+  others = λ id e. stays cs rs id (away_outside cs id e);
+  rows = few.rows;
+  pieces = few.pieces;
+  hists = few.hists;
+}
+  where
+    as_many : (m n : ℕ) → m ≡ n → n ≤ most → m ≤ 6
+    as_many m n same at_most = omega (arith, le, same, at_most)
+
+-- so many they are where a line may make the edits
+pub can_few : (p : Parts) (m : ℕ) (es : List Edit) → CanDraft p m es → 6 * length es ≤ 6
+can_few p m [] can = omega arith
+can_few p m (e ∷ []) can = omega arith
+can_few p m (e ∷ f ∷ es) can = absurd can

@@ -65,6 +65,7 @@ pub mod DrawingNews
 pub mod Counting
 pub mod Settled
 pub mod Points
+pub mod RowsStay
 pub mod Drafted
 pub mod FewChanged
 pub mod DraftedSaved

@@ -1,5 +1,5 @@
 -- What is asked of records before edits, and what changes of records are to make of them.
-use Rattle.std.specs.Prelude.{ℕ, ◌≡◌, ◌≤◌, ◌+◌, ◌==◌, ◌&&◌, nat_le, nat_lt, Bool, true, false, List, [], ◌∷◌, map, length, Option, Some, None}
+use Rattle.std.specs.Prelude.{ℕ, ◌≡◌, ◌≤◌, ◌+◌, ◌*◌, ◌==◌, ◌&&◌, nat_le, nat_lt, Bool, true, false, List, [], ◌∷◌, map, length, Option, Some, None}
 use Rattle.std.specs.List.{find, list_all, list_any}
 use Rattle.std.specs.Option.{option_map_or}
 use Rattle.std.specs.Str.{bytes_eq}
@@ -14,6 +14,7 @@ use Rattle.wm_spec.specs.declared.record.Record.{Record}
 use Rattle.wm_spec.specs.declared.record.Record.TheVariants as records
 use Rattle.wm_spec.specs.declared.record.batch.Change.{Change}
 use Rattle.wm_spec.specs.declared.record.counters.Counters.{Counters}
+use Rattle.wm_spec.specs.declared.record.row.RowRecord.{RowRecord}
 use Rattle.wm_spec.specs.declared.record.space.Space.{Space}
 use Rattle.wm_spec.specs.declared.record.stored.Stored.{Stored}
 use Rattle.wm_spec.specs.declared.record.table.Table.{Table}
@@ -144,12 +145,21 @@ pub record ChangesFew (old new : List Stored) : Type 0 where
   pub pieces : (parts_of new).pieces ≡ (parts_of old).pieces
   pub hists : (parts_of new).hists ≡ (parts_of old).hists
 
--- changes make of records what edits make of each state that they stand for: the rules stay kept, no id changes twice, each value that
--- comes can be kept, without edits there are no changes, and those that make savepoints and workspaces change few records
+-- at most so many records are put or dropped, and rows, pieces and entries of logs are what they were
+pub record FewChanges (rs : List Stored) (most : ℕ) (changes : List Change) : Type 0 where
+  pub count : length changes ≤ most
+  pub rows : (parts_of (applied changes rs)).rows ≡ (parts_of rs).rows
+  pub pieces : (parts_of (applied changes rs)).pieces ≡ (parts_of rs).pieces
+  pub hists : (parts_of (applied changes rs)).hists ≡ (parts_of rs).hists
+
+-- changes make of records what edits make of each state that they stand for: the rules stay kept, no id changes twice, each row stays
+-- under its id, each value that comes can be kept, without edits there are no changes, and where all edits make savepoints or
+-- workspaces, there are six changes at most for each
 pub record Drafts (rs : List Stored) (m : ℕ) (es : List Edit) (changes : List Change) : Type 0 where
   pub keeps : keep_rules (parts_of (applied changes rs)) ≡ true
   pub once : AreChanges changes
   pub stands : (s : State) → Stands (parts_of rs) s → Stands (parts_of (applied changes rs)) (drafted m es s)
+  pub rows : (id : ℕ) (r : RowRecord) → record_at rs id ≡ Some (records.Row r) → record_at (applied changes rs) id ≡ Some (records.Row r)
   pub kept : list_all is_kept_change changes ≡ true
   pub nothing : es ≡ [] → changes ≡ []
-  pub few : list_all is_fork es ≡ true → ChangesFew rs (applied changes rs)
+  pub few : list_all is_fork es ≡ true → FewChanges rs (6 * length es) changes

@@ -132,7 +132,8 @@ stand_of (Some making) = At making
 abbrev pub enable_named : Readiness → State → Table → State
 enable_named how s t = record s { tables = enabled t.number how s.tables }
 
--- what an edit makes of a state at a moment; where what it names is not there, nothing
+-- what an edit makes of a state at a moment; where the table that it makes ready, its workspace or its savepoint is not there, nothing,
+-- but entries are counted in the stamps even so
 abbrev pub edited : ℕ → Edit → State → State
 edited m (edits.Create t) s = record s { tables = s.tables ++ t ∷ [] }
 edited m (edits.Enable name valid history) s = unwrap_or (option_map (enable_named (record { valid = valid; history = history }) s) (table_named name s.tables)) s

@@ -1,4 +1,5 @@
--- The records of a savepoint and of a workspace that are made, and of what is counted then.
+-- The counters once a line has changed something, the version that comes next, and the records of a savepoint and of a workspace that
+-- are made where one stands.
 use Rattle.std.specs.Prelude.{ℕ, ◌≡◌, ◌+◌, ◌==◌, nat_le, Bool, true, false, List, [], ◌++◌, Option, None, Some}
 use Rattle.std.specs.Fmt.{decimal}
 use Rattle.std.specs.List.{find, count_by}
@@ -135,7 +136,7 @@ child_record p a m name pt = record {
 abbrev pub child_version : Parts → Counters → Point → Version
 child_version p c pt = record { number = c.next_version; space = space_after p.spaces; parent = pt.version }
 
--- ---- what was looked up
+-- ---- what is asked
 
 -- the name is new in a workspace, which may have a savepoint more
 pub record HasRoom (p : Parts) (a : Space) (name : List ℕ) : Type 0 where
