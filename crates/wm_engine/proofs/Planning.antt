@@ -1,6 +1,7 @@
 -- How what a plan says is told of the plan that a function gives.
 use Rattle.std.proofs.Common.{◌≡◌, ℕ, suc, ◌<◌, nat_lt, true, false, ◌==◌, List, [], ◌∷◌, length, Option, Some, None, is_some, Result, Ok, Err, IfOk, refl, sym, ap, ◌∙◌, subst, arith}
 use Rattle.std.proofs.lemmas.Bool.Decides.{nat_tests}
+use Rattle.std.specs.List.{list_all}
 use Rattle.std.specs.Option.{option_and_then, option_to_list}
 use Rattle.wm_base.specs.declared.memory.Memory.{Memory}
 use Rattle.wm_base.specs.declared.instant.TheConstants.{END}
@@ -10,39 +11,46 @@ use Rattle.wm_print.specs.Texts.{Answer}
 use Rattle.wm_spec.specs.Records.{record_at}
 use Rattle.wm_spec.specs.declared.record.Record.{Record}
 use Rattle.wm_spec.specs.declared.record.Record.TheVariants as records
-use Rattle.wm_spec.specs.declared.record.batch.Change.{Change}
 use Rattle.wm_spec.specs.declared.record.counters.Counters.{Counters}
 use Rattle.wm_spec.specs.declared.record.stored.Stored.{Stored}
 use Rattle.wm_spec.specs.declared.record.table.Table.{Table}
 use Rattle.wm_state.specs.State.{State, Session}
-use Rattle.wm_state.specs.ById.{applied}
-use Rattle.wm_model.specs.Planning.{StandsAt, Does, DoesAt, Seating, Stay, seated}
+use Rattle.wm_state.specs.declared.edit.Edit.{Edit}
+use Rattle.wm_model.specs.Planning.{StandsAt, Does, DoesAt, Seating, Stay}
 use Rattle.wm_model.proofs.Doing.{does_nothing}
-use Rattle.wm_model.proofs.Timing.{does_at}
+use Rattle.wm_state.specs.Drafts.{is_fork as is_fork_edit}
+use Rattle.wm_engine.specs.Forks.{AreForks}
 use Rattle.wm_engine.specs.Planning.{DoesIt, DoesTimed}
 use Rattle.wm_engine.specs.Views.{answer_view, seating_view}
 use Rattle.wm_engine.specs.declared.planned.Planned.{Planned}
 use Rattle.wm_engine.specs.declared.planned.Timed.{Timed}
 
--- a plan of these changes, of this that becomes of the sessions, and of this answer
-pub told : (rs : List Stored) (xs : List Session) (m : ℕ) (p : Planned) (cs : List Change) (seating : Seating) (answer : Answer) (act : State → State × Answer) → p.changes ≡ cs → seating_view p.seating ≡ seating → answer_view p.answer ≡ answer
-    → Does rs xs m cs seating answer act → DoesIt rs xs m p act
-told rs xs m p cs seating answer act changes seats says does = rw (changes, seats, says) does
+-- a plan of these edits, of this that becomes of the sessions, and of this answer
+pub told : (rs : List Stored) (xs : List Session) (m : ℕ) (p : Planned) (es : List Edit) (seating : Seating) (answer : Answer) (act : State → State × Answer) → p.edits.items ≡ es → seating_view p.seating ≡ seating → answer_view p.answer ≡ answer
+    → Does rs xs m es seating answer act → DoesIt rs xs m p act
+told rs xs m p es seating answer act edits seats says does = rw (edits, seats, says) does
 
 -- and where a function may find no memory
-pub told_ok : (rs : List Stored) (r : Result Planned Memory) (cs : List Change) (seating : Seating) (answer : Answer) (act : State → State × Answer) → IfOk r (λ p. p.changes ≡ cs) → IfOk r (λ p. seating_view p.seating ≡ seating)
-    → IfOk r (λ p. answer_view p.answer ≡ answer) → ((xs : List Session) (m : ℕ) → Does rs xs m cs seating answer act) → IfOk r (λ p. (xs : List Session) (m : ℕ) → DoesIt rs xs m p act)
-told_ok rs (Ok p) cs seating answer act changes seats says does = λ xs m. told rs xs m p cs seating answer act changes seats says (does xs m)
-told_ok rs (Err e) cs seating answer act changes seats says does = tt
+pub told_ok : (rs : List Stored) (r : Result Planned Memory) (es : List Edit) (seating : Seating) (answer : Answer) (act : State → State × Answer) → IfOk r (λ p. p.edits.items ≡ es) → IfOk r (λ p. seating_view p.seating ≡ seating)
+    → IfOk r (λ p. answer_view p.answer ≡ answer) → ((xs : List Session) (m : ℕ) → Does rs xs m es seating answer act) → IfOk r (λ p. (xs : List Session) (m : ℕ) → DoesIt rs xs m p act)
+told_ok rs (Ok p) es seating answer act changes seats says does = λ xs m. told rs xs m p es seating answer act changes seats says (does xs m)
+told_ok rs (Err e) es seating answer act changes seats says does = tt
 
 -- two functions that do the same to each state that the records stand for
-pub does_same : (rs : List Stored) (xs : List Session) (m : ℕ) (cs : List Change) (seating : Seating) (answer : Answer) (act other : State → State × Answer) → ((s : State) → StandsAt rs xs m s → other s ≡ act s)
-    → Does rs xs m cs seating answer act → Does rs xs m cs seating answer other
-does_same rs xs m cs seating answer act other same does = record {
-  keeps = does.keeps;
-  once = does.once;
-  does = λ s stands. let d = does.does s stands in (subst (λ r. StandsAt (applied cs rs) (seated xs seating) m r.0) (sym (same s stands)) d.0, d.1 ∙ ap (λ r. r.1) (sym (same s stands)));
-}
+pub does_same : (rs : List Stored) (xs : List Session) (m : ℕ) (es : List Edit) (seating : Seating) (answer : Answer) (act other : State → State × Answer) → ((s : State) → StandsAt rs xs m s → other s ≡ act s)
+    → Does rs xs m es seating answer act → Does rs xs m es seating answer other
+does_same rs xs m es seating answer act other same does = record { can = does.can; does = λ s st. same s st ∙ does.does s st }
+
+-- a plan of one edit that makes a savepoint or a workspace, and one of none
+pub forks_one : (p : Planned) (e : Edit) → p.edits.items ≡ e ∷ [] → is_fork_edit e ≡ true → AreForks p
+forks_one p e edits fork = ap (list_all is_fork_edit) edits ∙ rw fork refl
+
+pub forks_none : (p : Planned) → p.edits.items ≡ [] → AreForks p
+forks_none p none = ap (list_all is_fork_edit) none
+
+-- a plan of one edit is not idle
+pub edits_some : (p : Planned) (e : Edit) → p.edits.items ≡ e ∷ [] → p.edits.items ≡ [] → ⊥
+edits_some p e edits none = cc
 
 -- a list of no length is empty, and one of some length is not
 pub none_counted : {A : Type 0} (xs : List A) → true ≡ (length xs == 0) → xs ≡ []
@@ -97,7 +105,7 @@ some_of (Some a) e = (a, refl)
 
 -- a plan does what another function does to each state that the records stand for
 pub does_one : (rs : List Stored) (xs : List Session) (m : ℕ) (p : Planned) (act other : State → State × Answer) → ((s : State) → StandsAt rs xs m s → other s ≡ act s) → DoesIt rs xs m p act → DoesIt rs xs m p other
-does_one rs xs m p act other same does = does_same rs xs m p.changes (seating_view p.seating) (answer_view p.answer) act other same does
+does_one rs xs m p act other same does = does_same rs xs m p.edits.items (seating_view p.seating) (answer_view p.answer) act other same does
 
 -- a plan that looks at no moment
 pub for_moment : (rs : List Stored) (m : ℕ) (r : Result Planned Memory) (act other : State → State × Answer) → ((s : State) → other s ≡ act s)
@@ -121,29 +129,21 @@ for_sessions rs m (Err e) act other same does = tt
 
 -- a plan that leaves the moment
 pub timed : (rs : List Stored) (xs : List Session) (m : ℕ) (p : Planned) (act : State → State × Answer) → DoesIt rs xs m p act → DoesTimed rs xs m (record { planned = p; moment = m }) act
-timed rs xs m p act does = does_at rs xs m p.changes (seating_view p.seating) (answer_view p.answer) act does
+timed rs xs m p act does = does
 
 -- a plan of this answer alone, and of this moment behind it
-pub told_at : (rs : List Stored) (xs : List Session) (m : ℕ) (t : Timed) (after : ℕ) (answer : Answer) (act : State → State × Answer) → t.planned.changes ≡ [] → seating_view t.planned.seating ≡ Stay → t.moment ≡ after
+pub told_at : (rs : List Stored) (xs : List Session) (m : ℕ) (t : Timed) (after : ℕ) (answer : Answer) (act : State → State × Answer) → t.planned.edits.items ≡ [] → seating_view t.planned.seating ≡ Stay → t.moment ≡ after
     → answer_view t.planned.answer ≡ answer → DoesAt rs xs m [] Stay after answer act → DoesTimed rs xs m t act
 told_at rs xs m t after answer act none stays behind says does = rw (none, stays, behind, says) does
 
 -- a plan that changes nothing at all
-pub told_alone : (rs : List Stored) (xs : List Session) (m : ℕ) (t : Timed) (answer : Answer) (act : State → State × Answer) → keep_rules (parts_of rs) ≡ true → t.planned.changes ≡ [] → seating_view t.planned.seating ≡ Stay → t.moment ≡ m
+pub told_alone : (rs : List Stored) (xs : List Session) (m : ℕ) (t : Timed) (answer : Answer) (act : State → State × Answer) → t.planned.edits.items ≡ [] → seating_view t.planned.seating ≡ Stay → t.moment ≡ m
     → answer_view t.planned.answer ≡ answer → ((s : State) → StandsAt rs xs m s → act s ≡ (s, answer)) → DoesTimed rs xs m t act
-told_alone rs xs m t answer act rules none stays behind says same =
-    told_at rs xs m t m answer act none stays behind says (does_at rs xs m [] Stay answer act (does_nothing rs xs m answer act rules same))
+told_alone rs xs m t answer act none stays behind says same = told_at rs xs m t m answer act none stays behind says (does_nothing rs xs m answer act same)
 
 -- a plan does what another function does to each state that the records stand for
 timed_one : (rs : List Stored) (xs : List Session) (m : ℕ) (t : Timed) (act other : State → State × Answer) → ((s : State) → StandsAt rs xs m s → other s ≡ act s) → DoesTimed rs xs m t act → DoesTimed rs xs m t other
-timed_one rs xs m t act other same does = record {
-  keeps = does.keeps;
-  once = does.once;
-  does = λ s stands. let d = does.does s stands in (
-    subst (λ r. StandsAt (applied t.planned.changes rs) (seated xs (seating_view t.planned.seating)) t.moment r.0) (sym (same s stands)) d.0,
-    d.1 ∙ ap (λ r. r.1) (sym (same s stands)),
-  );
-}
+timed_one rs xs m t act other same does = record { can = does.can; does = λ s st. same s st ∙ does.does s st }
 
 pub timed_same : (rs : List Stored) (xs : List Session) (m : ℕ) (r : Result Timed Memory) (act other : State → State × Answer) → ((s : State) → StandsAt rs xs m s → other s ≡ act s)
     → IfOk r (λ t. DoesTimed rs xs m t act) → IfOk r (λ t. DoesTimed rs xs m t other)

@@ -25,24 +25,24 @@ returns-in_err-bytes-clause-any_moment g c = λ told s stands.
 pub returns-in_err-image-clause-any_moment : goal.returns-in_err-image-clause-any_moment
 returns-in_err-image-clause-any_moment g c = λ told s stands.
     kept_stands c.args.image c.as_slice.result.now c.args.moment c.in_ok-planned.field-0.planned.changes c.into_changed.result.changes (seating_view c.in_ok-planned.field-0.planned.seating) c.in_ok-planned.field-0.moment (answer_view c.in_ok-planned.field-0.planned.answer) (λ t. step t c.args.line.now)
-    (g.P.Station.history c.args.station.now) (g.P.Station.history c.keep.new.station) s c.in_ok-planned.ensures.does c.into_changed.ensures.changes
+    (g.P.Station.history c.args.station.now) (g.P.Station.history c.keep.new.station) s c.in_ok-planned.ensures.does c.into_changed.ensures.edits
     (subst (λ (xs : List Session). StandsAt c.args.image xs c.args.moment s) (sym c.as_slice.ensures.value) stands) (c.in_err-image.ensures.any_moment told)
 
 pub returns-clause-any_moment : goal.returns-clause-any_moment
 returns-clause-any_moment g c = λ told s stands.
     kept_stands c.args.image c.as_slice.result.now c.args.moment c.in_ok-planned.field-0.planned.changes c.into_changed.result.changes (seating_view c.in_ok-planned.field-0.planned.seating) c.in_ok-planned.field-0.moment (answer_view c.in_ok-planned.field-0.planned.answer) (λ t. step t c.args.line.now)
-    (g.P.Station.history c.args.station.now) (g.P.Station.history c.keep.new.station) s c.in_ok-planned.ensures.does c.into_changed.ensures.changes
+    (g.P.Station.history c.args.station.now) (g.P.Station.history c.keep.new.station) s c.in_ok-planned.ensures.does c.into_changed.ensures.edits
     (subst (λ (xs : List Session). StandsAt c.args.image xs c.args.moment s) (sym c.as_slice.ensures.value) stands) (c.in_ok-image.ensures.any_moment told)
 
 pub returns-clause-few : goal.returns-clause-few
 returns-clause-few g c = λ fork.
-    subst (λ (rs : List Stored). ChangesFew c.args.image rs) (sym (c.in_ok-image.ensures.image ∙ ap (λ (cs : List Change). applied cs c.args.image) c.into_changed.ensures.changes)) (c.in_ok-planned.ensures.few fork)
+    subst (λ (rs : List Stored). ChangesFew c.args.image rs) (sym (c.in_ok-image.ensures.image ∙ ap (λ (cs : List Change). applied cs c.args.image) c.into_changed.ensures.edits)) (c.in_ok-planned.ensures.few fork)
 
 pub returns-clause-idle : goal.returns-clause-idle
 returns-clause-idle g c = λ s stands idle.
     let d = c.in_ok-planned.ensures.does.does s (subst (λ (xs : List Session). StandsAt c.args.image xs c.args.moment s) (sym c.as_slice.ensures.value) stands) in
     let quiet = c.in_ok-planned.ensures.idle (ap is_idle d.1 ∙ idle) in (
-      c.in_ok-image.ensures.image ∙ ap (λ (cs : List Change). applied cs c.args.image) (c.into_changed.ensures.changes ∙ quiet.0),
+      c.in_ok-image.ensures.image ∙ ap (λ (cs : List Change). applied cs c.args.image) (c.into_changed.ensures.edits ∙ quiet.0),
       c.in_ok-image.ensures.sessions ∙ ap (λ (x : Seating). seated c.args.sessions.now.items (seating_view x)) (c.into_changed.ensures.seating ∙ quiet.1),
     )
 
@@ -50,10 +50,10 @@ pub returns-in_err-image-clause-unwritten : goal.returns-in_err-image-clause-unw
 returns-in_err-image-clause-unwritten g c = λ told s stands idle.
     let d = c.in_ok-planned.ensures.does.does s (subst (λ (xs : List Session). StandsAt c.args.image xs c.args.moment s) (sym c.as_slice.ensures.value) stands) in
     let quiet = c.in_ok-planned.ensures.idle (ap is_idle d.1 ∙ idle) in
-    c.in_err-image.ensures.nothing told (c.into_changed.ensures.changes ∙ quiet.0)
+    c.in_err-image.ensures.nothing told (c.into_changed.ensures.edits ∙ quiet.0)
 
 pub returns-clause-unwritten : goal.returns-clause-unwritten
 returns-clause-unwritten g c = λ told s stands idle.
     let d = c.in_ok-planned.ensures.does.does s (subst (λ (xs : List Session). StandsAt c.args.image xs c.args.moment s) (sym c.as_slice.ensures.value) stands) in
     let quiet = c.in_ok-planned.ensures.idle (ap is_idle d.1 ∙ idle) in
-    c.in_ok-image.ensures.nothing told (c.into_changed.ensures.changes ∙ quiet.0)
+    c.in_ok-image.ensures.nothing told (c.into_changed.ensures.edits ∙ quiet.0)

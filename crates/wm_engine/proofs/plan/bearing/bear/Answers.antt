@@ -28,7 +28,7 @@ versioned-requires c = version_fits (parts_of c.args.image.now) c.counters-old.r
 
 pub returns-in_default-clause-does : goal.returns-in_default-clause-does
 returns-in_default-clause-does c = λ xs session may next there.
-    told c.args.image.now xs c.args.moment c.answered.result [] Stay (at_its_end (codes "WORK")) (create_workspace session c.args.name) c.answered.ensures.changes (ap seating_view c.answered.ensures.seating)
+    told c.args.image.now xs c.args.moment c.answered.result [] Stay (at_its_end (codes "WORK")) (create_workspace session c.args.name) c.answered.ensures.edits (ap seating_view c.answered.ensures.seating)
     (ap answer_view c.answered.ensures.answer ∙ c.in_ok-at_its_end.ensures)
     (bear_spent c.args.image.now xs c.args.moment session c.args.name c.args.space.now (point_view c.args.point) c.counters-old.result may there c.counters-old.ensures c.in_default.ensures.spent)
 
@@ -47,7 +47,7 @@ changes : (c : goal.After-changing)
     → c.changing.result.changes
     ≡ bearing_batch c.args.image.now c.args.space.now c.counters-old.result c.args.moment c.args.name (point_view c.args.point) c.args.birth.next_place c.id_of_counters-counters_id.result c.unwrap-space_id.result c.in-Some-next_id.id
 changes c =
-    c.changing.ensures.changes ∙ c.in_ok-changes.ensures
+    c.changing.ensures.edits ∙ c.in_ok-changes.ensures
     ∙ ap (λ (cs : List Change). cs
     ++ put (c.in-Some-next_id.id + 1) (records.Space c.child_record-child.result)
     ∷ put (c.in-Some-next_id.id + 2) (records.Version (record { number = c.counters-old.result.next_version; space = c.args.birth.number; parent = c.args.point.version })) ∷ []) c.in_ok-saved.ensures
@@ -63,15 +63,6 @@ returns-clause-does c = λ xs session may next there.
     (ap seating_view c.changing.ensures.seating) (ap answer_view c.changing.ensures.answer)
     (does_bear c.args.image.now xs c.args.moment session c.args.name c.args.space.now (point_view c.args.point) c.counters-old.result c.id_of_counters-counters_id.result c.unwrap-space_id.result c.in-Some-next_id.id may there at.one
     at.counters at.space at.sorted at.under c.in-Some.ensures.room (early c.args.moment c.requires.moment))
-
-pub returns-clause-fit : goal.returns-clause-fit
-returns-clause-fit c =
-    let short = names_short c.args.image.now c.args.space.now.number c.args.space.now c.requires.rules c.requires.there in
-    subst FitPages (sym (changes c))
-    (fits_birth_batch c.id_of_counters-counters_id.result (versioned c.counters-old.result c.args.moment) c.unwrap-space_id.result (marked c.args.birth.next_place (c.args.space.now.next_implicit + 1) c.args.space.now)
-    c.in-Some-next_id.id (birth_record (parts_of c.args.image.now) c.args.space.now (point_view c.args.point))
-    (child_record (parts_of c.args.image.now) c.args.space.now c.args.moment c.args.name (point_view c.args.point)) (child_version (parts_of c.args.image.now) c.counters-old.result (point_view c.args.point)) short.0 short.1
-    (implicit_short c.args.space.now.next_implicit c.requires.few) (name_short c.args.name c.requires.good) refl)
 
 pub returns-clause-few : goal.returns-clause-few
 returns-clause-few c =

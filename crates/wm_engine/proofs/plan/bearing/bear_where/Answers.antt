@@ -15,21 +15,21 @@ use Rattle.wm_engine.proofs.plan.bearing.bear_where.Goals as goal
 
 pub returns-in_default-clause-does : goal.returns-in_default-clause-does
 returns-in_default-clause-does c = λ xs.
-    told c.args.image.now xs c.args.moment c.answered.result [] Stay (at_its_end (codes "PLACE")) (create_workspace c.args.session.now c.args.name) c.answered.ensures.changes (ap seating_view c.answered.ensures.seating)
+    told c.args.image.now xs c.args.moment c.answered.result [] Stay (at_its_end (codes "PLACE")) (create_workspace c.args.session.now c.args.name) c.answered.ensures.edits (ap seating_view c.answered.ensures.seating)
     (ap answer_view c.answered.ensures.answer ∙ c.in_ok-at_its_end.ensures)
     (bear_placeless c.args.image.now xs c.args.moment c.args.session.now c.args.name c.args.space.now c.requires.roomy
     (subst (λ x. nat_lt number_limit (next_place_at c.args.space.now x) ≡ true) c.stand.ensures c.in_default.ensures.spent))
 
 pub returns-in_default-checked_add-clause-does : goal.returns-in_default-checked_add-clause-does
 returns-in_default-checked_add-clause-does c = λ xs.
-    told c.args.image.now xs c.args.moment c.answered-in_default-checked_add.result [] Stay (at_its_end (codes "ICP")) (create_workspace c.args.session.now c.args.name) c.answered-in_default-checked_add.ensures.changes
+    told c.args.image.now xs c.args.moment c.answered-in_default-checked_add.result [] Stay (at_its_end (codes "ICP")) (create_workspace c.args.session.now c.args.name) c.answered-in_default-checked_add.ensures.edits
     (ap seating_view c.answered-in_default-checked_add.ensures.seating) (ap answer_view c.answered-in_default-checked_add.ensures.answer ∙ c.in_ok-at_its_end-2.ensures)
     (bear_nameless c.args.image.now xs c.args.moment c.args.session.now c.args.name c.args.space.now c.requires.roomy
     (subst (λ x. nat_lt number_limit (next_place_at c.args.space.now x) ≡ false) c.stand.ensures c.in-Some.ensures.room) (at_end (c.args.space.now.next_implicit + 1) c.in_default-checked_add.ensures))
 
 pub returns-then-number-from-clause-does : goal.returns-then-number-from-clause-does
 returns-then-number-from-clause-does c = λ xs.
-    told c.args.image.now xs c.args.moment c.answered-then-number-from.result [] Stay (at_its_end (codes "WORKSPACE")) (create_workspace c.args.session.now c.args.name) c.answered-then-number-from.ensures.changes
+    told c.args.image.now xs c.args.moment c.answered-then-number-from.result [] Stay (at_its_end (codes "WORKSPACE")) (create_workspace c.args.session.now c.args.name) c.answered-then-number-from.ensures.edits
     (ap seating_view c.answered-then-number-from.ensures.seating) (ap answer_view c.answered-then-number-from.ensures.answer ∙ c.in_ok-at_its_end-3.ensures)
     (bear_numberless c.args.image.now xs c.args.moment c.args.session.now c.args.name c.args.space.now c.requires.roomy
     (subst (λ x. nat_lt number_limit (next_place_at c.args.space.now x) ≡ false) c.stand.ensures c.in-Some.ensures.room)
@@ -38,7 +38,7 @@ returns-then-number-from-clause-does c = λ xs.
 
 pub returns-in_default-point_at-clause-does : goal.returns-in_default-point_at-clause-does
 returns-in_default-point_at-clause-does c = λ xs.
-    told c.args.image.now xs c.args.moment c.answered-in_default-point_at.result [] Stay not_built (create_workspace c.args.session.now c.args.name) c.answered-in_default-point_at.ensures.changes
+    told c.args.image.now xs c.args.moment c.answered-in_default-point_at.result [] Stay not_built (create_workspace c.args.session.now c.args.name) c.answered-in_default-point_at.ensures.edits
     (ap seating_view c.answered-in_default-point_at.ensures.seating) (ap answer_view c.answered-in_default-point_at.ensures.answer ∙ c.not_built.ensures)
     (bear_nowhere c.args.image.now xs c.args.moment c.args.session.now c.args.name c.args.space.now
     (may_bear_in c.args.image.now c.args.session.now c.args.name c.args.space.now (stand_view c.stand.result) c.coming_space-number.result c.from.result c.requires.roomy c.stand.ensures c.in-Some.ensures.room

@@ -42,10 +42,10 @@ returns-in-SetValidTime-clause-does c =
 pub returns-in_default : goal.returns-in_default
 returns-in_default c = record {
   does = λ xs.
-      refused c.args.image.now xs c.args.moment c.answered.result not_built (call c.args.session.now (Some c.args.procedure) c.args.args.now) c.answered.ensures.changes c.answered.ensures.seating
+      refused c.args.image.now xs c.args.moment c.answered.result not_built (call c.args.session.now (Some c.args.procedure) c.args.args.now) c.answered.ensures.edits c.answered.ensures.seating
       (ap answer_view c.answered.ensures.answer ∙ c.not_built.ensures) c.requires.rules
       (λ s. other_call c.args.session.now c.args.procedure c.args.args.now s c.in_default.not-EnableVersioning c.in_default.not-CreateWorkspace c.in_default.not-CreateSavepoint c.in_default.not-GotoWorkspace c.in_default.not-GotoSavepoint c.in_default.not-SetValidTime);
-  fit = subst FitPages (sym c.answered.ensures.changes) tt;
-  idle = λ idle. (c.answered.ensures.changes, c.answered.ensures.seating);
-  few = λ forks. few_nothing c.args.image.now c.answered.result.changes c.answered.ensures.changes;
+  fit = subst FitPages (sym c.answered.ensures.edits) tt;
+  idle = λ idle. (c.answered.ensures.edits, c.answered.ensures.seating);
+  few = λ forks. few_nothing c.args.image.now c.answered.result.changes c.answered.ensures.edits;
 }

@@ -19,7 +19,7 @@ use Rattle.wm_engine.proofs.plan.create.make.Goals as goal
 
 pub returns-in_default-clause-does : goal.returns-in_default-clause-does
 returns-in_default-clause-does c = λ xs.
-    told c.args.image.now xs c.args.moment c.answered.result [] Stay (at_its_end (codes "WORK")) (create c.args.name.now c.args.items.now) c.answered.ensures.changes (ap seating_view c.answered.ensures.seating)
+    told c.args.image.now xs c.args.moment c.answered.result [] Stay (at_its_end (codes "WORK")) (create c.args.name.now c.args.items.now) c.answered.ensures.edits (ap seating_view c.answered.ensures.seating)
     (ap answer_view c.answered.ensures.answer ∙ c.in_ok-at_its_end.ensures)
     (create_spent c.args.image.now xs c.args.moment c.args.name.now c.args.items.now c.counters.result c.requires.rules (may_make c.args.image.now c.args.name.now c.args.items.now c.requires.named c.requires.new c.requires.shaped)
     c.requires.room c.counters.ensures c.in_default.ensures.spent)
@@ -29,7 +29,7 @@ fits c = may_make c.args.image.now c.args.name.now c.args.items.now c.requires.n
 
 batch : (c : goal.After-changing)
     → c.changing.result.changes ≡ create_batch c.id_of_counters.result (moved c.counters.result c.args.moment) c.in-Some-next_id.id (table_to_make c.args.image.now c.args.name.now c.args.items.now)
-batch c = c.changing.ensures.changes ∙ c.in_ok-changes.ensures
+batch c = c.changing.ensures.edits ∙ c.in_ok-changes.ensures
     ∙ ap (λ (k : Counters). create_batch c.id_of_counters.result k c.in-Some-next_id.id c.in_ok-table.table) c.in-Some.ensures.counted
     ∙ ap (λ (t : Table). create_batch c.id_of_counters.result (moved c.counters.result c.args.moment) c.in-Some-next_id.id t) c.in_ok-table.ensures.table
     ∙ ap (λ name. create_batch c.id_of_counters.result (moved c.counters.result c.args.moment) c.in-Some-next_id.id (table_of c.args.number name c.args.items.now)) c.in_ok-copy.ensures
@@ -43,8 +43,3 @@ returns-clause-does c = λ xs.
     (does_create c.args.image.now xs c.args.moment c.args.name.now c.args.items.now c.counters.result c.id_of_counters.result c.in-Some-next_id.id c.requires.rules (fits c) c.requires.room c.counters.ensures
     (counters_at c.counters.result (parts_of c.args.image.now).counters (record_at c.args.image.now c.id_of_counters.result) c.counters.ensures c.id_of_counters.ensures.there)
     c.in-Some.ensures.room (early c.args.moment c.requires.moment) c.id_of_counters.ensures.ascend (under_next c.in-Some-next_id.id c.args.image.now c.in-Some-next_id.ensures.above))
-
-pub returns-clause-fit : goal.returns-clause-fit
-returns-clause-fit c =
-    subst FitPages (sym (batch c))
-    (fits_create c.id_of_counters.result (moved c.counters.result c.args.moment) c.in-Some-next_id.id (table_to_make c.args.image.now c.args.name.now c.args.items.now) (fits c).fit)

@@ -18,12 +18,12 @@ use Rattle.wm_engine.proofs.plan.enable.make_ready.Goals as goal
 
 pub returns-in_default-clause-does : goal.returns-in_default-clause-does
 returns-in_default-clause-does c = λ xs.
-    told c.args.image.now xs c.args.moment c.answered.result [] Stay (at_its_end (codes "WORK")) (enable c.args.name.now (readiness_view c.args.how) None) c.answered.ensures.changes (ap seating_view c.answered.ensures.seating)
+    told c.args.image.now xs c.args.moment c.answered.result [] Stay (at_its_end (codes "WORK")) (enable c.args.name.now (readiness_view c.args.how) None) c.answered.ensures.edits (ap seating_view c.answered.ensures.seating)
     (ap answer_view c.answered.ensures.answer ∙ c.in_ok-at_its_end.ensures)
     (enable_spent c.args.image.now xs c.args.moment c.args.name.now (readiness_view c.args.how) c.args.table.now c.counters.result c.requires.rules c.requires.short c.requires.named c.requires.off c.requires.key c.counters.ensures c.in_default.ensures.spent)
 
 batch : (c : goal.After-changing) → c.changing.result.changes ≡ enable_batch c.id_of_counters.result (moved c.counters.result c.args.moment) c.unwrap-id.result (readiness_view c.args.how) c.args.table.now
-batch c = c.changing.ensures.changes ∙ c.in_ok-changes.ensures
+batch c = c.changing.ensures.edits ∙ c.in_ok-changes.ensures
     ∙ ap (λ (k : Counters). create_batch c.id_of_counters.result k c.unwrap-id.result c.in_ok-new.new) c.in-Some.ensures.counted
     ∙ ap (λ (t : Table). create_batch c.id_of_counters.result (moved c.counters.result c.args.moment) c.unwrap-id.result t) c.in_ok-new.ensures
 
@@ -35,8 +35,3 @@ returns-clause-does c = λ xs.
     (counters_at c.counters.result (parts_of c.args.image.now).counters (record_at c.args.image.now c.id_of_counters.result) c.counters.ensures c.id_of_counters.ensures.there)
     (table_at c.args.image.now c.id_of_table.result c.unwrap-id.result c.args.table.now c.unwrap-id.ensures (c.id_of_table.ensures.there ∙ ap (named c.args.image.now) c.as_bytes.ensures ∙ c.requires.named))
     c.in-Some.ensures.room (early c.args.moment c.requires.moment) c.id_of_counters.ensures.ascend)
-
-pub returns-clause-fit : goal.returns-clause-fit
-returns-clause-fit c =
-    subst FitPages (sym (batch c))
-    (fits_enable c.id_of_counters.result (moved c.counters.result c.args.moment) c.unwrap-id.result (readiness_view c.args.how) c.args.table.now (named_is c.args.image.now c.args.name.now c.args.table.now c.requires.rules c.requires.named).well)

@@ -10,12 +10,12 @@ use Rattle.wm_engine.proofs.plan.saving.create_savepoint.Goals as goal
 
 pub returns-in_default-clause-does : goal.returns-in_default-clause-does
 returns-in_default-clause-does c = λ xs.
-    told c.args.image.now xs c.args.moment c.answered.result [] Stay (no_workspace c.args.workspace.now) (create_savepoint c.args.workspace.now c.args.name) c.answered.ensures.changes (ap seating_view c.answered.ensures.seating)
+    told c.args.image.now xs c.args.moment c.answered.result [] Stay (no_workspace c.args.workspace.now) (create_savepoint c.args.workspace.now c.args.name) c.answered.ensures.edits (ap seating_view c.answered.ensures.seating)
     (ap answer_view c.answered.ensures.answer ∙ c.no_workspace.ensures ∙ ap no_workspace c.in_ok-copy_of.ensures)
     (save_homeless c.args.image.now xs c.args.moment c.args.workspace.now c.args.name c.requires.rules c.requires.good c.requires.plain (sym c.in_default.ensures))
 
 pub returns-in_default-clause-few : goal.returns-in_default-clause-few
-returns-in_default-clause-few c = few_nothing c.args.image.now c.answered.result.changes c.answered.ensures.changes
+returns-in_default-clause-few c = few_nothing c.args.image.now c.answered.result.changes c.answered.ensures.edits
 
 pub save_in-requires-clause-there : goal.save_in-requires-clause-there
 save_in-requires-clause-there c = named_there c.args.image.now c.args.workspace.now c.in-Some.space.now c.requires.rules (sym c.in-Some.ensures)

@@ -20,7 +20,7 @@ use Rattle.wm_engine.proofs.plan.saving.save.Goals as goal
 
 pub returns-in_default-clause-does : goal.returns-in_default-clause-does
 returns-in_default-clause-does c = λ xs workspace saves.
-    told c.args.image.now xs c.args.moment c.answered.result [] Stay (at_its_end (codes "WORK")) (create_savepoint workspace c.args.name) c.answered.ensures.changes (ap seating_view c.answered.ensures.seating)
+    told c.args.image.now xs c.args.moment c.answered.result [] Stay (at_its_end (codes "WORK")) (create_savepoint workspace c.args.name) c.answered.ensures.edits (ap seating_view c.answered.ensures.seating)
     (ap answer_view c.answered.ensures.answer ∙ c.in_ok-at_its_end.ensures)
     (save_spent c.args.image.now xs c.args.moment workspace c.args.name c.args.space.now c.counters.result
     (may_save_in c.args.image.now workspace c.args.name c.args.space.now c.args.place saves c.requires.room c.requires.place c.ranges.place.fits) c.counters.ensures c.in_default.ensures.spent)
@@ -39,7 +39,7 @@ placed c = record {
 changes : (c : goal.After-changing)
     → c.changing.result.changes ≡ saving_batch c.args.image.now c.args.space.now c.counters.result c.args.moment c.args.name c.id_of_counters-counters_id.result c.unwrap-space_id.result c.in-Some-next_id.id
 changes c =
-    c.changing.ensures.changes ∙ c.in_ok-changes.ensures
+    c.changing.ensures.edits ∙ c.in_ok-changes.ensures
     ∙ saving_is c.args.image.now c.args.space.now c.counters.result c.args.moment c.args.name c.id_of_counters-counters_id.result c.unwrap-space_id.result c.in-Some-next_id.id c.args.place c.in-Some.counters c.in_ok-space.space
     c.savepoint_of-savepoint.result c.in-Some.ensures.counted c.in_ok-space.ensures c.requires.place c.savepoint_of-savepoint.ensures
 
@@ -52,13 +52,6 @@ returns-clause-does c = λ xs workspace saves.
     (does_save c.args.image.now xs c.args.moment workspace c.args.name c.args.space.now c.counters.result c.id_of_counters-counters_id.result c.unwrap-space_id.result c.in-Some-next_id.id
     (may_save_in c.args.image.now workspace c.args.name c.args.space.now c.args.place saves c.requires.room c.requires.place c.ranges.place.fits) at.one at.counters at.space at.sorted at.under c.in-Some.ensures.room
     (early c.args.moment c.requires.moment))
-
-pub returns-clause-fit : goal.returns-clause-fit
-returns-clause-fit c =
-    let short = names_short c.args.image.now c.args.space.now.number c.args.space.now c.requires.rules c.requires.there in
-    subst FitPages (sym (changes c))
-    (fits_savepoint_batch c.id_of_counters-counters_id.result (moved c.counters.result c.args.moment) c.unwrap-space_id.result (marked (c.args.space.now.next_place + 1) c.args.space.now.next_implicit c.args.space.now)
-    c.in-Some-next_id.id (saved_record (parts_of c.args.image.now) c.args.space.now c.args.moment c.args.name) short.0 short.1 (name_short c.args.name c.requires.good))
 
 pub returns-clause-few : goal.returns-clause-few
 returns-clause-few c =

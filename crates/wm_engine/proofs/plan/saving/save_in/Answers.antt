@@ -16,7 +16,7 @@ pub returns-then-is_some-clause-does : goal.returns-then-is_some-clause-does
 returns-then-is_some-clause-does c = λ xs workspace saves.
     let found = find (λ (x : Savepoint). bytes_eq c.args.name x.name) (saved_in (parts_of c.args.image.now) c.args.space.now.number) in
     let there = some_of found (is_there c.savepoint_named.result found (c.savepoint_named.ensures ∙ ap (λ (n : List ℕ). find (λ (x : Savepoint). bytes_eq n x.name) (saved_in (parts_of c.args.image.now) c.args.space.now.number)) c.as_bytes.ensures) c.if-is_some.ensures) in
-    told c.args.image.now xs c.args.moment c.answered.result [] Stay (savepoint_there c.args.name) (create_savepoint workspace c.args.name) c.answered.ensures.changes (ap seating_view c.answered.ensures.seating)
+    told c.args.image.now xs c.args.moment c.answered.result [] Stay (savepoint_there c.args.name) (create_savepoint workspace c.args.name) c.answered.ensures.edits (ap seating_view c.answered.ensures.seating)
     (ap answer_view c.answered.ensures.answer ∙ c.savepoint_there.ensures)
     (save_there c.args.image.now xs c.args.moment workspace c.args.name c.args.space.now there.0 saves there.1)
 
@@ -26,7 +26,7 @@ returns-then-savepoint_count-ge-SAVEPOINT_LIMIT-clause-does c = λ xs workspace 
     let found = find (λ (x : Savepoint). bytes_eq c.args.name x.name) (saved_in (parts_of c.args.image.now) c.args.space.now.number) in
     let count = count_by (λ (x : Savepoint). x.space == c.args.space.now.number) (parts_of c.args.image.now).savepoints in
     told c.args.image.now xs c.args.moment c.answered-then-savepoint_count-ge-SAVEPOINT_LIMIT.result [] Stay most_savepoints (create_savepoint workspace c.args.name)
-    c.answered-then-savepoint_count-ge-SAVEPOINT_LIMIT.ensures.changes (ap seating_view c.answered-then-savepoint_count-ge-SAVEPOINT_LIMIT.ensures.seating)
+    c.answered-then-savepoint_count-ge-SAVEPOINT_LIMIT.ensures.edits (ap seating_view c.answered-then-savepoint_count-ge-SAVEPOINT_LIMIT.ensures.seating)
     (ap answer_view c.answered-then-savepoint_count-ge-SAVEPOINT_LIMIT.ensures.answer ∙ c.most_savepoints.ensures)
     (save_full c.args.image.now xs c.args.moment workspace c.args.name c.args.space.now saves (is_gone c.savepoint_named.result found (c.savepoint_named.ensures ∙ ap (λ (n : List ℕ). find (λ (x : Savepoint). bytes_eq n x.name) (saved_in (parts_of c.args.image.now) c.args.space.now.number)) c.as_bytes.ensures) c.if-is_some.ensures)
     (savepoints_full count c.savepoint_count.result c.savepoint_count.ensures c.if-savepoint_count-ge-SAVEPOINT_LIMIT.true))
@@ -35,7 +35,7 @@ pub returns-in_default-clause-does : goal.returns-in_default-clause-does
 returns-in_default-clause-does c = λ xs workspace saves.
     let found = find (λ (x : Savepoint). bytes_eq c.args.name x.name) (saved_in (parts_of c.args.image.now) c.args.space.now.number) in
     let count = count_by (λ (x : Savepoint). x.space == c.args.space.now.number) (parts_of c.args.image.now).savepoints in
-    told c.args.image.now xs c.args.moment c.answered-in_default.result [] Stay (at_its_end (codes "PLACE")) (create_savepoint workspace c.args.name) c.answered-in_default.ensures.changes
+    told c.args.image.now xs c.args.moment c.answered-in_default.result [] Stay (at_its_end (codes "PLACE")) (create_savepoint workspace c.args.name) c.answered-in_default.ensures.edits
     (ap seating_view c.answered-in_default.ensures.seating) (ap answer_view c.answered-in_default.ensures.answer ∙ c.in_ok-at_its_end.ensures)
     (save_placeless c.args.image.now xs c.args.moment workspace c.args.name c.args.space.now saves
     (record {

@@ -24,7 +24,7 @@ pub returns-in_default-clause-does : goal.returns-in_default-clause-does
 returns-in_default-clause-does c =
     let name = c.args.name.now in
     let statement = statement_view c.args.statement.now in
-    told c.args.image.now c.args.sessions.now c.args.moment c.answered.result [] Stay (no_session name) (λ s. run_for name (session_of name s.sessions) statement s) c.answered.ensures.changes (ap seating_view c.answered.ensures.seating)
+    told c.args.image.now c.args.sessions.now c.args.moment c.answered.result [] Stay (no_session name) (λ s. run_for name (session_of name s.sessions) statement s) c.answered.ensures.edits (ap seating_view c.answered.ensures.seating)
     (ap answer_view c.answered.ensures.answer ∙ c.no_session.ensures ∙ ap no_session c.in_ok-copy.ensures)
     (run_none c.args.image.now c.args.sessions.now c.args.moment name statement c.requires.rules (sym c.in_default.ensures))
 

@@ -66,7 +66,7 @@ draws c = nothing_under c.args.image.now (new_pieces c.args.writing.now.counters
 changes : (c : goal.After-drop-drawn-2)
     → c.changing.result.changes ≡ changes_new_batch c.args.image.now c.id_of_counters.result c.args.moment c.args.session.now.user c.args.writing.now.counters c.unwrap-space_id.result c.args.writing.now.space.now c.args.id c.args.session.now.space c.args.writing.now.table.now c.args.changes.items c.in_ok-drawn.drawn.drawn.items
 changes c =
-    c.changing.ensures.changes ∙ c.in_ok-batch.ensures
+    c.changing.ensures.edits ∙ c.in_ok-batch.ensures
     ∙ above_is_all c.args.image.now c.args.session.now.space c.args.moment c.args.session.now.user c.args.writing.now.table.now c.args.writing.now.space.now c.args.writing.now.counters c.args.changes.items c.in_ok-drawn.drawn.drawn.items c.space.result c.latest.result c.len-count.result c.args.counters c.in_ok-space.space c.in_ok-made.made.rows.items c.in_ok-pieces.pieces.items c.in_ok-hists.hists.items
     c.id_of_counters.result c.unwrap-space_id.result c.args.id c.as_slice-5.result.now c.in_ok-version_changes.field-0 (made c) c.space.ensures (c.latest.ensures ∙ ap (latest (parts_of c.args.image.now)) c.space-2.ensures)
     (c.as_slice-5.ensures.value ∙ none_dropped c.args.image.now c.args.writing.now.counters.next_version c.args.writing.now.table.now.number (change_keys c.args.changes.items) c.in_ok-drawn.drawn.dropped.items c.requires.served.rules (stay c) (redrawn c).dropped (redrawn c).there) c.in_ok-version_changes.ensures
@@ -82,7 +82,3 @@ returns-clause-does c =
       above = c.requires.ids;
     })
     (draws c) (changes c) (ap seating_view c.changing.ensures.seating) (ap answer_view c.changing.ensures.answer)
-
-pub returns-clause-fit : goal.returns-clause-fit
-returns-clause-fit c =
-    fits_all_above c.args.image.now c.args.session.now.space c.args.moment c.args.session.now.user c.args.writing.now.table.now c.args.writing.now.space.now c.args.writing.now.counters c.args.changes.items c.in_ok-drawn.drawn.drawn.items c.id_of_counters.result c.unwrap-space_id.result c.args.id c.changing.result.changes c.requires.served (short c) c.requires.filled (draws c) (changes c)

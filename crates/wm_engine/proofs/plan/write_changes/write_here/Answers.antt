@@ -57,7 +57,7 @@ redrawn c =
 changes : (c : goal.After-drop-drawn-2)
     → c.changing.result.changes ≡ changes_batch c.args.image.now c.id_of_counters.result c.args.moment c.args.session.now.user c.args.writing.now.counters c.unwrap-space_id.result c.args.writing.now.space.now c.in_ok-drawn.drawn.dropped.items c.args.id c.args.writing.now.table.now c.args.changes.items c.in_ok-drawn.drawn.drawn.items
 changes c =
-    c.changing.ensures.changes ∙ c.in_ok-batch.ensures
+    c.changing.ensures.edits ∙ c.in_ok-batch.ensures
     ∙ here_is_all c.args.image.now c.args.moment c.args.session.now.user c.args.writing.now.table.now c.args.writing.now.space.now c.args.writing.now.counters c.args.changes.items c.in_ok-drawn.drawn.drawn.items c.len-count.result c.args.counters c.in_ok-space.space c.in_ok-made.made.rows.items c.in_ok-pieces.pieces.items c.in_ok-hists.hists.items c.id_of_counters.result c.unwrap-space_id.result c.args.id
     c.as_slice-5.result.now c.in_ok-drawn.drawn.dropped.items c.new.result (made c) c.as_slice-5.ensures.value c.new.ensures
 
@@ -72,8 +72,3 @@ returns-clause-does c =
       above = c.requires.ids;
     })
     (redrawn c) (changes c) (ap seating_view c.changing.ensures.seating) (ap answer_view c.changing.ensures.answer)
-
-pub returns-clause-fit : goal.returns-clause-fit
-returns-clause-fit c =
-    fits_all_here c.args.image.now c.args.session.now.space c.args.moment (latest (parts_of c.args.image.now) c.args.session.now.space) c.args.session.now.user c.args.writing.now.table.now c.args.writing.now.space.now c.args.writing.now.counters c.args.changes.items c.in_ok-drawn.drawn.drawn.items c.id_of_counters.result c.unwrap-space_id.result c.args.id
-    c.in_ok-drawn.drawn.dropped.items c.changing.result.changes c.requires.served.new (short c) c.requires.filled (redrawn c).draws (changes c)
