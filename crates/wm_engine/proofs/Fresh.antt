@@ -122,7 +122,10 @@ fresh_stands limit some most = record {
   latest = record { told = λ n w is c. seen_none limit n c ∙ ap (option_map held_of) (sym (told_none w c (only_live n w is))) };
   own = record { covered = λ n w r is found c. rw (only_live n w is) (ap is_some (own_none limit n r.base_version c)) };
   savepoints = record { same = λ n. none_saved n };
-  kept = record { told = λ n making w k x is made recorded c. absurd (no_record x recorded) };
+  kept = record {
+    told = λ n making w k x is made recorded c. absurd (no_record x recorded);
+    base = λ n making w k x some is made recorded c. absurd (no_record x recorded);
+  };
   kept_own = record { covered = λ n making w k x is made recorded same c. absurd (no_record x recorded) };
   bases = record { birth = λ n w r some is found c. absurd (alone n w some is); base = λ n w r some is found c. absurd (alone n w some is) };
   rows = record {
@@ -130,6 +133,7 @@ fresh_stands limit some most = record {
     births = λ n w is c t row e h. absurd (none_told t (told w.lists.at_birth c) (ap (λ (v : Workspace). told v.lists.at_birth c) (only_live n w is)) e);
     bases = λ n w is c t row e h. absurd (none_told t (told w.lists.base c) (ap (λ (v : Workspace). told v.lists.base c) (only_live n w is)) e);
     saved = λ n making w k is made c t row e h. absurd (none_made n making w k is made);
+    saved_bases = λ n making w k is made c t row e h. absurd (none_made n making w k is made);
     logs = λ n. subst (λ es. All (HasRow (parts_of (by_id (fresh_records limit)))) es) (sym (none_logged n)) (All-nil (HasRow (parts_of (by_id (fresh_records limit)))));
   };
   hists = record { same = λ n position. ap (λ es. option_map logged_as (slice_get es position)) (sym (none_logged n)) };

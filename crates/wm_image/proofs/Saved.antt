@@ -22,8 +22,8 @@ use Rattle.wm_image.proofs.Finding.{Tests}
 use Rattle.wm_image.proofs.Firsts.{sought_kind, any_sought, count_sought, find-filter}
 use Rattle.wm_image.proofs.Lasts.{LastOf, has_ids, last-same, last_told}
 use Rattle.wm_image.specs.Indexed.{IsIndexed, ids_at, listed}
-use Rattle.wm_image.specs.Shown.{after, kind_at}
-use Rattle.wm_image.specs.Sought.{SavepointAt, SavepointsOf, KeptAs, is_sought, last_used}
+use Rattle.wm_image.specs.Shown.{after, kind_at, rests_on}
+use Rattle.wm_image.specs.Sought.{SavepointAt, SavepointsOf, KeptAs, KeptUnder, is_sought, last_used}
 use Rattle.wm_image.specs.declared.index.Index.{Index}
 
 -- ---- the tests
@@ -39,6 +39,10 @@ at_test n _ = refl
 pub kept_test : (n : ℕ) → Tests as_savepoint (λ (x : Savepoint). x.version == n) (is_sought (KeptAs n))
 kept_test n (records.Savepoint x) = refl
 kept_test n _ = refl
+
+pub rest_test : (n : ℕ) → Tests as_savepoint (rests_on n) (is_sought (KeptUnder n))
+rest_test n (records.Savepoint x) = refl
+rest_test n _ = refl
 
 -- ---- by making
 

@@ -15,11 +15,11 @@ use Rattle.wm_state.proofs.Tests.{either_false}
 use Rattle.wm_image.proofs.Finding.{Tests, space_test}
 use Rattle.wm_image.proofs.Firsts.{sought_kind, any_sought, count_sought, filter_all, count_all}
 use Rattle.wm_image.proofs.Lasts.{LastOf, has_ids, last-same, last_told}
-use Rattle.wm_image.proofs.Saved.{kept_test}
+use Rattle.wm_image.proofs.Saved.{kept_test, rest_test}
 use Rattle.wm_image.proofs.Using.{nil_told}
 use Rattle.wm_image.specs.Indexed.{IsIndexed, ids_at, listed}
-use Rattle.wm_image.specs.Shown.{kind_at, names}
-use Rattle.wm_image.specs.Sought.{Spaces, SpaceAt, KeptAs, BornAs, SeenUnder, is_nil, is_sought, last_used}
+use Rattle.wm_image.specs.Shown.{kind_at, names, rests_on}
+use Rattle.wm_image.specs.Sought.{Spaces, SpaceAt, KeptAs, KeptUnder, BornAs, SeenUnder, is_nil, is_sought, last_used}
 use Rattle.wm_image.specs.declared.index.Index.{Index}
 
 -- ---- the tests
@@ -82,10 +82,11 @@ names_split version (r ∷ rs) =
     swap true false false d e = refl
     swap false b c d e = refl
 
-none_of : (a b c : Bool) → (not a && (not b && not c)) ≡ not (a || (b || c))
-none_of true b c = refl
-none_of false true c = refl
-none_of false false c = refl
+none_of : (a b c d : Bool) → (not a && (not b && (not c && not d))) ≡ not (a || (b || (c || d)))
+none_of true b c d = refl
+none_of false true c d = refl
+none_of false false true d = refl
+none_of false false false d = refl
 
 is_empty : (ids : List ℕ) (b : Bool) → not (is_nil ids) ≡ b → eqb (length ids) 0 ≡ not b
 is_empty ids b e = nil_told ids ∙ twice (is_nil ids) ∙ ap not e
@@ -96,26 +97,30 @@ is_empty ids b e = nil_told ids ∙ twice (is_nil ids) ∙ ap not e
 
 -- no record of a savepoint and of a workspace names the version
 abbrev pub is_unnamed : Parts → ℕ → Bool
-is_unnamed p version = not (list_any (λ (x : Savepoint). x.version == version) p.savepoints || list_any (names version) p.spaces)
+is_unnamed p version = not (list_any (λ (x : Savepoint). x.version == version) p.savepoints || (list_any (rests_on version) p.savepoints || list_any (names version) p.spaces))
 
 free_told : (kept : BTreeMap ℕ Record) (x : Index) → IsIndexed kept x → (version : ℕ)
-    → (eqb (length (ids_at x (KeptAs version))) 0 && (eqb (length (ids_at x (BornAs version))) 0 && eqb (length (ids_at x (SeenUnder version))) 0)) ≡ is_unnamed (parts_of (listed kept.entries)) version
+    → (eqb (length (ids_at x (KeptAs version))) 0 && (eqb (length (ids_at x (KeptUnder version))) 0 && (eqb (length (ids_at x (BornAs version))) 0 && eqb (length (ids_at x (SeenUnder version))) 0))) ≡ is_unnamed (parts_of (listed kept.entries)) version
 unfolding parts_of
 free_told kept x is version =
     rw (
       is_empty (ids_at x (KeptAs version)) _ (any_sought as_savepoint (λ (y : Savepoint). y.version == version) (KeptAs version) (kept_test version) kept x is),
+      is_empty (ids_at x (KeptUnder version)) _ (any_sought as_savepoint (rests_on version) (KeptUnder version) (rest_test version) kept x is),
       is_empty (ids_at x (BornAs version)) _ (any_sought as_space (born version) (BornAs version) (born_test version) kept x is),
       is_empty (ids_at x (SeenUnder version)) _ (any_sought as_space (under version) (SeenUnder version) (under_test version) kept x is),
       names_split version (parts_of (listed kept.entries)).spaces,
-    ) (none_of (list_any (λ (y : Savepoint). y.version == version) (parts_of (listed kept.entries)).savepoints) (list_any (born version) (parts_of (listed kept.entries)).spaces) (list_any (under version) (parts_of (listed kept.entries)).spaces))
+    ) (none_of (list_any (λ (y : Savepoint). y.version == version) (parts_of (listed kept.entries)).savepoints) (list_any (rests_on version) (parts_of (listed kept.entries)).savepoints) (list_any (born version) (parts_of (listed kept.entries)).spaces) (list_any (under version) (parts_of (listed kept.entries)).spaces))
 
 -- the same of lists that are those of the index
-pub free_by : (kept : BTreeMap ℕ Record) (x : Index) → IsIndexed kept x → (version : ℕ) (saved births bases : List ℕ) → saved ≡ ids_at x (KeptAs version) → births ≡ ids_at x (BornAs version) → bases ≡ ids_at x (SeenUnder version)
-    → ((length saved == 0) && ((length births == 0) && (length bases == 0))) ≡ is_unnamed (parts_of (listed kept.entries)) version
-free_by kept x is version saved births bases e f g = rw (e, f, g) (free_told kept x is version)
+pub free_by : (kept : BTreeMap ℕ Record) (x : Index) → IsIndexed kept x → (version : ℕ) (saved rested births bases : List ℕ) → saved ≡ ids_at x (KeptAs version) → rested ≡ ids_at x (KeptUnder version) → births ≡ ids_at x (BornAs version) → bases ≡ ids_at x (SeenUnder version)
+    → ((length saved == 0) && ((length rested == 0) && ((length births == 0) && (length bases == 0)))) ≡ is_unnamed (parts_of (listed kept.entries)) version
+free_by kept x is version saved rested births bases e f g h = rw (e, f, g, h) (free_told kept x is version)
 
 pub free_where : (p : Parts) (version : ℕ) → is_unnamed p version ≡ true → IsFree p version
-free_where p version e = let two = either_false (list_any (λ (x : Savepoint). x.version == version) p.savepoints) (list_any (names version) p.spaces) (off _ e) in free_of p version two.0 two.1
+free_where p version e =
+    let two = either_false (list_any (λ (x : Savepoint). x.version == version) p.savepoints) (list_any (rests_on version) p.savepoints || list_any (names version) p.spaces) (off _ e) in
+    let more = either_false (list_any (rests_on version) p.savepoints) (list_any (names version) p.spaces) two.1 in
+    free_of p version two.0 more.0 more.1
   where
     off : (b : Bool) → not b ≡ true → b ≡ false
     off true h = cc

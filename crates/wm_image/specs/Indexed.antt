@@ -4,7 +4,7 @@ use Rattle.std.specs.BTreeMap.{BTreeMap, IsOrdered}
 use Rattle.std.specs.Ordering.{nat_cmp}
 use Rattle.wm_spec.specs.declared.record.Record.{Record}
 use Rattle.wm_spec.specs.declared.record.stored.Stored.{Stored}
-use Rattle.wm_image.specs.Sought.{Sought, TheCounters, Tables, Spaces, SpaceAt, VersionAt, VersionsOf, VersionsUnder, SavepointsOf, SavepointAt, KeptAs, BornAs, SeenUnder, RowAt, PiecesAt, is_sought, ids_with, placed, without, ids_in, piece_ids}
+use Rattle.wm_image.specs.Sought.{Sought, TheCounters, Tables, Spaces, SpaceAt, VersionAt, VersionsOf, VersionsUnder, SavepointsOf, SavepointAt, KeptAs, KeptUnder, BornAs, SeenUnder, RowAt, PiecesAt, is_sought, ids_with, placed, without, ids_in, piece_ids}
 use Rattle.wm_image.specs.declared.index.Index.{Index}
 
 -- the ids that an index has of what is sought
@@ -19,6 +19,7 @@ ids_at x (VersionsUnder parent) = ids_in nat_cmp x.versions_under.entries parent
 ids_at x (SavepointsOf space) = ids_in nat_cmp x.savepoints_of.entries space
 ids_at x (SavepointAt making) = ids_in nat_cmp x.savepoints.entries making
 ids_at x (KeptAs version) = ids_in nat_cmp x.kept_as.entries version
+ids_at x (KeptUnder version) = ids_in nat_cmp x.kept_under.entries version
 ids_at x (BornAs version) = ids_in nat_cmp x.born_as.entries version
 ids_at x (SeenUnder version) = ids_in nat_cmp x.seen_under.entries version
 ids_at x (RowAt stamp) = ids_in nat_cmp x.rows.entries stamp

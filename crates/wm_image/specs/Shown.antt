@@ -7,6 +7,7 @@ use Rattle.wm_period.specs.Pieces.{Held}
 use Rattle.wm_spec.specs.Records.{record_at}
 use Rattle.wm_spec.specs.declared.record.Record.{Record}
 use Rattle.wm_spec.specs.declared.record.piece.PieceRecord.{PieceRecord}
+use Rattle.wm_spec.specs.declared.record.savepoint.Savepoint.{Savepoint}
 use Rattle.wm_spec.specs.declared.record.space.Space.{Space}
 use Rattle.wm_spec.specs.declared.record.stored.Stored.{Stored}
 use Rattle.wm_spec.specs.declared.record.table.Table.{Table}
@@ -55,6 +56,10 @@ along f (v ∷ vs) = option_or (f v) (along f vs)
 abbrev pub passing : {A : Type 0} → (A → Bool) → Option A → Option A
 passing p None = None
 passing p (Some x) = then_some (p x) x
+
+-- a savepoint of a workspace with a parent sees the version under its workspace's own
+abbrev pub rests_on : ℕ → Savepoint → Bool
+rests_on version x = not (x.space == 0) && (x.base_version == version)
 
 -- a workspace with a parent was born from the version or sees it under its own
 abbrev pub names : ℕ → Space → Bool

@@ -16,8 +16,9 @@ use Rattle.wm_spec.specs.declared.record.stored.Stored.{Stored}
 use Rattle.wm_spec.specs.Records.{record_at}
 
 -- counters; tables; workspaces; a workspace or a version by its number; the versions of a workspace, or those under a version;
--- the savepoints of a workspace, one by its making, or those that keep a version; workspaces with a number above 0 that were born
--- from a version, or see it under their own; a row by its stamp; the pieces on a table and a key
+-- the savepoints of a workspace, one by its making, those that keep a version, or those of workspaces with a number above 0 that see
+-- a version under their workspace's own; workspaces with a number above 0 that were born from a version, or see it under their own; a
+-- row by its stamp; the pieces on a table and a key
 pub data Sought : Type 0 where
   TheCounters : Sought
   Tables : Sought
@@ -29,6 +30,7 @@ pub data Sought : Type 0 where
   SavepointsOf : ℕ → Sought
   SavepointAt : ℕ → Sought
   KeptAs : ℕ → Sought
+  KeptUnder : ℕ → Sought
   BornAs : ℕ → Sought
   SeenUnder : ℕ → Sought
   RowAt : ℕ → Sought
@@ -46,6 +48,7 @@ is_sought (VersionsUnder parent) (records.Version r) = r.parent == parent
 is_sought (SavepointsOf space) (records.Savepoint r) = r.space == space
 is_sought (SavepointAt making) (records.Savepoint r) = r.making == making
 is_sought (KeptAs version) (records.Savepoint r) = r.version == version
+is_sought (KeptUnder version) (records.Savepoint r) = not (r.space == 0) && (r.base_version == version)
 is_sought (BornAs version) (records.Space r) = not (r.number == 0) && (r.birth_version == version)
 is_sought (SeenUnder version) (records.Space r) = not (r.number == 0) && (r.base_version == version)
 is_sought (RowAt stamp) (records.Row r) = r.stamp == stamp

@@ -60,9 +60,9 @@ pub fn first_id(ids: &[u64]) -> Option<u64>
     }
 }
 
-/// Whether there are none in any of three lists.
-pub fn are_empty(first: &[u64], second: &[u64], third: &[u64]) -> bool
-    ensures { result ≡ ((length first.now == 0) && ((length second.now == 0) && (length third.now == 0))) }
+/// Whether there are none in any of four lists.
+pub fn are_empty(first: &[u64], second: &[u64], third: &[u64], fourth: &[u64]) -> bool
+    ensures { result ≡ ((length first.now == 0) && ((length second.now == 0) && ((length third.now == 0) && (length fourth.now == 0)))) }
 {
-    first.is_empty() && second.is_empty() && third.is_empty()
+    first.is_empty() && second.is_empty() && third.is_empty() && fourth.is_empty()
 }

@@ -20,7 +20,7 @@ ghost use Rattle.wm_state.specs.Drafts.{CanDraft, Drafts};
 ghost use Rattle.wm_state.specs.Drawing.{AreNews};
 ghost use Rattle.wm_image.specs.Listing.{AreSpans, IsFirstShared, IsKeyShowing};
 ghost use Rattle.wm_image.specs.Redraw.{IsRedrawn};
-ghost use Rattle.wm_image.specs.Shown.{names};
+ghost use Rattle.wm_image.specs.Shown.{names, rests_on};
 ghost use Rattle.wm_spec.specs.declared.record.savepoint.Savepoint.{Savepoint as OneSavepoint};
 ghost use Rattle.wm_spec.specs.declared.record.space.Space.{Space as OneSpace};
 ghost use Rattle.wm_state.specs.Effects.{IsFree};
@@ -266,13 +266,15 @@ impl Image {
         ids_of(&self.index.versions_under, &version).is_empty()
     }
 
-    /// Whether no savepoint keeps a version, and no workspace with a parent was born from it or sees it under its own.
+    /// Whether no savepoint keeps a version, and no workspace with a parent was born from it or sees it under its own,
+    /// nor does a savepoint of such a workspace.
     pub fn is_free(&self, version: u64) -> bool
-        ensures exact { result ≡ not (list_any (λ (x : OneSavepoint). x.version == version) (parts_of self.now).savepoints || list_any (names version) (parts_of self.now).spaces) }
+        ensures exact { result ≡ not (list_any (λ (x : OneSavepoint). x.version == version) (parts_of self.now).savepoints || (list_any (rests_on version) (parts_of self.now).savepoints || list_any (names version) (parts_of self.now).spaces)) }
         ensures free { result ≡ true → IsFree (parts_of self.now) version }
     {
         are_empty(
             ids_of(&self.index.kept_as, &version),
+            ids_of(&self.index.kept_under, &version),
             ids_of(&self.index.born_as, &version),
             ids_of(&self.index.seen_under, &version),
         )

@@ -10,12 +10,13 @@ use crate::keyed::{Ids, TableIds, add_on, add_to, drop_from, drop_on};
 use std::alloc::Global;
 use std::collections::BTreeMap;
 use wm_base::Memory;
-use wm_spec::record::{Record, Space};
+use wm_spec::record::{Record, Savepoint, Space};
 
 /// Ids in ascending order: of the counters, the tables and the workspaces; of workspaces and versions by number;
-/// of the versions of a workspace, and of those under a version; of the savepoints of a workspace, by making, and
-/// of those that keep a version; of the workspaces with a parent that were born from a version, or see it under
-/// their own; of rows by stamp; of pieces by table and key.
+/// of the versions of a workspace, and of those under a version; of the savepoints of a workspace, by making, of
+/// those that keep a version, and of those of workspaces with a parent that see a version under their workspace's
+/// own; of the workspaces with a parent that were born from a version, or see it under their own; of rows by stamp;
+/// of pieces by table and key.
 #[derive(Drop)]
 pub struct Index {
     pub counters: Vec<u64>,
@@ -28,6 +29,7 @@ pub struct Index {
     pub savepoints_of: Ids<u32>,
     pub savepoints: Ids<u64>,
     pub kept_as: Ids<u64>,
+    pub kept_under: Ids<u64>,
     pub born_as: Ids<u64>,
     pub seen_under: Ids<u64>,
     pub rows: Ids<u64>,
@@ -50,6 +52,7 @@ impl Index {
             savepoints_of: BTreeMap::new(alloc),
             savepoints: BTreeMap::new(alloc),
             kept_as: BTreeMap::new(alloc),
+            kept_under: BTreeMap::new(alloc),
             born_as: BTreeMap::new(alloc),
             seen_under: BTreeMap::new(alloc),
             rows: BTreeMap::new(alloc),
@@ -70,11 +73,7 @@ impl Index {
                 add_to(alloc, &mut self.versions_of, version.space, id)?;
                 add_to(alloc, &mut self.versions_under, version.parent, id)
             }
-            Record::Savepoint(savepoint) => {
-                add_to(alloc, &mut self.savepoints_of, savepoint.space, id)?;
-                add_to(alloc, &mut self.savepoints, savepoint.making, id)?;
-                add_to(alloc, &mut self.kept_as, savepoint.version, id)
-            }
+            Record::Savepoint(savepoint) => self.add_savepoint(alloc, id, savepoint),
             Record::Row(row) => add_to(alloc, &mut self.rows, row.stamp, id),
             Record::Piece(piece) => add_on(
                 alloc,
@@ -100,6 +99,19 @@ impl Index {
         add_to(alloc, &mut self.seen_under, space.base_version, id)
     }
 
+    /// Adds the id of a savepoint.
+    fn add_savepoint(&mut self, alloc: Global, id: u64, savepoint: &Savepoint) -> Result<(), Memory>
+        ensures { OnOk result (Adds self.old self.new id (records.Savepoint savepoint.now)) }
+    {
+        add_to(alloc, &mut self.savepoints_of, savepoint.space, id)?;
+        add_to(alloc, &mut self.savepoints, savepoint.making, id)?;
+        add_to(alloc, &mut self.kept_as, savepoint.version, id)?;
+        if savepoint.space == 0 {
+            return Ok(());
+        }
+        add_to(alloc, &mut self.kept_under, savepoint.base_version, id)
+    }
+
     /// Drops the id of a record.
     pub fn drop_record(&mut self, alloc: Global, id: u64, dropped: &Record) -> Result<(), Memory>
         ensures { OnOk result (Drops self.old self.new id dropped.now) }
@@ -113,11 +125,7 @@ impl Index {
                 drop_from(&mut self.versions_of, version.space, id)?;
                 return drop_from(&mut self.versions_under, version.parent, id);
             }
-            Record::Savepoint(savepoint) => {
-                drop_from(&mut self.savepoints_of, savepoint.space, id)?;
-                drop_from(&mut self.savepoints, savepoint.making, id)?;
-                return drop_from(&mut self.kept_as, savepoint.version, id);
-            }
+            Record::Savepoint(savepoint) => return self.drop_savepoint(id, savepoint),
             Record::Row(row) => return drop_from(&mut self.rows, row.stamp, id),
             Record::Piece(piece) => {
                 return drop_on(
@@ -144,5 +152,18 @@ impl Index {
         }
         drop_from(&mut self.born_as, space.birth_version, id)?;
         drop_from(&mut self.seen_under, space.base_version, id)
+    }
+
+    /// Drops the id of a savepoint.
+    fn drop_savepoint(&mut self, id: u64, savepoint: &Savepoint) -> Result<(), Memory>
+        ensures { OnOk result (Drops self.old self.new id (records.Savepoint savepoint.now)) }
+    {
+        drop_from(&mut self.savepoints_of, savepoint.space, id)?;
+        drop_from(&mut self.savepoints, savepoint.making, id)?;
+        drop_from(&mut self.kept_as, savepoint.version, id)?;
+        if savepoint.space == 0 {
+            return Ok(());
+        }
+        drop_from(&mut self.kept_under, savepoint.base_version, id)
     }
 }

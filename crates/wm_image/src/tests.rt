@@ -392,6 +392,23 @@ fn savepoint(alloc: Global, making: u64, name: &[u8], version: u64) -> Result<Re
     }))
 }
 
+/// A savepoint of the workspace in LIVE, that sees version 3 under the workspace's own.
+fn child_savepoint(alloc: Global) -> Result<Record, Memory> {
+    Ok(Record::Savepoint(Savepoint {
+        space: 4,
+        name: Name::copy_of(alloc, b"C")?,
+        implicit: false,
+        place: 0,
+        making: 9,
+        moment: 0,
+        version: 5,
+        base_version: 3,
+        from: 0,
+        log_length: 0,
+        rebases: 0,
+    }))
+}
+
 /// Two workspaces, and three versions in LIVE.
 fn spaces_batch(alloc: Global) -> Result<Batch, Memory> {
     let mut changes = Changes::new(alloc);
@@ -426,6 +443,29 @@ fn workspaces_are_found(rt: HostRuntime) -> Result<(), Fail> {
         (image.is_free(1), image.is_free(2), image.is_free(3)),
         (false, false, true)
     );
+    Ok(())
+}
+
+/// Where a savepoint of a workspace with a parent sees a version under its workspace's own the version is not free. A
+/// savepoint of LIVE sees none.
+#[test]
+fn versions_under_savepoints_are_kept(rt: HostRuntime) -> Result<(), Fail> {
+    let alloc = rt.alloc();
+    let mut image = Image::new(alloc);
+    image.apply(alloc, spaces_batch(alloc)?)?;
+    image.apply(alloc, savepoints_batch(alloc)?)?;
+    assert_eq!(rt; (image.is_free(0), image.is_free(3)), (true, true));
+    let mut more = Changes::new(alloc);
+    more.push(becomes(9, child_savepoint(alloc)?))?;
+    image.apply(alloc, Batch { changes: more })?;
+    assert_eq!(rt;
+        (image.is_free(0), image.is_free(3), image.is_free(5)),
+        (true, false, false)
+    );
+    let mut less = Changes::new(alloc);
+    less.push(gone(9))?;
+    image.apply(alloc, Batch { changes: less })?;
+    assert_eq!(rt; (image.is_free(3), image.is_free(5)), (true, true));
     Ok(())
 }
 

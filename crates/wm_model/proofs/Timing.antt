@@ -28,10 +28,10 @@ stands_moment p s m st = record {
   latest = record { told = st.latest.told };
   own = record { covered = st.own.covered };
   savepoints = record { same = st.savepoints.same };
-  kept = record { told = st.kept.told };
+  kept = record { told = st.kept.told; base = st.kept.base };
   kept_own = record { covered = st.kept_own.covered };
   bases = record { birth = st.bases.birth; base = st.bases.base };
-  rows = record { there = st.rows.there; births = st.rows.births; bases = st.rows.bases; saved = st.rows.saved; logs = st.rows.logs };
+  rows = record { there = st.rows.there; births = st.rows.births; bases = st.rows.bases; saved = st.rows.saved; saved_bases = st.rows.saved_bases; logs = st.rows.logs };
   hists = record { same = st.hists.same };
 }
 

@@ -17,7 +17,7 @@ use Rattle.wm_state.proofs.Tests.{either_false, differ_push}
 use Rattle.wm_state.proofs.Logging.{HistsStand-frame, log_of-found, log_of-none, log_of-same, logs-kept}
 use Rattle.wm_state.proofs.Mapped.{none-found}
 use Rattle.wm_state.proofs.Sprouting.{Sprouted, seen-before, above-before, seen-sprout, above-sprout, newest-here, newest-away, newest-lower}
-use Rattle.wm_state.proofs.Named.{saved_there, bases_there, version_there, version_below}
+use Rattle.wm_state.proofs.Named.{saved_there, saved_base_there, bases_there, version_there, version_below}
 
 -- the workspace that is born: its record has its fields, it has no changes and no savepoints, and it sees what its parent's version saw
 pub record IsChild (p : Parts) (r : Space) (w : Workspace) (es : List Entry) : Type 0 where
@@ -104,7 +104,10 @@ Stands-born p q s t r number w es b st child spaces tables counters rules = reco
   latest = record { told = λ m new is c. latest_told m new c (workspace_is m new is) };
   own = record { covered = λ m new x is recorded c. own_covered m new x c (workspace_is m new is) (record_is m x recorded) };
   savepoints = record { same = saved_same };
-  kept = record { told = λ m making new k x is made recorded c. kept_told m making new k x c (workspace_is m new is) made (ap (λ ks. find (λ (z : Record). (z.space == m) && (z.making == making)) ks) (sym b.savepoints) ∙ recorded) };
+  kept = record {
+    told = λ m making new k x is made recorded c. kept_told m making new k x c (workspace_is m new is) made (ap (λ ks. find (λ (z : Record). (z.space == m) && (z.making == making)) ks) (sym b.savepoints) ∙ recorded);
+    base = λ m making new k x some is made recorded c. kept_base m making new k x some c (workspace_is m new is) made (ap (λ ks. find (λ (z : Record). (z.space == m) && (z.making == making)) ks) (sym b.savepoints) ∙ recorded);
+  };
   kept_own = record { covered = λ m making new k x is made recorded still c. kept_covered m making new k x c (workspace_is m new is) made (ap (λ ks. find (λ (z : Record). (z.space == m) && (z.making == making)) ks) (sym b.savepoints) ∙ recorded) still };
   bases = record {
     birth = λ m new x some is recorded c. birth_told m new x some c (workspace_is m new is) (record_is m x recorded);
@@ -115,6 +118,7 @@ Stands-born p q s t r number w es b st child spaces tables counters rules = reco
     births = λ m new is. rows_births m new (workspace_is m new is);
     bases = λ m new is. rows_bases m new (workspace_is m new is);
     saved = λ m making new k is made. rows_saved m making new k (workspace_is m new is) made;
+    saved_bases = λ m making new k is made. rows_saved_bases m making new k (workspace_is m new is) made;
     logs = logs-kept p q s t (λ stamp y there. ap (λ rs. row_of rs stamp) b.rows ∙ there) logs st.rows.logs;
   };
   hists = HistsStand-frame p q s t b.hists logs st.hists;
@@ -232,6 +236,12 @@ Stands-born p q s t r number w es b st child spaces tables counters rules = reco
     kept_told m making new k y c (inr h) made recorded =
         seen-before p q x grown y.version c (recorded_lower y.version (version_there (version_of p.versions) y.version m (saved_there p st.rules m making y recorded).version)) ∙ st.kept.told m making new k y h.1 made recorded c
 
+    kept_base : (m making : ℕ) (new : Workspace) (k : Savepoint) (y : Record) → 0 < m → (c : Cell) → Is (workspace_of s.spaces m) r.number m w new → savepoint_made making new.savepoints ≡ Some k → saved_as p m making ≡ Some y
+        → seen q y.base_version c ≡ option_map held_of (told k.base c)
+    kept_base m making new k y some c (inl h) made recorded = absurd (made_none making new k h.1 made)
+    kept_base m making new k y some c (inr h) made recorded =
+        seen-before p q x grown y.base_version c (recorded_lower y.base_version (saved_base_there p st.rules m making y some recorded)) ∙ st.kept.base m making new k y some h.1 made recorded c
+
     kept_covered : (m making : ℕ) (new : Workspace) (k : Savepoint) (y : Record) (c : Cell) → Is (workspace_of s.spaces m) r.number m w new → savepoint_made making new.savepoints ≡ Some k → saved_as p m making ≡ Some y
         → k.rebases ≡ new.rebases → is_some (seen_above q y.base_version y.version c) ≡ touched k.own c
     kept_covered m making new k y c (inl h) made recorded still = absurd (made_none making new k h.1 made)
@@ -287,3 +297,7 @@ Stands-born p q s t r number w es b st child spaces tables counters rules = reco
     rows_saved : (m making : ℕ) (new : Workspace) (k : Savepoint) → Is (workspace_of s.spaces m) r.number m w new → savepoint_made making new.savepoints ≡ Some k → HasRows q (kept k)
     rows_saved m making new k (inl h) made = absurd (made_none making new k h.1 made)
     rows_saved m making new k (inr h) made = same_rows (kept k) (st.rows.saved m making new k h.1 made)
+
+    rows_saved_bases : (m making : ℕ) (new : Workspace) (k : Savepoint) → Is (workspace_of s.spaces m) r.number m w new → savepoint_made making new.savepoints ≡ Some k → HasRows q k.base
+    rows_saved_bases m making new k (inl h) made = absurd (made_none making new k h.1 made)
+    rows_saved_bases m making new k (inr h) made = same_rows k.base (st.rows.saved_bases m making new k h.1 made)

@@ -15,7 +15,7 @@ use Rattle.wm_state.specs.Standing.{stored_at, seen_at, own_at, newest_first, la
 use Rattle.wm_state.specs.Effects.{Forked, node_under}
 use Rattle.wm_state.proofs.Frames.{Framed, KeepRows, OnceStand-same, HasRows-kept, SavepointsStand-framed, KeptStand-framed, KeptOwnStand-framed, BasesStand-framed, RowsStand-framed}
 use Rattle.wm_state.proofs.Logging.{HistsStand-frame, logs-kept}
-use Rattle.wm_state.proofs.Named.{saved_there, bases_there, version_there, version_below}
+use Rattle.wm_state.proofs.Named.{saved_there, saved_base_there, bases_there, version_there, version_below}
 
 -- the newest version of a workspace is below what all versions are below
 pub latest-below : (n : ℕ) (nodes : List Node) (m : ℕ) → 0 < n → AllBelow n nodes → latest_in nodes m < n
@@ -101,6 +101,7 @@ framed_forked p q s t n number f rules spaces = record {
   names = λ m r recorded. record { old = r; is = ap (λ ss. space_of ss m) (sym f.spaces) ∙ recorded; birth = refl; base = refl };
   sees = λ m making x found c. seen-forked p q n number f x.version (saved m making x found) c;
   has = λ m making x found c. above-forked p q n number f x.base_version x.version (saved m making x found) c;
+  under = λ m making x some found. seen-forked p q n number f x.base_version (version_below p rules number f.below x.base_version (saved_base_there p rules m making x some found));
   births = λ m r some is. seen-forked p q n number f r.birth_version (below r.birth_version r.parent (bases_there p rules m r some is).birth);
   bases = λ m r some is. seen-forked p q n number f r.base_version (below r.base_version r.parent (bases_there p rules m r some is).base);
 }

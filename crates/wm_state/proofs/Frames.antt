@@ -70,14 +70,22 @@ pub record Point (p q : Parts) (s : State) (n making : ℕ) (w : Workspace) (k :
   pub rebases : w.rebases ≡ old.rebases
   pub sees : (c : Cell) → seen q x.version c ≡ seen p x.version c
   pub has : (c : Cell) → seen_above q x.base_version x.version c ≡ seen_above p x.base_version x.version c
+  pub under : 0 < n → (c : Cell) → seen q x.base_version c ≡ seen p x.base_version c
+
+-- or hold what the savepoint has now
+pub record HasPoint (q : Parts) (n : ℕ) (k : Savepoint) (x : Record) : Type 0 where
+  pub sees : (c : Cell) → seen q x.version c ≡ option_map held_of (told (kept k) c)
+  pub under : 0 < n → (c : Cell) → seen q x.base_version c ≡ option_map held_of (told k.base c)
 
 KeptStand-frame : (p q : Parts) (s t : State)
     → ((n making : ℕ) (w : Workspace) (k : Savepoint) (x : Record) → workspace_of t.spaces n ≡ Some w → savepoint_made making w.savepoints ≡ Some k → saved_as q n making ≡ Some x
-    → Point p q s n making w k x ⊎ ((c : Cell) → seen q x.version c ≡ option_map held_of (told (kept k) c)))
+    → Point p q s n making w k x ⊎ HasPoint q n k x)
     → KeptStand p s → KeptStand q t
 KeptStand-frame p q s t each stand = record {
   told = λ n making w k x is point recorded c.
-      ⊎_elim (λ (f : Point p q s n making w k x). f.sees c ∙ stand.told n making f.old k x f.is f.point f.recorded c) (λ h. h c) (each n making w k x is point recorded);
+      ⊎_elim (λ (f : Point p q s n making w k x). f.sees c ∙ stand.told n making f.old k x f.is f.point f.recorded c) (λ (h : HasPoint q n k x). h.sees c) (each n making w k x is point recorded);
+  base = λ n making w k x some is point recorded c.
+      ⊎_elim (λ (f : Point p q s n making w k x). f.under some c ∙ stand.base n making f.old k x some f.is f.point f.recorded c) (λ (h : HasPoint q n k x). h.under some c) (each n making w k x is point recorded);
 }
 
 KeptOwnStand-frame : (p q : Parts) (s t : State)
@@ -145,6 +153,7 @@ pub record Rows (q : Parts) (w : Workspace) : Type 0 where
   pub births : HasRows q w.lists.at_birth
   pub bases : HasRows q w.lists.base
   pub saved : (making : ℕ) (k : Savepoint) → savepoint_made making w.savepoints ≡ Some k → HasRows q (kept k)
+  pub saved_bases : (making : ℕ) (k : Savepoint) → savepoint_made making w.savepoints ≡ Some k → HasRows q k.base
 
 RowsStand-frame : (q : Parts) (t : State) → ((n : ℕ) (w : Workspace) → workspace_of t.spaces n ≡ Some w → Rows q w) → ((n : ℕ) → All (HasRow q) (log_of t.spaces n)) → RowsStand q t
 RowsStand-frame q t each logs = record {
@@ -152,6 +161,7 @@ RowsStand-frame q t each logs = record {
   births = λ n w is. (each n w is).births;
   bases = λ n w is. (each n w is).bases;
   saved = λ n making w k is point. (each n w is).saved making k point;
+  saved_bases = λ n making w k is point. (each n w is).saved_bases making k point;
   logs = logs;
 }
 
@@ -181,6 +191,7 @@ pub record Framed (p q : Parts) (s t : State) : Type 0 where
   pub names : (n : ℕ) (r : Space) → space_of q.spaces n ≡ Some r → StillNames p n r
   pub sees : (n making : ℕ) (x : Record) → saved_as p n making ≡ Some x → (c : Cell) → seen q x.version c ≡ seen p x.version c
   pub has : (n making : ℕ) (x : Record) → saved_as p n making ≡ Some x → (c : Cell) → seen_above q x.base_version x.version c ≡ seen_above p x.base_version x.version c
+  pub under : (n making : ℕ) (x : Record) → 0 < n → saved_as p n making ≡ Some x → (c : Cell) → seen q x.base_version c ≡ seen p x.base_version c
   pub births : (n : ℕ) (r : Space) → 0 < n → space_of p.spaces n ≡ Some r → (c : Cell) → seen q r.birth_version c ≡ seen p r.birth_version c
   pub bases : (n : ℕ) (r : Space) → 0 < n → space_of p.spaces n ≡ Some r → (c : Cell) → seen q r.base_version c ≡ seen p r.base_version c
 
@@ -203,6 +214,7 @@ point_of p q s t f n making w k x is point recorded =
       rebases = y.rebases;
       sees = f.sees n making x before;
       has = f.has n making x before;
+      under = λ some. f.under n making x some before;
     }
 
 pub SavepointsStand-framed : (p q : Parts) (s t : State) → Framed p q s t → SavepointsStand p s → SavepointsStand q t
@@ -239,4 +251,5 @@ RowsStand-framed p q s t f keep there logs stand = RowsStand-frame q t (λ n w i
       births = HasRows-same p q keep w.lists.at_birth y.old.lists.at_birth y.at_birth (stand.births n y.old y.is);
       bases = HasRows-same p q keep w.lists.base y.old.lists.base y.base (stand.bases n y.old y.is);
       saved = λ making k point. HasRows-kept p q keep (kept k) (stand.saved n making y.old k y.is (ap (savepoint_made making) (sym y.savepoints) ∙ point));
+      saved_bases = λ making k point. HasRows-kept p q keep k.base (stand.saved_bases n making y.old k y.is (ap (savepoint_made making) (sym y.savepoints) ∙ point));
     }

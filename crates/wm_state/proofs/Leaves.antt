@@ -14,7 +14,7 @@ use Rattle.wm_state.specs.Standing.{node_of, newest_first, latest}
 use Rattle.wm_state.specs.Effects.{IsLeaf, IsFree}
 use Rattle.wm_state.proofs.Tests.{bool_apart, both, either_false, none_if, found_fails}
 use Rattle.wm_state.proofs.Apart.{Ruled, ruled, ruled_versions, newest_record}
-use Rattle.wm_state.proofs.Named.{space_number, saved_there, bases_there, version_there, version_below}
+use Rattle.wm_state.proofs.Named.{space_number, saved_space, saved_there, saved_base_there, bases_there, version_there, version_below}
 use Rattle.wm_state.proofs.Growing.{MayFork, forked, forked_of, found-below, below-next, same_counters}
 
 IsLeaf-grow : (version : ℕ) (x : Node) (ns : List Node) → (x.parent == version) ≡ false → IsLeaf version ns → IsLeaf version (grow x ns)
@@ -80,10 +80,17 @@ leaf_new p old new a n v may e =
 abbrev pub names : ℕ → Space → Bool
 names version r = not (r.number == 0) && ((r.birth_version == version) || (r.base_version == version))
 
+-- a savepoint of a workspace with a parent sees the version under its workspace's own
+abbrev pub rests_on : ℕ → Savepoint → Bool
+rests_on version x = not (x.space == 0) && (x.base_version == version)
+
 -- a version that no record of a savepoint and of a workspace names is free
-pub free_of : (p : Parts) (version : ℕ) → list_any (λ (x : Savepoint). x.version == version) p.savepoints ≡ false → list_any (names version) p.spaces ≡ false → IsFree p version
-free_of p version unsaved unnamed = record {
+pub free_of : (p : Parts) (version : ℕ) → list_any (λ (x : Savepoint). x.version == version) p.savepoints ≡ false → list_any (rests_on version) p.savepoints ≡ false → list_any (names version) p.spaces ≡ false → IsFree p version
+free_of p version unsaved unrested unnamed = record {
   kept = λ n making x found. found_fails (λ (x : Savepoint). (x.space == n) && (x.making == making)) (λ (x : Savepoint). x.version == version) p.savepoints x found unsaved;
+  kept_bases = λ n making x some found.
+      second (not (x.space == 0)) (x.base_version == version) (ap (λ k. not (k == 0)) (saved_space p n making x found) ∙ not_zero n some)
+      (found_fails (λ (y : Savepoint). (y.space == n) && (y.making == making)) (rests_on version) p.savepoints x found unrested);
   births = λ n r some found. (either_false (r.birth_version == version) (r.base_version == version) (named n r some found)).0;
   bases = λ n r some found. (either_false (r.birth_version == version) (r.base_version == version) (named n r some found)).1;
 }
@@ -102,6 +109,7 @@ free_of p version unsaved unnamed = record {
 free_above : (p : Parts) (number : ℕ) → keep_rules p ≡ true → AllBelow number (newest_first p.versions) → IsFree p number
 free_above p number e below = record {
   kept = λ n making x found. apart x.version (version_there (version_of p.versions) x.version n (saved_there p e n making x found).version);
+  kept_bases = λ n making x some found. apart x.base_version (saved_base_there p e n making x some found);
   births = λ n r some found. apart r.birth_version (version_there (version_of p.versions) r.birth_version r.parent (bases_there p e n r some found).birth);
   bases = λ n r some found. apart r.base_version (version_there (version_of p.versions) r.base_version r.parent (bases_there p e n r some found).base);
 }
@@ -116,4 +124,4 @@ free_above p number e below = record {
 pub free_new : (p : Parts) (old new : Counters) (a : Space) (n : ℕ) (v : Version) → MayFork p old new a n v → keep_rules p ≡ true → IsFree (forked p new v) v.number
 free_new p old new a n v may e =
     let free = free_above p v.number e (forked_of p old new a n v may e).below in
-    record { kept = free.kept; births = free.births; bases = free.bases }
+    record { kept = free.kept; kept_bases = free.kept_bases; births = free.births; bases = free.bases }

@@ -50,6 +50,11 @@ all_true (x ∷ xs) = all_true xs
 pub space_number : (p : Parts) (n : ℕ) (s : Space) → space_of p.spaces n ≡ Some s → s.number ≡ n
 space_number p n s found = eqb-true _ _ (found-passes (λ (x : Space). x.number == n) (λ x. true) p.spaces s found (all_true p.spaces)).0
 
+-- a savepoint that is found is of the workspace
+pub saved_space : (p : Parts) (n making : ℕ) (x : Savepoint) → saved_as p n making ≡ Some x → x.space ≡ n
+saved_space p n making x found =
+    eqb-true _ _ (both (x.space == n) (x.making == making) (found-passes (λ (y : Savepoint). (y.space == n) && (y.making == making)) (λ y. true) p.savepoints x found (all_true p.savepoints)).0).0
+
 pub saved_there : (p : Parts) → keep_rules p ≡ true → (n making : ℕ) (x : Savepoint) → saved_as p n making ≡ Some x → SavedThere p n making x
 saved_there p rules n making x found = by_space (space_of p.spaces n) refl
     (sym (ap (λ k. option_map_or (is_saved_in (version_of p.versions) x) (space_of p.spaces k) false) in_space) ∙ (both (is_short x.name && nat_le x.making _) _ passes.1).1)
@@ -79,6 +84,16 @@ saved_there p rules n making x found = by_space (space_of p.spaces n) refl
           log = l.1;
         }
 
+-- in a workspace with a parent, what a savepoint sees under its workspace's own is a version of the parent
+saved_base : (p : Parts) (n making : ℕ) (x : Savepoint) (t : SavedThere p n making x) → 0 < n → is_version_of (version_of p.versions) x.base_version t.space.parent ≡ true
+saved_base p n making x t some = sym (ap (λ b. if b then x.base_version == 0 else is_version_of (version_of p.versions) x.base_version t.space.parent) away) ∙ t.base
+  where
+    child : (m : ℕ) → 0 < m → (m == 0) ≡ false
+    child m lt = grind (arith, lt)
+
+    away : (t.space.number == 0) ≡ false
+    away = ap (λ k. k == 0) t.number ∙ child n some
+
 -- ---- versions
 
 -- a version of a workspace is there
@@ -88,6 +103,11 @@ version_there versions k space e = by_version (versions k) e
     by_version : (o : Option Version) → option_map_or (λ (v : Version). v.space == space) o false ≡ true → is_some o ≡ true
     by_version None h = h
     by_version (Some v) h = refl
+
+-- so is what a savepoint sees under its workspace's own
+pub saved_base_there : (p : Parts) → keep_rules p ≡ true → (n making : ℕ) (x : Savepoint) → 0 < n → saved_as p n making ≡ Some x → is_some (version_of p.versions x.base_version) ≡ true
+saved_base_there p rules n making x some found =
+    let t = saved_there p rules n making x found in version_there (version_of p.versions) x.base_version t.space.parent (saved_base p n making x t some)
 
 -- what a workspace with a parent was born from, and what it sees under its own, are versions of its parent
 pub record BasesThere (p : Parts) (r : Space) : Type 0 where

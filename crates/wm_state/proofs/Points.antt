@@ -192,7 +192,7 @@ made_newest : (p : Parts) (s : State) (a : Space) (w : Workspace) (m : ℕ) (nam
 made_newest p s a w m name flag st is = record {
   savepoint = k;
   is = refl;
-  kept = kept_latest p s a.number w a k x st is.found is.recorded refl refl refl refl
+  kept = kept_latest p s a.number w a k x st is.found is.recorded refl refl refl refl refl
       (ap (λ n. newest_fields name flag m n (fields_of a)) (sym (next_making_same p s st)) ∙ ap (λ f. newest_fields name flag m (next_making s.spaces) f) is.fields);
   place = ap (λ (f : SpaceFields). f.next_place) is.fields;
   log = ap (λ (f : SpaceFields). f.log_length) is.fields;
@@ -226,7 +226,7 @@ made_again p s a w m making y name flag st is found = by_savepoint (made_some p 
     by_savepoint (j, made, saved) = record {
       savepoint = again j;
       is = ap (option_map (λ (k : Savepoint). record k { making = next_making s.spaces; name = name; implicit = flag })) made;
-      kept = kept_again p s a.number making w (again j) j (made_at p a name flag (saved_point y)) y st is.found found made refl refl refl refl refl
+      kept = kept_again p s a.number making w (again j) j (made_at p a name flag (saved_point y)) y st is.found found made refl refl refl refl refl refl
           (ap (λ n. again_fields name flag n (saved_fields y)) (sym (next_making_same p s st)) ∙ ap (λ f. again_fields name flag (next_making s.spaces) f) saved.fields);
       place = ap (λ (f : SavepointFields). f.place) saved.fields;
       log = ap (λ (f : SavepointFields). f.log_length) saved.fields;

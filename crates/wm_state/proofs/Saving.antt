@@ -1,5 +1,5 @@
 -- A workspace gets a savepoint more.
-use Rattle.std.proofs.Common.{◌≡◌, ◌≢◌, ℕ, ◌==◌, nat_lt, Bool, true, false, ◌&&◌, cond, List, [], ◌∷◌, ◌++◌, map, Option, Some, None, is_some, refl, sym, ap, ◌∙◌, ◌⊎◌, inl, inr, append-nil, arith}
+use Rattle.std.proofs.Common.{◌≡◌, ◌≢◌, ℕ, ◌<◌, ◌==◌, nat_lt, Bool, true, false, ◌&&◌, cond, List, [], ◌∷◌, ◌++◌, map, Option, Some, None, is_some, refl, sym, ap, subst, ◌∙◌, ◌⊎◌, inl, inr, append-nil, arith}
 use Rattle.std.proofs.lemmas.Bool.{cases_eq, eq-eqb, ne_eqb}
 use Rattle.std.proofs.lemmas.List.{map-append}
 use Rattle.std.proofs.lemmas.List.Elements.{filter-append}
@@ -23,12 +23,15 @@ use Rattle.wm_state.proofs.Tests.{all_filter, find_new, none_if}
 
 -- ---- what a savepoint keeps
 
--- the record of a savepoint keeps what the savepoint has: its version holds what is told of it, what stands above its base covers
--- its own changes where the workspace was not rebased since, and the rows are there
+-- the record of a savepoint keeps what the savepoint has: its version holds what is told of it, the version under its own what is told
+-- of its base where the workspace has a parent, what stands above its base covers its own changes where the workspace was not rebased
+-- since, and the rows are there
 pub record IsKept (p : Parts) (w : Workspace) (k : Savepoint) (x : Record) : Type 0 where
   pub holds : (c : Cell) → seen p x.version c ≡ option_map held_of (told (kept k) c)
+  pub under : 0 < x.space → (c : Cell) → seen p x.base_version c ≡ option_map held_of (told k.base c)
   pub covers_own : k.rebases ≡ w.rebases → (c : Cell) → is_some (seen_above p x.base_version x.version c) ≡ touched k.own c
   pub rows : HasRows p (kept k)
+  pub base_rows : HasRows p k.base
   pub fields : saved_fields x ≡ fields_saved k
 
 -- ---- a workspace that was changed
@@ -299,6 +302,9 @@ KeptStand-saved p q s t n place implicit w k x v spaces new_one stand kept_befor
   told = λ m making new j y is made recorded c.
       seen-still p q n place implicit x v y.version c
       ∙ by_case m making new j y recorded c (made_case p q s n place implicit k x v new_one.fields stand m making new j (ap (λ ws. workspace_of ws m) (sym spaces) ∙ is) made);
+  base = λ m making new j y some is made recorded c.
+      seen-still p q n place implicit x v y.base_version c
+      ∙ base_case m making new j y some recorded c (made_case p q s n place implicit k x v new_one.fields stand m making new j (ap (λ ws. workspace_of ws m) (sym spaces) ∙ is) made);
 }
   where
     by_case : (m making : ℕ) (new : Workspace) (j : Savepoint) (y : Record) → saved_as q m making ≡ Some y → (c : Cell) → MadeCase n k x s.spaces m making new j → seen p y.version c ≡ option_map held_of (told (kept j) c)
@@ -309,6 +315,17 @@ KeptStand-saved p q s t n place implicit w k x v spaces new_one stand kept_befor
             let same : y ≡ x = some_record y x (sym recorded ∙ ap (λ i. saved_as q i making) h.0 ∙ saved_as-here p q n place implicit x v making h.1) in
             ap (λ (r : Record). seen p r.version c) same ∙ new_one.holds c ∙ ap (λ i. option_map held_of (told (kept i) c)) (sym h.2)
         by_how (inr h) = kept_before.told m making z.old j y z.is h.0 (sym (saved_as-away p q n place implicit x v m making h.1) ∙ recorded) c
+
+    base_case : (m making : ℕ) (new : Workspace) (j : Savepoint) (y : Record) → 0 < m → saved_as q m making ≡ Some y → (c : Cell) → MadeCase n k x s.spaces m making new j
+        → seen p y.base_version c ≡ option_map held_of (told j.base c)
+    base_case m making new j y some recorded c z = by_how z.how
+      where
+        by_how : ((m ≡ n) × (x.making ≡ making) × (j ≡ k)) ⊎ ((savepoint_made making z.old.savepoints ≡ Some j) × (((x.space == m) && (x.making == making)) ≡ false))
+            → seen p y.base_version c ≡ option_map held_of (told j.base c)
+        by_how (inl h) =
+            let same : y ≡ x = some_record y x (sym recorded ∙ ap (λ i. saved_as q i making) h.0 ∙ saved_as-here p q n place implicit x v making h.1) in
+            ap (λ (r : Record). seen p r.base_version c) same ∙ new_one.under (subst (λ i. 0 < i) (h.0 ∙ sym v.space) some) c ∙ ap (λ (i : Savepoint). option_map held_of (told i.base c)) (sym h.2)
+        by_how (inr h) = kept_before.base m making z.old j y some z.is h.0 (sym (saved_as-away p q n place implicit x v m making h.1) ∙ recorded) c
 
 KeptOwnStand-saved : (p q : Parts) (s t : State) (n place implicit : ℕ) (w : Workspace) (k : Savepoint) (x : Record) → Saved p q n place implicit x → t.spaces ≡ with_space n (with_savepoint place implicit k) s.spaces
     → workspace_of s.spaces n ≡ Some w → IsKept p w k x → SavepointsStand p s → KeptOwnStand p s → KeptOwnStand q t
@@ -344,6 +361,8 @@ RowsStand-saved p q s t n place implicit w k x v spaces new_one stand rows = rec
   bases = λ m new is. let y = before m new is in HasRows-same p q still new.lists.base y.old.lists.base (ap (λ (l : Contents). l.base) y.lists) (rows.bases m y.old y.is);
   saved = λ m making new j is made.
       by_case m making new j (made_case p q s n place implicit k x v new_one.fields stand m making new j (ap (λ ws. workspace_of ws m) (sym spaces) ∙ is) made);
+  saved_bases = λ m making new j is made.
+      base_case m making new j (made_case p q s n place implicit k x v new_one.fields stand m making new j (ap (λ ws. workspace_of ws m) (sym spaces) ∙ is) made);
   logs = logs-kept p q s t still (logs_saved s t n place implicit k spaces) rows.logs;
 }
   where
@@ -359,6 +378,13 @@ RowsStand-saved p q s t n place implicit w k x v spaces new_one stand rows = rec
         by_how : ((m ≡ n) × (x.making ≡ making) × (j ≡ k)) ⊎ ((savepoint_made making z.old.savepoints ≡ Some j) × (((x.space == m) && (x.making == making)) ≡ false)) → HasRows q (kept j)
         by_how (inl h) = HasRows-same p q still (kept j) (kept k) (ap kept h.2) new_one.rows
         by_how (inr h) = HasRows-kept p q still (kept j) (rows.saved m making z.old j z.is h.0)
+
+    base_case : (m making : ℕ) (new : Workspace) (j : Savepoint) → MadeCase n k x s.spaces m making new j → HasRows q j.base
+    base_case m making new j z = by_how z.how
+      where
+        by_how : ((m ≡ n) × (x.making ≡ making) × (j ≡ k)) ⊎ ((savepoint_made making z.old.savepoints ≡ Some j) × (((x.space == m) && (x.making == making)) ≡ false)) → HasRows q j.base
+        by_how (inl h) = HasRows-same p q still j.base k.base (ap (λ (i : Savepoint). i.base) h.2) new_one.base_rows
+        by_how (inr h) = HasRows-kept p q still j.base (rows.saved_bases m making z.old j z.is h.0)
 
 -- ---- the records stand for the state with the savepoint
 
@@ -408,13 +434,16 @@ Stands-saved p q s t n place implicit w k x v st found new_one spaces tables cou
 -- ---- what a savepoint keeps of what is there
 
 -- made at what is newest
-pub kept_latest : (p : Parts) (s : State) (n : ℕ) (w : Workspace) (r : Space) (k : Savepoint) (x : Record) → Stands p s → workspace_of s.spaces n ≡ Some w → space_of p.spaces n ≡ Some r → x.version ≡ latest p n
+pub kept_latest : (p : Parts) (s : State) (n : ℕ) (w : Workspace) (r : Space) (k : Savepoint) (x : Record) → Stands p s → workspace_of s.spaces n ≡ Some w → space_of p.spaces n ≡ Some r → x.space ≡ n → x.version ≡ latest p n
     → x.base_version ≡ r.base_version → k.base ≡ w.lists.base → k.own ≡ w.lists.own → saved_fields x ≡ fields_saved k → IsKept p w k x
-kept_latest p s n w r k x st found recorded version base_version base own fields = record {
+kept_latest p s n w r k x st found recorded space version base_version base own fields = record {
   holds = λ c. ap (λ v. seen p v c) version ∙ st.latest.told n w found c ∙ ap (λ es. option_map held_of (told es c)) (sym same);
+  under = λ some c.
+      ap (λ v. seen p v c) base_version ∙ st.bases.base n w r (subst (λ i. 0 < i) space some) found recorded c ∙ ap (λ es. option_map held_of (told es c)) (sym base);
   covers_own = λ based c.
       ap (λ v. is_some (seen_above p x.base_version v c)) version ∙ ap (λ b. is_some (owned p b n c)) base_version ∙ st.own.covered n w r found recorded c ∙ ap (λ es. touched es c) (sym own);
   rows = HasRows-same p p (KeepRows-same p p refl) (kept k) (content w) same (st.rows.there n w found);
+  base_rows = HasRows-same p p (KeepRows-same p p refl) k.base w.lists.base base (st.rows.bases n w found);
   fields = fields;
 }
   where
@@ -423,13 +452,16 @@ kept_latest p s n w r k x st found recorded version base_version base own fields
 
 -- made where another is
 pub kept_again : (p : Parts) (s : State) (n making : ℕ) (w : Workspace) (k j : Savepoint) (x y : Record) → Stands p s → workspace_of s.spaces n ≡ Some w → saved_as p n making ≡ Some y → savepoint_made making w.savepoints ≡ Some j
-    → x.version ≡ y.version → x.base_version ≡ y.base_version → k.base ≡ j.base → k.own ≡ j.own → k.rebases ≡ j.rebases → saved_fields x ≡ fields_saved k → IsKept p w k x
-kept_again p s n making w k j x y st found recorded made version base_version base own rebases fields = record {
+    → x.space ≡ n → x.version ≡ y.version → x.base_version ≡ y.base_version → k.base ≡ j.base → k.own ≡ j.own → k.rebases ≡ j.rebases → saved_fields x ≡ fields_saved k → IsKept p w k x
+kept_again p s n making w k j x y st found recorded made space version base_version base own rebases fields = record {
   holds = λ c. ap (λ v. seen p v c) version ∙ st.kept.told n making w j y found made recorded c ∙ ap (λ es. option_map held_of (told es c)) (sym same);
+  under = λ some c.
+      ap (λ v. seen p v c) base_version ∙ st.kept.base n making w j y (subst (λ i. 0 < i) space some) found made recorded c ∙ ap (λ es. option_map held_of (told es c)) (sym base);
   covers_own = λ based c.
       ap (λ v. is_some (seen_above p x.base_version v c)) version ∙ ap (λ b. is_some (seen_above p b y.version c)) base_version
       ∙ st.kept_own.covered n making w j y found made recorded (sym rebases ∙ based) c ∙ ap (λ es. touched es c) (sym own);
   rows = HasRows-same p p (KeepRows-same p p refl) (kept k) (kept j) same (st.rows.saved n making w j found made);
+  base_rows = HasRows-same p p (KeepRows-same p p refl) k.base j.base base (st.rows.saved_bases n making w j found made);
   fields = fields;
 }
   where

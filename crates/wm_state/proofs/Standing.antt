@@ -26,6 +26,7 @@ framed_retabled p q s t r spaces = record {
   names = λ n x recorded. record { old = x; is = ap (λ ss. space_of ss n) (sym r.spaces) ∙ recorded; birth = refl; base = refl };
   sees = λ n making x saved c. rw (r.versions, r.pieces) refl;
   has = λ n making x saved c. rw (r.versions, r.pieces) refl;
+  under = λ n making x some saved c. rw (r.versions, r.pieces) refl;
   births = λ n x some is c. rw (r.versions, r.pieces) refl;
   bases = λ n x some is c. rw (r.versions, r.pieces) refl;
 }
@@ -73,9 +74,9 @@ Stands-begin p s now st = record {
   latest = record { told = st.latest.told };
   own = record { covered = st.own.covered };
   savepoints = record { same = st.savepoints.same };
-  kept = record { told = st.kept.told };
+  kept = record { told = st.kept.told; base = st.kept.base };
   kept_own = record { covered = st.kept_own.covered };
   bases = record { birth = st.bases.birth; base = st.bases.base };
-  rows = record { there = st.rows.there; births = st.rows.births; bases = st.rows.bases; saved = st.rows.saved; logs = st.rows.logs };
+  rows = record { there = st.rows.there; births = st.rows.births; bases = st.rows.bases; saved = st.rows.saved; saved_bases = st.rows.saved_bases; logs = st.rows.logs };
   hists = record { same = st.hists.same };
 }

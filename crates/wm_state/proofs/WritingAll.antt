@@ -168,6 +168,7 @@ framed_wrote p q s t n es w spaces = record {
   sees = λ m making x saved c. sees x.version c (w.free.kept m making x saved);
   has = λ m making x saved c. rw w.versions
       (own-away (latest p n) p.pieces q.pieces c (laid-away (latest p n) es p.pieces q.pieces c w.pieces) x.base_version (newest_first p.versions) w.leaf x.version (w.free.kept m making x saved));
+  under = λ m making x some saved c. sees x.base_version c (w.free.kept_bases m making x some saved);
   births = λ m r some is c. sees r.birth_version c (w.free.births m r some is);
   bases = λ m r some is c. sees r.base_version c (w.free.bases m r some is);
 }

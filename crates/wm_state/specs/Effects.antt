@@ -26,9 +26,11 @@ pub record IsApart (p : Parts) (n : ℕ) : Type 0 where
   pub others : (m : ℕ) → (m == n) ≡ false → is_some (space_of p.spaces m) ≡ true → (latest p m == latest p n) ≡ false
   pub above : (r : Space) → space_of p.spaces n ≡ Some r → (latest p n == r.base_version) ≡ false
 
--- no savepoint keeps the version, and no workspace with a parent was born from it or sees it under its own
+-- no savepoint keeps the version, and no workspace with a parent was born from it or sees it under its own, nor does a savepoint of
+-- such a workspace
 pub record IsFree (p : Parts) (version : ℕ) : Type 0 where
   pub kept : (n making : ℕ) (x : Savepoint) → saved_as p n making ≡ Some x → (x.version == version) ≡ false
+  pub kept_bases : (n making : ℕ) (x : Savepoint) → 0 < n → saved_as p n making ≡ Some x → (x.base_version == version) ≡ false
   pub births : (n : ℕ) (r : Space) → 0 < n → space_of p.spaces n ≡ Some r → (r.birth_version == version) ≡ false
   pub bases : (n : ℕ) (r : Space) → 0 < n → space_of p.spaces n ≡ Some r → (r.base_version == version) ≡ false
 

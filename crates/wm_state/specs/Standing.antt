@@ -266,8 +266,11 @@ pub record OwnStand (p : Parts) (s : State) : Type 0 where
 pub record SavepointsStand (p : Parts) (s : State) : Type 0 where
   pub same : (n : ℕ) → map saved_fields (saved_in p n) ≡ map fields_saved (savepoints_of s.spaces n)
 
--- the version of a savepoint holds at each cell what stood there
+-- the version of a savepoint holds at each cell what stood there, and in a workspace with a parent the version under its own holds at
+-- each cell its copy of its parent's content there
 pub record KeptStand (p : Parts) (s : State) : Type 0 where
+  pub base : (n making : ℕ) (w : Workspace) (k : Savepoint) (x : Record) → 0 < n → workspace_of s.spaces n ≡ Some w → savepoint_made making w.savepoints ≡ Some k → saved_as p n making ≡ Some x
+      → (c : Cell) → seen p x.base_version c ≡ option_map held_of (told k.base c)
   pub told : (n making : ℕ) (w : Workspace) (k : Savepoint) (x : Record) → workspace_of s.spaces n ≡ Some w → savepoint_made making w.savepoints ≡ Some k → saved_as p n making ≡ Some x
       → (c : Cell) → seen p x.version c ≡ option_map held_of (told (kept k) c)
 
@@ -296,6 +299,7 @@ pub record RowsStand (p : Parts) (s : State) : Type 0 where
   pub births : (n : ℕ) (w : Workspace) → workspace_of s.spaces n ≡ Some w → HasRows p w.lists.at_birth
   pub bases : (n : ℕ) (w : Workspace) → workspace_of s.spaces n ≡ Some w → HasRows p w.lists.base
   pub saved : (n making : ℕ) (w : Workspace) (k : Savepoint) → workspace_of s.spaces n ≡ Some w → savepoint_made making w.savepoints ≡ Some k → HasRows p (kept k)
+  pub saved_bases : (n making : ℕ) (w : Workspace) (k : Savepoint) → workspace_of s.spaces n ≡ Some w → savepoint_made making w.savepoints ≡ Some k → HasRows p k.base
   pub logs : (n : ℕ) → All (HasRow p) (log_of s.spaces n)
 
 -- each position of each workspace's log has a record of its entry, and there is no other
