@@ -7,7 +7,7 @@ use Rattle.wm_base.specs.declared.memory.Memory.{Memory}
 use Rattle.wm_base.specs.declared.instant.TheConstants.{END}
 use Rattle.wm_graph.specs.Parts.{parts_of, as_counters, as_table}
 use Rattle.wm_graph.specs.Rules.{keep_rules}
-use Rattle.wm_print.specs.Texts.{Answer}
+use Rattle.wm_print.specs.Texts.{Answer, Fine}
 use Rattle.wm_spec.specs.Records.{record_at}
 use Rattle.wm_spec.specs.declared.record.Record.{Record}
 use Rattle.wm_spec.specs.declared.record.Record.TheVariants as records
@@ -20,10 +20,13 @@ use Rattle.wm_model.specs.Planning.{StandsAt, Does, DoesAt, Seating, Stay}
 use Rattle.wm_model.proofs.Doing.{does_nothing}
 use Rattle.wm_state.specs.Drafts.{is_fork as is_fork_edit}
 use Rattle.wm_engine.specs.Forks.{AreForks}
+use Rattle.wm_engine.specs.Idle.{Idles, is_idle}
 use Rattle.wm_engine.specs.Planning.{DoesIt, DoesTimed}
 use Rattle.wm_engine.specs.Views.{answer_view, seating_view}
+use Rattle.wm_engine.specs.declared.answer.Answer.TheVariants as answers
 use Rattle.wm_engine.specs.declared.planned.Planned.{Planned}
 use Rattle.wm_engine.specs.declared.planned.Timed.{Timed}
+use Rattle.wm_engine.specs.declared.seating.Seating.TheVariants as seatings
 
 -- a plan of these edits, of this that becomes of the sessions, and of this answer
 pub told : (rs : List Stored) (xs : List Session) (m : ℕ) (p : Planned) (es : List Edit) (seating : Seating) (answer : Answer) (act : State → State × Answer) → p.edits.items ≡ es → seating_view p.seating ≡ seating → answer_view p.answer ≡ answer
@@ -51,6 +54,27 @@ forks_none p none = ap (list_all is_fork_edit) none
 -- a plan of one edit is not idle
 pub edits_some : (p : Planned) (e : Edit) → p.edits.items ≡ e ∷ [] → p.edits.items ≡ [] → ⊥
 edits_some p e edits none = cc
+
+-- ---- a plan of one edit, where a function may find no memory
+
+-- the edit is the one that does it
+pub told_edit : (rs : List Stored) (m : ℕ) (r : Result Planned Memory) (given e : Edit) (act : State → State × Answer) → IfOk r (λ p. p.edits.items ≡ given ∷ []) → IfOk r (λ p. p.seating ≡ seatings.Stay) → IfOk r (λ p. p.answer ≡ answers.Fine)
+    → given ≡ e → ((xs : List Session) → Does rs xs m (e ∷ []) Stay Fine act) → IfOk r (λ p. (xs : List Session) → DoesIt rs xs m p act)
+told_edit rs m (Ok p) given e act edits seats says same does = λ xs. told rs xs m p (e ∷ []) Stay Fine act (edits ∙ ap (λ k. k ∷ []) same) (ap seating_view seats) (ap answer_view says) (does xs)
+told_edit rs m (Err e) given edit act edits seats says same does = tt
+
+-- it makes a savepoint or a workspace
+pub forks_edit : (r : Result Planned Memory) (e : Edit) → IfOk r (λ p. p.edits.items ≡ e ∷ []) → is_fork_edit e ≡ true → IfOk r AreForks
+forks_edit (Ok p) e edits fork = forks_one p e edits fork
+forks_edit (Err memory) e edits fork = tt
+
+-- it is answered that it is done
+pub never_idle : (r : Result Planned Memory) → IfOk r (λ p. p.answer ≡ answers.Fine) → IfOk r Idles
+never_idle (Ok p) says = λ idle. absurd (apart (ap (λ a. is_idle (answer_view a)) (sym says) ∙ idle))
+  where
+    apart : false ≡ true → ⊥
+    apart e = cc
+never_idle (Err memory) says = tt
 
 -- a list of no length is empty, and one of some length is not
 pub none_counted : {A : Type 0} (xs : List A) → true ≡ (length xs == 0) → xs ≡ []

@@ -4,7 +4,7 @@ use Rattle.std.specs.Str.{bytes_eq}
 use Rattle.wm_graph.specs.Parts.{parts_of}
 use Rattle.wm_model.proofs.BearingLine.{bear_taken, bear_full, bear_crowded}
 use Rattle.wm_model.specs.Planning.{Stay}
-use Rattle.wm_model.specs.Saving.{implicit_of}
+use Rattle.wm_state.specs.Points.{implicit_of}
 use Rattle.wm_model.specs.Step.{create_workspace, savepoint_there, most_savepoints, most_workspaces}
 use Rattle.wm_spec.specs.declared.record.savepoint.Savepoint.{Savepoint}
 use Rattle.wm_state.specs.Standing.{saved_in}

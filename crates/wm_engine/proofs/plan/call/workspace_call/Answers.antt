@@ -5,8 +5,7 @@ use Rattle.wm_grammar.specs.declared.procedure.Parameter.TheVariants as paramete
 use Rattle.wm_grammar.specs.declared.procedure.Procedure.TheVariants as procedures
 use Rattle.wm_model.specs.Step.{call, create_workspace, is_name, names_no_workspace, bad_name, reserved_name, mistyped}
 use Rattle.wm_engine.proofs.Calling.{refused, workspace_lacks, workspace_bad, workspace_taken, workspace_mistyped, workspace_done}
-use Rattle.wm_engine.proofs.Forking.{few_nothing}
-use Rattle.wm_engine.proofs.Planning.{for_sessions}
+use Rattle.wm_engine.proofs.Planning.{for_sessions, forks_none}
 use Rattle.wm_engine.specs.Lacking.{lacks}
 use Rattle.wm_engine.specs.Views.{answer_view}
 use Rattle.wm_engine.proofs.plan.call.workspace_call.Goals as goal
@@ -17,7 +16,7 @@ returns-in_default-clause-does c = λ xs.
     c.lacking.ensures.edits c.lacking.ensures.seating (c.lacking.ensures.answer ∙ ap lacks c.in_ok-fault.ensures) c.requires.rules (λ s. workspace_lacks c.args.session.now c.args.args.now s (sym c.in_default.ensures))
 
 pub returns-in_default-clause-few : goal.returns-in_default-clause-few
-returns-in_default-clause-few c = few_nothing c.args.image.now c.lacking.result.changes c.lacking.ensures.edits
+returns-in_default-clause-few c = forks_none c.lacking.result c.lacking.ensures.edits
 
 pub returns-then-not-is_name-clause-does : goal.returns-then-not-is_name-clause-does
 returns-then-not-is_name-clause-does c = λ xs.

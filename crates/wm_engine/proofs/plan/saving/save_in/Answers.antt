@@ -8,7 +8,7 @@ use Rattle.wm_model.specs.Step.{create_savepoint, at_its_end, savepoint_there, m
 use Rattle.wm_spec.specs.declared.record.savepoint.Savepoint.{Savepoint}
 use Rattle.wm_state.specs.Standing.{saved_in}
 use Rattle.wm_engine.proofs.Planning.{told, some_of}
-use Rattle.wm_engine.proofs.Saving.{is_there, is_gone, savepoints_full, savepoints_few, at_end}
+use Rattle.wm_engine.proofs.Saving.{is_there, is_gone, savepoints_full, savepoints_few, last_place}
 use Rattle.wm_engine.specs.Views.{answer_view, seating_view}
 use Rattle.wm_engine.proofs.plan.saving.save_in.Goals as goal
 
@@ -31,15 +31,15 @@ returns-then-savepoint_count-ge-SAVEPOINT_LIMIT-clause-does c = λ xs workspace 
     (save_full c.args.image.now xs c.args.moment workspace c.args.name c.args.space.now saves (is_gone c.savepoint_named.result found (c.savepoint_named.ensures ∙ ap (λ (n : List ℕ). find (λ (x : Savepoint). bytes_eq n x.name) (saved_in (parts_of c.args.image.now) c.args.space.now.number)) c.as_bytes.ensures) c.if-is_some.ensures)
     (savepoints_full count c.savepoint_count.result c.savepoint_count.ensures c.if-savepoint_count-ge-SAVEPOINT_LIMIT.true))
 
-pub returns-in_default-clause-does : goal.returns-in_default-clause-does
-returns-in_default-clause-does c = λ xs workspace saves.
+pub returns-then-space-eq-MAX-clause-does : goal.returns-then-space-eq-MAX-clause-does
+returns-then-space-eq-MAX-clause-does c = λ xs workspace saves.
     let found = find (λ (x : Savepoint). bytes_eq c.args.name x.name) (saved_in (parts_of c.args.image.now) c.args.space.now.number) in
     let count = count_by (λ (x : Savepoint). x.space == c.args.space.now.number) (parts_of c.args.image.now).savepoints in
-    told c.args.image.now xs c.args.moment c.answered-in_default.result [] Stay (at_its_end (codes "PLACE")) (create_savepoint workspace c.args.name) c.answered-in_default.ensures.edits
-    (ap seating_view c.answered-in_default.ensures.seating) (ap answer_view c.answered-in_default.ensures.answer ∙ c.in_ok-at_its_end.ensures)
+    told c.args.image.now xs c.args.moment c.answered-then-space-eq-MAX.result [] Stay (at_its_end (codes "PLACE")) (create_savepoint workspace c.args.name) c.answered-then-space-eq-MAX.ensures.edits
+    (ap seating_view c.answered-then-space-eq-MAX.ensures.seating) (ap answer_view c.answered-then-space-eq-MAX.ensures.answer ∙ c.in_ok-at_its_end.ensures)
     (save_placeless c.args.image.now xs c.args.moment workspace c.args.name c.args.space.now saves
     (record {
       new = is_gone c.savepoint_named.result found (c.savepoint_named.ensures ∙ ap (λ (n : List ℕ). find (λ (x : Savepoint). bytes_eq n x.name) (saved_in (parts_of c.args.image.now) c.args.space.now.number)) c.as_bytes.ensures) c.if-is_some.ensures;
       few = savepoints_few count c.savepoint_count.result c.savepoint_count.ensures c.if-savepoint_count-ge-SAVEPOINT_LIMIT.false;
     })
-    (at_end (c.args.space.now.next_place + 1) c.in_default.ensures))
+    (last_place c.args.space.now.next_place c.if-space-eq-MAX.true))
