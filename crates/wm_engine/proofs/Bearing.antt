@@ -4,17 +4,18 @@ use Rattle.std.specs.Option.{option_copied, option_map}
 use Rattle.wm_base.specs.declared.memory.Memory.{Memory}
 use Rattle.wm_graph.specs.Parts.{Parts, parts_of}
 use Rattle.wm_model.specs.Planning.{Does, Stay}
-use Rattle.wm_model.specs.Saving.{MayBearIn}
+use Rattle.wm_model.specs.Saving.{BearsRoomy, MayBearIn}
 use Rattle.wm_model.specs.Step.{create_workspace, number_limit}
 use Rattle.wm_print.specs.Texts.{Fine}
 use Rattle.wm_spec.specs.declared.record.savepoint.Savepoint.{Savepoint}
 use Rattle.wm_spec.specs.declared.record.space.Space.{Space}
 use Rattle.wm_spec.specs.declared.record.stored.Stored.{Stored}
 use Rattle.wm_state.specs.Editing.{stand_of}
-use Rattle.wm_state.specs.Points.{point_at, saved_point}
-use Rattle.wm_state.specs.Standing.{saved_as}
-use Rattle.wm_state.specs.State.{Session, At}
+use Rattle.wm_state.specs.Points.{next_place_at, point_at, saved_point}
+use Rattle.wm_state.specs.Standing.{saved_as, space_after}
+use Rattle.wm_state.specs.State.{Session, Stand, At}
 use Rattle.wm_state.specs.declared.edit.Edit.TheVariants as edits
+use Rattle.wm_state.proofs.Tests.{bool_apart}
 use Rattle.wm_engine.proofs.Planning.{told}
 use Rattle.wm_engine.specs.Planning.{DoesIt}
 use Rattle.wm_engine.specs.Views.{answer_view, seating_view}
@@ -32,6 +33,11 @@ there_at p a making r found m = by_found r ∙ ap (λ (o : Option Savepoint). is
     by_found None = refl
     by_found (Some x) = refl
 
+-- nothing is found where nothing is there
+pub none_of : {A : Type 0} (o : Option A) → is_some o ≡ false → o ≡ None
+none_of None none = refl
+none_of (Some x) none = absurd (bool_apart none)
+
 -- ---- the numbers that are left
 
 pub number_left : (k n limit : ℕ) → n ≡ k → limit ≡ 4294967295 → n ≤ limit → nat_lt number_limit k ≡ false
@@ -39,6 +45,12 @@ number_left k n limit is most le = grind (arith, is, most, le)
 
 pub number_end : (k n limit : ℕ) → n ≡ k → limit ≡ 4294967295 → limit < n → nat_lt number_limit k ≡ true
 number_end k n limit is most lt = grind (arith, is, most, lt)
+
+-- nothing is at its end
+pub may_bear_in : (rs : List Stored) (session : Session) (name : List ℕ) (a : Space) (stand : Stand) → BearsRoomy rs session name a → stand ≡ session.stand → nat_lt number_limit (next_place_at a stand) ≡ false
+    → nat_lt number_limit (a.next_implicit + 1) ≡ false → nat_lt number_limit (space_after (parts_of rs).spaces) ≡ false → MayBearIn rs session name a
+may_bear_in rs session name a stand roomy stands places implicits numbers =
+    record { roomy = roomy; places = ap (λ x. nat_lt number_limit (next_place_at a x)) (sym stands) ∙ places; implicits = implicits; numbers = numbers }
 
 -- ---- the plan
 
