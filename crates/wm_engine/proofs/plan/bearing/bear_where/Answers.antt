@@ -19,13 +19,13 @@ returns-then-is_placeless-clause-does c = λ xs.
     (bear_placeless c.args.image.now xs c.args.moment c.args.session.now c.args.name c.args.space.now c.requires.roomy
     (ap (λ x. nat_lt number_limit (next_place_at c.args.space.now x)) (sym (c.place_of-at.ensures ∙ c.stand.ensures)) ∙ sym c.if-is_placeless.ensures))
 
-pub returns-then-space-eq-MAX-clause-does : goal.returns-then-space-eq-MAX-clause-does
-returns-then-space-eq-MAX-clause-does c = λ xs.
+pub returns-then-space-clause-does : goal.returns-then-space-clause-does
+returns-then-space-clause-does c = λ xs.
     let stands = c.place_of-at.ensures ∙ c.stand.ensures in
-    told c.args.image.now xs c.args.moment c.answered-then-space-eq-MAX.result [] Stay (at_its_end (codes "ICP")) (create_workspace c.args.session.now c.args.name) c.answered-then-space-eq-MAX.ensures.edits
-    (ap seating_view c.answered-then-space-eq-MAX.ensures.seating) (ap answer_view c.answered-then-space-eq-MAX.ensures.answer ∙ c.in_ok-at_its_end-2.ensures)
+    told c.args.image.now xs c.args.moment c.answered-then-space.result [] Stay (at_its_end (codes "ICP")) (create_workspace c.args.session.now c.args.name) c.answered-then-space.ensures.edits
+    (ap seating_view c.answered-then-space.ensures.seating) (ap answer_view c.answered-then-space.ensures.answer ∙ c.in_ok-at_its_end-2.ensures)
     (bear_nameless c.args.image.now xs c.args.moment c.args.session.now c.args.name c.args.space.now c.requires.roomy
-    (ap (λ x. nat_lt number_limit (next_place_at c.args.space.now x)) (sym stands) ∙ sym c.if-is_placeless.ensures) (last_place c.args.space.now.next_implicit c.if-space-eq-MAX.true))
+    (ap (λ x. nat_lt number_limit (next_place_at c.args.space.now x)) (sym stands) ∙ sym c.if-is_placeless.ensures) (last_place c.args.space.now.next_implicit c.if-space.true))
 
 pub returns-then-coming_space-gt-from-clause-does : goal.returns-then-coming_space-gt-from-clause-does
 returns-then-coming_space-gt-from-clause-does c = λ xs.
@@ -33,7 +33,7 @@ returns-then-coming_space-gt-from-clause-does c = λ xs.
     told c.args.image.now xs c.args.moment c.answered-then-coming_space-gt-from.result [] Stay (at_its_end (codes "WORKSPACE")) (create_workspace c.args.session.now c.args.name) c.answered-then-coming_space-gt-from.ensures.edits
     (ap seating_view c.answered-then-coming_space-gt-from.ensures.seating) (ap answer_view c.answered-then-coming_space-gt-from.ensures.answer ∙ c.in_ok-at_its_end-3.ensures)
     (bear_numberless c.args.image.now xs c.args.moment c.args.session.now c.args.name c.args.space.now c.requires.roomy
-    (ap (λ x. nat_lt number_limit (next_place_at c.args.space.now x)) (sym stands) ∙ sym c.if-is_placeless.ensures) (place_left c.args.space.now.next_implicit c.ranges.next_implicit.fits c.if-space-eq-MAX.false)
+    (ap (λ x. nat_lt number_limit (next_place_at c.args.space.now x)) (sym stands) ∙ sym c.if-is_placeless.ensures) (place_left c.args.space.now.next_implicit c.ranges.next_implicit.fits c.if-space.false)
     (number_end (space_after (parts_of c.args.image.now).spaces) c.coming_space.result c.from.result c.coming_space.ensures c.from.ensures c.if-coming_space-gt-from.true))
 
 pub returns-then-not-is_there-clause-does : goal.returns-then-not-is_there-clause-does
@@ -43,7 +43,7 @@ returns-then-not-is_there-clause-does c = λ xs.
     (ap seating_view c.answered-then-not-is_there.ensures.seating) (ap answer_view c.answered-then-not-is_there.ensures.answer ∙ c.not_built.ensures)
     (bear_nowhere c.args.image.now xs c.args.moment c.args.session.now c.args.name c.args.space.now
     (may_bear_in c.args.image.now c.args.session.now c.args.name c.args.space.now (stand_of c.place_of-at.result) c.requires.roomy stands (sym c.if-is_placeless.ensures)
-    (place_left c.args.space.now.next_implicit c.ranges.next_implicit.fits c.if-space-eq-MAX.false)
+    (place_left c.args.space.now.next_implicit c.ranges.next_implicit.fits c.if-space.false)
     (number_left (space_after (parts_of c.args.image.now).spaces) c.coming_space.result c.from.result c.coming_space.ensures c.from.ensures c.if-coming_space-gt-from.false))
     (ap (point_at (parts_of c.args.image.now) c.args.space.now c.args.moment) (sym stands)
     ∙ none_of (point_at (parts_of c.args.image.now) c.args.space.now c.args.moment (stand_of c.place_of-at.result)) (sym (c.if-not-is_there.ensures c.args.moment))))
@@ -56,6 +56,6 @@ returns-clause-does c =
     let stands = c.place_of-at.ensures ∙ c.stand.ensures in
     bears_as c.args.image.now c.args.moment c.bear.result c.args.session.now c.args.name c.args.space.now c.place_of-at.result
     (may_bear_in c.args.image.now c.args.session.now c.args.name c.args.space.now (stand_of c.place_of-at.result) c.requires.roomy stands (sym c.if-is_placeless.ensures)
-    (place_left c.args.space.now.next_implicit c.ranges.next_implicit.fits c.if-space-eq-MAX.false)
+    (place_left c.args.space.now.next_implicit c.ranges.next_implicit.fits c.if-space.false)
     (number_left (space_after (parts_of c.args.image.now).spaces) c.coming_space.result c.from.result c.coming_space.ensures c.from.ensures c.if-coming_space-gt-from.false))
     stands c.bear.ensures.does

@@ -31,15 +31,15 @@ returns-then-savepoint_count-ge-SAVEPOINT_LIMIT-clause-does c = λ xs workspace 
     (save_full c.args.image.now xs c.args.moment workspace c.args.name c.args.space.now saves (is_gone c.savepoint_named.result found (c.savepoint_named.ensures ∙ ap (λ (n : List ℕ). find (λ (x : Savepoint). bytes_eq n x.name) (saved_in (parts_of c.args.image.now) c.args.space.now.number)) c.as_bytes.ensures) c.if-is_some.ensures)
     (savepoints_full count c.savepoint_count.result c.savepoint_count.ensures c.if-savepoint_count-ge-SAVEPOINT_LIMIT.true))
 
-pub returns-then-space-eq-MAX-clause-does : goal.returns-then-space-eq-MAX-clause-does
-returns-then-space-eq-MAX-clause-does c = λ xs workspace saves.
+pub returns-then-space-clause-does : goal.returns-then-space-clause-does
+returns-then-space-clause-does c = λ xs workspace saves.
     let found = find (λ (x : Savepoint). bytes_eq c.args.name x.name) (saved_in (parts_of c.args.image.now) c.args.space.now.number) in
     let count = count_by (λ (x : Savepoint). x.space == c.args.space.now.number) (parts_of c.args.image.now).savepoints in
-    told c.args.image.now xs c.args.moment c.answered-then-space-eq-MAX.result [] Stay (at_its_end (codes "PLACE")) (create_savepoint workspace c.args.name) c.answered-then-space-eq-MAX.ensures.edits
-    (ap seating_view c.answered-then-space-eq-MAX.ensures.seating) (ap answer_view c.answered-then-space-eq-MAX.ensures.answer ∙ c.in_ok-at_its_end.ensures)
+    told c.args.image.now xs c.args.moment c.answered-then-space.result [] Stay (at_its_end (codes "PLACE")) (create_savepoint workspace c.args.name) c.answered-then-space.ensures.edits
+    (ap seating_view c.answered-then-space.ensures.seating) (ap answer_view c.answered-then-space.ensures.answer ∙ c.in_ok-at_its_end.ensures)
     (save_placeless c.args.image.now xs c.args.moment workspace c.args.name c.args.space.now saves
     (record {
       new = is_gone c.savepoint_named.result found (c.savepoint_named.ensures ∙ ap (λ (n : List ℕ). find (λ (x : Savepoint). bytes_eq n x.name) (saved_in (parts_of c.args.image.now) c.args.space.now.number)) c.as_bytes.ensures) c.if-is_some.ensures;
       few = savepoints_few count c.savepoint_count.result c.savepoint_count.ensures c.if-savepoint_count-ge-SAVEPOINT_LIMIT.false;
     })
-    (last_place c.args.space.now.next_place c.if-space-eq-MAX.true))
+    (last_place c.args.space.now.next_place c.if-space.true))
