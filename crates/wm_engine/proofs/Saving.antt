@@ -1,5 +1,5 @@
 -- What is told of the plan by which a savepoint is made.
-use Rattle.std.proofs.Common.{◌≡◌, ◌≢◌, ℕ, ◌+◌, ◌<◌, ◌≤◌, ◌^◌, ◌==◌, nat_lt, nat_le, true, false, List, [], ◌∷◌, Option, Some, None, is_some, Bor, Result, Ok, Err, IfOk, refl, sym, ap, subst, arith}
+use Rattle.std.proofs.Common.{◌≡◌, ℕ, ◌<◌, ◌≤◌, ◌==◌, nat_le, true, false, List, [], ◌∷◌, Option, Some, None, is_some, Bor, Result, Ok, Err, IfOk, refl, sym, ap, subst, arith}
 use Rattle.std.proofs.lemmas.Bool.{eq-eqb}
 use Rattle.std.specs.List.{find}
 use Rattle.std.specs.Option.{option_copied}
@@ -9,7 +9,7 @@ use Rattle.wm_graph.specs.Parts.{parts_of, space_of}
 use Rattle.wm_graph.specs.Rules.{keep_rules}
 use Rattle.wm_model.specs.Planning.{Does, Stay}
 use Rattle.wm_model.specs.Saving.{SavesIn}
-use Rattle.wm_model.specs.Step.{create_savepoint, number_limit}
+use Rattle.wm_model.specs.Step.{create_savepoint}
 use Rattle.wm_print.specs.Texts.{Fine}
 use Rattle.wm_spec.specs.declared.record.space.Space.{Space}
 use Rattle.wm_spec.specs.declared.record.stored.Stored.{Stored}
@@ -24,16 +24,6 @@ use Rattle.wm_engine.specs.Views.{answer_view, seating_view}
 use Rattle.wm_engine.specs.declared.answer.Answer.TheVariants as answers
 use Rattle.wm_engine.specs.declared.planned.Planned.{Planned}
 use Rattle.wm_engine.specs.declared.seating.Seating.TheVariants as seatings
-
--- ---- the numbers that are left
-
--- the greatest number of four bytes has no next
-pub last_place : (n : ℕ) → n ≡ number_limit → nat_lt number_limit (n + 1) ≡ true
-last_place n is = grind (arith, is)
-
--- each other has one
-pub place_left : (n : ℕ) → n < 2 ^ 32 → n ≢ number_limit → nat_lt number_limit (n + 1) ≡ false
-place_left n fits other = grind (arith, fits, other)
 
 -- ---- what was looked up
 

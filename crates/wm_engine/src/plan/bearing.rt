@@ -1,5 +1,5 @@
 //! CreateWorkspace.
-ghost use Rattle.std.specs.Prelude.{◌≡◌, ◌<◌, ◌+◌, ◌++◌, nat_lt, is_some, ℕ, List, true, IfOk};
+ghost use Rattle.std.specs.Prelude.{◌≡◌, ◌<◌, ◌+◌, ◌++◌, nat_lt, is_some, ℕ, List, true, false, IfOk};
 ghost use Rattle.std.specs.Fmt.{decimal};
 ghost use Rattle.wm_base.specs.declared.instant.TheConstants.{END};
 ghost use Rattle.wm_engine.specs.Forks.{AreForks};
@@ -16,7 +16,7 @@ ghost use Rattle.wm_state.specs.Standing.{space_after};
 ghost use Rattle.wm_state.specs.State.{Session as SessionState};
 
 use crate::answer::Answer;
-use crate::plan::saving::SAVEPOINT_LIMIT;
+use crate::plan::saving::{SAVEPOINT_LIMIT, is_last};
 use crate::planned::Planned;
 use crate::refuse::{
     at_its_end, most_savepoints, most_workspaces, not_built, savepoint_there, workspace_there,
@@ -74,7 +74,8 @@ fn is_there(image: &Image, space: &Space, at: Option<u64>) -> bool
 fn is_placeless(space: &Space, at: Option<u64>) -> bool
     ensures { result ≡ nat_lt number_limit (next_place_at space.now (stand_of at)) }
 {
-    at.is_none() && space.next_place == u32::MAX
+    let next = space.next_place;
+    at.is_none() && is_last(next)
 }
 
 /// A workspace is born where one stands in another, unless the work is at its end.
@@ -123,7 +124,7 @@ fn bear_where(
     if is_placeless(space, at) {
         return Ok(Planned::answered(alloc, at_its_end(alloc, b"PLACE")?));
     }
-    if space.next_implicit == u32::MAX {
+    if is_last(space.next_implicit) {
         return Ok(Planned::answered(alloc, at_its_end(alloc, b"ICP")?));
     }
     if coming_space(image) > u64::from(u32::MAX) {

@@ -24,6 +24,13 @@ use wm_state::edit::Edit;
 /// The most savepoints of a workspace.
 pub const SAVEPOINT_LIMIT: usize = 4_096;
 
+/// Whether a number has no next.
+pub fn is_last(number: u32) -> bool
+    ensures { result ≡ nat_lt number_limit (number + 1) }
+{
+    number == u32::MAX
+}
+
 /// Keeps what is newest in a workspace under a new name.
 fn save(
     alloc: Global,
@@ -77,7 +84,7 @@ fn save_in(
     if image.savepoint_count(space.number) >= SAVEPOINT_LIMIT {
         return Ok(Planned::answered(alloc, most_savepoints()));
     }
-    if space.next_place == u32::MAX {
+    if is_last(space.next_place) {
         return Ok(Planned::answered(alloc, at_its_end(alloc, b"PLACE")?));
     }
     save(alloc, image, moment, space, name)

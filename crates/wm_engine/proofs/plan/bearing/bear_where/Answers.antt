@@ -8,7 +8,6 @@ use Rattle.wm_state.specs.Points.{next_place_at, point_at}
 use Rattle.wm_state.specs.Standing.{space_after}
 use Rattle.wm_engine.proofs.Bearing.{may_bear_in, number_end, number_left, none_of, bears_as}
 use Rattle.wm_engine.proofs.Planning.{told}
-use Rattle.wm_engine.proofs.Saving.{last_place, place_left}
 use Rattle.wm_engine.specs.Views.{answer_view, seating_view}
 use Rattle.wm_engine.proofs.plan.bearing.bear_where.Goals as goal
 
@@ -19,22 +18,22 @@ returns-then-is_placeless-clause-does c = λ xs.
     (bear_placeless c.args.image.now xs c.args.moment c.args.session.now c.args.name c.args.space.now c.requires.roomy
     (ap (λ x. nat_lt number_limit (next_place_at c.args.space.now x)) (sym (c.place_of-at.ensures ∙ c.stand.ensures)) ∙ sym c.if-is_placeless.ensures))
 
-pub returns-then-space-clause-does : goal.returns-then-space-clause-does
-returns-then-space-clause-does c = λ xs.
+pub returns-then-is_last-clause-does : goal.returns-then-is_last-clause-does
+returns-then-is_last-clause-does c = λ xs.
     let stands = c.place_of-at.ensures ∙ c.stand.ensures in
-    told c.args.image.now xs c.args.moment c.answered-then-space.result [] Stay (at_its_end (codes "ICP")) (create_workspace c.args.session.now c.args.name) c.answered-then-space.ensures.edits
-    (ap seating_view c.answered-then-space.ensures.seating) (ap answer_view c.answered-then-space.ensures.answer ∙ c.in_ok-at_its_end-2.ensures)
+    told c.args.image.now xs c.args.moment c.answered-then-is_last.result [] Stay (at_its_end (codes "ICP")) (create_workspace c.args.session.now c.args.name) c.answered-then-is_last.ensures.edits
+    (ap seating_view c.answered-then-is_last.ensures.seating) (ap answer_view c.answered-then-is_last.ensures.answer ∙ c.in_ok-at_its_end-2.ensures)
     (bear_nameless c.args.image.now xs c.args.moment c.args.session.now c.args.name c.args.space.now c.requires.roomy
-    (ap (λ x. nat_lt number_limit (next_place_at c.args.space.now x)) (sym stands) ∙ sym c.if-is_placeless.ensures) (last_place c.args.space.now.next_implicit c.if-space.true))
+    (ap (λ x. nat_lt number_limit (next_place_at c.args.space.now x)) (sym stands) ∙ sym c.if-is_placeless.ensures) (sym c.if-is_last.ensures))
 
-pub returns-then-coming_space-gt-from-clause-does : goal.returns-then-coming_space-gt-from-clause-does
-returns-then-coming_space-gt-from-clause-does c = λ xs.
+pub returns-then-coming_space-from-clause-does : goal.returns-then-coming_space-from-clause-does
+returns-then-coming_space-from-clause-does c = λ xs.
     let stands = c.place_of-at.ensures ∙ c.stand.ensures in
-    told c.args.image.now xs c.args.moment c.answered-then-coming_space-gt-from.result [] Stay (at_its_end (codes "WORKSPACE")) (create_workspace c.args.session.now c.args.name) c.answered-then-coming_space-gt-from.ensures.edits
-    (ap seating_view c.answered-then-coming_space-gt-from.ensures.seating) (ap answer_view c.answered-then-coming_space-gt-from.ensures.answer ∙ c.in_ok-at_its_end-3.ensures)
+    told c.args.image.now xs c.args.moment c.answered-then-coming_space-from.result [] Stay (at_its_end (codes "WORKSPACE")) (create_workspace c.args.session.now c.args.name) c.answered-then-coming_space-from.ensures.edits
+    (ap seating_view c.answered-then-coming_space-from.ensures.seating) (ap answer_view c.answered-then-coming_space-from.ensures.answer ∙ c.in_ok-at_its_end-3.ensures)
     (bear_numberless c.args.image.now xs c.args.moment c.args.session.now c.args.name c.args.space.now c.requires.roomy
-    (ap (λ x. nat_lt number_limit (next_place_at c.args.space.now x)) (sym stands) ∙ sym c.if-is_placeless.ensures) (place_left c.args.space.now.next_implicit c.ranges.next_implicit.fits c.if-space.false)
-    (number_end (space_after (parts_of c.args.image.now).spaces) c.coming_space.result c.from.result c.coming_space.ensures c.from.ensures c.if-coming_space-gt-from.true))
+    (ap (λ x. nat_lt number_limit (next_place_at c.args.space.now x)) (sym stands) ∙ sym c.if-is_placeless.ensures) (sym c.if-is_last.ensures)
+    (number_end (space_after (parts_of c.args.image.now).spaces) c.coming_space.result c.from.result c.coming_space.ensures c.from.ensures c.if-coming_space-from.true))
 
 pub returns-then-not-is_there-clause-does : goal.returns-then-not-is_there-clause-does
 returns-then-not-is_there-clause-does c = λ xs.
@@ -43,8 +42,8 @@ returns-then-not-is_there-clause-does c = λ xs.
     (ap seating_view c.answered-then-not-is_there.ensures.seating) (ap answer_view c.answered-then-not-is_there.ensures.answer ∙ c.not_built.ensures)
     (bear_nowhere c.args.image.now xs c.args.moment c.args.session.now c.args.name c.args.space.now
     (may_bear_in c.args.image.now c.args.session.now c.args.name c.args.space.now (stand_of c.place_of-at.result) c.requires.roomy stands (sym c.if-is_placeless.ensures)
-    (place_left c.args.space.now.next_implicit c.ranges.next_implicit.fits c.if-space.false)
-    (number_left (space_after (parts_of c.args.image.now).spaces) c.coming_space.result c.from.result c.coming_space.ensures c.from.ensures c.if-coming_space-gt-from.false))
+    (sym c.if-is_last.ensures)
+    (number_left (space_after (parts_of c.args.image.now).spaces) c.coming_space.result c.from.result c.coming_space.ensures c.from.ensures c.if-coming_space-from.false))
     (ap (point_at (parts_of c.args.image.now) c.args.space.now c.args.moment) (sym stands)
     ∙ none_of (point_at (parts_of c.args.image.now) c.args.space.now c.args.moment (stand_of c.place_of-at.result)) (sym (c.if-not-is_there.ensures c.args.moment))))
 
@@ -56,6 +55,6 @@ returns-clause-does c =
     let stands = c.place_of-at.ensures ∙ c.stand.ensures in
     bears_as c.args.image.now c.args.moment c.bear.result c.args.session.now c.args.name c.args.space.now c.place_of-at.result
     (may_bear_in c.args.image.now c.args.session.now c.args.name c.args.space.now (stand_of c.place_of-at.result) c.requires.roomy stands (sym c.if-is_placeless.ensures)
-    (place_left c.args.space.now.next_implicit c.ranges.next_implicit.fits c.if-space.false)
-    (number_left (space_after (parts_of c.args.image.now).spaces) c.coming_space.result c.from.result c.coming_space.ensures c.from.ensures c.if-coming_space-gt-from.false))
+    (sym c.if-is_last.ensures)
+    (number_left (space_after (parts_of c.args.image.now).spaces) c.coming_space.result c.from.result c.coming_space.ensures c.from.ensures c.if-coming_space-from.false))
     stands c.bear.ensures.does

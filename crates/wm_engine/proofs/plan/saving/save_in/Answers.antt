@@ -1,4 +1,4 @@
-use Rattle.std.proofs.Common.{◌+◌, ◌==◌, ℕ, List, [], ap, ◌∙◌, codes}
+use Rattle.std.proofs.Common.{◌+◌, ◌==◌, ℕ, List, [], sym, ap, ◌∙◌, codes}
 use Rattle.std.specs.List.{find, count_by}
 use Rattle.std.specs.Str.{bytes_eq}
 use Rattle.wm_graph.specs.Parts.{parts_of}
@@ -8,7 +8,7 @@ use Rattle.wm_model.specs.Step.{create_savepoint, at_its_end, savepoint_there, m
 use Rattle.wm_spec.specs.declared.record.savepoint.Savepoint.{Savepoint}
 use Rattle.wm_state.specs.Standing.{saved_in}
 use Rattle.wm_engine.proofs.Planning.{told, some_of}
-use Rattle.wm_engine.proofs.Saving.{is_there, is_gone, savepoints_full, savepoints_few, last_place}
+use Rattle.wm_engine.proofs.Saving.{is_there, is_gone, savepoints_full, savepoints_few}
 use Rattle.wm_engine.specs.Views.{answer_view, seating_view}
 use Rattle.wm_engine.proofs.plan.saving.save_in.Goals as goal
 
@@ -31,15 +31,15 @@ returns-then-savepoint_count-ge-SAVEPOINT_LIMIT-clause-does c = λ xs workspace 
     (save_full c.args.image.now xs c.args.moment workspace c.args.name c.args.space.now saves (is_gone c.savepoint_named.result found (c.savepoint_named.ensures ∙ ap (λ (n : List ℕ). find (λ (x : Savepoint). bytes_eq n x.name) (saved_in (parts_of c.args.image.now) c.args.space.now.number)) c.as_bytes.ensures) c.if-is_some.ensures)
     (savepoints_full count c.savepoint_count.result c.savepoint_count.ensures c.if-savepoint_count-ge-SAVEPOINT_LIMIT.true))
 
-pub returns-then-space-clause-does : goal.returns-then-space-clause-does
-returns-then-space-clause-does c = λ xs workspace saves.
+pub returns-then-is_last-clause-does : goal.returns-then-is_last-clause-does
+returns-then-is_last-clause-does c = λ xs workspace saves.
     let found = find (λ (x : Savepoint). bytes_eq c.args.name x.name) (saved_in (parts_of c.args.image.now) c.args.space.now.number) in
     let count = count_by (λ (x : Savepoint). x.space == c.args.space.now.number) (parts_of c.args.image.now).savepoints in
-    told c.args.image.now xs c.args.moment c.answered-then-space.result [] Stay (at_its_end (codes "PLACE")) (create_savepoint workspace c.args.name) c.answered-then-space.ensures.edits
-    (ap seating_view c.answered-then-space.ensures.seating) (ap answer_view c.answered-then-space.ensures.answer ∙ c.in_ok-at_its_end.ensures)
+    told c.args.image.now xs c.args.moment c.answered-then-is_last.result [] Stay (at_its_end (codes "PLACE")) (create_savepoint workspace c.args.name) c.answered-then-is_last.ensures.edits
+    (ap seating_view c.answered-then-is_last.ensures.seating) (ap answer_view c.answered-then-is_last.ensures.answer ∙ c.in_ok-at_its_end.ensures)
     (save_placeless c.args.image.now xs c.args.moment workspace c.args.name c.args.space.now saves
     (record {
       new = is_gone c.savepoint_named.result found (c.savepoint_named.ensures ∙ ap (λ (n : List ℕ). find (λ (x : Savepoint). bytes_eq n x.name) (saved_in (parts_of c.args.image.now) c.args.space.now.number)) c.as_bytes.ensures) c.if-is_some.ensures;
       few = savepoints_few count c.savepoint_count.result c.savepoint_count.ensures c.if-savepoint_count-ge-SAVEPOINT_LIMIT.false;
     })
-    (last_place c.args.space.now.next_place c.if-space.true))
+    (sym c.if-is_last.ensures))
