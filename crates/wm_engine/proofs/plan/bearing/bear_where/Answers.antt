@@ -1,4 +1,4 @@
-use Rattle.std.proofs.Common.{◌≡◌, ◌+◌, nat_lt, true, false, None, [], sym, ap, ◌∙◌, codes}
+use Rattle.std.proofs.Common.{nat_lt, [], sym, ap, ◌∙◌, codes}
 use Rattle.wm_graph.specs.Parts.{parts_of}
 use Rattle.wm_model.proofs.BearingLine.{bear_placeless, bear_nameless, bear_numberless, bear_nowhere}
 use Rattle.wm_model.specs.Planning.{Stay}

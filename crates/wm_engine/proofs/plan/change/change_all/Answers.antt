@@ -11,6 +11,9 @@ use Rattle.wm_engine.proofs.Moving.{moved_filled}
 use Rattle.wm_engine.specs.Changing.{is_filled_change}
 use Rattle.wm_engine.proofs.plan.change.change_all.Goals as goal
 
+pub move_all-requires-clause-fit : goal.move_all-requires-clause-fit
+move_all-requires-clause-fit c = c.in_ok-moves.ensures.fit c.requires.may_replace.stand
+
 pub move_all-requires-clause-filled : goal.move_all-requires-clause-filled
 move_all-requires-clause-filled c =
     ap (list_all (λ (m : Move). is_filled_change (moved_row m))) c.in_ok-moves.ensures.exact
@@ -24,6 +27,9 @@ returns-then-sets_period-clause-does c =
     changes_moved c.args.session.now.user c.args.table.now c.args.within.now (sets_view c.args.sets.now) c.args.rows.now c.args.news.items s w (sym c.if-sets_period.ensures)
     ∙ ap (λ ms. move_all c.args.session.now.user c.args.table.now ms s w) (sym c.in_ok-moves.ensures.exact))
     c.move_all.ensures.does
+
+pub write_all-requires-clause-fit : goal.write_all-requires-clause-fit
+write_all-requires-clause-fit c = c.in_ok-changes.ensures.fit c.requires.may_replace.stand
 
 pub write_all-requires-clause-last : goal.write_all-requires-clause-last
 write_all-requires-clause-last c = c.in_ok-changes.ensures.lasting c.requires.stand

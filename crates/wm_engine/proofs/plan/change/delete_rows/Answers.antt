@@ -17,6 +17,9 @@ returns-then-not-are_filled-clause-does c =
     (λ s w. kept_empty c.args.rows.now (λ kept. write_ascending user t (length kept) (map (gone t c.args.within.now) kept)) s w (sym c.if-not-are_filled.ensures)) c.answered.ensures.edits (ap seating_view c.answered.ensures.seating)
     (ap answer_view c.answered.ensures.answer ∙ c.not_built.ensures)
 
+pub write_all-requires-clause-fit : goal.write_all-requires-clause-fit
+write_all-requires-clause-fit c = c.in_ok-changes.ensures.fit (keyed_stand c.args.table.now c.args.rows.now c.requires.keyed (sym c.if-not-are_filled.ensures))
+
 pub write_all-requires-clause-last : goal.write_all-requires-clause-last
 write_all-requires-clause-last c = c.in_ok-changes.ensures.lasting (keyed_stand c.args.table.now c.args.rows.now c.requires.keyed (sym c.if-not-are_filled.ensures))
 

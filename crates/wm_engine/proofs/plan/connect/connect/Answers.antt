@@ -1,8 +1,8 @@
-use Rattle.std.proofs.Common.{◌≡◌, ℕ, ◌<◌, ◌≤◌, ◌&&◌, nat_le, Bool, true, false, List, [], None, refl, sym, ap, ◌∙◌, arith}
+use Rattle.std.proofs.Common.{◌≡◌, ℕ, ◌<◌, ◌≤◌, nat_le, true, false, [], None, refl, sym, ap, ◌∙◌, arith}
 use Rattle.std.proofs.lemmas.Bool.Decides.{nat_tests}
 use Rattle.wm_model.proofs.Seating.{connect_there, connect_unnamed, connect_full, does_connect}
 use Rattle.wm_model.specs.Planning.{Stay, Open}
-use Rattle.wm_model.specs.Step.{connect, is_name, session_there, bad_name, most_sessions}
+use Rattle.wm_model.specs.Step.{connect, session_there, bad_name, most_sessions}
 use Rattle.wm_print.specs.Texts.{Fine}
 use Rattle.wm_state.specs.State.{Latest}
 use Rattle.wm_engine.proofs.Planning.{told}

@@ -19,6 +19,9 @@ returns-in-Some-clause-does c =
     (c.latest-version.ensures ∙ ap (latest (parts_of c.args.image.now)) c.space.ensures) c.in_ok-shared.ensures (ap (λ x. x.key) c.in_ok-change.ensures) c.in-Some.is c.answered.ensures.edits (ap seating_view c.answered.ensures.seating)
     (ap answer_view c.answered.ensures.answer ∙ c.key_there.ensures ∙ ap (key_there c.in_ok-change.change.key) c.told_period-told.ensures)
 
+pub write_all-requires-clause-fit : goal.write_all-requires-clause-fit
+write_all-requires-clause-fit c = ap (list_all (is_change c.args.table.now)) (c.in_ok-changes.ensures ∙ ap (λ x. x ∷ []) c.in_ok-change.ensures) ∙ added_fits c.args.table.now c.args.period c.args.row c.requires.keyed
+
 pub write_all-requires-clause-last : goal.write_all-requires-clause-last
 write_all-requires-clause-last c = ap (list_all change_lasts) (c.in_ok-changes.ensures ∙ ap (λ x. x ∷ []) c.in_ok-change.ensures) ∙ added_lasts c.args.table.now c.args.period c.args.row c.till-till.ensures.order c.till-till.ensures.bound
 

@@ -1,4 +1,4 @@
-use Rattle.std.proofs.Common.{◌+◌, ◌==◌, ℕ, List, [], sym, ap, ◌∙◌, codes}
+use Rattle.std.proofs.Common.{◌==◌, ℕ, List, [], sym, ap, ◌∙◌, codes}
 use Rattle.std.specs.List.{find, count_by}
 use Rattle.std.specs.Str.{bytes_eq}
 use Rattle.wm_graph.specs.Parts.{parts_of}

@@ -1,4 +1,4 @@
-use Rattle.std.proofs.Common.{ℕ, List, [], true, false, None, Some, sym, ap, subst, ◌∙◌}
+use Rattle.std.proofs.Common.{ℕ, List, [], false, None, Some, sym, ap, subst, ◌∙◌}
 use Rattle.wm_base.specs.declared.tree.query.Src.{Src as SrcNode}
 use Rattle.wm_base.specs.Views.{filter_view, query_view, srcs_view}
 use Rattle.wm_graph.specs.Parts.{parts_of, space_of}
