@@ -1,19 +1,17 @@
 -- What is told of the plan by which a workspace is born.
-use Rattle.std.proofs.Common.{◌≡◌, ℕ, ◌+◌, ◌<◌, ◌≤◌, nat_lt, true, false, List, [], ◌∷◌, Option, Some, None, is_some, Bor, Result, Ok, Err, IfOk, refl, sym, ap, ◌∙◌, arith}
-use Rattle.std.specs.Option.{option_copied, option_map}
+use Rattle.std.proofs.Common.{◌≡◌, ℕ, ◌+◌, ◌<◌, ◌≤◌, nat_lt, true, false, List, [], ◌∷◌, Option, Some, None, is_some, Result, Ok, Err, IfOk, refl, sym, ap, ◌∙◌, arith}
 use Rattle.wm_base.specs.declared.memory.Memory.{Memory}
-use Rattle.wm_graph.specs.Parts.{Parts, parts_of}
+use Rattle.wm_graph.specs.Parts.{parts_of}
 use Rattle.wm_model.specs.Planning.{Does, Stay}
 use Rattle.wm_model.specs.Saving.{BearsRoomy, MayBearIn}
 use Rattle.wm_model.specs.Step.{create_workspace, number_limit}
 use Rattle.wm_print.specs.Texts.{Fine}
-use Rattle.wm_spec.specs.declared.record.savepoint.Savepoint.{Savepoint}
 use Rattle.wm_spec.specs.declared.record.space.Space.{Space}
 use Rattle.wm_spec.specs.declared.record.stored.Stored.{Stored}
 use Rattle.wm_state.specs.Editing.{stand_of}
-use Rattle.wm_state.specs.Points.{next_place_at, point_at, saved_point}
-use Rattle.wm_state.specs.Standing.{saved_as, space_after}
-use Rattle.wm_state.specs.State.{Session, Stand, At}
+use Rattle.wm_state.specs.Points.{next_place_at}
+use Rattle.wm_state.specs.Standing.{space_after}
+use Rattle.wm_state.specs.State.{Session, Stand}
 use Rattle.wm_state.specs.declared.edit.Edit.TheVariants as edits
 use Rattle.wm_state.proofs.Tests.{bool_apart}
 use Rattle.wm_engine.proofs.Planning.{told}
@@ -25,14 +23,6 @@ use Rattle.wm_engine.specs.declared.seating.Seating.TheVariants as seatings
 
 -- ---- where one stands
 
--- a savepoint that is found is a place to stand at
-pub there_at : (p : Parts) (a : Space) (making : ℕ) (r : Option (Bor Savepoint)) → option_copied r ≡ saved_as p a.number making → (m : ℕ) → is_some r ≡ is_some (point_at p a m (At making))
-there_at p a making r found m = by_found r ∙ ap (λ (o : Option Savepoint). is_some (option_map saved_point o)) found
-  where
-    by_found : (r : Option (Bor Savepoint)) → is_some r ≡ is_some (option_map saved_point (option_copied r))
-    by_found None = refl
-    by_found (Some x) = refl
-
 -- nothing is found where nothing is there
 pub none_of : {A : Type 0} (o : Option A) → is_some o ≡ false → o ≡ None
 none_of None none = refl
@@ -40,9 +30,11 @@ none_of (Some x) none = absurd (bool_apart none)
 
 -- ---- the numbers that are left
 
+-- a number is one that a workspace may have
 pub number_left : (k n limit : ℕ) → n ≡ k → limit ≡ 4294967295 → n ≤ limit → nat_lt number_limit k ≡ false
 number_left k n limit is most le = grind (arith, is, most, le)
 
+-- or above all such
 pub number_end : (k n limit : ℕ) → n ≡ k → limit ≡ 4294967295 → limit < n → nat_lt number_limit k ≡ true
 number_end k n limit is most lt = grind (arith, is, most, lt)
 

@@ -2,18 +2,10 @@
 use Rattle.std.proofs.Common.{◌≡◌, ℕ, suc, ◌<◌, nat_lt, true, false, ◌==◌, List, [], ◌∷◌, length, Option, Some, None, is_some, Result, Ok, Err, IfOk, refl, sym, ap, ◌∙◌, arith}
 use Rattle.std.proofs.lemmas.Bool.Decides.{nat_tests}
 use Rattle.std.specs.List.{list_all}
-use Rattle.std.specs.Option.{option_and_then, option_to_list}
 use Rattle.wm_base.specs.declared.memory.Memory.{Memory}
 use Rattle.wm_base.specs.declared.instant.TheConstants.{END}
-use Rattle.wm_graph.specs.Parts.{parts_of, as_counters, as_table}
-use Rattle.wm_graph.specs.Rules.{keep_rules}
 use Rattle.wm_print.specs.Texts.{Answer, Fine}
-use Rattle.wm_spec.specs.Records.{record_at}
-use Rattle.wm_spec.specs.declared.record.Record.{Record}
-use Rattle.wm_spec.specs.declared.record.Record.TheVariants as records
-use Rattle.wm_spec.specs.declared.record.counters.Counters.{Counters}
 use Rattle.wm_spec.specs.declared.record.stored.Stored.{Stored}
-use Rattle.wm_spec.specs.declared.record.table.Table.{Table}
 use Rattle.wm_state.specs.State.{State, Session}
 use Rattle.wm_state.specs.declared.edit.Edit.{Edit}
 use Rattle.wm_model.specs.Planning.{StandsAt, Does, DoesAt, Seating, Stay}
@@ -50,10 +42,6 @@ forks_one p e edits fork = ap (list_all is_fork_edit) edits ∙ rw fork refl
 
 pub forks_none : (p : Planned) → p.edits.items ≡ [] → AreForks p
 forks_none p none = ap (list_all is_fork_edit) none
-
--- a plan of one edit is not idle
-pub edits_some : (p : Planned) (e : Edit) → p.edits.items ≡ e ∷ [] → p.edits.items ≡ [] → ⊥
-edits_some p e edits none = cc
 
 -- ---- a plan of one edit, where a function may find no memory
 
@@ -92,36 +80,6 @@ some_counted (x ∷ xs) e none = cc
 pub early : (m : ℕ) → m < END → nat_lt m END ≡ true
 early m lt = grind (arith, nat_tests, lt)
 
--- the id of the counters has them
-pub counters_at : (c : Counters) (cs : List Counters) (o : Option Record) → cs ≡ c ∷ [] → cs ≡ option_to_list (option_and_then as_counters o) → o ≡ Some (records.Counters c)
-counters_at c cs None one is = absurd (none_one (sym is ∙ one))
-  where
-    none_one : (let none : List Counters = [] in none) ≡ c ∷ [] → ⊥
-    none_one e = cc
-counters_at c cs (Some (records.Counters d)) one is = ap (λ (k : Counters). Some (records.Counters k)) (first d (sym is ∙ one))
-  where
-    first : (d : Counters) → (d ∷ []) ≡ (c ∷ []) → d ≡ c
-    first d e = cc
-counters_at c cs (Some _) one is = absurd (none_one (sym is ∙ one))
-  where
-    none_one : (let none : List Counters = [] in none) ≡ c ∷ [] → ⊥
-    none_one e = cc
-
--- the id of a table has it
-pub table_at : (rs : List Stored) (o : Option ℕ) (id : ℕ) (t : Table) → o ≡ Some id → option_and_then as_table (option_and_then (record_at rs) o) ≡ Some t → record_at rs id ≡ Some (records.Table t)
-table_at rs o id t is found = by_record (record_at rs id) (ap (λ (k : Option ℕ). option_and_then as_table (option_and_then (record_at rs) k)) (sym is) ∙ found)
-  where
-    none_some : (x : Option Table) → x ≡ None → x ≡ Some t → ⊥
-    none_some x none some = cc
-
-    some_table : (u : Table) → Some u ≡ Some t → u ≡ t
-    some_table u h = cc
-
-    by_record : (r : Option Record) → option_and_then as_table r ≡ Some t → r ≡ Some (records.Table t)
-    by_record None h = absurd (none_some (let none : Option Table = None in none) refl h)
-    by_record (Some (records.Table u)) h = ap (λ (s : Table). Some (records.Table s)) (some_table u h)
-    by_record (Some _) h = absurd (none_some (let none : Option Table = None in none) refl h)
-
 -- what is there
 pub some_of : {A : Type 0} (o : Option A) → is_some o ≡ true → (a : A) × (o ≡ Some a)
 some_of None e = absurd (let f : false ≡ true = e in cc)
@@ -136,12 +94,6 @@ pub for_moment : (rs : List Stored) (m : ℕ) (r : Result Planned Memory) (act o
     → IfOk r (λ p. (xs : List Session) (m : ℕ) → DoesIt rs xs m p act) → IfOk r (λ p. (xs : List Session) → DoesIt rs xs m p other)
 for_moment rs m (Ok p) act other same does = λ xs. does_one rs xs m p act other (λ s st. same s) (does xs m)
 for_moment rs m (Err e) act other same does = tt
-
--- and at no records
-pub for_records : (rs : List Stored) (xs : List Session) (m : ℕ) (r : Result Planned Memory) (act other : State → State × Answer) → ((s : State) → other s ≡ act s) → keep_rules (parts_of rs) ≡ true
-    → IfOk r (λ p. (rs : List Stored) (m : ℕ) → keep_rules (parts_of rs) ≡ true → DoesIt rs xs m p act) → IfOk r (λ p. DoesIt rs xs m p other)
-for_records rs xs m (Ok p) act other same rules does = does_one rs xs m p act other (λ s st. same s) (does rs m rules)
-for_records rs xs m (Err e) act other same rules does = tt
 
 -- a plan for all sessions
 pub for_sessions : (rs : List Stored) (m : ℕ) (r : Result Planned Memory) (act other : State → State × Answer) → ((s : State) → other s ≡ act s)
