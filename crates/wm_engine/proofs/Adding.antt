@@ -31,7 +31,7 @@ taken_is rs xs m session a t key period version found s w newest shared st home 
 -- a row of the key stands there
 pub add_there : (rs : List Stored) (m : ℕ) (p : Planned) (session : Session) (a : Space) (t : Table) (period shared : Span) (row key : List Value) (version : ℕ) (found : Option Span) → keep_rules (parts_of rs) ≡ true
     → version ≡ latest (parts_of rs) session.space → IsFirstShared (parts_of rs) version t.number key period found → key ≡ row_key t row → found ≡ Some shared
-    → p.changes ≡ [] → seating_view p.seating ≡ Stay → answer_view p.answer ≡ key_there key (told_period t shared) → DoesAs rs m session a (add_to session.user t period row) p
+    → p.edits.items ≡ [] → seating_view p.seating ≡ Stay → answer_view p.answer ≡ key_there key (told_period t shared) → DoesAs rs m session a (add_to session.user t period row) p
 add_there rs m p session a t period shared row key version found rules newest is key_is there none seats says =
     does_answer rs m p session a (add_to session.user t period row) (key_there key (told_period t shared)) rules
     (λ xs s w st home.

@@ -25,9 +25,9 @@ use Rattle.wm_engine.specs.declared.planned.Planned.{Planned}
 use Rattle.wm_engine.specs.declared.seating.Seating.TheVariants as seatings
 
 -- a plan that changes nothing
-pub refused : (rs : List Stored) (xs : List Session) (m : ℕ) (p : Planned) (answer : Answer) (act : State → State × Answer) → p.changes ≡ [] → p.seating ≡ seatings.Stay → answer_view p.answer ≡ answer → keep_rules (parts_of rs) ≡ true
+pub refused : (rs : List Stored) (xs : List Session) (m : ℕ) (p : Planned) (answer : Answer) (act : State → State × Answer) → p.edits.items ≡ [] → p.seating ≡ seatings.Stay → answer_view p.answer ≡ answer → keep_rules (parts_of rs) ≡ true
     → ((s : State) → act s ≡ (s, answer)) → DoesIt rs xs m p act
-refused rs xs m p answer act changes seating says rules same = told rs xs m p [] Stay answer act changes (ap seating_view seating) says (does_nothing rs xs m answer act rules (λ s st. same s))
+refused rs xs m p answer act changes seating says rules same = told rs xs m p [] Stay answer act changes (ap seating_view seating) says (does_nothing rs xs m answer act (λ s st. same s))
 
 -- a plan at all moments that does what another function does
 pub for_all : (rs : List Stored) (r : Result Planned Memory) (act other : State → State × Answer) → ((s : State) → other s ≡ act s)

@@ -1,12 +1,11 @@
 -- No text is empty in what is written of rows in which none is.
-use Rattle.std.proofs.Common.{◌≡◌, ℕ, zero, suc, ◌&&◌, Bool, true, false, if◌then◌else◌, List, [], ◌∷◌, take, length, map, refl, sym, ap, ◌∙◌}
+use Rattle.std.proofs.Common.{◌≡◌, ℕ, zero, suc, ◌&&◌, Bool, true, false, if◌then◌else◌, List, [], ◌∷◌, take, length, map, refl}
 use Rattle.std.specs.List.{list_all}
 use Rattle.wm_base.specs.Period.{Span}
 use Rattle.wm_base.specs.declared.row.Row.{Row}
 use Rattle.wm_base.specs.declared.value.Value.{Value}
 use Rattle.wm_dml.specs.Changing.{added, declared_values, gone, replaced, replacing, row_key}
-use Rattle.wm_dml.specs.Standing.{all_stand, is_period_alone, is_shown, stands_in}
-use Rattle.wm_dml.specs.declared.change.RowChange.{RowChange}
+use Rattle.wm_dml.specs.Standing.{all_stand, is_shown, stands_in}
 use Rattle.wm_graph.specs.Rules.{is_key_of, is_row_of}
 use Rattle.wm_making.specs.Rows.{is_filled}
 use Rattle.wm_spec.specs.declared.record.table.Table.{Table}

@@ -1,18 +1,25 @@
 -- What a file stands for once a line was run over the records that it holds.
-use Rattle.std.proofs.Common.{◌≡◌, ℕ, true, List, ◌⊎◌, inl, inr, sym, ap, subst, ◌∙◌}
+use Rattle.std.proofs.Common.{◌≡◌, ℕ, true, List, [], ◌⊎◌, inl, inr, sym, ap, subst, ◌∙◌}
+use Rattle.std.specs.List.{list_all}
 use Rattle.wm_graph.specs.Parts.{parts_of}
 use Rattle.wm_graph.specs.Rules.{keep_rules}
+use Rattle.wm_model.proofs.Doing.{stands_sessions}
+use Rattle.wm_model.proofs.Timing.{stands_moment}
 use Rattle.wm_model.specs.Planning.{StandsAt, DoesAt, Seating, seated}
 use Rattle.wm_print.specs.Texts.{Answer, answer_text}
-use Rattle.wm_spec.specs.declared.record.batch.Change.{Change}
 use Rattle.wm_spec.specs.declared.record.stored.Stored.{Stored}
 use Rattle.wm_state.specs.ById.{applied}
+use Rattle.wm_state.specs.Drafts.{ChangesFew, is_fork as is_fork_edit}
+use Rattle.wm_state.specs.Editing.{drafted as drafted_state}
+use Rattle.wm_state.specs.Standing.{Stands}
 use Rattle.wm_state.specs.State.{State, Session}
+use Rattle.wm_state.specs.declared.edit.Edit.{Edit}
 use Rattle.wm_station.specs.History.{History}
 use Rattle.wm_station.specs.Moments.{Ended}
 use Rattle.wm_store.specs.declared.store.Store.{Store}
 use Rattle.wm_engine.proofs.Committing.{ended_begun, ended_weaken, holds_weaken}
 use Rattle.wm_engine.proofs.Working.{file_stands}
+use Rattle.wm_engine.specs.Keeping.{AreDrafted, HoldsDrafted}
 use Rattle.wm_engine.specs.Working.{FileStands, HoldsSorted, KeepsOver}
 
 -- where nothing was done the file stands for what it stood for
@@ -20,22 +27,44 @@ pub begun_stands : (store : Store) (rs : List Stored) (xs : List Session) (m : �
 begun_stands store rs xs m h s t works stands =
     ended_begun h (λ file. FileStands file s ⊎ FileStands file t) (holds_weaken h (λ file. HoldsSorted file rs) (λ file. FileStands file s ⊎ FileStands file t) (λ file holds. inl (file_stands file rs s holds stands.stands)) works.holds)
 
+-- records that were drafted for a plan stand for the state that the plan makes
+pub drafted_stands : (rs new : List Stored) (xs : List Session) (m : ℕ) (es : List Edit) (seating : Seating) (after : ℕ) (answer : Answer) (act : State → State × Answer) → DoesAt rs xs m es seating after answer act → AreDrafted rs m es new
+    → (s : State) → StandsAt rs xs m s → Stands (parts_of new) (act s).0
+drafted_stands rs new xs m es seating after answer act does drafted s st =
+    subst (λ (r : State × Answer). Stands (parts_of new) r.0) (sym (does.does s st))
+    (stands_moment (parts_of new) (record (drafted_state m es s) { sessions = seated s.sessions seating }) after
+    (stands_sessions (parts_of new) (drafted_state m es s) (seated s.sessions seating)
+    (subst (λ ss. Stands (parts_of ss) (drafted_state m es s)) (sym drafted.is) (drafted.drafts.stands s st.stands))))
+
 -- once a plan was kept the file stands for the state before it or after it
-pub kept_stands : (rs : List Stored) (xs : List Session) (m : ℕ) (cs changes : List Change) (seating : Seating) (after : ℕ) (answer : Answer) (act : State → State × Answer) (old new : History) (s : State) → DoesAt rs xs m cs seating after answer act → changes ≡ cs
-    → StandsAt rs xs m s → Ended old new (λ file. HoldsSorted file rs ⊎ HoldsSorted file (applied changes rs)) → Ended old new (λ file. FileStands file s ⊎ FileStands file (act s).0)
-kept_stands rs xs m cs changes seating after answer act old new s does same stands ended =
-    ended_weaken old new (λ file. HoldsSorted file rs ⊎ HoldsSorted file (applied changes rs)) (λ file. FileStands file s ⊎ FileStands file (act s).0) (λ file. by_side file) ended
+pub kept_stands : (rs : List Stored) (xs : List Session) (m : ℕ) (es made : List Edit) (seating : Seating) (after : ℕ) (answer : Answer) (act : State → State × Answer) (old new : History) (s : State)
+    → DoesAt rs xs m es seating after answer act → made ≡ es → StandsAt rs xs m s → Ended old new (λ file. HoldsSorted file rs ⊎ HoldsDrafted file rs m made) → Ended old new (λ file. FileStands file s ⊎ FileStands file (act s).0)
+kept_stands rs xs m es made seating after answer act old new s does same stands ended =
+    ended_weaken old new (λ file. HoldsSorted file rs ⊎ HoldsDrafted file rs m made) (λ file. FileStands file s ⊎ FileStands file (act s).0) (λ file. by_side file) ended
   where
-    by_side : (file : List ℕ) → HoldsSorted file rs ⊎ HoldsSorted file (applied changes rs) → FileStands file s ⊎ FileStands file (act s).0
+    by_side : (file : List ℕ) → HoldsSorted file rs ⊎ HoldsDrafted file rs m made → FileStands file s ⊎ FileStands file (act s).0
     by_side file (inl holds) = inl (file_stands file rs s holds stands.stands)
-    by_side file (inr holds) = inr (file_stands file (applied cs rs) (act s).0 (subst (λ xs. HoldsSorted file (applied xs rs)) same holds) (does.does s stands).0.stands)
+    by_side file (inr h) = inr (file_stands file h.new (act s).0 h.holds (drafted_stands rs h.new xs m es seating after answer act does (subst (λ ds. AreDrafted rs m ds h.new) same h.drafted) s stands))
 
 -- what was kept of a plan does what the plan does
-pub kept_does : (rs after : List Stored) (xs now : List Session) (m moment : ℕ) (cs : List Change) (seating : Seating) (answer : Answer) (act : State → State × Answer) (bytes : List ℕ) → DoesAt rs xs m cs seating moment answer act → after ≡ applied cs rs
-    → now ≡ seated xs seating → bytes ≡ answer_text answer → (s : State) → StandsAt rs xs m s → StandsAt after now moment (act s).0 × (bytes ≡ answer_text (act s).1)
-kept_does rs after xs now m moment cs seating answer act bytes does records sessions says s stands =
-    let d = does.does s stands in
-    (subst (λ ys. StandsAt after ys moment (act s).0) (sym sessions) (subst (λ ss. StandsAt ss (seated xs seating) moment (act s).0) (sym records) d.0), says ∙ ap answer_text d.1)
+pub kept_does : (rs new : List Stored) (xs now : List Session) (m moment : ℕ) (es made : List Edit) (seating : Seating) (answer : Answer) (act : State → State × Answer) (bytes : List ℕ) → DoesAt rs xs m es seating moment answer act
+    → made ≡ es → AreDrafted rs m made new → now ≡ seated xs seating → bytes ≡ answer_text answer → (s : State) → StandsAt rs xs m s → StandsAt new now moment (act s).0 × (bytes ≡ answer_text (act s).1)
+kept_does rs new xs now m moment es made seating answer act bytes does same drafted sessions says s st = (
+  record {
+    stands = drafted_stands rs new xs m es seating moment answer act does (subst (λ ds. AreDrafted rs m ds new) same drafted) s st;
+    sessions_are = sessions ∙ ap (λ ys. seated ys seating) st.sessions_are ∙ ap (λ (r : State × Answer). r.0.sessions) (sym (does.does s st));
+    moment_is = ap (λ (r : State × Answer). r.0.moment) (sym (does.does s st));
+  },
+  says ∙ ap (λ (r : State × Answer). answer_text r.1) (sym (does.does s st)),
+)
 
-pub kept_rules : (rs after : List Stored) (xs : List Session) (m moment : ℕ) (cs : List Change) (seating : Seating) (answer : Answer) (act : State → State × Answer) → DoesAt rs xs m cs seating moment answer act → after ≡ applied cs rs → keep_rules (parts_of after) ≡ true
-kept_rules rs after xs m moment cs seating answer act does records = subst (λ ss. keep_rules (parts_of ss) ≡ true) (sym records) does.keeps
+pub kept_rules : (rs new : List Stored) (m : ℕ) (es : List Edit) → AreDrafted rs m es new → keep_rules (parts_of new) ≡ true
+kept_rules rs new m es drafted = subst (λ ss. keep_rules (parts_of ss) ≡ true) (sym drafted.is) drafted.drafts.keeps
+
+-- without edits the records stay
+pub kept_same : (rs new : List Stored) (m : ℕ) (es : List Edit) → AreDrafted rs m es new → es ≡ [] → new ≡ rs
+kept_same rs new m es drafted none = drafted.is ∙ ap (λ cs. applied cs rs) (drafted.drafts.nothing none)
+
+-- savepoints and workspaces change few records
+pub kept_few : (rs new : List Stored) (m : ℕ) (es : List Edit) → AreDrafted rs m es new → list_all is_fork_edit es ≡ true → ChangesFew rs new
+kept_few rs new m es drafted forks = subst (λ ss. ChangesFew rs ss) (sym drafted.is) (drafted.drafts.few forks)

@@ -6,7 +6,6 @@ pub mod Working
 pub mod Keeping
 pub mod Fresh
 pub mod Opening
-pub mod Forking
 pub mod Saving
 pub mod Bearing
 pub mod Coming

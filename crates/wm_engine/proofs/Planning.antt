@@ -1,48 +1,68 @@
 -- How what a plan says is told of the plan that a function gives.
-use Rattle.std.proofs.Common.{◌≡◌, ℕ, suc, ◌<◌, nat_lt, true, false, ◌==◌, List, [], ◌∷◌, length, Option, Some, None, is_some, Result, Ok, Err, IfOk, refl, sym, ap, ◌∙◌, subst, arith}
+use Rattle.std.proofs.Common.{◌≡◌, ℕ, suc, ◌<◌, nat_lt, true, false, ◌==◌, List, [], ◌∷◌, length, Option, Some, None, is_some, Result, Ok, Err, IfOk, refl, sym, ap, ◌∙◌, arith}
 use Rattle.std.proofs.lemmas.Bool.Decides.{nat_tests}
-use Rattle.std.specs.Option.{option_and_then, option_to_list}
+use Rattle.std.specs.List.{list_all}
 use Rattle.wm_base.specs.declared.memory.Memory.{Memory}
 use Rattle.wm_base.specs.declared.instant.TheConstants.{END}
-use Rattle.wm_graph.specs.Parts.{parts_of, as_counters, as_table}
-use Rattle.wm_graph.specs.Rules.{keep_rules}
-use Rattle.wm_print.specs.Texts.{Answer}
-use Rattle.wm_spec.specs.Records.{record_at}
-use Rattle.wm_spec.specs.declared.record.Record.{Record}
-use Rattle.wm_spec.specs.declared.record.Record.TheVariants as records
-use Rattle.wm_spec.specs.declared.record.batch.Change.{Change}
-use Rattle.wm_spec.specs.declared.record.counters.Counters.{Counters}
+use Rattle.wm_print.specs.Texts.{Answer, Fine}
 use Rattle.wm_spec.specs.declared.record.stored.Stored.{Stored}
-use Rattle.wm_spec.specs.declared.record.table.Table.{Table}
 use Rattle.wm_state.specs.State.{State, Session}
-use Rattle.wm_state.specs.ById.{applied}
-use Rattle.wm_model.specs.Planning.{StandsAt, Does, DoesAt, Seating, Stay, seated}
+use Rattle.wm_state.specs.declared.edit.Edit.{Edit}
+use Rattle.wm_model.specs.Planning.{StandsAt, Does, DoesAt, Seating, Stay}
 use Rattle.wm_model.proofs.Doing.{does_nothing}
-use Rattle.wm_model.proofs.Timing.{does_at}
+use Rattle.wm_state.specs.Drafts.{is_fork as is_fork_edit}
+use Rattle.wm_engine.specs.Forks.{AreForks}
+use Rattle.wm_engine.specs.Idle.{Idles, is_idle}
 use Rattle.wm_engine.specs.Planning.{DoesIt, DoesTimed}
 use Rattle.wm_engine.specs.Views.{answer_view, seating_view}
+use Rattle.wm_engine.specs.declared.answer.Answer.TheVariants as answers
 use Rattle.wm_engine.specs.declared.planned.Planned.{Planned}
 use Rattle.wm_engine.specs.declared.planned.Timed.{Timed}
+use Rattle.wm_engine.specs.declared.seating.Seating.TheVariants as seatings
 
--- a plan of these changes, of this that becomes of the sessions, and of this answer
-pub told : (rs : List Stored) (xs : List Session) (m : ℕ) (p : Planned) (cs : List Change) (seating : Seating) (answer : Answer) (act : State → State × Answer) → p.changes ≡ cs → seating_view p.seating ≡ seating → answer_view p.answer ≡ answer
-    → Does rs xs m cs seating answer act → DoesIt rs xs m p act
-told rs xs m p cs seating answer act changes seats says does = rw (changes, seats, says) does
+-- a plan of these edits, of this that becomes of the sessions, and of this answer
+pub told : (rs : List Stored) (xs : List Session) (m : ℕ) (p : Planned) (es : List Edit) (seating : Seating) (answer : Answer) (act : State → State × Answer) → p.edits.items ≡ es → seating_view p.seating ≡ seating → answer_view p.answer ≡ answer
+    → Does rs xs m es seating answer act → DoesIt rs xs m p act
+told rs xs m p es seating answer act edits seats says does = rw (edits, seats, says) does
 
 -- and where a function may find no memory
-pub told_ok : (rs : List Stored) (r : Result Planned Memory) (cs : List Change) (seating : Seating) (answer : Answer) (act : State → State × Answer) → IfOk r (λ p. p.changes ≡ cs) → IfOk r (λ p. seating_view p.seating ≡ seating)
-    → IfOk r (λ p. answer_view p.answer ≡ answer) → ((xs : List Session) (m : ℕ) → Does rs xs m cs seating answer act) → IfOk r (λ p. (xs : List Session) (m : ℕ) → DoesIt rs xs m p act)
-told_ok rs (Ok p) cs seating answer act changes seats says does = λ xs m. told rs xs m p cs seating answer act changes seats says (does xs m)
-told_ok rs (Err e) cs seating answer act changes seats says does = tt
+pub told_ok : (rs : List Stored) (r : Result Planned Memory) (es : List Edit) (seating : Seating) (answer : Answer) (act : State → State × Answer) → IfOk r (λ p. p.edits.items ≡ es) → IfOk r (λ p. seating_view p.seating ≡ seating)
+    → IfOk r (λ p. answer_view p.answer ≡ answer) → ((xs : List Session) (m : ℕ) → Does rs xs m es seating answer act) → IfOk r (λ p. (xs : List Session) (m : ℕ) → DoesIt rs xs m p act)
+told_ok rs (Ok p) es seating answer act changes seats says does = λ xs m. told rs xs m p es seating answer act changes seats says (does xs m)
+told_ok rs (Err e) es seating answer act changes seats says does = tt
 
 -- two functions that do the same to each state that the records stand for
-pub does_same : (rs : List Stored) (xs : List Session) (m : ℕ) (cs : List Change) (seating : Seating) (answer : Answer) (act other : State → State × Answer) → ((s : State) → StandsAt rs xs m s → other s ≡ act s)
-    → Does rs xs m cs seating answer act → Does rs xs m cs seating answer other
-does_same rs xs m cs seating answer act other same does = record {
-  keeps = does.keeps;
-  once = does.once;
-  does = λ s stands. let d = does.does s stands in (subst (λ r. StandsAt (applied cs rs) (seated xs seating) m r.0) (sym (same s stands)) d.0, d.1 ∙ ap (λ r. r.1) (sym (same s stands)));
-}
+pub does_same : (rs : List Stored) (xs : List Session) (m : ℕ) (es : List Edit) (seating : Seating) (answer : Answer) (act other : State → State × Answer) → ((s : State) → StandsAt rs xs m s → other s ≡ act s)
+    → Does rs xs m es seating answer act → Does rs xs m es seating answer other
+does_same rs xs m es seating answer act other same does = record { can = does.can; does = λ s st. same s st ∙ does.does s st }
+
+-- a plan of one edit that makes a savepoint or a workspace, and one of none
+pub forks_one : (p : Planned) (e : Edit) → p.edits.items ≡ e ∷ [] → is_fork_edit e ≡ true → AreForks p
+forks_one p e edits fork = ap (list_all is_fork_edit) edits ∙ rw fork refl
+
+pub forks_none : (p : Planned) → p.edits.items ≡ [] → AreForks p
+forks_none p none = ap (list_all is_fork_edit) none
+
+-- ---- a plan of one edit, where a function may find no memory
+
+-- the edit is the one that does it
+pub told_edit : (rs : List Stored) (m : ℕ) (r : Result Planned Memory) (given e : Edit) (act : State → State × Answer) → IfOk r (λ p. p.edits.items ≡ given ∷ []) → IfOk r (λ p. p.seating ≡ seatings.Stay) → IfOk r (λ p. p.answer ≡ answers.Fine)
+    → given ≡ e → ((xs : List Session) → Does rs xs m (e ∷ []) Stay Fine act) → IfOk r (λ p. (xs : List Session) → DoesIt rs xs m p act)
+told_edit rs m (Ok p) given e act edits seats says same does = λ xs. told rs xs m p (e ∷ []) Stay Fine act (edits ∙ ap (λ k. k ∷ []) same) (ap seating_view seats) (ap answer_view says) (does xs)
+told_edit rs m (Err e) given edit act edits seats says same does = tt
+
+-- it makes a savepoint or a workspace
+pub forks_edit : (r : Result Planned Memory) (e : Edit) → IfOk r (λ p. p.edits.items ≡ e ∷ []) → is_fork_edit e ≡ true → IfOk r AreForks
+forks_edit (Ok p) e edits fork = forks_one p e edits fork
+forks_edit (Err memory) e edits fork = tt
+
+-- it is answered that it is done
+pub never_idle : (r : Result Planned Memory) → IfOk r (λ p. p.answer ≡ answers.Fine) → IfOk r Idles
+never_idle (Ok p) says = λ idle. absurd (apart (ap (λ a. is_idle (answer_view a)) (sym says) ∙ idle))
+  where
+    apart : false ≡ true → ⊥
+    apart e = cc
+never_idle (Err memory) says = tt
 
 -- a list of no length is empty, and one of some length is not
 pub none_counted : {A : Type 0} (xs : List A) → true ≡ (length xs == 0) → xs ≡ []
@@ -60,36 +80,6 @@ some_counted (x ∷ xs) e none = cc
 pub early : (m : ℕ) → m < END → nat_lt m END ≡ true
 early m lt = grind (arith, nat_tests, lt)
 
--- the id of the counters has them
-pub counters_at : (c : Counters) (cs : List Counters) (o : Option Record) → cs ≡ c ∷ [] → cs ≡ option_to_list (option_and_then as_counters o) → o ≡ Some (records.Counters c)
-counters_at c cs None one is = absurd (none_one (sym is ∙ one))
-  where
-    none_one : (let none : List Counters = [] in none) ≡ c ∷ [] → ⊥
-    none_one e = cc
-counters_at c cs (Some (records.Counters d)) one is = ap (λ (k : Counters). Some (records.Counters k)) (first d (sym is ∙ one))
-  where
-    first : (d : Counters) → (d ∷ []) ≡ (c ∷ []) → d ≡ c
-    first d e = cc
-counters_at c cs (Some _) one is = absurd (none_one (sym is ∙ one))
-  where
-    none_one : (let none : List Counters = [] in none) ≡ c ∷ [] → ⊥
-    none_one e = cc
-
--- the id of a table has it
-pub table_at : (rs : List Stored) (o : Option ℕ) (id : ℕ) (t : Table) → o ≡ Some id → option_and_then as_table (option_and_then (record_at rs) o) ≡ Some t → record_at rs id ≡ Some (records.Table t)
-table_at rs o id t is found = by_record (record_at rs id) (ap (λ (k : Option ℕ). option_and_then as_table (option_and_then (record_at rs) k)) (sym is) ∙ found)
-  where
-    none_some : (x : Option Table) → x ≡ None → x ≡ Some t → ⊥
-    none_some x none some = cc
-
-    some_table : (u : Table) → Some u ≡ Some t → u ≡ t
-    some_table u h = cc
-
-    by_record : (r : Option Record) → option_and_then as_table r ≡ Some t → r ≡ Some (records.Table t)
-    by_record None h = absurd (none_some (let none : Option Table = None in none) refl h)
-    by_record (Some (records.Table u)) h = ap (λ (s : Table). Some (records.Table s)) (some_table u h)
-    by_record (Some _) h = absurd (none_some (let none : Option Table = None in none) refl h)
-
 -- what is there
 pub some_of : {A : Type 0} (o : Option A) → is_some o ≡ true → (a : A) × (o ≡ Some a)
 some_of None e = absurd (let f : false ≡ true = e in cc)
@@ -97,19 +87,13 @@ some_of (Some a) e = (a, refl)
 
 -- a plan does what another function does to each state that the records stand for
 pub does_one : (rs : List Stored) (xs : List Session) (m : ℕ) (p : Planned) (act other : State → State × Answer) → ((s : State) → StandsAt rs xs m s → other s ≡ act s) → DoesIt rs xs m p act → DoesIt rs xs m p other
-does_one rs xs m p act other same does = does_same rs xs m p.changes (seating_view p.seating) (answer_view p.answer) act other same does
+does_one rs xs m p act other same does = does_same rs xs m p.edits.items (seating_view p.seating) (answer_view p.answer) act other same does
 
 -- a plan that looks at no moment
 pub for_moment : (rs : List Stored) (m : ℕ) (r : Result Planned Memory) (act other : State → State × Answer) → ((s : State) → other s ≡ act s)
     → IfOk r (λ p. (xs : List Session) (m : ℕ) → DoesIt rs xs m p act) → IfOk r (λ p. (xs : List Session) → DoesIt rs xs m p other)
 for_moment rs m (Ok p) act other same does = λ xs. does_one rs xs m p act other (λ s st. same s) (does xs m)
 for_moment rs m (Err e) act other same does = tt
-
--- and at no records
-pub for_records : (rs : List Stored) (xs : List Session) (m : ℕ) (r : Result Planned Memory) (act other : State → State × Answer) → ((s : State) → other s ≡ act s) → keep_rules (parts_of rs) ≡ true
-    → IfOk r (λ p. (rs : List Stored) (m : ℕ) → keep_rules (parts_of rs) ≡ true → DoesIt rs xs m p act) → IfOk r (λ p. DoesIt rs xs m p other)
-for_records rs xs m (Ok p) act other same rules does = does_one rs xs m p act other (λ s st. same s) (does rs m rules)
-for_records rs xs m (Err e) act other same rules does = tt
 
 -- a plan for all sessions
 pub for_sessions : (rs : List Stored) (m : ℕ) (r : Result Planned Memory) (act other : State → State × Answer) → ((s : State) → other s ≡ act s)
@@ -121,29 +105,21 @@ for_sessions rs m (Err e) act other same does = tt
 
 -- a plan that leaves the moment
 pub timed : (rs : List Stored) (xs : List Session) (m : ℕ) (p : Planned) (act : State → State × Answer) → DoesIt rs xs m p act → DoesTimed rs xs m (record { planned = p; moment = m }) act
-timed rs xs m p act does = does_at rs xs m p.changes (seating_view p.seating) (answer_view p.answer) act does
+timed rs xs m p act does = does
 
 -- a plan of this answer alone, and of this moment behind it
-pub told_at : (rs : List Stored) (xs : List Session) (m : ℕ) (t : Timed) (after : ℕ) (answer : Answer) (act : State → State × Answer) → t.planned.changes ≡ [] → seating_view t.planned.seating ≡ Stay → t.moment ≡ after
+pub told_at : (rs : List Stored) (xs : List Session) (m : ℕ) (t : Timed) (after : ℕ) (answer : Answer) (act : State → State × Answer) → t.planned.edits.items ≡ [] → seating_view t.planned.seating ≡ Stay → t.moment ≡ after
     → answer_view t.planned.answer ≡ answer → DoesAt rs xs m [] Stay after answer act → DoesTimed rs xs m t act
 told_at rs xs m t after answer act none stays behind says does = rw (none, stays, behind, says) does
 
 -- a plan that changes nothing at all
-pub told_alone : (rs : List Stored) (xs : List Session) (m : ℕ) (t : Timed) (answer : Answer) (act : State → State × Answer) → keep_rules (parts_of rs) ≡ true → t.planned.changes ≡ [] → seating_view t.planned.seating ≡ Stay → t.moment ≡ m
+pub told_alone : (rs : List Stored) (xs : List Session) (m : ℕ) (t : Timed) (answer : Answer) (act : State → State × Answer) → t.planned.edits.items ≡ [] → seating_view t.planned.seating ≡ Stay → t.moment ≡ m
     → answer_view t.planned.answer ≡ answer → ((s : State) → StandsAt rs xs m s → act s ≡ (s, answer)) → DoesTimed rs xs m t act
-told_alone rs xs m t answer act rules none stays behind says same =
-    told_at rs xs m t m answer act none stays behind says (does_at rs xs m [] Stay answer act (does_nothing rs xs m answer act rules same))
+told_alone rs xs m t answer act none stays behind says same = told_at rs xs m t m answer act none stays behind says (does_nothing rs xs m answer act same)
 
 -- a plan does what another function does to each state that the records stand for
 timed_one : (rs : List Stored) (xs : List Session) (m : ℕ) (t : Timed) (act other : State → State × Answer) → ((s : State) → StandsAt rs xs m s → other s ≡ act s) → DoesTimed rs xs m t act → DoesTimed rs xs m t other
-timed_one rs xs m t act other same does = record {
-  keeps = does.keeps;
-  once = does.once;
-  does = λ s stands. let d = does.does s stands in (
-    subst (λ r. StandsAt (applied t.planned.changes rs) (seated xs (seating_view t.planned.seating)) t.moment r.0) (sym (same s stands)) d.0,
-    d.1 ∙ ap (λ r. r.1) (sym (same s stands)),
-  );
-}
+timed_one rs xs m t act other same does = record { can = does.can; does = λ s st. same s st ∙ does.does s st }
 
 pub timed_same : (rs : List Stored) (xs : List Session) (m : ℕ) (r : Result Timed Memory) (act other : State → State × Answer) → ((s : State) → StandsAt rs xs m s → other s ≡ act s)
     → IfOk r (λ t. DoesTimed rs xs m t act) → IfOk r (λ t. DoesTimed rs xs m t other)

@@ -1,39 +1,29 @@
 -- What is told of the plan by which a savepoint is made.
-use Rattle.std.proofs.Common.{◌≡◌, ℕ, ◌+◌, ◌<◌, ◌≤◌, ◌^◌, nat_lt, nat_le, true, false, List, Option, Some, None, is_some, Bor, Result, Ok, Err, IfOk, refl, sym, ap, subst, arith}
+use Rattle.std.proofs.Common.{◌≡◌, ℕ, ◌<◌, ◌≤◌, ◌==◌, nat_le, true, false, List, [], ◌∷◌, Option, Some, None, is_some, Bor, Result, Ok, Err, IfOk, refl, sym, ap, subst, arith}
+use Rattle.std.proofs.lemmas.Bool.{eq-eqb}
+use Rattle.std.specs.List.{find}
 use Rattle.std.specs.Option.{option_copied}
+use Rattle.std.specs.Str.{bytes_eq}
 use Rattle.wm_base.specs.declared.memory.Memory.{Memory}
-use Rattle.wm_graph.specs.Parts.{parts_of}
-use Rattle.wm_model.specs.Planning.{moved}
-use Rattle.wm_model.specs.Saving.{HasRoom, SavesIn, MaySaveIn, saved_record}
-use Rattle.wm_model.specs.Step.{create_savepoint, number_limit}
-use Rattle.wm_spec.specs.declared.record.batch.Change.{Change}
-use Rattle.wm_spec.specs.declared.record.counters.Counters.{Counters}
-use Rattle.wm_spec.specs.declared.record.savepoint.Savepoint.{Savepoint}
+use Rattle.wm_graph.specs.Parts.{parts_of, space_of}
+use Rattle.wm_graph.specs.Rules.{keep_rules}
+use Rattle.wm_model.specs.Planning.{Does, Stay}
+use Rattle.wm_model.specs.Saving.{SavesIn}
+use Rattle.wm_model.specs.Step.{create_savepoint}
+use Rattle.wm_print.specs.Texts.{Fine}
 use Rattle.wm_spec.specs.declared.record.space.Space.{Space}
 use Rattle.wm_spec.specs.declared.record.stored.Stored.{Stored}
-use Rattle.wm_state.specs.Batches.{savepoint_batch}
-use Rattle.wm_state.specs.Effects.{marked}
 use Rattle.wm_state.specs.State.{Session}
+use Rattle.wm_state.specs.declared.edit.Edit.TheVariants as edits
+use Rattle.wm_state.proofs.Mapped.{find-again}
+use Rattle.wm_state.proofs.Spaces.{ruled_spaces}
 use Rattle.wm_state.proofs.Tests.{bool_apart}
+use Rattle.wm_engine.proofs.Planning.{told}
 use Rattle.wm_engine.specs.Planning.{DoesIt}
+use Rattle.wm_engine.specs.Views.{answer_view, seating_view}
+use Rattle.wm_engine.specs.declared.answer.Answer.TheVariants as answers
 use Rattle.wm_engine.specs.declared.planned.Planned.{Planned}
-
--- a number that four bytes hold is no greater than it may be
-pub in_bytes : (k n : ℕ) → k ≡ n → k < 2 ^ 32 → nat_lt number_limit n ≡ false
-in_bytes k n is lt = grind (arith, is, lt)
-
-pub may_save_in : (rs : List Stored) (workspace name : List ℕ) (a : Space) (place : ℕ) → SavesIn rs workspace name a → HasRoom (parts_of rs) a name → place ≡ a.next_place + 1 → place < 2 ^ 32 → MaySaveIn rs workspace name a
-may_save_in rs workspace name a place saves room is lt = record { saves = saves; room = room; places = in_bytes place (a.next_place + 1) is lt }
-
--- the batch
-abbrev pub saving_batch : List Stored → Space → Counters → ℕ → List ℕ → ℕ → ℕ → ℕ → List Change
-saving_batch rs a c m name counters_id space_id id =
-    savepoint_batch counters_id (moved c m) space_id (marked (a.next_place + 1) a.next_implicit a) id (saved_record (parts_of rs) a m name)
-
-pub saving_is : (rs : List Stored) (a : Space) (c : Counters) (m : ℕ) (name : List ℕ) (counters_id space_id id place : ℕ) (counters : Counters) (space : Space) (x : Savepoint) → counters ≡ moved c m
-    → space ≡ marked place a.next_implicit a → place ≡ a.next_place + 1 → x ≡ saved_record (parts_of rs) a m name
-    → savepoint_batch counters_id counters space_id space id x ≡ saving_batch rs a c m name counters_id space_id id
-saving_is rs a c m name counters_id space_id id place counters space x count mark next saved = rw (count, mark, next, saved) refl
+use Rattle.wm_engine.specs.declared.seating.Seating.TheVariants as seatings
 
 -- ---- what was looked up
 
@@ -57,8 +47,20 @@ spaces_full k n is le = grind (arith, is, le)
 pub spaces_few : (k n : ℕ) → n ≡ k → n < 1024 → nat_le 1024 k ≡ false
 spaces_few k n is few = grind (arith, is, few)
 
-pub at_end : (n : ℕ) → (n < 2 ^ 32 → ⊥) → nat_lt number_limit n ≡ true
-at_end n much = grind (arith, much)
+-- what a name finds, its number finds
+pub named_there : (rs : List Stored) (name : List ℕ) (a : Space) → keep_rules (parts_of rs) ≡ true → find (λ (r : Space). bytes_eq name r.name) (parts_of rs).spaces ≡ Some a → space_of (parts_of rs).spaces a.number ≡ Some a
+named_there rs name a rules found =
+    find-again (λ (q t : Space). q.number == t.number) (λ q. eq-eqb q.number q.number refl) (λ (q : Space). bytes_eq name q.name) (parts_of rs).spaces a (ruled_spaces (parts_of rs) rules).numbers found
+
+-- ---- the plan
+
+-- a plan of the edit that makes the savepoint
+pub saves_edit : (rs : List Stored) (m : ℕ) (r : Result Planned Memory) (name : List ℕ) (a : Space) → IfOk r (λ p. p.edits.items ≡ edits.Save a.number name ∷ []) → IfOk r (λ p. p.seating ≡ seatings.Stay) → IfOk r (λ p. p.answer ≡ answers.Fine)
+    → ((xs : List Session) (workspace : List ℕ) → SavesIn rs workspace name a → Does rs xs m (edits.Save a.number name ∷ []) Stay Fine (create_savepoint workspace name))
+    → IfOk r (λ p. (xs : List Session) (workspace : List ℕ) → SavesIn rs workspace name a → DoesIt rs xs m p (create_savepoint workspace name))
+saves_edit rs m (Ok p) name a made seats says does = λ xs workspace saves.
+    told rs xs m p (edits.Save a.number name ∷ []) Stay Fine (create_savepoint workspace name) made (ap seating_view seats) (ap answer_view says) (does xs workspace saves)
+saves_edit rs m (Err e) name a made seats says does = tt
 
 -- a plan for each name of the workspace is one for this name
 pub saves_as : (rs : List Stored) (m : ℕ) (r : Result Planned Memory) (workspace given name : List ℕ) (a : Space) → given ≡ name → SavesIn rs workspace given a

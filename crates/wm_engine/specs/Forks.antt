@@ -1,14 +1,13 @@
--- What a line that makes a savepoint or a workspace changes: few records, and none of a row, a piece or an entry of a log.
-use Rattle.std.specs.Prelude.{ℕ, ◌≡◌, ◌≤◌, ◌==◌, Bool, true, false, List, length, Option, Some, Result, Ok, Err}
-use Rattle.std.specs.List.{list_any}
-use Rattle.wm_graph.specs.Parts.{parts_of}
+-- Lines that make a savepoint or a workspace.
+use Rattle.std.specs.Prelude.{◌≡◌, Bool, true, false, Option, Some, Result, Ok, Err}
+use Rattle.std.specs.List.{list_all}
 use Rattle.wm_base.specs.Trees.{Line, Run, Statement, Call}
 use Rattle.wm_grammar.specs.Calls.{procedure_of}
 use Rattle.wm_grammar.specs.declared.procedure.Procedure.{Procedure}
 use Rattle.wm_grammar.specs.declared.procedure.Procedure.TheVariants as procedures
 use Rattle.wm_parser.specs.Parsed.{Bad}
-use Rattle.wm_spec.specs.Records.{record_at}
-use Rattle.wm_spec.specs.declared.record.stored.Stored.{Stored}
+use Rattle.wm_state.specs.Drafts.{is_fork as is_fork_edit}
+use Rattle.wm_engine.specs.declared.planned.Planned.{Planned}
 
 -- the call makes a savepoint, or a workspace and so a savepoint
 abbrev pub forks_call : Option Procedure → Bool
@@ -31,11 +30,6 @@ abbrev pub is_fork : Result Line Bad → Bool
 is_fork (Ok line) = is_fork_line line
 is_fork (Err bad) = false
 
--- records differ at six ids at most, and rows, pieces and entries of logs are what they were
-pub record ChangesFew (old new : List Stored) : Type 0 where
-  pub ids : List ℕ
-  pub few : length ids ≤ 6
-  pub others : (id : ℕ) → list_any (λ k. k == id) ids ≡ false → record_at new id ≡ record_at old id
-  pub rows : (parts_of new).rows ≡ (parts_of old).rows
-  pub pieces : (parts_of new).pieces ≡ (parts_of old).pieces
-  pub hists : (parts_of new).hists ≡ (parts_of old).hists
+-- the plan makes savepoints and workspaces at most
+abbrev pub AreForks : Planned → Type 0
+AreForks p = list_all is_fork_edit p.edits.items ≡ true

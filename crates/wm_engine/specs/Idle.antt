@@ -15,4 +15,4 @@ is_idle (Refused refusal) = true
 
 -- a plan with such an answer changes nothing
 abbrev pub Idles : Planned → Type 0
-Idles p = is_idle (answer_view p.answer) ≡ true → (p.changes ≡ []) × (p.seating ≡ Stay)
+Idles p = is_idle (answer_view p.answer) ≡ true → (p.edits.items ≡ []) × (p.seating ≡ Stay)

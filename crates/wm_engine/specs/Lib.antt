@@ -1,4 +1,5 @@
 pub mod Working
+pub mod Keeping
 pub mod Stands
 pub mod Readying
 pub mod Views
@@ -6,7 +7,6 @@ pub mod Planning
 pub mod Timely
 pub mod Forks
 pub mod Idle
-pub mod Points
 pub mod Inserting
 pub mod Changing
 pub mod Lacking

@@ -10,8 +10,8 @@ use Rattle.wm_engine.specs.declared.planned.Timed.{Timed}
 
 -- the plan over records, sessions and a moment does and answers what a function of the state does and answers
 abbrev pub DoesIt : List Stored → List Session → ℕ → Planned → (State → State × Answer) → Type 0
-DoesIt rs xs m p act = Does rs xs m p.changes (seating_view p.seating) (answer_view p.answer) act
+DoesIt rs xs m p act = Does rs xs m p.edits.items (seating_view p.seating) (answer_view p.answer) act
 
 -- so, with the moment that is planned behind it
 abbrev pub DoesTimed : List Stored → List Session → ℕ → Timed → (State → State × Answer) → Type 0
-DoesTimed rs xs m t act = DoesAt rs xs m t.planned.changes (seating_view t.planned.seating) t.moment (answer_view t.planned.answer) act
+DoesTimed rs xs m t act = DoesAt rs xs m t.planned.edits.items (seating_view t.planned.seating) t.moment (answer_view t.planned.answer) act

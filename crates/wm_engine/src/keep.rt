@@ -1,8 +1,9 @@
 //! A line over a store: what it does is planned and printed, and only then kept.
 ghost use Rattle.std.specs.Prelude.{◌≡◌, ◌<◌, ◌≤◌, ◌⊎◌, ℕ, List, [], true, OnOk, IfOk, IsErrOf};
 ghost use Rattle.wm_base.specs.declared.instant.TheConstants.{END};
-ghost use Rattle.wm_engine.specs.Forks.{ChangesFew, is_fork};
+ghost use Rattle.wm_engine.specs.Forks.{is_fork};
 ghost use Rattle.wm_engine.specs.Idle.{is_idle};
+ghost use Rattle.wm_engine.specs.Keeping.{AreDrafted, HoldsDrafted};
 ghost use Rattle.wm_engine.specs.Working.{FileStands, HoldsSorted, KeepsOver};
 ghost use Rattle.wm_engine.specs.declared.fault.LineFault.TheVariants as faults;
 ghost use Rattle.wm_graph.specs.Parts.{parts_of};
@@ -11,12 +12,10 @@ ghost use Rattle.wm_engine.specs.Views.{seating_view};
 ghost use Rattle.wm_model.specs.Planning.{StandsAt, seated};
 ghost use Rattle.wm_model.specs.Step.{step, answer_text};
 ghost use Rattle.wm_parser.specs.Parsed.{parsed};
-ghost use Rattle.wm_spec.specs.Records.{AreChanges};
-ghost use Rattle.wm_state.specs.ById.{applied};
+ghost use Rattle.wm_state.specs.Drafts.{CanDraft, ChangesFew};
 ghost use Rattle.wm_state.specs.State.{State};
 ghost use Rattle.wm_station.specs.Cause.{Rises};
 ghost use Rattle.wm_station.specs.Moments.{Ended};
-ghost use Rattle.wm_store.specs.Spelled.{FitPages};
 
 use crate::commit::commit;
 use crate::fault::LineFault;
@@ -39,32 +38,34 @@ pub struct Kept {
     pub bytes: Bytes,
 }
 
-/// Commits what a line changes, does to the sessions what it does to them, and gives the records that it leaves.
+/// Drafts what a line changes and commits it, does to the sessions what it does to them, and gives the records that it leaves.
 fn keep<P: Station>(
     alloc: Global,
     station: &mut P,
     store: &mut Store,
     sessions: &mut Vec<Session>,
     image: Image,
+    moment: u64,
     changed: Changed,
 ) -> Result<Image, LineFault>
-    requires once { AreChanges changed.changes }
-    requires fit { FitPages changed.changes }
+    requires rules { keep_rules (parts_of image) ≡ true }
+    requires can { CanDraft (parts_of image) moment changed.edits.items }
     requires works { P.tells → KeepsOver store.old image (P.history station.old) }
-    ensures image { IfOk result (λ i. i ≡ applied changed.changes image) }
+    ensures image { IfOk result (AreDrafted image moment changed.edits.items) }
     ensures sessions { OnOk result (sessions.new.items ≡ seated sessions.old.items (seating_view changed.seating)) }
-    ensures works { P.tells → OnOk result (KeepsOver store.new (applied changed.changes image) (P.history station.new)) }
-    ensures any_moment { P.tells → Ended (P.history station.old) (P.history station.new) (λ file. HoldsSorted file image ⊎ HoldsSorted file (applied changed.changes image)) }
+    ensures works { P.tells → IfOk result (λ i. KeepsOver store.new i (P.history station.new)) }
+    ensures any_moment { P.tells → Ended (P.history station.old) (P.history station.new) (λ file. HoldsSorted file image ⊎ HoldsDrafted file image moment changed.edits.items) }
     // Where nothing changes the file is not touched.
-    ensures nothing { P.tells → changed.changes ≡ [] → P.history station.new ≡ P.history station.old }
+    ensures nothing { P.tells → changed.edits.items ≡ [] → P.history station.new ≡ P.history station.old }
     ensures later { P.disk_faults station.old ≤ P.disk_faults station.new }
     ensures disk { IsErrOf result faults.Disk → Rises (P.disk_faults station.old) (P.disk_faults station.new) }
     ensures say_quiet { P.say_faults station.new ≡ P.say_faults station.old }
     ensures unchanged { P.tells → IsErrOf result faults.Changed → ⊥ }
 {
-    let Changed { changes, seating } = changed;
+    let Changed { edits, seating } = changed;
     let mut image = image;
-    commit(alloc, station, store, &mut image, changes)?;
+    let batch = image.draft(alloc, moment, edits)?;
+    commit(alloc, station, store, &mut image, batch.changes)?;
     seat(sessions, seating)?;
     Ok(image)
 }
@@ -96,7 +97,10 @@ pub fn run_line<P: Station>(
     ensures say_quiet { P.say_faults station.new ≡ P.say_faults station.old }
     ensures unchanged { P.tells → IsErrOf result faults.Changed → ⊥ }
 {
-    let Timed { planned, moment } = plan(alloc, &image, sessions.as_slice(), moment, line)?;
+    let Timed {
+        planned,
+        moment: after,
+    } = plan(alloc, &image, sessions.as_slice(), moment, line)?;
     let bytes = print(alloc, &planned.answer)?;
     let image = keep(
         alloc,
@@ -104,11 +108,12 @@ pub fn run_line<P: Station>(
         store,
         sessions,
         image,
+        moment,
         planned.into_changed(),
     )?;
     Ok(Kept {
         image,
-        moment,
+        moment: after,
         bytes,
     })
 }

@@ -3,7 +3,6 @@
 
 mod answer;
 mod commit;
-mod count;
 mod engine;
 mod fault;
 mod keep;
@@ -14,6 +13,7 @@ mod print;
 mod refuse;
 mod seating;
 mod session;
+mod work;
 
 pub use engine::Engine;
 pub use fault::LineFault;

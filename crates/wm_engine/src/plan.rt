@@ -1,7 +1,6 @@
 //! What a line does and answers, worked out over the records before anything changes.
 
 mod at;
-mod batch;
 mod bearing;
 mod call;
 mod change;

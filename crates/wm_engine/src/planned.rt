@@ -1,18 +1,19 @@
 //! What a line does, worked out before anything changes.
-ghost use Rattle.std.specs.Prelude.{◌≡◌, []};
+ghost use Rattle.std.specs.Prelude.{◌≡◌, ◌∷◌, [], IfOk};
 ghost use Rattle.wm_engine.specs.declared.answer.Answer.TheVariants.{Fine};
 ghost use Rattle.wm_engine.specs.declared.seating.Seating.TheVariants.{Stay};
 
 use crate::answer::Answer;
 use crate::seating::Seating;
 use std::alloc::Global;
-use wm_spec::record::Changes;
+use wm_base::Memory;
+use wm_state::edit::Edit;
 
-/// What a line changes, and what it is answered.
+/// What a line makes of the state, and what it is answered.
 #[derive(Drop)]
 pub struct Planned {
-    /// What becomes of the records.
-    pub changes: Changes,
+    /// What it makes of the state that the records stand for.
+    pub edits: Vec<Edit>,
     /// What becomes of the sessions.
     pub seating: Seating,
     pub answer: Answer,
@@ -21,12 +22,12 @@ pub struct Planned {
 impl Planned {
     /// The answer alone: nothing changes.
     pub fn answered(alloc: Global, answer: Answer) -> Planned
-        ensures changes { result.changes ≡ [] }
+        ensures edits { result.edits.items ≡ [] }
         ensures seating { result.seating ≡ Stay }
         ensures answer { result.answer ≡ answer }
     {
         Planned {
-            changes: Changes::new(alloc),
+            edits: Vec::new(alloc),
             seating: Seating::Stay,
             answer,
         }
@@ -34,37 +35,39 @@ impl Planned {
 
     /// The sessions change, and no record does.
     pub fn seated(alloc: Global, seating: Seating) -> Planned
-        ensures changes { result.changes ≡ [] }
+        ensures edits { result.edits.items ≡ [] }
         ensures seating { result.seating ≡ seating }
         ensures answer { result.answer ≡ Fine }
     {
         Planned {
-            changes: Changes::new(alloc),
+            edits: Vec::new(alloc),
             seating,
             answer: Answer::Fine,
         }
     }
 
-    /// Records are changed.
-    pub fn changing(changes: Changes, answer: Answer) -> Planned
-        ensures changes { result.changes ≡ changes }
-        ensures seating { result.seating ≡ Stay }
-        ensures answer { result.answer ≡ answer }
+    /// One edit is made.
+    pub fn editing(alloc: Global, edit: Edit, answer: Answer) -> Result<Planned, Memory>
+        ensures edits { IfOk result (λ p. p.edits.items ≡ edit ∷ []) }
+        ensures seating { IfOk result (λ p. p.seating ≡ Stay) }
+        ensures answer { IfOk result (λ p. p.answer ≡ answer) }
     {
-        Planned {
-            changes,
+        let mut edits = Vec::new(alloc);
+        edits.push(edit)?;
+        Ok(Planned {
+            edits,
             seating: Seating::Stay,
             answer,
-        }
+        })
     }
 
     /// What the line changes, without its answer.
     pub fn into_changed(self) -> Changed
-        ensures changes { result.changes ≡ self.changes }
+        ensures edits { result.edits ≡ self.edits }
         ensures seating { result.seating ≡ self.seating }
     {
         Changed {
-            changes: self.changes,
+            edits: self.edits,
             seating: self.seating,
         }
     }
@@ -80,7 +83,7 @@ pub struct Timed {
 impl Timed {
     /// The answer alone, and the moment: nothing else changes.
     pub fn answered(alloc: Global, moment: u64, answer: Answer) -> Timed
-        ensures changes { result.planned.changes ≡ [] }
+        ensures edits { result.planned.edits.items ≡ [] }
         ensures seating { result.planned.seating ≡ Stay }
         ensures answer { result.planned.answer ≡ answer }
         ensures moment { result.moment ≡ moment }
@@ -92,9 +95,9 @@ impl Timed {
     }
 }
 
-/// What a line changes: the records, and the sessions.
+/// What a line changes: the state that the records stand for, and the sessions.
 #[derive(Drop)]
 pub struct Changed {
-    pub changes: Changes,
+    pub edits: Vec<Edit>,
     pub seating: Seating,
 }

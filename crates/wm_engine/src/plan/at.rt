@@ -21,7 +21,7 @@ pub fn at_moment(alloc: Global, moment: u64, instant: Instant) -> Timed
     requires instant { instant < END }
     ensures does { (rs : List Stored) (xs : List Session) → keep_rules (parts_of rs) ≡ true → DoesTimed rs xs moment result (set_moment instant) }
     ensures moment { result.moment < END }
-    ensures changes { result.planned.changes ≡ [] }
+    ensures edits { result.planned.edits.items ≡ [] }
     ensures seating { result.planned.seating ≡ Stay }
 {
     let next = instant.seconds();

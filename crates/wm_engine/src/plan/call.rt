@@ -4,7 +4,7 @@ ghost use Rattle.std.specs.Option.{option_copied};
 ghost use Rattle.wm_base.specs.declared.instant.TheConstants.{END};
 ghost use Rattle.wm_calls.specs.Arguments.{text_given};
 ghost use Rattle.wm_calls.specs.Faults.{argument_fault};
-ghost use Rattle.wm_engine.specs.Forks.{ChangesFew, forks_call};
+ghost use Rattle.wm_engine.specs.Forks.{AreForks, forks_call};
 ghost use Rattle.wm_engine.specs.Idle.{Idles};
 ghost use Rattle.wm_engine.specs.Lacking.{lacks};
 ghost use Rattle.wm_engine.specs.Planning.{DoesIt};
@@ -17,9 +17,7 @@ ghost use Rattle.wm_grammar.specs.declared.procedure.Procedure.TheVariants as pr
 ghost use Rattle.wm_graph.specs.Parts.{parts_of};
 ghost use Rattle.wm_graph.specs.Rules.{keep_rules};
 ghost use Rattle.wm_model.specs.Step.{call, keeps_history, readiness_given};
-ghost use Rattle.wm_state.specs.ById.{applied};
 ghost use Rattle.wm_state.specs.State.{Session as SessionState};
-ghost use Rattle.wm_store.specs.Spelled.{FitPages};
 
 use crate::names::{is_name, names_no_savepoint, names_no_workspace};
 use crate::plan::bearing::create_workspace;
@@ -50,7 +48,7 @@ fn fault_of(alloc: Global, procedure: Procedure, args: &[Arg]) -> Result<Option<
 
 /// The answer of a call that lacks a text.
 fn lacking(alloc: Global, fault: Option<Name>) -> Planned
-    ensures changes { result.changes ≡ [] }
+    ensures edits { result.edits.items ≡ [] }
     ensures seating { result.seating ≡ Stay }
     ensures answer { answer_view result.answer ≡ lacks fault }
 {
@@ -110,7 +108,6 @@ fn enable_call(
     requires rules { keep_rules (parts_of image.now) ≡ true }
     requires moment { moment < END }
     ensures does { IfOk result (λ p. (xs : List SessionState) → DoesIt image.now xs moment p (call session.now (Some procedures.EnableVersioning) args.now)) }
-    ensures fit { IfOk result (λ p. FitPages p.changes) }
     ensures idle { IfOk result Idles }
 {
     let fault = fault_of(alloc, Procedure::EnableVersioning, args)?;
@@ -133,9 +130,8 @@ fn workspace_call(
     requires rules { keep_rules (parts_of image.now) ≡ true }
     requires moment { moment < END }
     ensures does { IfOk result (λ p. (xs : List SessionState) → DoesIt image.now xs moment p (call session.now (Some procedures.CreateWorkspace) args.now)) }
-    ensures fit { IfOk result (λ p. FitPages p.changes) }
     ensures idle { IfOk result Idles }
-    ensures few { IfOk result (λ p. ChangesFew image.now (applied p.changes image.now)) }
+    ensures few { IfOk result AreForks }
 {
     let fault = fault_of(alloc, Procedure::CreateWorkspace, args)?;
     let Some(workspace) = text_given(Procedure::CreateWorkspace, args, Parameter::Workspace) else {
@@ -165,9 +161,8 @@ fn savepoint_call(
     requires rules { keep_rules (parts_of image.now) ≡ true }
     requires moment { moment < END }
     ensures does { IfOk result (λ p. (xs : List SessionState) → DoesIt image.now xs moment p (call session.now (Some procedures.CreateSavepoint) args.now)) }
-    ensures fit { IfOk result (λ p. FitPages p.changes) }
     ensures idle { IfOk result Idles }
-    ensures few { IfOk result (λ p. ChangesFew image.now (applied p.changes image.now)) }
+    ensures few { IfOk result AreForks }
 {
     let fault = fault_of(alloc, Procedure::CreateSavepoint, args)?;
     let Some(savepoint) = text_given(Procedure::CreateSavepoint, args, Parameter::SavepointName)
@@ -197,7 +192,6 @@ fn goto_workspace_call(
 ) -> Result<Planned, Memory>
     requires rules { keep_rules (parts_of image.now) ≡ true }
     ensures does { IfOk result (λ p. (xs : List SessionState) (m : ℕ) → DoesIt image.now xs m p (call session.now (Some procedures.GotoWorkspace) args.now)) }
-    ensures fit { IfOk result (λ p. FitPages p.changes) }
     ensures idle { IfOk result Idles }
 {
     if let Some(parameter) = fault_of(alloc, Procedure::GotoWorkspace, args)? {
@@ -216,7 +210,6 @@ fn goto_savepoint_call(
 ) -> Result<Planned, Memory>
     requires rules { keep_rules (parts_of image.now) ≡ true }
     ensures does { IfOk result (λ p. (xs : List SessionState) (m : ℕ) → DoesIt image.now xs m p (call session.now (Some procedures.GotoSavepoint) args.now)) }
-    ensures fit { IfOk result (λ p. FitPages p.changes) }
     ensures idle { IfOk result Idles }
 {
     if let Some(parameter) = fault_of(alloc, Procedure::GotoSavepoint, args)? {
@@ -240,7 +233,6 @@ fn valid_time_call(
 ) -> Result<Planned, Memory>
     requires rules { keep_rules (parts_of image.now) ≡ true }
     ensures does { IfOk result (λ p. (xs : List SessionState) (m : ℕ) → DoesIt image.now xs m p (call session.now (Some procedures.SetValidTime) args.now)) }
-    ensures fit { IfOk result (λ p. FitPages p.changes) }
     ensures idle { IfOk result Idles }
 {
     if let Some(parameter) = fault_of(alloc, Procedure::SetValidTime, args)? {
@@ -263,9 +255,8 @@ fn call_of(
     requires rules { keep_rules (parts_of image.now) ≡ true }
     requires moment { moment < END }
     ensures does { IfOk result (λ p. (xs : List SessionState) → DoesIt image.now xs moment p (call session.now (Some procedure) args.now)) }
-    ensures fit { IfOk result (λ p. FitPages p.changes) }
     ensures idle { IfOk result Idles }
-    ensures few { forks_call (Some procedure) ≡ true → IfOk result (λ p. ChangesFew image.now (applied p.changes image.now)) }
+    ensures few { forks_call (Some procedure) ≡ true → IfOk result AreForks }
 {
     match procedure {
         Procedure::EnableVersioning => enable_call(alloc, image, moment, session, args),
@@ -290,10 +281,9 @@ pub fn call(
     requires rules { keep_rules (parts_of image.now) ≡ true }
     requires moment { moment < END }
     ensures does { IfOk result (λ p. (xs : List SessionState) → DoesIt image.now xs moment p (call session.now (procedure_of name.now) args.now)) }
-    ensures fit { IfOk result (λ p. FitPages p.changes) }
     ensures idle { IfOk result Idles }
     // A savepoint or a workspace that is made changes few records.
-    ensures few { forks_call (procedure_of name.now) ≡ true → IfOk result (λ p. ChangesFew image.now (applied p.changes image.now)) }
+    ensures few { forks_call (procedure_of name.now) ≡ true → IfOk result AreForks }
 {
     match procedure_of(name.as_bytes()) {
         Some(procedure) => call_of(alloc, image, moment, session, procedure, args),

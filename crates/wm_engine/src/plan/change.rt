@@ -17,7 +17,6 @@ ghost use Rattle.wm_making.specs.Rows.{is_filled};
 ghost use Rattle.wm_model.specs.Step.{change_all, delete, replace_all, unless_empty, update, write_ascending};
 ghost use Rattle.wm_spec.specs.Expressions.{has_no_empty_period};
 ghost use Rattle.wm_state.specs.State.{Session as SessionState};
-ghost use Rattle.wm_store.specs.Spelled.{FitPages};
 
 use crate::answer::Answer;
 use crate::plan::choosing::chosen_rows;
@@ -89,7 +88,6 @@ fn delete_rows(
     requires keyed { are_keyed table.now rows.now ≡ true }
     requires overlap { all_overlap table.now within.now rows.now ≡ true }
     ensures does { IfOk result (DoesAs image.now moment session.now space.now (unless_empty rows.now (λ kept. write_ascending session.now.user table.now (length kept) (map (gone table.now within.now) kept)))) }
-    ensures fit { IfOk result (λ p. FitPages p.changes) }
     ensures idle { IfOk result Idles }
 {
     if !are_filled(rows) {
@@ -113,7 +111,6 @@ pub fn delete(
     requires rules { keep_rules (parts_of image.now) ≡ true }
     requires moment { moment < END }
     ensures does { IfOk result (λ p. (xs : List SessionState) → DoesIt image.now xs moment p (delete session.now name.now (filter_view filter.now) empty)) }
-    ensures fit { IfOk result (λ p. FitPages p.changes) }
     ensures idle { IfOk result Idles }
 {
     let Some(table) = image.table(name.as_bytes()) else {
@@ -171,7 +168,6 @@ fn change_all(
     requires overlap { all_overlap table.now within.now rows.now ≡ true }
     requires may_replace { MayReplace table.now rows.now news.items }
     ensures does { IfOk result (DoesAs image.now moment session.now space.now (change_all session.now.user table.now within.now (sets_view sets.now) rows.now news.items)) }
-    ensures fit { IfOk result (λ p. FitPages p.changes) }
     ensures idle { IfOk result Idles }
 {
     if sets_period(table, sets) {
@@ -203,7 +199,6 @@ fn replace_all(
     requires stand { all_stand table.now rows.now ≡ true }
     requires overlap { all_overlap table.now within.now rows.now ≡ true }
     ensures does { IfOk result (DoesAs image.now moment session.now space.now (replace_all session.now.user table.now within.now (sets_view sets.now) rows.now (updated_rows table.now (sets_view sets.now) rows.now))) }
-    ensures fit { IfOk result (λ p. FitPages p.changes) }
     ensures idle { IfOk result Idles }
 {
     let news = match updated_rows(alloc, table, sets, rows) {
@@ -239,7 +234,6 @@ fn update_rows(
     requires keyed { are_keyed table.now rows.now ≡ true }
     requires overlap { all_overlap table.now within.now rows.now ≡ true }
     ensures does { IfOk result (DoesAs image.now moment session.now space.now (unless_empty rows.now (λ kept. replace_all session.now.user table.now within.now (sets_view sets.now) kept (updated_rows table.now (sets_view sets.now) kept)))) }
-    ensures fit { IfOk result (λ p. FitPages p.changes) }
     ensures idle { IfOk result Idles }
 {
     if !are_filled(rows) {
@@ -266,7 +260,6 @@ pub fn update(
     // Where it has no empty period, none of its sets has one.
     requires lasting { empty ≡ false → list_all (λ (s : SetTree). has_no_empty_period s.becomes) (sets_view sets.now) ≡ true }
     ensures does { IfOk result (λ p. (xs : List SessionState) → DoesIt image.now xs moment p (update session.now name.now (sets_view sets.now) (filter_view filter.now) empty)) }
-    ensures fit { IfOk result (λ p. FitPages p.changes) }
     ensures idle { IfOk result Idles }
 {
     let Some(table) = image.table(name.as_bytes()) else {

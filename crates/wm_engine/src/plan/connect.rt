@@ -6,7 +6,6 @@ ghost use Rattle.wm_graph.specs.Parts.{parts_of};
 ghost use Rattle.wm_graph.specs.Rules.{keep_rules};
 ghost use Rattle.wm_model.specs.Step.{connect, disconnect, is_name};
 ghost use Rattle.wm_spec.specs.declared.record.stored.Stored.{Stored};
-ghost use Rattle.wm_store.specs.Spelled.{FitPages};
 
 use crate::names::is_name;
 use crate::planned::Planned;
@@ -34,7 +33,6 @@ pub fn connect(
     user: &Name,
 ) -> Result<Planned, Memory>
     ensures does { IfOk result (λ p. (rs : List Stored) (m : ℕ) → keep_rules (parts_of rs) ≡ true → DoesIt rs sessions.now m p (connect name.now user.now)) }
-    ensures fit { IfOk result (λ p. FitPages p.changes) }
     ensures idle { IfOk result Idles }
 {
     if is_open(sessions, name) {
@@ -53,7 +51,6 @@ pub fn connect(
 /// DISCONNECT ends a session.
 pub fn disconnect(alloc: Global, sessions: &[Session], name: &Name) -> Result<Planned, Memory>
     ensures does { IfOk result (λ p. (rs : List Stored) (m : ℕ) → keep_rules (parts_of rs) ≡ true → DoesIt rs sessions.now m p (disconnect name.now)) }
-    ensures fit { IfOk result (λ p. FitPages p.changes) }
     ensures idle { IfOk result Idles }
 {
     if !is_open(sessions, name) {

@@ -9,19 +9,18 @@ ghost use Rattle.wm_model.specs.Planning.{named};
 ghost use Rattle.wm_model.specs.Step.{create, is_full};
 ghost use Rattle.wm_state.specs.Standing.{by_number};
 ghost use Rattle.wm_state.specs.State.{Session as SessionState, next_table};
-ghost use Rattle.wm_store.specs.Spelled.{FitPages};
 ghost use Rattle.wm_engine.specs.Planning.{DoesIt};
 
 use crate::answer::Answer;
-use crate::count::counted;
-use crate::plan::batch::table_changes;
 use crate::planned::Planned;
 use crate::refuse::{at_its_end, most_tables, table_there};
+use crate::work::is_spent;
 use std::alloc::Global;
 use wm_base::tree::statement::CreateItems;
 use wm_base::{Memory, Name};
 use wm_image::Image;
 use wm_making::{names_fault, shape_fault, table_of};
+use wm_state::edit::Edit;
 
 /// The most tables of a store.
 const TABLE_LIMIT: usize = 256;
@@ -55,18 +54,13 @@ fn make(
     requires named { names_fault name.now items.now ≡ None }
     requires shaped { shape_fault items.now ≡ None }
     ensures does { IfOk result (λ p. (xs : List SessionState) → DoesIt image.now xs moment p (create name.now items.now)) }
-    ensures fit { IfOk result (λ p. FitPages p.changes) }
     ensures idle { IfOk result Idles }
 {
-    let Some(counters) = counted(&image.counters(), moment) else {
+    if is_spent(&image.counters()) {
         return Ok(Planned::answered(alloc, at_its_end(alloc, b"WORK")?));
-    };
-    let Some(id) = image.next_id() else {
-        return Err(Memory);
-    };
+    }
     let table = table_of(alloc, number, name.copy(alloc)?, items)?;
-    let changes = table_changes(alloc, image.id_of_counters(), counters, id, table)?;
-    Ok(Planned::changing(changes, Answer::Fine))
+    Planned::editing(alloc, Edit::Create(table), Answer::Fine)
 }
 
 /// CREATE TABLE makes a table.
@@ -80,7 +74,6 @@ pub fn create(
     requires rules { keep_rules (parts_of image.now) ≡ true }
     requires moment { moment < END }
     ensures does { IfOk result (λ p. (xs : List SessionState) → DoesIt image.now xs moment p (create name.now items.now)) }
-    ensures fit { IfOk result (λ p. FitPages p.changes) }
     ensures idle { IfOk result Idles }
 {
     if let Some(refusal) = names_fault(alloc, name, items)? {

@@ -7,19 +7,18 @@ ghost use Rattle.wm_graph.specs.Rules.{keep_rules};
 ghost use Rattle.wm_model.specs.Planning.{named};
 ghost use Rattle.wm_model.specs.Step.{enable};
 ghost use Rattle.wm_state.specs.State.{Session as SessionState};
-ghost use Rattle.wm_store.specs.Spelled.{FitPages};
 ghost use Rattle.wm_engine.specs.Planning.{DoesIt};
 ghost use Rattle.wm_engine.specs.Readying.{readiness_view};
 
 use crate::answer::Answer;
-use crate::count::counted;
-use crate::plan::batch::{readied, table_changes};
 use crate::planned::Planned;
 use crate::refuse::{at_its_end, long_name, mistyped, no_key, no_table, versioning};
+use crate::work::is_spent;
 use std::alloc::Global;
 use wm_base::{Memory, Name};
 use wm_image::Image;
 use wm_spec::record::Table;
+use wm_state::edit::Edit;
 
 /// How a table becomes ready for rows: with or without valid time, and with or without its history.
 #[derive(Clone, Copy)]
@@ -36,27 +35,28 @@ fn make_ready(
     alloc: Global,
     image: &Image,
     moment: u64,
-    name: &Name,
+    name: Name,
     how: Readiness,
     table: &Table,
 ) -> Result<Planned, Memory>
     requires rules { keep_rules (parts_of image.now) ≡ true }
     requires moment { moment < END }
-    requires named { named image.now name.now ≡ Some table.now }
+    requires named { named image.now name ≡ Some table.now }
     requires off { table.now.versioned ≡ false }
     requires key { table.now.has_key ≡ true }
-    requires short { nat_lt 25 (length name.now) ≡ false }
-    ensures does { IfOk result (λ p. (xs : List SessionState) → DoesIt image.now xs moment p (enable name.now (readiness_view how) None)) }
-    ensures fit { IfOk result (λ p. FitPages p.changes) }
+    requires short { nat_lt 25 (length name) ≡ false }
+    ensures does { IfOk result (λ p. (xs : List SessionState) → DoesIt image.now xs moment p (enable name (readiness_view how) None)) }
     ensures idle { IfOk result Idles }
 {
-    let Some(counters) = counted(&image.counters(), moment) else {
+    if is_spent(&image.counters()) {
         return Ok(Planned::answered(alloc, at_its_end(alloc, b"WORK")?));
+    }
+    let edit = Edit::Enable {
+        name,
+        valid: how.valid,
+        history: how.history,
     };
-    let id = image.id_of_table(name.as_bytes()).unwrap();
-    let new = readied(alloc, how, table)?;
-    let changes = table_changes(alloc, image.id_of_counters(), counters, id, new)?;
-    Ok(Planned::changing(changes, Answer::Fine))
+    Planned::editing(alloc, edit, Answer::Fine)
 }
 
 /// EnableVersioning makes a table ready for rows, once. The fault is what is wrong with its arguments.
@@ -71,7 +71,6 @@ pub fn enable(
     requires rules { keep_rules (parts_of image.now) ≡ true }
     requires moment { moment < END }
     ensures does { IfOk result (λ p. (xs : List SessionState) → DoesIt image.now xs moment p (enable name (readiness_view how) fault)) }
-    ensures fit { IfOk result (λ p. FitPages p.changes) }
     ensures idle { IfOk result Idles }
 {
     if name.len() > NAME_LIMIT {
@@ -89,5 +88,5 @@ pub fn enable(
     if !table.has_key {
         return Ok(Planned::answered(alloc, no_key(name)));
     }
-    make_ready(alloc, image, moment, &name, how, table)
+    make_ready(alloc, image, moment, name, how, table)
 }

@@ -10,7 +10,6 @@ ghost use Rattle.wm_model.specs.Planning.{Move};
 ghost use Rattle.wm_model.specs.Step.{goto_savepoint, goto_workspace};
 ghost use Rattle.wm_print.specs.Texts.{Fine};
 ghost use Rattle.wm_state.specs.State.{Session as SessionState};
-ghost use Rattle.wm_store.specs.Spelled.{FitPages};
 
 use crate::names::is_latest;
 use crate::planned::Planned;
@@ -23,7 +22,7 @@ use wm_image::Image;
 
 /// Stands a session elsewhere.
 fn go(alloc: Global, session: &Session, space: u32, stand: Stand) -> Result<Planned, Memory>
-    ensures changes { IfOk result (λ p. p.changes ≡ []) }
+    ensures edits { IfOk result (λ p. p.edits.items ≡ []) }
     ensures seating { IfOk result (λ p. seating_view p.seating ≡ Move session.now.name space (stand_view stand)) }
     ensures answer { IfOk result (λ p. answer_view p.answer ≡ Fine) }
 {
@@ -40,7 +39,6 @@ pub fn goto_workspace(
 ) -> Result<Planned, Memory>
     requires rules { keep_rules (parts_of image.now) ≡ true }
     ensures does { IfOk result (λ p. (xs : List SessionState) (m : ℕ) → DoesIt image.now xs m p (goto_workspace session.now name.now)) }
-    ensures fit { IfOk result (λ p. FitPages p.changes) }
     ensures idle { IfOk result Idles }
 {
     let Some(space) = image.space_named(name) else {
@@ -58,7 +56,6 @@ pub fn goto_savepoint(
 ) -> Result<Planned, Memory>
     requires rules { keep_rules (parts_of image.now) ≡ true }
     ensures does { IfOk result (λ p. (xs : List SessionState) (m : ℕ) → DoesIt image.now xs m p (goto_savepoint session.now name.now)) }
-    ensures fit { IfOk result (λ p. FitPages p.changes) }
     ensures idle { IfOk result Idles }
 {
     let space = session.space();

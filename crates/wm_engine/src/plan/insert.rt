@@ -14,7 +14,6 @@ ghost use Rattle.wm_making.specs.Rows.{is_filled, row_of};
 ghost use Rattle.wm_model.specs.Step.{add_found, add_to, insert, new_period, told_period};
 ghost use Rattle.wm_spec.specs.Expressions.{has_no_empty_period};
 ghost use Rattle.wm_state.specs.State.{Session as SessionState};
-ghost use Rattle.wm_store.specs.Spelled.{FitPages};
 
 use crate::answer::Answer;
 use crate::plan::write_all::write_all;
@@ -90,7 +89,6 @@ fn add_to(
     requires keyed { is_keyed_row table.now row ≡ true }
     requires filled { list_all is_filled row ≡ true }
     ensures does { IfOk result (DoesAs image.now moment session.now space.now (add_to session.now.user table.now period row)) }
-    ensures fit { IfOk result (λ p. FitPages p.changes) }
     ensures idle { IfOk result Idles }
 {
     let _till = period.till();
@@ -120,7 +118,6 @@ fn add_row(
     requires home { space_of (parts_of image.now).spaces session.now.space ≡ Some space.now }
     requires lasting { list_all has_no_empty_period (exprs_view insertion.values.now) ≡ true }
     ensures does { IfOk result (DoesAs image.now moment session.now space.now (add_found session.now.user insertion.entry.table.now (new_period session.now insertion.entry.table.now insertion.entry.names.now (exprs_view insertion.entry.values.now)) (row_of insertion.entry.table.now insertion.entry.names.now (exprs_view insertion.entry.values.now)))) }
-    ensures fit { IfOk result (λ p. FitPages p.changes) }
     ensures idle { IfOk result Idles }
 {
     let table = insertion.table;
@@ -150,7 +147,6 @@ fn add_found(
     requires fine { IsFine image.now insertion }
     requires lasting { empty ≡ false → list_all has_no_empty_period (exprs_view insertion.values.now) ≡ true }
     ensures does { IfOk result (λ p. (xs : List SessionState) → DoesIt image.now xs moment p (insert session.now insertion.entry.name.now insertion.entry.names.now (exprs_view insertion.entry.values.now) empty)) }
-    ensures fit { IfOk result (λ p. FitPages p.changes) }
     ensures idle { IfOk result Idles }
 {
     let Some(space) = image.space(session.space()) else {
@@ -181,7 +177,6 @@ pub fn insert(
     // Where it has no empty period, none of its values has one.
     requires lasting { empty ≡ false → list_all has_no_empty_period (exprs_view values.now) ≡ true }
     ensures does { IfOk result (λ p. (xs : List SessionState) → DoesIt image.now xs moment p (insert session.now name.now names.now (exprs_view values.now) empty)) }
-    ensures fit { IfOk result (λ p. FitPages p.changes) }
     ensures idle { IfOk result Idles }
 {
     let Some(table) = image.table(name.as_bytes()) else {

@@ -2,7 +2,7 @@
 ghost use Rattle.std.specs.Prelude.{◌≡◌, ◌<◌, ◌≤◌, length, true, IfOk, Ok as Read};
 ghost use Rattle.wm_base.specs.declared.instant.TheConstants.{END};
 ghost use Rattle.wm_base.specs.Views.{line_view};
-ghost use Rattle.wm_engine.specs.Forks.{ChangesFew, is_fork, is_fork_line};
+ghost use Rattle.wm_engine.specs.Forks.{AreForks, is_fork, is_fork_line};
 ghost use Rattle.wm_engine.specs.Idle.{Idles};
 ghost use Rattle.wm_engine.specs.Planning.{DoesTimed};
 ghost use Rattle.wm_engine.specs.Timely.{IsTimely};
@@ -10,8 +10,6 @@ ghost use Rattle.wm_graph.specs.Parts.{parts_of};
 ghost use Rattle.wm_graph.specs.Rules.{keep_rules};
 ghost use Rattle.wm_model.specs.Step.{run_line, run_parsed, step, timed_line};
 ghost use Rattle.wm_parser.specs.Parsed.{parsed};
-ghost use Rattle.wm_state.specs.ById.{applied};
-ghost use Rattle.wm_store.specs.Spelled.{FitPages};
 
 use crate::answer::Answer;
 use crate::plan::at::at_moment;
@@ -46,9 +44,8 @@ fn plan_line(
     requires timely { IsTimely (line_view line.now) }
     ensures does { IfOk result (λ t. DoesTimed image.now sessions.now moment t (run_line (line_view line.now))) }
     ensures moment { IfOk result (λ t. t.moment < END) }
-    ensures fit { IfOk result (λ t. FitPages t.planned.changes) }
     ensures idle { IfOk result (λ t. Idles t.planned) }
-    ensures few { is_fork_line (line_view line.now) ≡ true → IfOk result (λ t. ChangesFew image.now (applied t.planned.changes image.now)) }
+    ensures few { is_fork_line (line_view line.now) ≡ true → IfOk result (λ t. AreForks t.planned) }
 {
     match line {
         Line::Connect { session, user } => {
@@ -90,9 +87,8 @@ fn plan_read(
     requires timely { IsTimely (line_view line.old) }
     ensures does { IfOk result (λ t. DoesTimed image.now sessions.now moment t (run_parsed (Read (line_view line.old)))) }
     ensures moment { IfOk result (λ t. t.moment < END) }
-    ensures fit { IfOk result (λ t. FitPages t.planned.changes) }
     ensures idle { IfOk result (λ t. Idles t.planned) }
-    ensures few { is_fork_line (line_view line.old) ≡ true → IfOk result (λ t. ChangesFew image.now (applied t.planned.changes image.now)) }
+    ensures few { is_fork_line (line_view line.old) ≡ true → IfOk result (λ t. AreForks t.planned) }
 {
     if is_later(line) {
         return Ok(Timed::answered(alloc, moment, not_built()));
@@ -115,9 +111,8 @@ fn plan_text(
     requires fits { length text.now ≤ 16384 }
     ensures does { IfOk result (λ t. DoesTimed image.now sessions.now moment t (run_parsed (parsed text.now))) }
     ensures moment { IfOk result (λ t. t.moment < END) }
-    ensures fit { IfOk result (λ t. FitPages t.planned.changes) }
     ensures idle { IfOk result (λ t. Idles t.planned) }
-    ensures few { is_fork (parsed text.now) ≡ true → IfOk result (λ t. ChangesFew image.now (applied t.planned.changes image.now)) }
+    ensures few { is_fork (parsed text.now) ≡ true → IfOk result (λ t. AreForks t.planned) }
 {
     match parse(alloc, text) {
         Ok(mut line) => {
@@ -147,9 +142,8 @@ pub fn plan(
     requires moment { moment < END }
     ensures does { IfOk result (λ t. DoesTimed image.now sessions.now moment t (λ s. step s text.now)) }
     ensures moment { IfOk result (λ t. t.moment < END) }
-    ensures fit { IfOk result (λ t. FitPages t.planned.changes) }
     ensures idle { IfOk result (λ t. Idles t.planned) }
-    ensures few { is_fork (parsed text.now) ≡ true → IfOk result (λ t. ChangesFew image.now (applied t.planned.changes image.now)) }
+    ensures few { is_fork (parsed text.now) ≡ true → IfOk result (λ t. AreForks t.planned) }
 {
     if text.len() > LINE_LIMIT {
         return Ok(Timed::answered(alloc, moment, too_long_line()));

@@ -13,7 +13,6 @@ ghost use Rattle.wm_engine.specs.Moved.{AreShifts, Finds, NoneAt};
 ghost use Rattle.wm_graph.specs.Parts.{parts_of, space_of, table_of};
 ghost use Rattle.wm_graph.specs.Rules.{keep_rules};
 ghost use Rattle.wm_model.specs.Step.{clash_at, first_clash, move_all};
-ghost use Rattle.wm_store.specs.Spelled.{FitPages};
 
 use crate::plan::write_all::write_all;
 use crate::planned::Planned;
@@ -106,7 +105,6 @@ pub fn move_all(
     requires fit { list_all (λ (m : MoveOf). is_change table.now (moved_row m)) moves.items ≡ true }
     requires filled { list_all (λ (m : MoveOf). is_filled_change (moved_row m)) moves.items ≡ true }
     ensures does { IfOk result (DoesAs image.now moment session.now space.now (move_all session.now.user table.now moves.items)) }
-    ensures fit { IfOk result (λ p. FitPages p.changes) }
     ensures idle { IfOk result Idles }
 {
     let version = image.latest(session.space());

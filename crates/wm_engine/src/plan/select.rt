@@ -19,7 +19,6 @@ ghost use Rattle.wm_select.specs.Query.{answer_of, columns_of, projection_lasts,
 ghost use Rattle.wm_spec.specs.Conditions.{fits, truth_of, typed};
 ghost use Rattle.wm_state.specs.Listing.{IsShowing};
 ghost use Rattle.wm_state.specs.State.{Session as SessionState, table_named};
-ghost use Rattle.wm_store.specs.Spelled.{FitPages};
 ghost use Rattle.wm_typing.specs.Columns.{columns_of_table};
 
 use crate::answer::Answer;
@@ -316,7 +315,6 @@ pub fn select(
     // Where it has no empty period, none of its items has one.
     requires lasting { empty ≡ false → projection_lasts (query_view query.now).projection ≡ true }
     ensures does { IfOk result (λ p. (xs : List SessionState) → DoesIt image.now xs moment p (select session.now (query_view query.now) empty)) }
-    ensures fit { IfOk result (λ p. FitPages p.changes) }
     ensures idle { IfOk result Idles }
 {
     let sources = query.sources.as_slice();

@@ -2,15 +2,13 @@
 ghost use Rattle.std.specs.Prelude.{◌≡◌, ◌<◌, ℕ, List, true, IfOk};
 ghost use Rattle.wm_base.specs.declared.instant.TheConstants.{END};
 ghost use Rattle.wm_base.specs.Views.{statement_view};
-ghost use Rattle.wm_engine.specs.Forks.{ChangesFew, forks};
+ghost use Rattle.wm_engine.specs.Forks.{AreForks, forks};
 ghost use Rattle.wm_engine.specs.Idle.{Idles};
 ghost use Rattle.wm_engine.specs.Planning.{DoesIt};
 ghost use Rattle.wm_graph.specs.Parts.{parts_of};
 ghost use Rattle.wm_graph.specs.Rules.{keep_rules};
 ghost use Rattle.wm_model.specs.Step.{run_for, run_statement, session_of};
-ghost use Rattle.wm_state.specs.ById.{applied};
 ghost use Rattle.wm_state.specs.State.{Session as SessionState};
-ghost use Rattle.wm_store.specs.Spelled.{FitPages};
 
 use crate::plan::call::call;
 use crate::plan::change::{delete, update};
@@ -37,10 +35,9 @@ fn run_statement(
     requires rules { keep_rules (parts_of image.now) ≡ true }
     requires moment { moment < END }
     ensures does { IfOk result (λ p. (xs : List SessionState) → DoesIt image.now xs moment p (run_statement session.now (statement_view statement.now))) }
-    ensures fit { IfOk result (λ p. FitPages p.changes) }
     ensures idle { IfOk result Idles }
     // A savepoint or a workspace that is made changes few records.
-    ensures few { forks (statement_view statement.now) ≡ true → IfOk result (λ p. ChangesFew image.now (applied p.changes image.now)) }
+    ensures few { forks (statement_view statement.now) ≡ true → IfOk result AreForks }
 {
     let empty = has_empty_period(statement);
     match statement {
@@ -97,9 +94,8 @@ pub fn run(
     requires rules { keep_rules (parts_of image.now) ≡ true }
     requires moment { moment < END }
     ensures does { IfOk result (λ p. DoesIt image.now sessions.now moment p (λ s. run_for name.now (session_of name.now s.sessions) (statement_view statement.now) s)) }
-    ensures fit { IfOk result (λ p. FitPages p.changes) }
     ensures idle { IfOk result Idles }
-    ensures few { forks (statement_view statement.now) ≡ true → IfOk result (λ p. ChangesFew image.now (applied p.changes image.now)) }
+    ensures few { forks (statement_view statement.now) ≡ true → IfOk result AreForks }
 {
     let Some(session) = session_named(sessions, name) else {
         return Ok(Planned::answered(alloc, no_session(name.copy(alloc)?)));

@@ -9,7 +9,6 @@ ghost use Rattle.wm_model.specs.Planning.{Limit};
 ghost use Rattle.wm_model.specs.Step.{set_valid_time};
 ghost use Rattle.wm_print.specs.Texts.{Fine};
 ghost use Rattle.wm_state.specs.State.{Session as SessionState};
-ghost use Rattle.wm_store.specs.Spelled.{FitPages};
 
 use crate::planned::Planned;
 use crate::refuse::empty_period;
@@ -21,7 +20,7 @@ use wm_image::Image;
 
 /// The session has this period set, or none.
 fn limited(alloc: Global, session: &Session, period: Option<Period>) -> Result<Planned, Memory>
-    ensures changes { IfOk result (λ p. p.changes ≡ []) }
+    ensures edits { IfOk result (λ p. p.edits.items ≡ []) }
     ensures seating { IfOk result (λ p. seating_view p.seating ≡ Limit session.now.name period) }
     ensures answer { IfOk result (λ p. answer_view p.answer ≡ Fine) }
 {
@@ -40,7 +39,6 @@ pub fn set_valid_time(
 ) -> Result<Planned, Memory>
     requires rules { keep_rules (parts_of image.now) ≡ true }
     ensures does { IfOk result (λ p. (xs : List SessionState) (m : ℕ) → DoesIt image.now xs m p (set_valid_time session.now from till)) }
-    ensures fit { IfOk result (λ p. FitPages p.changes) }
     ensures idle { IfOk result Idles }
 {
     let Some(from) = from else {

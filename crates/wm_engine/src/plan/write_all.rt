@@ -10,7 +10,6 @@ ghost use Rattle.wm_graph.specs.Parts.{parts_of, space_of, table_of};
 ghost use Rattle.wm_graph.specs.Rules.{keep_rules};
 ghost use Rattle.wm_model.specs.Step.{counter_limit, write_ascending};
 ghost use Rattle.wm_state.specs.Drawing.{are_sorted};
-ghost use Rattle.wm_store.specs.Spelled.{FitPages};
 
 use crate::answer::Answer;
 use crate::plan::write_changes::{Writing, write_changes};
@@ -77,7 +76,6 @@ pub fn write_all(
     requires last { list_all change_lasts changes.items ≡ true }
     requires filled { list_all is_filled_change changes.items ≡ true }
     ensures does { IfOk result (DoesAs image.now moment session.now space.now (write_ascending session.now.user table.now rows_changed changes.items)) }
-    ensures fit { IfOk result (λ p. FitPages p.changes) }
     ensures idle { IfOk result Idles }
 {
     if !are_sorted(changes.as_slice()) {

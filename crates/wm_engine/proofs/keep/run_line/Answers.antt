@@ -1,17 +1,17 @@
 use Rattle.std.proofs.Common.{List, sym, subst, ap, ◌∙◌}
-use Rattle.wm_model.specs.Planning.{StandsAt}
+use Rattle.std.specs.List.{list_all}
+use Rattle.std.specs.declared.alloc.Global.{Global}
+use Rattle.std.specs.declared.vec.Vec.{Vec}
+use Rattle.wm_model.specs.Planning.{StandsAt, seated}
 use Rattle.wm_model.specs.Step.{step}
-use Rattle.wm_state.specs.State.{Session}
-use Rattle.wm_engine.proofs.Keeping.{begun_stands, kept_stands}
-use Rattle.wm_engine.specs.Forks.{ChangesFew}
+use Rattle.wm_print.specs.Texts.{Answer}
+use Rattle.wm_state.specs.Drafts.{is_fork as is_fork_edit}
+use Rattle.wm_state.specs.State.{State, Session}
+use Rattle.wm_state.specs.declared.edit.Edit.{Edit}
+use Rattle.wm_engine.proofs.Keeping.{begun_stands, kept_few, kept_same, kept_stands}
 use Rattle.wm_engine.specs.Idle.{is_idle}
-use Rattle.wm_engine.specs.declared.seating.Seating.{Seating}
-use Rattle.wm_engine.specs.Views.{seating_view}
-use Rattle.wm_model.specs.Planning.{seated}
-use Rattle.wm_spec.specs.declared.record.batch.Change.{Change}
-use Rattle.wm_spec.specs.declared.record.stored.Stored.{Stored}
-use Rattle.wm_state.specs.ById.{applied}
 use Rattle.wm_engine.specs.Views.{answer_view, seating_view}
+use Rattle.wm_engine.specs.declared.seating.Seating.{Seating}
 use Rattle.wm_engine.proofs.keep.run_line.Goals as goal
 
 pub returns-in_err-planned-clause-any_moment : goal.returns-in_err-planned-clause-any_moment
@@ -24,36 +24,37 @@ returns-in_err-bytes-clause-any_moment g c = λ told s stands.
 
 pub returns-in_err-image-clause-any_moment : goal.returns-in_err-image-clause-any_moment
 returns-in_err-image-clause-any_moment g c = λ told s stands.
-    kept_stands c.args.image c.as_slice.result.now c.args.moment c.in_ok-planned.field-0.planned.changes c.into_changed.result.changes (seating_view c.in_ok-planned.field-0.planned.seating) c.in_ok-planned.field-0.moment (answer_view c.in_ok-planned.field-0.planned.answer) (λ t. step t c.args.line.now)
-    (g.P.Station.history c.args.station.now) (g.P.Station.history c.keep.new.station) s c.in_ok-planned.ensures.does c.into_changed.ensures.changes
-    (subst (λ (xs : List Session). StandsAt c.args.image xs c.args.moment s) (sym c.as_slice.ensures.value) stands) (c.in_err-image.ensures.any_moment told)
+    kept_stands c.args.image c.as_slice.result.now c.args.moment c.in_ok-planned.field-0.planned.edits.items c.into_changed.result.edits.items (seating_view c.in_ok-planned.field-0.planned.seating) c.in_ok-planned.field-0.moment
+    (answer_view c.in_ok-planned.field-0.planned.answer) (λ t. step t c.args.line.now) (g.P.Station.history c.args.station.now) (g.P.Station.history c.keep.new.station) s c.in_ok-planned.ensures.does
+    (ap (λ (v : Vec Edit Global). v.items) c.into_changed.ensures.edits) (subst (λ (xs : List Session). StandsAt c.args.image xs c.args.moment s) (sym c.as_slice.ensures.value) stands) (c.in_err-image.ensures.any_moment told)
 
 pub returns-clause-any_moment : goal.returns-clause-any_moment
 returns-clause-any_moment g c = λ told s stands.
-    kept_stands c.args.image c.as_slice.result.now c.args.moment c.in_ok-planned.field-0.planned.changes c.into_changed.result.changes (seating_view c.in_ok-planned.field-0.planned.seating) c.in_ok-planned.field-0.moment (answer_view c.in_ok-planned.field-0.planned.answer) (λ t. step t c.args.line.now)
-    (g.P.Station.history c.args.station.now) (g.P.Station.history c.keep.new.station) s c.in_ok-planned.ensures.does c.into_changed.ensures.changes
-    (subst (λ (xs : List Session). StandsAt c.args.image xs c.args.moment s) (sym c.as_slice.ensures.value) stands) (c.in_ok-image.ensures.any_moment told)
+    kept_stands c.args.image c.as_slice.result.now c.args.moment c.in_ok-planned.field-0.planned.edits.items c.into_changed.result.edits.items (seating_view c.in_ok-planned.field-0.planned.seating) c.in_ok-planned.field-0.moment
+    (answer_view c.in_ok-planned.field-0.planned.answer) (λ t. step t c.args.line.now) (g.P.Station.history c.args.station.now) (g.P.Station.history c.keep.new.station) s c.in_ok-planned.ensures.does
+    (ap (λ (v : Vec Edit Global). v.items) c.into_changed.ensures.edits) (subst (λ (xs : List Session). StandsAt c.args.image xs c.args.moment s) (sym c.as_slice.ensures.value) stands) (c.in_ok-image.ensures.any_moment told)
 
 pub returns-clause-few : goal.returns-clause-few
 returns-clause-few g c = λ fork.
-    subst (λ (rs : List Stored). ChangesFew c.args.image rs) (sym (c.in_ok-image.ensures.image ∙ ap (λ (cs : List Change). applied cs c.args.image) c.into_changed.ensures.changes)) (c.in_ok-planned.ensures.few fork)
+    kept_few c.args.image c.in_ok-image.image c.args.moment c.into_changed.result.edits.items c.in_ok-image.ensures.image
+    (ap (λ (v : Vec Edit Global). list_all is_fork_edit v.items) c.into_changed.ensures.edits ∙ c.in_ok-planned.ensures.few fork)
 
 pub returns-clause-idle : goal.returns-clause-idle
 returns-clause-idle g c = λ s stands idle.
     let d = c.in_ok-planned.ensures.does.does s (subst (λ (xs : List Session). StandsAt c.args.image xs c.args.moment s) (sym c.as_slice.ensures.value) stands) in
-    let quiet = c.in_ok-planned.ensures.idle (ap is_idle d.1 ∙ idle) in (
-      c.in_ok-image.ensures.image ∙ ap (λ (cs : List Change). applied cs c.args.image) (c.into_changed.ensures.changes ∙ quiet.0),
+    let quiet = c.in_ok-planned.ensures.idle (ap (λ (r : State × Answer). is_idle r.1) (sym d) ∙ idle) in (
+      kept_same c.args.image c.in_ok-image.image c.args.moment c.into_changed.result.edits.items c.in_ok-image.ensures.image (ap (λ (v : Vec Edit Global). v.items) c.into_changed.ensures.edits ∙ quiet.0),
       c.in_ok-image.ensures.sessions ∙ ap (λ (x : Seating). seated c.args.sessions.now.items (seating_view x)) (c.into_changed.ensures.seating ∙ quiet.1),
     )
 
 pub returns-in_err-image-clause-unwritten : goal.returns-in_err-image-clause-unwritten
 returns-in_err-image-clause-unwritten g c = λ told s stands idle.
     let d = c.in_ok-planned.ensures.does.does s (subst (λ (xs : List Session). StandsAt c.args.image xs c.args.moment s) (sym c.as_slice.ensures.value) stands) in
-    let quiet = c.in_ok-planned.ensures.idle (ap is_idle d.1 ∙ idle) in
-    c.in_err-image.ensures.nothing told (c.into_changed.ensures.changes ∙ quiet.0)
+    let quiet = c.in_ok-planned.ensures.idle (ap (λ (r : State × Answer). is_idle r.1) (sym d) ∙ idle) in
+    c.in_err-image.ensures.nothing told (ap (λ (v : Vec Edit Global). v.items) c.into_changed.ensures.edits ∙ quiet.0)
 
 pub returns-clause-unwritten : goal.returns-clause-unwritten
 returns-clause-unwritten g c = λ told s stands idle.
     let d = c.in_ok-planned.ensures.does.does s (subst (λ (xs : List Session). StandsAt c.args.image xs c.args.moment s) (sym c.as_slice.ensures.value) stands) in
-    let quiet = c.in_ok-planned.ensures.idle (ap is_idle d.1 ∙ idle) in
-    c.in_ok-image.ensures.nothing told (c.into_changed.ensures.changes ∙ quiet.0)
+    let quiet = c.in_ok-planned.ensures.idle (ap (λ (r : State × Answer). is_idle r.1) (sym d) ∙ idle) in
+    c.in_ok-image.ensures.nothing told (ap (λ (v : Vec Edit Global). v.items) c.into_changed.ensures.edits ∙ quiet.0)

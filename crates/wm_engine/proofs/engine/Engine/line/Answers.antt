@@ -6,7 +6,7 @@ use Rattle.wm_state.specs.State.{State}
 use Rattle.wm_state.specs.Standing.{Stands}
 use Rattle.wm_engine.proofs.Committing.{ended_begun}
 use Rattle.wm_engine.proofs.Working.{stands_over}
-use Rattle.wm_engine.specs.Forks.{ChangesFew}
+use Rattle.wm_state.specs.Drafts.{ChangesFew}
 use Rattle.wm_engine.specs.Working.{Engaged, StandsFor}
 use Rattle.wm_engine.proofs.engine.Engine.line.Goals as goal
 

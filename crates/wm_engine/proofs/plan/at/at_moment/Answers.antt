@@ -21,12 +21,12 @@ pub returns-then-next-moment-clause-does : goal.returns-then-next-moment-clause-
 returns-then-next-moment-clause-does c = λ rs xs rules.
     let before = subst (λ (n : ℕ). n < c.args.moment) c.seconds-next.ensures.value c.if-next-moment.true in
     let now = now_is c.new.result c.unwrap-now.result c.args.moment c.unwrap-now.ensures c.new.ensures.value in
-    told_at rs xs c.args.moment c.answered.result c.args.moment (moment_back c.args.moment) (set_moment c.args.instant) c.answered.ensures.changes (ap seating_view c.answered.ensures.seating) c.answered.ensures.moment
-    (ap answer_view c.answered.ensures.answer ∙ (c.moment_back.ensures ∙ ap moment_back now)) (moment_stays rs xs c.args.moment c.args.instant rules (earlier c.args.instant c.args.moment before))
+    told_at rs xs c.args.moment c.answered.result c.args.moment (moment_back c.args.moment) (set_moment c.args.instant) c.answered.ensures.edits (ap seating_view c.answered.ensures.seating) c.answered.ensures.moment
+    (ap answer_view c.answered.ensures.answer ∙ (c.moment_back.ensures ∙ ap moment_back now)) (moment_stays rs xs c.args.moment c.args.instant (earlier c.args.instant c.args.moment before))
 
 pub returns-clause-does : goal.returns-clause-does
 returns-clause-does c = λ rs xs rules.
     let answered = c.answered-2 in
     let behind = subst (λ (n : ℕ). c.args.moment ≤ n) c.seconds-next.ensures.value c.if-next-moment.false in
-    told_at rs xs c.args.moment answered.result c.args.instant Fine (set_moment c.args.instant) answered.ensures.changes (ap seating_view answered.ensures.seating) (answered.ensures.moment ∙ c.seconds-next.ensures.value)
-    (ap answer_view answered.ensures.answer) (moment_moves rs xs c.args.moment c.args.instant rules (no_earlier c.args.instant c.args.moment behind))
+    told_at rs xs c.args.moment answered.result c.args.instant Fine (set_moment c.args.instant) answered.ensures.edits (ap seating_view answered.ensures.seating) (answered.ensures.moment ∙ c.seconds-next.ensures.value)
+    (ap answer_view answered.ensures.answer) (moment_moves rs xs c.args.moment c.args.instant (no_earlier c.args.instant c.args.moment behind))

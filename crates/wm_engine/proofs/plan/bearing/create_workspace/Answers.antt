@@ -15,14 +15,14 @@ pub returns-then-is_some-clause-does : goal.returns-then-is_some-clause-does
 returns-then-is_some-clause-does c = λ xs.
     let found : List ℕ → Option Space = λ n. find (λ (r : Space). bytes_eq n r.name) (parts_of c.args.image.now).spaces in
     let there = some_of (found c.args.name) (is_there c.space_named.result (found c.args.name) (c.space_named.ensures ∙ ap found c.as_bytes.ensures) c.if-is_some.ensures) in
-    told c.args.image.now xs c.args.moment c.answered.result [] Stay (workspace_there c.args.name) (create_workspace c.args.session.now c.args.name) c.answered.ensures.changes (ap seating_view c.answered.ensures.seating)
+    told c.args.image.now xs c.args.moment c.answered.result [] Stay (workspace_there c.args.name) (create_workspace c.args.session.now c.args.name) c.answered.ensures.edits (ap seating_view c.answered.ensures.seating)
     (ap answer_view c.answered.ensures.answer ∙ c.workspace_there.ensures)
     (bear_there c.args.image.now xs c.args.moment c.args.session.now c.args.name there.0 c.requires.rules c.requires.good c.requires.plain there.1)
 
 pub returns-in_default-clause-does : goal.returns-in_default-clause-does
 returns-in_default-clause-does c = λ xs.
     let found : List ℕ → Option Space = λ n. find (λ (r : Space). bytes_eq n r.name) (parts_of c.args.image.now).spaces in
-    told c.args.image.now xs c.args.moment c.answered-in_default.result [] Stay not_built (create_workspace c.args.session.now c.args.name) c.answered-in_default.ensures.changes (ap seating_view c.answered-in_default.ensures.seating)
+    told c.args.image.now xs c.args.moment c.answered-in_default.result [] Stay not_built (create_workspace c.args.session.now c.args.name) c.answered-in_default.ensures.edits (ap seating_view c.answered-in_default.ensures.seating)
     (ap answer_view c.answered-in_default.ensures.answer ∙ c.not_built.ensures)
     (bear_homeless c.args.image.now xs c.args.moment c.args.session.now c.args.name c.requires.rules c.requires.good c.requires.plain
     (is_gone c.space_named.result (found c.args.name) (c.space_named.ensures ∙ ap found c.as_bytes.ensures) c.if-is_some.ensures)

@@ -16,5 +16,5 @@ returns-in-Some-clause-does c =
 pub returns-in-None-clause-does : goal.returns-in-None-clause-does
 returns-in-None-clause-does c = λ xs.
     let none : procedure_of c.args.name.now ≡ (let nothing : Option Procedure = None in nothing) = ap procedure_of (sym c.as_bytes.ensures) ∙ sym c.in-None.ensures in
-    refused c.args.image.now xs c.args.moment c.answered.result not_built (call c.args.session.now (procedure_of c.args.name.now) c.args.args.now) c.answered.ensures.changes c.answered.ensures.seating
+    refused c.args.image.now xs c.args.moment c.answered.result not_built (call c.args.session.now (procedure_of c.args.name.now) c.args.args.now) c.answered.ensures.edits c.answered.ensures.seating
     (ap answer_view c.answered.ensures.answer ∙ c.not_built.ensures) c.requires.rules (λ s. ap (λ (o : Option Procedure). call c.args.session.now o c.args.args.now s) none)

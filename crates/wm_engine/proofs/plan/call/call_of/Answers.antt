@@ -1,11 +1,9 @@
-use Rattle.std.proofs.Common.{Some, sym, ap, subst, ◌∙◌}
+use Rattle.std.proofs.Common.{Some, ap, ◌∙◌}
 use Rattle.wm_grammar.specs.declared.procedure.Procedure.{Procedure}
 use Rattle.wm_grammar.specs.declared.procedure.Procedure.TheVariants as procedures
 use Rattle.wm_model.specs.Step.{call, not_built}
-use Rattle.wm_store.specs.Spelled.{FitPages}
 use Rattle.wm_engine.proofs.Calling.{refused, other_call}
-use Rattle.wm_engine.proofs.Forking.{few_nothing}
-use Rattle.wm_engine.proofs.Planning.{for_sessions, for_moment}
+use Rattle.wm_engine.proofs.Planning.{for_sessions, for_moment, forks_none}
 use Rattle.wm_engine.specs.Views.{answer_view}
 use Rattle.wm_engine.proofs.plan.call.call_of.Goals as goal
 
@@ -42,10 +40,9 @@ returns-in-SetValidTime-clause-does c =
 pub returns-in_default : goal.returns-in_default
 returns-in_default c = record {
   does = λ xs.
-      refused c.args.image.now xs c.args.moment c.answered.result not_built (call c.args.session.now (Some c.args.procedure) c.args.args.now) c.answered.ensures.changes c.answered.ensures.seating
+      refused c.args.image.now xs c.args.moment c.answered.result not_built (call c.args.session.now (Some c.args.procedure) c.args.args.now) c.answered.ensures.edits c.answered.ensures.seating
       (ap answer_view c.answered.ensures.answer ∙ c.not_built.ensures) c.requires.rules
       (λ s. other_call c.args.session.now c.args.procedure c.args.args.now s c.in_default.not-EnableVersioning c.in_default.not-CreateWorkspace c.in_default.not-CreateSavepoint c.in_default.not-GotoWorkspace c.in_default.not-GotoSavepoint c.in_default.not-SetValidTime);
-  fit = subst FitPages (sym c.answered.ensures.changes) tt;
-  idle = λ idle. (c.answered.ensures.changes, c.answered.ensures.seating);
-  few = λ forks. few_nothing c.args.image.now c.answered.result.changes c.answered.ensures.changes;
+  idle = λ idle. (c.answered.ensures.edits, c.answered.ensures.seating);
+  few = λ forks. forks_none c.answered.result c.answered.ensures.edits;
 }

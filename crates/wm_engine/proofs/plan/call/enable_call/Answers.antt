@@ -12,7 +12,7 @@ use Rattle.wm_engine.proofs.plan.call.enable_call.Goals as goal
 pub returns-in_default-clause-does : goal.returns-in_default-clause-does
 returns-in_default-clause-does c = λ xs.
     refused c.args.image.now xs c.args.moment c.lacking.result (lacks (argument_fault procedures.EnableVersioning c.args.args.now)) (call c.args.session.now (Some procedures.EnableVersioning) c.args.args.now)
-    c.lacking.ensures.changes c.lacking.ensures.seating (c.lacking.ensures.answer ∙ ap lacks c.in_ok-fault.ensures) c.requires.rules (λ s. enable_lacks c.args.session.now c.args.args.now s (sym c.in_default.ensures))
+    c.lacking.ensures.edits c.lacking.ensures.seating (c.lacking.ensures.answer ∙ ap lacks c.in_ok-fault.ensures) c.requires.rules (λ s. enable_lacks c.args.session.now c.args.args.now s (sym c.in_default.ensures))
 
 pub returns-clause-does : goal.returns-clause-does
 returns-clause-does c =

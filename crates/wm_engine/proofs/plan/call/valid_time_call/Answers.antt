@@ -7,7 +7,7 @@ use Rattle.wm_engine.proofs.plan.call.valid_time_call.Goals as goal
 
 pub returns-in-Some-clause-does : goal.returns-in-Some-clause-does
 returns-in-Some-clause-does c = λ xs m.
-    refused c.args.image.now xs m c.answered.result (mistyped c.in-Some.parameter) (call c.args.session.now (Some procedures.SetValidTime) c.args.args.now) c.answered.ensures.changes c.answered.ensures.seating
+    refused c.args.image.now xs m c.answered.result (mistyped c.in-Some.parameter) (call c.args.session.now (Some procedures.SetValidTime) c.args.args.now) c.answered.ensures.edits c.answered.ensures.seating
     (ap answer_view c.answered.ensures.answer ∙ c.mistyped.ensures) c.requires.rules
     (λ s. valid_time_mistyped c.args.session.now c.args.args.now s c.in-Some.parameter (sym c.in_ok-parameter.ensures ∙ c.in-Some.is))
 

@@ -14,7 +14,7 @@ returns-then-not-are_filled-clause-does c =
     let t = c.args.table.now in
     let user = c.args.session.now.user in
     answers_so c.args.image.now c.args.moment c.answered.result c.args.session.now c.args.space.now (unless_empty c.args.rows.now (λ kept. write_ascending user t (length kept) (map (gone t c.args.within.now) kept))) not_built c.requires.rules
-    (λ s w. kept_empty c.args.rows.now (λ kept. write_ascending user t (length kept) (map (gone t c.args.within.now) kept)) s w (sym c.if-not-are_filled.ensures)) c.answered.ensures.changes (ap seating_view c.answered.ensures.seating)
+    (λ s w. kept_empty c.args.rows.now (λ kept. write_ascending user t (length kept) (map (gone t c.args.within.now) kept)) s w (sym c.if-not-are_filled.ensures)) c.answered.ensures.edits (ap seating_view c.answered.ensures.seating)
     (ap answer_view c.answered.ensures.answer ∙ c.not_built.ensures)
 
 pub write_all-requires-clause-fit : goal.write_all-requires-clause-fit

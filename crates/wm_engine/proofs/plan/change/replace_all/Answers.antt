@@ -17,7 +17,7 @@ returns-in-Err-OutOfRange-clause-does c =
     let sets = sets_view c.args.sets.now in
     let found = updated_rows c.args.table.now sets c.args.rows.now in
     answers_so c.args.image.now c.args.moment c.answered.result c.args.session.now c.args.space.now (replace_all c.args.session.now.user c.args.table.now c.args.within.now sets c.args.rows.now found) out_of_range c.requires.rules
-    (λ s w. replaces_none c.args.session.now.user c.args.table.now c.args.within.now sets c.args.rows.now found s w (let h = rw c.in-Err-OutOfRange.field-0-is at c.in-Err-OutOfRange.ensures.out_of_range in h refl)) c.answered.ensures.changes
+    (λ s w. replaces_none c.args.session.now.user c.args.table.now c.args.within.now sets c.args.rows.now found s w (let h = rw c.in-Err-OutOfRange.field-0-is at c.in-Err-OutOfRange.ensures.out_of_range in h refl)) c.answered.ensures.edits
     (ap seating_view c.answered.ensures.seating) (ap answer_view c.answered.ensures.answer ∙ c.out_of_range.ensures)
 
 pub returns-in-Some-clause-does : goal.returns-in-Some-clause-does
@@ -28,7 +28,7 @@ returns-in-Some-clause-does c =
     (λ s w.
     replaces_wrong c.args.session.now.user c.args.table.now c.args.within.now sets c.args.rows.now found c.in-Ok.news.items c.in-Some.refusal s w c.in-Ok.ensures.ok
     (ap (rows_fault c.args.table.now) (sym c.as_slice.ensures.value) ∙ sym c.in_ok-refusal.ensures.fault ∙ c.in-Some.is))
-    c.answered-in-Some.ensures.changes (ap seating_view c.answered-in-Some.ensures.seating) (ap answer_view c.answered-in-Some.ensures.answer)
+    c.answered-in-Some.ensures.edits (ap seating_view c.answered-in-Some.ensures.seating) (ap answer_view c.answered-in-Some.ensures.answer)
 
 pub change_all-requires-clause-lasting : goal.change_all-requires-clause-lasting
 change_all-requires-clause-lasting c = c.requires.update.lasting

@@ -13,7 +13,7 @@ pub returns-then-not-are_filled-clause-does : goal.returns-then-not-are_filled-c
 returns-then-not-are_filled-clause-does c =
     let t = c.args.table.now in
     answers_so c.args.image.now c.args.moment c.answered.result c.args.session.now c.args.space.now (updates c.args.session.now (sets_view c.args.sets.now) t c.args.within.now c.args.rows.now) not_built c.requires.rules
-    (λ s w. kept_empty c.args.rows.now (λ kept. replace_all c.args.session.now.user t c.args.within.now (sets_view c.args.sets.now) kept (updated_rows t (sets_view c.args.sets.now) kept)) s w (sym c.if-not-are_filled.ensures)) c.answered.ensures.changes
+    (λ s w. kept_empty c.args.rows.now (λ kept. replace_all c.args.session.now.user t c.args.within.now (sets_view c.args.sets.now) kept (updated_rows t (sets_view c.args.sets.now) kept)) s w (sym c.if-not-are_filled.ensures)) c.answered.ensures.edits
     (ap seating_view c.answered.ensures.seating) (ap answer_view c.answered.ensures.answer ∙ c.not_built.ensures)
 
 pub replace_all-requires-clause-stand : goal.replace_all-requires-clause-stand

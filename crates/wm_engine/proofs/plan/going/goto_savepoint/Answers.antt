@@ -16,13 +16,13 @@ use Rattle.wm_engine.proofs.plan.going.goto_savepoint.Goals as goal
 pub returns-in_default-clause-does : goal.returns-in_default-clause-does
 returns-in_default-clause-does c = λ xs m.
     let name = c.args.name.now in
-    told c.args.image.now xs m c.answered.result [] Stay not_built (goto_savepoint c.args.session.now name) c.answered.ensures.changes (ap seating_view c.answered.ensures.seating) (ap answer_view c.answered.ensures.answer ∙ c.not_built.ensures)
+    told c.args.image.now xs m c.answered.result [] Stay not_built (goto_savepoint c.args.session.now name) c.answered.ensures.edits (ap seating_view c.answered.ensures.seating) (ap answer_view c.answered.ensures.answer ∙ c.not_built.ensures)
     (goto_homeless c.args.image.now xs m c.args.session.now name c.requires.rules (ap (space_of (parts_of c.args.image.now).spaces) (sym c.space-space.ensures) ∙ sym c.in_default.ensures))
 
 pub returns-then-is_latest-clause-does : goal.returns-then-is_latest-clause-does
 returns-then-is_latest-clause-does c =
     let name = c.args.name.now in
-    told_ok c.args.image.now c.go.result [] (Move c.args.session.now.name c.args.session.now.space Latest) Fine (goto_savepoint c.args.session.now name) c.go.ensures.changes
+    told_ok c.args.image.now c.go.result [] (Move c.args.session.now.name c.args.session.now.space Latest) Fine (goto_savepoint c.args.session.now name) c.go.ensures.edits
     (subst (λ k. IfOk c.go.result (λ p. seating_view p.seating ≡ Move c.args.session.now.name k Latest)) c.space-space.ensures c.go.ensures.seating) c.go.ensures.answer
     (λ xs m. does_goto_latest c.args.image.now xs m c.args.session.now name c.in-Some.field-0.now c.requires.rules (ap (space_of (parts_of c.args.image.now).spaces) (sym c.space-space.ensures) ∙ sym c.in-Some.ensures)
     (sym c.if-is_latest.ensures))
@@ -30,7 +30,7 @@ returns-then-is_latest-clause-does c =
 pub returns-in_default-savepoint_named-clause-does : goal.returns-in_default-savepoint_named-clause-does
 returns-in_default-savepoint_named-clause-does c = λ xs m.
     let name = c.args.name.now in
-    told c.args.image.now xs m c.answered-in_default-savepoint_named.result [] Stay (no_savepoint name) (goto_savepoint c.args.session.now name) c.answered-in_default-savepoint_named.ensures.changes
+    told c.args.image.now xs m c.answered-in_default-savepoint_named.result [] Stay (no_savepoint name) (goto_savepoint c.args.session.now name) c.answered-in_default-savepoint_named.ensures.edits
     (ap seating_view c.answered-in_default-savepoint_named.ensures.seating) (ap answer_view c.answered-in_default-savepoint_named.ensures.answer ∙ c.no_savepoint.ensures ∙ ap no_savepoint c.in_ok-copy_of.ensures)
     (goto_no_savepoint c.args.image.now xs m c.args.session.now name c.in-Some.field-0.now c.requires.rules (ap (space_of (parts_of c.args.image.now).spaces) (sym c.space-space.ensures) ∙ sym c.in-Some.ensures)
     (sym c.if-is_latest.ensures)
@@ -39,7 +39,7 @@ returns-in_default-savepoint_named-clause-does c = λ xs m.
 pub returns-clause-does : goal.returns-clause-does
 returns-clause-does c =
     let name = c.args.name.now in
-    told_ok c.args.image.now c.go-2.result [] (Move c.args.session.now.name c.args.session.now.space (At c.in-Some-savepoint_named.savepoint.now.making)) Fine (goto_savepoint c.args.session.now name) c.go-2.ensures.changes
+    told_ok c.args.image.now c.go-2.result [] (Move c.args.session.now.name c.args.session.now.space (At c.in-Some-savepoint_named.savepoint.now.making)) Fine (goto_savepoint c.args.session.now name) c.go-2.ensures.edits
     (subst (λ k. IfOk c.go-2.result (λ p. seating_view p.seating ≡ Move c.args.session.now.name k (At c.in-Some-savepoint_named.savepoint.now.making))) c.space-space.ensures c.go-2.ensures.seating) c.go-2.ensures.answer
     (λ xs m. does_goto_savepoint c.args.image.now xs m c.args.session.now name c.in-Some.field-0.now c.in-Some-savepoint_named.savepoint.now c.requires.rules
     (ap (space_of (parts_of c.args.image.now).spaces) (sym c.space-space.ensures) ∙ sym c.in-Some.ensures) (sym c.if-is_latest.ensures)

@@ -14,7 +14,7 @@ use Rattle.wm_engine.proofs.plan.insert.add_found.Goals as goal
 pub returns-in_default-clause-does : goal.returns-in_default-clause-does
 returns-in_default-clause-does c = λ xs.
     let i = c.args.insertion in
-    told c.args.image.now xs c.args.moment c.answered.result [] Stay not_built (insert c.args.session.now i.name.now i.names.now (exprs_view i.values.now) c.args.empty) c.answered.ensures.changes (ap seating_view c.answered.ensures.seating)
+    told c.args.image.now xs c.args.moment c.answered.result [] Stay not_built (insert c.args.session.now i.name.now i.names.now (exprs_view i.values.now) c.args.empty) c.answered.ensures.edits (ap seating_view c.answered.ensures.seating)
     (ap answer_view c.answered.ensures.answer ∙ c.not_built.ensures)
     (newest_homeless c.args.image.now xs c.args.moment c.args.session.now i.name.now (insert_faults i.names.now (exprs_view i.values.now)) c.args.empty (insert_acts c.args.session.now i.names.now (exprs_view i.values.now)) i.table.now
     (is_good c.args.image.now i c.requires.rules c.requires.fine) (ap (space_of (parts_of c.args.image.now).spaces) (sym c.space.ensures) ∙ sym c.in_default.ensures))
@@ -22,7 +22,7 @@ returns-in_default-clause-does c = λ xs.
 pub returns-in-At-clause-does : goal.returns-in-At-clause-does
 returns-in-At-clause-does c = λ xs.
     let i = c.args.insertion in
-    told c.args.image.now xs c.args.moment c.answered-in-At.result [] Stay not_latest (insert c.args.session.now i.name.now i.names.now (exprs_view i.values.now) c.args.empty) c.answered-in-At.ensures.changes (ap seating_view c.answered-in-At.ensures.seating)
+    told c.args.image.now xs c.args.moment c.answered-in-At.result [] Stay not_latest (insert c.args.session.now i.name.now i.names.now (exprs_view i.values.now) c.args.empty) c.answered-in-At.ensures.edits (ap seating_view c.answered-in-At.ensures.seating)
     (ap answer_view c.answered-in-At.ensures.answer ∙ c.not_latest.ensures)
     (newest_elsewhere c.args.image.now xs c.args.moment c.args.session.now i.name.now (insert_faults i.names.now (exprs_view i.values.now)) c.args.empty (insert_acts c.args.session.now i.names.now (exprs_view i.values.now)) i.table.now c.in-Some.space.now c.in-At.field-0
     (is_good c.args.image.now i c.requires.rules c.requires.fine) (ap (space_of (parts_of c.args.image.now).spaces) (sym c.space.ensures) ∙ sym c.in-Some.ensures) (sym c.in-At.ensures))
@@ -30,7 +30,7 @@ returns-in-At-clause-does c = λ xs.
 pub returns-then-empty-clause-does : goal.returns-then-empty-clause-does
 returns-then-empty-clause-does c = λ xs.
     let i = c.args.insertion in
-    told c.args.image.now xs c.args.moment c.answered-then-empty.result [] Stay empty_period (insert c.args.session.now i.name.now i.names.now (exprs_view i.values.now) c.args.empty) c.answered-then-empty.ensures.changes
+    told c.args.image.now xs c.args.moment c.answered-then-empty.result [] Stay empty_period (insert c.args.session.now i.name.now i.names.now (exprs_view i.values.now) c.args.empty) c.answered-then-empty.ensures.edits
     (ap seating_view c.answered-then-empty.ensures.seating) (ap answer_view c.answered-then-empty.ensures.answer ∙ c.empty_period.ensures)
     (newest_empty c.args.image.now xs c.args.moment c.args.session.now i.name.now (insert_faults i.names.now (exprs_view i.values.now)) c.args.empty (insert_acts c.args.session.now i.names.now (exprs_view i.values.now)) i.table.now c.in-Some.space.now
     (record {

@@ -1,4 +1,4 @@
-use Rattle.std.proofs.Common.{Some, None, refl, sym, ap, ◌∙◌}
+use Rattle.std.proofs.Common.{refl, sym, ap, ◌∙◌}
 use Rattle.wm_base.specs.Views.{exprs_view}
 use Rattle.wm_making.specs.Rows.{row_fault, row_of}
 use Rattle.wm_model.proofs.Changing.{adds, adds_none, adds_wrong}
@@ -16,7 +16,7 @@ returns-in-Err-OutOfRange-clause-does c =
     let period = new_period c.args.session.now i.table.now i.names.now (exprs_view i.values.now) in
     let found = row_of i.table.now i.names.now (exprs_view i.values.now) in
     answers_so c.args.image.now c.args.moment c.answered.result c.args.session.now c.args.space.now (add_found c.args.session.now.user i.table.now period found) out_of_range c.requires.rules
-    (λ s w. adds_none c.args.session.now.user i.table.now period found s w (let h = rw c.in-Err-OutOfRange.field-0-is at c.in-Err-OutOfRange.ensures.out_of_range in h refl)) c.answered.ensures.changes (ap seating_view c.answered.ensures.seating)
+    (λ s w. adds_none c.args.session.now.user i.table.now period found s w (let h = rw c.in-Err-OutOfRange.field-0-is at c.in-Err-OutOfRange.ensures.out_of_range in h refl)) c.answered.ensures.edits (ap seating_view c.answered.ensures.seating)
     (ap answer_view c.answered.ensures.answer ∙ c.out_of_range.ensures)
 
 pub returns-in-Some-clause-does : goal.returns-in-Some-clause-does
@@ -26,7 +26,7 @@ returns-in-Some-clause-does c =
     let found = row_of i.table.now i.names.now (exprs_view i.values.now) in
     answers_so c.args.image.now c.args.moment c.answered-in-Some.result c.args.session.now c.args.space.now (add_found c.args.session.now.user i.table.now period found) (Refused c.in-Some.refusal) c.requires.rules
     (λ s w. adds_wrong c.args.session.now.user i.table.now period found c.in-Ok.row c.in-Some.refusal s w c.in-Ok.ensures.ok (ap (row_fault i.table.now) (sym c.as_slice.ensures) ∙ sym c.in_ok-refusal.ensures.fault ∙ c.in-Some.is))
-    c.answered-in-Some.ensures.changes (ap seating_view c.answered-in-Some.ensures.seating) (ap answer_view c.answered-in-Some.ensures.answer)
+    c.answered-in-Some.ensures.edits (ap seating_view c.answered-in-Some.ensures.seating) (ap answer_view c.answered-in-Some.ensures.answer)
 
 pub add_to-requires-clause-there : goal.add_to-requires-clause-there
 add_to-requires-clause-there c = (named_is c.args.image.now c.args.insertion.name.now c.args.insertion.table.now c.requires.rules c.requires.fine.there).there

@@ -16,7 +16,7 @@ use Rattle.wm_engine.proofs.plan.insert.add_to.Goals as goal
 pub returns-in-Some-clause-does : goal.returns-in-Some-clause-does
 returns-in-Some-clause-does c =
     add_there c.args.image.now c.args.moment c.answered.result c.args.session.now c.args.space.now c.args.table.now c.args.period c.in-Some.shared c.args.row c.in_ok-change.change.key c.latest-version.result c.in_ok-shared.shared c.requires.rules
-    (c.latest-version.ensures ∙ ap (latest (parts_of c.args.image.now)) c.space.ensures) c.in_ok-shared.ensures (ap (λ x. x.key) c.in_ok-change.ensures) c.in-Some.is c.answered.ensures.changes (ap seating_view c.answered.ensures.seating)
+    (c.latest-version.ensures ∙ ap (latest (parts_of c.args.image.now)) c.space.ensures) c.in_ok-shared.ensures (ap (λ x. x.key) c.in_ok-change.ensures) c.in-Some.is c.answered.ensures.edits (ap seating_view c.answered.ensures.seating)
     (ap answer_view c.answered.ensures.answer ∙ c.key_there.ensures ∙ ap (key_there c.in_ok-change.change.key) c.told_period-told.ensures)
 
 pub write_all-requires-clause-fit : goal.write_all-requires-clause-fit

@@ -16,21 +16,21 @@ short n le = grind (arith, nat_tests, le)
 pub returns-then-text-gt-LINE_LIMIT-clause-does : goal.returns-then-text-gt-LINE_LIMIT-clause-does
 unfolding step
 returns-then-text-gt-LINE_LIMIT-clause-does c =
-    told_alone c.args.image.now c.args.sessions.now c.args.moment c.answered.result too_long_line (λ s. step s c.args.text.now) c.requires.rules c.answered.ensures.changes (ap seating_view c.answered.ensures.seating)
+    told_alone c.args.image.now c.args.sessions.now c.args.moment c.answered.result too_long_line (λ s. step s c.args.text.now) c.answered.ensures.edits (ap seating_view c.answered.ensures.seating)
     c.answered.ensures.moment (ap answer_view c.answered.ensures.answer ∙ c.too_long_line.ensures) (λ s st. rw (long (length c.args.text.now) c.if-text-gt-LINE_LIMIT.true) refl)
 
 pub returns-then-is_remark-clause-does : goal.returns-then-is_remark-clause-does
 unfolding step
 returns-then-is_remark-clause-does c =
     let answered = c.answered-then-is_remark in
-    told_alone c.args.image.now c.args.sessions.now c.args.moment answered.result Nothing (λ s. step s c.args.text.now) c.requires.rules answered.ensures.changes (ap seating_view answered.ensures.seating)
+    told_alone c.args.image.now c.args.sessions.now c.args.moment answered.result Nothing (λ s. step s c.args.text.now) answered.ensures.edits (ap seating_view answered.ensures.seating)
     answered.ensures.moment (ap answer_view answered.ensures.answer) (λ s st. rw (short (length c.args.text.now) c.if-text-gt-LINE_LIMIT.false, sym c.if-is_remark.ensures) refl)
 
 pub returns-then-not-is_text-clause-does : goal.returns-then-not-is_text-clause-does
 unfolding step
 returns-then-not-is_text-clause-does c =
     let answered = c.answered-then-not-is_text in
-    told_alone c.args.image.now c.args.sessions.now c.args.moment answered.result no_text (λ s. step s c.args.text.now) c.requires.rules answered.ensures.changes (ap seating_view answered.ensures.seating)
+    told_alone c.args.image.now c.args.sessions.now c.args.moment answered.result no_text (λ s. step s c.args.text.now) answered.ensures.edits (ap seating_view answered.ensures.seating)
     answered.ensures.moment (ap answer_view answered.ensures.answer ∙ c.no_text.ensures) (λ s st. rw (short (length c.args.text.now) c.if-text-gt-LINE_LIMIT.false, sym c.if-is_remark.ensures, sym c.if-not-is_text.ensures) refl)
 
 pub returns-clause-does : goal.returns-clause-does

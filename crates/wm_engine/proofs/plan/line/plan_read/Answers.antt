@@ -8,7 +8,7 @@ use Rattle.wm_engine.proofs.plan.line.plan_read.Goals as goal
 
 pub returns-then-is_later-clause-does : goal.returns-then-is_later-clause-does
 returns-then-is_later-clause-does c =
-    told_alone c.args.image.now c.args.sessions.now c.args.moment c.answered.result not_built (run_parsed (Ok (line_view c.args.line.now))) c.requires.rules c.answered.ensures.changes (ap seating_view c.answered.ensures.seating)
+    told_alone c.args.image.now c.args.sessions.now c.args.moment c.answered.result not_built (run_parsed (Ok (line_view c.args.line.now))) c.answered.ensures.edits (ap seating_view c.answered.ensures.seating)
     c.answered.ensures.moment (ap answer_view c.answered.ensures.answer ∙ c.not_built.ensures) (λ s st. rw (sym c.if-is_later.ensures) refl)
 
 pub plan_line-requires-clause-timely : goal.plan_line-requires-clause-timely

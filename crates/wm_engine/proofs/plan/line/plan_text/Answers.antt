@@ -13,12 +13,12 @@ plan_read-planned-requires-clause-timely c = line_timely 64 (symbols_of c.args.t
 pub returns-in-Err-Syntax-clause-does : goal.returns-in-Err-Syntax-clause-does
 returns-in-Err-Syntax-clause-does c =
     let wrong = rw c.in-Err-Syntax.field-0-is at c.in-Err-Syntax.ensures.is in
-    told_alone c.args.image.now c.args.sessions.now c.args.moment c.answered.result (syntax c.in-Err-Syntax.column) (run_parsed (parsed c.args.text.now)) c.requires.rules c.answered.ensures.changes (ap seating_view c.answered.ensures.seating)
+    told_alone c.args.image.now c.args.sessions.now c.args.moment c.answered.result (syntax c.in-Err-Syntax.column) (run_parsed (parsed c.args.text.now)) c.answered.ensures.edits (ap seating_view c.answered.ensures.seating)
     c.answered.ensures.moment (ap answer_view c.answered.ensures.answer ∙ c.syntax.ensures) (λ s st. rw wrong refl)
 
 pub returns-in-Err-Literal-clause-does : goal.returns-in-Err-Literal-clause-does
 returns-in-Err-Literal-clause-does c =
     let wrong = rw c.in-Err-Literal.field-0-is at c.in-Err-Literal.ensures.is in
     let answered = c.answered-in-Err-Literal in
-    told_alone c.args.image.now c.args.sessions.now c.args.moment answered.result (bad_literal c.in-Err-Literal.column) (run_parsed (parsed c.args.text.now)) c.requires.rules answered.ensures.changes (ap seating_view answered.ensures.seating)
+    told_alone c.args.image.now c.args.sessions.now c.args.moment answered.result (bad_literal c.in-Err-Literal.column) (run_parsed (parsed c.args.text.now)) answered.ensures.edits (ap seating_view answered.ensures.seating)
     answered.ensures.moment (ap answer_view answered.ensures.answer ∙ c.bad_literal.ensures) (λ s st. rw wrong refl)

@@ -21,7 +21,7 @@ returns-in-Some-clause-does c =
     move_there c.args.image.now c.args.moment c.answered.result c.args.session.now c.args.space.now c.args.table.now c.args.moves.items c.in-Some.key c.in-Some.shared c.latest-version.result c.requires.rules
     (c.latest-version.ensures ∙ ap (latest (parts_of c.args.image.now)) c.space.ensures)
     (finds_so (parts_of c.args.image.now) c.latest-version.result c.args.table.now c.as_slice-2.result.now c.args.moves.items c.in_ok-clash.clash (Some (c.in-Some.key, c.in-Some.shared)) c.in_ok-clash.ensures c.as_slice-2.ensures.value c.in-Some.is)
-    c.answered.ensures.changes (ap seating_view c.answered.ensures.seating) (ap answer_view c.answered.ensures.answer ∙ c.key_there.ensures)
+    c.answered.ensures.edits (ap seating_view c.answered.ensures.seating) (ap answer_view c.answered.ensures.answer ∙ c.key_there.ensures)
 
 pub write_all-requires-clause-fit : goal.write_all-requires-clause-fit
 write_all-requires-clause-fit c = c.in_ok-changes.ensures.all (is_change c.args.table.now) c.requires.fit (λ m part e. part_fits c.args.table.now m part e)

@@ -1,4 +1,4 @@
-use Rattle.std.proofs.Common.{ℕ, List, [], true, false, None, Some, sym, ap, subst, ◌∙◌}
+use Rattle.std.proofs.Common.{ℕ, List, [], false, None, Some, sym, ap, subst, ◌∙◌}
 use Rattle.wm_base.specs.declared.tree.query.Src.{Src as SrcNode}
 use Rattle.wm_base.specs.Views.{filter_view, query_view, srcs_view}
 use Rattle.wm_graph.specs.Parts.{parts_of, space_of}
@@ -19,7 +19,7 @@ pub returns-in-Some-clause-does : goal.returns-in-Some-clause-does
 returns-in-Some-clause-does c = λ xs.
     let image = c.args.image.now in
     let query = c.args.query.now in
-    told image xs c.args.moment c.answered.result [] Stay (no_table c.in-Some.name.now) (select c.args.session.now (query_view query) c.args.empty) c.answered.ensures.changes (ap seating_view c.answered.ensures.seating)
+    told image xs c.args.moment c.answered.result [] Stay (no_table c.in-Some.name.now) (select c.args.session.now (query_view query) c.args.empty) c.answered.ensures.edits (ap seating_view c.answered.ensures.seating)
     (ap answer_view c.answered.ensures.answer ∙ c.no_table.ensures ∙ ap no_table c.in_ok-copy.ensures)
     (select_lost image xs c.args.moment c.args.session.now (query_view query) c.args.empty c.in-Some.name.now c.requires.rules
     (ap (λ (ss : List SrcNode). lost_source (tables_in image) (srcs_view ss)) (sym c.as_slice-sources.ensures.value) ∙ sym c.in-Some.ensures))
@@ -28,7 +28,7 @@ pub returns-in-Some-table_off-clause-does : goal.returns-in-Some-table_off-claus
 returns-in-Some-table_off-clause-does c = λ xs.
     let image = c.args.image.now in
     let query = c.args.query.now in
-    told image xs c.args.moment c.answered-in-Some-table_off.result [] Stay (versioning c.in-Some-table_off.name.now false) (select c.args.session.now (query_view query) c.args.empty) c.answered-in-Some-table_off.ensures.changes
+    told image xs c.args.moment c.answered-in-Some-table_off.result [] Stay (versioning c.in-Some-table_off.name.now false) (select c.args.session.now (query_view query) c.args.empty) c.answered-in-Some-table_off.ensures.edits
     (ap seating_view c.answered-in-Some-table_off.ensures.seating)
     (ap answer_view c.answered-in-Some-table_off.ensures.answer ∙ c.versioning.ensures ∙ ap (λ n. versioning n false) c.in_ok-copy-2.ensures)
     (select_off image xs c.args.moment c.args.session.now (query_view query) c.args.empty c.in-Some-table_off.name.now c.requires.rules
@@ -41,7 +41,7 @@ returns-in-Some-2-clause-does c = λ xs.
     let query = c.args.query.now in
     let sources = c.as_slice-sources.result.now in
     let all = c.as_slice-sources.ensures.value in
-    told image xs c.args.moment c.answered-in-Some-2.result [] Stay (Refused c.in-Some-2.refusal) (select c.args.session.now (query_view query) c.args.empty) c.answered-in-Some-2.ensures.changes (ap seating_view c.answered-in-Some-2.ensures.seating)
+    told image xs c.args.moment c.answered-in-Some-2.result [] Stay (Refused c.in-Some-2.refusal) (select c.args.session.now (query_view query) c.args.empty) c.answered-in-Some-2.ensures.edits (ap seating_view c.answered-in-Some-2.ensures.seating)
     (ap answer_view c.answered-in-Some-2.ensures.answer)
     (select_faulty image xs c.args.moment c.args.session.now (query_view query) c.args.empty c.in-Some-2.refusal (are_ready image query sources all c.requires.rules (sym c.in_default.ensures) (sym c.in_default-table_off.ensures))
     (fault_is image query sources c.in_ok-columns.columns (Some c.in-Some-2.refusal) all c.in_ok-columns.ensures (sym c.in_ok-refusal.ensures.exact ∙ c.in-Some-2.is)))
@@ -52,7 +52,7 @@ returns-in_default-space-clause-does c = λ xs.
     let query = c.args.query.now in
     let sources = c.as_slice-sources.result.now in
     let all = c.as_slice-sources.ensures.value in
-    told image xs c.args.moment c.answered-in_default-space.result [] Stay not_built (select c.args.session.now (query_view query) c.args.empty) c.answered-in_default-space.ensures.changes (ap seating_view c.answered-in_default-space.ensures.seating)
+    told image xs c.args.moment c.answered-in_default-space.result [] Stay not_built (select c.args.session.now (query_view query) c.args.empty) c.answered-in_default-space.ensures.edits (ap seating_view c.answered-in_default-space.ensures.seating)
     (ap answer_view c.answered-in_default-space.ensures.answer ∙ c.not_built.ensures)
     (select_homeless image xs c.args.moment c.args.session.now (query_view query) c.args.empty (record { ready = are_ready image query sources all c.requires.rules (sym c.in_default.ensures) (sym c.in_default-table_off.ensures); good = fault_is image query sources c.in_ok-columns.columns None all c.in_ok-columns.ensures (sym c.in_ok-refusal.ensures.exact ∙ c.in_default-2.is) })
     (ap (space_of (parts_of image).spaces) (sym c.space.ensures) ∙ sym c.in_default-space.ensures))
@@ -63,7 +63,7 @@ returns-then-empty-clause-does c = λ xs.
     let query = c.args.query.now in
     let sources = c.as_slice-sources.result.now in
     let all = c.as_slice-sources.ensures.value in
-    told image xs c.args.moment c.answered-then-empty.result [] Stay empty_period (select c.args.session.now (query_view query) c.args.empty) c.answered-then-empty.ensures.changes (ap seating_view c.answered-then-empty.ensures.seating)
+    told image xs c.args.moment c.answered-then-empty.result [] Stay empty_period (select c.args.session.now (query_view query) c.args.empty) c.answered-then-empty.ensures.edits (ap seating_view c.answered-then-empty.ensures.seating)
     (ap answer_view c.answered-then-empty.ensures.answer ∙ c.empty_period.ensures)
     (select_empty image xs c.args.moment c.args.session.now (query_view query) c.args.empty c.in-Some-space.field-0.now (record { ready = are_ready image query sources all c.requires.rules (sym c.in_default.ensures) (sym c.in_default-table_off.ensures); good = fault_is image query sources c.in_ok-columns.columns None all c.in_ok-columns.ensures (sym c.in_ok-refusal.ensures.exact ∙ c.in_default-2.is) }) (ap (space_of (parts_of image).spaces) (sym c.space.ensures) ∙ sym c.in-Some-space.ensures) c.if-empty.true)
 
@@ -88,7 +88,7 @@ returns-clause-does c = λ xs.
     let query = c.args.query.now in
     let sources = c.as_slice-sources.result.now in
     let all = c.as_slice-sources.ensures.value in
-    told image xs c.args.moment c.answered-2.result [] Stay (answer_rows (answer_of (query_view query) c.in_ok-listings.listings)) (select c.args.session.now (query_view query) c.args.empty) c.answered-2.ensures.changes
+    told image xs c.args.moment c.answered-2.result [] Stay (answer_rows (answer_of (query_view query) c.in_ok-listings.listings)) (select c.args.session.now (query_view query) c.args.empty) c.answered-2.ensures.edits
     (ap seating_view c.answered-2.ensures.seating) (ap answer_view c.answered-2.ensures.answer ∙ c.in_ok-found.ensures)
     (selects image xs c.args.moment c.args.session.now (query_view query) c.args.empty c.in-Some-space.field-0.now c.in_ok-listings.listings
     (record { ready = are_ready image query sources all c.requires.rules (sym c.in_default.ensures) (sym c.in_default-table_off.ensures); good = fault_is image query sources c.in_ok-columns.columns None all c.in_ok-columns.ensures (sym c.in_ok-refusal.ensures.exact ∙ c.in_default-2.is) })

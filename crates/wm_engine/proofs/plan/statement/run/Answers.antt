@@ -18,13 +18,13 @@ use Rattle.wm_engine.proofs.plan.statement.run.Goals as goal
 runs_for : (rs : List Stored) (xs : List Session) (m : ℕ) (name : List ℕ) (session : Session) (statement : Statement) (r : Result Planned Memory) → session_of name xs ≡ Some session
     → IfOk r (λ p. (xs : List Session) → DoesIt rs xs m p (run_statement session statement)) → IfOk r (λ p. DoesIt rs xs m p (λ s. run_for name (session_of name s.sessions) statement s))
 runs_for rs xs m name session statement (Err e) some does = tt
-runs_for rs xs m name session statement (Ok p) some does = run_some rs xs m name session statement p.changes (seating_view p.seating) (answer_view p.answer) some (does xs)
+runs_for rs xs m name session statement (Ok p) some does = run_some rs xs m name session statement p.edits.items (seating_view p.seating) (answer_view p.answer) some (does xs)
 
 pub returns-in_default-clause-does : goal.returns-in_default-clause-does
 returns-in_default-clause-does c =
     let name = c.args.name.now in
     let statement = statement_view c.args.statement.now in
-    told c.args.image.now c.args.sessions.now c.args.moment c.answered.result [] Stay (no_session name) (λ s. run_for name (session_of name s.sessions) statement s) c.answered.ensures.changes (ap seating_view c.answered.ensures.seating)
+    told c.args.image.now c.args.sessions.now c.args.moment c.answered.result [] Stay (no_session name) (λ s. run_for name (session_of name s.sessions) statement s) c.answered.ensures.edits (ap seating_view c.answered.ensures.seating)
     (ap answer_view c.answered.ensures.answer ∙ c.no_session.ensures ∙ ap no_session c.in_ok-copy.ensures)
     (run_none c.args.image.now c.args.sessions.now c.args.moment name statement c.requires.rules (sym c.in_default.ensures))
 

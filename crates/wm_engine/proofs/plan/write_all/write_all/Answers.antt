@@ -9,13 +9,13 @@ use Rattle.wm_engine.proofs.plan.write_all.write_all.Goals as goal
 pub returns-then-not-are_sorted-clause-does : goal.returns-then-not-are_sorted-clause-does
 returns-then-not-are_sorted-clause-does c =
     writes_not c.args.image.now c.args.moment c.answered.result c.args.session.now c.args.space.now c.args.table.now c.args.rows_changed c.args.changes.items c.requires.rules
-    (ap (λ xs. are_sorted (change_keys xs)) (sym c.as_slice.ensures.value) ∙ sym c.if-not-are_sorted.ensures) c.answered.ensures.changes (ap seating_view c.answered.ensures.seating)
+    (ap (λ xs. are_sorted (change_keys xs)) (sym c.as_slice.ensures.value) ∙ sym c.if-not-are_sorted.ensures) c.answered.ensures.edits (ap seating_view c.answered.ensures.seating)
     (ap answer_view c.answered.ensures.answer ∙ c.not_built.ensures)
 
 pub returns-then-count-eq0-clause-does : goal.returns-then-count-eq0-clause-does
 returns-then-count-eq0-clause-does c =
     writes_none c.args.image.now c.args.moment c.answered-then-count-eq0.result c.args.session.now c.args.space.now c.args.table.now c.args.rows_changed c.args.changes.items c.requires.rules
-    (none_counted c.args.changes.items c.len-count.result (counted c.args.changes c.len-count.result c.len-count.ensures) c.if-count-eq0.true) c.answered-then-count-eq0.ensures.changes
+    (none_counted c.args.changes.items c.len-count.result (counted c.args.changes c.len-count.result c.len-count.ensures) c.if-count-eq0.true) c.answered-then-count-eq0.ensures.edits
     (ap seating_view c.answered-then-count-eq0.ensures.seating) (ap answer_view c.answered-then-count-eq0.ensures.answer)
 
 pub returns-then-not-are_left-clause-does : goal.returns-then-not-are_left-clause-does
@@ -24,7 +24,7 @@ returns-then-not-are_left-clause-does c =
     let n = c.counters-counters.result in
     writes_full c.args.image.now c.args.moment c.answered-then-not-are_left.result c.args.session.now c.args.space.now c.args.table.now n c.args.rows_changed c.args.changes.items c.requires.rules
     (ap (λ xs. are_sorted (change_keys xs)) (sym c.as_slice.ensures.value) ∙ sym c.if-not-are_sorted.ensures) (some_counted c.args.changes.items c.len-count.result k c.if-count-eq0.false) c.counters-counters.ensures
-    (ap (λ l. nat_le (n.next_stamp + l) (n.limit + 1)) (sym k) ∙ sym c.if-not-are_left.ensures) c.answered-then-not-are_left.ensures.changes (ap seating_view c.answered-then-not-are_left.ensures.seating)
+    (ap (λ l. nat_le (n.next_stamp + l) (n.limit + 1)) (sym k) ∙ sym c.if-not-are_left.ensures) c.answered-then-not-are_left.ensures.edits (ap seating_view c.answered-then-not-are_left.ensures.seating)
     (ap answer_view c.answered-then-not-are_left.ensures.answer ∙ c.change_limit.ensures)
 
 pub returns-then-is_log_spent-clause-does : goal.returns-then-is_log_spent-clause-does
@@ -34,7 +34,7 @@ returns-then-is_log_spent-clause-does c =
     writes_long c.args.image.now c.args.moment c.answered-then-is_log_spent.result c.args.session.now c.args.space.now c.args.table.now n c.args.rows_changed c.args.changes.items c.requires.rules
     (ap (λ xs. are_sorted (change_keys xs)) (sym c.as_slice.ensures.value) ∙ sym c.if-not-are_sorted.ensures) (some_counted c.args.changes.items c.len-count.result k c.if-count-eq0.false) c.counters-counters.ensures
     (ap (λ l. nat_le (n.next_stamp + l) (n.limit + 1)) (sym k) ∙ sym c.if-not-are_left.ensures) (ap (λ l. nat_lt counter_limit (c.args.space.now.log_length + l)) (sym k) ∙ sym c.if-is_log_spent.ensures)
-    c.answered-then-is_log_spent.ensures.changes (ap seating_view c.answered-then-is_log_spent.ensures.seating) (ap answer_view c.answered-then-is_log_spent.ensures.answer ∙ c.in_ok-at_its_end.ensures)
+    c.answered-then-is_log_spent.ensures.edits (ap seating_view c.answered-then-is_log_spent.ensures.seating) (ap answer_view c.answered-then-is_log_spent.ensures.answer ∙ c.in_ok-at_its_end.ensures)
 
 pub write_changes-requires-clause-keys : goal.write_changes-requires-clause-keys
 write_changes-requires-clause-keys c = ap (λ xs. are_sorted (change_keys xs)) (sym c.as_slice.ensures.value) ∙ sym c.if-not-are_sorted.ensures

@@ -10,7 +10,7 @@ use Rattle.wm_engine.proofs.plan.write_changes.write_changes.Goals as goal
 pub returns-in_default-clause-does : goal.returns-in_default-clause-does
 returns-in_default-clause-does c =
     spent_all c.args.image.now c.args.moment c.args.session.now c.answered.result c.args.writing.now.table.now c.args.writing.now.space.now c.args.writing.now.counters c.args.writing.now.rows_changed c.args.changes.items c.requires.rules c.requires.one c.requires.short
-    c.in_default.ensures.spent c.answered.ensures.changes (ap seating_view c.answered.ensures.seating) (ap answer_view c.answered.ensures.answer ∙ c.in_ok-at_its_end.ensures)
+    c.in_default.ensures.spent c.answered.ensures.edits (ap seating_view c.answered.ensures.seating) (ap answer_view c.answered.ensures.answer ∙ c.in_ok-at_its_end.ensures)
 
 pub write_here-requires-clause-served : goal.write_here-requires-clause-served
 write_here-requires-clause-served c =
