@@ -4,9 +4,9 @@ use Rattle.std.specs.List.{list_all}
 use Rattle.std.specs.Option.{option_map_or}
 use Rattle.wm_dml.specs.declared.change.RowChange.{RowChange}
 use Rattle.wm_making.specs.Rows.{is_filled}
-use Rattle.wm_model.specs.Entered.{entries_of, written_all}
+use Rattle.wm_model.specs.Entered.{entries_of}
 use Rattle.wm_model.specs.Planning.{StandsAt}
-use Rattle.wm_model.specs.Step.{durably}
+use Rattle.wm_model.specs.Step.{durably, written_all}
 use Rattle.wm_print.specs.Texts.{Answer, Done}
 use Rattle.wm_spec.specs.declared.record.space.Space.{Space}
 use Rattle.wm_spec.specs.declared.record.stored.Stored.{Stored}
