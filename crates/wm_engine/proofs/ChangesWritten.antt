@@ -1,5 +1,5 @@
 -- What a plan that writes changes of rows does.
-use Rattle.std.proofs.Common.{◌≡◌, ℕ, ◌+◌, ◌&&◌, nat_lt, Bool, true, false, List, [], ◌∷◌, ◌++◌, length, map, Option, Some, None, refl, sym, ap, ◌∙◌, arith, codes}
+use Rattle.std.proofs.Common.{◌≡◌, ℕ, zero, suc, ◌+◌, ◌&&◌, nat_lt, Bool, true, false, List, [], ◌∷◌, ◌++◌, length, vec_len, map, Option, Some, None, refl, sym, ap, ◌∙◌, arith, codes}
 use Rattle.std.proofs.lemmas.List.{map-append}
 use Rattle.std.specs.List.{list_all}
 use Rattle.std.specs.Option.{option_map, option_map_or}
@@ -107,3 +107,13 @@ spent_all rs m session p t a c count changes one short much none seats says = λ
     told rs xs m p [] Stay (at_its_end (codes "WORK")) act none seats says
     (does_nothing rs xs m (at_its_end (codes "WORK")) act
     (λ s st. same s st ∙ spent_at rs xs m s (a.log_length + length changes) c (written_all session.space (entries_of s session.user t changes) s, Done count) st one short much))
+
+-- ---- how many they are
+
+-- where their number is not 0 there are some
+pub some_changes : (v : Vec RowChange Global) (k : ℕ) → k ≡ vec_len v → (k ≡ 0 → ⊥) → nat_lt 0 (length v.items) ≡ true
+some_changes v k is some = positive (length v.items) (λ none. some (omega (arith, is, none)))
+  where
+    positive : (n : ℕ) → (n ≡ 0 → ⊥) → nat_lt 0 n ≡ true
+    positive zero some = absurd (some refl)
+    positive (suc n) some = refl

@@ -1,6 +1,6 @@
 -- Records that keep the rules fit pages, where no text in them is empty.
-use Rattle.std.proofs.Common.{◌≡◌, ℕ, zero, suc, ◌≤◌, ◌+◌, ◌==◌, ◌&&◌, nat_le, nat_lt, Bool, true, false, List, [], ◌∷◌, ◌++◌, length, Option, Some, None, is_some, unwrap_or, if◌then◌else◌, slice_get, refl, sym, ap, ◌∙◌, arith}
-use Rattle.std.specs.List.{count_by, find, list_all, AllByRecursion}
+use Rattle.std.proofs.Common.{◌≡◌, ℕ, zero, suc, ◌≤◌, ◌+◌, ◌==◌, ◌&&◌, nat_le, nat_lt, Bool, true, false, List, [], ◌∷◌, length, Option, Some, None, is_some, unwrap_or, if◌then◌else◌, slice_get, refl, sym, ap, ◌∙◌, arith}
+use Rattle.std.specs.List.{list_all, AllByRecursion}
 use Rattle.std.specs.Option.{option_and_then, option_map_or}
 use Rattle.std.specs.Str.{bytes_eq}
 use Rattle.wm_base.specs.Value.{type_place, weight_of}
@@ -9,7 +9,7 @@ use Rattle.wm_base.specs.declared.value.Value.{Value}
 use Rattle.wm_base.specs.declared.value.Value.TheVariants.{Null, Num, Text, Time, Span}
 use Rattle.wm_dml.specs.Changing.{row_key}
 use Rattle.wm_graph.specs.Parts.{Parts, parts_of, as_hist, as_piece, as_row, as_savepoint, as_space, as_table, row_of, space_of, table_of, version_of}
-use Rattle.wm_graph.specs.Rules.{keep_rules, are_cells, are_hists, are_pieces, are_rows, are_savepoints, are_spaces, are_tables, collide, differ, fit_columns, fits_column, has_few, is_hist, is_key_of, is_light_key, is_piece, is_placed, is_row, is_row_at, is_row_of, is_savepoint, is_saved_in, is_short, is_space, is_table, key_of, same_column, same_position, same_savepoint, type_of, weight}
+use Rattle.wm_graph.specs.Rules.{keep_rules, are_cells, are_savepoints, are_spaces, are_tables, collide, differ, fit_columns, fits_column, has_few, is_hist, is_key_of, is_light_key, is_piece, is_placed, is_row, is_row_of, is_savepoint, is_short, is_space, is_table, key_of, same_column, same_position, same_savepoint, type_of, weight}
 use Rattle.wm_making.specs.Rows.{is_filled}
 use Rattle.wm_spec.specs.Records.{record_at}
 use Rattle.wm_spec.specs.declared.record.Record.{Record}
