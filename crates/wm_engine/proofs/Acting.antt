@@ -11,14 +11,15 @@ use Rattle.wm_spec.specs.declared.record.counters.Counters.{Counters}
 use Rattle.wm_spec.specs.declared.record.space.Space.{Space}
 use Rattle.wm_spec.specs.declared.record.stored.Stored.{Stored}
 use Rattle.wm_spec.specs.declared.record.table.Table.{Table}
+use Rattle.wm_state.proofs.Counting.{CountsAs}
 use Rattle.wm_state.specs.Drawing.{are_sorted}
 use Rattle.wm_state.specs.Standing.{SpaceFields}
 use Rattle.wm_state.specs.State.{State, Session, Workspace}
-use Rattle.wm_model.specs.Entered.{entries_of, written_all}
+use Rattle.wm_model.specs.Entered.{entries_of}
 use Rattle.wm_model.specs.Planning.{StandsAt, Stay}
-use Rattle.wm_model.specs.Step.{at_newest, change_limit, counter_limit, durably, at_its_end, not_built, write_ascending}
+use Rattle.wm_model.specs.Step.{at_newest, change_limit, counter_limit, durably, at_its_end, not_built, write_ascending, written_all}
 use Rattle.wm_model.proofs.Changing.{ascending, not_ascending}
-use Rattle.wm_model.proofs.Doing.{CountsAs, counts_as, does_nothing, spent_log}
+use Rattle.wm_model.proofs.Doing.{counts_as, does_nothing, spent_log}
 use Rattle.wm_model.proofs.Homes.{home_is}
 use Rattle.wm_model.proofs.Newest.{Acts, ComesTo, comes_to}
 use Rattle.wm_engine.proofs.Planning.{told}
@@ -36,14 +37,14 @@ InSpace = State → Workspace → State × Answer
 
 -- an answer alone, by what is known of the records and the state
 pub does_answer : (rs : List Stored) (m : ℕ) (p : Planned) (session : Session) (a : Space) (done : InSpace) (answer : Answer) → keep_rules (parts_of rs) ≡ true
-    → ((xs : List Session) (s : State) (w : Workspace) → StandsAt rs xs m s → IsHome s session a w → done s w ≡ (s, answer)) → p.changes ≡ [] → seating_view p.seating ≡ Stay → answer_view p.answer ≡ answer
+    → ((xs : List Session) (s : State) (w : Workspace) → StandsAt rs xs m s → IsHome s session a w → done s w ≡ (s, answer)) → p.edits.items ≡ [] → seating_view p.seating ≡ Stay → answer_view p.answer ≡ answer
     → DoesAs rs m session a done p
 does_answer rs m p session a done answer rules same none seats says = λ xs act acts.
-    told rs xs m p [] Stay answer act none seats says (does_nothing rs xs m answer act rules (λ s st. let h = acts s st in h.2 ∙ same xs s h.0 st h.1))
+    told rs xs m p [] Stay answer act none seats says (does_nothing rs xs m answer act (λ s st. let h = acts s st in h.2 ∙ same xs s h.0 st h.1))
 
 -- and whatever they are
 pub answers_so : (rs : List Stored) (m : ℕ) (p : Planned) (session : Session) (a : Space) (done : InSpace) (answer : Answer) → keep_rules (parts_of rs) ≡ true → ((s : State) (w : Workspace) → done s w ≡ (s, answer))
-    → p.changes ≡ [] → seating_view p.seating ≡ Stay → answer_view p.answer ≡ answer → DoesAs rs m session a done p
+    → p.edits.items ≡ [] → seating_view p.seating ≡ Stay → answer_view p.answer ≡ answer → DoesAs rs m session a done p
 answers_so rs m p session a done answer rules same none seats says = does_answer rs m p session a done answer rules (λ xs s w st home. same s w) none seats says
 
 -- what does the same
@@ -70,13 +71,13 @@ does_change rs m (Err e) session name fault empty act t a to lasting does = tt
 
 -- keys do not ascend
 pub writes_not : (rs : List Stored) (m : ℕ) (p : Planned) (session : Session) (a : Space) (t : Table) (count : ℕ) (changes : List RowChange) → keep_rules (parts_of rs) ≡ true → are_sorted (change_keys changes) ≡ false
-    → p.changes ≡ [] → seating_view p.seating ≡ Stay → answer_view p.answer ≡ not_built → DoesAs rs m session a (write_ascending session.user t count changes) p
+    → p.edits.items ≡ [] → seating_view p.seating ≡ Stay → answer_view p.answer ≡ not_built → DoesAs rs m session a (write_ascending session.user t count changes) p
 writes_not rs m p session a t count changes rules up none seats says =
     answers_so rs m p session a (write_ascending session.user t count changes) not_built rules (λ s w. not_ascending session.user t count changes s w up) none seats says
 
 -- there are none
 pub writes_none : (rs : List Stored) (m : ℕ) (p : Planned) (session : Session) (a : Space) (t : Table) (count : ℕ) (changes : List RowChange) → keep_rules (parts_of rs) ≡ true → changes ≡ []
-    → p.changes ≡ [] → seating_view p.seating ≡ Stay → answer_view p.answer ≡ Done 0 → DoesAs rs m session a (write_ascending session.user t count changes) p
+    → p.edits.items ≡ [] → seating_view p.seating ≡ Stay → answer_view p.answer ≡ Done 0 → DoesAs rs m session a (write_ascending session.user t count changes) p
 writes_none rs m p session a t count changes rules empty none seats says =
     answers_so rs m p session a (write_ascending session.user t count changes) (Done 0) rules (λ s w. ap (λ (xs : List RowChange). write_ascending session.user t count xs s w) empty) none seats says
 
@@ -86,7 +87,7 @@ left_is c s k counts = ap (λ n. nat_le (n + k) (s.limit + 1)) (sym counts.next_
 -- no changes are left for so many
 pub writes_full : (rs : List Stored) (m : ℕ) (p : Planned) (session : Session) (a : Space) (t : Table) (c : Counters) (count : ℕ) (changes : List RowChange) → keep_rules (parts_of rs) ≡ true → are_sorted (change_keys changes) ≡ true
     → (changes ≡ [] → ⊥) → (parts_of rs).counters ≡ c ∷ [] → nat_le (c.next_stamp + length changes) (c.limit + 1) ≡ false
-    → p.changes ≡ [] → seating_view p.seating ≡ Stay → answer_view p.answer ≡ change_limit c.limit → DoesAs rs m session a (write_ascending session.user t count changes) p
+    → p.edits.items ≡ [] → seating_view p.seating ≡ Stay → answer_view p.answer ≡ change_limit c.limit → DoesAs rs m session a (write_ascending session.user t count changes) p
 writes_full rs m p session a t c count [] rules up some one full none seats says = absurd (some refl)
 writes_full rs m p session a t c count (x ∷ xs) rules up some one full none seats says =
     does_answer rs m p session a (write_ascending session.user t count (x ∷ xs)) (change_limit c.limit) rules
@@ -108,7 +109,7 @@ writes rs xs m session a t c count (x ∷ changes) s w up some one left st log =
 -- the log is at its end
 pub writes_long : (rs : List Stored) (m : ℕ) (p : Planned) (session : Session) (a : Space) (t : Table) (c : Counters) (count : ℕ) (changes : List RowChange) → keep_rules (parts_of rs) ≡ true → are_sorted (change_keys changes) ≡ true
     → (changes ≡ [] → ⊥) → (parts_of rs).counters ≡ c ∷ [] → nat_le (c.next_stamp + length changes) (c.limit + 1) ≡ true → nat_lt counter_limit (a.log_length + length changes) ≡ true
-    → p.changes ≡ [] → seating_view p.seating ≡ Stay → answer_view p.answer ≡ at_its_end (codes "LOG") → DoesAs rs m session a (write_ascending session.user t count changes) p
+    → p.edits.items ≡ [] → seating_view p.seating ≡ Stay → answer_view p.answer ≡ at_its_end (codes "LOG") → DoesAs rs m session a (write_ascending session.user t count changes) p
 writes_long rs m p session a t c count changes rules up some one left long none seats says =
     does_answer rs m p session a (write_ascending session.user t count changes) (at_its_end (codes "LOG")) rules
     (λ xs s w st home.

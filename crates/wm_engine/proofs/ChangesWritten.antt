@@ -52,7 +52,7 @@ entries-push stamp m user t (y ∷ ys) x =
     ap (λ es. change_entry stamp m user t y ∷ es)
     (entries-push (stamp + 1) m user t ys x ∙ ap (λ k. entries_from (stamp + 1) m user t ys ++ change_entry k m user t x ∷ []) (next stamp (length ys)))
   where
-    next : (a b : ℕ) → a + 1 + b ≡ a + (b + 1)
+    next : (a b : ℕ) → a + 1 + b ≡ a + suc b
     next a b = omega arith
 
 -- the entry of one change more is behind those of the others
@@ -116,4 +116,4 @@ some_changes v k is some = positive (length v.items) (λ none. some (omega (arit
   where
     positive : (n : ℕ) → (n ≡ 0 → ⊥) → nat_lt 0 n ≡ true
     positive zero some = absurd (some refl)
-    positive (suc n) some = refl
+    positive (suc n) some = grind arith
