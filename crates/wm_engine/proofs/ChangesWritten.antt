@@ -1,5 +1,5 @@
 -- What a plan that writes changes of rows does.
-use Rattle.std.proofs.Common.{◌≡◌, ℕ, zero, suc, ◌+◌, ◌&&◌, nat_lt, Bool, true, false, List, [], ◌∷◌, ◌++◌, length, vec_len, map, Option, Some, None, refl, sym, ap, ◌∙◌, arith, codes}
+use Rattle.std.proofs.Common.{◌≡◌, ℕ, zero, suc, ◌+◌, ◌^◌, ◌<◌, ◌≤◌, ◌&&◌, nat_le, nat_lt, Bool, true, false, List, [], ◌∷◌, ◌++◌, length, vec_len, map, Option, Some, None, Result, Ok, Err, IfOk, refl, sym, ap, ◌∙◌, arith, codes}
 use Rattle.std.proofs.lemmas.List.{map-append}
 use Rattle.std.specs.List.{list_all}
 use Rattle.std.specs.Option.{option_map, option_map_or}
@@ -9,7 +9,9 @@ use Rattle.wm_base.specs.declared.row.Row.{Row}
 use Rattle.wm_base.specs.declared.value.Value.{Value}
 use Rattle.wm_base.specs.declared.value.Value.TheVariants.{Null, Num, Text, Time, Span}
 use Rattle.wm_dml.specs.declared.change.RowChange.{RowChange}
+use Rattle.wm_base.specs.declared.memory.Memory.{Memory}
 use Rattle.wm_graph.specs.Parts.{parts_of}
+use Rattle.wm_graph.specs.Rules.{are_counters, keep_rules}
 use Rattle.wm_making.specs.Rows.{is_filled}
 use Rattle.wm_model.proofs.Doing.{does_nothing, spent_at}
 use Rattle.wm_model.proofs.Written.{does_write}
@@ -22,6 +24,7 @@ use Rattle.wm_spec.specs.declared.record.counters.Counters.{Counters}
 use Rattle.wm_spec.specs.declared.record.space.Space.{Space}
 use Rattle.wm_spec.specs.declared.record.stored.Stored.{Stored}
 use Rattle.wm_spec.specs.declared.record.table.Table.{Table}
+use Rattle.wm_state.proofs.Counting.{counted_well}
 use Rattle.wm_state.proofs.Tests.{both, and_true}
 use Rattle.wm_state.specs.Drafts.{can_keep, can_keep_entry}
 use Rattle.wm_state.specs.Editing.{entry_of, row_value}
@@ -31,7 +34,9 @@ use Rattle.wm_state.specs.declared.edit.NewEntry.{NewEntry}
 use Rattle.wm_engine.proofs.Planning.{told}
 use Rattle.wm_engine.specs.Changing.{WritesAll, is_filled_change}
 use Rattle.wm_engine.specs.Views.{answer_view, seating_view}
+use Rattle.wm_engine.specs.declared.answer.Answer.TheVariants as answers
 use Rattle.wm_engine.specs.declared.planned.Planned.{Planned}
+use Rattle.wm_engine.specs.declared.seating.Seating.TheVariants as seatings
 
 -- ---- the entries, one by one
 
@@ -93,11 +98,13 @@ kept_entries stamp m user t (x ∷ xs) filled =
 -- ---- what it does
 
 -- changes that may be written are
-pub wrote_all : (rs : List Stored) (m : ℕ) (session : Session) (p : Planned) (t : Table) (a : Space) (c : Counters) (count : ℕ) (changes : List RowChange) (entries : Vec NewEntry Global) → MayWrite rs session.space m session.user t a c changes
-    → map entry_of entries.items ≡ entries_from c.next_stamp m session.user t changes → p.edits.items ≡ edits.Append session.space entries ∷ [] → seating_view p.seating ≡ Stay → answer_view p.answer ≡ Done count
-    → WritesAll rs m session a t count changes p
-wrote_all rs m session p t a c count changes entries may are edits_are seats says = λ xs act same.
-    told rs xs m p (edits.Append session.space entries ∷ []) Stay (Done count) act edits_are seats says (does_write rs xs m session.space session.user t count changes a c entries act may are same)
+pub wrote_all : (rs : List Stored) (m : ℕ) (session : Session) (r : Result Planned Memory) (t : Table) (a : Space) (c : Counters) (count : ℕ) (changes : List RowChange) (entries : Vec NewEntry Global) → MayWrite rs session.space m session.user t a c changes
+    → map entry_of entries.items ≡ entries_from c.next_stamp m session.user t changes → IfOk r (λ p. p.edits.items ≡ edits.Append session.space entries ∷ []) → IfOk r (λ p. p.seating ≡ seatings.Stay) → IfOk r (λ p. p.answer ≡ answers.Done count)
+    → IfOk r (WritesAll rs m session a t count changes)
+wrote_all rs m session (Ok p) t a c count changes entries may are edits_are seats says = λ xs act same.
+    told rs xs m p (edits.Append session.space entries ∷ []) Stay (Done count) act edits_are (ap seating_view seats) (ap answer_view says)
+    (does_write rs xs m session.space session.user t count changes a c entries act may are same)
+wrote_all rs m session (Err e) t a c count changes entries may are edits_are seats says = tt
 
 -- the work is at its end
 pub spent_all : (rs : List Stored) (m : ℕ) (session : Session) (p : Planned) (t : Table) (a : Space) (c : Counters) (count : ℕ) (changes : List RowChange) → (parts_of rs).counters ≡ c ∷ []
@@ -117,3 +124,19 @@ some_changes v k is some = positive (length v.items) (λ none. some (omega (arit
     positive : (n : ℕ) → (n ≡ 0 → ⊥) → nat_lt 0 n ≡ true
     positive zero some = absurd (some refl)
     positive (suc n) some = grind arith
+
+-- stamps that are left fit their bytes
+pub stamps_fit : (rs : List Stored) (c : Counters) (k : ℕ) → keep_rules (parts_of rs) ≡ true → (parts_of rs).counters ≡ c ∷ [] → nat_le (c.next_stamp + k) (c.limit + 1) ≡ true → c.next_stamp + k < 2 ^ 64
+stamps_fit rs c k rules one left = fits (c.next_stamp + k) c.limit left (small (counted_well (parts_of rs) c rules one))
+  where
+    small : are_counters c ≡ true → nat_le c.limit 1048576 ≡ true
+    small e =
+        let h = both ((nat_le 1 c.limit && nat_le c.limit 1048576) && (nat_le 1 c.next_stamp && nat_le c.next_stamp (c.limit + 1))) _ e in
+        let f = both (nat_le 1 c.limit && nat_le c.limit 1048576) (nat_le 1 c.next_stamp && nat_le c.next_stamp (c.limit + 1)) h.0 in
+        (both (nat_le 1 c.limit) (nat_le c.limit 1048576) f.0).1
+
+    fits : (n limit : ℕ) → nat_le n (limit + 1) ≡ true → nat_le limit 1048576 ≡ true → n < 2 ^ 64
+    fits n limit e few = omega (arith, below n (limit + 1) e, below limit 1048576 few)
+      where
+        below : (a b : ℕ) → nat_le a b ≡ true → a ≤ b
+        below a b e = grind (arith, e)
