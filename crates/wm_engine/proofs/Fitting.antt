@@ -1,20 +1,23 @@
--- The records of the batches that lines make fit pages.
-use Rattle.std.proofs.Common.{◌≡◌, ℕ, zero, suc, ◌≤◌, ◌==◌, ◌&&◌, nat_le, Bool, true, false, List, [], ◌∷◌, ◌++◌, length, map, Option, Some, None, is_some, unwrap_or, if◌then◌else◌, slice_get, refl, sym, ap, ◌∙◌, arith}
+-- Records that keep the rules fit pages, where no text in them is empty.
+use Rattle.std.proofs.Common.{◌≡◌, ℕ, zero, suc, ◌≤◌, ◌+◌, ◌==◌, ◌&&◌, nat_le, nat_lt, Bool, true, false, List, [], ◌∷◌, length, Option, Some, None, is_some, unwrap_or, if◌then◌else◌, slice_get, refl, sym, ap, ◌∙◌, arith}
 use Rattle.std.specs.List.{list_all, AllByRecursion}
 use Rattle.std.specs.Option.{option_and_then, option_map_or}
 use Rattle.std.specs.Str.{bytes_eq}
 use Rattle.wm_base.specs.Value.{type_place, weight_of}
+use Rattle.wm_base.specs.declared.instant.TheConstants.{END}
 use Rattle.wm_base.specs.declared.value.Value.{Value}
 use Rattle.wm_base.specs.declared.value.Value.TheVariants.{Null, Num, Text, Time, Span}
-use Rattle.wm_graph.specs.Parts.{parts_of, as_table, space_of, table_of}
-use Rattle.wm_graph.specs.Rules.{keep_rules, is_short, is_table, same_column, differ, is_space, is_placed, fit_columns, fits_column, type_of, weight, is_row_of, is_light_key, key_of, is_key_of}
+use Rattle.wm_dml.specs.Changing.{row_key}
+use Rattle.wm_graph.specs.Parts.{Parts, parts_of, as_hist, as_piece, as_row, as_savepoint, as_space, as_table, row_of, space_of, table_of, version_of}
+use Rattle.wm_graph.specs.Rules.{keep_rules, are_cells, are_savepoints, are_spaces, are_tables, collide, differ, fit_columns, fits_column, has_few, is_hist, is_key_of, is_light_key, is_piece, is_placed, is_row, is_row_of, is_savepoint, is_short, is_space, is_table, key_of, same_column, same_position, same_savepoint, type_of, weight}
+use Rattle.wm_making.specs.Rows.{is_filled}
 use Rattle.wm_spec.specs.Records.{record_at}
+use Rattle.wm_spec.specs.declared.record.Record.{Record}
 use Rattle.wm_spec.specs.declared.record.Record.TheVariants as records
-use Rattle.wm_spec.specs.declared.record.batch.Change.{Change}
+use Rattle.wm_spec.specs.declared.record.cell_range.CellRange.{CellRange}
 use Rattle.wm_spec.specs.declared.record.column.ColumnKind.{ColumnKind}
 use Rattle.wm_spec.specs.declared.record.column.ColumnKind.TheVariants as kinds
 use Rattle.wm_spec.specs.declared.record.column.TableColumn.{TableColumn}
-use Rattle.wm_spec.specs.declared.record.counters.Counters.{Counters}
 use Rattle.wm_spec.specs.declared.record.hist.Hist.{Hist}
 use Rattle.wm_spec.specs.declared.record.piece.PieceRecord.{PieceRecord}
 use Rattle.wm_spec.specs.declared.record.row.RowRecord.{RowRecord}
@@ -22,55 +25,11 @@ use Rattle.wm_spec.specs.declared.record.savepoint.Savepoint.{Savepoint}
 use Rattle.wm_spec.specs.declared.record.space.Space.{Space}
 use Rattle.wm_spec.specs.declared.record.stored.Stored.{Stored}
 use Rattle.wm_spec.specs.declared.record.table.Table.{Table}
-use Rattle.wm_spec.specs.declared.record.version.Version.{Version}
-use Rattle.wm_state.specs.Batches.{drop_one, create_batch, enable_batch, ready, savepoint_batch, birth_batch}
-use Rattle.wm_state.specs.State.{Readiness}
+use Rattle.wm_state.specs.Drafts.{can_keep, is_kept}
 use Rattle.wm_state.proofs.Apart.{ruled, found-passes}
-use Rattle.wm_state.proofs.ByKind.{kinds as of_kind, Split, split_of}
-use Rattle.wm_state.proofs.Planning.{tables-split}
+use Rattle.wm_state.proofs.ByKind.{kinds as of_kind, Split, split_of, kinds-one}
 use Rattle.wm_state.proofs.Tests.{bool_apart, both, and_true, all_middle}
-use Rattle.wm_dml.specs.Changing.{row_key}
-use Rattle.wm_store.specs.Spelled.{FitPages}
 use Rattle.wm_store.proofs.Fitting.{FitsPage, is_spelled, fits_counters, fits_version, fits_space, fits_savepoint, fits_table, fits_row, fits_piece, fits_hist}
-use Rattle.wm_making.specs.Rows.{is_filled}
-
--- ---- what the rules say of a record
-
--- a table that has a record is in order
-pub table_well : (rs : List Stored) (id : ℕ) (t : Table) → keep_rules (parts_of rs) ≡ true → record_at rs id ≡ Some (records.Table t) → is_table t ≡ true
-table_well rs id t rules found = by_split (split_of rs id (records.Table t) found)
-  where
-    each : list_all is_table (parts_of rs).tables ≡ true
-    each =
-        let ts = (parts_of rs).tables in
-        let h = both (nat_le (length ts) 256) _ (ruled (parts_of rs) rules).tables in
-        let g = both (differ (λ (t u : Table). t.number == u.number) ts) _ h.1 in
-        (both (differ (λ (t u : Table). bytes_eq t.name u.name) ts) (list_all is_table ts) g.1).1
-
-    by_split : Split rs id (records.Table t) → is_table t ≡ true
-    by_split s =
-        let tables : (parts_of rs).tables ≡ of_kind as_table s.front ++ t ∷ of_kind as_table s.back = ap (λ xs. (parts_of xs).tables) s.is ∙ tables-split s.front s.back id t in
-        all_middle is_table t (of_kind as_table s.front) (of_kind as_table s.back) (ap (list_all is_table) (sym tables) ∙ each)
-
--- and so is one that is found by its number
-pub table_in_order : (rs : List Stored) (n : ℕ) (t : Table) → keep_rules (parts_of rs) ≡ true → table_of (parts_of rs).tables n ≡ Some t → is_table t ≡ true
-table_in_order rs n t rules found =
-    let ts = (parts_of rs).tables in
-    let h = both (nat_le (length ts) 256) _ (ruled (parts_of rs) rules).tables in
-    let g = both (differ (λ (t u : Table). t.number == u.number) ts) _ h.1 in
-    let each = (both (differ (λ (t u : Table). bytes_eq t.name u.name) ts) (list_all is_table ts) g.1).1 in
-    (found-passes (λ (u : Table). u.number == n) is_table ts t found each).1
-
--- the names in a workspace's record are short
-pub space_well : (rs : List Stored) (n : ℕ) (a : Space) → keep_rules (parts_of rs) ≡ true → space_of (parts_of rs).spaces n ≡ Some a → (is_short a.name ≡ true) × (is_short a.writer ≡ true)
-space_well rs n a rules found =
-    let ss = (parts_of rs).spaces in
-    let x = both (nat_le (length ss) 1024 && is_some (space_of ss 0)) _ (ruled (parts_of rs) rules).spaces in
-    let y = both (differ (λ (s t : Space). s.number == t.number) ss) _ x.1 in
-    let z = both (differ (λ (s t : Space). bytes_eq s.name t.name) ss) (list_all (is_space (space_of ss)) ss) y.1 in
-    let w = (found-passes (λ (s : Space). s.number == n) (is_space (space_of ss)) ss a found z.1).1 in
-    let v = both (is_placed (space_of ss) a && (is_short a.name && is_short a.writer)) _ w in
-    both (is_short a.name) (is_short a.writer) (both (is_placed (space_of ss) a) (is_short a.name && is_short a.writer) v.0).1
 
 -- ---- records that fit
 
@@ -101,10 +60,7 @@ small t e =
 table_fits : (t : Table) → is_table t ≡ true → FitsPage (records.Table t)
 table_fits t e = let s = small t e in fits_table t s.name s.few s.names
 
-ready_fits : (how : Readiness) (t : Table) → is_table t ≡ true → FitsPage (records.Table (ready how t))
-ready_fits how t e = let s = small t e in fits_table (ready how t) s.name s.few s.names
-
-pub space_fits : (a : Space) → is_short a.name ≡ true → is_short a.writer ≡ true → FitsPage (records.Space a)
+space_fits : (a : Space) → is_short a.name ≡ true → is_short a.writer ≡ true → FitsPage (records.Space a)
 space_fits a name writer = fits_space a (at_most (length a.name) 30 name) (at_most (length a.writer) 30 writer)
 
 savepoint_fits : (x : Savepoint) → is_short x.name ≡ true → FitsPage (records.Savepoint x)
@@ -118,28 +74,28 @@ not_span kinds.Number e = bool_apart (sym e)
 not_span kinds.Text e = bool_apart (sym e)
 not_span kinds.Time e = bool_apart (sym e)
 
-spelled_of : (k : ColumnKind) (v : Value) → is_filled v ≡ true → ((p : _) → v ≡ Span p → (4 == type_of k) ≡ true) → is_spelled v ≡ true
+spelled_of : (k : ColumnKind) (v : Value) → can_keep v ≡ true → ((p : _) → v ≡ Span p → (4 == type_of k) ≡ true) → is_spelled v ≡ true
 spelled_of k Null filled typed = refl
 spelled_of k (Num n) filled typed = refl
 spelled_of k (Text t) filled typed = filled
 spelled_of k (Time i) filled typed = refl
 spelled_of k (Span p) filled typed = absurd (not_span k (typed p refl))
 
-fitted_column : (c : TableColumn) (v : Value) → is_filled v ≡ true → fits_column c v ≡ true → is_spelled v ≡ true
+fitted_column : (c : TableColumn) (v : Value) → can_keep v ≡ true → fits_column c v ≡ true → is_spelled v ≡ true
 fitted_column c v filled e = spelled_of c.kind v filled (λ p is. sym (ap (fits_column c) is) ∙ e)
 
-fitted : (cs : List TableColumn) (vs : List Value) → list_all is_filled vs ≡ true → fit_columns cs vs ≡ true → (list_all is_spelled vs ≡ true) × (length vs ≡ length cs)
+fitted : (cs : List TableColumn) (vs : List Value) → list_all can_keep vs ≡ true → fit_columns cs vs ≡ true → (list_all is_spelled vs ≡ true) × (length vs ≡ length cs)
 fitted [] [] filled e = (refl, refl)
 fitted [] (v ∷ vs) filled e = absurd (bool_apart (sym e))
 fitted (c ∷ cs) [] filled e = absurd (bool_apart (sym e))
 fitted (c ∷ cs) (v ∷ vs) filled e =
-    let f = both (is_filled v) (list_all is_filled vs) filled in
+    let f = both (can_keep v) (list_all can_keep vs) filled in
     let h = both (fits_column c v) (fit_columns cs vs) e in
     let rest = fitted cs vs f.1 h.1 in
     (and_true (is_spelled v) (list_all is_spelled vs) (fitted_column c v f.0 h.0) rest.0, ap suc rest.1)
 
 -- a row of a table fits, where no text in it is empty
-pub row_fits : (r : RowRecord) (t : Table) → is_table t ≡ true → is_row_of r.values t ≡ true → list_all is_filled r.values ≡ true → FitsPage (records.Row r)
+row_fits : (r : RowRecord) (t : Table) → is_table t ≡ true → is_row_of r.values t ≡ true → list_all can_keep r.values ≡ true → FitsPage (records.Row r)
 row_fits r t e row filled =
     let s = small t e in
     let h = both (fit_columns t.columns r.values) (nat_le (weight r.values) 2000 && is_light_key (key_of t r.values)) row in
@@ -153,7 +109,7 @@ record OneKey (key : List Value) : Type 0 where
   spelled : is_spelled value ≡ true
   light : weight_of value ≤ 2000
 
-one_key : (key : List Value) (t : Table) → is_key_of key t ≡ true → list_all is_filled key ≡ true → OneKey key
+one_key : (key : List Value) (t : Table) → is_key_of key t ≡ true → list_all can_keep key ≡ true → OneKey key
 one_key [] t e f = absurd (bool_apart (sym e))
 one_key (v ∷ w ∷ vs) t e f = absurd (bool_apart (sym e))
 one_key (v ∷ []) t e f =
@@ -173,15 +129,121 @@ one_key (v ∷ []) t e f =
 
     by_column : (o : Option TableColumn) → typed o ≡ true → is_spelled v ≡ true
     by_column None g = absurd (bool_apart (sym g))
-    by_column (Some c) g = spelled_of c.kind v (both (is_filled v) true f).0 (λ p is. sym (ap (λ w. type_place w == type_of c.kind) is) ∙ g)
+    by_column (Some c) g = spelled_of c.kind v (both (can_keep v) true f).0 (λ p is. sym (ap (λ w. type_place w == type_of c.kind) is) ∙ g)
 
 -- and a piece whose key is one of the table
-pub piece_fits : (x : PieceRecord) (t : Table) → is_key_of x.cells.key t ≡ true → list_all is_filled x.cells.key ≡ true → FitsPage (records.Piece x)
+piece_fits : (x : PieceRecord) (t : Table) → is_key_of x.cells.key t ≡ true → list_all can_keep x.cells.key ≡ true → FitsPage (records.Piece x)
 piece_fits x t key filled = let k = one_key x.cells.key t key filled in fits_piece x k.value k.is k.spelled k.light
 
 -- and an entry of a log, if its user is short
-pub hist_fits : (x : Hist) (t : Table) → is_key_of x.cells.key t ≡ true → list_all is_filled x.cells.key ≡ true → is_short x.user ≡ true → FitsPage (records.Hist x)
+hist_fits : (x : Hist) (t : Table) → is_key_of x.cells.key t ≡ true → list_all can_keep x.cells.key ≡ true → is_short x.user ≡ true → FitsPage (records.Hist x)
 hist_fits x t key filled user = let k = one_key x.cells.key t key filled in fits_hist x k.value k.is k.spelled k.light (at_most (length x.user) 30 user)
+
+-- ---- what the rules say of all records of a kind
+
+each_table : (p : Parts) → are_tables p.tables ≡ true → list_all is_table p.tables ≡ true
+each_table p e =
+    let h = both (nat_le (length p.tables) 256) _ e in
+    let g = both (differ (λ (t u : Table). t.number == u.number) p.tables) _ h.1 in
+    (both (differ (λ (t u : Table). bytes_eq t.name u.name) p.tables) (list_all is_table p.tables) g.1).1
+
+each_space : (p : Parts) → are_spaces p.spaces ≡ true → list_all (is_space (space_of p.spaces)) p.spaces ≡ true
+each_space p e =
+    let h = both (nat_le (length p.spaces) 1024 && is_some (space_of p.spaces 0)) _ e in
+    let g = both (differ (λ (s t : Space). s.number == t.number) p.spaces) _ h.1 in
+    (both (differ (λ (s t : Space). bytes_eq s.name t.name) p.spaces) (list_all (is_space (space_of p.spaces)) p.spaces) g.1).1
+
+each_savepoint : (p : Parts) (work : ℕ) → are_savepoints p work ≡ true → list_all (is_savepoint (space_of p.spaces) (version_of p.versions) work) p.savepoints ≡ true
+each_savepoint p work e =
+    let h = both (differ (λ (x y : Savepoint). x.making == y.making) p.savepoints) _ e in
+    let g = both (differ same_savepoint p.savepoints) _ h.1 in
+    (both (list_all (has_few p.savepoints) p.spaces) (list_all (is_savepoint (space_of p.spaces) (version_of p.versions) work) p.savepoints) g.1).1
+
+-- the table of a number is in order, and passes the test that a table of the number passes
+record TableThat (passes : Table → Bool) : Type 0 where
+  table : Table
+  well : is_table table ≡ true
+  that : passes table ≡ true
+
+table_that : (p : Parts) (n : ℕ) (passes : Table → Bool) → are_tables p.tables ≡ true → option_map_or passes (table_of p.tables n) false ≡ true → TableThat passes
+table_that p n passes rules e = by_table (table_of p.tables n) refl e
+  where
+    by_table : (o : Option Table) → table_of p.tables n ≡ o → option_map_or passes o false ≡ true → TableThat passes
+    by_table None found e = absurd (bool_apart (sym e))
+    by_table (Some t) found e = record { table = t; well = (found-passes (λ (u : Table). u.number == n) is_table p.tables t found (each_table p rules)).1; that = e }
+
+-- what is asked of each record of a kind holds of the one that an id has
+one_of : {A : Type 0} (as_kind : Record → Option A) (P : A → Bool) (ss : List Stored) (id : ℕ) (r : Record) (a : A) → record_at ss id ≡ Some r → as_kind r ≡ Some a → list_all P (of_kind as_kind ss) ≡ true → P a ≡ true
+one_of as_kind P ss id r a found is each = by_split (split_of ss id r found)
+  where
+    by_split : Split ss id r → P a ≡ true
+    by_split s = all_middle P a (of_kind as_kind s.front) (of_kind as_kind s.back) (ap (list_all P) (sym (ap (of_kind as_kind) s.is ∙ kinds-one as_kind s.front s.back id r a is)) ∙ each)
+
+-- ---- a record in order fits
+
+space_in : (spaces : ℕ → Option Space) (a : Space) → is_space spaces a ≡ true → FitsPage (records.Space a)
+space_in spaces a e =
+    let h = both (is_placed spaces a && (is_short a.name && is_short a.writer)) _ e in
+    let g = both (is_short a.name) (is_short a.writer) (both (is_placed spaces a) (is_short a.name && is_short a.writer) h.0).1 in
+    space_fits a g.0 g.1
+
+savepoint_in : (p : Parts) (work : ℕ) (x : Savepoint) → is_savepoint (space_of p.spaces) (version_of p.versions) work x ≡ true → FitsPage (records.Savepoint x)
+savepoint_in p work x e =
+    let h = both (is_short x.name && nat_le x.making (work + 2)) _ e in savepoint_fits x (both (is_short x.name) (nat_le x.making (work + 2)) h.0).0
+
+row_in : (p : Parts) (next : ℕ) (r : RowRecord) → are_tables p.tables ≡ true → is_row (table_of p.tables) next r ≡ true → list_all can_keep r.values ≡ true → FitsPage (records.Row r)
+row_in p next r rules e kept =
+    let t = table_that p r.table (is_row_of r.values) rules (both (nat_lt r.stamp next) _ e).1 in
+    row_fits r t.table t.well t.that kept
+
+-- cells of a table have a key of it
+cells_of : (p : Parts) (c : CellRange) → are_tables p.tables ≡ true → are_cells (table_of p.tables) c ≡ true → TableThat (is_key_of c.key)
+cells_of p c rules e = table_that p c.table (is_key_of c.key) rules (both (nat_lt c.from c.till && nat_le c.till END) _ e).1
+
+piece_in : (p : Parts) (next : ℕ) (x : PieceRecord) → are_tables p.tables ≡ true → is_piece (table_of p.tables) (version_of p.versions) (row_of p.rows) next x ≡ true → list_all can_keep x.cells.key ≡ true → FitsPage (records.Piece x)
+piece_in p next x rules e kept =
+    let h = both (is_some (version_of p.versions x.version)) _ e in
+    let t = cells_of p x.cells rules (both (are_cells (table_of p.tables) x.cells) _ h.1).0 in
+    piece_fits x t.table t.that kept
+
+hist_in : (p : Parts) (next : ℕ) (x : Hist) → are_tables p.tables ≡ true → is_hist (table_of p.tables) (space_of p.spaces) (row_of p.rows) next x ≡ true → list_all can_keep x.cells.key ≡ true → FitsPage (records.Hist x)
+hist_in p next x rules e kept =
+    let h = both (is_short x.user && option_map_or (λ (s : Space). nat_lt x.position s.log_length) (space_of p.spaces x.space) false) _ e in
+    let user = (both (is_short x.user) (option_map_or (λ (s : Space). nat_lt x.position s.log_length) (space_of p.spaces x.space) false) h.0).0 in
+    let t = cells_of p x.cells rules (both (are_cells (table_of p.tables) x.cells) _ h.1).0 in
+    hist_fits x t.table t.that kept user
+
+-- a record of records that keep the rules fits a page, where no text in it is empty
+pub record_fits : (ss : List Stored) (id : ℕ) (r : Record) → keep_rules (parts_of ss) ≡ true → record_at ss id ≡ Some r → is_kept r ≡ true → FitsPage r
+unfolding parts_of
+record_fits ss id (records.Counters c) rules found kept = fits_counters c
+record_fits ss id (records.Version v) rules found kept = fits_version v
+record_fits ss id (records.Table t) rules found kept =
+    table_fits t (one_of as_table is_table ss id (records.Table t) t found refl (each_table (parts_of ss) (ruled (parts_of ss) rules).tables))
+record_fits ss id (records.Space a) rules found kept =
+    let p = parts_of ss in
+    space_in (space_of p.spaces) a (one_of as_space (is_space (space_of p.spaces)) ss id (records.Space a) a found refl (each_space p (ruled p rules).spaces))
+record_fits ss id (records.Savepoint x) rules found kept =
+    let p = parts_of ss in
+    let g = ruled p rules in
+    savepoint_in p g.counters.work x (one_of as_savepoint (is_savepoint (space_of p.spaces) (version_of p.versions) g.counters.work) ss id (records.Savepoint x) x found refl (each_savepoint p g.counters.work g.savepoints))
+record_fits ss id (records.Row r) rules found kept =
+    let p = parts_of ss in
+    let g = ruled p rules in
+    let each = (both (differ (λ (r q : RowRecord). r.stamp == q.stamp) p.rows) (list_all (is_row (table_of p.tables) g.counters.next_stamp) p.rows) g.rows).1 in
+    row_in p g.counters.next_stamp r g.tables (one_of as_row (is_row (table_of p.tables) g.counters.next_stamp) ss id (records.Row r) r found refl each) kept
+record_fits ss id (records.Piece x) rules found kept =
+    let p = parts_of ss in
+    let g = ruled p rules in
+    let test = is_piece (table_of p.tables) (version_of p.versions) (row_of p.rows) g.counters.next_stamp in
+    piece_in p g.counters.next_stamp x g.tables (one_of as_piece test ss id (records.Piece x) x found refl (both (differ collide p.pieces) (list_all test p.pieces) g.pieces).1) kept
+record_fits ss id (records.Hist x) rules found kept =
+    let p = parts_of ss in
+    let g = ruled p rules in
+    let test = is_hist (table_of p.tables) (space_of p.spaces) (row_of p.rows) g.counters.next_stamp in
+    hist_in p g.counters.next_stamp x g.tables (one_of as_hist test ss id (records.Hist x) x found refl (both (differ same_position p.hists) (list_all test p.hists) g.hists).1) kept
+
+-- ---- keys
 
 -- the key of a row in which no text is empty is no empty text
 pub filled_key : (t : Table) (row : List Value) → list_all is_filled row ≡ true → list_all is_filled (row_key t row) ≡ true
@@ -196,26 +258,3 @@ filled_key t row filled = by_place row t.key_column filled
     by_place (v ∷ vs) zero e = alone v t.has_key (both (is_filled v) (list_all is_filled vs) e).0
     by_place (v ∷ vs) (suc i) e = by_place vs i (both (is_filled v) (list_all is_filled vs) e).1
 
--- ---- the batches
-
-pub fits_create : (counters_id : ℕ) (c : Counters) (id : ℕ) (t : Table) → is_table t ≡ true → FitPages (create_batch counters_id c id t)
-fits_create counters_id c id t e = (fits_counters c, (table_fits t e, tt))
-
-pub fits_enable : (counters_id : ℕ) (c : Counters) (id : ℕ) (how : Readiness) (t : Table) → is_table t ≡ true → FitPages (enable_batch counters_id c id how t)
-fits_enable counters_id c id how t e = (fits_counters c, (ready_fits how t e, tt))
-
--- what is dropped takes no page
-pub fits_dropped : (ids : List ℕ) (cs : List Change) → FitPages cs → FitPages (map drop_one ids ++ cs)
-fits_dropped [] cs fit = fit
-fits_dropped (id ∷ ids) cs fit = (tt, fits_dropped ids cs fit)
-
--- a savepoint, and the workspace that counts it
-pub fits_savepoint_batch : (counters_id : ℕ) (c : Counters) (space_id : ℕ) (a : Space) (id : ℕ) (x : Savepoint) → is_short a.name ≡ true → is_short a.writer ≡ true → is_short x.name ≡ true
-    → FitPages (savepoint_batch counters_id c space_id a id x)
-fits_savepoint_batch counters_id c space_id a id x name writer saved = (fits_counters c, (space_fits a name writer, (savepoint_fits x saved, tt)))
-
--- and a workspace that is born there, with its first version
-pub fits_birth_batch : (counters_id : ℕ) (c : Counters) (space_id : ℕ) (a : Space) (id : ℕ) (x : Savepoint) (child : Space) (v : Version) → is_short a.name ≡ true → is_short a.writer ≡ true → is_short x.name ≡ true
-    → is_short child.name ≡ true → is_short child.writer ≡ true → FitPages (birth_batch counters_id c space_id a id x child v)
-fits_birth_batch counters_id c space_id a id x child v name writer saved born born_writer =
-    (fits_counters c, (space_fits a name writer, (savepoint_fits x saved, (space_fits child born born_writer, (fits_version v, tt)))))

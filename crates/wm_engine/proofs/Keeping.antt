@@ -1,5 +1,5 @@
 -- What a file stands for once a line was run over the records that it holds.
-use Rattle.std.proofs.Common.{◌≡◌, ℕ, true, List, [], ◌⊎◌, inl, inr, sym, ap, subst, ◌∙◌}
+use Rattle.std.proofs.Common.{◌≡◌, ℕ, true, List, [], ◌⊎◌, inl, inr, refl, sym, ap, subst, ◌∙◌}
 use Rattle.std.specs.List.{list_all}
 use Rattle.wm_graph.specs.Parts.{parts_of}
 use Rattle.wm_graph.specs.Rules.{keep_rules}
@@ -7,9 +7,10 @@ use Rattle.wm_model.proofs.Doing.{stands_sessions}
 use Rattle.wm_model.proofs.Timing.{stands_moment}
 use Rattle.wm_model.specs.Planning.{StandsAt, DoesAt, Seating, seated}
 use Rattle.wm_print.specs.Texts.{Answer, answer_text}
+use Rattle.wm_spec.specs.declared.record.batch.Change.{Change}
 use Rattle.wm_spec.specs.declared.record.stored.Stored.{Stored}
 use Rattle.wm_state.specs.ById.{applied}
-use Rattle.wm_state.specs.Drafts.{ChangesFew, is_fork as is_fork_edit}
+use Rattle.wm_state.specs.Drafts.{ChangesFew, Drafts, is_fork as is_fork_edit}
 use Rattle.wm_state.specs.Editing.{drafted as drafted_state}
 use Rattle.wm_state.specs.Standing.{Stands}
 use Rattle.wm_state.specs.State.{State, Session}
@@ -26,6 +27,24 @@ use Rattle.wm_engine.specs.Working.{FileStands, HoldsSorted, KeepsOver}
 pub begun_stands : (store : Store) (rs : List Stored) (xs : List Session) (m : ℕ) (h : History) (s t : State) → KeepsOver store rs h → StandsAt rs xs m s → Ended h h (λ file. FileStands file s ⊎ FileStands file t)
 begun_stands store rs xs m h s t works stands =
     ended_begun h (λ file. FileStands file s ⊎ FileStands file t) (holds_weaken h (λ file. HoldsSorted file rs) (λ file. FileStands file s ⊎ FileStands file t) (λ file holds. inl (file_stands file rs s holds stands.stands)) works.holds)
+
+-- records that were made by changes that draft edits
+pub drafted_as : (rs new : List Stored) (m : ℕ) (es : List Edit) (changes : List Change) → Drafts rs m es changes → new ≡ applied changes rs → AreDrafted rs m es new
+drafted_as rs new m es changes drafts is = record { changes = changes; drafts = drafts; is = is }
+
+-- where nothing was done the file holds what it held, and where the changes were committed it holds the records before them or after them
+pub begun_drafted : (store : Store) (rs : List Stored) (m : ℕ) (es : List Edit) (h : History) → KeepsOver store rs h → Ended h h (λ file. HoldsSorted file rs ⊎ HoldsDrafted file rs m es)
+begun_drafted store rs m es h works =
+    ended_begun h (λ file. HoldsSorted file rs ⊎ HoldsDrafted file rs m es) (holds_weaken h (λ file. HoldsSorted file rs) (λ file. HoldsSorted file rs ⊎ HoldsDrafted file rs m es) (λ file holds. inl holds) works.holds)
+
+pub ended_drafted : (rs : List Stored) (m : ℕ) (es : List Edit) (changes : List Change) (old new : History) → Drafts rs m es changes → Ended old new (λ file. HoldsSorted file rs ⊎ HoldsSorted file (applied changes rs))
+    → Ended old new (λ file. HoldsSorted file rs ⊎ HoldsDrafted file rs m es)
+ended_drafted rs m es changes old new drafts ended =
+    ended_weaken old new (λ file. HoldsSorted file rs ⊎ HoldsSorted file (applied changes rs)) (λ file. HoldsSorted file rs ⊎ HoldsDrafted file rs m es) (λ file. by_side file) ended
+  where
+    by_side : (file : List ℕ) → HoldsSorted file rs ⊎ HoldsSorted file (applied changes rs) → HoldsSorted file rs ⊎ HoldsDrafted file rs m es
+    by_side file (inl holds) = inl holds
+    by_side file (inr holds) = inr (record { new = applied changes rs; drafted = drafted_as rs (applied changes rs) m es changes drafts refl; holds = holds })
 
 -- records that were drafted for a plan stand for the state that the plan makes
 pub drafted_stands : (rs new : List Stored) (xs : List Session) (m : ℕ) (es : List Edit) (seating : Seating) (after : ℕ) (answer : Answer) (act : State → State × Answer) → DoesAt rs xs m es seating after answer act → AreDrafted rs m es new

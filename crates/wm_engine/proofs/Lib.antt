@@ -1,7 +1,7 @@
 pub mod Planning
 pub mod Committing
 pub mod Fitting
-pub mod Writing
+pub mod DraftsFit
 pub mod Working
 pub mod Keeping
 pub mod Fresh
@@ -9,7 +9,6 @@ pub mod Opening
 pub mod Saving
 pub mod Bearing
 pub mod Coming
-pub mod FittingForks
 pub mod Inserting
 pub mod Lasting
 pub mod Dated
@@ -19,7 +18,6 @@ pub mod Creating
 pub mod Calling
 pub mod Listing
 pub mod Fits
-pub mod Changing
 pub mod ChangesWritten
 pub mod Querying
 pub mod Stood

@@ -8,7 +8,7 @@ use Rattle.wm_print.specs.Texts.{Answer}
 use Rattle.wm_state.specs.Drafts.{is_fork as is_fork_edit}
 use Rattle.wm_state.specs.State.{State, Session}
 use Rattle.wm_state.specs.declared.edit.Edit.{Edit}
-use Rattle.wm_engine.proofs.Keeping.{begun_stands, kept_few, kept_same, kept_stands}
+use Rattle.wm_engine.proofs.Keeping.{begun_stands, kept_does, kept_few, kept_rules, kept_same, kept_stands}
 use Rattle.wm_engine.specs.Idle.{is_idle}
 use Rattle.wm_engine.specs.Views.{answer_view, seating_view}
 use Rattle.wm_engine.specs.declared.seating.Seating.{Seating}
@@ -58,3 +58,15 @@ returns-clause-unwritten g c = λ told s stands idle.
     let d = c.in_ok-planned.ensures.does.does s (subst (λ (xs : List Session). StandsAt c.args.image xs c.args.moment s) (sym c.as_slice.ensures.value) stands) in
     let quiet = c.in_ok-planned.ensures.idle (ap (λ (r : State × Answer). is_idle r.1) (sym d) ∙ idle) in
     c.in_ok-image.ensures.nothing told (ap (λ (v : Vec Edit Global). v.items) c.into_changed.ensures.edits ∙ quiet.0)
+
+pub returns-clause-answered : goal.returns-clause-answered
+returns-clause-answered g c = λ s stands.
+    kept_does c.args.image c.in_ok-image.image c.as_slice.result.now c.keep.new.sessions.items c.args.moment c.in_ok-planned.field-0.moment c.in_ok-planned.field-0.planned.edits.items c.into_changed.result.edits.items
+    (seating_view c.in_ok-planned.field-0.planned.seating) (answer_view c.in_ok-planned.field-0.planned.answer) (λ t. step t c.args.line.now) c.in_ok-bytes.bytes c.in_ok-planned.ensures.does (ap (λ (v : Vec Edit Global). v.items) c.into_changed.ensures.edits)
+    c.in_ok-image.ensures.image
+    (c.in_ok-image.ensures.sessions ∙ ap (λ (x : Seating). seated c.args.sessions.now.items (seating_view x)) c.into_changed.ensures.seating
+    ∙ ap (λ (xs : List Session). seated xs (seating_view c.in_ok-planned.field-0.planned.seating)) (sym c.as_slice.ensures.value))
+    c.in_ok-bytes.ensures s (subst (λ (xs : List Session). StandsAt c.args.image xs c.args.moment s) (sym c.as_slice.ensures.value) stands)
+
+pub returns-clause-rules : goal.returns-clause-rules
+returns-clause-rules g c = kept_rules c.args.image c.in_ok-image.image c.args.moment c.into_changed.result.edits.items c.in_ok-image.ensures.image

@@ -1,0 +1,37 @@
+use Rattle.std.proofs.Common.{◌∙◌, ap, refl, subst, sym}
+use Rattle.wm_engine.proofs.DraftsFit.{drafts_fit}
+use Rattle.wm_engine.proofs.Keeping.{begun_drafted, drafted_as, ended_drafted}
+use Rattle.wm_engine.proofs.keep.keep.Goals as goal
+
+pub returns-in_err-batch-clause-any_moment : goal.returns-in_err-batch-clause-any_moment
+returns-in_err-batch-clause-any_moment g c = λ told. begun_drafted c.args.store.now c.args.image c.args.moment c.args.changed.edits.items (g.P.Station.history c.args.station.now) (c.requires.works told)
+
+pub commit-requires-clause-once : goal.commit-requires-clause-once
+commit-requires-clause-once g c = c.in_ok-batch.ensures.drafts.once
+
+pub commit-requires-clause-fit : goal.commit-requires-clause-fit
+commit-requires-clause-fit g c = drafts_fit c.args.image c.args.moment c.args.changed.edits.items c.in_ok-batch.batch.changes c.in_ok-batch.ensures.ascend c.in_ok-batch.ensures.drafts
+
+pub returns-in_err-commit-clause-any_moment : goal.returns-in_err-commit-clause-any_moment
+returns-in_err-commit-clause-any_moment g c = λ told.
+    ended_drafted c.args.image c.args.moment c.args.changed.edits.items c.in_ok-batch.batch.changes (g.P.Station.history c.args.station.now) (g.P.Station.history c.commit.new.station) c.in_ok-batch.ensures.drafts (c.in_err-commit.ensures.any_moment told)
+
+pub returns-in_err-seat-clause-any_moment : goal.returns-in_err-seat-clause-any_moment
+returns-in_err-seat-clause-any_moment g c = λ told.
+    ended_drafted c.args.image c.args.moment c.args.changed.edits.items c.in_ok-batch.batch.changes (g.P.Station.history c.args.station.now) (g.P.Station.history c.commit.new.station) c.in_ok-batch.ensures.drafts (c.in_ok-commit.ensures.any_moment told)
+
+pub returns-clause-any_moment : goal.returns-clause-any_moment
+returns-clause-any_moment g c = λ told.
+    ended_drafted c.args.image c.args.moment c.args.changed.edits.items c.in_ok-batch.batch.changes (g.P.Station.history c.args.station.now) (g.P.Station.history c.commit.new.station) c.in_ok-batch.ensures.drafts (c.in_ok-commit.ensures.any_moment told)
+
+pub returns-clause-image : goal.returns-clause-image
+returns-clause-image g c = drafted_as c.args.image c.commit.new.image c.args.moment c.args.changed.edits.items c.in_ok-batch.batch.changes c.in_ok-batch.ensures.drafts c.in_ok-commit.ensures.image
+
+pub returns-in_err-commit-clause-nothing : goal.returns-in_err-commit-clause-nothing
+returns-in_err-commit-clause-nothing g c = λ told none. c.in_err-commit.ensures.nothing told (c.in_ok-batch.ensures.drafts.nothing none)
+
+pub returns-in_err-seat-clause-nothing : goal.returns-in_err-seat-clause-nothing
+returns-in_err-seat-clause-nothing g c = λ told none. c.in_ok-commit.ensures.nothing told (c.in_ok-batch.ensures.drafts.nothing none)
+
+pub returns-clause-nothing : goal.returns-clause-nothing
+returns-clause-nothing g c = λ told none. c.in_ok-commit.ensures.nothing told (c.in_ok-batch.ensures.drafts.nothing none)
