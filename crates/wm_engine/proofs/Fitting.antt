@@ -257,4 +257,3 @@ filled_key t row filled = by_place row t.key_column filled
     by_place [] i e = refl
     by_place (v ∷ vs) zero e = alone v t.has_key (both (is_filled v) (list_all is_filled vs) e).0
     by_place (v ∷ vs) (suc i) e = by_place vs i (both (is_filled v) (list_all is_filled vs) e).1
-

@@ -1,4 +1,3 @@
-use Rattle.std.proofs.Common.{◌∙◌, ap, refl, subst, sym}
 use Rattle.wm_engine.proofs.DraftsFit.{drafts_fit}
 use Rattle.wm_engine.proofs.Keeping.{begun_drafted, drafted_as, ended_drafted}
 use Rattle.wm_engine.proofs.keep.keep.Goals as goal
