@@ -9,7 +9,7 @@ pub commit-requires-clause-once : goal.commit-requires-clause-once
 commit-requires-clause-once g c = c.in_ok-batch.ensures.drafts.once
 
 pub commit-requires-clause-fit : goal.commit-requires-clause-fit
-commit-requires-clause-fit g c = drafts_fit c.args.image c.args.moment c.args.changed.edits.items c.in_ok-batch.batch.changes c.in_ok-batch.ensures.ascend c.in_ok-batch.ensures.drafts
+commit-requires-clause-fit g c = drafts_fit c.args.image c.args.moment c.args.changed.edits.items c.in_ok-batch.batch.changes c.in_ok-batch.ensures.drafts
 
 pub returns-in_err-commit-clause-any_moment : goal.returns-in_err-commit-clause-any_moment
 returns-in_err-commit-clause-any_moment g c = λ told.
