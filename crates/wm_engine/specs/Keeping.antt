@@ -7,7 +7,7 @@ use Rattle.wm_state.specs.Drafts.{Drafts}
 use Rattle.wm_state.specs.declared.edit.Edit.{Edit}
 use Rattle.wm_engine.specs.Working.{HoldsSorted}
 
--- the records are others once changes were made that draft edits at a moment
+-- the records are what changes make of others that draft edits at a moment
 pub record AreDrafted (rs : List Stored) (m : ℕ) (es : List Edit) (new : List Stored) : Type 0 where
   pub changes : List Change
   pub drafts : Drafts rs m es changes

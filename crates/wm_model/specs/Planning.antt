@@ -39,7 +39,7 @@ seated sessions (Limit name period) = limited name period sessions
 abbrev pub planned : ℕ → ℕ → List Edit → Seating → State → State
 planned m after edits seating s = record (drafted m edits s) { sessions = seated s.sessions seating; moment = after }
 
--- the plan may be made of the records, and it does and answers what a function of the state does and answers, for each state that these
+-- the edits of the plan may be drafted of the records, and it does and answers what a function of the state does and answers, for each state that these
 -- stand for
 pub record DoesAt (records : List Stored) (sessions : List Session) (moment : ℕ) (edits : List Edit) (seating : Seating) (after : ℕ) (answer : Answer) (act : State → State × Answer) : Type 0 where
   pub can : CanDraft (parts_of records) moment edits

@@ -282,7 +282,7 @@ pub fn call(
     requires moment { moment < END }
     ensures does { IfOk result (λ p. (xs : List SessionState) → DoesIt image.now xs moment p (call session.now (procedure_of name.now) args.now)) }
     ensures idle { IfOk result Idles }
-    // A savepoint or a workspace that is made changes few records.
+    // A savepoint or a workspace is made by such an edit alone.
     ensures few { forks_call (procedure_of name.now) ≡ true → IfOk result AreForks }
 {
     match procedure_of(name.as_bytes()) {

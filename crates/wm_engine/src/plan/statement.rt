@@ -36,7 +36,7 @@ fn run_statement(
     requires moment { moment < END }
     ensures does { IfOk result (λ p. (xs : List SessionState) → DoesIt image.now xs moment p (run_statement session.now (statement_view statement.now))) }
     ensures idle { IfOk result Idles }
-    // A savepoint or a workspace that is made changes few records.
+    // A savepoint or a workspace is made by such an edit alone.
     ensures few { forks (statement_view statement.now) ≡ true → IfOk result AreForks }
 {
     let empty = has_empty_period(statement);

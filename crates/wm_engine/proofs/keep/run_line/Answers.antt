@@ -1,11 +1,9 @@
 use Rattle.std.proofs.Common.{List, sym, subst, ap, ◌∙◌}
-use Rattle.std.specs.List.{list_all}
 use Rattle.std.specs.declared.alloc.Global.{Global}
 use Rattle.std.specs.declared.vec.Vec.{Vec}
 use Rattle.wm_model.specs.Planning.{StandsAt, seated}
 use Rattle.wm_model.specs.Step.{step}
 use Rattle.wm_print.specs.Texts.{Answer}
-use Rattle.wm_state.specs.Drafts.{is_fork as is_fork_edit}
 use Rattle.wm_state.specs.State.{State, Session}
 use Rattle.wm_state.specs.declared.edit.Edit.{Edit}
 use Rattle.wm_engine.proofs.Keeping.{begun_stands, kept_does, kept_few, kept_rules, kept_same, kept_stands}
