@@ -9,8 +9,6 @@ mod fits;
 mod later;
 mod places;
 mod takes;
-#[cfg(test)]
-mod tests;
 
 pub use arguments::{argument, is_true_given, moment_given, text_given};
 pub use empty::has_empty_period;

@@ -12,6 +12,3 @@ pub mod write;
 
 pub use read::decode;
 pub use write::encode;
-
-#[cfg(test)]
-mod tests;

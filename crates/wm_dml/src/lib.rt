@@ -11,8 +11,6 @@ mod moving;
 mod replaced_rows;
 mod shifts;
 mod shown;
-#[cfg(test)]
-mod tests;
 mod updated;
 
 pub use adding::added;

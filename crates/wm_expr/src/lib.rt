@@ -13,8 +13,6 @@ mod operands;
 pub mod owned;
 mod periods;
 mod seen;
-#[cfg(test)]
-mod tests;
 pub mod types;
 
 pub use conditions::truth;

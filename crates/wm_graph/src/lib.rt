@@ -18,8 +18,6 @@ mod rows;
 mod savepoints;
 mod spaces;
 mod tables;
-#[cfg(test)]
-mod tests;
 mod versions;
 mod weights;
 

@@ -8,8 +8,6 @@ mod period;
 mod row;
 mod shape;
 mod table;
-#[cfg(test)]
-mod tests;
 mod values;
 
 pub use insert::insert_fault;

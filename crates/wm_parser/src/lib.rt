@@ -8,8 +8,6 @@ mod parameters;
 mod parsing;
 mod queries;
 mod statements;
-#[cfg(test)]
-mod tests;
 
 pub use fault::ParseFault;
 pub use lines::discard;

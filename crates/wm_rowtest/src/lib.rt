@@ -4,8 +4,6 @@
 pub mod judge;
 pub mod once;
 pub mod row_test;
-#[cfg(test)]
-mod tests;
 
 pub use judge::Judge;
 pub use once::keeps;

@@ -22,8 +22,6 @@ mod order_by;
 mod pair;
 mod shown;
 mod source;
-#[cfg(test)]
-mod tests;
 
 pub use answer::select;
 pub use asked::{columns_of, projection_lasts, rows_fit, where_of};

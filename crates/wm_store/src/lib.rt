@@ -9,6 +9,3 @@ mod station_pages;
 pub mod store;
 
 pub use store::Store;
-
-#[cfg(test)]
-mod tests;

@@ -13,8 +13,6 @@ mod meant;
 pub mod names;
 mod orders;
 mod refusals;
-#[cfg(test)]
-mod tests;
 pub mod types;
 
 pub use asking::query_fault;

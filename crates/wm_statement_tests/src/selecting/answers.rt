@@ -1,0 +1,167 @@
+//! The answer of a query as its caller gets it.
+ghost use Rattle.std.specs.Prelude.{◌≡◌, true};
+ghost use Rattle.wm_base.specs.declared.row.Row.{Row as RowOf};
+ghost use Rattle.wm_base.specs.declared.truth.Truth.{Truth as TruthOf};
+ghost use Rattle.wm_base.specs.Views.{cond_view, filter_view, projection_view};
+ghost use Rattle.wm_spec.specs.Conditions.{typed as is_typed, fits, truth_of};
+ghost use Rattle.wm_select.specs.Query.{columns_of as all_columns, rows_fit as do_fit, where_of as where_is, projection_lasts as items_last};
+
+use wm_select::{SelectFault, columns_of, projection_lasts, rows_fit, select, where_of};
+use std::alloc::Global;
+use std::cell::Cell;
+use wm_base::tree::cond::Cond;
+use wm_base::tree::query::Query;
+use wm_base::{Columns, Listings, Memory, Row, RowList, Truth, Value};
+use wm_expr::{truth, typed};
+use wm_rowtest::{Judge, RowTest};
+
+/// Why a test has no answer.
+#[derive(Clone, Copy, Debug, PartialEq, thiserror::Error)]
+pub enum NoAnswer {
+    #[error("too many rows")]
+    TooMany,
+    #[error("out of range")]
+    OutOfRange,
+    #[error("the query does not fit its tables")]
+    Unfit,
+    #[error("out of memory")]
+    Memory,
+}
+
+impl From<Memory> for NoAnswer {
+    fn from(_: Memory) -> NoAnswer {
+        NoAnswer::Memory
+    }
+}
+
+impl From<SelectFault> for NoAnswer {
+    fn from(fault: SelectFault) -> NoAnswer {
+        match fault {
+            SelectFault::TooMany => NoAnswer::TooMany,
+            SelectFault::OutOfRange => NoAnswer::OutOfRange,
+            SelectFault::Memory => NoAnswer::Memory,
+        }
+    }
+}
+
+/// The answer by the test, which is let go.
+fn selected_with<F: Fn(&Row) -> Truth + Judge + Drop>(
+    alloc: Global,
+    query: &Query,
+    tables: &Listings,
+    test: RowTest<F>,
+) -> Result<RowList, SelectFault>
+    requires condition { cond_view test.cond ≡ where_is (filter_view query.now.filter) }
+    requires columns { test.columns ≡ all_columns tables.now }
+    requires fitting { do_fit tables.now ≡ true }
+    requires lasting { items_last (projection_view query.now.projection) ≡ true }
+{
+    select(alloc, query, tables, &test)
+}
+
+/// The answer by a test that is made of the closure, as a caller makes it.
+fn selected_by<F: Fn(&Row) -> Truth + Judge + Drop>(
+    alloc: Global,
+    query: &Query,
+    tables: &Listings,
+    cond: &Cond,
+    columns: &Columns,
+    test: F,
+) -> Result<RowList, SelectFault>
+    requires typed { is_typed (cond_view cond.now) columns.now ≡ true }
+    requires callable { (row : RowOf) → fits columns.now row ≡ true → ∥ F.may test row ∥₁ }
+    requires answers { (row : RowOf) (truth : TruthOf) → fits columns.now row ≡ true → F.gives test row truth → truth ≡ truth_of (cond_view cond.now) columns.now row }
+    requires condition { cond_view cond.now ≡ where_is (filter_view query.now.filter) }
+    requires columns { columns.now ≡ all_columns tables.now }
+    requires fitting { do_fit tables.now ≡ true }
+    requires lasting { items_last (projection_view query.now.projection) ≡ true }
+{
+    match RowTest::new(alloc, cond, columns, test) {
+        Ok(test) => selected_with(alloc, query, tables, test),
+        Err(_) => Err(SelectFault::Memory),
+    }
+}
+
+/// The answer where the condition is that of the query and the columns are those of the tables.
+fn selected_where(
+    alloc: Global,
+    query: &Query,
+    tables: &Listings,
+    cond: &Cond,
+    columns: &Columns,
+    calls: &Cell<u64>,
+) -> Result<RowList, NoAnswer>
+    requires condition { cond_view cond.now ≡ where_is (filter_view query.now.filter) }
+    requires columns { columns.now ≡ all_columns tables.now }
+{
+    if typed(cond, columns) && rows_fit(tables) && projection_lasts(&query.projection) {
+        let rows = selected_by(alloc, query, tables, cond, columns, |row: &Row| {
+            calls.set(calls.get().saturating_add(1));
+            truth(cond, columns, row)
+        })?;
+        Ok(rows)
+    } else {
+        Err(NoAnswer::Unfit)
+    }
+}
+
+/// The answer, with the calls of its test counted in the cell.
+fn selected(
+    alloc: Global,
+    query: &Query,
+    tables: &Listings,
+    calls: &Cell<u64>,
+) -> Result<RowList, NoAnswer> {
+    let columns = columns_of(alloc, tables)?;
+    match where_of(alloc, &query.filter) {
+        Ok(cond) => selected_where(alloc, query, tables, &cond, &columns, calls),
+        Err(_) => Err(NoAnswer::Memory),
+    }
+}
+
+fn number_in(value: &Value) -> Option<i64> {
+    match value {
+        Value::Num(number) => Some(*number),
+        _ => None,
+    }
+}
+
+/// The numbers of all rows, one row after another.
+fn numbers_in(alloc: Global, rows: &RowList) -> Result<Vec<Option<i64>>, Memory> {
+    let mut numbers = Vec::new(alloc);
+    for row in rows.as_slice() {
+        for value in row.values.as_slice() {
+            numbers.push(number_in(value))?;
+        }
+    }
+    Ok(numbers)
+}
+
+fn numbers_of(
+    alloc: Global,
+    answer: Result<RowList, NoAnswer>,
+) -> Result<Vec<Option<i64>>, NoAnswer> {
+    let rows = answer?;
+    let numbers = numbers_in(alloc, &rows)?;
+    Ok(numbers)
+}
+
+/// The numbers of the answer, one row after another, with the calls of its test counted in the cell.
+pub fn counted(
+    alloc: Global,
+    query: Query,
+    tables: &Listings,
+    calls: &Cell<u64>,
+) -> Result<Vec<Option<i64>>, NoAnswer> {
+    numbers_of(alloc, selected(alloc, &query, tables, calls))
+}
+
+/// The numbers of the answer, one row after another.
+pub fn numbers(
+    alloc: Global,
+    query: Query,
+    tables: &Listings,
+) -> Result<Vec<Option<i64>>, NoAnswer> {
+    let calls = Cell::new(0);
+    counted(alloc, query, tables, &calls)
+}
