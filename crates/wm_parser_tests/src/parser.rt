@@ -1,13 +1,12 @@
 mod shape;
 mod table;
 
-use wm_parser::lines::discard;
-use wm_parser::{ParseFault, parse};
 use shape::{SHAPES, shape};
 use std::alloc::{AllocError, Global};
 use std::process::Abort;
 use std::test::Fail;
 use table::{LITERALS, READ, SYNTAX};
+use wm_parser::{ParseFault, discard, parse};
 
 /// The longest line that is parsed.
 const LONGEST: usize = 16_384;

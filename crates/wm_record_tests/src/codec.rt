@@ -1,9 +1,9 @@
 ghost use Rattle.wm_codec.specs.Spelling.{CanSpell};
 
-use wm_codec::*;
 use std::alloc::Global;
 use std::test::Fail;
 use wm_base::{Bytes, Instant, Kind, Memory, Text, Value};
+use wm_codec::*;
 use wm_spec::record::{ColumnKind, Counters, FreezeMode, Record, Savepoint, Version};
 
 /// The Counters of a fresh store that takes 1,000 changes.

@@ -1,9 +1,9 @@
 mod breaches;
 mod store;
 
-use wm_graph::keeps_rules;
 use std::test::Fail;
 use store::{kept_with, records};
+use wm_graph::keeps_rules;
 use wm_spec::record::{Record, Records};
 
 #[test]

@@ -3,13 +3,13 @@ ghost use Rattle.wm_codec.specs.Spelling.{CanSpell, spelling};
 ghost use Rattle.wm_spec.specs.Records.{AreChanges};
 ghost use Rattle.wm_store.specs.Spelled.{FitPages};
 
-use wm_store::*;
 use std::alloc::Global;
 use std::process::Abort;
 use std::test::Fail;
 use wm_base::{MakeFault, StoreFault, Value, Values};
 use wm_spec::record::{Batch, Change, Changes, Record, Records, RowRecord, Version};
 use wm_station::{FuseStation, QuietStation, Station, Tear};
+use wm_store::*;
 
 // A version of this number is put under the first id, and what is under the second is dropped.
 fn change(alloc: Global, id: u64, number: u64, dropped: u64) -> Result<Batch, Fail>

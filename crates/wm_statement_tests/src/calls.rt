@@ -2,12 +2,12 @@
 mod empty;
 mod valid_time;
 
-use wm_calls::{argument_fault, is_true_given, parameter_name, text_given};
 use std::alloc::Global;
 use std::test::Fail;
 use wm_base::tree::constant::Const;
 use wm_base::tree::statement::{Arg, ArgValue};
 use wm_base::{Memory, Name, Text};
+use wm_calls::{argument_fault, is_true_given, parameter_name, text_given};
 use wm_grammar::{Parameter, Procedure};
 
 /// The text by place.

@@ -6,7 +6,6 @@ mod selecting;
 mod tables;
 mod trees;
 
-use wm_dml::{RowChange, rows_fault, updated_rows};
 use choosing::chosen_where;
 use moves::{new_periods_clash, own_period_is_read, part_is_gone};
 use periods::{CASES, change_of, deleted_in, replaced_in};
@@ -21,6 +20,7 @@ use wm_base::tree::statement::Set;
 use wm_base::{
     CellRefusal, Columns, Kind, Listing, Listings, Memory, Period, Refusal, Row, RowList, Values,
 };
+use wm_dml::{RowChange, rows_fault, updated_rows};
 use wm_expr::has_no_empty_period;
 use wm_spec::record::Table;
 use wm_typing::columns_of_table;

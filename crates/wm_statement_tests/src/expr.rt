@@ -3,7 +3,6 @@ mod numbers;
 mod periods;
 mod trees;
 
-use wm_expr::copies::cond_copy;
 use std::alloc::Global;
 use std::test::Fail;
 use trees::{
@@ -12,6 +11,7 @@ use trees::{
 };
 use wm_base::tree::cond::{Cmp, Cond};
 use wm_base::{Memory, Truth};
+use wm_expr::copies::cond_copy;
 
 const YES: Truth = Truth::Yes;
 

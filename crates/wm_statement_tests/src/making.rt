@@ -3,13 +3,13 @@ mod inserting;
 mod periods;
 mod tables;
 
-use wm_making::{names_fault, row_fault, shape_fault, table_of};
 use inserting::{arranged_row, row_in_order};
 use periods::{CASES, Case, given, outcome};
 use std::alloc::Global;
 use std::test::Fail;
 use tables::{is_row, items, row, table};
 use wm_base::{CellRefusal, Memory, Name, Refusal, SpaceRefusal};
+use wm_making::{names_fault, row_fault, shape_fault, table_of};
 use wm_spec::record::{Table, TableColumn};
 
 /// What CREATE TABLE makes of the key and another column, and nothing where it is refused.

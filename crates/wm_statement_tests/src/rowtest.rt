@@ -1,9 +1,9 @@
-use wm_rowtest::keeps;
 use std::test::Fail;
 use wm_base::tree::cond::{Cmp, Cond};
 use wm_base::tree::constant::Const;
 use wm_base::tree::operand::Operand;
 use wm_base::{Columns, Row, Values};
+use wm_rowtest::keeps;
 
 #[test]
 fn only_true_rows_are_kept(rt: HostRuntime) -> Result<(), Fail> {

@@ -1,7 +1,6 @@
 //! Names of BUD that are there, and names that are not. No tree is let go here: the proof of that is long.
 mod trees;
 
-use wm_typing::{columns_of_table, delete_fault, query_fault, update_fault};
 use std::alloc::Global;
 use std::mem::ManuallyDrop;
 use std::test::Fail;
@@ -9,6 +8,7 @@ use trees::{all_by, all_where, bud, by_valid, is_null, is_one, set, set_period, 
 use wm_base::columns::NUMBER;
 use wm_base::{CellRefusal, Column, Columns, FormRefusal, Memory, Name, Refusal};
 use wm_spec::record::Table;
+use wm_typing::{columns_of_table, delete_fault, query_fault, update_fault};
 
 /// The columns of BUD, as those of the source B.
 fn columns(alloc: Global) -> Result<Columns, Memory> {

@@ -1,6 +1,5 @@
 //! Expressions and conditions as texts, each node of two parts in parentheses.
 
-use wm_parser::lines::discard;
 use std::alloc::{AllocError, Global};
 use wm_base::tree::cond::Cond;
 use wm_base::tree::constant::Const;
@@ -8,6 +7,7 @@ use wm_base::tree::expr::Expr;
 use wm_base::tree::line::Line;
 use wm_base::tree::operand::Operand;
 use wm_base::tree::statement::{Set, Statement};
+use wm_parser::discard;
 
 /// Changes of one column, and how their expression and condition nest.
 pub static SHAPES: [(&str, &str); 12] = [

@@ -1,11 +1,11 @@
 //! Stores that break one rule each.
 
 use super::store::{self, column, kept_with, name};
-use wm_graph::keeps_rules;
 use std::alloc::Global;
 use std::process::Abort;
 use std::test::Fail;
 use wm_base::{END, Key, Memory, Value};
+use wm_graph::keeps_rules;
 use wm_spec::record::{
     ColumnKind, Counters, Hist, PieceRecord, Record, Records, Savepoint, Space, Table, TableColumns,
 };

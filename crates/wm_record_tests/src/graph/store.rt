@@ -1,9 +1,9 @@
 //! A small store in order: one table, LIVE and one more workspace, each with a version, a savepoint and an entry of its
 //! log, three rows and a piece.
 
-use wm_graph::keeps_rules;
 use std::alloc::Global;
 use wm_base::{Key, Kind, Memory, Name, Text, Value, Values};
+use wm_graph::keeps_rules;
 use wm_spec::record::{
     CellRange, ColumnKind, Counters, FreezeMode, Hist, PieceRecord, Record, Records, RowRecord,
     Savepoint, Space, Stored, Table, TableColumn, TableColumns, Version,

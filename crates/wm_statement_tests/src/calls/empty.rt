@@ -1,5 +1,4 @@
 //! Statements with a written period: one constructor in each function.
-use wm_calls::has_empty_period;
 use std::alloc::Global;
 use std::test::Fail;
 use wm_base::tree::cond::{Cmp, Cond};
@@ -8,6 +7,7 @@ use wm_base::tree::expr::Expr;
 use wm_base::tree::operand::{Operand, Operator, Per};
 use wm_base::tree::statement::{Set, Statement};
 use wm_base::{Instant, Memory, Name};
+use wm_calls::has_empty_period;
 
 /// The end, and the beginning of time where there is none of so many seconds.
 fn end(seconds: u64) -> PeriodEnd {

@@ -1,10 +1,10 @@
 //! The arguments of SetValidTime.
-use wm_calls::{argument_fault, moment_given};
 use std::alloc::Global;
 use std::test::Fail;
 use wm_base::tree::constant::Const;
 use wm_base::tree::statement::{Arg, ArgValue};
 use wm_base::{END, Instant, Memory, Name};
+use wm_calls::{argument_fault, moment_given};
 use wm_grammar::{Parameter, Procedure};
 
 /// What stands in the place of an argument.

@@ -6,11 +6,11 @@ ghost use Rattle.wm_base.specs.declared.truth.Truth.{Truth as TruthOf};
 ghost use Rattle.wm_base.specs.Views.{cond_view};
 ghost use Rattle.wm_spec.specs.Conditions.{typed as is_typed, fits as row_fits, truth_of};
 
-use wm_dml::chosen;
 use std::alloc::Global;
 use std::cell::Cell;
 use wm_base::tree::cond::Cond;
 use wm_base::{Columns, Memory, Row, Truth};
+use wm_dml::chosen;
 use wm_expr::{fits, truth, typed};
 use wm_rowtest::{Judge, RowTest};
 

@@ -2,11 +2,11 @@
 use crate::dml::periods::is_change;
 use crate::dml::tables::{period, row_over, table_with, values};
 use crate::dml::trees::set;
-use wm_dml::{Move, RowChange, Shift, Shifts, clash_in, moved, moves_of};
 use std::alloc::Global;
 use std::mem::ManuallyDrop;
 use wm_base::tree::statement::Set;
 use wm_base::{Key, Kind, Memory, Period, Value};
+use wm_dml::{Move, RowChange, Shift, Shifts, clash_in, moved, moves_of};
 use wm_expr::has_no_empty_period;
 
 fn shift(old: (u64, u64), new: (u64, u64)) -> Option<Shift> {

@@ -1,8 +1,8 @@
 //! What becomes of the row 1|10 of BUD over a period, in a session with a period.
 use crate::dml::tables::{numbers, period, row_over, table_with, values};
-use wm_dml::{RowChange, added, all_overlap, deleted, replacing};
 use std::alloc::Global;
 use wm_base::{Kind, Memory, Period, Row, Values};
+use wm_dml::{RowChange, added, all_overlap, deleted, replacing};
 use wm_spec::record::Table;
 
 /// The kind of the statement; the period of the row, and of the session; and that over which the row is changed, if it is

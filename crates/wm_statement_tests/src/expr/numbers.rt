@@ -1,10 +1,10 @@
 //! Sums, differences, products and negative numbers.
 use super::trees::operand;
-use wm_expr::{ValueFault, has_no_empty_period, value};
 use std::alloc::Global;
 use std::test::Fail;
 use wm_base::tree::expr::Expr;
 use wm_base::{Columns, Memory, Row, Value, Values};
+use wm_expr::{ValueFault, has_no_empty_period, value};
 
 /// What a test finds an expression to be.
 #[derive(Clone, Copy, Debug, PartialEq)]

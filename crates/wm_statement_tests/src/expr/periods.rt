@@ -1,7 +1,5 @@
 //! Conditions over a row with a period.
 use super::trees::{compared, null_test, operand, text, time, truth_there};
-use wm_expr::owned::column_value;
-use wm_expr::{fits, typed};
 use std::alloc::Global;
 use std::test::Fail;
 use wm_base::columns::{NUMBER, PERIOD};
@@ -10,6 +8,8 @@ use wm_base::tree::cond::{Cmp, Cond};
 use wm_base::tree::constant::PeriodEnd;
 use wm_base::tree::operand::{Operand, Operator, Per};
 use wm_base::{Column, Columns, Instant, Memory, Period, Row, Text, Truth, Value, Values};
+use wm_expr::owned::column_value;
+use wm_expr::{fits, typed};
 
 fn column(alloc: Global, name: &[u8], kind: u8) -> Result<Column, Memory> {
     let source = Text::copy_of(alloc, b"EMP")?;

@@ -1,10 +1,10 @@
 //! Conditions over constants, for the tests: one constructor in each function.
-use wm_expr::truth;
 use std::alloc::Global;
 use wm_base::tree::cond::{Cmp, Cond};
 use wm_base::tree::constant::{Const, Consts};
 use wm_base::tree::operand::Operand;
 use wm_base::{Columns, Instant, Memory, Row, Text, Truth, Values};
+use wm_expr::truth;
 
 pub fn constant(number: Option<i64>) -> Const {
     match number {

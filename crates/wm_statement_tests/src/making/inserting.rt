@@ -1,12 +1,12 @@
 //! The row that INSERT makes of 7 and 'abc'.
 use crate::making::tables::table;
-use wm_making::{all_last, insert_fault, row_of};
 use std::alloc::Global;
 use wm_base::tree::column::Names;
 use wm_base::tree::constant::Const;
 use wm_base::tree::expr::{Expr, Exprs};
 use wm_base::tree::operand::Operand;
 use wm_base::{Memory, Name, Text, Values};
+use wm_making::{all_last, insert_fault, row_of};
 use wm_spec::record::Table;
 
 pub fn constant(constant: Const) -> Expr {

@@ -1,12 +1,12 @@
 //! INSERT of 7, 'abc' and a value more into BUD, with valid time or without.
 use crate::making::inserting::{constant, values_in_order};
 use crate::making::tables::{is_row, table};
-use wm_making::{all_last, insert_fault, period_given, row_of};
 use std::alloc::Global;
 use wm_base::tree::column::Names;
 use wm_base::tree::constant::{Const, PeriodEnd};
 use wm_base::tree::expr::{Expr, Exprs};
 use wm_base::{FormRefusal, Instant, Memory, Name, Period, Refusal};
+use wm_making::{all_last, insert_fault, period_given, row_of};
 use wm_spec::record::Table;
 
 /// Whether the table has valid time, the columns are named (ID, NOTE, WM_VALID), and the last value is a period (all of

@@ -6,7 +6,6 @@ ghost use Rattle.wm_base.specs.Views.{cond_view, filter_view, projection_view};
 ghost use Rattle.wm_spec.specs.Conditions.{typed as is_typed, fits, truth_of};
 ghost use Rattle.wm_select.specs.Query.{columns_of as all_columns, rows_fit as do_fit, where_of as where_is, projection_lasts as items_last};
 
-use wm_select::{SelectFault, columns_of, projection_lasts, rows_fit, select, where_of};
 use std::alloc::Global;
 use std::cell::Cell;
 use wm_base::tree::cond::Cond;
@@ -14,6 +13,7 @@ use wm_base::tree::query::Query;
 use wm_base::{Columns, Listings, Memory, Row, RowList, Truth, Value};
 use wm_expr::{truth, typed};
 use wm_rowtest::{Judge, RowTest};
+use wm_select::{SelectFault, columns_of, projection_lasts, rows_fit, select, where_of};
 
 /// Why a test has no answer.
 #[derive(Clone, Copy, Debug, PartialEq, thiserror::Error)]
