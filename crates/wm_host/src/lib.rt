@@ -14,6 +14,3 @@ mod words;
 
 pub use command::run;
 pub use ended::{Ended, Place};
-
-#[cfg(test)]
-mod tests;

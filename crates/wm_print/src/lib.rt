@@ -7,8 +7,6 @@ mod forms;
 mod limits;
 mod refusal;
 mod spaces;
-#[cfg(test)]
-mod tests;
 mod value;
 mod words;
 

@@ -6,4 +6,6 @@ mod codec;
 #[cfg(test)]
 mod graph;
 #[cfg(test)]
+mod rows;
+#[cfg(test)]
 mod store;

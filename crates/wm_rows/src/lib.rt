@@ -12,8 +12,6 @@ pub mod own;
 pub mod row_key;
 mod row_order;
 pub mod rows;
-#[cfg(test)]
-mod tests;
 
 pub use keys::Keys;
 pub use own::{OwnPiece, OwnPieces};

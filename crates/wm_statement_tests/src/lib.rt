@@ -10,6 +10,8 @@ mod expr;
 #[cfg(test)]
 mod making;
 #[cfg(test)]
+mod print;
+#[cfg(test)]
 mod rowtest;
 #[cfg(test)]
 mod selecting;

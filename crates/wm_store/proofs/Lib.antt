@@ -10,5 +10,4 @@ pub mod Pasts
 pub mod Reading
 pub mod Slotwise
 pub mod Storing
-pub mod Trials
 pub mod Unchanging

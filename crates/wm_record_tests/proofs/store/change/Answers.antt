@@ -2,8 +2,8 @@ use Rattle.std.proofs.Common.{◌++◌, ◌∷◌, [], Some, None, sym, ap, subs
 use Rattle.wm_spec.specs.declared.record.Record.TheVariants as records
 use Rattle.wm_spec.specs.Records.{AreChanges}
 use Rattle.wm_store.specs.Spelled.{FitPages}
-use Rattle.wm_store.proofs.Trials.{trial_fits, trial_differs}
-use Rattle.wm_store.proofs.tests.change.Goals as goal
+use Rattle.wm_record_tests.proofs.Trials.{trial_fits, trial_differs}
+use Rattle.wm_record_tests.proofs.store.change.Goals as goal
 
 pub returns-clause-once : goal.returns-clause-once
 returns-clause-once c =

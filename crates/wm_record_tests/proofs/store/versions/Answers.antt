@@ -1,6 +1,6 @@
 use Rattle.std.proofs.Common.{refl, sym, subst}
-use Rattle.wm_store.proofs.Trials.{Rising, none_rising, one_more}
-use Rattle.wm_store.proofs.tests.versions.Goals as goal
+use Rattle.wm_record_tests.proofs.Trials.{Rising, none_rising, one_more}
+use Rattle.wm_record_tests.proofs.store.versions.Goals as goal
 
 pub loop-id-init : goal.loop-id-init
 loop-id-init c = subst (λ l. Rising l c.args.first) (sym c.new-changes.ensures) (none_rising c.args.first)

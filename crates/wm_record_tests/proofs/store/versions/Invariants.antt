@@ -1,5 +1,5 @@
-use Rattle.wm_store.proofs.Trials.{Rising}
-use Rattle.wm_store.proofs.tests.versions.Given as goal
+use Rattle.wm_record_tests.proofs.Trials.{Rising}
+use Rattle.wm_record_tests.proofs.store.versions.Given as goal
 
 abbrev pub invariant-loop-id : goal.invariant-loop-id
 invariant-loop-id l = Rising l.changes l.id

@@ -1,9 +1,9 @@
-use crate::{RowKey, Rows};
 use std::alloc::Global;
 use std::process::Abort;
 use std::test::Fail;
 use wm_base::{Instant, Key, Kind, Memory, Period, Stamp, Value};
 use wm_period::Piece;
+use wm_rows::{RowKey, Rows};
 use wm_tree::Tree;
 
 fn piece(from: u64, till: u64, number: u64) -> Option<Piece> {

@@ -1,4 +1,3 @@
-use crate::{print_done, print_refusal, print_rows};
 use std::alloc::Global;
 use std::process::Abort;
 use std::test::Fail;
@@ -6,6 +5,7 @@ use wm_base::{
     CellRefusal, END, FormRefusal, Instant, Key, LimitRefusal, Name, Period, Refusal, Row, RowList,
     SpaceRefusal, Text, Value, Values,
 };
+use wm_print::{print_done, print_refusal, print_rows};
 
 /// 2020-01-01 00:00:00.
 const NEW_YEAR: u64 = 63_713_433_600;

@@ -1,7 +1,7 @@
-use super::*;
 use std::alloc::Global;
 use std::test::Fail;
 use wm_base::Damage;
+use wm_host::*;
 use wm_station::{Call, Failing, Faults, MemorySource, MemoryStation, Tear};
 
 const RUN: [&str; 3] = ["run", "--now", "2020-01-01"];
