@@ -141,7 +141,7 @@ node_there p rules k there =
     some-map (Some v) = refl
 
 -- what is among versions that are all below is below
-among-below : (nodes : List Node) (n k : ℕ) → AllBelow n nodes → is_some (version_in nodes k) ≡ true → k < n
+pub among-below : (nodes : List Node) (n k : ℕ) → AllBelow n nodes → is_some (version_in nodes k) ≡ true → k < n
 among-below [] n k below there = absurd (bool_apart (sym there))
 among-below (x ∷ older) n k below there = by_test (x.number == k) refl there (among-below older n k below.1)
   where
