@@ -171,6 +171,7 @@ RowsStand-frame q t each logs = record {
 pub record Still (s : State) (n : ℕ) (w : Workspace) : Type 0 where
   pub old : Workspace
   pub is : workspace_of s.spaces n ≡ Some old
+  pub parent : w.parent ≡ old.parent
   pub savepoints : w.savepoints ≡ old.savepoints
   pub rebases : w.rebases ≡ old.rebases
   pub at_birth : w.lists.at_birth ≡ old.lists.at_birth

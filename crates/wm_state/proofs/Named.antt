@@ -85,7 +85,7 @@ saved_there p rules n making x found = by_space (space_of p.spaces n) refl
         }
 
 -- in a workspace with a parent, what a savepoint sees under its workspace's own is a version of the parent
-saved_base : (p : Parts) (n making : ℕ) (x : Savepoint) (t : SavedThere p n making x) → 0 < n → is_version_of (version_of p.versions) x.base_version t.space.parent ≡ true
+pub saved_base : (p : Parts) (n making : ℕ) (x : Savepoint) (t : SavedThere p n making x) → 0 < n → is_version_of (version_of p.versions) x.base_version t.space.parent ≡ true
 saved_base p n making x t some = sym (ap (λ b. if b then x.base_version == 0 else is_version_of (version_of p.versions) x.base_version t.space.parent) away) ∙ t.base
   where
     child : (m : ℕ) → 0 < m → (m == 0) ≡ false
