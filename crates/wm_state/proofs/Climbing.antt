@@ -1,7 +1,7 @@
 -- Paths that lead up still do where what they pass is kept: each workspace with its parent and what it was born with, the first version of
 -- each workspace on a path, and what that one holds.
 use Rattle.std.proofs.Common.{◌≡◌, ◌≢◌, ℕ, ◌<◌, ◌==◌, nat_lt, nat_le, Bool, true, false, ◌&&◌, cond, if◌then◌else◌, List, ◌∷◌, length, Option, Some, None, is_some, refl, sym, ap, subst, ◌∙◌, ◌⊎◌, inl, inr, arith}
-use Rattle.std.proofs.lemmas.Bool.{cases_eq, eq-eqb, eqb-true}
+use Rattle.std.proofs.lemmas.Bool.{cases_eq, eq-eqb}
 use Rattle.std.specs.List.{list_all, find}
 use Rattle.std.specs.Option.{option_map}
 use Rattle.std.specs.Str.{bytes_eq}
@@ -14,13 +14,13 @@ use Rattle.wm_tree.specs.Versions.{AllBelow}
 use Rattle.wm_tree.specs.declared.version.Version.{Version as Node}
 use Rattle.wm_state.specs.State.{State, Workspace, workspace_of, with_space}
 use Rattle.wm_state.proofs.Changing.{workspace_of-changed}
-use Rattle.wm_state.proofs.Frames.{Still, StillNames, Framed}
+use Rattle.wm_state.proofs.Frames.{Framed}
 use Rattle.wm_state.specs.Standing.{held_of, newest_first, latest, seen, saved_as, first_in, Climbs, Top, Up, SpaceFields, fields_of, fields_in, SpacesStand, PathsStand}
 use Rattle.wm_state.proofs.Tests.{both}
 use Rattle.wm_state.proofs.Newest.{Descend, Descend-newest}
 use Rattle.wm_state.proofs.Apart.{ruled, ruled_versions, newest_record, found-passes}
 use Rattle.wm_state.proofs.Named.{space_number, saved_there, saved_base, bases_there}
-use Rattle.wm_state.proofs.FirstIn.{IsOf, ruled_of, of-below, first-itself, first-of, first-below, first-beside, first-under}
+use Rattle.wm_state.proofs.FirstIn.{IsOf, ruled_of, of-below, first-of, first-below, first-beside, first-under}
 
 -- ---- a workspace and its record
 
