@@ -13,9 +13,9 @@ use Rattle.wm_spec.specs.declared.record.space.Space.{Space}
 use Rattle.wm_tree.specs.Versions.{AllBelow}
 use Rattle.wm_tree.specs.declared.version.Version.{Version as Node}
 use Rattle.wm_state.specs.State.{State, Workspace, workspace_of, with_space}
+use Rattle.wm_state.specs.Standing.{held_of, newest_first, latest, seen, saved_as, first_in, Climbs, Top, Up, SpaceFields, fields_of, fields_in, SpacesStand, PathsStand}
 use Rattle.wm_state.proofs.Changing.{workspace_of-changed}
 use Rattle.wm_state.proofs.Frames.{Framed}
-use Rattle.wm_state.specs.Standing.{held_of, newest_first, latest, seen, saved_as, first_in, Climbs, Top, Up, SpaceFields, fields_of, fields_in, SpacesStand, PathsStand}
 use Rattle.wm_state.proofs.Tests.{both}
 use Rattle.wm_state.proofs.Newest.{Descend, Descend-newest}
 use Rattle.wm_state.proofs.Apart.{ruled, ruled_versions, newest_record, found-passes}
