@@ -1,5 +1,6 @@
 -- A store that was just made stands for a state in which nothing was done.
-use Rattle.std.proofs.Common.{◌≡◌, ℕ, ◌+◌, ◌<◌, ◌≤◌, ◌==◌, nat_le, Bool, true, false, cond, [], ◌∷◌, map, Option, Some, None, is_some, refl, sym, ap, subst, ◌∙◌, arith}
+use Rattle.std.proofs.Common.{◌≡◌, ◌≢◌, ℕ, ◌+◌, ◌<◌, ◌≤◌, ◌==◌, nat_le, Bool, true, false, cond, [], ◌∷◌, map, Option, Some, None, is_some, refl, sym, ap, subst, ◌∙◌, ◌⊎◌, inl, inr, arith}
+use Rattle.std.proofs.lemmas.Bool.{cases_eq}
 use Rattle.std.proofs.lemmas.Bool.Decides.{nat_tests}
 use Rattle.std.proofs.lemmas.List.Elements.{All-nil}
 use Rattle.std.specs.List.{All, slice_get}
@@ -11,7 +12,7 @@ use Rattle.wm_spec.specs.Lists.{Cell, Told, told}
 use Rattle.wm_spec.specs.declared.record.savepoint.Savepoint.{Savepoint as Record}
 use Rattle.wm_state.specs.ById.{by_id}
 use Rattle.wm_state.specs.State.{Workspace, Savepoint, content, fresh, fresh_live, log_of, savepoint_made, savepoints_of, workspace_of}
-use Rattle.wm_state.specs.Standing.{HasRow, Stands, logged_as, fields_of, fields_in, fields_saved, held_of, shown, owned, latest}
+use Rattle.wm_state.specs.Standing.{HasRow, Stands, Top, logged_as, fields_of, fields_in, fields_saved, held_of, shown, owned, latest}
 use Rattle.wm_store.specs.Fresh.{fresh_records, fresh_counters, live, first_version}
 
 -- the records of a store that was just made
@@ -74,6 +75,17 @@ alone n w some found = none_some (rw (away n some) at found)
     none_some : (let nothing : Option Workspace = None in nothing) ≡ Some w → ⊥
     none_some e = cc
 
+-- so what is there is LIVE
+live_alone : (n : ℕ) (w : Workspace) → workspace_of (fresh_live ∷ []) n ≡ Some w → n ≡ 0
+live_alone n w found = by_number (cases_eq n 0)
+  where
+    above : (m : ℕ) → m ≢ 0 → 0 < m
+    above m other = grind (arith, other)
+
+    by_number : (n ≡ 0) ⊎ (n ≢ 0) → n ≡ 0
+    by_number (inl zero_is) = zero_is
+    by_number (inr other) = absurd (alone n w (above n other) found)
+
 -- nor a savepoint
 none_saved : (n : ℕ) → [] ≡ map fields_saved (savepoints_of (fresh_live ∷ []) n)
 none_saved n = by_space (workspace_of (fresh_live ∷ []) n) refl
@@ -128,6 +140,13 @@ fresh_stands limit some most = record {
   };
   kept_own = record { covered = λ n making w k x is made recorded same c. absurd (no_record x recorded) };
   bases = record { birth = λ n w r some is found c. absurd (alone n w some is); base = λ n w r some is found c. absurd (alone n w some is) };
+  paths = record {
+    latest = λ n w is. Top (live_alone n w is);
+    kept = λ n making w x is recorded. absurd (no_record x recorded);
+    births = λ n w r some is found. absurd (alone n w some is);
+    bases = λ n w r some is found. absurd (alone n w some is);
+    kept_bases = λ n making w x some is recorded. absurd (no_record x recorded);
+  };
   rows = record {
     there = λ n w is c t row e h. absurd (none_told t (told (content w) c) (told_none w c (only_live n w is)) e);
     births = λ n w is c t row e h. absurd (none_told t (told w.lists.at_birth c) (ap (λ (v : Workspace). told v.lists.at_birth c) (only_live n w is)) e);

@@ -11,16 +11,19 @@ use Rattle.wm_spec.specs.declared.record.savepoint.Savepoint.{Savepoint as Recor
 use Rattle.wm_spec.specs.declared.record.space.Space.{Space}
 use Rattle.wm_tree.specs.declared.version.Version.{Version as Node}
 use Rattle.wm_state.specs.State.{State, Workspace, Savepoint, content, kept, workspace_of, savepoint_made, savepoints_of, log_of}
-use Rattle.wm_state.specs.Standing.{held_of, fields_of, fields_in, saved_fields, fields_saved, by_making, saved_in, saved_as, by_number, latest, seen, seen_above, shown, owned, HasRows, CountersStand, Stands}
+use Rattle.wm_state.specs.Standing.{held_of, fields_of, fields_in, saved_fields, fields_saved, by_making, saved_in, saved_as, by_number, latest, seen, seen_above, shown, owned, newest_first, first_in, Climbs, Up, SpaceFields, HasRows, CountersStand, Stands}
 use Rattle.wm_state.specs.Effects.{Born}
-use Rattle.wm_state.proofs.Tests.{either_false, differ_push}
+use Rattle.wm_state.proofs.Tests.{bool_apart, either_false, differ_push, found_fails}
+use Rattle.wm_state.proofs.FirstIn.{IsOf, ruled_of, of-less, first-itself}
+use Rattle.wm_state.proofs.Climbing.{Stays, Carries, Carried, Climbs-carried, ordered_of, parent_apart, carried, carries-more, first-sprout}
 use Rattle.wm_state.proofs.Logging.{HistsStand-frame, log_of-found, log_of-none, log_of-same, logs-kept}
 use Rattle.wm_state.proofs.Mapped.{none-found}
 use Rattle.wm_state.proofs.Sprouting.{Sprouted, seen-before, above-before, seen-sprout, above-sprout, newest-here, newest-away, newest-lower}
-use Rattle.wm_state.proofs.Named.{saved_there, saved_base_there, bases_there, version_there, version_below}
+use Rattle.wm_state.proofs.Named.{saved_space, saved_there, saved_base_there, bases_there, version_there, version_below}
 
--- the workspace that is born: its record has its fields, it has no changes and no savepoints, and it sees what its parent's version saw
-pub record IsChild (p : Parts) (r : Space) (w : Workspace) (es : List Entry) : Type 0 where
+-- the workspace that is born: its record has its fields, it has no changes and no savepoints, and it sees what its parent's version saw,
+-- whose path leads up
+pub record IsChild (p : Parts) (spaces : List Workspace) (r : Space) (w : Workspace) (es : List Entry) : Type 0 where
   pub fields : fields_of r ≡ fields_in w
   pub number : w.number ≡ r.number
   pub at_birth : w.lists.at_birth ≡ es
@@ -29,6 +32,7 @@ pub record IsChild (p : Parts) (r : Space) (w : Workspace) (es : List Entry) : T
   pub log : w.lists.log ≡ []
   pub savepoints : w.savepoints ≡ []
   pub sees : (c : Cell) → seen p r.base_version c ≡ option_map held_of (told es c)
+  pub path : Climbs p spaces r.base_version r.parent
   pub rows : HasRows p es
 
 -- ---- its version
@@ -93,7 +97,7 @@ is_of before after n m child found e is = by_number (cases_eq m n)
 
 -- ---- the records stand for the state with the workspace more
 
-pub Stands-born : (p q : Parts) (s t : State) (r : Space) (number : ℕ) (w : Workspace) (es : List Entry) → Born p q r number → Stands p s → IsChild p r w es → t.spaces ≡ s.spaces ++ w ∷ [] → t.tables ≡ s.tables
+pub Stands-born : (p q : Parts) (s t : State) (r : Space) (number : ℕ) (w : Workspace) (es : List Entry) → Born p q r number → Stands p s → IsChild p s.spaces r w es → t.spaces ≡ s.spaces ++ w ∷ [] → t.tables ≡ s.tables
     → CountersStand q t → keep_rules q ≡ true → Stands q t
 Stands-born p q s t r number w es b st child spaces tables counters rules = record {
   rules = rules;
@@ -112,6 +116,14 @@ Stands-born p q s t r number w es b st child spaces tables counters rules = reco
   bases = record {
     birth = λ m new x some is recorded c. birth_told m new x some c (workspace_is m new is) (record_is m x recorded);
     base = λ m new x some is recorded c. base_told m new x some c (workspace_is m new is) (record_is m x recorded);
+  };
+  paths = record {
+    latest = λ m new is. latest_path m new (workspace_is m new is);
+    kept = λ m making new y is recorded. kept_path m making new y (workspace_is m new is) (ap (λ ks. find (λ (z : Record). (z.space == m) && (z.making == making)) ks) (sym b.savepoints) ∙ recorded);
+    births = λ m new y some is recorded. birth_path m new y some (workspace_is m new is) (record_is m y recorded);
+    bases = λ m new y some is recorded. base_path m new y some (workspace_is m new is) (record_is m y recorded);
+    kept_bases = λ m making new y some is recorded.
+        kept_base_path m making new y some (workspace_is m new is) (ap (λ ks. find (λ (z : Record). (z.space == m) && (z.making == making)) ks) (sym b.savepoints) ∙ recorded);
   };
   rows = record {
     there = λ m new is. rows_there m new (workspace_is m new is);
@@ -274,6 +286,82 @@ Stands-born p q s t r number w es b st child spaces tables counters rules = reco
     base_told m new y some c (inr h) (inl k) = absurd (h.0 k.0)
     base_told m new y some c (inr h) (inr k) =
         seen-before p q x grown y.base_version c (recorded_lower y.base_version (version_there (version_of p.versions) y.base_version y.parent (bases_there p st.rules m y some k.1).base)) ∙ st.bases.base m new y some h.1 k.1 c
+
+    -- the paths lead up
+    stays : (m : ℕ) (old : Workspace) → workspace_of s.spaces m ≡ Some old → Stays t.spaces m old
+    stays m old is = record {
+      new = old;
+      is = found m ∙ ap (λ d. cond d (Some w) (workspace_of s.spaces m)) (ne_eqb _ _ (λ same. none_there (sym none ∙ ap (workspace_of s.spaces) (sym same) ∙ is))) ∙ is;
+      parent = refl;
+      at_birth = refl;
+    }
+      where
+        none_there : (let nothing : Option Workspace = None in nothing) ≡ Some old → ⊥
+        none_there e = cc
+
+    carries : Carries p q s.spaces t.spaces
+    carries = carries-more p q s.spaces t.spaces x st.rules b.versions b.below (λ v c lt. seen-before p q x grown v c lt) stays
+
+    kept_paths : Carried p s q t.spaces
+    kept_paths = carried p q s t.spaces st.rules st.spaces carries st.paths
+
+    -- no savepoint is recorded for the child
+    unsaved : (m making : ℕ) (y : Record) → m ≡ r.number → saved_as p m making ≡ Some y → ⊥
+    unsaved m making y same recorded =
+        bool_apart (sym (eq-eqb y.space r.number (saved_space p m making y recorded ∙ same))
+        ∙ found_fails (λ (z : Record). (z.space == m) && (z.making == making)) (λ (z : Record). z.space == r.number) p.savepoints y recorded b.unsaved)
+
+    child_is : space_of q.spaces r.number ≡ Some r
+    child_is = b.spaces r.number ∙ ap (λ d. cond d (Some r) (space_of p.spaces r.number)) (eq-eqb r.number r.number refl)
+
+    -- what the child sees under its own is a version of its parent
+    under_child : IsOf (newest_first p.versions) r.base_version r.parent
+    under_child =
+        of-less x (newest_first p.versions) r.base_version r.parent (ne_eqb number r.base_version (λ same. omega (arith, same, base_lower)))
+        (subst (λ nodes. IsOf nodes r.base_version r.parent) b.versions (ruled_of q rules r.base_version r.parent (bases_there q rules r.number r b.child child_is).base))
+
+    base_climbs : Climbs q t.spaces r.base_version r.parent
+    base_climbs = Climbs-carried p q s.spaces t.spaces carries (ordered_of p s st.rules st.spaces) r.base_version r.parent under_child child.path
+
+    child_parent : w.parent ≡ r.parent
+    child_parent = ap (λ (f : SpaceFields). f.parent) (sym child.fields)
+
+    child_climbs : Climbs q t.spaces number r.number
+    child_climbs =
+        Up r.base_version w (found r.number ∙ ap (λ d. cond d (Some w) (workspace_of s.spaces r.number)) (eq-eqb r.number r.number refl))
+        (ap (λ m. first_in (newest_first q.versions) m number) child_parent
+        ∙ first-sprout q x (newest_first p.versions) b.versions base_lower r.parent r.base_version (parent_apart q rules r.number r b.child child_is)
+        (carries.path r.parent r.base_version r.base_version (first-itself (newest_first p.versions) r.base_version r.parent under_child)))
+        (λ c. child_seen c ∙ ap (λ xs. option_map held_of (told xs c)) (sym child.at_birth))
+        (subst (λ m. Climbs q t.spaces r.base_version m) (sym child_parent) base_climbs)
+
+    latest_path : (m : ℕ) (new : Workspace) → Is (workspace_of s.spaces m) r.number m w new → Climbs q t.spaces (latest q m) m
+    latest_path m new (inl h) = subst (λ k. Climbs q t.spaces (latest q k) k) (sym h.0) (subst (λ v. Climbs q t.spaces v r.number) (sym (newest-here p q x grown)) child_climbs)
+    latest_path m new (inr h) = subst (λ v. Climbs q t.spaces v m) (sym (newest-away p q x grown m h.0)) (kept_paths.latest m new h.1)
+
+    kept_path : (m making : ℕ) (new : Workspace) (y : Record) → Is (workspace_of s.spaces m) r.number m w new → saved_as p m making ≡ Some y → Climbs q t.spaces y.version m
+    kept_path m making new y (inl h) recorded = absurd (unsaved m making y h.0 recorded)
+    kept_path m making new y (inr h) recorded = kept_paths.kept m making new y h.1 recorded
+
+    kept_base_path : (m making : ℕ) (new : Workspace) (y : Record) → 0 < m → Is (workspace_of s.spaces m) r.number m w new → saved_as p m making ≡ Some y → Climbs q t.spaces y.base_version new.parent
+    kept_base_path m making new y some (inl h) recorded = absurd (unsaved m making y h.0 recorded)
+    kept_base_path m making new y some (inr h) recorded = kept_paths.kept_bases m making new y some h.1 recorded
+
+    under_path : (new : Workspace) (v : ℕ) → new ≡ w → v ≡ r.base_version → Climbs q t.spaces v new.parent
+    under_path new v same is =
+        subst (λ k. Climbs q t.spaces k new.parent) (sym is) (subst (λ m. Climbs q t.spaces r.base_version m) (sym (ap (λ (v : Workspace). v.parent) same ∙ child_parent)) base_climbs)
+
+    birth_path : (m : ℕ) (new : Workspace) (y : Space) → 0 < m → Is (workspace_of s.spaces m) r.number m w new → Is (space_of p.spaces m) r.number m r y → Climbs q t.spaces y.birth_version new.parent
+    birth_path m new y some (inl h) (inl k) = under_path new y.birth_version h.1 (ap (λ (z : Space). z.birth_version) k.1 ∙ b.from)
+    birth_path m new y some (inl h) (inr k) = absurd (k.0 h.0)
+    birth_path m new y some (inr h) (inl k) = absurd (h.0 k.0)
+    birth_path m new y some (inr h) (inr k) = kept_paths.births m new y some h.1 k.1
+
+    base_path : (m : ℕ) (new : Workspace) (y : Space) → 0 < m → Is (workspace_of s.spaces m) r.number m w new → Is (space_of p.spaces m) r.number m r y → Climbs q t.spaces y.base_version new.parent
+    base_path m new y some (inl h) (inl k) = under_path new y.base_version h.1 (ap (λ (z : Space). z.base_version) k.1)
+    base_path m new y some (inl h) (inr k) = absurd (k.0 h.0)
+    base_path m new y some (inr h) (inl k) = absurd (h.0 k.0)
+    base_path m new y some (inr h) (inr k) = kept_paths.bases m new y some h.1 k.1
 
     -- the rows stand as they stood
     same_rows : (xs : List Entry) → HasRows p xs → HasRows q xs

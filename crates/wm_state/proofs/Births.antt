@@ -1,5 +1,5 @@
 -- A workspace is born at a savepoint that is made for it: the records with both.
-use Rattle.std.proofs.Common.{◌≡◌, ℕ, ◌<◌, ◌≤◌, nat_lt, suc, Bool, true, List, [], ◌∷◌, ◌++◌, length, Some, refl, sym, ap, ◌∙◌, arith}
+use Rattle.std.proofs.Common.{◌≡◌, ℕ, ◌<◌, ◌≤◌, nat_lt, suc, Bool, true, List, [], ◌∷◌, ◌++◌, length, Some, refl, sym, ap, subst, ◌∙◌, arith}
 use Rattle.std.specs.List.{list_all, list_any}
 use Rattle.std.specs.Str.{bytes_eq}
 use Rattle.wm_graph.specs.Parts.{Parts, space_of}
@@ -11,10 +11,11 @@ use Rattle.wm_spec.specs.declared.record.space.Space.{Space}
 use Rattle.wm_spec.specs.declared.record.version.Version.{Version}
 use Rattle.wm_state.specs.State.{State, Workspace, kept, workspace_of, with_space, with_savepoint}
 use Rattle.wm_state.specs.State.{Savepoint as Kept}
-use Rattle.wm_state.specs.Standing.{fields_of, fields_in, seen, CountersStand, Stands}
+use Rattle.wm_state.specs.Standing.{fields_of, fields_in, seen, Climbs, CountersStand, Stands}
 use Rattle.wm_state.specs.Effects.{marked}
 use Rattle.wm_state.proofs.Tests.{all_swap, all_middle, any_swap}
 use Rattle.wm_state.proofs.Keeping.{SpaceStill, KeepSpaces-swap, le_itself, le_of}
+use Rattle.wm_state.proofs.Climbing.{Climbs-same, stays-changed}
 use Rattle.wm_state.proofs.Saving.{IsKept}
 use Rattle.wm_state.proofs.KeepSaved.{saved, MaySave, keep-saved, Stands-kept}
 use Rattle.wm_state.proofs.Birth.{IsChild, Stands-born}
@@ -91,7 +92,7 @@ keep-birth p old new front a back place implicit x b r v save bear e =
 
 -- and they stand for the state with both
 pub Stands-birth : (p : Parts) (old new : Counters) (front : List Space) (a : Space) (back : List Space) (place implicit : ℕ) (x : Savepoint) (b r : Space) (v : Version) (parent child : Workspace) (k : Kept) (es : List Entry) (s t : State)
-    → Stands p s → MaySave p old (between old new) front a back place implicit x → MayBear p old new b r v → workspace_of s.spaces x.space ≡ Some parent → IsKept p parent k x → IsChild p r child es
+    → Stands p s → MaySave p old (between old new) front a back place implicit x → MayBear p old new b r v → workspace_of s.spaces x.space ≡ Some parent → IsKept p s.spaces parent k x → IsChild p s.spaces r child es
     → t.spaces ≡ with_space x.space (with_savepoint place implicit k) s.spaces ++ child ∷ [] → t.tables ≡ s.tables → CountersStand (birthed p old new front a back place implicit x r v) t
     → Stands (birthed p old new front a back place implicit x r v) t
 Stands-birth p old new front a back place implicit x b r v parent child k es s t st save bear found is_kept is_child spaces tables counters =
@@ -107,6 +108,8 @@ Stands-birth p old new front a back place implicit x b r v parent child k es s t
       log = is_child.log;
       savepoints = is_child.savepoints;
       sees = is_child.sees;
+      path = Climbs-same p q s.spaces mid.spaces refl refl
+          (stays-changed s.spaces mid.spaces x.space (with_savepoint place implicit k) (λ w. refl) (λ w. refl) (λ w. refl) refl) r.base_version r.parent is_child.path;
       rows = is_child.rows;
     })
     spaces tables counters (keep-birth p old new front a back place implicit x b r v save bear st.rules)
@@ -125,9 +128,9 @@ Stands-birth p old new front a back place implicit x b r v parent child k es s t
     mid = record s { spaces = with_space x.space (with_savepoint place implicit k) s.spaces; next_stamp = new.next_stamp; last_moment = new.last_moment; limit = new.limit; work = new.work }
 
 -- a workspace that is born where the savepoint is sees what the savepoint keeps
-pub child_kept : (p : Parts) (w child : Workspace) (k : Kept) (x : Savepoint) (r : Space) → IsKept p w k x → r.base_version ≡ x.version → fields_of r ≡ fields_in child → child.number ≡ r.number → child.lists.at_birth ≡ kept k
-    → child.lists.base ≡ kept k → child.lists.own ≡ [] → child.lists.log ≡ [] → child.savepoints ≡ [] → IsChild p r child (kept k)
-child_kept p w child k x r is base fields number at_birth from own log savepoints = record {
+pub child_kept : (p : Parts) (spaces : List Workspace) (w child : Workspace) (k : Kept) (x : Savepoint) (r : Space) → IsKept p spaces w k x → r.base_version ≡ x.version → r.parent ≡ x.space → fields_of r ≡ fields_in child → child.number ≡ r.number → child.lists.at_birth ≡ kept k
+    → child.lists.base ≡ kept k → child.lists.own ≡ [] → child.lists.log ≡ [] → child.savepoints ≡ [] → IsChild p spaces r child (kept k)
+child_kept p spaces w child k x r is base parent fields number at_birth from own log savepoints = record {
   fields = fields;
   number = number;
   at_birth = at_birth;
@@ -136,5 +139,6 @@ child_kept p w child k x r is base fields number at_birth from own log savepoint
   log = log;
   savepoints = savepoints;
   sees = λ c. ap (λ v. seen p v c) base ∙ is.holds c;
+  path = subst (λ v. Climbs p spaces v r.parent) (sym base) (subst (λ m. Climbs p spaces x.version m) (sym parent) is.path);
   rows = is.rows;
 }

@@ -83,9 +83,9 @@ implicit_same p s a w is = ap (λ (f : SpaceFields). implicit_front ++ decimal f
 
 -- the child in the state
 child_same : (p : Parts) (s : State) (a : Space) (m : ℕ) (w : Workspace) (stand : Stand) (name : List ℕ) (pt : Point) → Stands p s → IsSpace p s a.number a w → (k : MadeAt p s a w m stand pt (implicit_of a) true)
-    → IsChild p (child_record p a m name pt) (child_of m s.spaces w k.savepoint name) (kept k.savepoint)
+    → IsChild p s.spaces (child_record p a m name pt) (child_of m s.spaces w k.savepoint name) (kept k.savepoint)
 child_same p s a m w stand name pt st is k =
-    child_kept p w (child_of m s.spaces w k.savepoint name) k.savepoint (birth_record p a pt) (child_record p a m name pt) k.kept refl
+    child_kept p s.spaces w (child_of m s.spaces w k.savepoint name) k.savepoint (birth_record p a pt) (child_record p a m name pt) k.kept refl refl
     (ap (λ n. fields n pt.place pt.log_length) (sym is.number) ∙ ap (λ n. fields w.number n pt.log_length) k.place ∙ ap (fields w.number k.savepoint.place) k.log)
     (next_space_same p s st) refl refl refl refl refl
   where

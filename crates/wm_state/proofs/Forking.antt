@@ -1,5 +1,5 @@
 -- A workspace gets a version more, with nothing in it, under its newest one.
-use Rattle.std.proofs.Common.{◌≡◌, ◌≢◌, ℕ, ◌<◌, ◌==◌, Bool, true, false, cond, List, [], ◌∷◌, Option, Some, None, is_some, refl, sym, ap, ◌∙◌, ◌⊎◌, inl, inr, arith}
+use Rattle.std.proofs.Common.{◌≡◌, ◌≢◌, ℕ, ◌<◌, ◌==◌, Bool, true, false, cond, List, [], ◌∷◌, Option, Some, None, is_some, refl, sym, ap, subst, ◌∙◌, ◌⊎◌, inl, inr, arith}
 use Rattle.std.proofs.lemmas.Bool.{cases_eq, eq-eqb, ne_eqb}
 use Rattle.wm_graph.specs.Parts.{Parts, space_of, version_of, row_of}
 use Rattle.wm_graph.specs.Rules.{keep_rules, is_version_of}
@@ -10,10 +10,11 @@ use Rattle.wm_spec.specs.declared.record.savepoint.Savepoint.{Savepoint}
 use Rattle.wm_spec.specs.declared.record.space.Space.{Space}
 use Rattle.wm_tree.specs.Versions.{latest_in, AllBelow}
 use Rattle.wm_tree.specs.declared.version.Version.{Version as Node}
-use Rattle.wm_state.specs.State.{State, content, workspace_of, savepoints_of, log_of}
-use Rattle.wm_state.specs.Standing.{stored_at, seen_at, own_at, newest_first, latest, shown, owned, seen, seen_above, saved_as, CountersStand, Stands, by_number}
+use Rattle.wm_state.specs.State.{State, Workspace, content, workspace_of, savepoints_of, log_of}
+use Rattle.wm_state.specs.Standing.{stored_at, seen_at, own_at, newest_first, latest, shown, owned, seen, seen_above, saved_as, Climbs, CountersStand, Stands, by_number}
 use Rattle.wm_state.specs.Effects.{Forked, node_under}
 use Rattle.wm_state.proofs.Frames.{Framed, KeepRows, OnceStand-same, HasRows-kept, SavepointsStand-framed, KeptStand-framed, KeptOwnStand-framed, BasesStand-framed, RowsStand-framed}
+use Rattle.wm_state.proofs.Climbing.{ordered_of, carried, carries-more, stays-same, Climbs-sprout, PathsStand-framed}
 use Rattle.wm_state.proofs.Logging.{HistsStand-frame, logs-kept}
 use Rattle.wm_state.proofs.Named.{saved_there, saved_base_there, bases_there, version_there, version_below}
 
@@ -97,7 +98,7 @@ framed_forked : (p q : Parts) (s t : State) (n number : ℕ) → Forked p q n nu
 framed_forked p q s t n number f rules spaces = record {
   savepoints = f.savepoints;
   points = λ m. ap (λ ws. savepoints_of ws m) spaces;
-  still = λ m w is. record { old = w; is = ap (λ ws. workspace_of ws m) (sym spaces) ∙ is; savepoints = refl; rebases = refl; at_birth = refl; base = refl };
+  still = λ m w is. record { old = w; is = ap (λ ws. workspace_of ws m) (sym spaces) ∙ is; parent = refl; savepoints = refl; rebases = refl; at_birth = refl; base = refl };
   names = λ m r recorded. record { old = r; is = ap (λ ss. space_of ss m) (sym f.spaces) ∙ recorded; birth = refl; base = refl };
   sees = λ m making x found c. seen-forked p q n number f x.version (saved m making x found) c;
   has = λ m making x found c. above-forked p q n number f x.base_version x.version (saved m making x found) c;
@@ -130,6 +131,10 @@ Stands-forked p q s t n number f st spaces tables counters rules = record {
   kept = KeptStand-framed p q s t framed st.kept;
   kept_own = KeptOwnStand-framed p q s t framed st.kept_own;
   bases = BasesStand-framed p q s t framed st.bases;
+  paths = PathsStand-framed p q s t framed
+      (carried p q s t.spaces st.rules st.spaces
+      (carries-more p q s.spaces t.spaces (node_under p n number) st.rules f.versions f.below (λ v c lt. seen-forked p q n number f v lt c) (stays-same s.spaces t.spaces spaces)) st.paths)
+      (λ m w is climbs. newest_climbs m climbs (cases_eq n m));
   rows = RowsStand-framed p q s t framed rows (λ m w is. HasRows-kept p q rows (content w) (st.rows.there m w (ap (λ ws. workspace_of ws m) (sym spaces) ∙ is))) (logs-kept p q s t rows logs st.rows.logs)
       st.rows;
   hists = HistsStand-frame p q s t f.hists logs st.hists;
@@ -143,3 +148,16 @@ Stands-forked p q s t n number f st spaces tables counters rules = record {
 
     logs : (m : ℕ) → log_of t.spaces m ≡ log_of s.spaces m
     logs m = ap (λ ws. log_of ws m) spaces
+
+    lower : (m : ℕ) (w : Workspace) → 0 < m → workspace_of t.spaces m ≡ Some w → m ≢ w.parent
+    lower m w some is = (ordered_of p s st.rules st.spaces).lower m w some (ap (λ ws. workspace_of ws m) (sym spaces) ∙ is)
+
+    -- the newest version is the new one, under the one of before, or the one of before
+    newest_climbs : (m : ℕ) → Climbs q t.spaces (latest p m) m → (n ≡ m) ⊎ (n ≢ m) → Climbs q t.spaces (latest q m) m
+    newest_climbs m climbs (inl same) =
+        subst (λ k. Climbs q t.spaces k m) (sym (ap (λ nodes. latest_in nodes m) f.versions ∙ ap (λ b. cond b number (latest p m)) (eq-eqb n m same)))
+        (subst (λ k. Climbs q t.spaces number k) same
+        (Climbs-sprout q t.spaces (node_under p n number) (newest_first p.versions) f.versions (latest-below number (newest_first p.versions) n f.some f.below) lower
+        (subst (λ k. Climbs q t.spaces (latest p k) k) (sym same) climbs)))
+    newest_climbs m climbs (inr other) =
+        subst (λ k. Climbs q t.spaces k m) (sym (ap (λ nodes. latest_in nodes m) f.versions ∙ ap (λ b. cond b number (latest p m)) (ne_eqb n m other))) climbs

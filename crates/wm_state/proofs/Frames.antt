@@ -2,7 +2,7 @@
 -- was before, or holds of itself. A law a clause: SpacesStand-frame, OnceStand-frame, LatestStand-frame, OwnStand-frame, SavepointsStand-frame,
 -- KeptStand-frame, KeptOwnStand-frame, BasesStand-frame, RowsStand-frame; the records Shown, Owned, Point and Base say that a look-up
 -- is as before. Where no savepoint and no workspace is new, the record Framed gives the last five: SavepointsStand-framed and so on.
--- The module Keeping has the like for the rules, and Named what the rules say of versions that savepoints and workspaces name.
+-- The module Climbing has the like for the paths of versions and Keeping for the rules, and Named has what the rules say of versions that savepoints and workspaces name.
 use Rattle.std.proofs.Common.{◌≡◌, ℕ, ◌<◌, ◌==◌, ◌&&◌, List, [], map, length, Option, Some, None, is_some, refl, sym, ap, ◌∙◌, ◌⊎◌, inl, ⊎_elim}
 use Rattle.std.specs.List.{All, filter, find}
 use Rattle.std.specs.Option.{option_map}
@@ -171,6 +171,7 @@ RowsStand-frame q t each logs = record {
 pub record Still (s : State) (n : ℕ) (w : Workspace) : Type 0 where
   pub old : Workspace
   pub is : workspace_of s.spaces n ≡ Some old
+  pub parent : w.parent ≡ old.parent
   pub savepoints : w.savepoints ≡ old.savepoints
   pub rebases : w.rebases ≡ old.rebases
   pub at_birth : w.lists.at_birth ≡ old.lists.at_birth

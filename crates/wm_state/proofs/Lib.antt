@@ -22,6 +22,8 @@ pub mod Shown
 pub mod Listed
 pub mod Shared
 pub mod Showing
+pub mod FirstIn
+pub mod Climbing
 pub mod Forking
 pub mod Sprouting
 pub mod Birth

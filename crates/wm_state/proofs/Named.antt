@@ -85,7 +85,7 @@ saved_there p rules n making x found = by_space (space_of p.spaces n) refl
         }
 
 -- in a workspace with a parent, what a savepoint sees under its workspace's own is a version of the parent
-saved_base : (p : Parts) (n making : ℕ) (x : Savepoint) (t : SavedThere p n making x) → 0 < n → is_version_of (version_of p.versions) x.base_version t.space.parent ≡ true
+pub saved_base : (p : Parts) (n making : ℕ) (x : Savepoint) (t : SavedThere p n making x) → 0 < n → is_version_of (version_of p.versions) x.base_version t.space.parent ≡ true
 saved_base p n making x t some = sym (ap (λ b. if b then x.base_version == 0 else is_version_of (version_of p.versions) x.base_version t.space.parent) away) ∙ t.base
   where
     child : (m : ℕ) → 0 < m → (m == 0) ≡ false
@@ -141,7 +141,7 @@ node_there p rules k there =
     some-map (Some v) = refl
 
 -- what is among versions that are all below is below
-among-below : (nodes : List Node) (n k : ℕ) → AllBelow n nodes → is_some (version_in nodes k) ≡ true → k < n
+pub among-below : (nodes : List Node) (n k : ℕ) → AllBelow n nodes → is_some (version_in nodes k) ≡ true → k < n
 among-below [] n k below there = absurd (bool_apart (sym there))
 among-below (x ∷ older) n k below there = by_test (x.number == k) refl there (among-below older n k below.1)
   where

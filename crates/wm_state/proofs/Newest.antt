@@ -136,7 +136,7 @@ pub record IsNewest (nodes : List Node) (n : ℕ) : Type 0 where
   pub number : node.number ≡ latest_in nodes n
   pub there : is_there (latest_in nodes n) nodes ≡ true
 
-below-apart : (m : ℕ) (ns : List Node) (k : ℕ) (y : Node) → AllBelow m ns → version_in ns k ≡ Some y → k ≢ m
+pub below-apart : (m : ℕ) (ns : List Node) (k : ℕ) (y : Node) → AllBelow m ns → version_in ns k ≡ Some y → k ≢ m
 below-apart m [] k y below found = cc
 below-apart m (x ∷ ns) k y below found = by_number (cases_eq x.number k) (λ e. below-apart m ns k y below.1 e)
   where

@@ -179,7 +179,7 @@ keep_plan_birth ss counters_id space_id id old new a place implicit x b r v rule
 
 -- and the records stand for the state with the savepoint and the workspace
 pub plan_birth : (ss : List Stored) (counters_id space_id id : ℕ) (old new : Counters) (a : Space) (place implicit : ℕ) (x : Savepoint) (b r : Space) (v : Version) (parent child : Workspace) (k : Kept) (es : List Entry) (s u : State)
-    → Stands (parts_of ss) s → MayBirth ss counters_id space_id id old new a place implicit x b r v → workspace_of s.spaces x.space ≡ Some parent → IsKept (parts_of ss) parent k x → IsChild (parts_of ss) r child es
+    → Stands (parts_of ss) s → MayBirth ss counters_id space_id id old new a place implicit x b r v → workspace_of s.spaces x.space ≡ Some parent → IsKept (parts_of ss) s.spaces parent k x → IsChild (parts_of ss) s.spaces r child es
     → u.spaces ≡ with_space x.space (with_savepoint place implicit k) s.spaces ++ child ∷ [] → u.tables ≡ s.tables → CountersStand (recounted (parts_of ss) new) u
     → Stands (parts_of (applied (birth_batch counters_id new space_id (marked place implicit a) id x r v) ss)) u
 plan_birth ss counters_id space_id id old new a place implicit x b r v parent child k es s u st may found is_kept is_child spaces tables counters =

@@ -138,7 +138,7 @@ keep_plan_saved ss counters_id space_id old new a place implicit id x rules sort
 pub plan_saved : (ss : List Stored) (counters_id space_id : ℕ) (old new : Counters) (a : Space) (place implicit id : ℕ) (x : Savepoint) (w : Workspace) (k : Kept) (s u : State) → Stands (parts_of ss) s → Ascend ss
     → record_at ss counters_id ≡ Some (records.Counters old) → (parts_of ss).counters ≡ old ∷ [] → record_at ss space_id ≡ Some (records.Space a) → AllUnder id ss
     → ((front back : List Space) → (parts_of ss).spaces ≡ front ++ a ∷ back → MaySave (parts_of ss) old new front a back place implicit x)
-    → workspace_of s.spaces x.space ≡ Some w → IsKept (parts_of ss) w k x → u.spaces ≡ with_space x.space (with_savepoint place implicit k) s.spaces → u.tables ≡ s.tables
+    → workspace_of s.spaces x.space ≡ Some w → IsKept (parts_of ss) s.spaces w k x → u.spaces ≡ with_space x.space (with_savepoint place implicit k) s.spaces → u.tables ≡ s.tables
     → CountersStand (recounted (parts_of ss) new) u → Stands (parts_of (applied (savepoint_batch counters_id new space_id (marked place implicit a) id x) ss)) u
 plan_saved ss counters_id space_id old new a place implicit id x w k s u st sorted counters one space under may found kept spaces tables stands =
     let i = parts-saved ss counters_id space_id old new a place implicit id x sorted counters one space under in

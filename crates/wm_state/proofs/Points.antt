@@ -154,7 +154,7 @@ few_same p s a w b st is few = ap (nat_le 4096) (saved_count p s a.number w st i
 pub record MadeAt (p : Parts) (s : State) (a : Space) (w : Workspace) (m : ℕ) (stand : Stand) (pt : Point) (name : List ℕ) (flag : Bool) : Type 0 where
   pub savepoint : Savepoint
   pub is : saved_at m s.spaces w stand name flag ≡ Some savepoint
-  pub kept : IsKept p w savepoint (made_at p a name flag pt)
+  pub kept : IsKept p s.spaces w savepoint (made_at p a name flag pt)
   pub place : pt.place ≡ savepoint.place
   pub log : pt.log_length ≡ savepoint.log_length
 

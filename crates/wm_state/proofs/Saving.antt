@@ -10,11 +10,13 @@ use Rattle.wm_graph.specs.Rules.{keep_rules}
 use Rattle.wm_spec.specs.Lists.{Cell, told, touched}
 use Rattle.wm_spec.specs.declared.record.savepoint.Savepoint.{Savepoint as Record}
 use Rattle.wm_spec.specs.declared.record.space.Space.{Space}
+use Rattle.wm_tree.specs.Versions.{latest_in}
 use Rattle.wm_state.specs.State.{State, Workspace, Savepoint, Contents, content, kept, workspace_of, with_space, with_savepoint, savepoint_made, savepoints_of, log_of}
-use Rattle.wm_state.specs.Standing.{held_of, latest, shown, owned, seen, seen_above, SpaceFields, fields_of, fields_in, saved_fields, fields_saved, by_making, saved_in, saved_as, by_number, CountersStand, SpacesStand, SavepointsStand, KeptStand, KeptOwnStand, HasRows, RowsStand, Stands}
+use Rattle.wm_state.specs.Standing.{held_of, newest_first, latest, shown, owned, seen, seen_above, SpaceFields, fields_of, fields_in, saved_fields, fields_saved, by_making, saved_in, saved_as, by_number, CountersStand, SpacesStand, SavepointsStand, KeptStand, KeptOwnStand, PathsStand, Climbs, HasRows, RowsStand, Stands}
 use Rattle.wm_state.specs.Effects.{Saved, marked}
 use Rattle.wm_state.proofs.Changing.{workspace_of-changed}
 use Rattle.wm_state.proofs.Frames.{StillNames, savepoints_of-found, OnceStand-changed, KeepRows, HasRows-kept, HasRows-same}
+use Rattle.wm_state.proofs.Climbing.{Stays, Carried, Climbs-same, carried, carries-same, stays-changed}
 use Rattle.wm_state.proofs.Logging.{HistsStand-frame, log_of-changed, logs-kept}
 use Rattle.wm_state.proofs.Keeping.{KeepRows-same}
 use Rattle.wm_state.proofs.Making.{making-push, all-making}
@@ -25,13 +27,15 @@ use Rattle.wm_state.proofs.Tests.{all_filter, find_new, none_if}
 
 -- the record of a savepoint keeps what the savepoint has: its version holds what is told of it, the version under its own what is told
 -- of its base where the workspace has a parent, what stands above its base covers its own changes where the workspace was not rebased
--- since, and the rows are there
-pub record IsKept (p : Parts) (w : Workspace) (k : Savepoint) (x : Record) : Type 0 where
+-- since, the rows are there, and the paths of both versions lead up
+pub record IsKept (p : Parts) (spaces : List Workspace) (w : Workspace) (k : Savepoint) (x : Record) : Type 0 where
   pub holds : (c : Cell) → seen p x.version c ≡ option_map held_of (told (kept k) c)
   pub under : 0 < x.space → (c : Cell) → seen p x.base_version c ≡ option_map held_of (told k.base c)
   pub covers_own : k.rebases ≡ w.rebases → (c : Cell) → is_some (seen_above p x.base_version x.version c) ≡ touched k.own c
   pub rows : HasRows p (kept k)
   pub base_rows : HasRows p k.base
+  pub path : Climbs p spaces x.version x.space
+  pub base_path : 0 < x.space → Climbs p spaces x.base_version w.parent
   pub fields : saved_fields x ≡ fields_saved k
 
 -- ---- a workspace that was changed
@@ -69,6 +73,7 @@ record WasSaved (n : ℕ) (k : Savepoint) (ws : List Workspace) (m : ℕ) (new :
   old : Workspace
   is : workspace_of ws m ≡ Some old
   lists : new.lists ≡ old.lists
+  parent : new.parent ≡ old.parent
   rebases : new.rebases ≡ old.rebases
   savepoints : ((m ≡ n) × (new.savepoints ≡ old.savepoints ++ k ∷ [])) ⊎ ((m ≢ n) × (new.savepoints ≡ old.savepoints))
 
@@ -83,6 +88,7 @@ was_saved n place implicit k ws m new is = by_case (was_changed n (with_savepoin
           old = x.old;
           is = x.is;
           lists = ap (λ (w : Workspace). w.lists) h.1;
+          parent = ap (λ (w : Workspace). w.parent) h.1;
           rebases = ap (λ (w : Workspace). w.rebases) h.1;
           savepoints = inl (h.0, ap (λ (w : Workspace). w.savepoints) h.1);
         }
@@ -90,6 +96,7 @@ was_saved n place implicit k ws m new is = by_case (was_changed n (with_savepoin
           old = x.old;
           is = x.is;
           lists = ap (λ (w : Workspace). w.lists) h.1;
+          parent = ap (λ (w : Workspace). w.parent) h.1;
           rebases = ap (λ (w : Workspace). w.rebases) h.1;
           savepoints = inr (h.0, ap (λ (w : Workspace). w.savepoints) h.1);
         }
@@ -297,7 +304,7 @@ above-still : (p q : Parts) (n place implicit : ℕ) (x : Record) → Saved p q 
 above-still p q n place implicit x v base version c = rw (v.versions, v.pieces) refl
 
 KeptStand-saved : (p q : Parts) (s t : State) (n place implicit : ℕ) (w : Workspace) (k : Savepoint) (x : Record) → Saved p q n place implicit x → t.spaces ≡ with_space n (with_savepoint place implicit k) s.spaces
-    → IsKept p w k x → SavepointsStand p s → KeptStand p s → KeptStand q t
+    → IsKept p s.spaces w k x → SavepointsStand p s → KeptStand p s → KeptStand q t
 KeptStand-saved p q s t n place implicit w k x v spaces new_one stand kept_before = record {
   told = λ m making new j y is made recorded c.
       seen-still p q n place implicit x v y.version c
@@ -328,7 +335,7 @@ KeptStand-saved p q s t n place implicit w k x v spaces new_one stand kept_befor
         by_how (inr h) = kept_before.base m making z.old j y some z.is h.0 (sym (saved_as-away p q n place implicit x v m making h.1) ∙ recorded) c
 
 KeptOwnStand-saved : (p q : Parts) (s t : State) (n place implicit : ℕ) (w : Workspace) (k : Savepoint) (x : Record) → Saved p q n place implicit x → t.spaces ≡ with_space n (with_savepoint place implicit k) s.spaces
-    → workspace_of s.spaces n ≡ Some w → IsKept p w k x → SavepointsStand p s → KeptOwnStand p s → KeptOwnStand q t
+    → workspace_of s.spaces n ≡ Some w → IsKept p s.spaces w k x → SavepointsStand p s → KeptOwnStand p s → KeptOwnStand q t
 KeptOwnStand-saved p q s t n place implicit w k x v spaces found new_one stand kept_before = record {
   covered = λ m making new j y is made recorded based c.
       ap is_some (above-still p q n place implicit x v y.base_version y.version c)
@@ -354,7 +361,7 @@ logs_saved : (s t : State) (n place implicit : ℕ) (k : Savepoint) → t.spaces
 logs_saved s t n place implicit k spaces m = ap (λ ws. log_of ws m) spaces ∙ log_of-changed n (with_savepoint place implicit k) (λ w. refl) (λ w. refl) s.spaces m
 
 RowsStand-saved : (p q : Parts) (s t : State) (n place implicit : ℕ) (w : Workspace) (k : Savepoint) (x : Record) → Saved p q n place implicit x → t.spaces ≡ with_space n (with_savepoint place implicit k) s.spaces
-    → IsKept p w k x → SavepointsStand p s → RowsStand p s → RowsStand q t
+    → IsKept p s.spaces w k x → SavepointsStand p s → RowsStand p s → RowsStand q t
 RowsStand-saved p q s t n place implicit w k x v spaces new_one stand rows = record {
   there = λ m new is. let y = before m new is in HasRows-same p q still (content new) (content y.old) (ap (λ (l : Contents). l.base ++ l.own) y.lists) (rows.there m y.old y.is);
   births = λ m new is. let y = before m new is in HasRows-same p q still new.lists.at_birth y.old.lists.at_birth (ap (λ (l : Contents). l.at_birth) y.lists) (rows.births m y.old y.is);
@@ -386,9 +393,62 @@ RowsStand-saved p q s t n place implicit w k x v spaces new_one stand rows = rec
         by_how (inl h) = HasRows-same p q still j.base k.base (ap (λ (i : Savepoint). i.base) h.2) new_one.base_rows
         by_how (inr h) = HasRows-kept p q still j.base (rows.saved_bases m making z.old j z.is h.0)
 
+-- the paths of all versions that are named lead up, of those of the new savepoint too
+PathsStand-saved : (p q : Parts) (s t : State) (n place implicit : ℕ) (w : Workspace) (k : Savepoint) (x : Record) → Saved p q n place implicit x → t.spaces ≡ with_space n (with_savepoint place implicit k) s.spaces
+    → workspace_of s.spaces n ≡ Some w → IsKept p s.spaces w k x → keep_rules p ≡ true → SpacesStand p s → PathsStand p s → PathsStand q t
+PathsStand-saved p q s t n place implicit w k x v spaces found new_one rules stand paths = record {
+  latest = λ m new is. let y = before m new is in subst (λ vs. Climbs q t.spaces (latest_in (newest_first vs) m) m) (sym v.versions) (c.latest m y.old y.is);
+  kept = λ m making new z is saved. kept_path m making z (before m new is) saved (cases_eq m n) (cases_eq x.making making);
+  births = λ m new r some is recorded.
+      let y = before m new is in
+      let b = had_mark p q n place implicit x v m r recorded in
+      subst (λ j. Climbs q t.spaces j new.parent) (sym b.birth) (subst (λ i. Climbs q t.spaces b.old.birth_version i) (sym y.parent) (c.births m y.old b.old some y.is b.is));
+  bases = λ m new r some is recorded.
+      let y = before m new is in
+      let b = had_mark p q n place implicit x v m r recorded in
+      subst (λ j. Climbs q t.spaces j new.parent) (sym b.base) (subst (λ i. Climbs q t.spaces b.old.base_version i) (sym y.parent) (c.bases m y.old b.old some y.is b.is));
+  kept_bases = λ m making new z some is saved.
+      let y = before m new is in
+      subst (λ i. Climbs q t.spaces z.base_version i) (sym y.parent) (base_path m making z some y saved (cases_eq m n) (cases_eq x.making making));
+}
+  where
+    before : (m : ℕ) (new : Workspace) → workspace_of t.spaces m ≡ Some new → WasSaved n k s.spaces m new
+    before m new is = was_saved n place implicit k s.spaces m new (ap (λ ws. workspace_of ws m) (sym spaces) ∙ is)
+
+    stays : (m : ℕ) (old : Workspace) → workspace_of s.spaces m ≡ Some old → Stays t.spaces m old
+    stays = stays-changed s.spaces t.spaces n (with_savepoint place implicit k) (λ w. refl) (λ w. refl) (λ w. refl) spaces
+
+    c : Carried p s q t.spaces
+    c = carried p q s t.spaces rules stand (carries-same p q s.spaces t.spaces v.versions v.pieces stays) paths
+
+    -- the new savepoint
+    here_is : (m making : ℕ) (z : Record) → m ≡ n → x.making ≡ making → saved_as q m making ≡ Some z → z ≡ x
+    here_is m making z here made saved = some_record z x (sym saved ∙ ap (λ i. saved_as q i making) here ∙ saved_as-here p q n place implicit x v making made)
+
+    kept_path : (m making : ℕ) (z : Record) {new : Workspace} → WasSaved n k s.spaces m new → saved_as q m making ≡ Some z → (m ≡ n) ⊎ (m ≢ n) → (x.making ≡ making) ⊎ (x.making ≢ making) → Climbs q t.spaces z.version m
+    kept_path m making z y saved (inl here) (inl made) =
+        subst (λ i. Climbs q t.spaces z.version i) (v.space ∙ sym here)
+        (subst (λ (r : Record). Climbs q t.spaces r.version x.space) (sym (here_is m making z here made saved)) (Climbs-same p q s.spaces t.spaces v.versions v.pieces stays x.version x.space new_one.path))
+    kept_path m making z y saved (inl here) (inr other) =
+        c.kept m making y.old z y.is (sym (saved_as-away p q n place implicit x v m making (and_other (x.space == m) (x.making == making) (ne_eqb _ _ other))) ∙ saved)
+    kept_path m making z y saved (inr away) _ =
+        c.kept m making y.old z y.is (sym (saved_as-away p q n place implicit x v m making (ap (λ b. b && (x.making == making)) (ne_eqb _ _ (λ e. away (sym e ∙ v.space))))) ∙ saved)
+
+    base_path : (m making : ℕ) (z : Record) → 0 < m → {new : Workspace} → (y : WasSaved n k s.spaces m new) → saved_as q m making ≡ Some z → (m ≡ n) ⊎ (m ≢ n) → (x.making ≡ making) ⊎ (x.making ≢ making)
+        → Climbs q t.spaces z.base_version y.old.parent
+    base_path m making z some y saved (inl here) (inl made) =
+        let one : y.old ≡ w = some_one y.old w (sym y.is ∙ ap (workspace_of s.spaces) here ∙ found) in
+        subst (λ (o : Workspace). Climbs q t.spaces z.base_version o.parent) (sym one)
+        (subst (λ (r : Record). Climbs q t.spaces r.base_version w.parent) (sym (here_is m making z here made saved))
+        (Climbs-same p q s.spaces t.spaces v.versions v.pieces stays x.base_version w.parent (new_one.base_path (subst (λ i. 0 < i) (here ∙ sym v.space) some))))
+    base_path m making z some y saved (inl here) (inr other) =
+        c.kept_bases m making y.old z some y.is (sym (saved_as-away p q n place implicit x v m making (and_other (x.space == m) (x.making == making) (ne_eqb _ _ other))) ∙ saved)
+    base_path m making z some y saved (inr away) _ =
+        c.kept_bases m making y.old z some y.is (sym (saved_as-away p q n place implicit x v m making (ap (λ b. b && (x.making == making)) (ne_eqb _ _ (λ e. away (sym e ∙ v.space))))) ∙ saved)
+
 -- ---- the records stand for the state with the savepoint
 
-pub Stands-saved : (p q : Parts) (s t : State) (n place implicit : ℕ) (w : Workspace) (k : Savepoint) (x : Record) → Saved p q n place implicit x → Stands p s → workspace_of s.spaces n ≡ Some w → IsKept p w k x
+pub Stands-saved : (p q : Parts) (s t : State) (n place implicit : ℕ) (w : Workspace) (k : Savepoint) (x : Record) → Saved p q n place implicit x → Stands p s → workspace_of s.spaces n ≡ Some w → IsKept p s.spaces w k x
     → t.spaces ≡ with_space n (with_savepoint place implicit k) s.spaces → t.tables ≡ s.tables → CountersStand q t → keep_rules q ≡ true → Stands q t
 Stands-saved p q s t n place implicit w k x v st found new_one spaces tables counters rules = record {
   rules = rules;
@@ -418,6 +478,7 @@ Stands-saved p q s t n place implicit w k x v st found new_one spaces tables cou
         seen-still p q n place implicit x v r.base_version c ∙ ap (λ version. seen p version c) b.base ∙ st.bases.base m y.old b.old child y.is b.is c
         ∙ ap (λ (l : Contents). option_map held_of (told l.base c)) (sym y.lists);
   };
+  paths = PathsStand-saved p q s t n place implicit w k x v spaces found new_one st.rules st.spaces st.paths;
   rows = RowsStand-saved p q s t n place implicit w k x v spaces new_one st.savepoints st.rows;
   hists = HistsStand-frame p q s t v.hists (logs_saved s t n place implicit k spaces) st.hists;
 }
@@ -435,7 +496,7 @@ Stands-saved p q s t n place implicit w k x v st found new_one spaces tables cou
 
 -- made at what is newest
 pub kept_latest : (p : Parts) (s : State) (n : ℕ) (w : Workspace) (r : Space) (k : Savepoint) (x : Record) → Stands p s → workspace_of s.spaces n ≡ Some w → space_of p.spaces n ≡ Some r → x.space ≡ n → x.version ≡ latest p n
-    → x.base_version ≡ r.base_version → k.base ≡ w.lists.base → k.own ≡ w.lists.own → saved_fields x ≡ fields_saved k → IsKept p w k x
+    → x.base_version ≡ r.base_version → k.base ≡ w.lists.base → k.own ≡ w.lists.own → saved_fields x ≡ fields_saved k → IsKept p s.spaces w k x
 kept_latest p s n w r k x st found recorded space version base_version base own fields = record {
   holds = λ c. ap (λ v. seen p v c) version ∙ st.latest.told n w found c ∙ ap (λ es. option_map held_of (told es c)) (sym same);
   under = λ some c.
@@ -444,6 +505,8 @@ kept_latest p s n w r k x st found recorded space version base_version base own 
       ap (λ v. is_some (seen_above p x.base_version v c)) version ∙ ap (λ b. is_some (owned p b n c)) base_version ∙ st.own.covered n w r found recorded c ∙ ap (λ es. touched es c) (sym own);
   rows = HasRows-same p p (KeepRows-same p p refl) (kept k) (content w) same (st.rows.there n w found);
   base_rows = HasRows-same p p (KeepRows-same p p refl) k.base w.lists.base base (st.rows.bases n w found);
+  path = subst (λ v. Climbs p s.spaces v x.space) (sym version) (subst (λ i. Climbs p s.spaces (latest p n) i) (sym space) (st.paths.latest n w found));
+  base_path = λ some. subst (λ v. Climbs p s.spaces v w.parent) (sym base_version) (st.paths.bases n w r (subst (λ i. 0 < i) space some) found recorded);
   fields = fields;
 }
   where
@@ -452,7 +515,7 @@ kept_latest p s n w r k x st found recorded space version base_version base own 
 
 -- made where another is
 pub kept_again : (p : Parts) (s : State) (n making : ℕ) (w : Workspace) (k j : Savepoint) (x y : Record) → Stands p s → workspace_of s.spaces n ≡ Some w → saved_as p n making ≡ Some y → savepoint_made making w.savepoints ≡ Some j
-    → x.space ≡ n → x.version ≡ y.version → x.base_version ≡ y.base_version → k.base ≡ j.base → k.own ≡ j.own → k.rebases ≡ j.rebases → saved_fields x ≡ fields_saved k → IsKept p w k x
+    → x.space ≡ n → x.version ≡ y.version → x.base_version ≡ y.base_version → k.base ≡ j.base → k.own ≡ j.own → k.rebases ≡ j.rebases → saved_fields x ≡ fields_saved k → IsKept p s.spaces w k x
 kept_again p s n making w k j x y st found recorded made space version base_version base own rebases fields = record {
   holds = λ c. ap (λ v. seen p v c) version ∙ st.kept.told n making w j y found made recorded c ∙ ap (λ es. option_map held_of (told es c)) (sym same);
   under = λ some c.
@@ -462,6 +525,8 @@ kept_again p s n making w k j x y st found recorded made space version base_vers
       ∙ st.kept_own.covered n making w j y found made recorded (sym rebases ∙ based) c ∙ ap (λ es. touched es c) (sym own);
   rows = HasRows-same p p (KeepRows-same p p refl) (kept k) (kept j) same (st.rows.saved n making w j found made);
   base_rows = HasRows-same p p (KeepRows-same p p refl) k.base j.base base (st.rows.saved_bases n making w j found made);
+  path = subst (λ v. Climbs p s.spaces v x.space) (sym version) (subst (λ i. Climbs p s.spaces y.version i) (sym space) (st.paths.kept n making w y found recorded));
+  base_path = λ some. subst (λ v. Climbs p s.spaces v w.parent) (sym base_version) (st.paths.kept_bases n making w y (subst (λ i. 0 < i) space some) found recorded);
   fields = fields;
 }
   where

@@ -1,10 +1,12 @@
 -- The records stand for the state that a change makes.
-use Rattle.std.proofs.Common.{◌≡◌, ℕ, true, refl, sym, ap, ◌∙◌}
+use Rattle.std.proofs.Common.{◌≡◌, ℕ, true, refl, sym, ap, subst, ◌∙◌}
 use Rattle.wm_graph.specs.Parts.{Parts, row_of, space_of}
 use Rattle.wm_graph.specs.Rules.{keep_rules}
 use Rattle.wm_state.specs.State.{State, begin, content, workspace_of, savepoints_of, log_of}
-use Rattle.wm_state.specs.Standing.{CountersStand, TablesStand, Stands}
+use Rattle.wm_tree.specs.Versions.{latest_in}
+use Rattle.wm_state.specs.Standing.{newest_first, Climbs, CountersStand, TablesStand, Stands}
 use Rattle.wm_state.proofs.Frames.{Framed, KeepRows, OnceStand-same, HasRows-kept, SavepointsStand-framed, KeptStand-framed, KeptOwnStand-framed, BasesStand-framed, RowsStand-framed}
+use Rattle.wm_state.proofs.Climbing.{carried, carries-same, stays-same, PathsStand-framed}
 use Rattle.wm_state.proofs.Logging.{HistsStand-frame, logs-kept}
 
 -- ---- the records stand for the state after a line
@@ -22,7 +24,7 @@ framed_retabled : (p q : Parts) (s t : State) → Retabled p q → t.spaces ≡ 
 framed_retabled p q s t r spaces = record {
   savepoints = r.savepoints;
   points = λ n. ap (λ ws. savepoints_of ws n) spaces;
-  still = λ n w is. record { old = w; is = ap (λ ws. workspace_of ws n) (sym spaces) ∙ is; savepoints = refl; rebases = refl; at_birth = refl; base = refl };
+  still = λ n w is. record { old = w; is = ap (λ ws. workspace_of ws n) (sym spaces) ∙ is; parent = refl; savepoints = refl; rebases = refl; at_birth = refl; base = refl };
   names = λ n x recorded. record { old = x; is = ap (λ ss. space_of ss n) (sym r.spaces) ∙ recorded; birth = refl; base = refl };
   sees = λ n making x saved c. rw (r.versions, r.pieces) refl;
   has = λ n making x saved c. rw (r.versions, r.pieces) refl;
@@ -44,6 +46,9 @@ Stands-retabled p q s t r st spaces tables counters rules = record {
   kept = KeptStand-framed p q s t (framed_retabled p q s t r spaces) st.kept;
   kept_own = KeptOwnStand-framed p q s t (framed_retabled p q s t r spaces) st.kept_own;
   bases = BasesStand-framed p q s t (framed_retabled p q s t r spaces) st.bases;
+  paths = PathsStand-framed p q s t (framed_retabled p q s t r spaces)
+      (carried p q s t.spaces st.rules st.spaces (carries-same p q s.spaces t.spaces r.versions r.pieces (stays-same s.spaces t.spaces spaces)) st.paths)
+      (λ n w is climbs. subst (λ vs. Climbs q t.spaces (latest_in (newest_first vs) n) n) (sym r.versions) climbs);
   rows = RowsStand-framed p q s t (framed_retabled p q s t r spaces) rows
       (λ n w is. HasRows-kept p q rows (content w) (st.rows.there n w (ap (λ ws. workspace_of ws n) (sym spaces) ∙ is))) (logs-kept p q s t rows logs st.rows.logs) st.rows;
   hists = HistsStand-frame p q s t r.hists logs st.hists;
@@ -77,6 +82,7 @@ Stands-begin p s now st = record {
   kept = record { told = st.kept.told; base = st.kept.base };
   kept_own = record { covered = st.kept_own.covered };
   bases = record { birth = st.bases.birth; base = st.bases.base };
+  paths = record { latest = st.paths.latest; kept = st.paths.kept; births = st.paths.births; bases = st.paths.bases; kept_bases = st.paths.kept_bases };
   rows = record { there = st.rows.there; births = st.rows.births; bases = st.rows.bases; saved = st.rows.saved; saved_bases = st.rows.saved_bases; logs = st.rows.logs };
   hists = record { same = st.hists.same };
 }

@@ -12,11 +12,14 @@ use Rattle.wm_spec.specs.Lists.{Entry, Cell, Told, told, touched}
 use Rattle.wm_spec.specs.declared.record.row.RowRecord.{RowRecord}
 use Rattle.wm_spec.specs.declared.record.space.Space.{Space}
 use Rattle.wm_spec.proofs.Lists.{told-append}
+use Rattle.wm_tree.specs.Versions.{latest_in}
 use Rattle.wm_state.specs.State.{State, Workspace, content, workspace_of, with_space, with_entries, savepoints_of, log_of}
-use Rattle.wm_state.specs.Standing.{held_of, stored_at, seen_at, own_at, newest_first, latest, seen, fields_of, fields_in, CountersStand, SpacesStand, LatestStand, OwnStand, HasRow, RowsStand, HistsStand, Stands, SpaceFields, by_number}
+use Rattle.wm_state.specs.Standing.{held_of, stored_at, seen_at, own_at, newest_first, latest, seen, first_in, Climbs, fields_of, fields_in, CountersStand, SpacesStand, LatestStand, OwnStand, HasRow, RowsStand, HistsStand, Stands, SpaceFields, by_number}
 use Rattle.wm_state.specs.Entries.{hists_from}
 use Rattle.wm_state.specs.Writes.{AreAllLaid, longer_by, WroteAll}
 use Rattle.wm_state.proofs.Frames.{Framed, Still, StillNames, OnceStand-changed, row-kept, savepoints_of-found, savepoints_of-none, SavepointsStand-framed, KeptStand-framed, KeptOwnStand-framed, BasesStand-framed, RowsStand-framed}
+use Rattle.wm_state.proofs.FirstIn.{first-apart}
+use Rattle.wm_state.proofs.Climbing.{Carries, carried, stays-changed, PathsStand-framed}
 use Rattle.wm_state.proofs.Logging.{HistsStand-longer, log_of-found, log_of-same, rows-kept}
 use Rattle.wm_state.proofs.Nearest.{SameAway, seen-away, seen-here, own-away, own-here}
 use Rattle.wm_state.proofs.Changing.{workspace_of-changed}
@@ -191,6 +194,7 @@ framed_wrote p q s t n es w spaces = record {
         (λ h. record {
           old = x.old;
           is = x.is;
+          parent = ap (λ (w : Workspace). w.parent) h.1;
           savepoints = ap (λ (w : Workspace). w.savepoints) h.1;
           rebases = ap (λ (w : Workspace). w.rebases) h.1;
           at_birth = ap (λ (w : Workspace). w.lists.at_birth) h.1;
@@ -199,6 +203,7 @@ framed_wrote p q s t n es w spaces = record {
         (λ h. record {
           old = x.old;
           is = x.is;
+          parent = ap (λ (w : Workspace). w.parent) h.1;
           savepoints = ap (λ (w : Workspace). w.savepoints) h.1;
           rebases = ap (λ (w : Workspace). w.rebases) h.1;
           at_birth = ap (λ (w : Workspace). w.lists.at_birth) h.1;
@@ -211,6 +216,16 @@ framed_wrote p q s t n es w spaces = record {
         (λ h. record { old = y.old; is = y.is; birth = ap (λ (k : Space). k.birth_version) h.1; base = ap (λ (k : Space). k.base_version) h.1 })
         (λ h. record { old = y.old; is = y.is; birth = ap (λ (k : Space). k.birth_version) h.1; base = ap (λ (k : Space). k.base_version) h.1 })
         y.how
+
+-- paths lead up as they did: what stands above a version is not the one that is written
+carries_wrote : (p q : Parts) (s t : State) (n : ℕ) (es : List Entry) → WroteAll p q n es → t.spaces ≡ appended_all n es s.spaces → Carries p q s.spaces t.spaces
+carries_wrote p q s t n es w spaces = record {
+  stays = stays-changed s.spaces t.spaces n (with_entries es) (λ v. refl) (λ v. refl) (λ v. refl) spaces;
+  path = λ space version first found. ap (λ vs. first_in (newest_first vs) space version) w.versions ∙ found;
+  sees = λ m space version first other is found c. rw w.versions
+      (seen-away (latest p n) p.pieces q.pieces c (laid-away (latest p n) es p.pieces q.pieces c w.pieces) (newest_first p.versions) w.leaf first
+      (first-apart (latest p n) (newest_first p.versions) m space version first w.leaf other is found));
+}
 
 -- the log of the workspace is longer, and every other as it was
 record Longer (s t : State) (n : ℕ) (es : List Entry) (old : Space) : Type 0 where
@@ -321,6 +336,8 @@ Stands-wrote_all p q s t n es w st spaces tables counters rules = record {
   kept = KeptStand-framed p q s t (framed_wrote p q s t n es w spaces) st.kept;
   kept_own = KeptOwnStand-framed p q s t (framed_wrote p q s t n es w spaces) st.kept_own;
   bases = BasesStand-framed p q s t (framed_wrote p q s t n es w spaces) st.bases;
+  paths = PathsStand-framed p q s t (framed_wrote p q s t n es w spaces) (carried p q s t.spaces st.rules st.spaces (carries_wrote p q s t n es w spaces) st.paths)
+      (λ m v is climbs. subst (λ vs. Climbs q t.spaces (latest_in (newest_first vs) m) m) (sym w.versions) climbs);
   rows = RowsStand-wrote p q s t n es w spaces st.spaces st.rows;
   hists = HistsStand-wrote p q s t n es w spaces st.spaces st.hists;
 }

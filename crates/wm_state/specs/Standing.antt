@@ -89,6 +89,22 @@ seen p version c = seen_at p.pieces (newest_first p.versions) version c
 abbrev pub seen_above : Parts → ℕ → ℕ → Cell → Option Held
 seen_above p base version c = own_at p.pieces (newest_first p.versions) base version c
 
+-- ---- paths and ends
+
+-- the first version of a workspace on the path of a version
+abbrev pub first_in : List Node → ℕ → ℕ → Option ℕ
+first_in [] space version = None
+first_in (x ∷ older) space version =
+    if x.number == version then (if x.space == space then Some version else first_in older space x.parent) else first_in older space version
+
+-- the path of a version leads up: the first version of its workspace's parent on it is there, and holds at each cell what the workspace
+-- was born with, and its own path leads up
+pub data Climbs (p : Parts) (spaces : List Workspace) : ℕ → ℕ → Type 0 where
+  -- LIVE has no parent
+  Top : {version n : ℕ} → n ≡ 0 → Climbs p spaces version n
+  Up : {version n : ℕ} (u : ℕ) (w : Workspace) → workspace_of spaces n ≡ Some w → first_in (newest_first p.versions) w.parent version ≡ Some u
+      → ((c : Cell) → seen p u c ≡ option_map held_of (told w.lists.at_birth c)) → Climbs p spaces u w.parent → Climbs p spaces version n
+
 -- ---- the clauses
 
 -- what the record of a workspace and the workspace itself have in common
@@ -285,6 +301,15 @@ pub record BasesStand (p : Parts) (s : State) : Type 0 where
   pub birth : (n : ℕ) (w : Workspace) (r : Space) → 0 < n → workspace_of s.spaces n ≡ Some w → space_of p.spaces n ≡ Some r → (c : Cell) → seen p r.birth_version c ≡ option_map held_of (told w.lists.at_birth c)
   pub base : (n : ℕ) (w : Workspace) (r : Space) → 0 < n → workspace_of s.spaces n ≡ Some w → space_of p.spaces n ≡ Some r → (c : Cell) → seen p r.base_version c ≡ option_map held_of (told w.lists.base c)
 
+-- the path of each version that is named leads up: of the newest one of a workspace, of those of its savepoints, and in a workspace with
+-- a parent of those that it was born from and that it and its savepoints see under their own, which are its parent's
+pub record PathsStand (p : Parts) (s : State) : Type 0 where
+  pub latest : (n : ℕ) (w : Workspace) → workspace_of s.spaces n ≡ Some w → Climbs p s.spaces (latest p n) n
+  pub kept : (n making : ℕ) (w : Workspace) (x : Record) → workspace_of s.spaces n ≡ Some w → saved_as p n making ≡ Some x → Climbs p s.spaces x.version n
+  pub births : (n : ℕ) (w : Workspace) (r : Space) → 0 < n → workspace_of s.spaces n ≡ Some w → space_of p.spaces n ≡ Some r → Climbs p s.spaces r.birth_version w.parent
+  pub bases : (n : ℕ) (w : Workspace) (r : Space) → 0 < n → workspace_of s.spaces n ≡ Some w → space_of p.spaces n ≡ Some r → Climbs p s.spaces r.base_version w.parent
+  pub kept_bases : (n making : ℕ) (w : Workspace) (x : Record) → 0 < n → workspace_of s.spaces n ≡ Some w → saved_as p n making ≡ Some x → Climbs p s.spaces x.base_version w.parent
+
 -- the row of each entry that a list holds at a cell stands under its stamp
 abbrev pub HasRows : Parts → List Entry → Type 0
 HasRows p es = (c : Cell) (t : Told) (row : Row) → told es c ≡ Some t → t.row ≡ Some row → option_map (λ (r : RowRecord). r.values) (row_of p.rows t.stamp) ≡ Some row.values
@@ -319,5 +344,6 @@ pub record Stands (p : Parts) (s : State) : Type 0 where
   pub kept : KeptStand p s
   pub kept_own : KeptOwnStand p s
   pub bases : BasesStand p s
+  pub paths : PathsStand p s
   pub rows : RowsStand p s
   pub hists : HistsStand p s
