@@ -59,6 +59,7 @@ pub mod Told
 pub mod PlannedMore
 pub mod DrawingHeld
 pub mod DrawingApart
+pub mod DrawingEnds
 pub mod Drawing
 pub mod DrawingKeys
 pub mod DrawingNews

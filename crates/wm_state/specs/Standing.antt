@@ -1,6 +1,6 @@
 -- Records that stand for a state. The records have one set of pieces, found through the paths of versions; the state has a
 -- whole list for each workspace.
-use Rattle.std.specs.Prelude.{ℕ, ◌≡◌, ◌+◌, ◌<◌, Bool, true, ◌&&◌, ◌||◌, ◌==◌, nat_le, nat_lt, max, if◌then◌else◌, List, [], ◌∷◌, map, length, slice_get, is_none, is_some, Option, None, Some}
+use Rattle.std.specs.Prelude.{ℕ, ◌≡◌, ◌+◌, ◌<◌, Bool, true, false, ◌&&◌, ◌||◌, ◌==◌, nat_le, nat_lt, max, if◌then◌else◌, List, [], ◌∷◌, map, length, slice_get, is_none, is_some, Option, None, Some}
 use Rattle.std.specs.Bool.{then_some}
 use Rattle.std.specs.List.{All, filter, find, list_all, list_any}
 use Rattle.std.specs.Option.{option_or, option_map}
