@@ -1,7 +1,7 @@
 -- Pieces that are drawn begin and end where old or new ones do.
-use Rattle.std.proofs.Common.{◌≡◌, ℕ, ◌<◌, ◌≤◌, ◌==◌, nat_lt, min, max, Bool, true, false, not, ◌&&◌, ◌||◌, cond, List, [], ◌∷◌, ◌++◌, refl, sym, ap, subst, ◌∙◌, ◌⊎◌, inl, inr, arith}
+use Rattle.std.proofs.Common.{◌≡◌, ℕ, ◌<◌, ◌≤◌, ◌==◌, nat_lt, min, max, Bool, true, false, not, ◌&&◌, ◌||◌, cond, List, [], ◌∷◌, ◌++◌, refl, sym, ap, ◌∙◌, ◌⊎◌, inl, inr, arith}
 use Rattle.std.proofs.lemmas.Bool.{cases_lt, eq-eqb, eqb-true}
-use Rattle.std.specs.List.{flat_map, list_all, list_any}
+use Rattle.std.specs.List.{filter, flat_map, list_all, list_any}
 use Rattle.std.specs.Ordering.{is_eq}
 use Rattle.wm_base.specs.Key.{key_order}
 use Rattle.wm_base.specs.declared.value.Value.{Value}
@@ -10,7 +10,7 @@ use Rattle.wm_state.specs.Batches.{is_in}
 use Rattle.wm_state.specs.Drawing.{between, part, around, left_by, ends_at, end_with}
 use Rattle.wm_state.proofs.Appending.{all_append}
 use Rattle.wm_state.proofs.Laying.{key_same, key_itself}
-use Rattle.wm_state.proofs.Tests.{both, bool_apart, and_true, all_if, not_true}
+use Rattle.wm_state.proofs.Tests.{both, bool_apart, and_true, all_if, all_filter, not_true}
 
 -- ---- some of a list
 
@@ -133,6 +133,14 @@ pub ends-of : (ys xs : List PieceRecord) → More ys xs → end_with xs ys ≡ t
 ends-of [] xs among = refl
 ends-of (y ∷ ys) xs among =
     and_true (has_both xs y) (end_with xs ys) (one_both y xs (λ P e. among P (more-front (y ∷ []) ys P e))) (ends-of ys xs (λ P e. among P (more-behind (y ∷ []) ys P e)))
+
+-- what is drawn for some pieces ends, beside the others, where all or new ones do
+pub ends-beside : (keep : PieceRecord → Bool) (xs news drawn : List PieceRecord) → end_with (filter (λ y. not (keep y)) xs ++ news) drawn ≡ true → end_with (xs ++ news) (filter keep xs ++ drawn) ≡ true
+ends-beside keep xs news drawn e =
+    all_append (has_both (xs ++ news)) (filter keep xs) drawn
+    (ends-of (filter keep xs) (xs ++ news) (λ P h. more-front xs news P (more-passed (filter keep xs) xs (λ Q. all_filter Q keep xs) P h)))
+    (ends-more (filter (λ y. not (keep y)) xs ++ news) (xs ++ news) drawn
+    (more-both (filter (λ y. not (keep y)) xs) news (xs ++ news) (λ P h. more-front xs news P (more-passed (filter (λ y. not (keep y)) xs) xs (λ Q. all_filter Q (λ y. not (keep y)) xs) P h)) (more-behind xs news)) e)
 
 -- ---- a new piece over others
 

@@ -4,16 +4,18 @@ use Rattle.std.proofs.lemmas.Bool.{cases_eq, eq-eqb, ne_eqb}
 use Rattle.wm_graph.specs.Parts.{Parts, space_of, version_of, row_of}
 use Rattle.wm_graph.specs.Rules.{keep_rules, is_version_of}
 use Rattle.wm_period.specs.Pieces.{Held}
-use Rattle.wm_spec.specs.Lists.{Cell}
+use Rattle.wm_spec.specs.Lists.{Entry, Cell}
 use Rattle.wm_spec.specs.declared.record.piece.PieceRecord.{PieceRecord}
 use Rattle.wm_spec.specs.declared.record.savepoint.Savepoint.{Savepoint}
 use Rattle.wm_spec.specs.declared.record.space.Space.{Space}
 use Rattle.wm_tree.specs.Versions.{latest_in, AllBelow}
 use Rattle.wm_tree.specs.declared.version.Version.{Version as Node}
 use Rattle.wm_state.specs.State.{State, content, workspace_of, savepoints_of, log_of}
-use Rattle.wm_state.specs.Standing.{stored_at, seen_at, own_at, newest_first, latest, shown, owned, seen, seen_above, saved_as, CountersStand, Stands, by_number}
+use Rattle.wm_state.specs.Standing.{have_ends, is_above, stored_at, seen_at, own_at, newest_first, latest, shown, owned, seen, seen_above, saved_as, CountersStand, Stands, by_number}
 use Rattle.wm_state.specs.Effects.{Forked, node_under}
-use Rattle.wm_state.proofs.Frames.{Framed, KeepRows, OnceStand-same, HasRows-kept, SavepointsStand-framed, KeptStand-framed, KeptOwnStand-framed, BasesStand-framed, RowsStand-framed}
+use Rattle.wm_state.proofs.Frames.{Framed, KeepRows, OnceStand-same, HasRows-kept, SavepointsStand-framed, KeptStand-framed, KeptOwnStand-framed, BasesStand-framed, EndsStand-framed, RowsStand-framed}
+use Rattle.wm_state.proofs.Above.{above-beside, above-under, pieces_lower}
+use Rattle.wm_state.proofs.Ending.{all_end, all_end-fewer}
 use Rattle.wm_state.proofs.Logging.{HistsStand-frame, logs-kept}
 use Rattle.wm_state.proofs.Named.{saved_there, saved_base_there, bases_there, version_there, version_below}
 
@@ -92,6 +94,40 @@ above-forked p q n number f base v lt c =
     ∙ ap (λ pieces. own_at pieces (node_under p n number ∷ newest_first p.versions) base v c) f.pieces
     ∙ own-beside p.pieces (node_under p n number) (newest_first p.versions) base v c lt
 
+-- and has on its path above a base what it had
+on-forked : (p q : Parts) (n number : ℕ) → Forked p q n number → (base v : ℕ) → v < number → (k : ℕ) → is_above (newest_first q.versions) base v k ≡ is_above (newest_first p.versions) base v k
+on-forked p q n number f base v lt k = ap (λ nodes. is_above nodes base v k) f.versions ∙ above-beside (node_under p n number) (newest_first p.versions) base v k lt
+
+-- so what stands there ends where it did
+ends-forked : (p q : Parts) (n number : ℕ) → Forked p q n number → keep_rules p ≡ true → (base v : ℕ) → v < number → (es : List Entry) → have_ends p base v es ≡ true → have_ends q base v es ≡ true
+ends-forked p q n number f rules base v lt es e =
+    ap (all_end (is_above (newest_first q.versions) base v) es) f.pieces
+    ∙ all_end-fewer (is_above (newest_first p.versions) base v) (is_above (newest_first q.versions) base v) number es p.pieces (λ k less is. sym (on-forked p q n number f base v lt k) ∙ is)
+    (pieces_lower p rules number f.below) e
+
+-- and the workspace's newest version has nothing of its own
+own-ends-forked : (p q : Parts) (n number : ℕ) → Forked p q n number → keep_rules p ≡ true → (m : ℕ) (r : Space) → space_of p.spaces m ≡ Some r → (es : List Entry)
+    → have_ends p r.base_version (latest p m) es ≡ true → have_ends q r.base_version (latest q m) es ≡ true
+own-ends-forked p q n number f rules m r found es e = by_space (cases_eq n m)
+  where
+    newest : latest q m ≡ cond (n == m) number (latest p m)
+    newest = ap (λ nodes. latest_in nodes m) f.versions
+
+    by_space : (n ≡ m) ⊎ (n ≢ m) → have_ends q r.base_version (latest q m) es ≡ true
+    by_space (inl same) =
+        let here : latest q m ≡ number = newest ∙ ap (λ b. cond b number (latest p m)) (eq-eqb _ _ same) in
+        let on : (k : ℕ) → k < number → is_above (newest_first q.versions) r.base_version (latest q m) k ≡ is_above (newest_first p.versions) r.base_version (latest p m) k = λ k lt.
+        ap (λ nodes. is_above nodes r.base_version (latest q m) k) f.versions
+        ∙ ap (λ v. is_above (node_under p n number ∷ newest_first p.versions) r.base_version v k) here
+        ∙ above-under (node_under p n number) (newest_first p.versions) r.base_version k (f.above r (ap (space_of p.spaces) same ∙ found)) lt
+        ∙ ap (λ i. is_above (newest_first p.versions) r.base_version (latest p i) k) same in
+        ap (all_end (is_above (newest_first q.versions) r.base_version (latest q m)) es) f.pieces
+        ∙ all_end-fewer (is_above (newest_first p.versions) r.base_version (latest p m)) (is_above (newest_first q.versions) r.base_version (latest q m)) number es p.pieces (λ k less is. sym (on k less) ∙ is)
+        (pieces_lower p rules number f.below) e
+    by_space (inr other) =
+        let away : latest q m ≡ latest p m = newest ∙ ap (λ b. cond b number (latest p m)) (ne_eqb _ _ other) in
+        ap (λ v. have_ends q r.base_version v es) away ∙ ends-forked p q n number f rules r.base_version (latest p m) (latest-below number (newest_first p.versions) m f.some f.below) es e
+
 -- all versions that are named are of before
 framed_forked : (p q : Parts) (s t : State) (n number : ℕ) → Forked p q n number → keep_rules p ≡ true → t.spaces ≡ s.spaces → Framed p q s t
 framed_forked p q s t n number f rules spaces = record {
@@ -104,6 +140,7 @@ framed_forked p q s t n number f rules spaces = record {
   under = λ m making x some found. seen-forked p q n number f x.base_version (version_below p rules number f.below x.base_version (saved_base_there p rules m making x some found));
   births = λ m r some is. seen-forked p q n number f r.birth_version (below r.birth_version r.parent (bases_there p rules m r some is).birth);
   bases = λ m r some is. seen-forked p q n number f r.base_version (below r.base_version r.parent (bases_there p rules m r some is).base);
+  ends = λ m making x found. ends-forked p q n number f rules x.base_version x.version (saved m making x found);
 }
   where
     below : (v space : ℕ) → is_version_of (version_of p.versions) v space ≡ true → v < number
@@ -130,6 +167,11 @@ Stands-forked p q s t n number f st spaces tables counters rules = record {
   kept = KeptStand-framed p q s t framed st.kept;
   kept_own = KeptOwnStand-framed p q s t framed st.kept_own;
   bases = BasesStand-framed p q s t framed st.bases;
+  ends = EndsStand-framed p q s t framed
+      (λ m w r is recorded.
+      let before : space_of p.spaces m ≡ Some r = ap (λ ss. space_of ss m) (sym f.spaces) ∙ recorded in
+      own-ends-forked p q n number f st.rules m r before w.lists.own (st.ends.own m w r (ap (λ ws. workspace_of ws m) (sym spaces) ∙ is) before))
+      st.ends;
   rows = RowsStand-framed p q s t framed rows (λ m w is. HasRows-kept p q rows (content w) (st.rows.there m w (ap (λ ws. workspace_of ws m) (sym spaces) ∙ is))) (logs-kept p q s t rows logs st.rows.logs)
       st.rows;
   hists = HistsStand-frame p q s t f.hists logs st.hists;

@@ -4,7 +4,7 @@ use Rattle.wm_graph.specs.Parts.{Parts, row_of, space_of}
 use Rattle.wm_graph.specs.Rules.{keep_rules}
 use Rattle.wm_state.specs.State.{State, begin, content, workspace_of, savepoints_of, log_of}
 use Rattle.wm_state.specs.Standing.{CountersStand, TablesStand, Stands}
-use Rattle.wm_state.proofs.Frames.{Framed, KeepRows, OnceStand-same, HasRows-kept, SavepointsStand-framed, KeptStand-framed, KeptOwnStand-framed, BasesStand-framed, RowsStand-framed}
+use Rattle.wm_state.proofs.Frames.{Framed, KeepRows, OnceStand-same, HasRows-kept, SavepointsStand-framed, KeptStand-framed, KeptOwnStand-framed, BasesStand-framed, EndsStand-framed, RowsStand-framed}
 use Rattle.wm_state.proofs.Logging.{HistsStand-frame, logs-kept}
 
 -- ---- the records stand for the state after a line
@@ -29,6 +29,7 @@ framed_retabled p q s t r spaces = record {
   under = λ n making x some saved c. rw (r.versions, r.pieces) refl;
   births = λ n x some is c. rw (r.versions, r.pieces) refl;
   bases = λ n x some is c. rw (r.versions, r.pieces) refl;
+  ends = λ n making x saved es e. rw (r.versions, r.pieces) e;
 }
 
 pub Stands-retabled : (p q : Parts) (s t : State) → Retabled p q → Stands p s → t.spaces ≡ s.spaces → TablesStand q t → CountersStand q t → keep_rules q ≡ true → Stands q t
@@ -44,6 +45,8 @@ Stands-retabled p q s t r st spaces tables counters rules = record {
   kept = KeptStand-framed p q s t (framed_retabled p q s t r spaces) st.kept;
   kept_own = KeptOwnStand-framed p q s t (framed_retabled p q s t r spaces) st.kept_own;
   bases = BasesStand-framed p q s t (framed_retabled p q s t r spaces) st.bases;
+  ends = EndsStand-framed p q s t (framed_retabled p q s t r spaces)
+      (λ n w k is recorded. rw (r.versions, r.pieces) (st.ends.own n w k (ap (λ ws. workspace_of ws n) (sym spaces) ∙ is) (ap (λ ss. space_of ss n) (sym r.spaces) ∙ recorded))) st.ends;
   rows = RowsStand-framed p q s t (framed_retabled p q s t r spaces) rows
       (λ n w is. HasRows-kept p q rows (content w) (st.rows.there n w (ap (λ ws. workspace_of ws n) (sym spaces) ∙ is))) (logs-kept p q s t rows logs st.rows.logs) st.rows;
   hists = HistsStand-frame p q s t r.hists logs st.hists;
@@ -77,6 +80,7 @@ Stands-begin p s now st = record {
   kept = record { told = st.kept.told; base = st.kept.base };
   kept_own = record { covered = st.kept_own.covered };
   bases = record { birth = st.bases.birth; base = st.bases.base };
+  ends = record { own = st.ends.own; kept = st.ends.kept };
   rows = record { there = st.rows.there; births = st.rows.births; bases = st.rows.bases; saved = st.rows.saved; saved_bases = st.rows.saved_bases; logs = st.rows.logs };
   hists = record { same = st.hists.same };
 }
