@@ -11,7 +11,7 @@ use Rattle.wm_spec.specs.declared.record.savepoint.Savepoint.{Savepoint as Recor
 use Rattle.wm_spec.specs.declared.record.space.Space.{Space}
 use Rattle.wm_tree.specs.declared.version.Version.{Version as Node}
 use Rattle.wm_state.specs.State.{State, Workspace, Savepoint, content, kept, workspace_of, savepoint_made, savepoints_of, log_of}
-use Rattle.wm_state.specs.Standing.{have_ends, held_of, fields_of, fields_in, saved_fields, fields_saved, by_making, saved_in, saved_as, by_number, latest, seen, seen_above, shown, owned, HasRows, CountersStand, Stands}
+use Rattle.wm_state.specs.Standing.{held_of, fields_of, fields_in, saved_fields, fields_saved, by_making, saved_in, saved_as, by_number, latest, seen, seen_above, shown, owned, have_ends, HasRows, CountersStand, Stands}
 use Rattle.wm_state.specs.Effects.{Born}
 use Rattle.wm_state.proofs.Tests.{either_false, differ_push}
 use Rattle.wm_state.proofs.Logging.{HistsStand-frame, log_of-found, log_of-none, log_of-same, logs-kept}

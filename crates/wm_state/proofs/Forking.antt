@@ -11,7 +11,7 @@ use Rattle.wm_spec.specs.declared.record.space.Space.{Space}
 use Rattle.wm_tree.specs.Versions.{latest_in, AllBelow}
 use Rattle.wm_tree.specs.declared.version.Version.{Version as Node}
 use Rattle.wm_state.specs.State.{State, content, workspace_of, savepoints_of, log_of}
-use Rattle.wm_state.specs.Standing.{have_ends, is_above, stored_at, seen_at, own_at, newest_first, latest, shown, owned, seen, seen_above, saved_as, CountersStand, Stands, by_number}
+use Rattle.wm_state.specs.Standing.{stored_at, seen_at, own_at, newest_first, latest, shown, owned, seen, seen_above, is_above, have_ends, saved_as, CountersStand, Stands, by_number}
 use Rattle.wm_state.specs.Effects.{Forked, node_under}
 use Rattle.wm_state.proofs.Frames.{Framed, KeepRows, OnceStand-same, HasRows-kept, SavepointsStand-framed, KeptStand-framed, KeptOwnStand-framed, BasesStand-framed, EndsStand-framed, RowsStand-framed}
 use Rattle.wm_state.proofs.Above.{above-beside, above-under, pieces_lower}

@@ -4,7 +4,7 @@
 -- is as before. Where no savepoint and no workspace is new, the record Framed gives the last five: SavepointsStand-framed and so on;
 -- and EndsStand-framed.
 -- The module Keeping has the like for the rules, and Named what the rules say of versions that savepoints and workspaces name.
-use Rattle.std.proofs.Common.{true, ◌≡◌, ℕ, ◌<◌, ◌==◌, ◌&&◌, List, [], map, length, Option, Some, None, is_some, refl, sym, ap, ◌∙◌, ◌⊎◌, inl, ⊎_elim}
+use Rattle.std.proofs.Common.{◌≡◌, ℕ, ◌<◌, ◌==◌, ◌&&◌, true, List, [], map, length, Option, Some, None, is_some, refl, sym, ap, ◌∙◌, ◌⊎◌, inl, ⊎_elim}
 use Rattle.std.specs.List.{All, filter, find}
 use Rattle.std.specs.Option.{option_map}
 use Rattle.wm_base.specs.declared.row.Row.{Row}
@@ -15,7 +15,7 @@ use Rattle.wm_spec.specs.declared.record.row.RowRecord.{RowRecord}
 use Rattle.wm_spec.specs.declared.record.savepoint.Savepoint.{Savepoint as Record}
 use Rattle.wm_spec.specs.declared.record.space.Space.{Space}
 use Rattle.wm_state.specs.State.{State, Workspace, Savepoint, content, kept, workspace_of, with_space, savepoint_made, savepoints_of, log_of}
-use Rattle.wm_state.specs.Standing.{have_ends, latest, EndsStand, held_of, seen, seen_above, saved_fields, fields_saved, by_making, saved_in, saved_as, OnceStand, SavepointsStand, KeptStand, KeptOwnStand, BasesStand, RowsStand, HasRow, HasRows}
+use Rattle.wm_state.specs.Standing.{held_of, latest, seen, seen_above, have_ends, saved_fields, fields_saved, by_making, saved_in, saved_as, OnceStand, SavepointsStand, KeptStand, KeptOwnStand, BasesStand, EndsStand, RowsStand, HasRow, HasRows}
 use Rattle.wm_state.proofs.Changing.{length-changed, differ-changed}
 
 -- ---- workspaces and what they show

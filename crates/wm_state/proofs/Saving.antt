@@ -12,7 +12,7 @@ use Rattle.wm_spec.specs.declared.record.savepoint.Savepoint.{Savepoint as Recor
 use Rattle.wm_spec.specs.declared.record.space.Space.{Space}
 use Rattle.wm_tree.specs.Versions.{latest_in}
 use Rattle.wm_state.specs.State.{State, Workspace, Savepoint, Contents, content, kept, workspace_of, with_space, with_savepoint, savepoint_made, savepoints_of, log_of}
-use Rattle.wm_state.specs.Standing.{have_ends, newest_first, EndsStand, held_of, latest, shown, owned, seen, seen_above, SpaceFields, fields_of, fields_in, saved_fields, fields_saved, by_making, saved_in, saved_as, by_number, CountersStand, SpacesStand, SavepointsStand, KeptStand, KeptOwnStand, HasRows, RowsStand, Stands}
+use Rattle.wm_state.specs.Standing.{held_of, newest_first, latest, shown, owned, seen, seen_above, have_ends, SpaceFields, fields_of, fields_in, saved_fields, fields_saved, by_making, saved_in, saved_as, by_number, CountersStand, SpacesStand, SavepointsStand, KeptStand, KeptOwnStand, EndsStand, HasRows, RowsStand, Stands}
 use Rattle.wm_state.specs.Effects.{Saved, marked}
 use Rattle.wm_state.proofs.Changing.{workspace_of-changed}
 use Rattle.wm_state.proofs.Frames.{StillNames, savepoints_of-found, OnceStand-changed, KeepRows, HasRows-kept, HasRows-same}

@@ -3,14 +3,14 @@ use Rattle.std.proofs.Common.{◌≡◌, ◌≢◌, ℕ, ◌<◌, nat_lt, true, 
 use Rattle.std.proofs.lemmas.Bool.{eq-eqb, ne_eqb}
 use Rattle.std.specs.List.{list_all}
 use Rattle.wm_graph.specs.Parts.{Parts}
+use Rattle.wm_graph.specs.Rules.{keep_rules}
 use Rattle.wm_spec.specs.Lists.{Entry, Cell}
 use Rattle.wm_spec.specs.declared.record.version.Version.{Version}
 use Rattle.wm_tree.specs.Versions.{grow, AllBelow}
 use Rattle.wm_tree.specs.declared.version.Version.{Version as Node}
-use Rattle.wm_state.specs.Standing.{have_ends, is_above, node_of, stored_at, seen_at, own_at, newest_first, latest, seen, seen_above}
+use Rattle.wm_state.specs.Standing.{node_of, stored_at, seen_at, own_at, newest_first, latest, seen, seen_above, is_above, have_ends}
 use Rattle.wm_state.proofs.Above.{above-itself, above-beside, above-under, pieces_lower}
 use Rattle.wm_state.proofs.Ending.{all_end, all_end-fewer, all_end-none}
-use Rattle.wm_graph.specs.Rules.{keep_rules}
 use Rattle.wm_state.proofs.Tests.{both}
 use Rattle.wm_state.proofs.Forking.{latest-below, own-none, seen-beside, own-beside, seen-under, own-under}
 

@@ -12,8 +12,9 @@ use Rattle.wm_spec.specs.Lists.{Entry, Cell, Told, told, touched}
 use Rattle.wm_spec.specs.declared.record.row.RowRecord.{RowRecord}
 use Rattle.wm_spec.specs.declared.record.space.Space.{Space}
 use Rattle.wm_spec.proofs.Lists.{told-append}
+use Rattle.wm_tree.specs.Versions.{latest_in}
 use Rattle.wm_state.specs.State.{State, Workspace, content, workspace_of, with_space, with_entries, savepoints_of, log_of}
-use Rattle.wm_state.specs.Standing.{have_ends, is_above, EndsStand, held_of, stored_at, seen_at, own_at, newest_first, latest, seen, fields_of, fields_in, CountersStand, SpacesStand, LatestStand, OwnStand, HasRow, RowsStand, HistsStand, Stands, SpaceFields, by_number}
+use Rattle.wm_state.specs.Standing.{held_of, stored_at, seen_at, own_at, newest_first, latest, seen, is_above, have_ends, fields_of, fields_in, CountersStand, SpacesStand, LatestStand, OwnStand, EndsStand, HasRow, RowsStand, HistsStand, Stands, SpaceFields, by_number}
 use Rattle.wm_state.specs.Entries.{hists_from}
 use Rattle.wm_state.specs.Writes.{AreAllLaid, longer_by, WroteAll}
 use Rattle.wm_state.proofs.Frames.{Framed, Still, StillNames, OnceStand-changed, row-kept, savepoints_of-found, savepoints_of-none, SavepointsStand-framed, KeptStand-framed, KeptOwnStand-framed, BasesStand-framed, EndsStand-framed, RowsStand-framed}
@@ -23,7 +24,6 @@ use Rattle.wm_state.proofs.Above.{above-leaf}
 use Rattle.wm_state.proofs.Ending.{all_end, all_end-drawn, more-ends}
 use Rattle.wm_state.proofs.DrawingEnds.{more-front, more-behind}
 use Rattle.wm_state.proofs.Tests.{bool_apart}
-use Rattle.wm_tree.specs.Versions.{latest_in}
 use Rattle.wm_state.proofs.Changing.{workspace_of-changed}
 
 -- ---- a workspace with more entries
