@@ -4,12 +4,14 @@ use Rattle.std.proofs.lemmas.Bool.{cases_eq, eq-eqb, ne_eqb}
 use Rattle.std.specs.List.{list_all}
 use Rattle.wm_graph.specs.Parts.{Parts, table_of, row_of, version_of}
 use Rattle.wm_graph.specs.Rules.{keep_rules, differ, collide, is_piece}
+use Rattle.wm_spec.specs.Lists.{Entry}
 use Rattle.wm_spec.specs.declared.record.piece.PieceRecord.{PieceRecord}
 use Rattle.wm_tree.specs.Versions.{AllBelow}
 use Rattle.wm_tree.specs.declared.version.Version.{Version as Node}
 use Rattle.wm_state.specs.Effects.{IsLeaf}
 use Rattle.wm_state.specs.Standing.{newest_first, is_above}
 use Rattle.wm_state.proofs.Apart.{Ruled, ruled}
+use Rattle.wm_state.proofs.Ending.{all_end, all_end-fewer}
 use Rattle.wm_state.proofs.Named.{version_below}
 use Rattle.wm_state.proofs.Tests.{both, all_if}
 
@@ -40,6 +42,25 @@ above-leaf leaf base (x ∷ older) is v other = by_test (v == base) (x.number ==
     by_test true b up along = refl
     by_test false true up along = rw (other, up) refl
     by_test false false up along = along
+
+-- ---- where pieces end, under a version more
+
+-- what stands on the path of a version beside the newest one ends where it did
+pub ends-beside : (x : Node) (older : List Node) (base v : ℕ) (es : List Entry) (xs : List PieceRecord) → v < x.number → list_all (λ (y : PieceRecord). nat_lt y.version x.number) xs ≡ true
+    → all_end (is_above older base v) es xs ≡ true → all_end (is_above (x ∷ older) base v) es xs ≡ true
+ends-beside x older base v es xs lt lower e =
+    all_end-fewer (is_above older base v) (is_above (x ∷ older) base v) x.number es xs (λ k less is. sym (above-beside x older base v k lt) ∙ is) lower e
+
+-- and the newest one has no piece of its own
+pub ends-under : (x : Node) (older : List Node) (base : ℕ) (es : List Entry) (xs : List PieceRecord) → (x.number == base) ≡ false → list_all (λ (y : PieceRecord). nat_lt y.version x.number) xs ≡ true
+    → all_end (is_above older base x.parent) es xs ≡ true → all_end (is_above (x ∷ older) base x.number) es xs ≡ true
+ends-under x older base es xs above lower e =
+    all_end-fewer (is_above older base x.parent) (is_above (x ∷ older) base x.number) x.number es xs (λ k less is. sym (above-under x older base k above less) ∙ is) lower e
+
+-- nothing is above a version on its own path, so all of it ends where it may
+pub ends-itself : (nodes : List Node) (base : ℕ) (es : List Entry) (xs : List PieceRecord) → all_end (is_above nodes base base) es xs ≡ true
+ends-itself nodes base es [] = refl
+ends-itself nodes base es (x ∷ xs) = rw (above-itself nodes base x.version) (ends-itself nodes base es xs)
 
 -- ---- the versions of pieces
 

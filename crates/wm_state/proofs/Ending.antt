@@ -44,16 +44,6 @@ all_end-fewer on off number es (x ∷ xs) fewer lower e =
     less : (m n : ℕ) → nat_lt m n ≡ true → m < n
     less m n lt = grind (arith, lt)
 
--- of no version at all
-pub all_end-none : (off : ℕ → Bool) (number : ℕ) (es : List Entry) (xs : List PieceRecord) → ((k : ℕ) → k < number → off k ≡ false) → list_all (λ (x : PieceRecord). nat_lt x.version number) xs ≡ true
-    → all_end off es xs ≡ true
-all_end-none off number es xs none lower =
-    all_if (λ (x : PieceRecord). nat_lt x.version number) (λ (x : PieceRecord). if off x.version then has_ends es x.cells else true)
-    (λ x lt. rw (none x.version (less x.version number lt)) refl) xs lower
-  where
-    less : (m n : ℕ) → nat_lt m n ≡ true → m < n
-    less m n lt = grind (arith, lt)
-
 -- ---- more entries
 
 -- each end of the first entries is one of the second

@@ -14,8 +14,8 @@ use Rattle.wm_state.specs.State.{State, content, workspace_of, savepoints_of, lo
 use Rattle.wm_state.specs.Standing.{stored_at, seen_at, own_at, newest_first, latest, shown, owned, seen, seen_above, is_above, have_ends, saved_as, CountersStand, Stands, by_number}
 use Rattle.wm_state.specs.Effects.{Forked, node_under}
 use Rattle.wm_state.proofs.Frames.{Framed, KeepRows, OnceStand-same, HasRows-kept, SavepointsStand-framed, KeptStand-framed, KeptOwnStand-framed, BasesStand-framed, EndsStand-framed, RowsStand-framed}
-use Rattle.wm_state.proofs.Above.{above-beside, above-under, pieces_lower}
-use Rattle.wm_state.proofs.Ending.{all_end, all_end-fewer}
+use Rattle.wm_state.proofs.Above.{ends-beside, ends-under, pieces_lower}
+use Rattle.wm_state.proofs.Ending.{all_end}
 use Rattle.wm_state.proofs.Logging.{HistsStand-frame, logs-kept}
 use Rattle.wm_state.proofs.Named.{saved_there, saved_base_there, bases_there, version_there, version_below}
 
@@ -94,39 +94,27 @@ above-forked p q n number f base v lt c =
     ∙ ap (λ pieces. own_at pieces (node_under p n number ∷ newest_first p.versions) base v c) f.pieces
     ∙ own-beside p.pieces (node_under p n number) (newest_first p.versions) base v c lt
 
--- and has on its path above a base what it had
-on-forked : (p q : Parts) (n number : ℕ) → Forked p q n number → (base v : ℕ) → v < number → (k : ℕ) → is_above (newest_first q.versions) base v k ≡ is_above (newest_first p.versions) base v k
-on-forked p q n number f base v lt k = ap (λ nodes. is_above nodes base v k) f.versions ∙ above-beside (node_under p n number) (newest_first p.versions) base v k lt
+-- and what stands on its path ends where it did
+ends-in : (p q : Parts) (n number : ℕ) → Forked p q n number → (base v : ℕ) (es : List Entry) → have_ends q base v es ≡ all_end (is_above (node_under p n number ∷ newest_first p.versions) base v) es p.pieces
+ends-in p q n number f base v es = ap (λ nodes. all_end (is_above nodes base v) es q.pieces) f.versions ∙ ap (all_end (is_above (node_under p n number ∷ newest_first p.versions) base v) es) f.pieces
 
--- so what stands there ends where it did
 ends-forked : (p q : Parts) (n number : ℕ) → Forked p q n number → keep_rules p ≡ true → (base v : ℕ) → v < number → (es : List Entry) → have_ends p base v es ≡ true → have_ends q base v es ≡ true
-ends-forked p q n number f rules base v lt es e =
-    ap (all_end (is_above (newest_first q.versions) base v) es) f.pieces
-    ∙ all_end-fewer (is_above (newest_first p.versions) base v) (is_above (newest_first q.versions) base v) number es p.pieces (λ k less is. sym (on-forked p q n number f base v lt k) ∙ is)
-    (pieces_lower p rules number f.below) e
+ends-forked p q n number f rules base v lt es e = ends-in p q n number f base v es ∙ ends-beside (node_under p n number) (newest_first p.versions) base v es p.pieces lt (pieces_lower p rules number f.below) e
 
--- and the workspace's newest version has nothing of its own
+-- so it is on the path of the newest version of each workspace
 own-ends-forked : (p q : Parts) (n number : ℕ) → Forked p q n number → keep_rules p ≡ true → (m : ℕ) (r : Space) → space_of p.spaces m ≡ Some r → (es : List Entry)
     → have_ends p r.base_version (latest p m) es ≡ true → have_ends q r.base_version (latest q m) es ≡ true
-own-ends-forked p q n number f rules m r found es e = by_space (cases_eq n m)
+own-ends-forked p q n number f rules m r found es e = ap (λ nodes. have_ends q r.base_version (latest_in nodes m) es) f.versions ∙ by_space (cases_eq n m)
   where
-    newest : latest q m ≡ cond (n == m) number (latest p m)
-    newest = ap (λ nodes. latest_in nodes m) f.versions
-
-    by_space : (n ≡ m) ⊎ (n ≢ m) → have_ends q r.base_version (latest q m) es ≡ true
+    by_space : (n ≡ m) ⊎ (n ≢ m) → have_ends q r.base_version (cond (n == m) number (latest p m)) es ≡ true
     by_space (inl same) =
-        let here : latest q m ≡ number = newest ∙ ap (λ b. cond b number (latest p m)) (eq-eqb _ _ same) in
-        let on : (k : ℕ) → k < number → is_above (newest_first q.versions) r.base_version (latest q m) k ≡ is_above (newest_first p.versions) r.base_version (latest p m) k = λ k lt.
-        ap (λ nodes. is_above nodes r.base_version (latest q m) k) f.versions
-        ∙ ap (λ v. is_above (node_under p n number ∷ newest_first p.versions) r.base_version v k) here
-        ∙ above-under (node_under p n number) (newest_first p.versions) r.base_version k (f.above r (ap (space_of p.spaces) same ∙ found)) lt
-        ∙ ap (λ i. is_above (newest_first p.versions) r.base_version (latest p i) k) same in
-        ap (all_end (is_above (newest_first q.versions) r.base_version (latest q m)) es) f.pieces
-        ∙ all_end-fewer (is_above (newest_first p.versions) r.base_version (latest p m)) (is_above (newest_first q.versions) r.base_version (latest q m)) number es p.pieces (λ k less is. sym (on k less) ∙ is)
-        (pieces_lower p rules number f.below) e
+        ap (λ b. have_ends q r.base_version (cond b number (latest p m)) es) (eq-eqb _ _ same)
+        ∙ ends-in p q n number f r.base_version number es
+        ∙ ends-under (node_under p n number) (newest_first p.versions) r.base_version es p.pieces (f.above r (ap (space_of p.spaces) same ∙ found)) (pieces_lower p rules number f.below)
+        (ap (λ k. have_ends p r.base_version (latest p k) es) same ∙ e)
     by_space (inr other) =
-        let away : latest q m ≡ latest p m = newest ∙ ap (λ b. cond b number (latest p m)) (ne_eqb _ _ other) in
-        ap (λ v. have_ends q r.base_version v es) away ∙ ends-forked p q n number f rules r.base_version (latest p m) (latest-below number (newest_first p.versions) m f.some f.below) es e
+        ap (λ b. have_ends q r.base_version (cond b number (latest p m)) es) (ne_eqb _ _ other)
+        ∙ ends-forked p q n number f rules r.base_version (latest p m) (latest-below number (newest_first p.versions) m f.some f.below) es e
 
 -- all versions that are named are of before
 framed_forked : (p q : Parts) (s t : State) (n number : ℕ) → Forked p q n number → keep_rules p ≡ true → t.spaces ≡ s.spaces → Framed p q s t

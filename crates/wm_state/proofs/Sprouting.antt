@@ -9,8 +9,8 @@ use Rattle.wm_spec.specs.declared.record.version.Version.{Version}
 use Rattle.wm_tree.specs.Versions.{grow, AllBelow}
 use Rattle.wm_tree.specs.declared.version.Version.{Version as Node}
 use Rattle.wm_state.specs.Standing.{node_of, stored_at, seen_at, own_at, newest_first, latest, seen, seen_above, is_above, have_ends}
-use Rattle.wm_state.proofs.Above.{above-itself, above-beside, above-under, pieces_lower}
-use Rattle.wm_state.proofs.Ending.{all_end, all_end-fewer, all_end-none}
+use Rattle.wm_state.proofs.Above.{ends-beside, ends-under, ends-itself, pieces_lower}
+use Rattle.wm_state.proofs.Ending.{all_end}
 use Rattle.wm_state.proofs.Tests.{both}
 use Rattle.wm_state.proofs.Forking.{latest-below, own-none, seen-beside, own-beside, seen-under, own-under}
 
@@ -62,27 +62,19 @@ above-sprout p q x s c lt =
 
 -- ---- where pieces end
 
--- on the path of what was there before is what was on it
-on-before : (p q : Parts) (x : Node) → Sprouted p q x → (base v : ℕ) → v < x.number → (k : ℕ) → is_above (newest_first q.versions) base v k ≡ is_above (newest_first p.versions) base v k
-on-before p q x s base v lt k = ap (λ nodes. is_above nodes base v k) s.versions ∙ above-beside x (newest_first p.versions) base v k lt
+ends-in : (p q : Parts) (x : Node) → Sprouted p q x → (base v : ℕ) (es : List Entry) → have_ends q base v es ≡ all_end (is_above (x ∷ newest_first p.versions) base v) es p.pieces
+ends-in p q x s base v es = ap (λ nodes. all_end (is_above nodes base v) es q.pieces) s.versions ∙ ap (all_end (is_above (x ∷ newest_first p.versions) base v) es) s.pieces
 
--- so what stands there ends where it did
+-- what stands on the path of what was there before ends where it did
 pub ends-before : (p q : Parts) (x : Node) → Sprouted p q x → keep_rules p ≡ true → (base v : ℕ) → v < x.number → (es : List Entry) → have_ends p base v es ≡ true → have_ends q base v es ≡ true
-ends-before p q x s rules base v lt es e =
-    ap (all_end (is_above (newest_first q.versions) base v) es) s.pieces
-    ∙ all_end-fewer (is_above (newest_first p.versions) base v) (is_above (newest_first q.versions) base v) x.number es p.pieces (λ k less is. sym (on-before p q x s base v lt k) ∙ is)
-    (pieces_lower p rules x.number s.below) e
+ends-before p q x s rules base v lt es e = ends-in p q x s base v es ∙ ends-beside x (newest_first p.versions) base v es p.pieces lt (pieces_lower p rules x.number s.below) e
 
 -- and the new version has no piece above its parent
 pub ends-sprout : (p q : Parts) (x : Node) → Sprouted p q x → keep_rules p ≡ true → x.parent < x.number → (es : List Entry) → have_ends q x.parent x.number es ≡ true
 ends-sprout p q x s rules lt es =
-    ap (all_end (is_above (newest_first q.versions) x.parent x.number) es) s.pieces
-    ∙ all_end-none (is_above (newest_first q.versions) x.parent x.number) x.number es p.pieces
-    (λ k less.
-    ap (λ nodes. is_above nodes x.parent x.number k) s.versions
-    ∙ above-under x (newest_first p.versions) x.parent k (ne_eqb x.number x.parent (λ same. omega (arith, lt, same))) less
-    ∙ above-itself (newest_first p.versions) x.parent k)
-    (pieces_lower p rules x.number s.below)
+    ends-in p q x s x.parent x.number es
+    ∙ ends-under x (newest_first p.versions) x.parent es p.pieces (ne_eqb x.number x.parent (λ same. omega (arith, lt, same))) (pieces_lower p rules x.number s.below)
+    (ends-itself (newest_first p.versions) x.parent es p.pieces)
 
 -- ---- the newest version of each workspace
 
