@@ -11,14 +11,14 @@ use Rattle.wm_spec.specs.declared.record.savepoint.Savepoint.{Savepoint as Recor
 use Rattle.wm_spec.specs.declared.record.space.Space.{Space}
 use Rattle.wm_tree.specs.declared.version.Version.{Version as Node}
 use Rattle.wm_state.specs.State.{State, Workspace, Savepoint, content, kept, workspace_of, savepoint_made, savepoints_of, log_of}
-use Rattle.wm_state.specs.Standing.{held_of, fields_of, fields_in, saved_fields, fields_saved, by_making, saved_in, saved_as, by_number, latest, seen, seen_above, shown, owned, newest_first, first_in, Climbs, Up, SpaceFields, HasRows, CountersStand, Stands}
+use Rattle.wm_state.specs.Standing.{held_of, fields_of, fields_in, saved_fields, fields_saved, by_making, saved_in, saved_as, by_number, latest, seen, seen_above, shown, owned, newest_first, first_in, Climbs, Up, SpaceFields, HasRows, CountersStand, Stands, have_ends}
 use Rattle.wm_state.specs.Effects.{Born}
 use Rattle.wm_state.proofs.Tests.{bool_apart, either_false, differ_push, found_fails}
 use Rattle.wm_state.proofs.FirstIn.{IsOf, ruled_of, of-less, first-itself}
 use Rattle.wm_state.proofs.Climbing.{Stays, Carries, Carried, Climbs-carried, ordered_of, parent_apart, carried, carries-more, first-sprout}
 use Rattle.wm_state.proofs.Logging.{HistsStand-frame, log_of-found, log_of-none, log_of-same, logs-kept}
 use Rattle.wm_state.proofs.Mapped.{none-found}
-use Rattle.wm_state.proofs.Sprouting.{Sprouted, seen-before, above-before, seen-sprout, above-sprout, newest-here, newest-away, newest-lower}
+use Rattle.wm_state.proofs.Sprouting.{Sprouted, seen-before, above-before, seen-sprout, above-sprout, newest-here, newest-away, newest-lower, ends-before, ends-sprout}
 use Rattle.wm_state.proofs.Named.{saved_space, saved_there, saved_base_there, bases_there, version_there, version_below}
 
 -- the workspace that is born: its record has its fields, it has no changes and no savepoints, and it sees what its parent's version saw,
@@ -124,6 +124,9 @@ Stands-born p q s t r number w es b st child spaces tables counters rules = reco
     bases = λ m new y some is recorded. base_path m new y some (workspace_is m new is) (record_is m y recorded);
     kept_bases = λ m making new y some is recorded.
         kept_base_path m making new y some (workspace_is m new is) (ap (λ ks. find (λ (z : Record). (z.space == m) && (z.making == making)) ks) (sym b.savepoints) ∙ recorded);
+  ends = record {
+    own = λ m new x is recorded. own_ends m new x (workspace_is m new is) (record_is m x recorded);
+    kept = λ m making new k x is made recorded still. kept_ends m making new k x (workspace_is m new is) made (ap (λ ks. find (λ (z : Record). (z.space == m) && (z.making == making)) ks) (sym b.savepoints) ∙ recorded) still;
   };
   rows = record {
     there = λ m new is. rows_there m new (workspace_is m new is);
@@ -216,6 +219,18 @@ Stands-born p q s t r number w es b st child spaces tables counters rules = reco
         ∙ ap is_some (above-before p q x grown y.base_version (latest p m) c (newest-lower p q x grown m))
         ∙ st.own.covered m new y h.1 k.1 c
 
+    own_ends : (m : ℕ) (new : Workspace) (y : Space) → Is (workspace_of s.spaces m) r.number m w new → Is (space_of p.spaces m) r.number m r y → have_ends q y.base_version (latest q m) new.lists.own ≡ true
+    own_ends m new y (inl h) (inl k) =
+        ap (λ (z : Space). have_ends q z.base_version (latest q m) new.lists.own) k.1
+        ∙ ap (λ j. have_ends q r.base_version (latest q j) new.lists.own) h.0
+        ∙ ap (λ j. have_ends q r.base_version j new.lists.own) (newest-here p q x grown)
+        ∙ ends-sprout p q x grown st.rules base_lower new.lists.own
+    own_ends m new y (inl h) (inr k) = absurd (k.0 h.0)
+    own_ends m new y (inr h) (inl k) = absurd (h.0 k.0)
+    own_ends m new y (inr h) (inr k) =
+        ap (λ j. have_ends q y.base_version j new.lists.own) (newest-away p q x grown m h.0)
+        ∙ ends-before p q x grown st.rules y.base_version (latest p m) (newest-lower p q x grown m) new.lists.own (st.ends.own m new y h.1 k.1)
+
     -- no savepoint is the child's
     saved_child : saved_in p r.number ≡ []
     saved_child = ap by_making (none_kept (λ (y : Record). y.space == r.number) p.savepoints b.unsaved)
@@ -260,6 +275,13 @@ Stands-born p q s t r number w es b st child spaces tables counters rules = reco
     kept_covered m making new k y c (inr h) made recorded still =
         ap is_some (above-before p q x grown y.base_version y.version c (recorded_lower y.version (version_there (version_of p.versions) y.version m (saved_there p st.rules m making y recorded).version)))
         ∙ st.kept_own.covered m making new k y h.1 made recorded still c
+
+    kept_ends : (m making : ℕ) (new : Workspace) (k : Savepoint) (y : Record) → Is (workspace_of s.spaces m) r.number m w new → savepoint_made making new.savepoints ≡ Some k → saved_as p m making ≡ Some y
+        → k.rebases ≡ new.rebases → have_ends q y.base_version y.version k.own ≡ true
+    kept_ends m making new k y (inl h) made recorded still = absurd (made_none making new k h.1 made)
+    kept_ends m making new k y (inr h) made recorded still =
+        ends-before p q x grown st.rules y.base_version y.version (recorded_lower y.version (version_there (version_of p.versions) y.version m (saved_there p st.rules m making y recorded).version)) k.own
+        (st.ends.kept m making new k y h.1 made recorded still)
 
     -- what is seen under the child
     child_seen : (c : Cell) → seen q r.base_version c ≡ option_map held_of (told es c)

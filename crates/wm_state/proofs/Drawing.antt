@@ -20,12 +20,13 @@ use Rattle.wm_state.proofs.Laying.{key_same, key_itself, stored-append}
 use Rattle.wm_state.proofs.Tests.{both, bool_apart, and_true, not_true, none_if, all_if}
 use Rattle.wm_state.proofs.DrawingHeld.{last_append, over_held, place_of}
 use Rattle.wm_state.proofs.DrawingApart.{all_over, over_differ}
+use Rattle.wm_state.proofs.DrawingEnds.{more-front, more-behind, more-both, more-passed, has_both, ends-more, ends-of, ends-over}
 
 -- ---- over one place
 
 -- nothing new
 pub drawn-old : (old : List PieceRecord) → differ collide old ≡ true → AreDrawn [] old old
-drawn-old old apart = record { held = λ w c. refl; differ = apart; pass = λ test parts passed new. passed }
+drawn-old old apart = record { held = λ w c. refl; differ = apart; pass = λ test parts passed new. passed; ends = ends-of old (old ++ []) (more-front old []) }
 
 pub drawn-nothing : AreDrawn [] [] []
 drawn-nothing = drawn-old [] refl
@@ -42,6 +43,10 @@ drawn-over news old drawn new so lasts = record {
   pass = λ test parts olds passed.
       let h = apart_all test news passed in
       and_true (test new) (list_all test (flat_map (left_by new) drawn)) h.1 (all_over test new parts drawn (so.pass test parts olds h.0));
+  ends =
+      let all : List PieceRecord = old ++ (news ++ new ∷ []) in
+      ends-over all new drawn (λ P e. more-behind old (news ++ new ∷ []) P (more-behind news (new ∷ []) P e))
+      (ends-more (old ++ news) all drawn (more-both old news all (more-front old (news ++ new ∷ [])) (λ P e. more-behind old (news ++ new ∷ []) P (more-front news (new ∷ []) P e))) so.ends);
 }
   where
     apart_all : (test : PieceRecord → Bool) (xs : List PieceRecord) → list_all test (xs ++ new ∷ []) ≡ true → (list_all test xs ≡ true) × (test new ≡ true)
@@ -145,6 +150,13 @@ drawn-more version table key ns xs ds ms ys es first second ns_out xs_out ms_in 
       let o = all_apart test xs ys olds in
       let n = all_apart test ns ms news in
       all_append test ds es (first.pass test parts o.0 n.0) (second.pass test parts o.1 n.1);
+  ends =
+      let all : List PieceRecord = (xs ++ ys) ++ (ns ++ ms) in
+      all_append (has_both all) ds es
+      (ends-more (xs ++ ns) all ds
+      (more-both xs ns all (λ P e. more-front (xs ++ ys) (ns ++ ms) P (more-front xs ys P e)) (λ P e. more-behind (xs ++ ys) (ns ++ ms) P (more-front ns ms P e))) first.ends)
+      (ends-more (ys ++ ms) all es
+      (more-both ys ms all (λ P e. more-front (xs ++ ys) (ns ++ ms) P (more-behind xs ys P e)) (λ P e. more-behind (xs ++ ys) (ns ++ ms) P (more-behind ns ms P e))) second.ends);
 }
   where
     here : (a b d e : Option Held) → a ≡ nothing → b ≡ nothing → option_or (option_or a b) (option_or d e) ≡ option_or (option_or d a) (option_or b e)
@@ -169,4 +181,5 @@ drawn-same news xs ys drawn held passed so = record {
   held = λ w c. so.held w c ∙ ap (option_or (stored_last news w c)) (held w c);
   differ = so.differ;
   pass = λ test parts olds news_pass. so.pass test parts (passed test olds) news_pass;
+  ends = ends-more (xs ++ news) (ys ++ news) drawn (more-both xs news (ys ++ news) (λ P e. more-front ys news P (more-passed xs ys passed P e)) (more-behind ys news)) so.ends;
 }

@@ -4,17 +4,19 @@ use Rattle.std.proofs.lemmas.Bool.{cases_eq, eq-eqb, ne_eqb}
 use Rattle.wm_graph.specs.Parts.{Parts, space_of, version_of, row_of}
 use Rattle.wm_graph.specs.Rules.{keep_rules, is_version_of}
 use Rattle.wm_period.specs.Pieces.{Held}
-use Rattle.wm_spec.specs.Lists.{Cell}
+use Rattle.wm_spec.specs.Lists.{Entry, Cell}
 use Rattle.wm_spec.specs.declared.record.piece.PieceRecord.{PieceRecord}
 use Rattle.wm_spec.specs.declared.record.savepoint.Savepoint.{Savepoint}
 use Rattle.wm_spec.specs.declared.record.space.Space.{Space}
 use Rattle.wm_tree.specs.Versions.{latest_in, AllBelow}
 use Rattle.wm_tree.specs.declared.version.Version.{Version as Node}
 use Rattle.wm_state.specs.State.{State, Workspace, content, workspace_of, savepoints_of, log_of}
-use Rattle.wm_state.specs.Standing.{stored_at, seen_at, own_at, newest_first, latest, shown, owned, seen, seen_above, saved_as, Climbs, CountersStand, Stands, by_number}
+use Rattle.wm_state.specs.Standing.{stored_at, seen_at, own_at, newest_first, latest, shown, owned, seen, seen_above, saved_as, Climbs, CountersStand, Stands, by_number, is_above, have_ends}
 use Rattle.wm_state.specs.Effects.{Forked, node_under}
-use Rattle.wm_state.proofs.Frames.{Framed, KeepRows, OnceStand-same, HasRows-kept, SavepointsStand-framed, KeptStand-framed, KeptOwnStand-framed, BasesStand-framed, RowsStand-framed}
+use Rattle.wm_state.proofs.Frames.{Framed, KeepRows, OnceStand-same, HasRows-kept, SavepointsStand-framed, KeptStand-framed, KeptOwnStand-framed, BasesStand-framed, RowsStand-framed, EndsStand-framed}
 use Rattle.wm_state.proofs.Climbing.{ordered_of, carried, carries-more, stays-same, Climbs-sprout, PathsStand-framed}
+use Rattle.wm_state.proofs.Above.{ends-beside, ends-under, pieces_lower}
+use Rattle.wm_state.proofs.Ending.{all_end}
 use Rattle.wm_state.proofs.Logging.{HistsStand-frame, logs-kept}
 use Rattle.wm_state.proofs.Named.{saved_there, saved_base_there, bases_there, version_there, version_below}
 
@@ -93,6 +95,28 @@ above-forked p q n number f base v lt c =
     ∙ ap (λ pieces. own_at pieces (node_under p n number ∷ newest_first p.versions) base v c) f.pieces
     ∙ own-beside p.pieces (node_under p n number) (newest_first p.versions) base v c lt
 
+-- and what stands on its path ends where it did
+ends-in : (p q : Parts) (n number : ℕ) → Forked p q n number → (base v : ℕ) (es : List Entry) → have_ends q base v es ≡ all_end (is_above (node_under p n number ∷ newest_first p.versions) base v) es p.pieces
+ends-in p q n number f base v es = ap (λ nodes. all_end (is_above nodes base v) es q.pieces) f.versions ∙ ap (all_end (is_above (node_under p n number ∷ newest_first p.versions) base v) es) f.pieces
+
+ends-forked : (p q : Parts) (n number : ℕ) → Forked p q n number → keep_rules p ≡ true → (base v : ℕ) → v < number → (es : List Entry) → have_ends p base v es ≡ true → have_ends q base v es ≡ true
+ends-forked p q n number f rules base v lt es e = ends-in p q n number f base v es ∙ ends-beside (node_under p n number) (newest_first p.versions) base v es p.pieces lt (pieces_lower p rules number f.below) e
+
+-- so it is on the path of the newest version of each workspace
+own-ends-forked : (p q : Parts) (n number : ℕ) → Forked p q n number → keep_rules p ≡ true → (m : ℕ) (r : Space) → space_of p.spaces m ≡ Some r → (es : List Entry)
+    → have_ends p r.base_version (latest p m) es ≡ true → have_ends q r.base_version (latest q m) es ≡ true
+own-ends-forked p q n number f rules m r found es e = ap (λ nodes. have_ends q r.base_version (latest_in nodes m) es) f.versions ∙ by_space (cases_eq n m)
+  where
+    by_space : (n ≡ m) ⊎ (n ≢ m) → have_ends q r.base_version (cond (n == m) number (latest p m)) es ≡ true
+    by_space (inl same) =
+        ap (λ b. have_ends q r.base_version (cond b number (latest p m)) es) (eq-eqb _ _ same)
+        ∙ ends-in p q n number f r.base_version number es
+        ∙ ends-under (node_under p n number) (newest_first p.versions) r.base_version es p.pieces (f.above r (ap (space_of p.spaces) same ∙ found)) (pieces_lower p rules number f.below)
+        (ap (λ k. have_ends p r.base_version (latest p k) es) same ∙ e)
+    by_space (inr other) =
+        ap (λ b. have_ends q r.base_version (cond b number (latest p m)) es) (ne_eqb _ _ other)
+        ∙ ends-forked p q n number f rules r.base_version (latest p m) (latest-below number (newest_first p.versions) m f.some f.below) es e
+
 -- all versions that are named are of before
 framed_forked : (p q : Parts) (s t : State) (n number : ℕ) → Forked p q n number → keep_rules p ≡ true → t.spaces ≡ s.spaces → Framed p q s t
 framed_forked p q s t n number f rules spaces = record {
@@ -105,6 +129,7 @@ framed_forked p q s t n number f rules spaces = record {
   under = λ m making x some found. seen-forked p q n number f x.base_version (version_below p rules number f.below x.base_version (saved_base_there p rules m making x some found));
   births = λ m r some is. seen-forked p q n number f r.birth_version (below r.birth_version r.parent (bases_there p rules m r some is).birth);
   bases = λ m r some is. seen-forked p q n number f r.base_version (below r.base_version r.parent (bases_there p rules m r some is).base);
+  ends = λ m making x found. ends-forked p q n number f rules x.base_version x.version (saved m making x found);
 }
   where
     below : (v space : ℕ) → is_version_of (version_of p.versions) v space ≡ true → v < number
@@ -135,6 +160,11 @@ Stands-forked p q s t n number f st spaces tables counters rules = record {
       (carried p q s t.spaces st.rules st.spaces
       (carries-more p q s.spaces t.spaces (node_under p n number) st.rules f.versions f.below (λ v c lt. seen-forked p q n number f v lt c) (stays-same s.spaces t.spaces spaces)) st.paths)
       (λ m w is climbs. newest_climbs m climbs (cases_eq n m));
+  ends = EndsStand-framed p q s t framed
+      (λ m w r is recorded.
+      let before : space_of p.spaces m ≡ Some r = ap (λ ss. space_of ss m) (sym f.spaces) ∙ recorded in
+      own-ends-forked p q n number f st.rules m r before w.lists.own (st.ends.own m w r (ap (λ ws. workspace_of ws m) (sym spaces) ∙ is) before))
+      st.ends;
   rows = RowsStand-framed p q s t framed rows (λ m w is. HasRows-kept p q rows (content w) (st.rows.there m w (ap (λ ws. workspace_of ws m) (sym spaces) ∙ is))) (logs-kept p q s t rows logs st.rows.logs)
       st.rows;
   hists = HistsStand-frame p q s t f.hists logs st.hists;

@@ -1,9 +1,10 @@
 -- What is kept, clause by clause: a clause holds of the records and the state after an edit where each thing that it looks up is as it
 -- was before, or holds of itself. A law a clause: SpacesStand-frame, OnceStand-frame, LatestStand-frame, OwnStand-frame, SavepointsStand-frame,
 -- KeptStand-frame, KeptOwnStand-frame, BasesStand-frame, RowsStand-frame; the records Shown, Owned, Point and Base say that a look-up
--- is as before. Where no savepoint and no workspace is new, the record Framed gives the last five: SavepointsStand-framed and so on.
+-- is as before. Where no savepoint and no workspace is new, the record Framed gives the last five: SavepointsStand-framed and so on;
+-- and EndsStand-framed.
 -- The module Climbing has the like for the paths of versions and Keeping for the rules, and Named has what the rules say of versions that savepoints and workspaces name.
-use Rattle.std.proofs.Common.{◌≡◌, ℕ, ◌<◌, ◌==◌, ◌&&◌, List, [], map, length, Option, Some, None, is_some, refl, sym, ap, ◌∙◌, ◌⊎◌, inl, ⊎_elim}
+use Rattle.std.proofs.Common.{◌≡◌, ℕ, ◌<◌, ◌==◌, ◌&&◌, true, List, [], map, length, Option, Some, None, is_some, refl, sym, ap, ◌∙◌, ◌⊎◌, inl, ⊎_elim}
 use Rattle.std.specs.List.{All, filter, find}
 use Rattle.std.specs.Option.{option_map}
 use Rattle.wm_base.specs.declared.row.Row.{Row}
@@ -14,7 +15,7 @@ use Rattle.wm_spec.specs.declared.record.row.RowRecord.{RowRecord}
 use Rattle.wm_spec.specs.declared.record.savepoint.Savepoint.{Savepoint as Record}
 use Rattle.wm_spec.specs.declared.record.space.Space.{Space}
 use Rattle.wm_state.specs.State.{State, Workspace, Savepoint, content, kept, workspace_of, with_space, savepoint_made, savepoints_of, log_of}
-use Rattle.wm_state.specs.Standing.{held_of, seen, seen_above, saved_fields, fields_saved, by_making, saved_in, saved_as, OnceStand, SavepointsStand, KeptStand, KeptOwnStand, BasesStand, RowsStand, HasRow, HasRows}
+use Rattle.wm_state.specs.Standing.{held_of, latest, seen, seen_above, have_ends, saved_fields, fields_saved, by_making, saved_in, saved_as, OnceStand, SavepointsStand, KeptStand, KeptOwnStand, BasesStand, EndsStand, RowsStand, HasRow, HasRows}
 use Rattle.wm_state.proofs.Changing.{length-changed, differ-changed}
 
 -- ---- workspaces and what they show
@@ -195,6 +196,7 @@ pub record Framed (p q : Parts) (s t : State) : Type 0 where
   pub under : (n making : ℕ) (x : Record) → 0 < n → saved_as p n making ≡ Some x → (c : Cell) → seen q x.base_version c ≡ seen p x.base_version c
   pub births : (n : ℕ) (r : Space) → 0 < n → space_of p.spaces n ≡ Some r → (c : Cell) → seen q r.birth_version c ≡ seen p r.birth_version c
   pub bases : (n : ℕ) (r : Space) → 0 < n → space_of p.spaces n ≡ Some r → (c : Cell) → seen q r.base_version c ≡ seen p r.base_version c
+  pub ends : (n making : ℕ) (x : Record) → saved_as p n making ≡ Some x → (es : List Entry) → have_ends p x.base_version x.version es ≡ true → have_ends q x.base_version x.version es ≡ true
 
 saved_in-same : (p q : Parts) → q.savepoints ≡ p.savepoints → (n : ℕ) → saved_in q n ≡ saved_in p n
 saved_in-same p q same n = ap (λ xs. by_making (filter (λ (x : Record). x.space == n) xs)) same
@@ -226,6 +228,15 @@ KeptStand-framed p q s t f = KeptStand-frame p q s t (λ n making w k x is point
 
 pub KeptOwnStand-framed : (p q : Parts) (s t : State) → Framed p q s t → KeptOwnStand p s → KeptOwnStand q t
 KeptOwnStand-framed p q s t f = KeptOwnStand-frame p q s t (λ n making w k x is point recorded. inl (point_of p q s t f n making w k x is point recorded))
+
+-- where pieces end, but for the workspaces' own
+pub EndsStand-framed : (p q : Parts) (s t : State) → Framed p q s t
+    → ((n : ℕ) (w : Workspace) (r : Space) → workspace_of t.spaces n ≡ Some w → space_of q.spaces n ≡ Some r → have_ends q r.base_version (latest q n) w.lists.own ≡ true) → EndsStand p s → EndsStand q t
+EndsStand-framed p q s t f own stand = record {
+  own = own;
+  kept = λ n making w k x is point recorded same.
+      let z = point_of p q s t f n making w k x is point recorded in f.ends n making x z.recorded k.own (stand.kept n making z.old k x z.is z.point z.recorded (same ∙ z.rebases));
+}
 
 pub BasesStand-framed : (p q : Parts) (s t : State) → Framed p q s t → BasesStand p s → BasesStand q t
 BasesStand-framed p q s t f = BasesStand-frame p q s t (λ n w r some is recorded. inl (base_of n w r some (f.still n w is) (f.names n r recorded)))

@@ -61,7 +61,10 @@ pub mod Told
 pub mod PlannedMore
 pub mod DrawingHeld
 pub mod DrawingApart
+pub mod DrawingEnds
 pub mod Drawing
+pub mod Above
+pub mod Ending
 pub mod DrawingKeys
 pub mod DrawingNews
 pub mod Counting

@@ -34,6 +34,7 @@ use Rattle.wm_state.proofs.DrawnWell.{piece-parts, drawn-apart}
 use Rattle.wm_state.proofs.EntryRecords.{rows_from, rows_differ, rows_well, told_row, each_row, pieces_well, hists_on, hists_differ, hists_well}
 use Rattle.wm_state.proofs.Keeping.{KeepTables-same, KeepVersions-same, is_piece-kept}
 use Rattle.wm_state.proofs.KeepWritten.{all_written, MayPut, keep-written, spaces_longer, rows_found, KeepRows-append}
+use Rattle.wm_state.proofs.DrawingEnds.{ends-beside}
 use Rattle.wm_state.proofs.LayingAll.{laid-drawn}
 use Rattle.wm_state.proofs.Named.{space_number}
 use Rattle.wm_state.proofs.Planned.{counted, found_still, AllUnder-filter, AllUnder-next, AllUnder-set, applied-append, dropped-still}
@@ -305,6 +306,7 @@ wrote-all p old new n a table es drawn rules may are front back spaces = record 
   here = space_here front back b n after number ∙ sym (ap (option_map (longer_by (length es))) may.space);
   elsewhere = λ m other. space_elsewhere front back a b m (λ same. apart m other (sym same ∙ number)) (λ same. apart m other (sym same ∙ number)) ∙ ap (λ ss. space_of ss m) (sym spaces);
   pieces = laid-drawn (latest p n) table old.next_stamp es p.pieces drawn may.stamped are;
+  ends = ends-beside (stay p n table es) p.pieces (pieces_of (latest p n) es) drawn are.ends;
   rows_kept = λ stamp r found. find_before (λ (x : RowRecord). x.stamp == stamp) p.rows (rows_in es) r found;
   rows_new = λ c t row found is. by_row t.stamp row (row_of (rows_in es) t.stamp) refl (told_row table old.next_stamp es may.stamped c t row found is);
   rows_each = λ k d lt row is. by_row _ row (row_of (rows_in es) _) refl (each_row table old.next_stamp es may.stamped k d lt row is);

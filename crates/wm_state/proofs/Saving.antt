@@ -7,12 +7,12 @@ use Rattle.std.specs.List.{list_all, filter, find}
 use Rattle.std.specs.Option.{option_map}
 use Rattle.wm_graph.specs.Parts.{Parts, space_of}
 use Rattle.wm_graph.specs.Rules.{keep_rules}
-use Rattle.wm_spec.specs.Lists.{Cell, told, touched}
+use Rattle.wm_spec.specs.Lists.{Entry, Cell, told, touched}
 use Rattle.wm_spec.specs.declared.record.savepoint.Savepoint.{Savepoint as Record}
 use Rattle.wm_spec.specs.declared.record.space.Space.{Space}
 use Rattle.wm_tree.specs.Versions.{latest_in}
 use Rattle.wm_state.specs.State.{State, Workspace, Savepoint, Contents, content, kept, workspace_of, with_space, with_savepoint, savepoint_made, savepoints_of, log_of}
-use Rattle.wm_state.specs.Standing.{held_of, newest_first, latest, shown, owned, seen, seen_above, SpaceFields, fields_of, fields_in, saved_fields, fields_saved, by_making, saved_in, saved_as, by_number, CountersStand, SpacesStand, SavepointsStand, KeptStand, KeptOwnStand, PathsStand, Climbs, HasRows, RowsStand, Stands}
+use Rattle.wm_state.specs.Standing.{held_of, newest_first, latest, shown, owned, seen, seen_above, SpaceFields, fields_of, fields_in, saved_fields, fields_saved, by_making, saved_in, saved_as, by_number, CountersStand, SpacesStand, SavepointsStand, KeptStand, KeptOwnStand, PathsStand, Climbs, HasRows, RowsStand, Stands, have_ends, EndsStand}
 use Rattle.wm_state.specs.Effects.{Saved, marked}
 use Rattle.wm_state.proofs.Changing.{workspace_of-changed}
 use Rattle.wm_state.proofs.Frames.{StillNames, savepoints_of-found, OnceStand-changed, KeepRows, HasRows-kept, HasRows-same}
@@ -26,12 +26,13 @@ use Rattle.wm_state.proofs.Tests.{all_filter, find_new, none_if}
 -- ---- what a savepoint keeps
 
 -- the record of a savepoint keeps what the savepoint has: its version holds what is told of it, the version under its own what is told
--- of its base where the workspace has a parent, what stands above its base covers its own changes where the workspace was not rebased
--- since, the rows are there, and the paths of both versions lead up
+-- of its base where the workspace has a parent, what stands above its base covers its own changes and ends where they do where the
+-- workspace was not rebased since, the rows are there, and the paths of both versions lead up
 pub record IsKept (p : Parts) (spaces : List Workspace) (w : Workspace) (k : Savepoint) (x : Record) : Type 0 where
   pub holds : (c : Cell) → seen p x.version c ≡ option_map held_of (told (kept k) c)
   pub under : 0 < x.space → (c : Cell) → seen p x.base_version c ≡ option_map held_of (told k.base c)
   pub covers_own : k.rebases ≡ w.rebases → (c : Cell) → is_some (seen_above p x.base_version x.version c) ≡ touched k.own c
+  pub ends : k.rebases ≡ w.rebases → have_ends p x.base_version x.version k.own ≡ true
   pub rows : HasRows p (kept k)
   pub base_rows : HasRows p k.base
   pub path : Climbs p spaces x.version x.space
@@ -356,6 +357,37 @@ KeptOwnStand-saved p q s t n place implicit w k x v spaces found new_one stand k
             ∙ ap (λ (i : Savepoint). touched i.own c) (sym h.2)
         by_how (inr h) = kept_before.covered m making z.old j y z.is h.0 (sym (saved_as-away p q n place implicit x v m making h.1) ∙ recorded) (based ∙ z.rebases) c
 
+ends-still : (p q : Parts) (n place implicit : ℕ) (x : Record) → Saved p q n place implicit x → (base version : ℕ) (es : List Entry) → have_ends q base version es ≡ have_ends p base version es
+ends-still p q n place implicit x v base version es = rw (v.versions, v.pieces) refl
+
+EndsStand-saved : (p q : Parts) (s t : State) (n place implicit : ℕ) (w : Workspace) (k : Savepoint) (x : Record) → Saved p q n place implicit x → t.spaces ≡ with_space n (with_savepoint place implicit k) s.spaces
+    → workspace_of s.spaces n ≡ Some w → IsKept p s.spaces w k x → SavepointsStand p s → EndsStand p s → EndsStand q t
+EndsStand-saved p q s t n place implicit w k x v spaces found new_one stand ends = record {
+  own = λ m new r is recorded.
+      let y = was_saved n place implicit k s.spaces m new (ap (λ ws. workspace_of ws m) (sym spaces) ∙ is) in
+      let b = had_mark p q n place implicit x v m r recorded in
+      ap (λ vs. have_ends q r.base_version (latest_in (newest_first vs) m) new.lists.own) v.versions
+      ∙ ends-still p q n place implicit x v r.base_version (latest p m) new.lists.own
+      ∙ ap (λ base. have_ends p base (latest p m) new.lists.own) b.base
+      ∙ ap (λ (l : Contents). have_ends p b.old.base_version (latest p m) l.own) y.lists
+      ∙ ends.own m y.old b.old y.is b.is;
+  kept = λ m making new j y is made recorded based.
+      ends-still p q n place implicit x v y.base_version y.version j.own
+      ∙ by_case m making new j y recorded based (made_case p q s n place implicit k x v new_one.fields stand m making new j (ap (λ ws. workspace_of ws m) (sym spaces) ∙ is) made);
+}
+  where
+    by_case : (m making : ℕ) (new : Workspace) (j : Savepoint) (y : Record) → saved_as q m making ≡ Some y → j.rebases ≡ new.rebases → MadeCase n k x s.spaces m making new j → have_ends p y.base_version y.version j.own ≡ true
+    by_case m making new j y recorded based z = by_how z.how
+      where
+        by_how : ((m ≡ n) × (x.making ≡ making) × (j ≡ k)) ⊎ ((savepoint_made making z.old.savepoints ≡ Some j) × (((x.space == m) && (x.making == making)) ≡ false)) → have_ends p y.base_version y.version j.own ≡ true
+        by_how (inl h) =
+            let same : y ≡ x = some_record y x (sym recorded ∙ ap (λ i. saved_as q i making) h.0 ∙ saved_as-here p q n place implicit x v making h.1) in
+            let one : z.old ≡ w = some_one z.old w (sym z.is ∙ ap (workspace_of s.spaces) h.0 ∙ found) in
+            ap (λ (r : Record). have_ends p r.base_version r.version j.own) same
+            ∙ ap (λ (i : Savepoint). have_ends p x.base_version x.version i.own) h.2
+            ∙ new_one.ends (ap (λ (i : Savepoint). i.rebases) (sym h.2) ∙ based ∙ z.rebases ∙ ap (λ (o : Workspace). o.rebases) one)
+        by_how (inr h) = ends.kept m making z.old j y z.is h.0 (sym (saved_as-away p q n place implicit x v m making h.1) ∙ recorded) (based ∙ z.rebases)
+
 -- the logs are as they were
 logs_saved : (s t : State) (n place implicit : ℕ) (k : Savepoint) → t.spaces ≡ with_space n (with_savepoint place implicit k) s.spaces → (m : ℕ) → log_of t.spaces m ≡ log_of s.spaces m
 logs_saved s t n place implicit k spaces m = ap (λ ws. log_of ws m) spaces ∙ log_of-changed n (with_savepoint place implicit k) (λ w. refl) (λ w. refl) s.spaces m
@@ -479,6 +511,7 @@ Stands-saved p q s t n place implicit w k x v st found new_one spaces tables cou
         ∙ ap (λ (l : Contents). option_map held_of (told l.base c)) (sym y.lists);
   };
   paths = PathsStand-saved p q s t n place implicit w k x v spaces found new_one st.rules st.spaces st.paths;
+  ends = EndsStand-saved p q s t n place implicit w k x v spaces found new_one st.savepoints st.ends;
   rows = RowsStand-saved p q s t n place implicit w k x v spaces new_one st.savepoints st.rows;
   hists = HistsStand-frame p q s t v.hists (logs_saved s t n place implicit k spaces) st.hists;
 }
@@ -503,6 +536,8 @@ kept_latest p s n w r k x st found recorded space version base_version base own 
       ap (λ v. seen p v c) base_version ∙ st.bases.base n w r (subst (λ i. 0 < i) space some) found recorded c ∙ ap (λ es. option_map held_of (told es c)) (sym base);
   covers_own = λ based c.
       ap (λ v. is_some (seen_above p x.base_version v c)) version ∙ ap (λ b. is_some (owned p b n c)) base_version ∙ st.own.covered n w r found recorded c ∙ ap (λ es. touched es c) (sym own);
+  ends = λ based.
+      ap (λ v. have_ends p x.base_version v k.own) version ∙ ap (λ b. have_ends p b (latest p n) k.own) base_version ∙ ap (have_ends p r.base_version (latest p n)) own ∙ st.ends.own n w r found recorded;
   rows = HasRows-same p p (KeepRows-same p p refl) (kept k) (content w) same (st.rows.there n w found);
   base_rows = HasRows-same p p (KeepRows-same p p refl) k.base w.lists.base base (st.rows.bases n w found);
   path = subst (λ v. Climbs p s.spaces v x.space) (sym version) (subst (λ i. Climbs p s.spaces (latest p n) i) (sym space) (st.paths.latest n w found));
@@ -523,6 +558,9 @@ kept_again p s n making w k j x y st found recorded made space version base_vers
   covers_own = λ based c.
       ap (λ v. is_some (seen_above p x.base_version v c)) version ∙ ap (λ b. is_some (seen_above p b y.version c)) base_version
       ∙ st.kept_own.covered n making w j y found made recorded (sym rebases ∙ based) c ∙ ap (λ es. touched es c) (sym own);
+  ends = λ based.
+      ap (λ v. have_ends p x.base_version v k.own) version ∙ ap (λ b. have_ends p b y.version k.own) base_version ∙ ap (have_ends p y.base_version y.version) own
+      ∙ st.ends.kept n making w j y found made recorded (sym rebases ∙ based);
   rows = HasRows-same p p (KeepRows-same p p refl) (kept k) (kept j) same (st.rows.saved n making w j found made);
   base_rows = HasRows-same p p (KeepRows-same p p refl) k.base j.base base (st.rows.saved_bases n making w j found made);
   path = subst (λ v. Climbs p s.spaces v x.space) (sym version) (subst (λ i. Climbs p s.spaces y.version i) (sym space) (st.paths.kept n making w y found recorded));

@@ -3,11 +3,14 @@ use Rattle.std.proofs.Common.{◌≡◌, ◌≢◌, ℕ, ◌<◌, nat_lt, true, 
 use Rattle.std.proofs.lemmas.Bool.{eq-eqb, ne_eqb}
 use Rattle.std.specs.List.{list_all}
 use Rattle.wm_graph.specs.Parts.{Parts}
-use Rattle.wm_spec.specs.Lists.{Cell}
+use Rattle.wm_graph.specs.Rules.{keep_rules}
+use Rattle.wm_spec.specs.Lists.{Entry, Cell}
 use Rattle.wm_spec.specs.declared.record.version.Version.{Version}
 use Rattle.wm_tree.specs.Versions.{grow, AllBelow}
 use Rattle.wm_tree.specs.declared.version.Version.{Version as Node}
-use Rattle.wm_state.specs.Standing.{node_of, stored_at, seen_at, own_at, newest_first, latest, seen, seen_above}
+use Rattle.wm_state.specs.Standing.{node_of, stored_at, seen_at, own_at, newest_first, latest, seen, seen_above, is_above, have_ends}
+use Rattle.wm_state.proofs.Above.{ends-beside, ends-under, ends-itself, pieces_lower}
+use Rattle.wm_state.proofs.Ending.{all_end}
 use Rattle.wm_state.proofs.Tests.{both}
 use Rattle.wm_state.proofs.Forking.{latest-below, own-none, seen-beside, own-beside, seen-under, own-under}
 
@@ -56,6 +59,22 @@ above-sprout p q x s c lt =
     above-in p q x s x.parent x.number c
     ∙ own-under p.pieces x (newest_first p.versions) x.parent c (ne_eqb x.number x.parent (λ same. omega (arith, lt, same))) (s.empty c)
     ∙ own-none p.pieces (newest_first p.versions) x.parent c
+
+-- ---- where pieces end
+
+ends-in : (p q : Parts) (x : Node) → Sprouted p q x → (base v : ℕ) (es : List Entry) → have_ends q base v es ≡ all_end (is_above (x ∷ newest_first p.versions) base v) es p.pieces
+ends-in p q x s base v es = ap (λ nodes. all_end (is_above nodes base v) es q.pieces) s.versions ∙ ap (all_end (is_above (x ∷ newest_first p.versions) base v) es) s.pieces
+
+-- what stands on the path of what was there before ends where it did
+pub ends-before : (p q : Parts) (x : Node) → Sprouted p q x → keep_rules p ≡ true → (base v : ℕ) → v < x.number → (es : List Entry) → have_ends p base v es ≡ true → have_ends q base v es ≡ true
+ends-before p q x s rules base v lt es e = ends-in p q x s base v es ∙ ends-beside x (newest_first p.versions) base v es p.pieces lt (pieces_lower p rules x.number s.below) e
+
+-- and the new version has no piece above its parent
+pub ends-sprout : (p q : Parts) (x : Node) → Sprouted p q x → keep_rules p ≡ true → x.parent < x.number → (es : List Entry) → have_ends q x.parent x.number es ≡ true
+ends-sprout p q x s rules lt es =
+    ends-in p q x s x.parent x.number es
+    ∙ ends-under x (newest_first p.versions) x.parent es p.pieces (ne_eqb x.number x.parent (λ same. omega (arith, lt, same))) (pieces_lower p rules x.number s.below)
+    (ends-itself (newest_first p.versions) x.parent es p.pieces)
 
 -- ---- the newest version of each workspace
 

@@ -5,7 +5,7 @@ use Rattle.wm_graph.specs.Rules.{keep_rules}
 use Rattle.wm_state.specs.State.{State, begin, content, workspace_of, savepoints_of, log_of}
 use Rattle.wm_tree.specs.Versions.{latest_in}
 use Rattle.wm_state.specs.Standing.{newest_first, Climbs, CountersStand, TablesStand, Stands}
-use Rattle.wm_state.proofs.Frames.{Framed, KeepRows, OnceStand-same, HasRows-kept, SavepointsStand-framed, KeptStand-framed, KeptOwnStand-framed, BasesStand-framed, RowsStand-framed}
+use Rattle.wm_state.proofs.Frames.{Framed, KeepRows, OnceStand-same, HasRows-kept, SavepointsStand-framed, KeptStand-framed, KeptOwnStand-framed, BasesStand-framed, RowsStand-framed, EndsStand-framed}
 use Rattle.wm_state.proofs.Climbing.{carried, carries-same, stays-same, PathsStand-framed}
 use Rattle.wm_state.proofs.Logging.{HistsStand-frame, logs-kept}
 
@@ -31,6 +31,7 @@ framed_retabled p q s t r spaces = record {
   under = λ n making x some saved c. rw (r.versions, r.pieces) refl;
   births = λ n x some is c. rw (r.versions, r.pieces) refl;
   bases = λ n x some is c. rw (r.versions, r.pieces) refl;
+  ends = λ n making x saved es e. rw (r.versions, r.pieces) e;
 }
 
 pub Stands-retabled : (p q : Parts) (s t : State) → Retabled p q → Stands p s → t.spaces ≡ s.spaces → TablesStand q t → CountersStand q t → keep_rules q ≡ true → Stands q t
@@ -49,6 +50,8 @@ Stands-retabled p q s t r st spaces tables counters rules = record {
   paths = PathsStand-framed p q s t (framed_retabled p q s t r spaces)
       (carried p q s t.spaces st.rules st.spaces (carries-same p q s.spaces t.spaces r.versions r.pieces (stays-same s.spaces t.spaces spaces)) st.paths)
       (λ n w is climbs. subst (λ vs. Climbs q t.spaces (latest_in (newest_first vs) n) n) (sym r.versions) climbs);
+  ends = EndsStand-framed p q s t (framed_retabled p q s t r spaces)
+      (λ n w k is recorded. rw (r.versions, r.pieces) (st.ends.own n w k (ap (λ ws. workspace_of ws n) (sym spaces) ∙ is) (ap (λ ss. space_of ss n) (sym r.spaces) ∙ recorded))) st.ends;
   rows = RowsStand-framed p q s t (framed_retabled p q s t r spaces) rows
       (λ n w is. HasRows-kept p q rows (content w) (st.rows.there n w (ap (λ ws. workspace_of ws n) (sym spaces) ∙ is))) (logs-kept p q s t rows logs st.rows.logs) st.rows;
   hists = HistsStand-frame p q s t r.hists logs st.hists;
@@ -83,6 +86,7 @@ Stands-begin p s now st = record {
   kept_own = record { covered = st.kept_own.covered };
   bases = record { birth = st.bases.birth; base = st.bases.base };
   paths = record { latest = st.paths.latest; kept = st.paths.kept; births = st.paths.births; bases = st.paths.bases; kept_bases = st.paths.kept_bases };
+  ends = record { own = st.ends.own; kept = st.ends.kept };
   rows = record { there = st.rows.there; births = st.rows.births; bases = st.rows.bases; saved = st.rows.saved; saved_bases = st.rows.saved_bases; logs = st.rows.logs };
   hists = record { same = st.hists.same };
 }

@@ -14,14 +14,18 @@ use Rattle.wm_spec.specs.declared.record.space.Space.{Space}
 use Rattle.wm_spec.proofs.Lists.{told-append}
 use Rattle.wm_tree.specs.Versions.{latest_in}
 use Rattle.wm_state.specs.State.{State, Workspace, content, workspace_of, with_space, with_entries, savepoints_of, log_of}
-use Rattle.wm_state.specs.Standing.{held_of, stored_at, seen_at, own_at, newest_first, latest, seen, first_in, Climbs, fields_of, fields_in, CountersStand, SpacesStand, LatestStand, OwnStand, HasRow, RowsStand, HistsStand, Stands, SpaceFields, by_number}
+use Rattle.wm_state.specs.Standing.{held_of, stored_at, seen_at, own_at, newest_first, latest, seen, first_in, Climbs, fields_of, fields_in, CountersStand, SpacesStand, LatestStand, OwnStand, HasRow, RowsStand, HistsStand, Stands, SpaceFields, by_number, is_above, have_ends, EndsStand}
 use Rattle.wm_state.specs.Entries.{hists_from}
 use Rattle.wm_state.specs.Writes.{AreAllLaid, longer_by, WroteAll}
-use Rattle.wm_state.proofs.Frames.{Framed, Still, StillNames, OnceStand-changed, row-kept, savepoints_of-found, savepoints_of-none, SavepointsStand-framed, KeptStand-framed, KeptOwnStand-framed, BasesStand-framed, RowsStand-framed}
+use Rattle.wm_state.proofs.Frames.{Framed, Still, StillNames, OnceStand-changed, row-kept, savepoints_of-found, savepoints_of-none, SavepointsStand-framed, KeptStand-framed, KeptOwnStand-framed, BasesStand-framed, RowsStand-framed, EndsStand-framed}
 use Rattle.wm_state.proofs.FirstIn.{first-apart}
 use Rattle.wm_state.proofs.Climbing.{Carries, carried, stays-changed, PathsStand-framed}
 use Rattle.wm_state.proofs.Logging.{HistsStand-longer, log_of-found, log_of-same, rows-kept}
 use Rattle.wm_state.proofs.Nearest.{SameAway, seen-away, seen-here, own-away, own-here}
+use Rattle.wm_state.proofs.Above.{above-leaf}
+use Rattle.wm_state.proofs.Ending.{all_end, all_end-drawn, more-ends}
+use Rattle.wm_state.proofs.DrawingEnds.{more-front, more-behind}
+use Rattle.wm_state.proofs.Tests.{bool_apart}
 use Rattle.wm_state.proofs.Changing.{workspace_of-changed}
 
 -- ---- a workspace with more entries
@@ -161,6 +165,40 @@ OwnStand-wrote p q s t n es w spaces there stand = record {
             (w.apart.others m (ne_eqb _ _ h.0) (has_record p s there m x.old x.is)))
             ∙ stand.covered m x.old y.old x.is y.is c)
 
+-- what stands on the path of a version on which the written one is not ends where it did
+ends-away : (p q : Parts) (n : ℕ) (es : List Entry) → WroteAll p q n es → (base v : ℕ) → (v == latest p n) ≡ false → (fs : List Entry) → have_ends p base v fs ≡ true → have_ends q base v fs ≡ true
+ends-away p q n es w base v other fs e =
+    ap (λ vs. all_end (is_above (newest_first vs) base v) fs q.pieces) w.versions
+    ∙ all_end-drawn (is_above (newest_first p.versions) base v) (latest p n) es fs fs p.pieces q.pieces (λ cells moment h. h)
+    (λ on. absurd (bool_apart (sym on ∙ above-leaf (latest p n) base (newest_first p.versions) w.leaf v other))) e w.ends
+
+-- and each other end is one of the entries
+ends-wrote : (p q : Parts) (s t : State) (n : ℕ) (es : List Entry) → WroteAll p q n es → t.spaces ≡ appended_all n es s.spaces → SpacesStand p s → EndsStand p s
+    → (m : ℕ) (new : Workspace) (r : Space) → workspace_of t.spaces m ≡ Some new → space_of q.spaces m ≡ Some r → have_ends q r.base_version (latest q m) new.lists.own ≡ true
+ends-wrote p q s t n es w spaces there stand m new r is recorded =
+    ap (λ vs. have_ends q r.base_version (latest_in (newest_first vs) m) new.lists.own) w.versions
+    ∙ by_both (was n es s.spaces m new (ap (λ ws. workspace_of ws m) (sym spaces) ∙ is)) (had p q n es w m r recorded)
+  where
+    by_both : Was n es s.spaces m new → Had p n es m r → have_ends q r.base_version (latest p m) new.lists.own ≡ true
+    by_both x y = by_how x.how y.how
+      where
+        here : m ≡ n → new ≡ with_entries es x.old → r.base_version ≡ y.old.base_version → have_ends q r.base_version (latest p m) new.lists.own ≡ true
+        here same new_is base_is =
+            ap (λ base. have_ends q base (latest p m) new.lists.own) base_is
+            ∙ ap (λ (v : Workspace). have_ends q y.old.base_version (latest p m) v.lists.own) new_is
+            ∙ ap (λ vs. all_end (is_above (newest_first vs) y.old.base_version (latest p m)) (x.old.lists.own ++ es) q.pieces) w.versions
+            ∙ all_end-drawn (is_above (newest_first p.versions) y.old.base_version (latest p m)) (latest p n) es x.old.lists.own (x.old.lists.own ++ es) p.pieces q.pieces
+            (more-ends x.old.lists.own (x.old.lists.own ++ es) (more-front x.old.lists.own es)) (λ on. more-ends es (x.old.lists.own ++ es) (more-behind x.old.lists.own es)) (stand.own m x.old y.old x.is y.is) w.ends
+
+        by_how : ((m ≡ n) × (new ≡ with_entries es x.old)) ⊎ ((m ≢ n) × (new ≡ x.old)) → ((m ≡ n) × (r ≡ longer_by (length es) y.old)) ⊎ ((m ≢ n) × (r ≡ y.old)) → have_ends q r.base_version (latest p m) new.lists.own ≡ true
+        by_how (inl h) (inl k) = here h.0 h.1 (ap (λ (z : Space). z.base_version) k.1)
+        by_how (inl h) (inr k) = absurd (k.0 h.0)
+        by_how (inr h) (inl k) = absurd (h.0 k.0)
+        by_how (inr h) (inr k) =
+            ap (λ (z : Space). have_ends q z.base_version (latest p m) new.lists.own) k.1
+            ∙ ap (λ (v : Workspace). have_ends q y.old.base_version (latest p m) v.lists.own) h.1
+            ∙ ends-away p q n es w y.old.base_version (latest p m) (w.apart.others m (ne_eqb _ _ h.0) (has_record p s there m x.old x.is)) x.old.lists.own (stand.own m x.old y.old x.is y.is)
+
 -- what else the clauses look up: no version that is named is written
 framed_wrote : (p q : Parts) (s t : State) (n : ℕ) (es : List Entry) → WroteAll p q n es → t.spaces ≡ appended_all n es s.spaces → Framed p q s t
 framed_wrote p q s t n es w spaces = record {
@@ -174,6 +212,7 @@ framed_wrote p q s t n es w spaces = record {
   under = λ m making x some saved c. sees x.base_version c (w.free.kept_bases m making x some saved);
   births = λ m r some is c. sees r.birth_version c (w.free.births m r some is);
   bases = λ m r some is c. sees r.base_version c (w.free.bases m r some is);
+  ends = λ m making x saved fs e. ends-away p q n es w x.base_version x.version (w.free.kept m making x saved) fs e;
 }
   where
     sees : (v : ℕ) (c : Cell) → (v == latest p n) ≡ false → seen q v c ≡ seen p v c
@@ -338,6 +377,7 @@ Stands-wrote_all p q s t n es w st spaces tables counters rules = record {
   bases = BasesStand-framed p q s t (framed_wrote p q s t n es w spaces) st.bases;
   paths = PathsStand-framed p q s t (framed_wrote p q s t n es w spaces) (carried p q s t.spaces st.rules st.spaces (carries_wrote p q s t n es w spaces) st.paths)
       (λ m v is climbs. subst (λ vs. Climbs q t.spaces (latest_in (newest_first vs) m) m) (sym w.versions) climbs);
+  ends = EndsStand-framed p q s t (framed_wrote p q s t n es w spaces) (ends-wrote p q s t n es w spaces st.spaces st.ends) st.ends;
   rows = RowsStand-wrote p q s t n es w spaces st.spaces st.rows;
   hists = HistsStand-wrote p q s t n es w spaces st.spaces st.hists;
 }

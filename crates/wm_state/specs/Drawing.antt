@@ -1,7 +1,7 @@
 -- Pieces over other pieces: what lies under a new piece goes, and what lies before it and after it stays.
-use Rattle.std.specs.Prelude.{ℕ, ◌≡◌, ◌<◌, ◌≤◌, ◌==◌, ◌&&◌, Bool, true, not, nat_lt, if◌then◌else◌, min, max, List, [], ◌∷◌, ◌++◌, map, Option, None}
+use Rattle.std.specs.Prelude.{ℕ, ◌≡◌, ◌<◌, ◌≤◌, ◌==◌, ◌&&◌, ◌||◌, Bool, true, not, nat_lt, if◌then◌else◌, min, max, List, [], ◌∷◌, ◌++◌, map, Option, None}
 use Rattle.std.specs.Bool.{then_some}
-use Rattle.std.specs.List.{list_all, flat_map}
+use Rattle.std.specs.List.{list_all, list_any, flat_map}
 use Rattle.std.specs.Option.{option_or}
 use Rattle.std.specs.Ordering.{is_gt}
 use Rattle.wm_base.specs.Key.{key_order}
@@ -47,12 +47,21 @@ stored_last (x ∷ xs) version c = option_or (stored_last xs version c) (then_so
 abbrev pub PassesParts : (PieceRecord → Bool) → Type 0
 PassesParts test = (x : PieceRecord) (from till : ℕ) → test x ≡ true → x.cells.from ≤ from → from < till → till ≤ x.cells.till → test (between from till x) ≡ true
 
--- pieces that stand for old ones with new ones over them: they hold at each cell what these hold, no two collide, and each is one of
--- them or a part of one
+-- one of the pieces ends or begins at a moment, and is of the version, table and key of another
+abbrev pub ends_at : List PieceRecord → PieceRecord → ℕ → Bool
+ends_at xs x moment = list_any (λ (y : PieceRecord). is_in x.version x.cells.table x.cells.key y && ((y.cells.from == moment) || (y.cells.till == moment))) xs
+
+-- each piece ends and begins where some of others do
+abbrev pub end_with : List PieceRecord → List PieceRecord → Bool
+end_with xs drawn = list_all (λ (x : PieceRecord). ends_at xs x x.cells.from && ends_at xs x x.cells.till) drawn
+
+-- pieces that stand for old ones with new ones over them: they hold at each cell what these hold, no two collide, each is one of
+-- them or a part of one, and each ends where they do
 pub record AreDrawn (news old drawn : List PieceRecord) : Type 0 where
   pub held : (version : ℕ) (c : Cell) → stored_at drawn version c ≡ option_or (stored_last news version c) (stored_at old version c)
   pub differ : differ collide drawn ≡ true
   pub pass : (test : PieceRecord → Bool) → PassesParts test → list_all test old ≡ true → list_all test news ≡ true → list_all test drawn ≡ true
+  pub ends : end_with (old ++ news) drawn ≡ true
 
 -- ---- what is asked of new pieces
 

@@ -1,8 +1,8 @@
 -- Records that stand for a state. The records have one set of pieces, found through the paths of versions; the state has a
 -- whole list for each workspace.
-use Rattle.std.specs.Prelude.{ℕ, ◌≡◌, ◌+◌, ◌<◌, Bool, true, ◌&&◌, ◌==◌, nat_le, nat_lt, max, if◌then◌else◌, List, [], ◌∷◌, map, length, slice_get, is_none, is_some, Option, None, Some}
+use Rattle.std.specs.Prelude.{ℕ, ◌≡◌, ◌+◌, ◌<◌, Bool, true, false, ◌&&◌, ◌||◌, ◌==◌, nat_le, nat_lt, max, if◌then◌else◌, List, [], ◌∷◌, map, length, slice_get, is_none, is_some, Option, None, Some}
 use Rattle.std.specs.Bool.{then_some}
-use Rattle.std.specs.List.{All, filter, find}
+use Rattle.std.specs.List.{All, filter, find, list_all, list_any}
 use Rattle.std.specs.Option.{option_or, option_map}
 use Rattle.std.specs.Ordering.{is_eq}
 use Rattle.wm_base.specs.Key.{key_order}
@@ -104,6 +104,25 @@ pub data Climbs (p : Parts) (spaces : List Workspace) : ℕ → ℕ → Type 0 w
   Top : {version n : ℕ} → n ≡ 0 → Climbs p spaces version n
   Up : {version n : ℕ} (u : ℕ) (w : Workspace) → workspace_of spaces n ≡ Some w → first_in (newest_first p.versions) w.parent version ≡ Some u
       → ((c : Cell) → seen p u c ≡ option_map held_of (told w.lists.at_birth c)) → Climbs p spaces u w.parent → Climbs p spaces version n
+
+-- a version is on the path of another one, above a base
+abbrev pub is_above : List Node → ℕ → ℕ → ℕ → Bool
+is_above [] base version number = false
+is_above (x ∷ older) base version number =
+    if version == base then false
+    else (if x.number == version then (version == number) || is_above older base x.parent number else is_above older base version number)
+
+-- one of the entries ends or begins at a moment for the table and key of these cells
+abbrev pub is_end : List Entry → CellRange → ℕ → Bool
+is_end es cells moment = list_any (λ (e : Entry). ((e.table == cells.table) && is_eq (key_order e.key cells.key)) && ((e.from == moment) || (e.till == moment))) es
+
+-- both ends of the cells are ends of entries
+abbrev pub has_ends : List Entry → CellRange → Bool
+has_ends es cells = is_end es cells cells.from && is_end es cells cells.till
+
+-- so it is with each piece on the path of a version above a base
+abbrev pub have_ends : Parts → ℕ → ℕ → List Entry → Bool
+have_ends p base version es = list_all (λ (x : PieceRecord). if is_above (newest_first p.versions) base version x.version then has_ends es x.cells else true) p.pieces
 
 -- ---- the clauses
 
@@ -310,6 +329,13 @@ pub record PathsStand (p : Parts) (s : State) : Type 0 where
   pub bases : (n : ℕ) (w : Workspace) (r : Space) → 0 < n → workspace_of s.spaces n ≡ Some w → space_of p.spaces n ≡ Some r → Climbs p s.spaces r.base_version w.parent
   pub kept_bases : (n making : ℕ) (w : Workspace) (x : Record) → 0 < n → workspace_of s.spaces n ≡ Some w → saved_as p n making ≡ Some x → Climbs p s.spaces x.base_version w.parent
 
+-- each piece that stands above the base of a workspace ends where its own changes do, and so it was at each savepoint of it, where it
+-- was not rebased since
+pub record EndsStand (p : Parts) (s : State) : Type 0 where
+  pub own : (n : ℕ) (w : Workspace) (r : Space) → workspace_of s.spaces n ≡ Some w → space_of p.spaces n ≡ Some r → have_ends p r.base_version (latest p n) w.lists.own ≡ true
+  pub kept : (n making : ℕ) (w : Workspace) (k : Savepoint) (x : Record) → workspace_of s.spaces n ≡ Some w → savepoint_made making w.savepoints ≡ Some k → saved_as p n making ≡ Some x
+      → k.rebases ≡ w.rebases → have_ends p x.base_version x.version k.own ≡ true
+
 -- the row of each entry that a list holds at a cell stands under its stamp
 abbrev pub HasRows : Parts → List Entry → Type 0
 HasRows p es = (c : Cell) (t : Told) (row : Row) → told es c ≡ Some t → t.row ≡ Some row → option_map (λ (r : RowRecord). r.values) (row_of p.rows t.stamp) ≡ Some row.values
@@ -345,5 +371,6 @@ pub record Stands (p : Parts) (s : State) : Type 0 where
   pub kept_own : KeptOwnStand p s
   pub bases : BasesStand p s
   pub paths : PathsStand p s
+  pub ends : EndsStand p s
   pub rows : RowsStand p s
   pub hists : HistsStand p s

@@ -1,5 +1,5 @@
 -- What becomes of the records where a line writes entries, and the batches that do it.
-use Rattle.std.specs.Prelude.{ℕ, ◌≡◌, ◌+◌, false, ◌==◌, if◌then◌else◌, List, [], ◌∷◌, ◌++◌, map, length, Some}
+use Rattle.std.specs.Prelude.{ℕ, ◌≡◌, ◌+◌, true, false, ◌==◌, if◌then◌else◌, List, [], ◌∷◌, ◌++◌, map, length, Some}
 use Rattle.std.specs.List.{All}
 use Rattle.std.specs.Option.{option_or, option_map}
 use Rattle.wm_graph.specs.Parts.{Parts, row_of, space_of}
@@ -15,7 +15,8 @@ use Rattle.wm_spec.specs.declared.record.space.Space.{Space}
 use Rattle.wm_spec.specs.declared.record.version.Version.{Version}
 use Rattle.wm_state.specs.Batches.{put, drop_one}
 use Rattle.wm_state.specs.Effects.{IsLeaf, IsFree, IsApart}
-use Rattle.wm_state.specs.Entries.{hists_from}
+use Rattle.wm_state.specs.Drawing.{end_with}
+use Rattle.wm_state.specs.Entries.{hists_from, pieces_of}
 use Rattle.wm_state.specs.Standing.{held_of, stored_at, newest_first, latest, HasRow, HasRows}
 
 -- ---- the effect
@@ -42,6 +43,7 @@ pub record WroteAll (p q : Parts) (n : ℕ) (es : List Entry) : Type 0 where
   pub here : space_of q.spaces n ≡ option_map (longer_by (length es)) (space_of p.spaces n)
   pub elsewhere : (m : ℕ) → (m == n) ≡ false → space_of q.spaces m ≡ space_of p.spaces m
   pub pieces : AreAllLaid (latest p n) es p.pieces q.pieces
+  pub ends : end_with (p.pieces ++ pieces_of (latest p n) es) q.pieces ≡ true
   pub rows_kept : (stamp : ℕ) (r : RowRecord) → row_of p.rows stamp ≡ Some r → row_of q.rows stamp ≡ Some r
   pub rows_new : HasRows q es
   pub rows_each : All (HasRow q) es
