@@ -64,6 +64,7 @@ pub mod DrawingKeys
 pub mod DrawingNews
 pub mod Counting
 pub mod Settled
+pub mod WorkedOn
 pub mod Points
 pub mod RowsStay
 pub mod Drafted
