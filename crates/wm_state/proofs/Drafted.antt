@@ -13,7 +13,7 @@ use Rattle.wm_spec.specs.declared.record.table.Table.{Table}
 use Rattle.wm_state.specs.Batches.{AllUnder, create_batch, enable_batch, put, ready}
 use Rattle.wm_state.specs.ById.{Ascend, applied}
 use Rattle.wm_state.specs.Drafts.{CanCreate, CanWork, Drafts, DraftsBy}
-use Rattle.wm_state.specs.Editing.{drafted_by, edited, enable_named}
+use Rattle.wm_state.specs.Editing.{drafted_by, edited, enable_named, line_work}
 use Rattle.wm_state.specs.Points.{moved}
 use Rattle.wm_state.specs.Standing.{Stands, by_number}
 use Rattle.wm_state.specs.State.{Readiness, State, table_named}
@@ -37,9 +37,9 @@ none_changes : AreChanges []
 unfolding ids_differ
 none_changes = refl
 
--- without edits nothing changes
-pub drafts_nothing : (rs : List Stored) (m : ℕ) → keep_rules (parts_of rs) ≡ true → Drafts rs m [] []
-drafts_nothing rs m rules = record {
+-- without edits nothing changes, whatever the work
+pub drafts_none : (work : ℕ) (rs : List Stored) (m : ℕ) → keep_rules (parts_of rs) ≡ true → DraftsBy work rs m [] []
+drafts_none work rs m rules = record {
   keeps = rules;
   once = none_changes;
   stands = λ s st. st;
@@ -49,6 +49,10 @@ drafts_nothing rs m rules = record {
   nothing = λ none. refl;
   few = λ forks. record { count = omega arith; rows = refl; pieces = refl; hists = refl };
 }
+
+-- nor in a line
+pub drafts_nothing : (rs : List Stored) (m : ℕ) → keep_rules (parts_of rs) ≡ true → Drafts rs m [] []
+drafts_nothing = drafts_none line_work
 
 -- one edit is not none
 pub some_edit : (e : Edit) (es : List Edit) (cs : List Change) → e ∷ es ≡ [] → cs ≡ []

@@ -85,6 +85,20 @@ drafts_followed rs k l m e (f ∷ fs) es cs ds sorted one some two = record {
     same : applied (followed_by cs ds) rs ≡ applied ds (applied cs rs)
     same = applied_followed rs cs ds sorted
 
+-- so it is where there may be no edits yet, with no work then
+pub drafts_next : (rs : List Stored) (k l m : ℕ) (e : Edit) (front es : List Edit) (cs ds : List Change) → Ascend rs → DraftsBy k rs m front cs → (front ≡ [] → k ≡ 0) → DraftsBy l (applied cs rs) m (e ∷ es) ds
+    → DraftsBy (k + l) rs m (front ++ e ∷ es) (followed_by cs ds)
+drafts_next rs k l m e (f ∷ fs) es cs ds sorted one idle two = drafts_followed rs k l m e (f ∷ fs) es cs ds sorted one (one_there f fs) two
+drafts_next rs k l m e [] es cs ds sorted one idle two =
+    subst (λ n. DraftsBy n rs m (e ∷ es) (followed_by cs ds)) (sum_is k (idle refl))
+    (subst (λ (xs : List Change). DraftsBy l rs m (e ∷ es) (followed_by xs ds)) (sym none) (subst (λ (xs : List Change). DraftsBy l (applied xs rs) m (e ∷ es) ds) none two))
+  where
+    none : cs ≡ []
+    none = one.nothing refl
+
+    sum_is : (n : ℕ) → n ≡ 0 → l ≡ n + l
+    sum_is n zero = omega (arith, zero)
+
 -- ---- what is asked before the next edit
 
 -- what is left can be made of the records that the next edit leaves
@@ -116,3 +130,12 @@ work_left p q m k l can some works = record {
   where
     fits : (w before after : ℕ) → w ≡ before → after ≡ before + k → nat_lt counter_limit (w + (k + l)) ≡ false → nat_lt counter_limit (after + l) ≡ false
     fits w before after same more room = grind (arith, same, more, room)
+
+-- so there is behind drafts, where there may be no edits yet, with no work then
+pub work_behind : (rs : List Stored) (m k l : ℕ) (front : List Edit) (cs : List Change) → CanWork (parts_of rs) m (k + l) → 0 < l → DraftsBy k rs m front cs → (front ≡ [] → k ≡ 0) → CanWork (parts_of (applied cs rs)) m l
+work_behind rs m k l (f ∷ fs) cs can some one idle = work_left (parts_of rs) (parts_of (applied cs rs)) m k l can some (one.counted (one_there f fs))
+work_behind rs m k l [] cs can some one idle =
+    subst (λ (xs : List Change). CanWork (parts_of (applied xs rs)) m l) (sym (one.nothing refl)) (subst (λ n. CanWork (parts_of rs) m n) (sum_is k (idle refl)) can)
+  where
+    sum_is : (n : ℕ) → n ≡ 0 → n + l ≡ l
+    sum_is n zero = omega (arith, zero)
