@@ -2,7 +2,7 @@
 ghost use Rattle.std.specs.Prelude.{◌≡◌, ◌∷◌, [], true, IfOk};
 ghost use Rattle.wm_graph.specs.Parts.{parts_of};
 ghost use Rattle.wm_graph.specs.Rules.{keep_rules};
-ghost use Rattle.wm_state.specs.ById.{applied};
+ghost use Rattle.wm_state.specs.ById.{Ascend, applied};
 ghost use Rattle.wm_state.specs.Drafts.{CanDraft, CanEdit, CanWork, Drafts, DraftsBy};
 
 pub mod append;
@@ -64,6 +64,7 @@ pub fn draft(
     moment: u64,
     edits: Vec<Edit>,
 ) -> Result<Changes, Memory>
+    requires sorted { Ascend image.old }
     requires rules { keep_rules (parts_of image.old) ≡ true }
     requires can { CanDraft image.old moment edits.items }
     ensures drafts { IfOk result (Drafts image.old moment edits.items) }
