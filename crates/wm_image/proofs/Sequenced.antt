@@ -49,7 +49,7 @@ room_next rs m e x done left front last now next sorted room d becomes =
     some : (e ∷ done) ≡ [] → ⊥
     some h = cc
 
-    splits : (k l : ℕ) → line_work ≡ k + (l + 1) → line_work ≡ k + 1 + l
+    splits : (k l : ℕ) → line_work ≡ k + suc l → line_work ≡ k + 1 + l
     splits k l h = omega (arith, h)
 
 -- the rules stay kept before it
@@ -85,7 +85,7 @@ drafting_next rs m e x done left front last both newest now next sorted d become
     some : (e ∷ done) ≡ [] → ⊥
     some h = cc
 
-    all : (k l : ℕ) → k + (l + 1) ≡ line_work → k + 1 + l ≡ line_work
+    all : (k l : ℕ) → k + suc l ≡ line_work → k + 1 + l ≡ line_work
     all k l h = omega (arith, h)
 
 -- ---- in the end
@@ -138,8 +138,8 @@ asked_some rs m edits left e can is = subst (CanDraft rs m) is can
 pub room_first : (rs : List Stored) (m work count : ℕ) (edits left : List Edit) (e : Edit) → CanDraft rs m edits → edits ≡ e ∷ left → count ≡ length edits → work ≡ 4097 - count → CanWork (parts_of rs) m work
 room_first rs m work count edits left e can is counts works =
     let asked = asked_some rs m edits left e can is in
-    work_first (parts_of rs) m work (length left) (subst (CanWork (parts_of rs) m) (splits work count (length left) works (counts ∙ ap length is) asked.1.0) asked.0)
-    (some work count (length left) works (counts ∙ ap length is) asked.1.0)
+    work_first (parts_of rs) m work (length left) (subst (CanWork (parts_of rs) m) (splits work count (length left) works (counts ∙ ap length is) asked.1) asked.0)
+    (some work count (length left) works (counts ∙ ap length is) asked.1)
   where
     splits : (k n l : ℕ) → k ≡ 4097 - n → n ≡ suc l → suc l ≤ 2048 → line_work ≡ k + l
     splits k n l is many few = omega (arith, is, many, few)
@@ -154,7 +154,7 @@ goes_first rs m work count left_count edits left e front last can is counts work
     subst (λ cs. Goes rs m edits [] left left_count cs last rs) (sym none)
     (record {
       first = e;
-      drafting = drafting_first rs m work e left last (some work count (length left) works (counts ∙ ap length is) asked.1.0) (whole work count (length left) works (counts ∙ ap length is) asked.1.0) asked.1.1 drafts;
+      drafting = drafting_first rs m work e left last (some work count (length left) works (counts ∙ ap length is) asked.1) (whole work count (length left) works (counts ∙ ap length is) asked.1) asked.2 drafts;
       all = is;
       counted = fewer_left left_count count (length left) fewer (counts ∙ ap length is);
     })

@@ -84,5 +84,6 @@ pub fn draft(
         front = followed_by(alloc, front, last)?;
         last = draft_one(alloc, image, moment, 1, edit)?;
     }
-    followed_by(alloc, front, last)
+    let changes = followed_by(alloc, front, last)?;
+    Ok(changes)
 }
