@@ -10,8 +10,9 @@ use Rattle.wm_print.specs.Texts.{Answer, answer_text}
 use Rattle.wm_spec.specs.declared.record.batch.Change.{Change}
 use Rattle.wm_spec.specs.declared.record.stored.Stored.{Stored}
 use Rattle.wm_state.specs.ById.{applied}
-use Rattle.wm_state.proofs.FewChanged.{can_few, changes_few}
-use Rattle.wm_state.specs.Drafts.{CanDraft, ChangesFew, Drafts, is_fork as is_fork_edit}
+use Rattle.wm_state.proofs.FewChanged.{forks_few}
+use Rattle.wm_state.specs.Drafts.{ChangesFew, Drafts, is_fork as is_fork_edit}
+use Rattle.wm_state.specs.Editing.{line_work}
 use Rattle.wm_state.specs.Editing.{drafted as drafted_state}
 use Rattle.wm_state.specs.Standing.{Stands}
 use Rattle.wm_state.specs.State.{State, Session}
@@ -86,7 +87,7 @@ pub kept_same : (rs new : List Stored) (m : ℕ) (es : List Edit) → AreDrafted
 kept_same rs new m es drafted none = drafted.is ∙ ap (λ cs. applied cs rs) (drafted.drafts.nothing none)
 
 -- savepoints and workspaces change few records
-pub kept_few : (rs new : List Stored) (m : ℕ) (es made : List Edit) → CanDraft (parts_of rs) m es → made ≡ es → AreDrafted rs m made new → list_all is_fork_edit es ≡ true → ChangesFew rs new
-kept_few rs new m es made can same drafted forks =
+pub kept_few : (rs new : List Stored) (m : ℕ) (es made : List Edit) → made ≡ es → AreDrafted rs m made new → (list_all is_fork_edit es ≡ true) × (length es ≤ 1) → ChangesFew rs new
+kept_few rs new m es made same drafted forks =
     subst (λ ss. ChangesFew rs ss) (sym drafted.is)
-    (changes_few rs (6 * length made) drafted.changes (drafted.drafts.few (ap (list_all is_fork_edit) same ∙ forks)) (subst (λ ds. 6 * length ds ≤ 6) (sym same) (can_few (parts_of rs) m es can)))
+    (forks_few line_work rs m made drafted.changes drafted.drafts (ap (list_all is_fork_edit) same ∙ forks.0) (subst (λ (ds : List Edit). length ds ≤ 1) (sym same) forks.1))

@@ -38,10 +38,10 @@ does_same rs xs m es seating answer act other same does = record { can = does.ca
 
 -- a plan of one edit that makes a savepoint or a workspace, and one of none
 pub forks_one : (p : Planned) (e : Edit) → p.edits.items ≡ e ∷ [] → is_fork_edit e ≡ true → AreForks p
-forks_one p e edits fork = ap (list_all is_fork_edit) edits ∙ rw fork refl
+forks_one p e edits fork = (ap (list_all is_fork_edit) edits ∙ rw fork refl, subst (λ (es : List Edit). length es ≤ 1) (sym edits) (omega arith))
 
 pub forks_none : (p : Planned) → p.edits.items ≡ [] → AreForks p
-forks_none p none = ap (list_all is_fork_edit) none
+forks_none p none = (ap (list_all is_fork_edit) none, subst (λ (es : List Edit). length es ≤ 1) (sym none) (omega arith))
 
 -- ---- a plan of one edit, where a function may find no memory
 

@@ -1,5 +1,5 @@
 -- Lines that make a savepoint or a workspace.
-use Rattle.std.specs.Prelude.{◌≡◌, Bool, true, false, Option, Some, Result, Ok, Err}
+use Rattle.std.specs.Prelude.{◌≡◌, ◌≤◌, Bool, true, false, length, Option, Some, Result, Ok, Err}
 use Rattle.std.specs.List.{list_all}
 use Rattle.wm_base.specs.Trees.{Line, Run, Statement, Call}
 use Rattle.wm_grammar.specs.Calls.{procedure_of}
@@ -30,6 +30,6 @@ abbrev pub is_fork : Result Line Bad → Bool
 is_fork (Ok line) = is_fork_line line
 is_fork (Err bad) = false
 
--- the plan makes savepoints and workspaces at most
+-- the plan makes a savepoint or a workspace at most
 abbrev pub AreForks : Planned → Type 0
-AreForks p = list_all is_fork_edit p.edits.items ≡ true
+AreForks p = (list_all is_fork_edit p.edits.items ≡ true) × (length p.edits.items ≤ 1)

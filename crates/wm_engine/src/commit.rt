@@ -1,46 +1,44 @@
-//! What a line changes, committed to the store and made of the records in memory.
+//! What a line changes, committed to the store.
 ghost use Rattle.std.specs.Prelude.{◌≡◌, ◌≤◌, ◌⊎◌, ℕ, List, [], true, OnOk, IsErrOf};
 ghost use Rattle.wm_engine.specs.Working.{HoldsSorted, KeepsOver};
 ghost use Rattle.wm_engine.specs.declared.fault.LineFault.TheVariants as faults;
 ghost use Rattle.wm_spec.specs.Records.{AreChanges};
+ghost use Rattle.wm_spec.specs.declared.record.stored.Stored.{Stored};
 ghost use Rattle.wm_state.specs.ById.{applied};
 ghost use Rattle.wm_station.specs.Cause.{Rises};
 ghost use Rattle.wm_station.specs.Moments.{Ended};
 ghost use Rattle.wm_store.specs.Spelled.{FitPages};
+ghost use Rattle.wm_store.specs.Stores.{IsStoreOf};
 
 use crate::fault::LineFault;
 use std::alloc::Global;
-use wm_image::Image;
-use wm_spec::record::{Batch, Changes};
+use wm_spec::record::Batch;
 use wm_station::Station;
 use wm_store::Store;
 
-/// Commits the changes, and then makes them of the records. No changes leave the disk alone.
+/// Commits a batch. One without changes leaves the disk alone.
 pub fn commit<P: Station>(
     alloc: Global,
     station: &mut P,
     store: &mut Store,
-    image: &mut Image,
-    changes: Changes,
+    batch: &Batch,
 ) -> Result<(), LineFault>
-    requires once { AreChanges changes }
-    requires fit { FitPages changes }
-    requires works { P.tells → KeepsOver store.old image.old (P.history station.old) }
-    ensures image { OnOk result (image.new ≡ applied changes image.old) }
-    ensures works { P.tells → OnOk result (KeepsOver store.new (applied changes image.old) (P.history station.new)) }
-    ensures any_moment { P.tells → Ended (P.history station.old) (P.history station.new) (λ file. HoldsSorted file image.old ⊎ HoldsSorted file (applied changes image.old)) }
+    requires once { AreChanges batch.now.changes }
+    requires fit { FitPages batch.now.changes }
+    requires store { P.tells → IsStoreOf store.old (P.history station.old) }
+    // Of the records that the store keeps, whichever they are.
+    ensures works { P.tells → (rs : List Stored) → KeepsOver store.old rs (P.history station.old) → OnOk result (KeepsOver store.new (applied batch.now.changes rs) (P.history station.new)) }
+    ensures any_moment { P.tells → (rs : List Stored) → KeepsOver store.old rs (P.history station.old) → Ended (P.history station.old) (P.history station.new) (λ file. HoldsSorted file rs ⊎ HoldsSorted file (applied batch.now.changes rs)) }
     // Where nothing changes the file is not touched.
-    ensures nothing { P.tells → changes ≡ [] → P.history station.new ≡ P.history station.old }
+    ensures nothing { P.tells → batch.now.changes ≡ [] → P.history station.new ≡ P.history station.old }
     ensures later { P.disk_faults station.old ≤ P.disk_faults station.new }
     ensures disk { IsErrOf result faults.Disk → Rises (P.disk_faults station.old) (P.disk_faults station.new) }
     ensures say_quiet { P.say_faults station.new ≡ P.say_faults station.old }
     ensures unchanged { P.tells → IsErrOf result faults.Changed → ⊥ }
 {
-    if changes.as_slice().is_empty() {
+    if batch.changes.as_slice().is_empty() {
         return Ok(());
     }
-    let batch = Batch { changes };
-    store.commit(alloc, station, &batch)?;
-    image.apply(alloc, batch)?;
+    store.commit(alloc, station, batch)?;
     Ok(())
 }

@@ -49,7 +49,7 @@ fn keep<P: Station>(
     changed: Changed,
 ) -> Result<Image, LineFault>
     requires rules { keep_rules (parts_of image) ≡ true }
-    requires can { CanDraft (parts_of image) moment changed.edits.items }
+    requires can { CanDraft image moment changed.edits.items }
     requires works { P.tells → KeepsOver store.old image (P.history station.old) }
     ensures image { IfOk result (AreDrafted image moment changed.edits.items) }
     ensures sessions { OnOk result (sessions.new.items ≡ seated sessions.old.items (seating_view changed.seating)) }
@@ -65,7 +65,8 @@ fn keep<P: Station>(
     let Changed { edits, seating } = changed;
     let mut image = image;
     let batch = image.draft(alloc, moment, edits)?;
-    commit(alloc, station, store, &mut image, batch.changes)?;
+    commit(alloc, station, store, &batch)?;
+    image.apply(alloc, batch)?;
     seat(sessions, seating)?;
     Ok(image)
 }

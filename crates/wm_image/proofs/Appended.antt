@@ -16,7 +16,7 @@ use Rattle.wm_spec.specs.declared.record.space.Space.{Space}
 use Rattle.wm_spec.specs.declared.record.stored.Stored.{Stored}
 use Rattle.wm_spec.specs.declared.record.version.Version.{Version}
 use Rattle.wm_state.specs.Batches.{put}
-use Rattle.wm_state.specs.Drafts.{CanAppend, CanWork, Drafts}
+use Rattle.wm_state.specs.Drafts.{CanAppend, CanWork, DraftsBy}
 use Rattle.wm_state.specs.Editing.{entry_of}
 use Rattle.wm_state.specs.Effects.{IsFree, IsLeaf}
 use Rattle.wm_state.specs.Entries.{hists_from, pieces_of, rows_in}
@@ -105,26 +105,26 @@ counted_so : (entries : List NewEntry) (count : ℕ) → count ≡ length entrie
 counted_so entries count is = is ∙ sym (length-map entries entry_of)
 
 -- entries come into the newest version
-pub drafts_here : (rs : List Stored) (m table version id count : ℕ) (entries : Vec NewEntry Global) (a : Space) (c counters : Counters) (front changes : List Change) → keep_rules (parts_of rs) ≡ true → CanWork (parts_of rs) m
+pub drafts_here : (rs : List Stored) (m work table version id count : ℕ) (entries : Vec NewEntry Global) (a : Space) (c counters : Counters) (front changes : List Change) → keep_rules (parts_of rs) ≡ true → CanWork (parts_of rs) m work
     → Appends (parts_of rs) a.number a c table (entries_in entries) → ((i : ℕ) → id ≤ i → record_at rs i ≡ None) → IsLeaf (latest (parts_of rs) a.number) (newest_first (parts_of rs).versions)
-    → IsFree (parts_of rs) (latest (parts_of rs) a.number) → version ≡ latest (parts_of rs) a.number → count ≡ length entries.items → counters ≡ stepped_by c m count → front ≡ []
-    → AreWritten rs front counters a version table id (entries_in entries) changes → Drafts rs m (edits.Append a.number entries ∷ []) changes
-drafts_here rs m table version id count entries a c counters front changes rules work v above leaf free newest many counts none w =
-    subst (Drafts rs m (edits.Append a.number entries ∷ [])) (sym (w.are ∙ ap (λ (f : List Change). f ++ batch counters) none ∙ ap batch (counts ∙ ap (stepped_by c m) (counted_so entries.items count many))))
-    (drafts_written rs m a.number table entries a c w.counters_id w.space_id w.dropped id w.drawn rules work v (written_places rs front counters c a version table id id (entries_in entries) changes v.one above w) leaf free
+    → IsFree (parts_of rs) (latest (parts_of rs) a.number) → version ≡ latest (parts_of rs) a.number → count ≡ length entries.items → counters ≡ stepped_by c m work count → front ≡ []
+    → AreWritten rs front counters a version table id (entries_in entries) changes → DraftsBy work rs m (edits.Append a.number entries ∷ []) changes
+drafts_here rs m work table version id count entries a c counters front changes rules can_work v above leaf free newest many counts none w =
+    subst (DraftsBy work rs m (edits.Append a.number entries ∷ [])) (sym (w.are ∙ ap (λ (f : List Change). f ++ batch counters) none ∙ ap batch (counts ∙ ap (stepped_by c m work) (counted_so entries.items count many))))
+    (drafts_written rs m work a.number table entries a c w.counters_id w.space_id w.dropped id w.drawn rules can_work v (written_places rs front counters c a version table id id (entries_in entries) changes v.one above w) leaf free
     (subst (λ k. Redrawn rs k table (entries_in entries) w.dropped w.drawn) newest (written_drawn rs front counters a version table id (entries_in entries) changes w)))
   where
     batch : Counters → List Change
     batch k = write_batch w.counters_id k w.space_id a (length (entries_in entries)) w.dropped id (rows_in (entries_in entries)) w.drawn (hists_from a.number a.log_length (entries_in entries))
 
 -- or into a version more
-pub drafts_above : (rs : List Stored) (m table id next parent count : ℕ) (entries : Vec NewEntry Global) (a : Space) (c counters : Counters) (front changes : List Change) → keep_rules (parts_of rs) ≡ true → CanWork (parts_of rs) m
+pub drafts_above : (rs : List Stored) (m work table id next parent count : ℕ) (entries : Vec NewEntry Global) (a : Space) (c counters : Counters) (front changes : List Change) → keep_rules (parts_of rs) ≡ true → CanWork (parts_of rs) m work
     → Appends (parts_of rs) a.number a c table (entries_in entries) → ((i : ℕ) → id ≤ i → record_at rs i ≡ None) → next ≡ id + 1 → parent ≡ latest (parts_of rs) a.number → count ≡ length entries.items
-    → counters ≡ stepped_new_by c m count → front ≡ put id (records.Version (record { number = c.next_version; space = a.number; parent = parent })) ∷ []
-    → AreWritten rs front counters a c.next_version table next (entries_in entries) changes → Drafts rs m (edits.Append a.number entries ∷ []) changes
-drafts_above rs m table id next parent count entries a c counters front changes rules work v above after newest many counts first w =
-    subst (Drafts rs m (edits.Append a.number entries ∷ [])) (sym (w.are ∙ is))
-    (drafts_written_new rs m a.number table entries a c w.counters_id w.space_id id w.drawn rules work v (written_places rs front counters c a c.next_version table next id (entries_in entries) changes v.one above w) alone.are)
+    → counters ≡ stepped_new_by c m work count → front ≡ put id (records.Version (record { number = c.next_version; space = a.number; parent = parent })) ∷ []
+    → AreWritten rs front counters a c.next_version table next (entries_in entries) changes → DraftsBy work rs m (edits.Append a.number entries ∷ []) changes
+drafts_above rs m work table id next parent count entries a c counters front changes rules can_work v above after newest many counts first w =
+    subst (DraftsBy work rs m (edits.Append a.number entries ∷ [])) (sym (w.are ∙ is))
+    (drafts_written_new rs m work a.number table entries a c w.counters_id w.space_id id w.drawn rules can_work v (written_places rs front counters c a c.next_version table next id (entries_in entries) changes v.one above w) alone.are)
   where
     alone : DrawnAlone c.next_version (entries_in entries) w.dropped w.drawn
     alone = drawn_alone rs table c (entries_in entries) w.dropped w.drawn rules v.one (written_drawn rs front counters a c.next_version table next (entries_in entries) changes w)
@@ -138,9 +138,9 @@ drafts_above rs m table id next parent count entries a c counters front changes 
     first_is : front ≡ version
     first_is = first ∙ ap (λ k. put id (records.Version (record { number = c.next_version; space = a.number; parent = k })) ∷ []) newest
 
-    is : front ++ batch counters w.dropped next ≡ version ++ batch (stepped_new_by c m (length (entries_in entries))) [] (id + 1)
+    is : front ++ batch counters w.dropped next ≡ version ++ batch (stepped_new_by c m work (length (entries_in entries))) [] (id + 1)
     is =
         ap (λ (f : List Change). f ++ batch counters w.dropped next) first_is
-        ∙ ap (λ k. version ++ batch k w.dropped next) (counts ∙ ap (stepped_new_by c m) (counted_so entries.items count many))
-        ∙ ap (λ ids. version ++ batch (stepped_new_by c m (length (entries_in entries))) ids next) alone.none
-        ∙ ap (λ k. version ++ batch (stepped_new_by c m (length (entries_in entries))) [] k) after
+        ∙ ap (λ k. version ++ batch k w.dropped next) (counts ∙ ap (stepped_new_by c m work) (counted_so entries.items count many))
+        ∙ ap (λ ids. version ++ batch (stepped_new_by c m work (length (entries_in entries))) ids next) alone.none
+        ∙ ap (λ k. version ++ batch (stepped_new_by c m work (length (entries_in entries))) [] k) after

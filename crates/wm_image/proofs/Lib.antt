@@ -30,3 +30,4 @@ pub mod Placed
 pub mod Written
 pub mod Born
 pub mod Appended
+pub mod Sequenced

@@ -2,55 +2,88 @@
 ghost use Rattle.std.specs.Prelude.{◌≡◌, ◌∷◌, [], true, IfOk};
 ghost use Rattle.wm_graph.specs.Parts.{parts_of};
 ghost use Rattle.wm_graph.specs.Rules.{keep_rules};
-ghost use Rattle.wm_state.specs.Drafts.{CanDraft, CanEdit, CanWork, Drafts};
+ghost use Rattle.wm_state.specs.ById.{Ascend, applied};
+ghost use Rattle.wm_state.specs.Drafts.{CanDraft, CanEdit, CanWork, Drafts, DraftsBy};
 
 pub mod append;
 pub mod births;
 pub mod changes;
+pub mod copies;
 pub mod counts;
+pub mod followed;
 pub mod points;
 pub mod saves;
 pub mod tables;
 
 use crate::draft::append::append;
 use crate::draft::births::bear;
+use crate::draft::copies::change_copies;
+use crate::draft::followed::followed_by;
 use crate::draft::saves::save;
 use crate::draft::tables::{create, enable};
 use crate::image::Image;
 use std::alloc::Global;
 use wm_base::Memory;
-use wm_spec::record::Changes;
+use wm_spec::record::{Batch, Changes};
 use wm_state::edit::Edit;
 
-/// What an edit at a moment makes of the records.
-fn draft_one(alloc: Global, image: &Image, moment: u64, edit: Edit) -> Result<Changes, Memory>
+/// What a line that makes edits adds to the work.
+const LINE_WORK: u64 = 4_096;
+
+/// What an edit at a moment makes of the records, with so much work.
+fn draft_one(
+    alloc: Global,
+    image: &Image,
+    moment: u64,
+    work: u64,
+    edit: Edit,
+) -> Result<Changes, Memory>
     requires rules { keep_rules (parts_of image.now) ≡ true }
-    requires work { CanWork (parts_of image.now) moment }
+    requires work { CanWork (parts_of image.now) moment work }
     requires can { CanEdit (parts_of image.now) moment edit }
-    ensures { IfOk result (Drafts image.now moment (edit ∷ [])) }
+    ensures { IfOk result (DraftsBy work image.now moment (edit ∷ [])) }
 {
     match edit {
-        Edit::Create(table) => create(alloc, image, moment, table),
+        Edit::Create(table) => create(alloc, image, moment, work, table),
         Edit::Enable {
             name,
             valid,
             history,
-        } => enable(alloc, image, moment, &name, valid, history),
-        Edit::Append { space, entries } => append(alloc, image, moment, space, entries),
-        Edit::Save { space, name } => save(alloc, image, moment, space, name),
-        Edit::Bear { parent, at, name } => bear(alloc, image, moment, parent, at, name),
+        } => enable(alloc, image, moment, work, &name, valid, history),
+        Edit::Append { space, entries } => append(alloc, image, moment, work, space, entries),
+        Edit::Save { space, name } => save(alloc, image, moment, work, space, name),
+        Edit::Bear { parent, at, name } => bear(alloc, image, moment, work, parent, at, name),
     }
 }
 
-/// What the edits of a line at a moment make of the records.
-pub fn draft(alloc: Global, image: &Image, moment: u64, edits: Vec<Edit>) -> Result<Changes, Memory>
-    requires rules { keep_rules (parts_of image.now) ≡ true }
-    requires can { CanDraft (parts_of image.now) moment edits.items }
-    ensures { IfOk result (Drafts image.now moment edits.items) }
+/// What the edits of a line at a moment make of the records. All but the last one are made of the image itself, so that
+/// each is drafted of what the edits before it left: the first has the work of the line but 1 for each of the others.
+pub fn draft(
+    alloc: Global,
+    image: &mut Image,
+    moment: u64,
+    edits: Vec<Edit>,
+) -> Result<Changes, Memory>
+    requires sorted { Ascend image.old }
+    requires rules { keep_rules (parts_of image.old) ≡ true }
+    requires can { CanDraft image.old moment edits.items }
+    ensures drafts { IfOk result (Drafts image.old moment edits.items) }
+    ensures rest { IfOk result (λ changes. applied changes image.new ≡ applied changes image.old) }
 {
-    let mut edits = edits;
-    match edits.pop() {
-        Some(edit) => draft_one(alloc, image, moment, edit),
-        None => Ok(Changes::new(alloc)),
+    let count = edits.len() as u64;
+    let mut edits = edits.into_iter();
+    let Some(first) = edits.next() else {
+        return Ok(Changes::new(alloc));
+    };
+    let work = LINE_WORK + 1 - count;
+    let mut front = Changes::new(alloc);
+    let mut last = draft_one(alloc, image, moment, work, first)?;
+    for edit in edits {
+        let copies = change_copies(alloc, &last)?;
+        image.apply(alloc, Batch { changes: copies })?;
+        front = followed_by(alloc, front, last)?;
+        last = draft_one(alloc, image, moment, 1, edit)?;
     }
+    let changes = followed_by(alloc, front, last)?;
+    Ok(changes)
 }

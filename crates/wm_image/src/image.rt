@@ -418,11 +418,13 @@ impl Image {
     }
 
     /// What the edits of a line at a moment make of the records: of each state that they stand for, what the edits make of it
-    /// in their order. The records stay as they are.
-    pub fn draft(&self, alloc: Global, moment: u64, edits: Vec<Edit>) -> Result<Batch, Memory>
-        requires rules { keep_rules (parts_of self.now) ≡ true }
-        requires can { CanDraft (parts_of self.now) moment edits.items }
-        ensures drafts { IfOk result (λ batch. Drafts self.now moment edits.items batch.changes) }
+    /// in their order. Where there are several the image goes on to what all but the last one leave, and applying the batch
+    /// brings it to what it makes of the records as they were. Where memory runs out the image is not to be used any more.
+    pub fn draft(&mut self, alloc: Global, moment: u64, edits: Vec<Edit>) -> Result<Batch, Memory>
+        requires rules { keep_rules (parts_of self.old) ≡ true }
+        requires can { CanDraft self.old moment edits.items }
+        ensures drafts { IfOk result (λ batch. Drafts self.old moment edits.items batch.changes) }
+        ensures rest { IfOk result (λ batch. applied batch.changes self.new ≡ applied batch.changes self.old) }
     {
         let changes = draft(alloc, self, moment, edits)?;
         Ok(Batch { changes })

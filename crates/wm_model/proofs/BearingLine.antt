@@ -216,7 +216,7 @@ pub does_bear : (rs : List Stored) (xs : List Session) (m : ℕ) (session : Sess
     → point_at (parts_of rs) a m session.stand ≡ Some pt → (parts_of rs).counters ≡ c ∷ [] → nat_lt counter_limit (c.work + line_work) ≡ false → nat_lt m END ≡ true
     → Does rs xs m (edits.Bear a.number at name ∷ []) Stay Fine (create_workspace session name)
 does_bear rs xs m session name a pt c at may stands there one spare early =
-    does_edit rs xs m (edits.Bear a.number at name) Fine (create_workspace session name) (record { counters = c; one = one; room = spare; early = early }) can
+    does_edit rs xs m (edits.Bear a.number at name) Fine (create_workspace session name) (record { counters = c; one = one; some = refl; room = spare; early = early }) can
     (λ s st. let h = home rs xs m session name a s may.roomy.bears st in
     let k = made rs xs m session name a pt s h st there in
     born_is rs xs m s session name a h st may k

@@ -119,7 +119,7 @@ can_create rs name items fits room = record {
 pub does_create : (rs : List Stored) (xs : List Session) (m : ℕ) (name : List ℕ) (items : List CreateItem) (c : Counters) → MayMake rs name items → is_full (tables_in rs) ≡ false → (parts_of rs).counters ≡ c ∷ []
     → nat_lt counter_limit (c.work + line_work) ≡ false → nat_lt m END ≡ true → Does rs xs m (edits.Create (table_to_make rs name items) ∷ []) Stay Fine (create name items)
 does_create rs xs m name items c new room one left early =
-    does_edit rs xs m (edits.Create made) Fine (create name items) (record { counters = c; one = one; room = left; early = early }) (can_create rs name items new room)
+    does_edit rs xs m (edits.Create made) Fine (create name items) (record { counters = c; one = one; some = refl; room = left; early = early }) (can_create rs name items new room)
     (λ s st. made_is rs xs m s name items st new room
     ∙ not_spent_at rs xs m s 0 c (record s { tables = tables_in rs ++ made ∷ [] }, Fine) st one refl left
     ∙ ap (λ (ts : List Table). (record s { tables = ts ++ made ∷ []; last_moment = m; work = s.work + line_work }, Fine)) st.stands.tables.same)

@@ -81,10 +81,10 @@ edited_stays m (edits.Bear n at name) s = by_space (workspace_of s.spaces n)
     by_space (Some w) = by_savepoint w (saved_at m s.spaces w (stand_of at) (implicit_name w) true)
 
 -- one edit is made
-pub does_edit : (rs : List Stored) (xs : List Session) (m : ℕ) (e : Edit) (answer : Answer) (act : State → State × Answer) → CanWork (parts_of rs) m → CanEdit (parts_of rs) m e
+pub does_edit : (rs : List Stored) (xs : List Session) (m : ℕ) (e : Edit) (answer : Answer) (act : State → State × Answer) → CanWork (parts_of rs) m line_work → CanEdit (parts_of rs) m e
     → ((s : State) → StandsAt rs xs m s → act s ≡ (record (edited m e s) { last_moment = m; work = s.work + line_work }, answer)) → Does rs xs m (e ∷ []) Stay answer act
 does_edit rs xs m e answer act work can same = record {
-  can = (work, can);
+  can = (work, omega arith, (can, λ given changes drafts. tt));
   does = λ s st. let stays = edited_stays m e s in
       same s st
       ∙ ap (λ n. (record (edited m e s) { last_moment = m; work = s.work + line_work; moment = n }, answer)) (stays.0 ∙ sym st.moment_is)

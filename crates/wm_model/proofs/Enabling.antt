@@ -67,7 +67,7 @@ enable_spent rs xs m name how t c rules short some off key one much =
 pub does_enable : (rs : List Stored) (xs : List Session) (m : ℕ) (name : List ℕ) (how : Readiness) (t : Table) (c : Counters) → nat_lt 25 (length name) ≡ false → named rs name ≡ Some t → t.versioned ≡ false → t.has_key ≡ true
     → (parts_of rs).counters ≡ c ∷ [] → nat_lt counter_limit (c.work + line_work) ≡ false → nat_lt m END ≡ true → Does rs xs m (edits.Enable name how.valid how.history ∷ []) Stay Fine (enable name how None)
 does_enable rs xs m name how t c short some off key one room early =
-    does_edit rs xs m (edits.Enable name how.valid how.history) Fine (enable name how None) (record { counters = c; one = one; room = room; early = early }) (record { table = t; named = some; off = off; key = key })
+    does_edit rs xs m (edits.Enable name how.valid how.history) Fine (enable name how None) (record { counters = c; one = one; some = refl; room = room; early = early }) (record { table = t; named = some; off = off; key = key })
     (λ s st. enabled_is rs xs m s name how t st short some off key
     ∙ not_spent_at rs xs m s 0 c (record s { tables = enabled t.number how s.tables }, Fine) st one refl room
     ∙ ap (λ (o : Option Table). (record (unwrap_or (option_map (enable_named how s) o) s) { last_moment = m; work = s.work + line_work }, Fine)) (sym (ap (table_named name) (sym st.stands.tables.same) ∙ some)))

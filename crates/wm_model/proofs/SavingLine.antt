@@ -118,7 +118,7 @@ name_short name good =
 pub does_save : (rs : List Stored) (xs : List Session) (m : ℕ) (workspace name : List ℕ) (a : Space) (c : Counters) → MaySaveIn rs workspace name a → (parts_of rs).counters ≡ c ∷ []
     → nat_lt counter_limit (c.work + line_work) ≡ false → nat_lt m END ≡ true → Does rs xs m (edits.Save a.number name ∷ []) Stay Fine (create_savepoint workspace name)
 does_save rs xs m workspace name a c may one spare early =
-    does_edit rs xs m (edits.Save a.number name) Fine (create_savepoint workspace name) (record { counters = c; one = one; room = spare; early = early })
+    does_edit rs xs m (edits.Save a.number name) Fine (create_savepoint workspace name) (record { counters = c; one = one; some = refl; room = spare; early = early })
     (record { space = a; there = there; short = name_short name may.saves.good; room = may.room; places = may.places })
     (λ s st. let h = home rs xs m workspace name a s may.saves st in
     done_is rs xs m workspace name a s may st

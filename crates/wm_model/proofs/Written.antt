@@ -90,7 +90,7 @@ pub does_write : (rs : List Stored) (xs : List Session) (m n : ℕ) (user : List
     → MayWrite rs n m user t a c changes → map entry_of entries.items ≡ entries_from c.next_stamp m user t changes
     → ((s : State) → StandsAt rs xs m s → act s ≡ durably s (a.log_length + length changes) (written_all n (entries_of s user t changes) s, Done count)) → Does rs xs m (edits.Append n entries ∷ []) Stay (Done count) act
 does_write rs xs m n user t count changes a c entries act may are same =
-    does_edit rs xs m (edits.Append n entries) (Done count) act (record { counters = c; one = may.one; room = may.room; early = may.early }) (rw are (can_append rs n m user t a c changes may))
+    does_edit rs xs m (edits.Append n entries) (Done count) act (record { counters = c; one = may.one; some = refl; room = may.room; early = may.early }) (rw are (can_append rs n m user t a c changes may))
     (λ s st. same s st
     ∙ not_spent_at rs xs m s (a.log_length + length changes) c (written_all n (entries_of s user t changes) s, Done count) st may.one may.short may.room
     ∙ ap (λ es. (record (written_all n es s) { last_moment = m; work = s.work + line_work }, Done count)) (entries_are s st ∙ sym are))

@@ -42,7 +42,7 @@ planned m after edits seating s = record (drafted m edits s) { sessions = seated
 -- the edits of the plan may be drafted of the records, and it does and answers what a function of the state does and answers, for each state that these
 -- stand for
 pub record DoesAt (records : List Stored) (sessions : List Session) (moment : ℕ) (edits : List Edit) (seating : Seating) (after : ℕ) (answer : Answer) (act : State → State × Answer) : Type 0 where
-  pub can : CanDraft (parts_of records) moment edits
+  pub can : CanDraft records moment edits
   pub does : (s : State) → StandsAt records sessions moment s → act s ≡ (planned moment after edits seating s, answer)
 
 -- so, and the moment stays

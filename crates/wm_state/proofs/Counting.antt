@@ -8,7 +8,7 @@ use Rattle.wm_spec.specs.Records.{AreChanges, ids_differ}
 use Rattle.wm_spec.specs.declared.record.batch.Change.{Change}
 use Rattle.wm_spec.specs.declared.record.counters.Counters.{Counters}
 use Rattle.wm_state.specs.Drafts.{CanWork}
-use Rattle.wm_state.specs.Editing.{counter_limit, line_work}
+use Rattle.wm_state.specs.Editing.{counter_limit}
 use Rattle.wm_state.specs.Points.{moved, versioned}
 use Rattle.wm_state.specs.Standing.{Stands}
 use Rattle.wm_state.specs.State.{State}
@@ -19,8 +19,8 @@ use Rattle.wm_state.proofs.Tests.{both}
 -- ---- counters in order
 
 -- the work grows
-pub work_grows : (n : ℕ) → n ≤ n + line_work
-work_grows n = omega arith
+pub work_grows : (n work : ℕ) → n ≤ n + work
+work_grows n work = omega arith
 
 -- what counters in order are
 record Counted (c : Counters) : Type 0 where
@@ -42,24 +42,24 @@ counted_so c e =
     record { limit = f.0; stamped = s.0; left = s.1; early = g.0; work = k.0; versions = k.1 }
 
 -- the work has room
-in_work : (w : ℕ) → nat_lt counter_limit (w + line_work) ≡ false → nat_le (w + line_work) (2 ^ 62) ≡ true
-in_work w e = grind (arith, e)
+in_work : (w work : ℕ) → nat_lt counter_limit (w + work) ≡ false → nat_le (w + work) (2 ^ 62) ≡ true
+in_work w work e = grind (arith, e)
 
 -- a change is counted in the work
-pub counters_move : (c : Counters) (m : ℕ) → are_counters c ≡ true → nat_lt m END ≡ true → nat_lt counter_limit (c.work + line_work) ≡ false → are_counters (moved c m) ≡ true
-counters_move c m e early room =
-    let k = counted_so c e in rw (k.limit, k.stamped, k.left, early, in_work c.work room, still c.next_version c.work k.versions) refl
+pub counters_move : (c : Counters) (m work : ℕ) → are_counters c ≡ true → nat_lt m END ≡ true → nat_lt counter_limit (c.work + work) ≡ false → are_counters (moved c m work) ≡ true
+counters_move c m work e early room =
+    let k = counted_so c e in rw (k.limit, k.stamped, k.left, early, in_work c.work work room, still c.next_version c.work k.versions) refl
   where
-    still : (v w : ℕ) → nat_le v (w + 2) ≡ true → nat_le v (w + line_work + 2) ≡ true
+    still : (v w : ℕ) → nat_le v (w + 2) ≡ true → nat_le v (w + work + 2) ≡ true
     still v w e = grind (arith, e)
 
 -- so is a version more
-pub versioned_well : (c : Counters) (m : ℕ) → are_counters c ≡ true → nat_lt m END ≡ true → nat_lt counter_limit (c.work + line_work) ≡ false → are_counters (versioned c m) ≡ true
-versioned_well c m e early room =
-    let k = counted_so c e in rw (k.limit, k.stamped, k.left, early, in_work c.work room, still c.next_version c.work k.versions) refl
+pub versioned_well : (c : Counters) (m work : ℕ) → are_counters c ≡ true → nat_lt m END ≡ true → nat_lt 0 work ≡ true → nat_lt counter_limit (c.work + work) ≡ false → are_counters (versioned c m work) ≡ true
+versioned_well c m work e early some room =
+    let k = counted_so c e in rw (k.limit, k.stamped, k.left, early, in_work c.work work room, still c.next_version c.work k.versions) refl
   where
-    still : (v w : ℕ) → nat_le v (w + 2) ≡ true → nat_le (v + 1) (w + line_work + 2) ≡ true
-    still v w e = grind (arith, e)
+    still : (v w : ℕ) → nat_le v (w + 2) ≡ true → nat_le (v + 1) (w + work + 2) ≡ true
+    still v w e = grind (arith, e, some)
 
 -- more stamps are given
 pub stamped_by : (c : Counters) (k : ℕ) → are_counters c ≡ true → nat_le (c.next_stamp + k) (c.limit + 1) ≡ true → are_counters (record c { next_stamp = c.next_stamp + k }) ≡ true
@@ -80,16 +80,16 @@ pub counted_well : (p : Parts) (c : Counters) → keep_rules p ≡ true → p.co
 counted_well p c rules one = let r = ruled p rules in ap are_counters (sym (same_counters p c r.counters one r.one)) ∙ r.counted
 
 -- the work has room in them
-pub work_room : (p : Parts) (m : ℕ) (c : Counters) → CanWork p m → p.counters ≡ c ∷ [] → nat_lt counter_limit (c.work + line_work) ≡ false
-work_room p m c can one = ap (λ (d : Counters). nat_lt counter_limit (d.work + line_work)) (sym (same_counters p c can.counters one can.one)) ∙ can.room
+pub work_room : (p : Parts) (m work : ℕ) (c : Counters) → CanWork p m work → p.counters ≡ c ∷ [] → nat_lt counter_limit (c.work + work) ≡ false
+work_room p m work c can one = ap (λ (d : Counters). nat_lt counter_limit (d.work + work)) (sym (same_counters p c can.counters one can.one)) ∙ can.room
 
 -- they can be moved
-pub moved_well : (p : Parts) (m : ℕ) (c : Counters) → keep_rules p ≡ true → CanWork p m → p.counters ≡ c ∷ [] → are_counters (moved c m) ≡ true
-moved_well p m c rules can one = counters_move c m (counted_well p c rules one) can.early (work_room p m c can one)
+pub moved_well : (p : Parts) (m work : ℕ) (c : Counters) → keep_rules p ≡ true → CanWork p m work → p.counters ≡ c ∷ [] → are_counters (moved c m work) ≡ true
+moved_well p m work c rules can one = counters_move c m work (counted_well p c rules one) can.early (work_room p m work c can one)
 
 -- and a version more be counted
-pub version_well : (p : Parts) (m : ℕ) (c : Counters) → keep_rules p ≡ true → CanWork p m → p.counters ≡ c ∷ [] → are_counters (versioned c m) ≡ true
-version_well p m c rules can one = versioned_well c m (counted_well p c rules one) can.early (work_room p m c can one)
+pub version_well : (p : Parts) (m work : ℕ) (c : Counters) → keep_rules p ≡ true → CanWork p m work → p.counters ≡ c ∷ [] → are_counters (versioned c m work) ≡ true
+version_well p m work c rules can one = versioned_well c m work (counted_well p c rules one) can.early can.some (work_room p m work c can one)
 
 -- ---- the counters of the state
 

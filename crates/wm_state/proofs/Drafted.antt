@@ -12,8 +12,8 @@ use Rattle.wm_spec.specs.declared.record.stored.Stored.{Stored}
 use Rattle.wm_spec.specs.declared.record.table.Table.{Table}
 use Rattle.wm_state.specs.Batches.{AllUnder, create_batch, enable_batch, put, ready}
 use Rattle.wm_state.specs.ById.{Ascend, applied}
-use Rattle.wm_state.specs.Drafts.{CanCreate, CanWork, Drafts}
-use Rattle.wm_state.specs.Editing.{drafted, edited, enable_named, line_work}
+use Rattle.wm_state.specs.Drafts.{CanCreate, CanWork, Drafts, DraftsBy}
+use Rattle.wm_state.specs.Editing.{drafted_by, edited, enable_named, line_work}
 use Rattle.wm_state.specs.Points.{moved}
 use Rattle.wm_state.specs.Standing.{Stands, by_number}
 use Rattle.wm_state.specs.State.{Readiness, State, table_named}
@@ -28,6 +28,7 @@ use Rattle.wm_state.proofs.Planning.{parts-created}
 use Rattle.wm_state.proofs.RowsStay.{counters_no_row, new_no_row, rows_stay, table_no_row}
 use Rattle.wm_state.proofs.Tables.{MayCreate, keep-created}
 use Rattle.wm_state.proofs.Tests.{bool_apart}
+use Rattle.wm_state.proofs.WorkedOn.{counted_put, first_change}
 
 -- ---- nothing
 
@@ -36,17 +37,22 @@ none_changes : AreChanges []
 unfolding ids_differ
 none_changes = refl
 
--- without edits nothing changes
-pub drafts_nothing : (rs : List Stored) (m : ℕ) → keep_rules (parts_of rs) ≡ true → Drafts rs m [] []
-drafts_nothing rs m rules = record {
+-- without edits nothing changes, whatever the work
+pub drafts_none : (work : ℕ) (rs : List Stored) (m : ℕ) → keep_rules (parts_of rs) ≡ true → DraftsBy work rs m [] []
+drafts_none work rs m rules = record {
   keeps = rules;
   once = none_changes;
   stands = λ s st. st;
   rows = λ id r found. found;
   kept = refl;
+  counted = λ some. absurd (some refl);
   nothing = λ none. refl;
   few = λ forks. record { count = omega arith; rows = refl; pieces = refl; hists = refl };
 }
+
+-- nor in a line
+pub drafts_nothing : (rs : List Stored) (m : ℕ) → keep_rules (parts_of rs) ≡ true → Drafts rs m [] []
+drafts_nothing = drafts_none line_work
 
 -- one edit is not none
 pub some_edit : (e : Edit) (es : List Edit) (cs : List Change) → e ∷ es ≡ [] → cs ≡ []
@@ -55,13 +61,14 @@ some_edit e es cs none = cc
 -- ---- a table is made
 
 -- such a table may be made
-may_create : (rs : List Stored) (m : ℕ) (t : Table) (c : Counters) → keep_rules (parts_of rs) ≡ true → CanWork (parts_of rs) m → CanCreate (parts_of rs) t → (parts_of rs).counters ≡ c ∷ [] → MayCreate (parts_of rs) c (moved c m) t
-may_create rs m t c rules work can one = record {
+may_create : (rs : List Stored) (m work : ℕ) (t : Table) (c : Counters) → keep_rules (parts_of rs) ≡ true → CanWork (parts_of rs) m work → CanCreate (parts_of rs) t → (parts_of rs).counters ≡ c ∷ []
+    → MayCreate (parts_of rs) c (moved c m work) t
+may_create rs m work t c rules can_work can one = record {
   one = one;
-  counters = moved_well (parts_of rs) m c rules work one;
+  counters = moved_well (parts_of rs) m work c rules can_work one;
   versions = refl;
   stamps = refl;
-  work = work_grows c.work;
+  work = work_grows c.work work;
   is = can.is;
   room = can.room;
   number = can.number;
@@ -69,26 +76,33 @@ may_create rs m t c rules work can one = record {
 }
 
 -- the batch makes of the records what the table makes of each state
-pub drafts_created : (rs : List Stored) (m : ℕ) (t : Table) (c : Counters) (counters_id id : ℕ) → keep_rules (parts_of rs) ≡ true → CanWork (parts_of rs) m → CanCreate (parts_of rs) t
-    → (parts_of rs).counters ≡ c ∷ [] → record_at rs counters_id ≡ Some (records.Counters c) → Ascend rs → AllUnder id rs → Drafts rs m (edits.Create t ∷ []) (create_batch counters_id (moved c m) id t)
-drafts_created rs m t c counters_id id rules work can one there sorted under = record {
-  keeps = subst (λ p. keep_rules p ≡ true) (sym (parts-created rs counters_id id c (moved c m) t sorted there one under)) (keep-created (parts_of rs) c (moved c m) t may rules);
-  once = two_changes (put counters_id (records.Counters (moved c m))) (put id (records.Table t)) (below counters_id id (under_found id rs counters_id (records.Counters c) under there));
+pub drafts_created : (rs : List Stored) (m work : ℕ) (t : Table) (c : Counters) (counters_id id : ℕ) → keep_rules (parts_of rs) ≡ true → CanWork (parts_of rs) m work → CanCreate (parts_of rs) t
+    → (parts_of rs).counters ≡ c ∷ [] → record_at rs counters_id ≡ Some (records.Counters c) → Ascend rs → AllUnder id rs → DraftsBy work rs m (edits.Create t ∷ []) (create_batch counters_id (moved c m work) id t)
+drafts_created rs m work t c counters_id id rules can_work can one there sorted under = record {
+  keeps = keeps;
+  once = once;
   stands = λ s st.
       let counts = counts_as (parts_of rs) s c st one in
-      plan_created rs counters_id id c (moved c m) t s (drafted m (edits.Create t ∷ []) s) st sorted there under may refl refl
-      (record { counters = moved c m; one = refl; next_stamp = counts.next_stamp; last_moment = refl; limit = counts.limit; work = ap (λ w. w + line_work) counts.work });
-  rows = rows_stay rs (create_batch counters_id (moved c m) id t) (λ k r found. (counters_no_row rs counters_id k c r there found, (new_no_row rs id k r under found, tt)));
+      plan_created rs counters_id id c (moved c m work) t s (drafted_by work m (edits.Create t ∷ []) s) st sorted there under may refl refl
+      (record { counters = moved c m work; one = refl; next_stamp = counts.next_stamp; last_moment = refl; limit = counts.limit; work = ap (λ w. w + work) counts.work });
+  rows = rows_stay rs (create_batch counters_id (moved c m work) id t) (λ k r found. (counters_no_row rs counters_id k c r there found, (new_no_row rs id k r under found, tt)));
   kept = refl;
-  nothing = some_edit (edits.Create t) [] (create_batch counters_id (moved c m) id t);
+  counted = λ some. counted_put rs work counters_id c (moved c m work) (create_batch counters_id (moved c m work) id t) sorted one once (first_change counters_id _ _) keeps refl;
+  nothing = some_edit (edits.Create t) [] (create_batch counters_id (moved c m work) id t);
   few = λ forks. absurd (bool_apart (sym forks));
 }
   where
     below : (a b : ℕ) → a < b → a ≡ b → ⊥
     below a b lt e = omega (arith, lt, e)
 
-    may : MayCreate (parts_of rs) c (moved c m) t
-    may = may_create rs m t c rules work can one
+    may : MayCreate (parts_of rs) c (moved c m work) t
+    may = may_create rs m work t c rules can_work can one
+
+    keeps : keep_rules (parts_of (applied (create_batch counters_id (moved c m work) id t) rs)) ≡ true
+    keeps = subst (λ p. keep_rules p ≡ true) (sym (parts-created rs counters_id id c (moved c m work) t sorted there one under)) (keep-created (parts_of rs) c (moved c m work) t may rules)
+
+    once : AreChanges (create_batch counters_id (moved c m work) id t)
+    once = two_changes (put counters_id (records.Counters (moved c m work))) (put id (records.Table t)) (below counters_id id (under_found id rs counters_id (records.Counters c) under there))
 
 -- ---- a table becomes ready
 
@@ -98,20 +112,21 @@ enabled_so : (rs : List Stored) (m : ℕ) (name : List ℕ) (valid history : Boo
 enabled_so rs m name valid history t s st named = ap (λ o. unwrap_or (option_map (enable_named (record { valid = valid; history = history }) s) o) s) (ap (table_named name) (sym st.tables.same) ∙ named)
 
 -- the batch makes of the records what its readiness makes of each state
-pub drafts_enabled : (rs : List Stored) (m : ℕ) (name : List ℕ) (valid history : Bool) (t : Table) (c : Counters) (counters_id id : ℕ) → keep_rules (parts_of rs) ≡ true → CanWork (parts_of rs) m
+pub drafts_enabled : (rs : List Stored) (m work : ℕ) (name : List ℕ) (valid history : Bool) (t : Table) (c : Counters) (counters_id id : ℕ) → keep_rules (parts_of rs) ≡ true → CanWork (parts_of rs) m work
     → table_named name (by_number (parts_of rs).tables) ≡ Some t → t.has_key ≡ true → (parts_of rs).counters ≡ c ∷ [] → record_at rs counters_id ≡ Some (records.Counters c) → record_at rs id ≡ Some (records.Table t) → Ascend rs
-    → Drafts rs m (edits.Enable name valid history ∷ []) (enable_batch counters_id (moved c m) id (record { valid = valid; history = history }) t)
-drafts_enabled rs m name valid history t c counters_id id rules can named key one there found sorted = record {
-  keeps = by_parts (parts-readied rs counters_id id c (moved c m) how t sorted there one found);
-  once = two_changes (put counters_id (records.Counters (moved c m))) (put id (records.Table (ready how t))) apart;
+    → DraftsBy work rs m (edits.Enable name valid history ∷ []) (enable_batch counters_id (moved c m work) id (record { valid = valid; history = history }) t)
+drafts_enabled rs m work name valid history t c counters_id id rules can_work named key one there found sorted = record {
+  keeps = keeps;
+  once = once;
   stands = λ s st.
       let counts = counts_as (parts_of rs) s c st one in
-      subst (λ (u : State). Stands (parts_of (applied (enable_batch counters_id (moved c m) id how t) rs)) (record u { last_moment = m; work = s.work + line_work })) (sym (enabled_so rs m name valid history t s st named))
-      (plan_readied rs counters_id id c (moved c m) how t s _ st sorted there one found key counts_well refl refl (work_grows c.work) refl refl
-      (λ front back. record { counters = moved c m; one = refl; next_stamp = counts.next_stamp; last_moment = refl; limit = counts.limit; work = ap (λ w. w + line_work) counts.work }));
-  rows = rows_stay rs (enable_batch counters_id (moved c m) id how t) (λ k r row. (counters_no_row rs counters_id k c r there row, (table_no_row rs id k t r found row, tt)));
+      subst (λ (u : State). Stands (parts_of (applied (enable_batch counters_id (moved c m work) id how t) rs)) (record u { last_moment = m; work = s.work + work })) (sym (enabled_so rs m name valid history t s st named))
+      (plan_readied rs counters_id id c (moved c m work) how t s _ st sorted there one found key counts_well refl refl (work_grows c.work work) refl refl
+      (λ front back. record { counters = moved c m work; one = refl; next_stamp = counts.next_stamp; last_moment = refl; limit = counts.limit; work = ap (λ w. w + work) counts.work }));
+  rows = rows_stay rs (enable_batch counters_id (moved c m work) id how t) (λ k r row. (counters_no_row rs counters_id k c r there row, (table_no_row rs id k t r found row, tt)));
   kept = refl;
-  nothing = some_edit (edits.Enable name valid history) [] (enable_batch counters_id (moved c m) id how t);
+  counted = λ some. counted_put rs work counters_id c (moved c m work) (enable_batch counters_id (moved c m work) id how t) sorted one once (first_change counters_id _ _) keeps refl;
+  nothing = some_edit (edits.Enable name valid history) [] (enable_batch counters_id (moved c m work) id how t);
   few = λ forks. absurd (bool_apart (sym forks));
 }
   where
@@ -127,12 +142,18 @@ drafts_enabled rs m name valid history t c counters_id id rules can named key on
     apart : counters_id ≢ id
     apart e = kinds_apart (some_record _ _ (sym there ∙ ap (record_at rs) e ∙ found))
 
-    counts_well : are_counters (moved c m) ≡ true
-    counts_well = moved_well (parts_of rs) m c rules can one
+    counts_well : are_counters (moved c m work) ≡ true
+    counts_well = moved_well (parts_of rs) m work c rules can_work one
 
-    by_parts : Readied rs (enable_batch counters_id (moved c m) id how t) (moved c m) how t → keep_rules (parts_of (applied (enable_batch counters_id (moved c m) id how t) rs)) ≡ true
+    by_parts : Readied rs (enable_batch counters_id (moved c m work) id how t) (moved c m work) how t → keep_rules (parts_of (applied (enable_batch counters_id (moved c m work) id how t) rs)) ≡ true
     by_parts r = subst (λ p. keep_rules p ≡ true) (sym r.is)
-        (keep-readied (parts_of rs) (moved c m) r.front how t r.back rules r.old key counts_well
+        (keep-readied (parts_of rs) (moved c m work) r.front how t r.back rules r.old key counts_well
         (λ d is_one.
         let same : c ≡ d = same_counters (parts_of rs) d c is_one one in
-        (ap (λ (k : Counters). k.next_version) same, ap (λ (k : Counters). k.next_stamp) same, subst (λ (k : Counters). k.work ≤ (moved c m).work) same (work_grows c.work))))
+        (ap (λ (k : Counters). k.next_version) same, ap (λ (k : Counters). k.next_stamp) same, subst (λ (k : Counters). k.work ≤ (moved c m work).work) same (work_grows c.work work))))
+
+    keeps : keep_rules (parts_of (applied (enable_batch counters_id (moved c m work) id how t) rs)) ≡ true
+    keeps = by_parts (parts-readied rs counters_id id c (moved c m work) how t sorted there one found)
+
+    once : AreChanges (enable_batch counters_id (moved c m work) id how t)
+    once = two_changes (put counters_id (records.Counters (moved c m work))) (put id (records.Table (ready how t))) apart

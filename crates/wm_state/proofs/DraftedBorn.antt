@@ -7,7 +7,9 @@ use Rattle.std.specs.Option.{option_and_then, option_map, unwrap_or}
 use Rattle.std.specs.Str.{bytes_eq}
 use Rattle.wm_graph.specs.Parts.{Parts, parts_of, space_of}
 use Rattle.wm_graph.specs.Rules.{keep_rules, is_short}
+use Rattle.wm_spec.specs.Records.{AreChanges}
 use Rattle.wm_spec.specs.declared.record.Record.TheVariants as records
+use Rattle.wm_spec.specs.declared.record.batch.Change.{Change}
 use Rattle.wm_spec.specs.declared.record.counters.Counters.{Counters}
 use Rattle.wm_spec.specs.declared.record.savepoint.Savepoint.{Savepoint as Record}
 use Rattle.wm_spec.specs.declared.record.space.FreezeMode.TheVariants.{Free}
@@ -16,8 +18,8 @@ use Rattle.wm_spec.specs.declared.record.stored.Stored.{Stored}
 use Rattle.wm_spec.specs.declared.record.version.Version.{Version}
 use Rattle.wm_state.specs.Batches.{birth_batch}
 use Rattle.wm_state.specs.ById.{applied}
-use Rattle.wm_state.specs.Drafts.{CanBear, CanWork, Drafts}
-use Rattle.wm_state.specs.Editing.{bear_in, born, child_of, edited, implicit_front, implicit_name, line_work, number_limit, place_behind, saved_at, stand_of}
+use Rattle.wm_state.specs.Drafts.{CanBear, CanWork, DraftsBy}
+use Rattle.wm_state.specs.Editing.{bear_in, born, child_of, edited, implicit_front, implicit_name, number_limit, place_behind, saved_at, stand_of}
 use Rattle.wm_state.specs.Effects.{marked}
 use Rattle.wm_state.specs.Points.{HasRoom, Point, birth_record, child_record, child_version, implicit_of, next_place_at, point_at, versioned}
 use Rattle.wm_state.specs.Standing.{SpaceFields, Stands}
@@ -36,6 +38,7 @@ use Rattle.wm_state.proofs.Points.{MadeAt, MakesAt, is_point, made_there, may_sa
 use Rattle.wm_state.proofs.RowsStay.{below_apart, counters_no_row, rows_stay, space_no_row}
 use Rattle.wm_state.proofs.Settled.{Places, PlacesApart, places_apart}
 use Rattle.wm_state.proofs.Spaces.{IsSpace, next_space_same, numbers_under}
+use Rattle.wm_state.proofs.WorkedOn.{counted_put, first_change}
 
 -- ---- the savepoint
 
@@ -53,17 +56,18 @@ implicit_short n few = ap (λ k. nat_le k 30) (length-append implicit_front (dec
     four_more k le = grind (arith, le)
 
 -- what is asked of it
-pub bears_so : (p : Parts) (m n : ℕ) (at : Option ℕ) (name : List ℕ) (a : Space) (pt : Point) (c : Counters) → keep_rules p ≡ true → CanWork p m → CanBear p m n at name → space_of p.spaces n ≡ Some a
-    → point_at p a m (stand_of at) ≡ Some pt → p.counters ≡ c ∷ [] → MakesAt p a c m (stand_of at) pt (implicit_of a)
-bears_so p m n at name a pt c rules work can there point one = record {
+pub bears_so : (p : Parts) (m work n : ℕ) (at : Option ℕ) (name : List ℕ) (a : Space) (pt : Point) (c : Counters) → keep_rules p ≡ true → CanWork p m work → CanBear p m n at name → space_of p.spaces n ≡ Some a
+    → point_at p a m (stand_of at) ≡ Some pt → p.counters ≡ c ∷ [] → MakesAt p a c m work (stand_of at) pt (implicit_of a)
+bears_so p m work n at name a pt c rules can_work can there point one = record {
   rules = rules;
   one = one;
   there = home_there p n a there;
   point = point;
   short = implicit_short a.next_implicit (ap (λ (b : Space). nat_lt number_limit (b.next_implicit + 1)) (sym same) ∙ can.implicits);
   room = subst (λ (b : Space). HasRoom p b (implicit_of b)) same can.room;
-  early = work.early;
-  spare = work_room p m c work one;
+  early = can_work.early;
+  some = can_work.some;
+  spare = work_room p m work c can_work one;
 }
   where
     same : can.space ≡ a
@@ -113,21 +117,21 @@ same_spaces p s a w stand k is =
     ∙ ap (λ (f : SpaceFields). with_space a.number (with_savepoint (next_place_at a stand) (f.next_implicit + 1) k) s.spaces) (sym is.fields)
 
 -- what a birth is asked of the records that are looked up by id
-may_birth : (rs : List Stored) (m n : ℕ) (at : Option ℕ) (name : List ℕ) (a : Space) (pt : Point) (c : Counters) (counters_id space_id id : ℕ) → keep_rules (parts_of rs) ≡ true → CanWork (parts_of rs) m
+may_birth : (rs : List Stored) (m work n : ℕ) (at : Option ℕ) (name : List ℕ) (a : Space) (pt : Point) (c : Counters) (counters_id space_id id : ℕ) → keep_rules (parts_of rs) ≡ true → CanWork (parts_of rs) m work
     → CanBear (parts_of rs) m n at name → space_of (parts_of rs).spaces n ≡ Some a → point_at (parts_of rs) a m (stand_of at) ≡ Some pt → Places rs counters_id space_id id c a
-    → MayBirth rs counters_id space_id id c (versioned c m) a (next_place_at a (stand_of at)) (a.next_implicit + 1) (birth_record (parts_of rs) a pt) a (child_record (parts_of rs) a m name pt) (child_version (parts_of rs) c pt)
-may_birth rs m n at name a pt c counters_id space_id id rules work can there point places = record {
+    → MayBirth rs counters_id space_id id c (versioned c m work) a (next_place_at a (stand_of at)) (a.next_implicit + 1) (birth_record (parts_of rs) a pt) a (child_record (parts_of rs) a m name pt) (child_version (parts_of rs) c pt)
+may_birth rs m work n at name a pt c counters_id space_id id rules can_work can there point places = record {
   sorted = places.sorted;
   counters = places.counters;
   space = places.space;
   under = places.under;
-  save = λ front back spaces. may_save p a c m (stand_of at) pt (implicit_of a) true (a.next_implicit + 1) (bears_so p m n at name a pt c rules work can there point places.one) (one_more a.next_implicit) front back spaces;
+  save = λ front back spaces. may_save p a c m work (stand_of at) pt (implicit_of a) true (a.next_implicit + 1) (bears_so p m work n at name a pt c rules can_work can there point places.one) (one_more a.next_implicit) front back spaces;
   bear = record {
     one = places.one;
-    counters = version_well p m c rules work places.one;
+    counters = version_well p m work c rules can_work places.one;
     stamps = refl;
     next = refl;
-    work = work_grows c.work;
+    work = work_grows c.work work;
     room = few (length p.spaces) can.few;
     after = numbers_under p.spaces;
     unnamed = any-if (λ (r : Space). bytes_eq name r.name) (λ (r : Space). bytes_eq r.name name) (λ r same. (bytes_eq-Decides name r.name).1 (sym ((bytes_eq-Decides r.name name).0 same))) p.spaces
@@ -159,32 +163,33 @@ may_birth rs m n at name a pt c counters_id space_id id rules work can there poi
     few k e = grind (arith, e)
 
 -- the batch makes of the records what the birth makes of each state
-pub drafts_born : (rs : List Stored) (m n : ℕ) (at : Option ℕ) (name : List ℕ) (a : Space) (pt : Point) (c : Counters) (counters_id space_id id : ℕ) → keep_rules (parts_of rs) ≡ true → CanWork (parts_of rs) m
+pub drafts_born : (rs : List Stored) (m work n : ℕ) (at : Option ℕ) (name : List ℕ) (a : Space) (pt : Point) (c : Counters) (counters_id space_id id : ℕ) → keep_rules (parts_of rs) ≡ true → CanWork (parts_of rs) m work
     → CanBear (parts_of rs) m n at name → space_of (parts_of rs).spaces n ≡ Some a → point_at (parts_of rs) a m (stand_of at) ≡ Some pt → Places rs counters_id space_id id c a
-    → Drafts rs m (edits.Bear n at name ∷ [])
-    (birth_batch counters_id (versioned c m) space_id (marked (next_place_at a (stand_of at)) (a.next_implicit + 1) a) id (birth_record (parts_of rs) a pt) (child_record (parts_of rs) a m name pt) (child_version (parts_of rs) c pt))
-drafts_born rs m n at name a pt c counters_id space_id id rules work can there point places = record {
-  keeps = keep_plan_birth rs counters_id space_id id c (versioned c m) a place implicit x a r v rules birth;
-  once = changes-birth counters_id (versioned c m) space_id (marked place implicit a) id x r v apart.apart apart.counters apart.space;
+    → DraftsBy work rs m (edits.Bear n at name ∷ [])
+    (birth_batch counters_id (versioned c m work) space_id (marked (next_place_at a (stand_of at)) (a.next_implicit + 1) a) id (birth_record (parts_of rs) a pt) (child_record (parts_of rs) a m name pt) (child_version (parts_of rs) c pt))
+drafts_born rs m work n at name a pt c counters_id space_id id rules can_work can there point places = record {
+  keeps = keeps;
+  once = once;
   stands = λ s st.
       let h = home_of (parts_of rs) s n a st there in
       let k = made_there (parts_of rs) s a h.workspace m (stand_of at) pt (implicit_of a) true st h.is point in
       let counts = counts_as (parts_of rs) s c st places.one in
-      subst (λ (u : State). Stands (parts_of (applied (birth_batch counters_id (versioned c m) space_id (marked place implicit a) id x r v) rs)) (record u { last_moment = m; work = s.work + line_work }))
+      subst (λ (u : State). Stands (parts_of (applied (birth_batch counters_id (versioned c m work) space_id (marked place implicit a) id x r v) rs)) (record u { last_moment = m; work = s.work + work }))
       (sym (born_so m n at name s h.workspace k.savepoint h.found (ap (λ i. saved_at m s.spaces h.workspace (stand_of at) i true) (implicit_same (parts_of rs) s a h.workspace h.is) ∙ k.is)))
-      (plan_birth rs counters_id space_id id c (versioned c m) a place implicit x a r v h.workspace (child_of m s.spaces h.workspace k.savepoint name) k.savepoint (kept k.savepoint) s _ st birth h.is.found k.kept
+      (plan_birth rs counters_id space_id id c (versioned c m work) a place implicit x a r v h.workspace (child_of m s.spaces h.workspace k.savepoint name) k.savepoint (kept k.savepoint) s _ st birth h.is.found k.kept
       (child_same (parts_of rs) s a m h.workspace (stand_of at) name pt st h.is k)
       (ap (λ ws. ws ++ child_of m s.spaces h.workspace k.savepoint name ∷ []) (same_spaces (parts_of rs) s a h.workspace (stand_of at) k.savepoint h.is)) refl
-      (record { counters = versioned c m; one = refl; next_stamp = counts.next_stamp; last_moment = refl; limit = counts.limit; work = ap (λ w. w + line_work) counts.work }));
-  rows = rows_stay rs (birth_batch counters_id (versioned c m) space_id (marked place implicit a) id x r v)
+      (record { counters = versioned c m work; one = refl; next_stamp = counts.next_stamp; last_moment = refl; limit = counts.limit; work = ap (λ w. w + work) counts.work }));
+  rows = rows_stay rs (birth_batch counters_id (versioned c m work) space_id (marked place implicit a) id x r v)
       (λ k row found.
       let low = under_found id rs k (records.Row row) places.under found in (
         counters_no_row rs counters_id k c row places.counters found,
         (space_no_row rs space_id k a row places.space found, (below_apart k id low, (below_apart k (id + 1) (behind k 1 low), (below_apart k (id + 2) (behind k 2 low), tt)))),
       ));
   kept = refl;
-  nothing = some_edit (edits.Bear n at name) [] (birth_batch counters_id (versioned c m) space_id (marked place implicit a) id x r v);
-  few = λ forks. few_birth rs counters_id space_id c (versioned c m) a place implicit id x r v places;
+  counted = λ some. counted_put rs work counters_id c (versioned c m work) batch places.sorted places.one once (first_change counters_id _ _) keeps refl;
+  nothing = some_edit (edits.Bear n at name) [] (birth_batch counters_id (versioned c m work) space_id (marked place implicit a) id x r v);
+  few = λ forks. few_birth rs counters_id space_id c (versioned c m work) a place implicit id x r v places;
 }
   where
     place : ℕ
@@ -208,5 +213,14 @@ drafts_born rs m n at name a pt c counters_id space_id id rules work can there p
     behind : (k more : ℕ) → k < id → k < id + more
     behind k more low = omega (arith, low)
 
-    birth : MayBirth rs counters_id space_id id c (versioned c m) a place implicit x a r v
-    birth = may_birth rs m n at name a pt c counters_id space_id id rules work can there point places
+    birth : MayBirth rs counters_id space_id id c (versioned c m work) a place implicit x a r v
+    birth = may_birth rs m work n at name a pt c counters_id space_id id rules can_work can there point places
+
+    batch : List Change
+    batch = birth_batch counters_id (versioned c m work) space_id (marked place implicit a) id x r v
+
+    keeps : keep_rules (parts_of (applied batch rs)) ≡ true
+    keeps = keep_plan_birth rs counters_id space_id id c (versioned c m work) a place implicit x a r v rules birth
+
+    once : AreChanges batch
+    once = changes-birth counters_id (versioned c m work) space_id (marked place implicit a) id x r v apart.apart apart.counters apart.space

@@ -3,14 +3,16 @@ use Rattle.std.proofs.Common.{◌≡◌, ℕ, ◌+◌, ◌≤◌, true, false, L
 use Rattle.std.specs.Option.{option_and_then, option_map, unwrap_or}
 use Rattle.wm_graph.specs.Parts.{Parts, parts_of, space_of}
 use Rattle.wm_graph.specs.Rules.{keep_rules}
+use Rattle.wm_spec.specs.Records.{AreChanges}
+use Rattle.wm_spec.specs.declared.record.batch.Change.{Change}
 use Rattle.wm_spec.specs.declared.record.counters.Counters.{Counters}
 use Rattle.wm_spec.specs.declared.record.savepoint.Savepoint.{Savepoint as Record}
 use Rattle.wm_spec.specs.declared.record.space.Space.{Space}
 use Rattle.wm_spec.specs.declared.record.stored.Stored.{Stored}
 use Rattle.wm_state.specs.Batches.{savepoint_batch}
 use Rattle.wm_state.specs.ById.{applied}
-use Rattle.wm_state.specs.Drafts.{CanSave, CanWork, Drafts}
-use Rattle.wm_state.specs.Editing.{edited, line_work, save_in, saved, saved_at}
+use Rattle.wm_state.specs.Drafts.{CanSave, CanWork, DraftsBy}
+use Rattle.wm_state.specs.Editing.{edited, save_in, saved, saved_at}
 use Rattle.wm_state.specs.Effects.{marked}
 use Rattle.wm_state.specs.Points.{HasRoom, moved, newest_point, saved_record}
 use Rattle.wm_state.specs.Standing.{SpaceFields, Stands}
@@ -26,6 +28,7 @@ use Rattle.wm_state.proofs.Points.{MakesAt, made_there, may_save}
 use Rattle.wm_state.proofs.RowsStay.{counters_no_row, new_no_row, rows_stay, space_no_row}
 use Rattle.wm_state.proofs.Settled.{Places, PlacesApart, places_apart}
 use Rattle.wm_state.proofs.Spaces.{IsSpace, space_is}
+use Rattle.wm_state.proofs.WorkedOn.{counted_put, first_change}
 
 -- ---- the workspace
 
@@ -64,40 +67,42 @@ saved_so m n name s w k found made =
     ap (λ o. unwrap_or (option_and_then (save_in m name s) o) s) found ∙ ap (λ o. unwrap_or (option_map (λ (j : Savepoint). saved w.number (w.next_place + 1) w.next_implicit j s) o) s) made
 
 -- what is asked of it
-saves_so : (p : Parts) (m n : ℕ) (name : List ℕ) (a : Space) (c : Counters) → keep_rules p ≡ true → CanWork p m → CanSave p n name → space_of p.spaces n ≡ Some a → p.counters ≡ c ∷ []
-    → MakesAt p a c m Latest (newest_point p a m) name
-saves_so p m n name a c rules work can there one = record {
+saves_so : (p : Parts) (m work n : ℕ) (name : List ℕ) (a : Space) (c : Counters) → keep_rules p ≡ true → CanWork p m work → CanSave p n name → space_of p.spaces n ≡ Some a → p.counters ≡ c ∷ []
+    → MakesAt p a c m work Latest (newest_point p a m) name
+saves_so p m work n name a c rules can_work can there one = record {
   rules = rules;
   one = one;
   there = home_there p n a there;
   point = refl;
   short = can.short;
   room = subst (λ b. HasRoom p b name) (one_space can.space a (sym can.there ∙ there)) can.room;
-  early = work.early;
-  spare = work_room p m c work one;
+  early = can_work.early;
+  some = can_work.some;
+  spare = work_room p m work c can_work one;
 }
 
 -- the batch makes of the records what the savepoint makes of each state
-pub drafts_saved : (rs : List Stored) (m n : ℕ) (name : List ℕ) (a : Space) (c : Counters) (counters_id space_id id : ℕ) → keep_rules (parts_of rs) ≡ true → CanWork (parts_of rs) m → CanSave (parts_of rs) n name
+pub drafts_saved : (rs : List Stored) (m work n : ℕ) (name : List ℕ) (a : Space) (c : Counters) (counters_id space_id id : ℕ) → keep_rules (parts_of rs) ≡ true → CanWork (parts_of rs) m work → CanSave (parts_of rs) n name
     → space_of (parts_of rs).spaces n ≡ Some a → Places rs counters_id space_id id c a
-    → Drafts rs m (edits.Save n name ∷ []) (savepoint_batch counters_id (moved c m) space_id (marked (a.next_place + 1) a.next_implicit a) id (saved_record (parts_of rs) a m name))
-drafts_saved rs m n name a c counters_id space_id id rules work can there at = record {
-  keeps = keep_plan_saved rs counters_id space_id c (moved c m) a (a.next_place + 1) a.next_implicit id x rules at.sorted at.counters at.one at.space at.under may_keep;
-  once = changes-saved counters_id (moved c m) space_id (marked (a.next_place + 1) a.next_implicit a) id x apart.apart apart.counters apart.space;
+    → DraftsBy work rs m (edits.Save n name ∷ []) (savepoint_batch counters_id (moved c m work) space_id (marked (a.next_place + 1) a.next_implicit a) id (saved_record (parts_of rs) a m name))
+drafts_saved rs m work n name a c counters_id space_id id rules can_work can there at = record {
+  keeps = keeps;
+  once = once;
   stands = λ s st.
       let h = home_of (parts_of rs) s n a st there in
       let k = made_there (parts_of rs) s a h.workspace m Latest (newest_point (parts_of rs) a m) name false st h.is refl in
       let counts = counts_as (parts_of rs) s c st at.one in
-      subst (λ (u : State). Stands (parts_of (applied (savepoint_batch counters_id (moved c m) space_id (marked (a.next_place + 1) a.next_implicit a) id x) rs)) (record u { last_moment = m; work = s.work + line_work }))
+      subst (λ (u : State). Stands (parts_of (applied (savepoint_batch counters_id (moved c m work) space_id (marked (a.next_place + 1) a.next_implicit a) id x) rs)) (record u { last_moment = m; work = s.work + work }))
       (sym (saved_so m n name s h.workspace k.savepoint h.found k.is))
-      (plan_saved rs counters_id space_id c (moved c m) a (a.next_place + 1) a.next_implicit id x h.workspace k.savepoint s _ st at.sorted at.counters at.one at.space at.under may_keep
+      (plan_saved rs counters_id space_id c (moved c m work) a (a.next_place + 1) a.next_implicit id x h.workspace k.savepoint s _ st at.sorted at.counters at.one at.space at.under may_keep
       h.is.found k.kept (same_spaces (parts_of rs) s a h.workspace k.savepoint h.is) refl
-      (record { counters = moved c m; one = refl; next_stamp = counts.next_stamp; last_moment = refl; limit = counts.limit; work = ap (λ w. w + line_work) counts.work }));
-  rows = rows_stay rs (savepoint_batch counters_id (moved c m) space_id (marked (a.next_place + 1) a.next_implicit a) id x)
+      (record { counters = moved c m work; one = refl; next_stamp = counts.next_stamp; last_moment = refl; limit = counts.limit; work = ap (λ w. w + work) counts.work }));
+  rows = rows_stay rs (savepoint_batch counters_id (moved c m work) space_id (marked (a.next_place + 1) a.next_implicit a) id x)
       (λ k r found. (counters_no_row rs counters_id k c r at.counters found, (space_no_row rs space_id k a r at.space found, (new_no_row rs id k r at.under found, tt))));
   kept = refl;
-  nothing = some_edit (edits.Save n name) [] (savepoint_batch counters_id (moved c m) space_id (marked (a.next_place + 1) a.next_implicit a) id x);
-  few = λ forks. few_saved rs counters_id space_id c (moved c m) a (a.next_place + 1) a.next_implicit id x at;
+  counted = λ some. counted_put rs work counters_id c (moved c m work) batch at.sorted at.one once (first_change counters_id _ _) keeps refl;
+  nothing = some_edit (edits.Save n name) [] (savepoint_batch counters_id (moved c m work) space_id (marked (a.next_place + 1) a.next_implicit a) id x);
+  few = λ forks. few_saved rs counters_id space_id c (moved c m work) a (a.next_place + 1) a.next_implicit id x at;
 }
   where
     x : Record
@@ -109,6 +114,15 @@ drafts_saved rs m n name a c counters_id space_id id rules work can there at = r
     itself : (k : ℕ) → k ≤ k
     itself k = omega arith
 
-    may_keep : (front back : List Space) → (parts_of rs).spaces ≡ front ++ a ∷ back → MaySave (parts_of rs) c (moved c m) front a back (a.next_place + 1) a.next_implicit x
+    may_keep : (front back : List Space) → (parts_of rs).spaces ≡ front ++ a ∷ back → MaySave (parts_of rs) c (moved c m work) front a back (a.next_place + 1) a.next_implicit x
     may_keep front back spaces =
-        may_save (parts_of rs) a c m Latest (newest_point (parts_of rs) a m) name false a.next_implicit (saves_so (parts_of rs) m n name a c rules work can there at.one) (itself a.next_implicit) front back spaces
+        may_save (parts_of rs) a c m work Latest (newest_point (parts_of rs) a m) name false a.next_implicit (saves_so (parts_of rs) m work n name a c rules can_work can there at.one) (itself a.next_implicit) front back spaces
+
+    batch : List Change
+    batch = savepoint_batch counters_id (moved c m work) space_id (marked (a.next_place + 1) a.next_implicit a) id x
+
+    keeps : keep_rules (parts_of (applied batch rs)) ≡ true
+    keeps = keep_plan_saved rs counters_id space_id c (moved c m work) a (a.next_place + 1) a.next_implicit id x rules at.sorted at.counters at.one at.space at.under may_keep
+
+    once : AreChanges batch
+    once = changes-saved counters_id (moved c m work) space_id (marked (a.next_place + 1) a.next_implicit a) id x apart.apart apart.counters apart.space

@@ -10,6 +10,7 @@ use Rattle.wm_spec.specs.Lists.{Entry}
 use Rattle.wm_spec.specs.Records.{AreChanges, ids_differ, record_at}
 use Rattle.wm_spec.specs.declared.record.Record.{Record}
 use Rattle.wm_spec.specs.declared.record.Record.TheVariants as records
+use Rattle.wm_spec.specs.declared.record.batch.Change.{Change}
 use Rattle.wm_spec.specs.declared.record.counters.Counters.{Counters}
 use Rattle.wm_spec.specs.declared.record.hist.Hist.{Hist}
 use Rattle.wm_spec.specs.declared.record.piece.PieceRecord.{PieceRecord}
@@ -17,9 +18,10 @@ use Rattle.wm_spec.specs.declared.record.row.RowRecord.{RowRecord}
 use Rattle.wm_spec.specs.declared.record.space.Space.{Space}
 use Rattle.wm_spec.specs.declared.record.stored.Stored.{Stored}
 use Rattle.wm_state.specs.Batches.{AllUnder, AreDropped, is_dropped, keeps}
-use Rattle.wm_state.specs.Drafts.{CanAppend, CanWork, Drafts}
+use Rattle.wm_state.specs.ById.{applied}
+use Rattle.wm_state.specs.Drafts.{CanAppend, CanWork, DraftsBy}
 use Rattle.wm_state.specs.Drawing.{AreDrawn, piece_keys}
-use Rattle.wm_state.specs.Editing.{counter_limit, drafted, entry_of, line_work}
+use Rattle.wm_state.specs.Editing.{counter_limit, drafted_by, entry_of}
 use Rattle.wm_state.specs.Effects.{IsFree, IsLeaf}
 use Rattle.wm_state.specs.Entries.{AreStamped, entry_keys, hists_from, is_out_all, pieces_of, rows_in}
 use Rattle.wm_state.specs.Points.{moved, stepped_by}
@@ -39,6 +41,7 @@ use Rattle.wm_state.proofs.PlannedWritten.{MayWriteAll, keep_planned, plan_writt
 use Rattle.wm_state.proofs.RowsStay.{leave_write, rows_stay}
 use Rattle.wm_state.proofs.Settled.{Places, PlacesApart, places_apart}
 use Rattle.wm_state.proofs.Tests.{bool_apart, both, and_true}
+use Rattle.wm_state.proofs.WorkedOn.{counted_put, first_change}
 use Rattle.wm_state.proofs.WrittenIds.{changes-write}
 use Rattle.wm_state.proofs.WrittenKept.{kept_write}
 
@@ -76,15 +79,15 @@ log_room p n table a c es v =
     in_room (a.log_length + length es) (ap (λ (b : Space). nat_lt counter_limit (b.log_length + length es)) (one_space a v.can.space (sym v.there ∙ v.can.there)) ∙ v.can.short)
 
 -- what the counters of a state are once entries are written
-pub counts_on : (s : State) (m n : ℕ) (c d : Counters) (entries : Vec NewEntry Global) → CountsAs c s → d.next_stamp ≡ c.next_stamp + length (entries_in entries) → d.last_moment ≡ m → d.limit ≡ c.limit → d.work ≡ c.work + line_work
-    → (q : Parts) → q.counters ≡ d ∷ [] → CountersStand q (drafted m (edits.Append n entries ∷ []) s)
-counts_on s m n c d entries counts stamp moment limit work q one = record {
+pub counts_on : (s : State) (m work n : ℕ) (c d : Counters) (entries : Vec NewEntry Global) → CountsAs c s → d.next_stamp ≡ c.next_stamp + length (entries_in entries) → d.last_moment ≡ m → d.limit ≡ c.limit → d.work ≡ c.work + work
+    → (q : Parts) → q.counters ≡ d ∷ [] → CountersStand q (drafted_by work m (edits.Append n entries ∷ []) s)
+counts_on s m work n c d entries counts stamp moment limit more q one = record {
   counters = d;
   one = one;
   next_stamp = stamp ∙ ap (λ k. k + length (entries_in entries)) counts.next_stamp;
   last_moment = moment;
   limit = limit ∙ counts.limit;
-  work = work ∙ ap (λ w. w + line_work) counts.work;
+  work = more ∙ ap (λ w. w + work) counts.work;
 }
 
 -- ---- what is drawn anew
@@ -148,14 +151,14 @@ written_once rs a c new counters_id space_id id count test ids rows pieces hists
 -- ---- the batch
 
 -- what is asked of the entries
-may_write : (p : Parts) (m n table : ℕ) (a : Space) (c : Counters) (es : List Entry) → keep_rules p ≡ true → CanWork p m → Appends p n a c table es → IsLeaf (latest p n) (newest_first p.versions) → IsFree p (latest p n)
-    → MayWriteAll p c (stepped_by c m (length es)) n a table es
-may_write p m n table a c es rules work v leaf free = record {
+may_write : (p : Parts) (m work n table : ℕ) (a : Space) (c : Counters) (es : List Entry) → keep_rules p ≡ true → CanWork p m work → Appends p n a c table es → IsLeaf (latest p n) (newest_first p.versions) → IsFree p (latest p n)
+    → MayWriteAll p c (stepped_by c m work (length es)) n a table es
+may_write p m work n table a c es rules can_work v leaf free = record {
   one = v.one;
-  counters = stamped_by (moved c m) (length es) (moved_well p m c rules work v.one) (stamps_left p n table a c es v);
+  counters = stamped_by (moved c m work) (length es) (moved_well p m work c rules can_work v.one) (stamps_left p n table a c es v);
   stamps = refl;
   versions = refl;
-  work = work_grows c.work;
+  work = work_grows c.work work;
   space = v.there;
   room = log_room p n table a c es v;
   leaf = leaf;
@@ -166,21 +169,22 @@ may_write p m n table a c es rules work v leaf free = record {
 }
 
 -- the batch makes of the records what the entries make of each state
-pub drafts_written : (rs : List Stored) (m n table : ℕ) (entries : Vec NewEntry Global) (a : Space) (c : Counters) (counters_id space_id : ℕ) (ids : List ℕ) (id : ℕ) (drawn : List PieceRecord) → keep_rules (parts_of rs) ≡ true
-    → CanWork (parts_of rs) m → Appends (parts_of rs) n a c table (entries_in entries) → Places rs counters_id space_id id c a → IsLeaf (latest (parts_of rs) n) (newest_first (parts_of rs).versions)
+pub drafts_written : (rs : List Stored) (m work n table : ℕ) (entries : Vec NewEntry Global) (a : Space) (c : Counters) (counters_id space_id : ℕ) (ids : List ℕ) (id : ℕ) (drawn : List PieceRecord) → keep_rules (parts_of rs) ≡ true
+    → CanWork (parts_of rs) m work → Appends (parts_of rs) n a c table (entries_in entries) → Places rs counters_id space_id id c a → IsLeaf (latest (parts_of rs) n) (newest_first (parts_of rs).versions)
     → IsFree (parts_of rs) (latest (parts_of rs) n) → Redrawn rs (latest (parts_of rs) n) table (entries_in entries) ids drawn
-    → Drafts rs m (edits.Append n entries ∷ [])
-    (write_batch counters_id (stepped_by c m (length (entries_in entries))) space_id a (length (entries_in entries)) ids id (rows_in (entries_in entries)) drawn (hists_from a.number a.log_length (entries_in entries)))
-drafts_written rs m n table entries a c counters_id space_id ids id drawn rules work v at leaf free r = record {
-  keeps = keep_planned rs counters_id space_id c d a ids id n table es drawn rules at.sorted at.counters at.space r.gone at.under may r.are;
-  once = written_once rs a c d counters_id space_id id (length es) (is_out_all (latest (parts_of rs) n) table (entry_keys es)) ids (rows_in es) drawn (hists_from a.number a.log_length es) at r.gone r.once r.there;
+    → DraftsBy work rs m (edits.Append n entries ∷ [])
+    (write_batch counters_id (stepped_by c m work (length (entries_in entries))) space_id a (length (entries_in entries)) ids id (rows_in (entries_in entries)) drawn (hists_from a.number a.log_length (entries_in entries)))
+drafts_written rs m work n table entries a c counters_id space_id ids id drawn rules can_work v at leaf free r = record {
+  keeps = keeps;
+  once = once;
   stands = λ s st.
-      plan_written rs counters_id space_id c d a ids id n table es drawn s (drafted m (edits.Append n entries ∷ []) s) st at.sorted at.counters at.space r.gone at.under may r.are refl refl
-      (counts_on s m n c d entries (counts_as (parts_of rs) s c st v.one) refl refl refl refl);
+      plan_written rs counters_id space_id c d a ids id n table es drawn s (drafted_by work m (edits.Append n entries ∷ []) s) st at.sorted at.counters at.space r.gone at.under may r.are refl refl
+      (counts_on s m work n c d entries (counts_as (parts_of rs) s c st v.one) refl refl refl refl);
   rows = rows_stay rs (write_batch counters_id d space_id a (length es) ids id (rows_in es) drawn (hists_from a.number a.log_length es))
       (leave_write rs counters_id space_id id (length es) c d a ids (rows_in es) drawn (hists_from a.number a.log_length es) at.counters at.space (λ k row found. r.gone k (records.Row row) found)
       (λ k row found. under_found id rs k (records.Row row) at.under found));
   kept = kept_write (latest (parts_of rs) n) table es (parts_of rs).pieces drawn counters_id space_id id a.number a.log_length d a ids v.can.kept r.are;
+  counted = λ some. counted_put rs work counters_id c d batch at.sorted v.one once (first_change counters_id _ _) keeps refl;
   nothing = some_edit (edits.Append n entries) [] (write_batch counters_id d space_id a (length es) ids id (rows_in es) drawn (hists_from a.number a.log_length es));
   few = λ forks. absurd (bool_apart (sym forks));
 }
@@ -189,7 +193,16 @@ drafts_written rs m n table entries a c counters_id space_id ids id drawn rules 
     es = entries_in entries
 
     d : Counters
-    d = stepped_by c m (length es)
+    d = stepped_by c m work (length es)
 
     may : MayWriteAll (parts_of rs) c d n a table es
-    may = may_write (parts_of rs) m n table a c es rules work v leaf free
+    may = may_write (parts_of rs) m work n table a c es rules can_work v leaf free
+
+    batch : List Change
+    batch = write_batch counters_id d space_id a (length es) ids id (rows_in es) drawn (hists_from a.number a.log_length es)
+
+    keeps : keep_rules (parts_of (applied batch rs)) ≡ true
+    keeps = keep_planned rs counters_id space_id c d a ids id n table es drawn rules at.sorted at.counters at.space r.gone at.under may r.are
+
+    once : AreChanges batch
+    once = written_once rs a c d counters_id space_id id (length es) (is_out_all (latest (parts_of rs) n) table (entry_keys es)) ids (rows_in es) drawn (hists_from a.number a.log_length es) at r.gone r.once r.there

@@ -7,20 +7,22 @@ use Rattle.std.specs.declared.vec.Vec.{Vec}
 use Rattle.wm_graph.specs.Parts.{Parts, parts_of}
 use Rattle.wm_graph.specs.Rules.{keep_rules}
 use Rattle.wm_spec.specs.Lists.{Entry}
-use Rattle.wm_spec.specs.Records.{record_at}
+use Rattle.wm_spec.specs.Records.{AreChanges, record_at}
 use Rattle.wm_spec.specs.declared.record.Record.{Record}
 use Rattle.wm_spec.specs.declared.record.Record.TheVariants as records
+use Rattle.wm_spec.specs.declared.record.batch.Change.{Change}
 use Rattle.wm_spec.specs.declared.record.counters.Counters.{Counters}
 use Rattle.wm_spec.specs.declared.record.piece.PieceRecord.{PieceRecord}
 use Rattle.wm_spec.specs.declared.record.space.Space.{Space}
 use Rattle.wm_spec.specs.declared.record.stored.Stored.{Stored}
 use Rattle.wm_spec.specs.declared.record.version.Version.{Version}
 use Rattle.wm_state.specs.Batches.{AreDropped, is_dropped, keeps}
-use Rattle.wm_state.specs.Drafts.{CanWork, Drafts}
+use Rattle.wm_state.specs.Drafts.{CanWork, DraftsBy}
 use Rattle.wm_state.specs.Drawing.{AreDrawn}
-use Rattle.wm_state.specs.Editing.{drafted, line_work}
+use Rattle.wm_state.specs.Editing.{drafted_by}
 use Rattle.wm_state.specs.Entries.{entry_keys, hists_from, is_out_all, pieces_of, rows_in}
 use Rattle.wm_state.specs.Points.{next_version, stepped_new_by, versioned}
+use Rattle.wm_state.specs.ById.{applied}
 use Rattle.wm_state.specs.Writes.{write_new_batch}
 use Rattle.wm_state.specs.declared.edit.Edit.TheVariants as edits
 use Rattle.wm_state.specs.declared.edit.NewEntry.{NewEntry}
@@ -31,9 +33,10 @@ use Rattle.wm_state.proofs.DraftedWritten.{Appends, Redrawn, counts_on, entries_
 use Rattle.wm_state.proofs.Growing.{MayFork}
 use Rattle.wm_state.proofs.PlannedMore.{MayWriteMore, Stage, all_stay, none_goes, keep_planned_new, plan_written_new}
 use Rattle.wm_state.proofs.Planning.{piece_found}
-use Rattle.wm_state.proofs.RowsStay.{leave_write, new_no_row, rows_stay}
+use Rattle.wm_state.proofs.RowsStay.{below_apart, leave_write, new_no_row, rows_stay}
 use Rattle.wm_state.proofs.Settled.{Places, PlacesApart, places_apart}
 use Rattle.wm_state.proofs.Tests.{bool_apart, both, not_true}
+use Rattle.wm_state.proofs.WorkedOn.{counted_put, second_change}
 use Rattle.wm_state.proofs.WrittenIds.{changes-write_new}
 use Rattle.wm_state.proofs.WrittenKept.{kept_write_new}
 
@@ -77,13 +80,13 @@ drawn_alone rs table c es ids drawn rules one r = record {
 -- ---- the batch
 
 -- the version may be made
-may_fork : (p : Parts) (m n table : ℕ) (a : Space) (c : Counters) (es : List Entry) → keep_rules p ≡ true → CanWork p m → Appends p n a c table es → MayFork p c (versioned c m) a n (next_version p n c)
-may_fork p m n table a c es rules work v = record {
+may_fork : (p : Parts) (m work n table : ℕ) (a : Space) (c : Counters) (es : List Entry) → keep_rules p ≡ true → CanWork p m work → Appends p n a c table es → MayFork p c (versioned c m work) a n (next_version p n c)
+may_fork p m work n table a c es rules can_work v = record {
   one = v.one;
-  counters = version_well p m c rules work v.one;
+  counters = version_well p m work c rules can_work v.one;
   stamps = refl;
   next = refl;
-  work = work_grows c.work;
+  work = work_grows c.work work;
   there = v.there;
   number = refl;
   space = refl;
@@ -91,14 +94,14 @@ may_fork p m n table a c es rules work v = record {
 }
 
 -- and the entries be written in it
-may_write_more : (p : Parts) (m n table : ℕ) (a : Space) (c : Counters) (es : List Entry) → keep_rules p ≡ true → CanWork p m → Appends p n a c table es
-    → MayWriteMore p c (versioned c m) (stepped_new_by c m (length es)) n a (next_version p n c) table es
-may_write_more p m n table a c es rules work v = record {
-  fork = may_fork p m n table a c es rules work v;
-  counters = stamped_by (versioned c m) (length es) (version_well p m c rules work v.one) (stamps_left p n table a c es v);
+may_write_more : (p : Parts) (m work n table : ℕ) (a : Space) (c : Counters) (es : List Entry) → keep_rules p ≡ true → CanWork p m work → Appends p n a c table es
+    → MayWriteMore p c (versioned c m work) (stepped_new_by c m work (length es)) n a (next_version p n c) table es
+may_write_more p m work n table a c es rules can_work v = record {
+  fork = may_fork p m work n table a c es rules can_work v;
+  counters = stamped_by (versioned c m work) (length es) (version_well p m work c rules can_work v.one) (stamps_left p n table a c es v);
   stamps = refl;
   versions = refl;
-  work = same_work (c.work + line_work);
+  work = same_work (c.work + work);
   room = log_room p n table a c es v;
   stamped = v.stamped;
   well = v.can.well;
@@ -109,17 +112,17 @@ may_write_more p m n table a c es rules work v = record {
     same_work w = omega arith
 
 -- the batch makes of the records what the entries make of each state
-pub drafts_written_new : (rs : List Stored) (m n table : ℕ) (entries : Vec NewEntry Global) (a : Space) (c : Counters) (counters_id space_id id : ℕ) (drawn : List PieceRecord) → keep_rules (parts_of rs) ≡ true
-    → CanWork (parts_of rs) m → Appends (parts_of rs) n a c table (entries_in entries) → Places rs counters_id space_id id c a → AreDrawn (pieces_of c.next_version (entries_in entries)) [] drawn
-    → Drafts rs m (edits.Append n entries ∷ [])
-    (write_new_batch counters_id (stepped_new_by c m (length (entries_in entries))) space_id a (length (entries_in entries)) id (next_version (parts_of rs) n c) (rows_in (entries_in entries)) drawn
+pub drafts_written_new : (rs : List Stored) (m work n table : ℕ) (entries : Vec NewEntry Global) (a : Space) (c : Counters) (counters_id space_id id : ℕ) (drawn : List PieceRecord) → keep_rules (parts_of rs) ≡ true
+    → CanWork (parts_of rs) m work → Appends (parts_of rs) n a c table (entries_in entries) → Places rs counters_id space_id id c a → AreDrawn (pieces_of c.next_version (entries_in entries)) [] drawn
+    → DraftsBy work rs m (edits.Append n entries ∷ [])
+    (write_new_batch counters_id (stepped_new_by c m work (length (entries_in entries))) space_id a (length (entries_in entries)) id (next_version (parts_of rs) n c) (rows_in (entries_in entries)) drawn
     (hists_from a.number a.log_length (entries_in entries)))
-drafts_written_new rs m n table entries a c counters_id space_id id drawn rules work v at are = record {
-  keeps = keep_planned_new rs counters_id space_id id c (versioned c m) d n a w table es drawn rules stage may are;
-  once = changes-write_new counters_id d space_id a (length es) id w (rows_in es) drawn (hists_from a.number a.log_length es) apart.apart apart.counters apart.space;
+drafts_written_new rs m work n table entries a c counters_id space_id id drawn rules can_work v at are = record {
+  keeps = keeps;
+  once = once;
   stands = λ s st.
-      plan_written_new rs counters_id space_id id c (versioned c m) d n a w table es drawn s (drafted m (edits.Append n entries ∷ []) s) st stage may are refl refl
-      (counts_on s m n c d entries (counts_as (parts_of rs) s c st v.one) refl refl refl refl);
+      plan_written_new rs counters_id space_id id c (versioned c m work) d n a w table es drawn s (drafted_by work m (edits.Append n entries ∷ []) s) st stage may are refl refl
+      (counts_on s m work n c d entries (counts_as (parts_of rs) s c st v.one) refl refl refl refl);
   rows = rows_stay rs (write_new_batch counters_id d space_id a (length es) id w (rows_in es) drawn (hists_from a.number a.log_length es))
       (λ k row found. (
         new_no_row rs id k row at.under found,
@@ -127,6 +130,7 @@ drafts_written_new rs m n table entries a c counters_id space_id id drawn rules 
             (λ j other there. behind j (under_found id rs j (records.Row other) at.under there)) k row found,
       ));
   kept = kept_write_new es drawn counters_id space_id id a.number a.log_length d a w v.can.kept are;
+  counted = λ some. counted_put rs work counters_id c d batch at.sorted v.one once (second_change id counters_id _ _ _ (λ same. below_apart counters_id id apart.counters same)) keeps refl;
   nothing = some_edit (edits.Append n entries) [] (write_new_batch counters_id d space_id a (length es) id w (rows_in es) drawn (hists_from a.number a.log_length es));
   few = λ forks. absurd (bool_apart (sym forks));
 }
@@ -135,7 +139,7 @@ drafts_written_new rs m n table entries a c counters_id space_id id drawn rules 
     es = entries_in entries
 
     d : Counters
-    d = stepped_new_by c m (length es)
+    d = stepped_new_by c m work (length es)
 
     w : Version
     w = next_version (parts_of rs) n c
@@ -149,5 +153,14 @@ drafts_written_new rs m n table entries a c counters_id space_id id drawn rules 
     stage : Stage rs counters_id space_id id c a
     stage = record { sorted = at.sorted; counters = at.counters; space = at.space; under = at.under }
 
-    may : MayWriteMore (parts_of rs) c (versioned c m) d n a w table es
-    may = may_write_more (parts_of rs) m n table a c es rules work v
+    may : MayWriteMore (parts_of rs) c (versioned c m work) d n a w table es
+    may = may_write_more (parts_of rs) m work n table a c es rules can_work v
+
+    batch : List Change
+    batch = write_new_batch counters_id d space_id a (length es) id w (rows_in es) drawn (hists_from a.number a.log_length es)
+
+    keeps : keep_rules (parts_of (applied batch rs)) ≡ true
+    keeps = keep_planned_new rs counters_id space_id id c (versioned c m work) d n a w table es drawn rules stage may are
+
+    once : AreChanges batch
+    once = changes-write_new counters_id d space_id a (length es) id w (rows_in es) drawn (hists_from a.number a.log_length es) apart.apart apart.counters apart.space

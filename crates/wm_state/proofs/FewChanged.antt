@@ -1,6 +1,7 @@
 -- What the batches of a savepoint and of a birth change: a few records, and no row, piece or entry of a log.
-use Rattle.std.proofs.Common.{◌≡◌, ℕ, ◌+◌, ◌*◌, ◌≤◌, List, [], ◌∷◌, ◌++◌, length, map, Some, sym, ap, subst, ◌∙◌, arith}
+use Rattle.std.proofs.Common.{◌≡◌, ℕ, ◌+◌, ◌*◌, ◌≤◌, List, [], ◌∷◌, ◌++◌, length, map, true, Some, sym, ap, subst, ◌∙◌, arith}
 use Rattle.std.proofs.lemmas.List.{length-map}
+use Rattle.std.specs.List.{list_all}
 use Rattle.wm_graph.specs.Parts.{Parts, parts_of}
 use Rattle.wm_spec.specs.declared.record.Record.TheVariants as records
 use Rattle.wm_spec.specs.declared.record.batch.Change.{Change}
@@ -11,7 +12,7 @@ use Rattle.wm_spec.specs.declared.record.stored.Stored.{Stored}
 use Rattle.wm_spec.specs.declared.record.version.Version.{Version}
 use Rattle.wm_state.specs.Batches.{AllUnder, savepoint_batch, birth_batch}
 use Rattle.wm_state.specs.ById.{set_at, applied}
-use Rattle.wm_state.specs.Drafts.{CanDraft, ChangesFew, FewChanges}
+use Rattle.wm_state.specs.Drafts.{ChangesFew, DraftsBy, FewChanges, is_fork}
 use Rattle.wm_state.specs.Effects.{marked}
 use Rattle.wm_state.specs.declared.edit.Edit.{Edit}
 use Rattle.wm_state.proofs.PlannedSaved.{SavedParts, parts-saved, more_space, more_version, AllUnder-more, AllUnder-saved}
@@ -91,8 +92,6 @@ changes_few rs most cs few le = record {
     as_many : (m n : ℕ) → m ≡ n → n ≤ most → m ≤ 6
     as_many m n same at_most = omega (arith, le, same, at_most)
 
--- so many they are where a line may make the edits
-pub can_few : (p : Parts) (m : ℕ) (es : List Edit) → CanDraft p m es → 6 * length es ≤ 6
-can_few p m [] can = omega arith
-can_few p m (e ∷ []) can = omega arith
-can_few p m (e ∷ f ∷ es) can = absurd can
+-- so do those of savepoints and workspaces, where there is one edit at most
+pub forks_few : (work : ℕ) (rs : List Stored) (m : ℕ) (es : List Edit) (cs : List Change) → DraftsBy work rs m es cs → list_all is_fork es ≡ true → length es ≤ 1 → ChangesFew rs (applied cs rs)
+forks_few work rs m es cs drafts forks one = changes_few rs (6 * length es) cs (drafts.few forks) (omega (arith, one))

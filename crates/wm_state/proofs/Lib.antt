@@ -69,6 +69,10 @@ pub mod DrawingKeys
 pub mod DrawingNews
 pub mod Counting
 pub mod Settled
+pub mod WorkedOn
+pub mod Following
+pub mod EditedLater
+pub mod DraftedMore
 pub mod Points
 pub mod RowsStay
 pub mod Drafted

@@ -1,5 +1,5 @@
 -- A savepoint that is made where one stands in a workspace.
-use Rattle.std.proofs.Common.{◌≡◌, ℕ, ◌+◌, ◌≤◌, ◌==◌, ◌&&◌, nat_lt, nat_le, Bool, true, false, List, [], ◌∷◌, ◌++◌, length, Option, Some, None, is_some, refl, sym, ap, subst, ◌∙◌, arith}
+use Rattle.std.proofs.Common.{◌≡◌, ℕ, ◌+◌, ◌<◌, ◌≤◌, ◌==◌, ◌&&◌, nat_lt, nat_le, Bool, true, false, List, [], ◌∷◌, ◌++◌, length, Option, Some, None, is_some, refl, sym, ap, subst, ◌∙◌, arith}
 use Rattle.std.specs.List.{find, count_by}
 use Rattle.std.specs.Option.{option_map}
 use Rattle.std.specs.Str.{bytes_eq}
@@ -9,7 +9,7 @@ use Rattle.wm_graph.specs.Rules.{keep_rules, is_short, is_version_of, is_base_of
 use Rattle.wm_spec.specs.declared.record.counters.Counters.{Counters}
 use Rattle.wm_spec.specs.declared.record.savepoint.Savepoint.{Savepoint as Record}
 use Rattle.wm_spec.specs.declared.record.space.Space.{Space}
-use Rattle.wm_state.specs.Editing.{counter_limit, line_work, place_behind, saved_at}
+use Rattle.wm_state.specs.Editing.{counter_limit, place_behind, saved_at}
 use Rattle.wm_state.specs.Points.{HasRoom, Point, made_at, moved, newest_point, next_place_at, point_at, saved_point}
 use Rattle.wm_state.specs.State.{State, Workspace, Savepoint, Stand, Latest, At, next_making, savepoint_made, savepoint_named}
 use Rattle.wm_state.specs.Standing.{SpaceFields, SavepointFields, fields_of, saved_fields, saved_in, saved_as, making_behind, Stands}
@@ -86,7 +86,7 @@ is_point p a m (At making) pt rules there is = by_record (saved_as p a.number ma
 -- ---- the records may have the savepoint
 
 -- what is asked of a savepoint that is made there, but for what becomes of the workspace's counts
-pub record MakesAt (p : Parts) (a : Space) (c : Counters) (m : ℕ) (stand : Stand) (pt : Point) (name : List ℕ) : Type 0 where
+pub record MakesAt (p : Parts) (a : Space) (c : Counters) (m work : ℕ) (stand : Stand) (pt : Point) (name : List ℕ) : Type 0 where
   pub rules : keep_rules p ≡ true
   pub one : p.counters ≡ c ∷ []
   pub there : space_of p.spaces a.number ≡ Some a
@@ -94,15 +94,16 @@ pub record MakesAt (p : Parts) (a : Space) (c : Counters) (m : ℕ) (stand : Sta
   pub short : is_short name ≡ true
   pub room : HasRoom p a name
   pub early : nat_lt m END ≡ true
-  pub spare : nat_lt counter_limit (c.work + line_work) ≡ false
+  pub some : nat_lt 0 work ≡ true
+  pub spare : nat_lt counter_limit (c.work + work) ≡ false
 
-pub may_save : (p : Parts) (a : Space) (c : Counters) (m : ℕ) (stand : Stand) (pt : Point) (name : List ℕ) (flag : Bool) (implicit : ℕ) → MakesAt p a c m stand pt name → a.next_implicit ≤ implicit → (front back : List Space)
-    → p.spaces ≡ front ++ a ∷ back → MaySave p c (moved c m) front a back (next_place_at a stand) implicit (made_at p a name flag pt)
-may_save p a c m stand pt name flag implicit makes implicits front back spaces =
+pub may_save : (p : Parts) (a : Space) (c : Counters) (m work : ℕ) (stand : Stand) (pt : Point) (name : List ℕ) (flag : Bool) (implicit : ℕ) → MakesAt p a c m work stand pt name → a.next_implicit ≤ implicit → (front back : List Space)
+    → p.spaces ≡ front ++ a ∷ back → MaySave p c (moved c m work) front a back (next_place_at a stand) implicit (made_at p a name flag pt)
+may_save p a c m work stand pt name flag implicit makes implicits front back spaces =
     let is = is_point p a m stand pt makes.rules makes.there makes.point in
     record {
       one = makes.one;
-      counters = counters_move c m (counted_well p c makes.rules makes.one) makes.early makes.spare;
+      counters = counters_move c m work (counted_well p c makes.rules makes.one) makes.early makes.spare;
       stamps = refl;
       versions = refl;
       work = more c.work;
@@ -121,11 +122,14 @@ may_save p a c m stand pt name flag implicit makes implicits front back spaces =
       room = few (count_by (λ (y : Record). y.space == a.number) p.savepoints) makes.room.few;
     }
   where
-    more : (w : ℕ) → w ≤ w + line_work
+    more : (w : ℕ) → w ≤ w + work
     more w = omega arith
 
-    in_work : (k w : ℕ) → k ≤ w + 3 → k ≤ w + line_work + 2
-    in_work k w le = omega (arith, le)
+    below : (a b : ℕ) → nat_lt a b ≡ true → a < b
+    below a b e = grind (arith, e)
+
+    in_work : (k w : ℕ) → k ≤ w + 3 → k ≤ w + work + 2
+    in_work k w le = omega (arith, le, below 0 work makes.some)
 
     few : (n : ℕ) → nat_le 4096 n ≡ false → nat_lt n 4096 ≡ true
     few n e = grind (arith, e)

@@ -1,6 +1,6 @@
 -- What is asked of records before edits, and what changes of records are to make of them.
-use Rattle.std.specs.Prelude.{ℕ, ◌≡◌, ◌≤◌, ◌+◌, ◌*◌, ◌==◌, ◌&&◌, nat_le, nat_lt, Bool, true, false, List, [], ◌∷◌, map, length, Option, Some, None}
-use Rattle.std.specs.List.{find, list_all, list_any}
+use Rattle.std.specs.Prelude.{ℕ, ◌≡◌, ◌≤◌, ◌+◌, ◌*◌, ◌==◌, ◌&&◌, not, nat_le, nat_lt, Bool, true, false, List, [], ◌∷◌, ◌++◌, map, length, Option, Some, None}
+use Rattle.std.specs.List.{filter, find, list_all, list_any}
 use Rattle.std.specs.Option.{option_map_or}
 use Rattle.std.specs.Str.{bytes_eq}
 use Rattle.wm_base.specs.declared.instant.TheConstants.{END}
@@ -20,7 +20,7 @@ use Rattle.wm_spec.specs.declared.record.stored.Stored.{Stored}
 use Rattle.wm_spec.specs.declared.record.table.Table.{Table}
 use Rattle.wm_state.specs.ById.{applied}
 use Rattle.wm_state.specs.Drawing.{are_sorted}
-use Rattle.wm_state.specs.Editing.{counter_limit, drafted, entry_of, line_work, number_limit, stand_of}
+use Rattle.wm_state.specs.Editing.{counter_limit, drafted_by, entry_of, line_work, number_limit, stand_of}
 use Rattle.wm_state.specs.Entries.{AreStamped, entry_keys, is_well}
 use Rattle.wm_state.specs.Points.{HasRoom, Point, implicit_of, next_place_at, point_at}
 use Rattle.wm_state.specs.Standing.{Stands, by_number, space_after}
@@ -52,11 +52,12 @@ is_kept_change c = option_map_or is_kept c.becomes true
 
 -- ---- what is asked of the records
 
--- the work is not at its end, and the moment is below the end
-pub record CanWork (p : Parts) (m : ℕ) : Type 0 where
+-- there is room for so much work, which is some, and the moment is below the end
+pub record CanWork (p : Parts) (m work : ℕ) : Type 0 where
   pub counters : Counters
   pub one : p.counters ≡ counters ∷ []
-  pub room : nat_lt counter_limit (counters.work + line_work) ≡ false
+  pub some : nat_lt 0 work ≡ true
+  pub room : nat_lt counter_limit (counters.work + work) ≡ false
   pub early : nat_lt m END ≡ true
 
 -- there is room for the table, whose number is above all others and whose name is new
@@ -122,12 +123,6 @@ CanEdit p m (edits.Append n entries) = CanAppend p n (map entry_of entries.items
 CanEdit p m (edits.Save n name) = CanSave p n name
 CanEdit p m (edits.Bear n at name) = CanBear p m n at name
 
--- what is asked before the edits of a line; so far a line makes one at most
-abbrev pub CanDraft : Parts → ℕ → List Edit → Type 0
-CanDraft p m [] = Unit {0}
-CanDraft p m (e ∷ []) = CanWork p m × CanEdit p m e
-CanDraft p m (e ∷ f ∷ es) = ⊥
-
 -- ---- what is made of them
 
 -- the edit makes a savepoint, or a workspace and so a savepoint
@@ -152,14 +147,53 @@ pub record FewChanges (rs : List Stored) (most : ℕ) (changes : List Change) : 
   pub pieces : (parts_of (applied changes rs)).pieces ≡ (parts_of rs).pieces
   pub hists : (parts_of (applied changes rs)).hists ≡ (parts_of rs).hists
 
--- changes make of records what edits make of each state that they stand for: the rules stay kept, no id changes twice, each row stays
--- under its id, each value that comes can be kept, without edits there are no changes, and where all edits make savepoints or
--- workspaces, there are six changes at most for each
-pub record Drafts (rs : List Stored) (m : ℕ) (es : List Edit) (changes : List Change) : Type 0 where
+-- the one record of counters tells of so much more work
+pub record WorksOn (old new : Parts) (work : ℕ) : Type 0 where
+  pub before : Counters
+  pub one : old.counters ≡ before ∷ []
+  pub after : Counters
+  pub same : new.counters ≡ after ∷ []
+  pub more : after.work ≡ before.work + work
+
+-- changes make of records what edits make of each state that they stand for, with so much work: the rules stay kept, no id changes
+-- twice, each row stays under its id, each value that comes can be kept, without edits there are no changes, and where all edits make
+-- savepoints or workspaces, there are six changes at most for each
+pub record DraftsBy (work : ℕ) (rs : List Stored) (m : ℕ) (es : List Edit) (changes : List Change) : Type 0 where
   pub keeps : keep_rules (parts_of (applied changes rs)) ≡ true
   pub once : AreChanges changes
-  pub stands : (s : State) → Stands (parts_of rs) s → Stands (parts_of (applied changes rs)) (drafted m es s)
+  pub stands : (s : State) → Stands (parts_of rs) s → Stands (parts_of (applied changes rs)) (drafted_by work m es s)
   pub rows : (id : ℕ) (r : RowRecord) → record_at rs id ≡ Some (records.Row r) → record_at (applied changes rs) id ≡ Some (records.Row r)
   pub kept : list_all is_kept_change changes ≡ true
+  pub counted : (es ≡ [] → ⊥) → WorksOn (parts_of rs) (parts_of (applied changes rs)) work
   pub nothing : es ≡ [] → changes ≡ []
   pub few : list_all is_fork es ≡ true → FewChanges rs (6 * length es) changes
+
+-- and with the work of a line
+abbrev pub Drafts : List Stored → ℕ → List Edit → List Change → Type 0
+Drafts rs m es changes = DraftsBy line_work rs m es changes
+
+-- ---- what is asked before edits
+
+-- each edit can be made of whatever the changes for the edits before it make of the records
+abbrev pub CanEditAll : List Stored → ℕ → List Edit → Type 0
+CanEditAll rs m [] = Unit {0}
+CanEditAll rs m (e ∷ es) = CanEdit (parts_of rs) m e × ((work : ℕ) (changes : List Change) → DraftsBy work rs m (e ∷ []) changes → CanEditAll (applied changes rs) m es)
+
+-- the most edits that a line makes
+abbrev pub edit_limit : ℕ
+edit_limit = 2048
+
+-- where a line makes edits, there is room for its work, they are not too many, and each can be made
+abbrev pub CanDraft : List Stored → ℕ → List Edit → Type 0
+CanDraft rs m [] = Unit {0}
+CanDraft rs m (e ∷ es) = CanWork (parts_of rs) m line_work × (length (e ∷ es) ≤ edit_limit) × CanEditAll rs m (e ∷ es)
+
+-- ---- changes behind others
+
+-- a change of an id
+abbrev pub is_change_of : ℕ → Change → Bool
+is_change_of id c = c.id == id
+
+-- changes, and behind them others, which take the place of those of their ids
+abbrev pub followed_by : List Change → List Change → List Change
+followed_by changes later = filter (λ (c : Change). not (list_any (is_change_of c.id) later)) changes ++ later

@@ -146,7 +146,11 @@ abbrev pub all_edited : ℕ → List Edit → State → State
 all_edited m [] s = s
 all_edited m (e ∷ es) s = all_edited m es (edited m e s)
 
--- the state once a line has made edits at a moment: if there are any, they are counted
+-- the state once edits were made at a moment: if there are any, they are counted as so much work
+abbrev pub drafted_by : ℕ → ℕ → List Edit → State → State
+drafted_by work m [] s = s
+drafted_by work m (e ∷ es) s = record (all_edited m (e ∷ es) s) { last_moment = m; work = s.work + work }
+
+-- and once a line has made them
 abbrev pub drafted : ℕ → List Edit → State → State
-drafted m [] s = s
-drafted m (e ∷ es) s = record (all_edited m (e ∷ es) s) { last_moment = m; work = s.work + line_work }
+drafted m es s = drafted_by line_work m es s

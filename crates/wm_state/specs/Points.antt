@@ -11,27 +11,27 @@ use Rattle.wm_spec.specs.declared.record.savepoint.Savepoint.{Savepoint}
 use Rattle.wm_spec.specs.declared.record.space.FreezeMode.TheVariants.{Free}
 use Rattle.wm_spec.specs.declared.record.space.Space.{Space}
 use Rattle.wm_spec.specs.declared.record.version.Version.{Version}
-use Rattle.wm_state.specs.Editing.{implicit_front, line_work}
+use Rattle.wm_state.specs.Editing.{implicit_front}
 use Rattle.wm_state.specs.State.{Stand, Latest, At}
 use Rattle.wm_state.specs.Standing.{latest, saved_in, saved_as, space_after, making_behind}
 
 -- ---- counters
 
--- the counters once a line has changed something at a moment
-abbrev pub moved : Counters → ℕ → Counters
-moved c m = record c { last_moment = m; work = c.work + line_work }
+-- the counters once something has changed at a moment, with so much work
+abbrev pub moved : Counters → ℕ → ℕ → Counters
+moved c m work = record c { last_moment = m; work = c.work + work }
 
--- once it has made a version
-abbrev pub versioned : Counters → ℕ → Counters
-versioned c m = record (moved c m) { next_version = c.next_version + 1 }
+-- once a version was made
+abbrev pub versioned : Counters → ℕ → ℕ → Counters
+versioned c m work = record (moved c m work) { next_version = c.next_version + 1 }
 
--- once it has given so many stamps
-abbrev pub stepped_by : Counters → ℕ → ℕ → Counters
-stepped_by c m k = record (moved c m) { next_stamp = c.next_stamp + k }
+-- once so many stamps were given
+abbrev pub stepped_by : Counters → ℕ → ℕ → ℕ → Counters
+stepped_by c m work k = record (moved c m work) { next_stamp = c.next_stamp + k }
 
--- and has made a version first
-abbrev pub stepped_new_by : Counters → ℕ → ℕ → Counters
-stepped_new_by c m k = record (stepped_by c m k) { next_version = c.next_version + 1 }
+-- and a version was made first
+abbrev pub stepped_new_by : Counters → ℕ → ℕ → ℕ → Counters
+stepped_new_by c m work k = record (stepped_by c m work k) { next_version = c.next_version + 1 }
 
 -- the version that comes next in a workspace
 abbrev pub next_version : Parts → ℕ → Counters → Version

@@ -6,7 +6,7 @@ ghost use Rattle.wm_image.specs.Drafting.{AreWritten};
 ghost use Rattle.wm_spec.specs.Records.{record_at};
 ghost use Rattle.wm_spec.specs.declared.record.Record.TheVariants as records;
 ghost use Rattle.wm_state.specs.Batches.{put};
-ghost use Rattle.wm_state.specs.Drafts.{CanAppend, CanWork, Drafts};
+ghost use Rattle.wm_state.specs.Drafts.{CanAppend, CanWork, DraftsBy};
 ghost use Rattle.wm_state.specs.Drawing.{AreNews};
 ghost use Rattle.wm_state.specs.Editing.{entry_of};
 ghost use Rattle.wm_state.specs.Effects.{IsFree, IsLeaf};
@@ -200,23 +200,24 @@ fn append_here(
     alloc: Global,
     image: &Image,
     moment: u64,
+    work: u64,
     space: &Space,
     id: u64,
     entries: Vec<NewEntry>,
 ) -> Result<Changes, Memory>
     requires rules { keep_rules (parts_of image.now) ≡ true }
-    requires work { CanWork (parts_of image.now) moment }
+    requires work { CanWork (parts_of image.now) moment work }
     requires there { space_of (parts_of image.now).spaces space.now.number ≡ Some space.now }
     requires can { CanAppend (parts_of image.now) space.now.number (map entry_of entries.items) }
     requires ids { (i : ℕ) → id ≤ i → record_at image.now i ≡ None }
     requires leaf { IsLeaf (latest (parts_of image.now) space.now.number) (newest_first (parts_of image.now).versions) }
     requires free { IsFree (parts_of image.now) (latest (parts_of image.now) space.now.number) }
-    ensures { IfOk result (Drafts image.now moment (edits.Append space.now.number entries ∷ [])) }
+    ensures { IfOk result (DraftsBy work image.now moment (edits.Append space.now.number entries ∷ [])) }
 {
     let version = image.latest(space.number);
     let table = entries[0].table;
     let count = entries.len() as u64;
-    let counters = stepped_by(image.counters(), moment, count);
+    let counters = stepped_by(image.counters(), moment, work, count);
     let front = Changes::new(alloc);
     let changes = written(
         alloc, image, front, counters, space, version, table, id, entries,
@@ -241,16 +242,17 @@ fn append_above(
     alloc: Global,
     image: &Image,
     moment: u64,
+    work: u64,
     space: &Space,
     id: u64,
     entries: Vec<NewEntry>,
 ) -> Result<Changes, Memory>
     requires rules { keep_rules (parts_of image.now) ≡ true }
-    requires work { CanWork (parts_of image.now) moment }
+    requires work { CanWork (parts_of image.now) moment work }
     requires there { space_of (parts_of image.now).spaces space.now.number ≡ Some space.now }
     requires can { CanAppend (parts_of image.now) space.now.number (map entry_of entries.items) }
     requires ids { (i : ℕ) → id ≤ i → record_at image.now i ≡ None }
-    ensures { IfOk result (Drafts image.now moment (edits.Append space.now.number entries ∷ [])) }
+    ensures { IfOk result (DraftsBy work image.now moment (edits.Append space.now.number entries ∷ [])) }
 {
     let Some(next) = id.checked_add(1) else {
         return Err(Memory);
@@ -264,7 +266,7 @@ fn append_above(
         parent: image.latest(space.number),
     };
     let number = version.number;
-    let counters = stepped_new_by(old, moment, count);
+    let counters = stepped_new_by(old, moment, work, count);
     let front = version_changes(alloc, id, version)?;
     let changes = written(
         alloc, image, front, counters, space, number, table, next, entries,
@@ -278,13 +280,14 @@ pub fn append(
     alloc: Global,
     image: &Image,
     moment: u64,
+    work: u64,
     space: u32,
     entries: Vec<NewEntry>,
 ) -> Result<Changes, Memory>
     requires rules { keep_rules (parts_of image.now) ≡ true }
-    requires work { CanWork (parts_of image.now) moment }
+    requires work { CanWork (parts_of image.now) moment work }
     requires can { CanAppend (parts_of image.now) space (map entry_of entries.items) }
-    ensures { IfOk result (Drafts image.now moment (edits.Append space entries ∷ [])) }
+    ensures { IfOk result (DraftsBy work image.now moment (edits.Append space entries ∷ [])) }
 {
     let Some(id) = image.next_id() else {
         return Err(Memory);
@@ -292,7 +295,7 @@ pub fn append(
     let found = image.space(space).unwrap();
     let version = image.latest(space);
     if image.is_leaf(version) && image.is_free(version) {
-        return append_here(alloc, image, moment, found, id, entries);
+        return append_here(alloc, image, moment, work, found, id, entries);
     }
-    append_above(alloc, image, moment, found, id, entries)
+    append_above(alloc, image, moment, work, found, id, entries)
 }

@@ -4,7 +4,7 @@ ghost use Rattle.std.specs.Fmt.{decimal};
 ghost use Rattle.wm_graph.specs.Parts.{Parts, parts_of};
 ghost use Rattle.wm_graph.specs.Rules.{keep_rules};
 ghost use Rattle.wm_image.specs.Points.{point_view};
-ghost use Rattle.wm_state.specs.Drafts.{CanBear, CanWork, Drafts};
+ghost use Rattle.wm_state.specs.Drafts.{CanBear, CanWork, DraftsBy};
 ghost use Rattle.wm_state.specs.Editing.{implicit_front, number_limit, stand_of};
 ghost use Rattle.wm_state.specs.Points.{child_record, next_place_at};
 ghost use Rattle.wm_state.specs.Standing.{space_after};
@@ -84,14 +84,15 @@ pub fn bear(
     alloc: Global,
     image: &Image,
     moment: u64,
+    work: u64,
     parent: u32,
     at: Option<u64>,
     name: Name,
 ) -> Result<Changes, Memory>
     requires rules { keep_rules (parts_of image.now) ≡ true }
-    requires work { CanWork (parts_of image.now) moment }
+    requires work { CanWork (parts_of image.now) moment work }
     requires can { CanBear (parts_of image.now) moment parent at name }
-    ensures { IfOk result (Drafts image.now moment (edits.Bear parent at name ∷ [])) }
+    ensures { IfOk result (DraftsBy work image.now moment (edits.Bear parent at name ∷ [])) }
 {
     let Some(id) = image.next_id() else {
         return Err(Memory);
@@ -112,7 +113,7 @@ pub fn bear(
     let implicit = implicit_name(alloc, space.next_implicit)?;
     let savepoint = made_at(image, space, implicit, true, point);
     let child = child_record(alloc, number, name, space, moment, point);
-    let counted = versioned(counters, moment);
+    let counted = versioned(counters, moment, work);
     let new = marked(
         alloc,
         next_place_at(space, at),

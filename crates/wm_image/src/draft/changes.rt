@@ -5,11 +5,11 @@ ghost use Rattle.wm_state.specs.Batches.{put, drop_one, create_batch, ready, sav
 ghost use Rattle.wm_state.specs.Effects.{marked};
 ghost use Rattle.wm_state.specs.Writes.{longer_by, put_all};
 
+use crate::draft::copies::{space_copy, table_copy};
 use std::alloc::Global;
 use wm_base::Memory;
 use wm_spec::record::{
-    Change, Changes, Counters, PieceRecord, Record, RowRecord, Savepoint, Space, Table,
-    TableColumn, TableColumns, Version,
+    Change, Changes, Counters, Record, Savepoint, Space, Table, Version,
 };
 
 /// A record takes the place of the one of its id, or is new.
@@ -92,30 +92,6 @@ pub fn written_changes(
     Ok(changes)
 }
 
-/// A copy of a workspace.
-fn space_copy(alloc: Global, space: &Space) -> Result<Space, Memory>
-    ensures { IfOk result (λ new. new ≡ space.now) }
-{
-    let name = space.name.copy(alloc)?;
-    let writer = space.writer.copy(alloc)?;
-    Ok(Space {
-        number: space.number,
-        name,
-        parent: space.parent,
-        born: space.born,
-        birth_version: space.birth_version,
-        birth_place: space.birth_place,
-        base_version: space.base_version,
-        from: space.from,
-        log_length: space.log_length,
-        rebases: space.rebases,
-        next_place: space.next_place,
-        next_implicit: space.next_implicit,
-        freeze: space.freeze,
-        writer,
-    })
-}
-
 /// The workspace with a log that is longer by so many.
 pub fn longer_by(alloc: Global, count: u64, space: &Space) -> Result<Space, Memory>
     requires { space.now.log_length + count < 2 ^ 64 }
@@ -171,44 +147,13 @@ pub fn birth_changes(
     Ok(changes)
 }
 
-/// A copy of a column.
-fn column_copy(alloc: Global, column: &TableColumn) -> Result<TableColumn, Memory>
-    ensures { IfOk result (λ new. new ≡ column.now) }
-{
-    let name = column.name.copy(alloc)?;
-    Ok(TableColumn {
-        name,
-        kind: column.kind,
-        size: column.size,
-        not_null: column.not_null,
-    })
-}
-
-/// A copy of some columns.
-fn column_copies(alloc: Global, columns: &TableColumns) -> Result<TableColumns, Memory>
-    ensures { IfOk result (λ new. new ≡ columns.now) }
-{
-    let mut copies = TableColumns::new(alloc);
-    for column in columns.as_slice() {
-        copies.push(column_copy(alloc, column)?)?;
-    }
-    Ok(copies)
-}
-
 /// The table, ready for rows with or without valid time, and with or without its history.
 pub fn readied(alloc: Global, valid: bool, history: bool, table: &Table) -> Result<Table, Memory>
     ensures { IfOk result (λ new. new ≡ ready (record { valid = valid; history = history }) table.now) }
 {
-    let name = table.name.copy(alloc)?;
-    let columns = column_copies(alloc, &table.columns)?;
-    Ok(Table {
-        number: table.number,
-        name,
-        versioned: true,
-        valid,
-        history,
-        has_key: table.has_key,
-        key_column: table.key_column,
-        columns,
-    })
+    let mut new = table_copy(alloc, table)?;
+    new.versioned = true;
+    new.valid = valid;
+    new.history = history;
+    Ok(new)
 }

@@ -1,58 +1,55 @@
-//! The counters once a line has made an edit.
+//! The counters once an edit was made.
 ghost use Rattle.std.specs.Prelude.{◌≡◌, ◌+◌, ◌<◌, ◌^◌, nat_lt, false};
-ghost use Rattle.wm_state.specs.Editing.{counter_limit, line_work};
+ghost use Rattle.wm_state.specs.Editing.{counter_limit};
 ghost use Rattle.wm_state.specs.Points.{moved, stepped_by, stepped_new_by, versioned};
 
 use wm_spec::record::Counters;
 
-/// What a line that changes something adds to the work.
-const LINE_WORK: u64 = 4_096;
-
-/// The counters once a line has changed something at a moment.
-pub fn moved(counters: Counters, moment: u64) -> Counters
-    requires { nat_lt counter_limit (counters.work + line_work) ≡ false }
-    ensures { result ≡ moved counters moment }
+/// The counters once something has changed at a moment, with so much work.
+pub fn moved(counters: Counters, moment: u64, work: u64) -> Counters
+    requires { nat_lt counter_limit (counters.work + work) ≡ false }
+    ensures { result ≡ moved counters moment work }
 {
     Counters {
         last_moment: moment,
-        work: counters.work + LINE_WORK,
+        work: counters.work + work,
         ..counters
     }
 }
 
-/// The counters once a line has made a version.
-pub fn versioned(counters: Counters, moment: u64) -> Counters
-    requires work { nat_lt counter_limit (counters.work + line_work) ≡ false }
+/// The counters once a version was made.
+pub fn versioned(counters: Counters, moment: u64, work: u64) -> Counters
+    requires work { nat_lt counter_limit (counters.work + work) ≡ false }
     requires versions { counters.next_version + 1 < 2 ^ 64 }
-    ensures { result ≡ versioned counters moment }
+    ensures { result ≡ versioned counters moment work }
 {
     Counters {
         next_version: counters.next_version + 1,
-        ..moved(counters, moment)
+        ..moved(counters, moment, work)
     }
 }
 
-/// The counters once a line has given so many stamps.
-pub fn stepped_by(counters: Counters, moment: u64, count: u64) -> Counters
-    requires work { nat_lt counter_limit (counters.work + line_work) ≡ false }
+/// The counters once so many stamps were given.
+pub fn stepped_by(counters: Counters, moment: u64, work: u64, count: u64) -> Counters
+    requires work { nat_lt counter_limit (counters.work + work) ≡ false }
     requires stamps { counters.next_stamp + count < 2 ^ 64 }
-    ensures { result ≡ stepped_by counters moment count }
+    ensures { result ≡ stepped_by counters moment work count }
 {
     Counters {
         next_stamp: counters.next_stamp + count,
-        ..moved(counters, moment)
+        ..moved(counters, moment, work)
     }
 }
 
-/// The counters once a line has made a version and given so many stamps.
-pub fn stepped_new_by(counters: Counters, moment: u64, count: u64) -> Counters
-    requires work { nat_lt counter_limit (counters.work + line_work) ≡ false }
+/// The counters once a version was made and so many stamps were given.
+pub fn stepped_new_by(counters: Counters, moment: u64, work: u64, count: u64) -> Counters
+    requires work { nat_lt counter_limit (counters.work + work) ≡ false }
     requires stamps { counters.next_stamp + count < 2 ^ 64 }
     requires versions { counters.next_version + 1 < 2 ^ 64 }
-    ensures { result ≡ stepped_new_by counters moment count }
+    ensures { result ≡ stepped_new_by counters moment work count }
 {
     Counters {
         next_version: counters.next_version + 1,
-        ..stepped_by(counters, moment, count)
+        ..stepped_by(counters, moment, work, count)
     }
 }

@@ -2,7 +2,7 @@
 ghost use Rattle.std.specs.Prelude.{◌≡◌, ◌∷◌, [], true, IfOk};
 ghost use Rattle.wm_graph.specs.Parts.{parts_of};
 ghost use Rattle.wm_graph.specs.Rules.{keep_rules};
-ghost use Rattle.wm_state.specs.Drafts.{CanCreate, CanEnable, CanWork, Drafts};
+ghost use Rattle.wm_state.specs.Drafts.{CanCreate, CanEnable, CanWork, DraftsBy};
 ghost use Rattle.wm_state.specs.declared.edit.Edit.TheVariants as edits;
 
 use crate::draft::changes::{readied, table_changes};
@@ -13,16 +13,22 @@ use wm_base::{Memory, Name};
 use wm_spec::record::{Changes, Table};
 
 /// A table is made.
-pub fn create(alloc: Global, image: &Image, moment: u64, table: Table) -> Result<Changes, Memory>
+pub fn create(
+    alloc: Global,
+    image: &Image,
+    moment: u64,
+    work: u64,
+    table: Table,
+) -> Result<Changes, Memory>
     requires rules { keep_rules (parts_of image.now) ≡ true }
-    requires work { CanWork (parts_of image.now) moment }
+    requires work { CanWork (parts_of image.now) moment work }
     requires can { CanCreate (parts_of image.now) table }
-    ensures { IfOk result (Drafts image.now moment (edits.Create table ∷ [])) }
+    ensures { IfOk result (DraftsBy work image.now moment (edits.Create table ∷ [])) }
 {
     let Some(id) = image.next_id() else {
         return Err(Memory);
     };
-    let counters = moved(image.counters(), moment);
+    let counters = moved(image.counters(), moment, work);
     let changes = table_changes(alloc, image.id_of_counters(), counters, id, table)?;
     Ok(changes)
 }
@@ -32,18 +38,19 @@ pub fn enable(
     alloc: Global,
     image: &Image,
     moment: u64,
+    work: u64,
     name: &Name,
     valid: bool,
     history: bool,
 ) -> Result<Changes, Memory>
     requires rules { keep_rules (parts_of image.now) ≡ true }
-    requires work { CanWork (parts_of image.now) moment }
+    requires work { CanWork (parts_of image.now) moment work }
     requires can { CanEnable (parts_of image.now) name.now }
-    ensures { IfOk result (Drafts image.now moment (edits.Enable name.now valid history ∷ [])) }
+    ensures { IfOk result (DraftsBy work image.now moment (edits.Enable name.now valid history ∷ [])) }
 {
     let table = image.table(name.as_bytes()).unwrap();
     let id = image.id_of_table(name.as_bytes()).unwrap();
-    let counters = moved(image.counters(), moment);
+    let counters = moved(image.counters(), moment, work);
     let ready = readied(alloc, valid, history, table)?;
     let changes = table_changes(alloc, image.id_of_counters(), counters, id, ready)?;
     Ok(changes)

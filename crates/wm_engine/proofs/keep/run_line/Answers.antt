@@ -34,7 +34,7 @@ returns-clause-any_moment g c = λ told s stands.
 
 pub returns-clause-few : goal.returns-clause-few
 returns-clause-few g c = λ fork.
-    kept_few c.args.image c.in_ok-image.image c.args.moment c.in_ok-planned.field-0.planned.edits.items c.into_changed.result.edits.items c.in_ok-planned.ensures.does.can
+    kept_few c.args.image c.in_ok-image.image c.args.moment c.in_ok-planned.field-0.planned.edits.items c.into_changed.result.edits.items
     (ap (λ (v : Vec Edit Global). v.items) c.into_changed.ensures.edits) c.in_ok-image.ensures.image (c.in_ok-planned.ensures.few fork)
 
 pub returns-clause-idle : goal.returns-clause-idle

@@ -1,20 +1,51 @@
-use Rattle.std.proofs.Common.{◌≡◌, List, [], ◌∷◌, length, vec_len, refl, sym, subst, arith}
-use Rattle.std.specs.declared.alloc.Global.{Global}
-use Rattle.std.specs.declared.vec.Vec.{Vec}
-use Rattle.wm_state.proofs.Drafted.{drafts_nothing}
-use Rattle.wm_state.specs.Drafts.{Drafts}
-use Rattle.wm_state.specs.declared.edit.Edit.{Edit}
+use Rattle.std.proofs.Common.{◌≡◌, ◌∷◌, ◌+◌, ◌-◌, refl, sym, ap, ◌∙◌}
+use Rattle.std.specs.Vec.Iter.{into_iter_items, into_iter_len}
+use Rattle.wm_state.specs.ById.{applied}
+use Rattle.wm_image.proofs.Sequenced.{goes_can, goes_drafts, goes_first, goes_next, goes_none, goes_rest, goes_room, goes_rules, many_edits, no_edits}
 use Rattle.wm_image.proofs.draft.draft.Goals as goal
 
--- what has no length has no items
-no_items : (v : Vec Edit Global) → vec_len v ≡ 0 → v.items ≡ []
-no_items v none = none_of v.items (omega (arith, none))
-  where
-    none_of : (es : List Edit) → length es ≡ 0 → es ≡ []
-    none_of [] e = refl
-    none_of (e ∷ es) h = absurd (omega (arith, h))
+pub returns-in_default-clause-drafts : goal.returns-in_default-clause-drafts
+returns-in_default-clause-drafts c =
+    goes_none c.args.image.now c.args.moment c.args.edits.items c.new.result c.requires.rules (no_edits c.args.edits (sym c.into_iter-edits.ensures.len ∙ c.in_default.ensures.cases.0)) c.new.ensures
 
-pub returns : goal.returns
-returns c =
-    subst (λ es. Drafts c.args.image.now c.args.moment es c.new.result) (sym (no_items c.args.edits c.in-None.ensures.cases.0))
-    (subst (Drafts c.args.image.now c.args.moment []) (sym c.new.ensures) (drafts_nothing c.args.image.now c.args.moment c.requires.rules))
+pub loop-edit-init : goal.loop-edit-init
+loop-edit-init c =
+    goes_first c.args.image.now c.args.moment (4097 - c.len-count.result) c.len-count.result (into_iter_len c.into_iter-edit-iterator.result) c.args.edits.items (into_iter_items c.into_iter-edit-iterator.result) c.in-Some.first c.new-front.result
+    c.in_ok-last.last c.requires.can
+    (sym c.into_iter-edits.ensures.rest ∙ c.in-Some.ensures.items ∙ ap (λ it. c.in-Some.first ∷ into_iter_items it) (sym c.into_iter-edit-iterator.ensures.into_iter_gives)) (many_edits c.args.edits c.len-count.result c.len-count.ensures) refl
+    (ap (λ it. into_iter_len it + 1) c.into_iter-edit-iterator.ensures.into_iter_gives ∙ c.in-Some.ensures.len ∙ c.into_iter-edits.ensures.len ∙ sym c.len-count.ensures) c.in_ok-last.ensures c.new-front.ensures
+
+-- the changes of the last edit are made
+applies : (c : goal.In_ok-front) → c.apply.new.self ≡ applied c.loop-edit.last c.loop-edit.image
+applies c = c.in_ok-apply.ensures.ok ∙ ap (λ cs. applied cs c.loop-edit.image) c.in_ok-copies.ensures
+
+pub draft_one-requires-in-loop-edit-clause-rules : goal.draft_one-requires-in-loop-edit-clause-rules
+draft_one-requires-in-loop-edit-clause-rules c =
+    goes_rules c.args.image.now c.args.moment (into_iter_len c.loop-edit.edit-iterator) c.args.edits.items c.loop-edit.yielded (into_iter_items c.loop-edit.edit-iterator) c.loop-edit.front c.loop-edit.last c.loop-edit.image c.apply.new.self
+    c.requires.sorted c.loop-edit.invariant (applies c)
+
+pub draft_one-requires-in-loop-edit-clause-work : goal.draft_one-requires-in-loop-edit-clause-work
+draft_one-requires-in-loop-edit-clause-work c =
+    goes_room c.args.image.now c.args.moment (into_iter_len c.loop-edit.edit-iterator) c.args.edits.items c.loop-edit.yielded (into_iter_items c.loop-edit.edit-iterator) (into_iter_items c.next-in-loop-edit.new.self) c.in-Some-edit.edit
+    c.loop-edit.front c.loop-edit.last c.loop-edit.image c.apply.new.self c.requires.sorted c.requires.can c.loop-edit.invariant c.in-Some-edit.ensures.steps.0 (applies c)
+
+pub draft_one-requires-in-loop-edit-clause-can : goal.draft_one-requires-in-loop-edit-clause-can
+draft_one-requires-in-loop-edit-clause-can c =
+    goes_can c.args.image.now c.args.moment (into_iter_len c.loop-edit.edit-iterator) c.args.edits.items c.loop-edit.yielded (into_iter_items c.loop-edit.edit-iterator) (into_iter_items c.next-in-loop-edit.new.self) c.in-Some-edit.edit
+    c.loop-edit.front c.loop-edit.last c.loop-edit.image c.apply.new.self c.requires.sorted c.loop-edit.invariant c.in-Some-edit.ensures.steps.0 (applies c)
+
+pub loop-edit-preserved : goal.loop-edit-preserved
+loop-edit-preserved c =
+    goes_next c.args.image.now c.args.moment (into_iter_len c.loop-edit.edit-iterator) (into_iter_len c.next-in-loop-edit.new.self) c.args.edits.items c.loop-edit.yielded (into_iter_items c.loop-edit.edit-iterator)
+    (into_iter_items c.next-in-loop-edit.new.self) c.in-Some-edit.edit c.loop-edit.front c.loop-edit.last c.in_ok-front.front c.in_ok-last-2.last c.loop-edit.image c.apply.new.self c.requires.sorted c.loop-edit.invariant
+    c.in-Some-edit.ensures.steps.0 c.in-Some-edit.ensures.steps.1 (c.in_ok-apply.ensures.ok ∙ ap (λ cs. applied cs c.loop-edit.image) c.in_ok-copies.ensures) c.in_ok-front.ensures c.in_ok-last-2.ensures
+
+pub returns-clause-rest : goal.returns-clause-rest
+returns-clause-rest c =
+    goes_rest c.args.image.now c.args.moment (into_iter_len c.loop-edit.edit-iterator) c.args.edits.items c.loop-edit.yielded (into_iter_items c.loop-edit.edit-iterator) c.loop-edit.front c.loop-edit.last c.in_ok-changes.changes
+    c.loop-edit.image c.requires.sorted c.loop-edit.invariant c.in_ok-changes.ensures
+
+pub returns-clause-drafts : goal.returns-clause-drafts
+returns-clause-drafts c =
+    goes_drafts c.args.image.now c.args.moment (into_iter_len c.loop-edit.edit-iterator) c.args.edits.items c.loop-edit.yielded (into_iter_items c.loop-edit.edit-iterator) c.loop-edit.front c.loop-edit.last c.in_ok-changes.changes
+    c.loop-edit.image c.loop-edit.invariant c.in-None.ensures.steps.0 c.in_ok-changes.ensures

@@ -1,6 +1,6 @@
 use Rattle.std.proofs.Common.{◌≡◌, map, IfOk, [], ◌∷◌, refl, sym, ap, subst, ◌∙◌}
 use Rattle.wm_graph.specs.Parts.{parts_of}
-use Rattle.wm_state.specs.Drafts.{Drafts}
+use Rattle.wm_state.specs.Drafts.{DraftsBy}
 use Rattle.wm_state.specs.Editing.{entry_of}
 use Rattle.wm_state.specs.Effects.{IsFree}
 use Rattle.wm_state.specs.Standing.{latest}
@@ -30,7 +30,7 @@ append_here-requires-clause-free c = subst (IsFree (parts_of c.args.image.now)) 
 
 pub returns-then-is_free : goal.returns-then-is_free
 returns-then-is_free c =
-    subst (λ n. IfOk c.append_here.result (Drafts c.args.image.now c.args.moment (edits.Append n c.args.entries ∷ [])))
+    subst (λ n. IfOk c.append_here.result (DraftsBy c.args.work c.args.image.now c.args.moment (edits.Append n c.args.entries ∷ [])))
     (found_so (parts_of c.args.image.now) c.args.space (map entry_of c.args.entries.items) c.space.result c.unwrap-found.result c.unwrap-found.ensures c.space.ensures c.requires.can).number
     c.append_here.ensures
 
@@ -44,6 +44,6 @@ append_above-requires-clause-can c =
 
 pub returns : goal.returns
 returns c =
-    subst (λ n. IfOk c.append_above.result (Drafts c.args.image.now c.args.moment (edits.Append n c.args.entries ∷ [])))
+    subst (λ n. IfOk c.append_above.result (DraftsBy c.args.work c.args.image.now c.args.moment (edits.Append n c.args.entries ∷ [])))
     (found_so (parts_of c.args.image.now) c.args.space (map entry_of c.args.entries.items) c.space.result c.unwrap-found.result c.unwrap-found.ensures c.space.ensures c.requires.can).number
     c.append_above.ensures

@@ -17,7 +17,7 @@ written-requires-clause-news c =
 
 pub returns : goal.returns
 returns c =
-    drafts_above c.args.image.now c.args.moment c.index.result.now.table c.args.id c.in-Some.next c.latest.result c.len-count.result c.args.entries c.args.space.now c.counters-old.result c.stepped_new_by-counters.result c.in_ok-front.front
+    drafts_above c.args.image.now c.args.moment c.args.work c.index.result.now.table c.args.id c.in-Some.next c.latest.result c.len-count.result c.args.entries c.args.space.now c.counters-old.result c.stepped_new_by-counters.result c.in_ok-front.front
     c.in_ok-changes.changes c.requires.rules c.requires.work
     (appends_so (parts_of c.args.image.now) c.args.space.now c.counters-old.result c.args.entries.items c.index.result.now c.requires.there c.requires.can c.counters-old.ensures c.index.ensures) c.requires.ids
     c.in-Some.ensures.1 c.latest.ensures (counted_as c.args.entries c.len-count.result c.len-count.ensures) c.stepped_new_by-counters.ensures c.in_ok-front.ensures c.in_ok-changes.ensures

@@ -16,7 +16,7 @@ written-requires-clause-news c = news-stamped c.latest-version.result c.index.re
 
 pub returns : goal.returns
 returns c =
-    drafts_here c.args.image.now c.args.moment c.index.result.now.table c.latest-version.result c.args.id c.len-count.result c.args.entries c.args.space.now c.counters.result c.stepped_by-counters.result c.new-front.result
+    drafts_here c.args.image.now c.args.moment c.args.work c.index.result.now.table c.latest-version.result c.args.id c.len-count.result c.args.entries c.args.space.now c.counters.result c.stepped_by-counters.result c.new-front.result
     c.in_ok-changes.changes c.requires.rules c.requires.work
     (appends_so (parts_of c.args.image.now) c.args.space.now c.counters.result c.args.entries.items c.index.result.now c.requires.there c.requires.can c.counters.ensures c.index.ensures) c.requires.ids c.requires.leaf c.requires.free
     c.latest-version.ensures (counted_as c.args.entries c.len-count.result c.len-count.ensures) c.stepped_by-counters.ensures c.new-front.ensures c.in_ok-changes.ensures

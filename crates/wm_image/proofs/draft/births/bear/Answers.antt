@@ -2,7 +2,7 @@ use Rattle.std.proofs.Common.{◌≡◌, [], ◌∷◌, Some, sym, ap, subst, �
 use Rattle.std.specs.Option.{option_map}
 use Rattle.wm_graph.specs.Parts.{parts_of, space_of}
 use Rattle.wm_state.proofs.DraftedBorn.{drafts_born}
-use Rattle.wm_state.specs.Drafts.{Drafts}
+use Rattle.wm_state.specs.Drafts.{DraftsBy}
 use Rattle.wm_state.specs.Editing.{stand_of}
 use Rattle.wm_state.specs.Points.{point_at}
 use Rattle.wm_state.specs.declared.edit.Edit.TheVariants as edits
@@ -24,13 +24,13 @@ stands c = sym c.point_at.ensures ∙ ap (option_map point_view) c.unwrap-point.
 
 pub returns : goal.returns
 returns c =
-    subst (Drafts c.args.image.now c.args.moment (edits.Bear c.args.parent c.args.at c.args.name ∷ []))
+    subst (DraftsBy c.args.work c.args.image.now c.args.moment (edits.Bear c.args.parent c.args.at c.args.name ∷ []))
     (sym
-    (bearing_is c.args.image.now c.unwrap-space.result.now c.counters-counters.result c.args.moment c.args.name c.in_ok-implicit.implicit (stand_of c.args.at) (point_view c.unwrap-point.result) c.next_place_at.result
+    (bearing_is c.args.image.now c.unwrap-space.result.now c.counters-counters.result c.args.moment c.args.work c.args.name c.in_ok-implicit.implicit (stand_of c.args.at) (point_view c.unwrap-point.result) c.next_place_at.result
     c.coming_space-number.result c.id_of_counters-counters_id.result c.unwrap-space_id.result c.in-Some.id c.versioned-counted.result c.in_ok-new.new c.child_record-child.result c.made_at-savepoint.result c.in_ok-saved.saved
     c.in_ok-changes.changes c.versioned-counted.ensures c.in_ok-new.ensures c.next_place_at.ensures c.made_at-savepoint.ensures c.in_ok-implicit.ensures
     (c.child_record-child.ensures (parts_of c.args.image.now) c.coming_space-number.ensures) c.coming_space-number.ensures c.in_ok-saved.ensures c.in_ok-changes.ensures))
-    (drafts_born c.args.image.now c.args.moment c.args.parent c.args.at c.args.name c.unwrap-space.result.now (point_view c.unwrap-point.result) c.counters-counters.result c.id_of_counters-counters_id.result c.unwrap-space_id.result
+    (drafts_born c.args.image.now c.args.moment c.args.work c.args.parent c.args.at c.args.name c.unwrap-space.result.now (point_view c.unwrap-point.result) c.counters-counters.result c.id_of_counters-counters_id.result c.unwrap-space_id.result
     c.in-Some.id c.requires.rules c.requires.work c.requires.can (found c) (stands c)
     (places_of c.args.image.now c.args.parent c.id_of_counters-counters_id.result c.id_of_space.result c.unwrap-space_id.result c.in-Some.id c.counters-counters.result c.unwrap-space.result.now
     c.id_of_counters-counters_id.ensures.ascend c.counters-counters.ensures c.id_of_counters-counters_id.ensures.there c.unwrap-space_id.ensures c.id_of_space.ensures.there (found c) c.in-Some.ensures.above))

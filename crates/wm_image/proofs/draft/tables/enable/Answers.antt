@@ -5,7 +5,7 @@ use Rattle.wm_spec.specs.declared.record.counters.Counters.{Counters}
 use Rattle.wm_spec.specs.declared.record.table.Table.{Table}
 use Rattle.wm_state.proofs.Drafted.{drafts_enabled}
 use Rattle.wm_state.specs.Batches.{create_batch}
-use Rattle.wm_state.specs.Drafts.{Drafts}
+use Rattle.wm_state.specs.Drafts.{DraftsBy}
 use Rattle.wm_state.specs.Points.{moved}
 use Rattle.wm_state.specs.Standing.{by_number}
 use Rattle.wm_state.specs.State.{table_named}
@@ -27,12 +27,12 @@ keyed c = ap (λ (t : Table). t.has_key) (one_table c.unwrap-table.result.now c.
 
 pub returns : goal.returns
 returns c =
-    subst (Drafts c.args.image.now c.args.moment (edits.Enable c.args.name.now c.args.valid c.args.history ∷ []))
+    subst (DraftsBy c.args.work c.args.image.now c.args.moment (edits.Enable c.args.name.now c.args.valid c.args.history ∷ []))
     (sym
     (c.in_ok-changes.ensures
     ∙ ap (λ (k : Counters). create_batch c.id_of_counters.result k c.unwrap-id.result c.in_ok-ready.ready) c.moved-counters.ensures
-    ∙ ap (create_batch c.id_of_counters.result (moved c.counters.result c.args.moment) c.unwrap-id.result) c.in_ok-ready.ensures))
-    (drafts_enabled c.args.image.now c.args.moment c.args.name.now c.args.valid c.args.history c.unwrap-table.result.now c.counters.result c.id_of_counters.result c.unwrap-id.result c.requires.rules c.requires.work (named c) (keyed c)
+    ∙ ap (create_batch c.id_of_counters.result (moved c.counters.result c.args.moment c.args.work) c.unwrap-id.result) c.in_ok-ready.ensures))
+    (drafts_enabled c.args.image.now c.args.moment c.args.work c.args.name.now c.args.valid c.args.history c.unwrap-table.result.now c.counters.result c.id_of_counters.result c.unwrap-id.result c.requires.rules c.requires.work (named c) (keyed c)
     c.counters.ensures
     (counters_at c.counters.result (parts_of c.args.image.now).counters (record_at c.args.image.now c.id_of_counters.result) c.counters.ensures c.id_of_counters.ensures.there)
     (table_at c.args.image.now c.id_of_table.result c.unwrap-id.result c.unwrap-table.result.now c.unwrap-id.ensures
