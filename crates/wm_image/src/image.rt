@@ -426,8 +426,16 @@ impl Image {
         ensures drafts { IfOk result (λ batch. Drafts self.old moment edits.items batch.changes) }
         ensures rest { IfOk result (λ batch. applied batch.changes self.new ≡ applied batch.changes self.old) }
     {
+        self.stand_by_id();
         let changes = draft(alloc, self, moment, edits)?;
         Ok(Batch { changes })
+    }
+
+    /// The law that the records stand in the order of their ids.
+    fn stand_by_id(&self)
+        ensures { Ascend self.now }
+    {
+        let _kept = &self.kept;
     }
 
     /// Makes of the records what a batch makes of them. Where memory runs out no record is left.
