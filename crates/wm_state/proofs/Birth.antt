@@ -124,6 +124,7 @@ Stands-born p q s t r number w es b st child spaces tables counters rules = reco
     bases = λ m new y some is recorded. base_path m new y some (workspace_is m new is) (record_is m y recorded);
     kept_bases = λ m making new y some is recorded.
         kept_base_path m making new y some (workspace_is m new is) (ap (λ ks. find (λ (z : Record). (z.space == m) && (z.making == making)) ks) (sym b.savepoints) ∙ recorded);
+  };
   ends = record {
     own = λ m new x is recorded. own_ends m new x (workspace_is m new is) (record_is m x recorded);
     kept = λ m making new k x is made recorded still. kept_ends m making new k x (workspace_is m new is) made (ap (λ ks. find (λ (z : Record). (z.space == m) && (z.making == making)) ks) (sym b.savepoints) ∙ recorded) still;
