@@ -1,9 +1,10 @@
 -- How what a plan says is told of the plan that a function gives.
-use Rattle.std.proofs.Common.{◌≡◌, ℕ, suc, ◌<◌, nat_lt, true, false, ◌==◌, List, [], ◌∷◌, length, Option, Some, None, is_some, Result, Ok, Err, IfOk, refl, sym, ap, ◌∙◌, arith}
+use Rattle.std.proofs.Common.{◌≡◌, ◌≤◌, ℕ, suc, ◌<◌, nat_lt, true, false, ◌==◌, List, [], ◌∷◌, length, Option, Some, None, is_some, Result, Ok, Err, IfOk, refl, sym, ap, subst, ◌∙◌, arith}
 use Rattle.std.proofs.lemmas.Bool.Decides.{nat_tests}
 use Rattle.std.specs.List.{list_all}
 use Rattle.wm_base.specs.declared.memory.Memory.{Memory}
 use Rattle.wm_base.specs.declared.instant.TheConstants.{END}
+use Rattle.wm_dml.specs.declared.change.RowChange.{RowChange}
 use Rattle.wm_print.specs.Texts.{Answer, Fine}
 use Rattle.wm_spec.specs.declared.record.stored.Stored.{Stored}
 use Rattle.wm_state.specs.State.{State, Session}
@@ -63,6 +64,27 @@ never_idle (Ok p) says = λ idle. absurd (apart (ap (λ a. is_idle (answer_view 
     apart : false ≡ true → ⊥
     apart e = cc
 never_idle (Err memory) says = tt
+
+-- nor is it where rows are changed
+pub never_done : (r : Result Planned Memory) (n : ℕ) → nat_lt 0 n ≡ true → IfOk r (λ p. p.answer ≡ answers.Done n) → IfOk r Idles
+never_done (Ok p) n some says = λ idle. absurd (apart n some (ap (λ a. is_idle (answer_view a)) (sym says) ∙ idle))
+  where
+    apart : (k : ℕ) → nat_lt 0 k ≡ true → (k == 0) ≡ true → ⊥
+    apart k more none = grind (arith, nat_tests, more, none)
+never_done (Err e) n some says = tt
+
+-- some rows are changed where changes are written
+pub some_rows : (n : ℕ) (changes : List RowChange) → (n ≡ 0 → changes ≡ []) → nat_lt 0 (length changes) ≡ true → nat_lt 0 n ≡ true
+some_rows zero changes none some = absurd (nothing (subst (λ (xs : List RowChange). nat_lt 0 (length xs) ≡ true) (none refl) some))
+  where
+    nothing : nat_lt 0 0 ≡ true → ⊥
+    nothing h = cc
+some_rows (suc n) changes none some = grind (arith, nat_tests)
+
+-- what has no length has no rows
+pub no_rows : {A : Type 0} (xs : List A) (n : ℕ) → n ≡ length xs → n ≡ 0 → xs ≡ []
+no_rows [] n is none = refl
+no_rows (x ∷ xs) n is none = absurd (omega (arith, is, none))
 
 -- a list of no length is empty, and one of some length is not
 pub none_counted : {A : Type 0} (xs : List A) → true ≡ (length xs == 0) → xs ≡ []

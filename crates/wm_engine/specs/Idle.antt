@@ -1,5 +1,5 @@
--- Lines that are refused, that read, or that say nothing change no record and no session.
-use Rattle.std.specs.Prelude.{◌≡◌, Bool, true, false, []}
+-- Lines that are refused, that read, that change no row, or that say nothing change no record and no session.
+use Rattle.std.specs.Prelude.{◌≡◌, ◌==◌, Bool, true, false, []}
 use Rattle.wm_print.specs.Texts.{Answer, Nothing, Fine, Done, Listing, Refused}
 use Rattle.wm_engine.specs.Views.{answer_view}
 use Rattle.wm_engine.specs.declared.planned.Planned.{Planned}
@@ -9,7 +9,7 @@ use Rattle.wm_engine.specs.declared.seating.Seating.TheVariants.{Stay}
 abbrev pub is_idle : Answer → Bool
 is_idle Nothing = true
 is_idle Fine = false
-is_idle (Done count) = false
+is_idle (Done count) = count == 0
 is_idle (Listing rows) = true
 is_idle (Refused refusal) = true
 

@@ -14,7 +14,7 @@ use Rattle.wm_spec.specs.declared.record.table.Table.{Table}
 use Rattle.wm_spec.specs.declared.record.version.Version.{Version}
 use Rattle.wm_state.specs.ById.{by_id}
 use Rattle.wm_state.specs.Drafts.{CanAppend, CanBear, CanCreate, CanEnable, CanSave, CanWork}
-use Rattle.wm_state.specs.Editing.{row_value}
+use Rattle.wm_state.specs.Editing.{line_work, row_value}
 use Rattle.wm_state.specs.Entries.{IsStamped}
 use Rattle.wm_state.specs.Points.{newest_point}
 
@@ -64,9 +64,9 @@ tried_image P image rs a ready same built so = subst P (sym (same ∙ ap by_id b
 
 -- ---- what can be done
 
-pub can_work : (a : Space) (ready : Bool) → CanWork (parts_of (tried a ready)) 5
+pub can_work : (a : Space) (ready : Bool) → CanWork (parts_of (tried a ready)) 5 line_work
 unfolding parts_of
-can_work a ready = record { counters = tried_counters; one = refl; room = refl; early = refl }
+can_work a ready = record { counters = tried_counters; one = refl; some = refl; room = refl; early = refl }
 
 pub can_create : (a : Space) (ready : Bool) (t : Table) → is_table t ≡ true → nat_lt 1 t.number ≡ true → bytes_eq (codes "T") t.name ≡ false → CanCreate (parts_of (tried a ready)) t
 unfolding parts_of

@@ -9,7 +9,7 @@ ghost use Rattle.wm_spec.specs.Lists.{Entry};
 ghost use Rattle.wm_spec.specs.declared.record.column.ColumnKind.TheVariants as kinds;
 ghost use Rattle.wm_spec.specs.declared.record.table.Table.{Table as OneTable};
 ghost use Rattle.wm_state.specs.Drafts.{CanAppend, CanBear, CanCreate, CanEdit, CanEnable, CanSave, CanWork};
-ghost use Rattle.wm_state.specs.Editing.{entry_of, row_value};
+ghost use Rattle.wm_state.specs.Editing.{entry_of, line_work, row_value};
 ghost use Rattle.wm_state.specs.Entries.{IsStamped};
 
 use std::alloc::Global;
@@ -93,7 +93,7 @@ fn stored(id: u64, new: Record) -> Stored
 /// An image of LIVE, its version, and a table of number 1, which is ready for rows or not.
 fn image(alloc: Global, ready: bool) -> Result<Image, Memory>
     ensures rules { IfOk result (λ image. keep_rules (parts_of image) ≡ true) }
-    ensures work { IfOk result (λ image. CanWork (parts_of image) 5) }
+    ensures work { IfOk result (λ image. CanWork (parts_of image) 5 line_work) }
     ensures create { IfOk result (λ image. (t : OneTable) → is_table t ≡ true → nat_lt 1 t.number ≡ true → bytes_eq (codes "T") t.name ≡ false → CanCreate (parts_of image) t) }
     ensures enable { ready ≡ false → IfOk result (λ image. CanEnable (parts_of image) (codes "T")) }
     ensures append { ready ≡ true → IfOk result (λ image. (e : Entry) → IsStamped 1 1 e → e.key ≡ values.Num (pos 7) ∷ [] → e.row ≡ Some (row_value (values.Num (pos 7) ∷ [])) → e.user ≡ codes "U" → CanAppend (parts_of image) 0 (e ∷ [])) }
@@ -119,7 +119,7 @@ fn image(alloc: Global, ready: bool) -> Result<Image, Memory>
 /// An edit is made at moment 5: how many records it changes.
 fn drafted(alloc: Global, image: &mut Image, edit: Edit) -> Result<usize, Memory>
     requires rules { keep_rules (parts_of image.old) ≡ true }
-    requires work { CanWork (parts_of image.old) 5 }
+    requires work { CanWork (parts_of image.old) 5 line_work }
     requires can { CanEdit (parts_of image.old) 5 edit }
 {
     let mut edits = Vec::new(alloc);
@@ -133,7 +133,7 @@ fn drafted(alloc: Global, image: &mut Image, edit: Edit) -> Result<usize, Memory
 #[test]
 fn nothing_is_made(rt: HostRuntime) -> Result<(), Fail> {
     let alloc = rt.alloc();
-    let image = image(alloc, true)?;
+    let mut image = image(alloc, true)?;
     let batch = image.draft(alloc, 5, Vec::new(alloc))?;
     assert_eq!(rt; batch.changes.len(), 0);
     Ok(())

@@ -1,5 +1,5 @@
 //! Changes of rows, once nothing is wrong with them.
-ghost use Rattle.std.specs.Prelude.{◌≡◌, ◌<◌, ◌+◌, nat_le, nat_lt, true, Some, IfOk};
+ghost use Rattle.std.specs.Prelude.{◌≡◌, ◌<◌, ◌+◌, nat_le, nat_lt, true, [], Some, IfOk};
 ghost use Rattle.std.specs.List.{list_all};
 ghost use Rattle.wm_base.specs.declared.instant.TheConstants.{END};
 ghost use Rattle.wm_dml.specs.Standing.{change_keys, change_lasts, is_change};
@@ -75,6 +75,7 @@ pub fn write_all(
     requires fit { list_all (is_change table.now) changes.items ≡ true }
     requires last { list_all change_lasts changes.items ≡ true }
     requires filled { list_all is_filled_change changes.items ≡ true }
+    requires counted { rows_changed ≡ 0 → changes.items ≡ [] }
     ensures does { IfOk result (DoesAs image.now moment session.now space.now (write_ascending session.now.user table.now rows_changed changes.items)) }
     ensures idle { IfOk result Idles }
 {

@@ -92,6 +92,7 @@ pub fn write_changes(
     requires rules { keep_rules (parts_of image.now) ≡ true }
     requires moment { moment < END }
     requires some { nat_lt 0 (length changes.items) ≡ true }
+    requires counted { nat_lt 0 writing.now.rows_changed ≡ true }
     // The table and the workspace are the image's, and so are the counters.
     requires there { table_of (parts_of image.now).tables writing.now.table.now.number ≡ Some writing.now.table.now }
     requires space { space_of (parts_of image.now).spaces session.now.space ≡ Some writing.now.space.now }

@@ -7,10 +7,10 @@ use Rattle.wm_spec.specs.Lists.{Entry}
 use Rattle.wm_spec.specs.declared.record.stored.Stored.{Stored}
 use Rattle.wm_spec.specs.declared.record.table.Table.{Table}
 use Rattle.wm_state.specs.Drafts.{CanAppend, CanBear, CanCreate, CanEnable, CanSave, CanWork}
-use Rattle.wm_state.specs.Editing.{row_value}
+use Rattle.wm_state.specs.Editing.{line_work, row_value}
 use Rattle.wm_state.specs.Entries.{IsStamped}
-use Rattle.wm_tests.proofs.Trying.{IsTried, can_append, can_bear, can_create, can_enable, can_save, can_work, tried, tried_built, tried_image}
-use Rattle.wm_tests.proofs.draft.image.Goals as goal
+use Rattle.wm_image_tests.proofs.Trying.{IsTried, can_append, can_bear, can_create, can_enable, can_save, can_work, tried, tried_built, tried_image}
+use Rattle.wm_image_tests.proofs.draft.image.Goals as goal
 
 -- the image is that of the small store
 small : (P : List Stored → Type 0) (c : goal.In-Ok) → P (tried c.in_ok-live.field-0 c.args.ready) → P c.in-Ok.image
@@ -25,7 +25,7 @@ live : (c : goal.In-Ok) → IsTried c.in_ok-live.field-0
 live c = record { number = c.in_ok-live.ensures.number; name = c.in_ok-live.ensures.name; log = c.in_ok-live.ensures.log; place = c.in_ok-live.ensures.place; implicit = c.in_ok-live.ensures.implicit }
 
 pub returns-clause-work : goal.returns-clause-work
-returns-clause-work c = small (λ rs. CanWork (parts_of rs) 5) c (can_work c.in_ok-live.field-0 c.args.ready)
+returns-clause-work c = small (λ rs. CanWork (parts_of rs) 5 line_work) c (can_work c.in_ok-live.field-0 c.args.ready)
 
 pub returns-clause-create : goal.returns-clause-create
 returns-clause-create c =

@@ -8,6 +8,8 @@ use Rattle.wm_model.specs.Step.{change_all, move_all, write_ascending}
 use Rattle.wm_engine.proofs.Acting.{does_so}
 use Rattle.wm_engine.proofs.Filled.{replacing_filled}
 use Rattle.wm_engine.proofs.Moving.{moved_filled}
+use Rattle.wm_dml.specs.Changing.{replacing}
+use Rattle.wm_engine.proofs.Planning.{no_rows}
 use Rattle.wm_engine.specs.Changing.{is_filled_change}
 use Rattle.wm_engine.proofs.plan.change.change_all.Goals as goal
 
@@ -33,6 +35,10 @@ write_all-requires-clause-fit c = c.in_ok-changes.ensures.fit c.requires.may_rep
 
 pub write_all-requires-clause-last : goal.write_all-requires-clause-last
 write_all-requires-clause-last c = c.in_ok-changes.ensures.lasting c.requires.stand
+
+pub write_all-requires-clause-counted : goal.write_all-requires-clause-counted
+write_all-requires-clause-counted c = λ none.
+    c.in_ok-changes.ensures.exact ∙ ap (λ rows. replacing c.args.table.now c.args.within.now rows c.args.news.items) (no_rows c.args.rows.now c.len-count.result c.len-count.ensures none)
 
 pub write_all-requires-clause-filled : goal.write_all-requires-clause-filled
 write_all-requires-clause-filled c =

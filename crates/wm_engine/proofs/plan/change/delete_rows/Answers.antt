@@ -5,6 +5,7 @@ use Rattle.wm_model.proofs.Changing.{kept_empty, kept_filled}
 use Rattle.wm_model.specs.Step.{not_built, unless_empty, write_ascending}
 use Rattle.wm_engine.proofs.Acting.{answers_so, does_so}
 use Rattle.wm_engine.proofs.Filled.{gone_filled, keyed_stand}
+use Rattle.wm_engine.proofs.Planning.{no_rows}
 use Rattle.wm_engine.specs.Changing.{is_filled_change}
 use Rattle.wm_engine.specs.Views.{answer_view, seating_view}
 use Rattle.wm_engine.proofs.plan.change.delete_rows.Goals as goal
@@ -25,6 +26,9 @@ write_all-requires-clause-last c = c.in_ok-changes.ensures.lasting (keyed_stand 
 
 pub write_all-requires-clause-filled : goal.write_all-requires-clause-filled
 write_all-requires-clause-filled c = ap (list_all is_filled_change) c.in_ok-changes.ensures.exact ∙ gone_filled c.args.table.now c.args.within.now c.args.rows.now (sym c.if-not-are_filled.ensures)
+
+pub write_all-requires-clause-counted : goal.write_all-requires-clause-counted
+write_all-requires-clause-counted c = λ none. c.in_ok-changes.ensures.exact ∙ ap (map (gone c.args.table.now c.args.within.now)) (no_rows c.args.rows.now c.len-count.result c.len-count.ensures none)
 
 pub returns-clause-does : goal.returns-clause-does
 returns-clause-does c =

@@ -6,6 +6,7 @@ use Rattle.wm_state.specs.Standing.{latest}
 use Rattle.wm_model.specs.Step.{write_ascending}
 use Rattle.wm_engine.proofs.Acting.{does_so}
 use Rattle.wm_engine.proofs.Moving.{counted_moves, finds_so, move_new, move_there, part_filled, part_fits}
+use Rattle.wm_engine.proofs.Planning.{no_rows}
 use Rattle.wm_engine.specs.Changing.{is_filled_change}
 use Rattle.wm_engine.specs.Views.{answer_view, seating_view}
 use Rattle.wm_engine.proofs.plan.moving.move_all.Goals as goal
@@ -28,6 +29,9 @@ write_all-requires-clause-fit c = c.in_ok-changes.ensures.all (is_change c.args.
 
 pub write_all-requires-clause-last : goal.write_all-requires-clause-last
 write_all-requires-clause-last c = c.in_ok-changes.ensures.lasting
+
+pub write_all-requires-clause-counted : goal.write_all-requires-clause-counted
+write_all-requires-clause-counted c = λ none. c.in_ok-changes.ensures.exact ∙ ap moving (no_rows c.args.moves.items c.len-count.result (counted_moves c.args.moves c.len-count.result c.len-count.ensures) none)
 
 pub write_all-requires-clause-filled : goal.write_all-requires-clause-filled
 write_all-requires-clause-filled c = c.in_ok-changes.ensures.all is_filled_change c.requires.filled (λ m part e. part_filled m part e)

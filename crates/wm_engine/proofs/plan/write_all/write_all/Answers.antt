@@ -4,6 +4,7 @@ use Rattle.wm_model.specs.Step.{counter_limit}
 use Rattle.wm_state.specs.Drawing.{are_sorted}
 use Rattle.wm_engine.proofs.Acting.{counted, none_counted, some_counted, writes_all, writes_full, writes_long, writes_none, writes_not}
 use Rattle.wm_engine.proofs.ChangesWritten.{some_changes}
+use Rattle.wm_engine.proofs.Planning.{some_rows}
 use Rattle.wm_engine.specs.Views.{answer_view, seating_view}
 use Rattle.wm_engine.proofs.plan.write_all.write_all.Goals as goal
 
@@ -47,6 +48,9 @@ returns-clause-does c =
     writes_all c.args.image.now c.args.moment c.write_changes.result c.args.session.now c.args.space.now c.args.table.now n c.args.rows_changed c.args.changes.items
     (ap (λ xs. are_sorted (change_keys xs)) (sym c.as_slice.ensures.value) ∙ sym c.if-not-are_sorted.ensures) (some_counted c.args.changes.items c.len-count.result k c.if-count-eq0.false) c.counters-counters.ensures
     (ap (λ l. nat_le (n.next_stamp + l) (n.limit + 1)) (sym k) ∙ sym c.if-not-are_left.ensures) c.write_changes.ensures.does
+
+pub write_changes-requires-clause-counted : goal.write_changes-requires-clause-counted
+write_changes-requires-clause-counted c = some_rows c.args.rows_changed c.args.changes.items c.requires.counted (some_changes c.args.changes c.len-count.result c.len-count.ensures c.if-count-eq0.false)
 
 pub write_changes-requires-clause-some : goal.write_changes-requires-clause-some
 write_changes-requires-clause-some c = some_changes c.args.changes c.len-count.result c.len-count.ensures c.if-count-eq0.false

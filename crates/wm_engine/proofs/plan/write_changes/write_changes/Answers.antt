@@ -9,6 +9,7 @@ use Rattle.wm_engine.specs.declared.planned.Planned.{Planned}
 use Rattle.wm_engine.proofs.ChangesWritten.{kept_entries, spent_all, stamps_fit, wrote_all}
 use Rattle.wm_engine.proofs.Planning.{early}
 use Rattle.wm_engine.specs.Views.{answer_view, seating_view}
+use Rattle.wm_engine.proofs.Planning.{never_done}
 use Rattle.wm_engine.proofs.plan.write_changes.write_changes.Goals as goal
 
 pub returns-then-is_spent-clause-does : goal.returns-then-is_spent-clause-does
@@ -43,3 +44,6 @@ returns-clause-does c =
     })
     (c.in_ok-entries.ensures ∙ ap (λ user. entries_from c.args.writing.now.counters.next_stamp c.args.moment user c.args.writing.now.table.now c.args.changes.items) c.user-user.ensures.user)
     (edits_are c.editing.result c.space.result c.args.session.now.space c.in_ok-entries.entries c.editing.ensures.edits c.space.ensures) c.editing.ensures.seating c.editing.ensures.answer
+
+pub returns-clause-idle : goal.returns-clause-idle
+returns-clause-idle c = never_done c.editing.result c.args.writing.now.rows_changed c.requires.counted c.editing.ensures.answer
