@@ -128,6 +128,7 @@ fresh_stands limit some most = record {
   };
   kept_own = record { covered = λ n making w k x is made recorded same c. absurd (no_record x recorded) };
   bases = record { birth = λ n w r some is found c. absurd (alone n w some is); base = λ n w r some is found c. absurd (alone n w some is) };
+  ends = record { own = λ n w r is found. refl; kept = λ n making w k x is made recorded same. absurd (no_record x recorded) };
   rows = record {
     there = λ n w is c t row e h. absurd (none_told t (told (content w) c) (told_none w c (only_live n w is)) e);
     births = λ n w is c t row e h. absurd (none_told t (told w.lists.at_birth c) (ap (λ (v : Workspace). told v.lists.at_birth c) (only_live n w is)) e);

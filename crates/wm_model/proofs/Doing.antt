@@ -39,6 +39,7 @@ stands_sessions p s xs st = record {
   kept = record { told = st.kept.told; base = st.kept.base };
   kept_own = record { covered = st.kept_own.covered };
   bases = record { birth = st.bases.birth; base = st.bases.base };
+  ends = record { own = st.ends.own; kept = st.ends.kept };
   rows = record { there = st.rows.there; births = st.rows.births; bases = st.rows.bases; saved = st.rows.saved; saved_bases = st.rows.saved_bases; logs = st.rows.logs };
   hists = record { same = st.hists.same };
 }
