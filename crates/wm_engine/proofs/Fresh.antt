@@ -147,6 +147,7 @@ fresh_stands limit some most = record {
     bases = λ n w r some is found. absurd (alone n w some is);
     kept_bases = λ n making w x some is recorded. absurd (no_record x recorded);
   };
+  ends = record { own = λ n w r is found. refl; kept = λ n making w k x is made recorded same. absurd (no_record x recorded) };
   rows = record {
     there = λ n w is c t row e h. absurd (none_told t (told (content w) c) (told_none w c (only_live n w is)) e);
     births = λ n w is c t row e h. absurd (none_told t (told w.lists.at_birth c) (ap (λ (v : Workspace). told v.lists.at_birth c) (only_live n w is)) e);

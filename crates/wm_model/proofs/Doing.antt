@@ -40,6 +40,7 @@ stands_sessions p s xs st = record {
   kept_own = record { covered = st.kept_own.covered };
   bases = record { birth = st.bases.birth; base = st.bases.base };
   paths = record { latest = st.paths.latest; kept = st.paths.kept; births = st.paths.births; bases = st.paths.bases; kept_bases = st.paths.kept_bases };
+  ends = record { own = st.ends.own; kept = st.ends.kept };
   rows = record { there = st.rows.there; births = st.rows.births; bases = st.rows.bases; saved = st.rows.saved; saved_bases = st.rows.saved_bases; logs = st.rows.logs };
   hists = record { same = st.hists.same };
 }
