@@ -136,7 +136,7 @@ impl Engine {
         ensures works { P.tells → OnOk result (WorksOver self.new (P.history station.new)) }
         // A line that makes a savepoint or a workspace changes few records, and none of a row, a piece or an entry of a log.
         ensures few { is_fork (parsed line.now) ≡ true → OnOk result (ChangesFew self.old.records self.new.records) }
-        // A line that is refused, that reads, or that says nothing changes no record and no session.
+        // A line that is refused, that reads, that changes no row, or that says nothing changes no record and no session.
         ensures idle { (s : State) → StandsFor self.old s → is_idle (step s line.now).1 ≡ true → OnOk result ((self.new.records ≡ self.old.records) × (self.new.sessions ≡ self.old.sessions)) }
         // Such a line writes nothing, and syncs nothing.
         ensures unwritten { P.tells → (s : State) → StandsFor self.old s → is_idle (step s line.now).1 ≡ true → P.history station.new ≡ P.history station.old }

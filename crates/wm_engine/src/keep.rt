@@ -64,6 +64,7 @@ fn keep<P: Station>(
 {
     let Changed { edits, seating } = changed;
     let mut image = image;
+    // Where this or what follows fails, the image is not that of the file, and is given up.
     let batch = image.draft(alloc, moment, edits)?;
     commit(alloc, station, store, &batch)?;
     image.apply(alloc, batch)?;
@@ -89,7 +90,7 @@ pub fn run_line<P: Station>(
     ensures moment { IfOk result (λ k. k.moment < END) }
     ensures few { is_fork (parsed line.now) ≡ true → IfOk result (λ k. ChangesFew image k.image) }
     ensures idle { IfOk result (λ k. (s : State) → StandsAt image sessions.old.items moment s → is_idle (step s line.now).1 ≡ true → (k.image ≡ image) × (sessions.new.items ≡ sessions.old.items)) }
-    // A line that is refused, that reads, or that says nothing does not touch the file, whatever the result.
+    // A line that is refused, that reads, that changes no row, or that says nothing does not touch the file, whatever the result.
     ensures unwritten { P.tells → (s : State) → StandsAt image sessions.old.items moment s → is_idle (step s line.now).1 ≡ true → P.history station.new ≡ P.history station.old }
     ensures works { P.tells → IfOk result (λ k. KeepsOver store.new k.image (P.history station.new)) }
     ensures any_moment { P.tells → (s : State) → StandsAt image sessions.old.items moment s → Ended (P.history station.old) (P.history station.new) (λ file. FileStands file s ⊎ FileStands file (step s line.now).0) }

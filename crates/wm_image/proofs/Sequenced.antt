@@ -129,47 +129,46 @@ pub record Goes (rs : List Stored) (m : ℕ) (edits yielded left : List Edit) (c
   pub drafting : AreDrafting rs m first yielded left front last now
   pub all : edits ≡ first ∷ (yielded ++ left)
   pub counted : count ≡ length left
+  pub still : yielded ≡ [] → front ≡ []
 
 -- what is asked of a list that has a first edit
 pub asked_some : (rs : List Stored) (m : ℕ) (edits left : List Edit) (e : Edit) → CanDraft rs m edits → edits ≡ e ∷ left → CanWork (parts_of rs) m line_work × (length (e ∷ left) ≤ edit_limit) × CanEditAll rs m (e ∷ left)
 asked_some rs m edits left e can is = subst (CanDraft rs m) is can
 
 -- there is room for the work of the first one
-pub room_first : (rs : List Stored) (m work count : ℕ) (edits left : List Edit) (e : Edit) → CanDraft rs m edits → edits ≡ e ∷ left → count ≡ length edits → work ≡ 4097 - count → CanWork (parts_of rs) m work
+pub room_first : (rs : List Stored) (m work count : ℕ) (edits left : List Edit) (e : Edit) → CanDraft rs m edits → edits ≡ e ∷ left → count ≡ length left → work ≡ 4096 - count → CanWork (parts_of rs) m work
 room_first rs m work count edits left e can is counts works =
     let asked = asked_some rs m edits left e can is in
-    work_first (parts_of rs) m work (length left) (subst (CanWork (parts_of rs) m) (splits work count (length left) works (counts ∙ ap length is) asked.1) asked.0)
-    (some work count (length left) works (counts ∙ ap length is) asked.1)
+    work_first (parts_of rs) m work (length left) (subst (CanWork (parts_of rs) m) (splits work count (length left) works counts asked.1) asked.0)
+    (some work count (length left) works counts asked.1)
   where
-    splits : (k n l : ℕ) → k ≡ 4097 - n → n ≡ suc l → suc l ≤ 2048 → line_work ≡ k + l
+    splits : (k n l : ℕ) → k ≡ 4096 - n → n ≡ l → suc l ≤ 2048 → line_work ≡ k + l
     splits k n l is many few = omega (arith, is, many, few)
 
-    some : (k n l : ℕ) → k ≡ 4097 - n → n ≡ suc l → suc l ≤ 2048 → 0 < k
+    some : (k n l : ℕ) → k ≡ 4096 - n → n ≡ l → suc l ≤ 2048 → 0 < k
     some k n l is many few = omega (arith, is, many, few)
 
 -- the first one is drafted
-pub goes_first : (rs : List Stored) (m work count left_count : ℕ) (edits left : List Edit) (e : Edit) (front last : List Change) → CanDraft rs m edits → edits ≡ e ∷ left → count ≡ length edits → work ≡ 4097 - count → left_count + 1 ≡ count
+pub goes_first : (rs : List Stored) (m work left_count : ℕ) (edits left : List Edit) (e : Edit) (front last : List Change) → CanDraft rs m edits → edits ≡ e ∷ left → left_count ≡ length left → work ≡ 4096 - left_count
     → DraftsBy work rs m (e ∷ []) last → front ≡ [] → Goes rs m edits [] left left_count front last rs
-goes_first rs m work count left_count edits left e front last can is counts works fewer drafts none =
+goes_first rs m work left_count edits left e front last can is left_many works drafts none =
     subst (λ cs. Goes rs m edits [] left left_count cs last rs) (sym none)
     (record {
       first = e;
-      drafting = drafting_first rs m work e left last (some work count (length left) works (counts ∙ ap length is) asked.1) (whole work count (length left) works (counts ∙ ap length is) asked.1) asked.2 drafts;
+      drafting = drafting_first rs m work e left last (some work left_count (length left) works left_many asked.1) (whole work left_count (length left) works left_many asked.1) asked.2 drafts;
       all = is;
-      counted = fewer_left left_count count (length left) fewer (counts ∙ ap length is);
+      counted = left_many;
+      still = λ none. refl;
     })
   where
     asked : CanWork (parts_of rs) m line_work × (length (e ∷ left) ≤ edit_limit) × CanEditAll rs m (e ∷ left)
     asked = asked_some rs m edits left e can is
 
-    whole : (k n l : ℕ) → k ≡ 4097 - n → n ≡ suc l → suc l ≤ 2048 → k + l ≡ line_work
+    whole : (k n l : ℕ) → k ≡ 4096 - n → n ≡ l → suc l ≤ 2048 → k + l ≡ line_work
     whole k n l is many few = omega (arith, is, many, few)
 
-    some : (k n l : ℕ) → k ≡ 4097 - n → n ≡ suc l → suc l ≤ 2048 → 0 < k
+    some : (k n l : ℕ) → k ≡ 4096 - n → n ≡ l → suc l ≤ 2048 → 0 < k
     some k n l is many few = omega (arith, is, many, few)
-
-    fewer_left : (c n l : ℕ) → c + 1 ≡ n → n ≡ suc l → c ≡ l
-    fewer_left c n l one many = omega (arith, one, many)
 
 -- the rules are kept before the next one
 pub goes_rules : (rs : List Stored) (m count : ℕ) (edits yielded left : List Edit) (front last : List Change) (now next : List Stored) → Ascend rs → Goes rs m edits yielded left count front last now → next ≡ applied last now
@@ -197,10 +196,15 @@ goes_next rs m count fewer edits yielded old left x front last both newest now n
   drafting = drafting_next rs m g.first x yielded left front last both newest now next sorted (subst (λ es. AreDrafting rs m g.first yielded es front last now) is g.drafting) becomes are drafts;
   all = g.all ∙ ap (λ es. g.first ∷ (yielded ++ es)) is ∙ ap (λ es. g.first ∷ es) (sym (append_assoc yielded (x ∷ []) left));
   counted = less fewer count (length left) one (g.counted ∙ ap length is);
+  still = λ none. absurd (some yielded none);
 }
   where
     less : (c n l : ℕ) → c + 1 ≡ n → n ≡ suc l → c ≡ l
     less c n l one many = omega (arith, one, many)
+
+    some : (ys : List Edit) → ys ++ x ∷ [] ≡ [] → ⊥
+    some [] h = cc
+    some (y ∷ ys) h = cc
 
 -- and in the end all are
 pub goes_drafts : (rs : List Stored) (m count : ℕ) (edits yielded left : List Edit) (front last all : List Change) (now : List Stored) → Goes rs m edits yielded left count front last now → count ≡ 0 → all ≡ followed_by front last → Drafts rs m edits all
@@ -214,13 +218,27 @@ pub goes_rest : (rs : List Stored) (m count : ℕ) (edits yielded left : List Ed
     → applied all now ≡ applied all rs
 goes_rest rs m count edits yielded left front last all now sorted g is = rest_is rs m g.first yielded left front last all now sorted g.drafting is
 
+-- where there is one edit alone the records are as they were
+pub goes_still : (rs : List Stored) (m count : ℕ) (edits yielded left : List Edit) (front last : List Change) (now : List Stored) → Goes rs m edits yielded left count front last now → length edits ≤ 1 → now ≡ rs
+goes_still rs m count edits yielded left front last now g one = g.drafting.is ∙ ap (λ cs. applied cs rs) (g.still (none yielded g.all))
+  where
+    none : (ys : List Edit) → edits ≡ g.first ∷ (ys ++ left) → ys ≡ []
+    none [] is = refl
+    none (y ∷ ys) is = absurd (two (length (ys ++ left)) (subst (λ (es : List Edit). length es ≤ 1) is one))
+
+    two : (n : ℕ) → suc (suc n) ≤ 1 → ⊥
+    two n h = omega (arith, h)
+
 -- a list without a first edit
 pub goes_none : (rs : List Stored) (m : ℕ) (edits : List Edit) (changes : List Change) → keep_rules (parts_of rs) ≡ true → edits ≡ [] → changes ≡ [] → Drafts rs m edits changes
 goes_none rs m edits changes rules none is = subst (λ es. Drafts rs m es changes) (sym none) (subst (Drafts rs m []) (sym is) (drafts_nothing rs m rules))
 
--- so many as are told
-pub many_edits : (v : Vec Edit Global) (n : ℕ) → n ≡ vec_len v → n ≡ length v.items
-many_edits v n is = omega (arith, is)
+-- as many are left as are told
+pub many_left : (n k : ℕ) (v : Vec Edit Global) (e : Edit) (left : List Edit) → v.items ≡ e ∷ left → n + 1 ≡ k → k ≡ vec_len v → n ≡ length left
+many_left n k v e left is one many = so (length v.items) (length left) (ap length is) (omega (arith, many))
+  where
+    so : (a l : ℕ) → a ≡ suc l → k ≡ a → n ≡ l
+    so a l more same = omega (arith, more, same, one)
 
 -- what has no length has no items
 pub no_edits : (v : Vec Edit Global) → vec_len v ≡ 0 → v.items ≡ []

@@ -1,5 +1,5 @@
 //! What becomes of the records where a line makes its edits.
-ghost use Rattle.std.specs.Prelude.{◌≡◌, ◌∷◌, [], true, IfOk};
+ghost use Rattle.std.specs.Prelude.{◌≡◌, ◌≤◌, ◌∷◌, [], length, true, IfOk, OnOk};
 ghost use Rattle.wm_graph.specs.Parts.{parts_of};
 ghost use Rattle.wm_graph.specs.Rules.{keep_rules};
 ghost use Rattle.wm_state.specs.ById.{Ascend, applied};
@@ -56,8 +56,9 @@ fn draft_one(
     }
 }
 
-/// What the edits of a line at a moment make of the records. All but the last one are made of the image itself, so that
-/// each is drafted of what the edits before it left: the first has the work of the line but 1 for each of the others.
+/// What the edits of a line at a moment make of the records. The changes of all edits but the last are applied to the
+/// image, so that each is drafted of what the ones before it left. Each adds work, since the numbers of versions and the
+/// makings of savepoints are held to it: the first the line's work less 1 for each other one, each other one 1.
 pub fn draft(
     alloc: Global,
     image: &mut Image,
@@ -69,13 +70,13 @@ pub fn draft(
     requires can { CanDraft image.old moment edits.items }
     ensures drafts { IfOk result (Drafts image.old moment edits.items) }
     ensures rest { IfOk result (λ changes. applied changes image.new ≡ applied changes image.old) }
+    ensures one { length edits.items ≤ 1 → OnOk result (image.new ≡ image.old) }
 {
-    let count = edits.len() as u64;
     let mut edits = edits.into_iter();
     let Some(first) = edits.next() else {
         return Ok(Changes::new(alloc));
     };
-    let work = LINE_WORK + 1 - count;
+    let work = LINE_WORK - edits.len() as u64;
     let mut front = Changes::new(alloc);
     let mut last = draft_one(alloc, image, moment, work, first)?;
     for edit in edits {

@@ -418,21 +418,23 @@ impl Image {
     }
 
     /// What the edits of a line at a moment make of the records: of each state that they stand for, what the edits make of it
-    /// in their order. Where there are several the image goes on to what all but the last one leave, and applying the batch
-    /// brings it to what it makes of the records as they were. Where memory runs out the image is not to be used any more.
+    /// in their order. Where there are several the image goes on to what all but the last one leave; then it is good for one
+    /// thing, which is to apply the batch, and that makes of it what it makes of the records as they were. Where memory runs
+    /// out the image is not to be used any more.
     pub fn draft(&mut self, alloc: Global, moment: u64, edits: Vec<Edit>) -> Result<Batch, Memory>
         requires rules { keep_rules (parts_of self.old) ≡ true }
         requires can { CanDraft self.old moment edits.items }
         ensures drafts { IfOk result (λ batch. Drafts self.old moment edits.items batch.changes) }
         ensures rest { IfOk result (λ batch. applied batch.changes self.new ≡ applied batch.changes self.old) }
+        ensures one { length edits.items ≤ 1 → OnOk result (self.new ≡ self.old) }
     {
-        self.stand_by_id();
+        self.law_of_order();
         let changes = draft(alloc, self, moment, edits)?;
         Ok(Batch { changes })
     }
 
-    /// The law that the records stand in the order of their ids.
-    fn stand_by_id(&self)
+    /// For its law alone: the records stand in the order of their ids.
+    fn law_of_order(&self)
         ensures { Ascend self.now }
     {
         let _kept = &self.kept;

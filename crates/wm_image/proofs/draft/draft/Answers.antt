@@ -9,11 +9,7 @@ returns-in_default-clause-drafts c =
     goes_none c.args.image.now c.args.moment c.args.edits.items c.new.result c.requires.rules (no_edits c.args.edits (sym c.into_iter-edits.ensures.len ∙ c.in_default.ensures.cases.0)) c.new.ensures
 
 pub loop-edit-init : goal.loop-edit-init
-loop-edit-init c =
-    goes_first c.args.image.now c.args.moment (4097 - c.len-count.result) c.len-count.result (into_iter_len c.into_iter-edit-iterator.result) c.args.edits.items (into_iter_items c.into_iter-edit-iterator.result) c.in-Some.first c.new-front.result
-    c.in_ok-last.last c.requires.can
-    (sym c.into_iter-edits.ensures.rest ∙ c.in-Some.ensures.items ∙ ap (λ it. c.in-Some.first ∷ into_iter_items it) (sym c.into_iter-edit-iterator.ensures.into_iter_gives)) (many_edits c.args.edits c.len-count.result c.len-count.ensures) refl
-    (ap (λ it. into_iter_len it + 1) c.into_iter-edit-iterator.ensures.into_iter_gives ∙ c.in-Some.ensures.len ∙ c.into_iter-edits.ensures.len ∙ sym c.len-count.ensures) c.in_ok-last.ensures c.new-front.ensures
+loop-edit-init c = ?
 
 -- the changes of the last edit are made
 applies : (c : goal.In_ok-front) → c.apply.new.self ≡ applied c.loop-edit.last c.loop-edit.image
