@@ -222,12 +222,12 @@ goes_rest rs m count edits yielded left front last all now sorted g is = rest_is
 pub goes_still : (rs : List Stored) (m count : ℕ) (edits yielded left : List Edit) (front last : List Change) (now : List Stored) → Goes rs m edits yielded left count front last now → length edits ≤ 1 → now ≡ rs
 goes_still rs m count edits yielded left front last now g one = g.drafting.is ∙ ap (λ cs. applied cs rs) (g.still (none yielded g.all))
   where
+    too_many : (n : ℕ) → suc (suc n) ≤ 1 → ⊥
+    too_many n h = omega (arith, h)
+
     none : (ys : List Edit) → edits ≡ g.first ∷ (ys ++ left) → ys ≡ []
     none [] is = refl
-    none (y ∷ ys) is = absurd (two (length (ys ++ left)) (subst (λ (es : List Edit). length es ≤ 1) is one))
-
-    two : (n : ℕ) → suc (suc n) ≤ 1 → ⊥
-    two n h = omega (arith, h)
+    none (y ∷ ys) is = absurd (too_many (length (ys ++ left)) (subst (λ (es : List Edit). length es ≤ 1) is one))
 
 -- a list without a first edit
 pub goes_none : (rs : List Stored) (m : ℕ) (edits : List Edit) (changes : List Change) → keep_rules (parts_of rs) ≡ true → edits ≡ [] → changes ≡ [] → Drafts rs m edits changes

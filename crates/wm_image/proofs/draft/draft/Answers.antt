@@ -1,15 +1,24 @@
 use Rattle.std.proofs.Common.{◌≡◌, ◌∷◌, ◌+◌, ◌-◌, refl, sym, ap, ◌∙◌}
 use Rattle.std.specs.Vec.Iter.{into_iter_items, into_iter_len}
 use Rattle.wm_state.specs.ById.{applied}
-use Rattle.wm_image.proofs.Sequenced.{goes_can, goes_drafts, goes_first, goes_next, goes_none, goes_rest, goes_room, goes_rules, many_edits, no_edits}
+use Rattle.wm_image.proofs.Sequenced.{goes_can, goes_drafts, goes_first, goes_next, goes_none, goes_rest, goes_room, goes_rules, many_left, no_edits}
 use Rattle.wm_image.proofs.draft.draft.Goals as goal
 
 pub returns-in_default-clause-drafts : goal.returns-in_default-clause-drafts
 returns-in_default-clause-drafts c =
     goes_none c.args.image.now c.args.moment c.args.edits.items c.new.result c.requires.rules (no_edits c.args.edits (sym c.into_iter-edits.ensures.len ∙ c.in_default.ensures.cases.0)) c.new.ensures
 
+-- the first edit is taken from the list
+begins : (c : goal.After-into_iter-edit-iterator) → c.args.edits.items ≡ c.in-Some.first ∷ into_iter_items c.into_iter-edit-iterator.result
+begins c = sym c.into_iter-edits.ensures.rest ∙ c.in-Some.ensures.items ∙ ap (λ it. c.in-Some.first ∷ into_iter_items it) (sym c.into_iter-edit-iterator.ensures.into_iter_gives)
+
 pub loop-edit-init : goal.loop-edit-init
-loop-edit-init c = ?
+loop-edit-init c =
+    goes_first c.args.image.now c.args.moment (4096 - c.len.result) (into_iter_len c.into_iter-edit-iterator.result) c.args.edits.items (into_iter_items c.into_iter-edit-iterator.result) c.in-Some.first c.new-front.result c.in_ok-last.last
+    c.requires.can (begins c)
+    (many_left (into_iter_len c.into_iter-edit-iterator.result) (into_iter_len c.into_iter-edits.result) c.args.edits c.in-Some.first (into_iter_items c.into_iter-edit-iterator.result) (begins c)
+    (ap (λ it. into_iter_len it + 1) c.into_iter-edit-iterator.ensures.into_iter_gives ∙ c.in-Some.ensures.len) c.into_iter-edits.ensures.len)
+    (ap (λ k. 4096 - k) (c.len.ensures ∙ ap into_iter_len (sym c.into_iter-edit-iterator.ensures.into_iter_gives))) c.in_ok-last.ensures c.new-front.ensures
 
 -- the changes of the last edit are made
 applies : (c : goal.In_ok-front) → c.apply.new.self ≡ applied c.loop-edit.last c.loop-edit.image
