@@ -4,6 +4,8 @@
 #[cfg(test)]
 mod draft;
 #[cfg(test)]
+mod followed;
+#[cfg(test)]
 mod image;
 #[cfg(test)]
 mod redraw;
