@@ -1,5 +1,5 @@
 -- What plans do to each state that the engine stands for: what all of them have in common.
-use Rattle.std.proofs.Common.{◌≡◌, ℕ, ◌+◌, nat_lt, true, false, List, [], ◌∷◌, Option, Some, None, unwrap_or, refl, sym, ap, ◌∙◌, codes}
+use Rattle.std.proofs.Common.{arith, ◌≡◌, ℕ, ◌+◌, nat_lt, true, false, List, [], ◌∷◌, Option, Some, None, unwrap_or, refl, sym, ap, ◌∙◌, codes}
 use Rattle.std.specs.Option.{option_map, option_and_then}
 use Rattle.wm_graph.specs.Parts.{Parts, parts_of}
 use Rattle.wm_print.specs.Texts.{Answer}

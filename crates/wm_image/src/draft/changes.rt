@@ -8,9 +8,7 @@ ghost use Rattle.wm_state.specs.Writes.{longer_by, put_all};
 use crate::draft::copies::{space_copy, table_copy};
 use std::alloc::Global;
 use wm_base::Memory;
-use wm_spec::record::{
-    Change, Changes, Counters, Record, Savepoint, Space, Table, Version,
-};
+use wm_spec::record::{Change, Changes, Counters, Record, Savepoint, Space, Table, Version};
 
 /// A record takes the place of the one of its id, or is new.
 fn put(id: u64, new: Record) -> Change
