@@ -15,8 +15,14 @@ use Rattle.wm_spec.specs.declared.record.row.RowRecord.{RowRecord}
 use Rattle.wm_spec.specs.declared.record.savepoint.Savepoint.{Savepoint as Record}
 use Rattle.wm_spec.specs.declared.record.space.Space.{Space}
 use Rattle.wm_state.specs.State.{State, Workspace, Savepoint, content, kept, workspace_of, with_space, savepoint_made, savepoints_of, log_of}
-use Rattle.wm_state.specs.Standing.{held_of, latest, seen, seen_above, have_ends, saved_fields, fields_saved, by_making, saved_in, saved_as, OnceStand, SavepointsStand, KeptStand, KeptOwnStand, BasesStand, EndsStand, RowsStand, HasRow, HasRows}
+use Rattle.wm_state.specs.Standing.{FieldsStand, Stands, held_of, latest, seen, seen_above, have_ends, saved_fields, fields_saved, by_making, saved_in, saved_as, OnceStand, SavepointsStand, KeptStand, KeptOwnStand, BasesStand, EndsStand, RowsStand, HasRow, HasRows}
 use Rattle.wm_state.proofs.Changing.{length-changed, differ-changed}
+
+-- ---- counters, tables, workspaces and savepoints
+
+-- records agree with a state that they stand for
+pub fields_stand : (p : Parts) (s : State) → Stands p s → FieldsStand p s
+fields_stand p s st = record { counters = st.counters; tables = st.tables; spaces = st.spaces; once = st.once; savepoints = st.savepoints }
 
 -- ---- workspaces and what they show
 
@@ -220,8 +226,12 @@ point_of p q s t f n making w k x is point recorded =
       under = λ some. f.under n making x some before;
     }
 
+-- the savepoints of each workspace and their records are those of before
+pub SavepointsStand-same : (p q : Parts) (s t : State) → q.savepoints ≡ p.savepoints → ((n : ℕ) → savepoints_of t.spaces n ≡ savepoints_of s.spaces n) → SavepointsStand p s → SavepointsStand q t
+SavepointsStand-same p q s t recorded same = SavepointsStand-frame p q s t (λ n. inl (record { recorded = saved_in-same p q recorded n; same = same n }))
+
 pub SavepointsStand-framed : (p q : Parts) (s t : State) → Framed p q s t → SavepointsStand p s → SavepointsStand q t
-SavepointsStand-framed p q s t f = SavepointsStand-frame p q s t (λ n. inl (record { recorded = saved_in-same p q f.savepoints n; same = f.points n }))
+SavepointsStand-framed p q s t f = SavepointsStand-same p q s t f.savepoints f.points
 
 pub KeptStand-framed : (p q : Parts) (s t : State) → Framed p q s t → KeptStand p s → KeptStand q t
 KeptStand-framed p q s t f = KeptStand-frame p q s t (λ n making w k x is point recorded. inl (point_of p q s t f n making w k x is point recorded))
