@@ -61,7 +61,7 @@ same_spaces p s a w k is =
     ∙ ap (λ (f : SpaceFields). with_space a.number (with_savepoint (f.next_place + 1) f.next_implicit k) s.spaces) (sym is.fields)
 
 -- it is made in the state
-saved_so : (m n : ℕ) (name : List ℕ) (s : State) (w : Workspace) (k : Savepoint) → workspace_of s.spaces n ≡ Some w → saved_at m s.spaces w Latest name false ≡ Some k
+pub saved_so : (m n : ℕ) (name : List ℕ) (s : State) (w : Workspace) (k : Savepoint) → workspace_of s.spaces n ≡ Some w → saved_at m s.spaces w Latest name false ≡ Some k
     → edited m (edits.Save n name) s ≡ saved w.number (w.next_place + 1) w.next_implicit k s
 saved_so m n name s w k found made =
     ap (λ o. unwrap_or (option_and_then (save_in m name s) o) s) found ∙ ap (λ o. unwrap_or (option_map (λ (j : Savepoint). saved w.number (w.next_place + 1) w.next_implicit j s) o) s) made

@@ -83,3 +83,4 @@ pub mod WrittenKept
 pub mod DraftedWritten
 pub mod DraftedWrittenNew
 pub mod FieldsThere
+pub mod SavesNext

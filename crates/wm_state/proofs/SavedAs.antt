@@ -88,13 +88,16 @@ passed_alike : (p : Parts) (s : State) (n : ℕ) (w : Workspace) → SavepointsS
 passed_alike p s n w st found P = find-alike saved_fields fields_saved P (saved_in p n) w.savepoints (saved_alike p s n w st found)
 
 -- as many as there are records
-pub saved_count : (p : Parts) (s : State) (n : ℕ) (w : Workspace) → Stands p s → workspace_of s.spaces n ≡ Some w → length w.savepoints ≡ count_by (λ (x : Record). x.space == n) p.savepoints
-saved_count p s n w st found =
+pub saved_count_there : (p : Parts) (s : State) (n : ℕ) (w : Workspace) → SavepointsStand p s → workspace_of s.spaces n ≡ Some w → length w.savepoints ≡ count_by (λ (x : Record). x.space == n) p.savepoints
+saved_count_there p s n w st found =
     sym (length-map w.savepoints fields_saved)
-    ∙ ap length (sym (saved_alike p s n w st.savepoints found))
+    ∙ ap length (sym (saved_alike p s n w st found))
     ∙ length-map (saved_in p n) saved_fields
     ∙ length-making (filter (λ (x : Record). x.space == n) p.savepoints)
     ∙ length-filter (λ (x : Record). x.space == n) p.savepoints
+
+pub saved_count : (p : Parts) (s : State) (n : ℕ) (w : Workspace) → Stands p s → workspace_of s.spaces n ≡ Some w → length w.savepoints ≡ count_by (λ (x : Record). x.space == n) p.savepoints
+saved_count p s n w st found = saved_count_there p s n w st.savepoints found
 
 -- ---- a savepoint and its record
 
@@ -139,13 +142,22 @@ passed_some p s n w rules st found P x recorded = by_savepoint (find (λ (j : Sa
     by_savepoint (Some k) is same = (k, is, both_saved p s n w rules st found P x k recorded is (some_fields (saved_fields x) (fields_saved k) (same ∙ ap (option_map fields_saved) is)))
 
 -- and where none does, none does
-passed_none : (p : Parts) (s : State) (n : ℕ) (w : Workspace) → SavepointsStand p s → workspace_of s.spaces n ≡ Some w → (P : SavepointFields → Bool) → find (λ (y : Record). P (saved_fields y)) (saved_in p n) ≡ None
+pub passed_none : (p : Parts) (s : State) (n : ℕ) (w : Workspace) → SavepointsStand p s → workspace_of s.spaces n ≡ Some w → (P : SavepointFields → Bool) → find (λ (y : Record). P (saved_fields y)) (saved_in p n) ≡ None
     → find (λ (j : Savepoint). P (fields_saved j)) w.savepoints ≡ None
 passed_none p s n w st found P none = by_savepoint (find (λ (j : Savepoint). P (fields_saved j)) w.savepoints) (sym (ap (option_map saved_fields) none) ∙ passed_alike p s n w st found P)
   where
     by_savepoint : (o : Option Savepoint) → (let nothing : Option SavepointFields = None in nothing) ≡ option_map fields_saved o → o ≡ None
     by_savepoint None same = refl
     by_savepoint (Some k) same = cc
+
+-- where no savepoint passes, no record does
+pub unpassed : (p : Parts) (s : State) (n : ℕ) (w : Workspace) → SavepointsStand p s → workspace_of s.spaces n ≡ Some w → (P : SavepointFields → Bool) → find (λ (k : Savepoint). P (fields_saved k)) w.savepoints ≡ None
+    → find (λ (x : Record). P (saved_fields x)) (saved_in p n) ≡ None
+unpassed p s n w st found P none = by_saved (find (λ (x : Record). P (saved_fields x)) (saved_in p n)) (passed_alike p s n w st found P ∙ ap (option_map fields_saved) none)
+  where
+    by_saved : (o : Option Record) → option_map saved_fields o ≡ None → o ≡ None
+    by_saved None same = refl
+    by_saved (Some x) same = cc
 
 -- by name
 pub named_some : (p : Parts) (s : State) (n : ℕ) (w : Workspace) → Stands p s → workspace_of s.spaces n ≡ Some w → (name : List ℕ) (x : Record) → find (λ (y : Record). bytes_eq name y.name) (saved_in p n) ≡ Some x

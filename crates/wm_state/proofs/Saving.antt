@@ -167,7 +167,7 @@ savepoints_of-same : (ws vs : List Workspace) (m : ℕ) → workspace_of ws m �
 savepoints_of-same ws vs m same = rw same refl
 
 -- the workspace that gets the savepoint has it
-has_savepoint : (n place implicit : ℕ) (k : Savepoint) (ws : List Workspace) (w : Workspace) → workspace_of ws n ≡ Some w → workspace_of (with_space n (with_savepoint place implicit k) ws) n ≡ Some (with_savepoint place implicit k w)
+pub has_savepoint : (n place implicit : ℕ) (k : Savepoint) (ws : List Workspace) (w : Workspace) → workspace_of ws n ≡ Some w → workspace_of (with_space n (with_savepoint place implicit k) ws) n ≡ Some (with_savepoint place implicit k w)
 has_savepoint n place implicit k ws w found =
     workspace_of-changed n (with_savepoint place implicit k) (λ v. refl) ws n
     ∙ ap (λ b. cond b (option_map (with_savepoint place implicit k) (workspace_of ws n)) (workspace_of ws n)) (eq-eqb n n refl)
