@@ -1,24 +1,24 @@
 -- Records that keep the rules agree with some state in counters, tables, workspaces and savepoints: with one whose workspaces hold nothing.
-use Rattle.std.proofs.Common.{◌≡◌, ℕ, ◌==◌, Bool, true, false, cond, List, [], ◌∷◌, map, length, replicate, Option, Some, None, refl, sym, ap, ◌∙◌}
-use Rattle.std.proofs.lemmas.Bool.{eq-eqb, eqb-true}
+use Rattle.std.proofs.Common.{◌≡◌, ℕ, ◌==◌, Bool, true, false, cond, List, [], ◌∷◌, map, replicate, Option, Some, None, refl, sym, ap, ◌∙◌}
+use Rattle.std.proofs.lemmas.Bool.{eqb-true}
 use Rattle.std.proofs.lemmas.List.{length-map, length-replicate}
-use Rattle.std.specs.List.{filter, find, list_all, list_any}
+use Rattle.std.specs.List.{filter, list_all}
 use Rattle.std.specs.Option.{option_map, option_map_or}
 use Rattle.wm_base.specs.declared.kind.Kind.TheVariants as kinds
 use Rattle.wm_graph.specs.Parts.{Parts, space_of, version_of}
-use Rattle.wm_graph.specs.Rules.{keep_rules, differ, is_saved_in, is_savepoint, is_short}
+use Rattle.wm_graph.specs.Rules.{keep_rules, is_saved_in, is_savepoint}
 use Rattle.wm_spec.specs.Lists.{Entry}
 use Rattle.wm_spec.specs.declared.record.counters.Counters.{Counters}
 use Rattle.wm_spec.specs.declared.record.savepoint.Savepoint.{Savepoint as Record}
 use Rattle.wm_spec.specs.declared.record.space.Space.{Space}
-use Rattle.wm_state.specs.Standing.{FieldsStand, SavepointFields, SpaceFields, by_making, by_number, fields_in, fields_of, fields_saved, saved_fields, saved_in}
+use Rattle.wm_state.specs.Standing.{FieldsStand, by_making, by_number, fields_in, fields_of, fields_saved, saved_fields, saved_in}
 use Rattle.wm_state.specs.State.{Savepoint, State, Workspace, savepoints_of, workspace_of}
-use Rattle.wm_state.proofs.Apart.{Ruled, ruled}
+use Rattle.wm_state.proofs.Apart.{ruled}
 use Rattle.wm_state.proofs.Frames.{savepoints_of-found, savepoints_of-none}
-use Rattle.wm_state.proofs.Mapped.{differ-alike, find-passes, none-found}
+use Rattle.wm_state.proofs.Mapped.{differ-alike, find-passes}
 use Rattle.wm_state.proofs.Named.{ruled_savepoints}
 use Rattle.wm_state.proofs.Spaces.{ruled_spaces}
-use Rattle.wm_state.proofs.Tests.{bool_apart, both, either_false}
+use Rattle.wm_state.proofs.Tests.{bool_apart, both}
 
 -- ---- the state
 

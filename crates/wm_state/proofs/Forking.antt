@@ -121,7 +121,6 @@ own-ends-forked p q n number f rules m r found es e = ap (λ nodes. have_ends q 
 framed_forked : (p q : Parts) (s t : State) (n number : ℕ) → Forked p q n number → keep_rules p ≡ true → t.spaces ≡ s.spaces → Framed p q s t
 framed_forked p q s t n number f rules spaces = record {
   savepoints = f.savepoints;
-  points = λ m. ap (λ ws. savepoints_of ws m) spaces;
   still = λ m w is. record { old = w; is = ap (λ ws. workspace_of ws m) (sym spaces) ∙ is; parent = refl; savepoints = refl; rebases = refl; at_birth = refl; base = refl };
   names = λ m r recorded. record { old = r; is = ap (λ ss. space_of ss m) (sym f.spaces) ∙ recorded; birth = refl; base = refl };
   sees = λ m making x found c. seen-forked p q n number f x.version (saved m making x found) c;

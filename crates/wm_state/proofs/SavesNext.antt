@@ -1,10 +1,10 @@
 -- A savepoint behind another in one list of edits: what is asked of the second holds of whatever records the first leaves. A sample of
 -- how a list of several edits is asked for: some state agrees with the records before, and so the state that the first edit makes agrees
 -- with the records after it, which tells what is looked up in them.
-use Rattle.std.proofs.Common.{◌≡◌, ℕ, ◌+◌, ◌==◌, nat_lt, nat_le, false, true, List, [], ◌∷◌, ◌++◌, length, length-append, Option, Some, None, refl, sym, ap, ◌∙◌, arith}
+use Rattle.std.proofs.Common.{◌≡◌, ℕ, ◌+◌, ◌==◌, nat_lt, nat_le, false, true, List, [], ◌∷◌, length, length-append, Some, None, refl, sym, ap, ◌∙◌, arith}
 use Rattle.std.specs.List.{find, count_by}
 use Rattle.std.specs.Str.{bytes_eq}
-use Rattle.wm_graph.specs.Parts.{Parts, parts_of, space_of}
+use Rattle.wm_graph.specs.Parts.{Parts, parts_of}
 use Rattle.wm_graph.specs.Rules.{is_short, keep_rules}
 use Rattle.wm_spec.specs.declared.record.batch.Change.{Change}
 use Rattle.wm_spec.specs.declared.record.savepoint.Savepoint.{Savepoint as Record}
@@ -16,7 +16,7 @@ use Rattle.wm_state.specs.Editing.{drafted_by, line_work, number_limit}
 use Rattle.wm_state.specs.Standing.{FieldsStand, SpaceFields, saved_in}
 use Rattle.wm_state.specs.State.{Savepoint, State, Workspace, next_making, with_savepoint, with_space, workspace_of}
 use Rattle.wm_state.specs.declared.edit.Edit.TheVariants as edits
-use Rattle.wm_state.proofs.DraftedSaved.{one_space, saved_so}
+use Rattle.wm_state.proofs.DraftedSaved.{saved_so}
 use Rattle.wm_state.proofs.FieldsThere.{fields_there}
 use Rattle.wm_state.proofs.Mapped.{find-skip}
 use Rattle.wm_state.proofs.SavedAs.{passed_none, saved_count_there, unpassed}

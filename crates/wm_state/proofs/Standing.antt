@@ -23,7 +23,6 @@ pub record Retabled (p q : Parts) : Type 0 where
 framed_retabled : (p q : Parts) (s t : State) → Retabled p q → t.spaces ≡ s.spaces → Framed p q s t
 framed_retabled p q s t r spaces = record {
   savepoints = r.savepoints;
-  points = λ n. ap (λ ws. savepoints_of ws n) spaces;
   still = λ n w is. record { old = w; is = ap (λ ws. workspace_of ws n) (sym spaces) ∙ is; parent = refl; savepoints = refl; rebases = refl; at_birth = refl; base = refl };
   names = λ n x recorded. record { old = x; is = ap (λ ss. space_of ss n) (sym r.spaces) ∙ recorded; birth = refl; base = refl };
   sees = λ n making x saved c. rw (r.versions, r.pieces) refl;

@@ -199,25 +199,10 @@ ends-wrote p q s t n es w spaces there stand m new r is recorded =
             ∙ ap (λ (v : Workspace). have_ends q y.old.base_version (latest p m) v.lists.own) h.1
             ∙ ends-away p q n es w y.old.base_version (latest p m) (w.apart.others m (ne_eqb _ _ h.0) (has_record p s there m x.old x.is)) x.old.lists.own (stand.own m x.old y.old x.is y.is)
 
--- the savepoints are those of before
-points_wrote : (s t : State) (n : ℕ) (es : List Entry) → t.spaces ≡ appended_all n es s.spaces → (m : ℕ) → savepoints_of t.spaces m ≡ savepoints_of s.spaces m
-points_wrote s t n es spaces m = points m (cases_eq m n) (workspace_of s.spaces m) refl
-  where
-    after : (m : ℕ) → workspace_of t.spaces m ≡ cond (m == n) (option_map (with_entries es) (workspace_of s.spaces m)) (workspace_of s.spaces m)
-    after m = ap (λ ws. workspace_of ws m) spaces ∙ appended-at n es s.spaces m
-
-    points : (m : ℕ) → (m ≡ n) ⊎ (m ≢ n) → (o : Option Workspace) → workspace_of s.spaces m ≡ o → savepoints_of t.spaces m ≡ savepoints_of s.spaces m
-    points m (inl here) None found = savepoints_of-none t.spaces m (rw (eq-eqb _ _ here, found) at (after m)) ∙ sym (savepoints_of-none s.spaces m found)
-    points m (inl here) (Some x) found =
-        savepoints_of-found t.spaces m (with_entries es x) (rw (eq-eqb _ _ here, found) at (after m)) ∙ sym (savepoints_of-found s.spaces m x found)
-    points m (inr other) None found = savepoints_of-none t.spaces m (rw (ne_eqb _ _ other, found) at (after m)) ∙ sym (savepoints_of-none s.spaces m found)
-    points m (inr other) (Some x) found = savepoints_of-found t.spaces m x (rw (ne_eqb _ _ other, found) at (after m)) ∙ sym (savepoints_of-found s.spaces m x found)
-
 -- what else the clauses look up: no version that is named is written
 framed_wrote : (p q : Parts) (s t : State) (n : ℕ) (es : List Entry) → WroteAll p q n es → t.spaces ≡ appended_all n es s.spaces → Framed p q s t
 framed_wrote p q s t n es w spaces = record {
   savepoints = w.savepoints;
-  points = points_wrote s t n es spaces;
   still = λ m new is. still m new (was n es s.spaces m new (ap (λ ws. workspace_of ws m) (sym spaces) ∙ is));
   names = λ m r recorded. names m r (had p q n es w m r recorded);
   sees = λ m making x saved c. sees x.version c (w.free.kept m making x saved);
@@ -364,6 +349,20 @@ SpacesStand-wrote p q s t n es w spaces stand = record {
         ∙ ap (λ b. option_map fields_in (cond b (option_map (with_entries es) (workspace_of s.spaces m)) (workspace_of s.spaces m))) (sym (ne_eqb _ _ other))
 
 -- ---- the records stand for the state after a line
+
+-- the savepoints are those of before
+points_wrote : (s t : State) (n : ℕ) (es : List Entry) → t.spaces ≡ appended_all n es s.spaces → (m : ℕ) → savepoints_of t.spaces m ≡ savepoints_of s.spaces m
+points_wrote s t n es spaces m = points m (cases_eq m n) (workspace_of s.spaces m) refl
+  where
+    after : (m : ℕ) → workspace_of t.spaces m ≡ cond (m == n) (option_map (with_entries es) (workspace_of s.spaces m)) (workspace_of s.spaces m)
+    after m = ap (λ ws. workspace_of ws m) spaces ∙ appended-at n es s.spaces m
+
+    points : (m : ℕ) → (m ≡ n) ⊎ (m ≢ n) → (o : Option Workspace) → workspace_of s.spaces m ≡ o → savepoints_of t.spaces m ≡ savepoints_of s.spaces m
+    points m (inl here) None found = savepoints_of-none t.spaces m (rw (eq-eqb _ _ here, found) at (after m)) ∙ sym (savepoints_of-none s.spaces m found)
+    points m (inl here) (Some x) found =
+        savepoints_of-found t.spaces m (with_entries es x) (rw (eq-eqb _ _ here, found) at (after m)) ∙ sym (savepoints_of-found s.spaces m x found)
+    points m (inr other) None found = savepoints_of-none t.spaces m (rw (ne_eqb _ _ other, found) at (after m)) ∙ sym (savepoints_of-none s.spaces m found)
+    points m (inr other) (Some x) found = savepoints_of-found t.spaces m x (rw (ne_eqb _ _ other, found) at (after m)) ∙ sym (savepoints_of-found s.spaces m x found)
 
 -- they agree with it
 pub FieldsStand-wrote_all : (p q : Parts) (s t : State) (n : ℕ) (es : List Entry) → WroteAll p q n es → FieldsStand p s → t.spaces ≡ appended_all n es s.spaces → t.tables ≡ s.tables → CountersStand q t → FieldsStand q t
