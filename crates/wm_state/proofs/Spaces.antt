@@ -153,6 +153,20 @@ named_space p s name r st recorded = by_name (space_is p s r.number r st (record
         let same : v ≡ x.workspace = some_workspace v x.workspace (sym y.is.found ∙ ap (workspace_of s.spaces) number ∙ x.is.found) in
         record { workspace = x.workspace; named = named ∙ ap Some same; is = x.is }
 
+-- where no workspace has the name, no record has
+pub unnamed_there : (p : Parts) (s : State) (name : List ℕ) → keep_rules p ≡ true → SpacesStand p s → workspace_named name s.spaces ≡ None → find (λ (q : Space). bytes_eq name q.name) p.spaces ≡ None
+unnamed_there p s name rules st none = by_record (find (λ (q : Space). bytes_eq name q.name) p.spaces) refl
+  where
+    by_workspace : (r : Space) → find (λ (q : Space). bytes_eq name q.name) p.spaces ≡ Some r → SpaceIs p s r.number r → ⊥
+    by_workspace r recorded x =
+        let passes : bytes_eq name x.workspace.name ≡ true = ap (λ (f : SpaceFields). bytes_eq name f.name) (sym x.is.fields) ∙ find-passes (λ (q : Space). bytes_eq name q.name) p.spaces r recorded in
+        bool_apart (sym passes ∙ found-fails (λ (v : Workspace). v.number == r.number) (λ (v : Workspace). bytes_eq name v.name) s.spaces x.workspace x.is.found
+        (none-found (λ (v : Workspace). bytes_eq name v.name) s.spaces none))
+
+    by_record : (o : Option Space) → find (λ (q : Space). bytes_eq name q.name) p.spaces ≡ o → find (λ (q : Space). bytes_eq name q.name) p.spaces ≡ None
+    by_record None is = is
+    by_record (Some r) recorded = absurd (by_workspace r recorded (space_there p s r.number r st (record_numbered p name r rules recorded)))
+
 pub named_no_space : (p : Parts) (s : State) (name : List ℕ) → Stands p s → find (λ (q : Space). bytes_eq name q.name) p.spaces ≡ None → workspace_named name s.spaces ≡ None
 named_no_space p s name st none = by_name (workspace_named name s.spaces) refl
   where
