@@ -11,9 +11,10 @@ use Rattle.wm_spec.specs.declared.record.savepoint.Savepoint.{Savepoint as Recor
 use Rattle.wm_spec.specs.declared.record.space.Space.{Space}
 use Rattle.wm_tree.specs.declared.version.Version.{Version as Node}
 use Rattle.wm_state.specs.State.{State, Workspace, Savepoint, content, kept, workspace_of, savepoint_made, savepoints_of, log_of}
-use Rattle.wm_state.specs.Standing.{held_of, fields_of, fields_in, saved_fields, fields_saved, by_making, saved_in, saved_as, by_number, latest, seen, seen_above, shown, owned, newest_first, first_in, Climbs, Up, SpaceFields, HasRows, CountersStand, Stands, have_ends}
+use Rattle.wm_state.specs.Standing.{held_of, fields_of, fields_in, saved_fields, fields_saved, by_making, saved_in, saved_as, by_number, latest, seen, seen_above, shown, owned, newest_first, first_in, Climbs, Up, SpaceFields, HasRows, CountersStand, SpacesStand, FieldsStand, Stands, have_ends}
 use Rattle.wm_state.specs.Effects.{Born}
 use Rattle.wm_state.proofs.Tests.{bool_apart, either_false, differ_push, found_fails}
+use Rattle.wm_state.proofs.Frames.{fields_stand}
 use Rattle.wm_state.proofs.FirstIn.{IsOf, ruled_of, of-less, first-itself}
 use Rattle.wm_state.proofs.Climbing.{Stays, Carries, Carried, Climbs-carried, ordered_of, parent_apart, carried, carries-more, first-sprout}
 use Rattle.wm_state.proofs.Logging.{HistsStand-frame, log_of-found, log_of-none, log_of-same, logs-kept}
@@ -95,6 +96,69 @@ is_of before after n m child found e is = by_number (cases_eq m n)
     by_number (inl same) = inl (same, sym (some_same child found (sym (ap (λ b. cond b (Some child) before) (eq-eqb _ _ same)) ∙ sym e ∙ is)))
     by_number (inr other) = inr (other, sym (ap (λ b. cond b (Some child) before) (ne_eqb _ _ other)) ∙ sym e ∙ is)
 
+-- ---- the records agree with the state with the workspace more
+
+-- no workspace had the child's number
+child_none : (p : Parts) (s : State) (r : Space) → SpacesStand p s → space_of p.spaces r.number ≡ None → workspace_of s.spaces r.number ≡ None
+child_none p s r stand none = map-none fields_in (workspace_of s.spaces r.number) (sym (stand.same r.number) ∙ ap (option_map fields_of) none)
+
+-- it is found by it, and every other as before
+child_found : (s t : State) (r : Space) (w : Workspace) → w.number ≡ r.number → workspace_of s.spaces r.number ≡ None → t.spaces ≡ s.spaces ++ w ∷ [] → (m : ℕ)
+    → workspace_of t.spaces m ≡ cond (m == r.number) (Some w) (workspace_of s.spaces m)
+child_found s t r w number none spaces m =
+    ap (λ ws. workspace_of ws m) spaces
+    ∙ find_numbered (λ (v : Workspace). v.number) s.spaces w m (ap (workspace_of s.spaces) number ∙ none)
+    ∙ ap (λ k. cond (m == k) (Some w) (workspace_of s.spaces m)) number
+
+pub FieldsStand-born : (p q : Parts) (s t : State) (r : Space) (number : ℕ) (w : Workspace) → Born p q r number → FieldsStand p s → fields_of r ≡ fields_in w → w.number ≡ r.number → w.savepoints ≡ []
+    → t.spaces ≡ s.spaces ++ w ∷ [] → t.tables ≡ s.tables → CountersStand q t → FieldsStand q t
+FieldsStand-born p q s t r number w b st fields number_is no_savepoints spaces tables counters = record {
+  counters = counters;
+  tables = record { same = ap by_number b.tables ∙ st.tables.same ∙ sym tables };
+  spaces = record { same = spaces_same };
+  once = record { numbers = numbers; count = b.count ∙ ap (λ k. k + 1) st.once.count ∙ sym (length-append s.spaces (w ∷ [])) ∙ sym (ap length spaces) };
+  savepoints = record { same = saved_same };
+}
+  where
+    none : workspace_of s.spaces r.number ≡ None
+    none = child_none p s r st.spaces b.none
+
+    found : (m : ℕ) → workspace_of t.spaces m ≡ cond (m == r.number) (Some w) (workspace_of s.spaces m)
+    found = child_found s t r w number_is none spaces
+
+    numbers : differ (λ (v w : Workspace). v.number == w.number) t.spaces ≡ true
+    numbers =
+        ap (differ (λ (v w : Workspace). v.number == w.number)) spaces
+        ∙ differ_push (λ (v w : Workspace). v.number == w.number) s.spaces w st.once.numbers
+        (ap (λ k. list_any (λ (v : Workspace). v.number == k) s.spaces) number_is ∙ none-found (λ (v : Workspace). v.number == r.number) s.spaces none)
+
+    spaces_same : (m : ℕ) → option_map fields_of (space_of q.spaces m) ≡ option_map fields_in (workspace_of t.spaces m)
+    spaces_same m = ap (option_map fields_of) (b.spaces m) ∙ by_test (m == r.number) ∙ sym (ap (option_map fields_in) (found m))
+      where
+        by_test : (b : Bool) → option_map fields_of (cond b (Some r) (space_of p.spaces m)) ≡ option_map fields_in (cond b (Some w) (workspace_of s.spaces m))
+        by_test true = ap Some fields
+        by_test false = st.spaces.same m
+
+    -- no savepoint is the child's
+    saved_child : saved_in p r.number ≡ []
+    saved_child = ap by_making (none_kept (λ (y : Record). y.space == r.number) p.savepoints b.unsaved)
+      where
+        none_kept : (P : Record → Bool) (ys : List Record) → list_any P ys ≡ false → filter P ys ≡ []
+        none_kept P [] e = refl
+        none_kept P (y ∷ ys) e = let h = either_false (P y) (list_any P ys) e in rw h.0 (none_kept P ys h.1)
+
+    saved_same : (m : ℕ) → map saved_fields (saved_in q m) ≡ map fields_saved (savepoints_of t.spaces m)
+    saved_same m =
+        ap (λ ks. map saved_fields (by_making (filter (λ (y : Record). y.space == m) ks))) b.savepoints ∙ by_number (cases_eq m r.number) ∙ sym (ap (λ o. map fields_saved (savepoints_in o)) (found m))
+      where
+        savepoints_in : Option Workspace → List Savepoint
+        savepoints_in None = []
+        savepoints_in (Some v) = v.savepoints
+
+        by_number : (m ≡ r.number) ⊎ (m ≢ r.number) → map saved_fields (saved_in p m) ≡ map fields_saved (savepoints_in (cond (m == r.number) (Some w) (workspace_of s.spaces m)))
+        by_number (inl same) = rw (eq-eqb _ _ same, no_savepoints) (ap (λ k. map saved_fields (saved_in p k)) same ∙ ap (map saved_fields) saved_child)
+        by_number (inr other) = rw (ne_eqb _ _ other) (st.savepoints.same m)
+
 -- ---- the records stand for the state with the workspace more
 
 pub Stands-born : (p q : Parts) (s t : State) (r : Space) (number : ℕ) (w : Workspace) (es : List Entry) → Born p q r number → Stands p s → IsChild p s.spaces r w es → t.spaces ≡ s.spaces ++ w ∷ [] → t.tables ≡ s.tables
@@ -102,12 +166,12 @@ pub Stands-born : (p q : Parts) (s t : State) (r : Space) (number : ℕ) (w : Wo
 Stands-born p q s t r number w es b st child spaces tables counters rules = record {
   rules = rules;
   counters = counters;
-  tables = record { same = ap by_number b.tables ∙ st.tables.same ∙ sym tables };
-  spaces = record { same = spaces_same };
-  once = record { numbers = numbers; count = b.count ∙ ap (λ k. k + 1) st.once.count ∙ sym (length-append s.spaces (w ∷ [])) ∙ sym (ap length spaces) };
+  tables = fields.tables;
+  spaces = fields.spaces;
+  once = fields.once;
   latest = record { told = λ m new is c. latest_told m new c (workspace_is m new is) };
   own = record { covered = λ m new x is recorded c. own_covered m new x c (workspace_is m new is) (record_is m x recorded) };
-  savepoints = record { same = saved_same };
+  savepoints = fields.savepoints;
   kept = record {
     told = λ m making new k x is made recorded c. kept_told m making new k x c (workspace_is m new is) made (ap (λ ks. find (λ (z : Record). (z.space == m) && (z.making == making)) ks) (sym b.savepoints) ∙ recorded);
     base = λ m making new k x some is made recorded c. kept_base m making new k x some c (workspace_is m new is) made (ap (λ ks. find (λ (z : Record). (z.space == m) && (z.making == making)) ks) (sym b.savepoints) ∙ recorded);
@@ -152,21 +216,14 @@ Stands-born p q s t r number w es b st child spaces tables counters rules = reco
     base_lower : r.base_version < number
     base_lower = recorded_lower r.base_version b.there
 
-    -- no workspace had the child's number
     none : workspace_of s.spaces r.number ≡ None
-    none = map-none fields_in (workspace_of s.spaces r.number) (sym (st.spaces.same r.number) ∙ ap (option_map fields_of) b.none)
-
-    numbers : differ (λ (v w : Workspace). v.number == w.number) t.spaces ≡ true
-    numbers =
-        ap (differ (λ (v w : Workspace). v.number == w.number)) spaces
-        ∙ differ_push (λ (v w : Workspace). v.number == w.number) s.spaces w st.once.numbers
-        (ap (λ k. list_any (λ (v : Workspace). v.number == k) s.spaces) child.number ∙ none-found (λ (v : Workspace). v.number == r.number) s.spaces none)
+    none = child_none p s r st.spaces b.none
 
     found : (m : ℕ) → workspace_of t.spaces m ≡ cond (m == r.number) (Some w) (workspace_of s.spaces m)
-    found m =
-        ap (λ ws. workspace_of ws m) spaces
-        ∙ find_numbered (λ (v : Workspace). v.number) s.spaces w m (ap (workspace_of s.spaces) child.number ∙ none)
-        ∙ ap (λ k. cond (m == k) (Some w) (workspace_of s.spaces m)) child.number
+    found = child_found s t r w child.number none spaces
+
+    fields : FieldsStand q t
+    fields = FieldsStand-born p q s t r number w b (fields_stand p s st) child.fields child.number child.savepoints spaces tables counters
 
     -- the child's log is empty
     logs : (m : ℕ) → log_of t.spaces m ≡ log_of s.spaces m
@@ -182,13 +239,6 @@ Stands-born p q s t r number w es b st child spaces tables counters rules = reco
 
     record_is : (m : ℕ) (y : Space) → space_of q.spaces m ≡ Some y → Is (space_of p.spaces m) r.number m r y
     record_is m y is = is_of (space_of p.spaces m) (space_of q.spaces m) r.number m r y (b.spaces m) is
-
-    spaces_same : (m : ℕ) → option_map fields_of (space_of q.spaces m) ≡ option_map fields_in (workspace_of t.spaces m)
-    spaces_same m = ap (option_map fields_of) (b.spaces m) ∙ by_test (m == r.number) ∙ sym (ap (option_map fields_in) (found m))
-      where
-        by_test : (b : Bool) → option_map fields_of (cond b (Some r) (space_of p.spaces m)) ≡ option_map fields_in (cond b (Some w) (workspace_of s.spaces m))
-        by_test true = ap Some child.fields
-        by_test false = st.spaces.same m
 
     -- what the child has
     content_is : content w ≡ es
@@ -231,26 +281,6 @@ Stands-born p q s t r number w es b st child spaces tables counters rules = reco
     own_ends m new y (inr h) (inr k) =
         ap (λ j. have_ends q y.base_version j new.lists.own) (newest-away p q x grown m h.0)
         ∙ ends-before p q x grown st.rules y.base_version (latest p m) (newest-lower p q x grown m) new.lists.own (st.ends.own m new y h.1 k.1)
-
-    -- no savepoint is the child's
-    saved_child : saved_in p r.number ≡ []
-    saved_child = ap by_making (none_kept (λ (y : Record). y.space == r.number) p.savepoints b.unsaved)
-      where
-        none_kept : (P : Record → Bool) (ys : List Record) → list_any P ys ≡ false → filter P ys ≡ []
-        none_kept P [] e = refl
-        none_kept P (y ∷ ys) e = let h = either_false (P y) (list_any P ys) e in rw h.0 (none_kept P ys h.1)
-
-    saved_same : (m : ℕ) → map saved_fields (saved_in q m) ≡ map fields_saved (savepoints_of t.spaces m)
-    saved_same m =
-        ap (λ ks. map saved_fields (by_making (filter (λ (y : Record). y.space == m) ks))) b.savepoints ∙ by_number (cases_eq m r.number) ∙ sym (ap (λ o. map fields_saved (savepoints_in o)) (found m))
-      where
-        savepoints_in : Option Workspace → List Savepoint
-        savepoints_in None = []
-        savepoints_in (Some v) = v.savepoints
-
-        by_number : (m ≡ r.number) ⊎ (m ≢ r.number) → map saved_fields (saved_in p m) ≡ map fields_saved (savepoints_in (cond (m == r.number) (Some w) (workspace_of s.spaces m)))
-        by_number (inl same) = rw (eq-eqb _ _ same, child.savepoints) (ap (λ k. map saved_fields (saved_in p k)) same ∙ ap (map saved_fields) saved_child)
-        by_number (inr other) = rw (ne_eqb _ _ other) (st.savepoints.same m)
 
     made_none : (making : ℕ) (new : Workspace) (k : Savepoint) → new ≡ w → savepoint_made making new.savepoints ≡ Some k → ⊥
     made_none making new k same made = apart (sym (ap (savepoint_made making) (ap (λ (v : Workspace). v.savepoints) same ∙ child.savepoints)) ∙ made)

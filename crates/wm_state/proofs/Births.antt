@@ -11,14 +11,14 @@ use Rattle.wm_spec.specs.declared.record.space.Space.{Space}
 use Rattle.wm_spec.specs.declared.record.version.Version.{Version}
 use Rattle.wm_state.specs.State.{State, Workspace, kept, workspace_of, with_space, with_savepoint}
 use Rattle.wm_state.specs.State.{Savepoint as Kept}
-use Rattle.wm_state.specs.Standing.{fields_of, fields_in, seen, Climbs, CountersStand, Stands}
+use Rattle.wm_state.specs.Standing.{fields_of, fields_in, saved_fields, fields_saved, seen, Climbs, CountersStand, FieldsStand, Stands}
 use Rattle.wm_state.specs.Effects.{marked}
 use Rattle.wm_state.proofs.Tests.{all_swap, all_middle, any_swap}
 use Rattle.wm_state.proofs.Keeping.{SpaceStill, KeepSpaces-swap, le_itself, le_of}
 use Rattle.wm_state.proofs.Climbing.{Climbs-same, stays-changed}
 use Rattle.wm_state.proofs.Saving.{IsKept}
-use Rattle.wm_state.proofs.KeepSaved.{saved, MaySave, keep-saved, Stands-kept}
-use Rattle.wm_state.proofs.Birth.{IsChild, Stands-born}
+use Rattle.wm_state.proofs.KeepSaved.{saved, MaySave, keep-saved, FieldsStand-kept, Stands-kept}
+use Rattle.wm_state.proofs.Birth.{IsChild, FieldsStand-born, Stands-born}
 use Rattle.wm_state.proofs.KeepBorn.{born, MayBear, keep-born, born_of}
 
 -- the counters between, which nobody sees: those of after, before a version was added
@@ -90,7 +90,29 @@ keep-birth p old new front a back place implicit x b r v save bear e =
     (may_bear p old new front a back place implicit x b r v save bear)
     (keep-saved p old (between old new) front a back place implicit x save e)
 
--- and they stand for the state with both
+-- and they agree with the state with both
+pub FieldsStand-birth : (p : Parts) (old new : Counters) (front : List Space) (a : Space) (back : List Space) (place implicit : ℕ) (x : Savepoint) (b r : Space) (v : Version) (parent child : Workspace) (k : Kept) (s t : State)
+    → keep_rules p ≡ true → FieldsStand p s → MaySave p old (between old new) front a back place implicit x → MayBear p old new b r v → workspace_of s.spaces x.space ≡ Some parent → saved_fields x ≡ fields_saved k
+    → fields_of r ≡ fields_in child → child.number ≡ r.number → child.savepoints ≡ [] → t.spaces ≡ with_space x.space (with_savepoint place implicit k) s.spaces ++ child ∷ [] → t.tables ≡ s.tables
+    → CountersStand (birthed p old new front a back place implicit x r v) t → FieldsStand (birthed p old new front a back place implicit x r v) t
+FieldsStand-birth p old new front a back place implicit x b r v parent child k s t rules st save bear found kept_fields fields number savepoints spaces tables counters =
+    FieldsStand-born q (birthed p old new front a back place implicit x r v) mid t r v.number child
+    (born_of q (between old new) new still.new r v (may_bear p old new front a back place implicit x b r v save bear) (keep-saved p old (between old new) front a back place implicit x save rules))
+    (FieldsStand-kept p old (between old new) front a back place implicit x parent k s mid rules st save found kept_fields refl refl
+    (record { counters = between old new; one = refl; next_stamp = refl; last_moment = refl; limit = refl; work = refl }))
+    fields number savepoints spaces tables counters
+  where
+    q : Parts
+    q = saved p (between old new) front a back place implicit x
+
+    still : SpaceStill q r.parent b
+    still = parent_still p old (between old new) front a back place implicit x save r.parent b bear.parent
+
+    -- the state between, which nobody sees
+    mid : State
+    mid = record s { spaces = with_space x.space (with_savepoint place implicit k) s.spaces; next_stamp = new.next_stamp; last_moment = new.last_moment; limit = new.limit; work = new.work }
+
+-- and they stand for it
 pub Stands-birth : (p : Parts) (old new : Counters) (front : List Space) (a : Space) (back : List Space) (place implicit : ℕ) (x : Savepoint) (b r : Space) (v : Version) (parent child : Workspace) (k : Kept) (es : List Entry) (s t : State)
     → Stands p s → MaySave p old (between old new) front a back place implicit x → MayBear p old new b r v → workspace_of s.spaces x.space ≡ Some parent → IsKept p s.spaces parent k x → IsChild p s.spaces r child es
     → t.spaces ≡ with_space x.space (with_savepoint place implicit k) s.spaces ++ child ∷ [] → t.tables ≡ s.tables → CountersStand (birthed p old new front a back place implicit x r v) t

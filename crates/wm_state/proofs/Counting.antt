@@ -10,7 +10,7 @@ use Rattle.wm_spec.specs.declared.record.counters.Counters.{Counters}
 use Rattle.wm_state.specs.Drafts.{CanWork}
 use Rattle.wm_state.specs.Editing.{counter_limit}
 use Rattle.wm_state.specs.Points.{moved, versioned}
-use Rattle.wm_state.specs.Standing.{Stands}
+use Rattle.wm_state.specs.Standing.{CountersStand, Stands}
 use Rattle.wm_state.specs.State.{State}
 use Rattle.wm_state.proofs.Apart.{ruled}
 use Rattle.wm_state.proofs.Growing.{same_counters}
@@ -100,10 +100,9 @@ pub record CountsAs (c : Counters) (s : State) : Type 0 where
   pub limit : c.limit ≡ s.limit
   pub work : c.work ≡ s.work
 
--- so it is where they stand for it
-pub counts_as : (p : Parts) (s : State) (c : Counters) → Stands p s → p.counters ≡ c ∷ [] → CountsAs c s
-counts_as p s c stands one =
-    let k = stands.counters in
+-- so it is where they agree with it in counters
+pub counts_in : (p : Parts) (s : State) (c : Counters) → CountersStand p s → p.counters ≡ c ∷ [] → CountsAs c s
+counts_in p s c k one =
     let same : k.counters ≡ c = same_counters p c k.counters one k.one in
     record {
       next_stamp = ap (λ (x : Counters). x.next_stamp) (sym same) ∙ k.next_stamp;
@@ -118,3 +117,7 @@ counts_as p s c stands one =
 pub two_changes : (c d : Change) → c.id ≢ d.id → AreChanges (c ∷ d ∷ [])
 unfolding ids_differ
 two_changes c d apart = rw (ne_eqb d.id c.id (λ e. apart (sym e))) refl
+
+-- and so where they stand for it
+pub counts_as : (p : Parts) (s : State) (c : Counters) → Stands p s → p.counters ≡ c ∷ [] → CountsAs c s
+counts_as p s c stands one = counts_in p s c stands.counters one

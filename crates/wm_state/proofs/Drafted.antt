@@ -15,15 +15,15 @@ use Rattle.wm_state.specs.ById.{Ascend, applied}
 use Rattle.wm_state.specs.Drafts.{CanCreate, CanWork, Drafts, DraftsBy}
 use Rattle.wm_state.specs.Editing.{drafted_by, edited, enable_named, line_work}
 use Rattle.wm_state.specs.Points.{moved}
-use Rattle.wm_state.specs.Standing.{Stands, by_number}
+use Rattle.wm_state.specs.Standing.{TablesStand, FieldsStand, Stands, by_number}
 use Rattle.wm_state.specs.State.{Readiness, State, table_named}
 use Rattle.wm_state.specs.declared.edit.Edit.{Edit}
 use Rattle.wm_state.specs.declared.edit.Edit.TheVariants as edits
 use Rattle.wm_state.proofs.ByKind.{under_found}
-use Rattle.wm_state.proofs.Counting.{counts_as, moved_well, two_changes, work_grows}
+use Rattle.wm_state.proofs.Counting.{counts_as, counts_in, moved_well, two_changes, work_grows}
 use Rattle.wm_state.proofs.Enabling.{keep-readied}
 use Rattle.wm_state.proofs.Growing.{same_counters}
-use Rattle.wm_state.proofs.Planned.{Readied, parts-readied, plan_created, plan_readied}
+use Rattle.wm_state.proofs.Planned.{Readied, agree_created, agree_readied, parts-readied, plan_created, plan_readied}
 use Rattle.wm_state.proofs.Planning.{parts-created}
 use Rattle.wm_state.proofs.RowsStay.{counters_no_row, new_no_row, rows_stay, table_no_row}
 use Rattle.wm_state.proofs.Tables.{MayCreate, keep-created}
@@ -43,6 +43,7 @@ drafts_none work rs m rules = record {
   keeps = rules;
   once = none_changes;
   stands = λ s st. st;
+  fields = λ s st. st;
   rows = λ id r found. found;
   kept = refl;
   counted = λ some. absurd (some refl);
@@ -85,6 +86,10 @@ drafts_created rs m work t c counters_id id rules can_work can one there sorted 
       let counts = counts_as (parts_of rs) s c st one in
       plan_created rs counters_id id c (moved c m work) t s (drafted_by work m (edits.Create t ∷ []) s) st sorted there under may refl refl
       (record { counters = moved c m work; one = refl; next_stamp = counts.next_stamp; last_moment = refl; limit = counts.limit; work = ap (λ w. w + work) counts.work });
+  fields = λ s st.
+      let counts = counts_in (parts_of rs) s c st.counters one in
+      agree_created rs counters_id id c (moved c m work) t s (drafted_by work m (edits.Create t ∷ []) s) st sorted there under may refl refl
+      (record { counters = moved c m work; one = refl; next_stamp = counts.next_stamp; last_moment = refl; limit = counts.limit; work = ap (λ w. w + work) counts.work });
   rows = rows_stay rs (create_batch counters_id (moved c m work) id t) (λ k r found. (counters_no_row rs counters_id k c r there found, (new_no_row rs id k r under found, tt)));
   kept = refl;
   counted = λ some. counted_put rs work counters_id c (moved c m work) (create_batch counters_id (moved c m work) id t) sorted one once (first_change counters_id _ _) keeps refl;
@@ -107,9 +112,9 @@ drafts_created rs m work t c counters_id id rules can_work can one there sorted 
 -- ---- a table becomes ready
 
 -- the table of the name is that of the records
-enabled_so : (rs : List Stored) (m : ℕ) (name : List ℕ) (valid history : Bool) (t : Table) (s : State) → Stands (parts_of rs) s → table_named name (by_number (parts_of rs).tables) ≡ Some t
+enabled_so : (rs : List Stored) (m : ℕ) (name : List ℕ) (valid history : Bool) (t : Table) (s : State) → TablesStand (parts_of rs) s → table_named name (by_number (parts_of rs).tables) ≡ Some t
     → edited m (edits.Enable name valid history) s ≡ enable_named (record { valid = valid; history = history }) s t
-enabled_so rs m name valid history t s st named = ap (λ o. unwrap_or (option_map (enable_named (record { valid = valid; history = history }) s) o) s) (ap (table_named name) (sym st.tables.same) ∙ named)
+enabled_so rs m name valid history t s st named = ap (λ o. unwrap_or (option_map (enable_named (record { valid = valid; history = history }) s) o) s) (ap (table_named name) (sym st.same) ∙ named)
 
 -- the batch makes of the records what its readiness makes of each state
 pub drafts_enabled : (rs : List Stored) (m work : ℕ) (name : List ℕ) (valid history : Bool) (t : Table) (c : Counters) (counters_id id : ℕ) → keep_rules (parts_of rs) ≡ true → CanWork (parts_of rs) m work
@@ -120,8 +125,13 @@ drafts_enabled rs m work name valid history t c counters_id id rules can_work na
   once = once;
   stands = λ s st.
       let counts = counts_as (parts_of rs) s c st one in
-      subst (λ (u : State). Stands (parts_of (applied (enable_batch counters_id (moved c m work) id how t) rs)) (record u { last_moment = m; work = s.work + work })) (sym (enabled_so rs m name valid history t s st named))
+      subst (λ (u : State). Stands (parts_of (applied (enable_batch counters_id (moved c m work) id how t) rs)) (record u { last_moment = m; work = s.work + work })) (sym (enabled_so rs m name valid history t s st.tables named))
       (plan_readied rs counters_id id c (moved c m work) how t s _ st sorted there one found key counts_well refl refl (work_grows c.work work) refl refl
+      (λ front back. record { counters = moved c m work; one = refl; next_stamp = counts.next_stamp; last_moment = refl; limit = counts.limit; work = ap (λ w. w + work) counts.work }));
+  fields = λ s st.
+      let counts = counts_in (parts_of rs) s c st.counters one in
+      subst (λ (u : State). FieldsStand (parts_of (applied (enable_batch counters_id (moved c m work) id how t) rs)) (record u { last_moment = m; work = s.work + work })) (sym (enabled_so rs m name valid history t s st.tables named))
+      (agree_readied rs counters_id id c (moved c m work) how t s _ rules st sorted there one found refl refl
       (λ front back. record { counters = moved c m work; one = refl; next_stamp = counts.next_stamp; last_moment = refl; limit = counts.limit; work = ap (λ w. w + work) counts.work }));
   rows = rows_stay rs (enable_batch counters_id (moved c m work) id how t) (λ k r row. (counters_no_row rs counters_id k c r there row, (table_no_row rs id k t r found row, tt)));
   kept = refl;

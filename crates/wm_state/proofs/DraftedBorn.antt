@@ -22,22 +22,22 @@ use Rattle.wm_state.specs.Drafts.{CanBear, CanWork, DraftsBy}
 use Rattle.wm_state.specs.Editing.{bear_in, born, child_of, edited, implicit_front, implicit_name, number_limit, place_behind, saved_at, stand_of}
 use Rattle.wm_state.specs.Effects.{marked}
 use Rattle.wm_state.specs.Points.{HasRoom, Point, birth_record, child_record, child_version, implicit_of, next_place_at, point_at, versioned}
-use Rattle.wm_state.specs.Standing.{SpaceFields, Stands}
+use Rattle.wm_state.specs.Standing.{SpaceFields, fields_of, fields_in, FieldsStand, Stands}
 use Rattle.wm_state.specs.State.{State, Stand, Workspace, Savepoint, kept, workspace_of, with_space, with_savepoint}
 use Rattle.wm_state.specs.declared.edit.Edit.TheVariants as edits
 use Rattle.wm_state.proofs.Birth.{IsChild}
 use Rattle.wm_state.proofs.Births.{child_kept}
 use Rattle.wm_state.proofs.ByKind.{under_found}
-use Rattle.wm_state.proofs.Counting.{counts_as, version_well, work_grows, work_room}
+use Rattle.wm_state.proofs.Counting.{counts_as, counts_in, version_well, work_grows, work_room}
 use Rattle.wm_state.proofs.Drafted.{some_edit}
 use Rattle.wm_state.proofs.DraftedSaved.{home_of, home_there, one_space}
 use Rattle.wm_state.proofs.FewChanged.{few_birth}
 use Rattle.wm_state.proofs.Mapped.{any-if, none-found}
-use Rattle.wm_state.proofs.PlannedBirth.{MayBirth, changes-birth, keep_plan_birth, plan_birth}
-use Rattle.wm_state.proofs.Points.{MadeAt, MakesAt, is_point, made_there, may_save, place_same}
+use Rattle.wm_state.proofs.PlannedBirth.{MayBirth, agree_birth, changes-birth, keep_plan_birth, plan_birth}
+use Rattle.wm_state.proofs.Points.{MadeAt, MakesAt, is_point, made_as, made_there, may_save, place_same}
 use Rattle.wm_state.proofs.RowsStay.{below_apart, counters_no_row, rows_stay, space_no_row}
 use Rattle.wm_state.proofs.Settled.{Places, PlacesApart, places_apart}
-use Rattle.wm_state.proofs.Spaces.{IsSpace, next_space_same, numbers_under}
+use Rattle.wm_state.proofs.Spaces.{IsSpace, next_space_same, next_space_there, numbers_under}
 use Rattle.wm_state.proofs.WorkedOn.{counted_put, first_change}
 
 -- ---- the savepoint
@@ -85,13 +85,10 @@ born_so m n at name s w k found made =
 implicit_same : (p : Parts) (s : State) (a : Space) (w : Workspace) → IsSpace p s a.number a w → implicit_name w ≡ implicit_of a
 implicit_same p s a w is = ap (λ (f : SpaceFields). implicit_front ++ decimal f.next_implicit) (sym is.fields)
 
--- the child in the state
-child_same : (p : Parts) (s : State) (a : Space) (m : ℕ) (w : Workspace) (stand : Stand) (name : List ℕ) (pt : Point) → Stands p s → IsSpace p s a.number a w → (k : MadeAt p s a w m stand pt (implicit_of a) true)
-    → IsChild p s.spaces (child_record p a m name pt) (child_of m s.spaces w k.savepoint name) (kept k.savepoint)
-child_same p s a m w stand name pt st is k =
-    child_kept p s.spaces w (child_of m s.spaces w k.savepoint name) k.savepoint (birth_record p a pt) (child_record p a m name pt) k.kept refl refl
-    (ap (λ n. fields n pt.place pt.log_length) (sym is.number) ∙ ap (λ n. fields w.number n pt.log_length) k.place ∙ ap (fields w.number k.savepoint.place) k.log)
-    (next_space_same p s st) refl refl refl refl refl
+-- the child in the state has the fields of its record
+child_fields : (p : Parts) (s : State) (a : Space) (m : ℕ) (w : Workspace) (k : Savepoint) (name : List ℕ) (pt : Point) → IsSpace p s a.number a w → pt.place ≡ k.place → pt.log_length ≡ k.log_length
+    → fields_of (child_record p a m name pt) ≡ fields_in (child_of m s.spaces w k name)
+child_fields p s a m w k name pt is place log = ap (λ n. fields n pt.place pt.log_length) (sym is.number) ∙ ap (λ n. fields w.number n pt.log_length) place ∙ ap (fields w.number k.place) log
   where
     fields : ℕ → ℕ → ℕ → SpaceFields
     fields parent place from = record {
@@ -107,6 +104,12 @@ child_same p s a m w stand name pt st is k =
       freeze = Free;
       writer = [];
     }
+
+child_same : (p : Parts) (s : State) (a : Space) (m : ℕ) (w : Workspace) (stand : Stand) (name : List ℕ) (pt : Point) → Stands p s → IsSpace p s a.number a w → (k : MadeAt p s a w m stand pt (implicit_of a) true)
+    → IsChild p s.spaces (child_record p a m name pt) (child_of m s.spaces w k.savepoint name) (kept k.savepoint)
+child_same p s a m w stand name pt st is k =
+    child_kept p s.spaces w (child_of m s.spaces w k.savepoint name) k.savepoint (birth_record p a pt) (child_record p a m name pt) k.kept refl refl
+    (child_fields p s a m w k.savepoint name pt is k.place k.log) (next_space_same p s st) refl refl refl refl refl
 
 -- the workspaces with the savepoint are those that its record tells
 same_spaces : (p : Parts) (s : State) (a : Space) (w : Workspace) (stand : Stand) (k : Savepoint) → IsSpace p s a.number a w
@@ -171,13 +174,23 @@ drafts_born rs m work n at name a pt c counters_id space_id id rules can_work ca
   keeps = keeps;
   once = once;
   stands = λ s st.
-      let h = home_of (parts_of rs) s n a st there in
+      let h = home_of (parts_of rs) s n a st.spaces there in
       let k = made_there (parts_of rs) s a h.workspace m (stand_of at) pt (implicit_of a) true st h.is point in
       let counts = counts_as (parts_of rs) s c st places.one in
       subst (λ (u : State). Stands (parts_of (applied (birth_batch counters_id (versioned c m work) space_id (marked place implicit a) id x r v) rs)) (record u { last_moment = m; work = s.work + work }))
       (sym (born_so m n at name s h.workspace k.savepoint h.found (ap (λ i. saved_at m s.spaces h.workspace (stand_of at) i true) (implicit_same (parts_of rs) s a h.workspace h.is) ∙ k.is)))
       (plan_birth rs counters_id space_id id c (versioned c m work) a place implicit x a r v h.workspace (child_of m s.spaces h.workspace k.savepoint name) k.savepoint (kept k.savepoint) s _ st birth h.is.found k.kept
       (child_same (parts_of rs) s a m h.workspace (stand_of at) name pt st h.is k)
+      (ap (λ ws. ws ++ child_of m s.spaces h.workspace k.savepoint name ∷ []) (same_spaces (parts_of rs) s a h.workspace (stand_of at) k.savepoint h.is)) refl
+      (record { counters = versioned c m work; one = refl; next_stamp = counts.next_stamp; last_moment = refl; limit = counts.limit; work = ap (λ w. w + work) counts.work }));
+  fields = λ s st.
+      let h = home_of (parts_of rs) s n a st.spaces there in
+      let k = made_as (parts_of rs) s a h.workspace m (stand_of at) pt (implicit_of a) true rules st h.is point in
+      let counts = counts_in (parts_of rs) s c st.counters places.one in
+      subst (λ (u : State). FieldsStand (parts_of (applied (birth_batch counters_id (versioned c m work) space_id (marked place implicit a) id x r v) rs)) (record u { last_moment = m; work = s.work + work }))
+      (sym (born_so m n at name s h.workspace k.savepoint h.found (ap (λ i. saved_at m s.spaces h.workspace (stand_of at) i true) (implicit_same (parts_of rs) s a h.workspace h.is) ∙ k.is)))
+      (agree_birth rs counters_id space_id id c (versioned c m work) a place implicit x a r v h.workspace (child_of m s.spaces h.workspace k.savepoint name) k.savepoint s _ rules st birth h.is.found k.fields
+      (child_fields (parts_of rs) s a m h.workspace k.savepoint name pt h.is k.place k.log) (next_space_there (parts_of rs) s rules st.spaces st.once) refl
       (ap (λ ws. ws ++ child_of m s.spaces h.workspace k.savepoint name ∷ []) (same_spaces (parts_of rs) s a h.workspace (stand_of at) k.savepoint h.is)) refl
       (record { counters = versioned c m work; one = refl; next_stamp = counts.next_stamp; last_moment = refl; limit = counts.limit; work = ap (λ w. w + work) counts.work }));
   rows = rows_stay rs (birth_batch counters_id (versioned c m work) space_id (marked place implicit a) id x r v)

@@ -11,7 +11,7 @@ use Rattle.wm_spec.specs.declared.record.stored.Stored.{Stored}
 use Rattle.wm_state.specs.ById.{Ascend, applied}
 use Rattle.wm_state.specs.Drafts.{CanEditAll, CanWork, DraftsBy, FewChanges, WorksOn, followed_by, is_fork, is_kept_change}
 use Rattle.wm_state.specs.Editing.{counter_limit, drafted_by}
-use Rattle.wm_state.specs.Standing.{Stands}
+use Rattle.wm_state.specs.Standing.{FieldsStand, Stands}
 use Rattle.wm_state.specs.State.{State}
 use Rattle.wm_state.specs.declared.edit.Edit.{Edit}
 use Rattle.wm_state.proofs.EditedLater.{drafted_append}
@@ -71,6 +71,9 @@ drafts_followed rs k l m e (f ∷ fs) es cs ds sorted one some two = record {
   stands = λ s st.
       subst (λ (ss : List Stored). Stands (parts_of ss) (drafted_by (k + l) m (f ∷ fs ++ e ∷ es) s)) (sym same)
       (subst (λ (u : State). Stands (parts_of (applied ds (applied cs rs))) u) (drafted_append k l m f e fs es s) (two.stands (drafted_by k m (f ∷ fs) s) (one.stands s st)));
+  fields = λ s st.
+      subst (λ (ss : List Stored). FieldsStand (parts_of ss) (drafted_by (k + l) m (f ∷ fs ++ e ∷ es) s)) (sym same)
+      (subst (λ (u : State). FieldsStand (parts_of (applied ds (applied cs rs))) u) (drafted_append k l m f e fs es s) (two.fields (drafted_by k m (f ∷ fs) s) (one.fields s st)));
   rows = λ id r found. ap (λ (ss : List Stored). record_at ss id) same ∙ two.rows id r (one.rows id r found);
   kept = all_followed is_kept_change cs ds one.kept two.kept;
   counted = λ any.

@@ -15,19 +15,19 @@ use Rattle.wm_state.specs.Drafts.{CanSave, CanWork, DraftsBy}
 use Rattle.wm_state.specs.Editing.{edited, save_in, saved, saved_at}
 use Rattle.wm_state.specs.Effects.{marked}
 use Rattle.wm_state.specs.Points.{HasRoom, moved, newest_point, saved_record}
-use Rattle.wm_state.specs.Standing.{SpaceFields, Stands}
+use Rattle.wm_state.specs.Standing.{SpaceFields, SpacesStand, FieldsStand, Stands}
 use Rattle.wm_state.specs.State.{State, Workspace, Savepoint, Latest, workspace_of, with_space, with_savepoint}
 use Rattle.wm_state.specs.declared.edit.Edit.TheVariants as edits
-use Rattle.wm_state.proofs.Counting.{counts_as, work_room}
+use Rattle.wm_state.proofs.Counting.{counts_as, counts_in, work_room}
 use Rattle.wm_state.proofs.Drafted.{some_edit}
 use Rattle.wm_state.proofs.FewChanged.{few_saved}
 use Rattle.wm_state.proofs.KeepSaved.{MaySave}
 use Rattle.wm_state.proofs.Named.{space_number}
-use Rattle.wm_state.proofs.PlannedSaved.{changes-saved, keep_plan_saved, plan_saved}
-use Rattle.wm_state.proofs.Points.{MakesAt, made_there, may_save}
+use Rattle.wm_state.proofs.PlannedSaved.{agree_saved, changes-saved, keep_plan_saved, plan_saved}
+use Rattle.wm_state.proofs.Points.{MakesAt, made_as, made_there, may_save}
 use Rattle.wm_state.proofs.RowsStay.{counters_no_row, new_no_row, rows_stay, space_no_row}
 use Rattle.wm_state.proofs.Settled.{Places, PlacesApart, places_apart}
-use Rattle.wm_state.proofs.Spaces.{IsSpace, space_is}
+use Rattle.wm_state.proofs.Spaces.{IsSpace, space_there}
 use Rattle.wm_state.proofs.WorkedOn.{counted_put, first_change}
 
 -- ---- the workspace
@@ -39,9 +39,9 @@ pub record Home (p : Parts) (s : State) (n : ℕ) (a : Space) : Type 0 where
   pub is : IsSpace p s a.number a workspace
 
 -- a record has it
-pub home_of : (p : Parts) (s : State) (n : ℕ) (a : Space) → Stands p s → space_of p.spaces n ≡ Some a → Home p s n a
+pub home_of : (p : Parts) (s : State) (n : ℕ) (a : Space) → SpacesStand p s → space_of p.spaces n ≡ Some a → Home p s n a
 home_of p s n a st there =
-    let h = space_is p s n a st there in record { workspace = h.workspace; found = h.is.found; is = subst (λ k. IsSpace p s k a h.workspace) (sym h.is.record_number) h.is }
+    let h = space_there p s n a st there in record { workspace = h.workspace; found = h.is.found; is = subst (λ k. IsSpace p s k a h.workspace) (sym h.is.record_number) h.is }
 
 -- it has its record by the record's number
 pub home_there : (p : Parts) (n : ℕ) (a : Space) → space_of p.spaces n ≡ Some a → space_of p.spaces a.number ≡ Some a
@@ -61,7 +61,7 @@ same_spaces p s a w k is =
     ∙ ap (λ (f : SpaceFields). with_space a.number (with_savepoint (f.next_place + 1) f.next_implicit k) s.spaces) (sym is.fields)
 
 -- it is made in the state
-saved_so : (m n : ℕ) (name : List ℕ) (s : State) (w : Workspace) (k : Savepoint) → workspace_of s.spaces n ≡ Some w → saved_at m s.spaces w Latest name false ≡ Some k
+pub saved_so : (m n : ℕ) (name : List ℕ) (s : State) (w : Workspace) (k : Savepoint) → workspace_of s.spaces n ≡ Some w → saved_at m s.spaces w Latest name false ≡ Some k
     → edited m (edits.Save n name) s ≡ saved w.number (w.next_place + 1) w.next_implicit k s
 saved_so m n name s w k found made =
     ap (λ o. unwrap_or (option_and_then (save_in m name s) o) s) found ∙ ap (λ o. unwrap_or (option_map (λ (j : Savepoint). saved w.number (w.next_place + 1) w.next_implicit j s) o) s) made
@@ -89,13 +89,22 @@ drafts_saved rs m work n name a c counters_id space_id id rules can_work can the
   keeps = keeps;
   once = once;
   stands = λ s st.
-      let h = home_of (parts_of rs) s n a st there in
+      let h = home_of (parts_of rs) s n a st.spaces there in
       let k = made_there (parts_of rs) s a h.workspace m Latest (newest_point (parts_of rs) a m) name false st h.is refl in
       let counts = counts_as (parts_of rs) s c st at.one in
       subst (λ (u : State). Stands (parts_of (applied (savepoint_batch counters_id (moved c m work) space_id (marked (a.next_place + 1) a.next_implicit a) id x) rs)) (record u { last_moment = m; work = s.work + work }))
       (sym (saved_so m n name s h.workspace k.savepoint h.found k.is))
       (plan_saved rs counters_id space_id c (moved c m work) a (a.next_place + 1) a.next_implicit id x h.workspace k.savepoint s _ st at.sorted at.counters at.one at.space at.under may_keep
       h.is.found k.kept (same_spaces (parts_of rs) s a h.workspace k.savepoint h.is) refl
+      (record { counters = moved c m work; one = refl; next_stamp = counts.next_stamp; last_moment = refl; limit = counts.limit; work = ap (λ w. w + work) counts.work }));
+  fields = λ s st.
+      let h = home_of (parts_of rs) s n a st.spaces there in
+      let k = made_as (parts_of rs) s a h.workspace m Latest (newest_point (parts_of rs) a m) name false rules st h.is refl in
+      let counts = counts_in (parts_of rs) s c st.counters at.one in
+      subst (λ (u : State). FieldsStand (parts_of (applied (savepoint_batch counters_id (moved c m work) space_id (marked (a.next_place + 1) a.next_implicit a) id x) rs)) (record u { last_moment = m; work = s.work + work }))
+      (sym (saved_so m n name s h.workspace k.savepoint h.found k.is))
+      (agree_saved rs counters_id space_id c (moved c m work) a (a.next_place + 1) a.next_implicit id x h.workspace k.savepoint s _ rules st at.sorted at.counters at.one at.space at.under may_keep
+      h.is.found k.fields (same_spaces (parts_of rs) s a h.workspace k.savepoint h.is) refl
       (record { counters = moved c m work; one = refl; next_stamp = counts.next_stamp; last_moment = refl; limit = counts.limit; work = ap (λ w. w + work) counts.work }));
   rows = rows_stay rs (savepoint_batch counters_id (moved c m work) space_id (marked (a.next_place + 1) a.next_implicit a) id x)
       (λ k r found. (counters_no_row rs counters_id k c r at.counters found, (space_no_row rs space_id k a r at.space found, (new_no_row rs id k r at.under found, tt))));

@@ -31,13 +31,13 @@ use Rattle.wm_state.specs.Writes.{write_batch}
 use Rattle.wm_state.specs.declared.edit.Edit.TheVariants as edits
 use Rattle.wm_state.specs.declared.edit.NewEntry.{NewEntry}
 use Rattle.wm_state.proofs.ByKind.{under_found}
-use Rattle.wm_state.proofs.Counting.{CountsAs, counts_as, in_room, moved_well, stamped_by, work_grows}
+use Rattle.wm_state.proofs.Counting.{CountsAs, counts_as, counts_in, in_room, moved_well, stamped_by, work_grows}
 use Rattle.wm_state.proofs.Drafted.{some_edit}
 use Rattle.wm_state.proofs.DraftedSaved.{one_space}
 use Rattle.wm_state.proofs.DrawingNews.{news-keys}
 use Rattle.wm_state.proofs.Growing.{same_counters}
 use Rattle.wm_state.proofs.Ids.{are_under}
-use Rattle.wm_state.proofs.PlannedWritten.{MayWriteAll, keep_planned, plan_written}
+use Rattle.wm_state.proofs.PlannedWritten.{MayWriteAll, agree_written, keep_planned, plan_written}
 use Rattle.wm_state.proofs.RowsStay.{leave_write, rows_stay}
 use Rattle.wm_state.proofs.Settled.{Places, PlacesApart, places_apart}
 use Rattle.wm_state.proofs.Tests.{bool_apart, both, and_true}
@@ -180,6 +180,9 @@ drafts_written rs m work n table entries a c counters_id space_id ids id drawn r
   stands = λ s st.
       plan_written rs counters_id space_id c d a ids id n table es drawn s (drafted_by work m (edits.Append n entries ∷ []) s) st at.sorted at.counters at.space r.gone at.under may r.are refl refl
       (counts_on s m work n c d entries (counts_as (parts_of rs) s c st v.one) refl refl refl refl);
+  fields = λ s st.
+      agree_written rs counters_id space_id c d a ids id n table es drawn s (drafted_by work m (edits.Append n entries ∷ []) s) rules st at.sorted at.counters at.space r.gone at.under may r.are refl refl
+      (counts_on s m work n c d entries (counts_in (parts_of rs) s c st.counters v.one) refl refl refl refl);
   rows = rows_stay rs (write_batch counters_id d space_id a (length es) ids id (rows_in es) drawn (hists_from a.number a.log_length es))
       (leave_write rs counters_id space_id id (length es) c d a ids (rows_in es) drawn (hists_from a.number a.log_length es) at.counters at.space (λ k row found. r.gone k (records.Row row) found)
       (λ k row found. under_found id rs k (records.Row row) at.under found));

@@ -27,11 +27,11 @@ use Rattle.wm_state.specs.Writes.{write_new_batch}
 use Rattle.wm_state.specs.declared.edit.Edit.TheVariants as edits
 use Rattle.wm_state.specs.declared.edit.NewEntry.{NewEntry}
 use Rattle.wm_state.proofs.ByKind.{under_found}
-use Rattle.wm_state.proofs.Counting.{counts_as, stamped_by, version_well, work_grows}
+use Rattle.wm_state.proofs.Counting.{counts_as, counts_in, stamped_by, version_well, work_grows}
 use Rattle.wm_state.proofs.Drafted.{some_edit}
 use Rattle.wm_state.proofs.DraftedWritten.{Appends, Redrawn, counts_on, entries_in, log_room, stamps_left}
 use Rattle.wm_state.proofs.Growing.{MayFork}
-use Rattle.wm_state.proofs.PlannedMore.{MayWriteMore, Stage, all_stay, none_goes, keep_planned_new, plan_written_new}
+use Rattle.wm_state.proofs.PlannedMore.{MayWriteMore, Stage, agree_written_new, all_stay, none_goes, keep_planned_new, plan_written_new}
 use Rattle.wm_state.proofs.Planning.{piece_found}
 use Rattle.wm_state.proofs.RowsStay.{below_apart, leave_write, new_no_row, rows_stay}
 use Rattle.wm_state.proofs.Settled.{Places, PlacesApart, places_apart}
@@ -123,6 +123,9 @@ drafts_written_new rs m work n table entries a c counters_id space_id id drawn r
   stands = λ s st.
       plan_written_new rs counters_id space_id id c (versioned c m work) d n a w table es drawn s (drafted_by work m (edits.Append n entries ∷ []) s) st stage may are refl refl
       (counts_on s m work n c d entries (counts_as (parts_of rs) s c st v.one) refl refl refl refl);
+  fields = λ s st.
+      agree_written_new rs counters_id space_id id c (versioned c m work) d n a w table es drawn s (drafted_by work m (edits.Append n entries ∷ []) s) rules st stage may are refl refl
+      (counts_on s m work n c d entries (counts_in (parts_of rs) s c st.counters v.one) refl refl refl refl);
   rows = rows_stay rs (write_new_batch counters_id d space_id a (length es) id w (rows_in es) drawn (hists_from a.number a.log_length es))
       (λ k row found. (
         new_no_row rs id k row at.under found,

@@ -9,10 +9,10 @@ use Rattle.wm_spec.specs.declared.record.counters.Counters.{Counters}
 use Rattle.wm_spec.specs.declared.record.table.Table.{Table}
 use Rattle.wm_state.specs.State.{State, Readiness, enabled}
 use Rattle.wm_state.specs.Batches.{ready}
-use Rattle.wm_state.specs.Standing.{by_number, place_table, CountersStand, Stands}
+use Rattle.wm_state.specs.Standing.{by_number, place_table, CountersStand, TablesStand, FieldsStand, Stands}
 use Rattle.wm_state.proofs.Tests.{bool_apart, both, and_true, not_true, either_false, all_swap, all_middle, differ_swap}
 use Rattle.wm_state.proofs.Apart.{Ruled, ruled, keeps_all}
-use Rattle.wm_state.proofs.Standing.{Stands-retabled}
+use Rattle.wm_state.proofs.Standing.{FieldsStand-retabled, Stands-retabled}
 use Rattle.wm_state.proofs.Keeping.{le_of, le_itself, KeepTables, KeepTables-swap, KeepSpaces-same, KeepVersions-same, KeepRows-same, are_savepoints-kept, are_rows-kept, are_pieces-kept, are_hists-kept, few-same}
 
 -- the records with one table so ready, and other counters
@@ -136,14 +136,26 @@ sorted-ready how t [] back before behind = enabled-here how t (by_number back) (
 sorted-ready how t (y ∷ front) back before behind =
     ap (place_table y) (sorted-ready how t front back before.1 behind) ∙ enabled-away t.number how y (by_number (front ++ t ∷ back)) before.0
 
+-- the records agree with the state whose table is ready
+tables_readied : (p : Parts) (new : Counters) (front : List Table) (how : Readiness) (t : Table) (back : List Table) (s u : State) → keep_rules p ≡ true → TablesStand p s → p.tables ≡ front ++ t ∷ back
+    → u.tables ≡ enabled t.number how s.tables → TablesStand (readied p new front how t back) u
+tables_readied p new front how t back s u rules st old tables =
+    let rule = ruled p rules in
+    let h = both (nat_le (length p.tables) 256) (differ (λ (t u : Table). t.number == u.number) p.tables && (differ (λ (t u : Table). bytes_eq t.name u.name) p.tables && list_all is_table p.tables)) rule.tables in
+    let g = both (differ (λ (t u : Table). t.number == u.number) p.tables) (differ (λ (t u : Table). bytes_eq t.name u.name) p.tables && list_all is_table p.tables) h.1 in
+    let others = others_of t front back (ap (differ (λ (t u : Table). t.number == u.number)) (sym old) ∙ g.0) in
+    record { same = sorted-ready how t front back others.before others.behind ∙ ap (enabled t.number how) (ap by_number (sym old) ∙ st.same) ∙ sym tables }
+
+pub FieldsStand-readied : (p : Parts) (new : Counters) (front : List Table) (how : Readiness) (t : Table) (back : List Table) (s u : State) → keep_rules p ≡ true → FieldsStand p s → p.tables ≡ front ++ t ∷ back → u.spaces ≡ s.spaces
+    → u.tables ≡ enabled t.number how s.tables → CountersStand (readied p new front how t back) u → FieldsStand (readied p new front how t back) u
+FieldsStand-readied p new front how t back s u rules st old spaces tables counters =
+    FieldsStand-retabled p (readied p new front how t back) s u (record { spaces = refl; versions = refl; savepoints = refl; rows = refl; pieces = refl; hists = refl }) st spaces
+    (tables_readied p new front how t back s u rules st.tables old tables) counters
+
+-- and stand for it
 pub Stands-readied : (p : Parts) (new : Counters) (front : List Table) (how : Readiness) (t : Table) (back : List Table) (s u : State) → Stands p s → p.tables ≡ front ++ t ∷ back → t.has_key ≡ true → are_counters new ≡ true
     → ((c : Counters) → p.counters ≡ c ∷ [] → (new.next_version ≡ c.next_version) × (new.next_stamp ≡ c.next_stamp) × (c.work ≤ new.work)) → u.spaces ≡ s.spaces → u.tables ≡ enabled t.number how s.tables
     → CountersStand (readied p new front how t back) u → Stands (readied p new front how t back) u
 Stands-readied p new front how t back s u st old key counted same spaces tables counters =
-    let rule = ruled p st.rules in
-    let h = both (nat_le (length p.tables) 256) (differ (λ (t u : Table). t.number == u.number) p.tables && (differ (λ (t u : Table). bytes_eq t.name u.name) p.tables && list_all is_table p.tables)) rule.tables in
-    let g = both (differ (λ (t u : Table). t.number == u.number) p.tables) (differ (λ (t u : Table). bytes_eq t.name u.name) p.tables && list_all is_table p.tables) h.1 in
-    let others = others_of t front back (ap (differ (λ (t u : Table). t.number == u.number)) (sym old) ∙ g.0) in
     Stands-retabled p (readied p new front how t back) s u (record { spaces = refl; versions = refl; savepoints = refl; rows = refl; pieces = refl; hists = refl }) st spaces
-    (record { same = sorted-ready how t front back others.before others.behind ∙ ap (enabled t.number how) (ap by_number (sym old) ∙ st.tables.same) ∙ sym tables })
-    counters (keep-readied p new front how t back st.rules old key counted same)
+    (tables_readied p new front how t back s u st.rules st.tables old tables) counters (keep-readied p new front how t back st.rules old key counted same)

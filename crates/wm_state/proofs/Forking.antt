@@ -11,9 +11,9 @@ use Rattle.wm_spec.specs.declared.record.space.Space.{Space}
 use Rattle.wm_tree.specs.Versions.{latest_in, AllBelow}
 use Rattle.wm_tree.specs.declared.version.Version.{Version as Node}
 use Rattle.wm_state.specs.State.{State, Workspace, content, workspace_of, savepoints_of, log_of}
-use Rattle.wm_state.specs.Standing.{stored_at, seen_at, own_at, newest_first, latest, shown, owned, seen, seen_above, saved_as, Climbs, CountersStand, Stands, by_number, is_above, have_ends}
+use Rattle.wm_state.specs.Standing.{stored_at, seen_at, own_at, newest_first, latest, shown, owned, seen, seen_above, saved_as, Climbs, CountersStand, FieldsStand, Stands, by_number, is_above, have_ends}
 use Rattle.wm_state.specs.Effects.{Forked, node_under}
-use Rattle.wm_state.proofs.Frames.{Framed, KeepRows, OnceStand-same, HasRows-kept, SavepointsStand-framed, KeptStand-framed, KeptOwnStand-framed, BasesStand-framed, RowsStand-framed, EndsStand-framed}
+use Rattle.wm_state.proofs.Frames.{Framed, KeepRows, fields_stand, OnceStand-same, HasRows-kept, SavepointsStand-same, KeptStand-framed, KeptOwnStand-framed, BasesStand-framed, RowsStand-framed, EndsStand-framed}
 use Rattle.wm_state.proofs.Climbing.{ordered_of, carried, carries-more, stays-same, Climbs-sprout, PathsStand-framed}
 use Rattle.wm_state.proofs.Above.{ends-beside, ends-under, pieces_lower}
 use Rattle.wm_state.proofs.Ending.{all_end}
@@ -121,7 +121,6 @@ own-ends-forked p q n number f rules m r found es e = ap (λ nodes. have_ends q 
 framed_forked : (p q : Parts) (s t : State) (n number : ℕ) → Forked p q n number → keep_rules p ≡ true → t.spaces ≡ s.spaces → Framed p q s t
 framed_forked p q s t n number f rules spaces = record {
   savepoints = f.savepoints;
-  points = λ m. ap (λ ws. savepoints_of ws m) spaces;
   still = λ m w is. record { old = w; is = ap (λ ws. workspace_of ws m) (sym spaces) ∙ is; parent = refl; savepoints = refl; rebases = refl; at_birth = refl; base = refl };
   names = λ m r recorded. record { old = r; is = ap (λ ss. space_of ss m) (sym f.spaces) ∙ recorded; birth = refl; base = refl };
   sees = λ m making x found c. seen-forked p q n number f x.version (saved m making x found) c;
@@ -138,21 +137,31 @@ framed_forked p q s t n number f rules spaces = record {
     saved : (m making : ℕ) (x : Savepoint) → saved_as p m making ≡ Some x → x.version < number
     saved m making x found = below x.version m (saved_there p rules m making x found).version
 
+-- the records agree with what they agreed with, with counters of their own
+pub FieldsStand-forked : (p q : Parts) (s t : State) (n number : ℕ) → Forked p q n number → FieldsStand p s → t.spaces ≡ s.spaces → t.tables ≡ s.tables → CountersStand q t → FieldsStand q t
+FieldsStand-forked p q s t n number f st spaces tables counters = record {
+  counters = counters;
+  tables = record { same = ap by_number f.tables ∙ st.tables.same ∙ sym tables };
+  spaces = record { same = λ m. rw (f.spaces, spaces) (st.spaces.same m) };
+  once = OnceStand-same p q s t f.spaces spaces st.once;
+  savepoints = SavepointsStand-same p q s t f.savepoints (λ m. ap (λ ws. savepoints_of ws m) spaces) st.savepoints;
+}
+
 -- the records stand for what they stood for, with counters of their own
 pub Stands-forked : (p q : Parts) (s t : State) (n number : ℕ) → Forked p q n number → Stands p s → t.spaces ≡ s.spaces → t.tables ≡ s.tables → CountersStand q t → keep_rules q ≡ true → Stands q t
 Stands-forked p q s t n number f st spaces tables counters rules = record {
   rules = rules;
   counters = counters;
-  tables = record { same = ap by_number f.tables ∙ st.tables.same ∙ sym tables };
-  spaces = record { same = λ m. rw (f.spaces, spaces) (st.spaces.same m) };
-  once = OnceStand-same p q s t f.spaces spaces st.once;
+  tables = fields.tables;
+  spaces = fields.spaces;
+  once = fields.once;
   latest = record { told = λ m w is c. shown-forked p q n number f m c ∙ st.latest.told m w (ap (λ ws. workspace_of ws m) (sym spaces) ∙ is) c };
   own = record {
     covered = λ m w r is recorded c.
         let before : space_of p.spaces m ≡ Some r = ap (λ ss. space_of ss m) (sym f.spaces) ∙ recorded in
         ap is_some (owned-forked p q n number f m r before c) ∙ st.own.covered m w r (ap (λ ws. workspace_of ws m) (sym spaces) ∙ is) before c;
   };
-  savepoints = SavepointsStand-framed p q s t framed st.savepoints;
+  savepoints = fields.savepoints;
   kept = KeptStand-framed p q s t framed st.kept;
   kept_own = KeptOwnStand-framed p q s t framed st.kept_own;
   bases = BasesStand-framed p q s t framed st.bases;
@@ -170,6 +179,9 @@ Stands-forked p q s t n number f st spaces tables counters rules = record {
   hists = HistsStand-frame p q s t f.hists logs st.hists;
 }
   where
+    fields : FieldsStand q t
+    fields = FieldsStand-forked p q s t n number f (fields_stand p s st) spaces tables counters
+
     framed : Framed p q s t
     framed = framed_forked p q s t n number f st.rules spaces
 

@@ -1,8 +1,8 @@
 -- What is kept, clause by clause: a clause holds of the records and the state after an edit where each thing that it looks up is as it
 -- was before, or holds of itself. A law a clause: SpacesStand-frame, OnceStand-frame, LatestStand-frame, OwnStand-frame, SavepointsStand-frame,
 -- KeptStand-frame, KeptOwnStand-frame, BasesStand-frame, RowsStand-frame; the records Shown, Owned, Point and Base say that a look-up
--- is as before. Where no savepoint and no workspace is new, the record Framed gives the last five: SavepointsStand-framed and so on;
--- and EndsStand-framed.
+-- is as before. SavepointsStand-same is for where savepoints and their records are those of before. Where no savepoint and no workspace
+-- is new, the record Framed gives the last four: KeptStand-framed and so on; and EndsStand-framed.
 -- The module Climbing has the like for the paths of versions and Keeping for the rules, and Named has what the rules say of versions that savepoints and workspaces name.
 use Rattle.std.proofs.Common.{◌≡◌, ℕ, ◌<◌, ◌==◌, ◌&&◌, true, List, [], map, length, Option, Some, None, is_some, refl, sym, ap, ◌∙◌, ◌⊎◌, inl, ⊎_elim}
 use Rattle.std.specs.List.{All, filter, find}
@@ -15,8 +15,14 @@ use Rattle.wm_spec.specs.declared.record.row.RowRecord.{RowRecord}
 use Rattle.wm_spec.specs.declared.record.savepoint.Savepoint.{Savepoint as Record}
 use Rattle.wm_spec.specs.declared.record.space.Space.{Space}
 use Rattle.wm_state.specs.State.{State, Workspace, Savepoint, content, kept, workspace_of, with_space, savepoint_made, savepoints_of, log_of}
-use Rattle.wm_state.specs.Standing.{held_of, latest, seen, seen_above, have_ends, saved_fields, fields_saved, by_making, saved_in, saved_as, OnceStand, SavepointsStand, KeptStand, KeptOwnStand, BasesStand, EndsStand, RowsStand, HasRow, HasRows}
+use Rattle.wm_state.specs.Standing.{FieldsStand, Stands, held_of, latest, seen, seen_above, have_ends, saved_fields, fields_saved, by_making, saved_in, saved_as, OnceStand, SavepointsStand, KeptStand, KeptOwnStand, BasesStand, EndsStand, RowsStand, HasRow, HasRows}
 use Rattle.wm_state.proofs.Changing.{length-changed, differ-changed}
+
+-- ---- counters, tables, workspaces and savepoints
+
+-- records agree with a state that they stand for
+pub fields_stand : (p : Parts) (s : State) → Stands p s → FieldsStand p s
+fields_stand p s st = record { counters = st.counters; tables = st.tables; spaces = st.spaces; once = st.once; savepoints = st.savepoints }
 
 -- ---- workspaces and what they show
 
@@ -188,7 +194,6 @@ pub record StillNames (p : Parts) (n : ℕ) (r : Space) : Type 0 where
 -- so it is of each, and all versions that are named hold what they held
 pub record Framed (p q : Parts) (s t : State) : Type 0 where
   pub savepoints : q.savepoints ≡ p.savepoints
-  pub points : (n : ℕ) → savepoints_of t.spaces n ≡ savepoints_of s.spaces n
   pub still : (n : ℕ) (w : Workspace) → workspace_of t.spaces n ≡ Some w → Still s n w
   pub names : (n : ℕ) (r : Space) → space_of q.spaces n ≡ Some r → StillNames p n r
   pub sees : (n making : ℕ) (x : Record) → saved_as p n making ≡ Some x → (c : Cell) → seen q x.version c ≡ seen p x.version c
@@ -220,8 +225,9 @@ point_of p q s t f n making w k x is point recorded =
       under = λ some. f.under n making x some before;
     }
 
-pub SavepointsStand-framed : (p q : Parts) (s t : State) → Framed p q s t → SavepointsStand p s → SavepointsStand q t
-SavepointsStand-framed p q s t f = SavepointsStand-frame p q s t (λ n. inl (record { recorded = saved_in-same p q f.savepoints n; same = f.points n }))
+-- the savepoints of each workspace and their records are those of before
+pub SavepointsStand-same : (p q : Parts) (s t : State) → q.savepoints ≡ p.savepoints → ((n : ℕ) → savepoints_of t.spaces n ≡ savepoints_of s.spaces n) → SavepointsStand p s → SavepointsStand q t
+SavepointsStand-same p q s t recorded same = SavepointsStand-frame p q s t (λ n. inl (record { recorded = saved_in-same p q recorded n; same = same n }))
 
 pub KeptStand-framed : (p q : Parts) (s t : State) → Framed p q s t → KeptStand p s → KeptStand q t
 KeptStand-framed p q s t f = KeptStand-frame p q s t (λ n making w k x is point recorded. inl (point_of p q s t f n making w k x is point recorded))

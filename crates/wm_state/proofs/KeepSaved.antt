@@ -14,7 +14,7 @@ use Rattle.wm_spec.specs.declared.record.savepoint.Savepoint.{Savepoint}
 use Rattle.wm_spec.specs.declared.record.space.Space.{Space}
 use Rattle.wm_state.specs.State.{State, Workspace, workspace_of, with_space, with_savepoint}
 use Rattle.wm_state.specs.State.{Savepoint as Kept}
-use Rattle.wm_state.specs.Standing.{latest, saved_as, CountersStand, Stands}
+use Rattle.wm_state.specs.Standing.{latest, saved_as, saved_fields, fields_saved, CountersStand, FieldsStand, Stands}
 use Rattle.wm_state.specs.Effects.{Saved, marked}
 use Rattle.wm_state.proofs.Apart.{ruled, keeps_all, ruled_versions, newest_record, found-passes}
 use Rattle.wm_state.proofs.Making.{same_making}
@@ -23,7 +23,7 @@ use Rattle.wm_state.proofs.Keeping.{KeepSpaces, le_itself, le_of, KeepTables-sam
 use Rattle.wm_state.proofs.Respaced.{MayReplace, spaces_replaced, versions_replaced, space_here, space_elsewhere}
 use Rattle.wm_state.proofs.Named.{ruled_savepoints, space_number, saved_there}
 use Rattle.wm_state.proofs.SavedAs.{named_as}
-use Rattle.wm_state.proofs.Saving.{IsKept, Stands-saved}
+use Rattle.wm_state.proofs.Saving.{IsKept, FieldsStand-saved, Stands-saved}
 use Rattle.wm_state.proofs.Tests.{bool_apart, both, and_true, all_if, all_push, all_swap, all_middle, differ_push, none_if}
 
 -- the records with a savepoint more of a workspace, whose record has counted it, and other counters
@@ -200,6 +200,13 @@ saved_of p old new front a back place implicit x may e = record {
 
     away : (m : ℕ) → (m == x.space) ≡ false → a.number ≢ m
     away m other same = bool_apart (sym (eq-eqb m x.space (sym same ∙ may.space)) ∙ other)
+
+-- the records agree with the state with the savepoint
+pub FieldsStand-kept : (p : Parts) (old new : Counters) (front : List Space) (a : Space) (back : List Space) (place implicit : ℕ) (x : Savepoint) (w : Workspace) (k : Kept) (s t : State) → keep_rules p ≡ true → FieldsStand p s
+    → MaySave p old new front a back place implicit x → workspace_of s.spaces x.space ≡ Some w → saved_fields x ≡ fields_saved k → t.spaces ≡ with_space x.space (with_savepoint place implicit k) s.spaces → t.tables ≡ s.tables
+    → CountersStand (saved p new front a back place implicit x) t → FieldsStand (saved p new front a back place implicit x) t
+FieldsStand-kept p old new front a back place implicit x w k s t rules st may found fields spaces tables counters =
+    FieldsStand-saved p (saved p new front a back place implicit x) s t x.space place implicit w k x (saved_of p old new front a back place implicit x may rules) st found fields spaces tables counters
 
 -- the records stand for the state with the savepoint
 pub Stands-kept : (p : Parts) (old new : Counters) (front : List Space) (a : Space) (back : List Space) (place implicit : ℕ) (x : Savepoint) (w : Workspace) (k : Kept) (s t : State) → Stands p s → MaySave p old new front a back place implicit x

@@ -82,3 +82,5 @@ pub mod DraftedBorn
 pub mod WrittenKept
 pub mod DraftedWritten
 pub mod DraftedWrittenNew
+pub mod FieldsThere
+pub mod SavesNext

@@ -3,7 +3,7 @@ use Rattle.std.proofs.Common.{◌≡◌, ◌≢◌, ℕ, ◌+◌, ◌≤◌, ◌
 use Rattle.std.proofs.lemmas.Bool.{cases_eq, eq-eqb, ne_eqb}
 use Rattle.std.specs.List.{filter}
 use Rattle.wm_graph.specs.Parts.{Parts, parts_of, as_table}
-use Rattle.wm_graph.specs.Rules.{are_counters}
+use Rattle.wm_graph.specs.Rules.{are_counters, keep_rules}
 use Rattle.wm_spec.specs.Records.{record_at}
 use Rattle.wm_spec.specs.declared.record.Record.{Record}
 use Rattle.wm_spec.specs.declared.record.Record.TheVariants as records
@@ -15,12 +15,12 @@ use Rattle.wm_spec.specs.declared.record.table.Table.{Table}
 use Rattle.wm_state.specs.ById.{Ascend, set_at, applied}
 use Rattle.wm_state.specs.Batches.{keeps, is_dropped, AreDropped, AllUnder, create_batch, enable_batch, ready}
 use Rattle.wm_state.specs.State.{State, Readiness, enabled}
-use Rattle.wm_state.specs.Standing.{CountersStand, Stands}
+use Rattle.wm_state.specs.Standing.{CountersStand, FieldsStand, Stands}
 use Rattle.wm_state.proofs.ById.{Ascend-set, record_at-set}
 use Rattle.wm_state.proofs.ByKind.{kinds, stored, Split, split_of, set-split}
 use Rattle.wm_state.proofs.Planning.{AllUnder-put, recounted, parts-counted, parts-tabled, tables-split, parts-created}
-use Rattle.wm_state.proofs.Enabling.{readied, Stands-readied}
-use Rattle.wm_state.proofs.Tables.{created, MayCreate, Stands-created}
+use Rattle.wm_state.proofs.Enabling.{readied, FieldsStand-readied, Stands-readied}
+use Rattle.wm_state.proofs.Tables.{created, MayCreate, FieldsStand-created, Stands-created}
 
 -- ---- counters
 
@@ -123,7 +123,15 @@ dropped-still test ids ss id r q sorted found kept_r kept_q are other x there = 
 
 -- ---- the laws of the two batches
 
--- a table was made
+-- a table was made: the records agree with the state with it
+pub agree_created : (ss : List Stored) (counters_id id : ℕ) (old new : Counters) (t : Table) (s u : State) → FieldsStand (parts_of ss) s → Ascend ss → record_at ss counters_id ≡ Some (records.Counters old)
+    → AllUnder id ss → MayCreate (parts_of ss) old new t → u.spaces ≡ s.spaces → u.tables ≡ s.tables ++ t ∷ [] → CountersStand (created (parts_of ss) new t) u
+    → FieldsStand (parts_of (applied (create_batch counters_id new id t) ss)) u
+agree_created ss counters_id id old new t s u st sorted counters under may spaces tables stands =
+    subst (λ p. FieldsStand p u) (sym (parts-created ss counters_id id old new t sorted counters may.one under))
+    (FieldsStand-created (parts_of ss) old new t s u st may spaces tables stands)
+
+-- and stand for it
 pub plan_created : (ss : List Stored) (counters_id id : ℕ) (old new : Counters) (t : Table) (s u : State) → Stands (parts_of ss) s → Ascend ss → record_at ss counters_id ≡ Some (records.Counters old)
     → AllUnder id ss → MayCreate (parts_of ss) old new t → u.spaces ≡ s.spaces → u.tables ≡ s.tables ++ t ∷ [] → CountersStand (created (parts_of ss) new t) u
     → Stands (parts_of (applied (create_batch counters_id new id t) ss)) u
@@ -131,7 +139,15 @@ plan_created ss counters_id id old new t s u st sorted counters under may spaces
     subst (λ p. Stands p u) (sym (parts-created ss counters_id id old new t sorted counters may.one under))
     (Stands-created (parts_of ss) old new t s u st may spaces tables stands)
 
--- a table became ready
+-- a table became ready: the records agree with the state whose table it is
+pub agree_readied : (ss : List Stored) (counters_id id : ℕ) (old new : Counters) (how : Readiness) (t : Table) (s u : State) → keep_rules (parts_of ss) ≡ true → FieldsStand (parts_of ss) s → Ascend ss
+    → record_at ss counters_id ≡ Some (records.Counters old) → (parts_of ss).counters ≡ old ∷ [] → record_at ss id ≡ Some (records.Table t) → u.spaces ≡ s.spaces → u.tables ≡ enabled t.number how s.tables
+    → ((front back : List Table) → CountersStand (readied (parts_of ss) new front how t back) u) → FieldsStand (parts_of (applied (enable_batch counters_id new id how t) ss)) u
+agree_readied ss counters_id id old new how t s u rules st sorted counters one found spaces tables stands =
+    let r = parts-readied ss counters_id id old new how t sorted counters one found in
+    subst (λ p. FieldsStand p u) (sym r.is) (FieldsStand-readied (parts_of ss) new r.front how t r.back s u rules st r.old spaces tables (stands r.front r.back))
+
+-- and stand for it
 pub plan_readied : (ss : List Stored) (counters_id id : ℕ) (old new : Counters) (how : Readiness) (t : Table) (s u : State) → Stands (parts_of ss) s → Ascend ss → record_at ss counters_id ≡ Some (records.Counters old)
     → (parts_of ss).counters ≡ old ∷ [] → record_at ss id ≡ Some (records.Table t) → t.has_key ≡ true → are_counters new ≡ true → new.next_version ≡ old.next_version → new.next_stamp ≡ old.next_stamp → old.work ≤ new.work → u.spaces ≡ s.spaces
     → u.tables ≡ enabled t.number how s.tables → ((front back : List Table) → CountersStand (readied (parts_of ss) new front how t back) u)

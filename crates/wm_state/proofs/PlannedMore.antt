@@ -23,17 +23,17 @@ use Rattle.wm_state.specs.Effects.{IsLeaf, IsFree}
 use Rattle.wm_state.specs.Drawing.{AreDrawn}
 use Rattle.wm_state.specs.Entries.{AreStamped, entry_keys, is_well, pieces_of, rows_in, hists_from, is_out_all}
 use Rattle.wm_state.specs.State.{State, with_space, with_entries}
-use Rattle.wm_state.specs.Standing.{newest_first, latest, CountersStand, Stands}
+use Rattle.wm_state.specs.Standing.{newest_first, latest, CountersStand, FieldsStand, Stands}
 use Rattle.wm_state.specs.Writes.{longer_by, put_all, write_batch, write_new_batch}
 use Rattle.wm_state.proofs.Apart.{ruled}
 use Rattle.wm_state.proofs.ById.{one_order, Ascend-set, record_at-set}
 use Rattle.wm_state.proofs.ByKind.{set-behind, under_found}
-use Rattle.wm_state.proofs.Forking.{Stands-forked}
+use Rattle.wm_state.proofs.Forking.{FieldsStand-forked, Stands-forked}
 use Rattle.wm_state.proofs.Forks.{parts-forked, drops_none}
 use Rattle.wm_state.proofs.Growing.{MayFork, forked, forked_of, keep-forked, found-below, below-next, same_counters}
 use Rattle.wm_state.proofs.Leaves.{leaf_new, free_new}
 use Rattle.wm_state.proofs.Planned.{found_still, AllUnder-set, AllUnder-next}
-use Rattle.wm_state.proofs.PlannedWritten.{MayWriteAll, AreDrawnIn, stay, entries_batch, keep_planned, plan_written}
+use Rattle.wm_state.proofs.PlannedWritten.{MayWriteAll, AreDrawnIn, stay, entries_batch, agree_written, keep_planned, plan_written}
 use Rattle.wm_state.proofs.Tests.{both, and_true, all_if}
 
 -- ---- the version first, and then the entries
@@ -243,7 +243,28 @@ keep_planned_new ss counters_id space_id id old mid new n a v table es drawn rul
     (subst (λ p. MayWriteAll p mid new n a table es) (sym b.parts) (may_after (parts_of ss) old mid new n a v table es rules may))
     (subst (λ p. AreDrawnIn p n table es drawn) (sym b.parts) (drawn_after (parts_of ss) old mid n a v table es drawn rules may.fork are)))
 
--- the records stand for the state that has the entries
+-- the records agree with the state that has the entries
+pub agree_written_new : (ss : List Stored) (counters_id space_id id : ℕ) (old mid new : Counters) (n : ℕ) (a : Space) (v : Version) (table : ℕ) (es : List Entry) (drawn : List PieceRecord) (s u : State)
+    → keep_rules (parts_of ss) ≡ true → FieldsStand (parts_of ss) s → Stage ss counters_id space_id id old a → MayWriteMore (parts_of ss) old mid new n a v table es → AreDrawn (pieces_of v.number es) [] drawn
+    → u.spaces ≡ with_space n (with_entries es) s.spaces → u.tables ≡ s.tables → ((q : Parts) → q.counters ≡ new ∷ [] → CountersStand q u)
+    → FieldsStand (parts_of (applied (more_batch counters_id new space_id a id v es drawn) ss)) u
+agree_written_new ss counters_id space_id id old mid new n a v table es drawn s u rules st stage may are spaces tables counted_so =
+    let b = between ss counters_id space_id id old mid n a v table es rules stage may.fork in
+    subst (λ rs. FieldsStand (parts_of rs) u) (in_newest ss counters_id space_id id old mid new a v es drawn stage)
+    (agree_written (applied (fork_batch counters_id mid id v) ss) counters_id space_id mid new a [] (id + 1) n table es drawn t u
+    (subst (λ p. keep_rules p ≡ true) (sym b.parts) (keep-forked (parts_of ss) old mid a n v may.fork rules))
+    (subst (λ p. FieldsStand p t) (sym b.parts)
+    (FieldsStand-forked (parts_of ss) (forked (parts_of ss) mid v) s t n v.number (forked_of (parts_of ss) old mid a n v may.fork rules) st refl refl
+    (record { counters = mid; one = refl; next_stamp = refl; last_moment = refl; limit = refl; work = refl })))
+    b.sorted b.counters b.space b.none b.under
+    (subst (λ p. MayWriteAll p mid new n a table es) (sym b.parts) (may_after (parts_of ss) old mid new n a v table es rules may))
+    (subst (λ p. AreDrawnIn p n table es drawn) (sym b.parts) (drawn_after (parts_of ss) old mid n a v table es drawn rules may.fork are)) spaces tables counted_so)
+  where
+    -- the state between, which nobody sees
+    t : State
+    t = record s { next_stamp = mid.next_stamp; last_moment = mid.last_moment; limit = mid.limit; work = mid.work }
+
+-- and stand for it
 pub plan_written_new : (ss : List Stored) (counters_id space_id id : ℕ) (old mid new : Counters) (n : ℕ) (a : Space) (v : Version) (table : ℕ) (es : List Entry) (drawn : List PieceRecord) (s u : State)
     → Stands (parts_of ss) s → Stage ss counters_id space_id id old a → MayWriteMore (parts_of ss) old mid new n a v table es → AreDrawn (pieces_of v.number es) [] drawn
     → u.spaces ≡ with_space n (with_entries es) s.spaces → u.tables ≡ s.tables → ((q : Parts) → q.counters ≡ new ∷ [] → CountersStand q u)

@@ -23,7 +23,7 @@ use Rattle.wm_state.specs.Effects.{IsLeaf, IsFree}
 use Rattle.wm_state.specs.Drawing.{AreDrawn}
 use Rattle.wm_state.specs.Entries.{AreStamped, entry_keys, is_well, pieces_of, rows_in, hists_from, is_out_all}
 use Rattle.wm_state.specs.State.{State, with_space, with_entries}
-use Rattle.wm_state.specs.Standing.{newest_first, latest, CountersStand, Stands}
+use Rattle.wm_state.specs.Standing.{newest_first, latest, CountersStand, FieldsStand, Stands}
 use Rattle.wm_state.specs.Writes.{longer_by, WroteAll, put_all, write_batch}
 use Rattle.wm_state.proofs.Appending.{find_before}
 use Rattle.wm_state.proofs.Apart.{Ruled, ruled, apart_of, newest_record}
@@ -41,7 +41,7 @@ use Rattle.wm_state.proofs.Planned.{counted, found_still, AllUnder-filter, AllUn
 use Rattle.wm_state.proofs.Planning.{recounted, parts-spaced, spaces-split, parts-more_row, parts-more_piece, parts-more_hist, parts-filtered}
 use Rattle.wm_state.proofs.Respaced.{space_here, space_elsewhere}
 use Rattle.wm_state.proofs.Tests.{both, all_if, all_filter}
-use Rattle.wm_state.proofs.WritingAll.{Stands-wrote_all}
+use Rattle.wm_state.proofs.WritingAll.{FieldsStand-wrote_all, Stands-wrote_all}
 
 -- ---- new records behind the others
 
@@ -358,7 +358,18 @@ keep_planned ss counters_id space_id old new a ids id n table es drawn rules sor
     (keep-written (parts_of ss) old new i.front a i.back (length es) (stay (parts_of ss) n table es) (rows_in es) drawn (hists_from a.number a.log_length es)
     (may_put (parts_of ss) old new n a table es drawn rules may are i.front i.back i.old) rules)
 
--- the records stand for the state that has the entries
+-- the records agree with the state that has the entries
+pub agree_written : (ss : List Stored) (counters_id space_id : ℕ) (old new : Counters) (a : Space) (ids : List ℕ) (id n table : ℕ) (es : List Entry) (drawn : List PieceRecord) (s u : State) → keep_rules (parts_of ss) ≡ true
+    → FieldsStand (parts_of ss) s → Ascend ss → record_at ss counters_id ≡ Some (records.Counters old) → record_at ss space_id ≡ Some (records.Space a) → AreDropped (keeps (stay (parts_of ss) n table es)) ids ss → AllUnder id ss
+    → MayWriteAll (parts_of ss) old new n a table es → AreDrawnIn (parts_of ss) n table es drawn → u.spaces ≡ with_space n (with_entries es) s.spaces → u.tables ≡ s.tables
+    → ((q : Parts) → q.counters ≡ new ∷ [] → CountersStand q u) → FieldsStand (parts_of (applied (entries_batch counters_id new space_id a ids id es drawn) ss)) u
+agree_written ss counters_id space_id old new a ids id n table es drawn s u rules st sorted counters space are_dropped under may are spaces tables counted_so =
+    let i = parts-entries ss counters_id space_id old new a ids id n table es drawn sorted counters space are_dropped under may in
+    let q = drawn_written (parts_of ss) new n i.front a i.back table es drawn in
+    subst (λ p. FieldsStand p u) (sym i.is)
+    (FieldsStand-wrote_all (parts_of ss) q s u n es (wrote-all (parts_of ss) old new n a table es drawn rules may are i.front i.back i.old) st spaces tables (counted_so q refl))
+
+-- and stand for it
 pub plan_written : (ss : List Stored) (counters_id space_id : ℕ) (old new : Counters) (a : Space) (ids : List ℕ) (id n table : ℕ) (es : List Entry) (drawn : List PieceRecord) (s u : State) → Stands (parts_of ss) s
     → Ascend ss → record_at ss counters_id ≡ Some (records.Counters old) → record_at ss space_id ≡ Some (records.Space a) → AreDropped (keeps (stay (parts_of ss) n table es)) ids ss → AllUnder id ss
     → MayWriteAll (parts_of ss) old new n a table es → AreDrawnIn (parts_of ss) n table es drawn → u.spaces ≡ with_space n (with_entries es) s.spaces → u.tables ≡ s.tables

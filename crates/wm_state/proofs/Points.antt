@@ -12,12 +12,12 @@ use Rattle.wm_spec.specs.declared.record.space.Space.{Space}
 use Rattle.wm_state.specs.Editing.{counter_limit, place_behind, saved_at}
 use Rattle.wm_state.specs.Points.{HasRoom, Point, made_at, moved, newest_point, next_place_at, point_at, saved_point}
 use Rattle.wm_state.specs.State.{State, Workspace, Savepoint, Stand, Latest, At, next_making, savepoint_made, savepoint_named}
-use Rattle.wm_state.specs.Standing.{SpaceFields, SavepointFields, fields_of, saved_fields, saved_in, saved_as, making_behind, Stands}
+use Rattle.wm_state.specs.Standing.{SpaceFields, SavepointFields, fields_of, fields_in, saved_fields, fields_saved, saved_in, saved_as, making_behind, OnceStand, SavepointsStand, FieldsStand, Stands}
 use Rattle.wm_state.proofs.Counting.{counted_well, counters_move}
 use Rattle.wm_state.proofs.KeepSaved.{MaySave, version_latest, base_latest, saved_in_space, unnamed_if}
-use Rattle.wm_state.proofs.SavedAs.{IsSaved, named_sorted, named_some, named_none, made_some, made_none, saved_count}
+use Rattle.wm_state.proofs.SavedAs.{IsSaved, named_sorted, named_some, named_none, made_some, made_some_there, made_none, saved_count}
 use Rattle.wm_state.proofs.Saving.{IsKept, kept_latest, kept_again}
-use Rattle.wm_state.proofs.Spaces.{IsSpace, next_making_same, makings_under, making_behind_room}
+use Rattle.wm_state.proofs.Spaces.{IsSpace, next_making_there, makings_under, making_behind_room}
 use Rattle.wm_state.proofs.Tests.{both}
 
 -- ---- where a point is
@@ -192,12 +192,72 @@ newest_fields name flag m making f = record {
 abbrev again_fields : List ℕ → Bool → ℕ → SavepointFields → SavepointFields
 again_fields name flag making f = record f { making = making; name = name; implicit = flag }
 
+-- the record has those of the savepoint
+newest_same : (p : Parts) (s : State) (a : Space) (w : Workspace) (m : ℕ) (name : List ℕ) (flag : Bool) → SavepointsStand p s → OnceStand p s → IsSpace p s a.number a w
+    → saved_fields (made_at p a name flag (newest_point p a m)) ≡ newest_fields name flag m (next_making s.spaces) (fields_in w)
+newest_same p s a w m name flag st once is =
+    ap (λ n. newest_fields name flag m n (fields_of a)) (sym (next_making_there p s st once)) ∙ ap (λ f. newest_fields name flag m (next_making s.spaces) f) is.fields
+
+again_same : (p : Parts) (s : State) (a : Space) (y : Record) (k : Savepoint) (name : List ℕ) (flag : Bool) → SavepointsStand p s → OnceStand p s → saved_fields y ≡ fields_saved k
+    → saved_fields (made_at p a name flag (saved_point y)) ≡ again_fields name flag (next_making s.spaces) (fields_saved k)
+again_same p s a y k name flag st once fields =
+    ap (λ n. again_fields name flag n (saved_fields y)) (sym (next_making_there p s st once)) ∙ ap (λ f. again_fields name flag (next_making s.spaces) f) fields
+
+-- where the records agree with the state in workspaces and savepoints
+pub record MadeAs (p : Parts) (s : State) (a : Space) (w : Workspace) (m : ℕ) (stand : Stand) (pt : Point) (name : List ℕ) (flag : Bool) : Type 0 where
+  pub savepoint : Savepoint
+  pub is : saved_at m s.spaces w stand name flag ≡ Some savepoint
+  pub fields : saved_fields (made_at p a name flag pt) ≡ fields_saved savepoint
+  pub place : pt.place ≡ savepoint.place
+  pub log : pt.log_length ≡ savepoint.log_length
+
+pub made_as : (p : Parts) (s : State) (a : Space) (w : Workspace) (m : ℕ) (stand : Stand) (pt : Point) (name : List ℕ) (flag : Bool) → keep_rules p ≡ true → FieldsStand p s → IsSpace p s a.number a w → point_at p a m stand ≡ Some pt
+    → MadeAs p s a w m stand pt name flag
+made_as p s a w m Latest pt name flag rules st is there = subst (λ q. MadeAs p s a w m Latest q name flag) (some_point (newest_point p a m) pt there) (record {
+  savepoint = record {
+    making = next_making s.spaces;
+    name = name;
+    implicit = flag;
+    place = w.next_place;
+    moment = m;
+    base = w.lists.base;
+    own = w.lists.own;
+    from = w.from;
+    log_length = length w.lists.log;
+    rebases = w.rebases;
+  };
+  is = refl;
+  fields = newest_same p s a w m name flag st.savepoints st.once is;
+  place = ap (λ (f : SpaceFields). f.next_place) is.fields;
+  log = ap (λ (f : SpaceFields). f.log_length) is.fields;
+})
+made_as p s a w m (At making) pt name flag rules st is there = by_record (saved_as p a.number making) refl
+  where
+    again : Savepoint → Savepoint
+    again j = record j { making = next_making s.spaces; name = name; implicit = flag }
+
+    by_savepoint : (y : Record) → ((j : Savepoint) × (savepoint_made making w.savepoints ≡ Some j) × IsSaved p a.number w y j) → MadeAs p s a w m (At making) (saved_point y) name flag
+    by_savepoint y (j, made, saved) = record {
+      savepoint = again j;
+      is = ap (option_map (λ (k : Savepoint). record k { making = next_making s.spaces; name = name; implicit = flag })) made;
+      fields = again_same p s a y j name flag st.savepoints st.once saved.fields;
+      place = ap (λ (f : SavepointFields). f.place) saved.fields;
+      log = ap (λ (f : SavepointFields). f.log_length) saved.fields;
+    }
+
+    by_record : (o : Option Record) → saved_as p a.number making ≡ o → MadeAs p s a w m (At making) pt name flag
+    by_record None none = absurd (none_point (option_map saved_point (saved_as p a.number making)) pt (ap (option_map saved_point) none) there)
+    by_record (Some y) found =
+        subst (λ q. MadeAs p s a w m (At making) q name flag) (some_point (saved_point y) pt (sym (ap (option_map saved_point) found) ∙ there))
+        (by_savepoint y (made_some_there p s a.number w rules st.savepoints is.found making y found))
+
+-- what is newest is kept so
 made_newest : (p : Parts) (s : State) (a : Space) (w : Workspace) (m : ℕ) (name : List ℕ) (flag : Bool) → Stands p s → IsSpace p s a.number a w → MadeAt p s a w m Latest (newest_point p a m) name flag
 made_newest p s a w m name flag st is = record {
   savepoint = k;
   is = refl;
   kept = kept_latest p s a.number w a k x st is.found is.recorded refl refl refl refl refl
-      (ap (λ n. newest_fields name flag m n (fields_of a)) (sym (next_making_same p s st)) ∙ ap (λ f. newest_fields name flag m (next_making s.spaces) f) is.fields);
+      (newest_same p s a w m name flag st.savepoints st.once is);
   place = ap (λ (f : SpaceFields). f.next_place) is.fields;
   log = ap (λ (f : SpaceFields). f.log_length) is.fields;
 }
@@ -231,7 +291,7 @@ made_again p s a w m making y name flag st is found = by_savepoint (made_some p 
       savepoint = again j;
       is = ap (option_map (λ (k : Savepoint). record k { making = next_making s.spaces; name = name; implicit = flag })) made;
       kept = kept_again p s a.number making w (again j) j (made_at p a name flag (saved_point y)) y st is.found found made refl refl refl refl refl refl
-          (ap (λ n. again_fields name flag n (saved_fields y)) (sym (next_making_same p s st)) ∙ ap (λ f. again_fields name flag (next_making s.spaces) f) saved.fields);
+          (again_same p s a y j name flag st.savepoints st.once saved.fields);
       place = ap (λ (f : SavepointFields). f.place) saved.fields;
       log = ap (λ (f : SavepointFields). f.log_length) saved.fields;
     }

@@ -12,10 +12,10 @@ use Rattle.wm_spec.specs.declared.record.savepoint.Savepoint.{Savepoint as Recor
 use Rattle.wm_spec.specs.declared.record.space.Space.{Space}
 use Rattle.wm_tree.specs.Versions.{latest_in}
 use Rattle.wm_state.specs.State.{State, Workspace, Savepoint, Contents, content, kept, workspace_of, with_space, with_savepoint, savepoint_made, savepoints_of, log_of}
-use Rattle.wm_state.specs.Standing.{held_of, newest_first, latest, shown, owned, seen, seen_above, SpaceFields, fields_of, fields_in, saved_fields, fields_saved, by_making, saved_in, saved_as, by_number, CountersStand, SpacesStand, SavepointsStand, KeptStand, KeptOwnStand, PathsStand, Climbs, HasRows, RowsStand, Stands, have_ends, EndsStand}
+use Rattle.wm_state.specs.Standing.{held_of, newest_first, latest, shown, owned, seen, seen_above, SpaceFields, fields_of, fields_in, saved_fields, fields_saved, by_making, saved_in, saved_as, by_number, CountersStand, SpacesStand, SavepointsStand, KeptStand, KeptOwnStand, PathsStand, Climbs, HasRows, RowsStand, FieldsStand, Stands, have_ends, EndsStand}
 use Rattle.wm_state.specs.Effects.{Saved, marked}
 use Rattle.wm_state.proofs.Changing.{workspace_of-changed}
-use Rattle.wm_state.proofs.Frames.{StillNames, savepoints_of-found, OnceStand-changed, KeepRows, HasRows-kept, HasRows-same}
+use Rattle.wm_state.proofs.Frames.{StillNames, fields_stand, savepoints_of-found, OnceStand-changed, KeepRows, HasRows-kept, HasRows-same}
 use Rattle.wm_state.proofs.Climbing.{Stays, Carried, Climbs-same, carried, carries-same, stays-changed}
 use Rattle.wm_state.proofs.Logging.{HistsStand-frame, log_of-changed, logs-kept}
 use Rattle.wm_state.proofs.Keeping.{KeepRows-same}
@@ -167,7 +167,7 @@ savepoints_of-same : (ws vs : List Workspace) (m : ℕ) → workspace_of ws m �
 savepoints_of-same ws vs m same = rw same refl
 
 -- the workspace that gets the savepoint has it
-has_savepoint : (n place implicit : ℕ) (k : Savepoint) (ws : List Workspace) (w : Workspace) → workspace_of ws n ≡ Some w → workspace_of (with_space n (with_savepoint place implicit k) ws) n ≡ Some (with_savepoint place implicit k w)
+pub has_savepoint : (n place implicit : ℕ) (k : Savepoint) (ws : List Workspace) (w : Workspace) → workspace_of ws n ≡ Some w → workspace_of (with_space n (with_savepoint place implicit k) ws) n ≡ Some (with_savepoint place implicit k w)
 has_savepoint n place implicit k ws w found =
     workspace_of-changed n (with_savepoint place implicit k) (λ v. refl) ws n
     ∙ ap (λ b. cond b (option_map (with_savepoint place implicit k) (workspace_of ws n)) (workspace_of ws n)) (eq-eqb n n refl)
@@ -480,14 +480,25 @@ PathsStand-saved p q s t n place implicit w k x v spaces found new_one rules sta
 
 -- ---- the records stand for the state with the savepoint
 
+-- they agree with it where the record of the savepoint has its fields
+pub FieldsStand-saved : (p q : Parts) (s t : State) (n place implicit : ℕ) (w : Workspace) (k : Savepoint) (x : Record) → Saved p q n place implicit x → FieldsStand p s → workspace_of s.spaces n ≡ Some w → saved_fields x ≡ fields_saved k
+    → t.spaces ≡ with_space n (with_savepoint place implicit k) s.spaces → t.tables ≡ s.tables → CountersStand q t → FieldsStand q t
+FieldsStand-saved p q s t n place implicit w k x v st found fields spaces tables counters = record {
+  counters = counters;
+  tables = record { same = ap by_number v.tables ∙ st.tables.same ∙ sym tables };
+  spaces = SpacesStand-saved p q s t n place implicit k x v spaces st.spaces;
+  once = OnceStand-changed p q s t n (with_savepoint place implicit k) (λ w. refl) spaces v.count st.once;
+  savepoints = SavepointsStand-saved p q s t n place implicit w k x v spaces found fields st.savepoints;
+}
+
 pub Stands-saved : (p q : Parts) (s t : State) (n place implicit : ℕ) (w : Workspace) (k : Savepoint) (x : Record) → Saved p q n place implicit x → Stands p s → workspace_of s.spaces n ≡ Some w → IsKept p s.spaces w k x
     → t.spaces ≡ with_space n (with_savepoint place implicit k) s.spaces → t.tables ≡ s.tables → CountersStand q t → keep_rules q ≡ true → Stands q t
 Stands-saved p q s t n place implicit w k x v st found new_one spaces tables counters rules = record {
   rules = rules;
   counters = counters;
-  tables = record { same = ap by_number v.tables ∙ st.tables.same ∙ sym tables };
-  spaces = SpacesStand-saved p q s t n place implicit k x v spaces st.spaces;
-  once = OnceStand-changed p q s t n (with_savepoint place implicit k) (λ w. refl) spaces v.count st.once;
+  tables = fields.tables;
+  spaces = fields.spaces;
+  once = fields.once;
   latest = record { told = λ m new is c. let y = before m new is in latest-still m c ∙ st.latest.told m y.old y.is c ∙ ap (λ (l : Contents). option_map held_of (told (l.base ++ l.own) c)) (sym y.lists) };
   own = record {
     covered = λ m new r is recorded c.
@@ -495,7 +506,7 @@ Stands-saved p q s t n place implicit w k x v st found new_one spaces tables cou
         let b = had_mark p q n place implicit x v m r recorded in
         ap is_some (own-still m r.base_version c) ∙ ap (λ base. is_some (owned p base m c)) b.base ∙ st.own.covered m y.old b.old y.is b.is c ∙ ap (λ (l : Contents). touched l.own c) (sym y.lists);
   };
-  savepoints = SavepointsStand-saved p q s t n place implicit w k x v spaces found new_one.fields st.savepoints;
+  savepoints = fields.savepoints;
   kept = KeptStand-saved p q s t n place implicit w k x v spaces new_one st.savepoints st.kept;
   kept_own = KeptOwnStand-saved p q s t n place implicit w k x v spaces found new_one st.savepoints st.kept_own;
   bases = record {
@@ -516,6 +527,9 @@ Stands-saved p q s t n place implicit w k x v st found new_one spaces tables cou
   hists = HistsStand-frame p q s t v.hists (logs_saved s t n place implicit k spaces) st.hists;
 }
   where
+    fields : FieldsStand q t
+    fields = FieldsStand-saved p q s t n place implicit w k x v (fields_stand p s st) found new_one.fields spaces tables counters
+
     before : (m : ℕ) (new : Workspace) → workspace_of t.spaces m ≡ Some new → WasSaved n k s.spaces m new
     before m new is = was_saved n place implicit k s.spaces m new (ap (λ ws. workspace_of ws m) (sym spaces) ∙ is)
 

@@ -12,7 +12,7 @@ use Rattle.wm_spec.specs.declared.record.counters.Counters.{Counters}
 use Rattle.wm_spec.specs.declared.record.savepoint.Savepoint.{Savepoint as Record}
 use Rattle.wm_spec.specs.declared.record.space.Space.{Space}
 use Rattle.wm_state.specs.State.{State, Workspace, Savepoint, workspace_of, workspace_named, next_space, making_after, next_making}
-use Rattle.wm_state.specs.Standing.{SpaceFields, fields_of, fields_in, space_after, making_behind, Stands}
+use Rattle.wm_state.specs.Standing.{SpaceFields, fields_of, fields_in, space_after, making_behind, SpacesStand, OnceStand, SavepointsStand, Stands}
 use Rattle.wm_state.proofs.Apart.{ruled, found-passes}
 use Rattle.wm_state.proofs.Greatest.{greatest_kept, greatest_in, greatest_same}
 use Rattle.wm_state.proofs.KeepSaved.{greatest_making, made_before, greatest_room}
@@ -64,36 +64,43 @@ none_mapped : {A B : Type 0} (f : A → B) (o : Option A) → option_map f o ≡
 none_mapped f None e = refl
 none_mapped f (Some x) e = cc
 
-is_space_of : (p : Parts) (s : State) (n : ℕ) (r : Space) (w : Workspace) → Stands p s → space_of p.spaces n ≡ Some r → workspace_of s.spaces n ≡ Some w → IsSpace p s n r w
+is_space_of : (p : Parts) (s : State) (n : ℕ) (r : Space) (w : Workspace) → SpacesStand p s → space_of p.spaces n ≡ Some r → workspace_of s.spaces n ≡ Some w → IsSpace p s n r w
 is_space_of p s n r w st recorded found = record {
   found = found;
   recorded = recorded;
-  fields = some_fields (fields_of r) (fields_in w) (sym (ap (option_map fields_of) recorded) ∙ st.spaces.same n ∙ ap (option_map fields_in) found);
+  fields = some_fields (fields_of r) (fields_in w) (sym (ap (option_map fields_of) recorded) ∙ st.same n ∙ ap (option_map fields_in) found);
   number = eqb-true w.number n (find-passes (λ (v : Workspace). v.number == n) s.spaces w found);
   record_number = eqb-true r.number n (find-passes (λ (q : Space). q.number == n) p.spaces r recorded);
 }
 
 -- a record has its workspace
-pub space_is : (p : Parts) (s : State) (n : ℕ) (r : Space) → Stands p s → space_of p.spaces n ≡ Some r → SpaceIs p s n r
-space_is p s n r st recorded = by_workspace (workspace_of s.spaces n) refl
+pub space_there : (p : Parts) (s : State) (n : ℕ) (r : Space) → SpacesStand p s → space_of p.spaces n ≡ Some r → SpaceIs p s n r
+space_there p s n r st recorded = by_workspace (workspace_of s.spaces n) refl
   where
     same : option_map fields_in (workspace_of s.spaces n) ≡ Some (fields_of r)
-    same = sym (st.spaces.same n) ∙ ap (option_map fields_of) recorded
+    same = sym (st.same n) ∙ ap (option_map fields_of) recorded
 
     by_workspace : (o : Option Workspace) → workspace_of s.spaces n ≡ o → SpaceIs p s n r
     by_workspace None none = absurd (none_some (option_map fields_in (workspace_of s.spaces n)) (fields_of r) (ap (option_map fields_in) none) same)
     by_workspace (Some w) found = record { workspace = w; is = is_space_of p s n r w st recorded found }
 
 -- and a workspace its record
-pub record_is : (p : Parts) (s : State) (n : ℕ) (w : Workspace) → Stands p s → workspace_of s.spaces n ≡ Some w → RecordIs p s n w
-record_is p s n w st found = by_record (space_of p.spaces n) refl
+pub record_there : (p : Parts) (s : State) (n : ℕ) (w : Workspace) → SpacesStand p s → workspace_of s.spaces n ≡ Some w → RecordIs p s n w
+record_there p s n w st found = by_record (space_of p.spaces n) refl
   where
     same : option_map fields_of (space_of p.spaces n) ≡ Some (fields_in w)
-    same = st.spaces.same n ∙ ap (option_map fields_in) found
+    same = st.same n ∙ ap (option_map fields_in) found
 
     by_record : (o : Option Space) → space_of p.spaces n ≡ o → RecordIs p s n w
     by_record None none = absurd (none_some (option_map fields_of (space_of p.spaces n)) (fields_in w) (ap (option_map fields_of) none) same)
     by_record (Some r) recorded = record { recorded = r; is = is_space_of p s n r w st recorded found }
+
+-- so it is where the records stand for the state
+pub space_is : (p : Parts) (s : State) (n : ℕ) (r : Space) → Stands p s → space_of p.spaces n ≡ Some r → SpaceIs p s n r
+space_is p s n r st recorded = space_there p s n r st.spaces recorded
+
+pub record_is : (p : Parts) (s : State) (n : ℕ) (w : Workspace) → Stands p s → workspace_of s.spaces n ≡ Some w → RecordIs p s n w
+record_is p s n w st found = record_there p s n w st.spaces found
 
 -- there is no workspace where there is no record
 pub space_none : (p : Parts) (s : State) (n : ℕ) → Stands p s → space_of p.spaces n ≡ None → workspace_of s.spaces n ≡ None
@@ -146,6 +153,20 @@ named_space p s name r st recorded = by_name (space_is p s r.number r st (record
         let same : v ≡ x.workspace = some_workspace v x.workspace (sym y.is.found ∙ ap (workspace_of s.spaces) number ∙ x.is.found) in
         record { workspace = x.workspace; named = named ∙ ap Some same; is = x.is }
 
+-- where no workspace has the name, no record has
+pub unnamed_there : (p : Parts) (s : State) (name : List ℕ) → keep_rules p ≡ true → SpacesStand p s → workspace_named name s.spaces ≡ None → find (λ (q : Space). bytes_eq name q.name) p.spaces ≡ None
+unnamed_there p s name rules st none = by_record (find (λ (q : Space). bytes_eq name q.name) p.spaces) refl
+  where
+    by_workspace : (r : Space) → find (λ (q : Space). bytes_eq name q.name) p.spaces ≡ Some r → SpaceIs p s r.number r → ⊥
+    by_workspace r recorded x =
+        let passes : bytes_eq name x.workspace.name ≡ true = ap (λ (f : SpaceFields). bytes_eq name f.name) (sym x.is.fields) ∙ find-passes (λ (q : Space). bytes_eq name q.name) p.spaces r recorded in
+        bool_apart (sym passes ∙ found-fails (λ (v : Workspace). v.number == r.number) (λ (v : Workspace). bytes_eq name v.name) s.spaces x.workspace x.is.found
+        (none-found (λ (v : Workspace). bytes_eq name v.name) s.spaces none))
+
+    by_record : (o : Option Space) → find (λ (q : Space). bytes_eq name q.name) p.spaces ≡ o → find (λ (q : Space). bytes_eq name q.name) p.spaces ≡ None
+    by_record None is = is
+    by_record (Some r) recorded = absurd (by_workspace r recorded (space_there p s r.number r st (record_numbered p name r rules recorded)))
+
 pub named_no_space : (p : Parts) (s : State) (name : List ℕ) → Stands p s → find (λ (q : Space). bytes_eq name q.name) p.spaces ≡ None → workspace_named name s.spaces ≡ None
 named_no_space p s name st none = by_name (workspace_named name s.spaces) refl
   where
@@ -197,22 +218,25 @@ next_least : (ws : List Workspace) (n : ℕ) → list_all (λ (w : Workspace). n
 next_least [] n all = zero_under n
 next_least (w ∷ ws) n all = let h = both (nat_lt w.number n) (list_all (λ (v : Workspace). nat_lt v.number n) ws) all in next_both w.number (next_space ws) n h.0 (next_least ws n h.1)
 
-pub next_space_same : (p : Parts) (s : State) → Stands p s → next_space s.spaces ≡ space_after p.spaces
-next_space_same p s st = one_number (next_space s.spaces) (space_after p.spaces) below above
+pub next_space_there : (p : Parts) (s : State) → keep_rules p ≡ true → SpacesStand p s → OnceStand p s → next_space s.spaces ≡ space_after p.spaces
+next_space_there p s rules st once = one_number (next_space s.spaces) (space_after p.spaces) below above
   where
     below : nat_le (next_space s.spaces) (space_after p.spaces) ≡ true
-    below = next_least s.spaces (space_after p.spaces) (all-found (λ (w : Workspace). w.number) (λ (w : Workspace). nat_lt w.number (space_after p.spaces)) s.spaces st.once.numbers
+    below = next_least s.spaces (space_after p.spaces) (all-found (λ (w : Workspace). w.number) (λ (w : Workspace). nat_lt w.number (space_after p.spaces)) s.spaces once.numbers
         (λ n w found.
-        let y = record_is p s n w st found in
+        let y = record_there p s n w st found in
         ap (λ k. nat_lt k (space_after p.spaces)) (y.is.number ∙ sym y.is.record_number)
         ∙ (found-passes (λ (r : Space). r.number == n) (λ (r : Space). nat_lt r.number (space_after p.spaces)) p.spaces y.recorded y.is.recorded (numbers_under p.spaces)).1))
 
     above : nat_le (space_after p.spaces) (next_space s.spaces) ≡ true
-    above = after_least p.spaces (next_space s.spaces) (all-found (λ (r : Space). r.number) (λ (r : Space). nat_lt r.number (next_space s.spaces)) p.spaces (ruled_spaces p st.rules).numbers
+    above = after_least p.spaces (next_space s.spaces) (all-found (λ (r : Space). r.number) (λ (r : Space). nat_lt r.number (next_space s.spaces)) p.spaces (ruled_spaces p rules).numbers
         (λ n r recorded.
-        let y = space_is p s n r st recorded in
+        let y = space_there p s n r st recorded in
         ap (λ k. nat_lt k (next_space s.spaces)) (y.is.record_number ∙ sym y.is.number)
         ∙ (found-passes (λ (w : Workspace). w.number == n) (λ (w : Workspace). nat_lt w.number (next_space s.spaces)) s.spaces y.workspace y.is.found (workspaces_under s.spaces)).1))
+
+pub next_space_same : (p : Parts) (s : State) → Stands p s → next_space s.spaces ≡ space_after p.spaces
+next_space_same p s st = next_space_there p s st.rules st.spaces st.once
 
 -- ---- the making of the next savepoint
 
@@ -232,8 +256,11 @@ next_greatest [] = refl
 next_greatest (w ∷ ws) =
     ap (λ k. max k (next_making ws)) (after_greatest w.savepoints) ∙ ap (max (greatest_kept w.savepoints + 1)) (next_greatest ws) ∙ more_both (greatest_kept w.savepoints) (greatest_in ws)
 
+pub next_making_there : (p : Parts) (s : State) → SavepointsStand p s → OnceStand p s → next_making s.spaces ≡ making_behind p.savepoints
+next_making_there p s st once = next_greatest s.spaces ∙ ap (λ k. k + 1) (greatest_same p s st once.numbers) ∙ sym (behind_greatest p.savepoints)
+
 pub next_making_same : (p : Parts) (s : State) → Stands p s → next_making s.spaces ≡ making_behind p.savepoints
-next_making_same p s st = next_greatest s.spaces ∙ ap (λ k. k + 1) (greatest_same p s st.savepoints st.once.numbers) ∙ sym (behind_greatest p.savepoints)
+next_making_same p s st = next_making_there p s st.savepoints st.once
 
 -- each record of a savepoint was made before
 pub makings_under : (xs : List Record) → list_all (λ (x : Record). nat_lt x.making (making_behind xs)) xs ≡ true

@@ -4,8 +4,8 @@ use Rattle.wm_graph.specs.Parts.{Parts, row_of, space_of}
 use Rattle.wm_graph.specs.Rules.{keep_rules}
 use Rattle.wm_state.specs.State.{State, begin, content, workspace_of, savepoints_of, log_of}
 use Rattle.wm_tree.specs.Versions.{latest_in}
-use Rattle.wm_state.specs.Standing.{newest_first, Climbs, CountersStand, TablesStand, Stands}
-use Rattle.wm_state.proofs.Frames.{Framed, KeepRows, OnceStand-same, HasRows-kept, SavepointsStand-framed, KeptStand-framed, KeptOwnStand-framed, BasesStand-framed, RowsStand-framed, EndsStand-framed}
+use Rattle.wm_state.specs.Standing.{newest_first, Climbs, CountersStand, TablesStand, FieldsStand, Stands}
+use Rattle.wm_state.proofs.Frames.{Framed, KeepRows, fields_stand, OnceStand-same, HasRows-kept, SavepointsStand-same, KeptStand-framed, KeptOwnStand-framed, BasesStand-framed, RowsStand-framed, EndsStand-framed}
 use Rattle.wm_state.proofs.Climbing.{carried, carries-same, stays-same, PathsStand-framed}
 use Rattle.wm_state.proofs.Logging.{HistsStand-frame, logs-kept}
 
@@ -23,7 +23,6 @@ pub record Retabled (p q : Parts) : Type 0 where
 framed_retabled : (p q : Parts) (s t : State) → Retabled p q → t.spaces ≡ s.spaces → Framed p q s t
 framed_retabled p q s t r spaces = record {
   savepoints = r.savepoints;
-  points = λ n. ap (λ ws. savepoints_of ws n) spaces;
   still = λ n w is. record { old = w; is = ap (λ ws. workspace_of ws n) (sym spaces) ∙ is; parent = refl; savepoints = refl; rebases = refl; at_birth = refl; base = refl };
   names = λ n x recorded. record { old = x; is = ap (λ ss. space_of ss n) (sym r.spaces) ∙ recorded; birth = refl; base = refl };
   sees = λ n making x saved c. rw (r.versions, r.pieces) refl;
@@ -34,16 +33,26 @@ framed_retabled p q s t r spaces = record {
   ends = λ n making x saved es e. rw (r.versions, r.pieces) e;
 }
 
+-- the records agree with the state that they agreed with, but for tables and counters
+pub FieldsStand-retabled : (p q : Parts) (s t : State) → Retabled p q → FieldsStand p s → t.spaces ≡ s.spaces → TablesStand q t → CountersStand q t → FieldsStand q t
+FieldsStand-retabled p q s t r st spaces tables counters = record {
+  counters = counters;
+  tables = tables;
+  spaces = record { same = λ n. rw (r.spaces, spaces) (st.spaces.same n) };
+  once = OnceStand-same p q s t r.spaces spaces st.once;
+  savepoints = SavepointsStand-same p q s t r.savepoints (λ n. ap (λ ws. savepoints_of ws n) spaces) st.savepoints;
+}
+
 pub Stands-retabled : (p q : Parts) (s t : State) → Retabled p q → Stands p s → t.spaces ≡ s.spaces → TablesStand q t → CountersStand q t → keep_rules q ≡ true → Stands q t
 Stands-retabled p q s t r st spaces tables counters rules = record {
   rules = rules;
   counters = counters;
   tables = tables;
-  spaces = record { same = λ n. rw (r.spaces, spaces) (st.spaces.same n) };
-  once = OnceStand-same p q s t r.spaces spaces st.once;
+  spaces = fields.spaces;
+  once = fields.once;
   latest = record { told = λ n w is c. rw (r.versions, r.pieces) (st.latest.told n w (ap (λ ws. workspace_of ws n) (sym spaces) ∙ is) c) };
   own = record { covered = λ n w k is recorded c. rw (r.versions, r.pieces) (st.own.covered n w k (ap (λ ws. workspace_of ws n) (sym spaces) ∙ is) (ap (λ ss. space_of ss n) (sym r.spaces) ∙ recorded) c) };
-  savepoints = SavepointsStand-framed p q s t (framed_retabled p q s t r spaces) st.savepoints;
+  savepoints = fields.savepoints;
   kept = KeptStand-framed p q s t (framed_retabled p q s t r spaces) st.kept;
   kept_own = KeptOwnStand-framed p q s t (framed_retabled p q s t r spaces) st.kept_own;
   bases = BasesStand-framed p q s t (framed_retabled p q s t r spaces) st.bases;
@@ -57,6 +66,9 @@ Stands-retabled p q s t r st spaces tables counters rules = record {
   hists = HistsStand-frame p q s t r.hists logs st.hists;
 }
   where
+    fields : FieldsStand q t
+    fields = FieldsStand-retabled p q s t r (fields_stand p s st) spaces tables counters
+
     rows : KeepRows p q
     rows stamp x found = ap (λ rs. row_of rs stamp) r.rows ∙ found
 

@@ -14,10 +14,10 @@ use Rattle.wm_spec.specs.declared.record.space.Space.{Space}
 use Rattle.wm_spec.proofs.Lists.{told-append}
 use Rattle.wm_tree.specs.Versions.{latest_in}
 use Rattle.wm_state.specs.State.{State, Workspace, content, workspace_of, with_space, with_entries, savepoints_of, log_of}
-use Rattle.wm_state.specs.Standing.{held_of, stored_at, seen_at, own_at, newest_first, latest, seen, first_in, Climbs, fields_of, fields_in, CountersStand, SpacesStand, LatestStand, OwnStand, HasRow, RowsStand, HistsStand, Stands, SpaceFields, by_number, is_above, have_ends, EndsStand}
+use Rattle.wm_state.specs.Standing.{held_of, stored_at, seen_at, own_at, newest_first, latest, seen, first_in, Climbs, fields_of, fields_in, CountersStand, SpacesStand, LatestStand, OwnStand, HasRow, RowsStand, HistsStand, FieldsStand, Stands, SpaceFields, by_number, is_above, have_ends, EndsStand}
 use Rattle.wm_state.specs.Entries.{hists_from}
 use Rattle.wm_state.specs.Writes.{AreAllLaid, longer_by, WroteAll}
-use Rattle.wm_state.proofs.Frames.{Framed, Still, StillNames, OnceStand-changed, row-kept, savepoints_of-found, savepoints_of-none, SavepointsStand-framed, KeptStand-framed, KeptOwnStand-framed, BasesStand-framed, RowsStand-framed, EndsStand-framed}
+use Rattle.wm_state.proofs.Frames.{Framed, Still, StillNames, fields_stand, SavepointsStand-same, OnceStand-changed, row-kept, savepoints_of-found, savepoints_of-none, KeptStand-framed, KeptOwnStand-framed, BasesStand-framed, RowsStand-framed, EndsStand-framed}
 use Rattle.wm_state.proofs.FirstIn.{first-apart}
 use Rattle.wm_state.proofs.Climbing.{Carries, carried, stays-changed, PathsStand-framed}
 use Rattle.wm_state.proofs.Logging.{HistsStand-longer, log_of-found, log_of-same, rows-kept}
@@ -203,7 +203,6 @@ ends-wrote p q s t n es w spaces there stand m new r is recorded =
 framed_wrote : (p q : Parts) (s t : State) (n : ℕ) (es : List Entry) → WroteAll p q n es → t.spaces ≡ appended_all n es s.spaces → Framed p q s t
 framed_wrote p q s t n es w spaces = record {
   savepoints = w.savepoints;
-  points = λ m. points m (cases_eq m n) (workspace_of s.spaces m) refl;
   still = λ m new is. still m new (was n es s.spaces m new (ap (λ ws. workspace_of ws m) (sym spaces) ∙ is));
   names = λ m r recorded. names m r (had p q n es w m r recorded);
   sees = λ m making x saved c. sees x.version c (w.free.kept m making x saved);
@@ -217,16 +216,6 @@ framed_wrote p q s t n es w spaces = record {
   where
     sees : (v : ℕ) (c : Cell) → (v == latest p n) ≡ false → seen q v c ≡ seen p v c
     sees v c other = rw w.versions (seen-away (latest p n) p.pieces q.pieces c (laid-away (latest p n) es p.pieces q.pieces c w.pieces) (newest_first p.versions) w.leaf v other)
-
-    after : (m : ℕ) → workspace_of t.spaces m ≡ cond (m == n) (option_map (with_entries es) (workspace_of s.spaces m)) (workspace_of s.spaces m)
-    after m = ap (λ ws. workspace_of ws m) spaces ∙ appended-at n es s.spaces m
-
-    points : (m : ℕ) → (m ≡ n) ⊎ (m ≢ n) → (o : Option Workspace) → workspace_of s.spaces m ≡ o → savepoints_of t.spaces m ≡ savepoints_of s.spaces m
-    points m (inl here) None found = savepoints_of-none t.spaces m (rw (eq-eqb _ _ here, found) at (after m)) ∙ sym (savepoints_of-none s.spaces m found)
-    points m (inl here) (Some x) found =
-        savepoints_of-found t.spaces m (with_entries es x) (rw (eq-eqb _ _ here, found) at (after m)) ∙ sym (savepoints_of-found s.spaces m x found)
-    points m (inr other) None found = savepoints_of-none t.spaces m (rw (ne_eqb _ _ other, found) at (after m)) ∙ sym (savepoints_of-none s.spaces m found)
-    points m (inr other) (Some x) found = savepoints_of-found t.spaces m x (rw (ne_eqb _ _ other, found) at (after m)) ∙ sym (savepoints_of-found s.spaces m x found)
 
     still : (m : ℕ) (new : Workspace) → Was n es s.spaces m new → Still s m new
     still m new x = ⊎_elim
@@ -361,17 +350,41 @@ SpacesStand-wrote p q s t n es w spaces stand = record {
 
 -- ---- the records stand for the state after a line
 
+-- the savepoints are those of before
+points_wrote : (s t : State) (n : ℕ) (es : List Entry) → t.spaces ≡ appended_all n es s.spaces → (m : ℕ) → savepoints_of t.spaces m ≡ savepoints_of s.spaces m
+points_wrote s t n es spaces m = points m (cases_eq m n) (workspace_of s.spaces m) refl
+  where
+    after : (m : ℕ) → workspace_of t.spaces m ≡ cond (m == n) (option_map (with_entries es) (workspace_of s.spaces m)) (workspace_of s.spaces m)
+    after m = ap (λ ws. workspace_of ws m) spaces ∙ appended-at n es s.spaces m
+
+    points : (m : ℕ) → (m ≡ n) ⊎ (m ≢ n) → (o : Option Workspace) → workspace_of s.spaces m ≡ o → savepoints_of t.spaces m ≡ savepoints_of s.spaces m
+    points m (inl here) None found = savepoints_of-none t.spaces m (rw (eq-eqb _ _ here, found) at (after m)) ∙ sym (savepoints_of-none s.spaces m found)
+    points m (inl here) (Some x) found =
+        savepoints_of-found t.spaces m (with_entries es x) (rw (eq-eqb _ _ here, found) at (after m)) ∙ sym (savepoints_of-found s.spaces m x found)
+    points m (inr other) None found = savepoints_of-none t.spaces m (rw (ne_eqb _ _ other, found) at (after m)) ∙ sym (savepoints_of-none s.spaces m found)
+    points m (inr other) (Some x) found = savepoints_of-found t.spaces m x (rw (ne_eqb _ _ other, found) at (after m)) ∙ sym (savepoints_of-found s.spaces m x found)
+
+-- they agree with it
+pub FieldsStand-wrote_all : (p q : Parts) (s t : State) (n : ℕ) (es : List Entry) → WroteAll p q n es → FieldsStand p s → t.spaces ≡ appended_all n es s.spaces → t.tables ≡ s.tables → CountersStand q t → FieldsStand q t
+FieldsStand-wrote_all p q s t n es w st spaces tables counters = record {
+  counters = counters;
+  tables = record { same = ap by_number w.tables ∙ st.tables.same ∙ sym tables };
+  spaces = SpacesStand-wrote p q s t n es w spaces st.spaces;
+  once = OnceStand-changed p q s t n (with_entries es) (λ w. refl) spaces w.count st.once;
+  savepoints = SavepointsStand-same p q s t w.savepoints (points_wrote s t n es spaces) st.savepoints;
+}
+
 -- entries were written: the workspace has them, and the counters are set
 pub Stands-wrote_all : (p q : Parts) (s t : State) (n : ℕ) (es : List Entry) → WroteAll p q n es → Stands p s → t.spaces ≡ appended_all n es s.spaces → t.tables ≡ s.tables → CountersStand q t → keep_rules q ≡ true → Stands q t
 Stands-wrote_all p q s t n es w st spaces tables counters rules = record {
   rules = rules;
   counters = counters;
-  tables = record { same = ap by_number w.tables ∙ st.tables.same ∙ sym tables };
-  spaces = SpacesStand-wrote p q s t n es w spaces st.spaces;
-  once = OnceStand-changed p q s t n (with_entries es) (λ w. refl) spaces w.count st.once;
+  tables = fields.tables;
+  spaces = fields.spaces;
+  once = fields.once;
   latest = LatestStand-wrote p q s t n es w spaces st.spaces st.latest;
   own = OwnStand-wrote p q s t n es w spaces st.spaces st.own;
-  savepoints = SavepointsStand-framed p q s t (framed_wrote p q s t n es w spaces) st.savepoints;
+  savepoints = fields.savepoints;
   kept = KeptStand-framed p q s t (framed_wrote p q s t n es w spaces) st.kept;
   kept_own = KeptOwnStand-framed p q s t (framed_wrote p q s t n es w spaces) st.kept_own;
   bases = BasesStand-framed p q s t (framed_wrote p q s t n es w spaces) st.bases;
@@ -381,3 +394,6 @@ Stands-wrote_all p q s t n es w st spaces tables counters rules = record {
   rows = RowsStand-wrote p q s t n es w spaces st.spaces st.rows;
   hists = HistsStand-wrote p q s t n es w spaces st.spaces st.hists;
 }
+  where
+    fields : FieldsStand q t
+    fields = FieldsStand-wrote_all p q s t n es w (fields_stand p s st) spaces tables counters

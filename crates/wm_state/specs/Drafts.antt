@@ -23,7 +23,7 @@ use Rattle.wm_state.specs.Drawing.{are_sorted}
 use Rattle.wm_state.specs.Editing.{counter_limit, drafted_by, entry_of, line_work, number_limit, stand_of}
 use Rattle.wm_state.specs.Entries.{AreStamped, entry_keys, is_well}
 use Rattle.wm_state.specs.Points.{HasRoom, Point, implicit_of, next_place_at, point_at}
-use Rattle.wm_state.specs.Standing.{Stands, by_number, space_after}
+use Rattle.wm_state.specs.Standing.{FieldsStand, Stands, by_number, space_after}
 use Rattle.wm_state.specs.State.{State, table_named}
 use Rattle.wm_state.specs.declared.edit.Edit.{Edit}
 use Rattle.wm_state.specs.declared.edit.Edit.TheVariants as edits
@@ -155,13 +155,15 @@ pub record WorksOn (old new : Parts) (work : ℕ) : Type 0 where
   pub same : new.counters ≡ after ∷ []
   pub more : after.work ≡ before.work + work
 
--- changes make of records what edits make of each state that they stand for, with so much work: the rules stay kept, no id changes
--- twice, each row stays under its id, each value that comes can be kept, without edits there are no changes, and where all edits make
--- savepoints or workspaces, there are six changes at most for each
+-- changes make of records what edits make of each state that they stand for, and of each state with which they agree in counters,
+-- tables, workspaces and savepoints, with so much work: the rules stay kept, no id changes twice, each row stays under its id, each value
+-- that comes can be kept, without edits there are no changes, and where all edits make savepoints or workspaces, there are six changes at
+-- most for each
 pub record DraftsBy (work : ℕ) (rs : List Stored) (m : ℕ) (es : List Edit) (changes : List Change) : Type 0 where
   pub keeps : keep_rules (parts_of (applied changes rs)) ≡ true
   pub once : AreChanges changes
   pub stands : (s : State) → Stands (parts_of rs) s → Stands (parts_of (applied changes rs)) (drafted_by work m es s)
+  pub fields : (s : State) → FieldsStand (parts_of rs) s → FieldsStand (parts_of (applied changes rs)) (drafted_by work m es s)
   pub rows : (id : ℕ) (r : RowRecord) → record_at rs id ≡ Some (records.Row r) → record_at (applied changes rs) id ≡ Some (records.Row r)
   pub kept : list_all is_kept_change changes ≡ true
   pub counted : (es ≡ [] → ⊥) → WorksOn (parts_of rs) (parts_of (applied changes rs)) work

@@ -357,6 +357,14 @@ pub record RowsStand (p : Parts) (s : State) : Type 0 where
 pub record HistsStand (p : Parts) (s : State) : Type 0 where
   pub same : (n position : ℕ) → option_map logged (hist_at p.hists n position) ≡ option_map logged_as (slice_get (log_of s.spaces n) position)
 
+-- the records agree with the state in counters, tables, workspaces and savepoints, whatever these hold
+pub record FieldsStand (p : Parts) (s : State) : Type 0 where
+  pub counters : CountersStand p s
+  pub tables : TablesStand p s
+  pub spaces : SpacesStand p s
+  pub once : OnceStand p s
+  pub savepoints : SavepointsStand p s
+
 -- the records keep every rule and stand for the state
 pub record Stands (p : Parts) (s : State) : Type 0 where
   pub rules : keep_rules p ≡ true
