@@ -3,7 +3,7 @@ use Rattle.std.proofs.Common.{◌≡◌, ℕ, nat_lt, Bool, true, false, List, [
 use Rattle.std.specs.Str.{bytes_eq}
 use Rattle.wm_base.specs.declared.value.Value.TheVariants as values
 use Rattle.wm_graph.specs.Parts.{parts_of, space_of}
-use Rattle.wm_graph.specs.Rules.{is_table}
+use Rattle.wm_graph.specs.Rules.{is_table, keep_rules}
 use Rattle.wm_spec.specs.Lists.{Entry}
 use Rattle.wm_spec.specs.declared.record.Record.TheVariants as records
 use Rattle.wm_spec.specs.declared.record.column.ColumnKind.TheVariants as kinds
@@ -12,8 +12,12 @@ use Rattle.wm_spec.specs.declared.record.space.Space.{Space}
 use Rattle.wm_spec.specs.declared.record.stored.Stored.{Stored}
 use Rattle.wm_spec.specs.declared.record.table.Table.{Table}
 use Rattle.wm_spec.specs.declared.record.version.Version.{Version}
+use Rattle.std.specs.List.{count_by}
+use Rattle.wm_spec.specs.declared.record.savepoint.Savepoint.{Savepoint}
+use Rattle.wm_state.proofs.SavesNext.{can_save_two}
+use Rattle.wm_state.specs.declared.edit.Edit.TheVariants as edits
 use Rattle.wm_state.specs.ById.{by_id}
-use Rattle.wm_state.specs.Drafts.{CanAppend, CanBear, CanCreate, CanEnable, CanSave, CanWork}
+use Rattle.wm_state.specs.Drafts.{CanAppend, CanBear, CanCreate, CanDraft, CanEnable, CanSave, CanWork}
 use Rattle.wm_state.specs.Editing.{line_work, row_value}
 use Rattle.wm_state.specs.Entries.{IsStamped}
 use Rattle.wm_state.specs.Points.{newest_point}
@@ -102,6 +106,17 @@ can_append a e is stamped key row user = record {
 pub can_save : (a : Space) (ready : Bool) → IsTried a → CanSave (parts_of (tried a ready)) 0 (codes "A")
 unfolding parts_of
 can_save a ready is = record { space = a; there = there a ready is; short = refl; room = record { new = refl; few = refl }; places = rw is.place refl }
+
+few : (a : Space) (ready : Bool) → nat_le 4095 (count_by (λ (x : Savepoint). x.space == 0) (parts_of (tried a ready)).savepoints) ≡ false
+unfolding parts_of
+few a ready = refl
+
+-- two savepoints in one list
+pub can_save_twice : (a : Space) (ready : Bool) → IsTried a → keep_rules (parts_of (tried a ready)) ≡ true → CanDraft (tried a ready) 5 (edits.Save 0 (codes "A") ∷ edits.Save 0 (codes "B") ∷ [])
+unfolding parts_of
+can_save_twice a ready is rules =
+    can_save_two (tried a ready) 5 0 (codes "A") (codes "B") rules (can_work a ready) (can_save a ready is)
+    (record { space = a; there = there a ready is; short = refl; room = record { new = refl; few = refl }; places = rw is.place refl }) refl (rw is.place refl) (few a ready)
 
 pub can_bear : (a : Space) (ready : Bool) → IsTried a → CanBear (parts_of (tried a ready)) 5 0 None (codes "B")
 unfolding parts_of

@@ -8,7 +8,8 @@ ghost use Rattle.wm_graph.specs.Rules.{is_table, keep_rules};
 ghost use Rattle.wm_spec.specs.Lists.{Entry};
 ghost use Rattle.wm_spec.specs.declared.record.column.ColumnKind.TheVariants as kinds;
 ghost use Rattle.wm_spec.specs.declared.record.table.Table.{Table as OneTable};
-ghost use Rattle.wm_state.specs.Drafts.{CanAppend, CanBear, CanCreate, CanEdit, CanEnable, CanSave, CanWork};
+ghost use Rattle.wm_state.specs.Drafts.{CanAppend, CanBear, CanCreate, CanDraft, CanEdit, CanEnable, CanSave, CanWork};
+ghost use Rattle.wm_state.specs.declared.edit.Edit.TheVariants as edits;
 ghost use Rattle.wm_state.specs.Editing.{entry_of, line_work, row_value};
 ghost use Rattle.wm_state.specs.Entries.{IsStamped};
 
@@ -99,6 +100,7 @@ fn image(alloc: Global, ready: bool) -> Result<Image, Memory>
     ensures append { ready ≡ true → IfOk result (λ image. (e : Entry) → IsStamped 1 1 e → e.key ≡ values.Num (pos 7) ∷ [] → e.row ≡ Some (row_value (values.Num (pos 7) ∷ [])) → e.user ≡ codes "U" → CanAppend (parts_of image) 0 (e ∷ [])) }
     ensures save { IfOk result (λ image. CanSave (parts_of image) 0 (codes "A")) }
     ensures bear { IfOk result (λ image. CanBear (parts_of image) 5 0 None (codes "B")) }
+    ensures twice { IfOk result (λ image. CanDraft image 5 (edits.Save 0 (codes "A") ∷ edits.Save 0 (codes "B") ∷ [])) }
 {
     let mut records = Records::new(alloc);
     records.push(stored(1, Record::Counters(counters())))?;
@@ -217,6 +219,39 @@ fn what_is_newest_is_kept(rt: HostRuntime) -> Result<(), Fail> {
     assert_eq!(rt; drafted(alloc, &mut image, edit)?, 3);
     assert!(rt; image.savepoint(0, 1).is_some());
     assert_eq!(rt; (image.savepoint_count(0), image.is_free(1)), (1, false));
+    Ok(())
+}
+
+/// Savepoints of two names are made of what is newest in LIVE, in one list: how many records change.
+fn saved_twice(alloc: Global, image: &mut Image, first: Name, second: Name) -> Result<usize, Memory>
+    requires rules { keep_rules (parts_of image.old) ≡ true }
+    requires can { CanDraft image.old 5 (edits.Save 0 first ∷ edits.Save 0 second ∷ []) }
+{
+    let mut edits = Vec::new(alloc);
+    edits.push(Edit::Save {
+        space: 0,
+        name: first,
+    })?;
+    edits.push(Edit::Save {
+        space: 0,
+        name: second,
+    })?;
+    let batch = image.draft(alloc, 5, edits)?;
+    let count = batch.changes.len();
+    image.apply(alloc, batch)?;
+    Ok(count)
+}
+
+#[test]
+fn a_list_of_two_savepoints_is_made(rt: HostRuntime) -> Result<(), Fail> {
+    let alloc = rt.alloc();
+    let mut image = image(alloc, true)?;
+    let first = Name::copy_of(alloc, b"A")?;
+    let second = Name::copy_of(alloc, b"B")?;
+    assert_eq!(rt; saved_twice(alloc, &mut image, first, second)?, 4);
+    assert_eq!(rt; image.savepoint_count(0), 2);
+    assert!(rt; image.savepoint(0, 1).is_some() && image.savepoint(0, 2).is_some());
+    assert_eq!(rt; image.counters().work, 4_097);
     Ok(())
 }
 

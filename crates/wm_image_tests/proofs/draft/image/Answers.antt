@@ -2,14 +2,15 @@ use Rattle.std.proofs.Common.{◌≡◌, nat_lt, true, false, List, [], ◌∷�
 use Rattle.std.specs.Str.{bytes_eq}
 use Rattle.wm_base.specs.declared.value.Value.TheVariants as values
 use Rattle.wm_graph.specs.Parts.{parts_of}
-use Rattle.wm_graph.specs.Rules.{is_table}
+use Rattle.wm_graph.specs.Rules.{is_table, keep_rules}
 use Rattle.wm_spec.specs.Lists.{Entry}
 use Rattle.wm_spec.specs.declared.record.stored.Stored.{Stored}
 use Rattle.wm_spec.specs.declared.record.table.Table.{Table}
-use Rattle.wm_state.specs.Drafts.{CanAppend, CanBear, CanCreate, CanEnable, CanSave, CanWork}
+use Rattle.wm_state.specs.Drafts.{CanAppend, CanBear, CanCreate, CanDraft, CanEnable, CanSave, CanWork}
+use Rattle.wm_state.specs.declared.edit.Edit.TheVariants as edits
 use Rattle.wm_state.specs.Editing.{line_work, row_value}
 use Rattle.wm_state.specs.Entries.{IsStamped}
-use Rattle.wm_image_tests.proofs.Trying.{IsTried, can_append, can_bear, can_create, can_enable, can_save, can_work, tried, tried_built, tried_image}
+use Rattle.wm_image_tests.proofs.Trying.{IsTried, can_append, can_bear, can_create, can_enable, can_save, can_save_twice, can_work, tried, tried_built, tried_image}
 use Rattle.wm_image_tests.proofs.draft.image.Goals as goal
 
 -- the image is that of the small store
@@ -26,6 +27,10 @@ live c = record { number = c.in_ok-live.ensures.number; name = c.in_ok-live.ensu
 
 pub returns-clause-work : goal.returns-clause-work
 returns-clause-work c = small (λ rs. CanWork (parts_of rs) 5 line_work) c (can_work c.in_ok-live.field-0 c.args.ready)
+
+pub returns-clause-twice : goal.returns-clause-twice
+returns-clause-twice c =
+    small (λ rs. keep_rules (parts_of rs) ≡ true → CanDraft rs 5 (edits.Save 0 (codes "A") ∷ edits.Save 0 (codes "B") ∷ [])) c (λ rules. can_save_twice c.in_ok-live.field-0 c.args.ready (live c) rules) c.in-Ok.ensures.rules
 
 pub returns-clause-create : goal.returns-clause-create
 returns-clause-create c =
