@@ -1,5 +1,5 @@
 -- How what a plan says is told of the plan that a function gives.
-use Rattle.std.proofs.Common.{◌≡◌, ◌≤◌, ℕ, suc, ◌<◌, nat_lt, true, false, ◌==◌, List, [], ◌∷◌, length, Option, Some, None, is_some, Result, Ok, Err, IfOk, refl, sym, ap, subst, ◌∙◌, arith}
+use Rattle.std.proofs.Common.{◌≡◌, ◌≤◌, ℕ, zero, suc, ◌<◌, nat_lt, true, false, ◌==◌, List, [], ◌∷◌, length, Option, Some, None, is_some, Result, Ok, Err, IfOk, refl, sym, ap, subst, ◌∙◌, arith}
 use Rattle.std.proofs.lemmas.Bool.Decides.{nat_tests}
 use Rattle.std.specs.List.{list_all}
 use Rattle.wm_base.specs.declared.memory.Memory.{Memory}
@@ -75,10 +75,11 @@ never_done (Err e) n some says = tt
 
 -- some rows are changed where changes are written
 pub some_rows : (n : ℕ) (changes : List RowChange) → (n ≡ 0 → changes ≡ []) → nat_lt 0 (length changes) ≡ true → nat_lt 0 n ≡ true
-some_rows zero changes none some = absurd (nothing (subst (λ (xs : List RowChange). nat_lt 0 (length xs) ≡ true) (none refl) some))
+some_rows zero [] none some = some
+some_rows zero (x ∷ xs) none some = absurd (apart (none refl))
   where
-    nothing : nat_lt 0 0 ≡ true → ⊥
-    nothing h = cc
+    apart : x ∷ xs ≡ [] → ⊥
+    apart h = cc
 some_rows (suc n) changes none some = grind (arith, nat_tests)
 
 -- what has no length has no rows

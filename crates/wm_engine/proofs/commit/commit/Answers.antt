@@ -11,7 +11,7 @@ returns-then-is_empty-clause-any_moment g c = λ told rs works.
 
 pub returns-then-is_empty-clause-works : goal.returns-then-is_empty-clause-works
 returns-then-is_empty-clause-works g c = λ told rs works.
-    subst (λ cs. KeepsOver c.args.store.now (applied cs rs) (g.P.Station.history c.args.station.now)) (c.as_slice.ensures ∙ none_counted c.as_slice.result.now c.if-is_empty.ensures) works
+    subst (λ cs. KeepsOver c.args.store.now (applied cs rs) (g.P.Station.history c.args.station.now)) (sym (none_counted c.as_slice.result.now c.if-is_empty.ensures) ∙ c.as_slice.ensures) works
 
 pub returns-in_err-commit-clause-any_moment : goal.returns-in_err-commit-clause-any_moment
 returns-in_err-commit-clause-any_moment g c = λ told rs works.

@@ -1,4 +1,4 @@
-use Rattle.std.proofs.Common.{length, sym, ap, ◌∙◌}
+use Rattle.std.proofs.Common.{length, refl, sym, ap, ◌∙◌}
 use Rattle.std.specs.List.{list_all}
 use Rattle.wm_base.specs.Views.{sets_view}
 use Rattle.wm_dml.specs.Moving.{moved_row}
@@ -38,7 +38,7 @@ write_all-requires-clause-last c = c.in_ok-changes.ensures.lasting c.requires.st
 
 pub write_all-requires-clause-counted : goal.write_all-requires-clause-counted
 write_all-requires-clause-counted c = λ none.
-    c.in_ok-changes.ensures.exact ∙ ap (λ rows. replacing c.args.table.now c.args.within.now rows c.args.news.items) (no_rows c.args.rows.now c.len-count.result c.len-count.ensures none)
+    c.in_ok-changes.ensures.exact ∙ ap (λ rows. replacing c.args.table.now c.args.within.now rows c.args.news.items) (no_rows c.args.rows.now (length c.args.rows.now) refl none)
 
 pub write_all-requires-clause-filled : goal.write_all-requires-clause-filled
 write_all-requires-clause-filled c =

@@ -1,4 +1,4 @@
-use Rattle.std.proofs.Common.{length, map, sym, ap, ◌∙◌}
+use Rattle.std.proofs.Common.{length, refl, map, sym, ap, ◌∙◌}
 use Rattle.std.specs.List.{list_all}
 use Rattle.wm_dml.specs.Changing.{gone}
 use Rattle.wm_model.proofs.Changing.{kept_empty, kept_filled}
@@ -28,7 +28,7 @@ pub write_all-requires-clause-filled : goal.write_all-requires-clause-filled
 write_all-requires-clause-filled c = ap (list_all is_filled_change) c.in_ok-changes.ensures.exact ∙ gone_filled c.args.table.now c.args.within.now c.args.rows.now (sym c.if-not-are_filled.ensures)
 
 pub write_all-requires-clause-counted : goal.write_all-requires-clause-counted
-write_all-requires-clause-counted c = λ none. c.in_ok-changes.ensures.exact ∙ ap (map (gone c.args.table.now c.args.within.now)) (no_rows c.args.rows.now c.len-count.result c.len-count.ensures none)
+write_all-requires-clause-counted c = λ none. c.in_ok-changes.ensures.exact ∙ ap (map (gone c.args.table.now c.args.within.now)) (no_rows c.args.rows.now (length c.args.rows.now) refl none)
 
 pub returns-clause-does : goal.returns-clause-does
 returns-clause-does c =
