@@ -1,5 +1,5 @@
 -- A small store, before which each edit can be made.
-use Rattle.std.proofs.Common.{nat_le, ◌≡◌, ℕ, nat_lt, Bool, true, false, List, [], ◌∷◌, ◌++◌, Some, None, pos, codes, refl, sym, ap, subst, ◌∙◌}
+use Rattle.std.proofs.Common.{arith, nat_le, ◌==◌, ◌≡◌, ℕ, nat_lt, Bool, true, false, List, [], ◌∷◌, ◌++◌, Some, None, pos, codes, refl, sym, ap, subst, ◌∙◌}
 use Rattle.std.specs.Str.{bytes_eq}
 use Rattle.wm_base.specs.declared.value.Value.TheVariants as values
 use Rattle.wm_graph.specs.Parts.{parts_of, space_of}
@@ -15,9 +15,10 @@ use Rattle.wm_spec.specs.declared.record.version.Version.{Version}
 use Rattle.std.specs.List.{count_by}
 use Rattle.wm_spec.specs.declared.record.savepoint.Savepoint.{Savepoint}
 use Rattle.wm_state.proofs.SavesNext.{can_save_two}
+use Rattle.wm_state.specs.declared.edit.Edit.{Edit}
 use Rattle.wm_state.specs.declared.edit.Edit.TheVariants as edits
 use Rattle.wm_state.specs.ById.{by_id}
-use Rattle.wm_state.specs.Drafts.{CanAppend, CanBear, CanCreate, CanDraft, CanEnable, CanSave, CanWork}
+use Rattle.wm_state.specs.Drafts.{CanAppend, CanBear, CanCreate, CanDraft, CanEdit, CanEnable, CanSave, CanWork}
 use Rattle.wm_state.specs.Editing.{line_work, row_value}
 use Rattle.wm_state.specs.Entries.{IsStamped}
 use Rattle.wm_state.specs.Points.{newest_point}
@@ -133,3 +134,16 @@ can_bear a ready is = record {
   implicits = rw is.implicit refl;
   numbers = rw is.number refl;
 }
+
+-- ---- lists of edits
+
+-- one edit can be drafted
+pub can_draft_one : (rs : List Stored) (m : ℕ) (e : Edit) → CanWork (parts_of rs) m line_work → CanEdit (parts_of rs) m e → CanDraft rs m (e ∷ [])
+can_draft_one rs m e works can = (works, omega arith, (can, λ work changes drafts. tt))
+
+-- the list that is made by pushing one, and two
+pub pushed_one : (rs : List Stored) (m : ℕ) (none one : List Edit) (d : Edit) → none ≡ [] → one ≡ none ++ d ∷ [] → CanDraft rs m (d ∷ []) → CanDraft rs m one
+pushed_one rs m none one d new first can = subst (CanDraft rs m) (sym (first ∙ ap (λ es. es ++ d ∷ []) new)) can
+
+pub pushed_two : (rs : List Stored) (m : ℕ) (none one two : List Edit) (d e : Edit) → none ≡ [] → one ≡ none ++ d ∷ [] → two ≡ one ++ e ∷ [] → CanDraft rs m (d ∷ e ∷ []) → CanDraft rs m two
+pushed_two rs m none one two d e new first second can = subst (CanDraft rs m) (sym (second ∙ ap (λ es. es ++ e ∷ []) (first ∙ ap (λ es. es ++ d ∷ []) new))) can

@@ -1,6 +1,6 @@
-use Rattle.std.proofs.Common.{◌≡◌, [], ◌∷◌, tt, sym, subst, arith}
-use Rattle.wm_state.specs.Drafts.{CanDraft}
+use Rattle.wm_image_tests.proofs.Trying.{can_draft_one, pushed_one}
 use Rattle.wm_image_tests.proofs.draft.drafted.Goals as goal
 
-pub draft-batch-requires-clause-can : goal.draft-batch-requires-clause-can
-draft-batch-requires-clause-can c = subst (CanDraft c.args.image.now 5) (sym c.in_ok-push.ensures.ok) (c.requires.work, omega arith, (c.requires.can, λ work changes drafts. tt))
+pub draft-requires-clause-can : goal.draft-requires-clause-can
+draft-requires-clause-can c =
+    pushed_one c.args.image.now 5 c.new-edits.result.items c.push.new.self.items c.args.edit c.new-edits.ensures.items c.in_ok-push.ensures.items (can_draft_one c.args.image.now 5 c.args.edit c.requires.work c.requires.can)
