@@ -53,6 +53,8 @@ fn tear(recording: &mut Recording, at: u64, len: u64, torn: &[u8]) -> Result<(),
 impl Station for MemoryStation {
     ghost tells = { Unit {0} };
 
+    ghost wants = { Unit {0} };
+
     ghost history = { λ s. history_of s.recording };
 
     ghost disk_faults = { λ s. s.disk_faults };
