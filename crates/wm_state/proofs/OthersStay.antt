@@ -114,7 +114,7 @@ new_apart rs next id r under found = below_apart id next (under_found next rs id
 -- ---- what entries leave
 
 -- a piece of a key that no entry has is not of their keys
-written_out : (version table stamp : ℕ) (es : List Entry) (x : PieceRecord) → AreStamped table stamp es → is_written es x ≡ false → is_out_all version table (entry_keys es) x ≡ true
+pub written_out : (version table stamp : ℕ) (es : List Entry) (x : PieceRecord) → AreStamped table stamp es → is_written es x ≡ false → is_out_all version table (entry_keys es) x ≡ true
 written_out version table stamp [] x stamped none = refl
 written_out version table stamp (e ∷ es) x stamped none =
     let h = either_false (is_of x.cells.table x.cells.key e) (is_written es x) none in
