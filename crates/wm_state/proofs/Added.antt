@@ -22,7 +22,7 @@ use Rattle.wm_spec.specs.declared.record.space.Space.{Space}
 use Rattle.wm_spec.specs.declared.record.stored.Stored.{Stored}
 use Rattle.wm_state.specs.Batches.{drop_one, is_out}
 use Rattle.wm_state.specs.ById.{Ascend, applied, set_at}
-use Rattle.wm_state.specs.Drafts.{is_next_version, is_written, may_add}
+use Rattle.wm_state.specs.Drafts.{is_next_version, is_said, is_written, may_add}
 use Rattle.wm_state.specs.Drawing.{AreDrawn}
 use Rattle.wm_state.specs.Editing.{entry_of}
 use Rattle.wm_state.specs.Entries.{AreStamped, entry_keys, hists_from, is_out_all, piece_of, pieces_of, rows_in}
@@ -132,19 +132,38 @@ hists_added p n k position entries (e ∷ es) same = and_true (k == n) _ (eq-eqb
 abbrev is_its : ℕ → List Entry → PieceRecord → Bool
 is_its version es x = is_written es x && (x.version == version)
 
+-- the piece is of a version, and one of the entries says it
+abbrev is_new : ℕ → List Entry → PieceRecord → Bool
+is_new version es x = is_said es x && (x.version == version)
+
 -- the pieces of entries are
-news_its : (version : ℕ) (es : List Entry) → list_all (is_its version es) (pieces_of version es) ≡ true
-news_its version [] = refl
-news_its version (e ∷ es) =
-    and_true (is_its version (e ∷ es) (piece_of version e)) _
-    (and_true (is_written (e ∷ es) (piece_of version e)) (version == version) (ap (λ b. b || is_written es (piece_of version e)) (and_true (e.table == e.table) (is_eq (key_order e.key e.key)) (eq-eqb e.table e.table refl) (key_itself e.key)))
+news_new : (version : ℕ) (es : List Entry) → list_all (is_new version es) (pieces_of version es) ≡ true
+news_new version [] = refl
+news_new version (e ∷ es) =
+    and_true (is_new version (e ∷ es) (piece_of version e)) _
+    (and_true (is_said (e ∷ es) (piece_of version e)) (version == version)
+    (ap (λ b. b || is_said es (piece_of version e))
+    (and_true ((e.table == e.table) && is_eq (key_order e.key e.key)) (e.stamp == e.stamp) (and_true (e.table == e.table) (is_eq (key_order e.key e.key)) (eq-eqb e.table e.table refl) (key_itself e.key)) (eq-eqb e.stamp e.stamp refl)))
     (eq-eqb version version refl))
-    (all_if (is_its version es) (is_its version (e ∷ es)) (λ x is. more (is_of x.cells.table x.cells.key e) (is_written es x) (x.version == version) is) (pieces_of version es) (news_its version es))
+    (all_if (is_new version es) (is_new version (e ∷ es)) (λ x is. more (is_of x.cells.table x.cells.key e && (e.stamp == x.stamp)) (is_said es x) (x.version == version) is) (pieces_of version es) (news_new version es))
   where
     more : (a b d : Bool) → (b && d) ≡ true → ((a || b) && d) ≡ true
     more true true d is = is
     more true false d is = absurd (bool_apart (sym is))
     more false b d is = is
+
+-- what an entry says is of its key
+said_written : (es : List Entry) (x : PieceRecord) → is_said es x ≡ true → is_written es x ≡ true
+said_written [] x said = said
+said_written (e ∷ es) x said = by_first (is_of x.cells.table x.cells.key e) (e.stamp == x.stamp) (is_said es x) (is_written es x) said (said_written es x)
+  where
+    by_first : (a b d w : Bool) → ((a && b) || d) ≡ true → (d ≡ true → w ≡ true) → (a || w) ≡ true
+    by_first true b d w said to = refl
+    by_first false b d w said to = to said
+
+news_its : (version : ℕ) (es : List Entry) → list_all (is_its version es) (pieces_of version es) ≡ true
+news_its version es =
+    all_if (is_new version es) (is_its version es) (λ x is. let h = both (is_said es x) (x.version == version) is in and_true (is_written es x) (x.version == version) (said_written es x h.0) h.1) (pieces_of version es) (news_new version es)
 
 -- so are those that go for them
 goes_its : (version table stamp : ℕ) (es : List Entry) (y : PieceRecord) → AreStamped table stamp es → is_out_all version table (entry_keys es) y ≡ false → is_its version es y ≡ true
@@ -185,22 +204,21 @@ pub pieces_added : (p : Parts) (n table stamp : ℕ) (entries : Vec NewEntry Glo
     → AreDrawn (pieces_of (latest p n) (map entry_of entries.items)) (filter (λ (y : PieceRecord). not (is_out_all (latest p n) table (entry_keys (map entry_of entries.items)) y)) ys) drawn
     → list_all (λ (x : PieceRecord). may_add p (edits.Append n entries) (records.Piece x)) drawn ≡ true
 pieces_added p n table stamp entries ys drawn stamped draws =
-    all_if (is_its (latest p n) es) (λ (x : PieceRecord). may_add p (edits.Append n entries) (records.Piece x)) (λ x is. wider (is_written es x) (x.version == latest p n) (is_next_version p x.version) is) drawn
+    all_if (is_its (latest p n) es) (λ (x : PieceRecord). may_add p (edits.Append n entries) (records.Piece x)) (λ x is. wider (is_its (latest p n) es x) (is_said es x && is_next_version p x.version) is) drawn
     (drawn_its (latest p n) es (filter (λ (y : PieceRecord). not (is_out_all (latest p n) table (entry_keys es) y)) ys) drawn (all_go_its (latest p n) table stamp es ys stamped) draws)
   where
     es : List Entry
     es = map entry_of entries.items
 
-    wider : (a b d : Bool) → (a && b) ≡ true → (a && (b || d)) ≡ true
-    wider true true d is = refl
-    wider true false d is = absurd (bool_apart (sym is))
-    wider false b d is = is
+    wider : (a b : Bool) → a ≡ true → (a || b) ≡ true
+    wider true b is = refl
+    wider false b is = absurd (bool_apart (sym is))
 
--- or in the next one
+-- or in the next one, where all that is drawn is said by them
 pub pieces_added_new : (p : Parts) (n version : ℕ) (entries : Vec NewEntry Global) (drawn : List PieceRecord) → is_next_version p version ≡ true → AreDrawn (pieces_of version (map entry_of entries.items)) [] drawn
     → list_all (λ (x : PieceRecord). may_add p (edits.Append n entries) (records.Piece x)) drawn ≡ true
 pieces_added_new p n version entries drawn next draws =
-    all_if (is_its version es) (λ (x : PieceRecord). may_add p (edits.Append n entries) (records.Piece x)) wider drawn (drawn_its version es [] drawn refl draws)
+    all_if (is_new version es) (λ (x : PieceRecord). may_add p (edits.Append n entries) (records.Piece x)) wider drawn (draws.pass (is_new version es) (λ x from till e le lt ends. e) refl (news_new version es))
   where
     es : List Entry
     es = map entry_of entries.items
@@ -209,10 +227,11 @@ pieces_added_new p n version entries drawn next draws =
     either true b e = refl
     either false b e = e
 
-    wider : (x : PieceRecord) → is_its version es x ≡ true → may_add p (edits.Append n entries) (records.Piece x) ≡ true
+    wider : (x : PieceRecord) → is_new version es x ≡ true → may_add p (edits.Append n entries) (records.Piece x) ≡ true
     wider x is =
-        let h = both (is_written es x) (x.version == version) is in
-        and_true (is_written es x) ((x.version == latest p n) || is_next_version p x.version) h.0 (either (x.version == latest p n) (is_next_version p x.version) (ap (is_next_version p) (eqb-true x.version version h.1) ∙ next))
+        let h = both (is_said es x) (x.version == version) is in
+        either (is_written es x && (x.version == latest p n)) (is_said es x && is_next_version p x.version)
+        (and_true (is_said es x) (is_next_version p x.version) h.0 (ap (is_next_version p) (eqb-true x.version version h.1) ∙ next))
 
 -- the batch that writes entries puts nothing else
 pub puts_write : (test : Record → Bool) (k counters_id space_id id count : ℕ) (new : Counters) (a : Space) (ids : List ℕ) (rows : List RowRecord) (pieces : List PieceRecord) (hists : List Hist) → counters_id ≢ k → space_id ≢ k

@@ -147,14 +147,18 @@ may_change e r = false
 abbrev pub is_next_version : Parts → ℕ → Bool
 is_next_version p number = list_any (λ (c : Counters). c.next_version == number) p.counters
 
+-- one of the entries is of the piece's key and has its stamp
+abbrev pub is_said : List Entry → PieceRecord → Bool
+is_said es x = list_any (λ (e : Entry). is_of x.cells.table x.cells.key e && (e.stamp == x.stamp)) es
+
 -- the edit may add the record: its table; of entries the rows, entries of the log of their workspace, pieces of their keys in its newest
--- version or in the next one, and this one; its savepoint of the newest version of its workspace; the workspace that is born, the
+-- version, and the next version with pieces that they say; its savepoint of the newest version of its workspace; the workspace that is born, the
 -- savepoint of its parent that it is born at, and its version
 abbrev pub may_add : Parts → Edit → Record → Bool
 may_add p (edits.Create t) (records.Table u) = (u.number == t.number) && bytes_eq u.name t.name
 may_add p (edits.Append n entries) (records.Row r) = list_any (λ (x : RowRecord). (x.stamp == r.stamp) && (x.table == r.table)) (rows_in (map entry_of entries.items))
 may_add p (edits.Append n entries) (records.Hist h) = h.space == n
-may_add p (edits.Append n entries) (records.Piece x) = is_written (map entry_of entries.items) x && ((x.version == latest p n) || is_next_version p x.version)
+may_add p (edits.Append n entries) (records.Piece x) = (is_written (map entry_of entries.items) x && (x.version == latest p n)) || (is_said (map entry_of entries.items) x && is_next_version p x.version)
 may_add p (edits.Append n entries) (records.Version v) = is_next_version p v.number && ((v.space == n) && (v.parent == latest p n))
 may_add p (edits.Save n name) (records.Savepoint k) = (k.space == n) && (bytes_eq k.name name && (k.version == latest p n))
 may_add p (edits.Bear n at name) (records.Savepoint k) = (k.space == n) && k.implicit
