@@ -1,5 +1,5 @@
 -- What a batch adds: what stands behind it under an id that had none was put by one of its changes, and is what its edit may add.
-use Rattle.std.proofs.Common.{◌≡◌, ◌≢◌, ℕ, ◌+◌, ◌==◌, ◌&&◌, ◌||◌, if◌then◌else◌, Bool, true, false, not, cond, List, [], ◌∷◌, ◌++◌, map, length, Option, Some, None, refl, sym, ap, ◌∙◌, ◌⊎◌, inl, inr}
+use Rattle.std.proofs.Common.{◌≡◌, ◌≢◌, ℕ, ◌+◌, ◌<◌, ◌==◌, ◌&&◌, ◌||◌, if◌then◌else◌, Bool, true, false, not, cond, List, [], ◌∷◌, ◌++◌, map, length, Option, Some, None, refl, sym, ap, ◌∙◌, ◌⊎◌, inl, inr}
 use Rattle.std.proofs.lemmas.Bool.{cases_eq, eq-eqb, eqb-true, ne_eqb}
 use Rattle.std.specs.List.{filter, list_all, list_any}
 use Rattle.std.specs.Option.{option_map_or}
@@ -22,18 +22,18 @@ use Rattle.wm_spec.specs.declared.record.space.Space.{Space}
 use Rattle.wm_spec.specs.declared.record.stored.Stored.{Stored}
 use Rattle.wm_state.specs.Batches.{drop_one, is_out}
 use Rattle.wm_state.specs.ById.{Ascend, applied, set_at}
-use Rattle.wm_state.specs.Drafts.{is_next_version, is_said, is_written, may_add}
+use Rattle.wm_state.specs.Drafts.{is_next_version, is_said, is_written, may_add, takes_place}
 use Rattle.wm_state.specs.Drawing.{AreDrawn}
 use Rattle.wm_state.specs.Editing.{entry_of}
 use Rattle.wm_state.specs.Entries.{AreStamped, entry_keys, hists_from, is_out_all, piece_of, pieces_of, rows_in}
 use Rattle.wm_state.specs.Standing.{latest}
-use Rattle.wm_state.specs.Writes.{put_all, write_batch}
+use Rattle.wm_state.specs.Writes.{longer_by, put_all, write_batch}
 use Rattle.wm_state.specs.declared.edit.Edit.{Edit}
 use Rattle.wm_state.specs.declared.edit.Edit.TheVariants as edits
 use Rattle.wm_state.specs.declared.edit.NewEntry.{NewEntry}
 use Rattle.wm_state.proofs.ById.{Ascend-set, record_at-set}
 use Rattle.wm_state.proofs.Laying.{key_itself}
-use Rattle.wm_state.proofs.OthersStay.{written_out}
+use Rattle.wm_state.proofs.OthersStay.{AwayFrom, away_behind, written_out}
 use Rattle.wm_state.proofs.Tests.{all_if, and_true, bool_apart, both}
 
 -- ---- what is put at an id
@@ -43,17 +43,18 @@ abbrev pub PutsAt : (Record → Bool) → ℕ → List Change → Type 0
 PutsAt test id [] = Unit {0}
 PutsAt test id (c ∷ cs) = (c.id ≡ id → option_map_or test c.becomes true ≡ true) × PutsAt test id cs
 
--- so what stands there behind them passes, where what stood there does
-comes : (test : Record → Bool) (id : ℕ) (cs : List Change) (ss : List Stored) → Ascend ss → PutsAt test id cs → ((r : Record) → record_at ss id ≡ Some r → test r ≡ true) → (r : Record) → record_at (applied cs ss) id ≡ Some r → test r ≡ true
-comes test id [] ss sorted puts old r found = old r found
-comes test id (c ∷ cs) ss sorted puts old r found =
-    comes test id cs (set_at c.id c.becomes ss) (Ascend-set c.id c.becomes ss sorted) puts.1 (λ q at. by_id (cases_eq id c.id) q (sym (record_at-set c.id c.becomes ss sorted id) ∙ at)) r found
+-- so what stands there behind them passes or stood there
+comes : (Is : Record → Type 0) (test : Record → Bool) (id : ℕ) (cs : List Change) (ss : List Stored) → Ascend ss → PutsAt test id cs → ((r : Record) → test r ≡ true → Is r) → ((r : Record) → record_at ss id ≡ Some r → Is r)
+    → (r : Record) → record_at (applied cs ss) id ≡ Some r → Is r
+comes Is test id [] ss sorted puts new old r found = old r found
+comes Is test id (c ∷ cs) ss sorted puts new old r found =
+    comes Is test id cs (set_at c.id c.becomes ss) (Ascend-set c.id c.becomes ss sorted) puts.1 new (λ q at. by_id (cases_eq id c.id) q (sym (record_at-set c.id c.becomes ss sorted id) ∙ at)) r found
   where
     put_passes : (o : Option Record) (q : Record) → o ≡ Some q → option_map_or test o true ≡ true → test q ≡ true
     put_passes o q is passes = sym (ap (λ p. option_map_or test p true) is) ∙ passes
 
-    by_id : (id ≡ c.id) ⊎ (id ≢ c.id) → (q : Record) → (if id == c.id then c.becomes else record_at ss id) ≡ Some q → test q ≡ true
-    by_id (inl here) q at = put_passes c.becomes q (sym (ap (λ b. if b then c.becomes else record_at ss id) (eq-eqb id c.id here)) ∙ at) (puts.0 (sym here))
+    by_id : (id ≡ c.id) ⊎ (id ≢ c.id) → (q : Record) → (if id == c.id then c.becomes else record_at ss id) ≡ Some q → Is q
+    by_id (inl here) q at = new q (put_passes c.becomes q (sym (ap (λ b. if b then c.becomes else record_at ss id) (eq-eqb id c.id here)) ∙ at) (puts.0 (sym here)))
     by_id (inr away) q at = old q (sym (ap (λ b. if b then c.becomes else record_at ss id) (ne_eqb id c.id away)) ∙ at)
 
 -- changes behind others
@@ -65,6 +66,11 @@ puts_append test id (c ∷ cs) ds one two = (one.0, puts_append test id cs ds on
 puts_dropped : (test : Record → Bool) (id : ℕ) (ids : List ℕ) → PutsAt test id (map drop_one ids)
 puts_dropped test id [] = tt
 puts_dropped test id (k ∷ ks) = (λ same. refl, puts_dropped test id ks)
+
+-- changes of other ids
+pub puts_away : (test : Record → Bool) (id : ℕ) (cs : List Change) → AwayFrom id cs → PutsAt test id cs
+puts_away test id [] away = tt
+puts_away test id (c ∷ cs) away = (λ same. absurd (away.0 same), puts_away test id cs away.1)
 
 -- new records
 puts_all : {A : Type 0} (f : A → Record) (test : Record → Bool) (id from : ℕ) (xs : List A) → list_all (λ (x : A). test (f x)) xs ≡ true → PutsAt test id (put_all from (map f xs))
@@ -82,7 +88,7 @@ abbrev pub Added : List Edit → List Stored → List Change → Type 0
 Added es rs cs = (e : Edit) (id : ℕ) (r : Record) → es ≡ e ∷ [] → record_at rs id ≡ None → record_at (applied cs rs) id ≡ Some r → may_add (parts_of rs) e r ≡ true
 
 pub added_by : (e : Edit) (rs : List Stored) (cs : List Change) → Ascend rs → AddsOnly e rs cs → Added (e ∷ []) rs cs
-added_by e rs cs sorted adds f id r one none found = ap (λ (g : Edit). may_add (parts_of rs) g r) (sym (same_edit f one)) ∙ comes (may_add (parts_of rs) e) id cs rs sorted (adds id none) (λ q at. absurd (none_some (record_at rs id) q none at)) r found
+added_by e rs cs sorted adds f id r one none found = ap (λ (g : Edit). may_add (parts_of rs) g r) (sym (same_edit f one)) ∙ comes (λ q. may_add (parts_of rs) e q ≡ true) (may_add (parts_of rs) e) id cs rs sorted (adds id none) (λ q is. is) (λ q at. absurd (none_some (record_at rs id) q none at)) r found
   where
     same_edit : (f : Edit) → e ∷ [] ≡ f ∷ [] → e ≡ f
     same_edit f h = cc
@@ -100,6 +106,39 @@ there_apart rs k id q there none same = none_some (record_at rs id) none (sym (a
 -- so the change of such an id puts nothing new
 pub puts_there : (test : Record → Bool) (rs : List Stored) (k id : ℕ) (q : Record) (becomes : Option Record) → record_at rs k ≡ Some q → record_at rs id ≡ None → k ≡ id → option_map_or test becomes true ≡ true
 puts_there test rs k id q becomes there none same = absurd (there_apart rs k id q there none same)
+
+-- ---- what comes in the place of a record
+
+-- at an id that had a record, the changes put its like
+abbrev pub PlacesLikes : List Stored → List Change → Type 0
+PlacesLikes rs cs = (id : ℕ) (q : Record) → record_at rs id ≡ Some q → PutsAt (takes_place q) id cs
+
+-- with one edit, what stands where a record stood is this one or its like
+abbrev pub Placed : List Edit → List Stored → List Change → Type 0
+Placed es rs cs = (e : Edit) (id : ℕ) (q r : Record) → es ≡ e ∷ [] → record_at rs id ≡ Some q → record_at (applied cs rs) id ≡ Some r → (r ≡ q) ⊎ (takes_place q r ≡ true)
+
+pub placed_by : (es : List Edit) (rs : List Stored) (cs : List Change) → Ascend rs → PlacesLikes rs cs → Placed es rs cs
+placed_by es rs cs sorted places e id q r one there found =
+    comes (λ x. (x ≡ q) ⊎ (takes_place q x ≡ true)) (takes_place q) id cs rs sorted (places id q there) (λ x is. inr is) (λ x at. inl (same_record x q (sym at ∙ there))) r found
+  where
+    same_record : (x y : Record) → Some x ≡ Some y → x ≡ y
+    same_record x y h = cc
+
+-- the like of a record at its id
+pub puts_like : (rs : List Stored) (k id : ℕ) (old q new : Record) → record_at rs k ≡ Some old → record_at rs id ≡ Some q → takes_place old new ≡ true → k ≡ id → takes_place q new ≡ true
+puts_like rs k id old q new there found like same = ap (λ x. takes_place x new) (same_record q old (sym found ∙ ap (record_at rs) (sym same) ∙ there)) ∙ like
+  where
+    same_record : (x y : Record) → Some x ≡ Some y → x ≡ y
+    same_record x y h = cc
+
+-- the batch that writes entries puts the likes of the counters and of the workspace, and all else under new ids
+pub places_write : (k counters_id space_id id count : ℕ) (new : Counters) (a : Space) (ids : List ℕ) (rows : List RowRecord) (pieces : List PieceRecord) (hists : List Hist) (q : Record)
+    → (counters_id ≡ k → takes_place q (records.Counters new) ≡ true) → (space_id ≡ k → takes_place q (records.Space (longer_by count a)) ≡ true) → k < id
+    → PutsAt (takes_place q) k (write_batch counters_id new space_id a count ids id rows pieces hists)
+places_write k counters_id space_id id count new a ids rows pieces hists q counters space lt =
+    (counters, (space, puts_append (takes_place q) k (map drop_one ids) _ (puts_dropped (takes_place q) k ids) (puts_away (takes_place q) k _ (away_behind k id rows pieces hists lt))))
+
+-- ---- what comes new
 
 -- the next version of the counters
 pub next_there : (p : Parts) (c : Counters) → p.counters ≡ c ∷ [] → is_next_version p c.next_version ≡ true

@@ -84,6 +84,7 @@ drafts_followed rs k l m e (f ∷ fs) es cs ds sorted one some two = record {
       ap (λ (ss : List Stored). record_at ss id) same ∙ two.others id r (one.others id r found h.0) h.1;
   rows = λ id r found. ap (λ (ss : List Stored). record_at ss id) same ∙ two.rows id r (one.rows id r found);
   added = λ g id r same none found. absurd (not_one f e g fs es same);
+  placed = λ g id q r same there found. absurd (not_one f e g fs es same);
   kept = all_followed is_kept_change cs ds one.kept two.kept;
   counted = λ any.
       subst (λ (ss : List Stored). WorksOn (parts_of rs) (parts_of ss) (k + l)) (sym same)

@@ -13,16 +13,16 @@ use Rattle.wm_spec.specs.declared.record.counters.Counters.{Counters}
 use Rattle.wm_spec.specs.declared.record.savepoint.Savepoint.{Savepoint as Record}
 use Rattle.wm_spec.specs.declared.record.space.Space.{Space}
 use Rattle.wm_spec.specs.declared.record.stored.Stored.{Stored}
-use Rattle.wm_state.specs.Batches.{savepoint_batch}
+use Rattle.wm_state.specs.Batches.{put, savepoint_batch}
 use Rattle.wm_state.specs.ById.{applied}
-use Rattle.wm_state.specs.Drafts.{CanSave, CanWork, DraftsBy, may_add}
+use Rattle.wm_state.specs.Drafts.{CanSave, CanWork, DraftsBy, may_add, takes_place}
 use Rattle.wm_state.specs.Editing.{edited, save_in, saved, saved_at}
 use Rattle.wm_state.specs.Effects.{marked}
 use Rattle.wm_state.specs.Points.{HasRoom, moved, newest_point, saved_record}
 use Rattle.wm_state.specs.Standing.{SpaceFields, SpacesStand, FieldsStand, Stands, latest}
 use Rattle.wm_state.specs.State.{State, Workspace, Savepoint, Latest, workspace_of, with_space, with_savepoint}
 use Rattle.wm_state.specs.declared.edit.Edit.TheVariants as edits
-use Rattle.wm_state.proofs.Added.{added_by, puts_there}
+use Rattle.wm_state.proofs.Added.{added_by, placed_by, puts_away, puts_like, puts_there}
 use Rattle.wm_state.proofs.Counting.{counts_as, counts_in, work_room}
 use Rattle.wm_state.proofs.Drafted.{some_edit}
 use Rattle.wm_state.proofs.FewChanged.{few_saved}
@@ -124,6 +124,14 @@ drafts_saved rs m work n name a c counters_id space_id id rules can_work can the
                 (and_true (bytes_eq name name) _ ((bytes_eq-Decides name name).1 refl) (eq-eqb (latest (parts_of rs) a.number) (latest (parts_of rs) n) (ap (latest (parts_of rs)) number))),
             tt,
           ),
+        ),
+      ));
+  placed = placed_by (edits.Save n name ∷ []) rs batch at.sorted
+      (λ k q found. (
+        puts_like rs counters_id k (records.Counters c) q (records.Counters (moved c m work)) at.counters found refl,
+        (
+          puts_like rs space_id k (records.Space a) q (records.Space (marked (a.next_place + 1) a.next_implicit a)) at.space found (eq-eqb a.number a.number refl),
+          puts_away (takes_place q) k (put id (records.Savepoint x) ∷ []) (new_apart rs id k q at.under found, tt),
         ),
       ));
   kept = refl;

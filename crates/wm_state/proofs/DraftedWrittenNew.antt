@@ -24,10 +24,10 @@ use Rattle.wm_state.specs.Entries.{entry_keys, hists_from, is_out_all, pieces_of
 use Rattle.wm_state.specs.Points.{next_version, stepped_new_by, versioned}
 use Rattle.wm_state.specs.Standing.{latest}
 use Rattle.wm_state.specs.ById.{applied}
-use Rattle.wm_state.specs.Writes.{write_new_batch}
+use Rattle.wm_state.specs.Writes.{longer_by, write_new_batch}
 use Rattle.wm_state.specs.declared.edit.Edit.TheVariants as edits
 use Rattle.wm_state.specs.declared.edit.NewEntry.{NewEntry}
-use Rattle.wm_state.proofs.Added.{added_by, hists_added, next_there, pieces_added_new, puts_write, rows_added, there_apart}
+use Rattle.wm_state.proofs.Added.{added_by, hists_added, next_there, pieces_added_new, placed_by, places_write, puts_like, puts_write, rows_added, there_apart}
 use Rattle.wm_state.proofs.ByKind.{under_found}
 use Rattle.wm_state.proofs.Counting.{counts_as, counts_in, stamped_by, version_well, work_grows}
 use Rattle.wm_state.proofs.Drafted.{some_edit}
@@ -138,6 +138,13 @@ drafts_written_new rs m work n table entries a c counters_id space_id id drawn r
             (there_apart rs counters_id k (records.Counters c) at.counters none) (there_apart rs space_id k (records.Space a) at.space none)
             (rows_added (parts_of rs) n entries) (pieces_added_new (parts_of rs) n c.next_version entries drawn (next_there (parts_of rs) c v.one) are)
             (hists_added (parts_of rs) n a.number a.log_length entries es (space_number (parts_of rs) n a v.there)),
+      ));
+  placed = placed_by (edits.Append n entries ∷ []) rs batch at.sorted
+      (λ k q found. (
+        λ same. absurd (new_apart rs id k q at.under found same),
+        places_write k counters_id space_id (id + 1) (length es) d a [] (rows_in es) drawn (hists_from a.number a.log_length es) q
+            (puts_like rs counters_id k (records.Counters c) q (records.Counters d) at.counters found refl)
+            (puts_like rs space_id k (records.Space a) q (records.Space (longer_by (length es) a)) at.space found (eq-eqb a.number a.number refl)) (behind k (under_found id rs k q at.under found)),
       ));
   kept = kept_write_new es drawn counters_id space_id id a.number a.log_length d a w v.can.kept are;
   counted = λ some. counted_put rs work counters_id c d batch at.sorted v.one once (second_change id counters_id _ _ _ (λ same. below_apart counters_id id apart.counters same)) keeps refl;
