@@ -51,7 +51,7 @@ fn outcome_in(alloc: Global, line: &Line, columns: &Columns, row: &Row) -> Outco
 }
 
 /// What an expression is for a row with the most and the least number.
-fn outcome(alloc: Global, expr: &str) -> Result<Outcome, Fail> {
+fn found_of(alloc: Global, expr: &str) -> Result<Outcome, Fail> {
     let columns = columns(alloc, "T", &[("MOST", NUMBER), ("LEAST", NUMBER)])?;
     let row = row(alloc, &[Some(i64::MAX), Some(i64::MIN)])?;
     let line = line_with(alloc, expr)?;
@@ -75,7 +75,7 @@ fn sums_differences_and_products(rt: HostRuntime) -> Result<(), Fail> {
         ("0 * NULL", Outcome::Null),
     ];
     for (expr, wanted) in table {
-        assert_eq!(rt; outcome(rt.alloc(), expr)?, wanted, "{expr}");
+        assert_eq!(rt; found_of(rt.alloc(), expr)?, wanted, "{expr}");
     }
     Ok(())
 }
@@ -88,7 +88,7 @@ fn negative_numbers(rt: HostRuntime) -> Result<(), Fail> {
         ("-NULL", Outcome::Null),
     ];
     for (expr, wanted) in table {
-        assert_eq!(rt; outcome(rt.alloc(), expr)?, wanted, "{expr}");
+        assert_eq!(rt; found_of(rt.alloc(), expr)?, wanted, "{expr}");
     }
     Ok(())
 }
@@ -101,7 +101,7 @@ fn each_number_on_the_way_is_in_range(rt: HostRuntime) -> Result<(), Fail> {
         ("(9223372036854775807 + 1) * NULL", Outcome::OutOfRange),
     ];
     for (expr, wanted) in table {
-        assert_eq!(rt; outcome(rt.alloc(), expr)?, wanted, "{expr}");
+        assert_eq!(rt; found_of(rt.alloc(), expr)?, wanted, "{expr}");
     }
     Ok(())
 }
