@@ -5,3 +5,4 @@ pub mod Arguments
 pub mod Keyed
 pub mod Clauses
 pub mod Answered
+mod Tokens

@@ -1,9 +1,11 @@
 ghost use Rattle.std.specs.Prelude.{◌≡◌, ℕ, ◌≤◌, List, length, IfOk, IfErr, MatchResult, None};
 ghost use Rattle.wm_base.specs.Trees.{Line as Tree};
 ghost use Rattle.wm_base.specs.Views.{line_view};
+ghost use Rattle.wm_grammar.specs.Scanned.{symbols_of};
 ghost use Rattle.wm_literals.specs.Literals.{bad_literal};
 ghost use Rattle.wm_parser.specs.Parsed.{parsed, Gives};
 ghost use Rattle.wm_parser.specs.Parsing.{column_of, judged, IsLine, IsSyntax, IsLiteral, IsFault, Refuses};
+ghost use Rattle.wm_parser.specs.Tokens.{AreOfTokens};
 
 use crate::fault::ParseFault;
 use crate::lines::{discard, line_in};
@@ -38,8 +40,11 @@ fn in_range(line: &[u8], tree: Line, bad: Option<usize>) -> Result<Line, ParseFa
 /// The tree of a line.
 ///
 /// `Syntax` tells of a line that is in no form of the grammar, and `Literal` of one that is, but in which a literal is out of range.
+#[tactic(auto, using(crate::proofs::Tokens::symbols_are))]
 pub fn parse(alloc: Global, line: &[u8]) -> Result<Line, ParseFault>
     requires { length line.now ≤ 16384 }
+    // What the grammar sees of the line are its tokens, each the longest that begins at its place.
+    ensures tokens { AreOfTokens line.now (symbols_of line.now) }
     // The line is one of the grammar, stands for this tree, and has no literal out of range.
     ensures found { IfOk result (λ tree. IsLine line.now (line_view tree) × (bad_literal line.now ≡ None)) }
     // Such a line is parsed to its tree, unless memory runs out.

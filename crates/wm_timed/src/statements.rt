@@ -1,6 +1,7 @@
-ghost use Rattle.std.specs.Prelude.{◌≡◌, map};
+ghost use Rattle.std.specs.Prelude.{◌≡◌, map, false};
 ghost use Rattle.wm_base.specs.Views.{sets_view, statement_view};
 ghost use Rattle.wm_timed.specs.Timed.{timed_set, timed_value, timed_arg, timed};
+ghost use Rattle.wm_timed.specs.Left.{has_sysdate};
 
 use crate::conditions::set_filter;
 use crate::expressions::{set_expr, set_exprs};
@@ -46,8 +47,8 @@ fn set_args(alloc: Global, args: &mut Args, moment: Instant)
     *args = Args::from_vec(list);
 }
 
-/// Puts the moment in the place of each SYSDATE. It allocates nothing.
-pub fn set_moment(alloc: Global, statement: &mut Statement, moment: Instant)
+/// Puts the moment in the place of each SYSDATE of a statement, part by part.
+fn set_parts(alloc: Global, statement: &mut Statement, moment: Instant)
     ensures { statement_view statement.new ≡ timed moment (statement_view statement.old) }
 {
     match statement {
@@ -68,4 +69,13 @@ pub fn set_moment(alloc: Global, statement: &mut Statement, moment: Instant)
             set_filter(alloc, condition, moment);
         }
     }
+}
+
+/// Puts the moment in the place of each SYSDATE. It allocates nothing.
+#[tactic(auto, using(crate::proofs::NoneLeft::none_left))]
+pub fn set_moment(alloc: Global, statement: &mut Statement, moment: Instant)
+    ensures value { statement_view statement.new ≡ timed moment (statement_view statement.old) }
+    ensures none_left { has_sysdate (statement_view statement.new) ≡ false }
+{
+    set_parts(alloc, statement, moment);
 }
