@@ -5,13 +5,14 @@
 #   make wm      the program alone, at build/wm
 #   make cases   plays the demo and cases/ through the built program on real files
 #   make against compares the program with a second reading of the language, in Python, on random scripts
+#   make refuse  refuses each allocation of a run in turn, and looks at the status, the answers and the store
 #   make bench   times 10,000 INSERT lines, a SELECT of them and a join of two tables of 1,000 rows
 
 RT ?= rt
 PYTHON ?= python3
 SOURCES := crates.txt $(shell find crates -path '*/out' -prune -o -type f -print)
 
-.PHONY: demo test wm cases against bench clean
+.PHONY: demo test wm cases against refuse bench clean
 
 wm: build/wm
 
@@ -47,6 +48,9 @@ cases: demo
 
 against: build/wm
 	$(PYTHON) tools/against build/wm --scripts 300
+
+refuse: build/wm
+	$(PYTHON) tools/refuse build/wm
 
 bench: build/wm
 	$(PYTHON) bench/statements.py build/wm
