@@ -12,7 +12,7 @@ use Rattle.wm_station.specs.History.{History, now}
 use Rattle.wm_station.specs.Moments.{Holds, Ended}
 use Rattle.wm_station.proofs.Steps.{Stage, begun, ended}
 use Rattle.wm_journal.specs.Disk.{page, are_below}
-use Rattle.wm_journal.specs.Store.{Rests, IsAtRest, OldOrNew, over, count_after}
+use Rattle.wm_journal.specs.Store.{Rests, IsAtRest, OldOrNew, over, count_after, commit_steps}
 use Rattle.wm_journal.specs.Writes.{Did, DidPart, committing, journal_bytes}
 use Rattle.wm_journal.proofs.AllOrNothing.{commit_did, commit_part}
 use Rattle.wm_journal.proofs.Commits.{Commits, Either}
@@ -136,3 +136,8 @@ given_part count next start ws vs bytes old new asked one two three fits few sam
     let place : start ≡ max count (count_after count (entries ws)) = three ∙ ap (max count) (two ∙ ap (λ (v : List PageWrite). count_after count (entries v)) one) in
     commit_failed count ws bytes old new asked (subst (λ (k : ℕ). k < 2 ^ 64) place fits) (subst (λ (v : List PageWrite). length v < 2 ^ 64) one few) (same ∙ ap (λ (v : List PageWrite). journal_bytes (entries v)) one)
     (subst (λ (k : ℕ). DidPart (committing k (length ws) bytes (entries ws)) old new) place (subst (λ (v : List PageWrite). DidPart (committing start (length v) bytes (entries v)) old new) one did))
+
+pub given_steps : (count next start : ℕ) (ws vs : List PageWrite) (bytes : List ℕ) → vs ≡ ws → next ≡ count_after count (entries vs) → start ≡ max count next → bytes ≡ journal_bytes (entries vs) → committing start (length vs) bytes (entries vs) ≡ commit_steps count (entries ws)
+given_steps count next start ws vs bytes one two three same =
+    let place : start ≡ max count (count_after count (entries vs)) = three ∙ ap (max count) two in
+    ap (λ (k : ℕ). committing k (length vs) bytes (entries vs)) place ∙ told (max count (count_after count (entries vs))) vs bytes same ∙ ap (λ (v : List PageWrite). commit_steps count (entries v)) one

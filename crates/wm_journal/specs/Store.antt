@@ -1,9 +1,9 @@
 -- Files that hold the pages of a store.
-use Rattle.std.specs.Prelude.{◌≡◌, ℕ, ◌*◌, ◌/◌, ◌<◌, ◌≤◌, ◌⊎◌, true, false, List, length, slice_index, ◌==◌, if◌then◌else◌, [], ◌∷◌, slice_set}
+use Rattle.std.specs.Prelude.{◌≡◌, ℕ, max, ◌*◌, ◌/◌, ◌<◌, ◌≤◌, ◌⊎◌, true, false, List, length, slice_index, ◌==◌, if◌then◌else◌, [], ◌∷◌, slice_set}
 use Rattle.wm_page.specs.Entries.{found}
 use Rattle.wm_page.specs.Fields.{number_at}
 use Rattle.wm_journal.specs.Disk.{page, is_made, has_format, is_open, is_in_order, held, damage_of}
-use Rattle.wm_journal.specs.Writes.{root_page}
+use Rattle.wm_journal.specs.Writes.{Step, root_page, journal_bytes, committing}
 use Rattle.wm_station.specs.History.{History, now}
 use Rattle.wm_station.specs.Moments.{Holds}
 
@@ -36,6 +36,10 @@ over es content p = found p es (content p)
 abbrev pub count_after : ℕ → List (ℕ × List ℕ) → ℕ
 count_after count [] = count
 count_after count (e ∷ es) = if 1 == e.0 then number_at e.1 0 else count_after count es
+
+-- what a commit writes over so many pages, with its journal behind the old pages and the new
+abbrev pub commit_steps : ℕ → List (ℕ × List ℕ) → List Step
+commit_steps count es = committing (max count (count_after count es)) (length es) (journal_bytes es) es
 
 -- all old pages, or all new ones
 abbrev pub OldOrNew : (ℕ → List ℕ) → ℕ → List (ℕ × List ℕ) → List ℕ → Type 0

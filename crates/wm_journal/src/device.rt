@@ -19,6 +19,7 @@ pub(crate) fn place<P: Station>(station: &mut P, pages: &[PageWrite]) -> Result<
     ensures part { P.tells → OnErr result (DidPart (placing (entries pages.now)) (P.history station.old) (P.history station.new)) }
     ensures later { P.disk_faults station.old ≤ P.disk_faults station.new }
     ensures failed { IsErrOf result DiskFailed.Failed → Rises (P.disk_faults station.old) (P.disk_faults station.new) }
+    ensures wants { IsErrOf result DiskFailed.Memory → P.wants }
     ensures say_quiet { P.say_faults station.new ≡ P.say_faults station.old }
 {
     for write in pages {
@@ -33,6 +34,7 @@ pub(crate) fn set_gate<P: Station>(station: &mut P, gate: u8) -> Result<(), Disk
     ensures part { P.tells → OnErr result (DidPart (gating gate) (P.history station.old) (P.history station.new)) }
     ensures later { P.disk_faults station.old ≤ P.disk_faults station.new }
     ensures failed { IsErrOf result DiskFailed.Failed → Rises (P.disk_faults station.old) (P.disk_faults station.new) }
+    ensures wants { IsErrOf result DiskFailed.Memory → P.wants }
     ensures say_quiet { P.say_faults station.new ≡ P.say_faults station.old }
 {
     station.write_at(GATE_AT, &[gate])?;
@@ -52,6 +54,7 @@ fn arm<P: Station>(
     ensures part { P.tells → OnErr result (DidPart (arming start images journal.now) (P.history station.old) (P.history station.new)) }
     ensures later { P.disk_faults station.old ≤ P.disk_faults station.new }
     ensures failed { IsErrOf result DiskFailed.Failed → Rises (P.disk_faults station.old) (P.disk_faults station.new) }
+    ensures wants { IsErrOf result DiskFailed.Memory → P.wants }
     ensures say_quiet { P.say_faults station.new ≡ P.say_faults station.old }
 {
     station.write_at(start * 4096, journal)?;
@@ -85,6 +88,7 @@ pub(crate) fn write_through<P: Station>(
     ensures part { P.tells → OnErr result (DidPart (committing start (length pages.now) journal.now (entries pages.now)) (P.history station.old) (P.history station.new)) }
     ensures later { P.disk_faults station.old ≤ P.disk_faults station.new }
     ensures failed { IsErrOf result DiskFailed.Failed → Rises (P.disk_faults station.old) (P.disk_faults station.new) }
+    ensures wants { IsErrOf result DiskFailed.Memory → P.wants }
     ensures say_quiet { P.say_faults station.new ≡ P.say_faults station.old }
 {
     arm(station, start, pages.len() as u64, journal)?;
@@ -100,6 +104,7 @@ pub(crate) fn settle<P: Station>(station: &mut P) -> Result<(), OpenFault>
     ensures silent { IfErr result IsSilent }
     ensures later { P.disk_faults station.old ≤ P.disk_faults station.new }
     ensures disk { IsErrOf result OpenFault.Disk → Rises (P.disk_faults station.old) (P.disk_faults station.new) }
+    ensures wants { IsErrOf result OpenFault.Memory → P.wants }
     ensures say_quiet { P.say_faults station.new ≡ P.say_faults station.old }
 {
     match station.sync() {
@@ -110,6 +115,7 @@ pub(crate) fn settle<P: Station>(station: &mut P) -> Result<(), OpenFault>
 
 pub(crate) fn make_fault(failed: DiskFailed) -> MakeFault
     ensures disk { result ≡ MakeFault.Disk → failed ≡ DiskFailed.Failed }
+    ensures memory { result ≡ MakeFault.Memory → failed ≡ DiskFailed.Memory }
     ensures not_exists { result ≡ MakeFault.Exists → ⊥ }
 {
     match failed {
@@ -120,6 +126,7 @@ pub(crate) fn make_fault(failed: DiskFailed) -> MakeFault
 
 pub(crate) fn open_fault(failed: DiskFailed) -> OpenFault
     ensures disk { result ≡ OpenFault.Disk → failed ≡ DiskFailed.Failed }
+    ensures memory { result ≡ OpenFault.Memory → failed ≡ DiskFailed.Memory }
     ensures silent { IsSilent result }
 {
     match failed {
@@ -130,6 +137,7 @@ pub(crate) fn open_fault(failed: DiskFailed) -> OpenFault
 
 pub(crate) fn store_fault(failed: DiskFailed) -> StoreFault
     ensures disk { result ≡ StoreFault.Disk → failed ≡ DiskFailed.Failed }
+    ensures memory { result ≡ StoreFault.Memory → failed ≡ DiskFailed.Memory }
     ensures not_changed { result ≡ StoreFault.Changed → ⊥ }
 {
     match failed {
@@ -145,6 +153,7 @@ pub(crate) fn write_made<P: Station>(station: &mut P, pages: &[PageWrite]) -> Re
     ensures part { P.tells → OnErr result (DidPart (making root_page (entries pages.now)) (P.history station.old) (P.history station.new)) }
     ensures later { P.disk_faults station.old ≤ P.disk_faults station.new }
     ensures failed { IsErrOf result DiskFailed.Failed → Rises (P.disk_faults station.old) (P.disk_faults station.new) }
+    ensures wants { IsErrOf result DiskFailed.Memory → P.wants }
     ensures say_quiet { P.say_faults station.new ≡ P.say_faults station.old }
 {
     write_byte(station, NOT_MADE)?;
@@ -159,6 +168,7 @@ fn write_root<P: Station>(station: &mut P, pages: &[PageWrite]) -> Result<(), Di
     ensures part { P.tells → OnErr result (DidPart (rooting root_page (entries pages.now)) (P.history station.old) (P.history station.new)) }
     ensures later { P.disk_faults station.old ≤ P.disk_faults station.new }
     ensures failed { IsErrOf result DiskFailed.Failed → Rises (P.disk_faults station.old) (P.disk_faults station.new) }
+    ensures wants { IsErrOf result DiskFailed.Memory → P.wants }
     ensures say_quiet { P.say_faults station.new ≡ P.say_faults station.old }
 {
     station.write_at(0, &root_page())?;
@@ -171,6 +181,7 @@ fn write_byte<P: Station>(station: &mut P, byte: u8) -> Result<(), DiskFailed>
     ensures part { P.tells → OnErr result (DidPart (marking byte) (P.history station.old) (P.history station.new)) }
     ensures later { P.disk_faults station.old ≤ P.disk_faults station.new }
     ensures failed { IsErrOf result DiskFailed.Failed → Rises (P.disk_faults station.old) (P.disk_faults station.new) }
+    ensures wants { IsErrOf result DiskFailed.Memory → P.wants }
     ensures say_quiet { P.say_faults station.new ≡ P.say_faults station.old }
 {
     station.write_at(0, &[byte])?;

@@ -26,6 +26,7 @@ pub(crate) fn is_made<P: Station>(station: &mut P) -> Result<bool, DiskFailed>
     ensures told { P.tells → P.history station.new ≡ P.history station.old }
     ensures later { P.disk_faults station.old ≤ P.disk_faults station.new }
     ensures failed { IsErrOf result DiskFailed.Failed → Rises (P.disk_faults station.old) (P.disk_faults station.new) }
+    ensures wants { IsErrOf result DiskFailed.Memory → P.wants }
     ensures say_quiet { P.say_faults station.new ≡ P.say_faults station.old }
 {
     let size = station.len()?;
@@ -44,6 +45,7 @@ pub(crate) fn size_of<P: Station>(station: &mut P) -> Result<u64, OpenFault>
     ensures silent { IfErr result IsSilent }
     ensures later { P.disk_faults station.old ≤ P.disk_faults station.new }
     ensures disk { IsErrOf result OpenFault.Disk → Rises (P.disk_faults station.old) (P.disk_faults station.new) }
+    ensures wants { IsErrOf result OpenFault.Memory → P.wants }
     ensures say_quiet { P.say_faults station.new ≡ P.say_faults station.old }
 {
     match station.len() {
@@ -60,6 +62,7 @@ pub(crate) fn read_header<P: Station>(station: &mut P, size: u64) -> Result<Head
     ensures told { P.tells → P.history station.new ≡ P.history station.old }
     ensures later { P.disk_faults station.old ≤ P.disk_faults station.new }
     ensures disk { IsErrOf result OpenFault.Disk → Rises (P.disk_faults station.old) (P.disk_faults station.new) }
+    ensures wants { IsErrOf result OpenFault.Memory → P.wants }
     ensures say_quiet { P.say_faults station.new ≡ P.say_faults station.old }
 {
     match is_made(station) {
@@ -99,6 +102,7 @@ pub(crate) fn read_count<P: Station>(station: &mut P, size: u64) -> Result<u64, 
     ensures told { P.tells → P.history station.new ≡ P.history station.old }
     ensures later { P.disk_faults station.old ≤ P.disk_faults station.new }
     ensures disk { IsErrOf result OpenFault.Disk → Rises (P.disk_faults station.old) (P.disk_faults station.new) }
+    ensures wants { IsErrOf result OpenFault.Memory → P.wants }
     ensures say_quiet { P.say_faults station.new ≡ P.say_faults station.old }
 {
     if size < 8192 {

@@ -6,8 +6,9 @@ ghost use Rattle.wm_station.specs.History.{now, said, Leaves, Synced};
 ghost use Rattle.wm_station.specs.Moments.{During, Ended};
 ghost use Rattle.wm_station.specs.Cause.{Rises};
 ghost use Rattle.wm_journal.specs.Disk.{page, is_made, is_open, count_of, damage_of, are_below};
-ghost use Rattle.wm_journal.specs.Store.{IsAtRest, OldOrNew, Keeps, over, count_after, made_page};
+ghost use Rattle.wm_journal.specs.Store.{IsAtRest, OldOrNew, Keeps, over, count_after, commit_steps, made_page};
 ghost use Rattle.wm_journal.specs.Opening.{Says, IsUntouched};
+ghost use Rattle.wm_journal.specs.Writes.{Did, DidPart, making, root_page};
 
 use crate::batch::{count_after, journal_bytes};
 use crate::device::{make_fault, settle, store_fault, write_made, write_through};
@@ -63,6 +64,13 @@ impl Journal {
         ensures count { OnOk result (self.new ≡ count_after self.old (entries batch.now.pages)) }
         ensures same_count { OnErr result (self.new ≡ self.old) }
 
+        // The journal is written and synced, then the gate opened, the pages put in their places and the gate closed.
+        ensures did { P.tells → OnOk result (Did (commit_steps self.old (entries batch.now.pages)) (P.history station.old) (P.history station.new)) }
+        ensures part { P.tells → OnErr result (DidPart (commit_steps self.old (entries batch.now.pages)) (P.history station.old) (P.history station.new)) }
+
+        // Its own memory is taken before its first write.
+        ensures untouched { P.tells → (P.wants → ⊥) → IsErrOf result StoreFault.Memory → P.history station.new ≡ P.history station.old }
+
         // A crash at any moment of the call, and a read after it, finds all old pages or all new ones.
         ensures any_moment { P.tells → Ended (P.history station.old) (P.history station.new) (OldOrNew (page (now (P.history station.old))) self.old (entries batch.now.pages)) }
 
@@ -106,8 +114,11 @@ impl Journal {
         ensures absent { P.tells → OnOk result (is_made (now (P.history station.old)) ≡ false) }
         // A store that is there is never touched, whatever the answer.
         ensures kept { P.tells → is_made (now (P.history station.old)) ≡ true → P.history station.new ≡ P.history station.old }
+        ensures did { P.tells → OnOk result (Did (making root_page (entries batch.now.pages)) (P.history station.old) (P.history station.new)) }
+        ensures part { P.tells → OnErr result (DidPart (making root_page (entries batch.now.pages)) (P.history station.old) (P.history station.new)) }
         ensures later { P.disk_faults station.old ≤ P.disk_faults station.new }
         ensures disk { IsErrOf result MakeFault.Disk → Rises (P.disk_faults station.old) (P.disk_faults station.new) }
+        ensures wants { IsErrOf result MakeFault.Memory → P.wants }
         ensures say_quiet { P.say_faults station.new ≡ P.say_faults station.old }
     {
         match is_made(station) {

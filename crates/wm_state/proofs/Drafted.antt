@@ -1,6 +1,7 @@
 -- What the batches that make a table and make one ready make of the records.
 use Rattle.std.proofs.Common.{◌≡◌, ◌≢◌, ◌≤◌, ◌<◌, ℕ, ◌+◌, Bool, true, List, [], ◌∷◌, Some, refl, sym, ap, subst, ◌∙◌, arith}
 use Rattle.std.specs.Option.{option_map, unwrap_or}
+use Rattle.std.specs.Str.{bytes_eq}
 use Rattle.wm_graph.specs.Parts.{parts_of}
 use Rattle.wm_graph.specs.Rules.{are_counters, keep_rules}
 use Rattle.wm_spec.specs.Records.{AreChanges, ids_differ, record_at}
@@ -23,9 +24,10 @@ use Rattle.wm_state.proofs.ByKind.{under_found}
 use Rattle.wm_state.proofs.Counting.{counts_as, counts_in, moved_well, two_changes, work_grows}
 use Rattle.wm_state.proofs.Enabling.{keep-readied}
 use Rattle.wm_state.proofs.Growing.{same_counters}
+use Rattle.wm_state.proofs.Mapped.{find-passes}
 use Rattle.wm_state.proofs.Planned.{Readied, agree_created, agree_readied, parts-readied, plan_created, plan_readied}
 use Rattle.wm_state.proofs.Planning.{parts-created}
-use Rattle.wm_state.proofs.RowsStay.{counters_no_row, new_no_row, rows_stay, table_no_row}
+use Rattle.wm_state.proofs.OthersStay.{OthersStay, changed_apart, new_apart, others_stay, rows_stay}
 use Rattle.wm_state.proofs.Tables.{MayCreate, keep-created}
 use Rattle.wm_state.proofs.Tests.{bool_apart}
 use Rattle.wm_state.proofs.WorkedOn.{counted_put, first_change}
@@ -44,6 +46,7 @@ drafts_none work rs m rules = record {
   once = none_changes;
   stands = λ s st. st;
   fields = λ s st. st;
+  others = λ id r found none. found;
   rows = λ id r found. found;
   kept = refl;
   counted = λ some. absurd (some refl);
@@ -90,13 +93,18 @@ drafts_created rs m work t c counters_id id rules can_work can one there sorted 
       let counts = counts_in (parts_of rs) s c st.counters one in
       agree_created rs counters_id id c (moved c m work) t s (drafted_by work m (edits.Create t ∷ []) s) st sorted there under may refl refl
       (record { counters = moved c m work; one = refl; next_stamp = counts.next_stamp; last_moment = refl; limit = counts.limit; work = ap (λ w. w + work) counts.work });
-  rows = rows_stay rs (create_batch counters_id (moved c m work) id t) (λ k r found. (counters_no_row rs counters_id k c r there found, (new_no_row rs id k r under found, tt)));
+  others = others;
+  rows = rows_stay (edits.Create t ∷ []) rs (create_batch counters_id (moved c m work) id t) others;
   kept = refl;
   counted = λ some. counted_put rs work counters_id c (moved c m work) (create_batch counters_id (moved c m work) id t) sorted one once (first_change counters_id _ _) keeps refl;
   nothing = some_edit (edits.Create t) [] (create_batch counters_id (moved c m work) id t);
   few = λ forks. absurd (bool_apart (sym forks));
 }
   where
+    others : OthersStay (edits.Create t ∷ []) rs (create_batch counters_id (moved c m work) id t)
+    others = others_stay (edits.Create t) rs (create_batch counters_id (moved c m work) id t)
+        (λ k r found fixed. (changed_apart (edits.Create t) rs counters_id k (records.Counters c) r there refl found fixed, (new_apart rs id k r under found, tt)))
+
     below : (a b : ℕ) → a < b → a ≡ b → ⊥
     below a b lt e = omega (arith, lt, e)
 
@@ -133,7 +141,8 @@ drafts_enabled rs m work name valid history t c counters_id id rules can_work na
       subst (λ (u : State). FieldsStand (parts_of (applied (enable_batch counters_id (moved c m work) id how t) rs)) (record u { last_moment = m; work = s.work + work })) (sym (enabled_so rs m name valid history t s st.tables named))
       (agree_readied rs counters_id id c (moved c m work) how t s _ rules st sorted there one found refl refl
       (λ front back. record { counters = moved c m work; one = refl; next_stamp = counts.next_stamp; last_moment = refl; limit = counts.limit; work = ap (λ w. w + work) counts.work }));
-  rows = rows_stay rs (enable_batch counters_id (moved c m work) id how t) (λ k r row. (counters_no_row rs counters_id k c r there row, (table_no_row rs id k t r found row, tt)));
+  others = others;
+  rows = rows_stay (edits.Enable name valid history ∷ []) rs (enable_batch counters_id (moved c m work) id how t) others;
   kept = refl;
   counted = λ some. counted_put rs work counters_id c (moved c m work) (enable_batch counters_id (moved c m work) id how t) sorted one once (first_change counters_id _ _) keeps refl;
   nothing = some_edit (edits.Enable name valid history) [] (enable_batch counters_id (moved c m work) id how t);
@@ -142,6 +151,13 @@ drafts_enabled rs m work name valid history t c counters_id id rules can_work na
   where
     how : Readiness
     how = record { valid = valid; history = history }
+
+    others : OthersStay (edits.Enable name valid history ∷ []) rs (enable_batch counters_id (moved c m work) id how t)
+    others = others_stay (edits.Enable name valid history) rs (enable_batch counters_id (moved c m work) id how t)
+        (λ k r one fixed. (
+          changed_apart (edits.Enable name valid history) rs counters_id k (records.Counters c) r there refl one fixed,
+          (changed_apart (edits.Enable name valid history) rs id k (records.Table t) r found (find-passes (λ (u : Table). bytes_eq name u.name) (by_number (parts_of rs).tables) t named) one fixed, tt),
+        ))
 
     some_record : (a b : Record) → Some a ≡ Some b → a ≡ b
     some_record a b h = cc

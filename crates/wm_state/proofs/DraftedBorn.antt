@@ -1,5 +1,6 @@
 -- What the batch by which a workspace is born makes of the records.
 use Rattle.std.proofs.Common.{◌≡◌, ℕ, ◌+◌, ◌<◌, ◌≤◌, ◌^◌, nat_lt, nat_le, true, false, List, [], ◌∷◌, ◌++◌, length, length-append, Option, Some, refl, sym, ap, subst, ◌∙◌, arith}
+use Rattle.std.proofs.lemmas.Bool.{eq-eqb}
 use Rattle.std.proofs.lemmas.Fmt.{length-decimal-le}
 use Rattle.std.proofs.lemmas.Slice.Eq.{bytes_eq-Decides}
 use Rattle.std.specs.Fmt.{decimal}
@@ -35,7 +36,8 @@ use Rattle.wm_state.proofs.FewChanged.{few_birth}
 use Rattle.wm_state.proofs.Mapped.{any-if, none-found}
 use Rattle.wm_state.proofs.PlannedBirth.{MayBirth, agree_birth, changes-birth, keep_plan_birth, plan_birth}
 use Rattle.wm_state.proofs.Points.{MadeAt, MakesAt, is_point, made_as, made_there, may_save, place_same}
-use Rattle.wm_state.proofs.RowsStay.{below_apart, counters_no_row, rows_stay, space_no_row}
+use Rattle.wm_state.proofs.Named.{space_number}
+use Rattle.wm_state.proofs.OthersStay.{OthersStay, below_apart, changed_apart, others_stay, rows_stay}
 use Rattle.wm_state.proofs.Settled.{Places, PlacesApart, places_apart}
 use Rattle.wm_state.proofs.Spaces.{IsSpace, next_space_same, next_space_there, numbers_under}
 use Rattle.wm_state.proofs.WorkedOn.{counted_put, first_change}
@@ -193,12 +195,8 @@ drafts_born rs m work n at name a pt c counters_id space_id id rules can_work ca
       (child_fields (parts_of rs) s a m h.workspace k.savepoint name pt h.is k.place k.log) (next_space_there (parts_of rs) s rules st.spaces st.once) refl
       (ap (λ ws. ws ++ child_of m s.spaces h.workspace k.savepoint name ∷ []) (same_spaces (parts_of rs) s a h.workspace (stand_of at) k.savepoint h.is)) refl
       (record { counters = versioned c m work; one = refl; next_stamp = counts.next_stamp; last_moment = refl; limit = counts.limit; work = ap (λ w. w + work) counts.work }));
-  rows = rows_stay rs (birth_batch counters_id (versioned c m work) space_id (marked place implicit a) id x r v)
-      (λ k row found.
-      let low = under_found id rs k (records.Row row) places.under found in (
-        counters_no_row rs counters_id k c row places.counters found,
-        (space_no_row rs space_id k a row places.space found, (below_apart k id low, (below_apart k (id + 1) (behind k 1 low), (below_apart k (id + 2) (behind k 2 low), tt)))),
-      ));
+  others = others;
+  rows = rows_stay (edits.Bear n at name ∷ []) rs batch others;
   kept = refl;
   counted = λ some. counted_put rs work counters_id c (versioned c m work) batch places.sorted places.one once (first_change counters_id _ _) keeps refl;
   nothing = some_edit (edits.Bear n at name) [] (birth_batch counters_id (versioned c m work) space_id (marked place implicit a) id x r v);
@@ -231,6 +229,17 @@ drafts_born rs m work n at name a pt c counters_id space_id id rules can_work ca
 
     batch : List Change
     batch = birth_batch counters_id (versioned c m work) space_id (marked place implicit a) id x r v
+
+    others : OthersStay (edits.Bear n at name ∷ []) rs batch
+    others = others_stay (edits.Bear n at name) rs batch
+        (λ k q found fixed.
+        let low = under_found id rs k q places.under found in (
+          changed_apart (edits.Bear n at name) rs counters_id k (records.Counters c) q places.counters refl found fixed,
+          (
+            changed_apart (edits.Bear n at name) rs space_id k (records.Space a) q places.space (eq-eqb a.number n (space_number (parts_of rs) n a there)) found fixed,
+            (below_apart k id low, (below_apart k (id + 1) (behind k 1 low), (below_apart k (id + 2) (behind k 2 low), tt))),
+          ),
+        ))
 
     keeps : keep_rules (parts_of (applied batch rs)) ≡ true
     keeps = keep_plan_birth rs counters_id space_id id c (versioned c m work) a place implicit x a r v rules birth

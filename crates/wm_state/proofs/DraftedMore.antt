@@ -1,7 +1,7 @@
 -- Drafts of edits behind those of others, and the room that is left for their work.
 use Rattle.std.proofs.Common.{◌≡◌, ℕ, ◌+◌, ◌*◌, ◌<◌, ◌≤◌, nat_lt, true, false, List, [], ◌∷◌, ◌++◌, length, length-append, refl, sym, ap, subst, ◌∙◌, arith}
-use Rattle.std.proofs.lemmas.List.Folds.{list_all-append}
-use Rattle.std.specs.List.{list_all}
+use Rattle.std.proofs.lemmas.List.Folds.{list_all-append, list_any-append}
+use Rattle.std.specs.List.{list_all, list_any}
 use Rattle.wm_graph.specs.Parts.{Parts, parts_of}
 use Rattle.wm_graph.specs.Rules.{keep_rules}
 use Rattle.wm_spec.specs.Records.{record_at}
@@ -9,7 +9,7 @@ use Rattle.wm_spec.specs.declared.record.batch.Change.{Change}
 use Rattle.wm_spec.specs.declared.record.counters.Counters.{Counters}
 use Rattle.wm_spec.specs.declared.record.stored.Stored.{Stored}
 use Rattle.wm_state.specs.ById.{Ascend, applied}
-use Rattle.wm_state.specs.Drafts.{CanEditAll, CanWork, DraftsBy, FewChanges, WorksOn, followed_by, is_fork, is_kept_change}
+use Rattle.wm_state.specs.Drafts.{CanEditAll, CanWork, DraftsBy, FewChanges, WorksOn, followed_by, is_fork, is_kept_change, may_change}
 use Rattle.wm_state.specs.Editing.{counter_limit, drafted_by}
 use Rattle.wm_state.specs.Standing.{FieldsStand, Stands}
 use Rattle.wm_state.specs.State.{State}
@@ -17,7 +17,7 @@ use Rattle.wm_state.specs.declared.edit.Edit.{Edit}
 use Rattle.wm_state.proofs.EditedLater.{drafted_append}
 use Rattle.wm_state.proofs.Following.{AreChanges-followed, all_followed, applied_followed, length-followed}
 use Rattle.wm_state.proofs.Growing.{same_counters}
-use Rattle.wm_state.proofs.Tests.{both}
+use Rattle.wm_state.proofs.Tests.{both, either_false}
 
 -- ---- drafts behind others
 
@@ -74,6 +74,9 @@ drafts_followed rs k l m e (f ∷ fs) es cs ds sorted one some two = record {
   fields = λ s st.
       subst (λ (ss : List Stored). FieldsStand (parts_of ss) (drafted_by (k + l) m (f ∷ fs ++ e ∷ es) s)) (sym same)
       (subst (λ (u : State). FieldsStand (parts_of (applied ds (applied cs rs))) u) (drafted_append k l m f e fs es s) (two.fields (drafted_by k m (f ∷ fs) s) (one.fields s st)));
+  others = λ id r found none.
+      let h = either_false (list_any (λ (g : Edit). may_change g r) (f ∷ fs)) (list_any (λ (g : Edit). may_change g r) (e ∷ es)) (sym (list_any-append (λ (g : Edit). may_change g r) (f ∷ fs) (e ∷ es)) ∙ none) in
+      ap (λ (ss : List Stored). record_at ss id) same ∙ two.others id r (one.others id r found h.0) h.1;
   rows = λ id r found. ap (λ (ss : List Stored). record_at ss id) same ∙ two.rows id r (one.rows id r found);
   kept = all_followed is_kept_change cs ds one.kept two.kept;
   counted = λ any.

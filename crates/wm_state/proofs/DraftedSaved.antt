@@ -1,9 +1,11 @@
 -- What the batch that makes a savepoint makes of the records.
 use Rattle.std.proofs.Common.{◌≡◌, ℕ, ◌+◌, ◌≤◌, true, false, List, [], ◌∷◌, ◌++◌, Some, refl, sym, ap, subst, ◌∙◌, arith}
+use Rattle.std.proofs.lemmas.Bool.{eq-eqb}
 use Rattle.std.specs.Option.{option_and_then, option_map, unwrap_or}
 use Rattle.wm_graph.specs.Parts.{Parts, parts_of, space_of}
 use Rattle.wm_graph.specs.Rules.{keep_rules}
 use Rattle.wm_spec.specs.Records.{AreChanges}
+use Rattle.wm_spec.specs.declared.record.Record.TheVariants as records
 use Rattle.wm_spec.specs.declared.record.batch.Change.{Change}
 use Rattle.wm_spec.specs.declared.record.counters.Counters.{Counters}
 use Rattle.wm_spec.specs.declared.record.savepoint.Savepoint.{Savepoint as Record}
@@ -25,7 +27,7 @@ use Rattle.wm_state.proofs.KeepSaved.{MaySave}
 use Rattle.wm_state.proofs.Named.{space_number}
 use Rattle.wm_state.proofs.PlannedSaved.{agree_saved, changes-saved, keep_plan_saved, plan_saved}
 use Rattle.wm_state.proofs.Points.{MakesAt, made_as, made_there, may_save}
-use Rattle.wm_state.proofs.RowsStay.{counters_no_row, new_no_row, rows_stay, space_no_row}
+use Rattle.wm_state.proofs.OthersStay.{OthersStay, changed_apart, new_apart, others_stay, rows_stay}
 use Rattle.wm_state.proofs.Settled.{Places, PlacesApart, places_apart}
 use Rattle.wm_state.proofs.Spaces.{IsSpace, space_there}
 use Rattle.wm_state.proofs.WorkedOn.{counted_put, first_change}
@@ -106,8 +108,8 @@ drafts_saved rs m work n name a c counters_id space_id id rules can_work can the
       (agree_saved rs counters_id space_id c (moved c m work) a (a.next_place + 1) a.next_implicit id x h.workspace k.savepoint s _ rules st at.sorted at.counters at.one at.space at.under may_keep
       h.is.found k.fields (same_spaces (parts_of rs) s a h.workspace k.savepoint h.is) refl
       (record { counters = moved c m work; one = refl; next_stamp = counts.next_stamp; last_moment = refl; limit = counts.limit; work = ap (λ w. w + work) counts.work }));
-  rows = rows_stay rs (savepoint_batch counters_id (moved c m work) space_id (marked (a.next_place + 1) a.next_implicit a) id x)
-      (λ k r found. (counters_no_row rs counters_id k c r at.counters found, (space_no_row rs space_id k a r at.space found, (new_no_row rs id k r at.under found, tt))));
+  others = others;
+  rows = rows_stay (edits.Save n name ∷ []) rs batch others;
   kept = refl;
   counted = λ some. counted_put rs work counters_id c (moved c m work) batch at.sorted at.one once (first_change counters_id _ _) keeps refl;
   nothing = some_edit (edits.Save n name) [] (savepoint_batch counters_id (moved c m work) space_id (marked (a.next_place + 1) a.next_implicit a) id x);
@@ -129,6 +131,13 @@ drafts_saved rs m work n name a c counters_id space_id id rules can_work can the
 
     batch : List Change
     batch = savepoint_batch counters_id (moved c m work) space_id (marked (a.next_place + 1) a.next_implicit a) id x
+
+    others : OthersStay (edits.Save n name ∷ []) rs batch
+    others = others_stay (edits.Save n name) rs batch
+        (λ k r found fixed. (
+          changed_apart (edits.Save n name) rs counters_id k (records.Counters c) r at.counters refl found fixed,
+          (changed_apart (edits.Save n name) rs space_id k (records.Space a) r at.space (eq-eqb a.number n (space_number (parts_of rs) n a there)) found fixed, (new_apart rs id k r at.under found, tt)),
+        ))
 
     keeps : keep_rules (parts_of (applied batch rs)) ≡ true
     keeps = keep_plan_saved rs counters_id space_id c (moved c m work) a (a.next_place + 1) a.next_implicit id x rules at.sorted at.counters at.one at.space at.under may_keep

@@ -1,6 +1,6 @@
 -- What the batch that writes entries into the newest version of a workspace makes of the records.
 use Rattle.std.proofs.Common.{◌≡◌, ℕ, ◌+◌, ◌<◌, ◌^◌, ◌==◌, nat_lt, nat_le, Bool, true, false, not, List, [], ◌∷◌, map, length, Option, Some, None, is_some, refl, sym, ap, subst, ◌∙◌, arith}
-use Rattle.std.proofs.lemmas.Bool.{ne_eqb}
+use Rattle.std.proofs.lemmas.Bool.{eq-eqb, ne_eqb}
 use Rattle.std.specs.List.{filter, list_all}
 use Rattle.std.specs.declared.alloc.Global.{Global}
 use Rattle.std.specs.declared.vec.Vec.{Vec}
@@ -37,8 +37,9 @@ use Rattle.wm_state.proofs.DraftedSaved.{one_space}
 use Rattle.wm_state.proofs.DrawingNews.{news-keys}
 use Rattle.wm_state.proofs.Growing.{same_counters}
 use Rattle.wm_state.proofs.Ids.{are_under}
+use Rattle.wm_state.proofs.Named.{space_number}
 use Rattle.wm_state.proofs.PlannedWritten.{MayWriteAll, agree_written, keep_planned, plan_written}
-use Rattle.wm_state.proofs.RowsStay.{leave_write, rows_stay}
+use Rattle.wm_state.proofs.OthersStay.{OthersStay, away_write, changed_apart, never_dropped, others_stay, rows_stay}
 use Rattle.wm_state.proofs.Settled.{Places, PlacesApart, places_apart}
 use Rattle.wm_state.proofs.Tests.{bool_apart, both, and_true}
 use Rattle.wm_state.proofs.WorkedOn.{counted_put, first_change}
@@ -183,9 +184,8 @@ drafts_written rs m work n table entries a c counters_id space_id ids id drawn r
   fields = λ s st.
       agree_written rs counters_id space_id c d a ids id n table es drawn s (drafted_by work m (edits.Append n entries ∷ []) s) rules st at.sorted at.counters at.space r.gone at.under may r.are refl refl
       (counts_on s m work n c d entries (counts_in (parts_of rs) s c st.counters v.one) refl refl refl refl);
-  rows = rows_stay rs (write_batch counters_id d space_id a (length es) ids id (rows_in es) drawn (hists_from a.number a.log_length es))
-      (leave_write rs counters_id space_id id (length es) c d a ids (rows_in es) drawn (hists_from a.number a.log_length es) at.counters at.space (λ k row found. r.gone k (records.Row row) found)
-      (λ k row found. under_found id rs k (records.Row row) at.under found));
+  others = others;
+  rows = rows_stay (edits.Append n entries ∷ []) rs batch others;
   kept = kept_write (latest (parts_of rs) n) table es (parts_of rs).pieces drawn counters_id space_id id a.number a.log_length d a ids v.can.kept r.are;
   counted = λ some. counted_put rs work counters_id c d batch at.sorted v.one once (first_change counters_id _ _) keeps refl;
   nothing = some_edit (edits.Append n entries) [] (write_batch counters_id d space_id a (length es) ids id (rows_in es) drawn (hists_from a.number a.log_length es));
@@ -203,6 +203,13 @@ drafts_written rs m work n table entries a c counters_id space_id ids id drawn r
 
     batch : List Change
     batch = write_batch counters_id d space_id a (length es) ids id (rows_in es) drawn (hists_from a.number a.log_length es)
+
+    others : OthersStay (edits.Append n entries ∷ []) rs batch
+    others = others_stay (edits.Append n entries) rs batch
+        (λ k q found fixed.
+        away_write k counters_id space_id id (length es) d a ids (rows_in es) drawn (hists_from a.number a.log_length es) (changed_apart (edits.Append n entries) rs counters_id k (records.Counters c) q at.counters refl found fixed)
+        (changed_apart (edits.Append n entries) rs space_id k (records.Space a) q at.space (eq-eqb a.number n (space_number (parts_of rs) n a v.there)) found fixed)
+        (r.gone k q found ∙ never_dropped (latest (parts_of rs) n) table c.next_stamp n entries q v.stamped fixed) (under_found id rs k q at.under found))
 
     keeps : keep_rules (parts_of (applied batch rs)) ≡ true
     keeps = keep_planned rs counters_id space_id c d a ids id n table es drawn rules at.sorted at.counters at.space r.gone at.under may r.are

@@ -31,9 +31,10 @@ use Rattle.wm_state.proofs.Counting.{counts_as, counts_in, stamped_by, version_w
 use Rattle.wm_state.proofs.Drafted.{some_edit}
 use Rattle.wm_state.proofs.DraftedWritten.{Appends, Redrawn, counts_on, entries_in, log_room, stamps_left}
 use Rattle.wm_state.proofs.Growing.{MayFork}
+use Rattle.wm_state.proofs.Named.{space_number}
 use Rattle.wm_state.proofs.PlannedMore.{MayWriteMore, Stage, agree_written_new, all_stay, none_goes, keep_planned_new, plan_written_new}
 use Rattle.wm_state.proofs.Planning.{piece_found}
-use Rattle.wm_state.proofs.RowsStay.{below_apart, leave_write, new_no_row, rows_stay}
+use Rattle.wm_state.proofs.OthersStay.{OthersStay, away_write, below_apart, changed_apart, new_apart, others_stay, rows_stay}
 use Rattle.wm_state.proofs.Settled.{Places, PlacesApart, places_apart}
 use Rattle.wm_state.proofs.Tests.{bool_apart, both, not_true}
 use Rattle.wm_state.proofs.WorkedOn.{counted_put, second_change}
@@ -126,12 +127,8 @@ drafts_written_new rs m work n table entries a c counters_id space_id id drawn r
   fields = λ s st.
       agree_written_new rs counters_id space_id id c (versioned c m work) d n a w table es drawn s (drafted_by work m (edits.Append n entries ∷ []) s) rules st stage may are refl refl
       (counts_on s m work n c d entries (counts_in (parts_of rs) s c st.counters v.one) refl refl refl refl);
-  rows = rows_stay rs (write_new_batch counters_id d space_id a (length es) id w (rows_in es) drawn (hists_from a.number a.log_length es))
-      (λ k row found. (
-        new_no_row rs id k row at.under found,
-        leave_write rs counters_id space_id (id + 1) (length es) c d a [] (rows_in es) drawn (hists_from a.number a.log_length es) at.counters at.space (λ j other there. refl)
-            (λ j other there. behind j (under_found id rs j (records.Row other) at.under there)) k row found,
-      ));
+  others = others;
+  rows = rows_stay (edits.Append n entries ∷ []) rs batch others;
   kept = kept_write_new es drawn counters_id space_id id a.number a.log_length d a w v.can.kept are;
   counted = λ some. counted_put rs work counters_id c d batch at.sorted v.one once (second_change id counters_id _ _ _ (λ same. below_apart counters_id id apart.counters same)) keeps refl;
   nothing = some_edit (edits.Append n entries) [] (write_new_batch counters_id d space_id a (length es) id w (rows_in es) drawn (hists_from a.number a.log_length es));
@@ -161,6 +158,15 @@ drafts_written_new rs m work n table entries a c counters_id space_id id drawn r
 
     batch : List Change
     batch = write_new_batch counters_id d space_id a (length es) id w (rows_in es) drawn (hists_from a.number a.log_length es)
+
+    others : OthersStay (edits.Append n entries ∷ []) rs batch
+    others = others_stay (edits.Append n entries) rs batch
+        (λ k q found fixed. (
+          new_apart rs id k q at.under found,
+          away_write k counters_id space_id (id + 1) (length es) d a [] (rows_in es) drawn (hists_from a.number a.log_length es)
+              (changed_apart (edits.Append n entries) rs counters_id k (records.Counters c) q at.counters refl found fixed)
+              (changed_apart (edits.Append n entries) rs space_id k (records.Space a) q at.space (eq-eqb a.number n (space_number (parts_of rs) n a v.there)) found fixed) refl (behind k (under_found id rs k q at.under found)),
+        ))
 
     keeps : keep_rules (parts_of (applied batch rs)) ≡ true
     keeps = keep_planned_new rs counters_id space_id id c (versioned c m work) d n a w table es drawn rules stage may are

@@ -1,4 +1,4 @@
--- What is asked of records before edits, and what changes of records are to make of them.
+-- What is asked of records before edits, which records edits may change, and what changes of records are to make of them.
 use Rattle.std.specs.Prelude.{ℕ, ◌≡◌, ◌≤◌, ◌+◌, ◌*◌, ◌==◌, ◌&&◌, not, nat_le, nat_lt, Bool, true, false, List, [], ◌∷◌, ◌++◌, map, length, Option, Some, None}
 use Rattle.std.specs.List.{filter, find, list_all, list_any}
 use Rattle.std.specs.Option.{option_map_or}
@@ -8,12 +8,13 @@ use Rattle.wm_base.specs.declared.value.Value.{Value}
 use Rattle.wm_base.specs.declared.value.Value.TheVariants as values
 use Rattle.wm_graph.specs.Parts.{Parts, parts_of, space_of, table_of}
 use Rattle.wm_graph.specs.Rules.{is_short, is_table, keep_rules}
-use Rattle.wm_spec.specs.Lists.{Entry}
+use Rattle.wm_spec.specs.Lists.{Entry, is_of}
 use Rattle.wm_spec.specs.Records.{AreChanges, record_at}
 use Rattle.wm_spec.specs.declared.record.Record.{Record}
 use Rattle.wm_spec.specs.declared.record.Record.TheVariants as records
 use Rattle.wm_spec.specs.declared.record.batch.Change.{Change}
 use Rattle.wm_spec.specs.declared.record.counters.Counters.{Counters}
+use Rattle.wm_spec.specs.declared.record.piece.PieceRecord.{PieceRecord}
 use Rattle.wm_spec.specs.declared.record.row.RowRecord.{RowRecord}
 use Rattle.wm_spec.specs.declared.record.space.Space.{Space}
 use Rattle.wm_spec.specs.declared.record.stored.Stored.{Stored}
@@ -123,6 +124,23 @@ CanEdit p m (edits.Append n entries) = CanAppend p n (map entry_of entries.items
 CanEdit p m (edits.Save n name) = CanSave p n name
 CanEdit p m (edits.Bear n at name) = CanBear p m n at name
 
+-- ---- what an edit may change
+
+-- one of the entries is of the piece's key
+abbrev pub is_written : List Entry → PieceRecord → Bool
+is_written es x = list_any (is_of x.cells.table x.cells.key) es
+
+-- the edit may change the record or drop it: the counters, the table that it makes ready, its workspace, and the pieces of the keys of
+-- its entries
+abbrev pub may_change : Edit → Record → Bool
+may_change e (records.Counters c) = true
+may_change (edits.Enable name valid history) (records.Table t) = bytes_eq name t.name
+may_change (edits.Append n entries) (records.Space w) = w.number == n
+may_change (edits.Append n entries) (records.Piece x) = is_written (map entry_of entries.items) x
+may_change (edits.Save n name) (records.Space w) = w.number == n
+may_change (edits.Bear n at name) (records.Space w) = w.number == n
+may_change e r = false
+
 -- ---- what is made of them
 
 -- the edit makes a savepoint, or a workspace and so a savepoint
@@ -156,14 +174,15 @@ pub record WorksOn (old new : Parts) (work : ℕ) : Type 0 where
   pub more : after.work ≡ before.work + work
 
 -- changes make of records what edits make of each state that they stand for, and of each state with which they agree in counters,
--- tables, workspaces and savepoints, with so much work: the rules stay kept, no id changes twice, each row stays under its id, each value
--- that comes can be kept, without edits there are no changes, and where all edits make savepoints or workspaces, there are six changes at
--- most for each
+-- tables, workspaces and savepoints, with so much work: the rules stay kept, no id changes twice, each record that no edit may change
+-- stays under its id, and so each row, each value that comes can be kept, without edits there are no changes, and where all edits make
+-- savepoints or workspaces, there are six changes at most for each
 pub record DraftsBy (work : ℕ) (rs : List Stored) (m : ℕ) (es : List Edit) (changes : List Change) : Type 0 where
   pub keeps : keep_rules (parts_of (applied changes rs)) ≡ true
   pub once : AreChanges changes
   pub stands : (s : State) → Stands (parts_of rs) s → Stands (parts_of (applied changes rs)) (drafted_by work m es s)
   pub fields : (s : State) → FieldsStand (parts_of rs) s → FieldsStand (parts_of (applied changes rs)) (drafted_by work m es s)
+  pub others : (id : ℕ) (r : Record) → record_at rs id ≡ Some r → list_any (λ (e : Edit). may_change e r) es ≡ false → record_at (applied changes rs) id ≡ Some r
   pub rows : (id : ℕ) (r : RowRecord) → record_at rs id ≡ Some (records.Row r) → record_at (applied changes rs) id ≡ Some (records.Row r)
   pub kept : list_all is_kept_change changes ≡ true
   pub counted : (es ≡ [] → ⊥) → WorksOn (parts_of rs) (parts_of (applied changes rs)) work

@@ -1,5 +1,6 @@
 //! Calls that are to fail, for tests of those who make them.
-ghost use Rattle.std.specs.Prelude.{◌≡◌, ◌+◌, ◌-◌, ◌^◌, ◌↔◌, min, IsTrue, Contains};
+ghost use Rattle.std.specs.Prelude.{◌≡◌, ℕ, ◌+◌, ◌-◌, ◌^◌, ◌↔◌, min, [], IsTrue, Contains};
+ghost use Rattle.wm_station.specs.Planned.{FailsIn, FailsNext, NeverFails};
 
 use std::alloc::Global;
 
@@ -12,18 +13,22 @@ pub struct Failing {
 
 impl Failing {
     /// Those with these numbers.
-    pub fn at(numbers: Vec<u64>) -> Self {
+    pub fn at(numbers: Vec<u64>) -> Self
+        ensures { (n : ℕ) → FailsIn result n ↔ Contains numbers.items n }
+    {
         Failing { numbers, made: 0 }
     }
 
     /// None.
-    pub fn never(alloc: Global) -> Self {
+    pub fn never(alloc: Global) -> Self
+        ensures { NeverFails result }
+    {
         Failing::at(Vec::new(alloc))
     }
 
     // Counts a call, and says whether it is to fail.
     pub(crate) fn next_fails(&mut self) -> bool
-        ensures listed { IsTrue result ↔ Contains self.old.numbers.items self.old.made }
+        ensures listed { IsTrue result ↔ FailsNext self.old }
         ensures same { self.new.numbers.items ≡ self.old.numbers.items }
         ensures counted { self.new.made ≡ min (self.old.made + 1) (2 ^ 64 - 1) }
     {
@@ -49,7 +54,14 @@ pub struct Faults {
 
 impl Faults {
     /// No call fails, and each say takes all.
-    pub fn none(alloc: Global) -> Self {
+    pub fn none(alloc: Global) -> Self
+        ensures reads { NeverFails result.reads }
+        ensures writes { NeverFails result.writes }
+        ensures syncs { NeverFails result.syncs }
+        ensures says { NeverFails result.says }
+        ensures torn { result.torn.items ≡ [] }
+        ensures all { result.say_limit ≡ 2 ^ 64 - 1 }
+    {
         Faults {
             reads: Failing::never(alloc),
             writes: Failing::never(alloc),

@@ -1,5 +1,5 @@
 //! A station over a real file and a writer.
-ghost use Rattle.std.specs.Prelude.{◌≡◌, ◌<◌, ◌≤◌, ◌↔◌, [], length, IsOk, IfOk};
+ghost use Rattle.std.specs.Prelude.{◌≡◌, ◌<◌, ◌≤◌, ◌↔◌, [], length, IsOk, IfOk, IsErrOf};
 ghost use Rattle.wm_station.specs.History.{Begin};
 ghost use Rattle.wm_station.specs.Cause.{DiskCause};
 
@@ -57,6 +57,8 @@ impl<F: Read + Write + Seek + OpenFile, W: Write> FileStation<F, W> {
 impl<F: Read + Write + Seek + OpenFile, W: Write> Station for FileStation<F, W> {
     ghost tells = { ⊥ };
 
+    ghost wants = { ⊥ };
+
     ghost history = { λ _. Begin [] };
 
     ghost disk_faults = { λ s. s.disk_faults };
@@ -98,6 +100,7 @@ impl<F: Read + Write + Seek + OpenFile, W: Write> Station for FileStation<F, W> 
 // Counts a call that failed.
 fn counted<T: Drop>(faults: &mut u64, done: io::Result<T>) -> Result<T, DiskFailed>
     ensures cause { DiskCause faults.old faults.new result }
+    ensures wants { IsErrOf result DiskFailed.Memory → ⊥ }
     ensures ok { IfOk done (λ x. result ≡ Ok x) }
 {
     match done {

@@ -44,6 +44,8 @@ impl<P: Station> FuseStation<P> {
 impl<P: Station> Station for FuseStation<P> {
     ghost tells = { P.tells };
 
+    ghost wants = { P.wants };
+
     ghost history = { λ f. P.history f.inner };
 
     ghost disk_faults = { λ f. P.disk_faults f.inner + f.blown_disk };

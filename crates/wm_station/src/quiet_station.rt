@@ -32,6 +32,8 @@ impl QuietStation {
 impl Station for QuietStation {
     ghost tells = { Unit {0} };
 
+    ghost wants = { Unit {0} };
+
     ghost history = { λ s. history_of s.recording };
 
     ghost disk_faults = { λ _. 0 };

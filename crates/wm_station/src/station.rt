@@ -1,5 +1,5 @@
 //! The disk and the answers in one device, so that a crash leaves a file together with the bytes said.
-ghost use Rattle.std.specs.Prelude.{◌≡◌, ℕ, ◌+◌, ◌<◌, ◌≤◌, List, length, IfOk, OnOk, OnErr};
+ghost use Rattle.std.specs.Prelude.{◌≡◌, ℕ, ◌+◌, ◌<◌, ◌≤◌, List, length, IfOk, OnOk, OnErr, IsErrOf};
 ghost use Rattle.wm_station.specs.History.{History, now, stretch, DidWrite, MayHaveWritten, MayHaveSaid, Synced, Said};
 ghost use Rattle.wm_station.specs.Cause.{DiskCause, SayCause, Rises};
 
@@ -12,6 +12,9 @@ use crate::{DiskFailed, SayFailed};
 pub trait Station {
     /// Whether it tells its content.
     ghost tells: { Type 0 };
+
+    /// Whether its calls may want memory.
+    ghost wants: { Type 0 };
 
     /// What it did so far. Nothing is known of it where the station does not tell.
     ghost history: { Self → History };
@@ -27,6 +30,7 @@ pub trait Station {
         ensures size { tells → IfOk result (λ n. n ≡ length (now (history self.old))) }
         ensures told { tells → history self.new ≡ history self.old }
         ensures cause { DiskCause (disk_faults self.old) (disk_faults self.new) result }
+        ensures wants { IsErrOf result DiskFailed.Memory → wants }
         ensures quiet { say_faults self.new ≡ say_faults self.old };
 
     /// Fills the whole of `into` with the bytes from `at` on. A read past the end of a real file fails.
@@ -35,6 +39,7 @@ pub trait Station {
         ensures bytes { tells → OnOk result (into.new ≡ stretch (now (history self.old)) at (length into.old)) }
         ensures told { tells → history self.new ≡ history self.old }
         ensures cause { DiskCause (disk_faults self.old) (disk_faults self.new) result }
+        ensures wants { IsErrOf result DiskFailed.Memory → wants }
         ensures quiet { say_faults self.new ≡ say_faults self.old };
 
     /// Writes all bytes from `at` on, which may be past the end. What a gap before them then holds is
@@ -43,6 +48,7 @@ pub trait Station {
         ensures written { tells → OnOk result (DidWrite at bytes.now (history self.old) (history self.new)) }
         ensures torn { tells → OnErr result (MayHaveWritten at (length bytes.now) (history self.old) (history self.new)) }
         ensures cause { DiskCause (disk_faults self.old) (disk_faults self.new) result }
+        ensures wants { IsErrOf result DiskFailed.Memory → wants }
         ensures quiet { say_faults self.new ≡ say_faults self.old };
 
     /// Brings all that was written to the disk. One that fails makes nothing stable.
@@ -50,6 +56,7 @@ pub trait Station {
         ensures synced { tells → OnOk result (history self.new ≡ Synced (history self.old)) }
         ensures unsynced { tells → OnErr result (history self.new ≡ history self.old) }
         ensures cause { DiskCause (disk_faults self.old) (disk_faults self.new) result }
+        ensures wants { IsErrOf result DiskFailed.Memory → wants }
         ensures quiet { say_faults self.new ≡ say_faults self.old };
 
     /// Says a first part of the piece, and how many bytes of it. To say none of a piece that has some is
@@ -59,6 +66,7 @@ pub trait Station {
         ensures said { tells → IfOk result (λ n. history self.new ≡ Said (history self.old) bytes.now n) }
         ensures unsaid { tells → OnErr result (MayHaveSaid bytes.now (history self.old) (history self.new)) }
         ensures cause { SayCause (say_faults self.old) (say_faults self.new) result }
+        ensures wants { IsErrOf result SayFailed.Memory → wants }
         ensures nothing { IfOk result (λ n. n ≡ 0 → 0 < length bytes.now → Rises (say_faults self.old) (say_faults self.new)) }
         ensures quiet { disk_faults self.new ≡ disk_faults self.old };
 }

@@ -8,9 +8,9 @@ use Rattle.wm_page.specs.Fields.{number_at}
 use Rattle.wm_station.specs.History.{History, now}
 use Rattle.wm_station.specs.Moments.{Holds, Ended}
 use Rattle.wm_station.proofs.Steps.{weaker, begun, ended}
-use Rattle.wm_journal.specs.Disk.{page, are_below}
+use Rattle.wm_journal.specs.Disk.{page, count_of, are_below}
 use Rattle.wm_journal.specs.Store.{Stores, IsAtRest, OldOrNew, over, count_after}
-use Rattle.wm_journal.proofs.Stored.{rests_stores}
+use Rattle.wm_journal.proofs.Stored.{rests_stores, held_closed}
 use Rattle.wm_heap.specs.declared.blob.Blob.{Blob}
 use Rattle.wm_heap.specs.declared.heap.Heap.{Heap}
 use Rattle.wm_heap.specs.Slots.{slots_of}
@@ -39,6 +39,10 @@ rests_hold h count records rests enough opens = record {
 -- what the file holds is what its pages say
 pub pages_held : (h : History) (count : ℕ) (records : List Stored) → IsAtRest h count → 3 ≤ count → opened (now h) ≡ Ok records → pages_opened (page (now h)) count count ≡ Ok records
 pages_held h count records rests enough opens = sym (opened-stores (page (now h)) count (now h) (rests_stores (page (now h)) count (now h) rests.rests.here) rests.counted enough) ∙ opens
+
+-- the page count that the file tells
+pub count_held : (h : History) (count : ℕ) → IsAtRest h count → count_of (now h) ≡ count
+count_held h count rests = ap (λ (bytes : List ℕ). number_at bytes 0) (held_closed (now h) 1 rests.rests.here.closed) ∙ rests.counted
 
 -- ---- the same pages
 

@@ -1,5 +1,5 @@
 //! A store: its records, and how they change.
-ghost use Rattle.std.specs.Prelude.{◌≡◌, ℕ, ◌*◌, ◌/◌, ◌<◌, ◌≤◌, ◌⊎◌, true, false, List, length, is_some, Ok, Err, IfOk, IfErr, OnOk, IsErrOf};
+ghost use Rattle.std.specs.Prelude.{◌≡◌, ℕ, ◌*◌, ◌/◌, ◌<◌, ◌≤◌, ◌⊎◌, max, true, false, List, length, is_some, Ok, Err, IfOk, IfErr, OnOk, IsErrOf};
 ghost use Rattle.wm_base.specs.declared.fault.MakeFault.TheVariants as making;
 ghost use Rattle.wm_base.specs.declared.fault.OpenFault.TheVariants as opening;
 ghost use Rattle.wm_base.specs.declared.fault.StoreFault.TheVariants as storing;
@@ -8,7 +8,7 @@ ghost use Rattle.wm_spec.specs.declared.record.stored.Stored.{Stored};
 ghost use Rattle.wm_station.specs.Cause.{Rises};
 ghost use Rattle.wm_station.specs.History.{now, said, Leaves, Synced};
 ghost use Rattle.wm_station.specs.Moments.{Holds, During, Ended};
-ghost use Rattle.wm_journal.specs.Disk.{is_made};
+ghost use Rattle.wm_journal.specs.Disk.{is_made, count_of};
 ghost use Rattle.wm_journal.specs.Opening.{IsUntouched};
 ghost use Rattle.wm_heap.specs.Places.{place_of};
 ghost use Rattle.wm_store.specs.Answers.{SaysOf};
@@ -45,11 +45,15 @@ impl Store {
         ensures held { P.tells → OnOk result (Holds (P.history station.new) (Held (fresh_records limit))) }
         ensures store { P.tells → IfOk result (λ s. IsStoreOf s (P.history station.new)) }
         ensures durable { P.tells → OnOk result ((c : List ℕ) → Leaves (P.history station.new) c → c ≡ now (P.history station.new)) }
+        ensures count { P.tells → OnOk result (count_of (now (P.history station.new)) ≡ 3) }
+        ensures size { P.tells → OnOk result (length (now (P.history station.new)) ≡ max 12288 (length (now (P.history station.old)))) }
         ensures quiet { P.tells → said (P.history station.new) ≡ said (P.history station.old) }
         ensures exists { P.tells → IsErrOf result making.Exists → (is_made (now (P.history station.old)) ≡ true) × (P.history station.new ≡ P.history station.old) }
         ensures absent { P.tells → OnOk result (is_made (now (P.history station.old)) ≡ false) }
         // A store that is there is never touched, whatever the answer.
         ensures kept { P.tells → is_made (now (P.history station.old)) ≡ true → P.history station.new ≡ P.history station.old }
+        // Its own memory is taken before its first write.
+        ensures untouched { P.tells → (P.wants → ⊥) → IsErrOf result making.Memory → P.history station.new ≡ P.history station.old }
         ensures later { P.disk_faults station.old ≤ P.disk_faults station.new }
         ensures disk { IsErrOf result making.Disk → Rises (P.disk_faults station.old) (P.disk_faults station.new) }
         ensures say_quiet { P.say_faults station.new ≡ P.say_faults station.old }
@@ -110,6 +114,9 @@ impl Store {
 
         // A batch that changes nothing leaves the station alone.
         ensures nothing { P.tells → (old : List Stored) → Held old (now (P.history station.old)) → ChangesNothing old batch.now.changes → P.history station.new ≡ P.history station.old }
+
+        // Its own memory is taken before its first write.
+        ensures untouched { P.tells → (P.wants → ⊥) → IsErrOf result storing.Memory → P.history station.new ≡ P.history station.old }
 
         ensures later { P.disk_faults station.old ≤ P.disk_faults station.new }
         ensures disk { IsErrOf result storing.Disk → Rises (P.disk_faults station.old) (P.disk_faults station.new) }

@@ -1,9 +1,10 @@
-use Rattle.std.proofs.Common.{List, ◌∙◌, ap}
+use Rattle.std.proofs.Common.{List, sym, ◌∙◌, ap, subst}
 use Rattle.wm_page.specs.Batch.{entries}
 use Rattle.wm_page.specs.declared.write.PageWrite.{PageWrite}
 use Rattle.wm_station.specs.History.{History, said}
-use Rattle.wm_journal.specs.Writes.{making, root_page}
+use Rattle.wm_journal.specs.Writes.{Step, DidPart, making, root_page}
 use Rattle.wm_journal.proofs.Makes.{Made, make_given, make_small, said_did, said_part}
+use Rattle.wm_journal.proofs.Sequences.{nothing_done}
 use Rattle.wm_journal.proofs.journal.Journal.make.Goals as goal
 
 pub write_made-requires : goal.write_made-requires
@@ -56,3 +57,15 @@ returns-in-Ok-clause-quiet g c = λ t.
 pub returns-in-Err-write_made-clause-quiet : goal.returns-in-Err-write_made-clause-quiet
 returns-in-Err-write_made-clause-quiet g c = λ t.
     said_part (making root_page (entries c.as_slice.result.now)) (g.P.Station.history c.is_made.new.station) (g.P.Station.history c.write_made.new.station) (c.in-Err-write_made.ensures.part t) ∙ ap said (c.in-Ok-false.ensures.told t)
+
+pub returns-in-Ok-true-clause-part : goal.returns-in-Ok-true-clause-part
+returns-in-Ok-true-clause-part g c = λ t.
+    let steps : List Step = making root_page (entries c.args.batch.now.pages) in
+    let old : History = g.P.Station.history c.args.station.now in
+    subst (λ (h : History). DidPart steps old h) (sym (c.in-Ok-true.ensures.told t)) (nothing_done steps old)
+
+pub returns-in-Err-clause-part : goal.returns-in-Err-clause-part
+returns-in-Err-clause-part g c = λ t.
+    let steps : List Step = making root_page (entries c.args.batch.now.pages) in
+    let old : History = g.P.Station.history c.args.station.now in
+    subst (λ (h : History). DidPart steps old h) (sym (c.in-Err.ensures.told t)) (nothing_done steps old)

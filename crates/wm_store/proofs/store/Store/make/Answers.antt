@@ -10,7 +10,7 @@ use Rattle.wm_store.specs.Fresh.{fresh_changes, fresh_records}
 use Rattle.wm_store.specs.Spelled.{FitPages, HaveSpellings, blobs_of}
 use Rattle.wm_store.proofs.Committing.{blobs_once}
 use Rattle.wm_store.proofs.Freshly.{fresh_fit, fresh_once, fresh_room, made_opens, second_page}
-use Rattle.wm_store.proofs.Storing.{rests_hold}
+use Rattle.wm_store.proofs.Storing.{rests_hold, count_held}
 use Rattle.wm_store.proofs.store.Store.make.Goals as goal
 
 pub spell_changes-requires : goal.spell_changes-requires
@@ -40,3 +40,6 @@ returns-clause-store g c = λ t. record {
         (made_opens (g.P.Station.history c.make.new.station) c.in_ok-journal.journal c.in_ok-blobs.blobs (entries c.in_ok-heap.pages.pages) c.args.limit (subst HaveSpellings (c.as_slice.ensures ∙ c.in_ok-changes.ensures) c.in_ok-blobs.ensures.spelled) (c.in_ok-blobs.ensures.blobs ∙ ap blobs_of (c.as_slice.ensures ∙ c.in_ok-changes.ensures)) c.in_ok-heap.ensures.pages c.in_ok-heap.ensures.again c.in_ok-heap.ensures.sound (c.in_ok-journal.ensures.pages t) c.in_ok-journal.ensures.count)).here.opens,
   );
 }
+
+pub returns-clause-count : goal.returns-clause-count
+returns-clause-count g c = λ t. count_held (g.P.Station.history c.make.new.station) c.in_ok-journal.journal (c.in_ok-journal.ensures.rests t) ∙ c.in_ok-journal.ensures.count
