@@ -1,5 +1,7 @@
 -- What the batches that make a table and make one ready make of the records.
-use Rattle.std.proofs.Common.{◌≡◌, ◌≢◌, ◌≤◌, ◌<◌, ℕ, ◌+◌, Bool, true, List, [], ◌∷◌, Some, refl, sym, ap, subst, ◌∙◌, arith}
+use Rattle.std.proofs.Common.{◌≡◌, ◌≢◌, ◌≤◌, ◌<◌, ℕ, ◌+◌, Bool, true, ◌==◌, List, [], ◌∷◌, Some, refl, sym, ap, subst, ◌∙◌, arith}
+use Rattle.std.proofs.lemmas.Bool.{eq-eqb}
+use Rattle.std.proofs.lemmas.Slice.Eq.{bytes_eq-Decides}
 use Rattle.std.specs.Option.{option_map, unwrap_or}
 use Rattle.std.specs.Str.{bytes_eq}
 use Rattle.wm_graph.specs.Parts.{parts_of}
@@ -13,13 +15,14 @@ use Rattle.wm_spec.specs.declared.record.stored.Stored.{Stored}
 use Rattle.wm_spec.specs.declared.record.table.Table.{Table}
 use Rattle.wm_state.specs.Batches.{AllUnder, create_batch, enable_batch, put, ready}
 use Rattle.wm_state.specs.ById.{Ascend, applied}
-use Rattle.wm_state.specs.Drafts.{CanCreate, CanWork, Drafts, DraftsBy}
+use Rattle.wm_state.specs.Drafts.{CanCreate, CanWork, Drafts, DraftsBy, may_add, takes_place}
 use Rattle.wm_state.specs.Editing.{drafted_by, edited, enable_named, line_work}
 use Rattle.wm_state.specs.Points.{moved}
 use Rattle.wm_state.specs.Standing.{TablesStand, FieldsStand, Stands, by_number}
 use Rattle.wm_state.specs.State.{Readiness, State, table_named}
 use Rattle.wm_state.specs.declared.edit.Edit.{Edit}
 use Rattle.wm_state.specs.declared.edit.Edit.TheVariants as edits
+use Rattle.wm_state.proofs.Added.{added_by, placed_by, puts_away, puts_like, puts_there}
 use Rattle.wm_state.proofs.ByKind.{under_found}
 use Rattle.wm_state.proofs.Counting.{counts_as, counts_in, moved_well, two_changes, work_grows}
 use Rattle.wm_state.proofs.Enabling.{keep-readied}
@@ -29,7 +32,7 @@ use Rattle.wm_state.proofs.Planned.{Readied, agree_created, agree_readied, parts
 use Rattle.wm_state.proofs.Planning.{parts-created}
 use Rattle.wm_state.proofs.OthersStay.{OthersStay, changed_apart, new_apart, others_stay, rows_stay}
 use Rattle.wm_state.proofs.Tables.{MayCreate, keep-created}
-use Rattle.wm_state.proofs.Tests.{bool_apart}
+use Rattle.wm_state.proofs.Tests.{and_true, bool_apart}
 use Rattle.wm_state.proofs.WorkedOn.{counted_put, first_change}
 
 -- ---- nothing
@@ -38,6 +41,10 @@ use Rattle.wm_state.proofs.WorkedOn.{counted_put, first_change}
 none_changes : AreChanges []
 unfolding ids_differ
 none_changes = refl
+
+-- none is not one
+none_one : (e : Edit) → [] ≡ e ∷ [] → ⊥
+none_one e one = cc
 
 -- without edits nothing changes, whatever the work
 pub drafts_none : (work : ℕ) (rs : List Stored) (m : ℕ) → keep_rules (parts_of rs) ≡ true → DraftsBy work rs m [] []
@@ -48,6 +55,8 @@ drafts_none work rs m rules = record {
   fields = λ s st. st;
   others = λ id r found none. found;
   rows = λ id r found. found;
+  added = λ e id r one none found. absurd (none_one e one);
+  placed = λ e id q r one there found. absurd (none_one e one);
   kept = refl;
   counted = λ some. absurd (some refl);
   nothing = λ none. refl;
@@ -95,6 +104,16 @@ drafts_created rs m work t c counters_id id rules can_work can one there sorted 
       (record { counters = moved c m work; one = refl; next_stamp = counts.next_stamp; last_moment = refl; limit = counts.limit; work = ap (λ w. w + work) counts.work });
   others = others;
   rows = rows_stay (edits.Create t ∷ []) rs (create_batch counters_id (moved c m work) id t) others;
+  added = added_by (edits.Create t) rs (create_batch counters_id (moved c m work) id t) sorted
+      (λ k none. (
+        puts_there (may_add (parts_of rs) (edits.Create t)) rs counters_id k (records.Counters c) (Some (records.Counters (moved c m work))) there none,
+        (λ same. and_true (t.number == t.number) (bytes_eq t.name t.name) (eq-eqb t.number t.number refl) ((bytes_eq-Decides t.name t.name).1 refl), tt),
+      ));
+  placed = placed_by (edits.Create t ∷ []) rs (create_batch counters_id (moved c m work) id t) sorted
+      (λ k q found. (
+        puts_like rs counters_id k (records.Counters c) q (records.Counters (moved c m work)) there found refl,
+        puts_away (takes_place q) k (put id (records.Table t) ∷ []) (new_apart rs id k q under found, tt),
+      ));
   kept = refl;
   counted = λ some. counted_put rs work counters_id c (moved c m work) (create_batch counters_id (moved c m work) id t) sorted one once (first_change counters_id _ _) keeps refl;
   nothing = some_edit (edits.Create t) [] (create_batch counters_id (moved c m work) id t);
@@ -143,6 +162,16 @@ drafts_enabled rs m work name valid history t c counters_id id rules can_work na
       (λ front back. record { counters = moved c m work; one = refl; next_stamp = counts.next_stamp; last_moment = refl; limit = counts.limit; work = ap (λ w. w + work) counts.work }));
   others = others;
   rows = rows_stay (edits.Enable name valid history ∷ []) rs (enable_batch counters_id (moved c m work) id how t) others;
+  added = added_by (edits.Enable name valid history) rs (enable_batch counters_id (moved c m work) id how t) sorted
+      (λ k none. (
+        puts_there (may_add (parts_of rs) (edits.Enable name valid history)) rs counters_id k (records.Counters c) (Some (records.Counters (moved c m work))) there none,
+        (puts_there (may_add (parts_of rs) (edits.Enable name valid history)) rs id k (records.Table t) (Some (records.Table (ready how t))) found none, tt),
+      ));
+  placed = placed_by (edits.Enable name valid history ∷ []) rs (enable_batch counters_id (moved c m work) id how t) sorted
+      (λ k q one. (
+        puts_like rs counters_id k (records.Counters c) q (records.Counters (moved c m work)) there one refl,
+        (puts_like rs id k (records.Table t) q (records.Table (ready how t)) found one (eq-eqb t.number t.number refl), tt),
+      ));
   kept = refl;
   counted = λ some. counted_put rs work counters_id c (moved c m work) (enable_batch counters_id (moved c m work) id how t) sorted one once (first_change counters_id _ _) keeps refl;
   nothing = some_edit (edits.Enable name valid history) [] (enable_batch counters_id (moved c m work) id how t);

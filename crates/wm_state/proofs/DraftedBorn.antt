@@ -1,5 +1,5 @@
 -- What the batch by which a workspace is born makes of the records.
-use Rattle.std.proofs.Common.{◌≡◌, ℕ, ◌+◌, ◌<◌, ◌≤◌, ◌^◌, nat_lt, nat_le, true, false, List, [], ◌∷◌, ◌++◌, length, length-append, Option, Some, refl, sym, ap, subst, ◌∙◌, arith}
+use Rattle.std.proofs.Common.{◌≡◌, ℕ, ◌+◌, ◌<◌, ◌≤◌, ◌^◌, ◌==◌, nat_lt, nat_le, true, false, List, [], ◌∷◌, ◌++◌, length, length-append, Option, Some, refl, sym, ap, subst, ◌∙◌, arith}
 use Rattle.std.proofs.lemmas.Bool.{eq-eqb}
 use Rattle.std.proofs.lemmas.Fmt.{length-decimal-le}
 use Rattle.std.proofs.lemmas.Slice.Eq.{bytes_eq-Decides}
@@ -17,15 +17,16 @@ use Rattle.wm_spec.specs.declared.record.space.FreezeMode.TheVariants.{Free}
 use Rattle.wm_spec.specs.declared.record.space.Space.{Space}
 use Rattle.wm_spec.specs.declared.record.stored.Stored.{Stored}
 use Rattle.wm_spec.specs.declared.record.version.Version.{Version}
-use Rattle.wm_state.specs.Batches.{birth_batch}
+use Rattle.wm_state.specs.Batches.{birth_batch, put}
 use Rattle.wm_state.specs.ById.{applied}
-use Rattle.wm_state.specs.Drafts.{CanBear, CanWork, DraftsBy}
+use Rattle.wm_state.specs.Drafts.{CanBear, CanWork, DraftsBy, is_next_version, may_add, takes_place}
 use Rattle.wm_state.specs.Editing.{bear_in, born, child_of, edited, implicit_front, implicit_name, number_limit, place_behind, saved_at, stand_of}
 use Rattle.wm_state.specs.Effects.{marked}
 use Rattle.wm_state.specs.Points.{HasRoom, Point, birth_record, child_record, child_version, implicit_of, next_place_at, point_at, versioned}
-use Rattle.wm_state.specs.Standing.{SpaceFields, fields_of, fields_in, FieldsStand, Stands}
+use Rattle.wm_state.specs.Standing.{SpaceFields, fields_of, fields_in, FieldsStand, Stands, space_after}
 use Rattle.wm_state.specs.State.{State, Stand, Workspace, Savepoint, kept, workspace_of, with_space, with_savepoint}
 use Rattle.wm_state.specs.declared.edit.Edit.TheVariants as edits
+use Rattle.wm_state.proofs.Added.{added_by, next_there, placed_by, puts_away, puts_like, puts_there}
 use Rattle.wm_state.proofs.Birth.{IsChild}
 use Rattle.wm_state.proofs.Births.{child_kept}
 use Rattle.wm_state.proofs.ByKind.{under_found}
@@ -37,9 +38,10 @@ use Rattle.wm_state.proofs.Mapped.{any-if, none-found}
 use Rattle.wm_state.proofs.PlannedBirth.{MayBirth, agree_birth, changes-birth, keep_plan_birth, plan_birth}
 use Rattle.wm_state.proofs.Points.{MadeAt, MakesAt, is_point, made_as, made_there, may_save, place_same}
 use Rattle.wm_state.proofs.Named.{space_number}
-use Rattle.wm_state.proofs.OthersStay.{OthersStay, below_apart, changed_apart, others_stay, rows_stay}
+use Rattle.wm_state.proofs.OthersStay.{AwayFrom, OthersStay, below_apart, changed_apart, others_stay, rows_stay}
 use Rattle.wm_state.proofs.Settled.{Places, PlacesApart, places_apart}
 use Rattle.wm_state.proofs.Spaces.{IsSpace, next_space_same, next_space_there, numbers_under}
+use Rattle.wm_state.proofs.Tests.{and_true}
 use Rattle.wm_state.proofs.WorkedOn.{counted_put, first_change}
 
 -- ---- the savepoint
@@ -197,6 +199,29 @@ drafts_born rs m work n at name a pt c counters_id space_id id rules can_work ca
       (record { counters = versioned c m work; one = refl; next_stamp = counts.next_stamp; last_moment = refl; limit = counts.limit; work = ap (λ w. w + work) counts.work }));
   others = others;
   rows = rows_stay (edits.Bear n at name ∷ []) rs batch others;
+  added = added_by (edits.Bear n at name) rs batch places.sorted
+      (λ k none. (
+        puts_there (may_add (parts_of rs) (edits.Bear n at name)) rs counters_id k (records.Counters c) (Some (records.Counters (versioned c m work))) places.counters none,
+        (
+          puts_there (may_add (parts_of rs) (edits.Bear n at name)) rs space_id k (records.Space a) (Some (records.Space (marked place implicit a))) places.space none,
+          (
+            λ same. and_true (a.number == n) true (eq-eqb a.number n number) refl,
+            (
+              λ same. and_true (r.number == space_after (parts_of rs).spaces) _ (eq-eqb r.number (space_after (parts_of rs).spaces) refl)
+                  (and_true (a.number == n) (bytes_eq name name) (eq-eqb a.number n number) ((bytes_eq-Decides name name).1 refl)),
+              (λ same. and_true (is_next_version (parts_of rs) c.next_version) _ (next_there (parts_of rs) c places.one) (eq-eqb v.space (space_after (parts_of rs).spaces) refl), tt),
+            ),
+          ),
+        ),
+      ));
+  placed = placed_by (edits.Bear n at name ∷ []) rs batch places.sorted
+      (λ k q found. (
+        puts_like rs counters_id k (records.Counters c) q (records.Counters (versioned c m work)) places.counters found refl,
+        (
+          puts_like rs space_id k (records.Space a) q (records.Space (marked place implicit a)) places.space found (eq-eqb a.number a.number refl),
+          puts_away (takes_place q) k (put id (records.Savepoint x) ∷ put (id + 1) (records.Space r) ∷ put (id + 2) (records.Version v) ∷ []) (away_new k (under_found id rs k q places.under found)),
+        ),
+      ));
   kept = refl;
   counted = λ some. counted_put rs work counters_id c (versioned c m work) batch places.sorted places.one once (first_change counters_id _ _) keeps refl;
   nothing = some_edit (edits.Bear n at name) [] (birth_batch counters_id (versioned c m work) space_id (marked place implicit a) id x r v);
@@ -218,6 +243,9 @@ drafts_born rs m work n at name a pt c counters_id space_id id rules can_work ca
     v : Version
     v = child_version (parts_of rs) c pt
 
+    number : a.number ≡ n
+    number = space_number (parts_of rs) n a there
+
     apart : PlacesApart counters_id space_id id
     apart = places_apart rs counters_id space_id id c a places
 
@@ -230,14 +258,16 @@ drafts_born rs m work n at name a pt c counters_id space_id id rules can_work ca
     batch : List Change
     batch = birth_batch counters_id (versioned c m work) space_id (marked place implicit a) id x r v
 
+    away_new : (k : ℕ) → k < id → AwayFrom k (put id (records.Savepoint x) ∷ put (id + 1) (records.Space r) ∷ put (id + 2) (records.Version v) ∷ [])
+    away_new k low = (below_apart k id low, (below_apart k (id + 1) (behind k 1 low), (below_apart k (id + 2) (behind k 2 low), tt)))
+
     others : OthersStay (edits.Bear n at name ∷ []) rs batch
     others = others_stay (edits.Bear n at name) rs batch
-        (λ k q found fixed.
-        let low = under_found id rs k q places.under found in (
+        (λ k q found fixed. (
           changed_apart (edits.Bear n at name) rs counters_id k (records.Counters c) q places.counters refl found fixed,
           (
-            changed_apart (edits.Bear n at name) rs space_id k (records.Space a) q places.space (eq-eqb a.number n (space_number (parts_of rs) n a there)) found fixed,
-            (below_apart k id low, (below_apart k (id + 1) (behind k 1 low), (below_apart k (id + 2) (behind k 2 low), tt))),
+            changed_apart (edits.Bear n at name) rs space_id k (records.Space a) q places.space (eq-eqb a.number n number) found fixed,
+            away_new k (under_found id rs k q places.under found),
           ),
         ))
 

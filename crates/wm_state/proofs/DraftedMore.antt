@@ -61,6 +61,11 @@ not_none f e fs es cs none = cc
 one_there : (e : Edit) (es : List Edit) → e ∷ es ≡ [] → ⊥
 one_there e es none = cc
 
+-- nor are they one
+not_one : (f e g : Edit) (fs es : List Edit) → f ∷ fs ++ e ∷ es ≡ g ∷ [] → ⊥
+not_one f e g [] es one = cc
+not_one f e g (h ∷ fs) es one = cc
+
 -- what some edits make, and what others make of that, is what all of them make
 pub drafts_followed : (rs : List Stored) (k l m : ℕ) (e : Edit) (front es : List Edit) (cs ds : List Change) → Ascend rs → DraftsBy k rs m front cs → (front ≡ [] → ⊥) → DraftsBy l (applied cs rs) m (e ∷ es) ds
     → DraftsBy (k + l) rs m (front ++ e ∷ es) (followed_by cs ds)
@@ -78,6 +83,8 @@ drafts_followed rs k l m e (f ∷ fs) es cs ds sorted one some two = record {
       let h = either_false (list_any (λ (g : Edit). may_change g r) (f ∷ fs)) (list_any (λ (g : Edit). may_change g r) (e ∷ es)) (sym (list_any-append (λ (g : Edit). may_change g r) (f ∷ fs) (e ∷ es)) ∙ none) in
       ap (λ (ss : List Stored). record_at ss id) same ∙ two.others id r (one.others id r found h.0) h.1;
   rows = λ id r found. ap (λ (ss : List Stored). record_at ss id) same ∙ two.rows id r (one.rows id r found);
+  added = λ g id r same none found. absurd (not_one f e g fs es same);
+  placed = λ g id q r same there found. absurd (not_one f e g fs es same);
   kept = all_followed is_kept_change cs ds one.kept two.kept;
   counted = λ any.
       subst (λ (ss : List Stored). WorksOn (parts_of rs) (parts_of ss) (k + l)) (sym same)

@@ -1,7 +1,9 @@
 -- What the batch that makes a savepoint makes of the records.
-use Rattle.std.proofs.Common.{◌≡◌, ℕ, ◌+◌, ◌≤◌, true, false, List, [], ◌∷◌, ◌++◌, Some, refl, sym, ap, subst, ◌∙◌, arith}
+use Rattle.std.proofs.Common.{◌≡◌, ℕ, ◌+◌, ◌≤◌, ◌==◌, true, false, List, [], ◌∷◌, ◌++◌, Some, refl, sym, ap, subst, ◌∙◌, arith}
 use Rattle.std.proofs.lemmas.Bool.{eq-eqb}
+use Rattle.std.proofs.lemmas.Slice.Eq.{bytes_eq-Decides}
 use Rattle.std.specs.Option.{option_and_then, option_map, unwrap_or}
+use Rattle.std.specs.Str.{bytes_eq}
 use Rattle.wm_graph.specs.Parts.{Parts, parts_of, space_of}
 use Rattle.wm_graph.specs.Rules.{keep_rules}
 use Rattle.wm_spec.specs.Records.{AreChanges}
@@ -11,15 +13,16 @@ use Rattle.wm_spec.specs.declared.record.counters.Counters.{Counters}
 use Rattle.wm_spec.specs.declared.record.savepoint.Savepoint.{Savepoint as Record}
 use Rattle.wm_spec.specs.declared.record.space.Space.{Space}
 use Rattle.wm_spec.specs.declared.record.stored.Stored.{Stored}
-use Rattle.wm_state.specs.Batches.{savepoint_batch}
+use Rattle.wm_state.specs.Batches.{put, savepoint_batch}
 use Rattle.wm_state.specs.ById.{applied}
-use Rattle.wm_state.specs.Drafts.{CanSave, CanWork, DraftsBy}
+use Rattle.wm_state.specs.Drafts.{CanSave, CanWork, DraftsBy, may_add, takes_place}
 use Rattle.wm_state.specs.Editing.{edited, save_in, saved, saved_at}
 use Rattle.wm_state.specs.Effects.{marked}
 use Rattle.wm_state.specs.Points.{HasRoom, moved, newest_point, saved_record}
-use Rattle.wm_state.specs.Standing.{SpaceFields, SpacesStand, FieldsStand, Stands}
+use Rattle.wm_state.specs.Standing.{SpaceFields, SpacesStand, FieldsStand, Stands, latest}
 use Rattle.wm_state.specs.State.{State, Workspace, Savepoint, Latest, workspace_of, with_space, with_savepoint}
 use Rattle.wm_state.specs.declared.edit.Edit.TheVariants as edits
+use Rattle.wm_state.proofs.Added.{added_by, placed_by, puts_away, puts_like, puts_there}
 use Rattle.wm_state.proofs.Counting.{counts_as, counts_in, work_room}
 use Rattle.wm_state.proofs.Drafted.{some_edit}
 use Rattle.wm_state.proofs.FewChanged.{few_saved}
@@ -30,6 +33,7 @@ use Rattle.wm_state.proofs.Points.{MakesAt, made_as, made_there, may_save}
 use Rattle.wm_state.proofs.OthersStay.{OthersStay, changed_apart, new_apart, others_stay, rows_stay}
 use Rattle.wm_state.proofs.Settled.{Places, PlacesApart, places_apart}
 use Rattle.wm_state.proofs.Spaces.{IsSpace, space_there}
+use Rattle.wm_state.proofs.Tests.{and_true}
 use Rattle.wm_state.proofs.WorkedOn.{counted_put, first_change}
 
 -- ---- the workspace
@@ -110,6 +114,26 @@ drafts_saved rs m work n name a c counters_id space_id id rules can_work can the
       (record { counters = moved c m work; one = refl; next_stamp = counts.next_stamp; last_moment = refl; limit = counts.limit; work = ap (λ w. w + work) counts.work }));
   others = others;
   rows = rows_stay (edits.Save n name ∷ []) rs batch others;
+  added = added_by (edits.Save n name) rs batch at.sorted
+      (λ k none. (
+        puts_there (may_add (parts_of rs) (edits.Save n name)) rs counters_id k (records.Counters c) (Some (records.Counters (moved c m work))) at.counters none,
+        (
+          puts_there (may_add (parts_of rs) (edits.Save n name)) rs space_id k (records.Space a) (Some (records.Space (marked (a.next_place + 1) a.next_implicit a))) at.space none,
+          (
+            λ same. and_true (a.number == n) _ (eq-eqb a.number n number)
+                (and_true (bytes_eq name name) _ ((bytes_eq-Decides name name).1 refl) (eq-eqb (latest (parts_of rs) a.number) (latest (parts_of rs) n) (ap (latest (parts_of rs)) number))),
+            tt,
+          ),
+        ),
+      ));
+  placed = placed_by (edits.Save n name ∷ []) rs batch at.sorted
+      (λ k q found. (
+        puts_like rs counters_id k (records.Counters c) q (records.Counters (moved c m work)) at.counters found refl,
+        (
+          puts_like rs space_id k (records.Space a) q (records.Space (marked (a.next_place + 1) a.next_implicit a)) at.space found (eq-eqb a.number a.number refl),
+          puts_away (takes_place q) k (put id (records.Savepoint x) ∷ []) (new_apart rs id k q at.under found, tt),
+        ),
+      ));
   kept = refl;
   counted = λ some. counted_put rs work counters_id c (moved c m work) batch at.sorted at.one once (first_change counters_id _ _) keeps refl;
   nothing = some_edit (edits.Save n name) [] (savepoint_batch counters_id (moved c m work) space_id (marked (a.next_place + 1) a.next_implicit a) id x);
@@ -118,6 +142,9 @@ drafts_saved rs m work n name a c counters_id space_id id rules can_work can the
   where
     x : Record
     x = saved_record (parts_of rs) a m name
+
+    number : a.number ≡ n
+    number = space_number (parts_of rs) n a there
 
     apart : PlacesApart counters_id space_id id
     apart = places_apart rs counters_id space_id id c a at
@@ -136,7 +163,7 @@ drafts_saved rs m work n name a c counters_id space_id id rules can_work can the
     others = others_stay (edits.Save n name) rs batch
         (λ k r found fixed. (
           changed_apart (edits.Save n name) rs counters_id k (records.Counters c) r at.counters refl found fixed,
-          (changed_apart (edits.Save n name) rs space_id k (records.Space a) r at.space (eq-eqb a.number n (space_number (parts_of rs) n a there)) found fixed, (new_apart rs id k r at.under found, tt)),
+          (changed_apart (edits.Save n name) rs space_id k (records.Space a) r at.space (eq-eqb a.number n number) found fixed, (new_apart rs id k r at.under found, tt)),
         ))
 
     keeps : keep_rules (parts_of (applied batch rs)) ≡ true

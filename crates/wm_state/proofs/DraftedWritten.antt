@@ -19,7 +19,7 @@ use Rattle.wm_spec.specs.declared.record.space.Space.{Space}
 use Rattle.wm_spec.specs.declared.record.stored.Stored.{Stored}
 use Rattle.wm_state.specs.Batches.{AllUnder, AreDropped, is_dropped, keeps}
 use Rattle.wm_state.specs.ById.{applied}
-use Rattle.wm_state.specs.Drafts.{CanAppend, CanWork, DraftsBy}
+use Rattle.wm_state.specs.Drafts.{CanAppend, CanWork, DraftsBy, may_add}
 use Rattle.wm_state.specs.Drawing.{AreDrawn, piece_keys}
 use Rattle.wm_state.specs.Editing.{counter_limit, drafted_by, entry_of}
 use Rattle.wm_state.specs.Effects.{IsFree, IsLeaf}
@@ -27,9 +27,10 @@ use Rattle.wm_state.specs.Entries.{AreStamped, entry_keys, hists_from, is_out_al
 use Rattle.wm_state.specs.Points.{moved, stepped_by}
 use Rattle.wm_state.specs.Standing.{CountersStand, latest, newest_first}
 use Rattle.wm_state.specs.State.{State}
-use Rattle.wm_state.specs.Writes.{write_batch}
+use Rattle.wm_state.specs.Writes.{longer_by, write_batch}
 use Rattle.wm_state.specs.declared.edit.Edit.TheVariants as edits
 use Rattle.wm_state.specs.declared.edit.NewEntry.{NewEntry}
+use Rattle.wm_state.proofs.Added.{added_by, hists_added, pieces_added, placed_by, places_write, puts_like, puts_write, rows_added, there_apart}
 use Rattle.wm_state.proofs.ByKind.{under_found}
 use Rattle.wm_state.proofs.Counting.{CountsAs, counts_as, counts_in, in_room, moved_well, stamped_by, work_grows}
 use Rattle.wm_state.proofs.Drafted.{some_edit}
@@ -186,6 +187,17 @@ drafts_written rs m work n table entries a c counters_id space_id ids id drawn r
       (counts_on s m work n c d entries (counts_in (parts_of rs) s c st.counters v.one) refl refl refl refl);
   others = others;
   rows = rows_stay (edits.Append n entries ∷ []) rs batch others;
+  added = added_by (edits.Append n entries) rs batch at.sorted
+      (λ k none.
+      puts_write (may_add (parts_of rs) (edits.Append n entries)) k counters_id space_id id (length es) d a ids (rows_in es) drawn (hists_from a.number a.log_length es)
+      (there_apart rs counters_id k (records.Counters c) at.counters none) (there_apart rs space_id k (records.Space a) at.space none)
+      (rows_added (parts_of rs) n entries) (pieces_added (parts_of rs) n table c.next_stamp entries (parts_of rs).pieces drawn v.stamped r.are)
+      (hists_added (parts_of rs) n a.number a.log_length entries es (space_number (parts_of rs) n a v.there)));
+  placed = placed_by (edits.Append n entries ∷ []) rs batch at.sorted
+      (λ k q found.
+      places_write k counters_id space_id id (length es) d a ids (rows_in es) drawn (hists_from a.number a.log_length es) q
+      (puts_like rs counters_id k (records.Counters c) q (records.Counters d) at.counters found refl)
+      (puts_like rs space_id k (records.Space a) q (records.Space (longer_by (length es) a)) at.space found (eq-eqb a.number a.number refl)) (under_found id rs k q at.under found));
   kept = kept_write (latest (parts_of rs) n) table es (parts_of rs).pieces drawn counters_id space_id id a.number a.log_length d a ids v.can.kept r.are;
   counted = λ some. counted_put rs work counters_id c d batch at.sorted v.one once (first_change counters_id _ _) keeps refl;
   nothing = some_edit (edits.Append n entries) [] (write_batch counters_id d space_id a (length es) ids id (rows_in es) drawn (hists_from a.number a.log_length es));

@@ -75,6 +75,7 @@ pub mod EditedLater
 pub mod DraftedMore
 pub mod Points
 pub mod OthersStay
+pub mod Added
 pub mod Drafted
 pub mod FewChanged
 pub mod DraftedSaved

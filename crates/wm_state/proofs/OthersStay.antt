@@ -114,7 +114,7 @@ new_apart rs next id r under found = below_apart id next (under_found next rs id
 -- ---- what entries leave
 
 -- a piece of a key that no entry has is not of their keys
-written_out : (version table stamp : ℕ) (es : List Entry) (x : PieceRecord) → AreStamped table stamp es → is_written es x ≡ false → is_out_all version table (entry_keys es) x ≡ true
+pub written_out : (version table stamp : ℕ) (es : List Entry) (x : PieceRecord) → AreStamped table stamp es → is_written es x ≡ false → is_out_all version table (entry_keys es) x ≡ true
 written_out version table stamp [] x stamped none = refl
 written_out version table stamp (e ∷ es) x stamped none =
     let h = either_false (is_of x.cells.table x.cells.key e) (is_written es x) none in
@@ -143,10 +143,13 @@ never_dropped version table stamp n entries (records.Savepoint x) stamped none =
 never_dropped version table stamp n entries (records.Row x) stamped none = refl
 never_dropped version table stamp n entries (records.Hist x) stamped none = refl
 
--- the batch that writes entries does not have an id that is neither that of the counters nor that of the workspace, is not dropped and is below the new ones
-pub away_write : (k counters_id space_id id count : ℕ) (new : Counters) (a : Space) (ids : List ℕ) (rows : List RowRecord) (pieces : List PieceRecord) (hists : List Hist) → counters_id ≢ k → space_id ≢ k → is_dropped ids k ≡ false → k < id
-    → AwayFrom k (write_batch counters_id new space_id a count ids id rows pieces hists)
-away_write k counters_id space_id id count new a ids rows pieces hists counters space stays lt = (counters, (space, behind_them))
+-- new rows, pieces and entries of a log do not have an id below theirs
+pub away_behind : (k id : ℕ) (rows : List RowRecord) (pieces : List PieceRecord) (hists : List Hist) → k < id
+    → AwayFrom k (put_all id (map records.Row rows) ++ (put_all (id + length rows) (map records.Piece pieces) ++ put_all (id + length rows + length pieces) (map records.Hist hists)))
+away_behind k id rows pieces hists lt =
+    away_append k (put_all id (map records.Row rows)) _ (away_put k id (map records.Row rows) lt)
+    (away_append k (put_all (id + length rows) (map records.Piece pieces)) _ (away_put k (id + length rows) (map records.Piece pieces) (behind (length rows)))
+    (away_put k (id + length rows + length pieces) (map records.Hist hists) (behind_both (length rows) (length pieces))))
   where
     behind : (m : ℕ) → k < id + m
     behind m = omega (arith, lt)
@@ -154,9 +157,7 @@ away_write k counters_id space_id id count new a ids rows pieces hists counters 
     behind_both : (m n : ℕ) → k < id + m + n
     behind_both m n = omega (arith, lt)
 
-    behind_them : AwayFrom k (map drop_one ids ++ (put_all id (map records.Row rows) ++ (put_all (id + length rows) (map records.Piece pieces) ++ put_all (id + length rows + length pieces) (map records.Hist hists))))
-    behind_them =
-        away_append k (map drop_one ids) _ (away_dropped k ids stays)
-        (away_append k (put_all id (map records.Row rows)) _ (away_put k id (map records.Row rows) lt)
-        (away_append k (put_all (id + length rows) (map records.Piece pieces)) _ (away_put k (id + length rows) (map records.Piece pieces) (behind (length rows)))
-        (away_put k (id + length rows + length pieces) (map records.Hist hists) (behind_both (length rows) (length pieces)))))
+-- the batch that writes entries does not have an id that is neither that of the counters nor that of the workspace, is not dropped and is below the new ones
+pub away_write : (k counters_id space_id id count : ℕ) (new : Counters) (a : Space) (ids : List ℕ) (rows : List RowRecord) (pieces : List PieceRecord) (hists : List Hist) → counters_id ≢ k → space_id ≢ k → is_dropped ids k ≡ false → k < id
+    → AwayFrom k (write_batch counters_id new space_id a count ids id rows pieces hists)
+away_write k counters_id space_id id count new a ids rows pieces hists counters space stays lt = (counters, (space, away_append k (map drop_one ids) _ (away_dropped k ids stays) (away_behind k id rows pieces hists lt)))

@@ -1,5 +1,5 @@
--- What is asked of records before edits, which records edits may change, and what changes of records are to make of them.
-use Rattle.std.specs.Prelude.{ℕ, ◌≡◌, ◌≤◌, ◌+◌, ◌*◌, ◌==◌, ◌&&◌, not, nat_le, nat_lt, Bool, true, false, List, [], ◌∷◌, ◌++◌, map, length, Option, Some, None}
+-- What is asked of records before edits, which records edits may change and add, and what changes of records are to make of them.
+use Rattle.std.specs.Prelude.{ℕ, ◌≡◌, ◌≤◌, ◌+◌, ◌*◌, ◌==◌, ◌&&◌, ◌||◌, ◌⊎◌, not, nat_le, nat_lt, Bool, true, false, List, [], ◌∷◌, ◌++◌, map, length, Option, Some, None}
 use Rattle.std.specs.List.{filter, find, list_all, list_any}
 use Rattle.std.specs.Option.{option_map_or}
 use Rattle.std.specs.Str.{bytes_eq}
@@ -22,9 +22,9 @@ use Rattle.wm_spec.specs.declared.record.table.Table.{Table}
 use Rattle.wm_state.specs.ById.{applied}
 use Rattle.wm_state.specs.Drawing.{are_sorted}
 use Rattle.wm_state.specs.Editing.{counter_limit, drafted_by, entry_of, line_work, number_limit, stand_of}
-use Rattle.wm_state.specs.Entries.{AreStamped, entry_keys, is_well}
+use Rattle.wm_state.specs.Entries.{AreStamped, entry_keys, is_well, rows_in}
 use Rattle.wm_state.specs.Points.{HasRoom, Point, implicit_of, next_place_at, point_at}
-use Rattle.wm_state.specs.Standing.{FieldsStand, Stands, by_number, space_after}
+use Rattle.wm_state.specs.Standing.{FieldsStand, Stands, by_number, latest, space_after}
 use Rattle.wm_state.specs.State.{State, table_named}
 use Rattle.wm_state.specs.declared.edit.Edit.{Edit}
 use Rattle.wm_state.specs.declared.edit.Edit.TheVariants as edits
@@ -141,6 +141,38 @@ may_change (edits.Save n name) (records.Space w) = w.number == n
 may_change (edits.Bear n at name) (records.Space w) = w.number == n
 may_change e r = false
 
+-- ---- what an edit may add
+
+-- the number is the one that the counters have for the next version
+abbrev pub is_next_version : Parts → ℕ → Bool
+is_next_version p number = list_any (λ (c : Counters). c.next_version == number) p.counters
+
+-- one of the entries is of the piece's key and has its stamp
+abbrev pub is_said : List Entry → PieceRecord → Bool
+is_said es x = list_any (λ (e : Entry). is_of x.cells.table x.cells.key e && (e.stamp == x.stamp)) es
+
+-- the edit may add the record: its table; of entries the rows, entries of the log of their workspace, pieces of their keys in its newest
+-- version, and the next version with pieces that they say; its savepoint of the newest version of its workspace; the workspace that is
+-- born, the savepoint of its parent at which it is born, and its version
+abbrev pub may_add : Parts → Edit → Record → Bool
+may_add p (edits.Create t) (records.Table u) = (u.number == t.number) && bytes_eq u.name t.name
+may_add p (edits.Append n entries) (records.Row r) = list_any (λ (x : RowRecord). (x.stamp == r.stamp) && (x.table == r.table)) (rows_in (map entry_of entries.items))
+may_add p (edits.Append n entries) (records.Hist h) = h.space == n
+may_add p (edits.Append n entries) (records.Piece x) = (is_written (map entry_of entries.items) x && (x.version == latest p n)) || (is_said (map entry_of entries.items) x && is_next_version p x.version)
+may_add p (edits.Append n entries) (records.Version v) = is_next_version p v.number && ((v.space == n) && (v.parent == latest p n))
+may_add p (edits.Save n name) (records.Savepoint k) = (k.space == n) && (bytes_eq k.name name && (k.version == latest p n))
+may_add p (edits.Bear n at name) (records.Savepoint k) = (k.space == n) && k.implicit
+may_add p (edits.Bear n at name) (records.Space x) = (x.number == space_after p.spaces) && ((x.parent == n) && bytes_eq x.name name)
+may_add p (edits.Bear n at name) (records.Version v) = is_next_version p v.number && (v.space == space_after p.spaces)
+may_add p e r = false
+
+-- a record may take the place of another one: counters that of counters, and a table or a workspace that of its number
+abbrev pub takes_place : Record → Record → Bool
+takes_place (records.Counters c) (records.Counters d) = true
+takes_place (records.Table t) (records.Table u) = u.number == t.number
+takes_place (records.Space w) (records.Space x) = x.number == w.number
+takes_place q r = false
+
 -- ---- what is made of them
 
 -- the edit makes a savepoint, or a workspace and so a savepoint
@@ -175,8 +207,9 @@ pub record WorksOn (old new : Parts) (work : ℕ) : Type 0 where
 
 -- changes make of records what edits make of each state that they stand for, and of each state with which they agree in counters,
 -- tables, workspaces and savepoints, with so much work: the rules stay kept, no id changes twice, each record that no edit may change
--- stays under its id, and so each row, each value that comes can be kept, without edits there are no changes, and where all edits make
--- savepoints or workspaces, there are six changes at most for each
+-- stays under its id, and so each row, with one edit each record that comes under an id which had none is one that it may add, and what
+-- stands under an id that had one is this one or takes its place, each value that comes can be kept, without edits there are no changes,
+-- and where all edits make savepoints or workspaces, there are six changes at most for each
 pub record DraftsBy (work : ℕ) (rs : List Stored) (m : ℕ) (es : List Edit) (changes : List Change) : Type 0 where
   pub keeps : keep_rules (parts_of (applied changes rs)) ≡ true
   pub once : AreChanges changes
@@ -184,6 +217,8 @@ pub record DraftsBy (work : ℕ) (rs : List Stored) (m : ℕ) (es : List Edit) (
   pub fields : (s : State) → FieldsStand (parts_of rs) s → FieldsStand (parts_of (applied changes rs)) (drafted_by work m es s)
   pub others : (id : ℕ) (r : Record) → record_at rs id ≡ Some r → list_any (λ (e : Edit). may_change e r) es ≡ false → record_at (applied changes rs) id ≡ Some r
   pub rows : (id : ℕ) (r : RowRecord) → record_at rs id ≡ Some (records.Row r) → record_at (applied changes rs) id ≡ Some (records.Row r)
+  pub added : (e : Edit) (id : ℕ) (r : Record) → es ≡ e ∷ [] → record_at rs id ≡ None → record_at (applied changes rs) id ≡ Some r → may_add (parts_of rs) e r ≡ true
+  pub placed : (e : Edit) (id : ℕ) (q r : Record) → es ≡ e ∷ [] → record_at rs id ≡ Some q → record_at (applied changes rs) id ≡ Some r → (r ≡ q) ⊎ (takes_place q r ≡ true)
   pub kept : list_all is_kept_change changes ≡ true
   pub counted : (es ≡ [] → ⊥) → WorksOn (parts_of rs) (parts_of (applied changes rs)) work
   pub nothing : es ≡ [] → changes ≡ []

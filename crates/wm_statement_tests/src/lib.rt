@@ -1,4 +1,5 @@
-//! Tests of crates below, which would be proved a second time if their tests stood in them.
+//! Tests of crates below, which would be proved a second time if their tests stood in them. What is tested is written as
+//! text, and parsed: a tree that is made by hand takes long to prove.
 #![tactic(auto)]
 
 #[cfg(test)]
@@ -8,6 +9,8 @@ mod dml;
 #[cfg(test)]
 mod expr;
 #[cfg(test)]
+mod lines;
+#[cfg(test)]
 mod making;
 #[cfg(test)]
 mod print;
@@ -15,5 +18,7 @@ mod print;
 mod rowtest;
 #[cfg(test)]
 mod selecting;
+#[cfg(test)]
+mod tables;
 #[cfg(test)]
 mod typing;

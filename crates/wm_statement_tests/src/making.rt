@@ -1,26 +1,20 @@
 //! What becomes of BUD and of the row 7|abc, worked by hand.
-mod inserting;
-mod periods;
-mod tables;
-
-use inserting::{arranged_row, row_in_order};
-use periods::{CASES, Case, given, outcome};
+use crate::lines::{line_of, refusal_text, statement_in};
+use crate::tables::{made, table};
 use std::alloc::Global;
+use std::process::Abort;
 use std::test::Fail;
-use tables::{is_row, items, row, table};
-use wm_base::{CellRefusal, Memory, Name, Refusal, SpaceRefusal};
-use wm_making::{names_fault, row_fault, shape_fault, table_of};
+use wm_base::tree::column::Names;
+use wm_base::tree::expr::Expr;
+use wm_base::tree::line::Line;
+use wm_base::tree::statement::Statement;
+use wm_base::{Bytes, Memory, Period, Row, Value, Values};
+use wm_making::{all_last, insert_fault, names_fault, period_given, row_fault, row_of};
+use wm_parser::discard;
+use wm_print::{push_row, push_value};
 use wm_spec::record::{Table, TableColumn};
 
-/// What CREATE TABLE makes of the key and another column, and nothing where it is refused.
-fn made(alloc: Global, other: &[u8]) -> Result<Option<Table>, Memory> {
-    let items = items(alloc, other)?;
-    let name = Name::copy_of(alloc, b"BUD")?;
-    match shape_fault(alloc, &items)? {
-        Some(_) => Ok(None),
-        None => Ok(Some(table_of(alloc, 1, name, &items)?)),
-    }
-}
+const CREATE_BUD: &str = "CREATE TABLE BUD (ID NUMBER PRIMARY KEY, NOTE VARCHAR2(3))";
 
 /// Whether they are a key, which is never NULL, and the text NOTE of 3 bytes, which may be.
 fn has_key_and_text(columns: &[TableColumn]) -> bool {
@@ -35,77 +29,158 @@ fn has_key_and_text(columns: &[TableColumn]) -> bool {
 
 #[test]
 fn a_table_is_made(rt: HostRuntime) -> Result<(), Fail> {
-    let alloc: Global = rt.alloc();
-    let table = made(alloc, b"NOTE")?.ok_or("a table")?;
+    let table = made(rt.alloc(), CREATE_BUD)?.ok_or("a table")?;
     assert!(rt; table.has_key && table.key_column == 0 && !table.versioned);
     assert!(rt; has_key_and_text(table.columns.as_slice()));
-    assert!(rt; made(alloc, b"ID")?.is_none());
+    let twice = "CREATE TABLE BUD (ID NUMBER PRIMARY KEY, ID VARCHAR2(3))";
+    assert!(rt; made(rt.alloc(), twice)?.is_none());
     Ok(())
 }
 
-fn fault_of_names(alloc: Global, other: &[u8]) -> Result<Option<Refusal>, Memory> {
-    let items = items(alloc, other)?;
-    let name = Name::copy_of(alloc, b"BUD")?;
-    names_fault(alloc, &name, &items)
+fn text_of_names(alloc: Global, line: &Line) -> Result<Bytes, Memory> {
+    match statement_in(line) {
+        Some(Statement::Create { table, items }) => {
+            refusal_text(alloc, names_fault(alloc, table, items)?)
+        }
+        _ => Ok(Bytes::new(alloc)),
+    }
 }
 
-fn is_reserved(refusal: Option<Refusal>, reserved: &[u8]) -> bool {
-    match refusal {
-        Some(Refusal::Space(SpaceRefusal::Wm024(name))) => name.equals(reserved),
-        _ => false,
-    }
+/// The text of what the names are refused for that CREATE TABLE gives.
+fn names_refused(alloc: Global, create: &str) -> Result<Bytes, Fail> {
+    let line = line_of(alloc, create)?;
+    let text = text_of_names(alloc, &line);
+    discard(line);
+    Ok(text?)
 }
 
 #[test]
 fn a_name_is_reserved(rt: HostRuntime) -> Result<(), Fail> {
-    let alloc: Global = rt.alloc();
-    assert!(rt; fault_of_names(alloc, b"NOTE")?.is_none());
-    assert!(rt; is_reserved(fault_of_names(alloc, b"WM_NOTE")?, b"WM_NOTE"));
+    let text = names_refused(rt.alloc(), CREATE_BUD)?;
+    assert_eq!(rt; text.as_slice(), b"".as_slice());
+    let reserved = "CREATE TABLE BUD (ID NUMBER PRIMARY KEY, WM_NOTE VARCHAR2(3))";
+    let text = names_refused(rt.alloc(), reserved)?;
+    assert_eq!(rt; text.as_slice(), b"WM-024 reserved WM_NOTE\n".as_slice());
     Ok(())
 }
 
-fn fault_of_row(alloc: Global, note: &[u8]) -> Result<Option<Refusal>, Memory> {
-    let table = table(alloc, false)?;
-    let row = row(alloc, 7, note)?;
-    row_fault(alloc, &table, row.as_slice())
+/// The values as a row, and the period behind them that is given.
+fn text_of_row(alloc: Global, values: Values, given: Option<Period>) -> Result<Bytes, Memory> {
+    let mut text = Bytes::new(alloc);
+    push_row(alloc, &mut text, &Row { values })?;
+    if let Some(period) = given {
+        push_value(alloc, &mut text, &Value::Span(period))?;
+    }
+    Ok(text)
 }
 
-fn is_heavy_in(refusal: Option<Refusal>, column: &[u8]) -> bool {
-    match refusal {
-        Some(Refusal::Cell(CellRefusal::Wm063(name))) => name.equals(column),
-        _ => false,
+/// The row that is made, or what it is refused for.
+fn text_of_made(
+    alloc: Global,
+    table: &Table,
+    values: Values,
+    given: Option<Period>,
+) -> Result<Bytes, Memory> {
+    match row_fault(alloc, table, values.as_slice())? {
+        Some(refusal) => refusal_text(alloc, Some(refusal)),
+        None => text_of_row(alloc, values, given),
     }
+}
+
+/// The row that INSERT makes, or what it is refused for; nothing where a number is out of range or a period is empty.
+fn text_of_insert(
+    alloc: Global,
+    table: &Table,
+    names: &Option<Names>,
+    values: &[Expr],
+) -> Result<Bytes, Memory> {
+    if let Some(refusal) = insert_fault(alloc, table, names, values)? {
+        return refusal_text(alloc, Some(refusal));
+    }
+    if !all_last(values) {
+        return Ok(Bytes::new(alloc));
+    }
+    let given = period_given(table, names, values);
+    match row_of(alloc, table, names, values) {
+        Ok(row) => text_of_made(alloc, table, row, given),
+        Err(_) => Ok(Bytes::new(alloc)),
+    }
+}
+
+fn text_in(alloc: Global, table: &Table, line: &Line) -> Result<Bytes, Memory> {
+    match statement_in(line) {
+        Some(Statement::Insert { names, values, .. }) => {
+            text_of_insert(alloc, table, names, values.as_slice())
+        }
+        _ => Ok(Bytes::new(alloc)),
+    }
+}
+
+/// What INSERT makes in BUD with valid time or without.
+fn inserted(alloc: Global, valid: bool, insert: &str) -> Result<Bytes, Fail> {
+    let table = table(alloc, CREATE_BUD, valid)?;
+    let line = line_of(alloc, insert)?;
+    let text = text_in(alloc, &table, &line);
+    discard(line);
+    Ok(text?)
+}
+
+fn expect(rt: &impl Abort, alloc: Global, table: &[(bool, &str, &str)]) -> Result<(), Fail> {
+    for (valid, insert, wanted) in table {
+        let text = inserted(alloc, *valid, insert)?;
+        assert_eq!(rt; text.as_slice(), wanted.as_bytes(), "{insert}");
+    }
+    Ok(())
 }
 
 #[test]
 fn a_text_is_too_long(rt: HostRuntime) -> Result<(), Fail> {
-    let alloc: Global = rt.alloc();
-    assert!(rt; fault_of_row(alloc, b"abc")?.is_none());
-    assert!(rt; is_heavy_in(fault_of_row(alloc, b"abcd")?, b"NOTE"));
-    Ok(())
+    let table = [
+        (false, "INSERT INTO BUD VALUES (7, 'abc')", "7|'abc'\n"),
+        (
+            false,
+            "INSERT INTO BUD VALUES (7, 'abcd')",
+            "WM-063 too heavy NOTE\n",
+        ),
+    ];
+    expect(&rt, rt.alloc(), table.as_slice())
 }
 
 #[test]
 fn values_are_a_row(rt: HostRuntime) -> Result<(), Fail> {
-    let alloc: Global = rt.alloc();
-    let row = row_in_order(alloc)?.ok_or("a row")?;
-    assert!(rt; is_row(row.as_slice(), 7, b"abc"));
-    let row = arranged_row(alloc)?.ok_or("a row")?;
-    assert!(rt; is_row(row.as_slice(), 7, b"abc"));
-    Ok(())
+    let table = [
+        (false, "INSERT INTO BUD VALUES (7, 'abc')", "7|'abc'\n"),
+        (
+            false,
+            "INSERT INTO BUD (NOTE, ID) VALUES ('abc', 7)",
+            "7|'abc'\n",
+        ),
+    ];
+    expect(&rt, rt.alloc(), table.as_slice())
 }
+
+const PERIOD_BY_NAME: &str =
+    "INSERT INTO BUD (ID, NOTE, WM_VALID) VALUES (7, 'abc', WM_PERIOD(DATE '0001-01-01', DBMS_WM.UNTIL_CHANGED))";
+
+const PERIOD_BEHIND: &str =
+    "INSERT INTO BUD VALUES (7, 'abc', WM_PERIOD(DATE '0001-01-01', DBMS_WM.UNTIL_CHANGED))";
+
+const NULL_BY_NAME: &str = "INSERT INTO BUD (ID, NOTE, WM_VALID) VALUES (7, 'abc', NULL)";
+
+const NULL_BEHIND: &str = "INSERT INTO BUD VALUES (7, 'abc', NULL)";
+
+const GIVEN: &str = "7|'abc'\n[0001-01-01 00:00:00, UNTIL_CHANGED)";
 
 #[test]
 fn a_period_is_given(rt: HostRuntime) -> Result<(), Fail> {
-    let alloc: Global = rt.alloc();
-    for (valid, named, period, wanted) in CASES {
-        let case = Case {
-            valid,
-            named,
-            period,
-        };
-        assert_eq!(rt; outcome(alloc, case)?, wanted);
-        assert_eq!(rt; given(alloc, case)?, wanted == 0);
-    }
-    Ok(())
+    let table = [
+        (true, PERIOD_BY_NAME, GIVEN),
+        (true, PERIOD_BEHIND, GIVEN),
+        (true, NULL_BY_NAME, "WM-013 type WM_VALID\n"),
+        (true, NULL_BEHIND, "WM-013 type WM_VALID\n"),
+        (false, PERIOD_BY_NAME, "WM-017 not valid-time BUD\n"),
+        (false, NULL_BY_NAME, "WM-013 type WM_VALID\n"),
+        (false, PERIOD_BEHIND, "WM-014 count 2\n"),
+    ];
+    expect(&rt, rt.alloc(), table.as_slice())
 }

@@ -1,31 +1,46 @@
+use crate::lines::{cond_in, line_where};
+use crate::tables::{columns, row};
+use std::alloc::Global;
 use std::test::Fail;
-use wm_base::tree::cond::{Cmp, Cond};
-use wm_base::tree::constant::Const;
-use wm_base::tree::operand::Operand;
-use wm_base::{Columns, Row, Values};
+use wm_base::tree::line::Line;
+use wm_base::{Columns, Memory, Row};
+use wm_expr::{fits, typed};
+use wm_parser::discard;
 use wm_rowtest::keeps;
+
+/// Whether the row is kept, and nothing where it may not be asked.
+fn is_kept(
+    alloc: Global,
+    line: &Line,
+    columns: &Columns,
+    row: &Row,
+) -> Result<Option<bool>, Memory> {
+    match cond_in(line) {
+        Some(cond) => {
+            if typed(cond, columns) && fits(columns, row) {
+                Ok(Some(keeps(alloc, cond, columns, row)?))
+            } else {
+                Ok(None)
+            }
+        }
+        None => Ok(None),
+    }
+}
+
+/// Whether a row without columns is kept.
+fn kept(alloc: Global, cond: &str) -> Result<Option<bool>, Fail> {
+    let columns = columns(alloc, "T", &[])?;
+    let row = row(alloc, &[])?;
+    let line = line_where(alloc, cond)?;
+    let kept = is_kept(alloc, &line, &columns, &row);
+    discard(line);
+    Ok(kept?)
+}
 
 #[test]
 fn only_true_rows_are_kept(rt: HostRuntime) -> Result<(), Fail> {
-    let alloc = rt.alloc();
-    for (number, wanted) in [(Some(1), true), (Some(2), false), (None, false)] {
-        let columns = Columns::from_vec(Vec::new(alloc));
-        let row = Row {
-            values: Values::new(alloc),
-        };
-        let cond = Cond::Compare {
-            left: Operand::Const(Const::Num(1)),
-            cmp: Cmp::Eq,
-            right: match number {
-                Some(number) => Operand::Const(Const::Num(number)),
-                None => Operand::Const(Const::Null),
-            },
-        };
-        if wm_expr::typed(&cond, &columns) && wm_expr::fits(&columns, &row) {
-            assert_eq!(rt; keeps(alloc, &cond, &columns, &row)?, wanted);
-        } else {
-            assert!(rt; false);
-        }
+    for (cond, wanted) in [("1 = 1", true), ("1 = 2", false), ("1 = NULL", false)] {
+        assert_eq!(rt; kept(rt.alloc(), cond)?, Some(wanted), "{cond}");
     }
     Ok(())
 }

@@ -1,5 +1,8 @@
 //! A station that fails from some call on.
-ghost use Rattle.std.specs.Prelude.{◌≡◌, ◌+◌, ◌-◌};
+ghost use Rattle.std.specs.Prelude.{◌≡◌, ◌+◌, ◌-◌, ◌<◌, ◌≤◌, length, IfOk, OnOk, OnErr, IsErrOf};
+ghost use Rattle.wm_station.specs.Cause.{DiskCause, SayCause, Rises};
+ghost use Rattle.wm_station.specs.History.{now, stretch, DidWrite, MayHaveWritten, MayHaveSaid, Synced, Said};
+ghost use Rattle.wm_station.specs.Planned.{Burns};
 
 use crate::{DiskFailed, SayFailed, Station};
 
@@ -7,7 +10,8 @@ use crate::{DiskFailed, SayFailed, Station};
 #[derive(Drop)]
 pub struct FuseStation<P> {
     inner: P,
-    left: u64,
+    /// How many more calls it passes.
+    pub left: u64,
     blown_disk: u64,
     blown_say: u64,
 }
@@ -18,6 +22,7 @@ impl<P: Station> FuseStation<P> {
         ensures history { ⟦<FuseStation<P> as Station>⟧.history result ≡ P.history inner }
         ensures disk { ⟦<FuseStation<P> as Station>⟧.disk_faults result ≡ P.disk_faults inner }
         ensures say { ⟦<FuseStation<P> as Station>⟧.say_faults result ≡ P.say_faults inner }
+        ensures left { result.left ≡ calls }
     {
         FuseStation {
             inner,
@@ -52,7 +57,14 @@ impl<P: Station> Station for FuseStation<P> {
 
     ghost say_faults = { λ f. P.say_faults f.inner + f.blown_say };
 
-    fn len(&mut self) -> Result<u64, DiskFailed> {
+    fn len(&mut self) -> Result<u64, DiskFailed>
+        ensures size { P.tells → IfOk result (λ n. n ≡ length (now (P.history self.old.inner))) }
+        ensures told { P.tells → P.history self.new.inner ≡ P.history self.old.inner }
+        ensures burns { Burns self.old.left self.new.left self.old.blown_disk self.new.blown_disk result DiskFailed.Failed }
+        ensures cause { DiskCause (P.disk_faults self.old.inner + self.old.blown_disk) (P.disk_faults self.new.inner + self.new.blown_disk) result }
+        ensures wants { IsErrOf result DiskFailed.Memory → P.wants }
+        ensures quiet { P.say_faults self.new.inner + self.new.blown_say ≡ P.say_faults self.old.inner + self.old.blown_say }
+    {
         if self.left == 0 {
             self.blown_disk = self.blown_disk.saturating_add(1);
             return Err(DiskFailed::Failed);
@@ -61,7 +73,15 @@ impl<P: Station> Station for FuseStation<P> {
         self.inner.len()
     }
 
-    fn read(&mut self, at: u64, into: &mut [u8]) -> Result<(), DiskFailed> {
+    fn read(&mut self, at: u64, into: &mut [u8]) -> Result<(), DiskFailed>
+        requires { P.tells → at + length into.old ≤ length (now (P.history self.old.inner)) }
+        ensures bytes { P.tells → OnOk result (into.new ≡ stretch (now (P.history self.old.inner)) at (length into.old)) }
+        ensures told { P.tells → P.history self.new.inner ≡ P.history self.old.inner }
+        ensures burns { Burns self.old.left self.new.left self.old.blown_disk self.new.blown_disk result DiskFailed.Failed }
+        ensures cause { DiskCause (P.disk_faults self.old.inner + self.old.blown_disk) (P.disk_faults self.new.inner + self.new.blown_disk) result }
+        ensures wants { IsErrOf result DiskFailed.Memory → P.wants }
+        ensures quiet { P.say_faults self.new.inner + self.new.blown_say ≡ P.say_faults self.old.inner + self.old.blown_say }
+    {
         if self.left == 0 {
             self.blown_disk = self.blown_disk.saturating_add(1);
             return Err(DiskFailed::Failed);
@@ -70,7 +90,14 @@ impl<P: Station> Station for FuseStation<P> {
         self.inner.read(at, into)
     }
 
-    fn write_at(&mut self, at: u64, bytes: &[u8]) -> Result<(), DiskFailed> {
+    fn write_at(&mut self, at: u64, bytes: &[u8]) -> Result<(), DiskFailed>
+        ensures written { P.tells → OnOk result (DidWrite at bytes.now (P.history self.old.inner) (P.history self.new.inner)) }
+        ensures torn { P.tells → OnErr result (MayHaveWritten at (length bytes.now) (P.history self.old.inner) (P.history self.new.inner)) }
+        ensures burns { Burns self.old.left self.new.left self.old.blown_disk self.new.blown_disk result DiskFailed.Failed }
+        ensures cause { DiskCause (P.disk_faults self.old.inner + self.old.blown_disk) (P.disk_faults self.new.inner + self.new.blown_disk) result }
+        ensures wants { IsErrOf result DiskFailed.Memory → P.wants }
+        ensures quiet { P.say_faults self.new.inner + self.new.blown_say ≡ P.say_faults self.old.inner + self.old.blown_say }
+    {
         if self.left == 0 {
             self.blown_disk = self.blown_disk.saturating_add(1);
             return Err(DiskFailed::Failed);
@@ -79,7 +106,14 @@ impl<P: Station> Station for FuseStation<P> {
         self.inner.write_at(at, bytes)
     }
 
-    fn sync(&mut self) -> Result<(), DiskFailed> {
+    fn sync(&mut self) -> Result<(), DiskFailed>
+        ensures synced { P.tells → OnOk result (P.history self.new.inner ≡ Synced (P.history self.old.inner)) }
+        ensures unsynced { P.tells → OnErr result (P.history self.new.inner ≡ P.history self.old.inner) }
+        ensures burns { Burns self.old.left self.new.left self.old.blown_disk self.new.blown_disk result DiskFailed.Failed }
+        ensures cause { DiskCause (P.disk_faults self.old.inner + self.old.blown_disk) (P.disk_faults self.new.inner + self.new.blown_disk) result }
+        ensures wants { IsErrOf result DiskFailed.Memory → P.wants }
+        ensures quiet { P.say_faults self.new.inner + self.new.blown_say ≡ P.say_faults self.old.inner + self.old.blown_say }
+    {
         if self.left == 0 {
             self.blown_disk = self.blown_disk.saturating_add(1);
             return Err(DiskFailed::Failed);
@@ -88,7 +122,16 @@ impl<P: Station> Station for FuseStation<P> {
         self.inner.sync()
     }
 
-    fn say(&mut self, bytes: &[u8]) -> Result<usize, SayFailed> {
+    fn say(&mut self, bytes: &[u8]) -> Result<usize, SayFailed>
+        ensures within { IfOk result (λ n. n ≤ length bytes.now) }
+        ensures said { P.tells → IfOk result (λ n. P.history self.new.inner ≡ Said (P.history self.old.inner) bytes.now n) }
+        ensures unsaid { P.tells → OnErr result (MayHaveSaid bytes.now (P.history self.old.inner) (P.history self.new.inner)) }
+        ensures burns { Burns self.old.left self.new.left self.old.blown_say self.new.blown_say result SayFailed.Failed }
+        ensures cause { SayCause (P.say_faults self.old.inner + self.old.blown_say) (P.say_faults self.new.inner + self.new.blown_say) result }
+        ensures nothing { IfOk result (λ n. n ≡ 0 → 0 < length bytes.now → Rises (P.say_faults self.old.inner + self.old.blown_say) (P.say_faults self.new.inner + self.new.blown_say)) }
+        ensures wants { IsErrOf result SayFailed.Memory → P.wants }
+        ensures quiet { P.disk_faults self.new.inner + self.new.blown_disk ≡ P.disk_faults self.old.inner + self.old.blown_disk }
+    {
         if self.left == 0 {
             self.blown_say = self.blown_say.saturating_add(1);
             return Err(SayFailed::Failed);

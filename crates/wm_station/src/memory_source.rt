@@ -1,5 +1,6 @@
 //! Sources in memory.
-ghost use Rattle.std.specs.Prelude.{◌≡◌, ◌+◌, ◌<◌, ◌≤◌, [], ◌++◌, length, take, drop};
+ghost use Rattle.std.specs.Prelude.{◌≡◌, ◌+◌, ◌<◌, ◌≤◌, [], ◌++◌, length, take, drop, Ok, IfOk, OnOk, OnErr};
+ghost use Rattle.wm_station.specs.Cause.{SourceCause};
 
 use crate::{Failing, Source, SourceFailed};
 
@@ -14,10 +15,13 @@ pub struct MemorySource {
 }
 
 impl MemorySource {
+    ghost use Rattle.wm_station.specs.Planned.{calls_of};
+
     /// All of these bytes. The calls are those on a buffer that has room.
     pub fn new(bytes: Vec<u8>, calls: Failing) -> Self
         ensures left { ⟦<MemorySource as Source>⟧.left result ≡ bytes.items }
         ensures faults { ⟦<MemorySource as Source>⟧.faults result ≡ 0 }
+        ensures calls { calls_of result ≡ calls }
     {
         MemorySource {
             bytes,
@@ -29,13 +33,24 @@ impl MemorySource {
 }
 
 impl Source for MemorySource {
+    ghost use Rattle.wm_station.specs.Planned.{FailsNext, calls_of};
+
     ghost tells = { Unit {0} };
 
     ghost left = { λ s. drop s.at s.bytes.items };
 
     ghost faults = { λ s. s.faults };
 
-    fn take(&mut self, into: &mut [u8]) -> Result<usize, SourceFailed> {
+    fn take(&mut self, into: &mut [u8]) -> Result<usize, SourceFailed>
+        ensures within { IfOk result (λ n. n ≤ length into.old) }
+        ensures taken { IfOk result (λ n. drop self.old.at self.old.bytes.items ≡ take n into.new ++ drop self.new.at self.new.bytes.items) }
+        ensures end { IfOk result (λ n. n ≡ 0 → 0 < length into.old → drop self.old.at self.old.bytes.items ≡ []) }
+        ensures untaken { OnErr result (drop self.new.at self.new.bytes.items ≡ drop self.old.at self.old.bytes.items) }
+        ensures planned { OnErr result (FailsNext (calls_of self.old)) }
+        ensures fails { OnOk result (0 < length into.old → FailsNext (calls_of self.old) → ⊥) }
+        ensures cause { SourceCause self.old.faults self.new.faults result }
+        ensures nothing { length into.old ≡ 0 → result ≡ Ok 0 }
+    {
         if into.is_empty() {
             return Ok(0);
         }

@@ -1,9 +1,10 @@
 //! A station in memory whose calls can be made to fail.
-ghost use Rattle.std.specs.Prelude.{◌≡◌, ◌+◌, ◌-◌, ◌^◌, ◌<◌, ◌≤◌, ◌↔◌, min, length, IfOk, OnOk, OnErr, IsErrOf};
+ghost use Rattle.std.specs.Prelude.{◌≡◌, ◌+◌, ◌-◌, ◌^◌, ◌<◌, ◌≤◌, ◌↔◌, min, length, take, IfOk, OnOk, OnErr, IsErrOf};
 ghost use Rattle.wm_station.specs.History.{Begin, Synced, Said, now, stretch, DidWrite, MayHaveWritten};
 ghost use Rattle.wm_station.specs.Cause.{DiskCause, SayCause, Rises};
 ghost use Rattle.wm_station.specs.Planned.{FailsNext, faults_of};
 ghost use Rattle.wm_station.specs.Recorded.{history_of};
+ghost use Rattle.wm_station.specs.Replay.{over};
 
 use crate::{DiskFailed, Faults, Recording, SayFailed, Station};
 use std::alloc::{AllocError, Global};
@@ -45,6 +46,7 @@ impl MemoryStation {
 fn tear(recording: &mut Recording, at: u64, len: u64, torn: &[u8]) -> Result<(), AllocError>
     requires { length torn.now ≤ len }
     ensures ok { OnOk result (MayHaveWritten at len (history_of recording.old) (history_of recording.new)) }
+    ensures here { OnOk result (now (history_of recording.new) ≡ over at torn.now (now (history_of recording.old))) }
     ensures err { OnErr result (history_of recording.new ≡ history_of recording.old) }
 {
     if torn.is_empty() {
@@ -98,6 +100,7 @@ impl Station for MemoryStation {
     fn write_at(&mut self, at: u64, bytes: &[u8]) -> Result<(), DiskFailed>
         ensures written { OnOk result (DidWrite at bytes.now (history_of self.old.recording) (history_of self.new.recording)) }
         ensures torn { OnErr result (MayHaveWritten at (length bytes.now) (history_of self.old.recording) (history_of self.new.recording)) }
+        ensures tears { IsErrOf result DiskFailed.Failed → now (history_of self.new.recording) ≡ over at (take (min (length (faults_of self.old).torn.items) (length bytes.now)) (faults_of self.old).torn.items) (now (history_of self.old.recording)) }
         ensures planned { IsErrOf result DiskFailed.Failed → FailsNext (faults_of self.old).writes }
         ensures fails { OnOk result (FailsNext (faults_of self.old).writes → ⊥) }
         ensures cause { DiskCause self.old.disk_faults self.new.disk_faults result }
