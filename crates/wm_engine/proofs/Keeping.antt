@@ -1,5 +1,5 @@
 -- What a file stands for once a line was run over the records that it holds.
-use Rattle.std.proofs.Common.{◌≤◌, ◌*◌, length, ◌≡◌, ℕ, true, List, [], ◌⊎◌, inl, inr, refl, sym, ap, subst, ◌∙◌}
+use Rattle.std.proofs.Common.{◌≤◌, ◌+◌, ◌*◌, length, ◌≡◌, ℕ, true, List, [], ◌∷◌, ◌⊎◌, inl, inr, refl, sym, ap, subst, ◌∙◌, arith}
 use Rattle.std.specs.List.{list_all}
 use Rattle.wm_graph.specs.Parts.{parts_of}
 use Rattle.wm_graph.specs.Rules.{keep_rules}
@@ -85,6 +85,20 @@ kept_rules rs new m es drafted = subst (λ ss. keep_rules (parts_of ss) ≡ true
 -- without edits the records stay
 pub kept_same : (rs new : List Stored) (m : ℕ) (es : List Edit) → AreDrafted rs m es new → es ≡ [] → new ≡ rs
 kept_same rs new m es drafted none = drafted.is ∙ ap (λ cs. applied cs rs) (drafted.drafts.nothing none)
+
+-- edits are counted as work, so a line that counts none makes none
+pub workless_edits : (m : ℕ) (es : List Edit) (s : State) → (drafted_state m es s).work ≡ s.work → es ≡ []
+workless_edits m [] s same = refl
+workless_edits m (e ∷ es) s same = absurd (counts s.work same)
+  where
+    counts : (w : ℕ) → w + 4096 ≡ w → ⊥
+    counts w h = omega (arith, h)
+
+-- so is a plan that does what a line does which counts none
+pub workless_plan : (rs : List Stored) (xs : List Session) (m : ℕ) (es made : List Edit) (seating : Seating) (after : ℕ) (answer : Answer) (act : State → State × Answer) → DoesAt rs xs m es seating after answer act → made ≡ es
+    → (s : State) → StandsAt rs xs m s → (act s).0.work ≡ s.work → made ≡ []
+workless_plan rs xs m es made seating after answer act does same s st workless =
+    same ∙ workless_edits m es s (ap (λ (r : State × Answer). r.0.work) (sym (does.does s st)) ∙ workless)
 
 -- savepoints and workspaces change few records
 pub kept_few : (rs new : List Stored) (m : ℕ) (es made : List Edit) → made ≡ es → AreDrafted rs m made new → (list_all is_fork_edit es ≡ true) × (length es ≤ 1) → ChangesFew rs new

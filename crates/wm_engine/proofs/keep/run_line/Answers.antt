@@ -6,7 +6,7 @@ use Rattle.wm_model.specs.Step.{step}
 use Rattle.wm_print.specs.Texts.{Answer}
 use Rattle.wm_state.specs.State.{State, Session}
 use Rattle.wm_state.specs.declared.edit.Edit.{Edit}
-use Rattle.wm_engine.proofs.Keeping.{begun_stands, kept_does, kept_few, kept_rules, kept_same, kept_stands}
+use Rattle.wm_engine.proofs.Keeping.{begun_stands, kept_does, kept_few, kept_rules, kept_same, kept_stands, workless_plan}
 use Rattle.wm_engine.specs.Idle.{is_idle}
 use Rattle.wm_engine.specs.Views.{answer_view, seating_view}
 use Rattle.wm_engine.specs.declared.seating.Seating.{Seating}
@@ -68,3 +68,26 @@ returns-clause-answered g c = λ s stands.
 
 pub returns-clause-rules : goal.returns-clause-rules
 returns-clause-rules g c = kept_rules c.args.image c.in_ok-image.image c.args.moment c.into_changed.result.edits.items c.in_ok-image.ensures.image
+
+-- ---- lines that count no work
+
+pub returns-clause-workless : goal.returns-clause-workless
+returns-clause-workless g c = λ s stands workless.
+    kept_same c.args.image c.in_ok-image.image c.args.moment c.into_changed.result.edits.items c.in_ok-image.ensures.image
+    (workless_plan c.args.image c.as_slice.result.now c.args.moment c.in_ok-planned.field-0.planned.edits.items c.into_changed.result.edits.items (seating_view c.in_ok-planned.field-0.planned.seating) c.in_ok-planned.field-0.moment
+    (answer_view c.in_ok-planned.field-0.planned.answer) (λ t. step t c.args.line.now) c.in_ok-planned.ensures.does (ap (λ (v : Vec Edit Global). v.items) c.into_changed.ensures.edits) s
+    (subst (λ (xs : List Session). StandsAt c.args.image xs c.args.moment s) (sym c.as_slice.ensures.value) stands) workless)
+
+pub returns-in_err-image-clause-workless_unwritten : goal.returns-in_err-image-clause-workless_unwritten
+returns-in_err-image-clause-workless_unwritten g c = λ told s stands workless.
+    c.in_err-image.ensures.nothing told
+    (workless_plan c.args.image c.as_slice.result.now c.args.moment c.in_ok-planned.field-0.planned.edits.items c.into_changed.result.edits.items (seating_view c.in_ok-planned.field-0.planned.seating) c.in_ok-planned.field-0.moment
+    (answer_view c.in_ok-planned.field-0.planned.answer) (λ t. step t c.args.line.now) c.in_ok-planned.ensures.does (ap (λ (v : Vec Edit Global). v.items) c.into_changed.ensures.edits) s
+    (subst (λ (xs : List Session). StandsAt c.args.image xs c.args.moment s) (sym c.as_slice.ensures.value) stands) workless)
+
+pub returns-clause-workless_unwritten : goal.returns-clause-workless_unwritten
+returns-clause-workless_unwritten g c = λ told s stands workless.
+    c.in_ok-image.ensures.nothing told
+    (workless_plan c.args.image c.as_slice.result.now c.args.moment c.in_ok-planned.field-0.planned.edits.items c.into_changed.result.edits.items (seating_view c.in_ok-planned.field-0.planned.seating) c.in_ok-planned.field-0.moment
+    (answer_view c.in_ok-planned.field-0.planned.answer) (λ t. step t c.args.line.now) c.in_ok-planned.ensures.does (ap (λ (v : Vec Edit Global). v.items) c.into_changed.ensures.edits) s
+    (subst (λ (xs : List Session). StandsAt c.args.image xs c.args.moment s) (sym c.as_slice.ensures.value) stands) workless)

@@ -45,3 +45,19 @@ pub returns-clause-unwritten : goal.returns-clause-unwritten
 returns-clause-unwritten g c = λ told s for idle.
     let here = ap (λ (o : Option (List Stored)). unwrap_or o []) (sym c.in-Some.ensures.value) in
     c.in_ok-kept.ensures.unwritten told s (stands_at _ c.in-Some.image s here (subst (λ (e : Engaged). StandsFor e s) (sym c.self.view_is) for)) idle
+
+pub returns-clause-workless : goal.returns-clause-workless
+returns-clause-workless g c = λ s for workless.
+    let here = ap (λ (o : Option (List Stored)). unwrap_or o []) (sym c.in-Some.ensures.value) in
+    c.in_ok-kept.ensures.workless s (stands_at _ c.in-Some.image s here (subst (λ (e : Engaged). StandsFor e s) (sym c.self.view_is) for)) workless
+    ∙ sym (ap (λ (e : Engaged). e.records) (sym c.self.view_is) ∙ here)
+
+pub returns-in_err-kept-clause-workless_unwritten : goal.returns-in_err-kept-clause-workless_unwritten
+returns-in_err-kept-clause-workless_unwritten g c = λ told s for workless.
+    let here = ap (λ (o : Option (List Stored)). unwrap_or o []) (sym c.in-Some.ensures.value) in
+    c.in_err-kept.ensures.workless_unwritten told s (stands_at _ c.in-Some.image s here (subst (λ (e : Engaged). StandsFor e s) (sym c.self.view_is) for)) workless
+
+pub returns-clause-workless_unwritten : goal.returns-clause-workless_unwritten
+returns-clause-workless_unwritten g c = λ told s for workless.
+    let here = ap (λ (o : Option (List Stored)). unwrap_or o []) (sym c.in-Some.ensures.value) in
+    c.in_ok-kept.ensures.workless_unwritten told s (stands_at _ c.in-Some.image s here (subst (λ (e : Engaged). StandsFor e s) (sym c.self.view_is) for)) workless
