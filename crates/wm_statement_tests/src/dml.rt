@@ -1,23 +1,19 @@
 //! What becomes of the rows of BUD, worked by hand: 1|10 and 2|20, or with valid time 1|10 over [10, 20).
 use crate::tables::period;
-use crate::writing::{World, expect, written};
+use crate::writing::{expect, written};
 use std::alloc::Global;
 use std::cell::Cell;
 use std::process::Abort;
 use std::test::Fail;
 use wm_dml::{Shift, clash_in};
 
-const BUD: World = World {
-    create: "CREATE TABLE BUD (ID NUMBER PRIMARY KEY, AMT NUMBER NOT NULL)",
-    valid: false,
-    within: None,
-};
+const BUD: &str = "CREATE TABLE BUD (ID NUMBER PRIMARY KEY, AMT NUMBER NOT NULL)";
 
 #[test]
 fn the_closure_chooses_rows(rt: HostRuntime) -> Result<(), Fail> {
     let calls = Cell::new(0);
     let update = "UPDATE BUD SET AMT = AMT WHERE ID = 1";
-    let text = written(rt.alloc(), BUD, update, &calls)?;
+    let text = written(rt.alloc(), BUD, None, update, &calls)?;
     assert_eq!(rt;
         text.as_slice(),
         b"UPDATE 1 [0, 315537897600) 1|10\n".as_slice()
@@ -32,7 +28,7 @@ fn rows_are_gone(rt: HostRuntime) -> Result<(), Fail> {
         "DELETE FROM BUD",
         "DELETE 1 [0, 315537897600) gone\nDELETE 2 [0, 315537897600) gone\n",
     )];
-    expect(&rt, rt.alloc(), BUD, table.as_slice())
+    expect(&rt, rt.alloc(), BUD, None, table.as_slice())
 }
 
 #[test]
@@ -41,7 +37,7 @@ fn rows_are_set(rt: HostRuntime) -> Result<(), Fail> {
         "UPDATE BUD SET AMT = ID",
         "UPDATE 1 [0, 315537897600) 1|1\nUPDATE 2 [0, 315537897600) 2|2\n",
     )];
-    expect(&rt, rt.alloc(), BUD, table.as_slice())
+    expect(&rt, rt.alloc(), BUD, None, table.as_slice())
 }
 
 #[test]
@@ -56,7 +52,7 @@ fn null_is_refused(rt: HostRuntime) -> Result<(), Fail> {
             "WM-061 NULL in AMT\n",
         ),
     ];
-    expect(&rt, rt.alloc(), BUD, table.as_slice())
+    expect(&rt, rt.alloc(), BUD, None, table.as_slice())
 }
 
 #[test]
@@ -65,7 +61,7 @@ fn rows_are_replaced(rt: HostRuntime) -> Result<(), Fail> {
         "UPDATE BUD SET AMT = 30 WHERE ID = 2",
         "UPDATE 2 [0, 315537897600) 2|30\n",
     )];
-    expect(&rt, rt.alloc(), BUD, table.as_slice())
+    expect(&rt, rt.alloc(), BUD, None, table.as_slice())
 }
 
 /// The statements write this in BUD with valid time, in sessions with these periods.
@@ -76,12 +72,13 @@ fn expect_within(
 ) -> Result<(), Fail> {
     for (from, till, statement, wanted) in table {
         let within = period(*from, *till).ok_or("a period")?;
-        let world = World {
-            valid: true,
-            within: Some(within),
-            ..BUD
-        };
-        expect(rt, alloc, world, [(*statement, *wanted)].as_slice())?;
+        expect(
+            rt,
+            alloc,
+            BUD,
+            Some(within),
+            [(*statement, *wanted)].as_slice(),
+        )?;
     }
     Ok(())
 }

@@ -1,14 +1,11 @@
 //! What becomes of BUD and of the row 7|abc, worked by hand.
 use crate::tables::made;
-use crate::writing::{World, expect};
+use crate::writing::expect;
 use std::test::Fail;
+use wm_base::Period;
 use wm_spec::record::TableColumn;
 
-const BUD: World = World {
-    create: "CREATE TABLE BUD (ID NUMBER PRIMARY KEY, NOTE VARCHAR2(3))",
-    valid: false,
-    within: None,
-};
+const BUD: &str = "CREATE TABLE BUD (ID NUMBER PRIMARY KEY, NOTE VARCHAR2(3))";
 
 /// Whether they are a key, which is never NULL, and the text NOTE of 3 bytes, which may be.
 fn has_key_and_text(columns: &[TableColumn]) -> bool {
@@ -23,7 +20,7 @@ fn has_key_and_text(columns: &[TableColumn]) -> bool {
 
 #[test]
 fn a_table_is_made(rt: HostRuntime) -> Result<(), Fail> {
-    let table = made(rt.alloc(), BUD.create)?.ok_or("a table")?;
+    let table = made(rt.alloc(), BUD)?.ok_or("a table")?;
     assert!(rt; table.has_key && table.key_column == 0 && !table.versioned);
     assert!(rt; has_key_and_text(table.columns.as_slice()));
     let twice = "CREATE TABLE BUD (ID NUMBER PRIMARY KEY, ID VARCHAR2(3))";
@@ -34,13 +31,13 @@ fn a_table_is_made(rt: HostRuntime) -> Result<(), Fail> {
 #[test]
 fn a_name_is_reserved(rt: HostRuntime) -> Result<(), Fail> {
     let table = [
-        (BUD.create, ""),
+        (BUD, ""),
         (
             "CREATE TABLE BUD (ID NUMBER PRIMARY KEY, WM_NOTE VARCHAR2(3))",
             "WM-024 reserved WM_NOTE\n",
         ),
     ];
-    expect(&rt, rt.alloc(), BUD, table.as_slice())
+    expect(&rt, rt.alloc(), BUD, None, table.as_slice())
 }
 
 #[test]
@@ -52,7 +49,7 @@ fn a_text_is_too_long(rt: HostRuntime) -> Result<(), Fail> {
             "WM-063 too heavy NOTE\n",
         ),
     ];
-    expect(&rt, rt.alloc(), BUD, table.as_slice())
+    expect(&rt, rt.alloc(), BUD, None, table.as_slice())
 }
 
 #[test]
@@ -61,7 +58,7 @@ fn values_are_a_row(rt: HostRuntime) -> Result<(), Fail> {
         ("INSERT INTO BUD VALUES (7, 'abc')", "7|'abc'\n"),
         ("INSERT INTO BUD (NOTE, ID) VALUES ('abc', 7)", "7|'abc'\n"),
     ];
-    expect(&rt, rt.alloc(), BUD, table.as_slice())
+    expect(&rt, rt.alloc(), BUD, None, table.as_slice())
 }
 
 const PERIOD_BY_NAME: &str =
@@ -84,16 +81,12 @@ fn a_period_is_given(rt: HostRuntime) -> Result<(), Fail> {
         (NULL_BY_NAME, "WM-013 type WM_VALID\n"),
         (NULL_BEHIND, "WM-013 type WM_VALID\n"),
     ];
-    expect(
-        &rt,
-        rt.alloc(),
-        World { valid: true, ..BUD },
-        valid.as_slice(),
-    )?;
+    let always = Some(Period::always());
+    expect(&rt, rt.alloc(), BUD, always, valid.as_slice())?;
     let plain = [
         (PERIOD_BY_NAME, "WM-017 not valid-time BUD\n"),
         (NULL_BY_NAME, "WM-013 type WM_VALID\n"),
         (PERIOD_BEHIND, "WM-014 count 2\n"),
     ];
-    expect(&rt, rt.alloc(), BUD, plain.as_slice())
+    expect(&rt, rt.alloc(), BUD, None, plain.as_slice())
 }

@@ -1,16 +1,12 @@
 //! What statements over BUD are refused for: names that are not there, types that are wrong.
 use crate::tables::table;
-use crate::writing::{World, expect};
+use crate::writing::expect;
 use std::test::Fail;
 use wm_base::columns::NUMBER;
 use wm_base::{Column, Name};
 use wm_typing::columns_of_table;
 
-const BUD: World = World {
-    create: "CREATE TABLE BUD (ID NUMBER PRIMARY KEY, AMT NUMBER)",
-    valid: false,
-    within: None,
-};
+const BUD: &str = "CREATE TABLE BUD (ID NUMBER PRIMARY KEY, AMT NUMBER)";
 
 fn is_number(column: &Column, name: &[u8]) -> bool {
     column.source.equals(b"B") && column.name.equals(name) && column.kind == NUMBER
@@ -25,7 +21,7 @@ fn are_numbers(columns: &[Column]) -> bool {
 
 #[test]
 fn a_table_has_columns(rt: HostRuntime) -> Result<(), Fail> {
-    let table = table(rt.alloc(), BUD.create, BUD.valid)?;
+    let table = table(rt.alloc(), BUD, false)?;
     let source = Name::copy_of(rt.alloc(), b"B")?;
     let columns = columns_of_table(rt.alloc(), &source, &table)?;
     assert!(rt; are_numbers(columns.as_slice()));
@@ -38,7 +34,7 @@ fn a_delete_names_columns(rt: HostRuntime) -> Result<(), Fail> {
         ("DELETE FROM BUD WHERE AMT = 1", ""),
         ("DELETE FROM BUD WHERE COST = 1", "WM-012 no column COST\n"),
     ];
-    expect(&rt, rt.alloc(), BUD, table.as_slice())
+    expect(&rt, rt.alloc(), BUD, None, table.as_slice())
 }
 
 #[test]
@@ -47,7 +43,7 @@ fn an_update_sets_no_key(rt: HostRuntime) -> Result<(), Fail> {
         ("UPDATE BUD SET AMT = 1 WHERE AMT = 1", ""),
         ("UPDATE BUD SET ID = 1", "WM-062 key column ID\n"),
     ];
-    expect(&rt, rt.alloc(), BUD, table.as_slice())
+    expect(&rt, rt.alloc(), BUD, None, table.as_slice())
 }
 
 #[test]
@@ -59,7 +55,7 @@ fn a_query_names_columns(rt: HostRuntime) -> Result<(), Fail> {
             "WM-012 no column COST\n",
         ),
     ];
-    expect(&rt, rt.alloc(), BUD, table.as_slice())
+    expect(&rt, rt.alloc(), BUD, None, table.as_slice())
 }
 
 #[test]
@@ -80,7 +76,7 @@ fn a_table_without_valid_time_is_changed(rt: HostRuntime) -> Result<(), Fail> {
             "WM-013 type ID\n",
         ),
     ];
-    expect(&rt, rt.alloc(), BUD, table.as_slice())
+    expect(&rt, rt.alloc(), BUD, None, table.as_slice())
 }
 
 #[test]
@@ -108,5 +104,5 @@ fn a_table_without_valid_time_is_asked(rt: HostRuntime) -> Result<(), Fail> {
             "WM-012 no column WM_VALID\n",
         ),
     ];
-    expect(&rt, rt.alloc(), BUD, table.as_slice())
+    expect(&rt, rt.alloc(), BUD, None, table.as_slice())
 }

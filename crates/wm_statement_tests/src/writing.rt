@@ -35,15 +35,6 @@ use wm_select::where_of;
 use wm_spec::record::Table;
 use wm_typing::{columns_of_table, delete_fault, query_fault, update_fault};
 
-/// A table, perhaps with valid time, and the period of the session.
-#[derive(Clone, Copy)]
-pub struct World {
-    pub create: &'static str,
-    pub valid: bool,
-    /// Always, where none is set.
-    pub within: Option<Period>,
-}
-
 /// What INSERT writes of the values, or the row alone where no period is given.
 fn added_text(
     alloc: Global,
@@ -253,15 +244,17 @@ fn text_in(
     }
 }
 
-/// What a statement writes, or what it is refused for, with the calls of its condition's test counted in the cell.
+/// What a statement writes, or what it is refused for, with the calls of its condition's test counted in the cell. The
+/// table has valid time where the session is given a period.
 pub fn written(
     alloc: Global,
-    world: World,
+    create: &str,
+    session: Option<Period>,
     statement: &str,
     calls: &Cell<u64>,
 ) -> Result<Bytes, Fail> {
-    let within = world.within.unwrap_or(Period::always());
-    let table = table(alloc, world.create, world.valid)?;
+    let within = session.unwrap_or(Period::always());
+    let table = table(alloc, create, session.is_some())?;
     let line = line_of(alloc, statement)?;
     let text = text_in(alloc, &table, &within, &line, calls);
     discard(line);
@@ -272,11 +265,12 @@ pub fn written(
 pub fn expect(
     rt: &impl Abort,
     alloc: Global,
-    world: World,
+    create: &str,
+    session: Option<Period>,
     table: &[(&str, &str)],
 ) -> Result<(), Fail> {
     for (statement, wanted) in table {
-        let text = written(alloc, world, statement, &Cell::new(0))?;
+        let text = written(alloc, create, session, statement, &Cell::new(0))?;
         assert_eq!(rt; text.as_slice(), wanted.as_bytes(), "{statement}");
     }
     Ok(())
