@@ -1,6 +1,6 @@
 //! What calls give for their parameters, and statements that are refused before they are planned.
 use crate::lines::{args_in, line_of, statement_in};
-use std::alloc::Global;
+use std::alloc::{AllocError, Global};
 use std::test::Fail;
 use wm_base::tree::line::Line;
 use wm_base::tree::statement::Arg;
@@ -149,54 +149,33 @@ fn is_empty(alloc: Global, statement: &str) -> Result<Option<bool>, Fail> {
     Ok(empty)
 }
 
-/// Statements with a written period, and whether it is empty.
-static WRITTEN: [(&str, bool); 9] = [
-    (
-        "INSERT INTO BUD VALUES (1, WM_PERIOD(DATE '2020-01-01', DATE '2020-01-02'))",
-        false,
-    ),
-    (
-        "INSERT INTO BUD VALUES (1, WM_PERIOD(DATE '2020-01-02', DATE '2020-01-02'))",
-        true,
-    ),
-    (
-        "INSERT INTO BUD VALUES (1, WM_PERIOD(DATE '2020-01-03', DATE '2020-01-02'))",
-        true,
-    ),
-    (
-        "UPDATE BUD SET WM_VALID = WM_PERIOD(DATE '2020-01-01', DATE '2020-01-02')",
-        false,
-    ),
-    (
-        "UPDATE BUD SET WM_VALID = WM_PERIOD(DATE '2020-01-02', DATE '2020-01-02')",
-        true,
-    ),
-    (
-        "UPDATE BUD SET WM_VALID = WM_PERIOD(DATE '2020-01-03', DATE '2020-01-02')",
-        true,
-    ),
-    (
-        "DELETE FROM BUD WHERE WM_OVERLAPS(WM_VALID, WM_PERIOD(DATE '2020-01-01', DATE '2020-01-02')) = 1",
-        false,
-    ),
-    (
-        "DELETE FROM BUD WHERE WM_OVERLAPS(WM_VALID, WM_PERIOD(DATE '2020-01-02', DATE '2020-01-02')) = 1",
-        true,
-    ),
-    (
-        "DELETE FROM BUD WHERE WM_OVERLAPS(WM_VALID, WM_PERIOD(DATE '2020-01-03', DATE '2020-01-02')) = 1",
-        true,
-    ),
-];
+/// A written period between two days of a month, with what stands before and behind it.
+fn with_period(
+    alloc: Global,
+    around: (&str, &str),
+    days: (&str, &str),
+) -> Result<String, AllocError> {
+    let (before, behind) = around;
+    let (from, till) = days;
+    format!(in alloc; "{before}WM_PERIOD(DATE '2020-01-{from}', DATE '2020-01-{till}'){behind}")
+}
 
 #[test]
 fn a_written_period_is_empty(rt: HostRuntime) -> Result<(), Fail> {
-    for (statement, wanted) in &WRITTEN {
-        assert_eq!(rt;
-            is_empty(rt.alloc(), statement)?,
-            Some(*wanted),
-            "{statement}"
-        );
+    for around in [
+        ("INSERT INTO BUD VALUES (1, ", ")"),
+        ("UPDATE BUD SET WM_VALID = ", ""),
+        ("DELETE FROM BUD WHERE WM_OVERLAPS(WM_VALID, ", ") = 1"),
+    ] {
+        for (days, wanted) in [
+            (("01", "02"), false),
+            (("02", "02"), true),
+            (("03", "02"), true),
+        ] {
+            let statement = with_period(rt.alloc(), around, days)?;
+            let found = is_empty(rt.alloc(), statement.as_str())?;
+            assert_eq!(rt; found, Some(wanted), "{statement}");
+        }
     }
     Ok(())
 }

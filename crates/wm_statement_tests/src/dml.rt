@@ -1,65 +1,24 @@
-//! What becomes of the rows of BUD, worked by hand.
-mod choosing;
-mod spelling;
-mod tables;
-mod writing;
-
-use crate::lines::{line_of, statement_in};
+//! What becomes of the rows of BUD, worked by hand: 1|10 and 2|20, or with valid time 1|10 over [10, 20).
 use crate::tables::period;
+use crate::writing::{expect, written};
 use std::alloc::Global;
 use std::cell::Cell;
 use std::process::Abort;
 use std::test::Fail;
-use tables::{bud, rows};
-use wm_base::tree::line::Line;
-use wm_base::tree::statement::Statement;
-use wm_base::{Bytes, Memory, Period, RowList};
 use wm_dml::{Shift, clash_in};
-use wm_parser::discard;
-use wm_print::print_rows;
-use wm_spec::record::Table;
-use writing::{chosen_rows, written};
 
-fn text_of_chosen(
-    alloc: Global,
-    table: &Table,
-    line: &Line,
-    calls: &Cell<u64>,
-) -> Result<Bytes, Memory> {
-    match statement_in(line) {
-        Some(Statement::Delete { filter, .. }) => {
-            let rows = rows(alloc, table.valid)?;
-            let rows = chosen_rows(alloc, table, filter, rows, calls)?;
-            print_rows(alloc, &RowList::from_vec(rows))
-        }
-        _ => Ok(Bytes::new(alloc)),
-    }
-}
-
-/// The rows that a DELETE chooses, with the calls of its test counted in the cell.
-fn chosen(alloc: Global, delete: &str, calls: &Cell<u64>) -> Result<Bytes, Fail> {
-    let table = bud(alloc, false)?;
-    let line = line_of(alloc, delete)?;
-    let text = text_of_chosen(alloc, &table, &line, calls);
-    discard(line);
-    Ok(text?)
-}
+const BUD: &str = "CREATE TABLE BUD (ID NUMBER PRIMARY KEY, AMT NUMBER NOT NULL)";
 
 #[test]
 fn the_closure_chooses_rows(rt: HostRuntime) -> Result<(), Fail> {
     let calls = Cell::new(0);
-    let text = chosen(rt.alloc(), "DELETE FROM BUD WHERE ID = 1", &calls)?;
-    assert_eq!(rt; text.as_slice(), b"1|10\nROWS 1\n".as_slice());
+    let update = "UPDATE BUD SET AMT = AMT WHERE ID = 1";
+    let text = written(rt.alloc(), BUD, None, update, &calls)?;
+    assert_eq!(rt;
+        text.as_slice(),
+        b"UPDATE 1 [0, 315537897600) 1|10\n".as_slice()
+    );
     assert!(rt; calls.get() > 0);
-    Ok(())
-}
-
-/// The statements write this in BUD without valid time.
-fn expect(rt: &impl Abort, alloc: Global, table: &[(&str, &str)]) -> Result<(), Fail> {
-    for (statement, wanted) in table {
-        let text = written(alloc, false, Period::always(), statement)?;
-        assert_eq!(rt; text.as_slice(), wanted.as_bytes(), "{statement}");
-    }
     Ok(())
 }
 
@@ -69,7 +28,7 @@ fn rows_are_gone(rt: HostRuntime) -> Result<(), Fail> {
         "DELETE FROM BUD",
         "DELETE 1 [0, 315537897600) gone\nDELETE 2 [0, 315537897600) gone\n",
     )];
-    expect(&rt, rt.alloc(), table.as_slice())
+    expect(&rt, rt.alloc(), BUD, None, table.as_slice())
 }
 
 #[test]
@@ -78,7 +37,7 @@ fn rows_are_set(rt: HostRuntime) -> Result<(), Fail> {
         "UPDATE BUD SET AMT = ID",
         "UPDATE 1 [0, 315537897600) 1|1\nUPDATE 2 [0, 315537897600) 2|2\n",
     )];
-    expect(&rt, rt.alloc(), table.as_slice())
+    expect(&rt, rt.alloc(), BUD, None, table.as_slice())
 }
 
 #[test]
@@ -93,7 +52,7 @@ fn null_is_refused(rt: HostRuntime) -> Result<(), Fail> {
             "WM-061 NULL in AMT\n",
         ),
     ];
-    expect(&rt, rt.alloc(), table.as_slice())
+    expect(&rt, rt.alloc(), BUD, None, table.as_slice())
 }
 
 #[test]
@@ -102,7 +61,7 @@ fn rows_are_replaced(rt: HostRuntime) -> Result<(), Fail> {
         "UPDATE BUD SET AMT = 30 WHERE ID = 2",
         "UPDATE 2 [0, 315537897600) 2|30\n",
     )];
-    expect(&rt, rt.alloc(), table.as_slice())
+    expect(&rt, rt.alloc(), BUD, None, table.as_slice())
 }
 
 /// The statements write this in BUD with valid time, in sessions with these periods.
@@ -113,12 +72,13 @@ fn expect_within(
 ) -> Result<(), Fail> {
     for (from, till, statement, wanted) in table {
         let within = period(*from, *till).ok_or("a period")?;
-        let text = written(alloc, true, within, statement)?;
-        assert_eq!(rt;
-            text.as_slice(),
-            wanted.as_bytes(),
-            "{statement} in [{from}, {till})"
-        );
+        expect(
+            rt,
+            alloc,
+            BUD,
+            Some(within),
+            [(*statement, *wanted)].as_slice(),
+        )?;
     }
     Ok(())
 }

@@ -9,16 +9,18 @@ mod dml;
 #[cfg(test)]
 mod expr;
 #[cfg(test)]
+mod judged;
+#[cfg(test)]
 mod lines;
 #[cfg(test)]
 mod making;
 #[cfg(test)]
 mod print;
 #[cfg(test)]
-mod rowtest;
-#[cfg(test)]
 mod selecting;
 #[cfg(test)]
 mod tables;
 #[cfg(test)]
 mod typing;
+#[cfg(test)]
+mod writing;

@@ -1,30 +1,12 @@
 //! What statements over BUD are refused for: names that are not there, types that are wrong.
-use crate::lines::{line_of, refusal_text, statement_in};
 use crate::tables::table;
-use std::alloc::Global;
-use std::process::Abort;
+use crate::writing::expect;
 use std::test::Fail;
 use wm_base::columns::NUMBER;
-use wm_base::tree::line::Line;
-use wm_base::tree::statement::Statement;
-use wm_base::{Bytes, Column, Columns, Memory, Name, Refusal};
-use wm_parser::discard;
-use wm_spec::record::Table;
-use wm_typing::{columns_of_table, delete_fault, query_fault, update_fault};
+use wm_base::{Column, Name};
+use wm_typing::columns_of_table;
 
-fn bud(alloc: Global) -> Result<Table, Fail> {
-    table(
-        alloc,
-        "CREATE TABLE BUD (ID NUMBER PRIMARY KEY, AMT NUMBER)",
-        false,
-    )
-}
-
-/// The columns of the table, as those of the source B.
-fn columns(alloc: Global, table: &Table) -> Result<Columns, Memory> {
-    let source = Name::copy_of(alloc, b"B")?;
-    columns_of_table(alloc, &source, table)
-}
+const BUD: &str = "CREATE TABLE BUD (ID NUMBER PRIMARY KEY, AMT NUMBER)";
 
 fn is_number(column: &Column, name: &[u8]) -> bool {
     column.source.equals(b"B") && column.name.equals(name) && column.kind == NUMBER
@@ -39,56 +21,10 @@ fn are_numbers(columns: &[Column]) -> bool {
 
 #[test]
 fn a_table_has_columns(rt: HostRuntime) -> Result<(), Fail> {
-    let table = bud(rt.alloc())?;
-    let columns = columns(rt.alloc(), &table)?;
+    let table = table(rt.alloc(), BUD, false)?;
+    let source = Name::copy_of(rt.alloc(), b"B")?;
+    let columns = columns_of_table(rt.alloc(), &source, &table)?;
     assert!(rt; are_numbers(columns.as_slice()));
-    Ok(())
-}
-
-/// What a statement is refused for.
-fn fault(
-    alloc: Global,
-    statement: &Statement,
-    table: &Table,
-    columns: &Columns,
-) -> Result<Option<Refusal>, Memory> {
-    match statement {
-        Statement::Delete { filter, .. } => delete_fault(alloc, table, filter),
-        Statement::Update { sets, filter, .. } => {
-            update_fault(alloc, table, sets.as_slice(), filter)
-        }
-        Statement::Select(query) => query_fault(alloc, columns, query),
-        _ => Ok(None),
-    }
-}
-
-fn text_of_fault(
-    alloc: Global,
-    line: &Line,
-    table: &Table,
-    columns: &Columns,
-) -> Result<Bytes, Memory> {
-    match statement_in(line) {
-        Some(statement) => refusal_text(alloc, fault(alloc, statement, table, columns)?),
-        None => Ok(Bytes::new(alloc)),
-    }
-}
-
-/// The text of what a statement is refused for, and none where it is not.
-fn refused(alloc: Global, statement: &str) -> Result<Bytes, Fail> {
-    let table = bud(alloc)?;
-    let columns = columns(alloc, &table)?;
-    let line = line_of(alloc, statement)?;
-    let text = text_of_fault(alloc, &line, &table, &columns);
-    discard(line);
-    Ok(text?)
-}
-
-fn expect(rt: &impl Abort, alloc: Global, table: &[(&str, &str)]) -> Result<(), Fail> {
-    for (statement, wanted) in table {
-        let text = refused(alloc, statement)?;
-        assert_eq!(rt; text.as_slice(), wanted.as_bytes(), "{statement}");
-    }
     Ok(())
 }
 
@@ -98,16 +34,16 @@ fn a_delete_names_columns(rt: HostRuntime) -> Result<(), Fail> {
         ("DELETE FROM BUD WHERE AMT = 1", ""),
         ("DELETE FROM BUD WHERE COST = 1", "WM-012 no column COST\n"),
     ];
-    expect(&rt, rt.alloc(), table.as_slice())
+    expect(&rt, rt.alloc(), BUD, None, table.as_slice())
 }
 
 #[test]
 fn an_update_sets_no_key(rt: HostRuntime) -> Result<(), Fail> {
     let table = [
-        ("UPDATE BUD SET AMT = 1", ""),
+        ("UPDATE BUD SET AMT = 1 WHERE AMT = 1", ""),
         ("UPDATE BUD SET ID = 1", "WM-062 key column ID\n"),
     ];
-    expect(&rt, rt.alloc(), table.as_slice())
+    expect(&rt, rt.alloc(), BUD, None, table.as_slice())
 }
 
 #[test]
@@ -119,7 +55,7 @@ fn a_query_names_columns(rt: HostRuntime) -> Result<(), Fail> {
             "WM-012 no column COST\n",
         ),
     ];
-    expect(&rt, rt.alloc(), table.as_slice())
+    expect(&rt, rt.alloc(), BUD, None, table.as_slice())
 }
 
 #[test]
@@ -140,7 +76,7 @@ fn a_table_without_valid_time_is_changed(rt: HostRuntime) -> Result<(), Fail> {
             "WM-013 type ID\n",
         ),
     ];
-    expect(&rt, rt.alloc(), table.as_slice())
+    expect(&rt, rt.alloc(), BUD, None, table.as_slice())
 }
 
 #[test]
@@ -168,5 +104,5 @@ fn a_table_without_valid_time_is_asked(rt: HostRuntime) -> Result<(), Fail> {
             "WM-012 no column WM_VALID\n",
         ),
     ];
-    expect(&rt, rt.alloc(), table.as_slice())
+    expect(&rt, rt.alloc(), BUD, None, table.as_slice())
 }

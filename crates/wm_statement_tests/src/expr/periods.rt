@@ -1,6 +1,6 @@
 //! Conditions over a row with a period.
-use crate::expr::truth_for;
-use crate::lines::{cond_in, line_of, line_where, statement_in};
+use crate::judged::judge;
+use crate::lines::{line_of, statement_in};
 use crate::tables::{columns, period, row};
 use std::alloc::{AllocError, Global};
 use std::process::Abort;
@@ -10,8 +10,8 @@ use wm_base::tree::column::Col;
 use wm_base::tree::line::Line;
 use wm_base::tree::statement::Statement;
 use wm_base::{Columns, Memory, Row, Truth, Value, Values};
+use wm_expr::fits;
 use wm_expr::owned::column_value;
-use wm_expr::{fits, typed};
 use wm_parser::discard;
 
 /// EMP with its columns SAL and WM_VALID.
@@ -51,11 +51,8 @@ fn expect(
     let columns = emp(alloc)?;
     let row = ada(alloc, valid)?;
     for (cond, wanted) in table {
-        assert_eq!(rt;
-            truth_for(alloc, cond, &columns, &row)?,
-            Some(*wanted),
-            "{cond}"
-        );
+        let found = judge(alloc, cond, &columns, &row)?;
+        assert_eq!(rt; found.truth, *wanted, "{cond}");
     }
     Ok(())
 }
@@ -94,8 +91,8 @@ fn expect_operators(
     let row = ada(alloc, valid)?;
     for (operator, wanted) in OPERATORS.iter().zip(wanted) {
         let cond = operator_test(alloc, operator, from, till)?;
-        let found = truth_for(alloc, cond.as_str(), &columns, &row)?;
-        assert_eq!(rt; found, Some(wanted), "{operator} [{from}, {till})");
+        let found = judge(alloc, cond.as_str(), &columns, &row)?.truth;
+        assert_eq!(rt; found, wanted, "{operator} [{from}, {till})");
     }
     Ok(())
 }
@@ -202,24 +199,10 @@ fn rows_that_fit_their_columns(rt: HostRuntime) -> Result<(), Fail> {
     Ok(())
 }
 
-fn typed_in(line: &Line, columns: &Columns) -> Option<bool> {
-    match cond_in(line) {
-        Some(cond) => Some(typed(cond, columns)),
-        None => None,
-    }
-}
-
-/// Whether the condition may be asked over EMP.
-fn is_typed(alloc: Global, cond: &str) -> Result<Option<bool>, Fail> {
-    let columns = emp(alloc)?;
-    let line = line_where(alloc, cond)?;
-    let typed = typed_in(&line, &columns);
-    discard(line);
-    Ok(typed)
-}
-
 #[test]
 fn comparisons_of_one_type(rt: HostRuntime) -> Result<(), Fail> {
+    let columns = emp(rt.alloc())?;
+    let row = ada(rt.alloc(), Value::Null)?;
     let table = [
         ("SAL = 1", true),
         ("SAL = NULL", true),
@@ -227,7 +210,8 @@ fn comparisons_of_one_type(rt: HostRuntime) -> Result<(), Fail> {
         ("SAL = '1'", false),
     ];
     for (cond, wanted) in table {
-        assert_eq!(rt; is_typed(rt.alloc(), cond)?, Some(wanted), "{cond}");
+        let found = judge(rt.alloc(), cond, &columns, &row)?;
+        assert_eq!(rt; found.typed, wanted, "{cond}");
     }
     Ok(())
 }

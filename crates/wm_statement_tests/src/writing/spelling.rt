@@ -70,6 +70,13 @@ fn put_shifts(alloc: Global, text: &mut Bytes, shifts: &Shifts) -> Result<(), Me
     Ok(())
 }
 
+/// The row alone.
+pub fn spelled_row(alloc: Global, values: Values) -> Result<Bytes, Memory> {
+    let mut text = Bytes::new(alloc);
+    push_row(alloc, &mut text, &Row { values })?;
+    Ok(text)
+}
+
 /// Where the rows of key 1 move, and what is written for that.
 pub fn spelled_moves(alloc: Global, moves: Vec<Move>) -> Result<Bytes, Memory> {
     let mut text = Bytes::new(alloc);
