@@ -1,8 +1,10 @@
 -- The rows of a list: for each key, the maximal periods on which the list holds a row of one stamp.
-use Rattle.std.specs.Prelude.{ℕ, ◌≡◌, ◌<◌, ◌≤◌, ◌&&◌, ◌==◌, nat_le, nat_lt, if◌then◌else◌, List, [], ◌∷◌, ◌++◌, map, Option, None, Some}
+use Rattle.std.specs.Prelude.{ℕ, ◌≡◌, ◌<◌, ◌≤◌, ◌&&◌, ◌==◌, Bool, nat_le, nat_lt, if◌then◌else◌, List, [], ◌∷◌, ◌++◌, map, Option, None, Some}
 use Rattle.std.specs.Bool.{then_some}
+use Rattle.std.specs.List.{list_any}
 use Rattle.std.specs.Option.{option_or}
 use Rattle.std.specs.Ordering.{is_eq, is_lt}
+use Rattle.std.specs.declared.cmp.Ordering.TheVariants.{Less}
 use Rattle.wm_base.specs.Key.{key_order}
 use Rattle.wm_base.specs.declared.value.Value.{Value}
 use Rattle.wm_spec.specs.Lists.{Entry, is_of, stamp_at}
@@ -58,6 +60,20 @@ key_in key (k ∷ ks) =
 abbrev pub keys : List Entry → ℕ → List (List Value)
 keys [] table = []
 keys (e ∷ es) table = if e.table == table then key_in e.key (keys es table) else keys es table
+
+-- the key comes before all of these
+abbrev pub ComesBefore : List Value → List (List Value) → Type 0
+ComesBefore key [] = Unit {0}
+ComesBefore key (k ∷ ks) = (key_order key k ≡ Less) × ComesBefore key ks
+
+-- the keys ascend, each once
+abbrev pub KeysAscend : List (List Value) → Type 0
+KeysAscend [] = Unit {0}
+KeysAscend (k ∷ ks) = ComesBefore k ks × KeysAscend ks
+
+-- the key is one of these
+abbrev pub is_key_in : List Value → List (List Value) → Bool
+is_key_in key keys = list_any (λ k. is_eq (key_order k key)) keys
 
 -- the rows of one key
 abbrev pub rows_of_key : List Entry → ℕ → List Value → List Stretch
