@@ -67,6 +67,13 @@ Tells NotStore file = is_made file ≡ false
 Tells (Damaged p kind) file = (is_made file ≡ true) × damage_in (opened file) (Damaged p kind)
 Tells Memory file = Unit {0}
 
+-- an answer before which nothing was written: no store, or page 0 damaged in another way than by the rules over all records, which are asked behind the repair
+abbrev pub LeavesAlone : OpenFault → Type 0
+LeavesAlone Disk = ⊥
+LeavesAlone NotStore = Unit {0}
+LeavesAlone (Damaged p kind) = (p ≡ 0) × (kind ≡ Graph → ⊥)
+LeavesAlone Memory = ⊥
+
 -- what a fault of the store is to a line
 abbrev pub fault_of : StoreFault → LineFault
 fault_of storing.Disk = faults.Disk

@@ -6,7 +6,7 @@ ghost use Rattle.wm_base.specs.declared.instant.TheConstants.{END};
 ghost use Rattle.wm_engine.specs.Forks.{is_fork};
 ghost use Rattle.wm_engine.specs.Idle.{is_idle};
 ghost use Rattle.wm_parser.specs.Parsed.{parsed};
-ghost use Rattle.wm_engine.specs.Working.{FileStands, HoldsSorted, StandsFor, WorksOver, Tells};
+ghost use Rattle.wm_engine.specs.Working.{FileStands, HoldsSorted, LeavesAlone, StandsFor, WorksOver, Tells};
 ghost use Rattle.wm_engine.specs.declared.fault.LineFault.TheVariants as faults;
 ghost use Rattle.wm_state.specs.Drafts.{ChangesFew};
 ghost use Rattle.wm_state.specs.State.{State, begin, fresh};
@@ -95,10 +95,11 @@ impl Engine {
         // Whatever the answer, the file stands for what it stood for; where it is no store, nothing was written.
         ensures keeps { P.tells → (s : State) → FileStands (now (P.history station.old)) s → FileStands (now (P.history station.new)) s }
         ensures untouched { P.tells → IsErrOf result opening.NotStore → now (P.history station.new) ≡ now (P.history station.old) }
-        // Whatever the file was, its pages are held as they were, now and after a crash at any moment; one that is no store was only synced.
+        // Whatever the file was, its pages are held as they were, now and after a crash at any moment.
         ensures pages { P.tells → HoldsAs (now (P.history station.old)) (now (P.history station.new)) }
         ensures pages_any_moment { P.tells → During (P.history station.old) (P.history station.new) (λ c out. (Leaves (P.history station.old) c ⊎ HoldsAs (now (P.history station.old)) c) × (out ≡ said (P.history station.old))) }
-        ensures synced { P.tells → IsErrOf result opening.NotStore → P.history station.new ≡ Synced (P.history station.old) }
+        // One that is no store, or whose page 0 is short, of another format or has no journal in order, was only synced.
+        ensures synced { P.tells → IfErr result (λ e. LeavesAlone e → P.history station.new ≡ Synced (P.history station.old)) }
         ensures later { P.disk_faults station.old ≤ P.disk_faults station.new }
         ensures disk { IsErrOf result opening.Disk → Rises (P.disk_faults station.old) (P.disk_faults station.new) }
         ensures say_quiet { P.say_faults station.new ≡ P.say_faults station.old }

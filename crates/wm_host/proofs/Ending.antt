@@ -1,9 +1,11 @@
 -- What a command comes to.
 use Rattle.std.proofs.Common.{ℕ, ◌≡◌, ◌⊎◌, ⊎_elim, inl, inr, ◌==◌, true, false, if◌then◌else◌, List, [], ◌∷◌, ◌++◌, length, map, refl, ap, sym, subst, ◌∙◌, append-nil, arith}
-use Rattle.std.specs.Prelude.{Result, Ok, Err, OnOk, OnErr}
+use Rattle.std.specs.Prelude.{Result, Ok, Err, OnOk, OnErr, IfErr}
 use Rattle.std.specs.List.{list_any}
 use Rattle.std.proofs.lemmas.List.{length-map}
-use Rattle.wm_engine.specs.Working.{FileStands}
+use Rattle.wm_base.specs.declared.fault.OpenFault.{OpenFault}
+use Rattle.wm_base.specs.declared.fault.OpenFault.TheVariants as opening
+use Rattle.wm_engine.specs.Working.{FileStands, LeavesAlone}
 use Rattle.wm_station.specs.History.{History, now, said, Leaves}
 use Rattle.wm_station.specs.Moments.{During, Holds}
 use Rattle.wm_station.proofs.Steps.{weaken, followed}
@@ -17,9 +19,9 @@ use Rattle.wm_graph.specs.Parts.{parts_of}
 use Rattle.wm_host.specs.Crash.{CrashOpens, CrashAnswers, CrashOfRun}
 use Rattle.wm_host.specs.Hosting.{Begins, Finishes, Halts}
 use Rattle.wm_host.specs.Script.{AnswersTaken}
-use Rattle.wm_host.specs.Outcome.{HasSaidFront, Answered, AnswersSome, AnswersEnded, TakesAtMost}
-use Rattle.wm_host.specs.Cause.{IsOfOpening}
-use Rattle.wm_host.specs.Status.{status_of}
+use Rattle.wm_host.specs.Outcome.{HasSaidFront, Answered, AnswersSome, AnswersEnded, IsUnwritten, TakesAtMost}
+use Rattle.wm_host.specs.Cause.{IsOfOpening, IsOfScript, StopsAlone, stop_of_open}
+use Rattle.wm_host.specs.Status.{status_of, place_of}
 use Rattle.wm_host.specs.declared.host.Host.{Host}
 use Rattle.wm_host.specs.declared.stop.Stop.{Stop}
 use Rattle.wm_host.specs.declared.stop.Stop.TheVariants.{SourceFault, SayFault, DiskFault, NotStore, Damaged, Exists, InputLimit, Memory, Changed}
@@ -77,6 +79,46 @@ unopened_status SayFault number is of e = of
 unopened_status Exists number is of e = of
 unopened_status InputLimit number is of e = of
 unopened_status Changed number is of e = of
+
+-- ---- what ends a run before anything was written
+
+-- what ended the opening left the file alone, where its fault did
+pub alone_of_open : (fault : OpenFault) → StopsAlone (stop_of_open fault) → LeavesAlone fault
+alone_of_open opening.Disk alone = alone
+alone_of_open opening.NotStore alone = alone
+alone_of_open (opening.Damaged page kind) alone = alone
+alone_of_open opening.Memory alone = alone
+
+-- the place is that of what ended it
+pub alone_at_place : (stop : Stop) → IsUnwritten (place_of (Err stop)) → StopsAlone stop
+alone_at_place (Damaged page kind) unwritten = unwritten
+alone_at_place NotStore unwritten = absurd unwritten
+alone_at_place DiskFault unwritten = unwritten
+alone_at_place SourceFault unwritten = unwritten
+alone_at_place SayFault unwritten = unwritten
+alone_at_place Exists unwritten = unwritten
+alone_at_place InputLimit unwritten = unwritten
+alone_at_place Memory unwritten = unwritten
+alone_at_place Changed unwritten = unwritten
+
+-- and so is a file that is no store
+pub alone_at_status : (stop : Stop) (number : ℕ) → number ≡ status_of (Err stop) → number ≡ 6 → StopsAlone stop
+alone_at_status stop number is six = let same : stop ≡ NotStore = err_same (at_status (Err stop) (Err NotStore) number is six refl) in subst StopsAlone (sym same) tt where
+  err_same : ◌≡◌ {A = Result (Unit {0}) Stop} (Err stop) (Err NotStore) → stop ≡ NotStore
+  err_same e = cc
+
+-- a run over the lines names no page
+pub placed_by_script : (run : Result (Unit {0}) Stop) → IfErr run IsOfScript → IsUnwritten (place_of run) → ⊥
+placed_by_script (Ok done) of unwritten = unwritten
+placed_by_script (Err (Damaged page kind)) of unwritten = of
+placed_by_script (Err NotStore) of unwritten = of
+placed_by_script (Err DiskFault) of unwritten = unwritten
+placed_by_script (Err SourceFault) of unwritten = unwritten
+placed_by_script (Err SayFault) of unwritten = unwritten
+placed_by_script (Err Exists) of unwritten = unwritten
+placed_by_script (Err InputLimit) of unwritten = unwritten
+placed_by_script (Err Memory) of unwritten = unwritten
+placed_by_script (Err Changed) of unwritten = unwritten
 
 -- ---- the bytes taken
 

@@ -1,6 +1,6 @@
 -- When a run ends before its end.
 use Rattle.std.specs.Prelude.{ℕ, List}
-use Rattle.wm_engine.specs.Working.{Tells}
+use Rattle.wm_engine.specs.Working.{LeavesAlone, Tells}
 use Rattle.wm_base.specs.declared.fault.MakeFault.{MakeFault}
 use Rattle.wm_base.specs.declared.fault.MakeFault.TheVariants as making
 use Rattle.wm_base.specs.declared.fault.OpenFault.{OpenFault}
@@ -78,3 +78,9 @@ abbrev pub StopTells : Stop → List ℕ → Type 0
 StopTells NotStore file = Tells opening.NotStore file
 StopTells (Damaged page kind) file = Tells (opening.Damaged page kind) file
 StopTells stop file = Unit {0}
+
+-- what ends a run before anything was written
+abbrev pub StopsAlone : Stop → Type 0
+StopsAlone NotStore = LeavesAlone opening.NotStore
+StopsAlone (Damaged page kind) = LeavesAlone (opening.Damaged page kind)
+StopsAlone stop = ⊥

@@ -1,6 +1,6 @@
 -- What a run did with a script whose lines are answered from a state.
 use Rattle.std.specs.Prelude.{ℕ, ◌≡◌, ◌≤◌, true, List, ◌∷◌, [], ◌++◌, length, Option, None, Some, codes}
-use Rattle.wm_engine.specs.Working.{FileStands, HoldsSorted, Tells}
+use Rattle.wm_engine.specs.Working.{FileStands, HoldsSorted, LeavesAlone, Tells}
 use Rattle.wm_graph.specs.Parts.{parts_of}
 use Rattle.wm_graph.specs.Rules.{keep_rules}
 use Rattle.wm_spec.specs.declared.record.stored.Stored.{Stored}
@@ -74,6 +74,11 @@ IsPage (Page number kind) = Unit {0}
 abbrev pub IsDamaged : Place → List ℕ → Type 0
 IsDamaged Nowhere file = ⊥
 IsDamaged (Page number kind) file = Tells (Damaged number kind) file
+
+-- the place is page 0 with a kind other than graph, so short, format or journal: nothing is written before it is found
+abbrev pub IsUnwritten : Place → Type 0
+IsUnwritten Nowhere = ⊥
+IsUnwritten (Page number kind) = LeavesAlone (Damaged number kind)
 
 -- Q holds of the moment of `run`
 abbrev pub OfRun : Option Command → (ℕ → Type 0) → Type 0

@@ -10,7 +10,7 @@ ghost use Rattle.wm_station.specs.Moments.{During, Holds};
 ghost use Rattle.wm_journal.specs.Disk.{is_made};
 ghost use Rattle.wm_store.specs.Opened.{HoldsAs};
 ghost use Rattle.wm_host.specs.Crash.{CrashOfRun, CrashAnswers};
-ghost use Rattle.wm_host.specs.Outcome.{HasSaid, HasSaidFront, Answered, AnswersSome, AnswersEnded, IsDamaged, IsPage, IsSound, TakesAtMost, OfRun, OfInit, FromEach, FrontOfRun, ok_text, statuses_of};
+ghost use Rattle.wm_host.specs.Outcome.{HasSaid, HasSaidFront, Answered, AnswersSome, AnswersEnded, IsDamaged, IsPage, IsSound, IsUnwritten, TakesAtMost, OfRun, OfInit, FromEach, FrontOfRun, ok_text, statuses_of};
 ghost use Rattle.wm_host.specs.Words.{command_of as command_in};
 
 use crate::ended::Ended;
@@ -77,10 +77,12 @@ pub fn run<S: Source, P: Station>(
     ensures crash { S.tells → P.tells → FromEach (command_in (map string_bytes words.now)) (P.history station.old) (λ s. During (P.history station.old) (P.history station.new) (CrashOfRun (P.history station.old) s (lines (S.left source.old)))) }
 
     // Status 6: the file is no store, stays as it is, and is only synced. Status 7: the first test of opening that fails is
-    // the one that the place names. Neither comes where the file stands for some state, and at both the pages
-    // are held as they were, also by what a crash within the run leaves.
+    // the one that the place names; where that is page 0 with short, format or journal, the file is only synced too.
+    // Neither comes where the file stands for some state, and at both the pages are held as they were, also by what a
+    // crash within the run leaves.
     ensures not_store { result.status ≡ 6 → P.tells → (is_made (now (P.history station.old)) ≡ false) × (now (P.history station.new) ≡ now (P.history station.old)) }
     ensures synced { result.status ≡ 6 → P.tells → P.history station.new ≡ Synced (P.history station.old) }
+    ensures unwritten { IsUnwritten result.place → P.tells → P.history station.new ≡ Synced (P.history station.old) }
     ensures damaged { result.status ≡ 7 → P.tells → IsDamaged result.place (now (P.history station.old)) }
     ensures pages { (result.status ≡ 6) ⊎ (result.status ≡ 7) → P.tells → HoldsAs (now (P.history station.old)) (now (P.history station.new)) }
     ensures pages_any_moment { (result.status ≡ 6) ⊎ (result.status ≡ 7) → P.tells → During (P.history station.old) (P.history station.new) (λ c s. (Leaves (P.history station.old) c ⊎ HoldsAs (now (P.history station.old)) c) × (s ≡ said (P.history station.old))) }

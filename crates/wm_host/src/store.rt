@@ -10,10 +10,10 @@ ghost use Rattle.wm_station.specs.History.{now, said, Synced, Leaves};
 ghost use Rattle.wm_station.specs.Moments.{During, Holds};
 ghost use Rattle.wm_journal.specs.Disk.{is_made};
 ghost use Rattle.wm_store.specs.Opened.{HoldsAs};
-ghost use Rattle.wm_host.specs.Cause.{IsOfMaking, IsOfOpening, StopTells};
+ghost use Rattle.wm_host.specs.Cause.{IsOfMaking, IsOfOpening, StopsAlone, StopTells};
 ghost use Rattle.wm_host.specs.Crash.{CrashOfRun, CrashAnswers, CrashOpens};
 ghost use Rattle.wm_host.specs.Hosting.{Begins};
-ghost use Rattle.wm_host.specs.Outcome.{HasSaid, HasSaidFront, Answered, AnswersSome, AnswersEnded, IsDamaged, IsPage, IsSound, TakesAtMost, ok_text};
+ghost use Rattle.wm_host.specs.Outcome.{HasSaid, HasSaidFront, Answered, AnswersSome, AnswersEnded, IsDamaged, IsPage, IsSound, IsUnwritten, TakesAtMost, ok_text};
 ghost use Rattle.wm_host.specs.declared.ended.Place.TheVariants.{Nowhere};
 ghost use Rattle.wm_host.specs.declared.stop.Stop.TheVariants.{SayFault, DiskFault, Exists, NotStore};
 
@@ -80,8 +80,8 @@ fn open_host<P: Station>(alloc: Global, station: &mut P, moment: Instant) -> Res
     ensures keeps { P.tells → (s : State) → FileStands (now (P.history station.old)) s → FileStands (now (P.history station.new)) s }
     ensures unsaid { P.tells → said (P.history station.new) ≡ said (P.history station.old) }
     ensures not_store { P.tells → IsErrOf result NotStore → now (P.history station.new) ≡ now (P.history station.old) }
-    // A file that is no store is only synced; whatever the answer, the pages are held as they were, also after a crash.
-    ensures synced { P.tells → IsErrOf result NotStore → P.history station.new ≡ Synced (P.history station.old) }
+    // A file that is no store, or whose page 0 is found damaged before a repair, is only synced; whatever the answer, the pages are held as they were, also after a crash.
+    ensures synced { P.tells → IfErr result (λ stop. StopsAlone stop → P.history station.new ≡ Synced (P.history station.old)) }
     ensures pages { P.tells → HoldsAs (now (P.history station.old)) (now (P.history station.new)) }
     ensures pages_any_moment { P.tells → During (P.history station.old) (P.history station.new) (λ c s. (Leaves (P.history station.old) c ⊎ HoldsAs (now (P.history station.old)) c) × (s ≡ said (P.history station.old))) }
     // It opens only where the file was a store whose records keep the rules.
@@ -121,8 +121,9 @@ pub(crate) fn run_store<S: Source, P: Station>(
     ensures crash { S.tells → P.tells → (s : State) → FileStands (now (P.history station.old)) s → During (P.history station.old) (P.history station.new) (CrashOfRun (P.history station.old) (begin s moment) (lines (S.left source.old))) }
 
     ensures not_store { result.status ≡ 6 → P.tells → (is_made (now (P.history station.old)) ≡ false) × (now (P.history station.new) ≡ now (P.history station.old)) }
-    // A file that is no store is only synced.
+    // A file that is no store, or whose page 0 is found damaged before a repair, is only synced.
     ensures synced { result.status ≡ 6 → P.tells → P.history station.new ≡ Synced (P.history station.old) }
+    ensures unwritten { IsUnwritten result.place → P.tells → P.history station.new ≡ Synced (P.history station.old) }
     ensures damaged { result.status ≡ 7 → P.tells → IsDamaged result.place (now (P.history station.old)) }
     // After 6 and 7 the pages are held as they were, also after a crash.
     ensures pages { (result.status ≡ 6) ⊎ (result.status ≡ 7) → P.tells → HoldsAs (now (P.history station.old)) (now (P.history station.new)) }

@@ -1,8 +1,9 @@
-use Rattle.std.proofs.Common.{Err, refl, ◌+◌, ◌^◌, take}
+use Rattle.std.proofs.Common.{Err, refl, subst, ◌+◌, ◌^◌, take}
 use Rattle.wm_model.specs.Lines.{lines, ended_lines}
 use Rattle.wm_state.specs.State.{begin}
+use Rattle.wm_host.specs.Outcome.{IsUnwritten}
 use Rattle.wm_host.specs.declared.stop.Stop.TheVariants.{SourceFault, InputLimit}
-use Rattle.wm_host.proofs.Ending.{at_done, at_status, answers_all, answers_at_end, answers_ended, crash_opened, crash_ran, stands_ran, stands_unopened, counted_unopened, takes_none, unopened_status}
+use Rattle.wm_host.proofs.Ending.{alone_at_place, alone_at_status, at_done, at_status, answers_all, answers_at_end, answers_ended, crash_opened, crash_ran, stands_ran, stands_unopened, counted_unopened, placed_by_script, takes_none, unopened_status}
 use Rattle.wm_host.proofs.store.run_store.Goals as goal
 
 -- once the store is open
@@ -60,3 +61,13 @@ returns-in-Err-clause-opened g c = λ status t. absurd (unopened_status c.in-Err
 
 pub returns-in-Err-clause-few : goal.returns-in-Err-clause-few
 returns-in-Err-clause-few g c = λ r. takes_none (2 ^ 30 + 1) (g.S.Source.left c.args.source.now) (g.S.Source.left c.args.source.now) refl
+
+pub returns-in-Err-clause-synced : goal.returns-in-Err-clause-synced
+returns-in-Err-clause-synced g c = λ six t. c.in-Err.ensures.synced t (alone_at_status c.in-Err.stop c.of-in-Err.result.status c.of-in-Err.ensures.status six)
+
+pub returns-in-Err-clause-unwritten : goal.returns-in-Err-clause-unwritten
+returns-in-Err-clause-unwritten g c = λ unwritten t. c.in-Err.ensures.synced t (alone_at_place c.in-Err.stop (subst IsUnwritten c.of-in-Err.ensures.place unwritten))
+
+-- a run over the lines names no page
+pub returns-in-Ok-clause-unwritten : goal.returns-in-Ok-clause-unwritten
+returns-in-Ok-clause-unwritten g c = λ unwritten t. absurd (placed_by_script c.run_script-run.result c.run_script-run.ensures.of_script (subst IsUnwritten c.of.ensures.place unwritten))
