@@ -1,5 +1,4 @@
-//! Tests of crates below, which would be proved a second time if their tests stood in them. What is tested is written as
-//! text, and parsed: a tree that is made by hand takes long to prove.
+//! Tests of crates below, which would be proved a second time if their tests stood in them.
 #![tactic(auto)]
 
 #[cfg(test)]
@@ -9,18 +8,12 @@ mod dml;
 #[cfg(test)]
 mod expr;
 #[cfg(test)]
-mod judged;
-#[cfg(test)]
-mod lines;
-#[cfg(test)]
 mod making;
 #[cfg(test)]
 mod print;
 #[cfg(test)]
+mod rowtest;
+#[cfg(test)]
 mod selecting;
 #[cfg(test)]
-mod tables;
-#[cfg(test)]
 mod typing;
-#[cfg(test)]
-mod writing;

@@ -1,11 +1,26 @@
 //! What becomes of BUD and of the row 7|abc, worked by hand.
-use crate::tables::made;
-use crate::writing::expect;
-use std::test::Fail;
-use wm_base::Period;
-use wm_spec::record::TableColumn;
+mod inserting;
+mod periods;
+mod tables;
 
-const BUD: &str = "CREATE TABLE BUD (ID NUMBER PRIMARY KEY, NOTE VARCHAR2(3))";
+use inserting::{arranged_row, row_in_order};
+use periods::{CASES, Case, given, outcome};
+use std::alloc::Global;
+use std::test::Fail;
+use tables::{is_row, items, row, table};
+use wm_base::{CellRefusal, Memory, Name, Refusal, SpaceRefusal};
+use wm_making::{names_fault, row_fault, shape_fault, table_of};
+use wm_spec::record::{Table, TableColumn};
+
+/// What CREATE TABLE makes of the key and another column, and nothing where it is refused.
+fn made(alloc: Global, other: &[u8]) -> Result<Option<Table>, Memory> {
+    let items = items(alloc, other)?;
+    let name = Name::copy_of(alloc, b"BUD")?;
+    match shape_fault(alloc, &items)? {
+        Some(_) => Ok(None),
+        None => Ok(Some(table_of(alloc, 1, name, &items)?)),
+    }
+}
 
 /// Whether they are a key, which is never NULL, and the text NOTE of 3 bytes, which may be.
 fn has_key_and_text(columns: &[TableColumn]) -> bool {
@@ -20,73 +35,77 @@ fn has_key_and_text(columns: &[TableColumn]) -> bool {
 
 #[test]
 fn a_table_is_made(rt: HostRuntime) -> Result<(), Fail> {
-    let table = made(rt.alloc(), BUD)?.ok_or("a table")?;
+    let alloc: Global = rt.alloc();
+    let table = made(alloc, b"NOTE")?.ok_or("a table")?;
     assert!(rt; table.has_key && table.key_column == 0 && !table.versioned);
     assert!(rt; has_key_and_text(table.columns.as_slice()));
-    let twice = "CREATE TABLE BUD (ID NUMBER PRIMARY KEY, ID VARCHAR2(3))";
-    assert!(rt; made(rt.alloc(), twice)?.is_none());
+    assert!(rt; made(alloc, b"ID")?.is_none());
     Ok(())
+}
+
+fn fault_of_names(alloc: Global, other: &[u8]) -> Result<Option<Refusal>, Memory> {
+    let items = items(alloc, other)?;
+    let name = Name::copy_of(alloc, b"BUD")?;
+    names_fault(alloc, &name, &items)
+}
+
+fn is_reserved(refusal: Option<Refusal>, reserved: &[u8]) -> bool {
+    match refusal {
+        Some(Refusal::Space(SpaceRefusal::Wm024(name))) => name.equals(reserved),
+        _ => false,
+    }
 }
 
 #[test]
 fn a_name_is_reserved(rt: HostRuntime) -> Result<(), Fail> {
-    let table = [
-        (BUD, ""),
-        (
-            "CREATE TABLE BUD (ID NUMBER PRIMARY KEY, WM_NOTE VARCHAR2(3))",
-            "WM-024 reserved WM_NOTE\n",
-        ),
-    ];
-    expect(&rt, rt.alloc(), BUD, None, table.as_slice())
+    let alloc: Global = rt.alloc();
+    assert!(rt; fault_of_names(alloc, b"NOTE")?.is_none());
+    assert!(rt; is_reserved(fault_of_names(alloc, b"WM_NOTE")?, b"WM_NOTE"));
+    Ok(())
+}
+
+fn fault_of_row(alloc: Global, note: &[u8]) -> Result<Option<Refusal>, Memory> {
+    let table = table(alloc, false)?;
+    let row = row(alloc, 7, note)?;
+    row_fault(alloc, &table, row.as_slice())
+}
+
+fn is_heavy_in(refusal: Option<Refusal>, column: &[u8]) -> bool {
+    match refusal {
+        Some(Refusal::Cell(CellRefusal::Wm063(name))) => name.equals(column),
+        _ => false,
+    }
 }
 
 #[test]
 fn a_text_is_too_long(rt: HostRuntime) -> Result<(), Fail> {
-    let table = [
-        ("INSERT INTO BUD VALUES (7, 'abc')", "7|'abc'\n"),
-        (
-            "INSERT INTO BUD VALUES (7, 'abcd')",
-            "WM-063 too heavy NOTE\n",
-        ),
-    ];
-    expect(&rt, rt.alloc(), BUD, None, table.as_slice())
+    let alloc: Global = rt.alloc();
+    assert!(rt; fault_of_row(alloc, b"abc")?.is_none());
+    assert!(rt; is_heavy_in(fault_of_row(alloc, b"abcd")?, b"NOTE"));
+    Ok(())
 }
 
 #[test]
 fn values_are_a_row(rt: HostRuntime) -> Result<(), Fail> {
-    let table = [
-        ("INSERT INTO BUD VALUES (7, 'abc')", "7|'abc'\n"),
-        ("INSERT INTO BUD (NOTE, ID) VALUES ('abc', 7)", "7|'abc'\n"),
-    ];
-    expect(&rt, rt.alloc(), BUD, None, table.as_slice())
+    let alloc: Global = rt.alloc();
+    let row = row_in_order(alloc)?.ok_or("a row")?;
+    assert!(rt; is_row(row.as_slice(), 7, b"abc"));
+    let row = arranged_row(alloc)?.ok_or("a row")?;
+    assert!(rt; is_row(row.as_slice(), 7, b"abc"));
+    Ok(())
 }
-
-const PERIOD_BY_NAME: &str =
-    "INSERT INTO BUD (ID, NOTE, WM_VALID) VALUES (7, 'abc', WM_PERIOD(DATE '0001-01-01', DBMS_WM.UNTIL_CHANGED))";
-
-const PERIOD_BEHIND: &str =
-    "INSERT INTO BUD VALUES (7, 'abc', WM_PERIOD(DATE '0001-01-01', DBMS_WM.UNTIL_CHANGED))";
-
-const NULL_BY_NAME: &str = "INSERT INTO BUD (ID, NOTE, WM_VALID) VALUES (7, 'abc', NULL)";
-
-const NULL_BEHIND: &str = "INSERT INTO BUD VALUES (7, 'abc', NULL)";
-
-const GIVEN: &str = "INSERT 7 [0, 315537897600) 7|'abc'\n";
 
 #[test]
 fn a_period_is_given(rt: HostRuntime) -> Result<(), Fail> {
-    let valid = [
-        (PERIOD_BY_NAME, GIVEN),
-        (PERIOD_BEHIND, GIVEN),
-        (NULL_BY_NAME, "WM-013 type WM_VALID\n"),
-        (NULL_BEHIND, "WM-013 type WM_VALID\n"),
-    ];
-    let always = Some(Period::always());
-    expect(&rt, rt.alloc(), BUD, always, valid.as_slice())?;
-    let plain = [
-        (PERIOD_BY_NAME, "WM-017 not valid-time BUD\n"),
-        (NULL_BY_NAME, "WM-013 type WM_VALID\n"),
-        (PERIOD_BEHIND, "WM-014 count 2\n"),
-    ];
-    expect(&rt, rt.alloc(), BUD, None, plain.as_slice())
+    let alloc: Global = rt.alloc();
+    for (valid, named, period, wanted) in CASES {
+        let case = Case {
+            valid,
+            named,
+            period,
+        };
+        assert_eq!(rt; outcome(alloc, case)?, wanted);
+        assert_eq!(rt; given(alloc, case)?, wanted == 0);
+    }
+    Ok(())
 }

@@ -1,12 +1,21 @@
-//! What statements over BUD are refused for: names that are not there, types that are wrong.
-use crate::tables::table;
-use crate::writing::expect;
-use std::test::Fail;
-use wm_base::columns::NUMBER;
-use wm_base::{Column, Name};
-use wm_typing::columns_of_table;
+//! Names of BUD that are there, and names that are not. No tree is let go here: the proof of that is long.
+mod trees;
 
-const BUD: &str = "CREATE TABLE BUD (ID NUMBER PRIMARY KEY, AMT NUMBER)";
+use std::alloc::Global;
+use std::mem::ManuallyDrop;
+use std::test::Fail;
+use trees::{all_by, all_where, bud, by_valid, is_null, is_one, set, set_period, table};
+use wm_base::columns::NUMBER;
+use wm_base::{CellRefusal, Column, Columns, FormRefusal, Memory, Name, Refusal};
+use wm_spec::record::Table;
+use wm_typing::{columns_of_table, delete_fault, query_fault, update_fault};
+
+/// The columns of BUD, as those of the source B.
+fn columns(alloc: Global) -> Result<Columns, Memory> {
+    let table = table(alloc)?;
+    let source = Name::copy_of(alloc, b"B")?;
+    columns_of_table(alloc, &source, &table)
+}
 
 fn is_number(column: &Column, name: &[u8]) -> bool {
     column.source.equals(b"B") && column.name.equals(name) && column.kind == NUMBER
@@ -21,88 +30,147 @@ fn are_numbers(columns: &[Column]) -> bool {
 
 #[test]
 fn a_table_has_columns(rt: HostRuntime) -> Result<(), Fail> {
-    let table = table(rt.alloc(), BUD, false)?;
-    let source = Name::copy_of(rt.alloc(), b"B")?;
-    let columns = columns_of_table(rt.alloc(), &source, &table)?;
+    let alloc: Global = rt.alloc();
+    let columns = columns(alloc)?;
     assert!(rt; are_numbers(columns.as_slice()));
     Ok(())
 }
 
+fn is_unknown(refusal: Option<Refusal>, column: &[u8]) -> bool {
+    match refusal {
+        Some(Refusal::Form(FormRefusal::Wm012(name))) => name.equals(column),
+        _ => false,
+    }
+}
+
+/// What DELETE FROM the table WHERE the column = 1 is refused for.
+fn delete(alloc: Global, table: &Table, column: &[u8]) -> Result<Option<Refusal>, Memory> {
+    let cond = is_one(alloc, column)?;
+    let filter = ManuallyDrop::new(Some(cond));
+    delete_fault(alloc, table, &filter)
+}
+
 #[test]
 fn a_delete_names_columns(rt: HostRuntime) -> Result<(), Fail> {
-    let table = [
-        ("DELETE FROM BUD WHERE AMT = 1", ""),
-        ("DELETE FROM BUD WHERE COST = 1", "WM-012 no column COST\n"),
-    ];
-    expect(&rt, rt.alloc(), BUD, None, table.as_slice())
+    let alloc: Global = rt.alloc();
+    let table = table(alloc)?;
+    assert!(rt; delete(alloc, &table, b"AMT")?.is_none());
+    assert!(rt; is_unknown(delete(alloc, &table, b"SUM")?, b"SUM"));
+    Ok(())
+}
+
+/// What UPDATE of the table SET the column = 1 is refused for.
+fn update(alloc: Global, table: &Table, column: &[u8]) -> Result<Option<Refusal>, Memory> {
+    let set = set(alloc, column)?;
+    let sets = ManuallyDrop::new([set]);
+    let filter = ManuallyDrop::new(None);
+    update_fault(alloc, table, sets.as_slice(), &filter)
+}
+
+fn is_of_key(refusal: Option<Refusal>, column: &[u8]) -> bool {
+    match refusal {
+        Some(Refusal::Cell(CellRefusal::Wm062(name))) => name.equals(column),
+        _ => false,
+    }
 }
 
 #[test]
 fn an_update_sets_no_key(rt: HostRuntime) -> Result<(), Fail> {
-    let table = [
-        ("UPDATE BUD SET AMT = 1 WHERE AMT = 1", ""),
-        ("UPDATE BUD SET ID = 1", "WM-062 key column ID\n"),
-    ];
-    expect(&rt, rt.alloc(), BUD, None, table.as_slice())
+    let alloc: Global = rt.alloc();
+    let table = table(alloc)?;
+    assert!(rt; update(alloc, &table, b"AMT")?.is_none());
+    assert!(rt; is_of_key(update(alloc, &table, b"ID")?, b"ID"));
+    Ok(())
+}
+
+/// What SELECT * WHERE the column = 1 is refused for.
+fn select(alloc: Global, columns: &Columns, column: &[u8]) -> Result<Option<Refusal>, Memory> {
+    let cond = is_one(alloc, column)?;
+    let query = ManuallyDrop::new(all_where(alloc, cond));
+    query_fault(alloc, columns, &query)
 }
 
 #[test]
 fn a_query_names_columns(rt: HostRuntime) -> Result<(), Fail> {
-    let table = [
-        ("SELECT * FROM BUD B WHERE AMT = 1", ""),
-        (
-            "SELECT * FROM BUD B WHERE COST = 1",
-            "WM-012 no column COST\n",
-        ),
-    ];
-    expect(&rt, rt.alloc(), BUD, None, table.as_slice())
+    let alloc: Global = rt.alloc();
+    let columns = columns(alloc)?;
+    assert!(rt; select(alloc, &columns, b"AMT")?.is_none());
+    assert!(rt; is_unknown(select(alloc, &columns, b"SUM")?, b"SUM"));
+    Ok(())
+}
+
+fn is_mistyped(refusal: Option<Refusal>, mark: &[u8]) -> bool {
+    match refusal {
+        Some(Refusal::Form(FormRefusal::Wm013(name))) => name.equals(mark),
+        _ => false,
+    }
+}
+
+/// Whether it is told that BUD has no valid time.
+fn lacks_periods(refusal: Option<Refusal>) -> bool {
+    match refusal {
+        Some(Refusal::Form(FormRefusal::Wm017(name))) => name.equals(b"BUD"),
+        _ => false,
+    }
+}
+
+/// What UPDATE of the table SET the column to a period WHERE WM_VALID IS NULL is refused for.
+fn update_period(alloc: Global, table: &Table, column: &[u8]) -> Result<Option<Refusal>, Memory> {
+    let cond = is_null(alloc, None)?;
+    let filter = ManuallyDrop::new(Some(cond));
+    let set = set_period(alloc, column)?;
+    let sets = ManuallyDrop::new([set]);
+    update_fault(alloc, table, sets.as_slice(), &filter)
+}
+
+/// What DELETE FROM the table WHERE WM_VALID IS NULL is refused for.
+fn delete_null(alloc: Global, table: &Table) -> Result<Option<Refusal>, Memory> {
+    let cond = is_null(alloc, Some(b"BUD"))?;
+    let filter = ManuallyDrop::new(Some(cond));
+    delete_fault(alloc, table, &filter)
 }
 
 #[test]
 fn a_table_without_valid_time_is_changed(rt: HostRuntime) -> Result<(), Fail> {
-    let table = [
-        ("DELETE FROM BUD WHERE WM_VALID = 1", "WM-013 type =\n"),
-        (
-            "DELETE FROM BUD WHERE BUD.WM_VALID IS NULL",
-            "WM-017 not valid-time BUD\n",
-        ),
-        ("UPDATE BUD SET WM_VALID = 1", "WM-013 type WM_VALID\n"),
-        (
-            "UPDATE BUD SET WM_VALID = WM_PERIOD(SYSDATE, SYSDATE) WHERE WM_VALID IS NULL",
-            "WM-017 not valid-time BUD\n",
-        ),
-        (
-            "UPDATE BUD SET ID = WM_PERIOD(SYSDATE, SYSDATE) WHERE WM_VALID IS NULL",
-            "WM-013 type ID\n",
-        ),
-    ];
-    expect(&rt, rt.alloc(), BUD, None, table.as_slice())
+    let alloc: Global = rt.alloc();
+    let table = table(alloc)?;
+    assert!(rt; is_mistyped(delete(alloc, &table, b"WM_VALID")?, b"="));
+    assert!(rt; lacks_periods(delete_null(alloc, &table)?));
+    assert!(rt; is_mistyped(update(alloc, &table, b"WM_VALID")?, b"WM_VALID"));
+    assert!(rt; lacks_periods(update_period(alloc, &table, b"WM_VALID")?));
+    assert!(rt; is_mistyped(update_period(alloc, &table, b"ID")?, b"ID"));
+    Ok(())
+}
+
+/// What SELECT * FROM BUD B WHERE WM_VALID IS NULL is refused for, with that source before it.
+fn select_null(
+    alloc: Global,
+    columns: &Columns,
+    source: Option<&[u8]>,
+) -> Result<Option<Refusal>, Memory> {
+    let cond = is_null(alloc, source)?;
+    let mut query = ManuallyDrop::new(all_where(alloc, cond));
+    query.sources.push(bud(alloc)?)?;
+    query_fault(alloc, columns, &query)
+}
+
+/// What SELECT * FROM BUD B ORDER BY WM_VALID is refused for, with DISTINCT or without.
+fn select_by(alloc: Global, columns: &Columns, distinct: bool) -> Result<Option<Refusal>, Memory> {
+    let orders = by_valid(alloc)?;
+    let mut query = ManuallyDrop::new(all_by(alloc, distinct, orders));
+    query.sources.push(bud(alloc)?)?;
+    query_fault(alloc, columns, &query)
 }
 
 #[test]
 fn a_table_without_valid_time_is_asked(rt: HostRuntime) -> Result<(), Fail> {
-    let table = [
-        ("SELECT * FROM BUD B WHERE WM_VALID = 1", "WM-013 type =\n"),
-        (
-            "SELECT * FROM BUD B WHERE WM_VALID IS NULL",
-            "WM-017 not valid-time BUD\n",
-        ),
-        (
-            "SELECT * FROM BUD B WHERE B.WM_VALID IS NULL",
-            "WM-017 not valid-time BUD\n",
-        ),
-        (
-            "SELECT * FROM BUD B WHERE BUD.WM_VALID IS NULL",
-            "WM-012 no column WM_VALID\n",
-        ),
-        (
-            "SELECT * FROM BUD B ORDER BY WM_VALID",
-            "WM-017 not valid-time BUD\n",
-        ),
-        (
-            "SELECT DISTINCT * FROM BUD B ORDER BY WM_VALID",
-            "WM-012 no column WM_VALID\n",
-        ),
-    ];
-    expect(&rt, rt.alloc(), BUD, None, table.as_slice())
+    let alloc: Global = rt.alloc();
+    let columns = columns(alloc)?;
+    assert!(rt; is_mistyped(select(alloc, &columns, b"WM_VALID")?, b"="));
+    assert!(rt; lacks_periods(select_null(alloc, &columns, None)?));
+    assert!(rt; lacks_periods(select_null(alloc, &columns, Some(b"B"))?));
+    assert!(rt; is_unknown(select_null(alloc, &columns, Some(b"BUD"))?, b"WM_VALID"));
+    assert!(rt; lacks_periods(select_by(alloc, &columns, false)?));
+    assert!(rt; is_unknown(select_by(alloc, &columns, true)?, b"WM_VALID"));
+    Ok(())
 }

@@ -1,22 +1,28 @@
 //! Conditions over a row with a period.
-use crate::judged::judge;
-use crate::lines::{line_of, statement_in};
-use crate::tables::{columns, period, row};
-use std::alloc::{AllocError, Global};
-use std::process::Abort;
+use super::trees::{compared, null_test, operand, text, time, truth_there};
+use std::alloc::Global;
 use std::test::Fail;
 use wm_base::columns::{NUMBER, PERIOD};
-use wm_base::tree::column::Col;
-use wm_base::tree::line::Line;
-use wm_base::tree::statement::Statement;
-use wm_base::{Columns, Memory, Row, Truth, Value, Values};
-use wm_expr::fits;
+use wm_base::tree::column::{Col, Suffix};
+use wm_base::tree::cond::{Cmp, Cond};
+use wm_base::tree::constant::PeriodEnd;
+use wm_base::tree::operand::{Operand, Operator, Per};
+use wm_base::{Column, Columns, Instant, Memory, Period, Row, Text, Truth, Value, Values};
 use wm_expr::owned::column_value;
-use wm_parser::discard;
+use wm_expr::{fits, typed};
+
+fn column(alloc: Global, name: &[u8], kind: u8) -> Result<Column, Memory> {
+    let source = Text::copy_of(alloc, b"EMP")?;
+    let name = Text::copy_of(alloc, name)?;
+    Ok(Column { source, name, kind })
+}
 
 /// EMP with its columns SAL and WM_VALID.
 fn emp(alloc: Global) -> Result<Columns, Memory> {
-    columns(alloc, "EMP", &[("SAL", NUMBER), ("WM_VALID", PERIOD)])
+    let mut columns = Vec::new(alloc);
+    columns.push(column(alloc, b"SAL", NUMBER)?)?;
+    columns.push(column(alloc, b"WM_VALID", PERIOD)?)?;
+    Ok(Columns::from_vec(columns))
 }
 
 /// A row of EMP with the salary 30.
@@ -29,10 +35,50 @@ fn ada(alloc: Global, valid: Value) -> Result<Row, Memory> {
 
 /// The period of these ends, and NULL where they are none.
 fn span(from: u64, till: u64) -> Value {
-    match period(from, till) {
-        Some(period) => Value::Span(period),
-        None => Value::Null,
+    match (Instant::new(from), Instant::new(till)) {
+        (Some(from), Some(till)) => match Period::new(from, till) {
+            Some(period) => Value::Span(period),
+            None => Value::Null,
+        },
+        _ => Value::Null,
     }
+}
+
+fn end(seconds: u64) -> PeriodEnd {
+    match Instant::new(seconds) {
+        Some(instant) => PeriodEnd::Time(instant),
+        None => PeriodEnd::Sysdate,
+    }
+}
+
+/// The operator between WM_VALID and a period that is written.
+fn test_of(operator: Operator, from: u64, till: u64) -> Operand {
+    let left = Per::Valid { source: None };
+    let right = Per::Span {
+        from: end(from),
+        till: end(till),
+    };
+    Operand::Test {
+        operator,
+        left,
+        right,
+    }
+}
+
+/// How true it is that each of overlaps, contains, meets, equals, less than and greater than is 1.
+fn all_operators(columns: &Columns, row: &Row, from: u64, till: u64) -> [Truth; 6] {
+    let test = |operator| {
+        let is_one = compared(test_of(operator, from, till), Cmp::Eq, operand(Some(1)));
+        truth_there(is_one, columns, row)
+    };
+    [
+        test(Operator::Overlaps),
+        test(Operator::Contains),
+        test(Operator::Meets),
+        test(Operator::Equals),
+        test(Operator::LessThan),
+        test(Operator::GreaterThan),
+    ]
 }
 
 const YES: Truth = Truth::Yes;
@@ -41,64 +87,11 @@ const NO: Truth = Truth::No;
 
 const UNKNOWN: Truth = Truth::Unknown;
 
-/// How true conditions are over the row of EMP.
-fn expect(
-    rt: &impl Abort,
-    alloc: Global,
-    valid: Value,
-    table: &[(&str, Truth)],
-) -> Result<(), Fail> {
-    let columns = emp(alloc)?;
-    let row = ada(alloc, valid)?;
-    for (cond, wanted) in table {
-        let found = judge(alloc, cond, &columns, &row)?;
-        assert_eq!(rt; found.truth, *wanted, "{cond}");
-    }
-    Ok(())
-}
-
-static OPERATORS: [&str; 6] = [
-    "WM_OVERLAPS",
-    "WM_CONTAINS",
-    "WM_MEETS",
-    "WM_EQUALS",
-    "WM_LESSTHAN",
-    "WM_GREATERTHAN",
-];
-
-/// The condition that the operator gives 1 of WM_VALID and a period within the first minute of time.
-fn operator_test(
-    alloc: Global,
-    operator: &str,
-    from: u64,
-    till: u64,
-) -> Result<String, AllocError> {
-    format!(in alloc;
-        "{operator}(WM_VALID, WM_PERIOD(TIMESTAMP '0001-01-01 00:00:{from:02}', TIMESTAMP '0001-01-01 00:00:{till:02}')) = 1"
-    )
-}
-
-/// Each operator is as true over the row of EMP as is wanted.
-fn expect_operators(
-    rt: &impl Abort,
-    alloc: Global,
-    valid: Value,
-    from: u64,
-    till: u64,
-    wanted: [Truth; 6],
-) -> Result<(), Fail> {
-    let columns = emp(alloc)?;
-    let row = ada(alloc, valid)?;
-    for (operator, wanted) in OPERATORS.iter().zip(wanted) {
-        let cond = operator_test(alloc, operator, from, till)?;
-        let found = judge(alloc, cond.as_str(), &columns, &row)?.truth;
-        assert_eq!(rt; found, wanted, "{operator} [{from}, {till})");
-    }
-    Ok(())
-}
-
 #[test]
 fn six_operators_on_a_period(rt: HostRuntime) -> Result<(), Fail> {
+    let alloc: Global = rt.alloc();
+    let columns = emp(alloc)?;
+    let row = ada(alloc, span(10, 20))?;
     let table = [
         (0, 5, [NO, NO, NO, NO, NO, YES]),
         (0, 10, [NO, NO, NO, NO, NO, NO]),
@@ -110,37 +103,36 @@ fn six_operators_on_a_period(rt: HostRuntime) -> Result<(), Fail> {
         (21, 30, [NO, NO, NO, NO, YES, NO]),
     ];
     for (from, till, wanted) in table {
-        expect_operators(&rt, rt.alloc(), span(10, 20), from, till, wanted)?;
+        let truths = all_operators(&columns, &row, from, till);
+        assert_eq!(rt; truths, wanted, "[10, 20) and [{from}, {till})");
     }
     Ok(())
 }
 
-const MEETS_IS_NULL: &str =
-    "WM_MEETS(WM_VALID, WM_PERIOD(TIMESTAMP '0001-01-01 00:00:00', TIMESTAMP '0001-01-01 00:00:05')) IS NULL";
+/// How true it is that the operator gives NULL.
+fn is_null(columns: &Columns, row: &Row, operator: Operator) -> Truth {
+    truth_there(null_test(test_of(operator, 0, 5), false), columns, row)
+}
 
 #[test]
 fn operators_on_null_are_null(rt: HostRuntime) -> Result<(), Fail> {
-    expect_operators(&rt, rt.alloc(), Value::Null, 0, 5, [UNKNOWN; 6])?;
-    expect(&rt, rt.alloc(), Value::Null, &[(MEETS_IS_NULL, YES)])?;
-    expect(&rt, rt.alloc(), span(10, 20), &[(MEETS_IS_NULL, NO)])
+    let alloc: Global = rt.alloc();
+    let columns = emp(alloc)?;
+    let row = ada(alloc, Value::Null)?;
+    assert_eq!(rt; all_operators(&columns, &row, 0, 5), [UNKNOWN; 6]);
+    assert_eq!(rt; is_null(&columns, &row, Operator::Meets), YES);
+    let row = ada(alloc, span(10, 20))?;
+    assert_eq!(rt; is_null(&columns, &row, Operator::Meets), NO);
+    Ok(())
 }
 
-#[test]
-fn columns_are_found_by_name(rt: HostRuntime) -> Result<(), Fail> {
-    expect(
-        &rt,
-        rt.alloc(),
-        Value::Null,
-        &[("SAL = 30", YES), ("SAL = 31", NO)],
-    )
-}
-
-/// The column that a query groups by.
-fn col_in(line: &Line) -> Option<&Col> {
-    match statement_in(line) {
-        Some(Statement::Select(query)) => query.groups.as_slice().first(),
-        _ => None,
-    }
+fn col(alloc: Global, name: &[u8], suffix: Option<Suffix>) -> Result<Col, Memory> {
+    let name = Text::copy_of(alloc, name)?;
+    Ok(Col {
+        source: None,
+        name,
+        suffix,
+    })
 }
 
 fn seconds_in(value: &Value) -> Option<u64> {
@@ -150,36 +142,27 @@ fn seconds_in(value: &Value) -> Option<u64> {
     }
 }
 
-fn seconds_of(alloc: Global, line: &Line, row: &Row) -> Result<Option<u64>, Memory> {
+/// The seconds at an end of the period, None where it is no time.
+fn seconds_at(alloc: Global, valid: Value, suffix: Suffix) -> Result<Option<u64>, Memory> {
     let columns = emp(alloc)?;
-    match col_in(line) {
-        Some(col) => {
-            let value = column_value(alloc, col, columns.as_slice(), row.values.as_slice())?;
-            Ok(seconds_in(&value))
-        }
-        None => Ok(None),
-    }
-}
-
-/// The seconds that the column has by which a query groups, None where it has no time.
-fn seconds_at(alloc: Global, valid: Value, query: &str) -> Result<Option<u64>, Fail> {
     let row = ada(alloc, valid)?;
-    let line = line_of(alloc, query)?;
-    let seconds = seconds_of(alloc, &line, &row);
-    discard(line);
-    Ok(seconds?)
+    let col = col(alloc, b"WM_VALID", Some(suffix))?;
+    let value = column_value(alloc, &col, columns.as_slice(), row.values.as_slice())?;
+    Ok(seconds_in(&value))
 }
-
-const BY_FROM: &str = "SELECT * FROM EMP GROUP BY WM_VALID.VALIDFROM";
-
-const BY_TILL: &str = "SELECT * FROM EMP GROUP BY WM_VALID.VALIDTILL";
 
 #[test]
 fn ends_of_a_period_are_times(rt: HostRuntime) -> Result<(), Fail> {
     let alloc: Global = rt.alloc();
-    assert_eq!(rt; seconds_at(alloc, span(10, 20), BY_FROM)?, Some(10));
-    assert_eq!(rt; seconds_at(alloc, span(10, 20), BY_TILL)?, Some(20));
-    assert_eq!(rt; seconds_at(alloc, Value::Null, BY_FROM)?, None);
+    assert_eq!(rt;
+        seconds_at(alloc, span(10, 20), Suffix::ValidFrom)?,
+        Some(10)
+    );
+    assert_eq!(rt;
+        seconds_at(alloc, span(10, 20), Suffix::ValidTill)?,
+        Some(20)
+    );
+    assert_eq!(rt; seconds_at(alloc, Value::Null, Suffix::ValidFrom)?, None);
     Ok(())
 }
 
@@ -195,23 +178,58 @@ fn rows_that_fit_their_columns(rt: HostRuntime) -> Result<(), Fail> {
     assert_eq!(rt; holds(alloc, span(0, 5))?, true);
     assert_eq!(rt; holds(alloc, Value::Null)?, true);
     assert_eq!(rt; holds(alloc, Value::Num(5))?, false);
-    assert_eq!(rt; fits(&emp(alloc)?, &row(alloc, &[])?), false);
+    let short = Row {
+        values: Values::new(alloc),
+    };
+    assert_eq!(rt; fits(&emp(alloc)?, &short), false);
     Ok(())
+}
+
+/// SAL compared with the operand.
+fn salary_is(alloc: Global, other: Operand) -> Result<Cond, Memory> {
+    let salary = col(alloc, b"SAL", None)?;
+    Ok(compared(Operand::Col(salary), Cmp::Eq, other))
+}
+
+fn is_typed(cond: Cond, columns: &Columns) -> bool {
+    typed(&cond, columns)
+}
+
+/// Whether SAL may be compared with the operand.
+fn may_be_salary(alloc: Global, other: Operand) -> Result<bool, Memory> {
+    let columns = emp(alloc)?;
+    let cond = salary_is(alloc, other)?;
+    Ok(is_typed(cond, &columns))
+}
+
+/// Whether SAL may be compared with a text.
+fn may_be_text(alloc: Global) -> Result<bool, Memory> {
+    let text = text(alloc, b"1")?;
+    may_be_salary(alloc, text)
 }
 
 #[test]
 fn comparisons_of_one_type(rt: HostRuntime) -> Result<(), Fail> {
-    let columns = emp(rt.alloc())?;
-    let row = ada(rt.alloc(), Value::Null)?;
-    let table = [
-        ("SAL = 1", true),
-        ("SAL = NULL", true),
-        ("SAL = TIMESTAMP '0001-01-01 00:00:01'", false),
-        ("SAL = '1'", false),
-    ];
-    for (cond, wanted) in table {
-        let found = judge(rt.alloc(), cond, &columns, &row)?;
-        assert_eq!(rt; found.typed, wanted, "{cond}");
-    }
+    let alloc: Global = rt.alloc();
+    assert_eq!(rt; may_be_salary(alloc, operand(Some(1)))?, true);
+    assert_eq!(rt; may_be_salary(alloc, operand(None))?, true);
+    assert_eq!(rt; may_be_salary(alloc, time(1))?, false);
+    assert_eq!(rt; may_be_text(alloc)?, false);
+    Ok(())
+}
+
+/// How true it is that SAL is the number.
+fn truth_of_salary(alloc: Global, number: i64) -> Result<Truth, Memory> {
+    let columns = emp(alloc)?;
+    let row = ada(alloc, Value::Null)?;
+    let cond = salary_is(alloc, operand(Some(number)))?;
+    Ok(truth_there(cond, &columns, &row))
+}
+
+#[test]
+fn columns_are_found_by_name(rt: HostRuntime) -> Result<(), Fail> {
+    let alloc: Global = rt.alloc();
+    assert_eq!(rt; truth_of_salary(alloc, 30)?, YES);
+    assert_eq!(rt; truth_of_salary(alloc, 31)?, NO);
     Ok(())
 }

@@ -1,4 +1,4 @@
-//! The answer of a query as its caller gets it, by a test that counts its calls.
+//! The answer of a query as its caller gets it.
 ghost use Rattle.std.specs.Prelude.{◌≡◌, true};
 ghost use Rattle.wm_base.specs.declared.row.Row.{Row as RowOf};
 ghost use Rattle.wm_base.specs.declared.truth.Truth.{Truth as TruthOf};
@@ -6,49 +6,42 @@ ghost use Rattle.wm_base.specs.Views.{cond_view, filter_view, projection_view};
 ghost use Rattle.wm_spec.specs.Conditions.{typed as is_typed, fits, truth_of};
 ghost use Rattle.wm_select.specs.Query.{columns_of as all_columns, rows_fit as do_fit, where_of as where_is, projection_lasts as items_last};
 
-use crate::lines::{line_of, statement_in};
-use crate::tables::{columns, row};
 use std::alloc::Global;
 use std::cell::Cell;
-use std::mem::ManuallyDrop;
-use std::test::Fail;
-use wm_base::columns::NUMBER;
 use wm_base::tree::cond::Cond;
-use wm_base::tree::line::Line;
-use wm_base::tree::query::{Query, Src};
-use wm_base::tree::statement::Statement;
-use wm_base::{Bytes, Columns, Listing, Listings, Memory, Row, RowList, Truth};
+use wm_base::tree::query::Query;
+use wm_base::{Columns, Listings, Memory, Row, RowList, Truth, Value};
 use wm_expr::{truth, typed};
-use wm_parser::discard;
-use wm_print::print_rows;
 use wm_rowtest::{Judge, RowTest};
 use wm_select::{SelectFault, columns_of, projection_lasts, rows_fit, select, where_of};
 
-/// Rows of these amounts, numbered from 1.
-fn rows(alloc: Global, amounts: &[Option<i64>]) -> Result<RowList, Memory> {
-    let mut rows = RowList::new(alloc);
-    let mut id = 0i64;
-    for amount in amounts {
-        id = id.saturating_add(1);
-        rows.push(row(alloc, &[Some(id), *amount])?)?;
-    }
-    Ok(rows)
+/// Why a test has no answer.
+#[derive(Clone, Copy, Debug, PartialEq, thiserror::Error)]
+pub enum NoAnswer {
+    #[error("too many rows")]
+    TooMany,
+    #[error("out of range")]
+    OutOfRange,
+    #[error("the query does not fit its tables")]
+    Unfit,
+    #[error("out of memory")]
+    Memory,
 }
 
-fn listing(alloc: Global, source: &str, amounts: &[Option<i64>]) -> Result<Listing, Memory> {
-    let columns = columns(alloc, source, &[("ID", NUMBER), ("AMT", NUMBER)])?;
-    let rows = rows(alloc, amounts)?;
-    Ok(Listing { columns, rows })
+impl From<Memory> for NoAnswer {
+    fn from(_: Memory) -> NoAnswer {
+        NoAnswer::Memory
+    }
 }
 
-/// The amounts as the source A, and as B too where there is a second source.
-fn listings(alloc: Global, sources: &[Src], amounts: &[Option<i64>]) -> Result<Listings, Memory> {
-    let mut tables = Vec::new(alloc);
-    tables.push(listing(alloc, "A", amounts)?)?;
-    if sources.len() > 1 {
-        tables.push(listing(alloc, "B", amounts)?)?;
+impl From<SelectFault> for NoAnswer {
+    fn from(fault: SelectFault) -> NoAnswer {
+        match fault {
+            SelectFault::TooMany => NoAnswer::TooMany,
+            SelectFault::OutOfRange => NoAnswer::OutOfRange,
+            SelectFault::Memory => NoAnswer::Memory,
+        }
     }
-    Ok(Listings::from_vec(tables))
 }
 
 /// The answer by the test, which is let go.
@@ -89,81 +82,86 @@ fn selected_by<F: Fn(&Row) -> Truth + Judge + Drop>(
     }
 }
 
-fn said(alloc: Global, text: &[u8]) -> Result<Bytes, Memory> {
-    let mut bytes = Bytes::new(alloc);
-    bytes.append(text)?;
-    Ok(bytes)
-}
-
-/// The text of an answer.
-fn text_of(alloc: Global, answer: Result<RowList, SelectFault>) -> Result<Bytes, Memory> {
-    match answer {
-        Ok(rows) => print_rows(alloc, &rows),
-        Err(SelectFault::TooMany) => said(alloc, b"too many rows"),
-        Err(SelectFault::OutOfRange) => said(alloc, b"out of range"),
-        Err(SelectFault::Memory) => Err(Memory),
-    }
-}
-
 /// The answer where the condition is that of the query and the columns are those of the tables.
-fn text_where(
+fn selected_where(
     alloc: Global,
     query: &Query,
     tables: &Listings,
     cond: &Cond,
     columns: &Columns,
     calls: &Cell<u64>,
-) -> Result<Bytes, Memory>
+) -> Result<RowList, NoAnswer>
     requires condition { cond_view cond.now ≡ where_is (filter_view query.now.filter) }
     requires columns { columns.now ≡ all_columns tables.now }
 {
     if typed(cond, columns) && rows_fit(tables) && projection_lasts(&query.projection) {
-        let answer = selected_by(alloc, query, tables, cond, columns, |row: &Row| {
+        let rows = selected_by(alloc, query, tables, cond, columns, |row: &Row| {
             calls.set(calls.get().saturating_add(1));
             truth(cond, columns, row)
-        });
-        text_of(alloc, answer)
+        })?;
+        Ok(rows)
     } else {
-        said(alloc, b"the query does not fit its tables")
+        Err(NoAnswer::Unfit)
     }
 }
 
-/// The answer of a query. The condition is not let go: the proof of that is long.
-fn text_by(
+/// The answer, with the calls of its test counted in the cell.
+fn selected(
     alloc: Global,
     query: &Query,
     tables: &Listings,
     calls: &Cell<u64>,
-) -> Result<Bytes, Memory> {
+) -> Result<RowList, NoAnswer> {
     let columns = columns_of(alloc, tables)?;
-    let cond = ManuallyDrop::new(where_of(alloc, &query.filter)?);
-    text_where(alloc, query, tables, &cond, &columns, calls)
-}
-
-fn text_in(
-    alloc: Global,
-    line: &Line,
-    amounts: &[Option<i64>],
-    calls: &Cell<u64>,
-) -> Result<Bytes, Memory> {
-    match statement_in(line) {
-        Some(Statement::Select(query)) => {
-            let tables = listings(alloc, query.sources.as_slice(), amounts)?;
-            text_by(alloc, query, &tables, calls)
-        }
-        _ => said(alloc, b"no query"),
+    match where_of(alloc, &query.filter) {
+        Ok(cond) => selected_where(alloc, query, tables, &cond, &columns, calls),
+        Err(_) => Err(NoAnswer::Memory),
     }
 }
 
-/// The answer of a query over tables of these amounts, with the calls of its test counted in the cell.
+fn number_in(value: &Value) -> Option<i64> {
+    match value {
+        Value::Num(number) => Some(*number),
+        _ => None,
+    }
+}
+
+/// The numbers of all rows, one row after another.
+fn numbers_in(alloc: Global, rows: &RowList) -> Result<Vec<Option<i64>>, Memory> {
+    let mut numbers = Vec::new(alloc);
+    for row in rows.as_slice() {
+        for value in row.values.as_slice() {
+            numbers.push(number_in(value))?;
+        }
+    }
+    Ok(numbers)
+}
+
+fn numbers_of(
+    alloc: Global,
+    answer: Result<RowList, NoAnswer>,
+) -> Result<Vec<Option<i64>>, NoAnswer> {
+    let rows = answer?;
+    let numbers = numbers_in(alloc, &rows)?;
+    Ok(numbers)
+}
+
+/// The numbers of the answer, one row after another, with the calls of its test counted in the cell.
 pub fn counted(
     alloc: Global,
-    query: &str,
-    amounts: &[Option<i64>],
+    query: Query,
+    tables: &Listings,
     calls: &Cell<u64>,
-) -> Result<Bytes, Fail> {
-    let line = line_of(alloc, query)?;
-    let text = text_in(alloc, &line, amounts, calls);
-    discard(line);
-    Ok(text?)
+) -> Result<Vec<Option<i64>>, NoAnswer> {
+    numbers_of(alloc, selected(alloc, &query, tables, calls))
+}
+
+/// The numbers of the answer, one row after another.
+pub fn numbers(
+    alloc: Global,
+    query: Query,
+    tables: &Listings,
+) -> Result<Vec<Option<i64>>, NoAnswer> {
+    let calls = Cell::new(0);
+    counted(alloc, query, tables, &calls)
 }
