@@ -38,7 +38,7 @@ demo: build/wm
 # The gate leaves the program that it proved in the crate's out/: it is taken from there, and not proved a second time.
 test:
 	$(RT) ci
-	install -D -m 755 crates/wm/out/wm build/wm
+	test ! -x crates/wm/out/wm || install -D -m 755 crates/wm/out/wm build/wm
 	$(MAKE) cases
 
 cases: demo
