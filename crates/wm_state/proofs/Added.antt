@@ -9,6 +9,7 @@ use Rattle.std.specs.declared.vec.Vec.{Vec}
 use Rattle.wm_base.specs.Key.{key_order}
 use Rattle.wm_base.specs.declared.value.Value.{Value}
 use Rattle.wm_graph.specs.Parts.{Parts, parts_of}
+use Rattle.wm_graph.specs.Rules.{collide}
 use Rattle.wm_spec.specs.Lists.{Entry, is_of}
 use Rattle.wm_spec.specs.Records.{record_at}
 use Rattle.wm_spec.specs.declared.record.Record.{Record}
@@ -20,12 +21,12 @@ use Rattle.wm_spec.specs.declared.record.piece.PieceRecord.{PieceRecord}
 use Rattle.wm_spec.specs.declared.record.row.RowRecord.{RowRecord}
 use Rattle.wm_spec.specs.declared.record.space.Space.{Space}
 use Rattle.wm_spec.specs.declared.record.stored.Stored.{Stored}
-use Rattle.wm_state.specs.Batches.{drop_one, is_out}
+use Rattle.wm_state.specs.Batches.{drop_one}
 use Rattle.wm_state.specs.ById.{Ascend, applied, set_at}
 use Rattle.wm_state.specs.Drafts.{is_next_version, is_said, is_written, may_add, takes_place}
-use Rattle.wm_state.specs.Drawing.{AreDrawn}
+use Rattle.wm_state.specs.Drawing.{AreDrawn, touched}
 use Rattle.wm_state.specs.Editing.{entry_of}
-use Rattle.wm_state.specs.Entries.{AreStamped, entry_keys, hists_from, is_out_all, piece_of, pieces_of, rows_in}
+use Rattle.wm_state.specs.Entries.{hists_from, piece_of, pieces_of, rows_in}
 use Rattle.wm_state.specs.Standing.{latest}
 use Rattle.wm_state.specs.Writes.{longer_by, put_all, write_batch}
 use Rattle.wm_state.specs.declared.edit.Edit.{Edit}
@@ -33,8 +34,9 @@ use Rattle.wm_state.specs.declared.edit.Edit.TheVariants as edits
 use Rattle.wm_state.specs.declared.edit.NewEntry.{NewEntry}
 use Rattle.wm_state.proofs.ById.{Ascend-set, record_at-set}
 use Rattle.wm_state.proofs.Laying.{key_itself}
-use Rattle.wm_state.proofs.OthersStay.{AwayFrom, away_behind, written_out}
+use Rattle.wm_state.proofs.OthersStay.{AwayFrom, away_behind}
 use Rattle.wm_state.proofs.Tests.{all_if, and_true, bool_apart, both}
+use Rattle.wm_state.proofs.Touched.{met-same, touched-all}
 
 -- ---- what is put at an id
 
@@ -204,47 +206,29 @@ news_its : (version : ℕ) (es : List Entry) → list_all (is_its version es) (p
 news_its version es =
     all_if (is_new version es) (is_its version es) (λ x is. let h = both (is_said es x) (x.version == version) is in and_true (is_written es x) (x.version == version) (said_written es x h.0) h.1) (pieces_of version es) (news_new version es)
 
--- so are those that go for them
-goes_its : (version table stamp : ℕ) (es : List Entry) (y : PieceRecord) → AreStamped table stamp es → is_out_all version table (entry_keys es) y ≡ false → is_its version es y ≡ true
-goes_its version table stamp es y stamped goes = and_true (is_written es y) (y.version == version) (by_keys (is_written es y) refl) (by_version (y.version == version) refl)
+-- so are those that they touch
+touched_its : (version : ℕ) (es : List Entry) (ys : List PieceRecord) → list_all (is_its version es) (touched (pieces_of version es) ys) ≡ true
+touched_its version es ys = touched-all (is_its version es) handed (pieces_of version es) (news_its version es) ys
   where
-    by_keys : (b : Bool) → is_written es y ≡ b → is_written es y ≡ true
-    by_keys true is = is
-    by_keys false is = absurd (bool_apart (sym (written_out version table stamp es y stamped is) ∙ goes))
-
-    out_one : (key : List Value) → (y.version == version) ≡ false → is_out version table key y ≡ true
-    out_one key other = ap (λ b. not (b && ((y.cells.table == table) && is_eq (key_order y.cells.key key)))) other
-
-    out_all : (keys : List (List Value)) → (y.version == version) ≡ false → is_out_all version table keys y ≡ true
-    out_all [] other = refl
-    out_all (key ∷ keys) other = and_true (is_out version table key y) (is_out_all version table keys y) (out_one key other) (out_all keys other)
-
-    by_version : (b : Bool) → (y.version == version) ≡ b → (y.version == version) ≡ true
-    by_version true is = is
-    by_version false is = absurd (bool_apart (sym (out_all (entry_keys es) is) ∙ goes))
-
-all_go_its : (version table stamp : ℕ) (es : List Entry) (ys : List PieceRecord) → AreStamped table stamp es → list_all (is_its version es) (filter (λ (y : PieceRecord). not (is_out_all version table (entry_keys es) y)) ys) ≡ true
-all_go_its version table stamp es [] stamped = refl
-all_go_its version table stamp es (y ∷ ys) stamped = by_test (is_out_all version table (entry_keys es) y) refl (all_go_its version table stamp es ys stamped)
-  where
-    go : List PieceRecord
-    go = filter (λ (z : PieceRecord). not (is_out_all version table (entry_keys es) z)) ys
-
-    by_test : (b : Bool) → is_out_all version table (entry_keys es) y ≡ b → list_all (is_its version es) go ≡ true → list_all (is_its version es) (cond (not b) (y ∷ go) go) ≡ true
-    by_test true e rest = rest
-    by_test false e rest = and_true (is_its version es y) _ (goes_its version table stamp es y stamped e) rest
+    handed : (n y : PieceRecord) → collide n y ≡ true → is_its version es n ≡ true → is_its version es y ≡ true
+    handed n y hit own =
+        let same = met-same n y hit in
+        let h = both (is_written es n) (n.version == version) own in
+        and_true (is_written es y) (y.version == version)
+        (ap (λ (t : ℕ). list_any (is_of t y.cells.key) es) (sym same.1.0) ∙ ap (λ (k : List Value). list_any (is_of n.cells.table k) es) (sym same.1.1) ∙ h.0)
+        (ap (λ (v : ℕ). v == version) (sym same.0) ∙ h.1)
 
 -- and those that are drawn over pieces that are
 drawn_its : (version : ℕ) (es : List Entry) (old drawn : List PieceRecord) → list_all (is_its version es) old ≡ true → AreDrawn (pieces_of version es) old drawn → list_all (is_its version es) drawn ≡ true
 drawn_its version es old drawn olds draws = draws.pass (is_its version es) (λ x from till e le lt ends. e) olds (news_its version es)
 
 -- so they are what the entries may add: in the newest version of the workspace
-pub pieces_added : (p : Parts) (n table stamp : ℕ) (entries : Vec NewEntry Global) (ys drawn : List PieceRecord) → AreStamped table stamp (map entry_of entries.items)
-    → AreDrawn (pieces_of (latest p n) (map entry_of entries.items)) (filter (λ (y : PieceRecord). not (is_out_all (latest p n) table (entry_keys (map entry_of entries.items)) y)) ys) drawn
+pub pieces_added : (p : Parts) (n : ℕ) (entries : Vec NewEntry Global) (ys drawn : List PieceRecord)
+    → AreDrawn (pieces_of (latest p n) (map entry_of entries.items)) (touched (pieces_of (latest p n) (map entry_of entries.items)) ys) drawn
     → list_all (λ (x : PieceRecord). may_add p (edits.Append n entries) (records.Piece x)) drawn ≡ true
-pieces_added p n table stamp entries ys drawn stamped draws =
+pieces_added p n entries ys drawn draws =
     all_if (is_its (latest p n) es) (λ (x : PieceRecord). may_add p (edits.Append n entries) (records.Piece x)) (λ x is. wider (is_its (latest p n) es x) (is_said es x && is_next_version p x.version) is) drawn
-    (drawn_its (latest p n) es (filter (λ (y : PieceRecord). not (is_out_all (latest p n) table (entry_keys es) y)) ys) drawn (all_go_its (latest p n) table stamp es ys stamped) draws)
+    (drawn_its (latest p n) es (touched (pieces_of (latest p n) es) ys) drawn (touched_its (latest p n) es ys) draws)
   where
     es : List Entry
     es = map entry_of entries.items

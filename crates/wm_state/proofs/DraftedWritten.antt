@@ -20,10 +20,10 @@ use Rattle.wm_spec.specs.declared.record.stored.Stored.{Stored}
 use Rattle.wm_state.specs.Batches.{AllUnder, AreDropped, is_dropped, keeps}
 use Rattle.wm_state.specs.ById.{applied}
 use Rattle.wm_state.specs.Drafts.{CanAppend, CanWork, DraftsBy, may_add}
-use Rattle.wm_state.specs.Drawing.{AreDrawn, piece_keys}
+use Rattle.wm_state.specs.Drawing.{AreDrawn, is_clear, touched}
 use Rattle.wm_state.specs.Editing.{counter_limit, drafted_by, entry_of}
 use Rattle.wm_state.specs.Effects.{IsFree, IsLeaf}
-use Rattle.wm_state.specs.Entries.{AreStamped, entry_keys, hists_from, is_out_all, pieces_of, rows_in}
+use Rattle.wm_state.specs.Entries.{AreStamped, hists_from, pieces_of, rows_in}
 use Rattle.wm_state.specs.Points.{moved, stepped_by}
 use Rattle.wm_state.specs.Standing.{CountersStand, latest, newest_first}
 use Rattle.wm_state.specs.State.{State}
@@ -35,7 +35,6 @@ use Rattle.wm_state.proofs.ByKind.{under_found}
 use Rattle.wm_state.proofs.Counting.{CountsAs, counts_as, counts_in, in_room, moved_well, stamped_by, work_grows}
 use Rattle.wm_state.proofs.Drafted.{some_edit}
 use Rattle.wm_state.proofs.DraftedSaved.{one_space}
-use Rattle.wm_state.proofs.DrawingNews.{news-keys}
 use Rattle.wm_state.proofs.Growing.{same_counters}
 use Rattle.wm_state.proofs.Ids.{are_under}
 use Rattle.wm_state.proofs.Named.{space_number}
@@ -94,28 +93,13 @@ counts_on s m work n c d entries counts stamp moment limit more q one = record {
 
 -- ---- what is drawn anew
 
--- entries come over the pieces of a version: the ids that go are those of its pieces of their keys, each once, and what is drawn stands
--- for these pieces with those of the entries over them
-pub record Redrawn (rs : List Stored) (version table : ℕ) (es : List Entry) (ids : List ℕ) (drawn : List PieceRecord) : Type 0 where
-  pub are : AreDrawn (pieces_of version es) (filter (λ (y : PieceRecord). not (is_out_all version table (entry_keys es) y)) (parts_of rs).pieces) drawn
-  pub gone : AreDropped (keeps (is_out_all version table (entry_keys es))) ids rs
+-- entries come over the pieces of a version: the ids that go are those of its pieces that share a cell with one of them, each once, and
+-- what is drawn stands for these pieces with those of the entries over them
+pub record Redrawn (rs : List Stored) (version : ℕ) (es : List Entry) (ids : List ℕ) (drawn : List PieceRecord) : Type 0 where
+  pub are : AreDrawn (pieces_of version es) (touched (pieces_of version es) (parts_of rs).pieces) drawn
+  pub gone : AreDropped (keeps (is_clear (pieces_of version es))) ids rs
   pub once : ids_differ ids ≡ true
   pub there : list_all (λ id. is_some (record_at rs id)) ids ≡ true
-
--- so it is told of the new pieces
-pub redrawn_so : (rs : List Stored) (version table : ℕ) (es : List Entry) (news : List PieceRecord) (ids : List ℕ) (drawn : List PieceRecord) → news ≡ pieces_of version es
-    → AreDrawn news (filter (λ (y : PieceRecord). not (is_out_all version table (piece_keys news) y)) (parts_of rs).pieces) drawn → AreDropped (keeps (is_out_all version table (piece_keys news))) ids rs
-    → ids_differ ids ≡ true → list_all (λ id. is_some (record_at rs id)) ids ≡ true → Redrawn rs version table es ids drawn
-redrawn_so rs version table es news ids drawn news_are are gone once there = record {
-  are = subst (λ xs. AreDrawn xs (filter (λ (y : PieceRecord). not (is_out_all version table (entry_keys es) y)) (parts_of rs).pieces) drawn) news_are
-      (subst (λ keys. AreDrawn news (filter (λ (y : PieceRecord). not (is_out_all version table keys y)) (parts_of rs).pieces) drawn) keys are);
-  gone = subst (λ ks. AreDropped (keeps (is_out_all version table ks)) ids rs) keys gone;
-  once = once;
-  there = there;
-}
-  where
-    keys : piece_keys news ≡ entry_keys es
-    keys = ap piece_keys news_are ∙ news-keys version es
 
 -- ---- the ids
 
@@ -173,7 +157,7 @@ may_write p m work n table a c es rules can_work v leaf free = record {
 -- the batch makes of the records what the entries make of each state
 pub drafts_written : (rs : List Stored) (m work n table : ℕ) (entries : Vec NewEntry Global) (a : Space) (c : Counters) (counters_id space_id : ℕ) (ids : List ℕ) (id : ℕ) (drawn : List PieceRecord) → keep_rules (parts_of rs) ≡ true
     → CanWork (parts_of rs) m work → Appends (parts_of rs) n a c table (entries_in entries) → Places rs counters_id space_id id c a → IsLeaf (latest (parts_of rs) n) (newest_first (parts_of rs).versions)
-    → IsFree (parts_of rs) (latest (parts_of rs) n) → Redrawn rs (latest (parts_of rs) n) table (entries_in entries) ids drawn
+    → IsFree (parts_of rs) (latest (parts_of rs) n) → Redrawn rs (latest (parts_of rs) n) (entries_in entries) ids drawn
     → DraftsBy work rs m (edits.Append n entries ∷ [])
     (write_batch counters_id (stepped_by c m work (length (entries_in entries))) space_id a (length (entries_in entries)) ids id (rows_in (entries_in entries)) drawn (hists_from a.number a.log_length (entries_in entries)))
 drafts_written rs m work n table entries a c counters_id space_id ids id drawn rules can_work v at leaf free r = record {
@@ -191,14 +175,14 @@ drafts_written rs m work n table entries a c counters_id space_id ids id drawn r
       (λ k none.
       puts_write (may_add (parts_of rs) (edits.Append n entries)) k counters_id space_id id (length es) d a ids (rows_in es) drawn (hists_from a.number a.log_length es)
       (there_apart rs counters_id k (records.Counters c) at.counters none) (there_apart rs space_id k (records.Space a) at.space none)
-      (rows_added (parts_of rs) n entries) (pieces_added (parts_of rs) n table c.next_stamp entries (parts_of rs).pieces drawn v.stamped r.are)
+      (rows_added (parts_of rs) n entries) (pieces_added (parts_of rs) n entries (parts_of rs).pieces drawn r.are)
       (hists_added (parts_of rs) n a.number a.log_length entries es (space_number (parts_of rs) n a v.there)));
   placed = placed_by (edits.Append n entries ∷ []) rs batch at.sorted
       (λ k q found.
       places_write k counters_id space_id id (length es) d a ids (rows_in es) drawn (hists_from a.number a.log_length es) q
       (puts_like rs counters_id k (records.Counters c) q (records.Counters d) at.counters found refl)
       (puts_like rs space_id k (records.Space a) q (records.Space (longer_by (length es) a)) at.space found (eq-eqb a.number a.number refl)) (under_found id rs k q at.under found));
-  kept = kept_write (latest (parts_of rs) n) table es (parts_of rs).pieces drawn counters_id space_id id a.number a.log_length d a ids v.can.kept r.are;
+  kept = kept_write (latest (parts_of rs) n) es (parts_of rs).pieces drawn counters_id space_id id a.number a.log_length d a ids v.can.kept r.are;
   counted = λ some. counted_put rs work counters_id c d batch at.sorted v.one once (first_change counters_id _ _) keeps refl;
   nothing = some_edit (edits.Append n entries) [] (write_batch counters_id d space_id a (length es) ids id (rows_in es) drawn (hists_from a.number a.log_length es));
   few = λ forks. absurd (bool_apart (sym forks));
@@ -221,10 +205,10 @@ drafts_written rs m work n table entries a c counters_id space_id ids id drawn r
         (λ k q found fixed.
         away_write k counters_id space_id id (length es) d a ids (rows_in es) drawn (hists_from a.number a.log_length es) (changed_apart (edits.Append n entries) rs counters_id k (records.Counters c) q at.counters refl found fixed)
         (changed_apart (edits.Append n entries) rs space_id k (records.Space a) q at.space (eq-eqb a.number n (space_number (parts_of rs) n a v.there)) found fixed)
-        (r.gone k q found ∙ never_dropped (latest (parts_of rs) n) table c.next_stamp n entries q v.stamped fixed) (under_found id rs k q at.under found))
+        (r.gone k q found ∙ never_dropped (latest (parts_of rs) n) n entries q fixed) (under_found id rs k q at.under found))
 
     keeps : keep_rules (parts_of (applied batch rs)) ≡ true
     keeps = keep_planned rs counters_id space_id c d a ids id n table es drawn rules at.sorted at.counters at.space r.gone at.under may r.are
 
     once : AreChanges batch
-    once = written_once rs a c d counters_id space_id id (length es) (is_out_all (latest (parts_of rs) n) table (entry_keys es)) ids (rows_in es) drawn (hists_from a.number a.log_length es) at r.gone r.once r.there
+    once = written_once rs a c d counters_id space_id id (length es) (is_clear (pieces_of (latest (parts_of rs) n) es)) ids (rows_in es) drawn (hists_from a.number a.log_length es) at r.gone r.once r.there

@@ -18,9 +18,9 @@ use Rattle.wm_spec.specs.declared.record.stored.Stored.{Stored}
 use Rattle.wm_spec.specs.declared.record.version.Version.{Version}
 use Rattle.wm_state.specs.Batches.{AreDropped, is_dropped, keeps}
 use Rattle.wm_state.specs.Drafts.{CanWork, DraftsBy, is_next_version, may_add}
-use Rattle.wm_state.specs.Drawing.{AreDrawn}
+use Rattle.wm_state.specs.Drawing.{AreDrawn, is_clear}
 use Rattle.wm_state.specs.Editing.{drafted_by}
-use Rattle.wm_state.specs.Entries.{entry_keys, hists_from, is_out_all, pieces_of, rows_in}
+use Rattle.wm_state.specs.Entries.{hists_from, pieces_of, rows_in}
 use Rattle.wm_state.specs.Points.{next_version, stepped_new_by, versioned}
 use Rattle.wm_state.specs.Standing.{latest}
 use Rattle.wm_state.specs.ById.{applied}
@@ -70,15 +70,15 @@ pub record DrawnAlone (version : ℕ) (es : List Entry) (ids : List ℕ) (drawn 
   pub are : AreDrawn (pieces_of version es) [] drawn
 
 -- so it is of what is drawn anew
-pub drawn_alone : (rs : List Stored) (table : ℕ) (c : Counters) (es : List Entry) (ids : List ℕ) (drawn : List PieceRecord) → keep_rules (parts_of rs) ≡ true → (parts_of rs).counters ≡ c ∷ []
-    → Redrawn rs c.next_version table es ids drawn → DrawnAlone c.next_version es ids drawn
-drawn_alone rs table c es ids drawn rules one r = record {
-  none = none_dropped rs (is_out_all c.next_version table (entry_keys es)) ids all r.gone r.there;
-  are = subst (λ old. AreDrawn (pieces_of c.next_version es) old drawn) (none_goes (is_out_all c.next_version table (entry_keys es)) (parts_of rs).pieces all) r.are;
+pub drawn_alone : (rs : List Stored) (c : Counters) (es : List Entry) (ids : List ℕ) (drawn : List PieceRecord) → keep_rules (parts_of rs) ≡ true → (parts_of rs).counters ≡ c ∷ []
+    → Redrawn rs c.next_version es ids drawn → DrawnAlone c.next_version es ids drawn
+drawn_alone rs c es ids drawn rules one r = record {
+  none = none_dropped rs (is_clear (pieces_of c.next_version es)) ids all r.gone r.there;
+  are = subst (λ old. AreDrawn (pieces_of c.next_version es) old drawn) (none_goes (is_clear (pieces_of c.next_version es)) (parts_of rs).pieces all) r.are;
 }
   where
-    all : list_all (is_out_all c.next_version table (entry_keys es)) (parts_of rs).pieces ≡ true
-    all = all_stay (parts_of rs) c table (entry_keys es) rules one
+    all : list_all (is_clear (pieces_of c.next_version es)) (parts_of rs).pieces ≡ true
+    all = all_stay (parts_of rs) c es rules one
 
 -- ---- the batch
 

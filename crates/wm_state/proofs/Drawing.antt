@@ -127,7 +127,7 @@ in-parts version table key = λ x from till here after some before. here
 pub out-parts : (version table : ℕ) (key : List Value) → PassesParts (is_out version table key)
 out-parts version table key = λ x from till here after some before. here
 
-all_apart : (test : PieceRecord → Bool) (xs ys : List PieceRecord) → list_all test (xs ++ ys) ≡ true → (list_all test xs ≡ true) × (list_all test ys ≡ true)
+pub all_apart : (test : PieceRecord → Bool) (xs ys : List PieceRecord) → list_all test (xs ++ ys) ≡ true → (list_all test xs ≡ true) × (list_all test ys ≡ true)
 all_apart test [] ys all = (refl, all)
 all_apart test (x ∷ xs) ys all = let h = both (test x) (list_all test (xs ++ ys)) all in let rest = all_apart test xs ys h.1 in (and_true (test x) (list_all test xs) h.0 rest.0, rest.1)
 

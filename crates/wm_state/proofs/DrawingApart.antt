@@ -33,7 +33,7 @@ part_apart x y from till after before apart = fewer (at_one_place x y) x.cells.f
 apart_part : (y x : PieceRecord) (from till : ℕ) → x.cells.from ≤ from → till ≤ x.cells.till → collide y x ≡ false → collide y (between from till x) ≡ false
 apart_part y x from till after before apart = fewer_behind (at_one_place y x) x.cells.from x.cells.till from till y.cells.from y.cells.till after before apart
 
-part_apart_all : (x : PieceRecord) (from till : ℕ) → x.cells.from ≤ from → till ≤ x.cells.till → (ys : List PieceRecord) → list_any (collide x) ys ≡ false → list_any (collide (between from till x)) ys ≡ false
+pub part_apart_all : (x : PieceRecord) (from till : ℕ) → x.cells.from ≤ from → till ≤ x.cells.till → (ys : List PieceRecord) → list_any (collide x) ys ≡ false → list_any (collide (between from till x)) ys ≡ false
 part_apart_all x from till after before [] apart = refl
 part_apart_all x from till after before (y ∷ ys) apart =
     let h = either_false (collide x y) (list_any (collide x) ys) apart in

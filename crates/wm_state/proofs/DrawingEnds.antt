@@ -106,7 +106,7 @@ same_place x =
     (and_true (x.cells.table == x.cells.table) (is_eq (key_order x.cells.key x.cells.key)) (eq-eqb x.cells.table x.cells.table refl) (key_itself x.cells.key))
 
 -- and the other way round
-turned : (x y : PieceRecord) → is_in x.version x.cells.table x.cells.key y ≡ true → is_in y.version y.cells.table y.cells.key x ≡ true
+pub turned : (x y : PieceRecord) → is_in x.version x.cells.table x.cells.key y ≡ true → is_in y.version y.cells.table y.cells.key x ≡ true
 turned x y e =
     let h = both (y.version == x.version) ((y.cells.table == x.cells.table) && is_eq (key_order y.cells.key x.cells.key)) e in
     let g = both (y.cells.table == x.cells.table) (is_eq (key_order y.cells.key x.cells.key)) h.1 in

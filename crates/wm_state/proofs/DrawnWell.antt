@@ -1,18 +1,13 @@
 -- Pieces that stand for others keep the rules where these do.
-use Rattle.std.proofs.Common.{◌≡◌, ℕ, ◌≤◌, ◌<◌, nat_lt, nat_le, true, false, not, ◌&&◌, ◌||◌, List, Option, is_some, arith}
-use Rattle.std.specs.List.{list_any, filter}
+use Rattle.std.proofs.Common.{◌≡◌, ℕ, ◌≤◌, ◌<◌, nat_lt, nat_le, true, false, ◌&&◌, ◌||◌, Option, is_some, arith}
 use Rattle.std.specs.Option.{option_map_or}
 use Rattle.wm_base.specs.declared.instant.TheConstants.{END}
-use Rattle.wm_graph.specs.Rules.{is_piece, is_row_at, is_key_of, are_cells, collide}
-use Rattle.wm_spec.specs.Lists.{Entry}
+use Rattle.wm_graph.specs.Rules.{is_piece, is_row_at, is_key_of, are_cells}
 use Rattle.wm_spec.specs.declared.record.piece.PieceRecord.{PieceRecord}
 use Rattle.wm_spec.specs.declared.record.row.RowRecord.{RowRecord}
 use Rattle.wm_spec.specs.declared.record.table.Table.{Table}
 use Rattle.wm_spec.specs.declared.record.version.Version.{Version}
-use Rattle.wm_state.specs.Drawing.{between, PassesParts, AreDrawn}
-use Rattle.wm_state.specs.Entries.{AreStamped, entry_keys, pieces_of, is_out_all}
-use Rattle.wm_state.proofs.Appending.{all_kept}
-use Rattle.wm_state.proofs.Places.{goes_all, goes-parts, entries-go, kept-apart}
+use Rattle.wm_state.specs.Drawing.{between, PassesParts}
 use Rattle.wm_state.proofs.Tests.{both, and_true}
 
 is_less : (m n : ℕ) → m < n → nat_lt m n ≡ true
@@ -30,12 +25,3 @@ piece-parts tables versions rows next x from till well lower some upper =
     let t = both (nat_lt x.cells.from x.cells.till) (nat_le x.cells.till END) k.0 in
     and_true (is_some (versions x.version)) _ h.0
     (and_true (are_cells tables (between from till x).cells) _ (and_true (nat_lt from till && nat_le till END) _ (and_true (nat_lt from till) _ (is_less from till some) (not_later till x.cells.till END upper t.1)) k.1) g.1)
-
--- what is kept collides with none of them
-pub drawn-apart : (version table stamp : ℕ) (es : List Entry) (old drawn : List PieceRecord) → AreStamped table stamp es
-    → AreDrawn (pieces_of version es) (filter (λ y. not (is_out_all version table (entry_keys es) y)) old) drawn → (y : PieceRecord) → is_out_all version table (entry_keys es) y ≡ true
-    → list_any (collide y) drawn ≡ false
-drawn-apart version table stamp es old drawn stamped are =
-    kept-apart version table (entry_keys es) drawn
-    (are.pass (goes_all version table (entry_keys es)) (goes-parts version table (entry_keys es)) (all_kept (goes_all version table (entry_keys es)) (goes_all version table (entry_keys es)) (λ y goes. goes) old)
-    (entries-go version table stamp es stamped))

@@ -12,13 +12,14 @@ use Rattle.wm_spec.specs.declared.record.piece.PieceRecord.{PieceRecord}
 use Rattle.wm_spec.specs.declared.record.row.RowRecord.{RowRecord}
 use Rattle.wm_spec.specs.declared.record.space.Space.{Space}
 use Rattle.wm_state.specs.Writes.{longer_by}
-use Rattle.wm_state.proofs.Appending.{all_append, all_kept, differ_append, find_before, find_behind}
+use Rattle.wm_state.proofs.Appending.{all_append, differ_append, find_before, find_behind}
 use Rattle.wm_state.proofs.Apart.{Ruled, ruled, keeps_all, found-passes}
 use Rattle.wm_state.proofs.Frames.{KeepRows}
 use Rattle.wm_state.proofs.Keeping.{le_of, le_itself, KeepTables, KeepTables-same, KeepSpaces, KeepSpaces-swap, KeepVersions-same, is_row-kept, is_piece-kept, is_hist-kept, are_savepoints-kept}
 use Rattle.wm_state.proofs.Named.{ruled_savepoints}
 use Rattle.wm_state.proofs.Respaced.{MayReplace, is_counted, space_here, spaces_replaced, versions_replaced}
 use Rattle.wm_state.proofs.Tests.{both, and_true, all_if, all_filter, all_swap, all_middle, differ_filter, none_if}
+use Rattle.wm_state.proofs.Touched.{AreApart}
 
 -- the records with more rows, more pieces in the place of some, a log of one workspace that is longer by so many, more entries of logs,
 -- and other counters
@@ -46,7 +47,7 @@ pub record MayPut (p : Parts) (old new : Counters) (front : List Space) (a : Spa
   pub rows_differ : differ (λ (r q : RowRecord). r.stamp == q.stamp) rows ≡ true
   pub pieces_well : list_all (is_piece (table_of p.tables) (version_of p.versions) (row_of (p.rows ++ rows)) new.next_stamp) pieces ≡ true
   pub pieces_differ : differ collide pieces ≡ true
-  pub apart : (y : PieceRecord) → keep y ≡ true → list_any (collide y) pieces ≡ false
+  pub apart : AreApart (filter keep p.pieces) pieces
   pub hists_well : list_all (is_hist (table_of p.tables) (space_of (front ++ longer_by k a ∷ back)) (row_of (p.rows ++ rows)) new.next_stamp) hists ≡ true
   pub hists_differ : differ same_position hists ≡ true
   pub hists_new : list_all (λ (x : Hist). (x.space == a.number) && nat_le a.log_length x.position) hists ≡ true
@@ -100,12 +101,12 @@ KeepRows-append p q rows more stamp r found = ap (λ rs. row_of rs stamp) more �
 pieces_kept : (p q : Parts) (next more : ℕ) (rows : List RowRecord) (keep : PieceRecord → Bool) (pieces : List PieceRecord) → nat_le next more ≡ true → q.tables ≡ p.tables → q.versions ≡ p.versions
     → q.rows ≡ p.rows ++ rows → q.pieces ≡ filter keep p.pieces ++ pieces
     → list_all (is_piece (table_of p.tables) (version_of p.versions) (row_of (p.rows ++ rows)) more) pieces ≡ true → differ collide pieces ≡ true
-    → ((y : PieceRecord) → keep y ≡ true → list_any (collide y) pieces ≡ false) → are_pieces p next ≡ true → are_pieces q more ≡ true
+    → AreApart (filter keep p.pieces) pieces → are_pieces p next ≡ true → are_pieces q more ≡ true
 pieces_kept p q next more rows keep pieces le tables versions are_rows are well differ_so apart e =
     let h = both (differ collide p.pieces) (list_all (is_piece (table_of p.tables) (version_of p.versions) (row_of p.rows) next) p.pieces) e in
     rw are
     (and_true (differ collide (filter keep p.pieces ++ pieces)) (list_all (is_piece (table_of q.tables) (version_of q.versions) (row_of q.rows) more) (filter keep p.pieces ++ pieces))
-    (differ_append collide (filter keep p.pieces) pieces (differ_filter collide keep p.pieces h.0) differ_so (all_kept (λ y. not (list_any (collide y) pieces)) keep (λ y kept. ap not (apart y kept)) p.pieces))
+    (differ_append collide (filter keep p.pieces) pieces (differ_filter collide keep p.pieces h.0) differ_so apart)
     (all_append (is_piece (table_of q.tables) (version_of q.versions) (row_of q.rows) more) (filter keep p.pieces) pieces
     (all_filter (is_piece (table_of q.tables) (version_of q.versions) (row_of q.rows) more) keep p.pieces
     (all_if (is_piece (table_of p.tables) (version_of p.versions) (row_of p.rows) next) (is_piece (table_of q.tables) (version_of q.versions) (row_of q.rows) more)

@@ -50,7 +50,7 @@ pub mod WritingAll
 pub mod Appending
 pub mod KeepWritten
 pub mod Entered
-pub mod Places
+pub mod Touched
 pub mod LayingAll
 pub mod DrawnWell
 pub mod EntryRecords
@@ -65,7 +65,7 @@ pub mod DrawingEnds
 pub mod Drawing
 pub mod Above
 pub mod Ending
-pub mod DrawingKeys
+pub mod DrawingTouched
 pub mod DrawingNews
 pub mod Counting
 pub mod Settled

@@ -1,11 +1,9 @@
 -- What a batch leaves as it is: the records of the ids that it does not have, and so each record that its edit may not change.
-use Rattle.std.proofs.Common.{◌≡◌, ◌≢◌, ℕ, ◌+◌, ◌<◌, ◌==◌, ◌&&◌, Bool, true, false, not, List, [], ◌∷◌, ◌++◌, map, length, Some, refl, sym, ap, ◌∙◌, arith}
-use Rattle.std.proofs.lemmas.Bool.{eq-eqb, eqb-true}
+use Rattle.std.proofs.Common.{◌≡◌, ◌≢◌, ℕ, ◌+◌, ◌<◌, ◌==◌, ◌&&◌, nat_lt, Bool, true, false, not, List, [], ◌∷◌, ◌++◌, map, length, Some, refl, sym, ap, ◌∙◌, arith}
 use Rattle.std.specs.List.{list_any}
-use Rattle.std.specs.Ordering.{is_eq}
 use Rattle.std.specs.declared.alloc.Global.{Global}
 use Rattle.std.specs.declared.vec.Vec.{Vec}
-use Rattle.wm_base.specs.Key.{key_order}
+use Rattle.wm_graph.specs.Rules.{collide}
 use Rattle.wm_spec.specs.Lists.{Entry, is_of}
 use Rattle.wm_spec.specs.Records.{record_at}
 use Rattle.wm_spec.specs.declared.record.Record.{Record}
@@ -17,20 +15,20 @@ use Rattle.wm_spec.specs.declared.record.piece.PieceRecord.{PieceRecord}
 use Rattle.wm_spec.specs.declared.record.row.RowRecord.{RowRecord}
 use Rattle.wm_spec.specs.declared.record.space.Space.{Space}
 use Rattle.wm_spec.specs.declared.record.stored.Stored.{Stored}
-use Rattle.wm_state.specs.Batches.{AllUnder, drop_one, is_dropped, is_in, is_out, keeps}
+use Rattle.wm_state.specs.Batches.{AllUnder, drop_one, is_dropped, keeps}
 use Rattle.wm_state.specs.ById.{applied, set_at}
-use Rattle.wm_state.specs.Drafts.{is_written, may_change}
+use Rattle.wm_state.specs.Drafts.{is_met, may_change, shares_moment}
+use Rattle.wm_state.specs.Drawing.{is_clear}
 use Rattle.wm_state.specs.Editing.{entry_of}
-use Rattle.wm_state.specs.Entries.{AreStamped, entry_keys, is_out_all}
+use Rattle.wm_state.specs.Entries.{piece_of, pieces_of}
 use Rattle.wm_state.specs.Writes.{put_all, write_batch}
 use Rattle.wm_state.specs.declared.edit.Edit.{Edit}
 use Rattle.wm_state.specs.declared.edit.Edit.TheVariants as edits
 use Rattle.wm_state.specs.declared.edit.NewEntry.{NewEntry}
 use Rattle.wm_state.proofs.ById.{either-none, eqb-apart}
 use Rattle.wm_state.proofs.ByKind.{under_found}
-use Rattle.wm_state.proofs.Laying.{key_itself, key_same}
 use Rattle.wm_state.proofs.Putting.{set_other}
-use Rattle.wm_state.proofs.Tests.{and_true, bool_apart, both, either_false}
+use Rattle.wm_state.proofs.Tests.{and_true, bool_apart, either_false}
 
 -- ---- ids that a batch does not have
 
@@ -113,35 +111,28 @@ new_apart rs next id r under found = below_apart id next (under_found next rs id
 
 -- ---- what entries leave
 
--- a piece of a key that no entry has is not of their keys
-pub written_out : (version table stamp : ℕ) (es : List Entry) (x : PieceRecord) → AreStamped table stamp es → is_written es x ≡ false → is_out_all version table (entry_keys es) x ≡ true
-written_out version table stamp [] x stamped none = refl
-written_out version table stamp (e ∷ es) x stamped none =
-    let h = either_false (is_of x.cells.table x.cells.key e) (is_written es x) none in
-    and_true (is_out version table e.key x) (is_out_all version table (entry_keys es) x) (by_test (is_in version table e.key x) refl h.0) (written_out version table (stamp + 1) es x stamped.1 h.1)
+-- a piece that shares no moment with an entry of its key is clear of their pieces
+unmet_clear : (version : ℕ) (es : List Entry) (x : PieceRecord) → is_met es x ≡ false → is_clear (pieces_of version es) x ≡ true
+unmet_clear version [] x none = refl
+unmet_clear version (e ∷ es) x none =
+    let h = either_false (shares_moment x e) (is_met es x) none in
+    and_true (not (collide (piece_of version e) x)) (is_clear (pieces_of version es) x)
+    (apart (version == x.version) (is_of x.cells.table x.cells.key e) (nat_lt e.from x.cells.till && nat_lt x.cells.from e.till) h.0) (unmet_clear version es x h.1)
   where
-    is_its : is_in version table e.key x ≡ true → is_of x.cells.table x.cells.key e ≡ true
-    is_its is =
-        let h = both (x.version == version) ((x.cells.table == table) && is_eq (key_order x.cells.key e.key)) is in
-        let g = both (x.cells.table == table) (is_eq (key_order x.cells.key e.key)) h.1 in
-        and_true (e.table == x.cells.table) (is_eq (key_order e.key x.cells.key)) (eq-eqb e.table x.cells.table (stamped.0.table ∙ sym (eqb-true x.cells.table table g.0)))
-        (ap (λ k. is_eq (key_order e.key k)) (key_same x.cells.key e.key g.1) ∙ key_itself e.key)
-
-    by_test : (b : Bool) → is_in version table e.key x ≡ b → is_of x.cells.table x.cells.key e ≡ false → not b ≡ true
-    by_test true is fixed = absurd (bool_apart (sym (is_its is) ∙ fixed))
-    by_test false is fixed = refl
+    apart : (a b t : Bool) → (b && t) ≡ false → not ((a && b) && t) ≡ true
+    apart true b t e = ap not e
+    apart false b t e = refl
 
 -- so a record that they may not change is not dropped
-pub never_dropped : (version table stamp n : ℕ) (entries : Vec NewEntry Global) (r : Record) → AreStamped table stamp (map entry_of entries.items) → may_change (edits.Append n entries) r ≡ false
-    → not (keeps (is_out_all version table (entry_keys (map entry_of entries.items))) r) ≡ false
-never_dropped version table stamp n entries (records.Piece x) stamped none = ap not (written_out version table stamp (map entry_of entries.items) x stamped none)
-never_dropped version table stamp n entries (records.Counters x) stamped none = refl
-never_dropped version table stamp n entries (records.Table x) stamped none = refl
-never_dropped version table stamp n entries (records.Space x) stamped none = refl
-never_dropped version table stamp n entries (records.Version x) stamped none = refl
-never_dropped version table stamp n entries (records.Savepoint x) stamped none = refl
-never_dropped version table stamp n entries (records.Row x) stamped none = refl
-never_dropped version table stamp n entries (records.Hist x) stamped none = refl
+pub never_dropped : (version n : ℕ) (entries : Vec NewEntry Global) (r : Record) → may_change (edits.Append n entries) r ≡ false → not (keeps (is_clear (pieces_of version (map entry_of entries.items))) r) ≡ false
+never_dropped version n entries (records.Piece x) none = ap not (unmet_clear version (map entry_of entries.items) x none)
+never_dropped version n entries (records.Counters x) none = refl
+never_dropped version n entries (records.Table x) none = refl
+never_dropped version n entries (records.Space x) none = refl
+never_dropped version n entries (records.Version x) none = refl
+never_dropped version n entries (records.Savepoint x) none = refl
+never_dropped version n entries (records.Row x) none = refl
+never_dropped version n entries (records.Hist x) none = refl
 
 -- new rows, pieces and entries of a log do not have an id below theirs
 pub away_behind : (k id : ℕ) (rows : List RowRecord) (pieces : List PieceRecord) (hists : List Hist) → k < id

@@ -2,7 +2,6 @@
 use Rattle.std.proofs.Common.{◌≡◌, ℕ, ◌+◌, ◌^◌, ◌≤◌, ◌<◌, ◌==◌, nat_lt, nat_le, Bool, true, false, not, ◌&&◌, cond, if◌then◌else◌, List, [], ◌∷◌, ◌++◌, map, Option, Some, is_some, refl, sym, ap, subst, ◌∙◌, length, arith}
 use Rattle.std.proofs.lemmas.Bool.{eq-eqb}
 use Rattle.std.specs.List.{list_all, filter}
-use Rattle.wm_base.specs.declared.value.Value.{Value}
 use Rattle.wm_graph.specs.Parts.{Parts, parts_of, table_of, version_of, row_of}
 use Rattle.wm_graph.specs.Rules.{keep_rules, are_counters, is_piece, is_short, collide, differ}
 use Rattle.wm_spec.specs.Lists.{Entry}
@@ -18,10 +17,10 @@ use Rattle.wm_spec.specs.declared.record.row.RowRecord.{RowRecord}
 use Rattle.wm_spec.specs.declared.record.space.Space.{Space}
 use Rattle.wm_spec.specs.declared.record.version.Version.{Version}
 use Rattle.wm_state.specs.ById.{Ascend, set_at, applied}
-use Rattle.wm_state.specs.Batches.{keeps, is_out, AreDropped, AllUnder, fork_batch}
+use Rattle.wm_state.specs.Batches.{keeps, AreDropped, AllUnder, fork_batch}
 use Rattle.wm_state.specs.Effects.{IsLeaf, IsFree}
-use Rattle.wm_state.specs.Drawing.{AreDrawn}
-use Rattle.wm_state.specs.Entries.{AreStamped, entry_keys, is_well, pieces_of, rows_in, hists_from, is_out_all}
+use Rattle.wm_state.specs.Drawing.{AreDrawn, is_clear, touched}
+use Rattle.wm_state.specs.Entries.{AreStamped, is_well, piece_of, pieces_of, rows_in, hists_from}
 use Rattle.wm_state.specs.State.{State, with_space, with_entries}
 use Rattle.wm_state.specs.Standing.{newest_first, latest, CountersStand, FieldsStand, Stands}
 use Rattle.wm_state.specs.Writes.{longer_by, put_all, write_batch, write_new_batch}
@@ -86,26 +85,26 @@ one_and_more ss counters_id space_id id mid new a count v rows pieces hists sort
 -- ---- nothing goes
 
 -- no piece is of the version that comes next
-pub all_stay : (p : Parts) (old : Counters) (table : ℕ) (keys : List (List Value)) → keep_rules p ≡ true → p.counters ≡ old ∷ [] → list_all (is_out_all old.next_version table keys) p.pieces ≡ true
-all_stay p old table keys rules one =
+pub all_stay : (p : Parts) (old : Counters) (es : List Entry) → keep_rules p ≡ true → p.counters ≡ old ∷ [] → list_all (is_clear (pieces_of old.next_version es)) p.pieces ≡ true
+all_stay p old es rules one =
     let r = ruled p rules in
     let h = both (differ collide p.pieces) (list_all (is_piece (table_of p.tables) (version_of p.versions) (row_of p.rows) r.counters.next_stamp) p.pieces) r.pieces in
     let next : r.counters.next_version ≡ old.next_version = ap (λ (k : Counters). k.next_version) (same_counters p old r.counters one r.one) in
-    all_if (is_piece (table_of p.tables) (version_of p.versions) (row_of p.rows) r.counters.next_stamp) (is_out_all old.next_version table keys)
+    all_if (is_piece (table_of p.tables) (version_of p.versions) (row_of p.rows) r.counters.next_stamp) (is_clear (pieces_of old.next_version es))
     (λ y piece.
     let lt = found-below p.versions r.counters.next_version y.version (below-next p r.counters.next_version r.versions) (both (is_some (version_of p.versions y.version)) _ piece).0 in
-    out_of_all y (apart_lt y.version old.next_version (ap (nat_lt y.version) (sym next) ∙ lt)) keys)
+    out_of_all y (apart_lt y.version old.next_version (ap (nat_lt y.version) (sym next) ∙ lt)) es)
     p.pieces h.1
   where
-    apart_lt : (m n : ℕ) → nat_lt m n ≡ true → (m == n) ≡ false
+    apart_lt : (m n : ℕ) → nat_lt m n ≡ true → (n == m) ≡ false
     apart_lt m n lt = grind (arith, lt)
 
-    out_of : (b c : Bool) → b ≡ false → not (b && c) ≡ true
-    out_of b c e = rw e refl
+    out_of : (b c d : Bool) → b ≡ false → not ((b && c) && d) ≡ true
+    out_of b c d e = rw e refl
 
-    out_of_all : (y : PieceRecord) → (y.version == old.next_version) ≡ false → (ks : List (List Value)) → is_out_all old.next_version table ks y ≡ true
+    out_of_all : (y : PieceRecord) → (old.next_version == y.version) ≡ false → (ds : List Entry) → is_clear (pieces_of old.next_version ds) y ≡ true
     out_of_all y other [] = refl
-    out_of_all y other (k ∷ ks) = and_true (is_out old.next_version table k y) (is_out_all old.next_version table ks y) (out_of (y.version == old.next_version) _ other) (out_of_all y other ks)
+    out_of_all y other (d ∷ ds) = and_true (not (collide (piece_of old.next_version d) y)) (is_clear (pieces_of old.next_version ds) y) (out_of (old.next_version == y.version) _ _ other) (out_of_all y other ds)
 
 -- ---- what is asked
 
@@ -153,13 +152,13 @@ pub none_goes : (k : PieceRecord → Bool) (xs : List PieceRecord) → list_all 
 none_goes k [] e = refl
 none_goes k (x ∷ xs) e = let h = both (k x) (list_all k xs) e in rw (h.0, none_goes k xs h.1) refl
 
-drawn_after : (p : Parts) (old mid : Counters) (n : ℕ) (a : Space) (v : Version) (table : ℕ) (es : List Entry) (drawn : List PieceRecord) → keep_rules p ≡ true → MayFork p old mid a n v
-    → AreDrawn (pieces_of v.number es) [] drawn → AreDrawnIn (forked p mid v) n table es drawn
-drawn_after p old mid n a v table es drawn rules may are =
-    subst (λ k. AreDrawn (pieces_of k es) (filter (λ y. not (is_out_all k table (entry_keys es) y)) p.pieces) drawn) (sym (newest_is p old mid n a v may rules))
+drawn_after : (p : Parts) (old mid : Counters) (n : ℕ) (a : Space) (v : Version) (es : List Entry) (drawn : List PieceRecord) → keep_rules p ≡ true → MayFork p old mid a n v
+    → AreDrawn (pieces_of v.number es) [] drawn → AreDrawnIn (forked p mid v) n es drawn
+drawn_after p old mid n a v es drawn rules may are =
+    subst (λ k. AreDrawn (pieces_of k es) (touched (pieces_of k es) p.pieces) drawn) (sym (newest_is p old mid n a v may rules))
     (subst (λ xs. AreDrawn (pieces_of v.number es) xs drawn)
-    (sym (none_goes (is_out_all v.number table (entry_keys es)) p.pieces
-    (ap (λ k. list_all (is_out_all k table (entry_keys es)) p.pieces) may.number ∙ all_stay p old table (entry_keys es) rules may.one)))
+    (sym (none_goes (is_clear (pieces_of v.number es)) p.pieces
+    (ap (λ k. list_all (is_clear (pieces_of k es)) p.pieces) may.number ∙ all_stay p old es rules may.one)))
     are)
 
 -- ---- the records between
@@ -172,17 +171,17 @@ pub record Stage (ss : List Stored) (counters_id space_id id : ℕ) (old : Count
   pub under : AllUnder id ss
 
 -- what is known of them once the version is there
-record Between (ss : List Stored) (counters_id space_id id : ℕ) (mid : Counters) (n : ℕ) (a : Space) (v : Version) (table : ℕ) (es : List Entry) : Type 0 where
+record Between (ss : List Stored) (counters_id space_id id : ℕ) (mid : Counters) (n : ℕ) (a : Space) (v : Version) (es : List Entry) : Type 0 where
   pub sorted : Ascend (applied (fork_batch counters_id mid id v) ss)
   pub parts : parts_of (applied (fork_batch counters_id mid id v) ss) ≡ forked (parts_of ss) mid v
   pub counters : record_at (applied (fork_batch counters_id mid id v) ss) counters_id ≡ Some (records.Counters mid)
   pub space : record_at (applied (fork_batch counters_id mid id v) ss) space_id ≡ Some (records.Space a)
   pub under : AllUnder (id + 1) (applied (fork_batch counters_id mid id v) ss)
-  pub none : AreDropped (keeps (stay (parts_of (applied (fork_batch counters_id mid id v) ss)) n table es)) [] (applied (fork_batch counters_id mid id v) ss)
+  pub none : AreDropped (keeps (stay (parts_of (applied (fork_batch counters_id mid id v) ss)) n es)) [] (applied (fork_batch counters_id mid id v) ss)
 
-between : (ss : List Stored) (counters_id space_id id : ℕ) (old mid : Counters) (n : ℕ) (a : Space) (v : Version) (table : ℕ) (es : List Entry) → keep_rules (parts_of ss) ≡ true
-    → Stage ss counters_id space_id id old a → MayFork (parts_of ss) old mid a n v → Between ss counters_id space_id id mid n a v table es
-between ss counters_id space_id id old mid n a v table es rules stage may = record {
+between : (ss : List Stored) (counters_id space_id id : ℕ) (old mid : Counters) (n : ℕ) (a : Space) (v : Version) (es : List Entry) → keep_rules (parts_of ss) ≡ true
+    → Stage ss counters_id space_id id old a → MayFork (parts_of ss) old mid a n v → Between ss counters_id space_id id mid n a v es
+between ss counters_id space_id id old mid n a v es rules stage may = record {
   sorted = Ascend-set id (Some (records.Version v)) first first_sorted;
   parts = parts;
   counters =
@@ -193,10 +192,10 @@ between ss counters_id space_id id old mid n a v table es rules stage may = reco
       record_at-set id (Some (records.Version v)) first first_sorted space_id
       ∙ rw (lt_apart space_id id (under_found id ss space_id (records.Space a) stage.under stage.space)) (found_still ss counters_id space_id old mid (records.Space a) stage.sorted stage.counters stage.space (λ c e. cc));
   under = subst (λ rs. AllUnder (id + 1) rs) (sym (set-behind first id (records.Version v) under_first)) (AllUnder-next id first (records.Version v) under_first);
-  none = drops_none after (stay (parts_of after) n table es)
-      (ap (λ (q : Parts). list_all (stay (parts_of after) n table es) q.pieces) parts
-      ∙ ap (λ k. list_all (is_out_all k table (entry_keys es)) (parts_of ss).pieces) (newest ∙ may.number)
-      ∙ all_stay (parts_of ss) old table (entry_keys es) rules may.one);
+  none = drops_none after (stay (parts_of after) n es)
+      (ap (λ (q : Parts). list_all (stay (parts_of after) n es) q.pieces) parts
+      ∙ ap (λ k. list_all (is_clear (pieces_of k es)) (parts_of ss).pieces) (newest ∙ may.number)
+      ∙ all_stay (parts_of ss) old es rules may.one);
 }
   where
     first : List Stored
@@ -236,12 +235,12 @@ pub keep_planned_new : (ss : List Stored) (counters_id space_id id : ℕ) (old m
     → keep_rules (parts_of ss) ≡ true → Stage ss counters_id space_id id old a → MayWriteMore (parts_of ss) old mid new n a v table es → AreDrawn (pieces_of v.number es) [] drawn
     → keep_rules (parts_of (applied (more_batch counters_id new space_id a id v es drawn) ss)) ≡ true
 keep_planned_new ss counters_id space_id id old mid new n a v table es drawn rules stage may are =
-    let b = between ss counters_id space_id id old mid n a v table es rules stage may.fork in
+    let b = between ss counters_id space_id id old mid n a v es rules stage may.fork in
     subst (λ rs. keep_rules (parts_of rs) ≡ true) (in_newest ss counters_id space_id id old mid new a v es drawn stage)
     (keep_planned (applied (fork_batch counters_id mid id v) ss) counters_id space_id mid new a [] (id + 1) n table es drawn
     (subst (λ p. keep_rules p ≡ true) (sym b.parts) (keep-forked (parts_of ss) old mid a n v may.fork rules)) b.sorted b.counters b.space b.none b.under
     (subst (λ p. MayWriteAll p mid new n a table es) (sym b.parts) (may_after (parts_of ss) old mid new n a v table es rules may))
-    (subst (λ p. AreDrawnIn p n table es drawn) (sym b.parts) (drawn_after (parts_of ss) old mid n a v table es drawn rules may.fork are)))
+    (subst (λ p. AreDrawnIn p n es drawn) (sym b.parts) (drawn_after (parts_of ss) old mid n a v es drawn rules may.fork are)))
 
 -- the records agree with the state that has the entries
 pub agree_written_new : (ss : List Stored) (counters_id space_id id : ℕ) (old mid new : Counters) (n : ℕ) (a : Space) (v : Version) (table : ℕ) (es : List Entry) (drawn : List PieceRecord) (s u : State)
@@ -249,7 +248,7 @@ pub agree_written_new : (ss : List Stored) (counters_id space_id id : ℕ) (old 
     → u.spaces ≡ with_space n (with_entries es) s.spaces → u.tables ≡ s.tables → ((q : Parts) → q.counters ≡ new ∷ [] → CountersStand q u)
     → FieldsStand (parts_of (applied (more_batch counters_id new space_id a id v es drawn) ss)) u
 agree_written_new ss counters_id space_id id old mid new n a v table es drawn s u rules st stage may are spaces tables counted_so =
-    let b = between ss counters_id space_id id old mid n a v table es rules stage may.fork in
+    let b = between ss counters_id space_id id old mid n a v es rules stage may.fork in
     subst (λ rs. FieldsStand (parts_of rs) u) (in_newest ss counters_id space_id id old mid new a v es drawn stage)
     (agree_written (applied (fork_batch counters_id mid id v) ss) counters_id space_id mid new a [] (id + 1) n table es drawn t u
     (subst (λ p. keep_rules p ≡ true) (sym b.parts) (keep-forked (parts_of ss) old mid a n v may.fork rules))
@@ -258,7 +257,7 @@ agree_written_new ss counters_id space_id id old mid new n a v table es drawn s 
     (record { counters = mid; one = refl; next_stamp = refl; last_moment = refl; limit = refl; work = refl })))
     b.sorted b.counters b.space b.none b.under
     (subst (λ p. MayWriteAll p mid new n a table es) (sym b.parts) (may_after (parts_of ss) old mid new n a v table es rules may))
-    (subst (λ p. AreDrawnIn p n table es drawn) (sym b.parts) (drawn_after (parts_of ss) old mid n a v table es drawn rules may.fork are)) spaces tables counted_so)
+    (subst (λ p. AreDrawnIn p n es drawn) (sym b.parts) (drawn_after (parts_of ss) old mid n a v es drawn rules may.fork are)) spaces tables counted_so)
   where
     -- the state between, which nobody sees
     t : State
@@ -270,7 +269,7 @@ pub plan_written_new : (ss : List Stored) (counters_id space_id id : ℕ) (old m
     → u.spaces ≡ with_space n (with_entries es) s.spaces → u.tables ≡ s.tables → ((q : Parts) → q.counters ≡ new ∷ [] → CountersStand q u)
     → Stands (parts_of (applied (more_batch counters_id new space_id a id v es drawn) ss)) u
 plan_written_new ss counters_id space_id id old mid new n a v table es drawn s u st stage may are spaces tables counted_so =
-    let b = between ss counters_id space_id id old mid n a v table es st.rules stage may.fork in
+    let b = between ss counters_id space_id id old mid n a v es st.rules stage may.fork in
     subst (λ rs. Stands (parts_of rs) u) (in_newest ss counters_id space_id id old mid new a v es drawn stage)
     (plan_written (applied (fork_batch counters_id mid id v) ss) counters_id space_id mid new a [] (id + 1) n table es drawn t u
     (subst (λ p. Stands p t) (sym b.parts)
@@ -278,7 +277,7 @@ plan_written_new ss counters_id space_id id old mid new n a v table es drawn s u
     (record { counters = mid; one = refl; next_stamp = refl; last_moment = refl; limit = refl; work = refl }) (keep-forked (parts_of ss) old mid a n v may.fork st.rules)))
     b.sorted b.counters b.space b.none b.under
     (subst (λ p. MayWriteAll p mid new n a table es) (sym b.parts) (may_after (parts_of ss) old mid new n a v table es st.rules may))
-    (subst (λ p. AreDrawnIn p n table es drawn) (sym b.parts) (drawn_after (parts_of ss) old mid n a v table es drawn st.rules may.fork are)) spaces tables counted_so)
+    (subst (λ p. AreDrawnIn p n es drawn) (sym b.parts) (drawn_after (parts_of ss) old mid n a v es drawn st.rules may.fork are)) spaces tables counted_so)
   where
     -- the state between, which nobody sees
     t : State

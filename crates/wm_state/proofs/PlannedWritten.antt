@@ -20,8 +20,8 @@ use Rattle.wm_spec.specs.declared.record.space.Space.{Space}
 use Rattle.wm_state.specs.ById.{Ascend, set_at, applied}
 use Rattle.wm_state.specs.Batches.{keeps, AreDropped, AllUnder, drop_one}
 use Rattle.wm_state.specs.Effects.{IsLeaf, IsFree}
-use Rattle.wm_state.specs.Drawing.{AreDrawn}
-use Rattle.wm_state.specs.Entries.{AreStamped, entry_keys, is_well, pieces_of, rows_in, hists_from, is_out_all}
+use Rattle.wm_state.specs.Drawing.{AreDrawn, is_clear, touched}
+use Rattle.wm_state.specs.Entries.{AreStamped, is_well, pieces_of, rows_in, hists_from}
 use Rattle.wm_state.specs.State.{State, with_space, with_entries}
 use Rattle.wm_state.specs.Standing.{newest_first, latest, CountersStand, FieldsStand, Stands}
 use Rattle.wm_state.specs.Writes.{longer_by, WroteAll, put_all, write_batch}
@@ -30,11 +30,12 @@ use Rattle.wm_state.proofs.Apart.{Ruled, ruled, apart_of, newest_record}
 use Rattle.wm_state.proofs.ById.{Ascend-set}
 use Rattle.wm_state.proofs.ByKind.{kinds, stored, Split, split_of, set-split, set-behind}
 use Rattle.wm_state.proofs.Dropping.{dropped}
-use Rattle.wm_state.proofs.DrawnWell.{piece-parts, drawn-apart}
+use Rattle.wm_state.proofs.DrawnWell.{piece-parts}
 use Rattle.wm_state.proofs.EntryRecords.{rows_from, rows_differ, rows_well, told_row, each_row, pieces_well, hists_on, hists_differ, hists_well}
 use Rattle.wm_state.proofs.Keeping.{KeepTables-same, KeepVersions-same, is_piece-kept}
 use Rattle.wm_state.proofs.KeepWritten.{all_written, MayPut, keep-written, spaces_longer, rows_found, KeepRows-append}
 use Rattle.wm_state.proofs.DrawingEnds.{ends-beside}
+use Rattle.wm_state.proofs.DrawingTouched.{kept-apart}
 use Rattle.wm_state.proofs.LayingAll.{laid-drawn}
 use Rattle.wm_state.proofs.Named.{space_number}
 use Rattle.wm_state.proofs.Planned.{counted, found_still, AllUnder-filter, AllUnder-next, AllUnder-set, applied-append, dropped-still}
@@ -202,29 +203,31 @@ pub record MayWriteAll (p : Parts) (old new : Counters) (n : ℕ) (a : Space) (t
   pub users : list_all (λ (e : Entry). is_short e.user) es ≡ true
 
 -- the test of the pieces that stay
-abbrev pub stay : Parts → ℕ → ℕ → List Entry → PieceRecord → Bool
-stay p n table es = is_out_all (latest p n) table (entry_keys es)
+abbrev pub stay : Parts → ℕ → List Entry → PieceRecord → Bool
+stay p n es = is_clear (pieces_of (latest p n) es)
 
--- pieces that stand for those of the keys of these entries, with the entries over them
-abbrev pub AreDrawnIn : Parts → ℕ → ℕ → List Entry → List PieceRecord → Type 0
-AreDrawnIn p n table es drawn = AreDrawn (pieces_of (latest p n) es) (filter (λ y. not (stay p n table es y)) p.pieces) drawn
+-- pieces that stand for those that share a cell with these entries, with the entries over them
+abbrev pub AreDrawnIn : Parts → ℕ → List Entry → List PieceRecord → Type 0
+AreDrawnIn p n es drawn = AreDrawn (pieces_of (latest p n) es) (touched (pieces_of (latest p n) es) p.pieces) drawn
 
 le_self : (n : ℕ) → nat_le n n ≡ true
 le_self n = grind arith
 
 -- the records after it
-abbrev drawn_written : Parts → Counters → ℕ → List Space → Space → List Space → ℕ → List Entry → List PieceRecord → Parts
-drawn_written p new n front a back table es drawn = all_written p new front a back (length es) (stay p n table es) (rows_in es) drawn (hists_from a.number a.log_length es)
+abbrev drawn_written : Parts → Counters → ℕ → List Space → Space → List Space → List Entry → List PieceRecord → Parts
+drawn_written p new n front a back es drawn = all_written p new front a back (length es) (stay p n es) (rows_in es) drawn (hists_from a.number a.log_length es)
 
 -- what is known of the counters and the rows before
 record Before (p : Parts) (old : Counters) : Type 0 where
   rows : are_rows p old.next_stamp ≡ true
   pieces : list_all (is_piece (table_of p.tables) (version_of p.versions) (row_of p.rows) old.next_stamp) p.pieces ≡ true
+  differ : differ collide p.pieces ≡ true
 
 before : (p : Parts) (old : Counters) → keep_rules p ≡ true → p.counters ≡ old ∷ [] → Before p old
 before p old rules one = record {
   rows = ap (λ (c : Counters). are_rows p c.next_stamp) same_counters ∙ rule.rows;
-  pieces = (both (differ collide p.pieces) (list_all (is_piece (table_of p.tables) (version_of p.versions) (row_of p.rows) old.next_stamp) p.pieces) (ap (λ (c : Counters). are_pieces p c.next_stamp) same_counters ∙ rule.pieces)).1;
+  pieces = parts.1;
+  differ = parts.0;
 }
   where
     rule : Ruled p
@@ -236,8 +239,11 @@ before p old rules one = record {
         first_same : (c d : Counters) → (c ∷ []) ≡ (d ∷ []) → c ≡ d
         first_same c d h = cc
 
-may_put : (p : Parts) (old new : Counters) (n : ℕ) (a : Space) (table : ℕ) (es : List Entry) (drawn : List PieceRecord) → keep_rules p ≡ true → MayWriteAll p old new n a table es → AreDrawnIn p n table es drawn
-    → (front back : List Space) → p.spaces ≡ front ++ a ∷ back → MayPut p old new front a back (length es) (stay p n table es) (rows_in es) drawn (hists_from a.number a.log_length es)
+    parts : (differ collide p.pieces ≡ true) × (list_all (is_piece (table_of p.tables) (version_of p.versions) (row_of p.rows) old.next_stamp) p.pieces ≡ true)
+    parts = both (differ collide p.pieces) (list_all (is_piece (table_of p.tables) (version_of p.versions) (row_of p.rows) old.next_stamp) p.pieces) (ap (λ (c : Counters). are_pieces p c.next_stamp) same_counters ∙ rule.pieces)
+
+may_put : (p : Parts) (old new : Counters) (n : ℕ) (a : Space) (table : ℕ) (es : List Entry) (drawn : List PieceRecord) → keep_rules p ≡ true → MayWriteAll p old new n a table es → AreDrawnIn p n es drawn
+    → (front back : List Space) → p.spaces ≡ front ++ a ∷ back → MayPut p old new front a back (length es) (stay p n es) (rows_in es) drawn (hists_from a.number a.log_length es)
 may_put p old new n a table es drawn rules may are front back spaces = record {
   one = may.one;
   counters = may.counters;
@@ -251,7 +257,7 @@ may_put p old new n a table es drawn rules may are front back spaces = record {
   rows_differ = rows_differ table old.next_stamp es may.stamped;
   pieces_well = are.pass well (piece-parts (table_of p.tables) (version_of p.versions) (row_of (p.rows ++ rows_in es)) new.next_stamp) old_well new_well;
   pieces_differ = are.differ;
-  apart = drawn-apart (latest p n) table old.next_stamp es p.pieces drawn may.stamped are;
+  apart = kept-apart (pieces_of (latest p n) es) p.pieces drawn was.differ are;
   hists_well = hists_well (table_of p.tables) (space_of (front ++ longer_by (length es) a ∷ back)) (row_of (p.rows ++ rows_in es)) table old.next_stamp new.next_stamp a.number a.log_length (longer_by (length es) a) es may.stamped
       in_time may.well may.users (space_here front back (longer_by (length es) a) a.number longer_still refl) (le_self (a.log_length + length es)) (rows_found p old.next_stamp (rows_in es) was.rows rows_new);
   hists_differ = hists_differ a.number a.log_length es;
@@ -283,8 +289,8 @@ may_put p old new n a table es drawn rules may are front back spaces = record {
     rows_new : list_all (λ (r : RowRecord). nat_le old.next_stamp r.stamp) (rows_in es) ≡ true
     rows_new = rows_from table old.next_stamp old.next_stamp es may.stamped (le_self old.next_stamp)
 
-    old_well : list_all well (filter (λ y. not (stay p n table es y)) p.pieces) ≡ true
-    old_well = all_filter well (λ y. not (stay p n table es y)) p.pieces
+    old_well : list_all well (touched (pieces_of (latest p n) es) p.pieces) ≡ true
+    old_well = all_filter well (λ y. not (stay p n es y)) p.pieces
         (all_if (is_piece (table_of p.tables) (version_of p.versions) (row_of p.rows) old.next_stamp) well
         (is_piece-kept p q old.next_stamp new.next_stamp later (KeepTables-same p q refl) (KeepVersions-same p q refl) (KeepRows-append p q (rows_in es) refl)) p.pieces was.pieces)
 
@@ -293,8 +299,8 @@ may_put p old new n a table es drawn rules may are front back spaces = record {
         (ap is_some (newest_record p rules n a may.space).1) (rows_found p old.next_stamp (rows_in es) was.rows rows_new)
 
 -- the entries are written
-wrote-all : (p : Parts) (old new : Counters) (n : ℕ) (a : Space) (table : ℕ) (es : List Entry) (drawn : List PieceRecord) → keep_rules p ≡ true → MayWriteAll p old new n a table es → AreDrawnIn p n table es drawn
-    → (front back : List Space) → p.spaces ≡ front ++ a ∷ back → WroteAll p (drawn_written p new n front a back table es drawn) n es
+wrote-all : (p : Parts) (old new : Counters) (n : ℕ) (a : Space) (table : ℕ) (es : List Entry) (drawn : List PieceRecord) → keep_rules p ≡ true → MayWriteAll p old new n a table es → AreDrawnIn p n es drawn
+    → (front back : List Space) → p.spaces ≡ front ++ a ∷ back → WroteAll p (drawn_written p new n front a back es drawn) n es
 wrote-all p old new n a table es drawn rules may are front back spaces = record {
   leaf = may.leaf;
   free = may.free;
@@ -305,8 +311,8 @@ wrote-all p old new n a table es drawn rules may are front back spaces = record 
   count = length-append front (b ∷ back) ∙ sym (length-append front (a ∷ back)) ∙ sym (ap length spaces);
   here = space_here front back b n after number ∙ sym (ap (option_map (longer_by (length es))) may.space);
   elsewhere = λ m other. space_elsewhere front back a b m (λ same. apart m other (sym same ∙ number)) (λ same. apart m other (sym same ∙ number)) ∙ ap (λ ss. space_of ss m) (sym spaces);
-  pieces = laid-drawn (latest p n) table old.next_stamp es p.pieces drawn may.stamped are;
-  ends = ends-beside (stay p n table es) p.pieces (pieces_of (latest p n) es) drawn are.ends;
+  pieces = laid-drawn (latest p n) es p.pieces drawn (before p old rules may.one).differ are;
+  ends = ends-beside (stay p n es) p.pieces (pieces_of (latest p n) es) drawn are.ends;
   rows_kept = λ stamp r found. find_before (λ (x : RowRecord). x.stamp == stamp) p.rows (rows_in es) r found;
   rows_new = λ c t row found is. by_row t.stamp row (row_of (rows_in es) t.stamp) refl (told_row table old.next_stamp es may.stamped c t row found is);
   rows_each = λ k d lt row is. by_row _ row (row_of (rows_in es) _) refl (each_row table old.next_stamp es may.stamped k d lt row is);
@@ -318,7 +324,7 @@ wrote-all p old new n a table es drawn rules may are front back spaces = record 
     b : Space
     b = longer_by (length es) a
 
-    put_so : MayPut p old new front a back (length es) (stay p n table es) (rows_in es) drawn (hists_from a.number a.log_length es)
+    put_so : MayPut p old new front a back (length es) (stay p n es) (rows_in es) drawn (hists_from a.number a.log_length es)
     put_so = may_put p old new n a table es drawn rules may are front back spaces
 
     after : are_spaces (front ++ b ∷ back) ≡ true
@@ -342,42 +348,42 @@ abbrev pub entries_batch : ℕ → Counters → ℕ → Space → List ℕ → �
 entries_batch counters_id new space_id a ids id es drawn = write_batch counters_id new space_id a (length es) ids id (rows_in es) drawn (hists_from a.number a.log_length es)
 
 parts-entries : (ss : List Stored) (counters_id space_id : ℕ) (old new : Counters) (a : Space) (ids : List ℕ) (id n table : ℕ) (es : List Entry) (drawn : List PieceRecord) → Ascend ss
-    → record_at ss counters_id ≡ Some (records.Counters old) → record_at ss space_id ≡ Some (records.Space a) → AreDropped (keeps (stay (parts_of ss) n table es)) ids ss → AllUnder id ss
+    → record_at ss counters_id ≡ Some (records.Counters old) → record_at ss space_id ≡ Some (records.Space a) → AreDropped (keeps (stay (parts_of ss) n es)) ids ss → AllUnder id ss
     → MayWriteAll (parts_of ss) old new n a table es
-    → Put ss (entries_batch counters_id new space_id a ids id es drawn) new a (length es) (stay (parts_of ss) n table es) (rows_in es) drawn (hists_from a.number a.log_length es)
+    → Put ss (entries_batch counters_id new space_id a ids id es drawn) new a (length es) (stay (parts_of ss) n es) (rows_in es) drawn (hists_from a.number a.log_length es)
 parts-entries ss counters_id space_id old new a ids id n table es drawn sorted counters space are_dropped under may =
-    parts-written ss counters_id space_id old new a (length es) (stay (parts_of ss) n table es) ids id (rows_in es) drawn (hists_from a.number a.log_length es) sorted counters may.one space are_dropped under
+    parts-written ss counters_id space_id old new a (length es) (stay (parts_of ss) n es) ids id (rows_in es) drawn (hists_from a.number a.log_length es) sorted counters may.one space are_dropped under
 
 -- the rules hold after it
 pub keep_planned : (ss : List Stored) (counters_id space_id : ℕ) (old new : Counters) (a : Space) (ids : List ℕ) (id n table : ℕ) (es : List Entry) (drawn : List PieceRecord) → keep_rules (parts_of ss) ≡ true → Ascend ss
-    → record_at ss counters_id ≡ Some (records.Counters old) → record_at ss space_id ≡ Some (records.Space a) → AreDropped (keeps (stay (parts_of ss) n table es)) ids ss → AllUnder id ss
-    → MayWriteAll (parts_of ss) old new n a table es → AreDrawnIn (parts_of ss) n table es drawn → keep_rules (parts_of (applied (entries_batch counters_id new space_id a ids id es drawn) ss)) ≡ true
+    → record_at ss counters_id ≡ Some (records.Counters old) → record_at ss space_id ≡ Some (records.Space a) → AreDropped (keeps (stay (parts_of ss) n es)) ids ss → AllUnder id ss
+    → MayWriteAll (parts_of ss) old new n a table es → AreDrawnIn (parts_of ss) n es drawn → keep_rules (parts_of (applied (entries_batch counters_id new space_id a ids id es drawn) ss)) ≡ true
 keep_planned ss counters_id space_id old new a ids id n table es drawn rules sorted counters space are_dropped under may are =
     let i = parts-entries ss counters_id space_id old new a ids id n table es drawn sorted counters space are_dropped under may in
     subst (λ p. keep_rules p ≡ true) (sym i.is)
-    (keep-written (parts_of ss) old new i.front a i.back (length es) (stay (parts_of ss) n table es) (rows_in es) drawn (hists_from a.number a.log_length es)
+    (keep-written (parts_of ss) old new i.front a i.back (length es) (stay (parts_of ss) n es) (rows_in es) drawn (hists_from a.number a.log_length es)
     (may_put (parts_of ss) old new n a table es drawn rules may are i.front i.back i.old) rules)
 
 -- the records agree with the state that has the entries
 pub agree_written : (ss : List Stored) (counters_id space_id : ℕ) (old new : Counters) (a : Space) (ids : List ℕ) (id n table : ℕ) (es : List Entry) (drawn : List PieceRecord) (s u : State) → keep_rules (parts_of ss) ≡ true
-    → FieldsStand (parts_of ss) s → Ascend ss → record_at ss counters_id ≡ Some (records.Counters old) → record_at ss space_id ≡ Some (records.Space a) → AreDropped (keeps (stay (parts_of ss) n table es)) ids ss → AllUnder id ss
-    → MayWriteAll (parts_of ss) old new n a table es → AreDrawnIn (parts_of ss) n table es drawn → u.spaces ≡ with_space n (with_entries es) s.spaces → u.tables ≡ s.tables
+    → FieldsStand (parts_of ss) s → Ascend ss → record_at ss counters_id ≡ Some (records.Counters old) → record_at ss space_id ≡ Some (records.Space a) → AreDropped (keeps (stay (parts_of ss) n es)) ids ss → AllUnder id ss
+    → MayWriteAll (parts_of ss) old new n a table es → AreDrawnIn (parts_of ss) n es drawn → u.spaces ≡ with_space n (with_entries es) s.spaces → u.tables ≡ s.tables
     → ((q : Parts) → q.counters ≡ new ∷ [] → CountersStand q u) → FieldsStand (parts_of (applied (entries_batch counters_id new space_id a ids id es drawn) ss)) u
 agree_written ss counters_id space_id old new a ids id n table es drawn s u rules st sorted counters space are_dropped under may are spaces tables counted_so =
     let i = parts-entries ss counters_id space_id old new a ids id n table es drawn sorted counters space are_dropped under may in
-    let q = drawn_written (parts_of ss) new n i.front a i.back table es drawn in
+    let q = drawn_written (parts_of ss) new n i.front a i.back es drawn in
     subst (λ p. FieldsStand p u) (sym i.is)
     (FieldsStand-wrote_all (parts_of ss) q s u n es (wrote-all (parts_of ss) old new n a table es drawn rules may are i.front i.back i.old) st spaces tables (counted_so q refl))
 
 -- and stand for it
 pub plan_written : (ss : List Stored) (counters_id space_id : ℕ) (old new : Counters) (a : Space) (ids : List ℕ) (id n table : ℕ) (es : List Entry) (drawn : List PieceRecord) (s u : State) → Stands (parts_of ss) s
-    → Ascend ss → record_at ss counters_id ≡ Some (records.Counters old) → record_at ss space_id ≡ Some (records.Space a) → AreDropped (keeps (stay (parts_of ss) n table es)) ids ss → AllUnder id ss
-    → MayWriteAll (parts_of ss) old new n a table es → AreDrawnIn (parts_of ss) n table es drawn → u.spaces ≡ with_space n (with_entries es) s.spaces → u.tables ≡ s.tables
+    → Ascend ss → record_at ss counters_id ≡ Some (records.Counters old) → record_at ss space_id ≡ Some (records.Space a) → AreDropped (keeps (stay (parts_of ss) n es)) ids ss → AllUnder id ss
+    → MayWriteAll (parts_of ss) old new n a table es → AreDrawnIn (parts_of ss) n es drawn → u.spaces ≡ with_space n (with_entries es) s.spaces → u.tables ≡ s.tables
     → ((q : Parts) → q.counters ≡ new ∷ [] → CountersStand q u) → Stands (parts_of (applied (entries_batch counters_id new space_id a ids id es drawn) ss)) u
 plan_written ss counters_id space_id old new a ids id n table es drawn s u st sorted counters space are_dropped under may are spaces tables counted_so =
     let i = parts-entries ss counters_id space_id old new a ids id n table es drawn sorted counters space are_dropped under may in
-    let q = drawn_written (parts_of ss) new n i.front a i.back table es drawn in
+    let q = drawn_written (parts_of ss) new n i.front a i.back es drawn in
     subst (λ p. Stands p u) (sym i.is)
     (Stands-wrote_all (parts_of ss) q s u n es (wrote-all (parts_of ss) old new n a table es drawn st.rules may are i.front i.back i.old) st spaces tables (counted_so q refl)
-    (keep-written (parts_of ss) old new i.front a i.back (length es) (stay (parts_of ss) n table es) (rows_in es) drawn (hists_from a.number a.log_length es)
+    (keep-written (parts_of ss) old new i.front a i.back (length es) (stay (parts_of ss) n es) (rows_in es) drawn (hists_from a.number a.log_length es)
     (may_put (parts_of ss) old new n a table es drawn st.rules may are i.front i.back i.old) st.rules))

@@ -59,7 +59,7 @@ pub any_push : {A : Type 0} (P : A → Bool) (xs : List A) (x : A) → list_any 
 any_push P [] x e f = rw f refl
 any_push P (y ∷ ys) x e f = let h = either_false (P y) (list_any P ys) e in rw (h.0, any_push P ys x h.1 f) refl
 
-any_filter : {A : Type 0} (P k : A → Bool) (xs : List A) → list_any P xs ≡ false → list_any P (filter k xs) ≡ false
+pub any_filter : {A : Type 0} (P k : A → Bool) (xs : List A) → list_any P xs ≡ false → list_any P (filter k xs) ≡ false
 any_filter P k [] e = refl
 any_filter P k (x ∷ xs) e = by_test (k x) (either_false (P x) (list_any P xs) e) (any_filter P k xs (either_false (P x) (list_any P xs) e).1)
   where

@@ -1,9 +1,7 @@
 -- What the batches that write entries put can be kept: no value in it is an empty text.
-use Rattle.std.proofs.Common.{◌≡◌, ℕ, ◌+◌, ◌==◌, ◌&&◌, Bool, true, false, not, cond, List, [], ◌∷◌, ◌++◌, map, append-nil, length, Option, Some, None, refl, sym, ap, ◌∙◌}
-use Rattle.std.specs.List.{filter, list_all}
+use Rattle.std.proofs.Common.{◌≡◌, ℕ, ◌+◌, Bool, true, List, [], ◌∷◌, ◌++◌, map, append-nil, length, Option, Some, None, refl, sym, ap, ◌∙◌}
+use Rattle.std.specs.List.{list_all}
 use Rattle.std.specs.Option.{option_map_or}
-use Rattle.std.specs.Ordering.{is_eq}
-use Rattle.wm_base.specs.Key.{key_order}
 use Rattle.wm_base.specs.declared.row.Row.{Row}
 use Rattle.wm_spec.specs.Lists.{Entry}
 use Rattle.wm_spec.specs.declared.record.Record.{Record}
@@ -13,13 +11,13 @@ use Rattle.wm_spec.specs.declared.record.counters.Counters.{Counters}
 use Rattle.wm_spec.specs.declared.record.piece.PieceRecord.{PieceRecord}
 use Rattle.wm_spec.specs.declared.record.space.Space.{Space}
 use Rattle.wm_spec.specs.declared.record.version.Version.{Version}
-use Rattle.wm_state.specs.Batches.{drop_one, is_in, is_out}
+use Rattle.wm_state.specs.Batches.{drop_one}
 use Rattle.wm_state.specs.Drafts.{can_keep, can_keep_entry, is_kept, is_kept_change}
-use Rattle.wm_state.specs.Drawing.{AreDrawn}
-use Rattle.wm_state.specs.Entries.{entry_keys, hists_from, is_out_all, pieces_of, rows_in}
+use Rattle.wm_state.specs.Drawing.{AreDrawn, touched}
+use Rattle.wm_state.specs.Entries.{hists_from, pieces_of, rows_in}
 use Rattle.wm_state.specs.Writes.{put_all, write_batch, write_new_batch}
-use Rattle.wm_state.proofs.Laying.{key_same}
-use Rattle.wm_state.proofs.Tests.{bool_apart, both, and_true}
+use Rattle.wm_state.proofs.Tests.{both, and_true}
+use Rattle.wm_state.proofs.Touched.{met-same, touched-all}
 
 -- ---- changes
 
@@ -68,38 +66,9 @@ news_kept version [] all = refl
 news_kept version (e ∷ es) all =
     let h = both (can_keep_entry e) (list_all can_keep_entry es) all in and_true (list_all can_keep e.key) _ (both (list_all can_keep e.key) _ h.0).0 (news_kept version es h.1)
 
--- a piece that goes has the key of an entry
-goes_kept : (version table : ℕ) (es : List Entry) (y : PieceRecord) → list_all can_keep_entry es ≡ true → is_out_all version table (entry_keys es) y ≡ false → keeps_key y ≡ true
-goes_kept version table [] y all goes = absurd (bool_apart goes)
-goes_kept version table (e ∷ es) y all goes =
-    let h = both (can_keep_entry e) (list_all can_keep_entry es) all in by_key (is_out version table e.key y) refl (goes_kept version table es y h.1) (both (list_all can_keep e.key) _ h.0).0
-  where
-    not_false : (b : Bool) → not b ≡ false → b ≡ true
-    not_false true e = refl
-    not_false false e = absurd (bool_apart e)
-
-    behind : (b c : Bool) → b ≡ true → (b && c) ≡ false → c ≡ false
-    behind true c is e = e
-    behind false c is e = absurd (bool_apart (sym is))
-
-    by_key : (b : Bool) → is_out version table e.key y ≡ b → (is_out_all version table (entry_keys es) y ≡ false → keeps_key y ≡ true) → list_all can_keep e.key ≡ true → keeps_key y ≡ true
-    by_key true out rest one = rest (behind (is_out version table e.key y) (is_out_all version table (entry_keys es) y) out goes)
-    by_key false out rest one =
-        let h = both (y.version == version) ((y.cells.table == table) && is_eq (key_order y.cells.key e.key)) (not_false (is_in version table e.key y) out) in
-        let g = both (y.cells.table == table) (is_eq (key_order y.cells.key e.key)) h.1 in
-        ap (λ k. list_all can_keep k) (key_same y.cells.key e.key g.1) ∙ one
-
--- so have all that go
-all_go_kept : (version table : ℕ) (es : List Entry) (ys : List PieceRecord) → list_all can_keep_entry es ≡ true → list_all keeps_key (filter (λ (y : PieceRecord). not (is_out_all version table (entry_keys es) y)) ys) ≡ true
-all_go_kept version table es [] all = refl
-all_go_kept version table es (y ∷ ys) all = by_test (is_out_all version table (entry_keys es) y) refl (all_go_kept version table es ys all)
-  where
-    go : List PieceRecord
-    go = filter (λ (z : PieceRecord). not (is_out_all version table (entry_keys es) z)) ys
-
-    by_test : (b : Bool) → is_out_all version table (entry_keys es) y ≡ b → list_all keeps_key go ≡ true → list_all keeps_key (cond (not b) (y ∷ go) go) ≡ true
-    by_test true e rest = rest
-    by_test false e rest = and_true (keeps_key y) _ (goes_kept version table es y all e) rest
+-- so are the pieces that they touch, which are of their keys
+touched_kept : (version : ℕ) (es : List Entry) (ys : List PieceRecord) → list_all can_keep_entry es ≡ true → list_all keeps_key (touched (pieces_of version es) ys) ≡ true
+touched_kept version es ys all = touched-all keeps_key (λ n y hit own. ap (list_all can_keep) (sym (met-same n y hit).1.1) ∙ own) (pieces_of version es) (news_kept version es all) ys
 
 -- and all that are drawn
 drawn_kept : (version : ℕ) (es : List Entry) (old drawn : List PieceRecord) → list_all can_keep_entry es ≡ true → list_all keeps_key old ≡ true → AreDrawn (pieces_of version es) old drawn → list_all keeps_key drawn ≡ true
@@ -119,13 +88,13 @@ kept_batch es drawn counters_id space_id id n position new a ids all keys =
     hists : List Change
     hists = put_all (id + length (rows_in es) + length drawn) (map records.Hist (hists_from n position es))
 
--- with the pieces of the entries' keys drawn anew
-pub kept_write : (version table : ℕ) (es : List Entry) (ys drawn : List PieceRecord) (counters_id space_id id n position : ℕ) (new : Counters) (a : Space) (ids : List ℕ) → list_all can_keep_entry es ≡ true
-    → AreDrawn (pieces_of version es) (filter (λ (y : PieceRecord). not (is_out_all version table (entry_keys es) y)) ys) drawn
+-- with the pieces that the entries touch drawn anew
+pub kept_write : (version : ℕ) (es : List Entry) (ys drawn : List PieceRecord) (counters_id space_id id n position : ℕ) (new : Counters) (a : Space) (ids : List ℕ) → list_all can_keep_entry es ≡ true
+    → AreDrawn (pieces_of version es) (touched (pieces_of version es) ys) drawn
     → list_all is_kept_change (write_batch counters_id new space_id a (length es) ids id (rows_in es) drawn (hists_from n position es)) ≡ true
-kept_write version table es ys drawn counters_id space_id id n position new a ids all draws =
+kept_write version es ys drawn counters_id space_id id n position new a ids all draws =
     kept_batch es drawn counters_id space_id id n position new a ids all
-    (drawn_kept version es (filter (λ (y : PieceRecord). not (is_out_all version table (entry_keys es) y)) ys) drawn all (all_go_kept version table es ys all) draws)
+    (drawn_kept version es (touched (pieces_of version es) ys) drawn all (touched_kept version es ys all) draws)
 
 -- with their pieces alone, in a version more
 pub kept_write_new : (es : List Entry) (drawn : List PieceRecord) (counters_id space_id id n position : ℕ) (new : Counters) (a : Space) (v : Version) → list_all can_keep_entry es ≡ true → AreDrawn (pieces_of v.number es) [] drawn

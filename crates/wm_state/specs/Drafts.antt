@@ -126,22 +126,30 @@ CanEdit p m (edits.Bear n at name) = CanBear p m n at name
 
 -- ---- what an edit may change
 
--- one of the entries is of the piece's key
-abbrev pub is_written : List Entry → PieceRecord → Bool
-is_written es x = list_any (is_of x.cells.table x.cells.key) es
+-- the entry is of the piece's key, and has a moment of its period
+abbrev pub shares_moment : PieceRecord → Entry → Bool
+shares_moment x e = is_of x.cells.table x.cells.key e && (nat_lt e.from x.cells.till && nat_lt x.cells.from e.till)
 
--- the edit may change the record or drop it: the counters, the table that it makes ready, its workspace, and the pieces of the keys of
--- its entries
+-- one of the entries is so
+abbrev pub is_met : List Entry → PieceRecord → Bool
+is_met es x = list_any (shares_moment x) es
+
+-- the edit may change the record or drop it: the counters, the table that it makes ready, its workspace, and the pieces of its entries'
+-- keys that share a moment with one of these
 abbrev pub may_change : Edit → Record → Bool
 may_change e (records.Counters c) = true
 may_change (edits.Enable name valid history) (records.Table t) = bytes_eq name t.name
 may_change (edits.Append n entries) (records.Space w) = w.number == n
-may_change (edits.Append n entries) (records.Piece x) = is_written (map entry_of entries.items) x
+may_change (edits.Append n entries) (records.Piece x) = is_met (map entry_of entries.items) x
 may_change (edits.Save n name) (records.Space w) = w.number == n
 may_change (edits.Bear n at name) (records.Space w) = w.number == n
 may_change e r = false
 
 -- ---- what an edit may add
+
+-- one of the entries is of the piece's key
+abbrev pub is_written : List Entry → PieceRecord → Bool
+is_written es x = list_any (is_of x.cells.table x.cells.key) es
 
 -- the number is the one that the counters have for the next version
 abbrev pub is_next_version : Parts → ℕ → Bool

@@ -1,7 +1,7 @@
 -- Pieces over other pieces: what lies under a new piece goes, and what lies before it and after it stays.
 use Rattle.std.specs.Prelude.{ℕ, ◌≡◌, ◌<◌, ◌≤◌, ◌==◌, ◌&&◌, ◌||◌, Bool, true, not, nat_lt, if◌then◌else◌, min, max, List, [], ◌∷◌, ◌++◌, map, Option, None}
 use Rattle.std.specs.Bool.{then_some}
-use Rattle.std.specs.List.{list_all, list_any, flat_map}
+use Rattle.std.specs.List.{filter, list_all, list_any, flat_map}
 use Rattle.std.specs.Option.{option_or}
 use Rattle.std.specs.Ordering.{is_gt}
 use Rattle.wm_base.specs.Key.{key_order}
@@ -42,6 +42,14 @@ laid (new ∷ news) xs = laid news (new ∷ flat_map (left_by new) xs)
 abbrev pub stored_last : List PieceRecord → ℕ → Cell → Option Held
 stored_last [] version c = None
 stored_last (x ∷ xs) version c = option_or (stored_last xs version c) (then_some (covers_at x version c) (held_by x))
+
+-- no new piece shares a cell of its version with this one
+abbrev pub is_clear : List PieceRecord → PieceRecord → Bool
+is_clear news y = list_all (λ new. not (collide new y)) news
+
+-- those of old pieces with which some new one does
+abbrev pub touched : List PieceRecord → List PieceRecord → List PieceRecord
+touched news old = filter (λ y. not (is_clear news y)) old
 
 -- a test that passes a piece passes each part of it
 abbrev pub PassesParts : (PieceRecord → Bool) → Type 0

@@ -1,6 +1,6 @@
 -- Entries that one line writes in one table: what is asked of them, and their rows and pieces.
 use Rattle.std.specs.Prelude.{ℕ, ◌≡◌, ◌+◌, Bool, true, false, ◌&&◌, nat_lt, nat_le, List, [], ◌∷◌, map, is_none, Option}
-use Rattle.std.specs.List.{list_all, filter_map}
+use Rattle.std.specs.List.{filter_map}
 use Rattle.std.specs.Option.{option_map, option_map_or}
 use Rattle.std.specs.Ordering.{is_eq}
 use Rattle.wm_base.specs.Key.{key_order}
@@ -13,7 +13,6 @@ use Rattle.wm_spec.specs.declared.record.hist.Hist.{Hist}
 use Rattle.wm_spec.specs.declared.record.piece.PieceRecord.{PieceRecord}
 use Rattle.wm_spec.specs.declared.record.row.RowRecord.{RowRecord}
 use Rattle.wm_spec.specs.declared.record.table.Table.{Table}
-use Rattle.wm_state.specs.Batches.{is_out}
 
 -- ---- what is asked of them
 
@@ -86,9 +85,3 @@ hist_of n position e = record {
 abbrev pub hists_from : ℕ → ℕ → List Entry → List Hist
 hists_from n position [] = []
 hists_from n position (e ∷ es) = hist_of n position e ∷ hists_from n (position + 1) es
-
--- ---- what goes
-
--- a piece is not of this version and table with one of these keys
-abbrev pub is_out_all : ℕ → ℕ → List (List Value) → PieceRecord → Bool
-is_out_all version table keys y = list_all (λ key. is_out version table key y) keys
