@@ -67,7 +67,7 @@ all_part P from till x passes = by_test (nat_lt from till) refl
 
 -- what passes with all its parts passes where a new piece is over it
 pub all_left : (P : PieceRecord → Bool) (new x : PieceRecord) → P x ≡ true → ((from till : ℕ) → x.cells.from ≤ from → from < till → till ≤ x.cells.till → P (between from till x) ≡ true) → list_all P (left_by new x) ≡ true
-all_left P new x whole parts = by_place (is_in new.version new.cells.table new.cells.key x)
+all_left P new x whole parts = by_place (collide new x)
   where
     itself : (n : ℕ) → n ≤ n
     itself n = omega arith
@@ -88,7 +88,7 @@ all_over P new parts (x ∷ xs) passed =
 -- ---- what is left collides with nothing that the pieces did not
 
 apart_left : (y new x : PieceRecord) → collide y x ≡ false → list_any (collide y) (left_by new x) ≡ false
-apart_left y new x apart = by_place (is_in new.version new.cells.table new.cells.key x)
+apart_left y new x apart = by_place (collide new x)
   where
     itself : (n : ℕ) → n ≤ n
     itself n = omega arith
@@ -125,7 +125,7 @@ last_apart true false from over_till = refl
 last_apart true true from over_till = grind arith
 
 differ_left : (new x : PieceRecord) → has_moments new ≡ true → differ collide (left_by new x) ≡ true
-differ_left new x lasts = by_place (is_in new.version new.cells.table new.cells.key x)
+differ_left new x lasts = by_place (collide new x)
   where
     by_parts : (a b : Bool) → differ collide (cond a (between x.cells.from (min x.cells.till new.cells.from) x ∷ []) [] ++ cond b (between (max x.cells.from new.cells.till) x.cells.till x ∷ []) []) ≡ true
     by_parts true true = rw (parts_apart (at_one_place x x) x.cells.from x.cells.till new.cells.from new.cells.till (less_than new.cells.from new.cells.till lasts)) refl
@@ -137,35 +137,16 @@ differ_left new x lasts = by_place (is_in new.version new.cells.table new.cells.
     by_place true = by_parts (nat_lt x.cells.from (min x.cells.till new.cells.from)) (nat_lt (max x.cells.from new.cells.till) x.cells.till)
     by_place false = refl
 
--- a piece of another place does not collide
-pub elsewhere : (new x : PieceRecord) → is_in new.version new.cells.table new.cells.key x ≡ false → collide new x ≡ false
-elsewhere new x away = off (at_one_place new x) (nat_lt new.cells.from x.cells.till && nat_lt x.cells.from new.cells.till) (false_if (at_one_place new x) (λ here. bool_apart (sym (turned here) ∙ away)))
-  where
-    off : (s b : Bool) → s ≡ false → (s && b) ≡ false
-    off s b e = rw e refl
-
-    false_if : (b : Bool) → (b ≡ true → ⊥) → b ≡ false
-    false_if true not_so = absurd (not_so refl)
-    false_if false not_so = refl
-
-    turned : at_one_place new x ≡ true → is_in new.version new.cells.table new.cells.key x ≡ true
-    turned here =
-        let h = both (new.version == x.version) ((new.cells.table == x.cells.table) && is_eq (key_order new.cells.key x.cells.key)) here in
-        let g = both (new.cells.table == x.cells.table) (is_eq (key_order new.cells.key x.cells.key)) h.1 in
-        and_true (x.version == new.version) ((x.cells.table == new.cells.table) && is_eq (key_order x.cells.key new.cells.key)) (eq-eqb x.version new.version (sym (eqb-true new.version x.version h.0)))
-        (and_true (x.cells.table == new.cells.table) (is_eq (key_order x.cells.key new.cells.key)) (eq-eqb x.cells.table new.cells.table (sym (eqb-true new.cells.table x.cells.table g.0)))
-        (ap (λ (k : List Value). is_eq (key_order x.cells.key k)) (key_same new.cells.key x.cells.key g.1) ∙ key_itself x.cells.key))
-
 new_apart : (new : PieceRecord) (xs : List PieceRecord) → list_any (collide new) (flat_map (left_by new) xs) ≡ false
 new_apart new [] = refl
-new_apart new (x ∷ xs) = any_append (collide new) (left_by new x) (flat_map (left_by new) xs) (by_place (is_in new.version new.cells.table new.cells.key x) refl) (new_apart new xs)
+new_apart new (x ∷ xs) = any_append (collide new) (left_by new x) (flat_map (left_by new) xs) (by_place (collide new x) refl) (new_apart new xs)
   where
-    by_place : (b : Bool) → is_in new.version new.cells.table new.cells.key x ≡ b → list_any (collide new) (cond b (around new x) (x ∷ [])) ≡ false
+    by_place : (b : Bool) → collide new x ≡ b → list_any (collide new) (cond b (around new x) (x ∷ [])) ≡ false
     by_place true e =
         any_append (collide new) (part x.cells.from (min x.cells.till new.cells.from) x) (part (max x.cells.from new.cells.till) x.cells.till x)
         (none_part (collide new) x.cells.from (min x.cells.till new.cells.from) x (first_apart (at_one_place new x) (nat_lt x.cells.from new.cells.till) x.cells.till new.cells.from))
         (none_part (collide new) (max x.cells.from new.cells.till) x.cells.till x (last_apart (at_one_place new x) (nat_lt new.cells.from x.cells.till) x.cells.from new.cells.till))
-    by_place false e = rw (elsewhere new x e) refl
+    by_place false e = rw e refl
 
 differ_over : (new : PieceRecord) → has_moments new ≡ true → (xs : List PieceRecord) → differ collide xs ≡ true → differ collide (flat_map (left_by new) xs) ≡ true
 differ_over new lasts [] apart = refl

@@ -1,15 +1,16 @@
 -- Pieces that are drawn begin and end where old or new ones do.
 use Rattle.std.proofs.Common.{◌≡◌, ℕ, ◌<◌, ◌≤◌, ◌==◌, nat_lt, min, max, Bool, true, false, not, ◌&&◌, ◌||◌, cond, List, [], ◌∷◌, ◌++◌, refl, sym, ap, ◌∙◌, ◌⊎◌, inl, inr, arith}
-use Rattle.std.proofs.lemmas.Bool.{cases_lt, eq-eqb, eqb-true}
+use Rattle.std.proofs.lemmas.Bool.{cases_lt, eq-eqb}
 use Rattle.std.specs.List.{filter, flat_map, list_all, list_any}
 use Rattle.std.specs.Ordering.{is_eq}
 use Rattle.wm_base.specs.Key.{key_order}
 use Rattle.wm_base.specs.declared.value.Value.{Value}
+use Rattle.wm_graph.specs.Rules.{collide}
 use Rattle.wm_spec.specs.declared.record.piece.PieceRecord.{PieceRecord}
 use Rattle.wm_state.specs.Batches.{is_in}
 use Rattle.wm_state.specs.Drawing.{between, part, around, left_by, ends_at, end_with}
 use Rattle.wm_state.proofs.Appending.{all_append}
-use Rattle.wm_state.proofs.Laying.{key_same, key_itself}
+use Rattle.wm_state.proofs.Laying.{key_itself}
 use Rattle.wm_state.proofs.Tests.{both, bool_apart, and_true, all_if, all_filter, not_true}
 
 -- ---- some of a list
@@ -105,15 +106,6 @@ same_place x =
     and_true (x.version == x.version) ((x.cells.table == x.cells.table) && is_eq (key_order x.cells.key x.cells.key)) (eq-eqb x.version x.version refl)
     (and_true (x.cells.table == x.cells.table) (is_eq (key_order x.cells.key x.cells.key)) (eq-eqb x.cells.table x.cells.table refl) (key_itself x.cells.key))
 
--- and the other way round
-pub turned : (x y : PieceRecord) → is_in x.version x.cells.table x.cells.key y ≡ true → is_in y.version y.cells.table y.cells.key x ≡ true
-turned x y e =
-    let h = both (y.version == x.version) ((y.cells.table == x.cells.table) && is_eq (key_order y.cells.key x.cells.key)) e in
-    let g = both (y.cells.table == x.cells.table) (is_eq (key_order y.cells.key x.cells.key)) h.1 in
-    and_true (x.version == y.version) ((x.cells.table == y.cells.table) && is_eq (key_order x.cells.key y.cells.key)) (eq-eqb x.version y.version (sym (eqb-true y.version x.version h.0)))
-    (and_true (x.cells.table == y.cells.table) (is_eq (key_order x.cells.key y.cells.key)) (eq-eqb x.cells.table y.cells.table (sym (eqb-true y.cells.table x.cells.table g.0)))
-    (ap (λ (k : List Value). is_eq (key_order x.cells.key k)) (key_same y.cells.key x.cells.key g.1) ∙ key_itself x.cells.key))
-
 -- a piece among others ends where they do, at a place of its own or of another
 begins_here : (y x : PieceRecord) (xs : List PieceRecord) → More (y ∷ []) xs → is_in x.version x.cells.table x.cells.key y ≡ true → ends_at xs x y.cells.from ≡ true
 begins_here y x xs among inside =
@@ -166,14 +158,14 @@ part_both xs from till x first second = by_test (nat_lt from till)
     by_test false = refl
 
 left_both : (xs : List PieceRecord) (new x : PieceRecord) → More (new ∷ []) xs → has_both xs x ≡ true → list_all (has_both xs) (left_by new x) ≡ true
-left_both xs new x among has = by_place (is_in new.version new.cells.table new.cells.key x) refl
+left_both xs new x among has = by_place (collide new x) refl
   where
     own : (ends_at xs x x.cells.from ≡ true) × (ends_at xs x x.cells.till ≡ true)
     own = both (ends_at xs x x.cells.from) (ends_at xs x x.cells.till) has
 
-    by_place : (b : Bool) → is_in new.version new.cells.table new.cells.key x ≡ b → list_all (has_both xs) (cond b (around new x) (x ∷ [])) ≡ true
-    by_place true inside =
-        let here = turned new x inside in
+    by_place : (b : Bool) → collide new x ≡ b → list_all (has_both xs) (cond b (around new x) (x ∷ [])) ≡ true
+    by_place true hit =
+        let here = (both (is_in x.version x.cells.table x.cells.key new) (nat_lt new.cells.from x.cells.till && nat_lt x.cells.from new.cells.till) hit).0 in
         all_append (has_both xs) (part x.cells.from (min x.cells.till new.cells.from) x) (part (max x.cells.from new.cells.till) x.cells.till x)
         (part_both xs x.cells.from (min x.cells.till new.cells.from) x own.0 (at_min (ends_at xs x) x.cells.till new.cells.from own.1 (begins_here new x xs among here)))
         (part_both xs (max x.cells.from new.cells.till) x.cells.till x (at_max (ends_at xs x) x.cells.from new.cells.till own.0 (ends_here new x xs among here)) own.1)

@@ -1,12 +1,13 @@
 -- What pieces hold with a new one over them.
 use Rattle.std.proofs.Common.{◌≡◌, ℕ, ◌==◌, nat_lt, nat_le, min, max, Bool, true, false, ◌&&◌, ◌||◌, cond, List, [], ◌∷◌, ◌++◌, Option, None, refl, sym, ap, ◌∙◌, arith}
-use Rattle.std.proofs.lemmas.Bool.{eqb-true}
+use Rattle.std.proofs.lemmas.Bool.{eq-eqb, eqb-true}
 use Rattle.std.specs.Bool.{then_some}
 use Rattle.std.specs.List.{flat_map}
 use Rattle.std.specs.Option.{option_or}
 use Rattle.std.specs.Ordering.{is_eq}
 use Rattle.wm_base.specs.Key.{key_order}
 use Rattle.wm_base.specs.declared.value.Value.{Value}
+use Rattle.wm_graph.specs.Rules.{collide}
 use Rattle.wm_period.proofs.Cells.{option_or_assoc, option_or-none}
 use Rattle.wm_period.specs.Pieces.{Held}
 use Rattle.wm_spec.specs.Lists.{Cell}
@@ -14,8 +15,8 @@ use Rattle.wm_spec.specs.declared.record.piece.PieceRecord.{PieceRecord}
 use Rattle.wm_state.specs.Batches.{is_in}
 use Rattle.wm_state.specs.Drawing.{between, part, around, left_by, stored_last}
 use Rattle.wm_state.specs.Standing.{covers_at, held_by, stored_at}
-use Rattle.wm_state.proofs.Laying.{key_same, stored-append}
-use Rattle.wm_state.proofs.Tests.{both}
+use Rattle.wm_state.proofs.Laying.{key_itself, key_same, stored-append}
+use Rattle.wm_state.proofs.Tests.{and_true, both}
 
 abbrev nothing : Option Held
 nothing = None
@@ -38,6 +39,20 @@ place_of version table key x inside w t k =
     ap (λ (v : ℕ). (v == w) && ((x.cells.table == t) && is_eq (key_order x.cells.key k))) (eqb-true x.version version h.0)
     ∙ ap (λ (v : ℕ). (version == w) && ((v == t) && is_eq (key_order x.cells.key k))) (eqb-true x.cells.table table g.0)
     ∙ ap (λ (l : List Value). (version == w) && ((table == t) && is_eq (key_order l k))) (key_same x.cells.key key g.1)
+
+-- of two pieces each is of the place of the other
+pub turned : (x y : PieceRecord) → is_in x.version x.cells.table x.cells.key y ≡ true → is_in y.version y.cells.table y.cells.key x ≡ true
+turned x y e =
+    let h = both (y.version == x.version) ((y.cells.table == x.cells.table) && is_eq (key_order y.cells.key x.cells.key)) e in
+    let g = both (y.cells.table == x.cells.table) (is_eq (key_order y.cells.key x.cells.key)) h.1 in
+    and_true (x.version == y.version) ((x.cells.table == y.cells.table) && is_eq (key_order x.cells.key y.cells.key)) (eq-eqb x.version y.version (sym (eqb-true y.version x.version h.0)))
+    (and_true (x.cells.table == y.cells.table) (is_eq (key_order x.cells.key y.cells.key)) (eq-eqb x.cells.table y.cells.table (sym (eqb-true y.cells.table x.cells.table g.0)))
+    (ap (λ (k : List Value). is_eq (key_order x.cells.key k)) (key_same y.cells.key x.cells.key g.1) ∙ key_itself x.cells.key))
+
+-- as those that collide are
+pub met_there : (x y : PieceRecord) → collide x y ≡ true → is_in x.version x.cells.table x.cells.key y ≡ true
+met_there x y hit =
+    turned y x (both ((x.version == y.version) && ((x.cells.table == y.cells.table) && is_eq (key_order x.cells.key y.cells.key))) (nat_lt x.cells.from y.cells.till && nat_lt y.cells.from x.cells.till) hit).0
 
 -- ---- parts
 
@@ -100,10 +115,10 @@ around_held new x w c inside away =
 -- ---- all of them
 
 left_held : (new x : PieceRecord) (w : ℕ) (c : Cell) → covers_at new w c ≡ false → stored_at (left_by new x) w c ≡ then_some (covers_at x w c) (held_by x)
-left_held new x w c away = by_place (is_in new.version new.cells.table new.cells.key x) refl
+left_held new x w c away = by_place (collide new x) refl
   where
-    by_place : (b : Bool) → is_in new.version new.cells.table new.cells.key x ≡ b → stored_at (cond b (around new x) (x ∷ [])) w c ≡ then_some (covers_at x w c) (held_by x)
-    by_place true e = around_held new x w c e away
+    by_place : (b : Bool) → collide new x ≡ b → stored_at (cond b (around new x) (x ∷ [])) w c ≡ then_some (covers_at x w c) (held_by x)
+    by_place true e = around_held new x w c (met_there new x e) away
     by_place false e = option_or-none (then_some (covers_at x w c) (held_by x))
 
 all_held : (new : PieceRecord) (xs : List PieceRecord) (w : ℕ) (c : Cell) → covers_at new w c ≡ false → stored_at (flat_map (left_by new) xs) w c ≡ stored_at xs w c

@@ -15,8 +15,7 @@ use Rattle.wm_state.specs.Batches.{is_in}
 use Rattle.wm_state.specs.Drawing.{is_clear, stored_last, touched}
 use Rattle.wm_state.specs.Standing.{covers_at, held_by, stored_at}
 use Rattle.wm_state.proofs.Appending.{all_append, all_kept}
-use Rattle.wm_state.proofs.DrawingEnds.{turned}
-use Rattle.wm_state.proofs.DrawingHeld.{place_of}
+use Rattle.wm_state.proofs.DrawingHeld.{met_there, place_of, turned}
 use Rattle.wm_state.proofs.Laying.{false_if, key_itself, key_same, stored-append}
 use Rattle.wm_state.proofs.Tests.{all_if, and_true, any_filter, bool_apart, both, either_false, none_if, not_true}
 
@@ -38,9 +37,7 @@ apart-turned x y apart = false_if (collide y x) (λ hit. bool_apart (sym (met-tu
 
 -- and are of one version, table and key
 pub met-place : (x y : PieceRecord) → collide x y ≡ true → (version table : ℕ) (key : List Value) → is_in version table key y ≡ is_in version table key x
-met-place x y hit version table key =
-    let h = both ((x.version == y.version) && ((x.cells.table == y.cells.table) && is_eq (key_order x.cells.key y.cells.key))) (nat_lt x.cells.from y.cells.till && nat_lt y.cells.from x.cells.till) hit in
-    place_of x.version x.cells.table x.cells.key y (turned y x h.0) version table key
+met-place x y hit version table key = place_of x.version x.cells.table x.cells.key y (met_there x y hit) version table key
 
 pub met-same : (x y : PieceRecord) → collide x y ≡ true → (x.version ≡ y.version) × ((x.cells.table ≡ y.cells.table) × (x.cells.key ≡ y.cells.key))
 met-same x y hit =

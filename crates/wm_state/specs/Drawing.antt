@@ -27,9 +27,9 @@ part from till x = if nat_lt from till then between from till x ∷ [] else []
 abbrev pub around : PieceRecord → PieceRecord → List PieceRecord
 around over x = part x.cells.from (min x.cells.till over.cells.from) x ++ part (max x.cells.from over.cells.till) x.cells.till x
 
--- the same of a piece of the other's version, table and key; any other piece stays whole
+-- the same of a piece that shares a cell with the other; any other piece stays whole
 abbrev pub left_by : PieceRecord → PieceRecord → List PieceRecord
-left_by over x = if is_in over.version over.cells.table over.cells.key x then around over x else x ∷ []
+left_by over x = if collide over x then around over x else x ∷ []
 
 -- ---- pieces over others
 
