@@ -19,14 +19,14 @@ use Rattle.wm_state.specs.Batches.{put}
 use Rattle.wm_state.specs.Drafts.{CanAppend, CanWork, DraftsBy}
 use Rattle.wm_state.specs.Editing.{entry_of}
 use Rattle.wm_state.specs.Effects.{IsFree, IsLeaf}
-use Rattle.wm_state.specs.Entries.{hists_from, pieces_of, rows_in}
+use Rattle.wm_state.specs.Entries.{hists_from, rows_in}
 use Rattle.wm_state.specs.Points.{next_version, stepped_by, stepped_new_by}
 use Rattle.wm_state.specs.Standing.{latest, newest_first}
 use Rattle.wm_state.specs.Writes.{write_batch}
 use Rattle.wm_state.specs.declared.edit.Edit.TheVariants as edits
 use Rattle.wm_state.specs.declared.edit.NewEntry.{NewEntry}
 use Rattle.wm_state.proofs.DraftedSaved.{home_there}
-use Rattle.wm_state.proofs.DraftedWritten.{Appends, Redrawn, drafts_written, entries_in, redrawn_so, stamped_first}
+use Rattle.wm_state.proofs.DraftedWritten.{Appends, Redrawn, drafts_written, entries_in, stamped_first}
 use Rattle.wm_state.proofs.DraftedWrittenNew.{DrawnAlone, drafts_written_new, drawn_alone}
 use Rattle.wm_state.proofs.Growing.{same_counters}
 use Rattle.wm_state.proofs.Ids.{under_next}
@@ -85,9 +85,9 @@ appends_so p a c entries x there can one at = record {
 -- ---- what is written
 
 -- where the records stand
-written_places : (rs : List Stored) (front : List Change) (counters c : Counters) (a : Space) (version table next id : ℕ) (es : List Entry) (changes : List Change) → (parts_of rs).counters ≡ c ∷ []
-    → ((i : ℕ) → id ≤ i → record_at rs i ≡ None) → (w : AreWritten rs front counters a version table next es changes) → Places rs w.counters_id w.space_id id c a
-written_places rs front counters c a version table next id es changes one above w = record {
+written_places : (rs : List Stored) (front : List Change) (counters c : Counters) (a : Space) (version next id : ℕ) (es : List Entry) (changes : List Change) → (parts_of rs).counters ≡ c ∷ []
+    → ((i : ℕ) → id ≤ i → record_at rs i ≡ None) → (w : AreWritten rs front counters a version next es changes) → Places rs w.counters_id w.space_id id c a
+written_places rs front counters c a version next id es changes one above w = record {
   sorted = w.sorted;
   counters = w.counters_at ∙ ap (λ (k : Counters). Some (records.Counters k)) (sym (same_counters (parts_of rs) w.old c w.one one));
   one = one;
@@ -96,9 +96,9 @@ written_places rs front counters c a version table next id es changes one above 
 }
 
 -- and what is drawn
-written_drawn : (rs : List Stored) (front : List Change) (counters : Counters) (a : Space) (version table next : ℕ) (es : List Entry) (changes : List Change) → (w : AreWritten rs front counters a version table next es changes)
-    → Redrawn rs version table es w.dropped w.drawn
-written_drawn rs front counters a version table next es changes w = redrawn_so rs version table es (pieces_of version es) w.dropped w.drawn refl w.redrawn.are w.redrawn.gone w.redrawn.once w.redrawn.there
+written_drawn : (rs : List Stored) (front : List Change) (counters : Counters) (a : Space) (version next : ℕ) (es : List Entry) (changes : List Change) → (w : AreWritten rs front counters a version next es changes)
+    → Redrawn rs version es w.dropped w.drawn
+written_drawn rs front counters a version next es changes w = record { are = w.redrawn.are; gone = w.redrawn.gone; once = w.redrawn.once; there = w.redrawn.there }
 
 -- so many as are told
 counted_so : (entries : List NewEntry) (count : ℕ) → count ≡ length entries → count ≡ length (map entry_of entries)
@@ -108,11 +108,11 @@ counted_so entries count is = is ∙ sym (length-map entries entry_of)
 pub drafts_here : (rs : List Stored) (m work table version id count : ℕ) (entries : Vec NewEntry Global) (a : Space) (c counters : Counters) (front changes : List Change) → keep_rules (parts_of rs) ≡ true → CanWork (parts_of rs) m work
     → Appends (parts_of rs) a.number a c table (entries_in entries) → ((i : ℕ) → id ≤ i → record_at rs i ≡ None) → IsLeaf (latest (parts_of rs) a.number) (newest_first (parts_of rs).versions)
     → IsFree (parts_of rs) (latest (parts_of rs) a.number) → version ≡ latest (parts_of rs) a.number → count ≡ length entries.items → counters ≡ stepped_by c m work count → front ≡ []
-    → AreWritten rs front counters a version table id (entries_in entries) changes → DraftsBy work rs m (edits.Append a.number entries ∷ []) changes
+    → AreWritten rs front counters a version id (entries_in entries) changes → DraftsBy work rs m (edits.Append a.number entries ∷ []) changes
 drafts_here rs m work table version id count entries a c counters front changes rules can_work v above leaf free newest many counts none w =
     subst (DraftsBy work rs m (edits.Append a.number entries ∷ [])) (sym (w.are ∙ ap (λ (f : List Change). f ++ batch counters) none ∙ ap batch (counts ∙ ap (stepped_by c m work) (counted_so entries.items count many))))
-    (drafts_written rs m work a.number table entries a c w.counters_id w.space_id w.dropped id w.drawn rules can_work v (written_places rs front counters c a version table id id (entries_in entries) changes v.one above w) leaf free
-    (subst (λ k. Redrawn rs k table (entries_in entries) w.dropped w.drawn) newest (written_drawn rs front counters a version table id (entries_in entries) changes w)))
+    (drafts_written rs m work a.number table entries a c w.counters_id w.space_id w.dropped id w.drawn rules can_work v (written_places rs front counters c a version id id (entries_in entries) changes v.one above w) leaf free
+    (subst (λ k. Redrawn rs k (entries_in entries) w.dropped w.drawn) newest (written_drawn rs front counters a version id (entries_in entries) changes w)))
   where
     batch : Counters → List Change
     batch k = write_batch w.counters_id k w.space_id a (length (entries_in entries)) w.dropped id (rows_in (entries_in entries)) w.drawn (hists_from a.number a.log_length (entries_in entries))
@@ -121,13 +121,13 @@ drafts_here rs m work table version id count entries a c counters front changes 
 pub drafts_above : (rs : List Stored) (m work table id next parent count : ℕ) (entries : Vec NewEntry Global) (a : Space) (c counters : Counters) (front changes : List Change) → keep_rules (parts_of rs) ≡ true → CanWork (parts_of rs) m work
     → Appends (parts_of rs) a.number a c table (entries_in entries) → ((i : ℕ) → id ≤ i → record_at rs i ≡ None) → next ≡ id + 1 → parent ≡ latest (parts_of rs) a.number → count ≡ length entries.items
     → counters ≡ stepped_new_by c m work count → front ≡ put id (records.Version (record { number = c.next_version; space = a.number; parent = parent })) ∷ []
-    → AreWritten rs front counters a c.next_version table next (entries_in entries) changes → DraftsBy work rs m (edits.Append a.number entries ∷ []) changes
+    → AreWritten rs front counters a c.next_version next (entries_in entries) changes → DraftsBy work rs m (edits.Append a.number entries ∷ []) changes
 drafts_above rs m work table id next parent count entries a c counters front changes rules can_work v above after newest many counts first w =
     subst (DraftsBy work rs m (edits.Append a.number entries ∷ [])) (sym (w.are ∙ is))
-    (drafts_written_new rs m work a.number table entries a c w.counters_id w.space_id id w.drawn rules can_work v (written_places rs front counters c a c.next_version table next id (entries_in entries) changes v.one above w) alone.are)
+    (drafts_written_new rs m work a.number table entries a c w.counters_id w.space_id id w.drawn rules can_work v (written_places rs front counters c a c.next_version next id (entries_in entries) changes v.one above w) alone.are)
   where
     alone : DrawnAlone c.next_version (entries_in entries) w.dropped w.drawn
-    alone = drawn_alone rs table c (entries_in entries) w.dropped w.drawn rules v.one (written_drawn rs front counters a c.next_version table next (entries_in entries) changes w)
+    alone = drawn_alone rs c (entries_in entries) w.dropped w.drawn rules v.one (written_drawn rs front counters a c.next_version next (entries_in entries) changes w)
 
     batch : Counters → List ℕ → ℕ → List Change
     batch k dropped from = write_batch w.counters_id k w.space_id a (length (entries_in entries)) dropped from (rows_in (entries_in entries)) w.drawn (hists_from a.number a.log_length (entries_in entries))

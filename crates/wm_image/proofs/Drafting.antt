@@ -4,7 +4,7 @@ use Rattle.std.specs.BTreeMap.{BTreeMap}
 use Rattle.std.specs.List.{filter, flat_map}
 use Rattle.wm_base.specs.declared.memory.Memory.{Memory}
 use Rattle.wm_base.specs.declared.value.Value.{Value}
-use Rattle.wm_graph.specs.Parts.{Parts}
+use Rattle.wm_graph.specs.Parts.{Parts, as_piece}
 use Rattle.wm_graph.specs.Rules.{keep_rules, differ, collide, is_piece}
 use Rattle.wm_graph.specs.Parts.{table_of, version_of, row_of}
 use Rattle.std.specs.List.{list_all}
@@ -18,7 +18,8 @@ use Rattle.wm_state.proofs.Tests.{both}
 use Rattle.wm_image.proofs.Leaves.{own_told}
 use Rattle.wm_image.specs.Gone.{ids_of_key}
 use Rattle.wm_image.specs.Indexed.{IsIndexed, listed}
-use Rattle.wm_image.specs.Redraw.{IsDraft, IsRedrawn}
+use Rattle.wm_image.specs.Redraw.{IsDraft, IsRedrawn, met, unmet}
+use Rattle.wm_image.specs.Shown.{kind_at}
 use Rattle.wm_image.specs.Sought.{has_version, piece_ids}
 use Rattle.wm_image.specs.declared.index.Index.{Index}
 use Rattle.wm_image.specs.declared.redraw.Draft.{Draft}
@@ -35,21 +36,31 @@ pub ids_told : (kept : BTreeMap ℕ Record) (x : Index) → IsIndexed kept x →
 ids_told kept x is version table key ids own on told =
     told ∙ ap (filter (λ id. has_version version (record_at (listed kept.entries) id))) on ∙ own_told kept x is (listed kept.entries) refl version table key
 
+-- some new pieces are drawn in a draft
+abbrev pub Draws : List Stored → ℕ → ℕ → List PieceRecord → Draft → Type 0
+Draws ss version table news d = IsDraft ss version table news d.dropped.items d.left.items d.finished.items d.hand.items
+
 -- what is laid over a draft is a draft with one piece more
 pub draft_laid : (ss : List Stored) (version table : ℕ) (old mid : Draft) (new : PieceRecord) (r : Result Draft Memory)
-    → ((news : List PieceRecord) → IsDraft ss version table news old.dropped.items old.finished.items old.hand.items → IsDraft ss version table (news ++ new ∷ []) mid.dropped.items mid.finished.items (new ∷ flat_map (left_by new) mid.hand.items))
-    → IfOk r (λ laid. laid.dropped.items ≡ mid.dropped.items) → IfOk r (λ laid. laid.finished.items ≡ mid.finished.items) → IfOk r (λ laid. laid.hand.items ≡ new ∷ flat_map (left_by new) mid.hand.items)
-    → IfOk r (λ drawn. (news : List PieceRecord) → IsDraft ss version table news old.dropped.items old.finished.items old.hand.items → IsDraft ss version table (news ++ new ∷ []) drawn.dropped.items drawn.finished.items drawn.hand.items)
-draft_laid ss version table old mid new (Ok d) step dropped finished hand = λ news so.
-    subst (λ (xs : List PieceRecord). IsDraft ss version table (news ++ new ∷ []) d.dropped.items d.finished.items xs) (sym hand)
-    (subst (λ (xs : List PieceRecord). IsDraft ss version table (news ++ new ∷ []) d.dropped.items xs (new ∷ flat_map (left_by new) mid.hand.items)) (sym finished)
-    (subst (λ (ids : List ℕ). IsDraft ss version table (news ++ new ∷ []) ids mid.finished.items (new ∷ flat_map (left_by new) mid.hand.items)) (sym dropped) (step news so)))
-draft_laid ss version table old mid new (Err e) step dropped finished hand = tt
+    → ((news : List PieceRecord) → Draws ss version table news old
+    → IsDraft ss version table (news ++ new ∷ []) (mid.dropped.items ++ met ss new mid.left.items) (unmet ss new mid.left.items) mid.finished.items (new ∷ flat_map (left_by new) (mid.hand.items ++ kind_at as_piece ss (met ss new mid.left.items))))
+    → IfOk r (λ laid. laid.dropped.items ≡ mid.dropped.items ++ met ss new mid.left.items) → IfOk r (λ laid. laid.left.items ≡ unmet ss new mid.left.items) → IfOk r (λ laid. laid.finished.items ≡ mid.finished.items)
+    → IfOk r (λ laid. laid.hand.items ≡ new ∷ flat_map (left_by new) (mid.hand.items ++ kind_at as_piece ss (met ss new mid.left.items)))
+    → IfOk r (λ drawn. (news : List PieceRecord) → Draws ss version table news old → Draws ss version table (news ++ new ∷ []) drawn)
+draft_laid ss version table old mid new (Ok d) step dropped left finished hand = λ news so.
+    subst (λ (xs : List PieceRecord). IsDraft ss version table (news ++ new ∷ []) d.dropped.items d.left.items d.finished.items xs) (sym hand)
+    (subst (λ (xs : List PieceRecord). IsDraft ss version table (news ++ new ∷ []) d.dropped.items d.left.items xs over) (sym finished)
+    (subst (λ (ids : List ℕ). IsDraft ss version table (news ++ new ∷ []) d.dropped.items ids mid.finished.items over) (sym left)
+    (subst (λ (ids : List ℕ). IsDraft ss version table (news ++ new ∷ []) ids (unmet ss new mid.left.items) mid.finished.items over) (sym dropped) (step news so))))
+  where
+    over : List PieceRecord
+    over = new ∷ flat_map (left_by new) (mid.hand.items ++ kind_at as_piece ss (met ss new mid.left.items))
+draft_laid ss version table old mid new (Err e) step dropped left finished hand = tt
 
 -- a draft of all is what is redrawn
-pub draft_ended : (ss : List Stored) (version table : ℕ) (news : List PieceRecord) (old : Draft) (r : Result Redrawn Memory) → IsRedrawn ss version table news old.dropped.items (old.finished.items ++ old.hand.items)
+pub draft_ended : (ss : List Stored) (news : List PieceRecord) (old : Draft) (r : Result Redrawn Memory) → IsRedrawn ss news old.dropped.items (old.finished.items ++ old.hand.items)
     → IfOk r (λ redrawn. redrawn.dropped.items ≡ old.dropped.items) → IfOk r (λ redrawn. redrawn.drawn.items ≡ old.finished.items ++ old.hand.items)
-    → IfOk r (λ redrawn. IsRedrawn ss version table news redrawn.dropped.items redrawn.drawn.items)
-draft_ended ss version table news old (Ok d) so dropped drawn =
-    subst (λ (xs : List PieceRecord). IsRedrawn ss version table news d.dropped.items xs) (sym drawn) (subst (λ (ids : List ℕ). IsRedrawn ss version table news ids (old.finished.items ++ old.hand.items)) (sym dropped) so)
-draft_ended ss version table news old (Err e) so dropped drawn = tt
+    → IfOk r (λ redrawn. IsRedrawn ss news redrawn.dropped.items redrawn.drawn.items)
+draft_ended ss news old (Ok d) so dropped drawn =
+    subst (λ (xs : List PieceRecord). IsRedrawn ss news d.dropped.items xs) (sym drawn) (subst (λ (ids : List ℕ). IsRedrawn ss news ids (old.finished.items ++ old.hand.items)) (sym dropped) so)
+draft_ended ss news old (Err e) so dropped drawn = tt

@@ -1,18 +1,13 @@
--- The ids of pieces of many keys that go.
+-- Ids that go, one list behind another.
 use Rattle.std.proofs.Common.{◌≡◌, ℕ, ◌==◌, Bool, true, false, not, ◌&&◌, ◌||◌, cond, if◌then◌else◌, List, [], ◌∷◌, ◌++◌, None, refl, sym, ap, ◌∙◌, ◌⊎◌, inl, inr, ◌≢◌, arith}
 use Rattle.std.proofs.lemmas.Bool.{cases_eq, ne_eqb}
-use Rattle.wm_base.specs.declared.value.Value.{Value}
 use Rattle.wm_spec.specs.Records.{record_at, ids_differ}
 use Rattle.wm_spec.specs.declared.record.Record.{Record}
-use Rattle.wm_spec.specs.declared.record.Record.TheVariants as records
 use Rattle.wm_spec.specs.declared.record.stored.Stored.{Stored}
-use Rattle.wm_state.specs.Batches.{AreDropped, is_dropped, is_out, keeps}
-use Rattle.wm_state.specs.ById.{Ascend}
-use Rattle.wm_state.specs.Entries.{is_out_all}
+use Rattle.wm_state.specs.Batches.{is_dropped}
 use Rattle.wm_state.proofs.Tests.{bool_apart}
-use Rattle.wm_image.proofs.Dropping.{none_some, told-with}
+use Rattle.wm_image.proofs.Dropping.{none_some}
 use Rattle.wm_image.proofs.Lists.{record_at-here, record_at-away}
-use Rattle.wm_image.specs.Gone.{ids_of_key, ids_of_keys}
 use Rattle.wm_image.specs.Sought.{ids_with}
 
 -- ---- which ids they are
@@ -24,41 +19,6 @@ dropped-append (x ∷ xs) ys id = ap (λ b. (x == id) || b) (dropped-append xs y
     or_assoc : (a b c : Bool) → (a || (b || c)) ≡ ((a || b) || c)
     or_assoc true b c = refl
     or_assoc false b c = refl
-
--- a record goes where its piece is of the first key or of another
-goes_either : (version table : ℕ) (key : List Value) (keys : List (List Value)) (r : Record)
-    → (not (keeps (is_out version table key) r) || not (keeps (is_out_all version table keys) r)) ≡ not (keeps (is_out_all version table (key ∷ keys)) r)
-goes_either version table key keys (records.Piece x) = either (is_out version table key x) (is_out_all version table keys x)
-  where
-    either : (a b : Bool) → (not a || not b) ≡ not (a && b)
-    either true b = refl
-    either false b = refl
-goes_either version table key keys (records.Counters c) = refl
-goes_either version table key keys (records.Table t) = refl
-goes_either version table key keys (records.Space s) = refl
-goes_either version table key keys (records.Version v) = refl
-goes_either version table key keys (records.Savepoint k) = refl
-goes_either version table key keys (records.Row r) = refl
-goes_either version table key keys (records.Hist h) = refl
-
-no_key : (version table : ℕ) (r : Record) → not (keeps (is_out_all version table []) r) ≡ false
-no_key version table (records.Piece x) = refl
-no_key version table (records.Counters c) = refl
-no_key version table (records.Table t) = refl
-no_key version table (records.Space s) = refl
-no_key version table (records.Version v) = refl
-no_key version table (records.Savepoint k) = refl
-no_key version table (records.Row r) = refl
-no_key version table (records.Hist h) = refl
-
--- they are those of the records that go
-pub keys_dropped : (version table : ℕ) (keys : List (List Value)) (ss : List Stored) → Ascend ss → AreDropped (keeps (is_out_all version table keys)) (ids_of_keys ss version table keys) ss
-keys_dropped version table [] ss sorted id r is = sym (no_key version table r)
-keys_dropped version table (key ∷ keys) ss sorted id r is =
-    dropped-append (ids_of_key ss version table key) (ids_of_keys ss version table keys) id
-    ∙ ap (λ b. b || is_dropped (ids_of_keys ss version table keys) id) (told-with (λ q. not (keeps (is_out version table key) q)) ss sorted id r is)
-    ∙ ap (λ b. not (keeps (is_out version table key) r) || b) (keys_dropped version table keys ss sorted id r is)
-    ∙ goes_either version table key keys r
 
 -- ---- no id is there twice
 

@@ -67,7 +67,7 @@ filter-away g s ss q (t ∷ ts) above = by_test (q t.record) (filter-away g s ss
     by_test false rest = rest
 
 -- the ids of records that pass one test, of those whose record passes another
-filter-with : (g : Option Record → Bool) (q both : Record → Bool) → ((r : Record) → both r ≡ (q r && g (Some r))) → (ss : List Stored) → Ascend ss
+pub filter-with : (g : Option Record → Bool) (q both : Record → Bool) → ((r : Record) → both r ≡ (q r && g (Some r))) → (ss : List Stored) → Ascend ss
     → filter (λ id. g (record_at ss id)) (ids_with q ss) ≡ ids_with both ss
 filter-with g q both are [] sorted = refl
 filter-with g q both are (s ∷ ss) sorted = by_tests (q s.record) (g (Some s.record)) refl (are s.record) (filter-away g s ss q ss sorted.0 ∙ filter-with g q both are ss sorted.1)

@@ -1,7 +1,7 @@
 -- What is drawn, key by key.
-use Rattle.std.proofs.Common.{◌≡◌, ◌≢◌, ℕ, ◌==◌, Bool, true, false, cond, not, ◌&&◌, ◌||◌, List, [], ◌∷◌, ◌++◌, append_assoc, Option, Some, None, is_some, refl, sym, ap, subst, ◌∙◌, ◌⊎◌, inl, inr}
-use Rattle.std.proofs.lemmas.Bool.{cases_eq}
-use Rattle.std.specs.List.{filter, filter_map, flat_map, list_all, list_any}
+use Rattle.std.proofs.Common.{◌≡◌, ◌≢◌, ℕ, ◌==◌, Bool, true, false, cond, not, ◌&&◌, ◌||◌, if◌then◌else◌, List, [], ◌∷◌, ◌++◌, append_assoc, append-nil, Option, Some, None, is_some, refl, sym, ap, subst, ◌∙◌, ◌⊎◌, inl, inr}
+use Rattle.std.proofs.lemmas.Bool.{cases_eq, eqb-true}
+use Rattle.std.specs.List.{filter, filter_map, flat_map, list_all}
 use Rattle.std.specs.Ordering.{is_eq, is_lt, is_gt}
 use Rattle.std.specs.declared.cmp.Ordering.{Ordering}
 use Rattle.std.specs.declared.cmp.Ordering.TheVariants.{Less, Equal, Greater}
@@ -15,40 +15,24 @@ use Rattle.wm_spec.specs.declared.record.Record.{Record}
 use Rattle.wm_spec.specs.declared.record.Record.TheVariants as records
 use Rattle.wm_spec.specs.declared.record.piece.PieceRecord.{PieceRecord}
 use Rattle.wm_spec.specs.declared.record.stored.Stored.{Stored}
-use Rattle.wm_state.specs.Batches.{AreDropped, is_dropped, is_in, is_out, keeps}
+use Rattle.wm_state.specs.Batches.{is_dropped, is_in, is_out, keeps}
 use Rattle.wm_state.specs.ById.{Ascend}
-use Rattle.wm_state.specs.Drawing.{AreDrawn, are_sorted, has_moments, is_for, left_by, piece_keys}
-use Rattle.wm_state.specs.Entries.{is_out_all, same_key}
+use Rattle.wm_state.specs.Drawing.{AreDrawn, are_sorted, has_moments, is_clear, is_for, left_by, touched}
 use Rattle.wm_state.proofs.Appending.{all_append}
-use Rattle.wm_state.proofs.Drawing.{drawn-nothing, drawn-old, drawn-over}
-use Rattle.wm_state.proofs.DrawingKeys.{drawn-keys, of-none, out-keys, out-more}
+use Rattle.wm_state.proofs.Drawing.{drawn-nothing}
+use Rattle.wm_state.proofs.DrawingTouched.{drawn-keys, drawn-touched, is_met_by, touched-either, touched-more}
 use Rattle.wm_state.proofs.Laying.{key_itself, key_same}
-use Rattle.wm_state.proofs.Tests.{both, bool_apart, and_true, all_if, all_push, differ_filter}
+use Rattle.wm_state.proofs.Tests.{both, bool_apart, and_true, all_if, all_push, not_true}
+use Rattle.wm_state.proofs.Touched.{clear-append, met-place, touched-passes}
 use Rattle.wm_image.proofs.Dropping.{told-with, differ-with}
-use Rattle.wm_image.proofs.DroppingAll.{differ-append, dropped-append, keys_dropped, there-with}
+use Rattle.wm_image.proofs.DroppingAll.{differ-append, dropped-append, there-with}
 use Rattle.wm_image.proofs.Finding.{Tests, all_of, filter-kind}
+use Rattle.wm_image.proofs.Leaves.{filter-with}
 use Rattle.wm_image.proofs.Lists.{record_at-here, record_at-away, taken-with}
 use Rattle.wm_image.specs.Gone.{ids_of_key}
-use Rattle.wm_image.specs.Redraw.{IsRedrawn, IsAtKey, IsDraft, hand_keys, is_at_hand}
+use Rattle.wm_image.specs.Redraw.{IsRedrawn, IsAtKey, IsDraft, hand_keys, is_at_hand, is_left, is_touched, met, unmet}
 use Rattle.wm_image.specs.Shown.{kind_at}
 use Rattle.wm_image.specs.Sought.{ids_with}
-
--- ---- the pieces that a version has of a key
-
-own_kind : (version table : ℕ) (key : List Value) → Tests as_piece (is_in version table key) (λ r. not (keeps (is_out version table key) r))
-own_kind version table key (records.Piece x) = twice (is_in version table key x)
-  where
-    twice : (b : Bool) → not (not b) ≡ b
-    twice true = refl
-    twice false = refl
-own_kind version table key _ = refl
-
--- the records of the ids of a key are its pieces
-pub own_pieces : (ss : List Stored) → Ascend ss → (version table : ℕ) (key : List Value) → kind_at as_piece ss (ids_of_key ss version table key) ≡ filter (is_in version table key) (parts_of ss).pieces
-unfolding parts_of
-own_pieces ss sorted version table key =
-    ap (filter_map as_piece) (taken-with (λ r. not (keeps (is_out version table key) r)) ss sorted)
-    ∙ filter-kind as_piece (is_in version table key) (λ r. not (keeps (is_out version table key) r)) (own_kind version table key) (all_of ss)
 
 -- ids of records are there
 there_all : (p : Record → Bool) (ss : List Stored) → list_all (λ id. is_some (record_at ss id)) (ids_with p ss) ≡ true
@@ -75,14 +59,6 @@ less Less e = refl
 less Equal e = absurd (bool_apart (sym e))
 less Greater e = absurd (bool_apart (sym e))
 
-false_if : (b : Bool) → (b ≡ true → ⊥) → b ≡ false
-false_if true not_so = absurd (not_so refl)
-false_if false not_so = refl
-
--- a key below another is not that one
-not_above : (j k : List Value) → is_lt (key_order j k) ≡ true → same_key k j ≡ false
-not_above j k lt = false_if (same_key k j) (λ same. bool_apart (sym (key_itself k) ∙ ap (λ (l : List Value). is_eq (key_order l k)) (key_same k j same) ∙ lt_not_eq (key_order j k) lt))
-
 below_more : (j k l : List Value) → is_lt (key_order j k) ≡ true → is_lt (key_order k l) ≡ true → is_lt (key_order j l) ≡ true
 below_more j k l first second = ap is_lt (key_order_total.trans j k l (less (key_order j k) first) (less (key_order k l) second))
 
@@ -95,79 +71,108 @@ below_out version table key x lt = away (x.version == version) (x.cells.table ==
     away true false k e = refl
     away false b k e = refl
 
-below_apart : (key : List Value) (xs : List PieceRecord) → list_all (λ (x : PieceRecord). is_lt (key_order x.cells.key key)) xs ≡ true → list_any (same_key key) (piece_keys xs) ≡ false
-below_apart key [] below = refl
-below_apart key (x ∷ xs) below =
-    let h = both (is_lt (key_order x.cells.key key)) (list_all (λ (y : PieceRecord). is_lt (key_order y.cells.key key)) xs) below in
-    rw (not_above x.cells.key key h.0, below_apart key xs h.1) refl
-
 -- ---- a key is finished
 
--- a record goes where its piece is of a key before or of this one
-goes_either : (version table : ℕ) (key : List Value) (before more : List PieceRecord) (first : PieceRecord) (r : Record) → list_all (is_in version table key) (first ∷ more) ≡ true
-    → (not (keeps (is_out_all version table (piece_keys before)) r) || not (keeps (is_out version table key) r)) ≡ not (keeps (is_out_all version table (piece_keys (before ++ first ∷ more))) r)
-goes_either version table key before more first (records.Piece x) here =
-    either (is_out_all version table (piece_keys before) x) (is_out version table key x) ∙ ap not (sym (out-more version table key x first before more here))
+-- an id that goes has a record
+dropped_there : (ss : List Stored) (ids : List ℕ) (id : ℕ) → list_all (λ k. is_some (record_at ss k)) ids ≡ true → is_dropped ids id ≡ true → is_some (record_at ss id) ≡ true
+dropped_there ss [] id there is = absurd (bool_apart (sym is))
+dropped_there ss (k ∷ ks) id there is = let h = both (is_some (record_at ss k)) (list_all (λ j. is_some (record_at ss j)) ks) there in by_first (k == id) refl h.0 is (dropped_there ss ks id h.1)
   where
-    either : (a b : Bool) → (not a || not b) ≡ not (a && b)
-    either true b = refl
-    either false b = refl
-goes_either version table key before more first (records.Counters c) here = refl
-goes_either version table key before more first (records.Table t) here = refl
-goes_either version table key before more first (records.Space s) here = refl
-goes_either version table key before more first (records.Version v) here = refl
-goes_either version table key before more first (records.Savepoint k) here = refl
-goes_either version table key before more first (records.Row r) here = refl
-goes_either version table key before more first (records.Hist h) here = refl
+    by_first : (b : Bool) → (k == id) ≡ b → is_some (record_at ss k) ≡ true → (b || is_dropped ks id) ≡ true → (is_dropped ks id ≡ true → is_some (record_at ss id) ≡ true) → is_some (record_at ss id) ≡ true
+    by_first true same own told rest = ap (λ (j : ℕ). is_some (record_at ss j)) (sym (eqb-true k id same)) ∙ own
+    by_first false away own told rest = rest told
 
--- a record that goes for keys before stays for another
-stays_else : (version table : ℕ) (key : List Value) (keys : List (List Value)) (r : Record) → list_any (same_key key) keys ≡ false → not (keeps (is_out_all version table keys) r) ≡ true → not (keeps (is_out version table key) r) ≡ false
-stays_else version table key keys (records.Piece x) apart goes = by_place (is_in version table key x) refl
+-- a record goes where its piece is touched by the new ones of the keys before or by those of this one
+goes_either : (before own : List PieceRecord) (r : Record) → (not (keeps (is_clear before) r) || not (keeps (is_clear own) r)) ≡ not (keeps (is_clear (before ++ own)) r)
+goes_either before own (records.Piece x) = sym (touched-either before own x)
+goes_either before own _ = refl
+
+-- and it goes only once
+goes_once : (version table : ℕ) (key : List Value) (before own : List PieceRecord) (r : Record) → list_all (is_out version table key) before ≡ true → list_all (is_in version table key) own ≡ true
+    → not (keeps (is_clear before) r) ≡ true → not (keeps (is_clear own) r) ≡ false
+goes_once version table key before own (records.Piece x) outside inside goes = by_test (is_clear own x) refl
   where
-    by_place : (b : Bool) → is_in version table key x ≡ b → not (not b) ≡ false
-    by_place true inside = absurd (bool_apart (sym goes ∙ ap not (out-keys version table key keys x apart inside)))
-    by_place false inside = refl
-stays_else version table key keys (records.Counters c) apart goes = refl
-stays_else version table key keys (records.Table t) apart goes = refl
-stays_else version table key keys (records.Space s) apart goes = refl
-stays_else version table key keys (records.Version v) apart goes = refl
-stays_else version table key keys (records.Savepoint k) apart goes = refl
-stays_else version table key keys (records.Row r) apart goes = refl
-stays_else version table key keys (records.Hist h) apart goes = refl
+    by_test : (b : Bool) → is_clear own x ≡ b → not b ≡ false
+    by_test true clear = refl
+    by_test false reached =
+        absurd (bool_apart (sym (touched-passes (is_out version table key) (λ n y hit is. ap not (met-place n y hit version table key) ∙ is) before outside x (not_true (is_clear before x) goes))
+        ∙ ap not (touched-passes (is_in version table key) (λ n y hit is. met-place n y hit version table key ∙ is) own inside x reached)))
+goes_once version table key before own _ outside inside goes = absurd (bool_apart (sym goes))
 
--- ids of keys before are none of another's
-ids_apart : (ss : List Stored) (version table : ℕ) (key : List Value) (keys : List (List Value)) (gone : List ℕ) → Ascend ss → AreDropped (keeps (is_out_all version table keys)) gone ss → list_any (same_key key) keys ≡ false → (id : ℕ)
-    → is_dropped gone id ≡ true → is_dropped (ids_of_key ss version table key) id ≡ false
-ids_apart ss version table key keys gone sorted dropped apart id is = by_record (record_at ss id) refl
-  where
-    by_record : (o : Option Record) → record_at ss id ≡ o → is_dropped (ids_of_key ss version table key) id ≡ false
-    by_record None none = there-with (λ r. not (keeps (is_out version table key) r)) ss id none
-    by_record (Some r) found = told-with (λ q. not (keeps (is_out version table key) q)) ss sorted id r found ∙ stays_else version table key keys r apart (sym (dropped id r found) ∙ is)
-
-settled_so : (ss : List Stored) (version table : ℕ) (key : List Value) (before more : List PieceRecord) (first : PieceRecord) (gone : List ℕ) (finished hand : List PieceRecord) → Ascend ss → IsRedrawn ss version table before gone finished
-    → AreDrawn (first ∷ more) (filter (is_in version table key) (parts_of ss).pieces) hand → list_all (is_in version table key) (first ∷ more) ≡ true
-    → list_all (λ (x : PieceRecord). is_lt (key_order x.cells.key key)) before ≡ true → IsRedrawn ss version table (before ++ first ∷ more) (gone ++ ids_of_key ss version table key) (finished ++ hand)
-settled_so ss version table key before more first gone finished hand sorted settled drawn here below = record {
-  are = drawn-keys version table key before first more (parts_of ss).pieces finished hand settled.are drawn
-      (all_if (λ (x : PieceRecord). is_lt (key_order x.cells.key key)) (is_out version table key) (below_out version table key) before below) apart here;
+settled_so : (ss : List Stored) (version table : ℕ) (key : List Value) (before own : List PieceRecord) (gone going : List ℕ) (finished hand : List PieceRecord) → differ collide (parts_of ss).pieces ≡ true → IsRedrawn ss before gone finished
+    → IsRedrawn ss own going hand → list_all (is_out version table key) before ≡ true → list_all (is_in version table key) own ≡ true → IsRedrawn ss (before ++ own) (gone ++ going) (finished ++ hand)
+settled_so ss version table key before own gone going finished hand apart settled drawn outside inside = record {
+  are = drawn-keys version table key before own (parts_of ss).pieces finished hand apart settled.are drawn.are outside inside;
   gone = λ id r found.
-      dropped-append gone (ids_of_key ss version table key) id
-      ∙ ap (λ b. b || is_dropped (ids_of_key ss version table key) id) (settled.gone id r found)
-      ∙ ap (λ b. not (keeps (is_out_all version table (piece_keys before)) r) || b) (told-with (λ q. not (keeps (is_out version table key) q)) ss sorted id r found)
-      ∙ goes_either version table key before more first r here;
-  once = differ-append gone (ids_of_key ss version table key) settled.once (differ-with (λ q. not (keeps (is_out version table key) q)) ss sorted) (ids_apart ss version table key (piece_keys before) gone sorted settled.gone apart);
-  there = all_append (λ id. is_some (record_at ss id)) gone (ids_of_key ss version table key) settled.there (there_all (λ q. not (keeps (is_out version table key) q)) ss);
+      dropped-append gone going id
+      ∙ ap (λ b. b || is_dropped going id) (settled.gone id r found)
+      ∙ ap (λ b. not (keeps (is_clear before) r) || b) (drawn.gone id r found)
+      ∙ goes_either before own r;
+  once = differ-append gone going settled.once drawn.once (λ id is. by_record id is (record_at ss id) refl (dropped_there ss gone id settled.there is));
+  there = all_append (λ id. is_some (record_at ss id)) gone going settled.there drawn.there;
 }
   where
-    apart : list_any (same_key key) (piece_keys before) ≡ false
-    apart = below_apart key before below
+    by_record : (id : ℕ) → is_dropped gone id ≡ true → (o : Option Record) → record_at ss id ≡ o → is_some (record_at ss id) ≡ true → is_dropped going id ≡ false
+    by_record id is None none some = absurd (bool_apart (sym some ∙ ap is_some none))
+    by_record id is (Some r) found some = drawn.gone id r found ∙ goes_once version table key before own r outside inside (sym (settled.gone id r found) ∙ is)
 
-settle : (ss : List Stored) (version table : ℕ) (key : List Value) (news : List PieceRecord) (dropped : List ℕ) (finished hand : List PieceRecord) → Ascend ss → IsAtKey ss version table key news dropped finished hand
-    → IsRedrawn ss version table news dropped (finished ++ hand)
-settle ss version table key news dropped finished hand sorted a =
-    subst (λ (xs : List PieceRecord). IsRedrawn ss version table xs dropped (finished ++ hand)) (sym a.news_are)
-    (subst (λ (ids : List ℕ). IsRedrawn ss version table (a.before ++ a.first ∷ a.more) ids (finished ++ hand)) (sym a.dropped_are)
-    (settled_so ss version table key a.before a.more a.first a.gone finished hand sorted a.settled a.drawn a.here a.below))
+settle : (ss : List Stored) (version table : ℕ) (key : List Value) (news : List PieceRecord) (dropped left : List ℕ) (finished hand : List PieceRecord) → differ collide (parts_of ss).pieces ≡ true
+    → IsAtKey ss version table key news dropped left finished hand → IsRedrawn ss news dropped (finished ++ hand)
+settle ss version table key news dropped left finished hand apart a =
+    subst (λ (xs : List PieceRecord). IsRedrawn ss xs dropped (finished ++ hand)) (sym a.news_are)
+    (subst (λ (ids : List ℕ). IsRedrawn ss (a.before ++ a.own) ids (finished ++ hand)) (sym a.dropped_are)
+    (settled_so ss version table key a.before a.own a.gone a.going finished hand apart a.settled a.drawn
+    (all_if (λ (x : PieceRecord). is_lt (key_order x.cells.key key)) (is_out version table key) (below_out version table key) a.before a.below) a.here))
+
+-- ---- a key is begun
+
+-- nothing new touches nothing
+start : (ss : List Stored) → IsRedrawn ss [] [] []
+unfolding ids_differ
+start ss = record {
+  are = subst (λ (xs : List PieceRecord). AreDrawn [] xs []) (sym (none_touched (parts_of ss).pieces)) drawn-nothing;
+  gone = λ id r found. sym (none_goes r);
+  once = refl;
+  there = refl;
+}
+  where
+    none_touched : (xs : List PieceRecord) → touched [] xs ≡ []
+    none_touched [] = refl
+    none_touched (x ∷ xs) = none_touched xs
+
+    none_goes : (r : Record) → not (keeps (is_clear []) r) ≡ false
+    none_goes (records.Piece x) = refl
+    none_goes _ = refl
+
+-- ids of tests that say the same are the same
+same_ids : (p q : Record → Bool) → ((r : Record) → p r ≡ q r) → (ss : List Stored) → ids_with p ss ≡ ids_with q ss
+same_ids p q same [] = refl
+same_ids p q same (s ∷ ss) = rw (same s.record) (ap (λ ids. if q s.record then s.id ∷ ids else ids) (same_ids p q same ss))
+
+-- all pieces of the key are left
+all_left : (version table : ℕ) (key : List Value) (r : Record) → not (keeps (is_out version table key) r) ≡ is_left version table key [] r
+all_left version table key (records.Piece x) = by_place (is_in version table key x)
+  where
+    by_place : (b : Bool) → not (not b) ≡ (b && true)
+    by_place true = refl
+    by_place false = refl
+all_left version table key _ = refl
+
+begin : (ss : List Stored) (version table : ℕ) (key : List Value) (news : List PieceRecord) (gone dropped left : List ℕ) (finished hand : List PieceRecord) → IsRedrawn ss news gone finished
+    → list_all (λ (x : PieceRecord). is_lt (key_order x.cells.key key)) news ≡ true → dropped ≡ gone → left ≡ ids_of_key ss version table key → hand ≡ [] → IsAtKey ss version table key news dropped left finished hand
+begin ss version table key news gone dropped left finished hand settled below dropped_are left_are hand_is = record {
+  before = news;
+  own = [];
+  gone = gone;
+  going = [];
+  news_are = sym (append-nil news);
+  dropped_are = dropped_are ∙ sym (append-nil gone);
+  settled = settled;
+  drawn = subst (IsRedrawn ss [] []) (sym hand_is) (start ss);
+  left_are = left_are ∙ same_ids (λ r. not (keeps (is_out version table key) r)) (is_left version table key []) (all_left version table key) ss;
+  here = refl;
+  below = below;
+}
 
 -- ---- a new piece
 
@@ -178,77 +183,128 @@ its_own version table new here =
     and_true (new.version == version) ((new.cells.table == table) && is_eq (key_order new.cells.key new.cells.key)) h.0
     (and_true (new.cells.table == table) (is_eq (key_order new.cells.key new.cells.key)) h.1 (key_itself new.cells.key))
 
--- it is the first of a key above all others
-begin : (ss : List Stored) (version table : ℕ) (news : List PieceRecord) (gone : List ℕ) (finished : List PieceRecord) (new : PieceRecord) → IsRedrawn ss version table news gone finished → differ collide (parts_of ss).pieces ≡ true
-    → is_for version table new ≡ true → has_moments new ≡ true → list_all (λ (x : PieceRecord). is_lt (key_order x.cells.key new.cells.key)) news ≡ true
-    → IsAtKey ss version table new.cells.key (news ++ new ∷ []) (gone ++ ids_of_key ss version table new.cells.key) finished (new ∷ flat_map (left_by new) (filter (is_in version table new.cells.key) (parts_of ss).pieces))
-begin ss version table news gone finished new settled apart here lasts below =
-    let own : List PieceRecord = filter (is_in version table new.cells.key) (parts_of ss).pieces in
-    let one : list_all (is_in version table new.cells.key) (new ∷ []) ≡ true = and_true (is_in version table new.cells.key new) true (its_own version table new here) refl in
-    record {
-      before = news;
-      first = new;
-      more = [];
-      gone = gone;
-      news_are = refl;
-      dropped_are = refl;
-      settled = settled;
-      drawn = drawn-over [] own own new (drawn-old own (differ_filter collide (is_in version table new.cells.key) (parts_of ss).pieces apart)) lasts;
-      here = one;
-      below = below;
-    }
+-- the record is a piece that the new one is the first to touch
+abbrev is_first : List PieceRecord → PieceRecord → Record → Bool
+is_first own new (records.Piece x) = is_met_by own new x
+is_first own new _ = false
 
--- it is one more of the key
-go_on : (ss : List Stored) (version table : ℕ) (news : List PieceRecord) (dropped : List ℕ) (finished hand : List PieceRecord) (new : PieceRecord) → IsAtKey ss version table new.cells.key news dropped finished hand
-    → is_for version table new ≡ true → has_moments new ≡ true → IsAtKey ss version table new.cells.key (news ++ new ∷ []) dropped finished (new ∷ flat_map (left_by new) hand)
-go_on ss version table news dropped finished hand new a here lasts =
-    let more : List PieceRecord = a.more ++ new ∷ [] in
-    record {
-      before = a.before;
-      first = a.first;
-      more = more;
-      gone = a.gone;
-      news_are = ap (λ (xs : List PieceRecord). xs ++ new ∷ []) a.news_are ∙ append_assoc a.before (a.first ∷ a.more) (new ∷ []);
-      dropped_are = a.dropped_are;
-      settled = a.settled;
-      drawn = drawn-over (a.first ∷ a.more) (filter (is_in version table new.cells.key) (parts_of ss).pieces) hand new a.drawn lasts;
-      here = all_push (is_in version table new.cells.key) (a.first ∷ a.more) new a.here (its_own version table new here);
-      below = a.below;
-    }
+-- of what is left it takes these
+met_are : (ss : List Stored) (version table : ℕ) (key : List Value) (own : List PieceRecord) (new : PieceRecord) → Ascend ss → is_in version table key new ≡ true
+    → met ss new (ids_with (is_left version table key own) ss) ≡ ids_with (is_first own new) ss
+met_are ss version table key own new sorted inside = filter-with (is_touched new) (is_left version table key own) (is_first own new) told ss sorted
+  where
+    of_key : (i a c : Bool) → (c ≡ true → i ≡ true) → (a && c) ≡ ((i && a) && c)
+    of_key true a c so = refl
+    of_key false a true so = absurd (bool_apart (sym (so refl)))
+    of_key false true false so = refl
+    of_key false false false so = refl
+
+    told : (r : Record) → is_first own new r ≡ (is_left version table key own r && is_touched new (Some r))
+    told (records.Piece x) = of_key (is_in version table key x) (is_clear own x) (collide new x) (λ hit. met-place new x hit version table key ∙ inside)
+    told _ = refl
+
+-- and leaves the others
+unmet_are : (ss : List Stored) (version table : ℕ) (key : List Value) (own : List PieceRecord) (new : PieceRecord) → Ascend ss
+    → unmet ss new (ids_with (is_left version table key own) ss) ≡ ids_with (is_left version table key (own ++ new ∷ [])) ss
+unmet_are ss version table key own new sorted = filter-with (λ o. not (is_touched new o)) (is_left version table key own) (is_left version table key (own ++ new ∷ [])) told ss sorted
+  where
+    of_both : (i a c : Bool) → (i && (a && (not c && true))) ≡ ((i && a) && not c)
+    of_both true true true = refl
+    of_both true true false = refl
+    of_both true false c = refl
+    of_both false a c = refl
+
+    told : (r : Record) → is_left version table key (own ++ new ∷ []) r ≡ (is_left version table key own r && not (is_touched new (Some r)))
+    told (records.Piece x) = ap (λ b. is_in version table key x && b) (clear-append own (new ∷ []) x) ∙ of_both (is_in version table key x) (is_clear own x) (collide new x)
+    told _ = refl
+
+-- their records are the pieces that it is the first to touch
+met_pieces : (ss : List Stored) (own : List PieceRecord) (new : PieceRecord) → Ascend ss → kind_at as_piece ss (ids_with (is_first own new) ss) ≡ filter (is_met_by own new) (parts_of ss).pieces
+unfolding parts_of
+met_pieces ss own new sorted = ap (filter_map as_piece) (taken-with (is_first own new) ss sorted) ∙ filter-kind as_piece (is_met_by own new) (is_first own new) told (all_of ss)
+  where
+    told : Tests as_piece (is_met_by own new) (is_first own new)
+    told (records.Piece x) = refl
+    told _ = refl
+
+-- a record goes for one new piece more where it went before, or where this one is the first to touch it
+goes_more : (own : List PieceRecord) (new : PieceRecord) (r : Record) → (not (keeps (is_clear own) r) || is_first own new r) ≡ not (keeps (is_clear (own ++ new ∷ [])) r)
+goes_more own new (records.Piece x) = sym (touched-more own new x)
+goes_more own new _ = refl
+
+-- what went before is not touched first
+goes_before : (own : List PieceRecord) (new : PieceRecord) (r : Record) → not (keeps (is_clear own) r) ≡ true → is_first own new r ≡ false
+goes_before own new (records.Piece x) goes = ap (λ b. b && collide new x) (not_true (is_clear own x) goes)
+goes_before own new _ goes = refl
+
+drawn_more : (ss : List Stored) (own : List PieceRecord) (going : List ℕ) (hand : List PieceRecord) (new : PieceRecord) → Ascend ss → differ collide (parts_of ss).pieces ≡ true → has_moments new ≡ true → IsRedrawn ss own going hand
+    → IsRedrawn ss (own ++ new ∷ []) (going ++ ids_with (is_first own new) ss) (new ∷ flat_map (left_by new) (hand ++ filter (is_met_by own new) (parts_of ss).pieces))
+drawn_more ss own going hand new sorted apart lasts so = record {
+  are = drawn-touched own new (parts_of ss).pieces hand apart lasts so.are;
+  gone = λ id r found.
+      dropped-append going (ids_with (is_first own new) ss) id
+      ∙ ap (λ b. b || is_dropped (ids_with (is_first own new) ss) id) (so.gone id r found)
+      ∙ ap (λ b. not (keeps (is_clear own) r) || b) (told-with (is_first own new) ss sorted id r found)
+      ∙ goes_more own new r;
+  once = differ-append going (ids_with (is_first own new) ss) so.once (differ-with (is_first own new) ss sorted) (λ id is. by_record id is (record_at ss id) refl);
+  there = all_append (λ id. is_some (record_at ss id)) going (ids_with (is_first own new) ss) so.there (there_all (is_first own new) ss);
+}
+  where
+    by_record : (id : ℕ) → is_dropped going id ≡ true → (o : Option Record) → record_at ss id ≡ o → is_dropped (ids_with (is_first own new) ss) id ≡ false
+    by_record id is None none = there-with (is_first own new) ss id none
+    by_record id is (Some r) found = told-with (is_first own new) ss sorted id r found ∙ goes_before own new r (sym (so.gone id r found) ∙ is)
+
+-- it is laid over what is at hand, and over what it is the first to touch
+go_on : (ss : List Stored) (version table : ℕ) (key : List Value) (news : List PieceRecord) (dropped left : List ℕ) (finished hand : List PieceRecord) (new : PieceRecord) → Ascend ss → differ collide (parts_of ss).pieces ≡ true
+    → is_in version table key new ≡ true → has_moments new ≡ true → IsAtKey ss version table key news dropped left finished hand
+    → IsAtKey ss version table key (news ++ new ∷ []) (dropped ++ met ss new left) (unmet ss new left) finished (new ∷ flat_map (left_by new) (hand ++ kind_at as_piece ss (met ss new left)))
+go_on ss version table key news dropped left finished hand new sorted apart inside lasts a = record {
+  before = a.before;
+  own = a.own ++ new ∷ [];
+  gone = a.gone;
+  going = a.going ++ met ss new left;
+  news_are = ap (λ (xs : List PieceRecord). xs ++ new ∷ []) a.news_are ∙ append_assoc a.before a.own (new ∷ []);
+  dropped_are = ap (λ (ids : List ℕ). ids ++ met ss new left) a.dropped_are ∙ append_assoc a.gone a.going (met ss new left);
+  settled = a.settled;
+  drawn = subst (λ (ids : List ℕ). IsRedrawn ss (a.own ++ new ∷ []) (a.going ++ ids) (new ∷ flat_map (left_by new) (hand ++ kind_at as_piece ss ids))) (sym taken)
+      (subst (λ (xs : List PieceRecord). IsRedrawn ss (a.own ++ new ∷ []) (a.going ++ ids_with (is_first a.own new) ss) (new ∷ flat_map (left_by new) (hand ++ xs))) (sym (met_pieces ss a.own new sorted))
+      (drawn_more ss a.own a.going hand new sorted apart lasts a.drawn));
+  left_are = ap (unmet ss new) a.left_are ∙ unmet_are ss version table key a.own new sorted;
+  here = all_push (is_in version table key) a.own new a.here inside;
+  below = a.below;
+}
+  where
+    taken : met ss new left ≡ ids_with (is_first a.own new) ss
+    taken = ap (met ss new) a.left_are ∙ met_are ss version table key a.own new sorted inside
 
 -- ---- drafts
 
-start : (ss : List Stored) (version table : ℕ) → Ascend ss → IsRedrawn ss version table [] [] []
-unfolding ids_differ
-start ss version table sorted = record {
-  are = subst (λ (xs : List PieceRecord). AreDrawn [] xs []) (sym (of-none version table (parts_of ss).pieces)) drawn-nothing;
-  gone = keys_dropped version table [] ss sorted;
-  once = refl;
-  there = refl;
-}
+-- what is drawn of all keys, that at hand too
+pub draft_ends : (ss : List Stored) (version table : ℕ) (news : List PieceRecord) (dropped left : List ℕ) (finished hand : List PieceRecord) → differ collide (parts_of ss).pieces ≡ true
+    → IsDraft ss version table news dropped left finished hand → IsRedrawn ss news dropped (finished ++ hand)
+draft_ends ss version table news dropped left finished [] apart so =
+    subst (λ (xs : List PieceRecord). IsRedrawn ss xs dropped (finished ++ [])) (sym so.0)
+    (subst (λ (ids : List ℕ). IsRedrawn ss [] ids (finished ++ [])) (sym so.1) (subst (λ (xs : List PieceRecord). IsRedrawn ss [] [] (xs ++ [])) (sym so.2) (start ss)))
+draft_ends ss version table news dropped left finished (x ∷ xs) apart a = settle ss version table x.cells.key news dropped left finished (x ∷ xs) apart a
 
 -- the new piece is of the key at hand
-pub draft_on : (ss : List Stored) (version table : ℕ) (news : List PieceRecord) (dropped : List ℕ) (finished hand : List PieceRecord) (new : PieceRecord) → is_for version table new ≡ true → has_moments new ≡ true
-    → is_at_hand hand new.cells.key ≡ true → IsDraft ss version table news dropped finished hand → IsDraft ss version table (news ++ new ∷ []) dropped finished (new ∷ flat_map (left_by new) hand)
-draft_on ss version table news dropped finished [] new here lasts at so = absurd (bool_apart (sym at))
-draft_on ss version table news dropped finished (x ∷ xs) new here lasts at so =
-    go_on ss version table news dropped finished (x ∷ xs) new (subst (λ (k : List Value). IsAtKey ss version table k news dropped finished (x ∷ xs)) (key_same x.cells.key new.cells.key at) so) here lasts
+pub draft_on : (ss : List Stored) (version table : ℕ) (news : List PieceRecord) (dropped left : List ℕ) (finished hand : List PieceRecord) (new : PieceRecord) → Ascend ss → differ collide (parts_of ss).pieces ≡ true
+    → is_for version table new ≡ true → has_moments new ≡ true → is_at_hand hand new.cells.key ≡ true → IsDraft ss version table news dropped left finished hand
+    → IsDraft ss version table (news ++ new ∷ []) (dropped ++ met ss new left) (unmet ss new left) finished (new ∷ flat_map (left_by new) (hand ++ kind_at as_piece ss (met ss new left)))
+draft_on ss version table news dropped left finished [] new sorted apart here lasts at so = absurd (bool_apart (sym at))
+draft_on ss version table news dropped left finished (x ∷ xs) new sorted apart here lasts at so =
+    go_on ss version table new.cells.key news dropped left finished (x ∷ xs) new sorted apart (its_own version table new here) lasts
+    (subst (λ (k : List Value). IsAtKey ss version table k news dropped left finished (x ∷ xs)) (key_same x.cells.key new.cells.key at) so)
 
--- it is of a key above
-pub draft_turned : (ss : List Stored) (version table : ℕ) (news : List PieceRecord) (dropped : List ℕ) (finished hand : List PieceRecord) (new : PieceRecord) → Ascend ss → differ collide (parts_of ss).pieces ≡ true → is_for version table new ≡ true
-    → has_moments new ≡ true → is_at_hand hand new.cells.key ≡ false → are_sorted (hand_keys hand ++ new.cells.key ∷ []) ≡ true → IsDraft ss version table news dropped finished hand
-    → IsDraft ss version table (news ++ new ∷ []) (dropped ++ ids_of_key ss version table new.cells.key) (finished ++ hand) (new ∷ flat_map (left_by new) (filter (is_in version table new.cells.key) (parts_of ss).pieces))
-draft_turned ss version table news dropped finished [] new sorted apart here lasts at up so =
-    begin ss version table news dropped (finished ++ []) new (subst (λ (xs : List PieceRecord). IsRedrawn ss version table xs dropped (finished ++ [])) (sym so.0)
-    (subst (λ (ids : List ℕ). IsRedrawn ss version table [] ids (finished ++ [])) (sym so.1)
-    (subst (λ (xs : List PieceRecord). IsRedrawn ss version table [] [] (xs ++ [])) (sym so.2) (start ss version table sorted)))) apart here lasts
-    (ap (list_all (λ (x : PieceRecord). is_lt (key_order x.cells.key new.cells.key))) so.0)
-draft_turned ss version table news dropped finished (x ∷ xs) new sorted apart here lasts at up a =
-    begin ss version table news dropped (finished ++ x ∷ xs) new (settle ss version table x.cells.key news dropped finished (x ∷ xs) sorted a) apart here lasts
-    (ap (list_all (λ (y : PieceRecord). is_lt (key_order y.cells.key new.cells.key))) a.news_are
-    ∙ all_append (λ (y : PieceRecord). is_lt (key_order y.cells.key new.cells.key)) a.before (a.first ∷ a.more)
+-- all that are drawn are of keys below that of a piece which may follow and is not of the key at hand
+all_below : (ss : List Stored) (version table : ℕ) (news : List PieceRecord) (dropped left : List ℕ) (finished hand : List PieceRecord) (new : PieceRecord) → is_at_hand hand new.cells.key ≡ false
+    → are_sorted (hand_keys hand ++ new.cells.key ∷ []) ≡ true → IsDraft ss version table news dropped left finished hand → list_all (λ (x : PieceRecord). is_lt (key_order x.cells.key new.cells.key)) news ≡ true
+all_below ss version table news dropped left finished [] new at up so = ap (list_all (λ (x : PieceRecord). is_lt (key_order x.cells.key new.cells.key))) so.0
+all_below ss version table news dropped left finished (x ∷ xs) new at up a =
+    ap (list_all (λ (y : PieceRecord). is_lt (key_order y.cells.key new.cells.key))) a.news_are
+    ∙ all_append (λ (y : PieceRecord). is_lt (key_order y.cells.key new.cells.key)) a.before a.own
     (all_if (λ (y : PieceRecord). is_lt (key_order y.cells.key x.cells.key)) (λ (y : PieceRecord). is_lt (key_order y.cells.key new.cells.key)) (λ y below. below_more y.cells.key x.cells.key new.cells.key below rises) a.before a.below)
-    (all_if (is_in version table x.cells.key) (λ (y : PieceRecord). is_lt (key_order y.cells.key new.cells.key)) at_key (a.first ∷ a.more) a.here))
+    (all_if (is_in version table x.cells.key) (λ (y : PieceRecord). is_lt (key_order y.cells.key new.cells.key)) at_key a.own a.here)
   where
     below_if : (o : Ordering) → is_eq o ≡ false → (not (is_gt o) && true) ≡ true → is_lt o ≡ true
     below_if Less e f = refl
@@ -263,13 +319,12 @@ draft_turned ss version table news dropped finished (x ∷ xs) new sorted apart 
         let h = both (y.version == version) ((y.cells.table == table) && is_eq (key_order y.cells.key x.cells.key)) inside in
         ap (λ (k : List Value). is_lt (key_order k new.cells.key)) (key_same y.cells.key x.cells.key (both (y.cells.table == table) (is_eq (key_order y.cells.key x.cells.key)) h.1).1) ∙ rises
 
--- all are drawn
-pub draft_ends : (ss : List Stored) (version table : ℕ) (news : List PieceRecord) (dropped : List ℕ) (finished hand : List PieceRecord) → Ascend ss → IsDraft ss version table news dropped finished hand
-    → IsRedrawn ss version table news dropped (finished ++ hand)
-draft_ends ss version table news dropped finished [] sorted so =
-    subst (λ (xs : List PieceRecord). IsRedrawn ss version table xs dropped (finished ++ [])) (sym so.0)
-    (subst (λ (ids : List ℕ). IsRedrawn ss version table [] ids (finished ++ [])) (sym so.1)
-    (subst (λ (xs : List PieceRecord). IsRedrawn ss version table [] [] (xs ++ [])) (sym so.2) (start ss version table sorted)))
-draft_ends ss version table news dropped finished (x ∷ xs) sorted a = settle ss version table x.cells.key news dropped finished (x ∷ xs) sorted a
-
--- ---- a version without such pieces
+-- it is of a key above, which is begun
+pub draft_turned : (ss : List Stored) (version table : ℕ) (news : List PieceRecord) (dropped left : List ℕ) (finished hand : List PieceRecord) (gone begun : List ℕ) (done nothing : List PieceRecord) (new : PieceRecord)
+    → Ascend ss → differ collide (parts_of ss).pieces ≡ true → is_for version table new ≡ true → has_moments new ≡ true → is_at_hand hand new.cells.key ≡ false → are_sorted (hand_keys hand ++ new.cells.key ∷ []) ≡ true
+    → gone ≡ dropped → begun ≡ ids_of_key ss version table new.cells.key → done ≡ finished ++ hand → nothing ≡ [] → IsDraft ss version table news dropped left finished hand
+    → IsDraft ss version table (news ++ new ∷ []) (gone ++ met ss new begun) (unmet ss new begun) done (new ∷ flat_map (left_by new) (nothing ++ kind_at as_piece ss (met ss new begun)))
+draft_turned ss version table news dropped left finished hand gone begun done nothing new sorted apart here lasts at up gone_is begun_is done_is nothing_is so =
+    go_on ss version table new.cells.key news gone begun done nothing new sorted apart (its_own version table new here) lasts
+    (begin ss version table new.cells.key news dropped gone begun done nothing (subst (IsRedrawn ss news dropped) (sym done_is) (draft_ends ss version table news dropped left finished hand apart so))
+    (all_below ss version table news dropped left finished hand new at up so) gone_is begun_is nothing_is)

@@ -14,9 +14,9 @@ use Rattle.wm_state.specs.Entries.{hists_from, pieces_of, rows_in}
 use Rattle.wm_state.specs.Writes.{write_batch}
 use Rattle.wm_image.specs.Redraw.{IsRedrawn}
 
--- the changes put entries of a table into a version of a workspace, behind others, the counters being these: the pieces that it has of
--- their keys are redrawn, and new ids begin with this one
-pub record AreWritten (ss : List Stored) (front : List Change) (counters : Counters) (a : Space) (version table id : ℕ) (es : List Entry) (changes : List Change) : Type 0 where
+-- the changes put entries into a version of a workspace, behind others, the counters being these: the pieces that share a cell with them
+-- are redrawn, and new ids begin with this one
+pub record AreWritten (ss : List Stored) (front : List Change) (counters : Counters) (a : Space) (version id : ℕ) (es : List Entry) (changes : List Change) : Type 0 where
   pub counters_id : ℕ
   pub old : Counters
   pub one : (parts_of ss).counters ≡ old ∷ []
@@ -26,5 +26,5 @@ pub record AreWritten (ss : List Stored) (front : List Change) (counters : Count
   pub sorted : Ascend ss
   pub dropped : List ℕ
   pub drawn : List PieceRecord
-  pub redrawn : IsRedrawn ss version table (pieces_of version es) dropped drawn
+  pub redrawn : IsRedrawn ss (pieces_of version es) dropped drawn
   pub are : changes ≡ front ++ write_batch counters_id counters space_id a (length es) dropped id (rows_in es) drawn (hists_from a.number a.log_length es)

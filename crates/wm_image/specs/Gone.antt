@@ -1,5 +1,5 @@
--- The ids of pieces that a line drops, key by key.
-use Rattle.std.specs.Prelude.{ℕ, not, List, [], ◌∷◌, ◌++◌}
+-- The ids of the pieces that a version has of a key.
+use Rattle.std.specs.Prelude.{ℕ, not, List}
 use Rattle.wm_base.specs.declared.value.Value.{Value}
 use Rattle.wm_spec.specs.declared.record.stored.Stored.{Stored}
 use Rattle.wm_state.specs.Batches.{is_out, keeps}
@@ -8,8 +8,3 @@ use Rattle.wm_image.specs.Sought.{ids_with}
 -- those of the pieces of a version, a table and a key
 abbrev pub ids_of_key : List Stored → ℕ → ℕ → List Value → List ℕ
 ids_of_key ss version table key = ids_with (λ r. not (keeps (is_out version table key) r)) ss
-
--- those of all these keys, one key after another
-abbrev pub ids_of_keys : List Stored → ℕ → ℕ → List (List Value) → List ℕ
-ids_of_keys ss version table [] = []
-ids_of_keys ss version table (key ∷ keys) = ids_of_key ss version table key ++ ids_of_keys ss version table keys

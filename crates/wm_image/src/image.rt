@@ -305,7 +305,7 @@ impl Image {
     }
 
     /// What goes of the records, and what comes, where new pieces come over those that a version has of a table. Only
-    /// the pieces of their keys are looked at.
+    /// the pieces of their keys are looked at, and only those that share a moment with a new one go.
     pub fn redraw(
         &self,
         alloc: Global,
@@ -315,7 +315,7 @@ impl Image {
     ) -> Result<Redrawn, Memory>
         requires rules { keep_rules (parts_of self.now) ≡ true }
         requires news { AreNews version table news.items }
-        ensures { IfOk result (λ redrawn. IsRedrawn self.now version table news.items redrawn.dropped.items redrawn.drawn.items) }
+        ensures { IfOk result (λ redrawn. IsRedrawn self.now news.items redrawn.dropped.items redrawn.drawn.items) }
     {
         let redrawn = redraw(alloc, &self.kept, &self.index, version, table, news)?;
         Ok(redrawn)

@@ -2,7 +2,7 @@
 
 ghost use Rattle.std.specs.Prelude.{◌≡◌, ◌∷◌, ◌++◌, IfOk, OnOk};
 ghost use Rattle.std.specs.List.{flat_map};
-ghost use Rattle.wm_state.specs.Batches.{is_in};
+ghost use Rattle.wm_graph.specs.Rules.{collide};
 ghost use Rattle.wm_state.specs.Drawing.{around, between, left_by, part};
 
 use std::alloc::Global;
@@ -49,13 +49,16 @@ fn push_part(
     Ok(())
 }
 
-/// Whether a piece is of the version, the table and the key of another.
-fn is_beside(piece: &PieceRecord, other: &PieceRecord) -> bool
-    ensures { result ≡ is_in other.now.version other.now.cells.table other.now.cells.key piece.now }
+/// Whether two pieces share a cell of a version.
+pub fn collide(piece: &PieceRecord, other: &PieceRecord) -> bool
+    ensures { result ≡ collide piece.now other.now }
 {
+    let cells = &piece.cells;
     piece.version == other.version
-        && piece.cells.table == other.cells.table
-        && piece.cells.key.compare(&other.cells.key).is_eq()
+        && cells.table == other.cells.table
+        && cells.from < other.cells.till
+        && other.cells.from < cells.till
+        && cells.key.compare(&other.cells.key).is_eq()
 }
 
 /// Puts what a piece has before a new one, and what it has after it, behind others.
@@ -83,7 +86,7 @@ fn push_left(
 ) -> Result<(), Memory>
     ensures { OnOk result (pieces.new.items ≡ pieces.old.items ++ left_by over.now piece) }
 {
-    if is_beside(&piece, over) {
+    if collide(over, &piece) {
         return push_around(alloc, pieces, over, &piece);
     }
     pieces.push(piece)?;

@@ -1,22 +1,21 @@
 //! What becomes of the pieces of a version where new ones come over them.
 
 ghost use Rattle.std.specs.Prelude.{◌≡◌, ◌∷◌, [], ◌++◌, true, List, IfOk, OnOk};
-ghost use Rattle.std.specs.List.{filter, flat_map};
+ghost use Rattle.std.specs.List.{flat_map};
 ghost use Rattle.std.specs.Option.{option_and_then, option_copied, option_to_list};
 ghost use Rattle.wm_graph.specs.Parts.{as_piece, parts_of};
 ghost use Rattle.wm_graph.specs.Rules.{keep_rules};
 ghost use Rattle.wm_image.specs.Gone.{ids_of_key};
 ghost use Rattle.wm_image.specs.Indexed.{IsIndexed, listed};
-ghost use Rattle.wm_image.specs.Redraw.{IsDraft, IsRedrawn, hand_keys, is_at_hand};
+ghost use Rattle.wm_image.specs.Redraw.{IsDraft, IsRedrawn, hand_keys, is_at_hand, is_touched, met, unmet};
 ghost use Rattle.wm_image.specs.Shown.{kind_at};
 ghost use Rattle.wm_spec.specs.declared.record.piece.PieceRecord.{PieceRecord as OnePiece};
-ghost use Rattle.wm_state.specs.Batches.{is_in};
 ghost use Rattle.wm_state.specs.Drawing.{AreNews, are_sorted, has_moments, is_for, left_by};
 
 use crate::index::Index;
 use crate::keyed::ids_on;
 use crate::kinds::piece_of;
-use crate::over::{copy_part, lay_over};
+use crate::over::{collide, copy_part, lay_over};
 use crate::records::{Kept, at};
 use crate::shown::own_ids;
 use std::alloc::Global;
@@ -30,12 +29,14 @@ pub struct Redrawn {
     pub drawn: Vec<PieceRecord>,
 }
 
-/// What is drawn so far: the ids that go, the pieces of the keys that are finished, and the pieces at hand, of one
-/// key, the one that was laid last before the others.
+/// What is drawn so far: the ids that go, the pieces of the keys that are finished, the ids of the pieces that the
+/// version has of the key at hand and that no new one shares a moment with, and the pieces at hand, the one that was
+/// laid last before the others.
 #[derive(Drop)]
 struct Draft {
     dropped: Vec<u64>,
     finished: Vec<PieceRecord>,
+    left: Vec<u64>,
     hand: Vec<PieceRecord>,
 }
 
@@ -85,7 +86,39 @@ fn is_at_hand(hand: &[PieceRecord], key: &Key) -> bool
     }
 }
 
-/// Finishes the pieces at hand, and takes those that a version has of a key: they go, and copies of them are at hand.
+/// Whether a record is a piece that shares a cell with a new one.
+fn is_touched(new: &PieceRecord, found: Option<&Record>) -> bool
+    ensures { result ≡ is_touched new.now (option_copied found.entry) }
+{
+    match found {
+        Some(Record::Piece(piece)) => collide(new, piece),
+        _ => false,
+    }
+}
+
+/// Of some ids those whose record is a piece that shares a cell with a new one, and the others.
+fn part_ids(
+    alloc: Global,
+    kept: &Kept,
+    new: &PieceRecord,
+    ids: Vec<u64>,
+) -> Result<(Vec<u64>, Vec<u64>), Memory>
+    ensures met { IfOk result (λ parted. parted.0.items ≡ met (listed kept.now.entries) new.now ids.items) }
+    ensures unmet { IfOk result (λ parted. parted.1.items ≡ unmet (listed kept.now.entries) new.now ids.items) }
+{
+    let mut met = Vec::new(alloc);
+    let mut unmet = Vec::new(alloc);
+    for id in ids {
+        if is_touched(new, at(kept, id)) {
+            met.push(id)?;
+        } else {
+            unmet.push(id)?;
+        }
+    }
+    Ok((met, unmet))
+}
+
+/// Finishes the pieces at hand, and begins with a key: all pieces that a version has of it are left so far.
 fn turn(
     alloc: Global,
     kept: &Kept,
@@ -96,41 +129,49 @@ fn turn(
     key: &Key,
 ) -> Result<Draft, Memory>
     requires { IsIndexed kept.now index.now }
-    ensures dropped { IfOk result (λ turned. turned.dropped.items ≡ draft.dropped.items ++ ids_of_key (listed kept.now.entries) version table key.now) }
+    ensures dropped { IfOk result (λ turned. turned.dropped.items ≡ draft.dropped.items) }
     ensures finished { IfOk result (λ turned. turned.finished.items ≡ draft.finished.items ++ draft.hand.items) }
-    ensures hand { IfOk result (λ turned. turned.hand.items ≡ filter (is_in version table key.now) (parts_of (listed kept.now.entries)).pieces) }
+    ensures left { IfOk result (λ turned. turned.left.items ≡ ids_of_key (listed kept.now.entries) version table key.now) }
+    ensures hand { IfOk result (λ turned. turned.hand.items ≡ []) }
 {
     let Draft {
-        mut dropped,
+        dropped,
         mut finished,
         hand,
+        left: _,
     } = draft;
     append(&mut finished, hand)?;
-    let ids = own_ids(alloc, kept, ids_on(&index.pieces, table, key), version)?;
-    let hand = pieces_of(alloc, kept, ids.as_slice())?;
-    dropped.extend_from_slice(ids.as_slice())?;
+    let left = own_ids(alloc, kept, ids_on(&index.pieces, table, key), version)?;
     Ok(Draft {
         dropped,
         finished,
-        hand,
+        left,
+        hand: Vec::new(alloc),
     })
 }
 
-/// Lays a new piece over those at hand.
-fn lay(alloc: Global, draft: Draft, new: PieceRecord) -> Result<Draft, Memory>
-    ensures dropped { IfOk result (λ laid. laid.dropped.items ≡ draft.dropped.items) }
+/// Lays a new piece over those at hand and those of the left ones that share a cell with it, which go.
+fn lay(alloc: Global, kept: &Kept, draft: Draft, new: PieceRecord) -> Result<Draft, Memory>
+    ensures dropped { IfOk result (λ laid. laid.dropped.items ≡ draft.dropped.items ++ met (listed kept.now.entries) new draft.left.items) }
     ensures finished { IfOk result (λ laid. laid.finished.items ≡ draft.finished.items) }
-    ensures hand { IfOk result (λ laid. laid.hand.items ≡ new ∷ flat_map (left_by new) draft.hand.items) }
+    ensures left { IfOk result (λ laid. laid.left.items ≡ unmet (listed kept.now.entries) new draft.left.items) }
+    ensures hand { IfOk result (λ laid. laid.hand.items ≡ new ∷ flat_map (left_by new) (draft.hand.items ++ kind_at as_piece (listed kept.now.entries) (met (listed kept.now.entries) new draft.left.items))) }
 {
     let Draft {
-        dropped,
+        mut dropped,
         finished,
-        hand,
+        left,
+        mut hand,
     } = draft;
+    let (met, left) = part_ids(alloc, kept, &new, left)?;
+    let under = pieces_of(alloc, kept, met.as_slice())?;
+    append(&mut hand, under)?;
+    dropped.extend_from_slice(met.as_slice())?;
     let hand = lay_over(alloc, new, hand)?;
     Ok(Draft {
         dropped,
         finished,
+        left,
         hand,
     })
 }
@@ -151,13 +192,13 @@ fn draw_one(
     requires lasts { has_moments new ≡ true }
     requires sorted { are_sorted (hand_keys draft.hand.items ++ new.cells.key ∷ []) ≡ true }
     ensures hand { IfOk result (λ drawn. hand_keys drawn.hand.items ≡ new.cells.key ∷ []) }
-    ensures draft { IfOk result (λ drawn. (news : List OnePiece) → IsDraft (listed kept.now.entries) version table news draft.dropped.items draft.finished.items draft.hand.items → IsDraft (listed kept.now.entries) version table (news ++ new ∷ []) drawn.dropped.items drawn.finished.items drawn.hand.items) }
+    ensures draft { IfOk result (λ drawn. (news : List OnePiece) → IsDraft (listed kept.now.entries) version table news draft.dropped.items draft.left.items draft.finished.items draft.hand.items → IsDraft (listed kept.now.entries) version table (news ++ new ∷ []) drawn.dropped.items drawn.left.items drawn.finished.items drawn.hand.items) }
 {
     if is_at_hand(draft.hand.as_slice(), &new.cells.key) {
-        return lay(alloc, draft, new);
+        return lay(alloc, kept, draft, new);
     }
     let turned = turn(alloc, kept, index, version, table, draft, &new.cells.key)?;
-    lay(alloc, turned, new)
+    lay(alloc, kept, turned, new)
 }
 
 /// The pieces of all keys, those at hand too.
@@ -169,6 +210,7 @@ fn finish(draft: Draft) -> Result<Redrawn, Memory>
         dropped,
         finished,
         hand,
+        left: _,
     } = draft;
     let mut drawn = finished;
     append(&mut drawn, hand)?;
@@ -176,7 +218,7 @@ fn finish(draft: Draft) -> Result<Redrawn, Memory>
 }
 
 /// What goes of the records, and what comes, where new pieces come over those that a version has of a table. Only the
-/// pieces of their keys are looked at.
+/// pieces of their keys are looked at, and only those that share a moment with a new one go.
 pub fn redraw(
     alloc: Global,
     kept: &Kept,
@@ -188,11 +230,12 @@ pub fn redraw(
     requires indexed { IsIndexed kept.now index.now }
     requires rules { keep_rules (parts_of (listed kept.now.entries)) ≡ true }
     requires news { AreNews version table news.items }
-    ensures { IfOk result (λ redrawn. IsRedrawn (listed kept.now.entries) version table news.items redrawn.dropped.items redrawn.drawn.items) }
+    ensures { IfOk result (λ redrawn. IsRedrawn (listed kept.now.entries) news.items redrawn.dropped.items redrawn.drawn.items) }
 {
     let mut draft = Draft {
         dropped: Vec::new(alloc),
         finished: Vec::new(alloc),
+        left: Vec::new(alloc),
         hand: Vec::new(alloc),
     };
     for new in news {

@@ -164,7 +164,7 @@ fn written(
     requires there { space_of (parts_of image.now).spaces space.now.number ≡ Some space.now }
     requires news { AreNews version table (pieces_of version (map entry_of entries.items)) }
     requires log { space.now.log_length + length entries.items < 2 ^ 64 }
-    ensures { IfOk result (AreWritten image.now front counters space.now version table id (map entry_of entries.items)) }
+    ensures { IfOk result (AreWritten image.now front counters space.now version id (map entry_of entries.items)) }
 {
     let count = entries.len() as u64;
     let made = records_of(alloc, version, space.number, space.log_length, entries)?;

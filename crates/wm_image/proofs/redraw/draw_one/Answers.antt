@@ -1,35 +1,30 @@
-use Rattle.std.proofs.Common.{◌∷◌, [], ◌++◌, List, ℕ, sym, ap, subst, ◌∙◌}
-use Rattle.std.specs.List.{filter, flat_map}
+use Rattle.std.proofs.Common.{List, sym, ap, ◌∙◌}
 use Rattle.wm_graph.specs.Parts.{parts_of}
 use Rattle.wm_spec.specs.declared.record.piece.PieceRecord.{PieceRecord}
-use Rattle.wm_state.specs.Batches.{is_in}
-use Rattle.wm_state.specs.Drawing.{left_by}
 use Rattle.wm_image.proofs.Drafting.{draft_laid, no_collision}
 use Rattle.wm_image.proofs.Listed.{Ascend-listed}
 use Rattle.wm_image.proofs.Redrawing.{draft_on, draft_turned}
 use Rattle.wm_image.specs.Indexed.{listed}
-use Rattle.wm_image.specs.Redraw.{IsDraft, is_at_hand}
+use Rattle.wm_image.specs.Redraw.{is_at_hand}
 use Rattle.wm_image.proofs.redraw.draw_one.Goals as goal
 
 pub returns-then-is_at_hand-clause-draft : goal.returns-then-is_at_hand-clause-draft
 returns-then-is_at_hand-clause-draft c =
     let old = c.args.draft in
-    draft_laid (listed c.args.kept.now.entries) c.args.version c.args.table old old c.args.new c.lay.result
-    (λ news so. draft_on (listed c.args.kept.now.entries) c.args.version c.args.table news old.dropped.items old.finished.items old.hand.items c.args.new c.requires.here c.requires.lasts
-    (ap (λ (xs : List PieceRecord). is_at_hand xs c.args.new.cells.key) (sym c.as_slice.ensures.value) ∙ sym c.if-is_at_hand.ensures) so)
-    c.lay.ensures.dropped c.lay.ensures.finished c.lay.ensures.hand
+    let ss = listed c.args.kept.now.entries in
+    draft_laid ss c.args.version c.args.table old old c.args.new c.lay.result
+    (λ news so. draft_on ss c.args.version c.args.table news old.dropped.items old.left.items old.finished.items old.hand.items c.args.new (Ascend-listed c.args.kept.now.entries c.requires.indexed.ordered) (no_collision (parts_of ss) c.requires.rules)
+    c.requires.here c.requires.lasts (ap (λ (xs : List PieceRecord). is_at_hand xs c.args.new.cells.key) (sym c.as_slice.ensures.value) ∙ sym c.if-is_at_hand.ensures) so)
+    c.lay.ensures.dropped c.lay.ensures.left c.lay.ensures.finished c.lay.ensures.hand
 
 pub returns-clause-draft : goal.returns-clause-draft
 returns-clause-draft c =
     let old = c.args.draft in
     let mid = c.in_ok-turned.turned in
     let ss = listed c.args.kept.now.entries in
-    let new = c.args.new in
-    draft_laid ss c.args.version c.args.table old mid new c.lay-2.result
-    (λ news so.
-    subst (λ (xs : List PieceRecord). IsDraft ss c.args.version c.args.table (news ++ new ∷ []) mid.dropped.items mid.finished.items (new ∷ flat_map (left_by new) xs)) (sym c.in_ok-turned.ensures.hand)
-    (subst (λ (xs : List PieceRecord). IsDraft ss c.args.version c.args.table (news ++ new ∷ []) mid.dropped.items xs (new ∷ flat_map (left_by new) (filter (is_in c.args.version c.args.table new.cells.key) (parts_of ss).pieces))) (sym c.in_ok-turned.ensures.finished)
-    (subst (λ (ids : List ℕ). IsDraft ss c.args.version c.args.table (news ++ new ∷ []) ids (old.finished.items ++ old.hand.items) (new ∷ flat_map (left_by new) (filter (is_in c.args.version c.args.table new.cells.key) (parts_of ss).pieces))) (sym c.in_ok-turned.ensures.dropped)
-    (draft_turned ss c.args.version c.args.table news old.dropped.items old.finished.items old.hand.items new (Ascend-listed c.args.kept.now.entries c.requires.indexed.ordered) (no_collision (parts_of ss) c.requires.rules) c.requires.here
-    c.requires.lasts (ap (λ (xs : List PieceRecord). is_at_hand xs new.cells.key) (sym c.as_slice.ensures.value) ∙ sym c.if-is_at_hand.ensures) c.requires.sorted so))))
-    c.lay-2.ensures.dropped c.lay-2.ensures.finished c.lay-2.ensures.hand
+    draft_laid ss c.args.version c.args.table old mid c.args.new c.lay-2.result
+    (λ news so. draft_turned ss c.args.version c.args.table news old.dropped.items old.left.items old.finished.items old.hand.items mid.dropped.items mid.left.items mid.finished.items mid.hand.items c.args.new
+    (Ascend-listed c.args.kept.now.entries c.requires.indexed.ordered) (no_collision (parts_of ss) c.requires.rules) c.requires.here c.requires.lasts
+    (ap (λ (xs : List PieceRecord). is_at_hand xs c.args.new.cells.key) (sym c.as_slice.ensures.value) ∙ sym c.if-is_at_hand.ensures) c.requires.sorted c.in_ok-turned.ensures.dropped c.in_ok-turned.ensures.left
+    c.in_ok-turned.ensures.finished c.in_ok-turned.ensures.hand so)
+    c.lay-2.ensures.dropped c.lay-2.ensures.left c.lay-2.ensures.finished c.lay-2.ensures.hand

@@ -3,9 +3,9 @@ use Rattle.std.proofs.lemmas.Iterator.Adapters.{YieldsList-from_vec}
 use Rattle.std.proofs.lemmas.Iterator.Consumers.{YieldsList-turn, YieldsList-end}
 use Rattle.std.proofs.lemmas.List.{length_push, map-id}
 use Rattle.wm_spec.specs.declared.record.piece.PieceRecord.{PieceRecord}
-use Rattle.wm_image.proofs.Drafting.{draft_ended}
+use Rattle.wm_graph.specs.Parts.{parts_of}
+use Rattle.wm_image.proofs.Drafting.{draft_ended, no_collision}
 use Rattle.wm_image.proofs.Following.{follows, others_follow}
-use Rattle.wm_image.proofs.Listed.{Ascend-listed}
 use Rattle.wm_image.proofs.Redrawing.{draft_ends}
 use Rattle.wm_image.specs.Indexed.{listed}
 use Rattle.wm_image.specs.Redraw.{CanFollow, IsRedrawn}
@@ -29,7 +29,9 @@ returns c =
     let items = c.args.news.items in
     let all = YieldsList-end (YieldsList-from_vec {s = c.into_iter-new-iterator.result} items c.into_iter-new-iterator.ensures.into_iter_gives.0 (c.into_iter-new-iterator.ensures.into_iter_gives.1 ∙ c.args.news.ok.0)) c.loop-new.yielded c.loop-new.new-iterator c.loop-new.yielded_by c.next.result c.next.new.self c.in-None.is
     c.next.ensures.steps in
-    draft_ended (listed c.args.kept.now.entries) c.args.version c.args.table items c.loop-new.draft c.finish.result
-    (subst (λ (xs : List PieceRecord). IsRedrawn (listed c.args.kept.now.entries) c.args.version c.args.table xs c.loop-new.draft.dropped.items (c.loop-new.draft.finished.items ++ c.loop-new.draft.hand.items)) (sym (map-id c.loop-new.yielded) ∙ all.0)
-    (draft_ends (listed c.args.kept.now.entries) c.args.version c.args.table c.loop-new.yielded c.loop-new.draft.dropped.items c.loop-new.draft.finished.items c.loop-new.draft.hand.items
-    (Ascend-listed c.args.kept.now.entries c.requires.indexed.ordered) c.loop-new.invariant.draft)) c.finish.ensures.dropped c.finish.ensures.drawn
+    let ss = listed c.args.kept.now.entries in
+    let d = c.loop-new.draft in
+    draft_ended ss items d c.finish.result
+    (subst (λ (xs : List PieceRecord). IsRedrawn ss xs d.dropped.items (d.finished.items ++ d.hand.items)) (sym (map-id c.loop-new.yielded) ∙ all.0)
+    (draft_ends ss c.args.version c.args.table c.loop-new.yielded d.dropped.items d.left.items d.finished.items d.hand.items (no_collision (parts_of ss) c.requires.rules) c.loop-new.invariant.draft)) c.finish.ensures.dropped
+    c.finish.ensures.drawn

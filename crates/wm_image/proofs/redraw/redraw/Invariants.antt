@@ -6,6 +6,6 @@ use Rattle.wm_image.proofs.redraw.redraw.Given as goal
 
 abbrev pub invariant-loop-new : goal.invariant-loop-new
 invariant-loop-new l = record {
-  draft : IsDraft (listed l.kept.entries) l.version l.table l.yielded l.draft.dropped.items l.draft.finished.items l.draft.hand.items;
+  draft : IsDraft (listed l.kept.entries) l.version l.table l.yielded l.draft.dropped.items l.draft.left.items l.draft.finished.items l.draft.hand.items;
   rest : CanFollow l.version l.table l.draft.hand.items (drop (length l.yielded) l.fn.news.items);
 }

@@ -29,7 +29,7 @@ returns c =
       sorted = c.id_of_counters.ensures.ascend;
       dropped = c.in_ok-drawn.drawn.dropped.items;
       drawn = c.in_ok-drawn.drawn.drawn.items;
-      redrawn = subst (λ news. IsRedrawn c.args.image.now c.args.version c.args.table news c.in_ok-drawn.drawn.dropped.items c.in_ok-drawn.drawn.drawn.items) c.in_ok-made.ensures.pieces c.in_ok-drawn.ensures;
+      redrawn = subst (λ news. IsRedrawn c.args.image.now news c.in_ok-drawn.drawn.dropped.items c.in_ok-drawn.drawn.drawn.items) c.in_ok-made.ensures.pieces c.in_ok-drawn.ensures;
       are = c.in_ok-changes.ensures
           ∙ written_is c.args.front c.args.counters c.args.space.now c.args.entries.items c.in_ok-drawn.drawn.drawn.items c.len-count.result c.in_ok-longer.longer c.in_ok-made.made.rows.items c.in_ok-pieces.pieces.items c.in_ok-made.made.hists.items
           c.id_of_counters.result c.unwrap-space_id.result c.args.id c.as_slice-4.result.now c.in_ok-drawn.drawn.dropped.items (made c) c.as_slice-4.ensures.value;
