@@ -1,17 +1,13 @@
 -- No two pieces collide with a new one over them.
-use Rattle.std.proofs.Common.{◌≡◌, ℕ, ◌<◌, ◌≤◌, ◌==◌, nat_lt, min, max, Bool, true, false, not, ◌&&◌, cond, List, [], ◌∷◌, ◌++◌, refl, sym, ap, ◌∙◌, arith}
-use Rattle.std.proofs.lemmas.Bool.{eqb-true, eq-eqb}
+use Rattle.std.proofs.Common.{◌≡◌, ℕ, ◌<◌, ◌≤◌, ◌==◌, nat_lt, min, max, Bool, true, false, not, ◌&&◌, cond, List, [], ◌∷◌, ◌++◌, refl, ap, arith}
 use Rattle.std.specs.List.{flat_map, list_all, list_any}
 use Rattle.std.specs.Ordering.{is_eq}
 use Rattle.wm_base.specs.Key.{key_order}
-use Rattle.wm_base.specs.declared.value.Value.{Value}
 use Rattle.wm_graph.specs.Rules.{differ, collide}
 use Rattle.wm_spec.specs.declared.record.piece.PieceRecord.{PieceRecord}
-use Rattle.wm_state.specs.Batches.{is_in}
 use Rattle.wm_state.specs.Drawing.{between, part, around, left_by, has_moments, PassesParts}
 use Rattle.wm_state.proofs.Appending.{all_append, any_append, differ_append}
-use Rattle.wm_state.proofs.Laying.{key_same, key_itself}
-use Rattle.wm_state.proofs.Tests.{both, bool_apart, and_true, either_false, not_true}
+use Rattle.wm_state.proofs.Tests.{both, and_true, either_false, not_true}
 
 -- two pieces are of one version, table and key
 abbrev at_one_place : PieceRecord → PieceRecord → Bool

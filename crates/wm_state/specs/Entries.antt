@@ -2,8 +2,6 @@
 use Rattle.std.specs.Prelude.{ℕ, ◌≡◌, ◌+◌, Bool, true, false, ◌&&◌, nat_lt, nat_le, List, [], ◌∷◌, map, is_none, Option}
 use Rattle.std.specs.List.{filter_map}
 use Rattle.std.specs.Option.{option_map, option_map_or}
-use Rattle.std.specs.Ordering.{is_eq}
-use Rattle.wm_base.specs.Key.{key_order}
 use Rattle.wm_base.specs.declared.instant.TheConstants.{END}
 use Rattle.wm_base.specs.declared.row.Row.{Row}
 use Rattle.wm_base.specs.declared.value.Value.{Value}
@@ -30,9 +28,6 @@ AreStamped table stamp (e ∷ es) = IsStamped table stamp e × AreStamped table 
 -- the keys of entries
 abbrev pub entry_keys : List Entry → List (List Value)
 entry_keys es = map (λ (e : Entry). e.key) es
-
-abbrev pub same_key : List Value → List Value → Bool
-same_key k l = is_eq (key_order k l)
 
 -- the row is one of the table's, and its key is this one
 abbrev pub is_keyed : Table → List Value → Row → Bool
