@@ -7,7 +7,6 @@ use Rattle.std.specs.List.{list_any}
 use Rattle.std.specs.declared.alloc.Global.{Global}
 use Rattle.std.specs.declared.vec.Vec.{Vec}
 use Rattle.wm_graph.specs.Rules.{keep_rules}
-use Rattle.wm_spec.specs.Records.{record_at}
 use Rattle.wm_state.proofs.Batches.{Ascend-applied}
 use Rattle.wm_state.proofs.ById.{either-none, eqb-apart, one_order}
 use Rattle.wm_state.proofs.Drafted.{drafts_nothing}

@@ -142,11 +142,12 @@ fn turn(
     } = draft;
     append(&mut finished, hand)?;
     let left = own_ids(alloc, kept, ids_on(&index.pieces, table, key), version)?;
+    let hand = Vec::new(alloc);
     Ok(Draft {
         dropped,
         finished,
         left,
-        hand: Vec::new(alloc),
+        hand,
     })
 }
 

@@ -10,7 +10,7 @@ use std::alloc::Global;
 use std::test::Fail;
 use wm_base::{Key, Kind, Memory, Value};
 use wm_image::{Image, Redrawn};
-use wm_spec::record::{CellRange, PieceRecord, Record, Stored};
+use wm_spec::record::{CellRange, PieceRecord, Record, Records, Stored};
 
 /// What version 2 holds for a key of table 1 over some moments.
 fn piece(alloc: Global, key: i64, from: u64, till: u64) -> Result<PieceRecord, Memory>
@@ -76,15 +76,16 @@ fn comes(
     Ok(ends.as_slice() == shown)
 }
 
-/// The new piece is before the others, behind them, or of another key.
+/// The new piece is before the others, between two that it meets, behind them, or of another key: these stay.
 #[test]
 fn a_piece_comes_beside_others(rt: HostRuntime) -> Result<(), Fail> {
     let alloc = rt.alloc();
     let Some(image) = image(alloc)? else {
         return Ok(());
     };
-    assert!(rt; comes(alloc, &image, 7, 0, 5, &[0, 5, 10, 100, 200, 300])?);
-    assert!(rt; comes(alloc, &image, 7, 400, 500, &[400, 500, 10, 100, 200, 300])?);
+    assert!(rt; comes(alloc, &image, 7, 0, 5, &[0, 5])?);
+    assert!(rt; comes(alloc, &image, 7, 100, 200, &[100, 200])?);
+    assert!(rt; comes(alloc, &image, 7, 400, 500, &[400, 500])?);
     assert!(rt; comes(alloc, &image, 8, 20, 30, &[20, 30])?);
     Ok(())
 }
@@ -96,18 +97,9 @@ fn a_piece_comes_over_others(rt: HostRuntime) -> Result<(), Fail> {
     let Some(image) = image(alloc)? else {
         return Ok(());
     };
-    assert!(rt;
-        comes(
-            alloc,
-            &image,
-            7,
-            20,
-            30,
-            &[20, 30, 10, 20, 30, 100, 200, 300]
-        )?
-    );
+    assert!(rt; comes(alloc, &image, 7, 20, 30, &[20, 30, 10, 20, 30, 100])?);
     assert!(rt; comes(alloc, &image, 7, 50, 250, &[50, 250, 10, 50, 250, 300])?);
-    assert!(rt; comes(alloc, &image, 7, 10, 100, &[10, 100, 200, 300])?);
+    assert!(rt; comes(alloc, &image, 7, 10, 100, &[10, 100])?);
     Ok(())
 }
 
@@ -129,11 +121,54 @@ fn pieces_of_two_keys_come(rt: HostRuntime) -> Result<(), Fail> {
         return Ok(());
     };
     let redrawn = redrawn(alloc, &image)?;
-    assert_eq!(rt; redrawn.dropped.as_slice(), [9, 10].as_slice());
+    assert_eq!(rt; redrawn.dropped.as_slice(), [9].as_slice());
     let shown = ends(alloc, redrawn.drawn.as_slice())?;
     assert_eq!(rt;
         shown.as_slice(),
-        [40, 80, 20, 40, 10, 20, 80, 100, 200, 300, 0, 5].as_slice()
+        [40, 80, 20, 40, 10, 20, 80, 100, 0, 5].as_slice()
     );
+    Ok(())
+}
+
+/// Puts a piece of key 7 behind the records of a store.
+fn push_piece(
+    alloc: Global,
+    records: &mut Records,
+    id: u64,
+    from: u64,
+    till: u64,
+) -> Result<(), Memory> {
+    records.push(Stored {
+        id,
+        record: Record::Piece(piece(alloc, 7, from, till)?),
+    })?;
+    Ok(())
+}
+
+/// The same image with three pieces more of key 7, from 300 on.
+fn image_of_five(alloc: Global) -> Result<Option<Image>, Memory>
+    ensures { IfOk result (λ found. IfSome found (λ image. keep_rules (parts_of image) ≡ true)) }
+{
+    let mut records = small_store(alloc)?;
+    push_piece(alloc, &mut records, 10, 200, 300)?;
+    push_piece(alloc, &mut records, 11, 300, 400)?;
+    push_piece(alloc, &mut records, 12, 400, 500)?;
+    push_piece(alloc, &mut records, 13, 600, 700)?;
+    Ok(Image::load(alloc, records).ok())
+}
+
+/// A new piece is over two of five: the other three stay.
+#[test]
+fn pieces_beside_a_new_one_stay(rt: HostRuntime) -> Result<(), Fail> {
+    let alloc = rt.alloc();
+    let Some(image) = image_of_five(alloc)? else {
+        return Ok(());
+    };
+    let mut news = Vec::new(alloc);
+    news.push(piece(alloc, 7, 350, 450)?)?;
+    let redrawn = image.redraw(alloc, 2, 1, news)?;
+    assert_eq!(rt; redrawn.dropped.as_slice(), [11, 12].as_slice());
+    let shown = ends(alloc, redrawn.drawn.as_slice())?;
+    assert_eq!(rt; shown.as_slice(), [350, 450, 300, 350, 450, 500].as_slice());
     Ok(())
 }

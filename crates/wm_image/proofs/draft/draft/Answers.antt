@@ -1,4 +1,4 @@
-use Rattle.std.proofs.Common.{◌≡◌, ◌∷◌, ◌+◌, ◌-◌, refl, sym, ap, ◌∙◌}
+use Rattle.std.proofs.Common.{◌≡◌, ◌∷◌, ◌+◌, ◌-◌, sym, ap, ◌∙◌}
 use Rattle.std.specs.Vec.Iter.{into_iter_items, into_iter_len}
 use Rattle.wm_state.specs.ById.{applied}
 use Rattle.wm_image.proofs.Sequenced.{goes_can, goes_drafts, goes_first, goes_next, goes_none, goes_rest, goes_room, goes_rules, many_left, no_edits}

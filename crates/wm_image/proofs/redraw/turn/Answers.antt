@@ -1,4 +1,3 @@
-use Rattle.std.proofs.Common.{◌∙◌}
 use Rattle.wm_image.proofs.Drafting.{ids_told}
 use Rattle.wm_image.proofs.redraw.turn.Goals as goal
 
