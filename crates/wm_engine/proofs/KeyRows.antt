@@ -18,14 +18,15 @@ use Rattle.wm_graph.specs.Parts.{Parts, parts_of, table_of}
 use Rattle.wm_graph.specs.Rules.{keep_rules, is_key, key_of}
 use Rattle.wm_image.specs.Listing.{IsKeyShowing}
 use Rattle.wm_spec.specs.Conditions.{fits}
-use Rattle.wm_spec.specs.Stretches.{Stretch}
+use Rattle.wm_spec.proofs.Keys.{key_in-has}
+use Rattle.wm_spec.specs.Stretches.{Stretch, ComesBefore, KeysAscend, is_key_in}
 use Rattle.wm_spec.specs.declared.record.stored.Stored.{Stored}
 use Rattle.wm_spec.specs.declared.record.table.Table.{Table}
-use Rattle.wm_state.specs.Listing.{ComesBefore, KeysAscend, is_key_in, row_shown_with, joined}
+use Rattle.wm_state.specs.Listing.{row_shown_with, joined}
 use Rattle.wm_state.proofs.Laying.{key_same}
 use Rattle.wm_state.proofs.Listing.{one_rows}
 use Rattle.wm_state.proofs.Tests.{bool_apart, both, either_false}
-use Rattle.wm_engine.proofs.Listable.{stretches_of, are_stretches, keys_on, keys_with, ascend-with, key_in-has, groups_of, rows_with, is_showing}
+use Rattle.wm_engine.proofs.Listable.{stretches_of, are_stretches, keys_on, keys_with, ascend-with, groups_of, rows_with, is_showing}
 use Rattle.wm_engine.proofs.Seen.{shown_fits, shown_under}
 use Rattle.wm_engine.proofs.Stood.{key_showing_all}
 use Rattle.wm_engine.specs.Chosen.{AreChosen}

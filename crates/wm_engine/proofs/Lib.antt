@@ -8,7 +8,6 @@ pub mod Fresh
 pub mod Opening
 pub mod Saving
 pub mod Bearing
-pub mod Coming
 pub mod Inserting
 pub mod Lasting
 pub mod Dated

@@ -14,10 +14,11 @@ use Rattle.wm_base.specs.declared.value.Value.{Value}
 use Rattle.wm_graph.specs.Parts.{Parts}
 use Rattle.wm_period.specs.Pieces.{Held}
 use Rattle.wm_spec.specs.Lists.{Cell}
-use Rattle.wm_spec.specs.Stretches.{Stretch, cut_in, key_in, stretches}
+use Rattle.wm_spec.proofs.Keys.{key_in-ascends, key_in-has}
+use Rattle.wm_spec.specs.Stretches.{Stretch, KeysAscend, cut_in, is_key_in, key_in, stretches}
 use Rattle.wm_spec.specs.declared.record.piece.PieceRecord.{PieceRecord}
 use Rattle.wm_spec.proofs.Stretches.{Up, Steady, Up-cut, Steady-cut, Off-own, Off-cut, Steady-or, Steady-then, Steady-period, AreMaximal-stretches, value-stretches}
-use Rattle.wm_state.specs.Listing.{standing, stamp_seen, ComesBefore, KeysAscend, is_key_in, AreRowsOf, row_shown_with, is_unwritten, IsShowing, Groups, keys_of, joined, AreAllRowsOf}
+use Rattle.wm_state.specs.Listing.{standing, stamp_seen, AreRowsOf, row_shown_with, is_unwritten, IsShowing, Groups, keys_of, joined, AreAllRowsOf}
 use Rattle.wm_state.specs.Standing.{covers_at, held_by, stored_at, seen_at, newest_first}
 use Rattle.wm_state.proofs.Tests.{either_false}
 use Rattle.wm_tree.specs.declared.version.Version.{Version as Node}
@@ -84,48 +85,6 @@ are_stretches p version table key = record {
 }
 
 -- ---- the keys of pieces, ascending
-
-before-more : (j k : List Value) (ks : List (List Value)) → key_order j k ≡ Less → ComesBefore k ks → ComesBefore j ks
-before-more j k [] lt before = tt
-before-more j k (x ∷ ks) lt before = (key_order_total.trans j k x lt before.0, before-more j k ks lt before.1)
-
-before-in : (j k : List Value) (ks : List (List Value)) → key_order j k ≡ Less → ComesBefore j ks → ComesBefore j (key_in k ks)
-before-in j k [] lt before = (lt, tt)
-before-in j k (x ∷ ks) lt before = by_test (is_lt (key_order k x)) (is_eq (key_order k x)) (before-in j k ks lt before.1)
-  where
-    by_test : (a b : Bool) → ComesBefore j (key_in k ks) → ComesBefore j (if a then k ∷ x ∷ ks else (if b then x ∷ ks else x ∷ key_in k ks))
-    by_test true b rest = (lt, before)
-    by_test false true rest = before
-    by_test false false rest = (before.0, rest)
-
-key_in-ascends : (k : List Value) (ks : List (List Value)) → KeysAscend ks → KeysAscend (key_in k ks)
-key_in-ascends k [] up = (tt, tt)
-key_in-ascends k (x ∷ ks) up = by_order (key_order k x) refl (key_in-ascends k ks up.1)
-  where
-    by_order : (o : Ordering) → key_order k x ≡ o → KeysAscend (key_in k ks) → KeysAscend (if is_lt o then k ∷ x ∷ ks else (if is_eq o then x ∷ ks else x ∷ key_in k ks))
-    by_order Less e rest = ((e, before-more k x ks e up.0), up)
-    by_order Equal e rest = up
-    by_order Greater e rest = (before-in x k ks (key_order_total.antisymm x k ∙ rw e refl) up.0, rest)
-
-pub key_in-has : (k j : List Value) (ks : List (List Value)) → is_key_in j (key_in k ks) ≡ (is_eq (key_order k j) || is_key_in j ks)
-key_in-has k j [] = refl
-key_in-has k j (x ∷ ks) = by_order (key_order k x) refl (key_in-has k j ks)
-  where
-    swap : (a b c : Bool) → (a || (b || c)) ≡ (b || (a || c))
-    swap true true c = refl
-    swap true false c = refl
-    swap false true c = refl
-    swap false false c = refl
-
-    twice : (a b c : Bool) → a ≡ b → (b || c) ≡ (a || (b || c))
-    twice true b c e = rw (sym e) refl
-    twice false b c e = refl
-
-    by_order : (o : Ordering) → key_order k x ≡ o → is_key_in j (key_in k ks) ≡ (is_eq (key_order k j) || is_key_in j ks)
-        → is_key_in j (if is_lt o then k ∷ x ∷ ks else (if is_eq o then x ∷ ks else x ∷ key_in k ks)) ≡ (is_eq (key_order k j) || (is_eq (key_order x j) || is_key_in j ks))
-    by_order Less e rest = refl
-    by_order Equal e rest = twice (is_eq (key_order k j)) (is_eq (key_order x j)) (is_key_in j ks) (ap (λ y. is_eq (key_order y j)) (key_order-equal k x e))
-    by_order Greater e rest = ap (λ b. is_eq (key_order x j) || b) rest ∙ swap (is_eq (key_order x j)) (is_eq (key_order k j)) (is_key_in j ks)
 
 -- the keys of pieces, of all tables
 abbrev pub keys_on : List PieceRecord → List (List Value)

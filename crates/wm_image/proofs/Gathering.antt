@@ -20,7 +20,7 @@ use Rattle.wm_period.specs.Pieces.{Between, held_at}
 use Rattle.wm_period.specs.declared.piece.Piece.{Piece}
 use Rattle.wm_period.proofs.Order.{held_at-past}
 use Rattle.wm_spec.specs.Lists.{Cell}
-use Rattle.wm_spec.specs.Stretches.{Stretch}
+use Rattle.wm_spec.specs.Stretches.{Stretch, ComesBefore, KeysAscend, is_key_in}
 use Rattle.wm_spec.specs.declared.record.Record.{Record}
 use Rattle.wm_spec.specs.declared.record.Record.TheVariants as records
 use Rattle.wm_spec.specs.declared.record.piece.PieceRecord.{PieceRecord}
@@ -28,7 +28,7 @@ use Rattle.wm_spec.specs.declared.record.row.RowRecord.{RowRecord}
 use Rattle.wm_spec.specs.declared.record.stored.Stored.{Stored}
 use Rattle.wm_spec.specs.declared.record.table.Table.{Table}
 use Rattle.wm_spec.specs.declared.record.version.Version.{Version}
-use Rattle.wm_state.specs.Listing.{standing, ComesBefore, KeysAscend, is_key_in, AreRowsOf, row_shown_with, Groups, keys_of, joined, AreAllRowsOf, IsShowing}
+use Rattle.wm_state.specs.Listing.{standing, AreRowsOf, row_shown_with, Groups, keys_of, joined, AreAllRowsOf, IsShowing}
 use Rattle.wm_state.specs.Standing.{stored_at, seen_at, newest_first, seen}
 use Rattle.wm_state.proofs.Apart.{ruled}
 use Rattle.wm_state.proofs.Tests.{both}

@@ -1,5 +1,5 @@
 -- Records of a map, as a list by id.
-use Rattle.std.proofs.Common.{◌≡◌, ◌≢◌, ℕ, ◌<◌, ◌≤◌, ◌+◌, ◌^◌, ◌==◌, nat_lt, Bool, true, false, cond, List, [], ◌∷◌, ◌++◌, map, length, Option, Some, None, is_some, refl, sym, ap, ◌∙◌, ◌⊎◌, inl, inr, ⊎_elim, arith}
+use Rattle.std.proofs.Common.{◌≡◌, ◌≢◌, ℕ, ◌<◌, ◌≤◌, ◌+◌, ◌^◌, ◌==◌, nat_lt, Bool, true, false, cond, List, [], ◌∷◌, ◌++◌, map, length, Option, Some, None, is_some, refl, sym, ap, subst, ◌∙◌, ◌⊎◌, inl, inr, ⊎_elim, arith}
 use Rattle.std.proofs.lemmas.Bool.{cases_eq, cases_lt, eq-eqb, ne_eqb, lt-ltb}
 use Rattle.std.proofs.lemmas.Map.Keys.{sorted_head, sorted_tail}
 use Rattle.std.specs.BTreeMap.{BTreeMap, is_at}
@@ -99,6 +99,15 @@ pub next_full : (m : BTreeMap ℕ Record) (k : ℕ) (next : Option ℕ) (r : Rec
     → IfNone next ((id : ℕ) × (2 ^ 64 ≤ id + 1) × IsSome (record_at (listed m.entries) id))
 next_full m k None r is h = (k, ⊎_elim (λ less. absurd (h less)) (λ more. more) (cases_lt (k + 1) (2 ^ 64)), ap is_some (record_at-listed m.entries k ∙ is))
 next_full m k (Some n) r is h = tt
+
+-- the id before it has a record
+pub next_lowest : (m : BTreeMap ℕ Record) (k : ℕ) (next : Option ℕ) (r : Record) → lookup (is_at (nat_cmp k)) m.entries ≡ Some r → SomeIff next (k + 1 < 2 ^ 64) (k + 1)
+    → IfSome next (λ n. (id : ℕ) → n ≡ id + 1 → 0 < id → IsSome (record_at (listed m.entries) id))
+next_lowest m k None r is h = tt
+next_lowest m k (Some n) r is h = λ id e up. subst (λ i. IsSome (record_at (listed m.entries) i)) (same id e h.1) (ap is_some (record_at-listed m.entries k ∙ is))
+  where
+    same : (id : ℕ) → n ≡ id + 1 → n ≡ k + 1 → k ≡ id
+    same id e f = omega (arith, e, f)
 
 pub none_there : (m : BTreeMap ℕ Record) → ((0 < length m.entries) → ⊥) → (id : ℕ) → record_at (listed m.entries) id ≡ None
 none_there m none id = by_list m.entries none

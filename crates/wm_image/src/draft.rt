@@ -25,10 +25,7 @@ use crate::image::Image;
 use std::alloc::Global;
 use wm_base::Memory;
 use wm_spec::record::{Batch, Changes};
-use wm_state::edit::Edit;
-
-/// What a line that makes edits adds to the work.
-const LINE_WORK: u64 = 4_096;
+use wm_state::edit::{Edit, LINE_WORK};
 
 /// What an edit at a moment makes of the records, with so much work.
 fn draft_one(

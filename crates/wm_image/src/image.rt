@@ -25,7 +25,7 @@ ghost use Rattle.wm_spec.specs.declared.record.savepoint.Savepoint.{Savepoint as
 ghost use Rattle.wm_spec.specs.declared.record.space.Space.{Space as OneSpace};
 ghost use Rattle.wm_state.specs.Effects.{IsFree};
 ghost use Rattle.wm_state.specs.Listing.{IsShowing};
-ghost use Rattle.wm_state.specs.Standing.{by_number, latest, saved_as, saved_in, seen};
+ghost use Rattle.wm_state.specs.Standing.{by_number, latest, saved_as, saved_in, seen, space_after};
 ghost use Rattle.wm_state.specs.State.{next_table};
 
 use crate::draft::draft;
@@ -149,9 +149,10 @@ impl Image {
         first_numbered(&self.kept, self.index.tables.as_slice(), number)
     }
 
-    /// An id above those of all records, or None where the greatest id that there is has a record.
+    /// The id after the greatest of a record, 1 where there is none, or None where the greatest id that there is has a record.
     pub fn next_id(&self) -> Option<u64>
         ensures above { IfSome result (λ next. (id : ℕ) → next ≤ id → record_at self.now id ≡ None) }
+        ensures lowest { IfSome result (λ next. (id : ℕ) → next ≡ id + 1 → 0 < id → IsSome (record_at self.now id)) }
         ensures full { IfNone result ((id : ℕ) × (2 ^ 64 ≤ id + 1) × IsSome (record_at self.now id)) }
         ensures ascend { Ascend self.now }
     {
@@ -208,8 +209,7 @@ impl Image {
 
     /// The number after the greatest of a workspace, 0 where there is none.
     pub fn next_space(&self) -> u64
-        ensures above { list_all (λ (r : OneSpace). nat_lt r.number result) (parts_of self.now).spaces ≡ true }
-        ensures last { (n : ℕ) → result ≡ n + 1 → is_some (space_of (parts_of self.now).spaces n) ≡ true }
+        ensures { result ≡ space_after (parts_of self.now).spaces }
     {
         number_after(last_key(&self.index.spaces))
     }

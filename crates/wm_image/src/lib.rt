@@ -20,6 +20,7 @@ pub mod spaces;
 mod standing;
 pub mod tables;
 
+pub use draft::births::implicit_name;
 pub use image::Image;
 pub use load::ImageFault;
 pub use redraw::Redrawn;

@@ -1,6 +1,6 @@
 //! Records under their ids, with the index of them.
 
-ghost use Rattle.std.specs.Prelude.{◌≡◌, ◌≤◌, ◌+◌, ◌^◌, ℕ, None, IsSome, IfSome, IfNone, OnOk};
+ghost use Rattle.std.specs.Prelude.{◌≡◌, ◌<◌, ◌≤◌, ◌+◌, ◌^◌, ℕ, None, IsSome, IfSome, IfNone, OnOk};
 ghost use Rattle.std.specs.BTreeMap.{IsOrdered};
 ghost use Rattle.std.specs.Option.{option_copied};
 ghost use Rattle.std.specs.Ordering.{nat_cmp};
@@ -34,9 +34,10 @@ pub fn first<'a>(kept: &'a Kept, ids: &[u64]) -> Option<&'a Record>
     }
 }
 
-/// An id above those of all records, or None where the greatest id that there is has a record.
+/// The id after the greatest of a record, 1 where there is none, or None where the greatest id that there is has a record.
 pub fn next_id(kept: &Kept) -> Option<u64>
     ensures above { IfSome result (λ next. (id : ℕ) → next ≤ id → record_at (listed kept.now.entries) id ≡ None) }
+    ensures lowest { IfSome result (λ next. (id : ℕ) → next ≡ id + 1 → 0 < id → IsSome (record_at (listed kept.now.entries) id)) }
     ensures full { IfNone result ((id : ℕ) × (2 ^ 64 ≤ id + 1) × IsSome (record_at (listed kept.now.entries) id)) }
 {
     match kept.last_key_value() {

@@ -10,6 +10,4 @@ mod spaces;
 mod value;
 mod words;
 
-pub use answer::{print_done, print_refusal, print_rows, push_done, push_row, push_row_count};
-pub use refusal::push_refusal;
-pub use value::{push_key, push_value};
+pub use answer::{print_done, print_refusal, print_rows};

@@ -10,7 +10,8 @@ use Rattle.wm_base.specs.declared.value.Value.{Value}
 use Rattle.wm_spec.specs.Lists.{Entry, is_of}
 use Rattle.wm_spec.specs.Stretches.{keys, key_in, ComesBefore, KeysAscend, is_key_in}
 
-before-more : (j k : List Value) (ks : List (List Value)) → key_order j k ≡ Less → ComesBefore k ks → ComesBefore j ks
+-- a key before one that comes before others comes before these
+pub before-more : (j k : List Value) (ks : List (List Value)) → key_order j k ≡ Less → ComesBefore k ks → ComesBefore j ks
 before-more j k [] lt before = tt
 before-more j k (x ∷ ks) lt before = (key_order_total.trans j k x lt before.0, before-more j k ks lt before.1)
 
@@ -23,7 +24,8 @@ before-in j k (x ∷ ks) lt before = by_test (is_lt (key_order k x)) (is_eq (key
     by_test false true rest = before
     by_test false false rest = (before.0, rest)
 
-key_in-ascends : (k : List Value) (ks : List (List Value)) → KeysAscend ks → KeysAscend (key_in k ks)
+-- keys that ascend do so with one more
+pub key_in-ascends : (k : List Value) (ks : List (List Value)) → KeysAscend ks → KeysAscend (key_in k ks)
 key_in-ascends k [] up = (tt, tt)
 key_in-ascends k (x ∷ ks) up = by_order (key_order k x) refl (key_in-ascends k ks up.1)
   where
@@ -41,7 +43,8 @@ keys-ascend (e ∷ es) table = by_table (e.table == table) (keys-ascend es table
     by_table true rest = key_in-ascends e.key (keys es table) rest
     by_table false rest = rest
 
-key_in-has : (k j : List Value) (ks : List (List Value)) → is_key_in j (key_in k ks) ≡ (is_eq (key_order k j) || is_key_in j ks)
+-- a key is one of them with one more where it is that one or one of them
+pub key_in-has : (k j : List Value) (ks : List (List Value)) → is_key_in j (key_in k ks) ≡ (is_eq (key_order k j) || is_key_in j ks)
 key_in-has k j [] = refl
 key_in-has k j (x ∷ ks) = by_order (key_order k x) refl (key_in-has k j ks)
   where

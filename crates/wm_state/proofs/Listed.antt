@@ -11,7 +11,8 @@ use Rattle.wm_base.specs.declared.row.Row.{Row}
 use Rattle.wm_base.specs.declared.value.Value.{Value}
 use Rattle.wm_graph.specs.Parts.{Parts, row_of}
 use Rattle.wm_spec.specs.Lists.{Cell, Entry, Told, told, stamp_at, standing_stamp}
-use Rattle.wm_spec.specs.Stretches.{Stretch, value_at, AreMaximal, rows, rows_of_key, keys}
+use Rattle.wm_spec.proofs.Keys.{keys-ascend}
+use Rattle.wm_spec.specs.Stretches.{Stretch, value_at, AreMaximal, is_key_in, rows, rows_of_key, keys}
 use Rattle.wm_spec.specs.declared.record.piece.PieceRecord.{PieceRecord}
 use Rattle.wm_spec.specs.declared.record.row.RowRecord.{RowRecord}
 use Rattle.wm_spec.specs.declared.record.savepoint.Savepoint.{Savepoint as Record}
@@ -19,9 +20,9 @@ use Rattle.wm_spec.proofs.Stretches.{value-rows, AreMaximal-rows}
 use Rattle.wm_tree.specs.declared.version.Version.{Version as Node}
 use Rattle.wm_state.specs.State.{State, Workspace, Savepoint, content, kept, workspace_of, savepoint_made}
 use Rattle.wm_state.specs.Standing.{held_of, stored_at, seen_at, seen, newest_first, latest, saved_as, HasRows, Stands}
-use Rattle.wm_state.specs.Listing.{standing, stamp_seen, stamp_shown, is_key_in, listed, row_on, row_with, seen_row, row_shown, row_shown_with, is_unwritten, IsListing, IsShowing, AreRowsOf, Groups, keys_of, joined, AreAllRowsOf}
+use Rattle.wm_state.specs.Listing.{standing, stamp_seen, stamp_shown, listed, row_on, row_with, seen_row, row_shown, row_shown_with, is_unwritten, IsListing, IsShowing, AreRowsOf, Groups, keys_of, joined, AreAllRowsOf}
 use Rattle.wm_state.proofs.Shown.{showing_listed}
-use Rattle.wm_state.proofs.Listing.{one_rows, rows_of, Covers, listed_same, first-listed, keys-ascend, no_rows_of, first-held, behind-held, either_false}
+use Rattle.wm_state.proofs.Listing.{one_rows, rows_of, Covers, listed_same, first-listed, no_rows_of, first-held, behind-held, either_false}
 
 -- ---- a key of which there is no piece
 

@@ -9,9 +9,10 @@ use Rattle.wm_base.specs.Key.{key_order}
 use Rattle.wm_base.specs.Orders.{key_order_total, key_order-itself, key_order-equal}
 use Rattle.wm_base.specs.declared.value.Value.{Value}
 use Rattle.wm_spec.specs.Lists.{Entry, stamp_at}
-use Rattle.wm_spec.specs.Stretches.{Stretch, value_at, AreMaximal, rows_from, rows_of_key, keys, key_in, cuts, stretches}
+use Rattle.wm_spec.specs.Stretches.{Stretch, value_at, AreMaximal, ComesBefore, KeysAscend, is_key_in, rows_from, rows_of_key, keys, key_in, cuts, stretches}
+use Rattle.wm_spec.proofs.Keys.{before-more, key_in-has}
 use Rattle.wm_spec.proofs.Stretches.{value-rows, AreMaximal-rows}
-use Rattle.wm_state.specs.Listing.{stamp_seen, ComesBefore, KeysAscend, is_key_in, AreRowsOf, listed}
+use Rattle.wm_state.specs.Listing.{stamp_seen, AreRowsOf, listed}
 use Rattle.wm_state.proofs.Tests.{bool_apart}
 use Rattle.wm_state.proofs.Laying.{key_same}
 
@@ -129,10 +130,6 @@ less_itself k e = less_apart (sym e ∙ key_order-itself k)
     less_apart : Less ≡ Equal → ⊥
     less_apart e = cc
 
-before-more : (j k : List Value) (ks : List (List Value)) → key_order j k ≡ Less → ComesBefore k ks → ComesBefore j ks
-before-more j k [] lt before = tt
-before-more j k (x ∷ ks) lt before = (key_order_total.trans j k x lt before.0, before-more j k ks lt before.1)
-
 -- a key before all of these is none of them
 before-out : (k : List Value) (ks : List (List Value)) → ComesBefore k ks → is_key_in k ks ≡ false
 before-out k [] before = refl
@@ -187,52 +184,6 @@ listed_same f (x ∷ xs) (y ∷ ys) one two left right = by_order (key_order x y
 pub first-listed : (es : List Entry) (table : ℕ) (ks : List (List Value)) → rows_from es table ks ≡ listed (rows_of_key es table) ks
 first-listed es table [] = refl
 first-listed es table (k ∷ ks) = ap (λ rest. map (λ s. (k, s)) (rows_of_key es table k) ++ rest) (first-listed es table ks)
-
-before-in : (j k : List Value) (ks : List (List Value)) → key_order j k ≡ Less → ComesBefore j ks → ComesBefore j (key_in k ks)
-before-in j k [] lt before = (lt, tt)
-before-in j k (x ∷ ks) lt before = by_test (is_lt (key_order k x)) (is_eq (key_order k x)) (before-in j k ks lt before.1)
-  where
-    by_test : (a b : Bool) → ComesBefore j (key_in k ks) → ComesBefore j (if a then k ∷ x ∷ ks else (if b then x ∷ ks else x ∷ key_in k ks))
-    by_test true b rest = (lt, before)
-    by_test false true rest = before
-    by_test false false rest = (before.0, rest)
-
-key_in-ascends : (k : List Value) (ks : List (List Value)) → KeysAscend ks → KeysAscend (key_in k ks)
-key_in-ascends k [] up = (tt, tt)
-key_in-ascends k (x ∷ ks) up = by_order (key_order k x) refl (key_in-ascends k ks up.1)
-  where
-    by_order : (o : Ordering) → key_order k x ≡ o → KeysAscend (key_in k ks) → KeysAscend (if is_lt o then k ∷ x ∷ ks else (if is_eq o then x ∷ ks else x ∷ key_in k ks))
-    by_order Less e rest = ((e, before-more k x ks e up.0), up)
-    by_order Equal e rest = up
-    by_order Greater e rest = (before-in x k ks (key_order_total.antisymm x k ∙ rw e refl) up.0, rest)
-
-pub keys-ascend : (es : List Entry) (table : ℕ) → KeysAscend (keys es table)
-keys-ascend [] table = tt
-keys-ascend (e ∷ es) table = by_table (e.table == table) (keys-ascend es table)
-  where
-    by_table : (b : Bool) → KeysAscend (keys es table) → KeysAscend (if b then key_in e.key (keys es table) else keys es table)
-    by_table true rest = key_in-ascends e.key (keys es table) rest
-    by_table false rest = rest
-
-key_in-has : (k j : List Value) (ks : List (List Value)) → is_key_in j (key_in k ks) ≡ (is_eq (key_order k j) || is_key_in j ks)
-key_in-has k j [] = refl
-key_in-has k j (x ∷ ks) = by_order (key_order k x) refl (key_in-has k j ks)
-  where
-    swap : (a b c : Bool) → (a || (b || c)) ≡ (b || (a || c))
-    swap true true c = refl
-    swap true false c = refl
-    swap false true c = refl
-    swap false false c = refl
-
-    twice : (a b c : Bool) → a ≡ b → (b || c) ≡ (a || (b || c))
-    twice true b c e = rw (sym e) refl
-    twice false b c e = refl
-
-    by_order : (o : Ordering) → key_order k x ≡ o → is_key_in j (key_in k ks) ≡ (is_eq (key_order k j) || is_key_in j ks)
-        → is_key_in j (if is_lt o then k ∷ x ∷ ks else (if is_eq o then x ∷ ks else x ∷ key_in k ks)) ≡ (is_eq (key_order k j) || (is_eq (key_order x j) || is_key_in j ks))
-    by_order Less e rest = refl
-    by_order Equal e rest = twice (is_eq (key_order k j)) (is_eq (key_order x j)) (is_key_in j ks) (ap (λ y. is_eq (key_order y j)) (key_order-equal k x e))
-    by_order Greater e rest = ap (λ b. is_eq (key_order x j) || b) rest ∙ swap (is_eq (key_order x j)) (is_eq (key_order k j)) (is_key_in j ks)
 
 pub either_false : (a b : Bool) → (a || b) ≡ false → (a ≡ false) × (b ≡ false)
 either_false true b e = absurd (bool_apart e)

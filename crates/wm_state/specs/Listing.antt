@@ -3,7 +3,6 @@ use Rattle.std.specs.Prelude.{ℕ, ◌≡◌, Bool, true, false, ◌&&◌, ◌==
 use Rattle.std.specs.List.{list_any, filter_map}
 use Rattle.std.specs.Option.{option_and_then, option_map}
 use Rattle.std.specs.Ordering.{is_eq}
-use Rattle.std.specs.declared.cmp.Ordering.TheVariants.{Less}
 use Rattle.wm_base.specs.Key.{key_order}
 use Rattle.wm_base.specs.Period.{Span, overlaps, shared}
 use Rattle.wm_base.specs.declared.row.Row.{Row}
@@ -11,7 +10,7 @@ use Rattle.wm_base.specs.declared.value.Value.{Value}
 use Rattle.wm_base.specs.declared.value.Value.TheVariants as values
 use Rattle.wm_period.specs.Pieces.{Held}
 use Rattle.wm_spec.specs.Lists.{Entry, Told, told}
-use Rattle.wm_spec.specs.Stretches.{Stretch, AreMaximal, value_at}
+use Rattle.wm_spec.specs.Stretches.{Stretch, AreMaximal, KeysAscend, is_key_in, value_at}
 use Rattle.wm_graph.specs.Parts.{Parts, row_of}
 use Rattle.wm_spec.specs.declared.record.piece.PieceRecord.{PieceRecord}
 use Rattle.wm_spec.specs.declared.record.row.RowRecord.{RowRecord}
@@ -28,20 +27,6 @@ stamp_seen p version table key t = option_and_then standing (seen p version (rec
 -- the same of the newest version of a workspace
 abbrev pub stamp_shown : Parts → ℕ → ℕ → List Value → ℕ → Option ℕ
 stamp_shown p space = stamp_seen p (latest p space)
-
--- the key comes before all of these
-abbrev pub ComesBefore : List Value → List (List Value) → Type 0
-ComesBefore key [] = Unit {0}
-ComesBefore key (k ∷ ks) = (key_order key k ≡ Less) × ComesBefore key ks
-
--- the keys ascend, each once
-abbrev pub KeysAscend : List (List Value) → Type 0
-KeysAscend [] = Unit {0}
-KeysAscend (k ∷ ks) = ComesBefore k ks × KeysAscend ks
-
--- the key is one of these
-abbrev pub is_key_in : List Value → List (List Value) → Bool
-is_key_in key keys = list_any (λ k. is_eq (key_order k key)) keys
 
 -- the stretches of a key are the longest on which a version holds a row of one stamp
 pub record AreRowsOf (p : Parts) (version table : ℕ) (key : List Value) (ss : List Stretch) : Type 0 where

@@ -2,6 +2,9 @@
 use wm_base::{Key, Kind, Name, Period, Values};
 use wm_spec::record::Table;
 
+/// What a line that makes edits adds to the work of a store.
+pub const LINE_WORK: u64 = 4_096;
+
 /// What is written for a key over a period, by whom and when.
 #[derive(Drop)]
 pub struct NewEntry {

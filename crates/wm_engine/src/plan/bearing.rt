@@ -1,6 +1,5 @@
 //! CreateWorkspace.
-ghost use Rattle.std.specs.Prelude.{◌≡◌, ◌<◌, ◌+◌, ◌++◌, nat_lt, is_some, ℕ, List, true, false, IfOk};
-ghost use Rattle.std.specs.Fmt.{decimal};
+ghost use Rattle.std.specs.Prelude.{◌≡◌, ◌<◌, ◌+◌, nat_lt, is_some, ℕ, List, true, false, IfOk};
 ghost use Rattle.wm_base.specs.declared.instant.TheConstants.{END};
 ghost use Rattle.wm_engine.specs.Forks.{AreForks};
 ghost use Rattle.wm_engine.specs.Idle.{Idles};
@@ -9,10 +8,9 @@ ghost use Rattle.wm_engine.specs.Stands.{stand_view};
 ghost use Rattle.wm_graph.specs.Parts.{parts_of};
 ghost use Rattle.wm_graph.specs.Rules.{keep_rules};
 ghost use Rattle.wm_model.specs.Saving.{BearsIn, BearsRoomy, MayBearIn};
-ghost use Rattle.wm_model.specs.Step.{create_workspace, implicit_front, is_name, names_no_workspace, number_limit};
+ghost use Rattle.wm_model.specs.Step.{create_workspace, is_name, names_no_workspace, number_limit};
 ghost use Rattle.wm_state.specs.Editing.{stand_of};
 ghost use Rattle.wm_state.specs.Points.{next_place_at, point_at};
-ghost use Rattle.wm_state.specs.Standing.{space_after};
 ghost use Rattle.wm_state.specs.State.{Session as SessionState};
 
 use crate::answer::Answer;
@@ -25,30 +23,12 @@ use crate::session::{Session, Stand};
 use crate::work::is_spent;
 use std::alloc::Global;
 use wm_base::{Memory, Name};
-use wm_image::Image;
+use wm_image::{Image, implicit_name};
 use wm_spec::record::Space;
 use wm_state::edit::Edit;
 
 /// The most workspaces of a store.
 const SPACE_LIMIT: usize = 1_024;
-
-/// The number of the workspace that comes next.
-fn coming_space(image: &Image) -> u64
-    ensures { result ≡ space_after (parts_of image.now).spaces }
-{
-    image.next_space()
-}
-
-/// The name of the implicit savepoint of a number.
-fn implicit_name(alloc: Global, number: u32) -> Result<Name, Memory>
-    ensures { IfOk result (λ name. name ≡ implicit_front ++ decimal number) }
-{
-    let digits = number.to_string(alloc)?;
-    let mut name = Vec::new(alloc);
-    name.extend_from_slice(b"ICP-")?;
-    name.extend_from_slice(digits.as_bytes())?;
-    Ok(Name::from_vec(name))
-}
 
 /// Where a session stands, as an edit has it: at what is newest, or at the savepoint of a making.
 fn place_of(stand: Stand) -> Option<u64>
@@ -127,7 +107,7 @@ fn bear_where(
     if is_last(space.next_implicit) {
         return Ok(Planned::answered(alloc, at_its_end(alloc, b"ICP")?));
     }
-    if coming_space(image) > u64::from(u32::MAX) {
+    if image.next_space() > u64::from(u32::MAX) {
         return Ok(Planned::answered(alloc, at_its_end(alloc, b"WORKSPACE")?));
     }
     if !is_there(image, space, at) {

@@ -7,7 +7,6 @@ ghost use Rattle.wm_image.specs.Points.{point_view};
 ghost use Rattle.wm_state.specs.Drafts.{CanBear, CanWork, DraftsBy};
 ghost use Rattle.wm_state.specs.Editing.{implicit_front, number_limit, stand_of};
 ghost use Rattle.wm_state.specs.Points.{child_record, next_place_at};
-ghost use Rattle.wm_state.specs.Standing.{space_after};
 ghost use Rattle.wm_state.specs.declared.edit.Edit.TheVariants as edits;
 
 use crate::draft::changes::{birth_changes, marked, savepoint_changes};
@@ -21,15 +20,8 @@ use wm_spec::record::{Changes, FreezeMode, Space, Version};
 /// The id from which on a birth finds no room.
 const ID_LIMIT: u64 = u64::MAX - 2;
 
-/// The number of the workspace that comes next.
-fn coming_space(image: &Image) -> u64
-    ensures { result ≡ space_after (parts_of image.now).spaces }
-{
-    image.next_space()
-}
-
 /// The name of the implicit savepoint of a number.
-fn implicit_name(alloc: Global, number: u32) -> Result<Name, Memory>
+pub fn implicit_name(alloc: Global, number: u32) -> Result<Name, Memory>
     ensures { IfOk result (λ name. name ≡ implicit_front ++ decimal number) }
 {
     let digits = number.to_string(alloc)?;
@@ -103,7 +95,7 @@ pub fn bear(
     let space = image.space(parent).unwrap();
     let space_id = image.id_of_space(parent).unwrap();
     let point = point_at(image, moment, space, at).unwrap();
-    let number = coming_space(image) as u32;
+    let number = image.next_space() as u32;
     let counters = image.counters();
     let version = Version {
         number: counters.next_version,

@@ -26,14 +26,14 @@ returns-then-is_last-clause-does c = λ xs.
     (bear_nameless c.args.image.now xs c.args.moment c.args.session.now c.args.name c.args.space.now c.requires.roomy
     (ap (λ x. nat_lt number_limit (next_place_at c.args.space.now x)) (sym stands) ∙ sym c.if-is_placeless.ensures) (sym c.if-is_last.ensures))
 
-pub returns-then-coming_space-from-clause-does : goal.returns-then-coming_space-from-clause-does
-returns-then-coming_space-from-clause-does c = λ xs.
+pub returns-then-next_space-from-clause-does : goal.returns-then-next_space-from-clause-does
+returns-then-next_space-from-clause-does c = λ xs.
     let stands = c.place_of-at.ensures ∙ c.stand.ensures in
-    told c.args.image.now xs c.args.moment c.answered-then-coming_space-from.result [] Stay (at_its_end (codes "WORKSPACE")) (create_workspace c.args.session.now c.args.name) c.answered-then-coming_space-from.ensures.edits
-    (ap seating_view c.answered-then-coming_space-from.ensures.seating) (ap answer_view c.answered-then-coming_space-from.ensures.answer ∙ c.in_ok-at_its_end-3.ensures)
+    told c.args.image.now xs c.args.moment c.answered-then-next_space-from.result [] Stay (at_its_end (codes "WORKSPACE")) (create_workspace c.args.session.now c.args.name) c.answered-then-next_space-from.ensures.edits
+    (ap seating_view c.answered-then-next_space-from.ensures.seating) (ap answer_view c.answered-then-next_space-from.ensures.answer ∙ c.in_ok-at_its_end-3.ensures)
     (bear_numberless c.args.image.now xs c.args.moment c.args.session.now c.args.name c.args.space.now c.requires.roomy
     (ap (λ x. nat_lt number_limit (next_place_at c.args.space.now x)) (sym stands) ∙ sym c.if-is_placeless.ensures) (sym c.if-is_last.ensures)
-    (number_end (space_after (parts_of c.args.image.now).spaces) c.coming_space.result c.from.result c.coming_space.ensures c.from.ensures c.if-coming_space-from.true))
+    (number_end (space_after (parts_of c.args.image.now).spaces) c.next_space.result c.from.result c.next_space.ensures c.from.ensures c.if-next_space-from.true))
 
 pub returns-then-not-is_there-clause-does : goal.returns-then-not-is_there-clause-does
 returns-then-not-is_there-clause-does c = λ xs.
@@ -43,7 +43,7 @@ returns-then-not-is_there-clause-does c = λ xs.
     (bear_nowhere c.args.image.now xs c.args.moment c.args.session.now c.args.name c.args.space.now
     (may_bear_in c.args.image.now c.args.session.now c.args.name c.args.space.now (stand_of c.place_of-at.result) c.requires.roomy stands (sym c.if-is_placeless.ensures)
     (sym c.if-is_last.ensures)
-    (number_left (space_after (parts_of c.args.image.now).spaces) c.coming_space.result c.from.result c.coming_space.ensures c.from.ensures c.if-coming_space-from.false))
+    (number_left (space_after (parts_of c.args.image.now).spaces) c.next_space.result c.from.result c.next_space.ensures c.from.ensures c.if-next_space-from.false))
     (ap (point_at (parts_of c.args.image.now) c.args.space.now c.args.moment) (sym stands)
     ∙ none_of (point_at (parts_of c.args.image.now) c.args.space.now c.args.moment (stand_of c.place_of-at.result)) (sym (c.if-not-is_there.ensures c.args.moment))))
 
@@ -56,5 +56,5 @@ returns-clause-does c =
     bears_as c.args.image.now c.args.moment c.bear.result c.args.session.now c.args.name c.args.space.now c.place_of-at.result
     (may_bear_in c.args.image.now c.args.session.now c.args.name c.args.space.now (stand_of c.place_of-at.result) c.requires.roomy stands (sym c.if-is_placeless.ensures)
     (sym c.if-is_last.ensures)
-    (number_left (space_after (parts_of c.args.image.now).spaces) c.coming_space.result c.from.result c.coming_space.ensures c.from.ensures c.if-coming_space-from.false))
+    (number_left (space_after (parts_of c.args.image.now).spaces) c.next_space.result c.from.result c.next_space.ensures c.from.ensures c.if-next_space-from.false))
     stands c.bear.ensures.does

@@ -27,9 +27,9 @@ returns c =
     subst (DraftsBy c.args.work c.args.image.now c.args.moment (edits.Bear c.args.parent c.args.at c.args.name ∷ []))
     (sym
     (bearing_is c.args.image.now c.unwrap-space.result.now c.counters-counters.result c.args.moment c.args.work c.args.name c.in_ok-implicit.implicit (stand_of c.args.at) (point_view c.unwrap-point.result) c.next_place_at.result
-    c.coming_space-number.result c.id_of_counters-counters_id.result c.unwrap-space_id.result c.in-Some.id c.versioned-counted.result c.in_ok-new.new c.child_record-child.result c.made_at-savepoint.result c.in_ok-saved.saved
+    c.next_space-number.result c.id_of_counters-counters_id.result c.unwrap-space_id.result c.in-Some.id c.versioned-counted.result c.in_ok-new.new c.child_record-child.result c.made_at-savepoint.result c.in_ok-saved.saved
     c.in_ok-changes.changes c.versioned-counted.ensures c.in_ok-new.ensures c.next_place_at.ensures c.made_at-savepoint.ensures c.in_ok-implicit.ensures
-    (c.child_record-child.ensures (parts_of c.args.image.now) c.coming_space-number.ensures) c.coming_space-number.ensures c.in_ok-saved.ensures c.in_ok-changes.ensures))
+    (c.child_record-child.ensures (parts_of c.args.image.now) c.next_space-number.ensures) c.next_space-number.ensures c.in_ok-saved.ensures c.in_ok-changes.ensures))
     (drafts_born c.args.image.now c.args.moment c.args.work c.args.parent c.args.at c.args.name c.unwrap-space.result.now (point_view c.unwrap-point.result) c.counters-counters.result c.id_of_counters-counters_id.result c.unwrap-space_id.result
     c.in-Some.id c.requires.rules c.requires.work c.requires.can (found c) (stands c)
     (places_of c.args.image.now c.args.parent c.id_of_counters-counters_id.result c.id_of_space.result c.unwrap-space_id.result c.in-Some.id c.counters-counters.result c.unwrap-space.result.now

@@ -1,7 +1,8 @@
-use Rattle.std.proofs.Common.{◌==◌, ℕ, nat_lt, refl, sym, ap, ◌∙◌}
+use Rattle.std.proofs.Common.{◌≡◌, ◌+◌, ◌==◌, ℕ, nat_lt, true, is_some, refl, sym, ap, ◌∙◌}
 use Rattle.std.specs.List.{list_all}
 use Rattle.std.specs.Option.{option_copied}
-use Rattle.wm_graph.specs.Parts.{parts_of}
+use Rattle.wm_graph.specs.Parts.{parts_of, space_of}
+use Rattle.wm_image.proofs.Coming.{space_after_is}
 use Rattle.wm_image.proofs.Firsts.{some_found}
 use Rattle.wm_image.proofs.Lasts.{LastOf, all_before, last_there}
 use Rattle.wm_image.proofs.Spaced.{is_numbered, last_numbered}
@@ -13,12 +14,17 @@ last : (c : goal.After-number_after) → LastOf (is_numbered (parts_of c.args.se
 last c =
     last_numbered c.self.inside.kept c.self.inside.index c.self.invariant c.args.self.now c.self.view_is (option_copied c.last_key.result) c.last_key.ensures.ordered c.last_key.ensures.last
 
-pub returns-clause-above : goal.returns-clause-above
-returns-clause-above c =
+-- all numbers are below it
+above : (c : goal.After-number_after) → list_all (λ (r : Space). nat_lt r.number c.number_after.result) (parts_of c.args.self.now).spaces ≡ true
+above c =
     ap (λ (n : ℕ). list_all (λ (r : Space). nat_lt r.number n) (parts_of c.args.self.now).spaces) c.number_after.ensures
     ∙ all_before (λ (r : Space). r.number) (parts_of c.args.self.now).spaces 0 (option_copied c.last_key.result) (last c)
 
-pub returns-clause-last : goal.returns-clause-last
-returns-clause-last c = λ n is.
+-- the number before it is that of a workspace
+there : (c : goal.After-number_after) → (n : ℕ) → c.number_after.result ≡ n + 1 → is_some (space_of (parts_of c.args.self.now).spaces n) ≡ true
+there c = λ n is.
     sym (some_found (λ (r : Space). r.number == n) (parts_of c.args.self.now).spaces)
     ∙ last_there (is_numbered (parts_of c.args.self.now)) 0 (option_copied c.last_key.result) (last c) n refl (sym c.number_after.ensures ∙ is)
+
+pub returns : goal.returns
+returns c = space_after_is (parts_of c.args.self.now).spaces c.number_after.result (above c) (there c)
