@@ -1,7 +1,7 @@
 //! One change of a heap: what is under an id is put where there is room, or taken out.
 ghost use Rattle.std.specs.Prelude.{◌≡◌, ℕ, ◌<◌, ◌≤◌, true, false, ◌||◌, ◌==◌, if◌then◌else◌, ◌++◌, ◌∷◌, [], length, Some, None, is_some, OnOk, IsErrOf, IfSome};
 ghost use Rattle.wm_base.specs.declared.fault.StoreFault.TheVariants as faults;
-ghost use Rattle.wm_heap.specs.Asking.{StoreCause};
+ghost use Rattle.wm_page.specs.Cause.{StoreCause};
 ghost use Rattle.wm_heap.specs.Draft.{HasRoom, Stands, Puts, Goes, Done};
 ghost use Rattle.wm_heap.specs.Places.{place_of, page_count};
 

@@ -2,7 +2,7 @@
 ghost use Rattle.std.specs.Prelude.{◌≡◌, ℕ, ◌+◌, ◌<◌, ◌≤◌, ◌⊎◌, ◌++◌, ◌∷◌, [], true, not, length, is_some, IfOk, IsErrOf, OnOk, IsTrue, ◌==◌};
 ghost use Rattle.wm_base.specs.declared.fault.StoreFault.TheVariants as faults;
 ghost use Rattle.wm_page.specs.Batch.{entries};
-ghost use Rattle.wm_heap.specs.Asking.{StoreCause};
+ghost use Rattle.wm_page.specs.Cause.{StoreCause};
 ghost use Rattle.wm_heap.specs.Blobs.{AreBlobs, AreSmall, AllPut, slots_put, change_something};
 ghost use Rattle.wm_heap.specs.Content.{content, bytes_at};
 ghost use Rattle.wm_heap.specs.Places.{place_of, page_count, spots_of, spots_on, IsHeapOf};

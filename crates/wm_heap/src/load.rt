@@ -1,7 +1,7 @@
 //! How a heap is read from the pages of a store, or put on the first of them.
 ghost use Rattle.std.specs.Prelude.{◌≡◌, ℕ, ◌+◌, ◌-◌, ◌<◌, ◌≤◌, Bool, false, nat_lt, if◌then◌else◌, List, [], ◌∷◌, length, Some, None, is_some, IfOk, OnOk, IfErr, IsErrOf};
 ghost use Rattle.wm_base.specs.declared.fault.OpenFault.TheVariants as faults;
-ghost use Rattle.wm_heap.specs.Asking.{OpenCause, Finds, FindsTwice};
+ghost use Rattle.wm_heap.specs.Asking.{Finds, FindsTwice};
 ghost use Rattle.wm_heap.specs.Content.{bytes_at, is_twice, damage_on, fault_of};
 ghost use Rattle.wm_heap.specs.Loading.{LoadsPage};
 ghost use Rattle.wm_heap.specs.Places.{at, IsHeapOf};
@@ -9,6 +9,7 @@ ghost use Rattle.wm_heap.specs.Slots.{slots_of, page_of, used};
 ghost use Rattle.wm_heap.specs.Blobs.{AreBlobs, slots_put};
 ghost use Rattle.wm_heap.specs.Plan.{root_of};
 ghost use Rattle.wm_page.specs.Batch.{entries};
+ghost use Rattle.wm_page.specs.Cause.{OpenCause};
 ghost use Rattle.wm_page.specs.Fields.{number_at};
 
 use crate::blob::{Blob, Blobs};

@@ -1,8 +1,9 @@
 //! Writes to the device, each run of them ended by a sync.
 ghost use Rattle.std.specs.Prelude.{◌≡◌, ◌+◌, ◌*◌, ◌^◌, ◌<◌, ◌≤◌, ◌++◌, length, All, OnOk, OnErr, IfErr, IsErrOf};
 ghost use Rattle.wm_page.specs.Batch.{entries};
+ghost use Rattle.wm_page.specs.Cause.{OpenCause};
 ghost use Rattle.wm_page.specs.Fields.{eight_bytes};
-ghost use Rattle.wm_station.specs.Cause.{Rises};
+ghost use Rattle.wm_station.specs.Cause.{DiskCause};
 ghost use Rattle.wm_station.specs.History.{Synced};
 ghost use Rattle.wm_journal.specs.Opening.{IsSilent};
 ghost use Rattle.wm_journal.specs.Writes.{Did, DidPart, placing, gating, arming, committing, root_page, marking, rooting, making};
@@ -17,8 +18,7 @@ pub(crate) fn place<P: Station>(station: &mut P, pages: &[PageWrite]) -> Result<
     requires { All (λ w. w.page * 4096 < 2 ^ 64) pages.now }
     ensures did { P.tells → OnOk result (Did (placing (entries pages.now)) (P.history station.old) (P.history station.new)) }
     ensures part { P.tells → OnErr result (DidPart (placing (entries pages.now)) (P.history station.old) (P.history station.new)) }
-    ensures later { P.disk_faults station.old ≤ P.disk_faults station.new }
-    ensures failed { IsErrOf result DiskFailed.Failed → Rises (P.disk_faults station.old) (P.disk_faults station.new) }
+    ensures cause { DiskCause (P.disk_faults station.old) (P.disk_faults station.new) result }
     ensures wants { IsErrOf result DiskFailed.Memory → P.wants }
     ensures say_quiet { P.say_faults station.new ≡ P.say_faults station.old }
 {
@@ -32,8 +32,7 @@ pub(crate) fn place<P: Station>(station: &mut P, pages: &[PageWrite]) -> Result<
 pub(crate) fn set_gate<P: Station>(station: &mut P, gate: u8) -> Result<(), DiskFailed>
     ensures did { P.tells → OnOk result (Did (gating gate) (P.history station.old) (P.history station.new)) }
     ensures part { P.tells → OnErr result (DidPart (gating gate) (P.history station.old) (P.history station.new)) }
-    ensures later { P.disk_faults station.old ≤ P.disk_faults station.new }
-    ensures failed { IsErrOf result DiskFailed.Failed → Rises (P.disk_faults station.old) (P.disk_faults station.new) }
+    ensures cause { DiskCause (P.disk_faults station.old) (P.disk_faults station.new) result }
     ensures wants { IsErrOf result DiskFailed.Memory → P.wants }
     ensures say_quiet { P.say_faults station.new ≡ P.say_faults station.old }
 {
@@ -52,8 +51,7 @@ fn arm<P: Station>(
     requires fits { start * 4096 < 2 ^ 64 }
     ensures did { P.tells → OnOk result (Did (arming start images journal.now) (P.history station.old) (P.history station.new)) }
     ensures part { P.tells → OnErr result (DidPart (arming start images journal.now) (P.history station.old) (P.history station.new)) }
-    ensures later { P.disk_faults station.old ≤ P.disk_faults station.new }
-    ensures failed { IsErrOf result DiskFailed.Failed → Rises (P.disk_faults station.old) (P.disk_faults station.new) }
+    ensures cause { DiskCause (P.disk_faults station.old) (P.disk_faults station.new) result }
     ensures wants { IsErrOf result DiskFailed.Memory → P.wants }
     ensures say_quiet { P.say_faults station.new ≡ P.say_faults station.old }
 {
@@ -86,8 +84,7 @@ pub(crate) fn write_through<P: Station>(
     ensures few { length pages.now < 2 ^ 64 }
     ensures did { P.tells → OnOk result (Did (committing start (length pages.now) journal.now (entries pages.now)) (P.history station.old) (P.history station.new)) }
     ensures part { P.tells → OnErr result (DidPart (committing start (length pages.now) journal.now (entries pages.now)) (P.history station.old) (P.history station.new)) }
-    ensures later { P.disk_faults station.old ≤ P.disk_faults station.new }
-    ensures failed { IsErrOf result DiskFailed.Failed → Rises (P.disk_faults station.old) (P.disk_faults station.new) }
+    ensures cause { DiskCause (P.disk_faults station.old) (P.disk_faults station.new) result }
     ensures wants { IsErrOf result DiskFailed.Memory → P.wants }
     ensures say_quiet { P.say_faults station.new ≡ P.say_faults station.old }
 {
@@ -102,8 +99,7 @@ pub(crate) fn settle<P: Station>(station: &mut P) -> Result<(), OpenFault>
     ensures ok { P.tells → OnOk result (P.history station.new ≡ Synced (P.history station.old)) }
     ensures err { P.tells → OnErr result (P.history station.new ≡ P.history station.old) }
     ensures silent { IfErr result IsSilent }
-    ensures later { P.disk_faults station.old ≤ P.disk_faults station.new }
-    ensures disk { IsErrOf result OpenFault.Disk → Rises (P.disk_faults station.old) (P.disk_faults station.new) }
+    ensures cause { OpenCause (P.disk_faults station.old) (P.disk_faults station.new) result }
     ensures wants { IsErrOf result OpenFault.Memory → P.wants }
     ensures say_quiet { P.say_faults station.new ≡ P.say_faults station.old }
 {
@@ -151,8 +147,7 @@ pub(crate) fn write_made<P: Station>(station: &mut P, pages: &[PageWrite]) -> Re
     requires { All (λ w. w.page * 4096 < 2 ^ 64) pages.now }
     ensures did { P.tells → OnOk result (Did (making root_page (entries pages.now)) (P.history station.old) (P.history station.new)) }
     ensures part { P.tells → OnErr result (DidPart (making root_page (entries pages.now)) (P.history station.old) (P.history station.new)) }
-    ensures later { P.disk_faults station.old ≤ P.disk_faults station.new }
-    ensures failed { IsErrOf result DiskFailed.Failed → Rises (P.disk_faults station.old) (P.disk_faults station.new) }
+    ensures cause { DiskCause (P.disk_faults station.old) (P.disk_faults station.new) result }
     ensures wants { IsErrOf result DiskFailed.Memory → P.wants }
     ensures say_quiet { P.say_faults station.new ≡ P.say_faults station.old }
 {
@@ -166,8 +161,7 @@ fn write_root<P: Station>(station: &mut P, pages: &[PageWrite]) -> Result<(), Di
     requires { All (λ w. w.page * 4096 < 2 ^ 64) pages.now }
     ensures did { P.tells → OnOk result (Did (rooting root_page (entries pages.now)) (P.history station.old) (P.history station.new)) }
     ensures part { P.tells → OnErr result (DidPart (rooting root_page (entries pages.now)) (P.history station.old) (P.history station.new)) }
-    ensures later { P.disk_faults station.old ≤ P.disk_faults station.new }
-    ensures failed { IsErrOf result DiskFailed.Failed → Rises (P.disk_faults station.old) (P.disk_faults station.new) }
+    ensures cause { DiskCause (P.disk_faults station.old) (P.disk_faults station.new) result }
     ensures wants { IsErrOf result DiskFailed.Memory → P.wants }
     ensures say_quiet { P.say_faults station.new ≡ P.say_faults station.old }
 {
@@ -179,8 +173,7 @@ fn write_root<P: Station>(station: &mut P, pages: &[PageWrite]) -> Result<(), Di
 fn write_byte<P: Station>(station: &mut P, byte: u8) -> Result<(), DiskFailed>
     ensures did { P.tells → OnOk result (Did (marking byte) (P.history station.old) (P.history station.new)) }
     ensures part { P.tells → OnErr result (DidPart (marking byte) (P.history station.old) (P.history station.new)) }
-    ensures later { P.disk_faults station.old ≤ P.disk_faults station.new }
-    ensures failed { IsErrOf result DiskFailed.Failed → Rises (P.disk_faults station.old) (P.disk_faults station.new) }
+    ensures cause { DiskCause (P.disk_faults station.old) (P.disk_faults station.new) result }
     ensures wants { IsErrOf result DiskFailed.Memory → P.wants }
     ensures say_quiet { P.say_faults station.new ≡ P.say_faults station.old }
 {

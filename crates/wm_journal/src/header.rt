@@ -1,7 +1,8 @@
 //! The fields of pages 0 and 1, as opening reads and tests them.
 ghost use Rattle.std.specs.Prelude.{◌≡◌, ◌<◌, ◌≤◌, true, false, length, None, IfOk, IfErr, OnOk, IsErrOf};
+ghost use Rattle.wm_page.specs.Cause.{OpenCause};
 ghost use Rattle.wm_station.specs.History.{now};
-ghost use Rattle.wm_station.specs.Cause.{Rises};
+ghost use Rattle.wm_station.specs.Cause.{DiskCause};
 ghost use Rattle.wm_journal.specs.Disk.{is_made, has_format, is_open, count_of, damage_of};
 ghost use Rattle.wm_journal.specs.Header.{IsHeader};
 ghost use Rattle.wm_journal.specs.Opening.{Says, IsSilent, IsUntouched};
@@ -24,8 +25,7 @@ pub(crate) struct Header {
 pub(crate) fn is_made<P: Station>(station: &mut P) -> Result<bool, DiskFailed>
     ensures made { P.tells → IfOk result (λ made. made ≡ is_made (now (P.history station.old))) }
     ensures told { P.tells → P.history station.new ≡ P.history station.old }
-    ensures later { P.disk_faults station.old ≤ P.disk_faults station.new }
-    ensures failed { IsErrOf result DiskFailed.Failed → Rises (P.disk_faults station.old) (P.disk_faults station.new) }
+    ensures cause { DiskCause (P.disk_faults station.old) (P.disk_faults station.new) result }
     ensures wants { IsErrOf result DiskFailed.Memory → P.wants }
     ensures say_quiet { P.say_faults station.new ≡ P.say_faults station.old }
 {
@@ -43,8 +43,7 @@ pub(crate) fn size_of<P: Station>(station: &mut P) -> Result<u64, OpenFault>
     ensures size { P.tells → IfOk result (λ n. n ≡ length (now (P.history station.old))) }
     ensures told { P.tells → P.history station.new ≡ P.history station.old }
     ensures silent { IfErr result IsSilent }
-    ensures later { P.disk_faults station.old ≤ P.disk_faults station.new }
-    ensures disk { IsErrOf result OpenFault.Disk → Rises (P.disk_faults station.old) (P.disk_faults station.new) }
+    ensures cause { OpenCause (P.disk_faults station.old) (P.disk_faults station.new) result }
     ensures wants { IsErrOf result OpenFault.Memory → P.wants }
     ensures say_quiet { P.say_faults station.new ≡ P.say_faults station.old }
 {
@@ -60,8 +59,7 @@ pub(crate) fn read_header<P: Station>(station: &mut P, size: u64) -> Result<Head
     ensures header { P.tells → IfOk result (λ h. IsHeader h (now (P.history station.old))) }
     ensures fault { P.tells → IfErr result (λ e. Says e (now (P.history station.old))) }
     ensures told { P.tells → P.history station.new ≡ P.history station.old }
-    ensures later { P.disk_faults station.old ≤ P.disk_faults station.new }
-    ensures disk { IsErrOf result OpenFault.Disk → Rises (P.disk_faults station.old) (P.disk_faults station.new) }
+    ensures cause { OpenCause (P.disk_faults station.old) (P.disk_faults station.new) result }
     ensures wants { IsErrOf result OpenFault.Memory → P.wants }
     ensures say_quiet { P.say_faults station.new ≡ P.say_faults station.old }
 {
@@ -100,8 +98,7 @@ pub(crate) fn read_count<P: Station>(station: &mut P, size: u64) -> Result<u64, 
     ensures fault { P.tells → IfErr result (λ e. Says e (now (P.history station.old))) }
     ensures touched { IfErr result (λ e. IsUntouched e → ⊥) }
     ensures told { P.tells → P.history station.new ≡ P.history station.old }
-    ensures later { P.disk_faults station.old ≤ P.disk_faults station.new }
-    ensures disk { IsErrOf result OpenFault.Disk → Rises (P.disk_faults station.old) (P.disk_faults station.new) }
+    ensures cause { OpenCause (P.disk_faults station.old) (P.disk_faults station.new) result }
     ensures wants { IsErrOf result OpenFault.Memory → P.wants }
     ensures say_quiet { P.say_faults station.new ≡ P.say_faults station.old }
 {

@@ -1,6 +1,7 @@
 //! The journal of a store's pages.
 ghost use Rattle.std.specs.Prelude.{◌≡◌, ℕ, ◌+◌, ◌*◌, ◌<◌, ◌≤◌, ◌⊎◌, max, [], true, false, length, IsTrue, Ok, IfOk, IfErr, OnOk, OnErr, IsErrOf, None};
 ghost use Rattle.wm_page.specs.Batch.{entries};
+ghost use Rattle.wm_page.specs.Cause.{MakeCause, OpenCause, StoreCause};
 ghost use Rattle.wm_page.specs.Entries.{is_named};
 ghost use Rattle.wm_station.specs.History.{now, said, Leaves, Synced};
 ghost use Rattle.wm_station.specs.Moments.{During, Ended};
@@ -76,6 +77,7 @@ impl Journal {
 
         ensures later { P.disk_faults station.old ≤ P.disk_faults station.new }
         ensures disk { IsErrOf result StoreFault.Disk → Rises (P.disk_faults station.old) (P.disk_faults station.new) }
+        ensures cause { StoreCause (P.disk_faults station.old) (P.disk_faults station.new) result }
         ensures not_changed { IsErrOf result StoreFault.Changed → ⊥ }
         ensures say_quiet { P.say_faults station.new ≡ P.say_faults station.old }
     {
@@ -118,6 +120,7 @@ impl Journal {
         ensures part { P.tells → OnErr result (DidPart (making root_page (entries batch.now.pages)) (P.history station.old) (P.history station.new)) }
         ensures later { P.disk_faults station.old ≤ P.disk_faults station.new }
         ensures disk { IsErrOf result MakeFault.Disk → Rises (P.disk_faults station.old) (P.disk_faults station.new) }
+        ensures cause { MakeCause (P.disk_faults station.old) (P.disk_faults station.new) result }
         ensures wants { IsErrOf result MakeFault.Memory → P.wants }
         ensures say_quiet { P.say_faults station.new ≡ P.say_faults station.old }
     {
@@ -153,6 +156,7 @@ impl Journal {
 
         ensures later { P.disk_faults station.old ≤ P.disk_faults station.new }
         ensures disk { IsErrOf result OpenFault.Disk → Rises (P.disk_faults station.old) (P.disk_faults station.new) }
+        ensures cause { OpenCause (P.disk_faults station.old) (P.disk_faults station.new) result }
         ensures say_quiet { P.say_faults station.new ≡ P.say_faults station.old }
     {
         settle(station)?;

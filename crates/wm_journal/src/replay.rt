@@ -1,10 +1,11 @@
 //! Bringing the images of an open journal to their places.
 ghost use Rattle.std.specs.Prelude.{◌≡◌, ◌+◌, ◌-◌, ◌*◌, ◌/◌, ◌^◌, ◌<◌, ◌≤◌, ◌++◌, ◌↔◌, [], true, false, All, ⊤, length, MatchOption, IsTrue, IfOk, IfErr, OnOk, OnErr, IsErrOf};
 ghost use Rattle.wm_page.specs.Batch.{entries};
+ghost use Rattle.wm_page.specs.Cause.{OpenCause};
 ghost use Rattle.wm_page.specs.Entries.{is_named};
 ghost use Rattle.wm_page.specs.Fields.{number_at};
 ghost use Rattle.wm_station.specs.History.{now, stretch};
-ghost use Rattle.wm_station.specs.Cause.{Rises};
+ghost use Rattle.wm_station.specs.Cause.{DiskCause};
 ghost use Rattle.wm_journal.specs.Disk.{journal_at, directory_pages, may_name};
 ghost use Rattle.wm_journal.specs.Header.{IsHeader};
 ghost use Rattle.wm_journal.specs.Opening.{Says, IsUntouched, Repaired, RepairedPart};
@@ -31,8 +32,7 @@ pub(crate) fn repair<P: Station>(
     ensures part { P.tells → OnErr result (RepairedPart (P.history station.old) (P.history station.new)) }
     ensures fault { P.tells → IfErr result (λ e. Says e (now (P.history station.old))) }
     ensures untouched { P.tells → IfErr result (λ e. IsUntouched e → P.history station.new ≡ P.history station.old) }
-    ensures later { P.disk_faults station.old ≤ P.disk_faults station.new }
-    ensures disk { IsErrOf result OpenFault.Disk → Rises (P.disk_faults station.old) (P.disk_faults station.new) }
+    ensures cause { OpenCause (P.disk_faults station.old) (P.disk_faults station.new) result }
     ensures say_quiet { P.say_faults station.new ≡ P.say_faults station.old }
 {
     if !header.open {
@@ -57,8 +57,7 @@ fn put_back<P: Station>(station: &mut P, pages: &[PageWrite]) -> Result<(), Disk
     requires { All (λ w. w.page * 4096 < 2 ^ 64) pages.now }
     ensures did { P.tells → OnOk result (Did (placing (entries pages.now) ++ gating 0) (P.history station.old) (P.history station.new)) }
     ensures part { P.tells → OnErr result (DidPart (placing (entries pages.now) ++ gating 0) (P.history station.old) (P.history station.new)) }
-    ensures later { P.disk_faults station.old ≤ P.disk_faults station.new }
-    ensures failed { IsErrOf result DiskFailed.Failed → Rises (P.disk_faults station.old) (P.disk_faults station.new) }
+    ensures cause { DiskCause (P.disk_faults station.old) (P.disk_faults station.new) result }
     ensures say_quiet { P.say_faults station.new ≡ P.say_faults station.old }
 {
     place(station, pages)?;
@@ -93,8 +92,7 @@ fn read_pages<P: Station>(
         × (may_name header.now.start (entries pages.items) ≡ true))) }
     ensures below { IfOk result (λ found. MatchOption found ⊤ (λ pages. All (λ w. w.page * 4096 < 2 ^ 64) pages.items)) }
     ensures told { P.tells → P.history station.new ≡ P.history station.old }
-    ensures later { P.disk_faults station.old ≤ P.disk_faults station.new }
-    ensures failed { IsErrOf result DiskFailed.Failed → Rises (P.disk_faults station.old) (P.disk_faults station.new) }
+    ensures cause { DiskCause (P.disk_faults station.old) (P.disk_faults station.new) result }
     ensures say_quiet { P.say_faults station.new ≡ P.say_faults station.old }
 {
     let mut pages: Vec<PageWrite> = Vec::new(alloc);
@@ -117,8 +115,7 @@ fn read_page_number<P: Station>(station: &mut P, size: u64, at: u64) -> Result<u
     requires room { at + 8 ≤ size }
     ensures number { P.tells → IfOk result (λ n. n ≡ number_at (now (P.history station.old)) at) }
     ensures told { P.tells → P.history station.new ≡ P.history station.old }
-    ensures later { P.disk_faults station.old ≤ P.disk_faults station.new }
-    ensures failed { IsErrOf result DiskFailed.Failed → Rises (P.disk_faults station.old) (P.disk_faults station.new) }
+    ensures cause { DiskCause (P.disk_faults station.old) (P.disk_faults station.new) result }
     ensures say_quiet { P.say_faults station.new ≡ P.say_faults station.old }
 {
     let mut bytes = [0; 8];
@@ -138,8 +135,7 @@ fn read_page<P: Station>(
     ensures bytes { P.tells → IfOk result (λ bytes. bytes ≡ stretch (now (P.history station.old)) at 4096) }
     ensures whole { IfOk result (λ bytes. length bytes ≡ 4096) }
     ensures told { P.tells → P.history station.new ≡ P.history station.old }
-    ensures later { P.disk_faults station.old ≤ P.disk_faults station.new }
-    ensures failed { IsErrOf result DiskFailed.Failed → Rises (P.disk_faults station.old) (P.disk_faults station.new) }
+    ensures cause { DiskCause (P.disk_faults station.old) (P.disk_faults station.new) result }
     ensures say_quiet { P.say_faults station.new ≡ P.say_faults station.old }
 {
     let mut bytes = vec![in alloc; 0; PAGE_SIZE]?;

@@ -1,4 +1,4 @@
 pub mod Batch
+pub mod Cause
 pub mod Entries
 pub mod Fields
-pub mod Pages

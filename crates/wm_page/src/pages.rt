@@ -1,6 +1,6 @@
 //! Who reads pages.
 ghost use Rattle.std.specs.Prelude.{◌≡◌, ℕ, ◌<◌, List, [], length, OnOk};
-ghost use Rattle.wm_page.specs.Pages.{PagesCause};
+ghost use Rattle.wm_page.specs.Cause.{PagesCause};
 
 use thiserror::Error;
 

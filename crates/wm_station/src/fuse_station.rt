@@ -1,5 +1,5 @@
 //! A station that fails from some call on.
-ghost use Rattle.std.specs.Prelude.{◌≡◌, ◌+◌, ◌-◌, ◌<◌, ◌≤◌, length, IfOk, OnOk, OnErr, IsErrOf};
+ghost use Rattle.std.specs.Prelude.{◌≡◌, ◌+◌, ◌-◌, ◌<◌, ◌≤◌, min, length, IfOk, OnOk, OnErr, IsErrOf};
 ghost use Rattle.wm_station.specs.Cause.{DiskCause, SayCause, Rises};
 ghost use Rattle.wm_station.specs.History.{now, stretch, DidWrite, MayHaveWritten, MayHaveSaid, Synced, Said};
 ghost use Rattle.wm_station.specs.Planned.{Burns};
@@ -129,6 +129,7 @@ impl<P: Station> Station for FuseStation<P> {
         ensures burns { Burns self.old.left self.new.left self.old.blown_say self.new.blown_say result SayFailed.Failed }
         ensures cause { SayCause (P.say_faults self.old.inner + self.old.blown_say) (P.say_faults self.new.inner + self.new.blown_say) result }
         ensures nothing { IfOk result (λ n. n ≡ 0 → 0 < length bytes.now → Rises (P.say_faults self.old.inner + self.old.blown_say) (P.say_faults self.new.inner + self.new.blown_say)) }
+        ensures some { IfOk result (λ n. min 1 (length bytes.now) ≤ n → P.say_faults self.new.inner + self.new.blown_say ≡ P.say_faults self.old.inner + self.old.blown_say) }
         ensures wants { IsErrOf result SayFailed.Memory → P.wants }
         ensures quiet { P.disk_faults self.new.inner + self.new.blown_disk ≡ P.disk_faults self.old.inner + self.old.blown_disk }
     {

@@ -138,6 +138,7 @@ impl Station for MemoryStation {
         ensures planned { IsErrOf result SayFailed.Failed ↔ FailsNext (faults_of self.old).says }
         ensures cause { SayCause self.old.say_faults self.new.say_faults result }
         ensures nothing { IfOk result (λ n. n ≡ 0 → 0 < length bytes.now → Rises self.old.say_faults self.new.say_faults) }
+        ensures some { IfOk result (λ n. min 1 (length bytes.now) ≤ n → self.new.say_faults ≡ self.old.say_faults) }
         ensures quiet { self.new.disk_faults ≡ self.old.disk_faults }
     {
         if self.faults.says.next_fails() {

@@ -1,5 +1,5 @@
 //! The disk and the answers in one device, so that a crash leaves a file together with the bytes said.
-ghost use Rattle.std.specs.Prelude.{◌≡◌, ℕ, ◌+◌, ◌<◌, ◌≤◌, List, length, IfOk, OnOk, OnErr, IsErrOf};
+ghost use Rattle.std.specs.Prelude.{◌≡◌, ℕ, ◌+◌, ◌<◌, ◌≤◌, min, List, length, IfOk, OnOk, OnErr, IsErrOf};
 ghost use Rattle.wm_station.specs.History.{History, now, stretch, DidWrite, MayHaveWritten, MayHaveSaid, Synced, Said};
 ghost use Rattle.wm_station.specs.Cause.{DiskCause, SayCause, Rises};
 
@@ -68,5 +68,6 @@ pub trait Station {
         ensures cause { SayCause (say_faults self.old) (say_faults self.new) result }
         ensures wants { IsErrOf result SayFailed.Memory → wants }
         ensures nothing { IfOk result (λ n. n ≡ 0 → 0 < length bytes.now → Rises (say_faults self.old) (say_faults self.new)) }
+        ensures some { IfOk result (λ n. min 1 (length bytes.now) ≤ n → say_faults self.new ≡ say_faults self.old) }
         ensures quiet { disk_faults self.new ≡ disk_faults self.old };
 }

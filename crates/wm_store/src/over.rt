@@ -3,7 +3,7 @@ ghost use Rattle.std.specs.Prelude.{◌≡◌, ℕ, ◌*◌, ◌/◌, ◌<◌, �
 ghost use Rattle.wm_base.specs.declared.fault.OpenFault.TheVariants as opening;
 ghost use Rattle.wm_base.specs.declared.fault.StoreFault.TheVariants as storing;
 ghost use Rattle.wm_page.specs.Batch.{entries};
-ghost use Rattle.wm_station.specs.Cause.{Rises};
+ghost use Rattle.wm_page.specs.Cause.{OpenCause, StoreCause};
 ghost use Rattle.wm_station.specs.History.{now};
 ghost use Rattle.wm_journal.specs.Disk.{page};
 ghost use Rattle.wm_heap.specs.Blobs.{AreBlobs, AreSmall, change_something};
@@ -36,8 +36,7 @@ pub fn load_over<P: Station>(
     ensures fault { P.tells → IfErr result (λ e. FindsIn e (pages_opened (page (now (P.history station.old))) count (length (now (P.history station.old)) / 4096))) }
     ensures store { IsErrOf result opening.NotStore → ⊥ }
     ensures told { P.tells → P.history station.new ≡ P.history station.old }
-    ensures later { P.disk_faults station.old ≤ P.disk_faults station.new }
-    ensures disk { IsErrOf result opening.Disk → Rises (P.disk_faults station.old) (P.disk_faults station.new) }
+    ensures cause { OpenCause (P.disk_faults station.old) (P.disk_faults station.new) result }
     ensures say_quiet { P.say_faults station.new ≡ P.say_faults station.old }
 {
     let whole = match whole_pages(station) {
@@ -72,8 +71,7 @@ pub fn plan_over<P: Station>(
     ensures nothing { IfOk result (λ b. (length b.pages == 0) ≡ not (change_something (λ id. is_some (place_of heap.old id)) blobs.now)) }
     ensures changed { P.tells → IfOk result (λ b. IsChanged heap.new blobs.now (entries b.pages) (page (now (P.history station.old))) count) }
     ensures told { P.tells → P.history station.new ≡ P.history station.old }
-    ensures later { P.disk_faults station.old ≤ P.disk_faults station.new }
-    ensures disk { IsErrOf result storing.Disk → Rises (P.disk_faults station.old) (P.disk_faults station.new) }
+    ensures cause { StoreCause (P.disk_faults station.old) (P.disk_faults station.new) result }
     ensures sound { P.tells → IsErrOf result storing.Changed → ⊥ }
     ensures say_quiet { P.say_faults station.new ≡ P.say_faults station.old }
 {
@@ -105,8 +103,7 @@ pub fn get_over<P: Station>(
     ensures bytes { P.tells → IfOk result (λ bytes. bytes ≡ bytes_at (content (page (now (P.history station.old))) count) id) }
     ensures there { IfOk result (λ bytes. is_some bytes ≡ is_some (place_of heap.now id)) }
     ensures told { P.tells → P.history station.new ≡ P.history station.old }
-    ensures later { P.disk_faults station.old ≤ P.disk_faults station.new }
-    ensures disk { IsErrOf result storing.Disk → Rises (P.disk_faults station.old) (P.disk_faults station.new) }
+    ensures cause { StoreCause (P.disk_faults station.old) (P.disk_faults station.new) result }
     ensures sound { P.tells → IsErrOf result storing.Changed → ⊥ }
     ensures say_quiet { P.say_faults station.new ≡ P.say_faults station.old }
 {

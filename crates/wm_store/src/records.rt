@@ -3,7 +3,8 @@ ghost use Rattle.std.specs.Prelude.{◌≡◌, ℕ, ◌-◌, ◌<◌, ◌≤◌,
 ghost use Rattle.wm_base.specs.declared.fault.Damage.TheVariants as damages;
 ghost use Rattle.wm_base.specs.declared.fault.OpenFault.TheVariants as faults;
 ghost use Rattle.wm_codec.specs.Reading.{record_of};
-ghost use Rattle.wm_heap.specs.Asking.{OpenCause, Finds};
+ghost use Rattle.wm_page.specs.Cause.{OpenCause};
+ghost use Rattle.wm_heap.specs.Asking.{Finds};
 ghost use Rattle.wm_heap.specs.Content.{slots_in, content};
 ghost use Rattle.wm_heap.specs.Slots.{slots_of};
 ghost use Rattle.wm_store.specs.Answers.{FindsUnread};

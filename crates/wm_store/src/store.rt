@@ -5,6 +5,7 @@ ghost use Rattle.wm_base.specs.declared.fault.OpenFault.TheVariants as opening;
 ghost use Rattle.wm_base.specs.declared.fault.StoreFault.TheVariants as storing;
 ghost use Rattle.wm_spec.specs.Records.{AreChanges, AfterBatch, record_at};
 ghost use Rattle.wm_spec.specs.declared.record.stored.Stored.{Stored};
+ghost use Rattle.wm_page.specs.Cause.{MakeCause, OpenCause, StoreCause};
 ghost use Rattle.wm_station.specs.Cause.{Rises};
 ghost use Rattle.wm_station.specs.History.{now, said, Leaves, Synced};
 ghost use Rattle.wm_station.specs.Moments.{Holds, During, Ended};
@@ -56,6 +57,7 @@ impl Store {
         ensures untouched { P.tells → (P.wants → ⊥) → IsErrOf result making.Memory → P.history station.new ≡ P.history station.old }
         ensures later { P.disk_faults station.old ≤ P.disk_faults station.new }
         ensures disk { IsErrOf result making.Disk → Rises (P.disk_faults station.old) (P.disk_faults station.new) }
+        ensures cause { MakeCause (P.disk_faults station.old) (P.disk_faults station.new) result }
         ensures say_quiet { P.say_faults station.new ≡ P.say_faults station.old }
     {
         let changes = fresh(alloc, limit)?;
@@ -88,6 +90,7 @@ impl Store {
 
         ensures later { P.disk_faults station.old ≤ P.disk_faults station.new }
         ensures disk { IsErrOf result opening.Disk → Rises (P.disk_faults station.old) (P.disk_faults station.new) }
+        ensures cause { OpenCause (P.disk_faults station.old) (P.disk_faults station.new) result }
         ensures say_quiet { P.say_faults station.new ≡ P.say_faults station.old }
     {
         let journal = Journal::open(alloc, station)?;
@@ -120,6 +123,7 @@ impl Store {
 
         ensures later { P.disk_faults station.old ≤ P.disk_faults station.new }
         ensures disk { IsErrOf result storing.Disk → Rises (P.disk_faults station.old) (P.disk_faults station.new) }
+        ensures cause { StoreCause (P.disk_faults station.old) (P.disk_faults station.new) result }
         ensures not_changed { P.tells → IsErrOf result storing.Changed → ⊥ }
         ensures say_quiet { P.say_faults station.new ≡ P.say_faults station.old }
     {
@@ -156,6 +160,7 @@ impl Store {
 
         ensures later { P.disk_faults station.old ≤ P.disk_faults station.new }
         ensures disk { IsErrOf result storing.Disk → Rises (P.disk_faults station.old) (P.disk_faults station.new) }
+        ensures cause { StoreCause (P.disk_faults station.old) (P.disk_faults station.new) result }
         ensures not_changed { P.tells → IsErrOf result storing.Changed → ⊥ }
         ensures say_quiet { P.say_faults station.new ≡ P.say_faults station.old }
     {

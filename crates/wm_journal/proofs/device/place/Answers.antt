@@ -18,6 +18,6 @@ loop-write-preserved g c =
     record {
       did = λ t new rest. c.loop-write.invariant.did t new (subst (λ (l : List PageWrite). Did (placing (entries l)) old new) (sym step) (middle, done t, rest));
       part = λ t new rest. c.loop-write.invariant.part t new (subst (λ (l : List PageWrite). DidPart (placing (entries l)) old new) (sym step) (inr (middle, done t, rest)));
-      later = omega (arith, c.loop-write.invariant.later, c.write_at.ensures.cause.later);
+      disk_quiet = c.in_ok-write_at.ensures.cause.done ∙ c.loop-write.invariant.disk_quiet;
       say_quiet = c.write_at.ensures.quiet ∙ c.loop-write.invariant.say_quiet;
     }

@@ -50,7 +50,7 @@ loop-i-preserved g c =
           subst (Read file s c.args.header.now.images (i + 1) numbers images) (sym joined) (read_more file s c.args.header.now.images i numbers images page bytes (entries old) c.loop-i-test.true (c.loop-i.invariant.read t) number image);
       names = subst (λ (l : List (ℕ × List ℕ)). may_name s l ≡ true) (sym joined) (may_name_more s (entries old) (page, bytes) c.loop-i.invariant.names (omega arith) (omega arith) not_named);
       told = λ t. c.in_ok-bytes.ensures.told t ∙ c.in_ok-page.ensures.told t ∙ c.loop-i.invariant.told t;
-      later = omega (arith, c.loop-i.invariant.later, c.read_page_number.ensures.later, c.read_page.ensures.later);
+      disk_quiet = c.in_ok-bytes.ensures.cause.done ∙ c.in_ok-page.ensures.cause.done ∙ c.loop-i.invariant.disk_quiet;
       say_quiet = c.read_page.ensures.say_quiet ∙ c.read_page_number.ensures.say_quiet ∙ c.loop-i.invariant.say_quiet;
     }
 

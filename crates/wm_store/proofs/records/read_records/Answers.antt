@@ -16,7 +16,7 @@ loop-page-init g c = record {
   source = refl;
   in_use = refl;
   in_file = refl;
-  later = omega arith;
+  faults = refl;
   read = λ t. record { none = refl; are = c.new-records.ensures };
 }
 
@@ -41,7 +41,7 @@ loop-page-preserved g c =
       source = did.source ∙ inv.source;
       in_use = did.in_use ∙ inv.in_use;
       in_file = did.in_file ∙ inv.in_file;
-      later = omega (arith, inv.later, did.cause.later);
+      faults = did.cause.done ∙ inv.faults;
       read = λ t.
           read_more (g.G.Pages.held c.args.pages.now) c.loop-page.page c.loop-page.records c.read_page.new.records low (inv.read t)
           (subst (λ held. are_records (slots_in held c.loop-page.page) ≡ true) (inv.told t) (did.are t))

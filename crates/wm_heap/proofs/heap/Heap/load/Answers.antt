@@ -18,7 +18,7 @@ loop-page-init g c = record {
   source = refl;
   in_use = refl;
   in_file = refl;
-  later = omega arith;
+  faults = refl;
   loaded = λ t. loaded_none (g.G.Pages.held c.args.pages.now) (g.G.Pages.in_file c.args.pages.now) c.new-places.result.entries c.new-ids.result.items c.new-places.ensures.empty;
 }
 
@@ -38,7 +38,7 @@ loop-page-preserved g c =
       source = did.source ∙ inv.source;
       in_use = did.in_use ∙ inv.in_use;
       in_file = did.in_file ∙ inv.in_file;
-      later = omega (arith, inv.later, did.cause.later);
+      faults = did.cause.done ∙ inv.faults;
       loaded = λ t.
           loaded_more (g.G.Pages.held c.args.pages.now) (g.G.Pages.in_file c.args.pages.now) c.loop-page.page c.loop-page.places.entries c.load_page.new.places.entries c.loop-page.ids.items c.load_page.new.ids.items low inv.len whole (inv.loaded t)
           (subst (λ held. LoadsPage held c.loop-page.page c.loop-page.places.entries c.load_page.new.places.entries c.loop-page.ids.items c.load_page.new.ids.items) (inv.told t) (did.loaded t));

@@ -12,6 +12,6 @@ invariant-loop-page g l = record {
   source : g.G.Pages.source l.pages ≡ g.G.Pages.source l.fn.pages;
   in_use : g.G.Pages.in_use l.pages ≡ g.G.Pages.in_use l.fn.pages;
   in_file : g.G.Pages.in_file l.pages ≡ g.G.Pages.in_file l.fn.pages;
-  later : g.G.Pages.faults l.fn.pages ≤ g.G.Pages.faults l.pages;
+  faults : g.G.Pages.faults l.pages ≡ g.G.Pages.faults l.fn.pages;
   loaded : g.G.Pages.tells → Loaded (g.G.Pages.held l.fn.pages) (g.G.Pages.in_file l.fn.pages) l.places.entries l.ids.items l.page;
 }

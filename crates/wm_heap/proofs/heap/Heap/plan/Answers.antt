@@ -12,7 +12,7 @@ loop-blob-init g c = record {
   source = refl;
   in_use = refl;
   in_file = refl;
-  later = omega arith;
+  faults = refl;
   telling = λ t. telling_begun c.args.self.now c.new-changed.result.entries (g.G.Pages.held c.args.pages.now) (g.G.Pages.in_use c.args.pages.now) (g.G.Pages.in_file c.args.pages.now) c.args.batch.now c.new-changed.ensures.empty (c.requires.heap t) (c.requires.whole t);
 }
 
@@ -30,7 +30,7 @@ loop-blob-preserved g c =
       source = did.source ∙ inv.source;
       in_use = did.in_use ∙ inv.in_use;
       in_file = did.in_file ∙ inv.in_file;
-      later = omega (arith, inv.later, did.cause.later);
+      faults = did.cause.done ∙ inv.faults;
       telling = λ t.
           telling_on c.loop-blob.self c.change.new.self c.loop-blob.changed.entries c.change.new.changed.entries (g.G.Pages.held c.args.pages.now) (g.G.Pages.in_use c.args.pages.now) (g.G.Pages.in_file c.args.pages.now) c.args.batch.now c.loop-blob.blob-index c.blob-item.result within is inv.going.once (inv.telling t)
           (at_pages (λ h u f. Done c.loop-blob.self c.change.new.self c.loop-blob.changed.entries c.change.new.changed.entries h u f c.blob-item.result.id c.blob-item.result.bytes) (g.G.Pages.held c.args.pages.now) (g.G.Pages.held c.loop-blob.pages) (g.G.Pages.in_use c.args.pages.now) (g.G.Pages.in_use c.loop-blob.pages) (g.G.Pages.in_file c.args.pages.now) (g.G.Pages.in_file c.loop-blob.pages)

@@ -1,4 +1,4 @@
-use Rattle.std.proofs.Common.{◌≡◌, ◌≤◌}
+use Rattle.std.proofs.Common.{◌≡◌}
 use Rattle.wm_heap.proofs.Planning.{Going, Telling}
 use Rattle.wm_heap.proofs.heap.Heap.plan.Given as goal
 
@@ -10,6 +10,6 @@ invariant-loop-blob g l = record {
   source : g.G.Pages.source l.pages ≡ g.G.Pages.source l.fn.pages;
   in_use : g.G.Pages.in_use l.pages ≡ g.G.Pages.in_use l.fn.pages;
   in_file : g.G.Pages.in_file l.pages ≡ g.G.Pages.in_file l.fn.pages;
-  later : g.G.Pages.faults l.fn.pages ≤ g.G.Pages.faults l.pages;
+  faults : g.G.Pages.faults l.pages ≡ g.G.Pages.faults l.fn.pages;
   telling : g.G.Pages.tells → Telling l.self l.changed.entries (g.G.Pages.held l.fn.pages) (g.G.Pages.in_use l.fn.pages) (g.G.Pages.in_file l.fn.pages) l.fn.batch l.blob-index;
 }
