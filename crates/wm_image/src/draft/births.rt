@@ -7,6 +7,7 @@ ghost use Rattle.wm_image.specs.Points.{point_view};
 ghost use Rattle.wm_state.specs.Drafts.{CanBear, CanWork, DraftsBy};
 ghost use Rattle.wm_state.specs.Editing.{implicit_front, number_limit, stand_of};
 ghost use Rattle.wm_state.specs.Points.{child_record, next_place_at};
+ghost use Rattle.wm_state.specs.Standing.{space_after};
 ghost use Rattle.wm_state.specs.declared.edit.Edit.TheVariants as edits;
 
 use crate::draft::changes::{birth_changes, marked, savepoint_changes};
