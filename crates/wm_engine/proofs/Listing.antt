@@ -42,11 +42,11 @@ columns_listed p version period tables (x ∷ xs) (l ∷ ls) are =
 -- ---- one source after another
 
 -- a list from a place on has the item at the place before the others
-from_place : {A : Type 0} (xs : List A) (i : ℕ) (x : A) → i < length xs → x ≡ get_or xs i x → drop i xs ≡ x ∷ drop (i + 1) xs
+pub from_place : {A : Type 0} (xs : List A) (i : ℕ) (x : A) → i < length xs → x ≡ get_or xs i x → drop i xs ≡ x ∷ drop (i + 1) xs
 from_place xs i x within at = drop_more xs i x within ∙ ap (λ y. y ∷ drop (i + 1) xs) (sym at)
 
 -- where no source is lost, the first is a table, and none of the others is lost
-none_lost : (tables : List Table) (x : SrcNode) (xs : List SrcNode) → lost_source tables (srcs_view (x ∷ xs)) ≡ None → (is_some (table_named x.table tables) ≡ true) × (lost_source tables (srcs_view xs) ≡ None)
+pub none_lost : (tables : List Table) (x : SrcNode) (xs : List SrcNode) → lost_source tables (srcs_view (x ∷ xs)) ≡ None → (is_some (table_named x.table tables) ≡ true) × (lost_source tables (srcs_view xs) ≡ None)
 none_lost tables x xs none = of (is_some (table_named x.table tables)) none
   where
     of : (b : Bool) → (if b then lost_source tables (srcs_view xs) else Some x.table) ≡ None → (b ≡ true) × (lost_source tables (srcs_view xs) ≡ None)
