@@ -100,10 +100,6 @@ key_fixed_at (Ok (Some key)) t query columns before place found constant well ha
 key_fixed_at (Ok None) t query columns before place found constant well has at is there made = tt
 key_fixed_at (Err e) t query columns before place found constant well has at is there made = tt
 
--- a place of a key stands among the columns
-pub key_place : (t : Table) (before total : ℕ) → is_table t ≡ true → t.has_key ≡ true → before + length t.columns ≤ total → before + t.key_column < total
-key_place t before total well has room = let inside : t.key_column < length t.columns = key_inside t well has in omega (arith, inside, room)
-
 -- ---- one source
 
 pub columns_wide : (name : List ℕ) (t : Table) → length t.columns ≤ length (columns_of_table name t)
@@ -246,6 +242,23 @@ pub room_for : (p : Parts) (version : ℕ) (period : Table → Span) (tables : L
     → total ≡ before + length (columns_of_table (source_name (src_view x)) t) + length (columns_in tables (srcs_view (drop (i + 1) sources)))
 room_for p version period tables keeps total sources i before x t items within at goes named =
     next_room tables x (drop (i + 1) sources) t before total (goes.room ∙ ap (λ ss. before + length (columns_in tables (srcs_view ss))) (from_place sources i x within at)) named
+
+pub room_behind : (p : Parts) (version : ℕ) (period : Table → Span) (tables : List Table) (keeps : Row → Bool) (total : ℕ) (sources : List SrcNode) (i before : ℕ) (x : SrcNode) (t : Table) (items : List Source)
+    → i < length sources → x ≡ get_or sources i x → GoesFor p version period tables keeps total sources i before items → Some t ≡ table_named x.table tables → before + length (columns_of_table (source_name (src_view x)) t) ≤ total
+room_behind p version period tables keeps total sources i before x t items within at goes named =
+    let room = room_for p version period tables keeps total sources i before x t items within at goes named in
+    omega (arith, room)
+
+pub room_left : (p : Parts) (version : ℕ) (period : Table → Span) (tables : List Table) (keeps : Row → Bool) (total : ℕ) (sources : List SrcNode) (i before : ℕ) (x : SrcNode) (t : Table) (items : List Source)
+    → i < length sources → x ≡ get_or sources i x → GoesFor p version period tables keeps total sources i before items → Some t ≡ table_named x.table tables → before + length t.columns ≤ total
+room_left p version period tables keeps total sources i before x t items within at goes named =
+    let room = room_behind p version period tables keeps total sources i before x t items within at goes named in
+    let wide = columns_wide (source_name (src_view x)) t in
+    omega (arith, room, wide)
+
+-- the table of the next one is in order
+pub next_well : (rs : List Stored) (x : SrcNode) (t : Table) → keep_rules (parts_of rs) ≡ true → Some t ≡ table_named x.table (tables_in rs) → is_table t ≡ true
+next_well rs x t rules named = (named_is rs x.table t rules (sym named)).well
 
 -- the next one is listed
 pub lists_more_for : (p : Parts) (version : ℕ) (period : Table → Span) (tables : List Table) (keeps : Row → Bool) (total : ℕ) (sources : List SrcNode) (i before after : ℕ) (x : SrcNode) (l : Source) (items new : List Source)

@@ -1,5 +1,5 @@
 //! SELECT.
-ghost use Rattle.std.specs.Prelude.{◌≡◌, ◌<◌, ◌≤◌, ◌++◌, List, length, true, false, None, Some, IfOk, OnOk};
+ghost use Rattle.std.specs.Prelude.{◌≡◌, ◌<◌, ◌≤◌, ◌^◌, ◌++◌, List, length, true, false, None, Some, IfOk, OnOk};
 ghost use Rattle.std.specs.Option.{IsSomeAnd, option_copied};
 ghost use Rattle.std.specs.Result.{IsErrOf};
 ghost use Rattle.wm_base.specs.declared.instant.TheConstants.{END};
@@ -137,13 +137,13 @@ fn rows_shown(
     version: u64,
     table: &Table,
     within: &Period,
-    key: &Option<Key>,
+    key: Option<Key>,
 ) -> Result<RowList, Memory>
     requires { keep_rules (parts_of image.now) ≡ true }
-    ensures { IfOk result (λ rows. AreShown (parts_of image.now) version table.now within.now key.now rows) }
+    ensures { IfOk result (λ rows. AreShown (parts_of image.now) version table.now within.now key rows) }
 {
     match key {
-        Some(key) => image.showing_of_key(alloc, version, table, within, key),
+        Some(key) => image.showing_of_key(alloc, version, table, within, &key),
         None => image.showing(alloc, version, table, within),
     }
 }
@@ -157,12 +157,12 @@ fn shown_by(
     version: u64,
     source: &Src,
     table: &Table,
-    key: &Option<Key>,
+    key: Option<Key>,
 ) -> Result<Listing, Memory>
     requires rules { keep_rules (parts_of image.now) ≡ true }
     requires moment { moment < END }
     ensures columns { IfOk result (λ l. l.columns ≡ columns_of_table (source_name (src_view source.now)) table.now) }
-    ensures rows { IfOk result (λ l. AreShown (parts_of image.now) version table.now (within moment session.now table.now) key.now l.rows) }
+    ensures rows { IfOk result (λ l. AreShown (parts_of image.now) version table.now (within moment session.now table.now) key l.rows) }
 {
     let columns = columns_of_table(alloc, source_name(source), table)?;
     let within = within(moment, session, table);
@@ -186,6 +186,7 @@ fn sources_in(
     requires moment { moment < END }
     requires there { lost_source (tables_in image.now) (srcs_view sources.now) ≡ None }
     requires columns { columns.now ≡ columns_in (tables_in image.now) (srcs_view sources.now) }
+    requires few { length columns.now < 2 ^ 64 }
     ensures { IfOk result (λ ls. AreListedFor (parts_of image.now) version (λ t. within moment session.now t) (tables_in image.now) (is_kept (query_view query.now) columns.now) 0 (srcs_view sources.now) ls) }
 {
     let mut listings = Vec::new(alloc);
@@ -193,7 +194,7 @@ fn sources_in(
     for source in sources {
         if let Some(table) = table_of(image, source) {
             let key = key_asked_at(alloc, columns, before, table, query)?;
-            let shown = shown_by(alloc, image, moment, session, version, source, table, &key)?;
+            let shown = shown_by(alloc, image, moment, session, version, source, table, key)?;
             before += shown.columns.as_slice().len();
             listings.push(shown)?;
         }
