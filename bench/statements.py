@@ -1,13 +1,13 @@
 #!/usr/bin/env python3
-"""Times INSERT lines, a SELECT of all rows, UPDATE lines and a join of two tables on their keys.
+"""Times INSERT lines, a SELECT of all rows, SELECT lines by key, UPDATE lines and a join of two tables on their keys.
 
     python3 bench/statements.py build/wm [ROWS] [JOINED]
 
-ROWS (10,000 where it is left out) rows are inserted into one table, each by a line of its own, and read by one SELECT. Some of
-them are then changed one by one: by their keys, which are looked up, and by another column, for which all rows are read. Two
-tables of JOINED (1,000) rows are then joined on their keys. Each part is a run of the program on the same store in a fresh
-folder, so that it has the time of opening the store in it; opening alone is timed too. Answers are looked at, so that what was
-timed is what was asked.
+ROWS (10,000 where it is left out) rows are inserted into one table, each by a line of its own, and read by one SELECT. Some
+of them are then read one by one by their keys, and changed one by one: by their keys, which are looked up, and by another
+column, for which all rows are read. Two tables of JOINED (1,000) rows are then joined on their keys. Each part is a run of
+the program on the same store in a fresh folder, so that it has the time of opening the store in it; opening alone is timed
+too. Answers are looked at, so that what was timed is what was asked.
 """
 import subprocess
 import sys
@@ -16,7 +16,7 @@ import time
 from pathlib import Path
 
 OPENING = ["CONNECT A ANN"]
-# How many rows are changed one by one.
+# How many rows are read and changed one by one.
 CHANGED = 100
 # Above each AMT that `made` writes, so that a row is found again by it.
 LARGE = 5_000
@@ -50,6 +50,7 @@ def main():
     rows = int(sys.argv[2]) if len(sys.argv) > 2 else 10_000
     joined = int(sys.argv[3]) if len(sys.argv) > 3 else 1_000
     changed = min(rows, CHANGED)
+    read_by_key = [f"A: SELECT * FROM BUD WHERE ID = {row}" for row in range(changed)]
     by_key = [f"A: UPDATE BUD SET AMT = {LARGE + row} WHERE ID = {row}" for row in range(changed)]
     by_other = [f"A: UPDATE BUD SET AMT = 5 WHERE AMT = {LARGE + row}" for row in range(changed)]
     join = "A: SELECT L.AMT, R.AMT FROM L JOIN R ON L.ID = R.ID"
@@ -59,6 +60,7 @@ def main():
         timed(program, store, f"{rows} INSERT lines", made("BUD", rows), "DONE 1")
         timed(program, store, "opening that store", [], "OK")
         timed(program, store, f"SELECT of {rows} rows", ["A: SELECT * FROM BUD"], f"ROWS {rows}")
+        timed(program, store, f"{changed} SELECT lines of one row by its key", read_by_key, "ROWS 1")
         timed(program, store, f"{changed} UPDATE lines of one row by its key", by_key, "DONE 1")
         timed(program, store, f"{changed} UPDATE lines of one row by its AMT", by_other, "DONE 1")
         timed(program, store, f"two tables of {joined} rows", made("L", joined) + made("R", joined), "DONE 1")

@@ -68,7 +68,7 @@ found_right (Some w) v e = ap (λ (x : Value). Some x) (sym (equal_values v w e)
 
 -- ---- a column that stands at a place
 
-none_some : {A : Type 0} (x : A) → None ≡ Some x → ⊥
+pub none_some : {A : Type 0} (x : A) → None ≡ Some x → ⊥
 none_some x e = cc
 
 some_same : {A : Type 0} (x y : A) → Some x ≡ Some y → x ≡ y
@@ -123,12 +123,12 @@ both_yes Unknown No e = absurd (bool_apart (sym e))
 both_yes Unknown Unknown e = absurd (bool_apart (sym e))
 
 -- one of two, the first where it is there
-one_of_two : {A : Type 0} (P : Type 0) (a b : Option A) (x : A) → (a ≡ Some x → P) → (b ≡ Some x → P) → option_or a b ≡ Some x → P
+pub one_of_two : {A : Type 0} (P : Type 0) (a b : Option A) (x : A) → (a ≡ Some x → P) → (b ≡ Some x → P) → option_or a b ≡ Some x → P
 one_of_two P None b x one two e = two e
 one_of_two P (Some y) b x one two e = one e
 
 -- the condition is true on no row with another value at the place
-asked_there : (columns : List Column) (place : ℕ) (condition : Cond) (constant : Const) (row : List Value) → asked columns place condition ≡ Some constant → is_yes (truth_in condition columns row) ≡ true
+pub asked_there : (columns : List Column) (place : ℕ) (condition : Cond) (constant : Const) (row : List Value) → asked columns place condition ≡ Some constant → is_yes (truth_in condition columns row) ≡ true
     → slice_get row place ≡ Some (constant_value constant)
 asked_there columns place (And c d) constant row is e =
     let h = both_yes (truth_in c columns row) (truth_in d columns row) e in
@@ -149,15 +149,14 @@ asked_there columns place (IsNull what negated) constant row is e = absurd (none
 asked_there columns place (OneOf what negated list) constant row is e = absurd (none_some constant is)
 asked_there columns place (Between what negated low high) constant row is e = absurd (none_some constant is)
 
+-- a row with a value at the place of the key is under the key of that value
+pub key_there : (t : Table) (v : Value) (row : List Value) → t.has_key ≡ true → slice_get row t.key_column ≡ Some v → key_of t row ≡ Some (v ∷ [])
+key_there t v row has e = ap (λ (o : Option Value). option_and_then (λ w. if t.has_key then Some (w ∷ []) else None) o) e ∙ ap (λ b. if b then Some (v ∷ []) else None) has
+
 -- so it fixes the key, where the place is that of the key
 pub fixes_key : (t : Table) (condition : Cond) (constant : Const) → t.has_key ≡ true → asked (own_columns t) t.key_column condition ≡ Some constant → FixesKey t (Some condition) (constant_value constant ∷ [])
 unfolding truth_of
-fixes_key t condition constant has is = record { under = λ row e. keyed row.values (asked_there (own_columns t) t.key_column condition constant row.values is e) }
-  where
-    keyed : (row : List Value) → slice_get row t.key_column ≡ Some (constant_value constant) → key_of t row ≡ Some (constant_value constant ∷ [])
-    keyed row e =
-        ap (λ (o : Option Value). option_and_then (λ v. if t.has_key then Some (v ∷ []) else None) o) e
-        ∙ ap (λ b. if b then Some (constant_value constant ∷ []) else None) has
+fixes_key t condition constant has is = record { under = λ row e. key_there t (constant_value constant) row.values has (asked_there (own_columns t) t.key_column condition constant row.values is e) }
 
 -- the same of the key that was made of the constant that was found
 pub key_fixed : (r : Result (Option (List Value)) Memory) (t : Table) (condition : Option Cond) (cond : Cond) (columns : List Column) (place : ℕ) (found : Option Const) (constant : Const) → condition ≡ Some cond

@@ -1,5 +1,5 @@
 -- Where a condition fixes the key, what it chooses of all rows is what it chooses of those of the key.
-use Rattle.std.proofs.Common.{◌≡◌, ℕ, ◌||◌, Bool, true, false, cond, List, [], ◌∷◌, ◌++◌, map, Option, Some, Result, Ok, Err, IfOk, Vec, Global, refl, sym, ap, subst, ◌∙◌}
+use Rattle.std.proofs.Common.{◌≡◌, ℕ, ◌||◌, Bool, true, false, cond, List, [], ◌∷◌, ◌++◌, map, Option, Some, None, Result, Ok, Err, IfOk, Vec, Global, refl, sym, ap, subst, ◌∙◌}
 use Rattle.std.proofs.lemmas.List.{append-nil}
 use Rattle.std.proofs.lemmas.List.Elements.{filter-append, filter_map-append}
 use Rattle.std.specs.List.{filter, filter_map, list_all}
@@ -109,28 +109,42 @@ other_key t condition key k fixed apart row under = by_test (meets condition (ow
     by_test true e = absurd (not_here (ap (is_key k) (sym (fixed.under row e)) ∙ under))
     by_test false e = refl
 
--- the rows that are shown for the key are all that the condition chooses
-pub chosen_under_key : (p : Parts) (version : ℕ) (t : Table) (within : Span) (condition : Option Cond) (key : List Value) (rows : List Row) → keep_rules p ≡ true → table_of p.tables t.number ≡ Some t
-    → FixesKey t condition key → IsKeyShowing p version t.number t.valid within key rows → chosen t condition rows ≡ chosen t condition (rows_with p version t.number t.valid within key)
-chosen_under_key p version t within condition key rows rules there fixed is =
-    ap (chosen t condition) (is.shown ∙ ap (λ (ss : List Stretch). filter_map (row_shown_with p t.valid within) (map (λ s. (key, s)) ss)) same)
+-- of all rows a test that is true on none under another key keeps those that it keeps of the rows of the key
+pub kept_under_key : (p : Parts) (version : ℕ) (t : Table) (within : Span) (keep : Row → Bool) (key : List Value) (rows : List Row) → keep_rules p ≡ true → table_of p.tables t.number ≡ Some t
+    → ((k : List Value) → is_eq (key_order k key) ≡ false → (row : Row) → is_key k (key_of t row.values) ≡ true → keep row ≡ false) → IsKeyShowing p version t.number t.valid within key rows
+    → filter keep rows ≡ filter keep (rows_with p version t.number t.valid within key)
+kept_under_key p version t within keep key rows rules there apart is =
+    ap (filter keep) (is.shown ∙ ap (λ (ss : List Stretch). filter_map (row_shown_with p t.valid within) (map (λ s. (key, s)) ss)) same)
     ∙ sym (by_key p version t.number t.valid within keep (keys_with p key) ∙ one_gathered (part p version t.number t.valid within keep) key others (keys_with p key) (ascend-with p key) key_there)
   where
-    keep : Row → Bool
-    keep = meets condition (own_columns t)
-
     same : is.stretches ≡ stretches_of p version t.number key
     same = one_rows is.stretches (stretches_of p version t.number key) 0 is.are.maximal (are_stretches p version t.number key).maximal
         (λ u le. is.are.held u ∙ sym ((are_stretches p version t.number key).held u))
 
     others : (k : List Value) → is_eq (key_order k key) ≡ false → part p version t.number t.valid within keep k ≡ []
-    others k apart =
-        filter_none keep (λ (r : Row). is_key k (key_of t r.values)) (other_key t condition key k fixed apart)
+    others k other =
+        filter_none keep (λ (r : Row). is_key k (key_of t r.values)) (apart k other)
         (filter_map (row_shown_with p t.valid within) (map (λ s. (k, s)) (stretches_of p version t.number k)))
         (key_showing_all (λ (r : Row). is_key k (key_of t r.values)) p version t within k (stretches_of p version t.number k) rules there (are_stretches p version t.number k) (λ row is. shown_under t within k row is))
 
     key_there : is_key_in key (keys_with p key) ≡ true
     key_there = key_in-has key key (keys_on p.pieces) ∙ ap (λ o. is_eq o || is_key_in key (keys_on p.pieces)) (key_order-itself key)
+
+-- so the rows that are shown for the key are all that the condition chooses
+pub chosen_under_key : (p : Parts) (version : ℕ) (t : Table) (within : Span) (condition : Option Cond) (key : List Value) (rows : List Row) → keep_rules p ≡ true → table_of p.tables t.number ≡ Some t
+    → FixesKey t condition key → IsKeyShowing p version t.number t.valid within key rows → chosen t condition rows ≡ chosen t condition (rows_with p version t.number t.valid within key)
+chosen_under_key p version t within condition key rows rules there fixed is =
+    kept_under_key p version t within (meets condition (own_columns t)) key rows rules there (λ k apart. other_key t condition key k fixed apart) is
+
+-- and of the key's own rows none is missing
+pub rows_under_key : (p : Parts) (version : ℕ) (t : Table) (within : Span) (key : List Value) (rows : List Row) → keep_rules p ≡ true → table_of p.tables t.number ≡ Some t
+    → IsKeyShowing p version t.number t.valid within key rows → filter (λ (r : Row). is_key key (key_of t r.values)) rows ≡ filter (λ (r : Row). is_key key (key_of t r.values)) (rows_with p version t.number t.valid within key)
+rows_under_key p version t within key rows rules there is =
+    kept_under_key p version t within (λ (r : Row). is_key key (key_of t r.values)) key rows rules there (λ k apart row under. not_both k (key_of t row.values) apart under) is
+  where
+    not_both : (k : List Value) (o : Option (List Value)) → is_eq (key_order k key) ≡ false → is_key k o ≡ true → is_key key o ≡ false
+    not_both k None apart under = refl
+    not_both k (Some j) apart under = ap (λ i. is_eq (key_order i key)) (key_same j k under) ∙ apart
 
 -- ---- as the code has them
 

@@ -26,6 +26,7 @@ pub mod Choosing
 pub mod Listable
 pub mod KeyRows
 pub mod KeyAsked
+pub mod Narrowing
 pub mod Adding
 pub mod Rowing
 pub mod Filled

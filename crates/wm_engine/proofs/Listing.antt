@@ -25,12 +25,6 @@ unfolding typed
 where_typed None columns is = refl
 where_typed (Some condition) columns is = is
 
--- all sources are listed once the last of them is
-pub listed_all : (p : Parts) (version : ℕ) (period : Table → Span) (tables : List Table) (sources : List SrcNode) (i : ℕ) (items ls : List Source) → length sources ≤ i → ls ≡ items
-    → ((more : List Source) → AreListed p version period tables (srcs_view (drop i sources)) more → AreListed p version period tables (srcs_view sources) (items ++ more)) → AreListed p version period tables (srcs_view sources) ls
-listed_all p version period tables sources i items ls end are listed =
-    subst (AreListed p version period tables (srcs_view sources)) (append-nil items ∙ sym are) (listed [] (subst (λ ss. AreListed p version period tables (srcs_view ss) []) (sym (drop_all i sources end)) refl))
-
 -- the columns of the sources are those of what is listed of them
 pub columns_listed : (p : Parts) (version : ℕ) (period : Table → Span) (tables : List Table) (sources : List Src) (ls : List Source) → AreListed p version period tables sources ls → columns_in tables sources ≡ columns_of ls
 columns_listed p version period tables [] ls are = ap columns_of (sym are)
@@ -42,39 +36,21 @@ columns_listed p version period tables (x ∷ xs) (l ∷ ls) are =
 -- ---- one source after another
 
 -- a list from a place on has the item at the place before the others
-from_place : {A : Type 0} (xs : List A) (i : ℕ) (x : A) → i < length xs → x ≡ get_or xs i x → drop i xs ≡ x ∷ drop (i + 1) xs
+pub from_place : {A : Type 0} (xs : List A) (i : ℕ) (x : A) → i < length xs → x ≡ get_or xs i x → drop i xs ≡ x ∷ drop (i + 1) xs
 from_place xs i x within at = drop_more xs i x within ∙ ap (λ y. y ∷ drop (i + 1) xs) (sym at)
 
 -- where no source is lost, the first is a table, and none of the others is lost
-none_lost : (tables : List Table) (x : SrcNode) (xs : List SrcNode) → lost_source tables (srcs_view (x ∷ xs)) ≡ None → (is_some (table_named x.table tables) ≡ true) × (lost_source tables (srcs_view xs) ≡ None)
+pub none_lost : (tables : List Table) (x : SrcNode) (xs : List SrcNode) → lost_source tables (srcs_view (x ∷ xs)) ≡ None → (is_some (table_named x.table tables) ≡ true) × (lost_source tables (srcs_view xs) ≡ None)
 none_lost tables x xs none = of (is_some (table_named x.table tables)) none
   where
     of : (b : Bool) → (if b then lost_source tables (srcs_view xs) else Some x.table) ≡ None → (b ≡ true) × (lost_source tables (srcs_view xs) ≡ None)
     of false lost = absurd (cc)
     of true rest = (refl, rest)
 
--- none of the sources from a place on is lost, and what is listed of them goes behind what is listed of those before
-abbrev pub Goes : Parts → ℕ → (Table → Span) → List Table → List SrcNode → ℕ → List Source → Type 0
-Goes p version period tables sources i items =
-    (lost_source tables (srcs_view (drop i sources)) ≡ None)
-    × ((more : List Source) → AreListed p version period tables (srcs_view (drop i sources)) more → AreListed p version period tables (srcs_view sources) (items ++ more))
-
--- the next one is listed
-pub lists_more : (p : Parts) (version : ℕ) (period : Table → Span) (tables : List Table) (sources : List SrcNode) (i : ℕ) (x : SrcNode) (t : Table) (l : Source) (items new : List Source)
-    → i < length sources → x ≡ get_or sources i x → Goes p version period tables sources i items → Some t ≡ table_named x.table tables
-    → l.columns ≡ columns_of_table (source_name (src_view x)) t → IsShowing p version t.number t.valid (period t) l.rows → new ≡ items ++ l ∷ [] → Goes p version period tables sources (i + 1) new
-lists_more p version period tables sources i x t l items new within at before named columns rows pushed = (
-  (none_lost tables x (drop (i + 1) sources) (sym (ap (λ ss. lost_source tables (srcs_view ss)) (from_place sources i x within at)) ∙ before.0)).1,
-  λ more are. subst (AreListed p version period tables (srcs_view sources)) (sym (append_assoc items (l ∷ []) more) ∙ ap (λ ls. ls ++ more) (sym pushed))
-      (before.1 (l ∷ more) (subst (λ ss. AreListed p version period tables (srcs_view ss) (l ∷ more)) (sym (from_place sources i x within at))
-      (record { table = t; named = sym named; columns = columns; rows = rows }, are))),
-)
-
 -- there is a next one
-pub lists_none : (p : Parts) (version : ℕ) (period : Table → Span) (tables : List Table) (sources : List SrcNode) (i : ℕ) (x : SrcNode) (items : List Source)
-    → i < length sources → x ≡ get_or sources i x → Goes p version period tables sources i items → None ≡ table_named x.table tables → ⊥
-lists_none p version period tables sources i x items within at before none =
-    is_none (table_named x.table tables) none (none_lost tables x (drop (i + 1) sources) (sym (ap (λ ss. lost_source tables (srcs_view ss)) (from_place sources i x within at)) ∙ before.0)).0
+pub next_there : (tables : List Table) (sources : List SrcNode) (i : ℕ) (x : SrcNode) → i < length sources → x ≡ get_or sources i x → lost_source tables (srcs_view (drop i sources)) ≡ None → None ≡ table_named x.table tables → ⊥
+next_there tables sources i x within at there none =
+    is_none (table_named x.table tables) none (none_lost tables x (drop (i + 1) sources) (sym (ap (λ ss. lost_source tables (srcs_view ss)) (from_place sources i x within at)) ∙ there)).0
   where
     is_none : (o : Option Table) → None ≡ o → is_some o ≡ true → ⊥
     is_none None e some = absurd (let f : false ≡ true = some in cc)

@@ -5,6 +5,7 @@ pub mod ProductLemmas
 pub mod EqualLemmas
 pub mod SourceLemmas
 pub mod FitLemmas
+pub mod NarrowLemmas
 pub mod TotalLemmas
 pub mod ItemLemmas
 pub mod SortLemmas

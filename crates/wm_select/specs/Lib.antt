@@ -5,3 +5,4 @@ pub mod Query
 pub mod Joining
 pub mod Keys
 pub mod Counting
+pub mod Narrowing

@@ -1,9 +1,12 @@
 //! The key that a condition asks for, so that the rows of one key are read and not those of all.
-ghost use Rattle.std.specs.Prelude.{◌≡◌, [], ◌∷◌, option_copied, IfOk, IfSome};
+ghost use Rattle.std.specs.Prelude.{◌≡◌, ◌+◌, ◌≤◌, [], ◌∷◌, length, option_copied, true, IfOk, IfSome};
 ghost use Rattle.std.specs.Option.{option_or};
-ghost use Rattle.wm_base.specs.Views.{cond_view, filter_view};
+ghost use Rattle.wm_base.specs.Views.{cond_view, filter_view, query_view, srcs_view};
 ghost use Rattle.wm_dml.specs.Changing.{own_columns};
 ghost use Rattle.wm_engine.specs.Keyed.{FixesKey, across, asked, is_place, stands_at};
+ghost use Rattle.wm_engine.specs.Narrowed.{FixesKeyAt, asked_by, asked_if, asked_on};
+ghost use Rattle.wm_graph.specs.Rules.{is_table};
+ghost use Rattle.wm_select.specs.Query.{is_kept};
 ghost use Rattle.wm_spec.specs.Operands.{constant_value};
 
 use std::alloc::Global;
@@ -11,6 +14,7 @@ use wm_base::tree::column::{Col, Suffix};
 use wm_base::tree::cond::{Cmp, Cond};
 use wm_base::tree::constant::Const;
 use wm_base::tree::operand::Operand;
+use wm_base::tree::query::{Query, Src};
 use wm_base::{Column, Columns, Key, Memory, Value};
 use wm_expr::names::place_of;
 use wm_spec::record::Table;
@@ -119,6 +123,65 @@ pub fn key_asked(
     };
     let place = usize::from(table.key_column);
     match asked(columns.as_slice(), place, cond) {
+        Some(constant) => key_of_constant(alloc, constant),
+        None => Ok(None),
+    }
+}
+
+/// The constant that the condition asks of the column at the place, where there is one.
+fn asked_if<'a>(
+    columns: &[Column],
+    place: usize,
+    filter: &'a Option<Cond>,
+) -> Option<&'a Const>
+    ensures { option_copied result ≡ asked_if columns.now place (filter_view filter.now) }
+{
+    match filter {
+        Some(cond) => asked(columns, place, cond),
+        None => None,
+    }
+}
+
+/// The constant that a condition behind a JOIN asks of the column at the place.
+fn asked_on<'a>(columns: &[Column], place: usize, sources: &'a [Src]) -> Option<&'a Const>
+    ensures { option_copied result ≡ asked_on columns.now place (srcs_view sources.now) }
+{
+    for source in sources {
+        if let Some(constant) = asked_if(columns, place, &source.on) {
+            return Some(constant);
+        }
+    }
+    None
+}
+
+/// The constant that a query asks of the column at the place, of those of all its sources.
+fn asked_by<'a>(columns: &[Column], place: usize, query: &'a Query) -> Option<&'a Const>
+    ensures { option_copied result ≡ asked_by columns.now place (query_view query.now) }
+{
+    match asked_if(columns, place, &query.filter) {
+        Some(constant) => Some(constant),
+        None => asked_on(columns, place, query.sources.as_slice()),
+    }
+}
+
+/// The key that each tuple that a query keeps has at a table of its, where it asks for one. The table's columns stand
+/// behind so many others.
+pub fn key_asked_at(
+    alloc: Global,
+    columns: &[Column],
+    before: usize,
+    table: &Table,
+    query: &Query,
+) -> Result<Option<Key>, Memory>
+    requires well { is_table table.now ≡ true }
+    requires room { before + length table.now.columns ≤ length columns.now }
+    ensures { IfOk result (λ found. IfSome found (FixesKeyAt table.now (is_kept (query_view query.now) columns.now) before)) }
+{
+    if !table.has_key {
+        return Ok(None);
+    }
+    let place = before + usize::from(table.key_column);
+    match asked_by(columns, place, query) {
         Some(constant) => key_of_constant(alloc, constant),
         None => Ok(None),
     }

@@ -1,5 +1,5 @@
 //! SELECT.
-ghost use Rattle.std.specs.Prelude.{◌≡◌, ◌<◌, ◌≤◌, ◌++◌, List, length, true, false, None, Some, IfOk, OnOk};
+ghost use Rattle.std.specs.Prelude.{◌≡◌, ◌<◌, ◌≤◌, ◌^◌, ◌++◌, List, length, true, false, None, Some, IfOk, OnOk};
 ghost use Rattle.std.specs.Option.{IsSomeAnd, option_copied};
 ghost use Rattle.std.specs.Result.{IsErrOf};
 ghost use Rattle.wm_base.specs.declared.instant.TheConstants.{END};
@@ -7,21 +7,21 @@ ghost use Rattle.wm_base.specs.declared.row.Row.{Row as RowOf};
 ghost use Rattle.wm_base.specs.declared.truth.Truth.{Truth as TruthOf};
 ghost use Rattle.wm_base.specs.Views.{cond_view, filter_view, query_view, src_view, srcs_view};
 ghost use Rattle.wm_engine.specs.Idle.{Idles};
+ghost use Rattle.wm_engine.specs.Narrowed.{AreListedFor, AreShown};
 ghost use Rattle.wm_engine.specs.Planning.{DoesIt};
 ghost use Rattle.wm_engine.specs.Stands.{stand_view};
 ghost use Rattle.wm_engine.specs.Views.{answer_view};
 ghost use Rattle.wm_graph.specs.Parts.{parts_of};
 ghost use Rattle.wm_graph.specs.Rules.{keep_rules};
 ghost use Rattle.wm_model.specs.Planning.{tables_in, version_read};
-ghost use Rattle.wm_model.specs.Sources.{AreListed};
 ghost use Rattle.wm_model.specs.Step.{answer_rows, columns_in, lost_source, select, source_name, table_off, tables_of, within};
-ghost use Rattle.wm_select.specs.Query.{answer_of, columns_of, projection_lasts, row_limit, rows_fit, where_of};
+ghost use Rattle.wm_select.specs.Query.{answer_of, columns_of, is_kept, projection_lasts, row_limit, rows_fit, where_of};
 ghost use Rattle.wm_spec.specs.Conditions.{fits, truth_of, typed};
-ghost use Rattle.wm_state.specs.Listing.{IsShowing};
 ghost use Rattle.wm_state.specs.State.{Session as SessionState, table_named};
 ghost use Rattle.wm_typing.specs.Columns.{columns_of_table};
 
 use crate::answer::Answer;
+use crate::plan::keyed::key_asked_at;
 use crate::plan::within::within;
 use crate::planned::Planned;
 use crate::refuse::{empty_period, most_rows, no_table, not_built, out_of_range, versioning};
@@ -31,7 +31,7 @@ use wm_base::tree::cond::{Cmp, Cond};
 use wm_base::tree::constant::Const;
 use wm_base::tree::operand::Operand;
 use wm_base::tree::query::{Query, Src};
-use wm_base::{Column, Columns, Listing, Listings, Memory, Name, Row, RowList, Truth};
+use wm_base::{Column, Columns, Key, Listing, Listings, Memory, Name, Period, Row, RowList, Truth};
 use wm_expr::truth;
 use wm_image::Image;
 use wm_rowtest::{Judge, RowTest};
@@ -130,7 +130,25 @@ fn columns_in(alloc: Global, image: &Image, sources: &[Src]) -> Result<Columns, 
     Ok(Columns::from_vec(columns))
 }
 
-/// What a source shows a session of its table in a version.
+/// The rows of a table that a version shows in a period. Where a key is given, only its rows are looked at.
+fn rows_shown(
+    alloc: Global,
+    image: &Image,
+    version: u64,
+    table: &Table,
+    within: &Period,
+    key: Option<Key>,
+) -> Result<RowList, Memory>
+    requires { keep_rules (parts_of image.now) ≡ true }
+    ensures { IfOk result (λ rows. AreShown (parts_of image.now) version table.now within.now key rows) }
+{
+    match key {
+        Some(key) => image.showing_of_key(alloc, version, table, within, &key),
+        None => image.showing(alloc, version, table, within),
+    }
+}
+
+/// What a source shows a session of its table in a version, or of one key of the table.
 fn shown_by(
     alloc: Global,
     image: &Image,
@@ -139,18 +157,21 @@ fn shown_by(
     version: u64,
     source: &Src,
     table: &Table,
+    key: Option<Key>,
 ) -> Result<Listing, Memory>
     requires rules { keep_rules (parts_of image.now) ≡ true }
     requires moment { moment < END }
     ensures columns { IfOk result (λ l. l.columns ≡ columns_of_table (source_name (src_view source.now)) table.now) }
-    ensures rows { IfOk result (λ l. IsShowing (parts_of image.now) version table.now.number table.now.valid (within moment session.now table.now) l.rows) }
+    ensures rows { IfOk result (λ l. AreShown (parts_of image.now) version table.now (within moment session.now table.now) key l.rows) }
 {
     let columns = columns_of_table(alloc, source_name(source), table)?;
-    let rows = image.showing(alloc, version, table, &within(moment, session, table))?;
+    let within = within(moment, session, table);
+    let rows = rows_shown(alloc, image, version, table, &within, key)?;
     Ok(Listing { columns, rows })
 }
 
-/// What all sources show a session in a version.
+/// What the sources of a query show a session in a version: of a source whose key the query fixes, the rows of that key
+/// alone. These are the columns of all sources.
 fn sources_in(
     alloc: Global,
     image: &Image,
@@ -158,16 +179,23 @@ fn sources_in(
     session: &Session,
     version: u64,
     sources: &[Src],
+    columns: &[Column],
+    query: &Query,
 ) -> Result<Listings, Memory>
     requires rules { keep_rules (parts_of image.now) ≡ true }
     requires moment { moment < END }
     requires there { lost_source (tables_in image.now) (srcs_view sources.now) ≡ None }
-    ensures { IfOk result (λ ls. AreListed (parts_of image.now) version (λ t. within moment session.now t) (tables_in image.now) (srcs_view sources.now) ls) }
+    requires columns { columns.now ≡ columns_in (tables_in image.now) (srcs_view sources.now) }
+    requires few { length columns.now < 2 ^ 64 }
+    ensures { IfOk result (λ ls. AreListedFor (parts_of image.now) version (λ t. within moment session.now t) (tables_in image.now) (is_kept (query_view query.now) columns.now) 0 (srcs_view sources.now) ls) }
 {
     let mut listings = Vec::new(alloc);
+    let mut before = 0usize;
     for source in sources {
         if let Some(table) = table_of(image, source) {
-            let shown = shown_by(alloc, image, moment, session, version, source, table)?;
+            let key = key_asked_at(alloc, columns, before, table, query)?;
+            let shown = shown_by(alloc, image, moment, session, version, source, table, key)?;
+            before += shown.columns.as_slice().len();
             listings.push(shown)?;
         }
     }
@@ -335,7 +363,16 @@ pub fn select(
         return Ok(Planned::answered(alloc, empty_period()));
     }
     let version = version_of(image, session);
-    let listings = sources_in(alloc, image, moment, session, version, sources)?;
+    let listings = sources_in(
+        alloc,
+        image,
+        moment,
+        session,
+        version,
+        sources,
+        columns.as_slice(),
+        query,
+    )?;
     let found = answer(alloc, query, &columns, &listings)?;
     Ok(Planned::answered(alloc, found))
 }

@@ -5,13 +5,14 @@ use Rattle.wm_graph.specs.Parts.{parts_of, space_of}
 use Rattle.wm_model.proofs.Selecting.{select_lost, select_off, select_faulty, select_homeless, select_empty, selects}
 use Rattle.wm_model.specs.Planning.{Stay, tables_in}
 use Rattle.wm_model.specs.Sources.{AreListed}
-use Rattle.wm_model.specs.Step.{answer_rows, empty_period, lost_source, no_table, not_built, select, table_off, tables_of, versioning, within}
+use Rattle.wm_model.specs.Step.{answer_rows, columns_in, empty_period, lost_source, no_table, not_built, select, table_off, tables_of, versioning, within}
 use Rattle.wm_print.specs.Texts.{Refused}
-use Rattle.wm_select.specs.Query.{answer_of}
-use Rattle.wm_engine.proofs.Fits.{rows_listed}
-use Rattle.wm_engine.proofs.Listing.{columns_listed, where_typed}
+use Rattle.wm_select.specs.Query.{answer_of, is_kept}
+use Rattle.wm_engine.proofs.Listing.{where_typed}
+use Rattle.wm_engine.proofs.Narrowing.{answers_whole, columns_listed_for, rows_listed_for}
 use Rattle.wm_engine.proofs.Planning.{told}
 use Rattle.wm_engine.proofs.Querying.{are_ready, fault_is}
+use Rattle.wm_engine.specs.Narrowed.{AreListedFor}
 use Rattle.wm_engine.specs.Views.{answer_view, seating_view}
 use Rattle.wm_engine.proofs.plan.select.select.Goals as goal
 
@@ -73,14 +74,19 @@ answer-requires-clause-typed c = where_typed (filter_view c.args.query.now.filte
 pub answer-requires-clause-columns : goal.answer-requires-clause-columns
 answer-requires-clause-columns c =
     c.in_ok-columns.ensures
-    ∙ columns_listed (parts_of c.args.image.now) c.version_of-version.result (λ t. within c.args.moment c.args.session.now t) (tables_in c.args.image.now) (srcs_view c.as_slice-sources.result.now) c.in_ok-listings.listings c.in_ok-listings.ensures
+    ∙ columns_listed_for c.args.image.now c.version_of-version.result (λ t. within c.args.moment c.args.session.now t) (is_kept (query_view c.args.query.now) c.as_slice.result.now) (srcs_view c.as_slice-sources.result.now)
+        c.in_ok-listings.listings c.requires.rules c.in_ok-listings.ensures
 
 pub answer-requires-clause-fitting : goal.answer-requires-clause-fitting
 answer-requires-clause-fitting c =
-    rows_listed c.args.image.now c.version_of-version.result (λ t. within c.args.moment c.args.session.now t) (srcs_view c.as_slice-sources.result.now) c.in_ok-listings.listings c.requires.rules c.in_ok-listings.ensures
+    rows_listed_for c.args.image.now c.version_of-version.result (λ t. within c.args.moment c.args.session.now t) (is_kept (query_view c.args.query.now) c.as_slice.result.now) 0 (srcs_view c.as_slice-sources.result.now)
+    c.in_ok-listings.listings c.requires.rules c.in_ok-listings.ensures
 
 pub answer-requires-clause-lasting : goal.answer-requires-clause-lasting
 answer-requires-clause-lasting c = c.requires.lasting c.if-empty.false
+
+pub sources_in-requires-clause-columns : goal.sources_in-requires-clause-columns
+sources_in-requires-clause-columns c = c.as_slice.ensures ∙ c.in_ok-columns.ensures
 
 pub returns-clause-does : goal.returns-clause-does
 returns-clause-does c = λ xs.
@@ -88,10 +94,13 @@ returns-clause-does c = λ xs.
     let query = c.args.query.now in
     let sources = c.as_slice-sources.result.now in
     let all = c.as_slice-sources.ensures.value in
-    told image xs c.args.moment c.answered-2.result [] Stay (answer_rows (answer_of (query_view query) c.in_ok-listings.listings)) (select c.args.session.now (query_view query) c.args.empty) c.answered-2.ensures.edits
-    (ap seating_view c.answered-2.ensures.seating) (ap answer_view c.answered-2.ensures.answer ∙ c.in_ok-found.ensures)
-    (selects image xs c.args.moment c.args.session.now (query_view query) c.args.empty c.in-Some-space.field-0.now c.in_ok-listings.listings
+    let whole = answers_whole image c.version_of-version.result (λ t. within c.args.moment c.args.session.now t) (query_view query) c.as_slice.result.now c.in_ok-listings.listings c.requires.rules
+    (c.as_slice.ensures ∙ c.in_ok-columns.ensures ∙ ap (λ (ss : List SrcNode). columns_in (tables_in image) (srcs_view ss)) all)
+    (subst (λ (ss : List SrcNode). AreListedFor (parts_of image) c.version_of-version.result (λ t. within c.args.moment c.args.session.now t) (tables_in image) (is_kept (query_view query) c.as_slice.result.now) 0 (srcs_view ss) c.in_ok-listings.listings) all
+    c.in_ok-listings.ensures) in
+    told image xs c.args.moment c.answered-2.result [] Stay (answer_rows (answer_of (query_view query) whole.alls)) (select c.args.session.now (query_view query) c.args.empty) c.answered-2.ensures.edits
+    (ap seating_view c.answered-2.ensures.seating) (ap answer_view c.answered-2.ensures.answer ∙ c.in_ok-found.ensures ∙ ap answer_rows whole.same)
+    (selects image xs c.args.moment c.args.session.now (query_view query) c.args.empty c.in-Some-space.field-0.now whole.alls
     (record { ready = are_ready image query sources all c.requires.rules (sym c.in_default.ensures) (sym c.in_default-table_off.ensures); good = fault_is image query sources c.in_ok-columns.columns None all c.in_ok-columns.ensures (sym c.in_ok-refusal.ensures.exact ∙ c.in_default-2.is) })
     (ap (space_of (parts_of image).spaces) (sym c.space.ensures) ∙ sym c.in-Some-space.ensures) c.if-empty.false
-    (subst (λ (v : ℕ). AreListed (parts_of image) v (λ t. within c.args.moment c.args.session.now t) (tables_in image) (srcs_view query.sources.items) c.in_ok-listings.listings) c.version_of-version.ensures
-    (subst (λ (ss : List SrcNode). AreListed (parts_of image) c.version_of-version.result (λ t. within c.args.moment c.args.session.now t) (tables_in image) (srcs_view ss) c.in_ok-listings.listings) all c.in_ok-listings.ensures)))
+    (subst (λ (v : ℕ). AreListed (parts_of image) v (λ t. within c.args.moment c.args.session.now t) (tables_in image) (srcs_view query.sources.items) whole.alls) c.version_of-version.ensures whole.listed))
