@@ -1,15 +1,14 @@
 -- What is listed of the sources of a query has their columns, and its rows fit them.
-use Rattle.std.proofs.Common.{◌≡◌, ℕ, ◌+◌, ◌<◌, ◌≤◌, if◌then◌else◌, is_some, get_or, Bool, true, false, List, [], ◌∷◌, ◌++◌, length, drop, Option, Some, None, refl, sym, ap, ◌∙◌, subst, append-nil}
-use Rattle.std.proofs.lemmas.List.{append_assoc, drop_all, drop_more}
+use Rattle.std.proofs.Common.{◌≡◌, ℕ, ◌+◌, ◌<◌, ◌≤◌, if◌then◌else◌, is_some, get_or, Bool, true, false, List, [], ◌∷◌, ◌++◌, length, drop, Option, Some, None, refl, sym, ap, ◌∙◌}
+use Rattle.std.proofs.lemmas.List.{drop_more}
 use Rattle.std.specs.Option.{option_map_or}
 use Rattle.wm_base.specs.Period.{Span}
 use Rattle.wm_base.specs.declared.columns.Column.{Column}
 use Rattle.wm_base.specs.declared.listing.Listing.{Listing as Source}
 use Rattle.wm_base.specs.declared.tree.query.Src.{Src as SrcNode}
 use Rattle.wm_base.specs.Trees.{Cond, Src}
-use Rattle.wm_base.specs.Views.{src_view, srcs_view}
+use Rattle.wm_base.specs.Views.{srcs_view}
 use Rattle.wm_graph.specs.Parts.{Parts}
-use Rattle.wm_state.specs.Listing.{IsShowing}
 use Rattle.wm_state.specs.State.{table_named}
 use Rattle.wm_select.specs.Query.{columns_of, where_of}
 use Rattle.wm_spec.specs.Conditions.{typed}

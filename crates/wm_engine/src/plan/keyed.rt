@@ -129,11 +129,7 @@ pub fn key_asked(
 }
 
 /// The constant that the condition asks of the column at the place, where there is one.
-fn asked_if<'a>(
-    columns: &[Column],
-    place: usize,
-    filter: &'a Option<Cond>,
-) -> Option<&'a Const>
+fn asked_if<'a>(columns: &[Column], place: usize, filter: &'a Option<Cond>) -> Option<&'a Const>
     ensures { option_copied result ≡ asked_if columns.now place (filter_view filter.now) }
 {
     match filter {

@@ -75,7 +75,7 @@ pub answer-requires-clause-columns : goal.answer-requires-clause-columns
 answer-requires-clause-columns c =
     c.in_ok-columns.ensures
     ∙ columns_listed_for c.args.image.now c.version_of-version.result (λ t. within c.args.moment c.args.session.now t) (is_kept (query_view c.args.query.now) c.as_slice.result.now) (srcs_view c.as_slice-sources.result.now)
-        c.in_ok-listings.listings c.requires.rules c.in_ok-listings.ensures
+    c.in_ok-listings.listings c.requires.rules c.in_ok-listings.ensures
 
 pub answer-requires-clause-fitting : goal.answer-requires-clause-fitting
 answer-requires-clause-fitting c =
