@@ -31,3 +31,5 @@ pub mod Adding
 pub mod Rowing
 pub mod Filled
 pub mod Moving
+pub mod Replying
+pub mod Sounding

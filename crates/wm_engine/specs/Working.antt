@@ -46,6 +46,12 @@ pub record HoldsSorted (file : List ℕ) (rs : List Stored) : Type 0 where
   pub held : Held records file
   pub same : rs ≡ by_id records
 
+-- the file is a store whose records keep the rules
+pub record IsSound (file : List ℕ) : Type 0 where
+  pub records : List Stored
+  pub holds : HoldsSorted file records
+  pub rules : keep_rules (parts_of records) ≡ true
+
 -- what a read gives and what a crash may leave is a store, and holds these records
 pub record KeepsOver (store : Store) (rs : List Stored) (h : History) : Type 0 where
   pub store_is : IsStoreOf store h

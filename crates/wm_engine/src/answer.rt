@@ -1,6 +1,8 @@
 //! What a line is answered.
+ghost use Rattle.std.specs.Prelude.{◌≡◌};
+ghost use Rattle.wm_engine.specs.Views.{answer_view, refusal_of};
 
-use wm_base::{Refusal, RowList};
+use wm_base::{Bytes, Refusal, RowList};
 
 /// An answer, before it is written out.
 #[derive(Drop)]
@@ -12,4 +14,23 @@ pub enum Answer {
     Done(u64),
     Listing(RowList),
     Refused(Refusal),
+}
+
+impl Answer {
+    /// The refusal that it is, if it is one.
+    pub fn into_refusal(self) -> Option<Refusal>
+        ensures { result ≡ refusal_of (answer_view self) }
+    {
+        match self {
+            Answer::Refused(refusal) => Some(refusal),
+            _ => None,
+        }
+    }
+}
+
+/// An answer written out, and the refusal that it tells where the line was refused.
+#[derive(Drop)]
+pub struct Reply {
+    pub bytes: Bytes,
+    pub refused: Option<Refusal>,
 }

@@ -31,6 +31,7 @@ pub fn commit<P: Station>(
     ensures any_moment { P.tells → (rs : List Stored) → KeepsOver store.old rs (P.history station.old) → Ended (P.history station.old) (P.history station.new) (λ file. HoldsSorted file rs ⊎ HoldsSorted file (applied batch.now.changes rs)) }
     // Where nothing changes the file is not touched.
     ensures nothing { P.tells → batch.now.changes ≡ [] → P.history station.new ≡ P.history station.old }
+    ensures same_store { batch.now.changes ≡ [] → OnOk result (store.new ≡ store.old) }
     ensures later { P.disk_faults station.old ≤ P.disk_faults station.new }
     ensures disk { IsErrOf result faults.Disk → Rises (P.disk_faults station.old) (P.disk_faults station.new) }
     ensures say_quiet { P.say_faults station.new ≡ P.say_faults station.old }

@@ -1,16 +1,18 @@
 //! The state between two lines, and what a line does to it.
-ghost use Rattle.std.specs.Prelude.{◌≡◌, ℕ, ◌<◌, ◌≤◌, ◌⊎◌, List, true, false, OnOk, IfOk, IfErr, IsErrOf};
+ghost use Rattle.std.specs.Prelude.{◌≡◌, ℕ, ◌<◌, ◌≤◌, ◌⊎◌, List, true, false, OnOk, OnSome, IfOk, IfErr, IfSome, IsErrOf};
 ghost use Rattle.wm_base.specs.declared.fault.MakeFault.TheVariants as making;
 ghost use Rattle.wm_base.specs.declared.fault.OpenFault.TheVariants as opening;
 ghost use Rattle.wm_base.specs.declared.instant.TheConstants.{END};
 ghost use Rattle.wm_engine.specs.Forks.{is_fork};
 ghost use Rattle.wm_engine.specs.Idle.{is_idle};
 ghost use Rattle.wm_parser.specs.Parsed.{parsed};
-ghost use Rattle.wm_engine.specs.Working.{FileStands, HoldsSorted, LeavesAlone, StandsFor, WorksOver, Tells};
+ghost use Rattle.wm_engine.specs.Working.{FileStands, HoldsSorted, IsSound, LeavesAlone, StandsFor, WorksOver, Tells};
+ghost use Rattle.wm_engine.specs.Views.{refusal_of};
 ghost use Rattle.wm_engine.specs.declared.fault.LineFault.TheVariants as faults;
 ghost use Rattle.wm_state.specs.Drafts.{ChangesFew};
 ghost use Rattle.wm_state.specs.State.{State, begin, fresh};
 ghost use Rattle.wm_model.specs.Step.{step, answer_text};
+ghost use Rattle.wm_print.specs.Texts.{Refused};
 ghost use Rattle.wm_station.specs.Cause.{Rises};
 ghost use Rattle.wm_station.specs.History.{now, said, Leaves, Synced};
 ghost use Rattle.wm_journal.specs.Disk.{is_made};
@@ -19,12 +21,13 @@ ghost use Rattle.wm_graph.specs.Parts.{parts_of};
 ghost use Rattle.wm_graph.specs.Rules.{keep_rules};
 ghost use Rattle.wm_station.specs.Moments.{During, Ended, Holds};
 
+use crate::answer::Reply;
 use crate::fault::LineFault;
 use crate::keep::run_line;
 use crate::session::Session;
 use std::alloc::Global;
 use std::marker::Model;
-use wm_base::{Bytes, Damage, Instant, MakeFault, OpenFault};
+use wm_base::{Damage, Instant, MakeFault, OpenFault};
 use wm_image::{Image, ImageFault};
 use wm_station::Station;
 use wm_store::Store;
@@ -124,21 +127,28 @@ impl Engine {
         })
     }
 
-    /// Runs a line: what it changes is on the disk when this gives the bytes of its answer. After a fault the engine is
+    /// Runs a line: what it changes is on the disk when this gives its answer. After a fault the engine is
     /// given up, and the store is to be opened again.
     pub fn line<P: Station>(
         &mut self,
         alloc: Global,
         station: &mut P,
         line: &[u8],
-    ) -> Result<Bytes, LineFault>
+    ) -> Result<Reply, LineFault>
         requires works { P.tells → WorksOver self.old (P.history station.old) }
-        ensures answered { IfOk result (λ answer. (s : State) → StandsFor self.old s → StandsFor self.new (step s line.now).0 × (answer ≡ answer_text (step s line.now).1)) }
+        ensures answered { IfOk result (λ reply. (s : State) → StandsFor self.old s → StandsFor self.new (step s line.now).0 × (reply.bytes ≡ answer_text (step s line.now).1)) }
+        ensures refused { IfOk result (λ reply. (s : State) → StandsFor self.old s → reply.refused ≡ refusal_of (step s line.now).1) }
+        // Where it is refused the bytes tell the refusal, the engine is as it was, and the station did nothing: whatever the records
+        // are, also those of a store that stands for no state.
+        ensures refusal { IfOk result (λ reply. IfSome reply.refused (λ refusal. reply.bytes ≡ answer_text (Refused refusal))) }
+        ensures unmoved { IfOk result (λ reply. OnSome reply.refused (self.new ≡ self.old)) }
+        ensures untouched { P.tells → IfOk result (λ reply. OnSome reply.refused (P.history station.new ≡ P.history station.old)) }
         ensures works { P.tells → OnOk result (WorksOver self.new (P.history station.new)) }
+        ensures rules { OnOk result (keep_rules (parts_of self.new.records) ≡ true) }
         // A line that makes a savepoint or a workspace changes few records, and none of a row, a piece or an entry of a log.
         ensures few { is_fork (parsed line.now) ≡ true → OnOk result (ChangesFew self.old.records self.new.records) }
-        // A line that is refused, that reads, that changes no row, or that says nothing changes no record and no session.
-        ensures idle { (s : State) → StandsFor self.old s → is_idle (step s line.now).1 ≡ true → OnOk result ((self.new.records ≡ self.old.records) × (self.new.sessions ≡ self.old.sessions)) }
+        // A line that is refused, that reads, that changes no row, or that says nothing changes no record and no session, and leaves the moment.
+        ensures idle { (s : State) → StandsFor self.old s → is_idle (step s line.now).1 ≡ true → OnOk result ((self.new.records ≡ self.old.records) × (self.new.sessions ≡ self.old.sessions) × (self.new.moment ≡ self.old.moment)) }
         // Such a line writes nothing, and syncs nothing.
         ensures unwritten { P.tells → (s : State) → StandsFor self.old s → is_idle (step s line.now).1 ≡ true → P.history station.new ≡ P.history station.old }
         // Nor does any line that counts no work change a record, write, or sync: one that moves a session or the moment alone.
@@ -146,6 +156,8 @@ impl Engine {
         ensures workless_unwritten { P.tells → (s : State) → StandsFor self.old s → (step s line.now).0.work ≡ s.work → P.history station.new ≡ P.history station.old }
         // A crash at any moment of the call, and a read after it, finds a file that stands for the state before the line or after it.
         ensures any_moment { P.tells → (s : State) → StandsFor self.old s → Ended (P.history station.old) (P.history station.new) (λ file. FileStands file s ⊎ FileStands file (step s line.now).0) }
+        // Whatever the records stand for, the file stays a store whose records keep the rules, where the engine's do.
+        ensures sound { P.tells → keep_rules (parts_of self.old.records) ≡ true → Ended (P.history station.old) (P.history station.new) IsSound }
         ensures later { P.disk_faults station.old ≤ P.disk_faults station.new }
         ensures disk { IsErrOf result faults.Disk → Rises (P.disk_faults station.old) (P.disk_faults station.new) }
         ensures say_quiet { P.say_faults station.new ≡ P.say_faults station.old }
@@ -165,6 +177,6 @@ impl Engine {
         )?;
         self.image = Some(kept.image);
         self.moment = kept.moment;
-        Ok(kept.bytes)
+        Ok(kept.reply)
     }
 }

@@ -1,41 +1,42 @@
 //! A line over a store: what it does is planned and printed, and only then kept.
-ghost use Rattle.std.specs.Prelude.{◌≡◌, ◌<◌, ◌≤◌, ◌⊎◌, ℕ, List, [], true, OnOk, IfOk, IsErrOf};
+ghost use Rattle.std.specs.Prelude.{◌≡◌, ◌<◌, ◌≤◌, ◌⊎◌, ℕ, List, [], true, OnOk, OnSome, IfOk, IfSome, IsErrOf};
 ghost use Rattle.wm_base.specs.declared.instant.TheConstants.{END};
 ghost use Rattle.wm_engine.specs.Forks.{is_fork};
 ghost use Rattle.wm_engine.specs.Idle.{is_idle};
 ghost use Rattle.wm_engine.specs.Keeping.{AreDrafted, HoldsDrafted};
-ghost use Rattle.wm_engine.specs.Working.{FileStands, HoldsSorted, KeepsOver};
+ghost use Rattle.wm_engine.specs.Working.{FileStands, HoldsSorted, IsSound, KeepsOver};
 ghost use Rattle.wm_engine.specs.declared.fault.LineFault.TheVariants as faults;
 ghost use Rattle.wm_graph.specs.Parts.{parts_of};
 ghost use Rattle.wm_graph.specs.Rules.{keep_rules};
-ghost use Rattle.wm_engine.specs.Views.{seating_view};
+ghost use Rattle.wm_engine.specs.Views.{refusal_of, seating_view};
 ghost use Rattle.wm_model.specs.Planning.{StandsAt, seated};
 ghost use Rattle.wm_model.specs.Step.{step, answer_text};
 ghost use Rattle.wm_parser.specs.Parsed.{parsed};
+ghost use Rattle.wm_print.specs.Texts.{Refused};
 ghost use Rattle.wm_state.specs.Drafts.{CanDraft, ChangesFew};
 ghost use Rattle.wm_state.specs.State.{State};
 ghost use Rattle.wm_station.specs.Cause.{Rises};
 ghost use Rattle.wm_station.specs.Moments.{Ended};
 
+use crate::answer::Reply;
 use crate::commit::commit;
 use crate::fault::LineFault;
 use crate::plan::line::plan;
-use crate::planned::{Changed, Timed};
-use crate::print::print;
+use crate::planned::{Changed, Planned, Timed};
+use crate::print::reply_of;
 use crate::seating::seat;
 use crate::session::Session;
 use std::alloc::Global;
-use wm_base::Bytes;
 use wm_image::Image;
 use wm_station::Station;
 use wm_store::Store;
 
-/// The records and the moment that a line left, and the bytes of its answer.
+/// The records and the moment that a line left, and its answer.
 #[derive(Drop)]
 pub struct Kept {
     pub image: Image,
     pub moment: u64,
-    pub bytes: Bytes,
+    pub reply: Reply,
 }
 
 /// Drafts what a line changes and commits it, does to the sessions what it does to them, and gives the records that it leaves.
@@ -57,6 +58,7 @@ fn keep<P: Station>(
     ensures any_moment { P.tells → Ended (P.history station.old) (P.history station.new) (λ file. HoldsSorted file image ⊎ HoldsDrafted file image moment changed.edits.items) }
     // Where nothing changes the file is not touched.
     ensures nothing { P.tells → changed.edits.items ≡ [] → P.history station.new ≡ P.history station.old }
+    ensures same_store { changed.edits.items ≡ [] → OnOk result (store.new ≡ store.old) }
     ensures later { P.disk_faults station.old ≤ P.disk_faults station.new }
     ensures disk { IsErrOf result faults.Disk → Rises (P.disk_faults station.old) (P.disk_faults station.new) }
     ensures say_quiet { P.say_faults station.new ≡ P.say_faults station.old }
@@ -85,11 +87,16 @@ pub fn run_line<P: Station>(
     requires rules { keep_rules (parts_of image) ≡ true }
     requires moment { moment < END }
     requires works { P.tells → KeepsOver store.old image (P.history station.old) }
-    ensures answered { IfOk result (λ k. (s : State) → StandsAt image sessions.old.items moment s → StandsAt k.image sessions.new.items k.moment (step s line.now).0 × (k.bytes ≡ answer_text (step s line.now).1)) }
+    ensures answered { IfOk result (λ k. (s : State) → StandsAt image sessions.old.items moment s → StandsAt k.image sessions.new.items k.moment (step s line.now).0 × (k.reply.bytes ≡ answer_text (step s line.now).1)) }
+    ensures refused { IfOk result (λ k. (s : State) → StandsAt image sessions.old.items moment s → k.reply.refused ≡ refusal_of (step s line.now).1) }
+    // What it says of a refusal it says of all records, also of some that stand for no state: the bytes tell it, nothing changes, and the file is not touched.
+    ensures refusal { IfOk result (λ k. IfSome k.reply.refused (λ refusal. k.reply.bytes ≡ answer_text (Refused refusal))) }
+    ensures unmoved { IfOk result (λ k. OnSome k.reply.refused ((store.new ≡ store.old) × (k.image ≡ image) × (sessions.new.items ≡ sessions.old.items) × (k.moment ≡ moment))) }
+    ensures untouched { P.tells → IfOk result (λ k. OnSome k.reply.refused (P.history station.new ≡ P.history station.old)) }
     ensures rules { IfOk result (λ k. keep_rules (parts_of k.image) ≡ true) }
     ensures moment { IfOk result (λ k. k.moment < END) }
     ensures few { is_fork (parsed line.now) ≡ true → IfOk result (λ k. ChangesFew image k.image) }
-    ensures idle { IfOk result (λ k. (s : State) → StandsAt image sessions.old.items moment s → is_idle (step s line.now).1 ≡ true → (k.image ≡ image) × (sessions.new.items ≡ sessions.old.items)) }
+    ensures idle { IfOk result (λ k. (s : State) → StandsAt image sessions.old.items moment s → is_idle (step s line.now).1 ≡ true → (k.image ≡ image) × (sessions.new.items ≡ sessions.old.items) × (k.moment ≡ moment)) }
     // A line that is refused, that reads, that changes no row, or that says nothing does not touch the file, whatever the result.
     ensures unwritten { P.tells → (s : State) → StandsAt image sessions.old.items moment s → is_idle (step s line.now).1 ≡ true → P.history station.new ≡ P.history station.old }
     // Nor does one that counts no work.
@@ -97,6 +104,8 @@ pub fn run_line<P: Station>(
     ensures workless_unwritten { P.tells → (s : State) → StandsAt image sessions.old.items moment s → (step s line.now).0.work ≡ s.work → P.history station.new ≡ P.history station.old }
     ensures works { P.tells → IfOk result (λ k. KeepsOver store.new k.image (P.history station.new)) }
     ensures any_moment { P.tells → (s : State) → StandsAt image sessions.old.items moment s → Ended (P.history station.old) (P.history station.new) (λ file. FileStands file s ⊎ FileStands file (step s line.now).0) }
+    // Whatever the records stand for, the file stays a store whose records keep the rules.
+    ensures sound { P.tells → Ended (P.history station.old) (P.history station.new) IsSound }
     ensures later { P.disk_faults station.old ≤ P.disk_faults station.new }
     ensures disk { IsErrOf result faults.Disk → Rises (P.disk_faults station.old) (P.disk_faults station.new) }
     ensures say_quiet { P.say_faults station.new ≡ P.say_faults station.old }
@@ -106,7 +115,12 @@ pub fn run_line<P: Station>(
         planned,
         moment: after,
     } = plan(alloc, &image, sessions.as_slice(), moment, line)?;
-    let bytes = print(alloc, &planned.answer)?;
+    let Planned {
+        edits,
+        seating,
+        answer,
+    } = planned;
+    let reply = reply_of(alloc, answer)?;
     let image = keep(
         alloc,
         station,
@@ -114,11 +128,11 @@ pub fn run_line<P: Station>(
         sessions,
         image,
         moment,
-        planned.into_changed(),
+        Changed { edits, seating },
     )?;
     Ok(Kept {
         image,
         moment: after,
-        bytes,
+        reply,
     })
 }

@@ -15,5 +15,6 @@ mod seating;
 mod session;
 mod work;
 
+pub use answer::Reply;
 pub use engine::Engine;
 pub use fault::LineFault;

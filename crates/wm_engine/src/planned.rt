@@ -60,17 +60,6 @@ impl Planned {
             answer,
         })
     }
-
-    /// What the line changes, without its answer.
-    pub fn into_changed(self) -> Changed
-        ensures edits { result.edits ≡ self.edits }
-        ensures seating { result.seating ≡ self.seating }
-    {
-        Changed {
-            edits: self.edits,
-            seating: self.seating,
-        }
-    }
 }
 
 /// What a line does, and the moment behind it.

@@ -1,16 +1,28 @@
 //! The bytes of answers.
 ghost use Rattle.std.specs.Prelude.{◌≡◌, IfOk, codes};
 ghost use Rattle.wm_print.specs.Texts.{answer_text};
-ghost use Rattle.wm_engine.specs.Views.{answer_view};
+ghost use Rattle.wm_engine.specs.Views.{answer_view, refusal_of};
 
-use crate::answer::Answer;
+use crate::answer::{Answer, Reply};
 use std::alloc::Global;
 use wm_base::{Bytes, Memory};
 use wm_print::{print_done, print_refusal, print_rows};
 
+/// An answer written out.
+pub fn reply_of(alloc: Global, answer: Answer) -> Result<Reply, Memory>
+    ensures bytes { IfOk result (λ reply. reply.bytes ≡ answer_text (answer_view answer)) }
+    ensures refused { IfOk result (λ reply. reply.refused ≡ refusal_of (answer_view answer)) }
+{
+    let bytes = print(alloc, &answer)?;
+    Ok(Reply {
+        bytes,
+        refused: answer.into_refusal(),
+    })
+}
+
 /// The bytes of an answer.
 #[tactic(auto, unfolding(wm_print::specs::Texts::answer_text))]
-pub fn print(alloc: Global, answer: &Answer) -> Result<Bytes, Memory>
+fn print(alloc: Global, answer: &Answer) -> Result<Bytes, Memory>
     ensures { IfOk result (λ bytes. bytes ≡ answer_text (answer_view answer.now)) }
 {
     match answer {

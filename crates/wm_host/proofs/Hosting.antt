@@ -15,7 +15,7 @@ use Rattle.wm_model.proofs.Cutting.{HasNoLf-held_more, capped_last}
 use Rattle.wm_host.specs.Crash.{Throughout, CrashSays, CrashLine}
 use Rattle.wm_host.specs.Outcome.{HasSaid, AnswersSome}
 use Rattle.wm_host.specs.Saying.{OnlySaid, SaidPart, after_says}
-use Rattle.wm_host.specs.Hosting.{standing, line_of, Answers, SaysPart, Unanswered, Says, SaysSome, Breaks, Finishes, Halts}
+use Rattle.wm_host.specs.Hosting.{standing, line_of, WorksSoundly, Answers, SaysPart, Unanswered, Says, SaysSome, Breaks, Finishes, Halts}
 use Rattle.wm_host.specs.declared.host.Host.{Host}
 use Rattle.wm_host.proofs.Saying.{said-only}
 use Rattle.wm_host.proofs.Crashing.{crash_line_run, crash_line_said}
@@ -36,6 +36,9 @@ works_says e h (call ∷ calls) works = works_says e (Said h call.0 call.1) call
 pub works-only : (e : Engaged) (old new : History) (out : List ℕ) → OnlySaid old new out → WorksOver e old → WorksOver e new
 works-only e old new out only works = subst (λ (h : History). WorksOver e h) (sym only.told) (works_says e old only.calls works)
 
+pub soundly-only : (e : Engaged) (old new : History) (out : List ℕ) → OnlySaid old new out → WorksSoundly e old → WorksSoundly e new
+soundly-only e old new out only soundly = record { works = works-only e old new out only soundly.works; rules = soundly.rules }
+
 -- ---- a line
 
 -- what the engine did with a line: it ran it, or not
@@ -55,7 +58,7 @@ answered_bytes : (s : State) (from : Host) (line bytes piece : List ℕ) → cap
 answered_bytes s from line bytes piece same is spoken = spoken ∙ is ∙ ap (λ r. answer_text r.1) (ran_line_of s from line same)
 
 pub answered : (tells : Type 0) (old middle new : History) (from : Host) (e : Engaged) (line bytes piece held : List ℕ)
-    → cap line ≡ cap (without_cr from.line) → RanLine from.engine e line bytes → EndedLine tells from.engine line old middle → (tells → WorksOver e middle)
+    → cap line ≡ cap (without_cr from.line) → RanLine from.engine e line bytes → EndedLine tells from.engine line old middle → (tells → WorksSoundly e middle)
     → piece ≡ bytes → held ≡ [] → (tells → OnlySaid middle new piece)
     → Answers tells old new from (record { engine = e; line = held; lines = from.lines + 1 })
 answered tells old middle new from e line bytes piece held same ran ended works spoken empty only = record {
@@ -66,7 +69,7 @@ answered tells old middle new from e line bytes piece held same ran ended works 
       said-only middle new piece (only t)
       ∙ ap (λ (b : List ℕ). b ++ piece) (ended t s for).quiet
       ∙ ap (λ (out : List ℕ). said old ++ out) (answered_bytes s from line bytes piece same (ran s for).1 spoken);
-  works = λ t. works-only e middle new piece (only t) (works t);
+  works = λ t. soundly-only e middle new piece (only t) (works t);
 }
 
 -- the engine did not answer
@@ -150,7 +153,7 @@ breaks_line tells old new from to byte lf no_lf stop = record {
   }
 
 -- a byte that is held
-pub says_byte : (tells : Type 0) (history : History) (from : Host) (byte : ℕ) (held : List ℕ) → (byte ≡ 10 → ⊥) → HasNoLf from.line → (tells → WorksOver from.engine history) → held ≡ held_more from.line byte
+pub says_byte : (tells : Type 0) (history : History) (from : Host) (byte : ℕ) (held : List ℕ) → (byte ≡ 10 → ⊥) → HasNoLf from.line → (tells → WorksSoundly from.engine history) → held ≡ held_more from.line byte
     → Says tells history history from (byte ∷ []) (record { engine = from.engine; line = held; lines = from.lines })
 unfolding transcript after
 says_byte tells history from byte held other no_lf works is = record {
@@ -172,7 +175,7 @@ breaks_before tells history from bytes held = record {
   each = λ t s for. record { out = []; end = s; cut = cut_before (standing s from) bytes; says = has_said_nothing history };
 }
 
-pub says_begun : (tells : Type 0) (history : History) (host : Host) → HasNoLf host.line → (tells → WorksOver host.engine history) → Says tells history history host [] host
+pub says_begun : (tells : Type 0) (history : History) (host : Host) → HasNoLf host.line → (tells → WorksSoundly host.engine history) → Says tells history history host [] host
 unfolding transcript after
 says_begun tells history host no_lf works = record {
   done = [];
@@ -241,11 +244,11 @@ breaks_next tells first middle last a b c bytes i within one stop =
 
 -- ---- the end of the script
 
-pub finishes_nothing : (tells : Type 0) (history : History) (host : Host) → host.line ≡ [] → (tells → WorksOver host.engine history) → Finishes tells history history host (capped true host.line) host
+pub finishes_nothing : (tells : Type 0) (history : History) (host : Host) → host.line ≡ [] → (tells → WorksSoundly host.engine history) → Finishes tells history history host (capped true host.line) host
 unfolding transcript after
 finishes_nothing tells history host none works = rw none (record {
   count = omega arith;
-  each = λ t s for. record { says = has_said_nothing history; stands = stands_over host.engine history s (works t) for };
+  each = λ t s for. record { says = has_said_nothing history; stands = stands_over host.engine history s (works t).works for };
 })
 
 pub finishes_line : (tells : Type 0) (old new : History) (from to : Host) (held : List ℕ) → from.line ≡ held → (held ≡ [] → ⊥) → HasNoLf held → Answers tells old new from to → Finishes tells old new from (capped true held) to
@@ -255,7 +258,7 @@ finishes_line tells old new from to (b ∷ held) is more no_lf answers = rw (cap
   each = λ t s for. record {
     says = subst (λ (out : List ℕ). HasSaid old new out) (ap (λ (l : List ℕ). answer s (cap (without_cr l))) is ∙ sym (transcript-single s (cap (without_cr (b ∷ held))))) (answers.says t s for);
     stands = subst (λ (end : State). Holds new (λ file. FileStands file end)) (ap (λ (l : List ℕ). (step s (cap (without_cr l))).0) is ∙ sym (after-single s (cap (without_cr (b ∷ held)))))
-        (stands_over to.engine new (step s (line_of from)).0 (answers.works t) (answers.stands s for));
+        (stands_over to.engine new (step s (line_of from)).0 (answers.works t).works (answers.stands s for));
   };
 })
 

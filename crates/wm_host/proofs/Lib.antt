@@ -7,3 +7,4 @@ pub mod Making
 pub mod Past
 pub mod Saying
 pub mod Throughout
+pub mod Sounding

@@ -1,7 +1,7 @@
 -- Laws on a script of which the host has taken a part.
 use Rattle.std.proofs.Common.{ℕ, ◌≡◌, ◌≤◌, ◌+◌, ◌^◌, true, false, List, [], ◌++◌, length, take, refl, ap, sym, subst, ◌∙◌, append_assoc, append-nil, length-append, arith}
 use Rattle.std.proofs.lemmas.List.{take_at, length-take-le}
-use Rattle.wm_engine.specs.Working.{FileStands, StandsFor, WorksOver}
+use Rattle.wm_engine.specs.Working.{FileStands, StandsFor}
 use Rattle.wm_engine.proofs.Working.{stands_over}
 use Rattle.wm_station.specs.History.{History}
 use Rattle.wm_station.specs.Moments.{Holds}
@@ -10,7 +10,7 @@ use Rattle.wm_state.specs.State.{State, fresh}
 use Rattle.wm_model.specs.Running.{transcript, after, Stopped}
 use Rattle.wm_model.proofs.Running.{transcript-append, after-append, ran_lines, ran_ended_lines, stopped_after}
 use Rattle.wm_host.specs.Crash.{Throughout, CrashRuns, CrashAnswers}
-use Rattle.wm_host.specs.Hosting.{standing, Says, SaysSome, Breaks, Finishes, Halts}
+use Rattle.wm_host.specs.Hosting.{standing, WorksSoundly, Says, SaysSome, Breaks, Finishes, Halts}
 use Rattle.wm_host.specs.Outcome.{HasSaid, Answered, AnswersSome, TakesAtMost}
 use Rattle.wm_host.specs.Script.{AnswersTaken, AnswersToLimit}
 use Rattle.wm_host.specs.declared.host.Host.{Host}
@@ -26,13 +26,13 @@ pub record Past (source_tells tells : Type 0) (script left : List ℕ) (old new 
   pub says : Says tells old new from past to
   pub crash : EachRuns tells old new from past
 
-pub past_begun : (source_tells tells : Type 0) (script : List ℕ) (history : History) (host : Host) → host.line ≡ [] → (tells → WorksOver host.engine history) → Past source_tells tells script script history history host host 0
+pub past_begun : (source_tells tells : Type 0) (script : List ℕ) (history : History) (host : Host) → host.line ≡ [] → (tells → WorksSoundly host.engine history) → Past source_tells tells script script history history host host 0
 past_begun source_tells tells script history host none works = record {
   past = [];
   script_is = λ s. refl;
   size = refl;
   says = says_begun tells history host (subst HasNoLf (sym none) tt) works;
-  crash = λ t s for. crash_runs_begun history s host [] (stands_over host.engine history s (works t) for);
+  crash = λ t s for. crash_runs_begun history s host [] (stands_over host.engine history s (works t).works for);
 }
 
 pub past_more : (source_tells tells : Type 0) (script left rest into : List ℕ) (first middle last : History) (a b c : Host) (taken n : ℕ)
@@ -141,7 +141,7 @@ past_ended source_tells tells script left old new from to taken empty so_far =
       count = so_far.says.lines;
       each = λ t s for. record {
         says = so_far.says.says t s for;
-        stands = stands_over to.engine new (after s so_far.says.done) (so_far.says.works t) (so_far.says.stands s for);
+        stands = stands_over to.engine new (after s so_far.says.done) (so_far.says.works t).works (so_far.says.stands s for);
       };
     })
 

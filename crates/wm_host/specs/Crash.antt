@@ -1,6 +1,6 @@
 -- What a crash within a stretch of a run may leave: a file, and the bytes said.
 use Rattle.std.specs.Prelude.{ℕ, ◌≡◌, ◌⊎◌, List, [], ◌++◌}
-use Rattle.wm_engine.specs.Working.{FileStands}
+use Rattle.wm_engine.specs.Working.{FileStands, IsSound}
 use Rattle.wm_station.specs.History.{History, now, said, Leaves}
 use Rattle.wm_station.specs.Moments.{During}
 use Rattle.wm_state.specs.State.{State}
@@ -25,6 +25,10 @@ pub record CrashSays (old : History) (bytes : List ℕ) (file after : List ℕ) 
 -- what opening leaves: a file that a crash could leave before, or one that stands for the state; and nothing said
 abbrev pub CrashOpens : History → State → List ℕ → List ℕ → Type 0
 CrashOpens old s file after = (Leaves old file ⊎ FileStands file s) × (after ≡ said old)
+
+-- whatever was said, the file is a store whose records keep the rules
+abbrev pub CrashSound : List ℕ → List ℕ → Type 0
+CrashSound file after = IsSound file
 
 -- the line is not kept, and nothing of its answer said; or it is kept, and a front of its answer said
 pub record CrashLine (old : History) (s : State) (line : List ℕ) (file after : List ℕ) : Type 0 where

@@ -1,6 +1,8 @@
 -- What the host did with a piece of the script, and what it said: for each state that its engine stands for.
-use Rattle.std.specs.Prelude.{ℕ, ◌≡◌, ◌≤◌, ◌+◌, List, [], ◌∷◌, length}
-use Rattle.wm_engine.specs.Working.{FileStands, StandsFor, WorksOver}
+use Rattle.std.specs.Prelude.{ℕ, ◌≡◌, ◌≤◌, ◌+◌, true, List, [], ◌∷◌, length}
+use Rattle.wm_engine.specs.Working.{Engaged, FileStands, StandsFor, WorksOver}
+use Rattle.wm_graph.specs.Parts.{parts_of}
+use Rattle.wm_graph.specs.Rules.{keep_rules}
 use Rattle.wm_station.specs.History.{History, now}
 use Rattle.wm_model.specs.Lines.{cap, without_cr, HasNoLf}
 use Rattle.wm_state.specs.State.{State, begin}
@@ -17,11 +19,16 @@ standing s host = record { state = s; held = host.line }
 abbrev pub line_of : Host → List ℕ
 line_of host = cap (without_cr host.line)
 
+-- the engine works over its station, and its records keep the rules
+pub record WorksSoundly (e : Engaged) (h : History) : Type 0 where
+  pub works : WorksOver e h
+  pub rules : keep_rules (parts_of e.records) ≡ true
+
 -- the host stands before a script, over a station that was opened for a run that begins at a moment
 pub record Begins (tells : Type 0) (old new : History) (host : Host) (moment : ℕ) : Type 0 where
   pub held : host.line ≡ []
   pub none : host.lines ≡ 0
-  pub works : tells → WorksOver host.engine new
+  pub works : tells → WorksSoundly host.engine new
   pub each : tells → (s : State) → FileStands (now old) s → StandsFor host.engine (begin s moment)
 
 -- the line was run, kept, and its whole answer said
@@ -30,7 +37,7 @@ pub record Answers (tells : Type 0) (old new : History) (from to : Host) : Type 
   pub lines : to.lines ≡ from.lines + 1
   pub stands : (s : State) → StandsFor from.engine s → StandsFor to.engine (step s (line_of from)).0
   pub says : tells → (s : State) → StandsFor from.engine s → HasSaid old new (answer s (line_of from))
-  pub works : tells → WorksOver to.engine new
+  pub works : tells → WorksSoundly to.engine new
 
 -- nothing of the line's answer was said, or a part
 pub record SaysPart (old new : History) (s : State) (line : List ℕ) : Type 0 where
@@ -53,7 +60,7 @@ pub record Says (tells : Type 0) (old new : History) (from : Host) (bytes : List
   pub no_lf : HasNoLf to.line
   pub stands : (s : State) → StandsFor from.engine s → StandsFor to.engine (after s done)
   pub says : tells → (s : State) → StandsFor from.engine s → HasSaid old new (transcript s done)
-  pub works : tells → WorksOver to.engine new
+  pub works : tells → WorksSoundly to.engine new
 
 -- so many lines were answered whole in the piece, the next at most in part
 pub record SaysSome (old new : History) (s : State) (from : Host) (bytes : List ℕ) (count : ℕ) : Type 0 where

@@ -1,11 +1,8 @@
 -- What a run did with a script whose lines are answered from a state.
-use Rattle.std.specs.Prelude.{ℕ, ◌≡◌, ◌≤◌, true, List, ◌∷◌, [], ◌++◌, length, Option, None, Some, codes}
-use Rattle.wm_engine.specs.Working.{FileStands, HoldsSorted, LeavesAlone, Tells}
-use Rattle.wm_graph.specs.Parts.{parts_of}
-use Rattle.wm_graph.specs.Rules.{keep_rules}
-use Rattle.wm_spec.specs.declared.record.stored.Stored.{Stored}
-use Rattle.wm_station.specs.History.{History, now, said}
-use Rattle.wm_station.specs.Moments.{Holds}
+use Rattle.std.specs.Prelude.{ℕ, ◌≡◌, ◌≤◌, ◌⊎◌, List, ◌∷◌, [], ◌++◌, length, Option, None, Some, codes}
+use Rattle.wm_engine.specs.Working.{FileStands, IsSound, LeavesAlone, Tells}
+use Rattle.wm_station.specs.History.{History, now, said, Leaves}
+use Rattle.wm_station.specs.Moments.{During, Holds}
 use Rattle.wm_model.specs.Lines.{ended_lines}
 use Rattle.wm_state.specs.State.{State, begin}
 use Rattle.wm_model.specs.Running.{transcript, after, Stopped}
@@ -53,11 +50,10 @@ pub record AnswersEnded (old new : History) (moment : ℕ) (script left : List �
   pub count_is : count ≡ length (ended_lines taken)
   pub each : (s : State) → FileStands (now old) s → Answered old new (begin s moment) (ended_lines taken)
 
--- the file is a store whose records keep the rules
-pub record IsSound (file : List ℕ) : Type 0 where
-  pub records : List Stored
-  pub holds : HoldsSorted file records
-  pub rules : keep_rules (parts_of records) ≡ true
+-- the file is a store whose records keep the rules, and each that a stop since old may leave is one, or could be left before
+pub record StaysSound (old new : History) : Type 0 where
+  pub here : IsSound (now new)
+  pub crash : During old new (λ file after. Leaves old file ⊎ IsSound file)
 
 -- a front of the script was taken, of at most so many bytes
 pub record TakesAtMost (limit : ℕ) (script left : List ℕ) : Type 0 where

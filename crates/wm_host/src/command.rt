@@ -1,7 +1,7 @@
 //! The commands of the program.
 ghost use Rattle.std.specs.Prelude.{◌≡◌, ◌+◌, ◌^◌, ◌<◌, ◌≤◌, ◌↔◌, ◌⊎◌, ◌==◌, length, map, take, string_bytes, None, false, true, [], ◌∷◌};
 ghost use Rattle.std.specs.List.{list_any};
-ghost use Rattle.wm_engine.specs.Working.{FileStands};
+ghost use Rattle.wm_engine.specs.Working.{FileStands, IsSound};
 ghost use Rattle.wm_model.specs.Lines.{lines, ended_lines};
 ghost use Rattle.wm_state.specs.State.{State, fresh};
 ghost use Rattle.wm_station.specs.Cause.{Rises};
@@ -10,7 +10,7 @@ ghost use Rattle.wm_station.specs.Moments.{During, Holds};
 ghost use Rattle.wm_journal.specs.Disk.{is_made};
 ghost use Rattle.wm_store.specs.Opened.{HoldsAs};
 ghost use Rattle.wm_host.specs.Crash.{CrashOfRun, CrashAnswers};
-ghost use Rattle.wm_host.specs.Outcome.{HasSaid, HasSaidFront, Answered, AnswersSome, AnswersEnded, IsDamaged, IsPage, IsSound, IsUnwritten, TakesAtMost, OfRun, OfInit, FromEach, FrontOfRun, ok_text, statuses_of};
+ghost use Rattle.wm_host.specs.Outcome.{HasSaid, HasSaidFront, Answered, AnswersSome, AnswersEnded, IsDamaged, IsPage, IsUnwritten, StaysSound, TakesAtMost, OfRun, OfInit, FromEach, FrontOfRun, ok_text, statuses_of};
 ghost use Rattle.wm_host.specs.Words.{command_of as command_in};
 
 use crate::ended::Ended;
@@ -55,6 +55,11 @@ pub fn run<S: Source, P: Station>(
 
     // Statuses 0, 3, 4 and 9 come only where the file was a store whose records keep the rules.
     ensures opened { list_any (λ status. status == result.status) (0 ∷ 3 ∷ 4 ∷ 9 ∷ []) ≡ true → P.tells → OfRun (command_in (map string_bytes words.now)) (λ moment. IsSound (now (P.history station.old))) }
+
+    // After them it is one still, and so is each file that a crash may leave from then on. Whatever the status, a store whose
+    // records keep the rules stays one, also at a crash within the run, and also where it stands for no state.
+    ensures still { list_any (λ status. status == result.status) (0 ∷ 3 ∷ 4 ∷ 9 ∷ []) ≡ true → P.tells → OfRun (command_in (map string_bytes words.now)) (λ moment. Holds (P.history station.new) IsSound) }
+    ensures kept_sound { P.tells → OfRun (command_in (map string_bytes words.now)) (λ moment. IsSound (now (P.history station.old)) → StaysSound (P.history station.old) (P.history station.new)) }
 
     // Whatever the status, at most one byte is taken past the limit.
     ensures few { S.tells → TakesAtMost (2 ^ 30 + 1) (S.left source.old) (S.left source.new) }

@@ -1,12 +1,12 @@
 //! What takes the bytes of a script one by one, and answers each line as it ends.
 ghost use Rattle.std.specs.Prelude.{◌≡◌, ◌+◌, ◌^◌, ◌<◌, ◌≤◌, List, [], ◌∷◌, length, OnOk, OnErr, IsErrOf, IfErr, true};
-ghost use Rattle.wm_engine.specs.Working.{StandsFor, WorksOver};
+ghost use Rattle.wm_engine.specs.Working.{StandsFor};
 ghost use Rattle.wm_model.specs.Lines.{HasNoLf, capped};
 ghost use Rattle.wm_state.specs.State.{State};
 ghost use Rattle.wm_station.specs.Cause.{Rises};
 ghost use Rattle.wm_host.specs.Cause.{IsOfAnswers};
-ghost use Rattle.wm_host.specs.Crash.{Throughout, CrashLine, CrashRuns, CrashAnswers};
-ghost use Rattle.wm_host.specs.Hosting.{line_of, Answers, Unanswered, Says, Breaks, Finishes, Halts};
+ghost use Rattle.wm_host.specs.Crash.{Throughout, CrashLine, CrashRuns, CrashAnswers, CrashSound};
+ghost use Rattle.wm_host.specs.Hosting.{line_of, Answers, Unanswered, Says, Breaks, Finishes, Halts, WorksSoundly};
 ghost use Rattle.wm_host.specs.declared.stop.Stop.TheVariants.{SayFault, DiskFault, Changed};
 
 use crate::line::LineBuffer;
@@ -41,10 +41,11 @@ impl Host {
     /// Runs the line that is held, and says its answer. What it changes is kept before anything is said.
     fn end_line<P: Station>(&mut self, alloc: Global, station: &mut P) -> Result<(), Stop>
         requires room { self.old.lines + 1 < 2 ^ 64 }
-        requires works { P.tells → WorksOver self.old.engine (P.history station.old) }
+        requires works { P.tells → WorksSoundly self.old.engine (P.history station.old) }
         ensures ok { OnOk result (Answers P.tells (P.history station.old) (P.history station.new) self.old self.new) }
         ensures err { OnErr result (Unanswered P.tells (P.history station.old) (P.history station.new) self.old self.new) }
         ensures crash { P.tells → (s : State) → StandsFor self.old.engine s → Throughout (P.history station.old) (P.history station.new) (CrashLine (P.history station.old) s (line_of self.old)) }
+        ensures sound { P.tells → Throughout (P.history station.old) (P.history station.new) CrashSound }
         ensures say_later { P.say_faults station.old ≤ P.say_faults station.new }
         ensures say_failed { IsErrOf result SayFault → Rises (P.say_faults station.old) (P.say_faults station.new) }
         ensures disk_later { P.disk_faults station.old ≤ P.disk_faults station.new }
@@ -53,7 +54,7 @@ impl Host {
         ensures answering { IfErr result IsOfAnswers }
     {
         let answer = self.engine.line(alloc, station, self.line.line())?;
-        say_all(station, answer.as_slice())?;
+        say_all(station, answer.bytes.as_slice())?;
         self.line.clear();
         self.lines += 1;
         Ok(())
@@ -68,10 +69,11 @@ impl Host {
     ) -> Result<(), Stop>
         requires room { self.old.lines + 1 < 2 ^ 64 }
         requires no_lf { HasNoLf self.old.line }
-        requires works { P.tells → WorksOver self.old.engine (P.history station.old) }
+        requires works { P.tells → WorksSoundly self.old.engine (P.history station.old) }
         ensures ok { OnOk result (Says P.tells (P.history station.old) (P.history station.new) self.old (byte ∷ []) self.new) }
         ensures err { OnErr result (Breaks P.tells (P.history station.old) (P.history station.new) self.old (byte ∷ []) self.new) }
         ensures crash { P.tells → (s : State) → StandsFor self.old.engine s → Throughout (P.history station.old) (P.history station.new) (CrashRuns (P.history station.old) s self.old (byte ∷ [])) }
+        ensures sound { P.tells → Throughout (P.history station.old) (P.history station.new) CrashSound }
         ensures say_later { P.say_faults station.old ≤ P.say_faults station.new }
         ensures say_failed { IsErrOf result SayFault → Rises (P.say_faults station.old) (P.say_faults station.new) }
         ensures disk_later { P.disk_faults station.old ≤ P.disk_faults station.new }
@@ -95,10 +97,11 @@ impl Host {
     ) -> Result<(), Stop>
         requires room { self.old.lines + length bytes.now < 2 ^ 64 }
         requires no_lf { HasNoLf self.old.line }
-        requires works { P.tells → WorksOver self.old.engine (P.history station.old) }
+        requires works { P.tells → WorksSoundly self.old.engine (P.history station.old) }
         ensures ok { OnOk result (Says P.tells (P.history station.old) (P.history station.new) self.old bytes.now self.new) }
         ensures err { OnErr result (Breaks P.tells (P.history station.old) (P.history station.new) self.old bytes.now self.new) }
         ensures crash { P.tells → (s : State) → StandsFor self.old.engine s → Throughout (P.history station.old) (P.history station.new) (CrashRuns (P.history station.old) s self.old bytes.now) }
+        ensures sound { P.tells → Throughout (P.history station.old) (P.history station.new) CrashSound }
         ensures say_later { P.say_faults station.old ≤ P.say_faults station.new }
         ensures say_failed { IsErrOf result SayFault → Rises (P.say_faults station.old) (P.say_faults station.new) }
         ensures disk_later { P.disk_faults station.old ≤ P.disk_faults station.new }
@@ -116,10 +119,11 @@ impl Host {
     pub(crate) fn finish<P: Station>(&mut self, alloc: Global, station: &mut P) -> Result<(), Stop>
         requires room { self.old.lines + 1 < 2 ^ 64 }
         requires no_lf { HasNoLf self.old.line }
-        requires works { P.tells → WorksOver self.old.engine (P.history station.old) }
+        requires works { P.tells → WorksSoundly self.old.engine (P.history station.old) }
         ensures ok { OnOk result (Finishes P.tells (P.history station.old) (P.history station.new) self.old (capped true self.old.line) self.new) }
         ensures err { OnErr result (Halts P.tells (P.history station.old) (P.history station.new) self.old (capped true self.old.line) self.new) }
         ensures crash { P.tells → (s : State) → StandsFor self.old.engine s → Throughout (P.history station.old) (P.history station.new) (CrashAnswers (P.history station.old) s (capped true self.old.line)) }
+        ensures sound { P.tells → Throughout (P.history station.old) (P.history station.new) CrashSound }
         ensures say_later { P.say_faults station.old ≤ P.say_faults station.new }
         ensures say_failed { IsErrOf result SayFault → Rises (P.say_faults station.old) (P.say_faults station.new) }
         ensures disk_later { P.disk_faults station.old ≤ P.disk_faults station.new }

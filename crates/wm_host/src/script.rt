@@ -1,12 +1,12 @@
 //! The loop over the source of a script.
 ghost use Rattle.std.specs.Prelude.{◌≡◌, ◌+◌, ◌^◌, ◌≤◌, List, [], length, true, OnOk, OnErr, IsErrOf, IfErr};
-ghost use Rattle.wm_engine.specs.Working.{StandsFor, WorksOver};
+ghost use Rattle.wm_engine.specs.Working.{StandsFor};
 ghost use Rattle.wm_model.specs.Lines.{capped};
 ghost use Rattle.wm_state.specs.State.{State};
 ghost use Rattle.wm_station.specs.Cause.{Rises};
 ghost use Rattle.wm_host.specs.Cause.{IsOfScript};
-ghost use Rattle.wm_host.specs.Crash.{Throughout, CrashAnswers};
-ghost use Rattle.wm_host.specs.Hosting.{Finishes, Halts};
+ghost use Rattle.wm_host.specs.Crash.{Throughout, CrashAnswers, CrashSound};
+ghost use Rattle.wm_host.specs.Hosting.{Finishes, Halts, WorksSoundly};
 ghost use Rattle.wm_host.specs.Outcome.{TakesAtMost};
 ghost use Rattle.wm_host.specs.Script.{AnswersTaken, AnswersToLimit};
 ghost use Rattle.wm_host.specs.declared.stop.Stop.TheVariants.{InputLimit, SayFault, SourceFault, DiskFault, Changed};
@@ -31,7 +31,7 @@ pub(crate) fn run_script<S: Source, P: Station>(
 ) -> Result<(), Stop>
     requires held { host.old.line ≡ [] }
     requires none { host.old.lines ≡ 0 }
-    requires works { P.tells → WorksOver host.old.engine (P.history station.old) }
+    requires works { P.tells → WorksSoundly host.old.engine (P.history station.old) }
 
     ensures ok { S.tells → OnOk result (Finishes P.tells (P.history station.old) (P.history station.new) host.old (capped true (S.left source.old)) host.new) }
     ensures end { S.tells → OnOk result (S.left source.new ≡ []) }
@@ -43,6 +43,8 @@ pub(crate) fn run_script<S: Source, P: Station>(
     // At most one byte is taken past the limit.
     ensures few { S.tells → TakesAtMost (2 ^ 30 + 1) (S.left source.old) (S.left source.new) }
     ensures crash { S.tells → P.tells → (s : State) → StandsFor host.old.engine s → Throughout (P.history station.old) (P.history station.new) (CrashAnswers (P.history station.old) s (capped true (S.left source.old))) }
+    // However it ends, and whatever the records stand for, the file stays a store whose records keep the rules.
+    ensures sound { P.tells → Throughout (P.history station.old) (P.history station.new) CrashSound }
     ensures source_later { S.faults source.old ≤ S.faults source.new }
     ensures source_failed { IsErrOf result SourceFault → Rises (S.faults source.old) (S.faults source.new) }
     ensures say_later { P.say_faults station.old ≤ P.say_faults station.new }

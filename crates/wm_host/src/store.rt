@@ -2,7 +2,7 @@
 ghost use Rattle.std.specs.Prelude.{◌≡◌, ◌+◌, ◌^◌, ◌<◌, ◌≤◌, ◌↔◌, ◌⊎◌, [], ◌∷◌, ◌==◌, length, take, true, false, OnOk, IfOk, IsErrOf, IfErr};
 ghost use Rattle.std.specs.List.{list_any};
 ghost use Rattle.wm_base.specs.declared.instant.TheConstants.{END};
-ghost use Rattle.wm_engine.specs.Working.{FileStands};
+ghost use Rattle.wm_engine.specs.Working.{FileStands, IsSound};
 ghost use Rattle.wm_model.specs.Lines.{lines, ended_lines};
 ghost use Rattle.wm_state.specs.State.{State, begin, fresh};
 ghost use Rattle.wm_station.specs.Cause.{Rises};
@@ -13,7 +13,7 @@ ghost use Rattle.wm_store.specs.Opened.{HoldsAs};
 ghost use Rattle.wm_host.specs.Cause.{IsOfMaking, IsOfOpening, StopsAlone, StopTells};
 ghost use Rattle.wm_host.specs.Crash.{CrashOfRun, CrashAnswers, CrashOpens};
 ghost use Rattle.wm_host.specs.Hosting.{Begins};
-ghost use Rattle.wm_host.specs.Outcome.{HasSaid, HasSaidFront, Answered, AnswersSome, AnswersEnded, IsDamaged, IsPage, IsSound, IsUnwritten, TakesAtMost, ok_text};
+ghost use Rattle.wm_host.specs.Outcome.{HasSaid, HasSaidFront, Answered, AnswersSome, AnswersEnded, IsDamaged, IsPage, IsUnwritten, StaysSound, TakesAtMost, ok_text};
 ghost use Rattle.wm_host.specs.declared.ended.Place.TheVariants.{Nowhere};
 ghost use Rattle.wm_host.specs.declared.stop.Stop.TheVariants.{SayFault, DiskFault, Exists, NotStore};
 
@@ -110,6 +110,9 @@ pub(crate) fn run_store<S: Source, P: Station>(
     ensures within { result.status ≡ 0 → S.tells → length (S.left source.old) ≤ 2 ^ 30 }
     // These statuses come only where the file was a store whose records keep the rules.
     ensures opened { list_any (λ status. status == result.status) (0 ∷ 3 ∷ 4 ∷ 9 ∷ []) ≡ true → P.tells → IsSound (now (P.history station.old)) }
+    // After them it is one still, and each file that a crash may leave from then on; whatever the status, a store whose records keep the rules stays one.
+    ensures still { list_any (λ status. status == result.status) (0 ∷ 3 ∷ 4 ∷ 9 ∷ []) ≡ true → P.tells → Holds (P.history station.new) IsSound }
+    ensures kept_sound { P.tells → IsSound (now (P.history station.old)) → StaysSound (P.history station.old) (P.history station.new) }
     // At most one byte is taken past the limit.
     ensures few { S.tells → TakesAtMost (2 ^ 30 + 1) (S.left source.old) (S.left source.new) }
     ensures ended { result.status ≡ 3 → S.tells → P.tells → AnswersEnded (P.history station.old) (P.history station.new) moment (S.left source.old) (S.left source.new) result.lines }

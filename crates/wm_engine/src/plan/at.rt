@@ -1,6 +1,7 @@
 //! AT.
 ghost use Rattle.std.specs.Prelude.{◌≡◌, ◌<◌, ℕ, List, [], true};
 ghost use Rattle.wm_base.specs.declared.instant.TheConstants.{END};
+ghost use Rattle.wm_engine.specs.Idle.{StaysAt};
 ghost use Rattle.wm_engine.specs.Planning.{DoesTimed};
 ghost use Rattle.wm_engine.specs.declared.seating.Seating.TheVariants.{Stay};
 ghost use Rattle.wm_graph.specs.Parts.{parts_of};
@@ -23,6 +24,8 @@ pub fn at_moment(alloc: Global, moment: u64, instant: Instant) -> Timed
     ensures moment { result.moment < END }
     ensures edits { result.planned.edits.items ≡ [] }
     ensures seating { result.planned.seating ≡ Stay }
+    // A refused one does not move it.
+    ensures stays { StaysAt moment result }
 {
     let next = instant.seconds();
     if next < moment {

@@ -3,7 +3,7 @@ ghost use Rattle.std.specs.Prelude.{◌≡◌, ◌<◌, ◌≤◌, length, true,
 ghost use Rattle.wm_base.specs.declared.instant.TheConstants.{END};
 ghost use Rattle.wm_base.specs.Views.{line_view};
 ghost use Rattle.wm_engine.specs.Forks.{AreForks, is_fork, is_fork_line};
-ghost use Rattle.wm_engine.specs.Idle.{Idles};
+ghost use Rattle.wm_engine.specs.Idle.{Idles, StaysAt};
 ghost use Rattle.wm_engine.specs.Planning.{DoesTimed};
 ghost use Rattle.wm_engine.specs.Timely.{IsTimely};
 ghost use Rattle.wm_graph.specs.Parts.{parts_of};
@@ -45,6 +45,7 @@ fn plan_line(
     ensures does { IfOk result (λ t. DoesTimed image.now sessions.now moment t (run_line (line_view line.now))) }
     ensures moment { IfOk result (λ t. t.moment < END) }
     ensures idle { IfOk result (λ t. Idles t.planned) }
+    ensures stays { IfOk result (StaysAt moment) }
     ensures few { is_fork_line (line_view line.now) ≡ true → IfOk result (λ t. AreForks t.planned) }
 {
     match line {
@@ -88,6 +89,7 @@ fn plan_read(
     ensures does { IfOk result (λ t. DoesTimed image.now sessions.now moment t (run_parsed (Read (line_view line.old)))) }
     ensures moment { IfOk result (λ t. t.moment < END) }
     ensures idle { IfOk result (λ t. Idles t.planned) }
+    ensures stays { IfOk result (StaysAt moment) }
     ensures few { is_fork_line (line_view line.old) ≡ true → IfOk result (λ t. AreForks t.planned) }
 {
     if is_later(line) {
@@ -112,6 +114,7 @@ fn plan_text(
     ensures does { IfOk result (λ t. DoesTimed image.now sessions.now moment t (run_parsed (parsed text.now))) }
     ensures moment { IfOk result (λ t. t.moment < END) }
     ensures idle { IfOk result (λ t. Idles t.planned) }
+    ensures stays { IfOk result (StaysAt moment) }
     ensures few { is_fork (parsed text.now) ≡ true → IfOk result (λ t. AreForks t.planned) }
 {
     match parse(alloc, text) {
@@ -143,6 +146,7 @@ pub fn plan(
     ensures does { IfOk result (λ t. DoesTimed image.now sessions.now moment t (λ s. step s text.now)) }
     ensures moment { IfOk result (λ t. t.moment < END) }
     ensures idle { IfOk result (λ t. Idles t.planned) }
+    ensures stays { IfOk result (StaysAt moment) }
     ensures few { is_fork (parsed text.now) ≡ true → IfOk result (λ t. AreForks t.planned) }
 {
     if text.len() > LINE_LIMIT {

@@ -31,3 +31,6 @@ returns-in_err-commit-clause-nothing g c = λ told none. absurd (some_counted c.
 
 pub returns-clause-nothing : goal.returns-clause-nothing
 returns-clause-nothing g c = λ told none. absurd (some_counted c.as_slice.result.now c.if-is_empty.ensures (c.as_slice.ensures ∙ none))
+
+pub returns-clause-same_store : goal.returns-clause-same_store
+returns-clause-same_store g c = λ none. absurd (some_counted c.as_slice.result.now c.if-is_empty.ensures (c.as_slice.ensures ∙ none))

@@ -50,3 +50,6 @@ returns-clause-nothing g c = λ told none. c.in_ok-commit.ensures.nothing told (
 pub returns-clause-works : goal.returns-clause-works
 returns-clause-works g c = λ told.
     subst (λ ss. KeepsOver c.commit.new.store ss (g.P.Station.history c.commit.new.station)) (sym (c.in_ok-apply.ensures.ok ∙ c.in_ok-batch.ensures.rest)) (c.in_ok-commit.ensures.works told c.args.image (c.requires.works told))
+
+pub returns-clause-same_store : goal.returns-clause-same_store
+returns-clause-same_store g c = λ none. c.in_ok-commit.ensures.same_store (c.in_ok-batch.ensures.drafts.nothing none)

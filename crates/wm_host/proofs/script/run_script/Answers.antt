@@ -3,11 +3,13 @@ use Rattle.std.proofs.lemmas.List.{length-take}
 use Rattle.std.proofs.lemmas.Result.{err_from_is_err_and, on_ok_weaker, on_err_weaker}
 use Rattle.wm_host.proofs.Past.{past_begun, past_more, past_finished, past_halted, past_broken, past_stopped, past_taken, past_few, past_untaken, past_limit, past_crash, past_crash_finish, past_crash_broken}
 use Rattle.wm_host.proofs.Causes.{not_of_source, not_of_limit, handed_on}
+use Rattle.wm_host.proofs.Sounding.{sound_begun, sound_more}
 use Rattle.wm_host.proofs.script.run_script.Goals as goal
 
 pub pieces-init : goal.pieces-init
 pieces-init g c = record {
   past = past_begun g.S.Source.tells g.P.Station.tells (g.S.Source.left c.args.source.now) (g.P.Station.history c.args.station.now) c.args.host.now c.requires.held c.requires.works;
+  sound = λ t. sound_begun c.args.host.now.engine _ (c.requires.works t);
   within = omega arith;
   source_later = omega arith;
   say_later = omega arith;
@@ -88,6 +90,7 @@ pub pieces-preserved : goal.pieces-preserved
 pieces-preserved g c = record {
   past = past_more g.S.Source.tells g.P.Station.tells (g.S.Source.left c.args.source.now) (g.S.Source.left c.pieces.source) (g.S.Source.left c.take.new.self) c.take.new.into _ _ _ c.args.host.now c.pieces.host c.feed.new.self c.pieces.taken c.in_ok-count.count
       c.pieces.invariant.past (omega (arith, c.in_ok-count.ensures.within)) c.in_ok-count.ensures.taken c.in_ok-feed.ensures.ok c.in_ok-feed.ensures.crash;
+  sound = λ t. sound_more _ _ _ (c.pieces.invariant.sound t) (c.in_ok-feed.ensures.sound t);
   within = omega (arith, c.in_ok-count.ensures.within, length-take c.clamp-room.result c.pieces.piece);
   source_later = omega (arith, c.pieces.invariant.source_later, c.in_ok-count.ensures.cause.later);
   say_later = omega (arith, c.pieces.invariant.say_later, c.in_ok-feed.ensures.say_later);
@@ -133,3 +136,9 @@ pub returns-in_err-feed-clause-few : goal.returns-in_err-feed-clause-few
 returns-in_err-feed-clause-few g c =
     past_few g.S.Source.tells g.P.Station.tells (g.S.Source.left c.args.source.now) (g.S.Source.left c.pieces.source) (g.S.Source.left c.take.new.self) c.take.new.into _ _ c.args.host.now c.pieces.host c.pieces.taken c.in_ok-count.count (2 ^ 30 + 1)
     c.pieces.invariant.past (omega (arith, c.in_ok-count.ensures.within)) c.in_ok-count.ensures.taken (omega (arith, c.pieces.invariant.within, c.in_ok-count.ensures.within, length-take c.clamp-room.result c.pieces.piece))
+
+pub returns-then-count-eq0-clause-sound : goal.returns-then-count-eq0-clause-sound
+returns-then-count-eq0-clause-sound g c = λ t. sound_more _ _ _ (c.pieces.invariant.sound t) (c.finish.ensures.sound t)
+
+pub returns-in_err-feed-clause-sound : goal.returns-in_err-feed-clause-sound
+returns-in_err-feed-clause-sound g c = λ t. sound_more _ _ _ (c.pieces.invariant.sound t) (c.in_err-feed.ensures.sound t)

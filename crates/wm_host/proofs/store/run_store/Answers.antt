@@ -4,6 +4,7 @@ use Rattle.wm_state.specs.State.{begin}
 use Rattle.wm_host.specs.Outcome.{IsUnwritten}
 use Rattle.wm_host.specs.declared.stop.Stop.TheVariants.{SourceFault, InputLimit}
 use Rattle.wm_host.proofs.Ending.{alone_at_place, alone_at_status, at_done, at_status, answers_all, answers_at_end, answers_ended, crash_opened, crash_ran, stands_ran, stands_unopened, counted_unopened, placed_by_script, takes_none, unopened_status}
+use Rattle.wm_host.proofs.Sounding.{sound_at_end, sound_ran, sound_unopened}
 use Rattle.wm_host.proofs.store.run_store.Goals as goal
 
 -- once the store is open
@@ -71,3 +72,20 @@ returns-in-Err-clause-unwritten g c = λ unwritten t. c.in-Err.ensures.synced t 
 -- a run over the lines names no page
 pub returns-in-Ok-clause-unwritten : goal.returns-in-Ok-clause-unwritten
 returns-in-Ok-clause-unwritten g c = λ unwritten t. absurd (placed_by_script c.run_script-run.result c.run_script-run.ensures.of_script (subst IsUnwritten c.of.ensures.place unwritten))
+
+-- ---- whatever the file stands for
+
+pub returns-in-Ok-clause-still : goal.returns-in-Ok-clause-still
+returns-in-Ok-clause-still g c = λ status t. sound_at_end (g.P.Station.history c.open_host.new.station) (g.P.Station.history c.run_script-run.new.station) (c.run_script-run.ensures.sound t)
+
+pub returns-in-Ok-clause-kept_sound : goal.returns-in-Ok-clause-kept_sound
+returns-in-Ok-clause-kept_sound g c = λ t sound.
+    sound_ran (g.P.Station.history c.args.station.now) (g.P.Station.history c.open_host.new.station) (g.P.Station.history c.run_script-run.new.station) sound
+    (c.in-Ok.ensures.pages_any_moment t) (c.run_script-run.ensures.sound t)
+
+pub returns-in-Err-clause-still : goal.returns-in-Err-clause-still
+returns-in-Err-clause-still g c = λ status t. absurd (unopened_status c.in-Err.stop c.of-in-Err.result.status c.of-in-Err.ensures.status c.in-Err.ensures.opening status)
+
+pub returns-in-Err-clause-kept_sound : goal.returns-in-Err-clause-kept_sound
+returns-in-Err-clause-kept_sound g c = λ t sound.
+    sound_unopened (g.P.Station.history c.args.station.now) (g.P.Station.history c.open_host.new.station) sound (c.in-Err.ensures.pages t) (c.in-Err.ensures.pages_any_moment t)

@@ -5,6 +5,8 @@ use Rattle.wm_spec.specs.declared.record.stored.Stored.{Stored}
 use Rattle.wm_state.specs.State.{State}
 use Rattle.wm_state.specs.Standing.{Stands}
 use Rattle.wm_engine.proofs.Committing.{ended_begun}
+use Rattle.wm_engine.proofs.Replying.{engaged_same, on_some_weaker}
+use Rattle.wm_engine.proofs.Sounding.{sound_begun}
 use Rattle.wm_engine.proofs.Working.{stands_over}
 use Rattle.wm_state.specs.Drafts.{ChangesFew}
 use Rattle.wm_engine.specs.Working.{Engaged, StandsFor}
@@ -34,6 +36,7 @@ returns-clause-idle g c = λ s for idle.
     let kept = c.in_ok-kept.ensures.idle s (stands_at _ c.in-Some.image s here (subst (λ (e : Engaged). StandsFor e s) (sym c.self.view_is) for)) idle in (
       kept.0 ∙ sym (ap (λ (e : Engaged). e.records) (sym c.self.view_is) ∙ here),
       kept.1 ∙ ap (λ (e : Engaged). e.sessions) c.self.view_is,
+      kept.2 ∙ ap (λ (e : Engaged). e.moment) c.self.view_is,
     )
 
 pub returns-in_err-kept-clause-unwritten : goal.returns-in_err-kept-clause-unwritten
@@ -61,3 +64,20 @@ pub returns-clause-workless_unwritten : goal.returns-clause-workless_unwritten
 returns-clause-workless_unwritten g c = λ told s for workless.
     let here = ap (λ (o : Option (List Stored)). unwrap_or o []) (sym c.in-Some.ensures.value) in
     c.in_ok-kept.ensures.workless_unwritten told s (stands_at _ c.in-Some.image s here (subst (λ (e : Engaged). StandsFor e s) (sym c.self.view_is) for)) workless
+
+-- ---- lines that are refused
+
+pub returns-clause-refused : goal.returns-clause-refused
+returns-clause-refused g c = λ s for.
+    let here = ap (λ (o : Option (List Stored)). unwrap_or o []) (sym c.in-Some.ensures.value) in
+    c.in_ok-kept.ensures.refused s (stands_at _ c.in-Some.image s here (subst (λ (e : Engaged). StandsFor e s) (sym c.self.view_is) for))
+
+pub returns-clause-unmoved : goal.returns-clause-unmoved
+returns-clause-unmoved g c =
+    let here = ap (λ (o : Option (List Stored)). unwrap_or o []) (sym c.in-Some.ensures.value) in
+    on_some_weaker _ _ c.in_ok-kept.kept.reply.refused (λ same. engaged_same _ _ same.0 (same.1 ∙ sym here) same.2 same.3 ∙ c.self.view_is) c.in_ok-kept.ensures.unmoved
+
+-- ---- whatever the records stand for
+
+pub returns-in_default-clause-sound : goal.returns-in_default-clause-sound
+returns-in_default-clause-sound g c = λ told rules. sound_begun _ _ _ (c.requires.works told) rules

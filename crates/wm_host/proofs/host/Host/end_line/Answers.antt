@@ -1,6 +1,7 @@
 use Rattle.std.proofs.Common.{append-nil, sym}
 use Rattle.std.proofs.lemmas.Result.{err_from_is_err_and}
 use Rattle.wm_host.proofs.Hosting.{answered, unanswered, answered_part, crash_of_run, crash_of_answer}
+use Rattle.wm_host.proofs.Sounding.{sound_answer, sound_line}
 use Rattle.wm_host.proofs.host.Host.end_line.Goals as goal
 
 pub returns-in_err-answer-clause-err : goal.returns-in_err-answer-clause-err
@@ -17,24 +18,42 @@ pub returns-in_err-say_all-clause-err : goal.returns-in_err-say_all-clause-err
 returns-in_err-say_all-clause-err g c =
     let p = err_from_is_err_and c.from_residual-in_err-say_all.result c.from_residual-in_err-say_all.ensures.1 in
     rw p.1
-    (answered_part g.P.Station.tells _ _ _ c.args.self.now c.line-2.new.self c.line.result.now c.in_ok-answer.answer c.as_slice.result.now
+    (answered_part g.P.Station.tells _ _ _ c.args.self.now c.line-2.new.self c.line.result.now c.in_ok-answer.answer.bytes c.as_slice.result.now
     c.line.ensures c.in_ok-answer.ensures.answered c.in_ok-answer.ensures.any_moment c.as_slice.ensures c.in_err-say_all.ensures.part)
 
 pub returns-in_err-say_all-clause-crash : goal.returns-in_err-say_all-clause-crash
 returns-in_err-say_all-clause-crash g c =
-    crash_of_answer g.P.Station.tells _ _ _ c.args.self.now c.line-2.new.self c.line.result.now c.in_ok-answer.answer c.as_slice.result.now
+    crash_of_answer g.P.Station.tells _ _ _ c.args.self.now c.line-2.new.self c.line.result.now c.in_ok-answer.answer.bytes c.as_slice.result.now
     c.in_err-say_all.ensures.part.part c.in_err-say_all.ensures.part.is_part.rest
     c.line.ensures c.in_ok-answer.ensures.answered c.in_ok-answer.ensures.any_moment c.in_ok-answer.ensures.works c.as_slice.ensures
     c.in_err-say_all.ensures.part.is_part.is c.in_err-say_all.ensures.crash c.in_err-say_all.ensures.part.only
 
 pub returns-clause-ok : goal.returns-clause-ok
 returns-clause-ok g c =
-    answered g.P.Station.tells _ _ _ c.args.self.now c.line-2.new.self c.line.result.now c.in_ok-answer.answer c.as_slice.result.now c.clear.new.self
-    c.line.ensures c.in_ok-answer.ensures.answered c.in_ok-answer.ensures.any_moment c.in_ok-answer.ensures.works c.as_slice.ensures c.clear.ensures c.in_ok-say_all.ensures.said
+    answered g.P.Station.tells _ _ _ c.args.self.now c.line-2.new.self c.line.result.now c.in_ok-answer.answer.bytes c.as_slice.result.now c.clear.new.self
+    c.line.ensures c.in_ok-answer.ensures.answered c.in_ok-answer.ensures.any_moment (λ t. record { works = c.in_ok-answer.ensures.works t; rules = c.in_ok-answer.ensures.rules }) c.as_slice.ensures c.clear.ensures c.in_ok-say_all.ensures.said
 
 pub returns-clause-crash : goal.returns-clause-crash
 returns-clause-crash g c =
-    crash_of_answer g.P.Station.tells _ _ _ c.args.self.now c.line-2.new.self c.line.result.now c.in_ok-answer.answer c.as_slice.result.now
+    crash_of_answer g.P.Station.tells _ _ _ c.args.self.now c.line-2.new.self c.line.result.now c.in_ok-answer.answer.bytes c.as_slice.result.now
     c.as_slice.result.now _
     c.line.ensures c.in_ok-answer.ensures.answered c.in_ok-answer.ensures.any_moment c.in_ok-answer.ensures.works c.as_slice.ensures
     (sym (append-nil c.as_slice.result.now)) c.in_ok-say_all.ensures.crash c.in_ok-say_all.ensures.said
+
+-- ---- whatever the records stand for
+
+pub line-2-requires-clause-works : goal.line-2-requires-clause-works
+line-2-requires-clause-works g c = λ t. (c.requires.works t).works
+
+pub returns-in_err-answer-clause-sound : goal.returns-in_err-answer-clause-sound
+returns-in_err-answer-clause-sound g c = λ t. sound_line _ _ (c.in_err-answer.ensures.sound t (c.requires.works t).rules)
+
+pub returns-in_err-say_all-clause-sound : goal.returns-in_err-say_all-clause-sound
+returns-in_err-say_all-clause-sound g c = λ t.
+    sound_answer c.line-2.new.self _ _ _ c.as_slice.result.now c.in_err-say_all.ensures.part.part (c.in_ok-answer.ensures.sound t (c.requires.works t).rules)
+    (record { works = c.in_ok-answer.ensures.works t; rules = c.in_ok-answer.ensures.rules }) (c.in_err-say_all.ensures.crash t) (c.in_err-say_all.ensures.part.only t)
+
+pub returns-clause-sound : goal.returns-clause-sound
+returns-clause-sound g c = λ t.
+    sound_answer c.line-2.new.self _ _ _ c.as_slice.result.now c.as_slice.result.now (c.in_ok-answer.ensures.sound t (c.requires.works t).rules)
+    (record { works = c.in_ok-answer.ensures.works t; rules = c.in_ok-answer.ensures.rules }) (c.in_ok-say_all.ensures.crash t) (c.in_ok-say_all.ensures.said t)

@@ -3,6 +3,7 @@ use Rattle.std.proofs.lemmas.Result.{err_from_is_err_and, on_ok_weaker, on_err_w
 use Rattle.wm_engine.proofs.Working.{stands_over}
 use Rattle.wm_host.proofs.Crashing.{crash_runs_begun, crash_runs_line}
 use Rattle.wm_host.proofs.Hosting.{says_line, breaks_line, says_byte, breaks_before}
+use Rattle.wm_host.proofs.Sounding.{sound_begun}
 use Rattle.wm_host.proofs.host.Host.take_byte.Goals as goal
 
 pub returns-then-byte-eq10-clause-ok : goal.returns-then-byte-eq10-clause-ok
@@ -24,7 +25,7 @@ returns-in_err-push-clause-err g c =
 
 pub returns-in_err-push-clause-crash : goal.returns-in_err-push-clause-crash
 returns-in_err-push-clause-crash g c = λ t s for.
-    crash_runs_begun _ s c.args.self.now (c.args.byte ∷ []) (stands_over c.args.self.now.engine _ s (c.requires.works t) for)
+    crash_runs_begun _ s c.args.self.now (c.args.byte ∷ []) (stands_over c.args.self.now.engine _ s (c.requires.works t).works for)
 
 pub returns-clause-ok : goal.returns-clause-ok
 returns-clause-ok g c =
@@ -32,4 +33,10 @@ returns-clause-ok g c =
 
 pub returns-clause-crash : goal.returns-clause-crash
 returns-clause-crash g c = λ t s for.
-    crash_runs_begun _ s c.args.self.now (c.args.byte ∷ []) (stands_over c.args.self.now.engine _ s (c.requires.works t) for)
+    crash_runs_begun _ s c.args.self.now (c.args.byte ∷ []) (stands_over c.args.self.now.engine _ s (c.requires.works t).works for)
+
+pub returns-in_err-push-clause-sound : goal.returns-in_err-push-clause-sound
+returns-in_err-push-clause-sound g c = λ t. sound_begun c.args.self.now.engine _ (c.requires.works t)
+
+pub returns-clause-sound : goal.returns-clause-sound
+returns-clause-sound g c = λ t. sound_begun c.args.self.now.engine _ (c.requires.works t)
