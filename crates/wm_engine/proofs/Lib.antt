@@ -31,3 +31,4 @@ pub mod Adding
 pub mod Rowing
 pub mod Filled
 pub mod Moving
+pub mod Causes

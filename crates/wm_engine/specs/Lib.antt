@@ -14,3 +14,4 @@ pub mod Chosen
 pub mod Acting
 pub mod Keyed
 pub mod Moved
+pub mod Cause

@@ -1,6 +1,7 @@
 //! A line over a store: what it does is planned and printed, and only then kept.
 ghost use Rattle.std.specs.Prelude.{◌≡◌, ◌<◌, ◌≤◌, ◌⊎◌, ℕ, List, [], true, OnOk, IfOk, IsErrOf};
 ghost use Rattle.wm_base.specs.declared.instant.TheConstants.{END};
+ghost use Rattle.wm_engine.specs.Cause.{LineCause};
 ghost use Rattle.wm_engine.specs.Forks.{is_fork};
 ghost use Rattle.wm_engine.specs.Idle.{is_idle};
 ghost use Rattle.wm_engine.specs.Keeping.{AreDrafted, HoldsDrafted};
@@ -59,6 +60,7 @@ fn keep<P: Station>(
     ensures nothing { P.tells → changed.edits.items ≡ [] → P.history station.new ≡ P.history station.old }
     ensures later { P.disk_faults station.old ≤ P.disk_faults station.new }
     ensures disk { IsErrOf result faults.Disk → Rises (P.disk_faults station.old) (P.disk_faults station.new) }
+    ensures cause { LineCause (P.disk_faults station.old) (P.disk_faults station.new) result }
     ensures say_quiet { P.say_faults station.new ≡ P.say_faults station.old }
     ensures unchanged { P.tells → IsErrOf result faults.Changed → ⊥ }
 {
@@ -99,6 +101,7 @@ pub fn run_line<P: Station>(
     ensures any_moment { P.tells → (s : State) → StandsAt image sessions.old.items moment s → Ended (P.history station.old) (P.history station.new) (λ file. FileStands file s ⊎ FileStands file (step s line.now).0) }
     ensures later { P.disk_faults station.old ≤ P.disk_faults station.new }
     ensures disk { IsErrOf result faults.Disk → Rises (P.disk_faults station.old) (P.disk_faults station.new) }
+    ensures cause { LineCause (P.disk_faults station.old) (P.disk_faults station.new) result }
     ensures say_quiet { P.say_faults station.new ≡ P.say_faults station.old }
     ensures unchanged { P.tells → IsErrOf result faults.Changed → ⊥ }
 {

@@ -7,7 +7,7 @@ ghost use Rattle.wm_station.specs.Cause.{Rises};
 ghost use Rattle.wm_host.specs.Cause.{IsOfAnswers};
 ghost use Rattle.wm_host.specs.Crash.{Throughout, CrashLine, CrashRuns, CrashAnswers};
 ghost use Rattle.wm_host.specs.Hosting.{line_of, Answers, Unanswered, Says, Breaks, Finishes, Halts};
-ghost use Rattle.wm_host.specs.declared.stop.Stop.TheVariants.{SayFault, DiskFault, Changed};
+ghost use Rattle.wm_host.specs.declared.stop.Stop.TheVariants.{SayFault, DiskFault, Changed, Memory as NoMemory};
 
 use crate::line::LineBuffer;
 use crate::say::say_all;
@@ -47,8 +47,11 @@ impl Host {
         ensures crash { P.tells → (s : State) → StandsFor self.old.engine s → Throughout (P.history station.old) (P.history station.new) (CrashLine (P.history station.old) s (line_of self.old)) }
         ensures say_later { P.say_faults station.old ≤ P.say_faults station.new }
         ensures say_failed { IsErrOf result SayFault → Rises (P.say_faults station.old) (P.say_faults station.new) }
+        ensures say_kept { OnOk result (P.say_faults station.new ≡ P.say_faults station.old) }
         ensures disk_later { P.disk_faults station.old ≤ P.disk_faults station.new }
         ensures disk_failed { IsErrOf result DiskFault → Rises (P.disk_faults station.old) (P.disk_faults station.new) }
+        ensures disk_kept { OnOk result (P.disk_faults station.new ≡ P.disk_faults station.old) }
+        ensures disk_spared { IsErrOf result NoMemory → P.disk_faults station.new ≡ P.disk_faults station.old }
         ensures unchanged { P.tells → IsErrOf result Changed → ⊥ }
         ensures answering { IfErr result IsOfAnswers }
     {
@@ -74,8 +77,11 @@ impl Host {
         ensures crash { P.tells → (s : State) → StandsFor self.old.engine s → Throughout (P.history station.old) (P.history station.new) (CrashRuns (P.history station.old) s self.old (byte ∷ [])) }
         ensures say_later { P.say_faults station.old ≤ P.say_faults station.new }
         ensures say_failed { IsErrOf result SayFault → Rises (P.say_faults station.old) (P.say_faults station.new) }
+        ensures say_kept { OnOk result (P.say_faults station.new ≡ P.say_faults station.old) }
         ensures disk_later { P.disk_faults station.old ≤ P.disk_faults station.new }
         ensures disk_failed { IsErrOf result DiskFault → Rises (P.disk_faults station.old) (P.disk_faults station.new) }
+        ensures disk_kept { OnOk result (P.disk_faults station.new ≡ P.disk_faults station.old) }
+        ensures disk_spared { IsErrOf result NoMemory → P.disk_faults station.new ≡ P.disk_faults station.old }
         ensures unchanged { P.tells → IsErrOf result Changed → ⊥ }
         ensures answering { IfErr result IsOfAnswers }
     {
@@ -101,8 +107,11 @@ impl Host {
         ensures crash { P.tells → (s : State) → StandsFor self.old.engine s → Throughout (P.history station.old) (P.history station.new) (CrashRuns (P.history station.old) s self.old bytes.now) }
         ensures say_later { P.say_faults station.old ≤ P.say_faults station.new }
         ensures say_failed { IsErrOf result SayFault → Rises (P.say_faults station.old) (P.say_faults station.new) }
+        ensures say_kept { OnOk result (P.say_faults station.new ≡ P.say_faults station.old) }
         ensures disk_later { P.disk_faults station.old ≤ P.disk_faults station.new }
         ensures disk_failed { IsErrOf result DiskFault → Rises (P.disk_faults station.old) (P.disk_faults station.new) }
+        ensures disk_kept { OnOk result (P.disk_faults station.new ≡ P.disk_faults station.old) }
+        ensures disk_spared { IsErrOf result NoMemory → P.disk_faults station.new ≡ P.disk_faults station.old }
         ensures unchanged { P.tells → IsErrOf result Changed → ⊥ }
         ensures answering { IfErr result IsOfAnswers }
     {
@@ -122,8 +131,11 @@ impl Host {
         ensures crash { P.tells → (s : State) → StandsFor self.old.engine s → Throughout (P.history station.old) (P.history station.new) (CrashAnswers (P.history station.old) s (capped true self.old.line)) }
         ensures say_later { P.say_faults station.old ≤ P.say_faults station.new }
         ensures say_failed { IsErrOf result SayFault → Rises (P.say_faults station.old) (P.say_faults station.new) }
+        ensures say_kept { OnOk result (P.say_faults station.new ≡ P.say_faults station.old) }
         ensures disk_later { P.disk_faults station.old ≤ P.disk_faults station.new }
         ensures disk_failed { IsErrOf result DiskFault → Rises (P.disk_faults station.old) (P.disk_faults station.new) }
+        ensures disk_kept { OnOk result (P.disk_faults station.new ≡ P.disk_faults station.old) }
+        ensures disk_spared { IsErrOf result NoMemory → P.disk_faults station.new ≡ P.disk_faults station.old }
         ensures unchanged { P.tells → IsErrOf result Changed → ⊥ }
         ensures answering { IfErr result IsOfAnswers }
     {

@@ -1,4 +1,4 @@
-use Rattle.std.proofs.Common.{◌≤◌, take}
+use Rattle.std.proofs.Common.{◌≡◌, take}
 use Rattle.wm_host.specs.Hosting.{Says}
 use Rattle.wm_host.proofs.Crashing.{EachRuns}
 use Rattle.wm_host.proofs.host.Host.feed.Given as goal
@@ -7,6 +7,6 @@ abbrev pub invariant-loop-byte : goal.invariant-loop-byte
 invariant-loop-byte g l = record {
   says : Says g.P.Station.tells (g.P.Station.history l.initial.station) (g.P.Station.history l.station) l.fn.self (take l.byte-index l.bytes) l.self;
   crash : EachRuns g.P.Station.tells (g.P.Station.history l.initial.station) (g.P.Station.history l.station) l.fn.self (take l.byte-index l.bytes);
-  say_later : g.P.Station.say_faults l.initial.station ≤ g.P.Station.say_faults l.station;
-  disk_later : g.P.Station.disk_faults l.initial.station ≤ g.P.Station.disk_faults l.station;
+  say_kept : g.P.Station.say_faults l.station ≡ g.P.Station.say_faults l.initial.station;
+  disk_kept : g.P.Station.disk_faults l.station ≡ g.P.Station.disk_faults l.initial.station;
 }
