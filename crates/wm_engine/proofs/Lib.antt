@@ -33,3 +33,4 @@ pub mod Filled
 pub mod Moving
 pub mod Replying
 pub mod Sounding
+pub mod Causes

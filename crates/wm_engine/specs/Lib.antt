@@ -15,3 +15,4 @@ pub mod Acting
 pub mod Keyed
 pub mod Moved
 pub mod Narrowed
+pub mod Cause

@@ -1,5 +1,6 @@
 //! What a line changes, committed to the store.
 ghost use Rattle.std.specs.Prelude.{◌≡◌, ◌≤◌, ◌⊎◌, ℕ, List, [], OnOk, IsErrOf};
+ghost use Rattle.wm_engine.specs.Cause.{LineCause};
 ghost use Rattle.wm_engine.specs.Working.{HoldsSorted, KeepsOver};
 ghost use Rattle.wm_engine.specs.declared.fault.LineFault.TheVariants as faults;
 ghost use Rattle.wm_spec.specs.Records.{AreChanges};
@@ -34,6 +35,7 @@ pub fn commit<P: Station>(
     ensures same_store { batch.now.changes ≡ [] → OnOk result (store.new ≡ store.old) }
     ensures later { P.disk_faults station.old ≤ P.disk_faults station.new }
     ensures disk { IsErrOf result faults.Disk → Rises (P.disk_faults station.old) (P.disk_faults station.new) }
+    ensures cause { LineCause (P.disk_faults station.old) (P.disk_faults station.new) result }
     ensures say_quiet { P.say_faults station.new ≡ P.say_faults station.old }
     ensures unchanged { P.tells → IsErrOf result faults.Changed → ⊥ }
 {

@@ -3,6 +3,7 @@ ghost use Rattle.std.specs.Prelude.{◌≡◌, ℕ, ◌<◌, ◌≤◌, ◌⊎�
 ghost use Rattle.wm_base.specs.declared.fault.MakeFault.TheVariants as making;
 ghost use Rattle.wm_base.specs.declared.fault.OpenFault.TheVariants as opening;
 ghost use Rattle.wm_base.specs.declared.instant.TheConstants.{END};
+ghost use Rattle.wm_engine.specs.Cause.{LineCause};
 ghost use Rattle.wm_engine.specs.Forks.{is_fork};
 ghost use Rattle.wm_engine.specs.Idle.{is_idle};
 ghost use Rattle.wm_parser.specs.Parsed.{parsed};
@@ -12,6 +13,7 @@ ghost use Rattle.wm_engine.specs.declared.fault.LineFault.TheVariants as faults;
 ghost use Rattle.wm_state.specs.Drafts.{ChangesFew};
 ghost use Rattle.wm_state.specs.State.{State, begin, fresh};
 ghost use Rattle.wm_model.specs.Step.{step, answer_text};
+ghost use Rattle.wm_page.specs.Cause.{MakeCause, OpenCause};
 ghost use Rattle.wm_print.specs.Texts.{Refused};
 ghost use Rattle.wm_station.specs.Cause.{Rises};
 ghost use Rattle.wm_station.specs.History.{now, said, Leaves, Synced};
@@ -72,6 +74,7 @@ impl Engine {
         ensures quiet { P.tells → said (P.history station.new) ≡ said (P.history station.old) }
         ensures later { P.disk_faults station.old ≤ P.disk_faults station.new }
         ensures disk { IsErrOf result making.Disk → Rises (P.disk_faults station.old) (P.disk_faults station.new) }
+        ensures cause { MakeCause (P.disk_faults station.old) (P.disk_faults station.new) result }
         ensures say_quiet { P.say_faults station.new ≡ P.say_faults station.old }
     {
         Store::make(alloc, station, limit)?;
@@ -105,6 +108,7 @@ impl Engine {
         ensures synced { P.tells → IfErr result (λ e. LeavesAlone e → P.history station.new ≡ Synced (P.history station.old)) }
         ensures later { P.disk_faults station.old ≤ P.disk_faults station.new }
         ensures disk { IsErrOf result opening.Disk → Rises (P.disk_faults station.old) (P.disk_faults station.new) }
+        ensures cause { OpenCause (P.disk_faults station.old) (P.disk_faults station.new) result }
         ensures say_quiet { P.say_faults station.new ≡ P.say_faults station.old }
     {
         let (store, records) = Store::open(alloc, station)?;
@@ -160,6 +164,7 @@ impl Engine {
         ensures sound { P.tells → keep_rules (parts_of self.old.records) ≡ true → Ended (P.history station.old) (P.history station.new) IsSound }
         ensures later { P.disk_faults station.old ≤ P.disk_faults station.new }
         ensures disk { IsErrOf result faults.Disk → Rises (P.disk_faults station.old) (P.disk_faults station.new) }
+        ensures cause { LineCause (P.disk_faults station.old) (P.disk_faults station.new) result }
         ensures say_quiet { P.say_faults station.new ≡ P.say_faults station.old }
         ensures unchanged { P.tells → IsErrOf result faults.Changed → ⊥ }
     {

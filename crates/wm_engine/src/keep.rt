@@ -1,6 +1,7 @@
 //! A line over a store: what it does is planned and printed, and only then kept.
 ghost use Rattle.std.specs.Prelude.{◌≡◌, ◌<◌, ◌≤◌, ◌⊎◌, ℕ, List, [], true, OnOk, OnSome, IfOk, IfSome, IsErrOf};
 ghost use Rattle.wm_base.specs.declared.instant.TheConstants.{END};
+ghost use Rattle.wm_engine.specs.Cause.{LineCause};
 ghost use Rattle.wm_engine.specs.Forks.{is_fork};
 ghost use Rattle.wm_engine.specs.Idle.{is_idle};
 ghost use Rattle.wm_engine.specs.Keeping.{AreDrafted, HoldsDrafted};
@@ -61,6 +62,7 @@ fn keep<P: Station>(
     ensures same_store { changed.edits.items ≡ [] → OnOk result (store.new ≡ store.old) }
     ensures later { P.disk_faults station.old ≤ P.disk_faults station.new }
     ensures disk { IsErrOf result faults.Disk → Rises (P.disk_faults station.old) (P.disk_faults station.new) }
+    ensures cause { LineCause (P.disk_faults station.old) (P.disk_faults station.new) result }
     ensures say_quiet { P.say_faults station.new ≡ P.say_faults station.old }
     ensures unchanged { P.tells → IsErrOf result faults.Changed → ⊥ }
 {
@@ -108,6 +110,7 @@ pub fn run_line<P: Station>(
     ensures sound { P.tells → Ended (P.history station.old) (P.history station.new) IsSound }
     ensures later { P.disk_faults station.old ≤ P.disk_faults station.new }
     ensures disk { IsErrOf result faults.Disk → Rises (P.disk_faults station.old) (P.disk_faults station.new) }
+    ensures cause { LineCause (P.disk_faults station.old) (P.disk_faults station.new) result }
     ensures say_quiet { P.say_faults station.new ≡ P.say_faults station.old }
     ensures unchanged { P.tells → IsErrOf result faults.Changed → ⊥ }
 {

@@ -68,6 +68,17 @@ at_status run end number is is_end other = by_end (ended_by-status run) (ended_b
 pub at_done : {P : Type 0} (run : Result (Unit {0}) Stop) (number : ℕ) → number ≡ status_of run → number ≡ 0 → OnOk run P → P
 at_done {P} run number is zero ok = subst (λ r. OnOk r P) (at_status run (Ok tt) number is zero refl) ok
 
+-- a stop with the status of another is that one, and none has that of success
+pub stops_by : (stop other : Stop) (number : ℕ) → number ≡ status_of (Err stop) → number ≡ status_of (Err other) → (status_of (Err other) == 7) ≡ false → stop ≡ other
+stops_by stop other number is is_other seven = same (at_status (Err stop) (Err other) number is is_other seven) where
+  same : ◌≡◌ {A = Result (Unit {0}) Stop} (Err stop) (Err other) → stop ≡ other
+  same e = cc
+
+pub stops_not : (stop : Stop) (number : ℕ) → number ≡ status_of (Err stop) → number ≡ 0 → ⊥
+stops_not stop number is zero = differ (at_status (Err stop) (Ok tt) number is zero refl) where
+  differ : ◌≡◌ {A = Result (Unit {0}) Stop} (Err stop) (Ok tt) → ⊥
+  differ e = cc
+
 -- a run whose store was not opened ends with none of these
 pub unopened_status : (stop : Stop) (number : ℕ) → number ≡ status_of (Err stop) → IsOfOpening stop → list_any (λ (status : ℕ). status == number) (0 ∷ 3 ∷ 4 ∷ 9 ∷ []) ≡ true → ⊥
 unopened_status DiskFault number is of e = let f : list_any (λ (status : ℕ). status == 5) (0 ∷ 3 ∷ 4 ∷ 9 ∷ []) ≡ true = subst (λ (n : ℕ). list_any (λ (status : ℕ). status == n) (0 ∷ 3 ∷ 4 ∷ 9 ∷ []) ≡ true) is e in cc

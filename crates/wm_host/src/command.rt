@@ -96,10 +96,14 @@ pub fn run<S: Source, P: Station>(
     ensures unopened { (result.status ≡ 6) ⊎ (result.status ≡ 7) → (source.new ≡ source.old) × (result.lines ≡ 0) }
     ensures place { (result.status ≡ 7) ↔ IsPage result.place }
 
-    // Statuses 3, 4 and 5 come only where a count of faults rose, and 11 only where the station tells nothing.
+    // Statuses 3, 4 and 5 come only where a count of faults rose, 0 only where none did, 10 only where the disk's did not, and
+    // 11 only where the station tells nothing.
     ensures source { result.status ≡ 3 → Rises (S.faults source.old) (S.faults source.new) }
     ensures say { result.status ≡ 4 → Rises (P.say_faults station.old) (P.say_faults station.new) }
     ensures disk { result.status ≡ 5 → Rises (P.disk_faults station.old) (P.disk_faults station.new) }
+    ensures source_kept { result.status ≡ 0 → S.faults source.new ≡ S.faults source.old }
+    ensures say_kept { result.status ≡ 0 → P.say_faults station.new ≡ P.say_faults station.old }
+    ensures disk_kept { (result.status ≡ 0) ⊎ (result.status ≡ 10) → P.disk_faults station.new ≡ P.disk_faults station.old }
     ensures unchanged { result.status ≡ 11 → P.tells → ⊥ }
     ensures statuses { list_any (λ status. status == result.status) (statuses_of (command_in (map string_bytes words.now))) ≡ true }
     ensures source_later { S.faults source.old ≤ S.faults source.new }

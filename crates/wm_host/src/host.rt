@@ -7,7 +7,7 @@ ghost use Rattle.wm_station.specs.Cause.{Rises};
 ghost use Rattle.wm_host.specs.Cause.{IsOfAnswers};
 ghost use Rattle.wm_host.specs.Crash.{Throughout, CrashLine, CrashRuns, CrashAnswers, CrashSound};
 ghost use Rattle.wm_host.specs.Hosting.{line_of, Answers, Unanswered, Says, Breaks, Finishes, Halts, WorksSoundly};
-ghost use Rattle.wm_host.specs.declared.stop.Stop.TheVariants.{SayFault, DiskFault, Changed};
+ghost use Rattle.wm_host.specs.declared.stop.Stop.TheVariants.{SayFault, DiskFault, Changed, Memory as NoMemory};
 
 use crate::line::LineBuffer;
 use crate::say::say_all;
@@ -48,8 +48,11 @@ impl Host {
         ensures sound { P.tells → Throughout (P.history station.old) (P.history station.new) CrashSound }
         ensures say_later { P.say_faults station.old ≤ P.say_faults station.new }
         ensures say_failed { IsErrOf result SayFault → Rises (P.say_faults station.old) (P.say_faults station.new) }
+        ensures say_kept { OnOk result (P.say_faults station.new ≡ P.say_faults station.old) }
         ensures disk_later { P.disk_faults station.old ≤ P.disk_faults station.new }
         ensures disk_failed { IsErrOf result DiskFault → Rises (P.disk_faults station.old) (P.disk_faults station.new) }
+        ensures disk_kept { OnOk result (P.disk_faults station.new ≡ P.disk_faults station.old) }
+        ensures disk_spared { IsErrOf result NoMemory → P.disk_faults station.new ≡ P.disk_faults station.old }
         ensures unchanged { P.tells → IsErrOf result Changed → ⊥ }
         ensures answering { IfErr result IsOfAnswers }
     {
@@ -76,8 +79,11 @@ impl Host {
         ensures sound { P.tells → Throughout (P.history station.old) (P.history station.new) CrashSound }
         ensures say_later { P.say_faults station.old ≤ P.say_faults station.new }
         ensures say_failed { IsErrOf result SayFault → Rises (P.say_faults station.old) (P.say_faults station.new) }
+        ensures say_kept { OnOk result (P.say_faults station.new ≡ P.say_faults station.old) }
         ensures disk_later { P.disk_faults station.old ≤ P.disk_faults station.new }
         ensures disk_failed { IsErrOf result DiskFault → Rises (P.disk_faults station.old) (P.disk_faults station.new) }
+        ensures disk_kept { OnOk result (P.disk_faults station.new ≡ P.disk_faults station.old) }
+        ensures disk_spared { IsErrOf result NoMemory → P.disk_faults station.new ≡ P.disk_faults station.old }
         ensures unchanged { P.tells → IsErrOf result Changed → ⊥ }
         ensures answering { IfErr result IsOfAnswers }
     {
@@ -104,8 +110,11 @@ impl Host {
         ensures sound { P.tells → Throughout (P.history station.old) (P.history station.new) CrashSound }
         ensures say_later { P.say_faults station.old ≤ P.say_faults station.new }
         ensures say_failed { IsErrOf result SayFault → Rises (P.say_faults station.old) (P.say_faults station.new) }
+        ensures say_kept { OnOk result (P.say_faults station.new ≡ P.say_faults station.old) }
         ensures disk_later { P.disk_faults station.old ≤ P.disk_faults station.new }
         ensures disk_failed { IsErrOf result DiskFault → Rises (P.disk_faults station.old) (P.disk_faults station.new) }
+        ensures disk_kept { OnOk result (P.disk_faults station.new ≡ P.disk_faults station.old) }
+        ensures disk_spared { IsErrOf result NoMemory → P.disk_faults station.new ≡ P.disk_faults station.old }
         ensures unchanged { P.tells → IsErrOf result Changed → ⊥ }
         ensures answering { IfErr result IsOfAnswers }
     {
@@ -126,8 +135,11 @@ impl Host {
         ensures sound { P.tells → Throughout (P.history station.old) (P.history station.new) CrashSound }
         ensures say_later { P.say_faults station.old ≤ P.say_faults station.new }
         ensures say_failed { IsErrOf result SayFault → Rises (P.say_faults station.old) (P.say_faults station.new) }
+        ensures say_kept { OnOk result (P.say_faults station.new ≡ P.say_faults station.old) }
         ensures disk_later { P.disk_faults station.old ≤ P.disk_faults station.new }
         ensures disk_failed { IsErrOf result DiskFault → Rises (P.disk_faults station.old) (P.disk_faults station.new) }
+        ensures disk_kept { OnOk result (P.disk_faults station.new ≡ P.disk_faults station.old) }
+        ensures disk_spared { IsErrOf result NoMemory → P.disk_faults station.new ≡ P.disk_faults station.old }
         ensures unchanged { P.tells → IsErrOf result Changed → ⊥ }
         ensures answering { IfErr result IsOfAnswers }
     {

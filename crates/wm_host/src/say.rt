@@ -19,6 +19,7 @@ pub(crate) fn say_all<P: Station>(station: &mut P, bytes: &[u8]) -> Result<(), S
     ensures later { P.say_faults station.old ≤ P.say_faults station.new }
     ensures quiet { P.disk_faults station.new ≡ P.disk_faults station.old }
     ensures failed { IsErrOf result SayFault → Rises (P.say_faults station.old) (P.say_faults station.new) }
+    ensures kept { OnOk result (P.say_faults station.new ≡ P.say_faults station.old) }
     ensures answering { IfErr result IsOfSaying }
 {
     let mut rest = bytes;

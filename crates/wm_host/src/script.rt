@@ -9,7 +9,7 @@ ghost use Rattle.wm_host.specs.Crash.{Throughout, CrashAnswers, CrashSound};
 ghost use Rattle.wm_host.specs.Hosting.{Finishes, Halts, WorksSoundly};
 ghost use Rattle.wm_host.specs.Outcome.{TakesAtMost};
 ghost use Rattle.wm_host.specs.Script.{AnswersTaken, AnswersToLimit};
-ghost use Rattle.wm_host.specs.declared.stop.Stop.TheVariants.{InputLimit, SayFault, SourceFault, DiskFault, Changed};
+ghost use Rattle.wm_host.specs.declared.stop.Stop.TheVariants.{InputLimit, SayFault, SourceFault, DiskFault, Changed, Memory as NoMemory};
 
 use crate::host::Host;
 use crate::stop::Stop;
@@ -47,10 +47,14 @@ pub(crate) fn run_script<S: Source, P: Station>(
     ensures sound { P.tells → Throughout (P.history station.old) (P.history station.new) CrashSound }
     ensures source_later { S.faults source.old ≤ S.faults source.new }
     ensures source_failed { IsErrOf result SourceFault → Rises (S.faults source.old) (S.faults source.new) }
+    ensures source_kept { OnOk result (S.faults source.new ≡ S.faults source.old) }
     ensures say_later { P.say_faults station.old ≤ P.say_faults station.new }
     ensures say_failed { IsErrOf result SayFault → Rises (P.say_faults station.old) (P.say_faults station.new) }
+    ensures say_kept { OnOk result (P.say_faults station.new ≡ P.say_faults station.old) }
     ensures disk_later { P.disk_faults station.old ≤ P.disk_faults station.new }
     ensures disk_failed { IsErrOf result DiskFault → Rises (P.disk_faults station.old) (P.disk_faults station.new) }
+    ensures disk_kept { OnOk result (P.disk_faults station.new ≡ P.disk_faults station.old) }
+    ensures disk_spared { IsErrOf result NoMemory → P.disk_faults station.new ≡ P.disk_faults station.old }
     ensures unchanged { P.tells → IsErrOf result Changed → ⊥ }
     ensures of_script { IfErr result IsOfScript }
 {

@@ -15,7 +15,7 @@ ghost use Rattle.wm_host.specs.Crash.{CrashOfRun, CrashAnswers, CrashOpens};
 ghost use Rattle.wm_host.specs.Hosting.{Begins};
 ghost use Rattle.wm_host.specs.Outcome.{HasSaid, HasSaidFront, Answered, AnswersSome, AnswersEnded, IsDamaged, IsPage, IsUnwritten, StaysSound, TakesAtMost, ok_text};
 ghost use Rattle.wm_host.specs.declared.ended.Place.TheVariants.{Nowhere};
-ghost use Rattle.wm_host.specs.declared.stop.Stop.TheVariants.{SayFault, DiskFault, Exists, NotStore};
+ghost use Rattle.wm_host.specs.declared.stop.Stop.TheVariants.{SayFault, DiskFault, Exists, NotStore, Memory as NoMemory};
 
 use crate::ended::Ended;
 use crate::host::Host;
@@ -42,8 +42,11 @@ fn make_store<P: Station>(alloc: Global, station: &mut P, limit: u32) -> Result<
     ensures unsaid { P.tells → IsErrOf result DiskFault → said (P.history station.new) ≡ said (P.history station.old) }
     ensures say_later { P.say_faults station.old ≤ P.say_faults station.new }
     ensures say_failed { IsErrOf result SayFault → Rises (P.say_faults station.old) (P.say_faults station.new) }
+    ensures say_kept { OnOk result (P.say_faults station.new ≡ P.say_faults station.old) }
     ensures disk_later { P.disk_faults station.old ≤ P.disk_faults station.new }
     ensures disk_failed { IsErrOf result DiskFault → Rises (P.disk_faults station.old) (P.disk_faults station.new) }
+    ensures disk_kept { OnOk result (P.disk_faults station.new ≡ P.disk_faults station.old) }
+    ensures disk_spared { IsErrOf result NoMemory → P.disk_faults station.new ≡ P.disk_faults station.old }
     ensures making { IfErr result IsOfMaking }
 {
     Engine::make(alloc, station, limit)?;
@@ -63,6 +66,8 @@ pub(crate) fn init<P: Station>(alloc: Global, station: &mut P, limit: u32) -> En
     ensures unsaid { result.status ≡ 5 → P.tells → said (P.history station.new) ≡ said (P.history station.old) }
     ensures say { result.status ≡ 4 → Rises (P.say_faults station.old) (P.say_faults station.new) }
     ensures disk { result.status ≡ 5 → Rises (P.disk_faults station.old) (P.disk_faults station.new) }
+    ensures say_kept { result.status ≡ 0 → P.say_faults station.new ≡ P.say_faults station.old }
+    ensures disk_kept { (result.status ≡ 0) ⊎ (result.status ≡ 10) → P.disk_faults station.new ≡ P.disk_faults station.old }
     ensures say_later { P.say_faults station.old ≤ P.say_faults station.new }
     ensures disk_later { P.disk_faults station.old ≤ P.disk_faults station.new }
     ensures statuses { list_any (λ status. status == result.status) (0 ∷ 4 ∷ 5 ∷ 8 ∷ 10 ∷ []) ≡ true }
@@ -89,6 +94,8 @@ fn open_host<P: Station>(alloc: Global, station: &mut P, moment: Instant) -> Res
     ensures fault { P.tells → IfErr result (λ stop. StopTells stop (now (P.history station.old))) }
     ensures disk_later { P.disk_faults station.old ≤ P.disk_faults station.new }
     ensures disk_failed { IsErrOf result DiskFault → Rises (P.disk_faults station.old) (P.disk_faults station.new) }
+    ensures disk_kept { OnOk result (P.disk_faults station.new ≡ P.disk_faults station.old) }
+    ensures disk_spared { IsErrOf result NoMemory → P.disk_faults station.new ≡ P.disk_faults station.old }
     ensures say_quiet { P.say_faults station.new ≡ P.say_faults station.old }
     ensures opening { IfErr result IsOfOpening }
 {
@@ -138,6 +145,9 @@ pub(crate) fn run_store<S: Source, P: Station>(
     ensures source { result.status ≡ 3 → Rises (S.faults source.old) (S.faults source.new) }
     ensures say { result.status ≡ 4 → Rises (P.say_faults station.old) (P.say_faults station.new) }
     ensures disk { result.status ≡ 5 → Rises (P.disk_faults station.old) (P.disk_faults station.new) }
+    ensures source_kept { result.status ≡ 0 → S.faults source.new ≡ S.faults source.old }
+    ensures say_kept { result.status ≡ 0 → P.say_faults station.new ≡ P.say_faults station.old }
+    ensures disk_kept { (result.status ≡ 0) ⊎ (result.status ≡ 10) → P.disk_faults station.new ≡ P.disk_faults station.old }
     ensures source_later { S.faults source.old ≤ S.faults source.new }
     ensures say_later { P.say_faults station.old ≤ P.say_faults station.new }
     ensures disk_later { P.disk_faults station.old ≤ P.disk_faults station.new }

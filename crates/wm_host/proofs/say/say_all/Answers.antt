@@ -19,18 +19,20 @@ returns-then-count-eq0-clause-part g c =
     (more_of_test _ c.loop-rest.rest.now c.is_empty.ensures c.loop-rest-test.true)
 
 pub loop-rest-preserved : goal.loop-rest-preserved
-loop-rest-preserved g c = record {
-  front = front_more g.P.Station.tells _ _ _ c.args.bytes.now c.loop-rest.rest.now c.split_at.result.1.now c.in_ok-count.count c.loop-rest.invariant.front c.in_ok-count.ensures.said c.split_at.ensures.back;
-  crash = λ t. crash_says_more g.P.Station.tells _ _ _ c.args.bytes.now c.loop-rest.rest.now c.in_ok-count.count c.loop-rest.invariant.front c.in_ok-count.ensures.within (c.in_ok-count.ensures.said t) t (c.loop-rest.invariant.crash t);
-  later = omega (arith, c.loop-rest.invariant.later, c.in_ok-count.ensures.cause.later);
-  quiet = c.in_ok-count.ensures.quiet ∙ c.loop-rest.invariant.quiet;
-}
+loop-rest-preserved g c =
+    let some = c.if-count-eq0.false in
+    record {
+      front = front_more g.P.Station.tells _ _ _ c.args.bytes.now c.loop-rest.rest.now c.split_at.result.1.now c.in_ok-count.count c.loop-rest.invariant.front c.in_ok-count.ensures.said c.split_at.ensures.back;
+      crash = λ t. crash_says_more g.P.Station.tells _ _ _ c.args.bytes.now c.loop-rest.rest.now c.in_ok-count.count c.loop-rest.invariant.front c.in_ok-count.ensures.within (c.in_ok-count.ensures.said t) t (c.loop-rest.invariant.crash t);
+      kept = c.in_ok-count.ensures.some (omega (arith, some)) ∙ c.loop-rest.invariant.kept;
+      quiet = c.in_ok-count.ensures.quiet ∙ c.loop-rest.invariant.quiet;
+    }
 
 pub loop-rest-init : goal.loop-rest-init
 loop-rest-init g c = record {
   front = front_begun g.P.Station.tells (g.P.Station.history c.args.station.now) c.args.bytes.now;
   crash = λ t. crash_says_begun (g.P.Station.history c.args.station.now) c.args.bytes.now;
-  later = omega arith;
+  kept = refl;
   quiet = refl;
 }
 

@@ -1,4 +1,4 @@
-use Rattle.std.proofs.Common.{◌+◌, ◌^◌, arith}
+use Rattle.std.proofs.Common.{◌+◌, ◌^◌, refl, ◌∙◌, arith}
 use Rattle.std.proofs.lemmas.List.{length-take}
 use Rattle.std.proofs.lemmas.Result.{err_from_is_err_and, on_ok_weaker, on_err_weaker}
 use Rattle.wm_host.proofs.Past.{past_begun, past_more, past_finished, past_halted, past_broken, past_stopped, past_taken, past_few, past_untaken, past_limit, past_crash, past_crash_finish, past_crash_broken}
@@ -11,9 +11,9 @@ pieces-init g c = record {
   past = past_begun g.S.Source.tells g.P.Station.tells (g.S.Source.left c.args.source.now) (g.P.Station.history c.args.station.now) c.args.host.now c.requires.held c.requires.works;
   sound = λ t. sound_begun c.args.host.now.engine _ (c.requires.works t);
   within = omega arith;
-  source_later = omega arith;
-  say_later = omega arith;
-  disk_later = omega arith;
+  source_kept = refl;
+  say_kept = refl;
+  disk_kept = refl;
 }
 
 pub returns-in_err-count-clause-err : goal.returns-in_err-count-clause-err
@@ -92,9 +92,9 @@ pieces-preserved g c = record {
       c.pieces.invariant.past (omega (arith, c.in_ok-count.ensures.within)) c.in_ok-count.ensures.taken c.in_ok-feed.ensures.ok c.in_ok-feed.ensures.crash;
   sound = λ t. sound_more _ _ _ (c.pieces.invariant.sound t) (c.in_ok-feed.ensures.sound t);
   within = omega (arith, c.in_ok-count.ensures.within, length-take c.clamp-room.result c.pieces.piece);
-  source_later = omega (arith, c.pieces.invariant.source_later, c.in_ok-count.ensures.cause.later);
-  say_later = omega (arith, c.pieces.invariant.say_later, c.in_ok-feed.ensures.say_later);
-  disk_later = omega (arith, c.pieces.invariant.disk_later, c.in_ok-feed.ensures.disk_later);
+  source_kept = c.in_ok-count.ensures.cause.done ∙ c.pieces.invariant.source_kept;
+  say_kept = c.in_ok-feed.ensures.say_kept ∙ c.pieces.invariant.say_kept;
+  disk_kept = c.in_ok-feed.ensures.disk_kept ∙ c.pieces.invariant.disk_kept;
 }
 
 pub returns-in_err-count-clause-crash : goal.returns-in_err-count-clause-crash
@@ -142,3 +142,12 @@ returns-then-count-eq0-clause-sound g c = λ t. sound_more _ _ _ (c.pieces.invar
 
 pub returns-in_err-feed-clause-sound : goal.returns-in_err-feed-clause-sound
 returns-in_err-feed-clause-sound g c = λ t. sound_more _ _ _ (c.pieces.invariant.sound t) (c.in_err-feed.ensures.sound t)
+
+pub returns-then-count-eq0-clause-source_kept : goal.returns-then-count-eq0-clause-source_kept
+returns-then-count-eq0-clause-source_kept g c = on_ok_weaker c.finish.result (λ _. c.in_ok-count.ensures.cause.done ∙ c.pieces.invariant.source_kept) c.finish.ensures.disk_kept
+
+pub returns-then-count-eq0-clause-say_kept : goal.returns-then-count-eq0-clause-say_kept
+returns-then-count-eq0-clause-say_kept g c = on_ok_weaker c.finish.result (λ kept. kept ∙ c.pieces.invariant.say_kept) c.finish.ensures.say_kept
+
+pub returns-then-count-eq0-clause-disk_kept : goal.returns-then-count-eq0-clause-disk_kept
+returns-then-count-eq0-clause-disk_kept g c = on_ok_weaker c.finish.result (λ kept. kept ∙ c.pieces.invariant.disk_kept) c.finish.ensures.disk_kept

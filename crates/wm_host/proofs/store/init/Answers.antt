@@ -1,5 +1,5 @@
 use Rattle.std.proofs.Common.{Err, ⊎_elim, refl}
-use Rattle.wm_host.specs.declared.stop.Stop.TheVariants.{SayFault, DiskFault, Exists}
+use Rattle.wm_host.specs.declared.stop.Stop.TheVariants.{SayFault, DiskFault, Exists, Memory}
 use Rattle.wm_host.proofs.Ending.{at_done, at_status}
 use Rattle.wm_host.proofs.Making.{statuses_of_making, place_of_making}
 use Rattle.wm_host.proofs.store.init.Goals as goal
@@ -38,3 +38,13 @@ returns-clause-statuses g c = statuses_of_making c.make_store.result c.of.result
 
 pub returns-clause-place : goal.returns-clause-place
 returns-clause-place g c = rw c.of.ensures.place (place_of_making c.make_store.result c.make_store.ensures.making)
+
+pub returns-clause-say_kept : goal.returns-clause-say_kept
+returns-clause-say_kept g c = λ zero. at_done c.make_store.result c.of.result.status c.of.ensures.status zero c.make_store.ensures.say_kept
+
+pub returns-clause-disk_kept : goal.returns-clause-disk_kept
+returns-clause-disk_kept g c = λ either.
+    ⊎_elim
+    (λ zero. at_done c.make_store.result c.of.result.status c.of.ensures.status zero c.make_store.ensures.disk_kept)
+    (λ ten. c.make_store.ensures.disk_spared (at_status c.make_store.result (Err Memory) c.of.result.status c.of.ensures.status ten refl))
+    either

@@ -1,9 +1,9 @@
-use Rattle.std.proofs.Common.{Err, refl, subst, ◌+◌, ◌^◌, take}
+use Rattle.std.proofs.Common.{Err, refl, subst, ap, ◌∙◌, ◌+◌, ◌^◌, take, ⊎_elim}
 use Rattle.wm_model.specs.Lines.{lines, ended_lines}
 use Rattle.wm_state.specs.State.{begin}
 use Rattle.wm_host.specs.Outcome.{IsUnwritten}
-use Rattle.wm_host.specs.declared.stop.Stop.TheVariants.{SourceFault, InputLimit}
-use Rattle.wm_host.proofs.Ending.{alone_at_place, alone_at_status, at_done, at_status, answers_all, answers_at_end, answers_ended, crash_opened, crash_ran, stands_ran, stands_unopened, counted_unopened, placed_by_script, takes_none, unopened_status}
+use Rattle.wm_host.specs.declared.stop.Stop.TheVariants.{SourceFault, InputLimit, Memory}
+use Rattle.wm_host.proofs.Ending.{alone_at_place, alone_at_status, at_done, at_status, answers_all, answers_at_end, answers_ended, crash_opened, crash_ran, stands_ran, stands_unopened, counted_unopened, placed_by_script, stops_by, stops_not, takes_none, unopened_status}
 use Rattle.wm_host.proofs.Sounding.{sound_at_end, sound_ran, sound_unopened}
 use Rattle.wm_host.proofs.store.run_store.Goals as goal
 
@@ -89,3 +89,25 @@ returns-in-Err-clause-still g c = λ status t. absurd (unopened_status c.in-Err.
 pub returns-in-Err-clause-kept_sound : goal.returns-in-Err-clause-kept_sound
 returns-in-Err-clause-kept_sound g c = λ t sound.
     sound_unopened (g.P.Station.history c.args.station.now) (g.P.Station.history c.open_host.new.station) sound (c.in-Err.ensures.pages t) (c.in-Err.ensures.pages_any_moment t)
+
+-- the counts of faults
+pub returns-in-Ok-clause-source_kept : goal.returns-in-Ok-clause-source_kept
+returns-in-Ok-clause-source_kept g c = λ zero. at_done c.run_script-run.result c.of.result.status c.of.ensures.status zero c.run_script-run.ensures.source_kept
+
+pub returns-in-Ok-clause-say_kept : goal.returns-in-Ok-clause-say_kept
+returns-in-Ok-clause-say_kept g c = λ zero. at_done c.run_script-run.result c.of.result.status c.of.ensures.status zero c.run_script-run.ensures.say_kept ∙ c.in-Ok.ensures.say_quiet
+
+pub returns-in-Ok-clause-disk_kept : goal.returns-in-Ok-clause-disk_kept
+returns-in-Ok-clause-disk_kept g c = λ either.
+    ⊎_elim
+    (λ zero. at_done c.run_script-run.result c.of.result.status c.of.ensures.status zero c.run_script-run.ensures.disk_kept)
+    (λ ten. c.run_script-run.ensures.disk_spared (at_status c.run_script-run.result (Err Memory) c.of.result.status c.of.ensures.status ten refl))
+    either
+    ∙ c.in-Ok.ensures.disk_kept
+
+pub returns-in-Err-clause-disk_kept : goal.returns-in-Err-clause-disk_kept
+returns-in-Err-clause-disk_kept g c = λ either.
+    ⊎_elim
+    (λ zero. absurd (stops_not c.in-Err.stop c.of-in-Err.result.status c.of-in-Err.ensures.status zero))
+    (λ ten. c.in-Err.ensures.disk_spared (ap Err (stops_by c.in-Err.stop Memory c.of-in-Err.result.status c.of-in-Err.ensures.status ten refl)))
+    either
