@@ -42,8 +42,8 @@ returns-clause-crash g c =
 
 -- ---- whatever the records stand for
 
-pub line-requires-clause-works-2 : goal.line-requires-clause-works-2
-line-requires-clause-works-2 g c = λ t. (c.requires.works t).works
+pub line-requires-2 : goal.line-requires-2
+line-requires-2 g c = record { works = λ t. (c.requires.works t).works }
 
 pub returns-in_err-answer-clause-sound : goal.returns-in_err-answer-clause-sound
 returns-in_err-answer-clause-sound g c = λ t. sound_line _ _ (c.in_err-answer.ensures.sound t (c.requires.works t).rules)
