@@ -6,7 +6,7 @@
 #   make cases   plays the demo and cases/ through the built program on real files
 #   make against compares the program with a second reading of the language, in Python, on random scripts
 #   make refuse  refuses each allocation of a run in turn, and looks at the status, the answers and the store
-#   make bench   times 10,000 INSERT lines, a SELECT of them and a join of two tables of 1,000 rows
+#   make bench   times 10,000 INSERT lines, a SELECT of them, SELECT and UPDATE lines by key, and a join of two tables of 1,000 rows
 
 RT ?= rt
 PYTHON ?= python3
