@@ -1,6 +1,7 @@
 //! All records of a store in memory, found by what they are, and changed as a batch changes the store.
 #![tactic(auto)]
 
+pub mod copies;
 pub mod draft;
 mod ids;
 pub mod image;

@@ -151,11 +151,11 @@ fn a_table_is_made(rt: HostRuntime) -> Result<(), Fail> {
     Ok(())
 }
 
-/// Whether the table of number 1 is ready for rows.
+/// Whether the table is ready for rows.
 fn is_ready(image: &Image) -> bool {
-    match image.table_numbered(1) {
-        Some(table) => table.versioned,
-        None => false,
+    match image.record(4) {
+        Some(Record::Table(table)) => table.versioned,
+        _ => false,
     }
 }
 

@@ -110,7 +110,7 @@ fn records_are_found(rt: HostRuntime) -> Result<(), Fail> {
     assert!(rt; image.row(4).is_some() && image.row(5).is_none());
     assert!(rt; image.version(2).is_some() && image.version(3).is_none());
     assert_eq!(rt; (image.table_count(), image.next_table()), (0, 0));
-    assert!(rt; image.table_numbered(1).is_none() && image.record(7).is_some());
+    assert!(rt; image.record(7).is_some());
     assert_eq!(rt; (image.is_leaf(1), image.is_leaf(2)), (false, true));
     assert_eq!(rt;
         (image.id_of_space(0), image.next_id()),

@@ -5,7 +5,8 @@ ghost use Rattle.wm_state.specs.Batches.{put, drop_one, create_batch, ready, sav
 ghost use Rattle.wm_state.specs.Effects.{marked};
 ghost use Rattle.wm_state.specs.Writes.{longer_by, put_all};
 
-use crate::draft::copies::{space_copy, table_copy};
+use crate::copies::table_copy;
+use crate::draft::copies::space_copy;
 use std::alloc::Global;
 use wm_base::Memory;
 use wm_spec::record::{Change, Changes, Counters, Record, Savepoint, Space, Table, Version};
