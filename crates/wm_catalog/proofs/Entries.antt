@@ -1,5 +1,5 @@
 -- Laws of tables that stand under their names.
-use Rattle.std.proofs.Common.{◌≡◌, ℕ, ◌+◌, ◌<◌, List, [], ◌∷◌, ◌++◌, length, drop, get_or, Bool, true, false, cond, not, Option, Some, None, refl, sym, ap, ◌∙◌}
+use Rattle.std.proofs.Common.{◌≡◌, ℕ, ◌+◌, ◌<◌, List, [], ◌∷◌, ◌++◌, length, drop, get_or, Bool, true, false, cond, not, ◌||◌, Option, Some, None, refl, sym, ap, ◌∙◌}
 use Rattle.std.specs.List.{list_any}
 use Rattle.std.specs.Str.{bytes_eq}
 use Rattle.std.specs.Map.{values_of, lookup}
@@ -73,7 +73,7 @@ unnamed_before (u ∷ us) back t differs = by_test (bytes_eq t.name u.name) refl
     met [] same = rw ((bytes_eq-Decides u.name t.name).1 same) refl
     met (v ∷ vs) same = by_met (bytes_eq u.name v.name) (met vs same)
       where
-        by_met : (b : Bool) → list_any (same_name u) (vs ++ t ∷ back) ≡ true → cond b true (list_any (same_name u) (vs ++ t ∷ back)) ≡ true
+        by_met : (b : Bool) → list_any (same_name u) (vs ++ t ∷ back) ≡ true → (b || list_any (same_name u) (vs ++ t ∷ back)) ≡ true
         by_met true rest = refl
         by_met false rest = rest
 

@@ -121,6 +121,7 @@ no_table o none = by_found (option_and_then as_table o) none
     by_found (Some t) e = absurd (bool_apart e)
 
 unfolding tables_in
+
 tables_perhaps : (id : ℕ) (becomes : Option Record) (ss : List Stored) → option_and_then as_table becomes ≡ None → tables_in (perhaps_before id becomes ss) ≡ tables_in ss
 tables_perhaps id None ss none = refl
 tables_perhaps id (Some r) ss none = ap (λ o. cons_option o (tables_in ss)) none

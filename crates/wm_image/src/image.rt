@@ -17,10 +17,7 @@ ghost use Rattle.wm_graph.specs.Rules.{keep_rules};
 ghost use Rattle.wm_spec.specs.Records.{AreRecords, record_at};
 ghost use Rattle.wm_image.specs.Sought.{PiecesAt, ids_with, is_sought};
 ghost use Rattle.wm_state.specs.ById.{Ascend, applied, by_id};
-ghost use Rattle.wm_state.specs.Drafts.{CanDraft, Drafts};
-ghost use Rattle.wm_state.specs.Drawing.{AreNews};
 ghost use Rattle.wm_image.specs.Listing.{AreSpans, IsFirstShared, IsKeyShowing};
-ghost use Rattle.wm_image.specs.Redraw.{IsRedrawn};
 ghost use Rattle.wm_image.specs.Shown.{names, rests_on};
 ghost use Rattle.wm_spec.specs.declared.record.savepoint.Savepoint.{Savepoint as OneSavepoint};
 ghost use Rattle.wm_spec.specs.declared.record.space.Space.{Space as OneSpace};
@@ -29,7 +26,6 @@ ghost use Rattle.wm_state.specs.Listing.{IsShowing};
 ghost use Rattle.wm_state.specs.Standing.{by_number, latest, saved_as, saved_in, seen, space_after};
 ghost use Rattle.wm_state.specs.State.{next_table};
 
-use crate::draft::draft;
 use crate::ids::{are_empty, first_id};
 use crate::index::Index;
 use crate::keyed::{ids_of, ids_on, keys_on, last_key};
@@ -39,7 +35,6 @@ use crate::listing::{Asked, list_key, list_rows};
 use crate::load::{ImageFault, put_all, sorted};
 use crate::overlap::{find_shared, find_spans};
 use crate::records::{Kept, apply_all, at, first, next_id};
-use crate::redraw::{Redrawn, redraw};
 use crate::savepoints::{making_after, savepoint_in, savepoint_of_name};
 use crate::shown::{latest_of, version_at};
 use crate::spaces::{number_after, space_of_name};
@@ -52,9 +47,8 @@ use wm_catalog::Catalog;
 use wm_graph::keeps_rules;
 use wm_period::Pieces;
 use wm_spec::record::{
-    Batch, Counters, PieceRecord, Record, Records, RowRecord, Savepoint, Space, Table, Version,
+    Batch, Counters, Record, Records, RowRecord, Savepoint, Space, Table, Version,
 };
-use wm_state::edit::Edit;
 
 /// All records of a store, in the order of their ids, with an index of them and a catalog of the tables.
 #[derive(Drop)]
@@ -306,23 +300,6 @@ impl Image {
         ids_on(&self.index.pieces, table, key)
     }
 
-    /// What goes of the records, and what comes, where new pieces come over those that a version has of a table. Only
-    /// the pieces of their keys are looked at, and only those that share a moment with a new one go.
-    pub fn redraw(
-        &self,
-        alloc: Global,
-        version: u64,
-        table: u16,
-        news: Vec<PieceRecord>,
-    ) -> Result<Redrawn, Memory>
-        requires rules { keep_rules (parts_of self.now) ≡ true }
-        requires news { AreNews version table news.items }
-        ensures { IfOk result (λ redrawn. IsRedrawn self.now news.items redrawn.dropped.items redrawn.drawn.items) }
-    {
-        let redrawn = redraw(alloc, &self.kept, &self.index, version, table, news)?;
-        Ok(redrawn)
-    }
-
     /// Each key for which a table has pieces, of any version, once and in order.
     pub fn keys(&self, alloc: Global, table: u16) -> Result<Vec<Key>, Memory>
         ensures each { IfOk result (λ keys. (k : List OneValue) → list_any (λ q. is_eq (key_order k q)) keys.items ≡ list_any (is_sought (PiecesAt table k)) (map (λ (s : Stored). s.record) self.now)) }
@@ -419,24 +396,8 @@ impl Image {
         at(&self.kept, id)
     }
 
-    /// What the edits of a line at a moment make of the records: of each state that they stand for, what the edits make of it
-    /// in their order. Where there are several the image goes on to what all but the last one leave; then it is good for one
-    /// thing, which is to apply the batch, and that makes of it what it makes of the records as they were. Where memory runs
-    /// out the image is not to be used any more.
-    pub fn draft(&mut self, alloc: Global, moment: u64, edits: Vec<Edit>) -> Result<Batch, Memory>
-        requires rules { keep_rules (parts_of self.old) ≡ true }
-        requires can { CanDraft self.old moment edits.items }
-        ensures drafts { IfOk result (λ batch. Drafts self.old moment edits.items batch.changes) }
-        ensures rest { IfOk result (λ batch. applied batch.changes self.new ≡ applied batch.changes self.old) }
-        ensures one { length edits.items ≤ 1 → OnOk result (self.new ≡ self.old) }
-    {
-        self.law_of_order();
-        let changes = draft(alloc, self, moment, edits)?;
-        Ok(Batch { changes })
-    }
-
     /// For its law alone: the records stand in the order of their ids.
-    fn law_of_order(&self)
+    pub fn law_of_order(&self)
         ensures { Ascend self.now }
     {
         let _kept = &self.kept;

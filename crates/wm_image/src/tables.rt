@@ -22,11 +22,7 @@ use wm_catalog::Catalog;
 use wm_spec::record::{Record, Table};
 
 /// Puts a copy of a record behind tables, where it is a table.
-fn push_copy(
-    alloc: Global,
-    tables: &mut Vec<Table>,
-    found: Option<&Record>,
-) -> Result<(), Memory>
+fn push_copy(alloc: Global, tables: &mut Vec<Table>, found: Option<&Record>) -> Result<(), Memory>
     ensures { OnOk result (tables.new.items ≡ tables.old.items ++ option_to_list (option_and_then as_table (option_copied found.entry))) }
 {
     if let Some(table) = table_of(found) {

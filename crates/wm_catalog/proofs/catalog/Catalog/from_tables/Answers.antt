@@ -15,7 +15,7 @@ loop-table-preserved c = λ differs.
     let front = c.loop-table.catalog in
     let n = length c.loop-table.yielded in
     let at = YieldsList-turn (YieldsList-from_vec {s = c.into_iter-table-iterator.result} all c.into_iter-table-iterator.ensures.into_iter_gives.0 (c.into_iter-table-iterator.ensures.into_iter_gives.1 ∙ c.args.tables.ok.0))
-        c.loop-table.yielded c.loop-table.table-iterator c.loop-table.yielded_by c.next.result c.next.new.self c.in-Some.table c.in-Some.is c.next.ensures.steps in
+    c.loop-table.yielded c.loop-table.table-iterator c.loop-table.yielded_by c.next.result c.next.new.self c.in-Some.table c.in-Some.is c.next.ensures.steps in
     let are = next_between front all n c.in-Some.table at (c.loop-table.invariant differs) in
     let free = unnamed_before front (drop (n + 1) all) c.in-Some.table (ap (λ (ts : List Table). differ same_name ts) are ∙ differs) in
     subst (λ (k : ℕ). c.put.new.self ++ drop k all ≡ all) (sym (length_push c.loop-table.yielded c.in-Some.table))
@@ -25,7 +25,7 @@ pub returns : goal.returns
 returns c = λ differs.
     let all = c.args.tables.items in
     let end = YieldsList-end (YieldsList-from_vec {s = c.into_iter-table-iterator.result} all c.into_iter-table-iterator.ensures.into_iter_gives.0 (c.into_iter-table-iterator.ensures.into_iter_gives.1 ∙ c.args.tables.ok.0))
-        c.loop-table.yielded c.loop-table.table-iterator c.loop-table.yielded_by c.next.result c.next.new.self c.in-None.is c.next.ensures.steps in
+    c.loop-table.yielded c.loop-table.table-iterator c.loop-table.yielded_by c.next.result c.next.new.self c.in-None.is c.next.ensures.steps in
     sym (append-nil c.loop-table.catalog)
     ∙ ap (λ (ts : List Table). c.loop-table.catalog ++ ts) (sym (ap (λ (k : ℕ). drop k all) end.1 ∙ drop-length all))
     ∙ c.loop-table.invariant differs
