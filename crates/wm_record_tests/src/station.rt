@@ -1,6 +1,7 @@
-use super::*;
+//! The device at each call: in memory, over a fuse, and over a file of the system.
 use std::alloc::Global;
 use std::test::Fail;
+use wm_station::*;
 
 fn some(alloc: Global, number: u64) -> Result<Failing, Fail> {
     Ok(Failing::at(vec![in alloc; number]?))
