@@ -12,7 +12,7 @@ use Rattle.wm_graph.specs.Rules.{keep_rules, are_counters, are_spaces, is_space,
 use Rattle.wm_spec.specs.declared.record.counters.Counters.{Counters}
 use Rattle.wm_spec.specs.declared.record.savepoint.Savepoint.{Savepoint}
 use Rattle.wm_spec.specs.declared.record.space.Space.{Space}
-use Rattle.wm_state.specs.State.{State, Workspace, workspace_of, with_space, with_savepoint}
+use Rattle.wm_state.specs.State.{Durable, Workspace, workspace_of, with_space, with_savepoint}
 use Rattle.wm_state.specs.State.{Savepoint as Kept}
 use Rattle.wm_state.specs.Standing.{latest, saved_as, saved_fields, fields_saved, CountersStand, FieldsStand, Stands}
 use Rattle.wm_state.specs.Effects.{Saved, marked}
@@ -202,14 +202,14 @@ saved_of p old new front a back place implicit x may e = record {
     away m other same = bool_apart (sym (eq-eqb m x.space (sym same ∙ may.space)) ∙ other)
 
 -- the records agree with the state with the savepoint
-pub FieldsStand-kept : (p : Parts) (old new : Counters) (front : List Space) (a : Space) (back : List Space) (place implicit : ℕ) (x : Savepoint) (w : Workspace) (k : Kept) (s t : State) → keep_rules p ≡ true → FieldsStand p s
+pub FieldsStand-kept : (p : Parts) (old new : Counters) (front : List Space) (a : Space) (back : List Space) (place implicit : ℕ) (x : Savepoint) (w : Workspace) (k : Kept) (s t : Durable) → keep_rules p ≡ true → FieldsStand p s
     → MaySave p old new front a back place implicit x → workspace_of s.spaces x.space ≡ Some w → saved_fields x ≡ fields_saved k → t.spaces ≡ with_space x.space (with_savepoint place implicit k) s.spaces → t.tables ≡ s.tables
     → CountersStand (saved p new front a back place implicit x) t → FieldsStand (saved p new front a back place implicit x) t
 FieldsStand-kept p old new front a back place implicit x w k s t rules st may found fields spaces tables counters =
     FieldsStand-saved p (saved p new front a back place implicit x) s t x.space place implicit w k x (saved_of p old new front a back place implicit x may rules) st found fields spaces tables counters
 
 -- the records stand for the state with the savepoint
-pub Stands-kept : (p : Parts) (old new : Counters) (front : List Space) (a : Space) (back : List Space) (place implicit : ℕ) (x : Savepoint) (w : Workspace) (k : Kept) (s t : State) → Stands p s → MaySave p old new front a back place implicit x
+pub Stands-kept : (p : Parts) (old new : Counters) (front : List Space) (a : Space) (back : List Space) (place implicit : ℕ) (x : Savepoint) (w : Workspace) (k : Kept) (s t : Durable) → Stands p s → MaySave p old new front a back place implicit x
     → workspace_of s.spaces x.space ≡ Some w → IsKept p s.spaces w k x → t.spaces ≡ with_space x.space (with_savepoint place implicit k) s.spaces → t.tables ≡ s.tables → CountersStand (saved p new front a back place implicit x) t
     → Stands (saved p new front a back place implicit x) t
 Stands-kept p old new front a back place implicit x w k s t st may found kept spaces tables counters =

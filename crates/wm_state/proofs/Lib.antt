@@ -74,8 +74,7 @@ pub mod Following
 pub mod EditedLater
 pub mod DraftedMore
 pub mod Points
-pub mod OthersStay
-pub mod Added
+pub mod RowsStay
 pub mod Drafted
 pub mod FewChanged
 pub mod DraftedSaved
