@@ -19,7 +19,7 @@ use Rattle.wm_state.specs.State.{Durable, State, Session, Stand, Workspace, Save
 use Rattle.wm_state.specs.Standing.{SpaceFields, saved_in, space_after, Stands}
 use Rattle.wm_state.specs.declared.edit.Edit.TheVariants as edits
 use Rattle.wm_state.proofs.Named.{space_number}
-use Rattle.wm_state.proofs.Points.{place_same, name_taken, name_free, few_same, made_there, made_nowhere}
+use Rattle.wm_forked.proofs.Points.{place_same, name_taken, name_free, few_same, made_there, made_nowhere}
 use Rattle.wm_state.proofs.Spaces.{IsSpace, space_is, space_none, named_space, named_no_space, next_space_same}
 use Rattle.wm_model.specs.Planning.{StandsAt, Does, Stay}
 use Rattle.wm_model.specs.Saving.{BearsIn, BearsRoomy, MayBearIn}

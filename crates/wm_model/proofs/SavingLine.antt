@@ -18,7 +18,7 @@ use Rattle.wm_state.specs.Standing.{SpaceFields, saved_in}
 use Rattle.wm_state.specs.State.{Durable, State, Session, Workspace, savepoint_named}
 use Rattle.wm_state.specs.declared.edit.Edit.TheVariants as edits
 use Rattle.wm_state.proofs.Mapped.{find-again}
-use Rattle.wm_state.proofs.Points.{name_taken, name_free, few_same}
+use Rattle.wm_forked.proofs.Points.{name_taken, name_free, few_same}
 use Rattle.wm_state.proofs.Spaces.{IsSpace, NamedSpace, ruled_spaces, named_space, named_no_space}
 use Rattle.wm_state.proofs.Tests.{both}
 use Rattle.wm_model.specs.Planning.{StandsAt, Does, Stay}

@@ -9,8 +9,8 @@ use Rattle.wm_state.specs.State.{Durable, Workspace, Savepoint, workspace_of}
 use Rattle.wm_state.specs.Standing.{SavepointFields, saved_fields, fields_saved, place_making, by_making, saved_in, SavepointsStand}
 use Rattle.wm_state.proofs.Apart.{found-passes}
 use Rattle.wm_state.proofs.Frames.{savepoints_of-found, savepoints_of-none}
-use Rattle.wm_state.proofs.KeepSaved.{greatest_making}
 use Rattle.wm_state.proofs.Making.{all-making}
+use Rattle.wm_state.proofs.Makings.{greatest_making}
 use Rattle.wm_state.proofs.Mapped.{all-alike, all-found}
 use Rattle.wm_state.proofs.Tests.{both, and_true, all_if, all_filter}
 

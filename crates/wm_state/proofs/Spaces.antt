@@ -15,7 +15,7 @@ use Rattle.wm_state.specs.State.{Durable, Workspace, Savepoint, workspace_of, wo
 use Rattle.wm_state.specs.Standing.{SpaceFields, fields_of, fields_in, space_after, making_behind, SpacesStand, OnceStand, SavepointsStand, Stands}
 use Rattle.wm_state.proofs.Apart.{ruled, found-passes}
 use Rattle.wm_state.proofs.Greatest.{greatest_kept, greatest_in, greatest_same}
-use Rattle.wm_state.proofs.KeepSaved.{greatest_making, made_before, greatest_room}
+use Rattle.wm_state.proofs.Makings.{greatest_making, made_before, greatest_room}
 use Rattle.wm_state.proofs.Mapped.{find-passes, find-again, find-else, found-fails, none-found, all-found}
 use Rattle.wm_state.proofs.Tests.{bool_apart, both, and_true, all_if}
 

@@ -19,7 +19,7 @@ use Rattle.wm_state.proofs.FirstIn.{IsOf, ruled_of, of-less, first-itself}
 use Rattle.wm_state.proofs.Climbing.{Stays, Carries, Carried, Climbs-carried, ordered_of, parent_apart, carried, carries-more, first-sprout}
 use Rattle.wm_state.proofs.Logging.{HistsStand-frame, log_of-found, log_of-none, log_of-same, logs-kept}
 use Rattle.wm_state.proofs.Mapped.{none-found}
-use Rattle.wm_state.proofs.Sprouting.{Sprouted, seen-before, above-before, seen-sprout, above-sprout, newest-here, newest-away, newest-lower, ends-before, ends-sprout}
+use Rattle.wm_forked.proofs.Sprouting.{Sprouted, seen-before, above-before, seen-sprout, above-sprout, newest-here, newest-away, newest-lower, ends-before, ends-sprout}
 use Rattle.wm_state.proofs.Named.{saved_space, saved_there, saved_base_there, bases_there, version_there, version_below}
 
 -- the workspace that is born: its record has its fields, it has no changes and no savepoints, and it sees what its parent's version saw,

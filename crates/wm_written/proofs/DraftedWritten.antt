@@ -33,16 +33,16 @@ use Rattle.wm_state.specs.declared.edit.NewEntry.{NewEntry}
 use Rattle.wm_state.proofs.ByKind.{under_found}
 use Rattle.wm_state.proofs.Counting.{CountsAs, counts_as, counts_in, in_room, moved_well, stamped_by, work_grows}
 use Rattle.wm_state.proofs.Drafted.{some_edit}
-use Rattle.wm_state.proofs.DraftedSaved.{one_space}
 use Rattle.wm_state.proofs.Growing.{same_counters}
-use Rattle.wm_state.proofs.Ids.{are_under}
-use Rattle.wm_state.proofs.PlannedWritten.{MayWriteAll, agree_written, keep_planned, plan_written}
+use Rattle.wm_written.proofs.Ids.{are_under}
+use Rattle.wm_state.proofs.Named.{one_space}
+use Rattle.wm_written.proofs.PlannedWritten.{MayWriteAll, agree_written, keep_planned, plan_written}
 use Rattle.wm_state.proofs.RowsStay.{away_write, row_apart, rows_stay}
 use Rattle.wm_state.proofs.Settled.{Places, PlacesApart, places_apart}
 use Rattle.wm_state.proofs.Tests.{bool_apart, both, and_true}
 use Rattle.wm_state.proofs.WorkedOn.{counted_put, first_change}
-use Rattle.wm_state.proofs.WrittenIds.{changes-write}
-use Rattle.wm_state.proofs.WrittenKept.{kept_write}
+use Rattle.wm_written.proofs.WrittenIds.{changes-write}
+use Rattle.wm_written.proofs.WrittenKept.{kept_write}
 
 -- ---- entries
 

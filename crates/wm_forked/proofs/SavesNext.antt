@@ -16,11 +16,11 @@ use Rattle.wm_state.specs.Editing.{drafted_by, line_work, number_limit}
 use Rattle.wm_state.specs.Standing.{FieldsStand, SpaceFields, saved_in}
 use Rattle.wm_state.specs.State.{Savepoint, Durable, Workspace, next_making, with_savepoint, with_space, workspace_of}
 use Rattle.wm_state.specs.declared.edit.Edit.TheVariants as edits
-use Rattle.wm_state.proofs.DraftedSaved.{saved_so}
+use Rattle.wm_forked.proofs.DraftedSaved.{saved_so}
 use Rattle.wm_state.proofs.FieldsThere.{fields_there}
 use Rattle.wm_state.proofs.Mapped.{find-skip}
 use Rattle.wm_state.proofs.SavedAs.{passed_none, saved_count_there, unpassed}
-use Rattle.wm_state.proofs.Saving.{has_savepoint}
+use Rattle.wm_forked.proofs.Saving.{has_savepoint}
 use Rattle.wm_state.proofs.Spaces.{IsSpace, RecordIs, SpaceIs, record_there, space_there}
 
 -- places are left for two, so one is left behind one

@@ -29,16 +29,16 @@ use Rattle.wm_state.specs.declared.edit.NewEntry.{NewEntry}
 use Rattle.wm_state.proofs.ByKind.{under_found}
 use Rattle.wm_state.proofs.Counting.{counts_as, counts_in, stamped_by, version_well, work_grows}
 use Rattle.wm_state.proofs.Drafted.{some_edit}
-use Rattle.wm_state.proofs.DraftedWritten.{Appends, Redrawn, counts_on, entries_in, log_room, stamps_left}
+use Rattle.wm_written.proofs.DraftedWritten.{Appends, Redrawn, counts_on, entries_in, log_room, stamps_left}
 use Rattle.wm_state.proofs.Growing.{MayFork}
-use Rattle.wm_state.proofs.PlannedMore.{MayWriteMore, Stage, agree_written_new, all_stay, none_goes, keep_planned_new, plan_written_new}
+use Rattle.wm_written.proofs.PlannedMore.{MayWriteMore, Stage, agree_written_new, all_stay, none_goes, keep_planned_new, plan_written_new}
 use Rattle.wm_state.proofs.Planning.{piece_found}
 use Rattle.wm_state.proofs.RowsStay.{away_write, below_apart, new_apart, row_apart, rows_stay}
 use Rattle.wm_state.proofs.Settled.{Places, PlacesApart, places_apart}
 use Rattle.wm_state.proofs.Tests.{bool_apart, both, not_true}
 use Rattle.wm_state.proofs.WorkedOn.{counted_put, second_change}
-use Rattle.wm_state.proofs.WrittenIds.{changes-write_new}
-use Rattle.wm_state.proofs.WrittenKept.{kept_write_new}
+use Rattle.wm_written.proofs.WrittenIds.{changes-write_new}
+use Rattle.wm_written.proofs.WrittenKept.{kept_write_new}
 
 -- ---- nothing is there yet
 

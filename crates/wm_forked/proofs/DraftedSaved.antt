@@ -21,11 +21,11 @@ use Rattle.wm_state.specs.State.{Durable, Workspace, Savepoint, Latest, workspac
 use Rattle.wm_state.specs.declared.edit.Edit.TheVariants as edits
 use Rattle.wm_state.proofs.Counting.{counts_as, counts_in, work_room}
 use Rattle.wm_state.proofs.Drafted.{some_edit}
-use Rattle.wm_state.proofs.FewChanged.{few_saved}
-use Rattle.wm_state.proofs.KeepSaved.{MaySave}
-use Rattle.wm_state.proofs.Named.{space_number}
-use Rattle.wm_state.proofs.PlannedSaved.{agree_saved, changes-saved, keep_plan_saved, plan_saved}
-use Rattle.wm_state.proofs.Points.{MakesAt, made_as, made_there, may_save}
+use Rattle.wm_forked.proofs.FewChanged.{few_saved}
+use Rattle.wm_forked.proofs.KeepSaved.{MaySave}
+use Rattle.wm_state.proofs.Named.{one_space, space_number}
+use Rattle.wm_forked.proofs.PlannedSaved.{agree_saved, changes-saved, keep_plan_saved, plan_saved}
+use Rattle.wm_forked.proofs.Points.{MakesAt, made_as, made_there, may_save}
 use Rattle.wm_state.proofs.RowsStay.{new_apart, row_apart, rows_stay}
 use Rattle.wm_state.proofs.Settled.{Places, PlacesApart, places_apart}
 use Rattle.wm_state.proofs.Spaces.{IsSpace, space_there}
@@ -47,10 +47,6 @@ home_of p s n a st there =
 -- it has its record by the record's number
 pub home_there : (p : Parts) (n : ℕ) (a : Space) → space_of p.spaces n ≡ Some a → space_of p.spaces a.number ≡ Some a
 home_there p n a there = ap (space_of p.spaces) (space_number p n a there) ∙ there
-
--- what is found is one
-pub one_space : (a b : Space) → Some a ≡ Some b → a ≡ b
-one_space a b e = cc
 
 -- ---- the savepoint
 

@@ -16,10 +16,10 @@ use Rattle.wm_state.specs.Effects.{marked}
 use Rattle.wm_state.proofs.Tests.{all_swap, all_middle, any_swap}
 use Rattle.wm_state.proofs.Keeping.{SpaceStill, KeepSpaces-swap, le_itself, le_of}
 use Rattle.wm_state.proofs.Climbing.{Climbs-same, stays-changed}
-use Rattle.wm_state.proofs.Saving.{IsKept}
-use Rattle.wm_state.proofs.KeepSaved.{saved, MaySave, keep-saved, FieldsStand-kept, Stands-kept}
-use Rattle.wm_state.proofs.Birth.{IsChild, FieldsStand-born, Stands-born}
-use Rattle.wm_state.proofs.KeepBorn.{born, MayBear, keep-born, born_of}
+use Rattle.wm_forked.proofs.Saving.{IsKept}
+use Rattle.wm_forked.proofs.KeepSaved.{saved, MaySave, keep-saved, FieldsStand-kept, Stands-kept}
+use Rattle.wm_forked.proofs.Birth.{IsChild, FieldsStand-born, Stands-born}
+use Rattle.wm_forked.proofs.KeepBorn.{born, MayBear, keep-born, born_of}
 
 -- the counters between, which nobody sees: those of after, before a version was added
 abbrev pub between : Counters → Counters → Counters

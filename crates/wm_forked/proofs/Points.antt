@@ -14,9 +14,9 @@ use Rattle.wm_state.specs.Points.{HasRoom, Point, made_at, moved, newest_point, 
 use Rattle.wm_state.specs.State.{Durable, Workspace, Savepoint, Stand, Latest, At, next_making, savepoint_made, savepoint_named}
 use Rattle.wm_state.specs.Standing.{SpaceFields, SavepointFields, fields_of, fields_in, saved_fields, fields_saved, saved_in, saved_as, making_behind, OnceStand, SavepointsStand, FieldsStand, Stands}
 use Rattle.wm_state.proofs.Counting.{counted_well, counters_move}
-use Rattle.wm_state.proofs.KeepSaved.{MaySave, version_latest, base_latest, saved_in_space, unnamed_if}
+use Rattle.wm_forked.proofs.KeepSaved.{MaySave, version_latest, base_latest, saved_in_space, unnamed_if}
 use Rattle.wm_state.proofs.SavedAs.{IsSaved, named_sorted, named_some, named_none, made_some, made_some_there, made_none, saved_count}
-use Rattle.wm_state.proofs.Saving.{IsKept, kept_latest, kept_again}
+use Rattle.wm_forked.proofs.Saving.{IsKept, kept_latest, kept_again}
 use Rattle.wm_state.proofs.Spaces.{IsSpace, next_making_there, makings_under, making_behind_room}
 use Rattle.wm_state.proofs.Tests.{both}
 

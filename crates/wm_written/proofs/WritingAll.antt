@@ -21,7 +21,7 @@ use Rattle.wm_state.proofs.Frames.{Framed, Still, StillNames, fields_stand, Save
 use Rattle.wm_state.proofs.FirstIn.{first-apart}
 use Rattle.wm_state.proofs.Climbing.{Carries, carried, stays-changed, PathsStand-framed}
 use Rattle.wm_state.proofs.Logging.{HistsStand-longer, log_of-found, log_of-same, rows-kept}
-use Rattle.wm_state.proofs.Nearest.{SameAway, seen-away, seen-here, own-away, own-here}
+use Rattle.wm_written.proofs.Nearest.{SameAway, seen-away, seen-here, own-away, own-here}
 use Rattle.wm_state.proofs.Above.{above-leaf}
 use Rattle.wm_state.proofs.Ending.{all_end, all_end-drawn, more-ends}
 use Rattle.wm_state.proofs.DrawingEnds.{more-front, more-behind}

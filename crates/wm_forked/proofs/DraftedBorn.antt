@@ -25,16 +25,17 @@ use Rattle.wm_state.specs.Points.{HasRoom, Point, birth_record, child_record, ch
 use Rattle.wm_state.specs.Standing.{SpaceFields, fields_of, fields_in, FieldsStand, Stands}
 use Rattle.wm_state.specs.State.{Durable, Stand, Workspace, Savepoint, kept, workspace_of, with_space, with_savepoint}
 use Rattle.wm_state.specs.declared.edit.Edit.TheVariants as edits
-use Rattle.wm_state.proofs.Birth.{IsChild}
-use Rattle.wm_state.proofs.Births.{child_kept}
+use Rattle.wm_forked.proofs.Birth.{IsChild}
+use Rattle.wm_forked.proofs.Births.{child_kept}
 use Rattle.wm_state.proofs.ByKind.{under_found}
 use Rattle.wm_state.proofs.Counting.{counts_as, counts_in, version_well, work_grows, work_room}
 use Rattle.wm_state.proofs.Drafted.{some_edit}
-use Rattle.wm_state.proofs.DraftedSaved.{home_of, home_there, one_space}
-use Rattle.wm_state.proofs.FewChanged.{few_birth}
+use Rattle.wm_forked.proofs.DraftedSaved.{home_of, home_there}
+use Rattle.wm_forked.proofs.FewChanged.{few_birth}
 use Rattle.wm_state.proofs.Mapped.{any-if, none-found}
-use Rattle.wm_state.proofs.PlannedBirth.{MayBirth, agree_birth, changes-birth, keep_plan_birth, plan_birth}
-use Rattle.wm_state.proofs.Points.{MadeAt, MakesAt, is_point, made_as, made_there, may_save, place_same}
+use Rattle.wm_state.proofs.Named.{one_space}
+use Rattle.wm_forked.proofs.PlannedBirth.{MayBirth, agree_birth, changes-birth, keep_plan_birth, plan_birth}
+use Rattle.wm_forked.proofs.Points.{MadeAt, MakesAt, is_point, made_as, made_there, may_save, place_same}
 use Rattle.wm_state.proofs.RowsStay.{AwayFrom, below_apart, row_apart, rows_stay}
 use Rattle.wm_state.proofs.Settled.{Places, PlacesApart, places_apart}
 use Rattle.wm_state.proofs.Spaces.{IsSpace, next_space_same, next_space_there, numbers_under}

@@ -28,11 +28,11 @@ use Rattle.wm_state.proofs.Apart.{ruled}
 use Rattle.wm_state.proofs.ById.{one_order, Ascend-set, record_at-set}
 use Rattle.wm_state.proofs.ByKind.{set-behind, under_found}
 use Rattle.wm_state.proofs.Forking.{FieldsStand-forked, Stands-forked}
-use Rattle.wm_state.proofs.Forks.{parts-forked, drops_none}
+use Rattle.wm_written.proofs.Forks.{parts-forked, drops_none}
 use Rattle.wm_state.proofs.Growing.{MayFork, forked, forked_of, keep-forked, found-below, below-next, same_counters}
-use Rattle.wm_state.proofs.Leaves.{leaf_new, free_new}
+use Rattle.wm_written.proofs.Leaves.{leaf_new, free_new}
 use Rattle.wm_state.proofs.Planned.{found_still, AllUnder-set, AllUnder-next}
-use Rattle.wm_state.proofs.PlannedWritten.{MayWriteAll, AreDrawnIn, stay, entries_batch, agree_written, keep_planned, plan_written}
+use Rattle.wm_written.proofs.PlannedWritten.{MayWriteAll, AreDrawnIn, stay, entries_batch, agree_written, keep_planned, plan_written}
 use Rattle.wm_state.proofs.Tests.{both, and_true, all_if}
 
 -- ---- the version first, and then the entries

@@ -22,8 +22,8 @@ use Rattle.wm_state.proofs.ById.{Ascend-set}
 use Rattle.wm_state.proofs.ByKind.{kinds, Split, split_of, set-split, set-behind}
 use Rattle.wm_state.proofs.Planning.{recounted, parts-spaced, spaces-split, parts-more_savepoint, parts-more_space, parts-more_version}
 use Rattle.wm_state.proofs.Planned.{counted, found_still, AllUnder-set, AllUnder-next}
-use Rattle.wm_state.proofs.KeepSaved.{saved, MaySave, keep-saved, FieldsStand-kept, Stands-kept}
-use Rattle.wm_state.proofs.Saving.{IsKept}
+use Rattle.wm_forked.proofs.KeepSaved.{saved, MaySave, keep-saved, FieldsStand-kept, Stands-kept}
+use Rattle.wm_forked.proofs.Saving.{IsKept}
 
 -- ---- single steps
 

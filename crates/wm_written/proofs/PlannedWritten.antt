@@ -29,20 +29,20 @@ use Rattle.wm_state.proofs.Appending.{find_before}
 use Rattle.wm_state.proofs.Apart.{Ruled, ruled, apart_of, newest_record}
 use Rattle.wm_state.proofs.ById.{Ascend-set}
 use Rattle.wm_state.proofs.ByKind.{kinds, stored, Split, split_of, set-split, set-behind}
-use Rattle.wm_state.proofs.Dropping.{dropped}
-use Rattle.wm_state.proofs.DrawnWell.{piece-parts}
-use Rattle.wm_state.proofs.EntryRecords.{rows_from, rows_differ, rows_well, told_row, each_row, pieces_well, hists_on, hists_differ, hists_well}
+use Rattle.wm_written.proofs.Dropping.{dropped}
+use Rattle.wm_written.proofs.DrawnWell.{piece-parts}
+use Rattle.wm_written.proofs.EntryRecords.{rows_from, rows_differ, rows_well, told_row, each_row, pieces_well, hists_on, hists_differ, hists_well}
 use Rattle.wm_state.proofs.Keeping.{KeepTables-same, KeepVersions-same, is_piece-kept}
-use Rattle.wm_state.proofs.KeepWritten.{all_written, MayPut, keep-written, spaces_longer, rows_found, KeepRows-append}
+use Rattle.wm_written.proofs.KeepWritten.{all_written, MayPut, keep-written, spaces_longer, rows_found, KeepRows-append}
 use Rattle.wm_state.proofs.DrawingEnds.{ends-beside}
-use Rattle.wm_state.proofs.DrawingTouched.{kept-apart}
-use Rattle.wm_state.proofs.LayingAll.{laid-drawn}
+use Rattle.wm_written.proofs.DrawingTouched.{kept-apart}
+use Rattle.wm_written.proofs.LayingAll.{laid-drawn}
 use Rattle.wm_state.proofs.Named.{space_number}
 use Rattle.wm_state.proofs.Planned.{counted, found_still, AllUnder-filter, AllUnder-next, AllUnder-set, applied-append, dropped-still}
 use Rattle.wm_state.proofs.Planning.{recounted, parts-spaced, spaces-split, parts-more_row, parts-more_piece, parts-more_hist, parts-filtered}
 use Rattle.wm_state.proofs.Respaced.{space_here, space_elsewhere}
 use Rattle.wm_state.proofs.Tests.{both, all_if, all_filter}
-use Rattle.wm_state.proofs.WritingAll.{FieldsStand-wrote_all, Stands-wrote_all}
+use Rattle.wm_written.proofs.WritingAll.{FieldsStand-wrote_all, Stands-wrote_all}
 
 -- ---- new records behind the others
 

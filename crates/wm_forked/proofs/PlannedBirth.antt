@@ -23,13 +23,13 @@ use Rattle.wm_state.proofs.ById.{one_order}
 use Rattle.wm_state.proofs.Batches.{over_it, Ascend-applied, record_at-applied}
 use Rattle.wm_state.proofs.ByKind.{under_found}
 use Rattle.wm_state.proofs.Planning.{recounted}
-use Rattle.wm_state.proofs.Saving.{IsKept}
-use Rattle.wm_state.proofs.KeepSaved.{MaySave}
-use Rattle.wm_state.proofs.PlannedSaved.{SavedParts, parts-saved, AllUnder-saved, changes-saved}
-use Rattle.wm_state.proofs.Birth.{IsChild}
-use Rattle.wm_state.proofs.KeepBorn.{MayBear, born}
-use Rattle.wm_state.proofs.PlannedBorn.{child_batch, parts-born}
-use Rattle.wm_state.proofs.Births.{between, birthed, keep-birth, FieldsStand-birth, Stands-birth}
+use Rattle.wm_forked.proofs.Saving.{IsKept}
+use Rattle.wm_forked.proofs.KeepSaved.{MaySave}
+use Rattle.wm_forked.proofs.PlannedSaved.{SavedParts, parts-saved, AllUnder-saved, changes-saved}
+use Rattle.wm_forked.proofs.Birth.{IsChild}
+use Rattle.wm_forked.proofs.KeepBorn.{MayBear, born}
+use Rattle.wm_forked.proofs.PlannedBorn.{child_batch, parts-born}
+use Rattle.wm_forked.proofs.Births.{between, birthed, keep-birth, FieldsStand-birth, Stands-birth}
 
 -- ---- the ids of the batch
 
