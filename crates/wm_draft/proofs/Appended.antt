@@ -25,12 +25,12 @@ use Rattle.wm_state.specs.Standing.{latest, newest_first}
 use Rattle.wm_state.specs.Writes.{write_batch}
 use Rattle.wm_state.specs.declared.edit.Edit.TheVariants as edits
 use Rattle.wm_state.specs.declared.edit.NewEntry.{NewEntry}
-use Rattle.wm_state.proofs.DraftedSaved.{home_there}
-use Rattle.wm_state.proofs.DraftedWritten.{Appends, Redrawn, drafts_written, entries_in, stamped_first}
-use Rattle.wm_state.proofs.DraftedWrittenNew.{DrawnAlone, drafts_written_new, drawn_alone}
+use Rattle.wm_forked.proofs.DraftedSaved.{home_there}
+use Rattle.wm_written.proofs.DraftedWritten.{Appends, Redrawn, drafts_written, entries_in, stamped_first}
+use Rattle.wm_written.proofs.DraftedWrittenNew.{DrawnAlone, drafts_written_new, drawn_alone}
 use Rattle.wm_state.proofs.Growing.{same_counters}
-use Rattle.wm_state.proofs.Ids.{under_next}
-use Rattle.wm_state.proofs.Leaves.{leaf_of}
+use Rattle.wm_written.proofs.Ids.{under_next}
+use Rattle.wm_written.proofs.Leaves.{leaf_of}
 use Rattle.wm_state.proofs.Named.{space_number}
 use Rattle.wm_state.proofs.Settled.{Places}
 use Rattle.wm_draft.proofs.Placed.{looked_up}

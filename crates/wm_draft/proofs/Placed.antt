@@ -13,7 +13,7 @@ use Rattle.wm_spec.specs.declared.record.stored.Stored.{Stored}
 use Rattle.wm_spec.specs.declared.record.table.Table.{Table}
 use Rattle.wm_state.specs.ById.{Ascend}
 use Rattle.wm_state.proofs.Counting.{counted_well}
-use Rattle.wm_state.proofs.Ids.{under_next}
+use Rattle.wm_written.proofs.Ids.{under_next}
 use Rattle.wm_state.proofs.Settled.{Places}
 use Rattle.wm_state.proofs.Tests.{both}
 

@@ -5,7 +5,7 @@ use Rattle.wm_spec.specs.declared.record.Record.{Record}
 use Rattle.wm_spec.specs.declared.record.Record.TheVariants as records
 use Rattle.wm_spec.specs.declared.record.batch.Change.{Change}
 use Rattle.wm_spec.specs.declared.record.piece.PieceRecord.{PieceRecord}
-use Rattle.wm_state.proofs.WrittenIds.{put_all-append}
+use Rattle.wm_written.proofs.WrittenIds.{put_all-append}
 use Rattle.wm_state.specs.Batches.{put}
 use Rattle.wm_state.specs.Writes.{put_all}
 

@@ -19,11 +19,11 @@ use Rattle.wm_state.specs.Batches.{is_dropped, is_in, is_out, keeps}
 use Rattle.wm_state.specs.ById.{Ascend}
 use Rattle.wm_state.specs.Drawing.{AreDrawn, are_sorted, has_moments, is_clear, is_for, left_by, touched}
 use Rattle.wm_state.proofs.Appending.{all_append}
-use Rattle.wm_state.proofs.Drawing.{drawn-nothing}
-use Rattle.wm_state.proofs.DrawingTouched.{drawn-keys, drawn-touched, is_met_by, touched-either, touched-more}
+use Rattle.wm_written.proofs.Drawing.{drawn-nothing}
+use Rattle.wm_written.proofs.DrawingTouched.{drawn-keys, drawn-touched, is_met_by, touched-either, touched-more}
 use Rattle.wm_state.proofs.Laying.{key_itself, key_same}
 use Rattle.wm_state.proofs.Tests.{both, bool_apart, and_true, all_if, all_push, not_true}
-use Rattle.wm_state.proofs.Touched.{clear-append, met-place, touched-passes}
+use Rattle.wm_written.proofs.Touched.{clear-append, met-place, touched-passes}
 use Rattle.wm_draft.proofs.Dropping.{told-with, differ-with, filter-with}
 use Rattle.wm_draft.proofs.DroppingAll.{differ-append, dropped-append, there-with}
 use Rattle.wm_image.proofs.Finding.{Tests, all_of, filter-kind}

@@ -12,7 +12,7 @@ use Rattle.wm_state.proofs.ById.{either-none, eqb-apart, one_order}
 use Rattle.wm_state.proofs.Drafted.{drafts_nothing}
 use Rattle.wm_state.proofs.DraftedMore.{drafts_followed, work_first, work_left}
 use Rattle.wm_state.proofs.Following.{applied_followed, applied_same}
-use Rattle.wm_state.proofs.OthersStay.{AwayFrom, stays}
+use Rattle.wm_state.proofs.RowsStay.{AwayFrom, stays}
 use Rattle.wm_state.specs.ById.{Ascend, applied}
 use Rattle.wm_state.specs.Drafts.{CanDraft, CanEdit, CanEditAll, CanWork, Drafts, DraftsBy, edit_limit, followed_by, is_change_of}
 use Rattle.wm_state.specs.Editing.{line_work}

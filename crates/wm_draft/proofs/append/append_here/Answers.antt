@@ -1,7 +1,7 @@
 use Rattle.std.proofs.Common.{map}
 use Rattle.wm_graph.specs.Parts.{parts_of}
-use Rattle.wm_state.proofs.DraftedWritten.{Appends}
-use Rattle.wm_state.proofs.DrawingNews.{news-stamped}
+use Rattle.wm_written.proofs.DraftedWritten.{Appends}
+use Rattle.wm_written.proofs.DrawingNews.{news-stamped}
 use Rattle.wm_state.specs.Editing.{entry_of}
 use Rattle.wm_draft.proofs.Appended.{appends_so, drafts_here}
 use Rattle.wm_draft.proofs.Written.{counted_as}

@@ -1,7 +1,7 @@
 use Rattle.std.proofs.Common.{◌≡◌, [], ◌∷◌, Some, sym, ap, subst, ◌∙◌}
 use Rattle.std.specs.Option.{option_map}
 use Rattle.wm_graph.specs.Parts.{parts_of, space_of}
-use Rattle.wm_state.proofs.DraftedBorn.{drafts_born}
+use Rattle.wm_forked.proofs.DraftedBorn.{drafts_born}
 use Rattle.wm_state.specs.Drafts.{DraftsBy}
 use Rattle.wm_state.specs.Editing.{stand_of}
 use Rattle.wm_state.specs.Points.{point_at}

@@ -1,6 +1,6 @@
 use Rattle.std.proofs.Common.{◌≡◌, [], ◌∷◌, Some, sym, subst, ◌∙◌}
 use Rattle.wm_graph.specs.Parts.{parts_of, space_of}
-use Rattle.wm_state.proofs.DraftedSaved.{drafts_saved}
+use Rattle.wm_forked.proofs.DraftedSaved.{drafts_saved}
 use Rattle.wm_state.specs.Drafts.{DraftsBy}
 use Rattle.wm_state.specs.declared.edit.Edit.TheVariants as edits
 use Rattle.wm_draft.proofs.Born.{saving_is}

@@ -3,7 +3,7 @@ use Rattle.wm_graph.specs.Parts.{parts_of}
 use Rattle.wm_spec.specs.Records.{record_at}
 use Rattle.wm_spec.specs.declared.record.counters.Counters.{Counters}
 use Rattle.wm_state.proofs.Drafted.{drafts_created}
-use Rattle.wm_state.proofs.Ids.{under_next}
+use Rattle.wm_written.proofs.Ids.{under_next}
 use Rattle.wm_state.specs.Batches.{create_batch}
 use Rattle.wm_state.specs.Drafts.{DraftsBy}
 use Rattle.wm_state.specs.declared.edit.Edit.TheVariants as edits
