@@ -32,7 +32,7 @@ use Rattle.wm_grammar.specs.Calls.{procedure_of}
 use Rattle.wm_grammar.specs.declared.procedure.Procedure.{Procedure}
 use Rattle.wm_grammar.specs.declared.procedure.Procedure.TheVariants as procedures
 use Rattle.wm_grammar.specs.declared.procedure.Parameter.TheVariants as parameters
-use Rattle.wm_parser.specs.Parsed.{Bad, Syntax, Literal, parsed}
+use Rattle.wm_grammar.specs.Parsed.{Bad, Syntax, Literal, parsed}
 use Rattle.wm_calls.specs.Arguments.{text_given, moment_given, is_true_given}
 use Rattle.wm_calls.specs.Empty.{has_empty_period}
 use Rattle.wm_calls.specs.Faults.{argument_fault}
