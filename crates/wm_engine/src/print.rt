@@ -1,9 +1,10 @@
 //! The bytes of answers.
 ghost use Rattle.std.specs.Prelude.{◌≡◌, IfOk, codes};
 ghost use Rattle.wm_print.specs.Texts.{answer_text};
-ghost use Rattle.wm_engine.specs.Views.{answer_view, refusal_of};
+ghost use Rattle.wm_plan.specs.Views.{answer_view, refusal_of};
 
-use crate::answer::{Answer, Reply};
+use crate::reply::Reply;
+use wm_plan::answer::Answer;
 use std::alloc::Global;
 use wm_base::{Bytes, Memory};
 use wm_print::{print_done, print_refusal, print_rows};

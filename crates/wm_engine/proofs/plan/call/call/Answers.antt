@@ -2,9 +2,9 @@ use Rattle.std.proofs.Common.{◌≡◌, Option, Some, None, sym, ap, ◌∙◌}
 use Rattle.wm_grammar.specs.Calls.{procedure_of}
 use Rattle.wm_grammar.specs.declared.procedure.Procedure.{Procedure}
 use Rattle.wm_model.specs.Step.{call, not_built}
-use Rattle.wm_engine.proofs.Calling.{refused}
-use Rattle.wm_engine.proofs.Planning.{for_sessions}
-use Rattle.wm_engine.specs.Views.{answer_view}
+use Rattle.wm_plan.proofs.Planning.{refused}
+use Rattle.wm_plan.proofs.Planning.{for_sessions}
+use Rattle.wm_plan.specs.Views.{answer_view}
 use Rattle.wm_engine.proofs.plan.call.call.Goals as goal
 
 pub returns-in-Some-clause-does : goal.returns-in-Some-clause-does

@@ -2,9 +2,10 @@ use Rattle.std.proofs.Common.{Some, ap, ◌∙◌}
 use Rattle.wm_grammar.specs.declared.procedure.Procedure.{Procedure}
 use Rattle.wm_grammar.specs.declared.procedure.Procedure.TheVariants as procedures
 use Rattle.wm_model.specs.Step.{call, not_built}
-use Rattle.wm_engine.proofs.Calling.{refused, other_call}
-use Rattle.wm_engine.proofs.Planning.{for_sessions, for_moment, forks_none}
-use Rattle.wm_engine.specs.Views.{answer_view}
+use Rattle.wm_plan.proofs.Planning.{refused}
+use Rattle.wm_engine.proofs.Calling.{other_call}
+use Rattle.wm_plan.proofs.Planning.{for_sessions, for_moment, forks_none}
+use Rattle.wm_plan.specs.Views.{answer_view}
 use Rattle.wm_engine.proofs.plan.call.call_of.Goals as goal
 
 pub returns-in-EnableVersioning-clause-does : goal.returns-in-EnableVersioning-clause-does

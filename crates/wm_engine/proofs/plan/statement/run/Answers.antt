@@ -8,10 +8,10 @@ use Rattle.wm_model.specs.Planning.{Stay}
 use Rattle.wm_model.specs.Step.{run_for, run_statement, session_of, no_session}
 use Rattle.wm_spec.specs.declared.record.stored.Stored.{Stored}
 use Rattle.wm_state.specs.State.{Session}
-use Rattle.wm_engine.proofs.Planning.{told}
-use Rattle.wm_engine.specs.Planning.{DoesIt}
-use Rattle.wm_engine.specs.Views.{answer_view, seating_view}
-use Rattle.wm_engine.specs.declared.planned.Planned.{Planned}
+use Rattle.wm_plan.proofs.Planning.{told}
+use Rattle.wm_plan.specs.Planning.{DoesIt}
+use Rattle.wm_plan.specs.Views.{answer_view, seating_view}
+use Rattle.wm_plan.specs.declared.planned.Planned.{Planned}
 use Rattle.wm_engine.proofs.plan.statement.run.Goals as goal
 
 -- where the session is open, its statement is run for it

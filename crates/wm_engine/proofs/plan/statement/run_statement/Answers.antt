@@ -6,7 +6,7 @@ use Rattle.wm_model.specs.Step.{run_statement, create, insert, update, delete, s
 use Rattle.wm_calls.proofs.Lasting.{insert_lasts, update_lasts}
 use Rattle.wm_calls.specs.Empty.{has_empty_period}
 use Rattle.wm_engine.proofs.Lasting.{select_lasts}
-use Rattle.wm_engine.proofs.Planning.{for_sessions}
+use Rattle.wm_plan.proofs.Planning.{for_sessions}
 use Rattle.wm_engine.proofs.plan.statement.run_statement.Goals as goal
 
 pub returns-in-Create-clause-does : goal.returns-in-Create-clause-does

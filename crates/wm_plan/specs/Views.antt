@@ -1,0 +1,32 @@
+-- What the answers and what becomes of the sessions mean.
+use Rattle.std.specs.Prelude.{Option, Some, None}
+use Rattle.wm_base.specs.declared.refusal.Refusal.{Refusal}
+use Rattle.wm_model.specs.Planning as planning
+use Rattle.wm_print.specs.Texts as texts
+use Rattle.wm_plan.specs.declared.answer.Answer.{Answer}
+use Rattle.wm_plan.specs.declared.answer.Answer.TheVariants.{Nothing, Fine, Done, Listing, Refused}
+use Rattle.wm_plan.specs.declared.seating.Seating.{Seating}
+use Rattle.wm_plan.specs.declared.seating.Seating.TheVariants.{Stay, Open, Close, Move, Limit}
+use Rattle.wm_plan.specs.Stands.{stand_view}
+
+abbrev pub answer_view : Answer → texts.Answer
+answer_view Nothing = texts.Nothing
+answer_view Fine = texts.Fine
+answer_view (Done count) = texts.Done count
+answer_view (Listing rows) = texts.Listing rows
+answer_view (Refused refusal) = texts.Refused refusal
+
+-- the refusal that an answer is, if it is one
+abbrev pub refusal_of : texts.Answer → Option Refusal
+refusal_of texts.Nothing = None
+refusal_of texts.Fine = None
+refusal_of (texts.Done count) = None
+refusal_of (texts.Listing rows) = None
+refusal_of (texts.Refused refusal) = Some refusal
+
+abbrev pub seating_view : Seating → planning.Seating
+seating_view Stay = planning.Stay
+seating_view (Open session) = planning.Open session
+seating_view (Close name) = planning.Close name
+seating_view (Move name space stand) = planning.Move name space (stand_view stand)
+seating_view (Limit name period) = planning.Limit name period
