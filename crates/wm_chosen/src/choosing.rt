@@ -1,5 +1,5 @@
 //! The rows of a table that a condition chooses.
-ghost use Rattle.std.specs.Prelude.{◌≡◌, List, Option, true, Some, IfOk};
+ghost use Rattle.std.specs.Prelude.{◌≡◌, List, Option, true, None, Some, IfOk};
 ghost use Rattle.std.specs.List.{list_all};
 ghost use Rattle.wm_base.specs.Trees.{Cond as CondTree};
 ghost use Rattle.wm_base.specs.declared.row.Row.{Row as RowOf};
@@ -16,7 +16,9 @@ ghost use Rattle.wm_spec.specs.declared.record.table.Table.{Table as TableOf};
 
 use crate::keyed::key_asked;
 use std::alloc::Global;
-use wm_base::tree::cond::Cond;
+use wm_base::tree::cond::{Cmp, Cond};
+use wm_base::tree::constant::Const;
+use wm_base::tree::operand::Operand;
 use wm_base::{Columns, Key, Memory, Period, Row, Truth};
 use wm_dml::chosen;
 use wm_expr::truth;

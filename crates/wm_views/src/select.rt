@@ -21,15 +21,14 @@ ghost use Rattle.wm_state.specs.State.{Session as SessionState, table_named};
 ghost use Rattle.wm_typing.specs.Columns.{columns_of_table};
 
 use wm_plan::answer::Answer;
+use wm_chosen::choosing::always;
 use wm_chosen::keyed::key_asked_at;
 use wm_plan::within::within;
 use wm_plan::planned::Planned;
 use wm_plan::refuse::{empty_period, most_rows, no_table, not_built, out_of_range, versioning};
 use wm_plan::session::{Session, Stand};
 use std::alloc::Global;
-use wm_base::tree::cond::{Cmp, Cond};
-use wm_base::tree::constant::Const;
-use wm_base::tree::operand::Operand;
+use wm_base::tree::cond::Cond;
 use wm_base::tree::query::{Query, Src};
 use wm_base::{Column, Columns, Key, Listing, Listings, Memory, Name, Period, Row, RowList, Truth};
 use wm_expr::truth;
