@@ -38,12 +38,12 @@ run_some rs xs m name session statement es seating answer some does =
 abbrev standing : Session → State → ℕ → Stand → State × Answer
 standing session s space stand = (record s { sessions = moved_to session.name space stand s.sessions }, Fine)
 
-pub goto_no_space : (rs : List Stored) (xs : List Session) (m : ℕ) (session : Session) (name : List ℕ) → keep_rules (parts_of rs) ≡ true → ((s : State) → StandsAt rs xs m s → workspace_named name s.spaces ≡ None)
+pub goto_no_space : (rs : List Stored) (xs : List Session) (m : ℕ) (session : Session) (name : List ℕ) → keep_rules (parts_of rs) ≡ true → ((s : State) → StandsAt rs xs m s → workspace_named name s.durable.spaces ≡ None)
     → Does rs xs m [] Stay (no_workspace name) (goto_workspace session name)
 goto_no_space rs xs m session name rules none = does_nothing rs xs m (no_workspace name) (goto_workspace session name) (λ s st. rw (none s st) refl)
 
 pub does_goto_workspace : (rs : List Stored) (xs : List Session) (m : ℕ) (session : Session) (name : List ℕ) (n : ℕ) → keep_rules (parts_of rs) ≡ true
-    → ((s : State) → StandsAt rs xs m s → (w : Workspace) × (workspace_named name s.spaces ≡ Some w) × (w.number ≡ n)) → Does rs xs m [] (Move session.name n Latest) Fine (goto_workspace session name)
+    → ((s : State) → StandsAt rs xs m s → (w : Workspace) × (workspace_named name s.durable.spaces ≡ Some w) × (w.number ≡ n)) → Does rs xs m [] (Move session.name n Latest) Fine (goto_workspace session name)
 does_goto_workspace rs xs m session name n rules some =
     does_seat rs xs m (Move session.name n Latest) Fine (goto_workspace session name)
     (λ s st. let r = some s st in rw r.1 (ap (λ a. standing session s a Latest) r.2))
@@ -51,12 +51,12 @@ does_goto_workspace rs xs m session name n rules some =
 -- as the records say
 pub goto_unnamed_space : (rs : List Stored) (xs : List Session) (m : ℕ) (session : Session) (name : List ℕ) → keep_rules (parts_of rs) ≡ true → find (λ (r : Space). bytes_eq name r.name) (parts_of rs).spaces ≡ None
     → Does rs xs m [] Stay (no_workspace name) (goto_workspace session name)
-goto_unnamed_space rs xs m session name rules none = goto_no_space rs xs m session name rules (λ s st. named_no_space (parts_of rs) s name st.stands none)
+goto_unnamed_space rs xs m session name rules none = goto_no_space rs xs m session name rules (λ s st. named_no_space (parts_of rs) s.durable name st.stands none)
 
 pub does_goto_named_space : (rs : List Stored) (xs : List Session) (m : ℕ) (session : Session) (name : List ℕ) (r : Space) → keep_rules (parts_of rs) ≡ true → find (λ (q : Space). bytes_eq name q.name) (parts_of rs).spaces ≡ Some r
     → Does rs xs m [] (Move session.name r.number Latest) Fine (goto_workspace session name)
 does_goto_named_space rs xs m session name r rules some =
-    does_goto_workspace rs xs m session name r.number rules (λ s st. let x = named_space (parts_of rs) s name r st.stands some in (x.workspace, x.named, x.is.number))
+    does_goto_workspace rs xs m session name r.number rules (λ s st. let x = named_space (parts_of rs) s.durable name r st.stands some in (x.workspace, x.named, x.is.number))
 
 -- ---- GotoSavepoint
 
@@ -76,7 +76,7 @@ pub goto_no_savepoint : (rs : List Stored) (xs : List Session) (m : ℕ) (sessio
     → bytes_eq name latest ≡ false → find (λ (x : Saved). bytes_eq name x.name) (saved_in (parts_of rs) session.space) ≡ None → Does rs xs m [] Stay (no_savepoint name) (goto_savepoint session name)
 goto_no_savepoint rs xs m session name r rules found other none =
     does_nothing rs xs m (no_savepoint name) (goto_savepoint session name)
-    (λ s st. let h = home_is rs xs m s session.space r st found in rw (h.is, other, named_none (parts_of rs) s session.space h.space st.stands h.is name none) refl)
+    (λ s st. let h = home_is rs xs m s session.space r st found in rw (h.is, other, named_none (parts_of rs) s.durable session.space h.space st.stands h.is name none) refl)
 
 -- the savepoint of the name
 pub does_goto_savepoint : (rs : List Stored) (xs : List Session) (m : ℕ) (session : Session) (name : List ℕ) (r : Space) (x : Saved) → keep_rules (parts_of rs) ≡ true → space_of (parts_of rs).spaces session.space ≡ Some r
@@ -86,5 +86,5 @@ does_goto_savepoint rs xs m session name r x rules found other some =
     does_seat rs xs m (Move session.name session.space (At x.making)) Fine (goto_savepoint session name)
     (λ s st.
     let h = home_is rs xs m s session.space r st found in
-    let k = named_some (parts_of rs) s session.space h.space st.stands h.is name x some in
+    let k = named_some (parts_of rs) s.durable session.space h.space st.stands h.is name x some in
     rw (h.is, other, k.1) (ap (λ a. standing session s session.space (At a)) (sym (ap (λ f. f.making) k.2.fields))))

@@ -16,7 +16,7 @@ use Rattle.wm_state.specs.declared.edit.Edit.{Edit}
 
 -- records, sessions and a moment stand for a state
 pub record StandsAt (records : List Stored) (sessions : List Session) (moment : ℕ) (s : State) : Type 0 where
-  pub stands : Stands (parts_of records) s
+  pub stands : Stands (parts_of records) s.durable
   pub sessions_are : sessions ≡ s.sessions
   pub moment_is : moment ≡ s.moment
 
@@ -37,7 +37,7 @@ seated sessions (Limit name period) = limited name period sessions
 
 -- the state with what a plan makes of it at a moment: its edits, what becomes of the sessions, and the moment behind it
 abbrev pub planned : ℕ → ℕ → List Edit → Seating → State → State
-planned m after edits seating s = record (drafted m edits s) { sessions = seated s.sessions seating; moment = after }
+planned m after edits seating s = record { durable = drafted m edits s.durable; sessions = seated s.sessions seating; moment = after }
 
 -- the edits of the plan may be drafted of the records, and it does and answers what a function of the state does and answers, for each state that these
 -- stand for

@@ -11,11 +11,11 @@ use Rattle.wm_model.specs.Step.Sessions.{moved_to}
 
 -- CreateSavepoint keeps what is newest in a workspace under a name
 abbrev pub save : List ℕ → State → Workspace → State × Answer
-save name s w = of (saved_at s.moment s.spaces w Latest name false)
+save name s w = of (saved_at s.moment s.durable.spaces w Latest name false)
   where
     of : Option Savepoint → State × Answer
     of None = (s, not_built)
-    of (Some k) = durably s 0 (saved w.number (w.next_place + 1) w.next_implicit k s, Fine)
+    of (Some k) = durably s 0 (record s { durable = saved w.number (w.next_place + 1) w.next_implicit k s.durable }, Fine)
 
 abbrev pub create_savepoint : List ℕ → List ℕ → State → State × Answer
 create_savepoint workspace name s = with_named s workspace (λ w.

@@ -13,19 +13,19 @@ abbrev pub bear : Stand → List ℕ → State → Workspace → State × Answer
 bear stand name s w =
     if nat_lt number_limit (place_behind w stand) then (s, at_its_end (codes "PLACE")) else
     (if nat_lt number_limit (w.next_implicit + 1) then (s, at_its_end (codes "ICP")) else
-    (if nat_lt number_limit (next_space s.spaces) then (s, at_its_end (codes "WORKSPACE")) else of (saved_at s.moment s.spaces w stand (implicit_name w) true)))
+    (if nat_lt number_limit (next_space s.durable.spaces) then (s, at_its_end (codes "WORKSPACE")) else of (saved_at s.moment s.durable.spaces w stand (implicit_name w) true)))
   where
     of : Option Savepoint → State × Answer
     of None = (s, not_built)
-    of (Some k) = durably s 0 (born s.moment w stand name k s, Fine)
+    of (Some k) = durably s 0 (record s { durable = born s.moment w stand name k s.durable }, Fine)
 
 -- CreateWorkspace makes a child of the session's workspace
 abbrev pub create_workspace : Session → List ℕ → State → State × Answer
 create_workspace session name s =
-    if is_some (workspace_named name s.spaces) then (s, workspace_there name) else
+    if is_some (workspace_named name s.durable.spaces) then (s, workspace_there name) else
     at_home s session (λ w.
     if is_some (savepoint_named (implicit_name w) w.savepoints) then (s, savepoint_there (implicit_name w)) else
-    (if nat_le 1024 (length s.spaces) then (s, most_workspaces) else
+    (if nat_le 1024 (length s.durable.spaces) then (s, most_workspaces) else
     (if nat_le 4096 (length w.savepoints) then (s, most_savepoints) else bear session.stand name s w)))
 
 -- GotoWorkspace stands the session in a workspace, at what is newest

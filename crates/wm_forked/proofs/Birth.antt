@@ -10,7 +10,7 @@ use Rattle.wm_spec.specs.declared.record.row.RowRecord.{RowRecord}
 use Rattle.wm_spec.specs.declared.record.savepoint.Savepoint.{Savepoint as Record}
 use Rattle.wm_spec.specs.declared.record.space.Space.{Space}
 use Rattle.wm_tree.specs.declared.version.Version.{Version as Node}
-use Rattle.wm_state.specs.State.{State, Workspace, Savepoint, content, kept, workspace_of, savepoint_made, savepoints_of, log_of}
+use Rattle.wm_state.specs.State.{Durable, Workspace, Savepoint, content, kept, workspace_of, savepoint_made, savepoints_of, log_of}
 use Rattle.wm_state.specs.Standing.{held_of, fields_of, fields_in, saved_fields, fields_saved, by_making, saved_in, saved_as, by_number, latest, seen, seen_above, shown, owned, newest_first, first_in, Climbs, Up, SpaceFields, HasRows, CountersStand, SpacesStand, FieldsStand, Stands, have_ends}
 use Rattle.wm_state.specs.Effects.{Born}
 use Rattle.wm_state.proofs.Tests.{bool_apart, either_false, differ_push, found_fails}
@@ -19,7 +19,7 @@ use Rattle.wm_state.proofs.FirstIn.{IsOf, ruled_of, of-less, first-itself}
 use Rattle.wm_state.proofs.Climbing.{Stays, Carries, Carried, Climbs-carried, ordered_of, parent_apart, carried, carries-more, first-sprout}
 use Rattle.wm_state.proofs.Logging.{HistsStand-frame, log_of-found, log_of-none, log_of-same, logs-kept}
 use Rattle.wm_state.proofs.Mapped.{none-found}
-use Rattle.wm_state.proofs.Sprouting.{Sprouted, seen-before, above-before, seen-sprout, above-sprout, newest-here, newest-away, newest-lower, ends-before, ends-sprout}
+use Rattle.wm_forked.proofs.Sprouting.{Sprouted, seen-before, above-before, seen-sprout, above-sprout, newest-here, newest-away, newest-lower, ends-before, ends-sprout}
 use Rattle.wm_state.proofs.Named.{saved_space, saved_there, saved_base_there, bases_there, version_there, version_below}
 
 -- the workspace that is born: its record has its fields, it has no changes and no savepoints, and it sees what its parent's version saw,
@@ -99,18 +99,18 @@ is_of before after n m child found e is = by_number (cases_eq m n)
 -- ---- the records agree with the state with the workspace more
 
 -- no workspace had the child's number
-child_none : (p : Parts) (s : State) (r : Space) → SpacesStand p s → space_of p.spaces r.number ≡ None → workspace_of s.spaces r.number ≡ None
+child_none : (p : Parts) (s : Durable) (r : Space) → SpacesStand p s → space_of p.spaces r.number ≡ None → workspace_of s.spaces r.number ≡ None
 child_none p s r stand none = map-none fields_in (workspace_of s.spaces r.number) (sym (stand.same r.number) ∙ ap (option_map fields_of) none)
 
 -- it is found by it, and every other as before
-child_found : (s t : State) (r : Space) (w : Workspace) → w.number ≡ r.number → workspace_of s.spaces r.number ≡ None → t.spaces ≡ s.spaces ++ w ∷ [] → (m : ℕ)
+child_found : (s t : Durable) (r : Space) (w : Workspace) → w.number ≡ r.number → workspace_of s.spaces r.number ≡ None → t.spaces ≡ s.spaces ++ w ∷ [] → (m : ℕ)
     → workspace_of t.spaces m ≡ cond (m == r.number) (Some w) (workspace_of s.spaces m)
 child_found s t r w number none spaces m =
     ap (λ ws. workspace_of ws m) spaces
     ∙ find_numbered (λ (v : Workspace). v.number) s.spaces w m (ap (workspace_of s.spaces) number ∙ none)
     ∙ ap (λ k. cond (m == k) (Some w) (workspace_of s.spaces m)) number
 
-pub FieldsStand-born : (p q : Parts) (s t : State) (r : Space) (number : ℕ) (w : Workspace) → Born p q r number → FieldsStand p s → fields_of r ≡ fields_in w → w.number ≡ r.number → w.savepoints ≡ []
+pub FieldsStand-born : (p q : Parts) (s t : Durable) (r : Space) (number : ℕ) (w : Workspace) → Born p q r number → FieldsStand p s → fields_of r ≡ fields_in w → w.number ≡ r.number → w.savepoints ≡ []
     → t.spaces ≡ s.spaces ++ w ∷ [] → t.tables ≡ s.tables → CountersStand q t → FieldsStand q t
 FieldsStand-born p q s t r number w b st fields number_is no_savepoints spaces tables counters = record {
   counters = counters;
@@ -161,7 +161,7 @@ FieldsStand-born p q s t r number w b st fields number_is no_savepoints spaces t
 
 -- ---- the records stand for the state with the workspace more
 
-pub Stands-born : (p q : Parts) (s t : State) (r : Space) (number : ℕ) (w : Workspace) (es : List Entry) → Born p q r number → Stands p s → IsChild p s.spaces r w es → t.spaces ≡ s.spaces ++ w ∷ [] → t.tables ≡ s.tables
+pub Stands-born : (p q : Parts) (s t : Durable) (r : Space) (number : ℕ) (w : Workspace) (es : List Entry) → Born p q r number → Stands p s → IsChild p s.spaces r w es → t.spaces ≡ s.spaces ++ w ∷ [] → t.tables ≡ s.tables
     → CountersStand q t → keep_rules q ≡ true → Stands q t
 Stands-born p q s t r number w es b st child spaces tables counters rules = record {
   rules = rules;

@@ -1,6 +1,6 @@
 -- What the batch that writes entries into the newest version of a workspace makes of the records.
 use Rattle.std.proofs.Common.{◌≡◌, ℕ, ◌+◌, ◌<◌, ◌^◌, ◌==◌, nat_lt, nat_le, Bool, true, false, List, [], ◌∷◌, map, length, Option, Some, None, is_some, refl, sym, ap, subst, ◌∙◌, arith}
-use Rattle.std.proofs.lemmas.Bool.{eq-eqb, ne_eqb}
+use Rattle.std.proofs.lemmas.Bool.{ne_eqb}
 use Rattle.std.specs.List.{list_all}
 use Rattle.std.specs.declared.alloc.Global.{Global}
 use Rattle.std.specs.declared.vec.Vec.{Vec}
@@ -19,32 +19,30 @@ use Rattle.wm_spec.specs.declared.record.space.Space.{Space}
 use Rattle.wm_spec.specs.declared.record.stored.Stored.{Stored}
 use Rattle.wm_state.specs.Batches.{AllUnder, AreDropped, is_dropped, keeps}
 use Rattle.wm_state.specs.ById.{applied}
-use Rattle.wm_state.specs.Drafts.{CanAppend, CanWork, DraftsBy, may_add}
+use Rattle.wm_state.specs.Drafts.{CanAppend, CanWork, DraftsBy}
 use Rattle.wm_state.specs.Drawing.{AreDrawn, is_clear, touched}
 use Rattle.wm_state.specs.Editing.{counter_limit, drafted_by, entry_of}
 use Rattle.wm_state.specs.Effects.{IsFree, IsLeaf}
 use Rattle.wm_state.specs.Entries.{AreStamped, hists_from, pieces_of, rows_in}
 use Rattle.wm_state.specs.Points.{moved, stepped_by}
 use Rattle.wm_state.specs.Standing.{CountersStand, latest, newest_first}
-use Rattle.wm_state.specs.State.{State}
-use Rattle.wm_state.specs.Writes.{longer_by, write_batch}
+use Rattle.wm_state.specs.State.{Durable}
+use Rattle.wm_state.specs.Writes.{write_batch}
 use Rattle.wm_state.specs.declared.edit.Edit.TheVariants as edits
 use Rattle.wm_state.specs.declared.edit.NewEntry.{NewEntry}
-use Rattle.wm_state.proofs.Added.{added_by, hists_added, pieces_added, placed_by, places_write, puts_like, puts_write, rows_added, there_apart}
 use Rattle.wm_state.proofs.ByKind.{under_found}
 use Rattle.wm_state.proofs.Counting.{CountsAs, counts_as, counts_in, in_room, moved_well, stamped_by, work_grows}
 use Rattle.wm_state.proofs.Drafted.{some_edit}
-use Rattle.wm_state.proofs.DraftedSaved.{one_space}
 use Rattle.wm_state.proofs.Growing.{same_counters}
-use Rattle.wm_state.proofs.Ids.{are_under}
-use Rattle.wm_state.proofs.Named.{space_number}
-use Rattle.wm_state.proofs.PlannedWritten.{MayWriteAll, agree_written, keep_planned, plan_written}
-use Rattle.wm_state.proofs.OthersStay.{OthersStay, away_write, changed_apart, never_dropped, others_stay, rows_stay}
+use Rattle.wm_written.proofs.Ids.{are_under}
+use Rattle.wm_state.proofs.Named.{one_space}
+use Rattle.wm_written.proofs.PlannedWritten.{MayWriteAll, agree_written, keep_planned, plan_written}
+use Rattle.wm_state.proofs.RowsStay.{away_write, row_apart, rows_stay}
 use Rattle.wm_state.proofs.Settled.{Places, PlacesApart, places_apart}
 use Rattle.wm_state.proofs.Tests.{bool_apart, both, and_true}
 use Rattle.wm_state.proofs.WorkedOn.{counted_put, first_change}
-use Rattle.wm_state.proofs.WrittenIds.{changes-write}
-use Rattle.wm_state.proofs.WrittenKept.{kept_write}
+use Rattle.wm_written.proofs.WrittenIds.{changes-write}
+use Rattle.wm_written.proofs.WrittenKept.{kept_write}
 
 -- ---- entries
 
@@ -80,7 +78,7 @@ log_room p n table a c es v =
     in_room (a.log_length + length es) (ap (λ (b : Space). nat_lt counter_limit (b.log_length + length es)) (one_space a v.can.space (sym v.there ∙ v.can.there)) ∙ v.can.short)
 
 -- what the counters of a state are once entries are written
-pub counts_on : (s : State) (m work n : ℕ) (c d : Counters) (entries : Vec NewEntry Global) → CountsAs c s → d.next_stamp ≡ c.next_stamp + length (entries_in entries) → d.last_moment ≡ m → d.limit ≡ c.limit → d.work ≡ c.work + work
+pub counts_on : (s : Durable) (m work n : ℕ) (c d : Counters) (entries : Vec NewEntry Global) → CountsAs c s → d.next_stamp ≡ c.next_stamp + length (entries_in entries) → d.last_moment ≡ m → d.limit ≡ c.limit → d.work ≡ c.work + work
     → (q : Parts) → q.counters ≡ d ∷ [] → CountersStand q (drafted_by work m (edits.Append n entries ∷ []) s)
 counts_on s m work n c d entries counts stamp moment limit more q one = record {
   counters = d;
@@ -169,19 +167,10 @@ drafts_written rs m work n table entries a c counters_id space_id ids id drawn r
   fields = λ s st.
       agree_written rs counters_id space_id c d a ids id n table es drawn s (drafted_by work m (edits.Append n entries ∷ []) s) rules st at.sorted at.counters at.space r.gone at.under may r.are refl refl
       (counts_on s m work n c d entries (counts_in (parts_of rs) s c st.counters v.one) refl refl refl refl);
-  others = others;
-  rows = rows_stay (edits.Append n entries ∷ []) rs batch others;
-  added = added_by (edits.Append n entries) rs batch at.sorted
-      (λ k none.
-      puts_write (may_add (parts_of rs) (edits.Append n entries)) k counters_id space_id id (length es) d a ids (rows_in es) drawn (hists_from a.number a.log_length es)
-      (there_apart rs counters_id k (records.Counters c) at.counters none) (there_apart rs space_id k (records.Space a) at.space none)
-      (rows_added (parts_of rs) n entries) (pieces_added (parts_of rs) n entries (parts_of rs).pieces drawn r.are)
-      (hists_added (parts_of rs) n a.number a.log_length entries es (space_number (parts_of rs) n a v.there)));
-  placed = placed_by (edits.Append n entries ∷ []) rs batch at.sorted
+  rows = rows_stay rs batch
       (λ k q found.
-      places_write k counters_id space_id id (length es) d a ids (rows_in es) drawn (hists_from a.number a.log_length es) q
-      (puts_like rs counters_id k (records.Counters c) q (records.Counters d) at.counters found refl)
-      (puts_like rs space_id k (records.Space a) q (records.Space (longer_by (length es) a)) at.space found (eq-eqb a.number a.number refl)) (under_found id rs k q at.under found));
+      away_write k counters_id space_id id (length es) d a ids (rows_in es) drawn (hists_from a.number a.log_length es) (row_apart rs counters_id k (records.Counters c) q at.counters refl found)
+      (row_apart rs space_id k (records.Space a) q at.space refl found) (r.gone k (records.Row q) found) (under_found id rs k (records.Row q) at.under found));
   kept = kept_write (latest (parts_of rs) n) es (parts_of rs).pieces drawn counters_id space_id id a.number a.log_length d a ids v.can.kept r.are;
   counted = λ some. counted_put rs work counters_id c d batch at.sorted v.one once (first_change counters_id _ _) keeps refl;
   nothing = some_edit (edits.Append n entries) [] (write_batch counters_id d space_id a (length es) ids id (rows_in es) drawn (hists_from a.number a.log_length es));
@@ -199,13 +188,6 @@ drafts_written rs m work n table entries a c counters_id space_id ids id drawn r
 
     batch : List Change
     batch = write_batch counters_id d space_id a (length es) ids id (rows_in es) drawn (hists_from a.number a.log_length es)
-
-    others : OthersStay (edits.Append n entries ∷ []) rs batch
-    others = others_stay (edits.Append n entries) rs batch
-        (λ k q found fixed.
-        away_write k counters_id space_id id (length es) d a ids (rows_in es) drawn (hists_from a.number a.log_length es) (changed_apart (edits.Append n entries) rs counters_id k (records.Counters c) q at.counters refl found fixed)
-        (changed_apart (edits.Append n entries) rs space_id k (records.Space a) q at.space (eq-eqb a.number n (space_number (parts_of rs) n a v.there)) found fixed)
-        (r.gone k q found ∙ never_dropped (latest (parts_of rs) n) n entries q fixed) (under_found id rs k q at.under found))
 
     keeps : keep_rules (parts_of (applied batch rs)) ≡ true
     keeps = keep_planned rs counters_id space_id c d a ids id n table es drawn rules at.sorted at.counters at.space r.gone at.under may r.are

@@ -14,13 +14,13 @@ use Rattle.wm_state.specs.ById.{applied}
 use Rattle.wm_state.specs.Drafts.{CanDraft, CanSave, CanWork, DraftsBy}
 use Rattle.wm_state.specs.Editing.{drafted_by, line_work, number_limit}
 use Rattle.wm_state.specs.Standing.{FieldsStand, SpaceFields, saved_in}
-use Rattle.wm_state.specs.State.{Savepoint, State, Workspace, next_making, with_savepoint, with_space, workspace_of}
+use Rattle.wm_state.specs.State.{Savepoint, Durable, Workspace, next_making, with_savepoint, with_space, workspace_of}
 use Rattle.wm_state.specs.declared.edit.Edit.TheVariants as edits
-use Rattle.wm_state.proofs.DraftedSaved.{saved_so}
+use Rattle.wm_forked.proofs.DraftedSaved.{saved_so}
 use Rattle.wm_state.proofs.FieldsThere.{fields_there}
 use Rattle.wm_state.proofs.Mapped.{find-skip}
 use Rattle.wm_state.proofs.SavedAs.{passed_none, saved_count_there, unpassed}
-use Rattle.wm_state.proofs.Saving.{has_savepoint}
+use Rattle.wm_forked.proofs.Saving.{has_savepoint}
 use Rattle.wm_state.proofs.Spaces.{IsSpace, RecordIs, SpaceIs, record_there, space_there}
 
 -- places are left for two, so one is left behind one
@@ -32,7 +32,7 @@ few_left : (i j : ℕ) → j ≡ i + 1 → nat_le 4095 i ≡ false → nat_le 40
 few_left i j same few = grind (arith, same, few)
 
 -- a savepoint of another name may be made where records agree with a state before, and others with one that has a savepoint more
-can_save_behind : (p q : Parts) (s u : State) (n implicit : ℕ) (b : List ℕ) (r : Space) (w : Workspace) (k : Savepoint) → FieldsStand p s → IsSpace p s n r w → find (λ (x : Record). bytes_eq b x.name) (saved_in p n) ≡ None
+can_save_behind : (p q : Parts) (s u : Durable) (n implicit : ℕ) (b : List ℕ) (r : Space) (w : Workspace) (k : Savepoint) → FieldsStand p s → IsSpace p s n r w → find (λ (x : Record). bytes_eq b x.name) (saved_in p n) ≡ None
     → is_short b ≡ true → bytes_eq b k.name ≡ false → nat_lt number_limit (r.next_place + 2) ≡ false → nat_le 4095 (count_by (λ (x : Record). x.space == n) p.savepoints) ≡ false
     → FieldsStand q u → workspace_of u.spaces n ≡ Some (with_savepoint (w.next_place + 1) implicit k w) → CanSave q n b
 can_save_behind p q s u n implicit b r w k st is none short other left few after found = record {
@@ -68,14 +68,14 @@ pub can_save_next : (rs : List Stored) (m work n : ℕ) (a b : List ℕ) (cs : L
     → CanSave (parts_of (applied cs rs)) n b
 can_save_next rs m work n a b cs rules can other left few drafts = by_state (fields_there (parts_of rs) rules)
   where
-    by_state : ((s : State) × FieldsStand (parts_of rs) s) → CanSave (parts_of (applied cs rs)) n b
+    by_state : ((s : Durable) × FieldsStand (parts_of rs) s) → CanSave (parts_of (applied cs rs)) n b
     by_state (s, st) = by_space (space_there (parts_of rs) s n can.space st.spaces can.there)
       where
         by_space : SpaceIs (parts_of rs) s n can.space → CanSave (parts_of (applied cs rs)) n b
         by_space h =
             can_save_behind (parts_of rs) (parts_of (applied cs rs)) s (drafted_by work m (edits.Save n a ∷ []) s) n h.workspace.next_implicit b can.space h.workspace k st h.is
             (ap (λ i. find (λ (x : Record). bytes_eq b x.name) (saved_in (parts_of rs) i)) (sym h.is.record_number) ∙ can.room.new) can.short other left few (drafts.fields s st)
-            (ap (λ (t : State). workspace_of t.spaces n) (saved_so m n a s h.workspace k h.is.found refl)
+            (ap (λ (t : Durable). workspace_of t.spaces n) (saved_so m n a s h.workspace k h.is.found refl)
             ∙ ap (λ i. workspace_of (with_space i (with_savepoint (h.workspace.next_place + 1) h.workspace.next_implicit k) s.spaces) n) h.is.number
             ∙ has_savepoint n (h.workspace.next_place + 1) h.workspace.next_implicit k s.spaces h.workspace h.is.found)
           where

@@ -15,8 +15,8 @@ use Rattle.wm_state.specs.ById.{set_at, applied}
 use Rattle.wm_state.specs.Drafts.{ChangesFew, DraftsBy, FewChanges, is_fork}
 use Rattle.wm_state.specs.Effects.{marked}
 use Rattle.wm_state.specs.declared.edit.Edit.{Edit}
-use Rattle.wm_state.proofs.PlannedSaved.{SavedParts, parts-saved, more_space, more_version, AllUnder-more, AllUnder-saved}
-use Rattle.wm_state.proofs.OthersStay.{away_outside, stays}
+use Rattle.wm_forked.proofs.PlannedSaved.{SavedParts, parts-saved, more_space, more_version, AllUnder-more, AllUnder-saved}
+use Rattle.wm_state.proofs.RowsStay.{away_outside, stays}
 use Rattle.wm_state.proofs.Settled.{Places}
 
 -- the parts that no fork changes

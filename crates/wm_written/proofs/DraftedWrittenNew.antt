@@ -1,5 +1,5 @@
 -- What the batch that writes entries into a version more of a workspace makes of the records.
-use Rattle.std.proofs.Common.{◌≡◌, ℕ, ◌+◌, ◌<◌, ◌≤◌, ◌==◌, ◌||◌, Bool, true, false, List, [], ◌∷◌, length, Option, Some, None, is_some, refl, sym, ap, subst, ◌∙◌, arith}
+use Rattle.std.proofs.Common.{◌≡◌, ℕ, ◌+◌, ◌<◌, ◌≤◌, ◌||◌, Bool, true, false, List, [], ◌∷◌, length, Option, Some, None, is_some, refl, sym, ap, subst, ◌∙◌, arith}
 use Rattle.std.proofs.lemmas.Bool.{eq-eqb}
 use Rattle.std.specs.List.{list_all}
 use Rattle.std.specs.declared.alloc.Global.{Global}
@@ -17,31 +17,28 @@ use Rattle.wm_spec.specs.declared.record.space.Space.{Space}
 use Rattle.wm_spec.specs.declared.record.stored.Stored.{Stored}
 use Rattle.wm_spec.specs.declared.record.version.Version.{Version}
 use Rattle.wm_state.specs.Batches.{AreDropped, is_dropped, keeps}
-use Rattle.wm_state.specs.Drafts.{CanWork, DraftsBy, is_next_version, may_add}
+use Rattle.wm_state.specs.Drafts.{CanWork, DraftsBy}
 use Rattle.wm_state.specs.Drawing.{AreDrawn, is_clear}
 use Rattle.wm_state.specs.Editing.{drafted_by}
 use Rattle.wm_state.specs.Entries.{hists_from, pieces_of, rows_in}
 use Rattle.wm_state.specs.Points.{next_version, stepped_new_by, versioned}
-use Rattle.wm_state.specs.Standing.{latest}
 use Rattle.wm_state.specs.ById.{applied}
-use Rattle.wm_state.specs.Writes.{longer_by, write_new_batch}
+use Rattle.wm_state.specs.Writes.{write_new_batch}
 use Rattle.wm_state.specs.declared.edit.Edit.TheVariants as edits
 use Rattle.wm_state.specs.declared.edit.NewEntry.{NewEntry}
-use Rattle.wm_state.proofs.Added.{added_by, hists_added, next_there, pieces_added_new, placed_by, places_write, puts_like, puts_write, rows_added, there_apart}
 use Rattle.wm_state.proofs.ByKind.{under_found}
 use Rattle.wm_state.proofs.Counting.{counts_as, counts_in, stamped_by, version_well, work_grows}
 use Rattle.wm_state.proofs.Drafted.{some_edit}
-use Rattle.wm_state.proofs.DraftedWritten.{Appends, Redrawn, counts_on, entries_in, log_room, stamps_left}
+use Rattle.wm_written.proofs.DraftedWritten.{Appends, Redrawn, counts_on, entries_in, log_room, stamps_left}
 use Rattle.wm_state.proofs.Growing.{MayFork}
-use Rattle.wm_state.proofs.Named.{space_number}
-use Rattle.wm_state.proofs.PlannedMore.{MayWriteMore, Stage, agree_written_new, all_stay, none_goes, keep_planned_new, plan_written_new}
+use Rattle.wm_written.proofs.PlannedMore.{MayWriteMore, Stage, agree_written_new, all_stay, none_goes, keep_planned_new, plan_written_new}
 use Rattle.wm_state.proofs.Planning.{piece_found}
-use Rattle.wm_state.proofs.OthersStay.{OthersStay, away_write, below_apart, changed_apart, new_apart, others_stay, rows_stay}
+use Rattle.wm_state.proofs.RowsStay.{away_write, below_apart, new_apart, row_apart, rows_stay}
 use Rattle.wm_state.proofs.Settled.{Places, PlacesApart, places_apart}
-use Rattle.wm_state.proofs.Tests.{and_true, bool_apart, both, not_true}
+use Rattle.wm_state.proofs.Tests.{bool_apart, both, not_true}
 use Rattle.wm_state.proofs.WorkedOn.{counted_put, second_change}
-use Rattle.wm_state.proofs.WrittenIds.{changes-write_new}
-use Rattle.wm_state.proofs.WrittenKept.{kept_write_new}
+use Rattle.wm_written.proofs.WrittenIds.{changes-write_new}
+use Rattle.wm_written.proofs.WrittenKept.{kept_write_new}
 
 -- ---- nothing is there yet
 
@@ -129,22 +126,11 @@ drafts_written_new rs m work n table entries a c counters_id space_id id drawn r
   fields = λ s st.
       agree_written_new rs counters_id space_id id c (versioned c m work) d n a w table es drawn s (drafted_by work m (edits.Append n entries ∷ []) s) rules st stage may are refl refl
       (counts_on s m work n c d entries (counts_in (parts_of rs) s c st.counters v.one) refl refl refl refl);
-  others = others;
-  rows = rows_stay (edits.Append n entries ∷ []) rs batch others;
-  added = added_by (edits.Append n entries) rs batch at.sorted
-      (λ k none. (
-        λ same. and_true (is_next_version (parts_of rs) c.next_version) _ (next_there (parts_of rs) c v.one) (and_true (n == n) _ (eq-eqb n n refl) (eq-eqb (latest (parts_of rs) n) (latest (parts_of rs) n) refl)),
-        puts_write (may_add (parts_of rs) (edits.Append n entries)) k counters_id space_id (id + 1) (length es) d a [] (rows_in es) drawn (hists_from a.number a.log_length es)
-            (there_apart rs counters_id k (records.Counters c) at.counters none) (there_apart rs space_id k (records.Space a) at.space none)
-            (rows_added (parts_of rs) n entries) (pieces_added_new (parts_of rs) n c.next_version entries drawn (next_there (parts_of rs) c v.one) are)
-            (hists_added (parts_of rs) n a.number a.log_length entries es (space_number (parts_of rs) n a v.there)),
-      ));
-  placed = placed_by (edits.Append n entries ∷ []) rs batch at.sorted
+  rows = rows_stay rs batch
       (λ k q found. (
-        λ same. absurd (new_apart rs id k q at.under found same),
-        places_write k counters_id space_id (id + 1) (length es) d a [] (rows_in es) drawn (hists_from a.number a.log_length es) q
-            (puts_like rs counters_id k (records.Counters c) q (records.Counters d) at.counters found refl)
-            (puts_like rs space_id k (records.Space a) q (records.Space (longer_by (length es) a)) at.space found (eq-eqb a.number a.number refl)) (behind k (under_found id rs k q at.under found)),
+        new_apart rs id k q at.under found,
+        away_write k counters_id space_id (id + 1) (length es) d a [] (rows_in es) drawn (hists_from a.number a.log_length es) (row_apart rs counters_id k (records.Counters c) q at.counters refl found)
+            (row_apart rs space_id k (records.Space a) q at.space refl found) refl (behind k (under_found id rs k (records.Row q) at.under found)),
       ));
   kept = kept_write_new es drawn counters_id space_id id a.number a.log_length d a w v.can.kept are;
   counted = λ some. counted_put rs work counters_id c d batch at.sorted v.one once (second_change id counters_id _ _ _ (λ same. below_apart counters_id id apart.counters same)) keeps refl;
@@ -175,15 +161,6 @@ drafts_written_new rs m work n table entries a c counters_id space_id id drawn r
 
     batch : List Change
     batch = write_new_batch counters_id d space_id a (length es) id w (rows_in es) drawn (hists_from a.number a.log_length es)
-
-    others : OthersStay (edits.Append n entries ∷ []) rs batch
-    others = others_stay (edits.Append n entries) rs batch
-        (λ k q found fixed. (
-          new_apart rs id k q at.under found,
-          away_write k counters_id space_id (id + 1) (length es) d a [] (rows_in es) drawn (hists_from a.number a.log_length es)
-              (changed_apart (edits.Append n entries) rs counters_id k (records.Counters c) q at.counters refl found fixed)
-              (changed_apart (edits.Append n entries) rs space_id k (records.Space a) q at.space (eq-eqb a.number n (space_number (parts_of rs) n a v.there)) found fixed) refl (behind k (under_found id rs k q at.under found)),
-        ))
 
     keeps : keep_rules (parts_of (applied batch rs)) ≡ true
     keeps = keep_planned_new rs counters_id space_id id c (versioned c m work) d n a w table es drawn rules stage may are

@@ -9,17 +9,17 @@ use Rattle.wm_spec.specs.declared.record.counters.Counters.{Counters}
 use Rattle.wm_spec.specs.declared.record.savepoint.Savepoint.{Savepoint}
 use Rattle.wm_spec.specs.declared.record.space.Space.{Space}
 use Rattle.wm_spec.specs.declared.record.version.Version.{Version}
-use Rattle.wm_state.specs.State.{State, Workspace, kept, workspace_of, with_space, with_savepoint}
+use Rattle.wm_state.specs.State.{Durable, Workspace, kept, workspace_of, with_space, with_savepoint}
 use Rattle.wm_state.specs.State.{Savepoint as Kept}
 use Rattle.wm_state.specs.Standing.{fields_of, fields_in, saved_fields, fields_saved, seen, Climbs, CountersStand, FieldsStand, Stands}
 use Rattle.wm_state.specs.Effects.{marked}
 use Rattle.wm_state.proofs.Tests.{all_swap, all_middle, any_swap}
 use Rattle.wm_state.proofs.Keeping.{SpaceStill, KeepSpaces-swap, le_itself, le_of}
 use Rattle.wm_state.proofs.Climbing.{Climbs-same, stays-changed}
-use Rattle.wm_state.proofs.Saving.{IsKept}
-use Rattle.wm_state.proofs.KeepSaved.{saved, MaySave, keep-saved, FieldsStand-kept, Stands-kept}
-use Rattle.wm_state.proofs.Birth.{IsChild, FieldsStand-born, Stands-born}
-use Rattle.wm_state.proofs.KeepBorn.{born, MayBear, keep-born, born_of}
+use Rattle.wm_forked.proofs.Saving.{IsKept}
+use Rattle.wm_forked.proofs.KeepSaved.{saved, MaySave, keep-saved, FieldsStand-kept, Stands-kept}
+use Rattle.wm_forked.proofs.Birth.{IsChild, FieldsStand-born, Stands-born}
+use Rattle.wm_forked.proofs.KeepBorn.{born, MayBear, keep-born, born_of}
 
 -- the counters between, which nobody sees: those of after, before a version was added
 abbrev pub between : Counters → Counters → Counters
@@ -91,7 +91,7 @@ keep-birth p old new front a back place implicit x b r v save bear e =
     (keep-saved p old (between old new) front a back place implicit x save e)
 
 -- and they agree with the state with both
-pub FieldsStand-birth : (p : Parts) (old new : Counters) (front : List Space) (a : Space) (back : List Space) (place implicit : ℕ) (x : Savepoint) (b r : Space) (v : Version) (parent child : Workspace) (k : Kept) (s t : State)
+pub FieldsStand-birth : (p : Parts) (old new : Counters) (front : List Space) (a : Space) (back : List Space) (place implicit : ℕ) (x : Savepoint) (b r : Space) (v : Version) (parent child : Workspace) (k : Kept) (s t : Durable)
     → keep_rules p ≡ true → FieldsStand p s → MaySave p old (between old new) front a back place implicit x → MayBear p old new b r v → workspace_of s.spaces x.space ≡ Some parent → saved_fields x ≡ fields_saved k
     → fields_of r ≡ fields_in child → child.number ≡ r.number → child.savepoints ≡ [] → t.spaces ≡ with_space x.space (with_savepoint place implicit k) s.spaces ++ child ∷ [] → t.tables ≡ s.tables
     → CountersStand (birthed p old new front a back place implicit x r v) t → FieldsStand (birthed p old new front a back place implicit x r v) t
@@ -109,11 +109,11 @@ FieldsStand-birth p old new front a back place implicit x b r v parent child k s
     still = parent_still p old (between old new) front a back place implicit x save r.parent b bear.parent
 
     -- the state between, which nobody sees
-    mid : State
+    mid : Durable
     mid = record s { spaces = with_space x.space (with_savepoint place implicit k) s.spaces; next_stamp = new.next_stamp; last_moment = new.last_moment; limit = new.limit; work = new.work }
 
 -- and they stand for it
-pub Stands-birth : (p : Parts) (old new : Counters) (front : List Space) (a : Space) (back : List Space) (place implicit : ℕ) (x : Savepoint) (b r : Space) (v : Version) (parent child : Workspace) (k : Kept) (es : List Entry) (s t : State)
+pub Stands-birth : (p : Parts) (old new : Counters) (front : List Space) (a : Space) (back : List Space) (place implicit : ℕ) (x : Savepoint) (b r : Space) (v : Version) (parent child : Workspace) (k : Kept) (es : List Entry) (s t : Durable)
     → Stands p s → MaySave p old (between old new) front a back place implicit x → MayBear p old new b r v → workspace_of s.spaces x.space ≡ Some parent → IsKept p s.spaces parent k x → IsChild p s.spaces r child es
     → t.spaces ≡ with_space x.space (with_savepoint place implicit k) s.spaces ++ child ∷ [] → t.tables ≡ s.tables → CountersStand (birthed p old new front a back place implicit x r v) t
     → Stands (birthed p old new front a back place implicit x r v) t
@@ -146,7 +146,7 @@ Stands-birth p old new front a back place implicit x b r v parent child k es s t
     may = may_bear p old new front a back place implicit x b r v save bear
 
     -- the state between, which nobody sees
-    mid : State
+    mid : Durable
     mid = record s { spaces = with_space x.space (with_savepoint place implicit k) s.spaces; next_stamp = new.next_stamp; last_moment = new.last_moment; limit = new.limit; work = new.work }
 
 -- a workspace that is born where the savepoint is sees what the savepoint keeps

@@ -11,8 +11,8 @@ use Rattle.wm_spec.specs.declared.record.version.Version.{Version}
 use Rattle.wm_state.specs.ById.{Ascend, set_at, applied}
 use Rattle.wm_state.specs.Batches.{AllUnder, put}
 use Rattle.wm_state.proofs.Planned.{counted, AllUnder-set}
-use Rattle.wm_state.proofs.PlannedSaved.{more_space, more_version, AllUnder-more}
-use Rattle.wm_state.proofs.KeepBorn.{born}
+use Rattle.wm_forked.proofs.PlannedSaved.{more_space, more_version, AllUnder-more}
+use Rattle.wm_forked.proofs.KeepBorn.{born}
 
 -- the second half of a birth: a workspace more, and a version of its own
 abbrev pub child_batch : ℕ → Counters → ℕ → Space → Version → List Change

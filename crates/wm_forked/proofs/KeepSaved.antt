@@ -1,5 +1,5 @@
 -- The records with a savepoint more.
-use Rattle.std.proofs.Common.{◌≡◌, ◌≢◌, ℕ, ◌+◌, ◌^◌, ◌≤◌, ◌<◌, ◌==◌, nat_lt, nat_le, max, Bool, true, false, ◌&&◌, cond, if◌then◌else◌, List, [], ◌∷◌, ◌++◌, Option, Some, None, refl, sym, ap, ◌∙◌, ◌⊎◌, inl, inr, length, length-append, arith}
+use Rattle.std.proofs.Common.{◌≡◌, ◌≢◌, ℕ, ◌+◌, ◌^◌, ◌≤◌, ◌==◌, nat_lt, nat_le, Bool, true, false, ◌&&◌, cond, if◌then◌else◌, List, [], ◌∷◌, ◌++◌, Option, Some, None, refl, sym, ap, ◌∙◌, ◌⊎◌, inl, inr, length, length-append, arith}
 use Rattle.std.proofs.lemmas.Bool.{cases_eq, eq-eqb, ne_eqb}
 use Rattle.std.proofs.lemmas.List.Elements.{filter-append}
 use Rattle.std.proofs.lemmas.List.Sums.{length-filter}
@@ -12,18 +12,19 @@ use Rattle.wm_graph.specs.Rules.{keep_rules, are_counters, are_spaces, is_space,
 use Rattle.wm_spec.specs.declared.record.counters.Counters.{Counters}
 use Rattle.wm_spec.specs.declared.record.savepoint.Savepoint.{Savepoint}
 use Rattle.wm_spec.specs.declared.record.space.Space.{Space}
-use Rattle.wm_state.specs.State.{State, Workspace, workspace_of, with_space, with_savepoint}
+use Rattle.wm_state.specs.State.{Durable, Workspace, workspace_of, with_space, with_savepoint}
 use Rattle.wm_state.specs.State.{Savepoint as Kept}
 use Rattle.wm_state.specs.Standing.{latest, saved_as, saved_fields, fields_saved, CountersStand, FieldsStand, Stands}
 use Rattle.wm_state.specs.Effects.{Saved, marked}
 use Rattle.wm_state.proofs.Apart.{ruled, keeps_all, ruled_versions, newest_record, found-passes}
+use Rattle.wm_state.proofs.Growing.{same_counters}
 use Rattle.wm_state.proofs.Making.{same_making}
 use Rattle.wm_state.proofs.Mapped.{any-if, none-found}
 use Rattle.wm_state.proofs.Keeping.{KeepSpaces, le_itself, le_of, KeepTables-same, KeepSpaces-swap, KeepVersions-same, KeepRows-same, is_savepoint-kept, are_hists-kept}
 use Rattle.wm_state.proofs.Respaced.{MayReplace, spaces_replaced, versions_replaced, space_here, space_elsewhere}
 use Rattle.wm_state.proofs.Named.{ruled_savepoints, space_number, saved_there}
 use Rattle.wm_state.proofs.SavedAs.{named_as}
-use Rattle.wm_state.proofs.Saving.{IsKept, FieldsStand-saved, Stands-saved}
+use Rattle.wm_forked.proofs.Saving.{IsKept, FieldsStand-saved, Stands-saved}
 use Rattle.wm_state.proofs.Tests.{bool_apart, both, and_true, all_if, all_push, all_swap, all_middle, differ_push, none_if}
 
 -- the records with a savepoint more of a workspace, whose record has counted it, and other counters
@@ -153,12 +154,6 @@ savepoints_kept p old new front a back place implicit x may spaces e =
 
 -- ---- all rules
 
-same_counters : (p : Parts) (old c : Counters) → p.counters ≡ old ∷ [] → p.counters ≡ c ∷ [] → c ≡ old
-same_counters p old c one is = first_same c old (sym is ∙ one)
-  where
-    first_same : (b d : Counters) → (b ∷ []) ≡ (d ∷ []) → b ≡ d
-    first_same b d h = cc
-
 pub keep-saved : (p : Parts) (old new : Counters) (front : List Space) (a : Space) (back : List Space) (place implicit : ℕ) (x : Savepoint) → MaySave p old new front a back place implicit x → keep_rules p ≡ true
     → keep_rules (saved p new front a back place implicit x) ≡ true
 keep-saved p old new front a back place implicit x may e =
@@ -202,14 +197,14 @@ saved_of p old new front a back place implicit x may e = record {
     away m other same = bool_apart (sym (eq-eqb m x.space (sym same ∙ may.space)) ∙ other)
 
 -- the records agree with the state with the savepoint
-pub FieldsStand-kept : (p : Parts) (old new : Counters) (front : List Space) (a : Space) (back : List Space) (place implicit : ℕ) (x : Savepoint) (w : Workspace) (k : Kept) (s t : State) → keep_rules p ≡ true → FieldsStand p s
+pub FieldsStand-kept : (p : Parts) (old new : Counters) (front : List Space) (a : Space) (back : List Space) (place implicit : ℕ) (x : Savepoint) (w : Workspace) (k : Kept) (s t : Durable) → keep_rules p ≡ true → FieldsStand p s
     → MaySave p old new front a back place implicit x → workspace_of s.spaces x.space ≡ Some w → saved_fields x ≡ fields_saved k → t.spaces ≡ with_space x.space (with_savepoint place implicit k) s.spaces → t.tables ≡ s.tables
     → CountersStand (saved p new front a back place implicit x) t → FieldsStand (saved p new front a back place implicit x) t
 FieldsStand-kept p old new front a back place implicit x w k s t rules st may found fields spaces tables counters =
     FieldsStand-saved p (saved p new front a back place implicit x) s t x.space place implicit w k x (saved_of p old new front a back place implicit x may rules) st found fields spaces tables counters
 
 -- the records stand for the state with the savepoint
-pub Stands-kept : (p : Parts) (old new : Counters) (front : List Space) (a : Space) (back : List Space) (place implicit : ℕ) (x : Savepoint) (w : Workspace) (k : Kept) (s t : State) → Stands p s → MaySave p old new front a back place implicit x
+pub Stands-kept : (p : Parts) (old new : Counters) (front : List Space) (a : Space) (back : List Space) (place implicit : ℕ) (x : Savepoint) (w : Workspace) (k : Kept) (s t : Durable) → Stands p s → MaySave p old new front a back place implicit x
     → workspace_of s.spaces x.space ≡ Some w → IsKept p s.spaces w k x → t.spaces ≡ with_space x.space (with_savepoint place implicit k) s.spaces → t.tables ≡ s.tables → CountersStand (saved p new front a back place implicit x) t
     → Stands (saved p new front a back place implicit x) t
 Stands-kept p old new front a back place implicit x w k s t st may found kept spaces tables counters =
@@ -256,40 +251,3 @@ saved_in_space p n making a y rules found recorded =
   where
     some_space : (b c : Space) → Some b ≡ Some c → b ≡ c
     some_space b c h = cc
-
--- ---- the making of the next savepoint
-
--- the greatest making, 0 where there is no savepoint
-abbrev pub greatest_making : List Savepoint → ℕ
-greatest_making [] = 0
-greatest_making (x ∷ xs) = max x.making (greatest_making xs)
-
--- all savepoints were made before the one of a greater making
-pub made_before : (xs : List Savepoint) (making : ℕ) → greatest_making xs < making → list_all (λ (y : Savepoint). nat_lt y.making making) xs ≡ true
-made_before [] making lt = refl
-made_before (x ∷ xs) making lt = and_true (nat_lt x.making making) _ (first x.making (greatest_making xs) making lt) (made_before xs making (others x.making (greatest_making xs) making lt))
-  where
-    first : (a b c : ℕ) → max a b < c → nat_lt a c ≡ true
-    first a b c lt = grind (arith, lt)
-
-    others : (a b c : ℕ) → max a b < c → b < c
-    others a b c lt = omega (arith, lt)
-
-greatest_under : (xs : List Savepoint) (n : ℕ) → list_all (λ (y : Savepoint). nat_le y.making n) xs ≡ true → greatest_making xs ≤ n
-greatest_under [] n all = omega arith
-greatest_under (x ∷ xs) n all =
-    let h = both (nat_le x.making n) (list_all (λ (y : Savepoint). nat_le y.making n) xs) all in
-    greater x.making (greatest_making xs) n h.0 (greatest_under xs n h.1)
-  where
-    greater : (a b c : ℕ) → nat_le a c ≡ true → b ≤ c → max a b ≤ c
-    greater a b c le also = grind (arith, le, also)
-
--- no making is above what the work allows
-pub greatest_room : (p : Parts) (old : Counters) → keep_rules p ≡ true → p.counters ≡ old ∷ [] → greatest_making p.savepoints ≤ old.work + 2
-greatest_room p old rules one =
-    let r = ruled p rules in
-    let same : r.counters ≡ old = same_counters p old r.counters one r.one in
-    greatest_under p.savepoints (old.work + 2)
-    (all_if (is_savepoint (space_of p.spaces) (version_of p.versions) old.work) (λ (y : Savepoint). nat_le y.making (old.work + 2))
-    (λ y is. (both (is_short y.name) (nat_le y.making (old.work + 2)) (both (is_short y.name && nat_le y.making (old.work + 2)) _ is).0).1) p.savepoints
-    (ap (λ (c : Counters). list_all (is_savepoint (space_of p.spaces) (version_of p.versions) c.work) p.savepoints) (sym same) ∙ (ruled_savepoints p r.counters.work r.savepoints).each))

@@ -10,12 +10,12 @@ use Rattle.wm_state.specs.Batches.{is_in, is_out}
 use Rattle.wm_state.specs.Drawing.{AreDrawn, has_moments, is_clear, left_by, stored_last, touched}
 use Rattle.wm_state.specs.Standing.{stored_at}
 use Rattle.wm_state.proofs.Appending.{all_append, all_kept, differ_append}
-use Rattle.wm_state.proofs.Drawing.{all_apart, drawn-more, drawn-over, drawn-same}
-use Rattle.wm_state.proofs.DrawingApart.{part_apart_all}
+use Rattle.wm_written.proofs.Drawing.{all_apart, drawn-more, drawn-over, drawn-same}
+use Rattle.wm_written.proofs.DrawingApart.{part_apart_all}
 use Rattle.wm_state.proofs.DrawingEnds.{ends-more, ends-of, has_both, more-behind, more-both, more-front}
 use Rattle.wm_state.proofs.Laying.{stored-append}
 use Rattle.wm_state.proofs.Tests.{both, bool_apart, differ_filter, not_true}
-use Rattle.wm_state.proofs.Touched.{AreApart, are-turned, clear-append, clear-apart, either-held, either-pass, filters-apart, met-place, touched-all}
+use Rattle.wm_written.proofs.Touched.{AreApart, are-turned, clear-append, clear-apart, either-held, either-pass, filters-apart, met-place, touched-all}
 
 -- ---- pieces beside those that are drawn
 

@@ -15,7 +15,7 @@ use Rattle.wm_state.specs.Batches.{is_in}
 use Rattle.wm_state.specs.Drawing.{is_clear, stored_last, touched}
 use Rattle.wm_state.specs.Standing.{covers_at, held_by, stored_at}
 use Rattle.wm_state.proofs.Appending.{all_append, all_kept}
-use Rattle.wm_state.proofs.DrawingHeld.{met_there, place_of, turned}
+use Rattle.wm_written.proofs.DrawingHeld.{met_there, place_of, turned}
 use Rattle.wm_state.proofs.Laying.{false_if, key_itself, key_same, stored-append}
 use Rattle.wm_state.proofs.Tests.{all_if, and_true, any_filter, bool_apart, both, either_false, none_if, not_true}
 

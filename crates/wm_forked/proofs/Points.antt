@@ -11,25 +11,14 @@ use Rattle.wm_spec.specs.declared.record.savepoint.Savepoint.{Savepoint as Recor
 use Rattle.wm_spec.specs.declared.record.space.Space.{Space}
 use Rattle.wm_state.specs.Editing.{counter_limit, place_behind, saved_at}
 use Rattle.wm_state.specs.Points.{HasRoom, Point, made_at, moved, newest_point, next_place_at, point_at, saved_point}
-use Rattle.wm_state.specs.State.{State, Workspace, Savepoint, Stand, Latest, At, next_making, savepoint_made, savepoint_named}
+use Rattle.wm_state.specs.State.{Durable, Workspace, Savepoint, Stand, Latest, At, next_making, savepoint_made, savepoint_named}
 use Rattle.wm_state.specs.Standing.{SpaceFields, SavepointFields, fields_of, fields_in, saved_fields, fields_saved, saved_in, saved_as, making_behind, OnceStand, SavepointsStand, FieldsStand, Stands}
 use Rattle.wm_state.proofs.Counting.{counted_well, counters_move}
-use Rattle.wm_state.proofs.KeepSaved.{MaySave, version_latest, base_latest, saved_in_space, unnamed_if}
+use Rattle.wm_forked.proofs.KeepSaved.{MaySave, version_latest, base_latest, saved_in_space, unnamed_if}
 use Rattle.wm_state.proofs.SavedAs.{IsSaved, named_sorted, named_some, named_none, made_some, made_some_there, made_none, saved_count}
-use Rattle.wm_state.proofs.Saving.{IsKept, kept_latest, kept_again}
+use Rattle.wm_forked.proofs.Saving.{IsKept, kept_latest, kept_again}
 use Rattle.wm_state.proofs.Spaces.{IsSpace, next_making_there, makings_under, making_behind_room}
 use Rattle.wm_state.proofs.Tests.{both}
-
--- ---- where a point is
-
-pub point_newest : (p : Parts) (a : Space) (m : ℕ) (stand : Stand) → stand ≡ Latest → point_at p a m stand ≡ Some (newest_point p a m)
-point_newest p a m stand latest = ap (point_at p a m) latest
-
-pub point_saved : (p : Parts) (a : Space) (m : ℕ) (stand : Stand) (making : ℕ) (y : Record) → stand ≡ At making → saved_as p a.number making ≡ Some y → point_at p a m stand ≡ Some (saved_point y)
-point_saved p a m stand making y at found = ap (point_at p a m) at ∙ ap (option_map saved_point) found
-
-pub point_gone : (p : Parts) (a : Space) (m : ℕ) (stand : Stand) (making : ℕ) → stand ≡ At making → saved_as p a.number making ≡ None → point_at p a m stand ≡ None
-point_gone p a m stand making at none = ap (point_at p a m) at ∙ ap (option_map saved_point) none
 
 -- ---- a point that is there
 
@@ -137,43 +126,30 @@ may_save p a c m work stand pt name flag implicit makes implicits front back spa
 -- ---- what the state says of it
 
 -- the next place is the state's
-pub place_same : (p : Parts) (s : State) (a : Space) (w : Workspace) (stand : Stand) → IsSpace p s a.number a w → place_behind w stand ≡ next_place_at a stand
+pub place_same : (p : Parts) (s : Durable) (a : Space) (w : Workspace) (stand : Stand) → IsSpace p s a.number a w → place_behind w stand ≡ next_place_at a stand
 place_same p s a w Latest is = ap (λ (f : SpaceFields). f.next_place + 1) (sym is.fields)
 place_same p s a w (At making) is = ap (λ (f : SpaceFields). f.next_place) (sym is.fields)
 
 -- a savepoint of the name
-pub name_taken : (p : Parts) (s : State) (a : Space) (w : Workspace) (name : List ℕ) (y : Record) → Stands p s → IsSpace p s a.number a w → find (λ (x : Record). bytes_eq name x.name) (saved_in p a.number) ≡ Some y
+pub name_taken : (p : Parts) (s : Durable) (a : Space) (w : Workspace) (name : List ℕ) (y : Record) → Stands p s → IsSpace p s a.number a w → find (λ (x : Record). bytes_eq name x.name) (saved_in p a.number) ≡ Some y
     → is_some (savepoint_named name w.savepoints) ≡ true
 name_taken p s a w name y st is found = ap is_some (named_some p s a.number w st is.found name y found).1
 
 -- or none, and room
-pub name_free : (p : Parts) (s : State) (a : Space) (w : Workspace) (name : List ℕ) → Stands p s → IsSpace p s a.number a w → find (λ (x : Record). bytes_eq name x.name) (saved_in p a.number) ≡ None
+pub name_free : (p : Parts) (s : Durable) (a : Space) (w : Workspace) (name : List ℕ) → Stands p s → IsSpace p s a.number a w → find (λ (x : Record). bytes_eq name x.name) (saved_in p a.number) ≡ None
     → is_some (savepoint_named name w.savepoints) ≡ false
 name_free p s a w name st is none = ap is_some (named_none p s a.number w st is.found name none)
 
-pub few_same : (p : Parts) (s : State) (a : Space) (w : Workspace) (b : Bool) → Stands p s → IsSpace p s a.number a w → nat_le 4096 (count_by (λ (x : Record). x.space == a.number) p.savepoints) ≡ b → nat_le 4096 (length w.savepoints) ≡ b
+pub few_same : (p : Parts) (s : Durable) (a : Space) (w : Workspace) (b : Bool) → Stands p s → IsSpace p s a.number a w → nat_le 4096 (count_by (λ (x : Record). x.space == a.number) p.savepoints) ≡ b → nat_le 4096 (length w.savepoints) ≡ b
 few_same p s a w b st is few = ap (nat_le 4096) (saved_count p s a.number w st is.found) ∙ few
 
 -- the savepoint that the state makes there, which the record keeps
-pub record MadeAt (p : Parts) (s : State) (a : Space) (w : Workspace) (m : ℕ) (stand : Stand) (pt : Point) (name : List ℕ) (flag : Bool) : Type 0 where
+pub record MadeAt (p : Parts) (s : Durable) (a : Space) (w : Workspace) (m : ℕ) (stand : Stand) (pt : Point) (name : List ℕ) (flag : Bool) : Type 0 where
   pub savepoint : Savepoint
   pub is : saved_at m s.spaces w stand name flag ≡ Some savepoint
   pub kept : IsKept p s.spaces w savepoint (made_at p a name flag pt)
   pub place : pt.place ≡ savepoint.place
   pub log : pt.log_length ≡ savepoint.log_length
-
--- the fields of a savepoint that is made at a point
-abbrev fields_at : List ℕ → Bool → ℕ → Point → SavepointFields
-fields_at name flag making pt = record {
-  making = making;
-  name = name;
-  implicit = flag;
-  place = pt.place;
-  moment = pt.moment;
-  from = pt.from;
-  log_length = pt.log_length;
-  rebases = pt.rebases;
-}
 
 -- those of one at what is newest
 abbrev newest_fields : List ℕ → Bool → ℕ → ℕ → SpaceFields → SavepointFields
@@ -193,25 +169,25 @@ abbrev again_fields : List ℕ → Bool → ℕ → SavepointFields → Savepoin
 again_fields name flag making f = record f { making = making; name = name; implicit = flag }
 
 -- the record has those of the savepoint
-newest_same : (p : Parts) (s : State) (a : Space) (w : Workspace) (m : ℕ) (name : List ℕ) (flag : Bool) → SavepointsStand p s → OnceStand p s → IsSpace p s a.number a w
+newest_same : (p : Parts) (s : Durable) (a : Space) (w : Workspace) (m : ℕ) (name : List ℕ) (flag : Bool) → SavepointsStand p s → OnceStand p s → IsSpace p s a.number a w
     → saved_fields (made_at p a name flag (newest_point p a m)) ≡ newest_fields name flag m (next_making s.spaces) (fields_in w)
 newest_same p s a w m name flag st once is =
     ap (λ n. newest_fields name flag m n (fields_of a)) (sym (next_making_there p s st once)) ∙ ap (λ f. newest_fields name flag m (next_making s.spaces) f) is.fields
 
-again_same : (p : Parts) (s : State) (a : Space) (y : Record) (k : Savepoint) (name : List ℕ) (flag : Bool) → SavepointsStand p s → OnceStand p s → saved_fields y ≡ fields_saved k
+again_same : (p : Parts) (s : Durable) (a : Space) (y : Record) (k : Savepoint) (name : List ℕ) (flag : Bool) → SavepointsStand p s → OnceStand p s → saved_fields y ≡ fields_saved k
     → saved_fields (made_at p a name flag (saved_point y)) ≡ again_fields name flag (next_making s.spaces) (fields_saved k)
 again_same p s a y k name flag st once fields =
     ap (λ n. again_fields name flag n (saved_fields y)) (sym (next_making_there p s st once)) ∙ ap (λ f. again_fields name flag (next_making s.spaces) f) fields
 
 -- where the records agree with the state in workspaces and savepoints
-pub record MadeAs (p : Parts) (s : State) (a : Space) (w : Workspace) (m : ℕ) (stand : Stand) (pt : Point) (name : List ℕ) (flag : Bool) : Type 0 where
+pub record MadeAs (p : Parts) (s : Durable) (a : Space) (w : Workspace) (m : ℕ) (stand : Stand) (pt : Point) (name : List ℕ) (flag : Bool) : Type 0 where
   pub savepoint : Savepoint
   pub is : saved_at m s.spaces w stand name flag ≡ Some savepoint
   pub fields : saved_fields (made_at p a name flag pt) ≡ fields_saved savepoint
   pub place : pt.place ≡ savepoint.place
   pub log : pt.log_length ≡ savepoint.log_length
 
-pub made_as : (p : Parts) (s : State) (a : Space) (w : Workspace) (m : ℕ) (stand : Stand) (pt : Point) (name : List ℕ) (flag : Bool) → keep_rules p ≡ true → FieldsStand p s → IsSpace p s a.number a w → point_at p a m stand ≡ Some pt
+pub made_as : (p : Parts) (s : Durable) (a : Space) (w : Workspace) (m : ℕ) (stand : Stand) (pt : Point) (name : List ℕ) (flag : Bool) → keep_rules p ≡ true → FieldsStand p s → IsSpace p s a.number a w → point_at p a m stand ≡ Some pt
     → MadeAs p s a w m stand pt name flag
 made_as p s a w m Latest pt name flag rules st is there = subst (λ q. MadeAs p s a w m Latest q name flag) (some_point (newest_point p a m) pt there) (record {
   savepoint = record {
@@ -252,7 +228,7 @@ made_as p s a w m (At making) pt name flag rules st is there = by_record (saved_
         (by_savepoint y (made_some_there p s a.number w rules st.savepoints is.found making y found))
 
 -- what is newest is kept so
-made_newest : (p : Parts) (s : State) (a : Space) (w : Workspace) (m : ℕ) (name : List ℕ) (flag : Bool) → Stands p s → IsSpace p s a.number a w → MadeAt p s a w m Latest (newest_point p a m) name flag
+made_newest : (p : Parts) (s : Durable) (a : Space) (w : Workspace) (m : ℕ) (name : List ℕ) (flag : Bool) → Stands p s → IsSpace p s a.number a w → MadeAt p s a w m Latest (newest_point p a m) name flag
 made_newest p s a w m name flag st is = record {
   savepoint = k;
   is = refl;
@@ -279,7 +255,7 @@ made_newest p s a w m name flag st is = record {
     x : Record
     x = made_at p a name flag (newest_point p a m)
 
-made_again : (p : Parts) (s : State) (a : Space) (w : Workspace) (m making : ℕ) (y : Record) (name : List ℕ) (flag : Bool) → Stands p s → IsSpace p s a.number a w → saved_as p a.number making ≡ Some y
+made_again : (p : Parts) (s : Durable) (a : Space) (w : Workspace) (m making : ℕ) (y : Record) (name : List ℕ) (flag : Bool) → Stands p s → IsSpace p s a.number a w → saved_as p a.number making ≡ Some y
     → MadeAt p s a w m (At making) (saved_point y) name flag
 made_again p s a w m making y name flag st is found = by_savepoint (made_some p s a.number w st is.found making y found)
   where
@@ -296,7 +272,7 @@ made_again p s a w m making y name flag st is found = by_savepoint (made_some p 
       log = ap (λ (f : SavepointFields). f.log_length) saved.fields;
     }
 
-pub made_there : (p : Parts) (s : State) (a : Space) (w : Workspace) (m : ℕ) (stand : Stand) (pt : Point) (name : List ℕ) (flag : Bool) → Stands p s → IsSpace p s a.number a w → point_at p a m stand ≡ Some pt → MadeAt p s a w m stand pt name flag
+pub made_there : (p : Parts) (s : Durable) (a : Space) (w : Workspace) (m : ℕ) (stand : Stand) (pt : Point) (name : List ℕ) (flag : Bool) → Stands p s → IsSpace p s a.number a w → point_at p a m stand ≡ Some pt → MadeAt p s a w m stand pt name flag
 made_there p s a w m Latest pt name flag st is there = subst (λ q. MadeAt p s a w m Latest q name flag) (some_point (newest_point p a m) pt there) (made_newest p s a w m name flag st is)
 made_there p s a w m (At making) pt name flag st is there = by_record (saved_as p a.number making) refl
   where
@@ -306,7 +282,7 @@ made_there p s a w m (At making) pt name flag st is there = by_record (saved_as 
         subst (λ q. MadeAt p s a w m (At making) q name flag) (some_point (saved_point y) pt (sym (ap (option_map saved_point) found) ∙ there)) (made_again p s a w m making y name flag st is found)
 
 -- no savepoint is made where none is there
-pub made_nowhere : (p : Parts) (s : State) (a : Space) (w : Workspace) (m : ℕ) (stand : Stand) (name : List ℕ) (flag : Bool) → Stands p s → IsSpace p s a.number a w → point_at p a m stand ≡ None → saved_at m s.spaces w stand name flag ≡ None
+pub made_nowhere : (p : Parts) (s : Durable) (a : Space) (w : Workspace) (m : ℕ) (stand : Stand) (name : List ℕ) (flag : Bool) → Stands p s → IsSpace p s a.number a w → point_at p a m stand ≡ None → saved_at m s.spaces w stand name flag ≡ None
 made_nowhere p s a w m Latest name flag st is none = absurd (none_point (Some (newest_point p a m)) (newest_point p a m) none refl)
 made_nowhere p s a w m (At making) name flag st is none = by_record (saved_as p a.number making) refl
   where

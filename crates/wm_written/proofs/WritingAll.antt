@@ -13,7 +13,7 @@ use Rattle.wm_spec.specs.declared.record.row.RowRecord.{RowRecord}
 use Rattle.wm_spec.specs.declared.record.space.Space.{Space}
 use Rattle.wm_spec.proofs.Lists.{told-append}
 use Rattle.wm_tree.specs.Versions.{latest_in}
-use Rattle.wm_state.specs.State.{State, Workspace, content, workspace_of, with_space, with_entries, savepoints_of, log_of}
+use Rattle.wm_state.specs.State.{Durable, Workspace, content, workspace_of, with_space, with_entries, savepoints_of, log_of}
 use Rattle.wm_state.specs.Standing.{held_of, stored_at, seen_at, own_at, newest_first, latest, seen, first_in, Climbs, fields_of, fields_in, CountersStand, SpacesStand, LatestStand, OwnStand, HasRow, RowsStand, HistsStand, FieldsStand, Stands, SpaceFields, by_number, is_above, have_ends, EndsStand}
 use Rattle.wm_state.specs.Entries.{hists_from}
 use Rattle.wm_state.specs.Writes.{AreAllLaid, longer_by, WroteAll}
@@ -21,7 +21,7 @@ use Rattle.wm_state.proofs.Frames.{Framed, Still, StillNames, fields_stand, Save
 use Rattle.wm_state.proofs.FirstIn.{first-apart}
 use Rattle.wm_state.proofs.Climbing.{Carries, carried, stays-changed, PathsStand-framed}
 use Rattle.wm_state.proofs.Logging.{HistsStand-longer, log_of-found, log_of-same, rows-kept}
-use Rattle.wm_state.proofs.Nearest.{SameAway, seen-away, seen-here, own-away, own-here}
+use Rattle.wm_written.proofs.Nearest.{SameAway, seen-away, seen-here, own-away, own-here}
 use Rattle.wm_state.proofs.Above.{above-leaf}
 use Rattle.wm_state.proofs.Ending.{all_end, all_end-drawn, more-ends}
 use Rattle.wm_state.proofs.DrawingEnds.{more-front, more-behind}
@@ -96,10 +96,10 @@ some-map f None = refl
 some-map f (Some x) = refl
 
 -- a workspace has a record
-has_record : (p : Parts) (s : State) → SpacesStand p s → (m : ℕ) (w : Workspace) → workspace_of s.spaces m ≡ Some w → is_some (space_of p.spaces m) ≡ true
+has_record : (p : Parts) (s : Durable) → SpacesStand p s → (m : ℕ) (w : Workspace) → workspace_of s.spaces m ≡ Some w → is_some (space_of p.spaces m) ≡ true
 has_record p s stand m w found = sym (some-map fields_of (space_of p.spaces m)) ∙ ap is_some (stand.same m) ∙ ap (λ o. is_some (option_map fields_in o)) found
 
-LatestStand-wrote : (p q : Parts) (s t : State) (n : ℕ) (es : List Entry) → WroteAll p q n es → t.spaces ≡ appended_all n es s.spaces → SpacesStand p s → LatestStand p s → LatestStand q t
+LatestStand-wrote : (p q : Parts) (s t : Durable) (n : ℕ) (es : List Entry) → WroteAll p q n es → t.spaces ≡ appended_all n es s.spaces → SpacesStand p s → LatestStand p s → LatestStand q t
 LatestStand-wrote p q s t n es w spaces there stand = record { told = λ m new is c. rw w.versions (by_case m c new (was n es s.spaces m new (ap (λ ws. workspace_of ws m) (sym spaces) ∙ is))) }
   where
     by_case : (m : ℕ) (c : Cell) (new : Workspace) → Was n es s.spaces m new → seen_at q.pieces (newest_first p.versions) (latest p m) c ≡ option_map held_of (told (content new) c)
@@ -138,7 +138,7 @@ had p q n es w m new is = by_number (cases_eq m n) (space_of p.spaces m) refl
     by_number (inr other) None found = absurd (none_some (space_of q.spaces m) (w.elsewhere m (ne_eqb _ _ other) ∙ found) is)
     by_number (inr other) (Some r) found = record { old = r; is = found; how = inr (other, some_same _ _ (sym is ∙ w.elsewhere m (ne_eqb _ _ other) ∙ found)) }
 
-OwnStand-wrote : (p q : Parts) (s t : State) (n : ℕ) (es : List Entry) → WroteAll p q n es → t.spaces ≡ appended_all n es s.spaces → SpacesStand p s → OwnStand p s → OwnStand q t
+OwnStand-wrote : (p q : Parts) (s t : Durable) (n : ℕ) (es : List Entry) → WroteAll p q n es → t.spaces ≡ appended_all n es s.spaces → SpacesStand p s → OwnStand p s → OwnStand q t
 OwnStand-wrote p q s t n es w spaces there stand = record {
   covered = λ m new r is recorded c. rw w.versions (by_case m c new r (was n es s.spaces m new (ap (λ ws. workspace_of ws m) (sym spaces) ∙ is)) (had p q n es w m r recorded));
 }
@@ -173,7 +173,7 @@ ends-away p q n es w base v other fs e =
     (λ on. absurd (bool_apart (sym on ∙ above-leaf (latest p n) base (newest_first p.versions) w.leaf v other))) e w.ends
 
 -- and each other end is one of the entries
-ends-wrote : (p q : Parts) (s t : State) (n : ℕ) (es : List Entry) → WroteAll p q n es → t.spaces ≡ appended_all n es s.spaces → SpacesStand p s → EndsStand p s
+ends-wrote : (p q : Parts) (s t : Durable) (n : ℕ) (es : List Entry) → WroteAll p q n es → t.spaces ≡ appended_all n es s.spaces → SpacesStand p s → EndsStand p s
     → (m : ℕ) (new : Workspace) (r : Space) → workspace_of t.spaces m ≡ Some new → space_of q.spaces m ≡ Some r → have_ends q r.base_version (latest q m) new.lists.own ≡ true
 ends-wrote p q s t n es w spaces there stand m new r is recorded =
     ap (λ vs. have_ends q r.base_version (latest_in (newest_first vs) m) new.lists.own) w.versions
@@ -200,7 +200,7 @@ ends-wrote p q s t n es w spaces there stand m new r is recorded =
             ∙ ends-away p q n es w y.old.base_version (latest p m) (w.apart.others m (ne_eqb _ _ h.0) (has_record p s there m x.old x.is)) x.old.lists.own (stand.own m x.old y.old x.is y.is)
 
 -- what else the clauses look up: no version that is named is written
-framed_wrote : (p q : Parts) (s t : State) (n : ℕ) (es : List Entry) → WroteAll p q n es → t.spaces ≡ appended_all n es s.spaces → Framed p q s t
+framed_wrote : (p q : Parts) (s t : Durable) (n : ℕ) (es : List Entry) → WroteAll p q n es → t.spaces ≡ appended_all n es s.spaces → Framed p q s t
 framed_wrote p q s t n es w spaces = record {
   savepoints = w.savepoints;
   still = λ m new is. still m new (was n es s.spaces m new (ap (λ ws. workspace_of ws m) (sym spaces) ∙ is));
@@ -246,7 +246,7 @@ framed_wrote p q s t n es w spaces = record {
         y.how
 
 -- paths lead up as they did: what stands above a version is not the one that is written
-carries_wrote : (p q : Parts) (s t : State) (n : ℕ) (es : List Entry) → WroteAll p q n es → t.spaces ≡ appended_all n es s.spaces → Carries p q s.spaces t.spaces
+carries_wrote : (p q : Parts) (s t : Durable) (n : ℕ) (es : List Entry) → WroteAll p q n es → t.spaces ≡ appended_all n es s.spaces → Carries p q s.spaces t.spaces
 carries_wrote p q s t n es w spaces = record {
   stays = stays-changed s.spaces t.spaces n (with_entries es) (λ v. refl) (λ v. refl) (λ v. refl) spaces;
   path = λ space version first found. ap (λ vs. first_in (newest_first vs) space version) w.versions ∙ found;
@@ -256,12 +256,12 @@ carries_wrote p q s t n es w spaces = record {
 }
 
 -- the log of the workspace is longer, and every other as it was
-record Longer (s t : State) (n : ℕ) (es : List Entry) (old : Space) : Type 0 where
+record Longer (s t : Durable) (n : ℕ) (es : List Entry) (old : Space) : Type 0 where
   many : old.log_length ≡ length (log_of s.spaces n)
   here : log_of t.spaces n ≡ log_of s.spaces n ++ es
   away : (m : ℕ) → m ≢ n → log_of t.spaces m ≡ log_of s.spaces m
 
-longer : (p q : Parts) (s t : State) (n : ℕ) (es : List Entry) (w : WroteAll p q n es) → t.spaces ≡ appended_all n es s.spaces → SpacesStand p s → Longer s t n es w.old
+longer : (p q : Parts) (s t : Durable) (n : ℕ) (es : List Entry) (w : WroteAll p q n es) → t.spaces ≡ appended_all n es s.spaces → SpacesStand p s → Longer s t n es w.old
 longer p q s t n es w spaces there = by_space (workspace_of s.spaces n) refl (sym (ap (option_map fields_of) w.old_is) ∙ there.same n)
   where
     none_some : (f : SpaceFields) → (let nothing : Option SpaceFields = None in nothing) ≡ Some f → ⊥
@@ -284,11 +284,11 @@ longer p q s t n es w spaces there = by_space (workspace_of s.spaces n) refl (sy
       away = λ m other. log_of-same t.spaces s.spaces m (after m ∙ ap (λ b. cond b (option_map (with_entries es) (workspace_of s.spaces m)) (workspace_of s.spaces m)) (ne_eqb _ _ other));
     }
 
-HistsStand-wrote : (p q : Parts) (s t : State) (n : ℕ) (es : List Entry) → WroteAll p q n es → t.spaces ≡ appended_all n es s.spaces → SpacesStand p s → HistsStand p s → HistsStand q t
+HistsStand-wrote : (p q : Parts) (s t : Durable) (n : ℕ) (es : List Entry) → WroteAll p q n es → t.spaces ≡ appended_all n es s.spaces → SpacesStand p s → HistsStand p s → HistsStand q t
 HistsStand-wrote p q s t n es w spaces there stand =
     let g = longer p q s t n es w spaces there in HistsStand-longer p q s t n es (w.hists ∙ ap (λ k. p.hists ++ hists_from n k es) g.many) g.here g.away stand
 
-RowsStand-wrote : (p q : Parts) (s t : State) (n : ℕ) (es : List Entry) → WroteAll p q n es → t.spaces ≡ appended_all n es s.spaces → SpacesStand p s → RowsStand p s → RowsStand q t
+RowsStand-wrote : (p q : Parts) (s t : Durable) (n : ℕ) (es : List Entry) → WroteAll p q n es → t.spaces ≡ appended_all n es s.spaces → SpacesStand p s → RowsStand p s → RowsStand q t
 RowsStand-wrote p q s t n es w spaces there stand =
     RowsStand-framed p q s t (framed_wrote p q s t n es w spaces) w.rows_kept
     (λ m new is c x row held standing. by_case m c new x row (was n es s.spaces m new (ap (λ ws. workspace_of ws m) (sym spaces) ∙ is)) held standing)
@@ -329,7 +329,7 @@ map-entries : (es : List Entry) (o : Option Workspace) → option_map fields_in 
 map-entries es None = refl
 map-entries es (Some w) = ap (λ (k : ℕ). Some (record (fields_in w) { log_length = k })) (length-append w.lists.log es)
 
-SpacesStand-wrote : (p q : Parts) (s t : State) (n : ℕ) (es : List Entry) → WroteAll p q n es → t.spaces ≡ appended_all n es s.spaces → SpacesStand p s → SpacesStand q t
+SpacesStand-wrote : (p q : Parts) (s t : Durable) (n : ℕ) (es : List Entry) → WroteAll p q n es → t.spaces ≡ appended_all n es s.spaces → SpacesStand p s → SpacesStand q t
 SpacesStand-wrote p q s t n es w spaces stand = record {
   same = λ m. by_number m (cases_eq m n) ∙ sym (ap (λ ws. option_map fields_in (workspace_of ws m)) spaces ∙ ap (option_map fields_in) (appended-at n es s.spaces m));
 }
@@ -351,7 +351,7 @@ SpacesStand-wrote p q s t n es w spaces stand = record {
 -- ---- the records stand for the state after a line
 
 -- the savepoints are those of before
-points_wrote : (s t : State) (n : ℕ) (es : List Entry) → t.spaces ≡ appended_all n es s.spaces → (m : ℕ) → savepoints_of t.spaces m ≡ savepoints_of s.spaces m
+points_wrote : (s t : Durable) (n : ℕ) (es : List Entry) → t.spaces ≡ appended_all n es s.spaces → (m : ℕ) → savepoints_of t.spaces m ≡ savepoints_of s.spaces m
 points_wrote s t n es spaces m = points m (cases_eq m n) (workspace_of s.spaces m) refl
   where
     after : (m : ℕ) → workspace_of t.spaces m ≡ cond (m == n) (option_map (with_entries es) (workspace_of s.spaces m)) (workspace_of s.spaces m)
@@ -365,7 +365,7 @@ points_wrote s t n es spaces m = points m (cases_eq m n) (workspace_of s.spaces 
     points m (inr other) (Some x) found = savepoints_of-found t.spaces m x (rw (ne_eqb _ _ other, found) at (after m)) ∙ sym (savepoints_of-found s.spaces m x found)
 
 -- they agree with it
-pub FieldsStand-wrote_all : (p q : Parts) (s t : State) (n : ℕ) (es : List Entry) → WroteAll p q n es → FieldsStand p s → t.spaces ≡ appended_all n es s.spaces → t.tables ≡ s.tables → CountersStand q t → FieldsStand q t
+pub FieldsStand-wrote_all : (p q : Parts) (s t : Durable) (n : ℕ) (es : List Entry) → WroteAll p q n es → FieldsStand p s → t.spaces ≡ appended_all n es s.spaces → t.tables ≡ s.tables → CountersStand q t → FieldsStand q t
 FieldsStand-wrote_all p q s t n es w st spaces tables counters = record {
   counters = counters;
   tables = record { same = ap by_number w.tables ∙ st.tables.same ∙ sym tables };
@@ -375,7 +375,7 @@ FieldsStand-wrote_all p q s t n es w st spaces tables counters = record {
 }
 
 -- entries were written: the workspace has them, and the counters are set
-pub Stands-wrote_all : (p q : Parts) (s t : State) (n : ℕ) (es : List Entry) → WroteAll p q n es → Stands p s → t.spaces ≡ appended_all n es s.spaces → t.tables ≡ s.tables → CountersStand q t → keep_rules q ≡ true → Stands q t
+pub Stands-wrote_all : (p q : Parts) (s t : Durable) (n : ℕ) (es : List Entry) → WroteAll p q n es → Stands p s → t.spaces ≡ appended_all n es s.spaces → t.tables ≡ s.tables → CountersStand q t → keep_rules q ≡ true → Stands q t
 Stands-wrote_all p q s t n es w st spaces tables counters rules = record {
   rules = rules;
   counters = counters;

@@ -18,8 +18,8 @@ use Rattle.wm_state.specs.Standing.{covers_at, held_by, stored_at}
 use Rattle.wm_state.proofs.Appending.{all_append, differ_append}
 use Rattle.wm_state.proofs.Laying.{key_same, key_itself, stored-append}
 use Rattle.wm_state.proofs.Tests.{both, bool_apart, and_true, not_true, none_if, all_if}
-use Rattle.wm_state.proofs.DrawingHeld.{last_append, over_held, place_of}
-use Rattle.wm_state.proofs.DrawingApart.{all_over, over_differ}
+use Rattle.wm_written.proofs.DrawingHeld.{last_append, over_held, place_of}
+use Rattle.wm_written.proofs.DrawingApart.{all_over, over_differ}
 use Rattle.wm_state.proofs.DrawingEnds.{more-front, more-behind, more-both, more-passed, has_both, ends-more, ends-of, ends-over}
 
 -- ---- over one place

@@ -17,10 +17,10 @@ use Rattle.wm_state.proofs.Mapped.{find-none}
 use Rattle.wm_state.proofs.Apart.{Ruled, ruled, keeps_all, ruled_versions, found-passes}
 use Rattle.wm_state.proofs.Named.{ruled_savepoints, space_number, version_there}
 use Rattle.wm_state.proofs.Keeping.{le_itself, le_of, le_next, KeepSpaces, KeepVersions, KeepTables-same, KeepSpaces-push, KeepVersions-push, KeepRows-same, is_version_of-kept, are_savepoints-kept, are_rows-kept, are_pieces-kept, are_hists-kept}
-use Rattle.wm_state.proofs.KeptSpaces.{is_space-kept, is_version-kept, has_versions-kept, has_push, has_new, some-kept}
+use Rattle.wm_forked.proofs.KeptSpaces.{is_space-kept, is_version-kept, has_versions-kept, has_push, has_new, some-kept}
 use Rattle.wm_state.proofs.Growing.{forked, forked_of, below-next, found-below, same_counters}
-use Rattle.wm_state.proofs.Sprouting.{newest-behind}
-use Rattle.wm_state.proofs.Birth.{find_numbered}
+use Rattle.wm_forked.proofs.Sprouting.{newest-behind}
+use Rattle.wm_forked.proofs.Birth.{find_numbered}
 
 -- the records with a workspace more, a version more and other counters
 abbrev pub born : Parts → Counters → Space → Version → Parts

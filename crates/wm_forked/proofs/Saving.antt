@@ -11,7 +11,7 @@ use Rattle.wm_spec.specs.Lists.{Entry, Cell, told, touched}
 use Rattle.wm_spec.specs.declared.record.savepoint.Savepoint.{Savepoint as Record}
 use Rattle.wm_spec.specs.declared.record.space.Space.{Space}
 use Rattle.wm_tree.specs.Versions.{latest_in}
-use Rattle.wm_state.specs.State.{State, Workspace, Savepoint, Contents, content, kept, workspace_of, with_space, with_savepoint, savepoint_made, savepoints_of, log_of}
+use Rattle.wm_state.specs.State.{Durable, Workspace, Savepoint, Contents, content, kept, workspace_of, with_space, with_savepoint, savepoint_made, savepoints_of, log_of}
 use Rattle.wm_state.specs.Standing.{held_of, newest_first, latest, shown, owned, seen, seen_above, SpaceFields, fields_of, fields_in, saved_fields, fields_saved, by_making, saved_in, saved_as, by_number, CountersStand, SpacesStand, SavepointsStand, KeptStand, KeptOwnStand, PathsStand, Climbs, HasRows, RowsStand, FieldsStand, Stands, have_ends, EndsStand}
 use Rattle.wm_state.specs.Effects.{Saved, marked}
 use Rattle.wm_state.proofs.Changing.{workspace_of-changed}
@@ -179,7 +179,7 @@ is_beside n place implicit k ws m away =
     workspace_of-changed n (with_savepoint place implicit k) (λ v. refl) ws m
     ∙ ap (λ b. cond b (option_map (with_savepoint place implicit k) (workspace_of ws m)) (workspace_of ws m)) (ne_eqb _ _ away)
 
-SavepointsStand-saved : (p q : Parts) (s t : State) (n place implicit : ℕ) (w : Workspace) (k : Savepoint) (x : Record) → Saved p q n place implicit x → t.spaces ≡ with_space n (with_savepoint place implicit k) s.spaces
+SavepointsStand-saved : (p q : Parts) (s t : Durable) (n place implicit : ℕ) (w : Workspace) (k : Savepoint) (x : Record) → Saved p q n place implicit x → t.spaces ≡ with_space n (with_savepoint place implicit k) s.spaces
     → workspace_of s.spaces n ≡ Some w → saved_fields x ≡ fields_saved k → SavepointsStand p s → SavepointsStand q t
 SavepointsStand-saved p q s t n place implicit w k x v spaces found fields stand = record { same = λ m. by_number m (cases_eq m n) }
   where
@@ -211,7 +211,7 @@ map-saved : (place implicit : ℕ) (k : Savepoint) (o : Option Workspace) → op
 map-saved place implicit k None = refl
 map-saved place implicit k (Some w) = refl
 
-SpacesStand-saved : (p q : Parts) (s t : State) (n place implicit : ℕ) (k : Savepoint) (x : Record) → Saved p q n place implicit x → t.spaces ≡ with_space n (with_savepoint place implicit k) s.spaces
+SpacesStand-saved : (p q : Parts) (s t : Durable) (n place implicit : ℕ) (k : Savepoint) (x : Record) → Saved p q n place implicit x → t.spaces ≡ with_space n (with_savepoint place implicit k) s.spaces
     → SpacesStand p s → SpacesStand q t
 SpacesStand-saved p q s t n place implicit k x v spaces stand = record {
   same = λ m. by_number m (cases_eq m n) ∙ sym (ap (λ ws. option_map fields_in (workspace_of ws m)) spaces ∙ ap (option_map fields_in) (workspace_of-changed n (with_savepoint place implicit k) (λ w. refl) s.spaces m));
@@ -241,7 +241,7 @@ record MadeCase (n : ℕ) (k : Savepoint) (x : Record) (ws : List Workspace) (m 
   rebases : new.rebases ≡ old.rebases
   how : ((m ≡ n) × (x.making ≡ making) × (j ≡ k)) ⊎ ((savepoint_made making old.savepoints ≡ Some j) × (((x.space == m) && (x.making == making)) ≡ false))
 
-made_case : (p q : Parts) (s : State) (n place implicit : ℕ) (k : Savepoint) (x : Record) → Saved p q n place implicit x → saved_fields x ≡ fields_saved k → SavepointsStand p s
+made_case : (p q : Parts) (s : Durable) (n place implicit : ℕ) (k : Savepoint) (x : Record) → Saved p q n place implicit x → saved_fields x ≡ fields_saved k → SavepointsStand p s
     → (m making : ℕ) (new : Workspace) (j : Savepoint) → workspace_of (with_space n (with_savepoint place implicit k) s.spaces) m ≡ Some new → savepoint_made making new.savepoints ≡ Some j
     → MadeCase n k x s.spaces m making new j
 made_case p q s n place implicit k x v fields stand m making new j is made = by_case (was_saved n place implicit k s.spaces m new is)
@@ -304,7 +304,7 @@ seen-still p q n place implicit x v version c = rw (v.versions, v.pieces) refl
 above-still : (p q : Parts) (n place implicit : ℕ) (x : Record) → Saved p q n place implicit x → (base version : ℕ) (c : Cell) → seen_above q base version c ≡ seen_above p base version c
 above-still p q n place implicit x v base version c = rw (v.versions, v.pieces) refl
 
-KeptStand-saved : (p q : Parts) (s t : State) (n place implicit : ℕ) (w : Workspace) (k : Savepoint) (x : Record) → Saved p q n place implicit x → t.spaces ≡ with_space n (with_savepoint place implicit k) s.spaces
+KeptStand-saved : (p q : Parts) (s t : Durable) (n place implicit : ℕ) (w : Workspace) (k : Savepoint) (x : Record) → Saved p q n place implicit x → t.spaces ≡ with_space n (with_savepoint place implicit k) s.spaces
     → IsKept p s.spaces w k x → SavepointsStand p s → KeptStand p s → KeptStand q t
 KeptStand-saved p q s t n place implicit w k x v spaces new_one stand kept_before = record {
   told = λ m making new j y is made recorded c.
@@ -335,7 +335,7 @@ KeptStand-saved p q s t n place implicit w k x v spaces new_one stand kept_befor
             ap (λ (r : Record). seen p r.base_version c) same ∙ new_one.under (subst (λ i. 0 < i) (h.0 ∙ sym v.space) some) c ∙ ap (λ (i : Savepoint). option_map held_of (told i.base c)) (sym h.2)
         by_how (inr h) = kept_before.base m making z.old j y some z.is h.0 (sym (saved_as-away p q n place implicit x v m making h.1) ∙ recorded) c
 
-KeptOwnStand-saved : (p q : Parts) (s t : State) (n place implicit : ℕ) (w : Workspace) (k : Savepoint) (x : Record) → Saved p q n place implicit x → t.spaces ≡ with_space n (with_savepoint place implicit k) s.spaces
+KeptOwnStand-saved : (p q : Parts) (s t : Durable) (n place implicit : ℕ) (w : Workspace) (k : Savepoint) (x : Record) → Saved p q n place implicit x → t.spaces ≡ with_space n (with_savepoint place implicit k) s.spaces
     → workspace_of s.spaces n ≡ Some w → IsKept p s.spaces w k x → SavepointsStand p s → KeptOwnStand p s → KeptOwnStand q t
 KeptOwnStand-saved p q s t n place implicit w k x v spaces found new_one stand kept_before = record {
   covered = λ m making new j y is made recorded based c.
@@ -360,7 +360,7 @@ KeptOwnStand-saved p q s t n place implicit w k x v spaces found new_one stand k
 ends-still : (p q : Parts) (n place implicit : ℕ) (x : Record) → Saved p q n place implicit x → (base version : ℕ) (es : List Entry) → have_ends q base version es ≡ have_ends p base version es
 ends-still p q n place implicit x v base version es = rw (v.versions, v.pieces) refl
 
-EndsStand-saved : (p q : Parts) (s t : State) (n place implicit : ℕ) (w : Workspace) (k : Savepoint) (x : Record) → Saved p q n place implicit x → t.spaces ≡ with_space n (with_savepoint place implicit k) s.spaces
+EndsStand-saved : (p q : Parts) (s t : Durable) (n place implicit : ℕ) (w : Workspace) (k : Savepoint) (x : Record) → Saved p q n place implicit x → t.spaces ≡ with_space n (with_savepoint place implicit k) s.spaces
     → workspace_of s.spaces n ≡ Some w → IsKept p s.spaces w k x → SavepointsStand p s → EndsStand p s → EndsStand q t
 EndsStand-saved p q s t n place implicit w k x v spaces found new_one stand ends = record {
   own = λ m new r is recorded.
@@ -389,10 +389,10 @@ EndsStand-saved p q s t n place implicit w k x v spaces found new_one stand ends
         by_how (inr h) = ends.kept m making z.old j y z.is h.0 (sym (saved_as-away p q n place implicit x v m making h.1) ∙ recorded) (based ∙ z.rebases)
 
 -- the logs are as they were
-logs_saved : (s t : State) (n place implicit : ℕ) (k : Savepoint) → t.spaces ≡ with_space n (with_savepoint place implicit k) s.spaces → (m : ℕ) → log_of t.spaces m ≡ log_of s.spaces m
+logs_saved : (s t : Durable) (n place implicit : ℕ) (k : Savepoint) → t.spaces ≡ with_space n (with_savepoint place implicit k) s.spaces → (m : ℕ) → log_of t.spaces m ≡ log_of s.spaces m
 logs_saved s t n place implicit k spaces m = ap (λ ws. log_of ws m) spaces ∙ log_of-changed n (with_savepoint place implicit k) (λ w. refl) (λ w. refl) s.spaces m
 
-RowsStand-saved : (p q : Parts) (s t : State) (n place implicit : ℕ) (w : Workspace) (k : Savepoint) (x : Record) → Saved p q n place implicit x → t.spaces ≡ with_space n (with_savepoint place implicit k) s.spaces
+RowsStand-saved : (p q : Parts) (s t : Durable) (n place implicit : ℕ) (w : Workspace) (k : Savepoint) (x : Record) → Saved p q n place implicit x → t.spaces ≡ with_space n (with_savepoint place implicit k) s.spaces
     → IsKept p s.spaces w k x → SavepointsStand p s → RowsStand p s → RowsStand q t
 RowsStand-saved p q s t n place implicit w k x v spaces new_one stand rows = record {
   there = λ m new is. let y = before m new is in HasRows-same p q still (content new) (content y.old) (ap (λ (l : Contents). l.base ++ l.own) y.lists) (rows.there m y.old y.is);
@@ -426,7 +426,7 @@ RowsStand-saved p q s t n place implicit w k x v spaces new_one stand rows = rec
         by_how (inr h) = HasRows-kept p q still j.base (rows.saved_bases m making z.old j z.is h.0)
 
 -- the paths of all versions that are named lead up, of those of the new savepoint too
-PathsStand-saved : (p q : Parts) (s t : State) (n place implicit : ℕ) (w : Workspace) (k : Savepoint) (x : Record) → Saved p q n place implicit x → t.spaces ≡ with_space n (with_savepoint place implicit k) s.spaces
+PathsStand-saved : (p q : Parts) (s t : Durable) (n place implicit : ℕ) (w : Workspace) (k : Savepoint) (x : Record) → Saved p q n place implicit x → t.spaces ≡ with_space n (with_savepoint place implicit k) s.spaces
     → workspace_of s.spaces n ≡ Some w → IsKept p s.spaces w k x → keep_rules p ≡ true → SpacesStand p s → PathsStand p s → PathsStand q t
 PathsStand-saved p q s t n place implicit w k x v spaces found new_one rules stand paths = record {
   latest = λ m new is. let y = before m new is in subst (λ vs. Climbs q t.spaces (latest_in (newest_first vs) m) m) (sym v.versions) (c.latest m y.old y.is);
@@ -481,7 +481,7 @@ PathsStand-saved p q s t n place implicit w k x v spaces found new_one rules sta
 -- ---- the records stand for the state with the savepoint
 
 -- they agree with it where the record of the savepoint has its fields
-pub FieldsStand-saved : (p q : Parts) (s t : State) (n place implicit : ℕ) (w : Workspace) (k : Savepoint) (x : Record) → Saved p q n place implicit x → FieldsStand p s → workspace_of s.spaces n ≡ Some w → saved_fields x ≡ fields_saved k
+pub FieldsStand-saved : (p q : Parts) (s t : Durable) (n place implicit : ℕ) (w : Workspace) (k : Savepoint) (x : Record) → Saved p q n place implicit x → FieldsStand p s → workspace_of s.spaces n ≡ Some w → saved_fields x ≡ fields_saved k
     → t.spaces ≡ with_space n (with_savepoint place implicit k) s.spaces → t.tables ≡ s.tables → CountersStand q t → FieldsStand q t
 FieldsStand-saved p q s t n place implicit w k x v st found fields spaces tables counters = record {
   counters = counters;
@@ -491,7 +491,7 @@ FieldsStand-saved p q s t n place implicit w k x v st found fields spaces tables
   savepoints = SavepointsStand-saved p q s t n place implicit w k x v spaces found fields st.savepoints;
 }
 
-pub Stands-saved : (p q : Parts) (s t : State) (n place implicit : ℕ) (w : Workspace) (k : Savepoint) (x : Record) → Saved p q n place implicit x → Stands p s → workspace_of s.spaces n ≡ Some w → IsKept p s.spaces w k x
+pub Stands-saved : (p q : Parts) (s t : Durable) (n place implicit : ℕ) (w : Workspace) (k : Savepoint) (x : Record) → Saved p q n place implicit x → Stands p s → workspace_of s.spaces n ≡ Some w → IsKept p s.spaces w k x
     → t.spaces ≡ with_space n (with_savepoint place implicit k) s.spaces → t.tables ≡ s.tables → CountersStand q t → keep_rules q ≡ true → Stands q t
 Stands-saved p q s t n place implicit w k x v st found new_one spaces tables counters rules = record {
   rules = rules;
@@ -542,7 +542,7 @@ Stands-saved p q s t n place implicit w k x v st found new_one spaces tables cou
 -- ---- what a savepoint keeps of what is there
 
 -- made at what is newest
-pub kept_latest : (p : Parts) (s : State) (n : ℕ) (w : Workspace) (r : Space) (k : Savepoint) (x : Record) → Stands p s → workspace_of s.spaces n ≡ Some w → space_of p.spaces n ≡ Some r → x.space ≡ n → x.version ≡ latest p n
+pub kept_latest : (p : Parts) (s : Durable) (n : ℕ) (w : Workspace) (r : Space) (k : Savepoint) (x : Record) → Stands p s → workspace_of s.spaces n ≡ Some w → space_of p.spaces n ≡ Some r → x.space ≡ n → x.version ≡ latest p n
     → x.base_version ≡ r.base_version → k.base ≡ w.lists.base → k.own ≡ w.lists.own → saved_fields x ≡ fields_saved k → IsKept p s.spaces w k x
 kept_latest p s n w r k x st found recorded space version base_version base own fields = record {
   holds = λ c. ap (λ v. seen p v c) version ∙ st.latest.told n w found c ∙ ap (λ es. option_map held_of (told es c)) (sym same);
@@ -563,7 +563,7 @@ kept_latest p s n w r k x st found recorded space version base_version base own 
     same = ap (λ es. es ++ k.own) base ∙ ap (λ es. w.lists.base ++ es) own
 
 -- made where another is
-pub kept_again : (p : Parts) (s : State) (n making : ℕ) (w : Workspace) (k j : Savepoint) (x y : Record) → Stands p s → workspace_of s.spaces n ≡ Some w → saved_as p n making ≡ Some y → savepoint_made making w.savepoints ≡ Some j
+pub kept_again : (p : Parts) (s : Durable) (n making : ℕ) (w : Workspace) (k j : Savepoint) (x y : Record) → Stands p s → workspace_of s.spaces n ≡ Some w → saved_as p n making ≡ Some y → savepoint_made making w.savepoints ≡ Some j
     → x.space ≡ n → x.version ≡ y.version → x.base_version ≡ y.base_version → k.base ≡ j.base → k.own ≡ j.own → k.rebases ≡ j.rebases → saved_fields x ≡ fields_saved k → IsKept p s.spaces w k x
 kept_again p s n making w k j x y st found recorded made space version base_version base own rebases fields = record {
   holds = λ c. ap (λ v. seen p v c) version ∙ st.kept.told n making w j y found made recorded c ∙ ap (λ es. option_map held_of (told es c)) (sym same);

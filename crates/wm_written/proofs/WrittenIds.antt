@@ -14,7 +14,7 @@ use Rattle.wm_spec.specs.declared.record.space.Space.{Space}
 use Rattle.wm_spec.specs.declared.record.version.Version.{Version}
 use Rattle.wm_state.specs.Batches.{put}
 use Rattle.wm_state.specs.Writes.{put_all, write_batch, write_new_batch}
-use Rattle.wm_state.proofs.Ids.{are_under, ids_differ-push, are_under-push, ids_of-dropped}
+use Rattle.wm_written.proofs.Ids.{are_under, ids_differ-push, are_under-push, ids_of-dropped}
 
 -- ---- ids
 

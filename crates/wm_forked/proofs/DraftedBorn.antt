@@ -1,6 +1,5 @@
 -- What the batch by which a workspace is born makes of the records.
-use Rattle.std.proofs.Common.{◌≡◌, ℕ, ◌+◌, ◌<◌, ◌≤◌, ◌^◌, ◌==◌, nat_lt, nat_le, true, false, List, [], ◌∷◌, ◌++◌, length, length-append, Option, Some, refl, sym, ap, subst, ◌∙◌, arith}
-use Rattle.std.proofs.lemmas.Bool.{eq-eqb}
+use Rattle.std.proofs.Common.{◌≡◌, ℕ, ◌+◌, ◌<◌, ◌≤◌, ◌^◌, nat_lt, nat_le, true, false, List, [], ◌∷◌, ◌++◌, length, length-append, Option, Some, refl, sym, ap, subst, ◌∙◌, arith}
 use Rattle.std.proofs.lemmas.Fmt.{length-decimal-le}
 use Rattle.std.proofs.lemmas.Slice.Eq.{bytes_eq-Decides}
 use Rattle.std.specs.Fmt.{decimal}
@@ -19,29 +18,27 @@ use Rattle.wm_spec.specs.declared.record.stored.Stored.{Stored}
 use Rattle.wm_spec.specs.declared.record.version.Version.{Version}
 use Rattle.wm_state.specs.Batches.{birth_batch, put}
 use Rattle.wm_state.specs.ById.{applied}
-use Rattle.wm_state.specs.Drafts.{CanBear, CanWork, DraftsBy, is_next_version, may_add, takes_place}
+use Rattle.wm_state.specs.Drafts.{CanBear, CanWork, DraftsBy}
 use Rattle.wm_state.specs.Editing.{bear_in, born, child_of, edited, implicit_front, implicit_name, number_limit, place_behind, saved_at, stand_of}
 use Rattle.wm_state.specs.Effects.{marked}
 use Rattle.wm_state.specs.Points.{HasRoom, Point, birth_record, child_record, child_version, implicit_of, next_place_at, point_at, versioned}
-use Rattle.wm_state.specs.Standing.{SpaceFields, fields_of, fields_in, FieldsStand, Stands, space_after}
-use Rattle.wm_state.specs.State.{State, Stand, Workspace, Savepoint, kept, workspace_of, with_space, with_savepoint}
+use Rattle.wm_state.specs.Standing.{SpaceFields, fields_of, fields_in, FieldsStand, Stands}
+use Rattle.wm_state.specs.State.{Durable, Stand, Workspace, Savepoint, kept, workspace_of, with_space, with_savepoint}
 use Rattle.wm_state.specs.declared.edit.Edit.TheVariants as edits
-use Rattle.wm_state.proofs.Added.{added_by, next_there, placed_by, puts_away, puts_like, puts_there}
-use Rattle.wm_state.proofs.Birth.{IsChild}
-use Rattle.wm_state.proofs.Births.{child_kept}
+use Rattle.wm_forked.proofs.Birth.{IsChild}
+use Rattle.wm_forked.proofs.Births.{child_kept}
 use Rattle.wm_state.proofs.ByKind.{under_found}
 use Rattle.wm_state.proofs.Counting.{counts_as, counts_in, version_well, work_grows, work_room}
 use Rattle.wm_state.proofs.Drafted.{some_edit}
-use Rattle.wm_state.proofs.DraftedSaved.{home_of, home_there, one_space}
-use Rattle.wm_state.proofs.FewChanged.{few_birth}
+use Rattle.wm_forked.proofs.DraftedSaved.{home_of, home_there}
+use Rattle.wm_forked.proofs.FewChanged.{few_birth}
 use Rattle.wm_state.proofs.Mapped.{any-if, none-found}
-use Rattle.wm_state.proofs.PlannedBirth.{MayBirth, agree_birth, changes-birth, keep_plan_birth, plan_birth}
-use Rattle.wm_state.proofs.Points.{MadeAt, MakesAt, is_point, made_as, made_there, may_save, place_same}
-use Rattle.wm_state.proofs.Named.{space_number}
-use Rattle.wm_state.proofs.OthersStay.{AwayFrom, OthersStay, below_apart, changed_apart, others_stay, rows_stay}
+use Rattle.wm_state.proofs.Named.{one_space}
+use Rattle.wm_forked.proofs.PlannedBirth.{MayBirth, agree_birth, changes-birth, keep_plan_birth, plan_birth}
+use Rattle.wm_forked.proofs.Points.{MadeAt, MakesAt, is_point, made_as, made_there, may_save, place_same}
+use Rattle.wm_state.proofs.RowsStay.{AwayFrom, below_apart, row_apart, rows_stay}
 use Rattle.wm_state.proofs.Settled.{Places, PlacesApart, places_apart}
 use Rattle.wm_state.proofs.Spaces.{IsSpace, next_space_same, next_space_there, numbers_under}
-use Rattle.wm_state.proofs.Tests.{and_true}
 use Rattle.wm_state.proofs.WorkedOn.{counted_put, first_change}
 
 -- ---- the savepoint
@@ -80,17 +77,17 @@ bears_so p m work n at name a pt c rules can_work can there point one = record {
 -- ---- the workspace
 
 -- it is born in the state
-born_so : (m n : ℕ) (at : Option ℕ) (name : List ℕ) (s : State) (w : Workspace) (k : Savepoint) → workspace_of s.spaces n ≡ Some w → saved_at m s.spaces w (stand_of at) (implicit_name w) true ≡ Some k
+born_so : (m n : ℕ) (at : Option ℕ) (name : List ℕ) (s : Durable) (w : Workspace) (k : Savepoint) → workspace_of s.spaces n ≡ Some w → saved_at m s.spaces w (stand_of at) (implicit_name w) true ≡ Some k
     → edited m (edits.Bear n at name) s ≡ born m w (stand_of at) name k s
 born_so m n at name s w k found made =
     ap (λ o. unwrap_or (option_and_then (bear_in m (stand_of at) name s) o) s) found ∙ ap (λ o. unwrap_or (option_map (λ (j : Savepoint). born m w (stand_of at) name j s) o) s) made
 
 -- the name of the savepoint is that of the record
-implicit_same : (p : Parts) (s : State) (a : Space) (w : Workspace) → IsSpace p s a.number a w → implicit_name w ≡ implicit_of a
+implicit_same : (p : Parts) (s : Durable) (a : Space) (w : Workspace) → IsSpace p s a.number a w → implicit_name w ≡ implicit_of a
 implicit_same p s a w is = ap (λ (f : SpaceFields). implicit_front ++ decimal f.next_implicit) (sym is.fields)
 
 -- the child in the state has the fields of its record
-child_fields : (p : Parts) (s : State) (a : Space) (m : ℕ) (w : Workspace) (k : Savepoint) (name : List ℕ) (pt : Point) → IsSpace p s a.number a w → pt.place ≡ k.place → pt.log_length ≡ k.log_length
+child_fields : (p : Parts) (s : Durable) (a : Space) (m : ℕ) (w : Workspace) (k : Savepoint) (name : List ℕ) (pt : Point) → IsSpace p s a.number a w → pt.place ≡ k.place → pt.log_length ≡ k.log_length
     → fields_of (child_record p a m name pt) ≡ fields_in (child_of m s.spaces w k name)
 child_fields p s a m w k name pt is place log = ap (λ n. fields n pt.place pt.log_length) (sym is.number) ∙ ap (λ n. fields w.number n pt.log_length) place ∙ ap (fields w.number k.place) log
   where
@@ -109,14 +106,14 @@ child_fields p s a m w k name pt is place log = ap (λ n. fields n pt.place pt.l
       writer = [];
     }
 
-child_same : (p : Parts) (s : State) (a : Space) (m : ℕ) (w : Workspace) (stand : Stand) (name : List ℕ) (pt : Point) → Stands p s → IsSpace p s a.number a w → (k : MadeAt p s a w m stand pt (implicit_of a) true)
+child_same : (p : Parts) (s : Durable) (a : Space) (m : ℕ) (w : Workspace) (stand : Stand) (name : List ℕ) (pt : Point) → Stands p s → IsSpace p s a.number a w → (k : MadeAt p s a w m stand pt (implicit_of a) true)
     → IsChild p s.spaces (child_record p a m name pt) (child_of m s.spaces w k.savepoint name) (kept k.savepoint)
 child_same p s a m w stand name pt st is k =
     child_kept p s.spaces w (child_of m s.spaces w k.savepoint name) k.savepoint (birth_record p a pt) (child_record p a m name pt) k.kept refl refl
     (child_fields p s a m w k.savepoint name pt is k.place k.log) (next_space_same p s st) refl refl refl refl refl
 
 -- the workspaces with the savepoint are those that its record tells
-same_spaces : (p : Parts) (s : State) (a : Space) (w : Workspace) (stand : Stand) (k : Savepoint) → IsSpace p s a.number a w
+same_spaces : (p : Parts) (s : Durable) (a : Space) (w : Workspace) (stand : Stand) (k : Savepoint) → IsSpace p s a.number a w
     → with_space w.number (with_savepoint (place_behind w stand) (w.next_implicit + 1) k) s.spaces ≡ with_space a.number (with_savepoint (next_place_at a stand) (a.next_implicit + 1) k) s.spaces
 same_spaces p s a w stand k is =
     ap (λ n. with_space n (with_savepoint (place_behind w stand) (w.next_implicit + 1) k) s.spaces) is.number
@@ -181,7 +178,7 @@ drafts_born rs m work n at name a pt c counters_id space_id id rules can_work ca
       let h = home_of (parts_of rs) s n a st.spaces there in
       let k = made_there (parts_of rs) s a h.workspace m (stand_of at) pt (implicit_of a) true st h.is point in
       let counts = counts_as (parts_of rs) s c st places.one in
-      subst (λ (u : State). Stands (parts_of (applied (birth_batch counters_id (versioned c m work) space_id (marked place implicit a) id x r v) rs)) (record u { last_moment = m; work = s.work + work }))
+      subst (λ (u : Durable). Stands (parts_of (applied (birth_batch counters_id (versioned c m work) space_id (marked place implicit a) id x r v) rs)) (record u { last_moment = m; work = s.work + work }))
       (sym (born_so m n at name s h.workspace k.savepoint h.found (ap (λ i. saved_at m s.spaces h.workspace (stand_of at) i true) (implicit_same (parts_of rs) s a h.workspace h.is) ∙ k.is)))
       (plan_birth rs counters_id space_id id c (versioned c m work) a place implicit x a r v h.workspace (child_of m s.spaces h.workspace k.savepoint name) k.savepoint (kept k.savepoint) s _ st birth h.is.found k.kept
       (child_same (parts_of rs) s a m h.workspace (stand_of at) name pt st h.is k)
@@ -191,36 +188,16 @@ drafts_born rs m work n at name a pt c counters_id space_id id rules can_work ca
       let h = home_of (parts_of rs) s n a st.spaces there in
       let k = made_as (parts_of rs) s a h.workspace m (stand_of at) pt (implicit_of a) true rules st h.is point in
       let counts = counts_in (parts_of rs) s c st.counters places.one in
-      subst (λ (u : State). FieldsStand (parts_of (applied (birth_batch counters_id (versioned c m work) space_id (marked place implicit a) id x r v) rs)) (record u { last_moment = m; work = s.work + work }))
+      subst (λ (u : Durable). FieldsStand (parts_of (applied (birth_batch counters_id (versioned c m work) space_id (marked place implicit a) id x r v) rs)) (record u { last_moment = m; work = s.work + work }))
       (sym (born_so m n at name s h.workspace k.savepoint h.found (ap (λ i. saved_at m s.spaces h.workspace (stand_of at) i true) (implicit_same (parts_of rs) s a h.workspace h.is) ∙ k.is)))
       (agree_birth rs counters_id space_id id c (versioned c m work) a place implicit x a r v h.workspace (child_of m s.spaces h.workspace k.savepoint name) k.savepoint s _ rules st birth h.is.found k.fields
       (child_fields (parts_of rs) s a m h.workspace k.savepoint name pt h.is k.place k.log) (next_space_there (parts_of rs) s rules st.spaces st.once) refl
       (ap (λ ws. ws ++ child_of m s.spaces h.workspace k.savepoint name ∷ []) (same_spaces (parts_of rs) s a h.workspace (stand_of at) k.savepoint h.is)) refl
       (record { counters = versioned c m work; one = refl; next_stamp = counts.next_stamp; last_moment = refl; limit = counts.limit; work = ap (λ w. w + work) counts.work }));
-  others = others;
-  rows = rows_stay (edits.Bear n at name ∷ []) rs batch others;
-  added = added_by (edits.Bear n at name) rs batch places.sorted
-      (λ k none. (
-        puts_there (may_add (parts_of rs) (edits.Bear n at name)) rs counters_id k (records.Counters c) (Some (records.Counters (versioned c m work))) places.counters none,
-        (
-          puts_there (may_add (parts_of rs) (edits.Bear n at name)) rs space_id k (records.Space a) (Some (records.Space (marked place implicit a))) places.space none,
-          (
-            λ same. and_true (a.number == n) true (eq-eqb a.number n number) refl,
-            (
-              λ same. and_true (r.number == space_after (parts_of rs).spaces) _ (eq-eqb r.number (space_after (parts_of rs).spaces) refl)
-                  (and_true (a.number == n) (bytes_eq name name) (eq-eqb a.number n number) ((bytes_eq-Decides name name).1 refl)),
-              (λ same. and_true (is_next_version (parts_of rs) c.next_version) _ (next_there (parts_of rs) c places.one) (eq-eqb v.space (space_after (parts_of rs).spaces) refl), tt),
-            ),
-          ),
-        ),
-      ));
-  placed = placed_by (edits.Bear n at name ∷ []) rs batch places.sorted
+  rows = rows_stay rs batch
       (λ k q found. (
-        puts_like rs counters_id k (records.Counters c) q (records.Counters (versioned c m work)) places.counters found refl,
-        (
-          puts_like rs space_id k (records.Space a) q (records.Space (marked place implicit a)) places.space found (eq-eqb a.number a.number refl),
-          puts_away (takes_place q) k (put id (records.Savepoint x) ∷ put (id + 1) (records.Space r) ∷ put (id + 2) (records.Version v) ∷ []) (away_new k (under_found id rs k q places.under found)),
-        ),
+        row_apart rs counters_id k (records.Counters c) q places.counters refl found,
+        (row_apart rs space_id k (records.Space a) q places.space refl found, away_new k (under_found id rs k (records.Row q) places.under found)),
       ));
   kept = refl;
   counted = λ some. counted_put rs work counters_id c (versioned c m work) batch places.sorted places.one once (first_change counters_id _ _) keeps refl;
@@ -243,9 +220,6 @@ drafts_born rs m work n at name a pt c counters_id space_id id rules can_work ca
     v : Version
     v = child_version (parts_of rs) c pt
 
-    number : a.number ≡ n
-    number = space_number (parts_of rs) n a there
-
     apart : PlacesApart counters_id space_id id
     apart = places_apart rs counters_id space_id id c a places
 
@@ -260,16 +234,6 @@ drafts_born rs m work n at name a pt c counters_id space_id id rules can_work ca
 
     away_new : (k : ℕ) → k < id → AwayFrom k (put id (records.Savepoint x) ∷ put (id + 1) (records.Space r) ∷ put (id + 2) (records.Version v) ∷ [])
     away_new k low = (below_apart k id low, (below_apart k (id + 1) (behind k 1 low), (below_apart k (id + 2) (behind k 2 low), tt)))
-
-    others : OthersStay (edits.Bear n at name ∷ []) rs batch
-    others = others_stay (edits.Bear n at name) rs batch
-        (λ k q found fixed. (
-          changed_apart (edits.Bear n at name) rs counters_id k (records.Counters c) q places.counters refl found fixed,
-          (
-            changed_apart (edits.Bear n at name) rs space_id k (records.Space a) q places.space (eq-eqb a.number n number) found fixed,
-            away_new k (under_found id rs k q places.under found),
-          ),
-        ))
 
     keeps : keep_rules (parts_of (applied batch rs)) ≡ true
     keeps = keep_plan_birth rs counters_id space_id id c (versioned c m work) a place implicit x a r v rules birth

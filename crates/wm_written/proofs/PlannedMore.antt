@@ -21,18 +21,18 @@ use Rattle.wm_state.specs.Batches.{keeps, AreDropped, AllUnder, fork_batch}
 use Rattle.wm_state.specs.Effects.{IsLeaf, IsFree}
 use Rattle.wm_state.specs.Drawing.{AreDrawn, is_clear, touched}
 use Rattle.wm_state.specs.Entries.{AreStamped, is_well, piece_of, pieces_of, rows_in, hists_from}
-use Rattle.wm_state.specs.State.{State, with_space, with_entries}
+use Rattle.wm_state.specs.State.{Durable, with_space, with_entries}
 use Rattle.wm_state.specs.Standing.{newest_first, latest, CountersStand, FieldsStand, Stands}
 use Rattle.wm_state.specs.Writes.{longer_by, put_all, write_batch, write_new_batch}
 use Rattle.wm_state.proofs.Apart.{ruled}
 use Rattle.wm_state.proofs.ById.{one_order, Ascend-set, record_at-set}
 use Rattle.wm_state.proofs.ByKind.{set-behind, under_found}
 use Rattle.wm_state.proofs.Forking.{FieldsStand-forked, Stands-forked}
-use Rattle.wm_state.proofs.Forks.{parts-forked, drops_none}
+use Rattle.wm_written.proofs.Forks.{parts-forked, drops_none}
 use Rattle.wm_state.proofs.Growing.{MayFork, forked, forked_of, keep-forked, found-below, below-next, same_counters}
-use Rattle.wm_state.proofs.Leaves.{leaf_new, free_new}
+use Rattle.wm_written.proofs.Leaves.{leaf_new, free_new}
 use Rattle.wm_state.proofs.Planned.{found_still, AllUnder-set, AllUnder-next}
-use Rattle.wm_state.proofs.PlannedWritten.{MayWriteAll, AreDrawnIn, stay, entries_batch, agree_written, keep_planned, plan_written}
+use Rattle.wm_written.proofs.PlannedWritten.{MayWriteAll, AreDrawnIn, stay, entries_batch, agree_written, keep_planned, plan_written}
 use Rattle.wm_state.proofs.Tests.{both, and_true, all_if}
 
 -- ---- the version first, and then the entries
@@ -243,7 +243,7 @@ keep_planned_new ss counters_id space_id id old mid new n a v table es drawn rul
     (subst (λ p. AreDrawnIn p n es drawn) (sym b.parts) (drawn_after (parts_of ss) old mid n a v es drawn rules may.fork are)))
 
 -- the records agree with the state that has the entries
-pub agree_written_new : (ss : List Stored) (counters_id space_id id : ℕ) (old mid new : Counters) (n : ℕ) (a : Space) (v : Version) (table : ℕ) (es : List Entry) (drawn : List PieceRecord) (s u : State)
+pub agree_written_new : (ss : List Stored) (counters_id space_id id : ℕ) (old mid new : Counters) (n : ℕ) (a : Space) (v : Version) (table : ℕ) (es : List Entry) (drawn : List PieceRecord) (s u : Durable)
     → keep_rules (parts_of ss) ≡ true → FieldsStand (parts_of ss) s → Stage ss counters_id space_id id old a → MayWriteMore (parts_of ss) old mid new n a v table es → AreDrawn (pieces_of v.number es) [] drawn
     → u.spaces ≡ with_space n (with_entries es) s.spaces → u.tables ≡ s.tables → ((q : Parts) → q.counters ≡ new ∷ [] → CountersStand q u)
     → FieldsStand (parts_of (applied (more_batch counters_id new space_id a id v es drawn) ss)) u
@@ -260,11 +260,11 @@ agree_written_new ss counters_id space_id id old mid new n a v table es drawn s 
     (subst (λ p. AreDrawnIn p n es drawn) (sym b.parts) (drawn_after (parts_of ss) old mid n a v es drawn rules may.fork are)) spaces tables counted_so)
   where
     -- the state between, which nobody sees
-    t : State
+    t : Durable
     t = record s { next_stamp = mid.next_stamp; last_moment = mid.last_moment; limit = mid.limit; work = mid.work }
 
 -- and stand for it
-pub plan_written_new : (ss : List Stored) (counters_id space_id id : ℕ) (old mid new : Counters) (n : ℕ) (a : Space) (v : Version) (table : ℕ) (es : List Entry) (drawn : List PieceRecord) (s u : State)
+pub plan_written_new : (ss : List Stored) (counters_id space_id id : ℕ) (old mid new : Counters) (n : ℕ) (a : Space) (v : Version) (table : ℕ) (es : List Entry) (drawn : List PieceRecord) (s u : Durable)
     → Stands (parts_of ss) s → Stage ss counters_id space_id id old a → MayWriteMore (parts_of ss) old mid new n a v table es → AreDrawn (pieces_of v.number es) [] drawn
     → u.spaces ≡ with_space n (with_entries es) s.spaces → u.tables ≡ s.tables → ((q : Parts) → q.counters ≡ new ∷ [] → CountersStand q u)
     → Stands (parts_of (applied (more_batch counters_id new space_id a id v es drawn) ss)) u
@@ -280,5 +280,5 @@ plan_written_new ss counters_id space_id id old mid new n a v table es drawn s u
     (subst (λ p. AreDrawnIn p n es drawn) (sym b.parts) (drawn_after (parts_of ss) old mid n a v es drawn st.rules may.fork are)) spaces tables counted_so)
   where
     -- the state between, which nobody sees
-    t : State
+    t : Durable
     t = record s { next_stamp = mid.next_stamp; last_moment = mid.last_moment; limit = mid.limit; work = mid.work }

@@ -15,15 +15,15 @@ use Rattle.wm_spec.specs.declared.record.version.Version.{Version}
 use Rattle.wm_state.specs.ById.{Ascend, set_at, applied}
 use Rattle.wm_state.specs.Batches.{AllUnder, savepoint_batch}
 use Rattle.wm_state.specs.Effects.{marked}
-use Rattle.wm_state.specs.State.{State, Workspace, workspace_of, with_space, with_savepoint}
+use Rattle.wm_state.specs.State.{Durable, Workspace, workspace_of, with_space, with_savepoint}
 use Rattle.wm_state.specs.State.{Savepoint as Kept}
 use Rattle.wm_state.specs.Standing.{saved_fields, fields_saved, CountersStand, FieldsStand, Stands}
 use Rattle.wm_state.proofs.ById.{Ascend-set}
 use Rattle.wm_state.proofs.ByKind.{kinds, Split, split_of, set-split, set-behind}
 use Rattle.wm_state.proofs.Planning.{recounted, parts-spaced, spaces-split, parts-more_savepoint, parts-more_space, parts-more_version}
 use Rattle.wm_state.proofs.Planned.{counted, found_still, AllUnder-set, AllUnder-next}
-use Rattle.wm_state.proofs.KeepSaved.{saved, MaySave, keep-saved, FieldsStand-kept, Stands-kept}
-use Rattle.wm_state.proofs.Saving.{IsKept}
+use Rattle.wm_forked.proofs.KeepSaved.{saved, MaySave, keep-saved, FieldsStand-kept, Stands-kept}
+use Rattle.wm_forked.proofs.Saving.{IsKept}
 
 -- ---- single steps
 
@@ -135,7 +135,7 @@ keep_plan_saved ss counters_id space_id old new a place implicit id x rules sort
     ap keep_rules s.is ∙ keep-saved (parts_of ss) old new s.front a s.back place implicit x (may s.front s.back s.old) rules
 
 -- agree with the state with the savepoint
-pub agree_saved : (ss : List Stored) (counters_id space_id : ℕ) (old new : Counters) (a : Space) (place implicit id : ℕ) (x : Savepoint) (w : Workspace) (k : Kept) (s u : State) → keep_rules (parts_of ss) ≡ true → FieldsStand (parts_of ss) s
+pub agree_saved : (ss : List Stored) (counters_id space_id : ℕ) (old new : Counters) (a : Space) (place implicit id : ℕ) (x : Savepoint) (w : Workspace) (k : Kept) (s u : Durable) → keep_rules (parts_of ss) ≡ true → FieldsStand (parts_of ss) s
     → Ascend ss → record_at ss counters_id ≡ Some (records.Counters old) → (parts_of ss).counters ≡ old ∷ [] → record_at ss space_id ≡ Some (records.Space a) → AllUnder id ss
     → ((front back : List Space) → (parts_of ss).spaces ≡ front ++ a ∷ back → MaySave (parts_of ss) old new front a back place implicit x)
     → workspace_of s.spaces x.space ≡ Some w → saved_fields x ≡ fields_saved k → u.spaces ≡ with_space x.space (with_savepoint place implicit k) s.spaces → u.tables ≡ s.tables
@@ -147,7 +147,7 @@ agree_saved ss counters_id space_id old new a place implicit id x w k s u rules 
     (record { counters = stands.counters; one = stands.one; next_stamp = stands.next_stamp; last_moment = stands.last_moment; limit = stands.limit; work = stands.work }))
 
 -- and stand for it
-pub plan_saved : (ss : List Stored) (counters_id space_id : ℕ) (old new : Counters) (a : Space) (place implicit id : ℕ) (x : Savepoint) (w : Workspace) (k : Kept) (s u : State) → Stands (parts_of ss) s → Ascend ss
+pub plan_saved : (ss : List Stored) (counters_id space_id : ℕ) (old new : Counters) (a : Space) (place implicit id : ℕ) (x : Savepoint) (w : Workspace) (k : Kept) (s u : Durable) → Stands (parts_of ss) s → Ascend ss
     → record_at ss counters_id ≡ Some (records.Counters old) → (parts_of ss).counters ≡ old ∷ [] → record_at ss space_id ≡ Some (records.Space a) → AllUnder id ss
     → ((front back : List Space) → (parts_of ss).spaces ≡ front ++ a ∷ back → MaySave (parts_of ss) old new front a back place implicit x)
     → workspace_of s.spaces x.space ≡ Some w → IsKept (parts_of ss) s.spaces w k x → u.spaces ≡ with_space x.space (with_savepoint place implicit k) s.spaces → u.tables ≡ s.tables

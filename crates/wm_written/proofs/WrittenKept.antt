@@ -17,7 +17,7 @@ use Rattle.wm_state.specs.Drawing.{AreDrawn, touched}
 use Rattle.wm_state.specs.Entries.{hists_from, pieces_of, rows_in}
 use Rattle.wm_state.specs.Writes.{put_all, write_batch, write_new_batch}
 use Rattle.wm_state.proofs.Tests.{both, and_true}
-use Rattle.wm_state.proofs.Touched.{met-same, touched-all}
+use Rattle.wm_written.proofs.Touched.{met-same, touched-all}
 
 -- ---- changes
 

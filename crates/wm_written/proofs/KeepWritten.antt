@@ -19,7 +19,7 @@ use Rattle.wm_state.proofs.Keeping.{le_of, le_itself, KeepTables, KeepTables-sam
 use Rattle.wm_state.proofs.Named.{ruled_savepoints}
 use Rattle.wm_state.proofs.Respaced.{MayReplace, is_counted, space_here, spaces_replaced, versions_replaced}
 use Rattle.wm_state.proofs.Tests.{both, and_true, all_if, all_filter, all_swap, all_middle, differ_filter, none_if}
-use Rattle.wm_state.proofs.Touched.{AreApart}
+use Rattle.wm_written.proofs.Touched.{AreApart}
 
 -- the records with more rows, more pieces in the place of some, a log of one workspace that is longer by so many, more entries of logs,
 -- and other counters

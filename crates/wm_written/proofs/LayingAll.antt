@@ -10,9 +10,9 @@ use Rattle.wm_state.specs.Drawing.{AreDrawn, is_clear, stored_last, touched}
 use Rattle.wm_state.specs.Entries.{pieces_of}
 use Rattle.wm_state.specs.Standing.{held_of, stored_at}
 use Rattle.wm_state.specs.Writes.{AreAllLaid}
-use Rattle.wm_state.proofs.Entered.{stored-entries}
+use Rattle.wm_written.proofs.Entered.{stored-entries}
 use Rattle.wm_state.proofs.Laying.{stored-append}
-use Rattle.wm_state.proofs.Touched.{all-held, clear-held}
+use Rattle.wm_written.proofs.Touched.{all-held, clear-held}
 
 -- the pieces that stand for those that are touched, with those of entries over them, beside those that are clear of these
 pub laid-drawn : (version : ℕ) (es : List Entry) (old drawn : List PieceRecord) → differ collide old ≡ true → AreDrawn (pieces_of version es) (touched (pieces_of version es) old) drawn

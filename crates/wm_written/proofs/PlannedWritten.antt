@@ -22,27 +22,27 @@ use Rattle.wm_state.specs.Batches.{keeps, AreDropped, AllUnder, drop_one}
 use Rattle.wm_state.specs.Effects.{IsLeaf, IsFree}
 use Rattle.wm_state.specs.Drawing.{AreDrawn, is_clear, touched}
 use Rattle.wm_state.specs.Entries.{AreStamped, is_well, pieces_of, rows_in, hists_from}
-use Rattle.wm_state.specs.State.{State, with_space, with_entries}
+use Rattle.wm_state.specs.State.{Durable, with_space, with_entries}
 use Rattle.wm_state.specs.Standing.{newest_first, latest, CountersStand, FieldsStand, Stands}
 use Rattle.wm_state.specs.Writes.{longer_by, WroteAll, put_all, write_batch}
 use Rattle.wm_state.proofs.Appending.{find_before}
 use Rattle.wm_state.proofs.Apart.{Ruled, ruled, apart_of, newest_record}
 use Rattle.wm_state.proofs.ById.{Ascend-set}
 use Rattle.wm_state.proofs.ByKind.{kinds, stored, Split, split_of, set-split, set-behind}
-use Rattle.wm_state.proofs.Dropping.{dropped}
-use Rattle.wm_state.proofs.DrawnWell.{piece-parts}
-use Rattle.wm_state.proofs.EntryRecords.{rows_from, rows_differ, rows_well, told_row, each_row, pieces_well, hists_on, hists_differ, hists_well}
+use Rattle.wm_written.proofs.Dropping.{dropped}
+use Rattle.wm_written.proofs.DrawnWell.{piece-parts}
+use Rattle.wm_written.proofs.EntryRecords.{rows_from, rows_differ, rows_well, told_row, each_row, pieces_well, hists_on, hists_differ, hists_well}
 use Rattle.wm_state.proofs.Keeping.{KeepTables-same, KeepVersions-same, is_piece-kept}
-use Rattle.wm_state.proofs.KeepWritten.{all_written, MayPut, keep-written, spaces_longer, rows_found, KeepRows-append}
+use Rattle.wm_written.proofs.KeepWritten.{all_written, MayPut, keep-written, spaces_longer, rows_found, KeepRows-append}
 use Rattle.wm_state.proofs.DrawingEnds.{ends-beside}
-use Rattle.wm_state.proofs.DrawingTouched.{kept-apart}
-use Rattle.wm_state.proofs.LayingAll.{laid-drawn}
+use Rattle.wm_written.proofs.DrawingTouched.{kept-apart}
+use Rattle.wm_written.proofs.LayingAll.{laid-drawn}
 use Rattle.wm_state.proofs.Named.{space_number}
 use Rattle.wm_state.proofs.Planned.{counted, found_still, AllUnder-filter, AllUnder-next, AllUnder-set, applied-append, dropped-still}
 use Rattle.wm_state.proofs.Planning.{recounted, parts-spaced, spaces-split, parts-more_row, parts-more_piece, parts-more_hist, parts-filtered}
 use Rattle.wm_state.proofs.Respaced.{space_here, space_elsewhere}
 use Rattle.wm_state.proofs.Tests.{both, all_if, all_filter}
-use Rattle.wm_state.proofs.WritingAll.{FieldsStand-wrote_all, Stands-wrote_all}
+use Rattle.wm_written.proofs.WritingAll.{FieldsStand-wrote_all, Stands-wrote_all}
 
 -- ---- new records behind the others
 
@@ -365,7 +365,7 @@ keep_planned ss counters_id space_id old new a ids id n table es drawn rules sor
     (may_put (parts_of ss) old new n a table es drawn rules may are i.front i.back i.old) rules)
 
 -- the records agree with the state that has the entries
-pub agree_written : (ss : List Stored) (counters_id space_id : ℕ) (old new : Counters) (a : Space) (ids : List ℕ) (id n table : ℕ) (es : List Entry) (drawn : List PieceRecord) (s u : State) → keep_rules (parts_of ss) ≡ true
+pub agree_written : (ss : List Stored) (counters_id space_id : ℕ) (old new : Counters) (a : Space) (ids : List ℕ) (id n table : ℕ) (es : List Entry) (drawn : List PieceRecord) (s u : Durable) → keep_rules (parts_of ss) ≡ true
     → FieldsStand (parts_of ss) s → Ascend ss → record_at ss counters_id ≡ Some (records.Counters old) → record_at ss space_id ≡ Some (records.Space a) → AreDropped (keeps (stay (parts_of ss) n es)) ids ss → AllUnder id ss
     → MayWriteAll (parts_of ss) old new n a table es → AreDrawnIn (parts_of ss) n es drawn → u.spaces ≡ with_space n (with_entries es) s.spaces → u.tables ≡ s.tables
     → ((q : Parts) → q.counters ≡ new ∷ [] → CountersStand q u) → FieldsStand (parts_of (applied (entries_batch counters_id new space_id a ids id es drawn) ss)) u
@@ -376,7 +376,7 @@ agree_written ss counters_id space_id old new a ids id n table es drawn s u rule
     (FieldsStand-wrote_all (parts_of ss) q s u n es (wrote-all (parts_of ss) old new n a table es drawn rules may are i.front i.back i.old) st spaces tables (counted_so q refl))
 
 -- and stand for it
-pub plan_written : (ss : List Stored) (counters_id space_id : ℕ) (old new : Counters) (a : Space) (ids : List ℕ) (id n table : ℕ) (es : List Entry) (drawn : List PieceRecord) (s u : State) → Stands (parts_of ss) s
+pub plan_written : (ss : List Stored) (counters_id space_id : ℕ) (old new : Counters) (a : Space) (ids : List ℕ) (id n table : ℕ) (es : List Entry) (drawn : List PieceRecord) (s u : Durable) → Stands (parts_of ss) s
     → Ascend ss → record_at ss counters_id ≡ Some (records.Counters old) → record_at ss space_id ≡ Some (records.Space a) → AreDropped (keeps (stay (parts_of ss) n es)) ids ss → AllUnder id ss
     → MayWriteAll (parts_of ss) old new n a table es → AreDrawnIn (parts_of ss) n es drawn → u.spaces ≡ with_space n (with_entries es) s.spaces → u.tables ≡ s.tables
     → ((q : Parts) → q.counters ≡ new ∷ [] → CountersStand q u) → Stands (parts_of (applied (entries_batch counters_id new space_id a ids id es drawn) ss)) u

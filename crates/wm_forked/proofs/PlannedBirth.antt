@@ -16,20 +16,20 @@ use Rattle.wm_spec.specs.declared.record.version.Version.{Version}
 use Rattle.wm_state.specs.ById.{Ascend, set_at, applied}
 use Rattle.wm_state.specs.Batches.{AllUnder, put, savepoint_batch, birth_batch}
 use Rattle.wm_state.specs.Effects.{marked}
-use Rattle.wm_state.specs.State.{State, Workspace, workspace_of, with_space, with_savepoint}
+use Rattle.wm_state.specs.State.{Durable, Workspace, workspace_of, with_space, with_savepoint}
 use Rattle.wm_state.specs.State.{Savepoint as Kept}
 use Rattle.wm_state.specs.Standing.{fields_of, fields_in, saved_fields, fields_saved, CountersStand, FieldsStand, Stands}
 use Rattle.wm_state.proofs.ById.{one_order}
 use Rattle.wm_state.proofs.Batches.{over_it, Ascend-applied, record_at-applied}
 use Rattle.wm_state.proofs.ByKind.{under_found}
 use Rattle.wm_state.proofs.Planning.{recounted}
-use Rattle.wm_state.proofs.Saving.{IsKept}
-use Rattle.wm_state.proofs.KeepSaved.{MaySave}
-use Rattle.wm_state.proofs.PlannedSaved.{SavedParts, parts-saved, AllUnder-saved, changes-saved}
-use Rattle.wm_state.proofs.Birth.{IsChild}
-use Rattle.wm_state.proofs.KeepBorn.{MayBear, born}
-use Rattle.wm_state.proofs.PlannedBorn.{child_batch, parts-born}
-use Rattle.wm_state.proofs.Births.{between, birthed, keep-birth, FieldsStand-birth, Stands-birth}
+use Rattle.wm_forked.proofs.Saving.{IsKept}
+use Rattle.wm_forked.proofs.KeepSaved.{MaySave}
+use Rattle.wm_forked.proofs.PlannedSaved.{SavedParts, parts-saved, AllUnder-saved, changes-saved}
+use Rattle.wm_forked.proofs.Birth.{IsChild}
+use Rattle.wm_forked.proofs.KeepBorn.{MayBear, born}
+use Rattle.wm_forked.proofs.PlannedBorn.{child_batch, parts-born}
+use Rattle.wm_forked.proofs.Births.{between, birthed, keep-birth, FieldsStand-birth, Stands-birth}
 
 -- ---- the ids of the batch
 
@@ -178,7 +178,7 @@ keep_plan_birth ss counters_id space_id id old new a place implicit x b r v rule
     ap keep_rules i.is ∙ keep-birth (parts_of ss) old new i.front a i.back place implicit x b r v (may.save i.front i.back i.old_spaces) may.bear rules
 
 -- the records agree with the state with the savepoint and the workspace
-pub agree_birth : (ss : List Stored) (counters_id space_id id : ℕ) (old new : Counters) (a : Space) (place implicit : ℕ) (x : Savepoint) (b r : Space) (v : Version) (parent child : Workspace) (k : Kept) (s u : State)
+pub agree_birth : (ss : List Stored) (counters_id space_id id : ℕ) (old new : Counters) (a : Space) (place implicit : ℕ) (x : Savepoint) (b r : Space) (v : Version) (parent child : Workspace) (k : Kept) (s u : Durable)
     → keep_rules (parts_of ss) ≡ true → FieldsStand (parts_of ss) s → MayBirth ss counters_id space_id id old new a place implicit x b r v → workspace_of s.spaces x.space ≡ Some parent → saved_fields x ≡ fields_saved k
     → fields_of r ≡ fields_in child → child.number ≡ r.number → child.savepoints ≡ [] → u.spaces ≡ with_space x.space (with_savepoint place implicit k) s.spaces ++ child ∷ [] → u.tables ≡ s.tables
     → CountersStand (recounted (parts_of ss) new) u → FieldsStand (parts_of (applied (birth_batch counters_id new space_id (marked place implicit a) id x r v) ss)) u
@@ -189,7 +189,7 @@ agree_birth ss counters_id space_id id old new a place implicit x b r v parent c
     (record { counters = counters.counters; one = counters.one; next_stamp = counters.next_stamp; last_moment = counters.last_moment; limit = counters.limit; work = counters.work }))
 
 -- and stand for it
-pub plan_birth : (ss : List Stored) (counters_id space_id id : ℕ) (old new : Counters) (a : Space) (place implicit : ℕ) (x : Savepoint) (b r : Space) (v : Version) (parent child : Workspace) (k : Kept) (es : List Entry) (s u : State)
+pub plan_birth : (ss : List Stored) (counters_id space_id id : ℕ) (old new : Counters) (a : Space) (place implicit : ℕ) (x : Savepoint) (b r : Space) (v : Version) (parent child : Workspace) (k : Kept) (es : List Entry) (s u : Durable)
     → Stands (parts_of ss) s → MayBirth ss counters_id space_id id old new a place implicit x b r v → workspace_of s.spaces x.space ≡ Some parent → IsKept (parts_of ss) s.spaces parent k x → IsChild (parts_of ss) s.spaces r child es
     → u.spaces ≡ with_space x.space (with_savepoint place implicit k) s.spaces ++ child ∷ [] → u.tables ≡ s.tables → CountersStand (recounted (parts_of ss) new) u
     → Stands (parts_of (applied (birth_batch counters_id new space_id (marked place implicit a) id x r v) ss)) u
