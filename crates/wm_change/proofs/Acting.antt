@@ -81,8 +81,8 @@ pub writes_none : (rs : List Stored) (m : ℕ) (p : Planned) (session : Session)
 writes_none rs m p session a t count changes rules empty none seats says =
     answers_so rs m p session a (write_ascending session.user t count changes) (Done 0) rules (λ s w. ap (λ (xs : List RowChange). write_ascending session.user t count xs s w) empty) none seats says
 
-left_is : (c : Counters) (s : State) (k : ℕ) → CountsAs c s → nat_le (s.next_stamp + k) (s.limit + 1) ≡ nat_le (c.next_stamp + k) (c.limit + 1)
-left_is c s k counts = ap (λ n. nat_le (n + k) (s.limit + 1)) (sym counts.next_stamp) ∙ ap (λ n. nat_le (c.next_stamp + k) (n + 1)) (sym counts.limit)
+left_is : (c : Counters) (s : State) (k : ℕ) → CountsAs c s.durable → nat_le (s.durable.next_stamp + k) (s.durable.limit + 1) ≡ nat_le (c.next_stamp + k) (c.limit + 1)
+left_is c s k counts = ap (λ n. nat_le (n + k) (s.durable.limit + 1)) (sym counts.next_stamp) ∙ ap (λ n. nat_le (c.next_stamp + k) (n + 1)) (sym counts.limit)
 
 -- no changes are left for so many
 pub writes_full : (rs : List Stored) (m : ℕ) (p : Planned) (session : Session) (a : Space) (t : Table) (c : Counters) (count : ℕ) (changes : List RowChange) → keep_rules (parts_of rs) ≡ true → are_sorted (change_keys changes) ≡ true
@@ -99,12 +99,12 @@ writes_full rs m p session a t c count (x ∷ xs) rules up some one full none se
 -- they are written where changes are left
 writes : (rs : List Stored) (xs : List Session) (m : ℕ) (session : Session) (a : Space) (t : Table) (c : Counters) (count : ℕ) (changes : List RowChange) (s : State) (w : Workspace) → are_sorted (change_keys changes) ≡ true
     → (changes ≡ [] → ⊥) → (parts_of rs).counters ≡ c ∷ [] → nat_le (c.next_stamp + length changes) (c.limit + 1) ≡ true → StandsAt rs xs m s → a.log_length ≡ length w.lists.log
-    → write_ascending session.user t count changes s w ≡ durably s (a.log_length + length changes) (written_all w.number (entries_of s session.user t changes) s, Done count)
+    → write_ascending session.user t count changes s w ≡ durably s (a.log_length + length changes) (record s { durable = written_all w.number (entries_of s session.user t changes) s.durable }, Done count)
 writes rs xs m session a t c count [] s w up some one left st log = absurd (some refl)
 writes rs xs m session a t c count (x ∷ changes) s w up some one left st log =
     ascending session.user t count (x ∷ changes) s w up
     ∙ rw (left_is c s (length (x ∷ changes)) (counts_as rs xs m s c st one) ∙ left) refl
-    ∙ ap (λ l. durably s (l + length (x ∷ changes)) (written_all w.number (entries_of s session.user t (x ∷ changes)) s, Done count)) (sym log)
+    ∙ ap (λ l. durably s (l + length (x ∷ changes)) (record s { durable = written_all w.number (entries_of s session.user t (x ∷ changes)) s.durable }, Done count)) (sym log)
 
 -- the log is at its end
 pub writes_long : (rs : List Stored) (m : ℕ) (p : Planned) (session : Session) (a : Space) (t : Table) (c : Counters) (count : ℕ) (changes : List RowChange) → keep_rules (parts_of rs) ≡ true → are_sorted (change_keys changes) ≡ true
@@ -114,7 +114,7 @@ writes_long rs m p session a t c count changes rules up some one left long none 
     does_answer rs m p session a (write_ascending session.user t count changes) (at_its_end (codes "LOG")) rules
     (λ xs s w st home.
     writes rs xs m session a t c count changes s w up some one left st home.log
-    ∙ spent_log s (a.log_length + length changes) (written_all w.number (entries_of s session.user t changes) s, Done count) long) none seats says
+    ∙ spent_log s (a.log_length + length changes) (record s { durable = written_all w.number (entries_of s session.user t changes) s.durable }, Done count) long) none seats says
 
 -- they are
 pub writes_all : (rs : List Stored) (m : ℕ) (r : Result Planned Memory) (session : Session) (a : Space) (t : Table) (c : Counters) (count : ℕ) (changes : List RowChange) → are_sorted (change_keys changes) ≡ true
@@ -123,7 +123,7 @@ pub writes_all : (rs : List Stored) (m : ℕ) (r : Result Planned Memory) (sessi
 writes_all rs m (Ok p) session a t c count changes up some one left does = λ xs act acts. does xs act (λ s st.
     let h = acts s st in
     h.2 ∙ writes rs xs m session a t c count changes s h.0 up some one left st h.1.log
-    ∙ ap (λ n. durably s (a.log_length + length changes) (written_all n (entries_of s session.user t changes) s, Done count)) h.1.number)
+    ∙ ap (λ n. durably s (a.log_length + length changes) (record s { durable = written_all n (entries_of s session.user t changes) s.durable }, Done count)) h.1.number)
 writes_all rs m (Err e) session a t c count changes up some one left does = tt
 
 -- ---- how many there are

@@ -113,7 +113,7 @@ pub spent_all : (rs : List Stored) (m : ℕ) (session : Session) (p : Planned) (
 spent_all rs m session p t a c count changes one short much none seats says = λ xs act same.
     told rs xs m p [] Stay (at_its_end (codes "WORK")) act none seats says
     (does_nothing rs xs m (at_its_end (codes "WORK")) act
-    (λ s st. same s st ∙ spent_at rs xs m s (a.log_length + length changes) c (written_all session.space (entries_of s session.user t changes) s, Done count) st one short much))
+    (λ s st. same s st ∙ spent_at rs xs m s (a.log_length + length changes) c (record s { durable = written_all session.space (entries_of s session.user t changes) s.durable }, Done count) st one short much))
 
 -- ---- how many they are
 

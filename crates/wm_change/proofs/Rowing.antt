@@ -52,7 +52,7 @@ does_rows rs m r session a filter act t period version rows given in_it newest a
     done xs s w st home =
         ap (λ n. act t (within n session t) (chosen t filter (rows_in (within n session t) (content w) t)) s w) (sym st.moment_is)
         ∙ ap (λ p. act t p (chosen t filter (rows_in p (content w) t)) s w) (sym in_it)
-        ∙ ap (λ all. act t period (chosen t filter all) s w) (sym (showing_is (parts_of rs) s session.space w t.number t.valid period are.all st.stands home.is listed))
+        ∙ ap (λ all. act t period (chosen t filter all) s w) (sym (showing_is (parts_of rs) s.durable session.space w t.number t.valid period are.all st.stands home.is listed))
         ∙ ap (λ xs. act t period xs s w) (sym (same ∙ are.are))
 
 -- ---- DELETE

@@ -16,7 +16,7 @@ use Rattle.wm_plan.specs.declared.planned.Planned.{Planned}
 
 -- the workspace is the one that a session stands in, and as long is its log as the record says
 pub record IsHome (s : State) (session : Session) (a : Space) (w : Workspace) : Type 0 where
-  pub is : workspace_of s.spaces session.space ≡ Some w
+  pub is : workspace_of s.durable.spaces session.space ≡ Some w
   pub number : w.number ≡ session.space
   pub log : a.log_length ≡ length w.lists.log
 

@@ -24,7 +24,7 @@ is_filled_change x = list_all is_filled x.key && option_map_or (list_all is_fill
 abbrev pub ActWrites : List Stored → List Session → ℕ → Session → Space → Table → ℕ → List RowChange → (State → State × Answer) → Type 0
 ActWrites rs xs m session a t count changes act =
     (s : State) → StandsAt rs xs m s
-    → act s ≡ durably s (a.log_length + length changes) (written_all session.space (entries_of s session.user t changes) s, Done count)
+    → act s ≡ durably s (a.log_length + length changes) (record s { durable = written_all session.space (entries_of s session.user t changes) s.durable }, Done count)
 
 -- the plan does and answers what each such function does and answers
 abbrev pub WritesAll : List Stored → ℕ → Session → Space → Table → ℕ → List RowChange → Planned → Type 0

@@ -156,8 +156,8 @@ impl Engine {
         // Such a line writes nothing, and syncs nothing.
         ensures unwritten { P.tells → (s : State) → StandsFor self.old s → is_idle (step s line.now).1 ≡ true → P.history station.new ≡ P.history station.old }
         // Nor does any line that counts no work change a record, write, or sync: one that moves a session or the moment alone.
-        ensures workless { (s : State) → StandsFor self.old s → (step s line.now).0.work ≡ s.work → OnOk result (self.new.records ≡ self.old.records) }
-        ensures workless_unwritten { P.tells → (s : State) → StandsFor self.old s → (step s line.now).0.work ≡ s.work → P.history station.new ≡ P.history station.old }
+        ensures workless { (s : State) → StandsFor self.old s → (step s line.now).0.durable.work ≡ s.durable.work → OnOk result (self.new.records ≡ self.old.records) }
+        ensures workless_unwritten { P.tells → (s : State) → StandsFor self.old s → (step s line.now).0.durable.work ≡ s.durable.work → P.history station.new ≡ P.history station.old }
         // A crash at any moment of the call, and a read after it, finds a file that stands for the state before the line or after it.
         ensures any_moment { P.tells → (s : State) → StandsFor self.old s → Ended (P.history station.old) (P.history station.new) (λ file. FileStands file s ⊎ FileStands file (step s line.now).0) }
         // Whatever the records stand for, the file stays a store whose records keep the rules, where the engine's do.

@@ -102,8 +102,8 @@ pub fn run_line<P: Station>(
     // A line that is refused, that reads, that changes no row, or that says nothing does not touch the file, whatever the result.
     ensures unwritten { P.tells → (s : State) → StandsAt image sessions.old.items moment s → is_idle (step s line.now).1 ≡ true → P.history station.new ≡ P.history station.old }
     // Nor does one that counts no work.
-    ensures workless { IfOk result (λ k. (s : State) → StandsAt image sessions.old.items moment s → (step s line.now).0.work ≡ s.work → k.image ≡ image) }
-    ensures workless_unwritten { P.tells → (s : State) → StandsAt image sessions.old.items moment s → (step s line.now).0.work ≡ s.work → P.history station.new ≡ P.history station.old }
+    ensures workless { IfOk result (λ k. (s : State) → StandsAt image sessions.old.items moment s → (step s line.now).0.durable.work ≡ s.durable.work → k.image ≡ image) }
+    ensures workless_unwritten { P.tells → (s : State) → StandsAt image sessions.old.items moment s → (step s line.now).0.durable.work ≡ s.durable.work → P.history station.new ≡ P.history station.old }
     ensures works { P.tells → IfOk result (λ k. KeepsOver store.new k.image (P.history station.new)) }
     ensures any_moment { P.tells → (s : State) → StandsAt image sessions.old.items moment s → Ended (P.history station.old) (P.history station.new) (λ file. FileStands file s ⊎ FileStands file (step s line.now).0) }
     // Whatever the records stand for, the file stays a store whose records keep the rules.
