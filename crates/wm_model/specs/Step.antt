@@ -26,7 +26,7 @@ pub use Rattle.wm_print.specs.Texts.{Answer, answer_text}
 pub use Rattle.wm_model.specs.Step.Refusing.{not_built, too_long_line, no_text, syntax, bad_literal, no_session, session_there, bad_name, long_name, mistyped, reserved_name, no_table, table_there, versioning, no_key, no_workspace, workspace_there, no_savepoint, savepoint_there, not_latest, moment_back, key_there, empty_period, change_limit, most_workspaces, most_savepoints, most_tables, most_rows, most_sessions, out_of_range, at_its_end, unless, unless_mistyped, unless_empty_period}
 pub use Rattle.wm_model.specs.Step.Counting.{durably}
 pub use Rattle.wm_model.specs.Step.Naming.{is_name, names_no_workspace, latest, names_no_savepoint, session_of, with_table, with_named, at_home}
-pub use Rattle.wm_model.specs.Step.Sessions.{closed, moved_to, limited, connect, disconnect, set_moment}
+pub use Rattle.wm_model.specs.Step.Sessions.{closed, Setting, with_setting, altered, connect, disconnect, set_moment}
 pub use Rattle.wm_model.specs.Step.Tables.{is_full, create, enable}
 pub use Rattle.wm_model.specs.Step.Periods.{within, set_period, set_valid_time}
 pub use Rattle.wm_model.specs.Step.Querying.{rows_in, lost_source, tables_of, table_off, source_name, columns_in, shown_by, sources_in, answer_rows, select_ready, select_from, select_among, select}

@@ -6,8 +6,8 @@ use Rattle.wm_print.specs.Texts as texts
 use Rattle.wm_plan.specs.declared.answer.Answer.{Answer}
 use Rattle.wm_plan.specs.declared.answer.Answer.TheVariants.{Nothing, Fine, Done, Listing, Refused}
 use Rattle.wm_plan.specs.declared.seating.Seating.{Seating}
-use Rattle.wm_plan.specs.declared.seating.Seating.TheVariants.{Stay, Open, Close, Move, Limit}
-use Rattle.wm_plan.specs.Stands.{stand_view}
+use Rattle.wm_plan.specs.declared.seating.Seating.TheVariants.{Stay, Open, Close, Set}
+use Rattle.wm_plan.specs.Stands.{setting_view}
 
 abbrev pub answer_view : Answer → texts.Answer
 answer_view Nothing = texts.Nothing
@@ -28,5 +28,4 @@ abbrev pub seating_view : Seating → planning.Seating
 seating_view Stay = planning.Stay
 seating_view (Open session) = planning.Open session
 seating_view (Close name) = planning.Close name
-seating_view (Move name space stand) = planning.Move name space (stand_view stand)
-seating_view (Limit name period) = planning.Limit name period
+seating_view (Set name setting) = planning.Set name (setting_view setting)

@@ -1,13 +1,13 @@
 //! What becomes of the sessions.
 ghost use Rattle.std.specs.Prelude.{◌≡◌, ◌++◌, ◌∷◌, [], OnOk, if◌then◌else◌};
 ghost use Rattle.std.specs.Str.{bytes_eq};
-ghost use Rattle.wm_plan.specs.Stands.{stand_view};
+ghost use Rattle.wm_plan.specs.Stands.{setting_view};
 ghost use Rattle.wm_plan.specs.Views.{seating_view};
 ghost use Rattle.wm_model.specs.Planning.{seated};
-ghost use Rattle.wm_model.specs.Step.{closed, limited, moved_to};
+ghost use Rattle.wm_model.specs.Step.{altered, closed, with_setting};
 
-use crate::session::{Session, Stand};
-use wm_base::{Memory, Name, Period};
+use crate::session::{Session, Setting};
+use wm_base::{Memory, Name};
 
 /// What a line does to the sessions.
 #[derive(Drop)]
@@ -18,16 +18,10 @@ pub enum Seating {
     Open(Session),
     /// The one of this name is closed.
     Close(Name),
-    /// The one of this name stands elsewhere.
-    Move {
+    /// This is set of the one of this name.
+    Set {
         name: Name,
-        space: u32,
-        stand: Stand,
-    },
-    /// The one of this name has this period set, or none.
-    Limit {
-        name: Name,
-        period: Option<Period>,
+        setting: Setting,
     },
 }
 
@@ -38,41 +32,22 @@ fn close(sessions: &mut Vec<Session>, name: &Name)
     sessions.retain(|session| !session.is_named(name));
 }
 
-/// Stands the session elsewhere, where it has this name.
-fn move_one(session: &mut Session, name: &Name, space: u32, stand: Stand)
-    ensures { session.new ≡ (if bytes_eq name.now session.old.name then record session.old { space = space; stand = stand_view stand } else session.old) }
+/// Sets this of the session, where it has this name.
+fn alter_one(session: &mut Session, name: &Name, setting: Setting)
+    ensures { session.new ≡ (if bytes_eq name.now session.old.name then with_setting (setting_view setting) session.old else session.old) }
 {
     if session.is_named(name) {
-        session.go(space, stand);
+        session.set(setting);
     }
 }
 
-/// Stands the sessions of a name elsewhere.
-fn move_to(sessions: &mut [Session], name: &Name, space: u32, stand: Stand)
-    ensures { sessions.new ≡ moved_to name.now space (stand_view stand) sessions.old }
+/// Sets this of the sessions of a name.
+fn alter(sessions: &mut [Session], name: &Name, setting: Setting)
+    ensures { sessions.new ≡ altered name.now (setting_view setting) sessions.old }
 {
     if let Some((session, rest)) = sessions.split_first_mut() {
-        move_one(session, name, space, stand);
-        move_to(rest, name, space, stand);
-    }
-}
-
-/// Sets the period of the session, where it has this name.
-fn limit_one(session: &mut Session, name: &Name, period: &Option<Period>)
-    ensures { session.new ≡ (if bytes_eq name.now session.old.name then record session.old { period = period.now } else session.old) }
-{
-    if session.is_named(name) {
-        session.limit(*period);
-    }
-}
-
-/// Sets the period of the sessions of a name.
-fn limit(sessions: &mut [Session], name: &Name, period: &Option<Period>)
-    ensures { sessions.new ≡ limited name.now period.now sessions.old }
-{
-    if let Some((session, rest)) = sessions.split_first_mut() {
-        limit_one(session, name, period);
-        limit(rest, name, period);
+        alter_one(session, name, setting);
+        alter(rest, name, setting);
     }
 }
 
@@ -84,8 +59,7 @@ pub fn seat(sessions: &mut Vec<Session>, seating: Seating) -> Result<(), Memory>
         Seating::Stay => {}
         Seating::Open(session) => sessions.push(session)?,
         Seating::Close(name) => close(sessions, &name),
-        Seating::Move { name, space, stand } => move_to(sessions, &name, space, stand),
-        Seating::Limit { name, period } => limit(sessions, &name, &period),
+        Seating::Set { name, setting } => alter(sessions, &name, setting),
     }
     Ok(())
 }

@@ -2,9 +2,9 @@
 ghost use Rattle.std.specs.Prelude.{◌≡◌, None, is_some, true};
 ghost use Rattle.std.specs.Option.{option_copied};
 ghost use Rattle.std.specs.Str.{bytes_eq};
-ghost use Rattle.wm_plan.specs.Stands.{stand_view};
+ghost use Rattle.wm_plan.specs.Stands.{setting_view, stand_view};
 ghost use Rattle.wm_graph.specs.Rules.{is_short};
-ghost use Rattle.wm_model.specs.Step.{session_of};
+ghost use Rattle.wm_model.specs.Step.{session_of, with_setting};
 ghost use Rattle.wm_state.specs.State.{Latest};
 
 use std::marker::Model;
@@ -17,6 +17,15 @@ pub enum Stand {
     Latest,
     /// At the savepoint of this making.
     At(u64),
+}
+
+/// What is set of a session.
+#[derive(Clone, Copy)]
+pub enum Setting {
+    /// The workspace that it stands in, and where there.
+    Stand { space: u32, stand: Stand },
+    /// The period in which it sees rows and changes them, or none.
+    Period(Option<Period>),
 }
 
 /// Somebody who is connected, under the name that lines begin with.
@@ -100,19 +109,17 @@ impl Session {
         name.as_bytes() == self.name.as_bytes()
     }
 
-    /// Stands the session elsewhere.
-    pub fn go(&mut self, space: u32, stand: Stand)
-        ensures { self.new ≡ record self.old { space = space; stand = stand_view stand } }
+    /// Sets this of it.
+    pub fn set(&mut self, setting: Setting)
+        ensures { self.new ≡ with_setting (setting_view setting) self.old }
     {
-        self.space = space;
-        self.stand = stand;
-    }
-
-    /// Sets the period in which it sees rows and changes them, or sets none.
-    pub fn limit(&mut self, period: Option<Period>)
-        ensures { self.new ≡ record self.old { period = period } }
-    {
-        self.period = period;
+        match setting {
+            Setting::Stand { space, stand } => {
+                self.space = space;
+                self.stand = stand;
+            }
+            Setting::Period(period) => self.period = period,
+        }
     }
 }
 

@@ -6,7 +6,8 @@ ghost use Rattle.wm_plan.specs.Stands.{stand_view};
 ghost use Rattle.wm_plan.specs.Views.{answer_view, seating_view};
 ghost use Rattle.wm_graph.specs.Parts.{parts_of};
 ghost use Rattle.wm_graph.specs.Rules.{keep_rules};
-ghost use Rattle.wm_model.specs.Planning.{Move};
+ghost use Rattle.wm_model.specs.Planning.{Set};
+ghost use Rattle.wm_model.specs.Step.Sessions as settings;
 ghost use Rattle.wm_model.specs.Step.{goto_savepoint, goto_workspace};
 ghost use Rattle.wm_print.specs.Texts.{Fine};
 ghost use Rattle.wm_state.specs.State.{Session as SessionState};
@@ -15,7 +16,7 @@ use wm_plan::names::is_latest;
 use wm_plan::planned::Planned;
 use wm_plan::refuse::{no_savepoint, no_workspace, not_built};
 use wm_plan::seating::Seating;
-use wm_plan::session::{Session, Stand};
+use wm_plan::session::{Session, Setting, Stand};
 use std::alloc::Global;
 use wm_base::{Memory, Name};
 use wm_image::Image;
@@ -23,11 +24,12 @@ use wm_image::Image;
 /// Stands a session elsewhere.
 fn go(alloc: Global, session: &Session, space: u32, stand: Stand) -> Result<Planned, Memory>
     ensures edits { IfOk result (λ p. p.edits.items ≡ []) }
-    ensures seating { IfOk result (λ p. seating_view p.seating ≡ Move session.now.name space (stand_view stand)) }
+    ensures seating { IfOk result (λ p. seating_view p.seating ≡ Set session.now.name (settings.Stand space (stand_view stand))) }
     ensures answer { IfOk result (λ p. answer_view p.answer ≡ Fine) }
 {
     let name = session.name().copy(alloc)?;
-    Ok(Planned::seated(alloc, Seating::Move { name, space, stand }))
+    let setting = Setting::Stand { space, stand };
+    Ok(Planned::seated(alloc, Seating::Set { name, setting }))
 }
 
 /// GotoWorkspace stands the session in a workspace, at what is newest.

@@ -5,7 +5,8 @@ ghost use Rattle.wm_plan.specs.Planning.{DoesIt};
 ghost use Rattle.wm_plan.specs.Views.{answer_view, seating_view};
 ghost use Rattle.wm_graph.specs.Parts.{parts_of};
 ghost use Rattle.wm_graph.specs.Rules.{keep_rules};
-ghost use Rattle.wm_model.specs.Planning.{Limit};
+ghost use Rattle.wm_model.specs.Planning.{Set};
+ghost use Rattle.wm_model.specs.Step.Sessions as settings;
 ghost use Rattle.wm_model.specs.Step.{set_valid_time};
 ghost use Rattle.wm_print.specs.Texts.{Fine};
 ghost use Rattle.wm_state.specs.State.{Session as SessionState};
@@ -13,7 +14,7 @@ ghost use Rattle.wm_state.specs.State.{Session as SessionState};
 use wm_plan::planned::Planned;
 use wm_plan::refuse::empty_period;
 use wm_plan::seating::Seating;
-use wm_plan::session::Session;
+use wm_plan::session::{Session, Setting};
 use std::alloc::Global;
 use wm_base::{Instant, Memory, Period};
 use wm_image::Image;
@@ -21,11 +22,12 @@ use wm_image::Image;
 /// The session has this period set, or none.
 fn limited(alloc: Global, session: &Session, period: Option<Period>) -> Result<Planned, Memory>
     ensures edits { IfOk result (λ p. p.edits.items ≡ []) }
-    ensures seating { IfOk result (λ p. seating_view p.seating ≡ Limit session.now.name period) }
+    ensures seating { IfOk result (λ p. seating_view p.seating ≡ Set session.now.name (settings.Period period)) }
     ensures answer { IfOk result (λ p. answer_view p.answer ≡ Fine) }
 {
     let name = session.name().copy(alloc)?;
-    Ok(Planned::seated(alloc, Seating::Limit { name, period }))
+    let setting = Setting::Period(period);
+    Ok(Planned::seated(alloc, Seating::Set { name, setting }))
 }
 
 /// SetValidTime sets the period in which the session sees rows of tables with valid time and changes them; without a first

@@ -7,7 +7,8 @@ use Rattle.wm_print.specs.Texts.{Answer, Fine}
 use Rattle.wm_model.specs.Step.Refusing.{not_built, no_savepoint, savepoint_there, most_savepoints, at_its_end}
 use Rattle.wm_model.specs.Step.Counting.{durably}
 use Rattle.wm_model.specs.Step.Naming.{latest, with_named, at_home}
-use Rattle.wm_model.specs.Step.Sessions.{moved_to}
+use Rattle.wm_model.specs.Step.Sessions as settings
+use Rattle.wm_model.specs.Step.Sessions.{altered}
 
 -- CreateSavepoint keeps what is newest in a workspace under a name
 abbrev pub save : List ℕ → State → Workspace → State × Answer
@@ -28,7 +29,7 @@ abbrev pub goto_savepoint : Session → List ℕ → State → State × Answer
 goto_savepoint session name s = at_home s session (λ w. if bytes_eq name latest then go Latest else at (savepoint_named name w.savepoints))
   where
     go : Stand → State × Answer
-    go stand = (record s { sessions = moved_to session.name session.space stand s.sessions }, Fine)
+    go stand = (record s { sessions = altered session.name (settings.Stand session.space stand) s.sessions }, Fine)
 
     at : Option Savepoint → State × Answer
     at None = (s, no_savepoint name)

@@ -6,7 +6,8 @@ use Rattle.wm_print.specs.Texts.{Answer, Fine}
 use Rattle.wm_model.specs.Step.Refusing.{not_built, workspace_there, savepoint_there, most_workspaces, most_savepoints, at_its_end}
 use Rattle.wm_model.specs.Step.Counting.{durably}
 use Rattle.wm_model.specs.Step.Naming.{with_named, at_home}
-use Rattle.wm_model.specs.Step.Sessions.{moved_to}
+use Rattle.wm_model.specs.Step.Sessions as settings
+use Rattle.wm_model.specs.Step.Sessions.{altered}
 
 -- a workspace is born where a session stands, unless a counter is at its end
 abbrev pub bear : Stand → List ℕ → State → Workspace → State × Answer
@@ -30,4 +31,4 @@ create_workspace session name s =
 
 -- GotoWorkspace stands the session in a workspace, at what is newest
 abbrev pub goto_workspace : Session → List ℕ → State → State × Answer
-goto_workspace session name s = with_named s name (λ w. (record s { sessions = moved_to session.name w.number Latest s.sessions }, Fine))
+goto_workspace session name s = with_named s name (λ w. (record s { sessions = altered session.name (settings.Stand w.number Latest) s.sessions }, Fine))

@@ -4,7 +4,8 @@ use Rattle.std.specs.Str.{bytes_eq}
 use Rattle.wm_graph.specs.Parts.{parts_of, space_of}
 use Rattle.wm_spec.specs.declared.record.savepoint.Savepoint.{Savepoint as Saved}
 use Rattle.wm_model.proofs.Going.{goto_homeless, does_goto_latest, goto_no_savepoint, does_goto_savepoint}
-use Rattle.wm_model.specs.Planning.{Stay, Move}
+use Rattle.wm_model.specs.Planning.{Stay, Set}
+use Rattle.wm_model.specs.Step.Sessions as settings
 use Rattle.wm_model.specs.Step.{goto_savepoint, no_savepoint, not_built}
 use Rattle.wm_print.specs.Texts.{Fine}
 use Rattle.wm_state.specs.Standing.{saved_in}
@@ -22,8 +23,8 @@ returns-in_default-clause-does c = λ xs m.
 pub returns-then-is_latest-clause-does : goal.returns-then-is_latest-clause-does
 returns-then-is_latest-clause-does c =
     let name = c.args.name.now in
-    told_ok c.args.image.now c.go.result [] (Move c.args.session.now.name c.args.session.now.space Latest) Fine (goto_savepoint c.args.session.now name) c.go.ensures.edits
-    (subst (λ k. IfOk c.go.result (λ p. seating_view p.seating ≡ Move c.args.session.now.name k Latest)) c.space-space.ensures c.go.ensures.seating) c.go.ensures.answer
+    told_ok c.args.image.now c.go.result [] (Set c.args.session.now.name (settings.Stand c.args.session.now.space Latest)) Fine (goto_savepoint c.args.session.now name) c.go.ensures.edits
+    (subst (λ k. IfOk c.go.result (λ p. seating_view p.seating ≡ Set c.args.session.now.name (settings.Stand k Latest))) c.space-space.ensures c.go.ensures.seating) c.go.ensures.answer
     (λ xs m. does_goto_latest c.args.image.now xs m c.args.session.now name c.in-Some.field-0.now c.requires.rules (ap (space_of (parts_of c.args.image.now).spaces) (sym c.space-space.ensures) ∙ sym c.in-Some.ensures)
     (sym c.if-is_latest.ensures))
 
@@ -39,8 +40,8 @@ returns-in_default-savepoint_named-clause-does c = λ xs m.
 pub returns-clause-does : goal.returns-clause-does
 returns-clause-does c =
     let name = c.args.name.now in
-    told_ok c.args.image.now c.go-2.result [] (Move c.args.session.now.name c.args.session.now.space (At c.in-Some-savepoint_named.savepoint.now.making)) Fine (goto_savepoint c.args.session.now name) c.go-2.ensures.edits
-    (subst (λ k. IfOk c.go-2.result (λ p. seating_view p.seating ≡ Move c.args.session.now.name k (At c.in-Some-savepoint_named.savepoint.now.making))) c.space-space.ensures c.go-2.ensures.seating) c.go-2.ensures.answer
+    told_ok c.args.image.now c.go-2.result [] (Set c.args.session.now.name (settings.Stand c.args.session.now.space (At c.in-Some-savepoint_named.savepoint.now.making))) Fine (goto_savepoint c.args.session.now name) c.go-2.ensures.edits
+    (subst (λ k. IfOk c.go-2.result (λ p. seating_view p.seating ≡ Set c.args.session.now.name (settings.Stand k (At c.in-Some-savepoint_named.savepoint.now.making)))) c.space-space.ensures c.go-2.ensures.seating) c.go-2.ensures.answer
     (λ xs m. does_goto_savepoint c.args.image.now xs m c.args.session.now name c.in-Some.field-0.now c.in-Some-savepoint_named.savepoint.now c.requires.rules
     (ap (space_of (parts_of c.args.image.now).spaces) (sym c.space-space.ensures) ∙ sym c.in-Some.ensures) (sym c.if-is_latest.ensures)
     (ap (λ k. find (λ (x : Saved). bytes_eq c.args.name.now x.name) (saved_in (parts_of c.args.image.now) k)) (sym c.space-space.ensures) ∙ sym c.in-Some-savepoint_named.ensures))

@@ -1,6 +1,7 @@
 use Rattle.std.proofs.Common.{[], sym, ap, ◌∙◌}
 use Rattle.wm_model.proofs.Going.{goto_unnamed_space, does_goto_named_space}
-use Rattle.wm_model.specs.Planning.{Stay, Move}
+use Rattle.wm_model.specs.Planning.{Stay, Set}
+use Rattle.wm_model.specs.Step.Sessions as settings
 use Rattle.wm_model.specs.Step.{goto_workspace, no_workspace}
 use Rattle.wm_print.specs.Texts.{Fine}
 use Rattle.wm_state.specs.State.{Latest}
@@ -18,5 +19,5 @@ returns-in_default-clause-does c = λ xs m.
 pub returns-clause-does : goal.returns-clause-does
 returns-clause-does c =
     let name = c.args.name.now in
-    told_ok c.args.image.now c.go.result [] (Move c.args.session.now.name c.in-Some.space.now.number Latest) Fine (goto_workspace c.args.session.now name) c.go.ensures.edits c.go.ensures.seating c.go.ensures.answer
+    told_ok c.args.image.now c.go.result [] (Set c.args.session.now.name (settings.Stand c.in-Some.space.now.number Latest)) Fine (goto_workspace c.args.session.now name) c.go.ensures.edits c.go.ensures.seating c.go.ensures.answer
     (λ xs m. does_goto_named_space c.args.image.now xs m c.args.session.now name c.in-Some.space.now c.requires.rules (sym c.in-Some.ensures))

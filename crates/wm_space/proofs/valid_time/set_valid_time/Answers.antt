@@ -2,7 +2,8 @@ use Rattle.std.proofs.Common.{◌≡◌, ℕ, ◌<◌, nat_lt, Bool, true, false
 use Rattle.std.proofs.lemmas.Bool.Decides.{nat_tests}
 use Rattle.wm_base.specs.Period.{Span}
 use Rattle.wm_model.proofs.Seating.{does_set, does_unset, sets_empty}
-use Rattle.wm_model.specs.Planning.{Limit, Stay}
+use Rattle.wm_model.specs.Planning.{Set, Stay}
+use Rattle.wm_model.specs.Step.Sessions as settings
 use Rattle.wm_model.specs.Step.{empty_period, set_valid_time}
 use Rattle.wm_print.specs.Texts.{Fine}
 use Rattle.wm_plan.proofs.Planning.{told, told_ok}
@@ -24,15 +25,15 @@ lasts_not from till none = of (nat_lt from till) refl
 
 pub returns-in_default-clause-does : goal.returns-in_default-clause-does
 returns-in_default-clause-does c =
-    told_ok c.args.image.now c.limited.result [] (Limit c.args.session.now.name None) Fine (set_valid_time c.args.session.now c.args.from c.args.till) c.limited.ensures.edits c.limited.ensures.seating c.limited.ensures.answer
+    told_ok c.args.image.now c.limited.result [] (Set c.args.session.now.name (settings.Period None)) Fine (set_valid_time c.args.session.now c.args.from c.args.till) c.limited.ensures.edits c.limited.ensures.seating c.limited.ensures.answer
     (λ xs m. does_unset c.args.image.now xs m c.args.session.now c.args.from c.args.till c.requires.rules c.in_default.is)
 
 pub returns-in-Some-new-clause-does : goal.returns-in-Some-new-clause-does
 returns-in-Some-new-clause-does c =
     let name = c.args.session.now.name in
     let span : Span = record { from = c.in-Some.from; till = c.args.till } in
-    told_ok c.args.image.now c.limited-in-Some-new.result [] (Limit name (Some span)) Fine (set_valid_time c.args.session.now c.args.from c.args.till) c.limited-in-Some-new.ensures.edits
-    (subst (λ (k : Span). IfOk c.limited-in-Some-new.result (λ p. seating_view p.seating ≡ Limit name (Some k))) c.in-Some-new.ensures.value c.limited-in-Some-new.ensures.seating) c.limited-in-Some-new.ensures.answer
+    told_ok c.args.image.now c.limited-in-Some-new.result [] (Set name (settings.Period (Some span))) Fine (set_valid_time c.args.session.now c.args.from c.args.till) c.limited-in-Some-new.ensures.edits
+    (subst (λ (k : Span). IfOk c.limited-in-Some-new.result (λ p. seating_view p.seating ≡ Set name (settings.Period (Some k)))) c.in-Some-new.ensures.value c.limited-in-Some-new.ensures.seating) c.limited-in-Some-new.ensures.answer
     (λ xs m. does_set c.args.image.now xs m c.args.session.now c.args.from c.in-Some.from c.args.till c.requires.rules c.in-Some.is (lasts c.in-Some.from c.args.till (c.in-Some-new.ensures.valid.0 refl)))
 
 pub returns-in-None-clause-does : goal.returns-in-None-clause-does
