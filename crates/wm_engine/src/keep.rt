@@ -9,7 +9,8 @@ ghost use Rattle.wm_engine.specs.Working.{FileStands, HoldsSorted, IsSound, Keep
 ghost use Rattle.wm_engine.specs.declared.fault.LineFault.TheVariants as faults;
 ghost use Rattle.wm_graph.specs.Parts.{parts_of};
 ghost use Rattle.wm_graph.specs.Rules.{keep_rules};
-ghost use Rattle.wm_plan.specs.Views.{refusal_of, seating_view};
+ghost use Rattle.wm_plan.specs.Views.{seating_view};
+ghost use Rattle.wm_model.specs.Step.Refusing.{refusal_of};
 ghost use Rattle.wm_model.specs.Planning.{StandsAt, seated};
 ghost use Rattle.wm_model.specs.Step.{step, answer_text};
 ghost use Rattle.wm_parser.specs.Parsed.{parsed};

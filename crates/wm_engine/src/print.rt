@@ -1,7 +1,8 @@
 //! The bytes of answers.
 ghost use Rattle.std.specs.Prelude.{◌≡◌, IfOk, codes};
 ghost use Rattle.wm_print.specs.Texts.{answer_text};
-ghost use Rattle.wm_plan.specs.Views.{answer_view, refusal_of};
+ghost use Rattle.wm_plan.specs.Views.{answer_view};
+ghost use Rattle.wm_model.specs.Step.Refusing.{refusal_of};
 
 use crate::reply::Reply;
 use wm_plan::answer::Answer;

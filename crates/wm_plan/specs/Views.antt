@@ -1,6 +1,4 @@
 -- What the answers and what becomes of the sessions mean.
-use Rattle.std.specs.Prelude.{Option, Some, None}
-use Rattle.wm_base.specs.declared.refusal.Refusal.{Refusal}
 use Rattle.wm_model.specs.Planning as planning
 use Rattle.wm_print.specs.Texts as texts
 use Rattle.wm_plan.specs.declared.answer.Answer.{Answer}
@@ -15,14 +13,6 @@ answer_view Fine = texts.Fine
 answer_view (Done count) = texts.Done count
 answer_view (Listing rows) = texts.Listing rows
 answer_view (Refused refusal) = texts.Refused refusal
-
--- the refusal that an answer is, if it is one
-abbrev pub refusal_of : texts.Answer → Option Refusal
-refusal_of texts.Nothing = None
-refusal_of texts.Fine = None
-refusal_of (texts.Done count) = None
-refusal_of (texts.Listing rows) = None
-refusal_of (texts.Refused refusal) = Some refusal
 
 abbrev pub seating_view : Seating → planning.Seating
 seating_view Stay = planning.Stay

@@ -1,6 +1,7 @@
 //! What a line is answered.
 ghost use Rattle.std.specs.Prelude.{◌≡◌};
-ghost use Rattle.wm_plan.specs.Views.{answer_view, refusal_of};
+ghost use Rattle.wm_plan.specs.Views.{answer_view};
+ghost use Rattle.wm_model.specs.Step.Refusing.{refusal_of};
 
 use wm_base::{Refusal, RowList};
 

@@ -7,7 +7,8 @@ use Rattle.wm_engine.proofs.Keeping.{begun_stands, kept_does, kept_few, kept_rul
 use Rattle.wm_engine.proofs.Replying.{of_refusal, tells_refusal}
 use Rattle.wm_engine.proofs.Sounding.{sound_begun, sound_kept}
 use Rattle.wm_plan.specs.Idle.{is_idle}
-use Rattle.wm_plan.specs.Views.{answer_view, refusal_of, seating_view}
+use Rattle.wm_plan.specs.Views.{answer_view, seating_view}
+use Rattle.wm_model.specs.Step.Refusing.{refusal_of}
 use Rattle.wm_plan.specs.declared.seating.Seating.{Seating}
 use Rattle.wm_engine.proofs.keep.run_line.Goals as goal
 
