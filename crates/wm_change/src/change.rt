@@ -18,21 +18,21 @@ ghost use Rattle.wm_model.specs.Step.{change_all, delete, replace_all, unless_em
 ghost use Rattle.wm_spec.specs.Expressions.{has_no_empty_period};
 ghost use Rattle.wm_state.specs.State.{Session as SessionState};
 
-use wm_plan::answer::Answer;
-use wm_chosen::choosing::chosen_rows;
 use crate::moving::move_all;
-use wm_plan::within::within;
 use crate::write_all::write_all;
-use wm_plan::planned::Planned;
-use wm_plan::refuse::{empty_period, no_table, not_built, not_latest, out_of_range, versioning};
-use wm_plan::session::{Session, Stand};
 use std::alloc::Global;
 use wm_base::tree::cond::Cond;
 use wm_base::tree::statement::Set;
 use wm_base::{Memory, Name, Period, Row, Value, Values};
+use wm_chosen::choosing::chosen_rows;
 use wm_dml::{deleted, moves_of, replacing, rows_fault, sets_period, updated_rows};
 use wm_expr::ValueFault;
 use wm_image::Image;
+use wm_plan::answer::Answer;
+use wm_plan::planned::Planned;
+use wm_plan::refuse::{empty_period, no_table, not_built, not_latest, out_of_range, versioning};
+use wm_plan::session::{Session, Stand};
+use wm_plan::within::within;
 use wm_spec::record::{Space, Table};
 use wm_typing::{delete_fault, update_fault};
 

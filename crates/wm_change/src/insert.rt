@@ -15,13 +15,7 @@ ghost use Rattle.wm_model.specs.Step.{add_found, add_to, insert, new_period, tol
 ghost use Rattle.wm_spec.specs.Expressions.{has_no_empty_period};
 ghost use Rattle.wm_state.specs.State.{Session as SessionState};
 
-use wm_plan::answer::Answer;
 use crate::write_all::write_all;
-use wm_plan::planned::Planned;
-use wm_plan::refuse::{
-    empty_period, key_there, no_table, not_built, not_latest, out_of_range, versioning,
-};
-use wm_plan::session::{Session, Stand};
 use std::alloc::Global;
 use wm_base::tree::column::Names;
 use wm_base::tree::expr::Expr;
@@ -30,6 +24,12 @@ use wm_dml::{RowChange, added};
 use wm_expr::ValueFault;
 use wm_image::Image;
 use wm_making::{insert_fault, period_given, row_fault, row_of};
+use wm_plan::answer::Answer;
+use wm_plan::planned::Planned;
+use wm_plan::refuse::{
+    empty_period, key_there, no_table, not_built, not_latest, out_of_range, versioning,
+};
+use wm_plan::session::{Session, Stand};
 use wm_spec::record::{Space, Table};
 
 /// The statement, and the table that it names.

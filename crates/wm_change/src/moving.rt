@@ -15,13 +15,13 @@ ghost use Rattle.wm_graph.specs.Rules.{keep_rules};
 ghost use Rattle.wm_model.specs.Step.{clash_at, first_clash, move_all};
 
 use crate::write_all::write_all;
-use wm_plan::planned::Planned;
-use wm_plan::refuse::key_there;
-use wm_plan::session::Session;
 use std::alloc::Global;
 use wm_base::{Key, Memory, Period};
 use wm_dml::{Move, Shifts, clash_in, moved};
 use wm_image::Image;
+use wm_plan::planned::Planned;
+use wm_plan::refuse::key_there;
+use wm_plan::session::Session;
 use wm_spec::record::{Space, Table};
 
 /// The earliest part that a new period of a key shares with a row that stays, or with another new one.

@@ -11,16 +11,16 @@ ghost use Rattle.wm_graph.specs.Rules.{keep_rules};
 ghost use Rattle.wm_model.specs.Step.{counter_limit, write_ascending};
 ghost use Rattle.wm_state.specs.Drawing.{are_sorted};
 
-use wm_plan::answer::Answer;
 use crate::write_changes::{Writing, write_changes};
-use wm_plan::planned::Planned;
-use wm_plan::refuse::{at_its_end, change_limit, not_built};
-use wm_plan::session::Session;
 use std::alloc::Global;
 use std::cmp::Ordering;
 use wm_base::{Key, Memory};
 use wm_dml::RowChange;
 use wm_image::Image;
+use wm_plan::answer::Answer;
+use wm_plan::planned::Planned;
+use wm_plan::refuse::{at_its_end, change_limit, not_built};
+use wm_plan::session::Session;
 use wm_spec::record::{Counters, Space, Table};
 
 /// The greatest length of a log.

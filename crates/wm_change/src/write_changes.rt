@@ -13,15 +13,15 @@ ghost use Rattle.wm_spec.specs.declared.record.table.Table.{Table as OneTable};
 ghost use Rattle.wm_state.specs.Drawing.{are_sorted};
 ghost use Rattle.wm_state.specs.Editing.{entry_of};
 
+use std::alloc::Global;
+use wm_base::{Memory, Name};
+use wm_dml::RowChange;
+use wm_image::Image;
 use wm_plan::answer::Answer;
 use wm_plan::planned::Planned;
 use wm_plan::refuse::at_its_end;
 use wm_plan::session::Session;
 use wm_plan::work::is_spent;
-use std::alloc::Global;
-use wm_base::{Memory, Name};
-use wm_dml::RowChange;
-use wm_image::Image;
 use wm_spec::record::{Counters, Space, Table};
 use wm_state::edit::{Edit, NewEntry};
 

@@ -23,14 +23,14 @@ ghost use Rattle.wm_graph.specs.Parts.{parts_of};
 ghost use Rattle.wm_graph.specs.Rules.{keep_rules};
 ghost use Rattle.wm_station.specs.Moments.{During, Ended, Holds};
 
-use crate::reply::Reply;
 use crate::fault::LineFault;
 use crate::keep::run_line;
-use wm_plan::session::Session;
+use crate::reply::Reply;
 use std::alloc::Global;
 use std::marker::Model;
 use wm_base::{Damage, Instant, MakeFault, OpenFault};
 use wm_image::{Image, ImageFault};
+use wm_plan::session::Session;
 use wm_station::Station;
 use wm_store::Store;
 

@@ -20,16 +20,16 @@ ghost use Rattle.wm_state.specs.State.{State};
 ghost use Rattle.wm_station.specs.Cause.{Rises};
 ghost use Rattle.wm_station.specs.Moments.{Ended};
 
-use crate::reply::Reply;
 use crate::commit::commit;
 use crate::fault::LineFault;
 use crate::plan::line::plan;
-use wm_plan::planned::{Changed, Planned, Timed};
 use crate::print::reply_of;
-use wm_plan::seating::seat;
-use wm_plan::session::Session;
+use crate::reply::Reply;
 use std::alloc::Global;
 use wm_image::Image;
+use wm_plan::planned::{Changed, Planned, Timed};
+use wm_plan::seating::seat;
+use wm_plan::session::Session;
 use wm_station::Station;
 use wm_store::Store;
 

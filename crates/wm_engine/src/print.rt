@@ -5,9 +5,9 @@ ghost use Rattle.wm_plan.specs.Views.{answer_view};
 ghost use Rattle.wm_model.specs.Step.Refusing.{refusal_of};
 
 use crate::reply::Reply;
-use wm_plan::answer::Answer;
 use std::alloc::Global;
 use wm_base::{Bytes, Memory};
+use wm_plan::answer::Answer;
 use wm_print::{print_done, print_refusal, print_rows};
 
 /// An answer written out.

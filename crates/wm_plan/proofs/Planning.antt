@@ -87,11 +87,34 @@ some_of (Some a) e = (a, refl)
 pub does_one : (rs : List Stored) (xs : List Session) (m : ℕ) (p : Planned) (act other : State → State × Answer) → ((s : State) → StandsAt rs xs m s → other s ≡ act s) → DoesIt rs xs m p act → DoesIt rs xs m p other
 does_one rs xs m p act other same does = does_same rs xs m p.edits.items (seating_view p.seating) (answer_view p.answer) act other same does
 
--- a plan that looks at no moment
-pub for_moment : (rs : List Stored) (m : ℕ) (r : Result Planned Memory) (act other : State → State × Answer) → ((s : State) → other s ≡ act s)
-    → IfOk r (λ p. (xs : List Session) (m : ℕ) → DoesIt rs xs m p act) → IfOk r (λ p. (xs : List Session) → DoesIt rs xs m p other)
-for_moment rs m (Ok p) act other same does = λ xs. does_one rs xs m p act other (λ s st. same s) (does xs m)
-for_moment rs m (Err e) act other same does = tt
+-- a plan for these sessions at this moment
+pub does_here : (rs : List Stored) (xs : List Session) (m : ℕ) (r : Result Planned Memory) (act other : State → State × Answer) → ((s : State) → other s ≡ act s)
+    → IfOk r (λ p. DoesIt rs xs m p act) → IfOk r (λ p. DoesIt rs xs m p other)
+does_here rs xs m (Ok p) act other same does = does_one rs xs m p act other (λ s st. same s) does
+does_here rs xs m (Err e) act other same does = tt
+
+-- one that looks at no sessions
+pub for_these : (rs : List Stored) (xs : List Session) (m : ℕ) (r : Result Planned Memory) (act other : State → State × Answer) → ((s : State) → other s ≡ act s)
+    → IfOk r (λ p. (ys : List Session) → DoesIt rs ys m p act) → IfOk r (λ p. DoesIt rs xs m p other)
+for_these rs xs m (Ok p) act other same does = does_one rs xs m p act other (λ s st. same s) (does xs)
+for_these rs xs m (Err e) act other same does = tt
+
+-- one that looks at no moment
+pub for_moment : (rs : List Stored) (xs : List Session) (m : ℕ) (r : Result Planned Memory) (act other : State → State × Answer) → ((s : State) → other s ≡ act s)
+    → IfOk r (λ p. (n : ℕ) → DoesIt rs xs n p act) → IfOk r (λ p. DoesIt rs xs m p other)
+for_moment rs xs m (Ok p) act other same does = does_one rs xs m p act other (λ s st. same s) (does m)
+for_moment rs xs m (Err e) act other same does = tt
+
+-- one that looks at neither
+pub for_one : (rs : List Stored) (xs : List Session) (m : ℕ) (r : Result Planned Memory) (act other : State → State × Answer) → ((s : State) → other s ≡ act s)
+    → IfOk r (λ p. (ys : List Session) (n : ℕ) → DoesIt rs ys n p act) → IfOk r (λ p. DoesIt rs xs m p other)
+for_one rs xs m (Ok p) act other same does = does_one rs xs m p act other (λ s st. same s) (does xs m)
+for_one rs xs m (Err e) act other same does = tt
+
+pub for_moments : (rs : List Stored) (xs : List Session) (r : Result Planned Memory) (act other : State → State × Answer) → ((s : State) → other s ≡ act s)
+    → IfOk r (λ p. (ys : List Session) (n : ℕ) → DoesIt rs ys n p act) → IfOk r (λ p. (n : ℕ) → DoesIt rs xs n p other)
+for_moments rs xs (Ok p) act other same does = λ n. does_one rs xs n p act other (λ s st. same s) (does xs n)
+for_moments rs xs (Err e) act other same does = tt
 
 -- a plan for all sessions
 pub for_sessions : (rs : List Stored) (m : ℕ) (r : Result Planned Memory) (act other : State → State × Answer) → ((s : State) → other s ≡ act s)

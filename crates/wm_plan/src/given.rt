@@ -9,10 +9,19 @@ ghost use Rattle.wm_plan.specs.declared.seating.Seating.TheVariants.{Stay};
 use crate::planned::Planned;
 use crate::refuse::{mistyped, not_built};
 use std::alloc::Global;
+use wm_base::tree::cond::Cond;
 use wm_base::tree::statement::Arg;
 use wm_base::{Memory, Name};
 use wm_calls::{argument_fault, parameter_name, text_given};
 use wm_grammar::{Parameter, Procedure};
+
+/// What a call is given.
+#[derive(Clone, Copy)]
+pub struct Given<'a> {
+    pub args: &'a [Arg],
+    /// The condition of its WHERE, where it has one.
+    pub condition: &'a Option<Cond>,
+}
 
 /// The name of the parameter whose argument is wrong, or that lacks one.
 pub fn fault_of(alloc: Global, procedure: Procedure, args: &[Arg]) -> Result<Option<Name>, Memory>

@@ -19,10 +19,7 @@ pub enum Seating {
     /// The one of this name is closed.
     Close(Name),
     /// This is set of the one of this name.
-    Set {
-        name: Name,
-        setting: Setting,
-    },
+    Set { name: Name, setting: Setting },
 }
 
 /// Closes the sessions of a name.

@@ -10,11 +10,11 @@ ghost use Rattle.wm_model.specs.Step.{set_moment};
 ghost use Rattle.wm_spec.specs.declared.record.stored.Stored.{Stored};
 ghost use Rattle.wm_state.specs.State.{Session};
 
+use std::alloc::Global;
+use wm_base::Instant;
 use wm_plan::answer::Answer;
 use wm_plan::planned::Timed;
 use wm_plan::refuse::moment_back;
-use std::alloc::Global;
-use wm_base::Instant;
 
 /// AT sets the moment, and never back.
 pub fn at_moment(alloc: Global, moment: u64, instant: Instant) -> Timed

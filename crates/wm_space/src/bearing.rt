@@ -13,17 +13,17 @@ ghost use Rattle.wm_state.specs.Editing.{stand_of};
 ghost use Rattle.wm_state.specs.Points.{next_place_at, point_at};
 ghost use Rattle.wm_state.specs.State.{Session as SessionState};
 
-use wm_plan::answer::Answer;
 use crate::saving::{SAVEPOINT_LIMIT, is_last};
+use std::alloc::Global;
+use wm_base::{Memory, Name};
+use wm_image::{Image, implicit_name};
+use wm_plan::answer::Answer;
 use wm_plan::planned::Planned;
 use wm_plan::refuse::{
     at_its_end, most_savepoints, most_workspaces, not_built, savepoint_there, workspace_there,
 };
 use wm_plan::session::{Session, Stand};
 use wm_plan::work::is_spent;
-use std::alloc::Global;
-use wm_base::{Memory, Name};
-use wm_image::{Image, implicit_name};
 use wm_spec::record::Space;
 use wm_state::edit::Edit;
 

@@ -7,13 +7,13 @@ ghost use Rattle.wm_graph.specs.Rules.{keep_rules};
 ghost use Rattle.wm_model.specs.Step.{connect, disconnect, is_name};
 ghost use Rattle.wm_spec.specs.declared.record.stored.Stored.{Stored};
 
+use std::alloc::Global;
+use wm_base::{Memory, Name};
 use wm_plan::names::is_name;
 use wm_plan::planned::Planned;
 use wm_plan::refuse::{bad_name, most_sessions, no_session, session_there};
 use wm_plan::seating::Seating;
 use wm_plan::session::{Session, is_open};
-use std::alloc::Global;
-use wm_base::{Memory, Name};
 
 /// The most sessions that may be open.
 const SESSION_LIMIT: usize = 256;

@@ -11,15 +11,15 @@ ghost use Rattle.wm_state.specs.Standing.{by_number};
 ghost use Rattle.wm_state.specs.State.{Session as SessionState, next_table};
 ghost use Rattle.wm_plan.specs.Planning.{DoesIt};
 
-use wm_plan::answer::Answer;
-use wm_plan::planned::Planned;
-use wm_plan::refuse::{at_its_end, most_tables, table_there};
-use wm_plan::work::is_spent;
 use std::alloc::Global;
 use wm_base::tree::statement::CreateItems;
 use wm_base::{Memory, Name};
 use wm_image::Image;
 use wm_making::{names_fault, shape_fault, table_of};
+use wm_plan::answer::Answer;
+use wm_plan::planned::Planned;
+use wm_plan::refuse::{at_its_end, most_tables, table_there};
+use wm_plan::work::is_spent;
 use wm_state::edit::Edit;
 
 /// The most tables of a store.

@@ -10,13 +10,13 @@ ghost use Rattle.wm_state.specs.State.{Session as SessionState};
 ghost use Rattle.wm_plan.specs.Planning.{DoesIt};
 ghost use Rattle.wm_space.specs.Readying.{readiness_view};
 
+use std::alloc::Global;
+use wm_base::{Memory, Name};
+use wm_image::Image;
 use wm_plan::answer::Answer;
 use wm_plan::planned::Planned;
 use wm_plan::refuse::{at_its_end, long_name, mistyped, no_key, no_table, versioning};
 use wm_plan::work::is_spent;
-use std::alloc::Global;
-use wm_base::{Memory, Name};
-use wm_image::Image;
 use wm_spec::record::Table;
 use wm_state::edit::Edit;
 

@@ -12,14 +12,14 @@ ghost use Rattle.wm_model.specs.Step.{goto_savepoint, goto_workspace};
 ghost use Rattle.wm_print.specs.Texts.{Fine};
 ghost use Rattle.wm_state.specs.State.{Session as SessionState};
 
+use std::alloc::Global;
+use wm_base::{Memory, Name};
+use wm_image::Image;
 use wm_plan::names::is_latest;
 use wm_plan::planned::Planned;
 use wm_plan::refuse::{no_savepoint, no_workspace, not_built};
 use wm_plan::seating::Seating;
 use wm_plan::session::{Session, Setting, Stand};
-use std::alloc::Global;
-use wm_base::{Memory, Name};
-use wm_image::Image;
 
 /// Stands a session elsewhere.
 fn go(alloc: Global, session: &Session, space: u32, stand: Stand) -> Result<Planned, Memory>

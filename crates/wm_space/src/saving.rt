@@ -11,13 +11,13 @@ ghost use Rattle.wm_state.specs.Points.{HasRoom};
 ghost use Rattle.wm_model.specs.Step.{create_savepoint, is_name, names_no_savepoint, number_limit};
 ghost use Rattle.wm_state.specs.State.{Session as SessionState};
 
+use std::alloc::Global;
+use wm_base::{Memory, Name};
+use wm_image::Image;
 use wm_plan::answer::Answer;
 use wm_plan::planned::Planned;
 use wm_plan::refuse::{at_its_end, most_savepoints, no_workspace, savepoint_there};
 use wm_plan::work::is_spent;
-use std::alloc::Global;
-use wm_base::{Memory, Name};
-use wm_image::Image;
 use wm_spec::record::Space;
 use wm_state::edit::Edit;
 

@@ -11,13 +11,13 @@ ghost use Rattle.wm_model.specs.Step.{set_valid_time};
 ghost use Rattle.wm_print.specs.Texts.{Fine};
 ghost use Rattle.wm_state.specs.State.{Session as SessionState};
 
+use std::alloc::Global;
+use wm_base::{Instant, Memory, Period};
+use wm_image::Image;
 use wm_plan::planned::Planned;
 use wm_plan::refuse::empty_period;
 use wm_plan::seating::Seating;
 use wm_plan::session::{Session, Setting};
-use std::alloc::Global;
-use wm_base::{Instant, Memory, Period};
-use wm_image::Image;
 
 /// The session has this period set, or none.
 fn limited(alloc: Global, session: &Session, period: Option<Period>) -> Result<Planned, Memory>

@@ -1,5 +1,5 @@
 //! Calls of DBMS_WM.
-ghost use Rattle.std.specs.Prelude.{◌≡◌, ◌<◌, List, Some, true, IfOk};
+ghost use Rattle.std.specs.Prelude.{◌≡◌, ◌<◌, Some, true, IfOk};
 ghost use Rattle.wm_base.specs.declared.instant.TheConstants.{END};
 ghost use Rattle.wm_plan.specs.Forks.{AreForks};
 ghost use Rattle.wm_engine.specs.ForkLines.{forks_call};
@@ -9,13 +9,12 @@ ghost use Rattle.wm_grammar.specs.Calls.{procedure_of};
 ghost use Rattle.wm_graph.specs.Parts.{parts_of};
 ghost use Rattle.wm_graph.specs.Rules.{keep_rules};
 ghost use Rattle.wm_model.specs.Step.{call};
-ghost use Rattle.wm_state.specs.State.{Session as SessionState};
 
 use std::alloc::Global;
-use wm_base::tree::statement::Arg;
 use wm_base::{Memory, Name};
 use wm_grammar::{Procedure, procedure_of};
 use wm_image::Image;
+use wm_plan::given::Given;
 use wm_plan::planned::Planned;
 use wm_plan::refuse::not_built;
 use wm_plan::session::Session;
@@ -29,24 +28,31 @@ use wm_space::calls::workspace::workspace_call;
 fn call_of(
     alloc: Global,
     image: &Image,
+    sessions: &[Session],
     moment: u64,
     session: &Session,
     procedure: Procedure,
-    args: &[Arg],
+    given: Given<'_>,
 ) -> Result<Planned, Memory>
     requires rules { keep_rules (parts_of image.now) ≡ true }
     requires moment { moment < END }
-    ensures does { IfOk result (λ p. (xs : List SessionState) → DoesIt image.now xs moment p (call session.now (Some procedure) args.now)) }
+    ensures does { IfOk result (λ p. DoesIt image.now sessions.now moment p (call session.now (Some procedure) given.entry.args.now)) }
     ensures idle { IfOk result Idles }
     ensures few { forks_call (Some procedure) ≡ true → IfOk result AreForks }
 {
     match procedure {
-        Procedure::EnableVersioning => enable_call(alloc, image, moment, session, args),
-        Procedure::CreateWorkspace => workspace_call(alloc, image, moment, session, args),
-        Procedure::CreateSavepoint => savepoint_call(alloc, image, moment, session, args),
-        Procedure::GotoWorkspace => goto_workspace_call(alloc, image, session, args),
-        Procedure::GotoSavepoint => goto_savepoint_call(alloc, image, session, args),
-        Procedure::SetValidTime => valid_time_call(alloc, image, session, args),
+        Procedure::EnableVersioning => enable_call(alloc, image, moment, session, given.args),
+        Procedure::CreateWorkspace => workspace_call(
+            alloc, image, sessions, moment, session, given.args,
+        ),
+        Procedure::CreateSavepoint => savepoint_call(
+            alloc, image, sessions, moment, session, given.args,
+        ),
+        Procedure::GotoWorkspace => goto_workspace_call(
+            alloc, image, sessions, session, given.args,
+        ),
+        Procedure::GotoSavepoint => goto_savepoint_call(alloc, image, session, given.args),
+        Procedure::SetValidTime => valid_time_call(alloc, image, session, given.args),
         _ => Ok(Planned::answered(alloc, not_built())),
     }
 }
@@ -55,20 +61,21 @@ fn call_of(
 pub fn call(
     alloc: Global,
     image: &Image,
+    sessions: &[Session],
     moment: u64,
     session: &Session,
     name: &Name,
-    args: &[Arg],
+    given: Given<'_>,
 ) -> Result<Planned, Memory>
     requires rules { keep_rules (parts_of image.now) ≡ true }
     requires moment { moment < END }
-    ensures does { IfOk result (λ p. (xs : List SessionState) → DoesIt image.now xs moment p (call session.now (procedure_of name.now) args.now)) }
+    ensures does { IfOk result (λ p. DoesIt image.now sessions.now moment p (call session.now (procedure_of name.now) given.entry.args.now)) }
     ensures idle { IfOk result Idles }
     // A savepoint or a workspace is made by such an edit alone.
     ensures few { forks_call (procedure_of name.now) ≡ true → IfOk result AreForks }
 {
     match procedure_of(name.as_bytes()) {
-        Some(procedure) => call_of(alloc, image, moment, session, procedure, args),
+        Some(procedure) => call_of(alloc, image, sessions, moment, session, procedure, given),
         None => Ok(Planned::answered(alloc, not_built())),
     }
 }

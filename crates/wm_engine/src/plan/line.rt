@@ -12,20 +12,20 @@ ghost use Rattle.wm_graph.specs.Rules.{keep_rules};
 ghost use Rattle.wm_model.specs.Step.{run_line, run_parsed, step, timed_line};
 ghost use Rattle.wm_parser.specs.Parsed.{parsed};
 
-use wm_plan::answer::Answer;
-use wm_space::at::at_moment;
-use wm_space::connect::{connect, disconnect};
 use crate::plan::statement::run;
-use wm_plan::planned::Timed;
-use wm_plan::refuse::{bad_literal, no_text, not_built, syntax, too_long_line};
-use wm_plan::session::Session;
 use std::alloc::Global;
 use wm_base::tree::line::Line;
 use wm_base::{Instant, Memory};
 use wm_calls::is_later;
 use wm_image::Image;
 use wm_parser::{ParseFault, discard, parse};
+use wm_plan::answer::Answer;
+use wm_plan::planned::Timed;
+use wm_plan::refuse::{bad_literal, no_text, not_built, syntax, too_long_line};
+use wm_plan::session::Session;
 use wm_reader::{is_remark, is_text};
+use wm_space::at::at_moment;
+use wm_space::connect::{connect, disconnect};
 use wm_timed::set_moment;
 
 /// The most bytes that a line may have.

@@ -10,8 +10,8 @@ ghost use Rattle.wm_state.specs.State.{Session as SessionState};
 
 use crate::going::{goto_savepoint, goto_workspace};
 use std::alloc::Global;
-use wm_base::tree::statement::Arg;
 use wm_base::Memory;
+use wm_base::tree::statement::Arg;
 use wm_grammar::{Parameter, Procedure};
 use wm_image::Image;
 use wm_plan::given::{bytes_given, fault_of};
@@ -23,11 +23,12 @@ use wm_plan::session::Session;
 pub fn goto_workspace_call(
     alloc: Global,
     image: &Image,
+    sessions: &[Session],
     session: &Session,
     args: &[Arg],
 ) -> Result<Planned, Memory>
     requires rules { keep_rules (parts_of image.now) ≡ true }
-    ensures does { IfOk result (λ p. (xs : List SessionState) (m : ℕ) → DoesIt image.now xs m p (call session.now (Some procedures.GotoWorkspace) args.now)) }
+    ensures does { IfOk result (λ p. (m : ℕ) → DoesIt image.now sessions.now m p (call session.now (Some procedures.GotoWorkspace) args.now)) }
     ensures idle { IfOk result Idles }
 {
     if let Some(parameter) = fault_of(alloc, Procedure::GotoWorkspace, args)? {

@@ -1,5 +1,5 @@
 //! What CreateWorkspace is given.
-ghost use Rattle.std.specs.Prelude.{◌≡◌, ◌<◌, List, Some, true, IfOk};
+ghost use Rattle.std.specs.Prelude.{◌≡◌, ◌<◌, Some, true, IfOk};
 ghost use Rattle.wm_base.specs.declared.instant.TheConstants.{END};
 ghost use Rattle.wm_calls.specs.Arguments.{text_given};
 ghost use Rattle.wm_plan.specs.Forks.{AreForks};
@@ -9,12 +9,11 @@ ghost use Rattle.wm_grammar.specs.declared.procedure.Procedure.TheVariants as pr
 ghost use Rattle.wm_graph.specs.Parts.{parts_of};
 ghost use Rattle.wm_graph.specs.Rules.{keep_rules};
 ghost use Rattle.wm_model.specs.Step.{call};
-ghost use Rattle.wm_state.specs.State.{Session as SessionState};
 
 use crate::bearing::create_workspace;
 use std::alloc::Global;
-use wm_base::tree::statement::Arg;
 use wm_base::Memory;
+use wm_base::tree::statement::Arg;
 use wm_calls::text_given;
 use wm_grammar::{Parameter, Procedure};
 use wm_image::Image;
@@ -28,13 +27,14 @@ use wm_plan::session::Session;
 pub fn workspace_call(
     alloc: Global,
     image: &Image,
+    sessions: &[Session],
     moment: u64,
     session: &Session,
     args: &[Arg],
 ) -> Result<Planned, Memory>
     requires rules { keep_rules (parts_of image.now) ≡ true }
     requires moment { moment < END }
-    ensures does { IfOk result (λ p. (xs : List SessionState) → DoesIt image.now xs moment p (call session.now (Some procedures.CreateWorkspace) args.now)) }
+    ensures does { IfOk result (λ p. DoesIt image.now sessions.now moment p (call session.now (Some procedures.CreateWorkspace) args.now)) }
     ensures idle { IfOk result Idles }
     ensures few { IfOk result AreForks }
 {
