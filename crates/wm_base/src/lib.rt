@@ -14,10 +14,7 @@ pub mod memory;
 pub mod period;
 pub mod refusal;
 pub mod row;
-pub mod stamp;
-#[cfg(test)]
-mod tests;
-pub mod text;
+pub mod stamp;pub mod text;
 pub mod tree;
 pub mod truth;
 pub mod value;
