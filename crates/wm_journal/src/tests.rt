@@ -159,6 +159,7 @@ fn a_store_lives_in_a_file_of_the_system(rt: HostRuntime) -> Result<(), Fail> {
     let mut station = FileStation::open(&rt, "wm_journal_test.store", rt.stdout());
     let mut journal = Journal::make(&mut station, &three(alloc)?)?;
     assert!(rt; grow(alloc, &mut station, &mut journal)?);
+    drop(station);
     let mut again = FileStation::open(&rt, "wm_journal_test.store", rt.stdout());
     assert_eq!(rt; Journal::open(alloc, &mut again)?.count(), 5);
     // The journal of three pages and their numbers stays behind the five.
