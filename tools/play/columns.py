@@ -4,6 +4,7 @@ import re
 SELECT = re.compile(r"\s*[A-Za-z][\w$#]*\s*:\s*SELECT\s+(?:DISTINCT\b\s*)?", re.IGNORECASE)
 TOKEN = re.compile(r"\s*('(?:[^']|'')*'|[A-Za-z][\w$#]*|\d+|.)", re.DOTALL)
 ENDS_SOURCES = {"WHERE", "GROUP", "ORDER", ";"}
+OF_A_TABLE = re.compile(r"(?!WM_VALID\.)[A-Z][\w$#]*\.([A-Z][\w$#]*(?:\.VALID(?:FROM|TILL))?)")
 
 
 def is_query(line):
@@ -30,7 +31,8 @@ def parted(text, ends):
 
 def in_capitals(text):
     """A name or an expression as it is read: in capitals outside texts, without blanks where none are needed."""
-    return "".join(piece if piece.startswith("'") else " ".join(piece.split()).upper() for piece in re.split(r"('(?:[^']|'')*')", text))
+    pieces = re.split(r"('(?:[^']|'')*')", text)
+    return "".join(piece if piece.startswith("'") else re.sub(r"\s*\.\s*", ".", re.sub(r"\s+", " ", piece)).upper() for piece in pieces)
 
 
 def item_name(item):
@@ -56,10 +58,16 @@ def names_of_columns(line, columns_of):
     the columns of each table."""
     items, rest = parted(line[SELECT.match(line).end():], {"FROM"})
     if items != ["*"]:
-        return [item_name(item) for item in items]
+        return without_tables([item_name(item) for item in items])
     tables = sources(rest)
     if any(table not in columns_of for table, _ in tables):
         return None
     if len(tables) == 1:
         return list(columns_of[tables[0][0]])
-    return [f"{alias}.{column}" for table, alias in tables for column in columns_of[table]]
+    return without_tables([f"{alias}.{column}" for table, alias in tables for column in columns_of[table]])
+
+
+def without_tables(names):
+    """The names, without the name of a table before them where each is still another."""
+    short = [OF_A_TABLE.fullmatch(name)[1] if OF_A_TABLE.fullmatch(name) else name for name in names]
+    return [name if short.count(shorter) > 1 else shorter for name, shorter in zip(names, short)]

@@ -62,8 +62,9 @@ def table(names, rows):
 
 def write_csv(names, rows, out):
     """Writes the rows for a spreadsheet: texts without quotes, NULL as nothing, a period as two columns."""
-    parts = [values(row) for row in rows]
-    is_period = [all(PERIOD.fullmatch(value) for value in column) for column in zip(*parts)]
+    columns = [without_midnight(column) for column in zip(*map(values, rows))]
+    parts = list(zip(*columns))
+    is_period = [all(PERIOD.fullmatch(value) for value in column) for column in columns]
     writer = csv.writer(out, lineterminator="\n")
     if names and (not parts or len(names) == len(is_period)):
         periods = is_period or [name.endswith("WM_VALID") for name in names]
