@@ -1,4 +1,6 @@
 """What a store holds, as text."""
+from textwrap import wrap
+
 from storefile.store import LIVE
 from storefile.values import printed
 
@@ -37,8 +39,9 @@ def tables(store):
     lines = ["", "Tables"]
     for table in store.tables.values():
         rows = len(store.rows_of(store.spaces[LIVE], table))
+        columns = ", ".join(described(column, table) for column in table.columns)
         lines += [f"  {table.name}: {state_of(table)}; {counted(rows, 'row')} in LIVE",
-                  "      " + ", ".join(described(column, table) for column in table.columns)]
+                  *wrap(columns, 100, initial_indent=" " * 6, subsequent_indent=" " * 6, break_long_words=False)]
     return lines if store.tables else lines + ["  none"]
 
 
