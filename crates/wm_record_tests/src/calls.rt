@@ -2,9 +2,12 @@
 use std::alloc::Global;
 use std::process::Abort;
 use std::test::Fail;
-use wm_base::{Instant, Kind, Memory, Period, Stamp};
+use wm_base::{Instant, Kind, Memory, Name, Period, Stamp, StoreFault};
 use wm_lexer::{TokenKind, lex};
 use wm_period::{Piece, Pieces};
+use wm_spec::record::{Record, Table, TableColumns};
+use wm_station::{FuseStation, QuietStation};
+use wm_store::Store;
 use wm_temporal::{are_in_order, split, uncovered};
 use wm_tree::Tree;
 
@@ -113,5 +116,23 @@ fn a_line_has_tokens(rt: HostRuntime) -> Result<(), Fail> {
     assert_eq!(rt; tokens.as_slice().len(), 3);
     assert_eq!(rt; last.kind, TokenKind::Text);
     assert_eq!(rt; [last.from, last.till], [5, 12]);
+    Ok(())
+}
+
+#[test]
+fn a_record_is_fetched(rt: HostRuntime) -> Result<(), Fail> {
+    let alloc = rt.alloc();
+    let mut station = QuietStation::new(alloc, Vec::new(alloc))?;
+    let store = Store::make(alloc, &mut station, 1000)?;
+    let limit = match store.fetch(alloc, &mut station, 1)? {
+        Some(Record::Counters(counters)) => counters.limit,
+        _ => 0,
+    };
+    assert_eq!(rt; limit, 1000);
+    assert!(rt; store.fetch(alloc, &mut station, 4)?.is_none());
+    // The size of the file is told, and then the reading of the page fails.
+    let mut failing = FuseStation::new(station, 1);
+    let failed = store.fetch(alloc, &mut failing, 1).err();
+    assert_eq!(rt; failed, Some(StoreFault::Disk));
     Ok(())
 }

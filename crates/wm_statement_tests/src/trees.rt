@@ -1,12 +1,10 @@
-//! Trees for the tests: one constructor in each function.
+//! The trees of ID = 1 and of a query with it: one constructor in each function.
 use std::alloc::Global;
 use wm_base::tree::column::{Col, Cols};
 use wm_base::tree::cond::{Cmp, Cond};
 use wm_base::tree::constant::Const;
-use wm_base::tree::expr::Expr;
 use wm_base::tree::operand::Operand;
 use wm_base::tree::query::{Orders, Projection, Query, Src};
-use wm_base::tree::statement::Set;
 use wm_base::{Memory, Name};
 
 fn column(alloc: Global, name: &[u8]) -> Result<Operand, Memory> {
@@ -25,16 +23,6 @@ pub fn first(alloc: Global) -> Result<Cond, Memory> {
         left,
         cmp: Cmp::Eq,
         right: Operand::Const(Const::Num(1)),
-    })
-}
-
-/// The column is set to the other column.
-pub fn set(alloc: Global, name: &[u8], other: &[u8]) -> Result<Set, Memory> {
-    let name = Name::copy_of(alloc, name)?;
-    let other = column(alloc, other)?;
-    Ok(Set {
-        name,
-        becomes: Expr::Operand(other),
     })
 }
 

@@ -1,6 +1,6 @@
-//! The table BUD (ID NUMBER PRIMARY KEY, AMT NUMBER NOT NULL) with the rows 1|10 and 2|20.
+//! The table BUD (ID NUMBER PRIMARY KEY, AMT NUMBER) with the rows 1|10 and 2|20.
 use std::alloc::Global;
-use wm_base::{Instant, Memory, Name, Period, Row, Value, Values};
+use wm_base::{Memory, Name, Row, Value, Values};
 use wm_spec::record::{ColumnKind, Table, TableColumn, TableColumns};
 
 fn column(alloc: Global, name: &[u8]) -> Result<TableColumn, Memory> {
@@ -20,18 +20,13 @@ fn columns(alloc: Global) -> Result<TableColumns, Memory> {
 }
 
 pub fn table(alloc: Global) -> Result<Table, Memory> {
-    table_with(alloc, false)
-}
-
-/// The table, with or without valid time.
-pub fn table_with(alloc: Global, valid: bool) -> Result<Table, Memory> {
     let name = Name::copy_of(alloc, b"BUD")?;
     let columns = columns(alloc)?;
     Ok(Table {
         number: 1,
         name,
         versioned: true,
-        valid,
+        valid: false,
         history: false,
         has_key: true,
         key_column: 0,
@@ -39,22 +34,10 @@ pub fn table_with(alloc: Global, valid: bool) -> Result<Table, Memory> {
     })
 }
 
-fn number(value: Option<i64>) -> Value {
-    match value {
-        Some(number) => Value::Num(number),
-        None => Value::Null,
-    }
-}
-
-pub fn values(alloc: Global, id: i64, amount: Option<i64>) -> Result<Values, Memory> {
+fn row(alloc: Global, id: i64, amount: i64) -> Result<Row, Memory> {
     let mut values = Values::new(alloc);
     values.push(Value::Num(id))?;
-    values.push(number(amount))?;
-    Ok(values)
-}
-
-fn row(alloc: Global, id: i64, amount: i64) -> Result<Row, Memory> {
-    let values = values(alloc, id, Some(amount))?;
+    values.push(Value::Num(amount))?;
     Ok(Row { values })
 }
 
@@ -65,34 +48,11 @@ pub fn rows(alloc: Global) -> Result<Vec<Row>, Memory> {
     Ok(rows)
 }
 
-pub fn period(from: u64, till: u64) -> Option<Period> {
-    match (Instant::new(from), Instant::new(till)) {
-        (Some(from), Some(till)) => Period::new(from, till),
-        _ => None,
-    }
-}
-
-/// The row 1|10 over a period.
-pub fn row_over(alloc: Global, period: Period) -> Result<Row, Memory> {
-    let mut values = values(alloc, 1, Some(10))?;
-    values.push(Value::Span(period))?;
-    Ok(Row { values })
-}
-
 fn number_in(value: &Value) -> Option<i64> {
     match value {
         Value::Num(number) => Some(*number),
         _ => None,
     }
-}
-
-/// The numbers among the values; what is no number is none.
-pub fn numbers(alloc: Global, values: &[Value]) -> Result<Vec<Option<i64>>, Memory> {
-    let mut numbers = Vec::new(alloc);
-    for value in values {
-        numbers.push(number_in(value))?;
-    }
-    Ok(numbers)
 }
 
 /// The numbers of the rows, one row after another.
