@@ -2,10 +2,12 @@
 #![tactic(auto)]
 
 #[cfg(test)]
+mod calls;
+#[cfg(test)]
 mod codec;
 #[cfg(test)]
 mod graph;
 #[cfg(test)]
-mod rows;
+mod station;
 #[cfg(test)]
 mod store;

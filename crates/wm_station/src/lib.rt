@@ -27,6 +27,3 @@ pub use source::Source;
 pub use station::Station;
 pub use stream_source::StreamSource;
 pub use tear::Tear;
-
-#[cfg(test)]
-mod tests;

@@ -10,5 +10,5 @@ use Rattle.wm_model.specs.Step.Refusing.{at_its_end}
 abbrev pub durably : State → ℕ → State × Answer → State × Answer
 durably s log done =
     if nat_lt counter_limit log then (s, at_its_end (codes "LOG")) else
-    (if nat_lt counter_limit (s.work + line_work) then (s, at_its_end (codes "WORK")) else
-    (record done.0 { last_moment = s.moment; work = s.work + line_work }, done.1))
+    (if nat_lt counter_limit (s.durable.work + line_work) then (s, at_its_end (codes "WORK")) else
+    (record done.0 { durable = record done.0.durable { last_moment = s.moment; work = s.durable.work + line_work } }, done.1))

@@ -34,7 +34,7 @@ session_of name sessions = find (λ (x : Session). bytes_eq name x.name) session
 
 -- what is done with the table of this name, or that there is none
 abbrev pub with_table : State → List ℕ → (Table → State × Answer) → State × Answer
-with_table s name act = on (table_named name s.tables)
+with_table s name act = on (table_named name s.durable.tables)
   where
     on : Option Table → State × Answer
     on None = (s, no_table name)
@@ -42,7 +42,7 @@ with_table s name act = on (table_named name s.tables)
 
 -- what is done with the workspace of this name, or that there is none
 abbrev pub with_named : State → List ℕ → (Workspace → State × Answer) → State × Answer
-with_named s name act = on (workspace_named name s.spaces)
+with_named s name act = on (workspace_named name s.durable.spaces)
   where
     on : Option Workspace → State × Answer
     on None = (s, no_workspace name)
@@ -50,7 +50,7 @@ with_named s name act = on (workspace_named name s.spaces)
 
 -- what is done with the workspace that a session stands in; it is there in each state that lines lead to
 abbrev pub at_home : State → Session → (Workspace → State × Answer) → State × Answer
-at_home s session act = on (workspace_of s.spaces session.space)
+at_home s session act = on (workspace_of s.durable.spaces session.space)
   where
     on : Option Workspace → State × Answer
     on None = (s, not_built)

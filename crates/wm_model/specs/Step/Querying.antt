@@ -84,4 +84,4 @@ select_among session query empty tables s = lost (lost_source tables query.sourc
 
 -- SELECT answers a query over what the session sees
 abbrev pub select : Session → Query → Bool → State → State × Answer
-select session query empty s = select_among session query empty s.tables s
+select session query empty s = select_among session query empty s.durable.tables s

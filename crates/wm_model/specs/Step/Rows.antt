@@ -50,8 +50,8 @@ abbrev pub write_all : List ℕ → Table → ℕ → List RowChange → State �
 write_all user table count [] s w = (s, Done 0)
 write_all user table count (x ∷ xs) s w =
     let changes = x ∷ xs in
-    if not (nat_le (s.next_stamp + length changes) (s.limit + 1)) then (s, change_limit s.limit) else
-    durably s (length w.lists.log + length changes) (written_all w.number (entries_of s user table changes) s, Done count)
+    if not (nat_le (s.durable.next_stamp + length changes) (s.durable.limit + 1)) then (s, change_limit s.durable.limit) else
+    durably s (length w.lists.log + length changes) (record s { durable = written_all w.number (entries_of s user table changes) s.durable }, Done count)
 
 -- ---- INSERT
 

@@ -17,9 +17,9 @@ is_full tables = nat_le 256 (length tables) || nat_lt 65535 (next_table tables)
 abbrev pub create : List ℕ → List CreateItem → State → State × Answer
 create name items s =
     unless (names_fault name items) s
-    (if is_some (table_named name s.tables) then (s, table_there name) else
+    (if is_some (table_named name s.durable.tables) then (s, table_there name) else
     unless (shape_fault items) s
-    (if is_full s.tables then (s, most_tables) else durably s 0 (record s { tables = s.tables ++ table_of (next_table s.tables) name items ∷ [] }, Fine)))
+    (if is_full s.durable.tables then (s, most_tables) else durably s 0 (record s { durable = record s.durable { tables = s.durable.tables ++ table_of (next_table s.durable.tables) name items ∷ [] } }, Fine)))
 
 -- EnableVersioning makes a table ready for rows, once; the last argument is what is wrong with the others
 abbrev pub enable : List ℕ → Readiness → Option (List ℕ) → State → State × Answer
@@ -28,4 +28,4 @@ enable name how fault s =
     with_table s name (λ table.
     if table.versioned then (s, versioning name true) else
     unless_mistyped fault s
-    (if not table.has_key then (s, no_key name) else durably s 0 (record s { tables = enabled table.number how s.tables }, Fine)))
+    (if not table.has_key then (s, no_key name) else durably s 0 (record s { durable = record s.durable { tables = enabled table.number how s.durable.tables } }, Fine)))
