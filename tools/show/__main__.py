@@ -16,7 +16,7 @@ from pathlib import Path
 
 sys.path.insert(1, str(Path(__file__).resolve().parents[1]))
 
-from overview import overview
+from shown import shown
 from storefile.pages import Damaged, NotAStore
 from storefile.store import opened
 
@@ -36,7 +36,7 @@ def asked():
 def main():
     words = asked()
     try:
-        store = opened(words.store)
+        text, page = shown(words.store, opened(words.store), words.log, words.keys)
     except NotAStore:
         return f"show: {words.store} is no store"
     except Damaged as damage:
@@ -44,10 +44,9 @@ def main():
     except OSError as error:
         return f"show: {words.store}: {error.strerror}"
     if words.html is None:
-        print("\n".join(overview(words.store, store, words.log)))
-        return 0
-    from page import page
-    words.html.write_text(page(words.store.name, store, words.keys), encoding="utf-8")
+        print(text)
+    else:
+        words.html.write_text(page, encoding="utf-8")
     return 0
 
 

@@ -38,7 +38,7 @@ class Store:
             by_kind[type(record)].append(record)
         try:
             self.arrange(by_kind)
-        except (LookupError, ValueError):
+        except (LookupError, TypeError, ValueError):
             raise Damaged(0, "graph") from None
 
     def arrange(self, by_kind):
