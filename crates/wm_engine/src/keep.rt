@@ -26,6 +26,7 @@ use crate::plan::line::plan;
 use crate::print::reply_of;
 use crate::reply::Reply;
 use std::alloc::Global;
+use wm_draft::draft;
 use wm_image::Image;
 use wm_plan::planned::{Changed, Planned, Timed};
 use wm_plan::seating::seat;
@@ -70,7 +71,7 @@ fn keep<P: Station>(
     let Changed { edits, seating } = changed;
     let mut image = image;
     // Where this or what follows fails, the image is not that of the file, and is given up.
-    let batch = image.draft(alloc, moment, edits)?;
+    let batch = draft(alloc, &mut image, moment, edits)?;
     commit(alloc, station, store, &batch)?;
     image.apply(alloc, batch)?;
     seat(sessions, seating)?;
