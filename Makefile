@@ -6,13 +6,14 @@
 #   make cases   plays the demo and cases/ through the built program on real files
 #   make against compares the program with a second reading of the language, in Python, on random scripts
 #   make refuse  refuses each allocation of a run in turn, and looks at the status, the answers and the store
+#   make edge    tries two runs at once, closed and full streams, full disks, and paths and words that are none
 #   make bench   times 10,000 INSERT lines, a SELECT of them, SELECT and UPDATE lines by key, and a join of two tables of 1,000 rows
 
 RT ?= rt
 PYTHON ?= python3
 SOURCES := crates.txt $(shell find crates -path '*/out' -prune -o -type f -print)
 
-.PHONY: demo test wm cases against refuse bench clean
+.PHONY: demo test wm cases against refuse edge bench clean
 
 wm: build/wm
 
@@ -51,6 +52,9 @@ against: build/wm
 
 refuse: build/wm
 	$(PYTHON) tools/refuse build/wm
+
+edge: build/wm
+	$(PYTHON) tools/edge build/wm
 
 bench: build/wm
 	$(PYTHON) bench/statements.py build/wm

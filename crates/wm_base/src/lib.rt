@@ -15,8 +15,6 @@ pub mod period;
 pub mod refusal;
 pub mod row;
 pub mod stamp;
-#[cfg(test)]
-mod tests;
 pub mod text;
 pub mod tree;
 pub mod truth;

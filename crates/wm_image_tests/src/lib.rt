@@ -2,10 +2,4 @@
 #![tactic(auto)]
 
 #[cfg(test)]
-mod draft;
-#[cfg(test)]
 mod followed;
-#[cfg(test)]
-mod image;
-#[cfg(test)]
-mod redraw;

@@ -12,6 +12,3 @@ pub use form::DateForm;
 pub use read::{read_in, read_instant};
 pub use refusal::InstantRefusal;
 pub use write::write_instant;
-
-#[cfg(test)]
-mod tests;

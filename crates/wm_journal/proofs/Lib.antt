@@ -1,7 +1,6 @@
 pub mod AllOrNothing
 pub mod Commits
 pub mod Committed
-mod Examples
 pub mod Headers
 pub mod Kept
 pub mod Makes

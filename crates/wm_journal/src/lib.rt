@@ -9,6 +9,3 @@ mod journal;
 mod replay;
 
 pub use journal::Journal;
-
-#[cfg(test)]
-mod tests;

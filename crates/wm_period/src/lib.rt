@@ -6,9 +6,6 @@ mod parts;
 pub mod periods;
 pub mod piece;
 pub mod pieces;
-#[cfg(test)]
-mod tests;
-
 pub use periods::Periods;
 pub use piece::Piece;
 pub use pieces::Pieces;

@@ -2,10 +2,7 @@
 #![tactic(auto)]
 
 mod capitals;
-mod remark;
-#[cfg(test)]
-mod tests;
-mod text;
+mod remark;mod text;
 
 pub use capitals::capitals_of;
 pub use remark::is_remark;

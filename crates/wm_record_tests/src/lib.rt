@@ -2,10 +2,6 @@
 #![tactic(auto)]
 
 #[cfg(test)]
-mod codec;
+mod calls;
 #[cfg(test)]
-mod graph;
-#[cfg(test)]
-mod rows;
-#[cfg(test)]
-mod store;
+mod station;

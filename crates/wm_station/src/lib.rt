@@ -7,6 +7,7 @@ mod file_station;
 mod fuse_station;
 mod memory_source;
 mod memory_station;
+mod opening;
 mod quiet_station;
 mod recording;
 mod source;
@@ -26,6 +27,3 @@ pub use source::Source;
 pub use station::Station;
 pub use stream_source::StreamSource;
 pub use tear::Tear;
-
-#[cfg(test)]
-mod tests;

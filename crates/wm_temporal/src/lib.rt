@@ -3,10 +3,7 @@
 #![tactic(auto)]
 
 pub mod order;
-pub mod splitting;
-#[cfg(test)]
-mod tests;
-pub mod uncovering;
+pub mod splitting;pub mod uncovering;
 
 pub use order::are_in_order;
 pub use splitting::{Parts, split};

@@ -3,10 +3,7 @@
 
 mod numbers;
 pub mod path;
-mod place;
-#[cfg(test)]
-mod tests;
-pub mod tree;
+mod place;pub mod tree;
 pub mod version;
 
 pub use path::Path;

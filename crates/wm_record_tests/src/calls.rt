@@ -1,0 +1,138 @@
+//! Calls that no line of a script reaches yet.
+use std::alloc::Global;
+use std::process::Abort;
+use std::test::Fail;
+use wm_base::{Instant, Kind, Memory, Name, Period, Stamp, StoreFault};
+use wm_lexer::{TokenKind, lex};
+use wm_period::{Piece, Pieces};
+use wm_spec::record::{Record, Table, TableColumns};
+use wm_station::{FuseStation, QuietStation};
+use wm_store::Store;
+use wm_temporal::{are_in_order, split, uncovered};
+use wm_tree::Tree;
+
+fn period(from: u64, till: u64) -> Option<Period> {
+    Period::new(Instant::new(from)?, Instant::new(till)?)
+}
+
+fn piece(from: u64, till: u64) -> Option<Piece> {
+    Some(Piece {
+        period: period(from, till)?,
+        stamp: Stamp { number: 1 },
+        kind: Kind::Update,
+        gone: false,
+    })
+}
+
+/// The ends of pieces, in order.
+fn ends(alloc: Global, pieces: &Pieces) -> Result<Vec<u64>, Memory> {
+    let mut ends = Vec::new(alloc);
+    for piece in pieces.list() {
+        ends.push(piece.period.from().seconds())?;
+        ends.push(piece.period.till().seconds())?;
+    }
+    Ok(ends)
+}
+
+#[test]
+fn pieces_are_put_and_erased_and_joined(rt: HostRuntime) -> Result<(), Fail> {
+    let alloc = rt.alloc();
+    let mut pieces = Pieces::new(alloc);
+    pieces.put(alloc, piece(10, 40).ok_or("a piece")?)?;
+    pieces.put(alloc, piece(20, 30).ok_or("a piece")?)?;
+    assert_eq!(rt;
+        ends(alloc, &pieces)?.as_slice(),
+        [10, 20, 20, 30, 30, 40].as_slice()
+    );
+    pieces.join_same_stamp();
+    assert_eq!(rt; ends(alloc, &pieces)?.as_slice(), [10, 40].as_slice());
+    pieces.erase(alloc, &period(15, 20).ok_or("a period")?)?;
+    assert_eq!(rt;
+        ends(alloc, &pieces)?.as_slice(),
+        [10, 15, 20, 40].as_slice()
+    );
+    Ok(())
+}
+
+#[test]
+fn a_piece_is_split(rt: HostRuntime) -> Result<(), Fail> {
+    let whole = piece(10, 20).ok_or("a piece")?;
+    let parts = split(&whole, &period(5, 15).ok_or("a period")?);
+    assert_eq!(rt; parts.before, None);
+    assert_eq!(rt; parts.inside, piece(10, 15));
+    assert_eq!(rt; parts.after, piece(15, 20));
+    Ok(())
+}
+
+#[test]
+fn old_periods_are_uncovered(rt: HostRuntime) -> Result<(), Fail> {
+    let alloc = rt.alloc();
+    let olds = [period(10, 20).ok_or("a period")?];
+    let news = [period(12, 15).ok_or("a period")?];
+    if !are_in_order(olds.as_slice()) || !are_in_order(news.as_slice()) {
+        return Err("periods in order".into());
+    }
+    let left = uncovered(alloc, olds.as_slice(), news.as_slice())?;
+    assert_eq!(rt; left.first().copied(), period(10, 12));
+    assert_eq!(rt; left.last().copied(), period(15, 20));
+    Ok(())
+}
+
+/// Adds a version to a tree that has those under it.
+fn grow(
+    rt: &impl Abort,
+    tree: &mut Tree,
+    version: u64,
+    space: u32,
+    parent: u64,
+) -> Result<(), Memory> {
+    assert!(rt; 0 < version && parent < version);
+    assert_eq!(rt; tree.find(version), None);
+    assert!(rt; parent == 0 || tree.find(parent).is_some());
+    tree.add(version, space, parent)
+}
+
+#[test]
+fn versions_stand_under_others(rt: HostRuntime) -> Result<(), Fail> {
+    let alloc = rt.alloc();
+    let mut tree = Tree::new(alloc);
+    grow(&rt, &mut tree, 1, 0, 0)?;
+    grow(&rt, &mut tree, 2, 0, 1)?;
+    grow(&rt, &mut tree, 3, 7, 1)?;
+    tree.rebase(7, 1)?;
+    let path = tree.path(3).collect::<Vec<u64>>(alloc)?;
+    assert_eq!(rt; path.as_slice(), [3, 1].as_slice());
+    assert_eq!(rt;
+        [tree.latest(0), tree.base_of(7), tree.common(2, 3)],
+        [2, 1, 1]
+    );
+    Ok(())
+}
+
+#[test]
+fn a_line_has_tokens(rt: HostRuntime) -> Result<(), Fail> {
+    let tokens = lex(rt.alloc(), b"a$1<='it''s'")?;
+    let last = tokens.as_slice().last().ok_or("a token")?;
+    assert_eq!(rt; tokens.as_slice().len(), 3);
+    assert_eq!(rt; last.kind, TokenKind::Text);
+    assert_eq!(rt; [last.from, last.till], [5, 12]);
+    Ok(())
+}
+
+#[test]
+fn a_record_is_fetched(rt: HostRuntime) -> Result<(), Fail> {
+    let alloc = rt.alloc();
+    let mut station = QuietStation::new(alloc, Vec::new(alloc))?;
+    let store = Store::make(alloc, &mut station, 1000)?;
+    let limit = match store.fetch(alloc, &mut station, 1)? {
+        Some(Record::Counters(counters)) => counters.limit,
+        _ => 0,
+    };
+    assert_eq!(rt; limit, 1000);
+    assert!(rt; store.fetch(alloc, &mut station, 4)?.is_none());
+    // The size of the file is told, and then the reading of the page fails.
+    let mut failing = FuseStation::new(station, 1);
+    let failed = store.fetch(alloc, &mut failing, 1).err();
+    assert_eq!(rt; failed, Some(StoreFault::Disk));
+    Ok(())
+}
