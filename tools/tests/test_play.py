@@ -1,4 +1,5 @@
 """tools/play: what a person is shown, and the mistakes that it keeps from being made."""
+import fcntl
 import os
 import pty
 import re
@@ -135,6 +136,13 @@ class Stores(Played):
         first.wait()
         first.stdout.close()
         self.assertEqual(self.play(TABLE).returncode, 0)
+
+    def test_a_run_beside_is_told(self):
+        made(self.store)
+        with self.store.open("rb") as file:
+            fcntl.flock(file, fcntl.LOCK_EX)
+            done = self.play(TABLE)
+        self.assertEqual((done.returncode, "another run has" in done.stderr), (2, True))
 
     def slow(self):
         path = self.folder / "slow.py"
