@@ -11,6 +11,7 @@ when, and what a merge would find in conflict. The file is read as docs/FORMAT.m
 The status is 0, or 1 where the file is no store or is damaged; the damage is named as the program names it.
 """
 import argparse
+import signal
 import sys
 from pathlib import Path
 
@@ -51,4 +52,6 @@ def main():
 
 
 if __name__ == "__main__":
+    # Who reads only the beginning of what is written ends this quietly.
+    signal.signal(signal.SIGPIPE, signal.SIG_DFL)
     sys.exit(main())
