@@ -6,6 +6,7 @@ mod parts;
 pub mod periods;
 pub mod piece;
 pub mod pieces;
+
 pub use periods::Periods;
 pub use piece::Piece;
 pub use pieces::Pieces;

@@ -3,7 +3,8 @@
 #![tactic(auto)]
 
 pub mod order;
-pub mod splitting;pub mod uncovering;
+pub mod splitting;
+pub mod uncovering;
 
 pub use order::are_in_order;
 pub use splitting::{Parts, split};
