@@ -2,10 +2,6 @@
 //! changed, and what is left of the old periods of a key under its new ones.
 #![tactic(auto)]
 
-<<<<<<< HEAD
-=======
-pub mod order;
->>>>>>> 02c6c8a4615810dedb9704399b7e3d3a256bc9b1
 pub mod splitting;
 pub mod uncovering;
 
