@@ -1,15 +1,16 @@
 //! The list of tables.
-ghost use Rattle.std.specs.Prelude.{◌≡◌, [], ◌∷◌, ◌++◌, length, slice_get, None, IsSome, OnOk, OnErr};
+ghost use Rattle.std.specs.Prelude.{◌≡◌, [], ◌∷◌, ◌++◌, true, None, IfOk, OnOk};
 ghost use Rattle.std.specs.Option.{option_copied};
-ghost use Rattle.wm_catalog.specs.Catalog.{found, with_table};
+ghost use Rattle.wm_catalog.specs.Catalog.{found, same_name};
+ghost use Rattle.wm_graph.specs.Rules.{differ};
 
 use indexmap::IndexMap;
 use std::alloc::Global;
 use std::marker::Model;
-use wm_base::{Memory, Name};
+use wm_base::Memory;
 use wm_spec::record::Table;
 
-/// The tables of a store. No two have one name.
+/// Tables in their order. No two have one name.
 #[derive(Drop)]
 pub struct Catalog {
     // Each under its name.
@@ -39,45 +40,30 @@ impl Catalog {
         }
     }
 
-    /// The table of this name, None exactly where it is not there.
-    pub fn find(&self, name: &Name) -> Option<&Table>
+    /// These tables, where their names differ.
+    pub fn from_tables(alloc: Global, tables: Vec<Table>) -> Result<Catalog, Memory>
+        ensures { IfOk result (λ catalog. differ same_name tables.items ≡ true → catalog ≡ tables.items) }
+    {
+        let mut catalog = Catalog::new(alloc);
+        for table in tables {
+            catalog.put(alloc, table)?;
+        }
+        Ok(catalog)
+    }
+
+    /// The table of a name, None exactly where it is not there.
+    pub fn find(&self, name: &[u8]) -> Option<&Table>
         ensures { option_copied result ≡ found name.now self.now }
     {
-        self.tables.get(name.as_bytes())
+        self.tables.get(name)
     }
 
-    /// How many tables there are.
-    pub fn len(&self) -> usize
-        ensures { result ≡ length self.now }
-    {
-        self.tables.len()
-    }
-
-    /// The table that was made behind so many others.
-    pub fn at(&self, index: usize) -> Option<&Table>
-        ensures { option_copied result ≡ slice_get self.now index }
-    {
-        let (_, table) = self.tables.get_index(index)?;
-        Some(table)
-    }
-
-    /// Adds a table behind all others.
-    pub fn add(&mut self, alloc: Global, table: Table) -> Result<(), Memory>
-        requires { found table.name self.old ≡ None }
-        ensures ok { OnOk result (self.new ≡ self.old ++ table ∷ []) }
-        ensures err { OnErr result (self.new ≡ self.old) }
+    /// Puts a table under its name, behind all others where none has that name.
+    fn put(&mut self, alloc: Global, table: Table) -> Result<(), Memory>
+        ensures { OnOk result (found table.name self.old ≡ None → self.new ≡ self.old ++ table ∷ []) }
     {
         let name = Vec::from_slice(alloc, table.name.as_bytes())?;
         self.tables.insert(name, table)?;
         Ok(())
-    }
-
-    /// Puts a table in the place of that of its name. Where there is none, nothing changes.
-    pub fn set(&mut self, table: Table)
-        ensures { self.new ≡ with_table table self.old }
-    {
-        if let Some(index) = self.tables.get_index_of(table.name.as_bytes()) {
-            self.tables[index] = table;
-        }
     }
 }

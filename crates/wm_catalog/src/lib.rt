@@ -1,4 +1,4 @@
-//! The tables of a store, found by name and kept in the order in which they were made.
+//! The tables of a store in the order in which they were made, each found by its name.
 #![tactic(auto)]
 
 mod catalog;

@@ -8,10 +8,9 @@ pub mod Finding
 pub mod Newest
 pub mod Walking
 pub mod Naming
+pub mod Cataloguing
 pub mod Using
 pub mod Tabled
-pub mod Dropping
-pub mod DroppingAll
 pub mod Leaves
 pub mod Spans
 pub mod Spanning
@@ -20,14 +19,4 @@ pub mod Firsts
 pub mod Lasts
 pub mod Saved
 pub mod Spaced
-pub mod Redrawing
-pub mod Following
-pub mod Drafting
-pub mod Putting
 pub mod Coming
-pub mod Entering
-pub mod Placed
-pub mod Written
-pub mod Born
-pub mod Appended
-pub mod Sequenced

@@ -1,17 +1,17 @@
 -- Workspaces by name, how many there are, and the versions that nothing names.
-use Rattle.std.proofs.Common.{◌≡◌, ℕ, ◌==◌, Bool, true, false, not, ◌&&◌, ◌||◌, eqb, List, [], ◌∷◌, length, Option, refl, ap, ◌∙◌, subst}
+use Rattle.std.proofs.Common.{◌≡◌, ℕ, ◌<◌, ◌==◌, Bool, true, false, not, ◌&&◌, ◌||◌, eqb, List, [], ◌∷◌, length, Option, Some, refl, sym, ap, ◌∙◌, subst, arith}
 use Rattle.std.specs.BTreeMap.{BTreeMap, IsOrdered}
 use Rattle.std.specs.List.{list_any}
 use Rattle.std.specs.Ordering.{nat_cmp}
-use Rattle.wm_graph.specs.Parts.{Parts, parts_of, as_savepoint, as_space}
+use Rattle.wm_graph.specs.Parts.{Parts, parts_of, as_savepoint, as_space, space_of}
 use Rattle.wm_spec.specs.declared.record.Record.TheVariants as records
 use Rattle.wm_spec.specs.declared.record.Record.{Record}
 use Rattle.wm_spec.specs.declared.record.savepoint.Savepoint.{Savepoint}
 use Rattle.wm_spec.specs.declared.record.space.Space.{Space}
 use Rattle.wm_spec.specs.declared.record.stored.Stored.{Stored}
 use Rattle.wm_state.specs.Effects.{IsFree}
-use Rattle.wm_state.proofs.Leaves.{free_of}
-use Rattle.wm_state.proofs.Tests.{either_false}
+use Rattle.wm_state.proofs.Named.{saved_space, space_number}
+use Rattle.wm_state.proofs.Tests.{either_false, found_fails}
 use Rattle.wm_image.proofs.Finding.{Tests, space_test}
 use Rattle.wm_image.proofs.Firsts.{sought_kind, any_sought, count_sought, filter_all, count_all}
 use Rattle.wm_image.proofs.Lasts.{LastOf, has_ids, last-same, last_told}
@@ -115,6 +115,27 @@ free_told kept x is version =
 pub free_by : (kept : BTreeMap ℕ Record) (x : Index) → IsIndexed kept x → (version : ℕ) (saved rested births bases : List ℕ) → saved ≡ ids_at x (KeptAs version) → rested ≡ ids_at x (KeptUnder version) → births ≡ ids_at x (BornAs version) → bases ≡ ids_at x (SeenUnder version)
     → ((length saved == 0) && ((length rested == 0) && ((length births == 0) && (length bases == 0)))) ≡ is_unnamed (parts_of (listed kept.entries)) version
 free_by kept x is version saved rested births bases e f g h = rw (e, f, g, h) (free_told kept x is version)
+
+-- a version that no record of a savepoint and of a workspace names is free
+free_of : (p : Parts) (version : ℕ) → list_any (λ (x : Savepoint). x.version == version) p.savepoints ≡ false → list_any (rests_on version) p.savepoints ≡ false → list_any (names version) p.spaces ≡ false → IsFree p version
+free_of p version unsaved unrested unnamed = record {
+  kept = λ n making x found. found_fails (λ (x : Savepoint). (x.space == n) && (x.making == making)) (λ (x : Savepoint). x.version == version) p.savepoints x found unsaved;
+  kept_bases = λ n making x some found.
+      second (not (x.space == 0)) (x.base_version == version) (ap (λ k. not (k == 0)) (saved_space p n making x found) ∙ not_zero n some)
+      (found_fails (λ (y : Savepoint). (y.space == n) && (y.making == making)) (rests_on version) p.savepoints x found unrested);
+  births = λ n r some found. (either_false (r.birth_version == version) (r.base_version == version) (named n r some found)).0;
+  bases = λ n r some found. (either_false (r.birth_version == version) (r.base_version == version) (named n r some found)).1;
+}
+  where
+    not_zero : (m : ℕ) → 0 < m → not (m == 0) ≡ true
+    not_zero m lt = grind (arith, lt)
+
+    second : (a b : Bool) → a ≡ true → (a && b) ≡ false → b ≡ false
+    second a b e h = sym (ap (λ t. t && b) e) ∙ h
+
+    named : (n : ℕ) (r : Space) → 0 < n → space_of p.spaces n ≡ Some r → ((r.birth_version == version) || (r.base_version == version)) ≡ false
+    named n r some found = second (not (r.number == 0)) _ (ap (λ k. not (k == 0)) (space_number p n r found) ∙ not_zero n some)
+        (found_fails (λ (x : Space). x.number == n) (names version) p.spaces r found unnamed)
 
 pub free_where : (p : Parts) (version : ℕ) → is_unnamed p version ≡ true → IsFree p version
 free_where p version e =

@@ -3,7 +3,3 @@ pub mod Indexed
 pub mod Shown
 pub mod Listing
 pub mod Standing
-pub mod Gone
-pub mod Redraw
-pub mod Points
-pub mod Drafting

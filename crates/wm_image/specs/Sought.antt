@@ -55,11 +55,6 @@ is_sought (RowAt stamp) (records.Row r) = r.stamp == stamp
 is_sought (PiecesAt table key) (records.Piece r) = (r.cells.table == table) && is_eq (key_order r.cells.key key)
 is_sought _ _ = false
 
--- the record is a piece of a version
-abbrev pub has_version : ℕ → Option Record → Bool
-has_version version (Some (records.Piece x)) = x.version == version
-has_version version _ = false
-
 -- the ids of the records that pass a test
 abbrev pub ids_with : (Record → Bool) → List Stored → List ℕ
 ids_with p [] = []

@@ -1,3 +1,4 @@
+//! All records of a store, found by what they are.
 ghost use Rattle.std.specs.Prelude.{◌≡◌, ◌<◌, ◌≤◌, ◌+◌, ◌^◌, ◌==◌, ◌||◌, nat_lt, ℕ, not, length, List, map, [], ◌∷◌, true, false, None, is_some, IsSome, IfSome, IfNone, IfOk, IfErr, OnOk, OnErr};
 ghost use Rattle.std.specs.List.{count_by, find, list_all, list_any};
 ghost use Rattle.std.specs.List.Sorted.{IsStrictlySortedBy};
@@ -11,15 +12,12 @@ ghost use Rattle.wm_spec.specs.declared.record.table.Table.{Table as OneTable};
 ghost use Rattle.wm_spec.specs.declared.record.version.Version.{Version as OneVersion};
 ghost use Rattle.wm_base.specs.declared.instant.TheConstants.{END};
 ghost use Rattle.wm_period.specs.Pieces.{held_at};
-ghost use Rattle.wm_graph.specs.Parts.{as_counters, as_space, as_table, parts_of, row_of, space_of, table_of, version_of};
+ghost use Rattle.wm_graph.specs.Parts.{as_counters, as_space, as_table, parts_of, row_of, space_of, version_of};
 ghost use Rattle.wm_graph.specs.Rules.{keep_rules};
 ghost use Rattle.wm_spec.specs.Records.{AreRecords, record_at};
 ghost use Rattle.wm_image.specs.Sought.{PiecesAt, ids_with, is_sought};
 ghost use Rattle.wm_state.specs.ById.{Ascend, applied, by_id};
-ghost use Rattle.wm_state.specs.Drafts.{CanDraft, Drafts};
-ghost use Rattle.wm_state.specs.Drawing.{AreNews};
 ghost use Rattle.wm_image.specs.Listing.{AreSpans, IsFirstShared, IsKeyShowing};
-ghost use Rattle.wm_image.specs.Redraw.{IsRedrawn};
 ghost use Rattle.wm_image.specs.Shown.{names, rests_on};
 ghost use Rattle.wm_spec.specs.declared.record.savepoint.Savepoint.{Savepoint as OneSavepoint};
 ghost use Rattle.wm_spec.specs.declared.record.space.Space.{Space as OneSpace};
@@ -28,7 +26,6 @@ ghost use Rattle.wm_state.specs.Listing.{IsShowing};
 ghost use Rattle.wm_state.specs.Standing.{by_number, latest, saved_as, saved_in, seen, space_after};
 ghost use Rattle.wm_state.specs.State.{next_table};
 
-use crate::draft::draft;
 use crate::ids::{are_empty, first_id};
 use crate::index::Index;
 use crate::keyed::{ids_of, ids_on, keys_on, last_key};
@@ -37,40 +34,40 @@ use crate::laying::lay_path;
 use crate::listing::{Asked, list_key, list_rows};
 use crate::load::{ImageFault, put_all, sorted};
 use crate::overlap::{find_shared, find_spans};
-use crate::records::{Kept, at, change_all, first, next_id};
-use crate::redraw::{Redrawn, redraw};
+use crate::records::{Kept, apply_all, at, first, next_id};
 use crate::savepoints::{making_after, savepoint_in, savepoint_of_name};
 use crate::shown::{latest_of, version_at};
 use crate::spaces::{number_after, space_of_name};
-use crate::tables::{after_last, first_named, first_numbered, id_named};
+use crate::tables::{after_last, catalog_of, id_named};
 use std::alloc::Global;
 use std::collections::BTreeMap;
 use std::marker::Model;
 use wm_base::{Key, Memory, Period, RowList};
+use wm_catalog::Catalog;
 use wm_graph::keeps_rules;
 use wm_period::Pieces;
 use wm_spec::record::{
-    Batch, Counters, PieceRecord, Record, Records, RowRecord, Savepoint, Space, Table, Version,
+    Batch, Counters, Record, Records, RowRecord, Savepoint, Space, Table, Version,
 };
-use wm_state::edit::Edit;
 
-/// All records of a store, in the order of their ids, with an index of them.
+/// All records of a store, in the order of their ids, with an index of them and a catalog of the tables.
 #[derive(Drop)]
 pub struct Image {
     kept: Kept,
     index: Index,
+    catalog: Catalog,
 }
 
 impl Model for Image {
     ghost use Rattle.std.specs.Prelude.{List};
-    ghost use Rattle.wm_image.specs.Indexed.{listed, IsIndexed};
+    ghost use Rattle.wm_image.specs.Indexed.{listed, IsCatalog, IsIndexed};
     ghost use Rattle.wm_spec.specs.declared.record.stored.Stored.{Stored};
 
     ghost Value = { List Stored };
 
     ghost view = { λ i. listed i.kept.entries };
 
-    ghost invariant = { λ i. IsIndexed i.kept i.index };
+    ghost invariant = { λ i. IsIndexed i.kept i.index × IsCatalog (listed i.kept.entries) i.catalog };
 }
 
 impl Image {
@@ -81,6 +78,7 @@ impl Image {
         Image {
             kept: BTreeMap::new(alloc),
             index: Index::new(alloc),
+            catalog: Catalog::new(alloc),
         }
     }
 
@@ -108,7 +106,12 @@ impl Image {
         let mut kept = BTreeMap::new(alloc);
         let mut index = Index::new(alloc);
         put_all(alloc, &mut kept, &mut index, records)?;
-        Ok(Image { kept, index })
+        let catalog = catalog_of(alloc, &kept, &index)?;
+        Ok(Image {
+            kept,
+            index,
+            catalog,
+        })
     }
 
     /// The counters of the store.
@@ -139,14 +142,7 @@ impl Image {
         requires { keep_rules (parts_of self.now) ≡ true }
         ensures { option_copied result ≡ find (λ (t : OneTable). bytes_eq name.now t.name) (by_number (parts_of self.now).tables) }
     {
-        first_named(&self.kept, self.index.tables.as_slice(), name)
-    }
-
-    /// The table of a number.
-    pub fn table_numbered(&self, number: u16) -> Option<&Table>
-        ensures { option_copied result ≡ table_of (parts_of self.now).tables number }
-    {
-        first_numbered(&self.kept, self.index.tables.as_slice(), number)
+        self.catalog.find(name)
     }
 
     /// The id after the greatest of a record, 1 where there is none, or None where the greatest id that there is has a record.
@@ -304,23 +300,6 @@ impl Image {
         ids_on(&self.index.pieces, table, key)
     }
 
-    /// What goes of the records, and what comes, where new pieces come over those that a version has of a table. Only
-    /// the pieces of their keys are looked at, and only those that share a moment with a new one go.
-    pub fn redraw(
-        &self,
-        alloc: Global,
-        version: u64,
-        table: u16,
-        news: Vec<PieceRecord>,
-    ) -> Result<Redrawn, Memory>
-        requires rules { keep_rules (parts_of self.now) ≡ true }
-        requires news { AreNews version table news.items }
-        ensures { IfOk result (λ redrawn. IsRedrawn self.now news.items redrawn.dropped.items redrawn.drawn.items) }
-    {
-        let redrawn = redraw(alloc, &self.kept, &self.index, version, table, news)?;
-        Ok(redrawn)
-    }
-
     /// Each key for which a table has pieces, of any version, once and in order.
     pub fn keys(&self, alloc: Global, table: u16) -> Result<Vec<Key>, Memory>
         ensures each { IfOk result (λ keys. (k : List OneValue) → list_any (λ q. is_eq (key_order k q)) keys.items ≡ list_any (is_sought (PiecesAt table k)) (map (λ (s : Stored). s.record) self.now)) }
@@ -417,24 +396,8 @@ impl Image {
         at(&self.kept, id)
     }
 
-    /// What the edits of a line at a moment make of the records: of each state that they stand for, what the edits make of it
-    /// in their order. Where there are several the image goes on to what all but the last one leave; then it is good for one
-    /// thing, which is to apply the batch, and that makes of it what it makes of the records as they were. Where memory runs
-    /// out the image is not to be used any more.
-    pub fn draft(&mut self, alloc: Global, moment: u64, edits: Vec<Edit>) -> Result<Batch, Memory>
-        requires rules { keep_rules (parts_of self.old) ≡ true }
-        requires can { CanDraft self.old moment edits.items }
-        ensures drafts { IfOk result (λ batch. Drafts self.old moment edits.items batch.changes) }
-        ensures rest { IfOk result (λ batch. applied batch.changes self.new ≡ applied batch.changes self.old) }
-        ensures one { length edits.items ≤ 1 → OnOk result (self.new ≡ self.old) }
-    {
-        self.law_of_order();
-        let changes = draft(alloc, self, moment, edits)?;
-        Ok(Batch { changes })
-    }
-
     /// For its law alone: the records stand in the order of their ids.
-    fn law_of_order(&self)
+    pub fn law_of_order(&self)
         ensures { Ascend self.now }
     {
         let _kept = &self.kept;
@@ -445,10 +408,17 @@ impl Image {
         ensures ok { OnOk result (self.new ≡ applied batch.changes self.old) }
         ensures err { OnErr result (self.new ≡ []) }
     {
-        let made = change_all(alloc, &mut self.kept, &mut self.index, batch.changes);
+        let made = apply_all(
+            alloc,
+            &mut self.kept,
+            &mut self.index,
+            &mut self.catalog,
+            batch.changes,
+        );
         if made.is_err() {
             self.kept = BTreeMap::new(alloc);
             self.index = Index::new(alloc);
+            self.catalog = Catalog::new(alloc);
         }
         made
     }

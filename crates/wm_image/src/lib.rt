@@ -1,7 +1,7 @@
 //! All records of a store in memory, found by what they are, and changed as a batch changes the store.
 #![tactic(auto)]
 
-pub mod draft;
+pub mod copies;
 mod ids;
 pub mod image;
 pub mod index;
@@ -10,17 +10,13 @@ pub mod kinds;
 pub mod laying;
 pub mod listing;
 pub mod load;
-mod over;
 mod overlap;
 pub mod records;
-pub mod redraw;
 pub mod savepoints;
 pub mod shown;
 pub mod spaces;
 mod standing;
 pub mod tables;
 
-pub use draft::births::implicit_name;
 pub use image::Image;
 pub use load::ImageFault;
-pub use redraw::Redrawn;

@@ -2,8 +2,8 @@
 use std::alloc::Global;
 use std::test::Fail;
 use wm_base::Memory;
-use wm_image::draft::copies::change_copies;
-use wm_image::draft::followed::followed_by;
+use wm_draft::copies::change_copies;
+use wm_draft::followed::followed_by;
 use wm_spec::record::{Change, Changes, Record, Version};
 
 /// A version takes the place of what each id had that is not marked as gone.

@@ -60,7 +60,7 @@ making name items s ts =
     unless (names_fault name items) s
     (if is_some (table_named name ts) then (s, table_there name) else
     unless (shape_fault items) s
-    (if is_full ts then (s, most_tables) else durably s 0 (record s { tables = ts ++ table_of (next_table ts) name items ∷ [] }, Fine)))
+    (if is_full ts then (s, most_tables) else durably s 0 (record s { durable = record s.durable { tables = ts ++ table_of (next_table ts) name items ∷ [] } }, Fine)))
 
 created_is : (rs : List Stored) (xs : List Session) (m : ℕ) (s : State) (name : List ℕ) (items : List CreateItem) → StandsAt rs xs m s → create name items s ≡ making name items s (tables_in rs)
 created_is rs xs m s name items st = ap (making name items s) (sym st.stands.tables.same)
@@ -93,7 +93,7 @@ create_full rs xs m name items rules new full = does_nothing rs xs m most_tables
 -- ---- a table is made
 
 made_is : (rs : List Stored) (xs : List Session) (m : ℕ) (s : State) (name : List ℕ) (items : List CreateItem) → StandsAt rs xs m s → MayMake rs name items → is_full (tables_in rs) ≡ false
-    → create name items s ≡ durably s 0 (record s { tables = tables_in rs ++ table_to_make rs name items ∷ [] }, Fine)
+    → create name items s ≡ durably s 0 (record s { durable = record s.durable { tables = tables_in rs ++ table_to_make rs name items ∷ [] } }, Fine)
 made_is rs xs m s name items st new room = created_is rs xs m s name items st ∙ rw (new.good, new.new, new.shaped, room) refl
 
 pub create_spent : (rs : List Stored) (xs : List Session) (m : ℕ) (name : List ℕ) (items : List CreateItem) (c : Counters) → keep_rules (parts_of rs) ≡ true → MayMake rs name items
@@ -101,7 +101,7 @@ pub create_spent : (rs : List Stored) (xs : List Session) (m : ℕ) (name : List
 create_spent rs xs m name items c rules new room one much =
     does_nothing rs xs m (at_its_end (codes "WORK")) (create name items)
     (λ s st. made_is rs xs m s name items st new room
-    ∙ spent_at rs xs m s 0 c (record s { tables = tables_in rs ++ table_to_make rs name items ∷ [] }, Fine) st one refl much)
+    ∙ spent_at rs xs m s 0 c (record s { durable = record s.durable { tables = tables_in rs ++ table_to_make rs name items ∷ [] } }, Fine) st one refl much)
 
 -- such a table may be made
 can_create : (rs : List Stored) (name : List ℕ) (items : List CreateItem) → MayMake rs name items → is_full (tables_in rs) ≡ false → CanCreate (parts_of rs) (table_to_make rs name items)
@@ -121,8 +121,8 @@ pub does_create : (rs : List Stored) (xs : List Session) (m : ℕ) (name : List 
 does_create rs xs m name items c new room one left early =
     does_edit rs xs m (edits.Create made) Fine (create name items) (record { counters = c; one = one; some = refl; room = left; early = early }) (can_create rs name items new room)
     (λ s st. made_is rs xs m s name items st new room
-    ∙ not_spent_at rs xs m s 0 c (record s { tables = tables_in rs ++ made ∷ [] }, Fine) st one refl left
-    ∙ ap (λ (ts : List Table). (record s { tables = ts ++ made ∷ []; last_moment = m; work = s.work + line_work }, Fine)) st.stands.tables.same)
+    ∙ not_spent_at rs xs m s 0 c (record s { durable = record s.durable { tables = tables_in rs ++ made ∷ [] } }, Fine) st one refl left
+    ∙ ap (λ (ts : List Table). (record s { durable = record s.durable { tables = ts ++ made ∷ []; last_moment = m; work = s.durable.work + line_work } }, Fine)) st.stands.tables.same)
   where
     made : Table
     made = table_to_make rs name items

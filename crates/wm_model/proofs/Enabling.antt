@@ -21,7 +21,7 @@ abbrev readying : List ℕ → Readiness → Option (List ℕ) → State → Tab
 readying name how fault s table =
     if table.versioned then (s, versioning name true) else
     unless_mistyped fault s
-    (if not table.has_key then (s, no_key name) else durably s 0 (record s { tables = enabled table.number how s.tables }, Fine))
+    (if not table.has_key then (s, no_key name) else durably s 0 (record s { durable = record s.durable { tables = enabled table.number how s.durable.tables } }, Fine))
 
 -- ---- what is refused
 
@@ -54,7 +54,7 @@ enable_keyless rs xs m name how t rules short some off keyless =
 -- ---- the table becomes ready
 
 enabled_is : (rs : List Stored) (xs : List Session) (m : ℕ) (s : State) (name : List ℕ) (how : Readiness) (t : Table) → StandsAt rs xs m s → nat_lt 25 (length name) ≡ false → named rs name ≡ Some t → t.versioned ≡ false → t.has_key ≡ true
-    → enable name how None s ≡ durably s 0 (record s { tables = enabled t.number how s.tables }, Fine)
+    → enable name how None s ≡ durably s 0 (record s { durable = record s.durable { tables = enabled t.number how s.durable.tables } }, Fine)
 enabled_is rs xs m s name how t st short some off key = rw short (with_some rs xs m s name (readying name how None s) t st some ∙ rw (off, key) refl)
 
 pub enable_spent : (rs : List Stored) (xs : List Session) (m : ℕ) (name : List ℕ) (how : Readiness) (t : Table) (c : Counters) → keep_rules (parts_of rs) ≡ true → nat_lt 25 (length name) ≡ false → named rs name ≡ Some t → t.versioned ≡ false → t.has_key ≡ true
@@ -62,12 +62,12 @@ pub enable_spent : (rs : List Stored) (xs : List Session) (m : ℕ) (name : List
 enable_spent rs xs m name how t c rules short some off key one much =
     does_nothing rs xs m (at_its_end (codes "WORK")) (enable name how None)
     (λ s st. enabled_is rs xs m s name how t st short some off key
-    ∙ spent_at rs xs m s 0 c (record s { tables = enabled t.number how s.tables }, Fine) st one refl much)
+    ∙ spent_at rs xs m s 0 c (record s { durable = record s.durable { tables = enabled t.number how s.durable.tables } }, Fine) st one refl much)
 
 pub does_enable : (rs : List Stored) (xs : List Session) (m : ℕ) (name : List ℕ) (how : Readiness) (t : Table) (c : Counters) → nat_lt 25 (length name) ≡ false → named rs name ≡ Some t → t.versioned ≡ false → t.has_key ≡ true
     → (parts_of rs).counters ≡ c ∷ [] → nat_lt counter_limit (c.work + line_work) ≡ false → nat_lt m END ≡ true → Does rs xs m (edits.Enable name how.valid how.history ∷ []) Stay Fine (enable name how None)
 does_enable rs xs m name how t c short some off key one room early =
     does_edit rs xs m (edits.Enable name how.valid how.history) Fine (enable name how None) (record { counters = c; one = one; some = refl; room = room; early = early }) (record { table = t; named = some; off = off; key = key })
     (λ s st. enabled_is rs xs m s name how t st short some off key
-    ∙ not_spent_at rs xs m s 0 c (record s { tables = enabled t.number how s.tables }, Fine) st one refl room
-    ∙ ap (λ (o : Option Table). (record (unwrap_or (option_map (enable_named how s) o) s) { last_moment = m; work = s.work + line_work }, Fine)) (sym (ap (table_named name) (sym st.stands.tables.same) ∙ some)))
+    ∙ not_spent_at rs xs m s 0 c (record s { durable = record s.durable { tables = enabled t.number how s.durable.tables } }, Fine) st one refl room
+    ∙ ap (λ (o : Option Table). (record s { durable = record (unwrap_or (option_map (enable_named how s.durable) o) s.durable) { last_moment = m; work = s.durable.work + line_work } }, Fine)) (sym (ap (table_named name) (sym st.stands.tables.same) ∙ some)))

@@ -1,5 +1,5 @@
 -- What CreateSavepoint does to each state that the records stand for.
-use Rattle.std.proofs.Common.{◌≡◌, ℕ, ◌+◌, ◌==◌, ◌&&◌, nat_lt, nat_le, Bool, true, false, List, [], ◌∷◌, length, Option, Some, None, unwrap_or, is_some, if◌then◌else◌, refl, sym, ap, ◌∙◌, codes}
+use Rattle.std.proofs.Common.{◌≡◌, ℕ, ◌+◌, ◌==◌, ◌&&◌, nat_lt, nat_le, Bool, true, false, List, [], ◌∷◌, length, Option, Some, None, unwrap_or, refl, sym, ap, ◌∙◌, codes}
 use Rattle.std.proofs.lemmas.Bool.{eq-eqb}
 use Rattle.std.specs.List.{find, count_by, list_all}
 use Rattle.std.specs.Option.{option_and_then}
@@ -15,15 +15,15 @@ use Rattle.wm_spec.specs.declared.record.stored.Stored.{Stored}
 use Rattle.wm_state.specs.Editing.{save_in}
 use Rattle.wm_state.specs.Points.{HasRoom}
 use Rattle.wm_state.specs.Standing.{SpaceFields, saved_in}
-use Rattle.wm_state.specs.State.{State, Session, Workspace, savepoint_named}
+use Rattle.wm_state.specs.State.{Durable, State, Session, Workspace}
 use Rattle.wm_state.specs.declared.edit.Edit.TheVariants as edits
 use Rattle.wm_state.proofs.Mapped.{find-again}
-use Rattle.wm_state.proofs.Points.{name_taken, name_free, few_same}
+use Rattle.wm_forked.proofs.Points.{name_taken, name_free, few_same}
 use Rattle.wm_state.proofs.Spaces.{IsSpace, NamedSpace, ruled_spaces, named_space, named_no_space}
 use Rattle.wm_state.proofs.Tests.{both}
 use Rattle.wm_model.specs.Planning.{StandsAt, Does, Stay}
 use Rattle.wm_model.specs.Saving.{SavesIn, MaySaveIn}
-use Rattle.wm_model.specs.Step.{create_savepoint, save, durably, is_name, names_no_savepoint, no_workspace, savepoint_there, most_savepoints, at_its_end, number_limit, counter_limit, line_work}
+use Rattle.wm_model.specs.Step.{create_savepoint, save, saving_faults, first_fault, unless, durably, is_name, names_no_savepoint, no_workspace, savepoint_there, most_savepoints, at_its_end, number_limit, counter_limit, line_work}
 use Rattle.wm_model.proofs.Doing.{does_nothing, does_edit, spent_at, not_spent_at}
 
 -- ---- refusals
@@ -31,20 +31,17 @@ use Rattle.wm_model.proofs.Doing.{does_nothing, does_edit, spent_at, not_spent_a
 pub save_homeless : (rs : List Stored) (xs : List Session) (m : ℕ) (workspace name : List ℕ) → keep_rules (parts_of rs) ≡ true → is_name name ≡ true → names_no_savepoint name ≡ false
     → find (λ (r : Space). bytes_eq workspace r.name) (parts_of rs).spaces ≡ None → Does rs xs m [] Stay (no_workspace workspace) (create_savepoint workspace name)
 save_homeless rs xs m workspace name rules good plain none =
-    does_nothing rs xs m (no_workspace workspace) (create_savepoint workspace name) (λ s st. rw (named_no_space (parts_of rs) s workspace st.stands none) refl)
+    does_nothing rs xs m (no_workspace workspace) (create_savepoint workspace name) (λ s st. rw (named_no_space (parts_of rs) s.durable workspace st.stands none) refl)
 
 -- ---- the workspace
 
 -- what is done with the workspace
 abbrev body : List ℕ → State → Workspace → State × Answer
-body name s w =
-    if is_some (savepoint_named name w.savepoints) then (s, savepoint_there name) else
-    (if nat_le 4096 (length w.savepoints) then (s, most_savepoints) else
-    (if nat_lt number_limit (w.next_place + 1) then (s, at_its_end (codes "PLACE")) else save name s w))
+body name s w = unless (first_fault (saving_faults name w)) s (save name s w)
 
 -- the workspace of the name
-home : (rs : List Stored) (xs : List Session) (m : ℕ) (workspace name : List ℕ) (a : Space) (s : State) → SavesIn rs workspace name a → StandsAt rs xs m s → NamedSpace (parts_of rs) s workspace a
-home rs xs m workspace name a s saves st = named_space (parts_of rs) s workspace a st.stands saves.found
+home : (rs : List Stored) (xs : List Session) (m : ℕ) (workspace name : List ℕ) (a : Space) (s : State) → SavesIn rs workspace name a → StandsAt rs xs m s → NamedSpace (parts_of rs) s.durable workspace a
+home rs xs m workspace name a s saves st = named_space (parts_of rs) s.durable workspace a st.stands saves.found
 
 at_home : (rs : List Stored) (xs : List Session) (m : ℕ) (workspace name : List ℕ) (a : Space) (s : State) (saves : SavesIn rs workspace name a) (st : StandsAt rs xs m s)
     → create_savepoint workspace name s ≡ body name s (home rs xs m workspace name a s saves st).workspace
@@ -54,16 +51,16 @@ pub save_there : (rs : List Stored) (xs : List Session) (m : ℕ) (workspace nam
     → Does rs xs m [] Stay (savepoint_there name) (create_savepoint workspace name)
 save_there rs xs m workspace name a y saves there =
     does_nothing rs xs m (savepoint_there name) (create_savepoint workspace name)
-    (λ s st. let h = home rs xs m workspace name a s saves st in at_home rs xs m workspace name a s saves st ∙ rw (name_taken (parts_of rs) s a h.workspace name y st.stands h.is there) refl)
+    (λ s st. let h = home rs xs m workspace name a s saves st in at_home rs xs m workspace name a s saves st ∙ rw (name_taken (parts_of rs) s.durable a h.workspace name y st.stands h.is there) refl)
 
 pub save_full : (rs : List Stored) (xs : List Session) (m : ℕ) (workspace name : List ℕ) (a : Space) → SavesIn rs workspace name a → find (λ (x : Record). bytes_eq name x.name) (saved_in (parts_of rs) a.number) ≡ None
     → nat_le 4096 (count_by (λ (x : Record). x.space == a.number) (parts_of rs).savepoints) ≡ true → Does rs xs m [] Stay most_savepoints (create_savepoint workspace name)
 save_full rs xs m workspace name a saves new full =
     does_nothing rs xs m most_savepoints (create_savepoint workspace name)
     (λ s st. let h = home rs xs m workspace name a s saves st in
-    at_home rs xs m workspace name a s saves st ∙ rw (name_free (parts_of rs) s a h.workspace name st.stands h.is new, few_same (parts_of rs) s a h.workspace true st.stands h.is full) refl)
+    at_home rs xs m workspace name a s saves st ∙ rw (name_free (parts_of rs) s.durable a h.workspace name st.stands h.is new, few_same (parts_of rs) s.durable a h.workspace true st.stands h.is full) refl)
 
-next_is : (n : ℕ) (b : Bool) (p : Parts) (s : State) (a : Space) (w : Workspace) → IsSpace p s a.number a w → nat_lt n (a.next_place + 1) ≡ b → nat_lt n (w.next_place + 1) ≡ b
+next_is : (n : ℕ) (b : Bool) (p : Parts) (s : Durable) (a : Space) (w : Workspace) → IsSpace p s a.number a w → nat_lt n (a.next_place + 1) ≡ b → nat_lt n (w.next_place + 1) ≡ b
 next_is n b p s a w is e = ap (λ (f : SpaceFields). nat_lt n (f.next_place + 1)) (sym is.fields) ∙ e
 
 pub save_placeless : (rs : List Stored) (xs : List Session) (m : ℕ) (workspace name : List ℕ) (a : Space) → SavesIn rs workspace name a → HasRoom (parts_of rs) a name → nat_lt number_limit (a.next_place + 1) ≡ true
@@ -73,9 +70,9 @@ save_placeless rs xs m workspace name a saves room much =
     (λ s st. let h = home rs xs m workspace name a s saves st in
     at_home rs xs m workspace name a s saves st
     ∙ rw (
-      name_free (parts_of rs) s a h.workspace name st.stands h.is room.new,
-      few_same (parts_of rs) s a h.workspace false st.stands h.is room.few,
-      next_is number_limit true (parts_of rs) s a h.workspace h.is much,
+      name_free (parts_of rs) s.durable a h.workspace name st.stands h.is room.new,
+      few_same (parts_of rs) s.durable a h.workspace false st.stands h.is room.few,
+      next_is number_limit true (parts_of rs) s.durable a h.workspace h.is much,
     ) refl)
 
 -- ---- the savepoint
@@ -87,14 +84,14 @@ saved_is rs xs m workspace name a s may st =
     let h = home rs xs m workspace name a s may.saves st in
     at_home rs xs m workspace name a s may.saves st
     ∙ rw (
-      name_free (parts_of rs) s a h.workspace name st.stands h.is may.room.new,
-      few_same (parts_of rs) s a h.workspace false st.stands h.is may.room.few,
-      next_is number_limit false (parts_of rs) s a h.workspace h.is may.places,
+      name_free (parts_of rs) s.durable a h.workspace name st.stands h.is may.room.new,
+      few_same (parts_of rs) s.durable a h.workspace false st.stands h.is may.room.few,
+      next_is number_limit false (parts_of rs) s.durable a h.workspace h.is may.places,
     ) refl
 
 -- the state with a savepoint of what is newest at a moment
 abbrev with_saved : List ℕ → State → Workspace → ℕ → State
-with_saved name s w m = unwrap_or (save_in m name s w) s
+with_saved name s w m = record s { durable = unwrap_or (save_in m name s.durable w) s.durable }
 
 done_is : (rs : List Stored) (xs : List Session) (m : ℕ) (workspace name : List ℕ) (a : Space) (s : State) (may : MaySaveIn rs workspace name a) (st : StandsAt rs xs m s)
     → create_savepoint workspace name s ≡ durably s 0 (with_saved name s (home rs xs m workspace name a s may.saves st).workspace m, Fine)
@@ -123,7 +120,7 @@ does_save rs xs m workspace name a c may one spare early =
     (λ s st. let h = home rs xs m workspace name a s may.saves st in
     done_is rs xs m workspace name a s may st
     ∙ not_spent_at rs xs m s 0 c (with_saved name s h.workspace m, Fine) st one refl spare
-    ∙ ap (λ (o : Option Workspace). (record (unwrap_or (option_and_then (save_in m name s) o) s) { last_moment = m; work = s.work + line_work }, Fine)) (sym h.is.found))
+    ∙ ap (λ (o : Option Workspace). (record s { durable = record (unwrap_or (option_and_then (save_in m name s.durable) o) s.durable) { last_moment = m; work = s.durable.work + line_work } }, Fine)) (sym h.is.found))
   where
     -- what a name finds, its number finds
     there : space_of (parts_of rs).spaces a.number ≡ Some a

@@ -18,7 +18,7 @@ use Rattle.wm_select.specs.Query.{answer_of}
 use Rattle.wm_typing.specs.Asking.{query_fault}
 use Rattle.wm_typing.specs.Columns.{columns_of_table}
 use Rattle.wm_state.specs.Listing.{IsShowing}
-use Rattle.wm_state.specs.State.{State, Session, Workspace, Stand, Latest, At, seen_from, workspace_of}
+use Rattle.wm_state.specs.State.{Durable, State, Session, Workspace, Stand, Latest, At, seen_from, workspace_of}
 use Rattle.wm_state.specs.Standing.{Stands, latest, saved_as}
 use Rattle.wm_state.proofs.Listed.{showing_is, showing_saved}
 use Rattle.wm_state.proofs.Showing.{none_shown}
@@ -110,7 +110,7 @@ Shows rs version t period out = IsShowing (parts_of rs) version t.number t.valid
 
 -- the rows that the session sees are these in each workspace that the records stand for
 abbrev AreSeen : List Stored → Session → Table → Span → List Row → Type 0
-AreSeen rs session t period out = (s : State) (w : Workspace) → Stands (parts_of rs) s → workspace_of s.spaces session.space ≡ Some w → out ≡ rows_in period (seen_from w session.stand) t
+AreSeen rs session t period out = (s : Durable) (w : Workspace) → Stands (parts_of rs) s → workspace_of s.spaces session.space ≡ Some w → out ≡ rows_in period (seen_from w session.stand) t
 
 -- at what is newest they are those that the newest version holds
 seen_latest : (rs : List Stored) (session : Session) (t : Table) (period : Span) (out : List Row) → session.stand ≡ Latest → Shows rs (latest (parts_of rs) session.space) t period out → AreSeen rs session t period out
@@ -150,7 +150,7 @@ abbrev pub seen_within : ℕ → Session → Table → Span
 seen_within moment session = λ t. within moment session t
 
 -- what was listed of each source is what it shows
-sources_seen : (rs : List Stored) (moment : ℕ) (session : Session) (s : State) (w : Workspace) (tables : List Table) (sources : List Src) (ls : List Source) → keep_rules (parts_of rs) ≡ true → Stands (parts_of rs) s
+sources_seen : (rs : List Stored) (moment : ℕ) (session : Session) (s : Durable) (w : Workspace) (tables : List Table) (sources : List Src) (ls : List Source) → keep_rules (parts_of rs) ≡ true → Stands (parts_of rs) s
     → workspace_of s.spaces session.space ≡ Some w → AreListed (parts_of rs) (version_read (parts_of rs) session.space session.stand) (seen_within moment session) tables sources ls
     → ls ≡ sources_in moment session (seen_from w session.stand) tables sources
 sources_seen rs moment session s w tables [] ls rules st found are = are
@@ -175,4 +175,4 @@ selects rs xs m session query empty a ls fine there lasting are =
     comes_in rs xs m session query empty a s fine there st ∙ ap (λ b. in_home session query b (tables_in rs) s home.space) lasting
     ∙ ap (λ n. let answered : State × Answer = (s, answer_rows (answer_of query (sources_in n session (seen_from home.space session.stand) (tables_in rs) query.sources))) in answered) (sym st.moment_is)
     ∙ ap (λ (sources : List Source). let answered : State × Answer = (s, answer_rows (answer_of query sources)) in answered)
-    (sym (sources_seen rs m session s home.space (tables_in rs) query.sources ls fine.ready.rules st.stands home.is are)))
+    (sym (sources_seen rs m session s.durable home.space (tables_in rs) query.sources ls fine.ready.rules st.stands home.is are)))

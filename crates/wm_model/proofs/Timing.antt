@@ -1,40 +1,11 @@
 -- What AT does to each state that the engine stands for, and what every other line does to the moment.
 use Rattle.std.proofs.Common.{◌≡◌, ℕ, nat_lt, true, false, List, [], refl, sym}
-use Rattle.wm_graph.specs.Parts.{Parts}
 use Rattle.wm_print.specs.Texts.{Fine}
 use Rattle.wm_spec.specs.declared.record.stored.Stored.{Stored}
 use Rattle.wm_state.specs.State.{State, Session}
-use Rattle.wm_state.specs.Standing.{Stands}
 use Rattle.wm_model.specs.Step.{set_moment, moment_back}
 use Rattle.wm_model.specs.Planning.{DoesAt, Stay}
 use Rattle.wm_model.proofs.Doing.{does_nothing}
-
--- the state at another moment
-pub stands_moment : (p : Parts) (s : State) (m : ℕ) → Stands p s → Stands p (record s { moment = m })
-stands_moment p s m st = record {
-  rules = st.rules;
-  counters = record {
-    counters = st.counters.counters;
-    one = st.counters.one;
-    next_stamp = st.counters.next_stamp;
-    last_moment = st.counters.last_moment;
-    limit = st.counters.limit;
-    work = st.counters.work;
-  };
-  tables = record { same = st.tables.same };
-  spaces = record { same = st.spaces.same };
-  once = record { numbers = st.once.numbers; count = st.once.count };
-  latest = record { told = st.latest.told };
-  own = record { covered = st.own.covered };
-  savepoints = record { same = st.savepoints.same };
-  kept = record { told = st.kept.told; base = st.kept.base };
-  kept_own = record { covered = st.kept_own.covered };
-  bases = record { birth = st.bases.birth; base = st.bases.base };
-  paths = record { latest = st.paths.latest; kept = st.paths.kept; births = st.paths.births; bases = st.paths.bases; kept_bases = st.paths.kept_bases };
-  ends = record { own = st.ends.own; kept = st.ends.kept };
-  rows = record { there = st.rows.there; births = st.rows.births; bases = st.rows.bases; saved = st.rows.saved; saved_bases = st.rows.saved_bases; logs = st.rows.logs };
-  hists = record { same = st.hists.same };
-}
 
 earlier : (m instant : ℕ) (s : State) → m ≡ s.moment → nat_lt instant m ≡ true → set_moment instant s ≡ (s, moment_back m)
 earlier m instant s same before = rw (sym same, before) refl

@@ -88,12 +88,12 @@ can_append rs n m user t a c changes may = record {
 
 pub does_write : (rs : List Stored) (xs : List Session) (m n : ℕ) (user : List ℕ) (t : Table) (count : ℕ) (changes : List RowChange) (a : Space) (c : Counters) (entries : Vec NewEntry Global) (act : State → State × Answer)
     → MayWrite rs n m user t a c changes → map entry_of entries.items ≡ entries_from c.next_stamp m user t changes
-    → ((s : State) → StandsAt rs xs m s → act s ≡ durably s (a.log_length + length changes) (written_all n (entries_of s user t changes) s, Done count)) → Does rs xs m (edits.Append n entries ∷ []) Stay (Done count) act
+    → ((s : State) → StandsAt rs xs m s → act s ≡ durably s (a.log_length + length changes) (record s { durable = written_all n (entries_of s user t changes) s.durable }, Done count)) → Does rs xs m (edits.Append n entries ∷ []) Stay (Done count) act
 does_write rs xs m n user t count changes a c entries act may are same =
     does_edit rs xs m (edits.Append n entries) (Done count) act (record { counters = c; one = may.one; some = refl; room = may.room; early = may.early }) (rw are (can_append rs n m user t a c changes may))
     (λ s st. same s st
-    ∙ not_spent_at rs xs m s (a.log_length + length changes) c (written_all n (entries_of s user t changes) s, Done count) st may.one may.short may.room
-    ∙ ap (λ es. (record (written_all n es s) { last_moment = m; work = s.work + line_work }, Done count)) (entries_are s st ∙ sym are))
+    ∙ not_spent_at rs xs m s (a.log_length + length changes) c (record s { durable = written_all n (entries_of s user t changes) s.durable }, Done count) st may.one may.short may.room
+    ∙ ap (λ es. (record s { durable = record (written_all n es s.durable) { last_moment = m; work = s.durable.work + line_work } }, Done count)) (entries_are s st ∙ sym are))
   where
     entries_are : (s : State) → StandsAt rs xs m s → entries_of s user t changes ≡ entries_from c.next_stamp m user t changes
     entries_are s st = ap (λ k. entries_from k s.moment user t changes) (sym (counts_as rs xs m s c st may.one).next_stamp) ∙ ap (λ k. entries_from c.next_stamp k user t changes) (sym st.moment_is)

@@ -27,4 +27,4 @@ entries_from stamp moment user t [] = []
 entries_from stamp moment user t (x ∷ xs) = change_entry stamp moment user t x ∷ entries_from (stamp + 1) moment user t xs
 
 abbrev pub entries_of : State → List ℕ → Table → List RowChange → List Entry
-entries_of s user t changes = entries_from s.next_stamp s.moment user t changes
+entries_of s user t changes = entries_from s.durable.next_stamp s.moment user t changes

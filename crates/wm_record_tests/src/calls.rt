@@ -3,7 +3,6 @@ use std::alloc::Global;
 use std::process::Abort;
 use std::test::Fail;
 use wm_base::{Instant, Kind, Memory, Name, Period, Stamp, StoreFault};
-use wm_catalog::Catalog;
 use wm_lexer::{TokenKind, lex};
 use wm_period::{Piece, Pieces};
 use wm_spec::record::{Record, Table, TableColumns};
@@ -104,26 +103,6 @@ fn versions_stand_under_others(rt: HostRuntime) -> Result<(), Fail> {
         [tree.latest(0), tree.base_of(7), tree.common(2, 3)],
         [2, 1, 1]
     );
-    Ok(())
-}
-
-#[test]
-fn a_table_is_found(rt: HostRuntime) -> Result<(), Fail> {
-    let alloc = rt.alloc();
-    let table = Table {
-        number: 4,
-        name: Name::copy_of(alloc, b"EMP")?,
-        versioned: false,
-        valid: false,
-        history: false,
-        has_key: false,
-        key_column: 0,
-        columns: TableColumns::new(alloc),
-    };
-    let mut catalog = Catalog::new(alloc);
-    assert!(rt; catalog.find(&table.name).is_none());
-    catalog.add(alloc, table)?;
-    assert_eq!(rt; catalog.at(0).map_or(0, |table| table.number), 4);
     Ok(())
 }
 

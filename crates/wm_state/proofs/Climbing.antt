@@ -12,7 +12,7 @@ use Rattle.wm_spec.specs.declared.record.savepoint.Savepoint.{Savepoint as Recor
 use Rattle.wm_spec.specs.declared.record.space.Space.{Space}
 use Rattle.wm_tree.specs.Versions.{AllBelow}
 use Rattle.wm_tree.specs.declared.version.Version.{Version as Node}
-use Rattle.wm_state.specs.State.{State, Workspace, workspace_of, with_space}
+use Rattle.wm_state.specs.State.{Durable, Workspace, workspace_of, with_space}
 use Rattle.wm_state.specs.Standing.{held_of, newest_first, latest, seen, saved_as, first_in, Climbs, Top, Up, SpaceFields, fields_of, fields_in, SpacesStand, PathsStand}
 use Rattle.wm_state.proofs.Changing.{workspace_of-changed}
 use Rattle.wm_state.proofs.Frames.{Framed}
@@ -29,7 +29,7 @@ pub record Recorded (p : Parts) (n : ℕ) (w : Workspace) : Type 0 where
   pub found : space_of p.spaces n ≡ Some space
   pub fields : fields_of space ≡ fields_in w
 
-pub recorded_of : (p : Parts) (s : State) → SpacesStand p s → (n : ℕ) (w : Workspace) → workspace_of s.spaces n ≡ Some w → Recorded p n w
+pub recorded_of : (p : Parts) (s : Durable) → SpacesStand p s → (n : ℕ) (w : Workspace) → workspace_of s.spaces n ≡ Some w → Recorded p n w
 recorded_of p s stand n w found = by_record (space_of p.spaces n) refl (stand.same n ∙ ap (option_map fields_in) found)
   where
     none_some : (f : SpaceFields) → (let nothing : Option SpaceFields = None in nothing) ≡ Some f → ⊥
@@ -88,7 +88,7 @@ pub record Ordered (p : Parts) (was : List Workspace) : Type 0 where
   pub down : Descend (newest_first p.versions)
   pub lower : (n : ℕ) (w : Workspace) → 0 < n → workspace_of was n ≡ Some w → n ≢ w.parent
 
-pub ordered_of : (p : Parts) (s : State) → keep_rules p ≡ true → SpacesStand p s → Ordered p s.spaces
+pub ordered_of : (p : Parts) (s : Durable) → keep_rules p ≡ true → SpacesStand p s → Ordered p s.spaces
 ordered_of p s rules stand = record {
   down = Descend-newest p.versions (ruled_versions p (ruled p rules).counters.next_version (ruled p rules).versions).numbers;
   lower = λ n w some found same.
@@ -147,14 +147,14 @@ stays-changed was now m act number parent at_birth same n w found = by_test (n =
 -- ---- the versions that were named
 
 -- their paths lead up in records and workspaces of after
-pub record Carried (p : Parts) (s : State) (q : Parts) (now : List Workspace) : Type 0 where
+pub record Carried (p : Parts) (s : Durable) (q : Parts) (now : List Workspace) : Type 0 where
   pub latest : (n : ℕ) (w : Workspace) → workspace_of s.spaces n ≡ Some w → Climbs q now (latest p n) n
   pub kept : (n making : ℕ) (w : Workspace) (x : Record) → workspace_of s.spaces n ≡ Some w → saved_as p n making ≡ Some x → Climbs q now x.version n
   pub births : (n : ℕ) (w : Workspace) (r : Space) → 0 < n → workspace_of s.spaces n ≡ Some w → space_of p.spaces n ≡ Some r → Climbs q now r.birth_version w.parent
   pub bases : (n : ℕ) (w : Workspace) (r : Space) → 0 < n → workspace_of s.spaces n ≡ Some w → space_of p.spaces n ≡ Some r → Climbs q now r.base_version w.parent
   pub kept_bases : (n making : ℕ) (w : Workspace) (x : Record) → 0 < n → workspace_of s.spaces n ≡ Some w → saved_as p n making ≡ Some x → Climbs q now x.base_version w.parent
 
-pub carried : (p q : Parts) (s : State) (now : List Workspace) → keep_rules p ≡ true → SpacesStand p s → Carries p q s.spaces now → PathsStand p s → Carried p s q now
+pub carried : (p q : Parts) (s : Durable) (now : List Workspace) → keep_rules p ≡ true → SpacesStand p s → Carries p q s.spaces now → PathsStand p s → Carried p s q now
 carried p q s now rules stand k paths = record {
   latest = λ n w found. carry (latest p n) n (newest n (recorded_of p s stand n w found)) (paths.latest n w found);
   kept = λ n making w x found saved. carry x.version n (saved_there p rules n making x saved).version (paths.kept n making w x found saved);
@@ -185,7 +185,7 @@ carried p q s now rules stand k paths = record {
         ap (λ (f : SpaceFields). f.parent) (sym y.fields) ∙ ap (λ (z : Space). z.parent) (some_space y.space r (sym y.found ∙ recorded))
 
 -- so the paths of all versions that are named lead up, where nothing that names one is new
-pub PathsStand-framed : (p q : Parts) (s t : State) → Framed p q s t → Carried p s q t.spaces → ((n : ℕ) (w : Workspace) → workspace_of t.spaces n ≡ Some w → Climbs q t.spaces (latest p n) n → Climbs q t.spaces (latest q n) n)
+pub PathsStand-framed : (p q : Parts) (s t : Durable) → Framed p q s t → Carried p s q t.spaces → ((n : ℕ) (w : Workspace) → workspace_of t.spaces n ≡ Some w → Climbs q t.spaces (latest p n) n → Climbs q t.spaces (latest q n) n)
     → PathsStand q t
 PathsStand-framed p q s t f c newest = record {
   latest = λ n w is. let y = f.still n w is in newest n w is (c.latest n y.old y.is);

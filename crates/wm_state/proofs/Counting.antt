@@ -11,7 +11,7 @@ use Rattle.wm_state.specs.Drafts.{CanWork}
 use Rattle.wm_state.specs.Editing.{counter_limit}
 use Rattle.wm_state.specs.Points.{moved, versioned}
 use Rattle.wm_state.specs.Standing.{CountersStand, Stands}
-use Rattle.wm_state.specs.State.{State}
+use Rattle.wm_state.specs.State.{Durable}
 use Rattle.wm_state.proofs.Apart.{ruled}
 use Rattle.wm_state.proofs.Growing.{same_counters}
 use Rattle.wm_state.proofs.Tests.{both}
@@ -94,14 +94,14 @@ version_well p m work c rules can one = versioned_well c m work (counted_well p 
 -- ---- the counters of the state
 
 -- the counters of the records are those of the state
-pub record CountsAs (c : Counters) (s : State) : Type 0 where
+pub record CountsAs (c : Counters) (s : Durable) : Type 0 where
   pub next_stamp : c.next_stamp ≡ s.next_stamp
   pub last_moment : c.last_moment ≡ s.last_moment
   pub limit : c.limit ≡ s.limit
   pub work : c.work ≡ s.work
 
 -- so it is where they agree with it in counters
-pub counts_in : (p : Parts) (s : State) (c : Counters) → CountersStand p s → p.counters ≡ c ∷ [] → CountsAs c s
+pub counts_in : (p : Parts) (s : Durable) (c : Counters) → CountersStand p s → p.counters ≡ c ∷ [] → CountsAs c s
 counts_in p s c k one =
     let same : k.counters ≡ c = same_counters p c k.counters one k.one in
     record {
@@ -119,5 +119,5 @@ unfolding ids_differ
 two_changes c d apart = rw (ne_eqb d.id c.id (λ e. apart (sym e))) refl
 
 -- and so where they stand for it
-pub counts_as : (p : Parts) (s : State) (c : Counters) → Stands p s → p.counters ≡ c ∷ [] → CountsAs c s
+pub counts_as : (p : Parts) (s : Durable) (c : Counters) → Stands p s → p.counters ≡ c ∷ [] → CountsAs c s
 counts_as p s c stands one = counts_in p s c stands.counters one

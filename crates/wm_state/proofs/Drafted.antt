@@ -1,9 +1,6 @@
 -- What the batches that make a table and make one ready make of the records.
-use Rattle.std.proofs.Common.{◌≡◌, ◌≢◌, ◌≤◌, ◌<◌, ℕ, ◌+◌, Bool, true, ◌==◌, List, [], ◌∷◌, Some, refl, sym, ap, subst, ◌∙◌, arith}
-use Rattle.std.proofs.lemmas.Bool.{eq-eqb}
-use Rattle.std.proofs.lemmas.Slice.Eq.{bytes_eq-Decides}
+use Rattle.std.proofs.Common.{◌≡◌, ◌≢◌, ◌≤◌, ◌<◌, ℕ, ◌+◌, Bool, true, List, [], ◌∷◌, Some, refl, sym, ap, subst, ◌∙◌, arith}
 use Rattle.std.specs.Option.{option_map, unwrap_or}
-use Rattle.std.specs.Str.{bytes_eq}
 use Rattle.wm_graph.specs.Parts.{parts_of}
 use Rattle.wm_graph.specs.Rules.{are_counters, keep_rules}
 use Rattle.wm_spec.specs.Records.{AreChanges, ids_differ, record_at}
@@ -15,24 +12,22 @@ use Rattle.wm_spec.specs.declared.record.stored.Stored.{Stored}
 use Rattle.wm_spec.specs.declared.record.table.Table.{Table}
 use Rattle.wm_state.specs.Batches.{AllUnder, create_batch, enable_batch, put, ready}
 use Rattle.wm_state.specs.ById.{Ascend, applied}
-use Rattle.wm_state.specs.Drafts.{CanCreate, CanWork, Drafts, DraftsBy, may_add, takes_place}
+use Rattle.wm_state.specs.Drafts.{CanCreate, CanWork, Drafts, DraftsBy}
 use Rattle.wm_state.specs.Editing.{drafted_by, edited, enable_named, line_work}
 use Rattle.wm_state.specs.Points.{moved}
 use Rattle.wm_state.specs.Standing.{TablesStand, FieldsStand, Stands, by_number}
-use Rattle.wm_state.specs.State.{Readiness, State, table_named}
+use Rattle.wm_state.specs.State.{Readiness, Durable, table_named}
 use Rattle.wm_state.specs.declared.edit.Edit.{Edit}
 use Rattle.wm_state.specs.declared.edit.Edit.TheVariants as edits
-use Rattle.wm_state.proofs.Added.{added_by, placed_by, puts_away, puts_like, puts_there}
 use Rattle.wm_state.proofs.ByKind.{under_found}
 use Rattle.wm_state.proofs.Counting.{counts_as, counts_in, moved_well, two_changes, work_grows}
 use Rattle.wm_state.proofs.Enabling.{keep-readied}
 use Rattle.wm_state.proofs.Growing.{same_counters}
-use Rattle.wm_state.proofs.Mapped.{find-passes}
 use Rattle.wm_state.proofs.Planned.{Readied, agree_created, agree_readied, parts-readied, plan_created, plan_readied}
 use Rattle.wm_state.proofs.Planning.{parts-created}
-use Rattle.wm_state.proofs.OthersStay.{OthersStay, changed_apart, new_apart, others_stay, rows_stay}
+use Rattle.wm_state.proofs.RowsStay.{new_apart, row_apart, rows_stay}
 use Rattle.wm_state.proofs.Tables.{MayCreate, keep-created}
-use Rattle.wm_state.proofs.Tests.{and_true, bool_apart}
+use Rattle.wm_state.proofs.Tests.{bool_apart}
 use Rattle.wm_state.proofs.WorkedOn.{counted_put, first_change}
 
 -- ---- nothing
@@ -42,10 +37,6 @@ none_changes : AreChanges []
 unfolding ids_differ
 none_changes = refl
 
--- none is not one
-none_one : (e : Edit) → [] ≡ e ∷ [] → ⊥
-none_one e one = cc
-
 -- without edits nothing changes, whatever the work
 pub drafts_none : (work : ℕ) (rs : List Stored) (m : ℕ) → keep_rules (parts_of rs) ≡ true → DraftsBy work rs m [] []
 drafts_none work rs m rules = record {
@@ -53,10 +44,7 @@ drafts_none work rs m rules = record {
   once = none_changes;
   stands = λ s st. st;
   fields = λ s st. st;
-  others = λ id r found none. found;
   rows = λ id r found. found;
-  added = λ e id r one none found. absurd (none_one e one);
-  placed = λ e id q r one there found. absurd (none_one e one);
   kept = refl;
   counted = λ some. absurd (some refl);
   nothing = λ none. refl;
@@ -102,28 +90,13 @@ drafts_created rs m work t c counters_id id rules can_work can one there sorted 
       let counts = counts_in (parts_of rs) s c st.counters one in
       agree_created rs counters_id id c (moved c m work) t s (drafted_by work m (edits.Create t ∷ []) s) st sorted there under may refl refl
       (record { counters = moved c m work; one = refl; next_stamp = counts.next_stamp; last_moment = refl; limit = counts.limit; work = ap (λ w. w + work) counts.work });
-  others = others;
-  rows = rows_stay (edits.Create t ∷ []) rs (create_batch counters_id (moved c m work) id t) others;
-  added = added_by (edits.Create t) rs (create_batch counters_id (moved c m work) id t) sorted
-      (λ k none. (
-        puts_there (may_add (parts_of rs) (edits.Create t)) rs counters_id k (records.Counters c) (Some (records.Counters (moved c m work))) there none,
-        (λ same. and_true (t.number == t.number) (bytes_eq t.name t.name) (eq-eqb t.number t.number refl) ((bytes_eq-Decides t.name t.name).1 refl), tt),
-      ));
-  placed = placed_by (edits.Create t ∷ []) rs (create_batch counters_id (moved c m work) id t) sorted
-      (λ k q found. (
-        puts_like rs counters_id k (records.Counters c) q (records.Counters (moved c m work)) there found refl,
-        puts_away (takes_place q) k (put id (records.Table t) ∷ []) (new_apart rs id k q under found, tt),
-      ));
+  rows = rows_stay rs (create_batch counters_id (moved c m work) id t) (λ k r found. (row_apart rs counters_id k (records.Counters c) r there refl found, (new_apart rs id k r under found, tt)));
   kept = refl;
   counted = λ some. counted_put rs work counters_id c (moved c m work) (create_batch counters_id (moved c m work) id t) sorted one once (first_change counters_id _ _) keeps refl;
   nothing = some_edit (edits.Create t) [] (create_batch counters_id (moved c m work) id t);
   few = λ forks. absurd (bool_apart (sym forks));
 }
   where
-    others : OthersStay (edits.Create t ∷ []) rs (create_batch counters_id (moved c m work) id t)
-    others = others_stay (edits.Create t) rs (create_batch counters_id (moved c m work) id t)
-        (λ k r found fixed. (changed_apart (edits.Create t) rs counters_id k (records.Counters c) r there refl found fixed, (new_apart rs id k r under found, tt)))
-
     below : (a b : ℕ) → a < b → a ≡ b → ⊥
     below a b lt e = omega (arith, lt, e)
 
@@ -139,7 +112,7 @@ drafts_created rs m work t c counters_id id rules can_work can one there sorted 
 -- ---- a table becomes ready
 
 -- the table of the name is that of the records
-enabled_so : (rs : List Stored) (m : ℕ) (name : List ℕ) (valid history : Bool) (t : Table) (s : State) → TablesStand (parts_of rs) s → table_named name (by_number (parts_of rs).tables) ≡ Some t
+enabled_so : (rs : List Stored) (m : ℕ) (name : List ℕ) (valid history : Bool) (t : Table) (s : Durable) → TablesStand (parts_of rs) s → table_named name (by_number (parts_of rs).tables) ≡ Some t
     → edited m (edits.Enable name valid history) s ≡ enable_named (record { valid = valid; history = history }) s t
 enabled_so rs m name valid history t s st named = ap (λ o. unwrap_or (option_map (enable_named (record { valid = valid; history = history }) s) o) s) (ap (table_named name) (sym st.same) ∙ named)
 
@@ -152,26 +125,16 @@ drafts_enabled rs m work name valid history t c counters_id id rules can_work na
   once = once;
   stands = λ s st.
       let counts = counts_as (parts_of rs) s c st one in
-      subst (λ (u : State). Stands (parts_of (applied (enable_batch counters_id (moved c m work) id how t) rs)) (record u { last_moment = m; work = s.work + work })) (sym (enabled_so rs m name valid history t s st.tables named))
+      subst (λ (u : Durable). Stands (parts_of (applied (enable_batch counters_id (moved c m work) id how t) rs)) (record u { last_moment = m; work = s.work + work })) (sym (enabled_so rs m name valid history t s st.tables named))
       (plan_readied rs counters_id id c (moved c m work) how t s _ st sorted there one found key counts_well refl refl (work_grows c.work work) refl refl
       (λ front back. record { counters = moved c m work; one = refl; next_stamp = counts.next_stamp; last_moment = refl; limit = counts.limit; work = ap (λ w. w + work) counts.work }));
   fields = λ s st.
       let counts = counts_in (parts_of rs) s c st.counters one in
-      subst (λ (u : State). FieldsStand (parts_of (applied (enable_batch counters_id (moved c m work) id how t) rs)) (record u { last_moment = m; work = s.work + work })) (sym (enabled_so rs m name valid history t s st.tables named))
+      subst (λ (u : Durable). FieldsStand (parts_of (applied (enable_batch counters_id (moved c m work) id how t) rs)) (record u { last_moment = m; work = s.work + work })) (sym (enabled_so rs m name valid history t s st.tables named))
       (agree_readied rs counters_id id c (moved c m work) how t s _ rules st sorted there one found refl refl
       (λ front back. record { counters = moved c m work; one = refl; next_stamp = counts.next_stamp; last_moment = refl; limit = counts.limit; work = ap (λ w. w + work) counts.work }));
-  others = others;
-  rows = rows_stay (edits.Enable name valid history ∷ []) rs (enable_batch counters_id (moved c m work) id how t) others;
-  added = added_by (edits.Enable name valid history) rs (enable_batch counters_id (moved c m work) id how t) sorted
-      (λ k none. (
-        puts_there (may_add (parts_of rs) (edits.Enable name valid history)) rs counters_id k (records.Counters c) (Some (records.Counters (moved c m work))) there none,
-        (puts_there (may_add (parts_of rs) (edits.Enable name valid history)) rs id k (records.Table t) (Some (records.Table (ready how t))) found none, tt),
-      ));
-  placed = placed_by (edits.Enable name valid history ∷ []) rs (enable_batch counters_id (moved c m work) id how t) sorted
-      (λ k q one. (
-        puts_like rs counters_id k (records.Counters c) q (records.Counters (moved c m work)) there one refl,
-        (puts_like rs id k (records.Table t) q (records.Table (ready how t)) found one (eq-eqb t.number t.number refl), tt),
-      ));
+  rows = rows_stay rs (enable_batch counters_id (moved c m work) id how t)
+      (λ k r stood. (row_apart rs counters_id k (records.Counters c) r there refl stood, (row_apart rs id k (records.Table t) r found refl stood, tt)));
   kept = refl;
   counted = λ some. counted_put rs work counters_id c (moved c m work) (enable_batch counters_id (moved c m work) id how t) sorted one once (first_change counters_id _ _) keeps refl;
   nothing = some_edit (edits.Enable name valid history) [] (enable_batch counters_id (moved c m work) id how t);
@@ -180,13 +143,6 @@ drafts_enabled rs m work name valid history t c counters_id id rules can_work na
   where
     how : Readiness
     how = record { valid = valid; history = history }
-
-    others : OthersStay (edits.Enable name valid history ∷ []) rs (enable_batch counters_id (moved c m work) id how t)
-    others = others_stay (edits.Enable name valid history) rs (enable_batch counters_id (moved c m work) id how t)
-        (λ k r one fixed. (
-          changed_apart (edits.Enable name valid history) rs counters_id k (records.Counters c) r there refl one fixed,
-          (changed_apart (edits.Enable name valid history) rs id k (records.Table t) r found (find-passes (λ (u : Table). bytes_eq name u.name) (by_number (parts_of rs).tables) t named) one fixed, tt),
-        ))
 
     some_record : (a b : Record) → Some a ≡ Some b → a ≡ b
     some_record a b h = cc

@@ -1,7 +1,7 @@
 -- Drafts of edits behind those of others, and the room that is left for their work.
 use Rattle.std.proofs.Common.{◌≡◌, ℕ, ◌+◌, ◌*◌, ◌<◌, ◌≤◌, nat_lt, true, false, List, [], ◌∷◌, ◌++◌, length, length-append, refl, sym, ap, subst, ◌∙◌, arith}
-use Rattle.std.proofs.lemmas.List.Folds.{list_all-append, list_any-append}
-use Rattle.std.specs.List.{list_all, list_any}
+use Rattle.std.proofs.lemmas.List.Folds.{list_all-append}
+use Rattle.std.specs.List.{list_all}
 use Rattle.wm_graph.specs.Parts.{Parts, parts_of}
 use Rattle.wm_graph.specs.Rules.{keep_rules}
 use Rattle.wm_spec.specs.Records.{record_at}
@@ -9,15 +9,15 @@ use Rattle.wm_spec.specs.declared.record.batch.Change.{Change}
 use Rattle.wm_spec.specs.declared.record.counters.Counters.{Counters}
 use Rattle.wm_spec.specs.declared.record.stored.Stored.{Stored}
 use Rattle.wm_state.specs.ById.{Ascend, applied}
-use Rattle.wm_state.specs.Drafts.{CanEditAll, CanWork, DraftsBy, FewChanges, WorksOn, followed_by, is_fork, is_kept_change, may_change}
+use Rattle.wm_state.specs.Drafts.{CanWork, DraftsBy, FewChanges, WorksOn, followed_by, is_fork, is_kept_change}
 use Rattle.wm_state.specs.Editing.{counter_limit, drafted_by}
 use Rattle.wm_state.specs.Standing.{FieldsStand, Stands}
-use Rattle.wm_state.specs.State.{State}
+use Rattle.wm_state.specs.State.{Durable}
 use Rattle.wm_state.specs.declared.edit.Edit.{Edit}
 use Rattle.wm_state.proofs.EditedLater.{drafted_append}
 use Rattle.wm_state.proofs.Following.{AreChanges-followed, all_followed, applied_followed, length-followed}
 use Rattle.wm_state.proofs.Growing.{same_counters}
-use Rattle.wm_state.proofs.Tests.{both, either_false}
+use Rattle.wm_state.proofs.Tests.{both}
 
 -- ---- drafts behind others
 
@@ -61,11 +61,6 @@ not_none f e fs es cs none = cc
 one_there : (e : Edit) (es : List Edit) → e ∷ es ≡ [] → ⊥
 one_there e es none = cc
 
--- nor are they one
-not_one : (f e g : Edit) (fs es : List Edit) → f ∷ fs ++ e ∷ es ≡ g ∷ [] → ⊥
-not_one f e g [] es one = cc
-not_one f e g (h ∷ fs) es one = cc
-
 -- what some edits make, and what others make of that, is what all of them make
 pub drafts_followed : (rs : List Stored) (k l m : ℕ) (e : Edit) (front es : List Edit) (cs ds : List Change) → Ascend rs → DraftsBy k rs m front cs → (front ≡ [] → ⊥) → DraftsBy l (applied cs rs) m (e ∷ es) ds
     → DraftsBy (k + l) rs m (front ++ e ∷ es) (followed_by cs ds)
@@ -75,16 +70,11 @@ drafts_followed rs k l m e (f ∷ fs) es cs ds sorted one some two = record {
   once = AreChanges-followed cs ds one.once two.once;
   stands = λ s st.
       subst (λ (ss : List Stored). Stands (parts_of ss) (drafted_by (k + l) m (f ∷ fs ++ e ∷ es) s)) (sym same)
-      (subst (λ (u : State). Stands (parts_of (applied ds (applied cs rs))) u) (drafted_append k l m f e fs es s) (two.stands (drafted_by k m (f ∷ fs) s) (one.stands s st)));
+      (subst (λ (u : Durable). Stands (parts_of (applied ds (applied cs rs))) u) (drafted_append k l m f e fs es s) (two.stands (drafted_by k m (f ∷ fs) s) (one.stands s st)));
   fields = λ s st.
       subst (λ (ss : List Stored). FieldsStand (parts_of ss) (drafted_by (k + l) m (f ∷ fs ++ e ∷ es) s)) (sym same)
-      (subst (λ (u : State). FieldsStand (parts_of (applied ds (applied cs rs))) u) (drafted_append k l m f e fs es s) (two.fields (drafted_by k m (f ∷ fs) s) (one.fields s st)));
-  others = λ id r found none.
-      let h = either_false (list_any (λ (g : Edit). may_change g r) (f ∷ fs)) (list_any (λ (g : Edit). may_change g r) (e ∷ es)) (sym (list_any-append (λ (g : Edit). may_change g r) (f ∷ fs) (e ∷ es)) ∙ none) in
-      ap (λ (ss : List Stored). record_at ss id) same ∙ two.others id r (one.others id r found h.0) h.1;
+      (subst (λ (u : Durable). FieldsStand (parts_of (applied ds (applied cs rs))) u) (drafted_append k l m f e fs es s) (two.fields (drafted_by k m (f ∷ fs) s) (one.fields s st)));
   rows = λ id r found. ap (λ (ss : List Stored). record_at ss id) same ∙ two.rows id r (one.rows id r found);
-  added = λ g id r same none found. absurd (not_one f e g fs es same);
-  placed = λ g id q r same there found. absurd (not_one f e g fs es same);
   kept = all_followed is_kept_change cs ds one.kept two.kept;
   counted = λ any.
       subst (λ (ss : List Stored). WorksOn (parts_of rs) (parts_of ss) (k + l)) (sym same)
@@ -97,27 +87,6 @@ drafts_followed rs k l m e (f ∷ fs) es cs ds sorted one some two = record {
   where
     same : applied (followed_by cs ds) rs ≡ applied ds (applied cs rs)
     same = applied_followed rs cs ds sorted
-
--- so it is where there may be no edits yet, with no work then
-pub drafts_next : (rs : List Stored) (k l m : ℕ) (e : Edit) (front es : List Edit) (cs ds : List Change) → Ascend rs → DraftsBy k rs m front cs → (front ≡ [] → k ≡ 0) → DraftsBy l (applied cs rs) m (e ∷ es) ds
-    → DraftsBy (k + l) rs m (front ++ e ∷ es) (followed_by cs ds)
-drafts_next rs k l m e (f ∷ fs) es cs ds sorted one idle two = drafts_followed rs k l m e (f ∷ fs) es cs ds sorted one (one_there f fs) two
-drafts_next rs k l m e [] es cs ds sorted one idle two =
-    subst (λ n. DraftsBy n rs m (e ∷ es) (followed_by cs ds)) (sum_is k (idle refl))
-    (subst (λ (xs : List Change). DraftsBy l rs m (e ∷ es) (followed_by xs ds)) (sym none) (subst (λ (xs : List Change). DraftsBy l (applied xs rs) m (e ∷ es) ds) none two))
-  where
-    none : cs ≡ []
-    none = one.nothing refl
-
-    sum_is : (n : ℕ) → n ≡ 0 → l ≡ n + l
-    sum_is n zero = omega (arith, zero)
-
--- ---- what is asked before the next edit
-
--- what is left can be made of the records that the next edit leaves
-pub can_edit_next : (rs : List Stored) (m work : ℕ) (e : Edit) (es : List Edit) (cs ds : List Change) → Ascend rs → CanEditAll (applied cs rs) m (e ∷ es) → DraftsBy work (applied cs rs) m (e ∷ []) ds
-    → CanEditAll (applied (followed_by cs ds) rs) m es
-can_edit_next rs m work e es cs ds sorted can drafts = subst (λ (ss : List Stored). CanEditAll ss m es) (sym (applied_followed rs cs ds sorted)) (can.1 work ds drafts)
 
 -- ---- room for work
 
@@ -143,12 +112,3 @@ work_left p q m k l can some works = record {
   where
     fits : (w before after : ℕ) → w ≡ before → after ≡ before + k → nat_lt counter_limit (w + (k + l)) ≡ false → nat_lt counter_limit (after + l) ≡ false
     fits w before after same more room = grind (arith, same, more, room)
-
--- so there is behind drafts, where there may be no edits yet, with no work then
-pub work_behind : (rs : List Stored) (m k l : ℕ) (front : List Edit) (cs : List Change) → CanWork (parts_of rs) m (k + l) → 0 < l → DraftsBy k rs m front cs → (front ≡ [] → k ≡ 0) → CanWork (parts_of (applied cs rs)) m l
-work_behind rs m k l (f ∷ fs) cs can some one idle = work_left (parts_of rs) (parts_of (applied cs rs)) m k l can some (one.counted (one_there f fs))
-work_behind rs m k l [] cs can some one idle =
-    subst (λ (xs : List Change). CanWork (parts_of (applied xs rs)) m l) (sym (one.nothing refl)) (subst (λ n. CanWork (parts_of rs) m n) (sum_is k (idle refl)) can)
-  where
-    sum_is : (n : ℕ) → n ≡ 0 → n + l ≡ l
-    sum_is n zero = omega (arith, zero)

@@ -7,7 +7,7 @@ use Rattle.wm_graph.specs.Parts.{Parts}
 use Rattle.wm_graph.specs.Rules.{keep_rules, are_counters, are_tables, is_table, are_versions, differ}
 use Rattle.wm_spec.specs.declared.record.counters.Counters.{Counters}
 use Rattle.wm_spec.specs.declared.record.table.Table.{Table}
-use Rattle.wm_state.specs.State.{State, Readiness, enabled}
+use Rattle.wm_state.specs.State.{Durable, Readiness, enabled}
 use Rattle.wm_state.specs.Batches.{ready}
 use Rattle.wm_state.specs.Standing.{by_number, place_table, CountersStand, TablesStand, FieldsStand, Stands}
 use Rattle.wm_state.proofs.Tests.{bool_apart, both, and_true, not_true, either_false, all_swap, all_middle, differ_swap}
@@ -137,7 +137,7 @@ sorted-ready how t (y ∷ front) back before behind =
     ap (place_table y) (sorted-ready how t front back before.1 behind) ∙ enabled-away t.number how y (by_number (front ++ t ∷ back)) before.0
 
 -- the records agree with the state whose table is ready
-tables_readied : (p : Parts) (new : Counters) (front : List Table) (how : Readiness) (t : Table) (back : List Table) (s u : State) → keep_rules p ≡ true → TablesStand p s → p.tables ≡ front ++ t ∷ back
+tables_readied : (p : Parts) (new : Counters) (front : List Table) (how : Readiness) (t : Table) (back : List Table) (s u : Durable) → keep_rules p ≡ true → TablesStand p s → p.tables ≡ front ++ t ∷ back
     → u.tables ≡ enabled t.number how s.tables → TablesStand (readied p new front how t back) u
 tables_readied p new front how t back s u rules st old tables =
     let rule = ruled p rules in
@@ -146,14 +146,14 @@ tables_readied p new front how t back s u rules st old tables =
     let others = others_of t front back (ap (differ (λ (t u : Table). t.number == u.number)) (sym old) ∙ g.0) in
     record { same = sorted-ready how t front back others.before others.behind ∙ ap (enabled t.number how) (ap by_number (sym old) ∙ st.same) ∙ sym tables }
 
-pub FieldsStand-readied : (p : Parts) (new : Counters) (front : List Table) (how : Readiness) (t : Table) (back : List Table) (s u : State) → keep_rules p ≡ true → FieldsStand p s → p.tables ≡ front ++ t ∷ back → u.spaces ≡ s.spaces
+pub FieldsStand-readied : (p : Parts) (new : Counters) (front : List Table) (how : Readiness) (t : Table) (back : List Table) (s u : Durable) → keep_rules p ≡ true → FieldsStand p s → p.tables ≡ front ++ t ∷ back → u.spaces ≡ s.spaces
     → u.tables ≡ enabled t.number how s.tables → CountersStand (readied p new front how t back) u → FieldsStand (readied p new front how t back) u
 FieldsStand-readied p new front how t back s u rules st old spaces tables counters =
     FieldsStand-retabled p (readied p new front how t back) s u (record { spaces = refl; versions = refl; savepoints = refl; rows = refl; pieces = refl; hists = refl }) st spaces
     (tables_readied p new front how t back s u rules st.tables old tables) counters
 
 -- and stand for it
-pub Stands-readied : (p : Parts) (new : Counters) (front : List Table) (how : Readiness) (t : Table) (back : List Table) (s u : State) → Stands p s → p.tables ≡ front ++ t ∷ back → t.has_key ≡ true → are_counters new ≡ true
+pub Stands-readied : (p : Parts) (new : Counters) (front : List Table) (how : Readiness) (t : Table) (back : List Table) (s u : Durable) → Stands p s → p.tables ≡ front ++ t ∷ back → t.has_key ≡ true → are_counters new ≡ true
     → ((c : Counters) → p.counters ≡ c ∷ [] → (new.next_version ≡ c.next_version) × (new.next_stamp ≡ c.next_stamp) × (c.work ≤ new.work)) → u.spaces ≡ s.spaces → u.tables ≡ enabled t.number how s.tables
     → CountersStand (readied p new front how t back) u → Stands (readied p new front how t back) u
 Stands-readied p new front how t back s u st old key counted same spaces tables counters =

@@ -12,7 +12,7 @@ use Rattle.wm_spec.specs.declared.record.counters.Counters.{Counters}
 use Rattle.wm_spec.specs.declared.record.savepoint.Savepoint.{Savepoint as Record}
 use Rattle.wm_spec.specs.declared.record.space.Space.{Space}
 use Rattle.wm_state.specs.Standing.{FieldsStand, by_making, by_number, fields_in, fields_of, fields_saved, saved_fields, saved_in}
-use Rattle.wm_state.specs.State.{Savepoint, State, Workspace, savepoints_of, workspace_of}
+use Rattle.wm_state.specs.State.{Savepoint, Durable, Workspace, savepoints_of, workspace_of}
 use Rattle.wm_state.proofs.Apart.{ruled}
 use Rattle.wm_state.proofs.Frames.{savepoints_of-found, savepoints_of-none}
 use Rattle.wm_state.proofs.Mapped.{differ-alike, find-passes}
@@ -60,16 +60,14 @@ workspace_for p r = record {
 }
 
 -- a state of such workspaces
-abbrev pub state_for : Parts → Counters → State
+abbrev pub state_for : Parts → Counters → Durable
 state_for p c = record {
   tables = by_number p.tables;
   spaces = map (workspace_for p) p.spaces;
-  sessions = [];
   next_stamp = c.next_stamp;
   last_moment = c.last_moment;
   limit = c.limit;
   work = c.work;
-  moment = 0;
 }
 
 -- ---- its workspaces
@@ -138,5 +136,5 @@ fields_for p c rules one = record {
         ∙ ap (map fields_saved) (sym (savepoints_of-found (map (workspace_for p) p.spaces) n (workspace_for p r) (workspace_as p p.spaces n ∙ ap (option_map (workspace_for p)) found)))
 
 -- so there is a state
-pub fields_there : (p : Parts) → keep_rules p ≡ true → (s : State) × FieldsStand p s
+pub fields_there : (p : Parts) → keep_rules p ≡ true → (s : Durable) × FieldsStand p s
 fields_there p rules = let r = ruled p rules in (state_for p r.counters, fields_for p r.counters rules r.one)

@@ -10,7 +10,7 @@ use Rattle.wm_spec.specs.declared.record.savepoint.Savepoint.{Savepoint}
 use Rattle.wm_spec.specs.declared.record.space.Space.{Space}
 use Rattle.wm_tree.specs.Versions.{latest_in, AllBelow}
 use Rattle.wm_tree.specs.declared.version.Version.{Version as Node}
-use Rattle.wm_state.specs.State.{State, Workspace, content, workspace_of, savepoints_of, log_of}
+use Rattle.wm_state.specs.State.{Durable, Workspace, content, workspace_of, savepoints_of, log_of}
 use Rattle.wm_state.specs.Standing.{stored_at, seen_at, own_at, newest_first, latest, shown, owned, seen, seen_above, saved_as, Climbs, CountersStand, FieldsStand, Stands, by_number, is_above, have_ends}
 use Rattle.wm_state.specs.Effects.{Forked, node_under}
 use Rattle.wm_state.proofs.Frames.{Framed, KeepRows, fields_stand, OnceStand-same, HasRows-kept, SavepointsStand-same, KeptStand-framed, KeptOwnStand-framed, BasesStand-framed, RowsStand-framed, EndsStand-framed}
@@ -118,7 +118,7 @@ own-ends-forked p q n number f rules m r found es e = ap (λ nodes. have_ends q 
         ∙ ends-forked p q n number f rules r.base_version (latest p m) (latest-below number (newest_first p.versions) m f.some f.below) es e
 
 -- all versions that are named are of before
-framed_forked : (p q : Parts) (s t : State) (n number : ℕ) → Forked p q n number → keep_rules p ≡ true → t.spaces ≡ s.spaces → Framed p q s t
+framed_forked : (p q : Parts) (s t : Durable) (n number : ℕ) → Forked p q n number → keep_rules p ≡ true → t.spaces ≡ s.spaces → Framed p q s t
 framed_forked p q s t n number f rules spaces = record {
   savepoints = f.savepoints;
   still = λ m w is. record { old = w; is = ap (λ ws. workspace_of ws m) (sym spaces) ∙ is; parent = refl; savepoints = refl; rebases = refl; at_birth = refl; base = refl };
@@ -138,7 +138,7 @@ framed_forked p q s t n number f rules spaces = record {
     saved m making x found = below x.version m (saved_there p rules m making x found).version
 
 -- the records agree with what they agreed with, with counters of their own
-pub FieldsStand-forked : (p q : Parts) (s t : State) (n number : ℕ) → Forked p q n number → FieldsStand p s → t.spaces ≡ s.spaces → t.tables ≡ s.tables → CountersStand q t → FieldsStand q t
+pub FieldsStand-forked : (p q : Parts) (s t : Durable) (n number : ℕ) → Forked p q n number → FieldsStand p s → t.spaces ≡ s.spaces → t.tables ≡ s.tables → CountersStand q t → FieldsStand q t
 FieldsStand-forked p q s t n number f st spaces tables counters = record {
   counters = counters;
   tables = record { same = ap by_number f.tables ∙ st.tables.same ∙ sym tables };
@@ -148,7 +148,7 @@ FieldsStand-forked p q s t n number f st spaces tables counters = record {
 }
 
 -- the records stand for what they stood for, with counters of their own
-pub Stands-forked : (p q : Parts) (s t : State) (n number : ℕ) → Forked p q n number → Stands p s → t.spaces ≡ s.spaces → t.tables ≡ s.tables → CountersStand q t → keep_rules q ≡ true → Stands q t
+pub Stands-forked : (p q : Parts) (s t : Durable) (n number : ℕ) → Forked p q n number → Stands p s → t.spaces ≡ s.spaces → t.tables ≡ s.tables → CountersStand q t → keep_rules q ≡ true → Stands q t
 Stands-forked p q s t n number f st spaces tables counters rules = record {
   rules = rules;
   counters = counters;

@@ -14,29 +14,29 @@ use Rattle.wm_spec.specs.Lists.{Entry, Cell, told, touched}
 use Rattle.wm_spec.specs.declared.record.row.RowRecord.{RowRecord}
 use Rattle.wm_spec.specs.declared.record.savepoint.Savepoint.{Savepoint as Record}
 use Rattle.wm_spec.specs.declared.record.space.Space.{Space}
-use Rattle.wm_state.specs.State.{State, Workspace, Savepoint, content, kept, workspace_of, with_space, savepoint_made, savepoints_of, log_of}
+use Rattle.wm_state.specs.State.{Durable, Workspace, Savepoint, content, kept, workspace_of, with_space, savepoint_made, savepoints_of, log_of}
 use Rattle.wm_state.specs.Standing.{FieldsStand, Stands, held_of, latest, seen, seen_above, have_ends, saved_fields, fields_saved, by_making, saved_in, saved_as, OnceStand, SavepointsStand, KeptStand, KeptOwnStand, BasesStand, EndsStand, RowsStand, HasRow, HasRows}
 use Rattle.wm_state.proofs.Changing.{length-changed, differ-changed}
 
 -- ---- counters, tables, workspaces and savepoints
 
 -- records agree with a state that they stand for
-pub fields_stand : (p : Parts) (s : State) → Stands p s → FieldsStand p s
+pub fields_stand : (p : Parts) (s : Durable) → Stands p s → FieldsStand p s
 fields_stand p s st = record { counters = st.counters; tables = st.tables; spaces = st.spaces; once = st.once; savepoints = st.savepoints }
 
 -- ---- workspaces and what they show
 
 -- the workspaces have the numbers that they had, and there are as many of them and of records as before
-pub record Counted (p q : Parts) (s t : State) : Type 0 where
+pub record Counted (p q : Parts) (s t : Durable) : Type 0 where
   pub numbers : differ (λ (v w : Workspace). v.number == w.number) t.spaces ≡ differ (λ (v w : Workspace). v.number == w.number) s.spaces
   pub there : length t.spaces ≡ length s.spaces
   pub recorded : length q.spaces ≡ length p.spaces
 
-OnceStand-frame : (p q : Parts) (s t : State) → Counted p q s t → OnceStand p s → OnceStand q t
+OnceStand-frame : (p q : Parts) (s t : Durable) → Counted p q s t → OnceStand p s → OnceStand q t
 OnceStand-frame p q s t f stand = record { numbers = f.numbers ∙ stand.numbers; count = f.recorded ∙ stand.count ∙ sym f.there }
 
 -- where one workspace was changed
-pub OnceStand-changed : (p q : Parts) (s t : State) (n : ℕ) (act : Workspace → Workspace) → ((w : Workspace) → (act w).number ≡ w.number) → t.spaces ≡ with_space n act s.spaces → length q.spaces ≡ length p.spaces
+pub OnceStand-changed : (p q : Parts) (s t : Durable) (n : ℕ) (act : Workspace → Workspace) → ((w : Workspace) → (act w).number ≡ w.number) → t.spaces ≡ with_space n act s.spaces → length q.spaces ≡ length p.spaces
     → OnceStand p s → OnceStand q t
 OnceStand-changed p q s t n act same spaces recorded = OnceStand-frame p q s t (record {
   numbers = ap (differ (λ (v w : Workspace). v.number == w.number)) spaces ∙ differ-changed n act same s.spaces;
@@ -45,7 +45,7 @@ OnceStand-changed p q s t n act same spaces recorded = OnceStand-frame p q s t (
 })
 
 -- where the workspaces and their records are those of before
-pub OnceStand-same : (p q : Parts) (s t : State) → q.spaces ≡ p.spaces → t.spaces ≡ s.spaces → OnceStand p s → OnceStand q t
+pub OnceStand-same : (p q : Parts) (s t : Durable) → q.spaces ≡ p.spaces → t.spaces ≡ s.spaces → OnceStand p s → OnceStand q t
 OnceStand-same p q s t recorded same =
     OnceStand-frame p q s t (record { numbers = ap (differ (λ (v w : Workspace). v.number == w.number)) same; there = ap length same; recorded = ap length recorded })
 
@@ -59,17 +59,17 @@ pub savepoints_of-none : (ws : List Workspace) (n : ℕ) → workspace_of ws n �
 savepoints_of-none ws n none = rw none refl
 
 -- the savepoints of a workspace and their records are those of before
-pub record Points (p q : Parts) (s t : State) (n : ℕ) : Type 0 where
+pub record Points (p q : Parts) (s t : Durable) (n : ℕ) : Type 0 where
   pub recorded : saved_in q n ≡ saved_in p n
   pub same : savepoints_of t.spaces n ≡ savepoints_of s.spaces n
 
-SavepointsStand-frame : (p q : Parts) (s t : State) → ((n : ℕ) → Points p q s t n ⊎ (map saved_fields (saved_in q n) ≡ map fields_saved (savepoints_of t.spaces n))) → SavepointsStand p s → SavepointsStand q t
+SavepointsStand-frame : (p q : Parts) (s t : Durable) → ((n : ℕ) → Points p q s t n ⊎ (map saved_fields (saved_in q n) ≡ map fields_saved (savepoints_of t.spaces n))) → SavepointsStand p s → SavepointsStand q t
 SavepointsStand-frame p q s t each stand = record {
   same = λ n. ⊎_elim (λ (f : Points p q s t n). ap (map saved_fields) f.recorded ∙ stand.same n ∙ ap (map fields_saved) (sym f.same)) (λ h. h) (each n);
 }
 
 -- a savepoint and its record are of before, and its versions hold what they held
-pub record Point (p q : Parts) (s : State) (n making : ℕ) (w : Workspace) (k : Savepoint) (x : Record) : Type 0 where
+pub record Point (p q : Parts) (s : Durable) (n making : ℕ) (w : Workspace) (k : Savepoint) (x : Record) : Type 0 where
   pub old : Workspace
   pub is : workspace_of s.spaces n ≡ Some old
   pub point : savepoint_made making old.savepoints ≡ Some k
@@ -84,7 +84,7 @@ pub record HasPoint (q : Parts) (n : ℕ) (k : Savepoint) (x : Record) : Type 0 
   pub sees : (c : Cell) → seen q x.version c ≡ option_map held_of (told (kept k) c)
   pub under : 0 < n → (c : Cell) → seen q x.base_version c ≡ option_map held_of (told k.base c)
 
-KeptStand-frame : (p q : Parts) (s t : State)
+KeptStand-frame : (p q : Parts) (s t : Durable)
     → ((n making : ℕ) (w : Workspace) (k : Savepoint) (x : Record) → workspace_of t.spaces n ≡ Some w → savepoint_made making w.savepoints ≡ Some k → saved_as q n making ≡ Some x
     → Point p q s n making w k x ⊎ HasPoint q n k x)
     → KeptStand p s → KeptStand q t
@@ -95,7 +95,7 @@ KeptStand-frame p q s t each stand = record {
       ⊎_elim (λ (f : Point p q s n making w k x). f.under some c ∙ stand.base n making f.old k x some f.is f.point f.recorded c) (λ (h : HasPoint q n k x). h.under some c) (each n making w k x is point recorded);
 }
 
-KeptOwnStand-frame : (p q : Parts) (s t : State)
+KeptOwnStand-frame : (p q : Parts) (s t : Durable)
     → ((n making : ℕ) (w : Workspace) (k : Savepoint) (x : Record) → workspace_of t.spaces n ≡ Some w → savepoint_made making w.savepoints ≡ Some k → saved_as q n making ≡ Some x
     → Point p q s n making w k x ⊎ (k.rebases ≡ w.rebases → (c : Cell) → is_some (seen_above q x.base_version x.version c) ≡ touched k.own c))
     → KeptOwnStand p s → KeptOwnStand q t
@@ -107,7 +107,7 @@ KeptOwnStand-frame p q s t each stand = record {
 -- ---- bases
 
 -- a workspace has from its parent what it had, and the versions that it is born from and that it sees hold what they held
-pub record Base (p q : Parts) (s : State) (n : ℕ) (w : Workspace) (r : Space) : Type 0 where
+pub record Base (p q : Parts) (s : Durable) (n : ℕ) (w : Workspace) (r : Space) : Type 0 where
   pub old : Workspace
   pub is : workspace_of s.spaces n ≡ Some old
   pub at_birth : w.lists.at_birth ≡ old.lists.at_birth
@@ -122,7 +122,7 @@ pub record HasBase (q : Parts) (w : Workspace) (r : Space) : Type 0 where
   pub births : (c : Cell) → seen q r.birth_version c ≡ option_map held_of (told w.lists.at_birth c)
   pub bases : (c : Cell) → seen q r.base_version c ≡ option_map held_of (told w.lists.base c)
 
-BasesStand-frame : (p q : Parts) (s t : State) → ((n : ℕ) (w : Workspace) (r : Space) → 0 < n → workspace_of t.spaces n ≡ Some w → space_of q.spaces n ≡ Some r → Base p q s n w r ⊎ HasBase q w r)
+BasesStand-frame : (p q : Parts) (s t : Durable) → ((n : ℕ) (w : Workspace) (r : Space) → 0 < n → workspace_of t.spaces n ≡ Some w → space_of q.spaces n ≡ Some r → Base p q s n w r ⊎ HasBase q w r)
     → BasesStand p s → BasesStand q t
 BasesStand-frame p q s t each stand = record {
   birth = λ n w r some is recorded c.
@@ -162,7 +162,7 @@ pub record Rows (q : Parts) (w : Workspace) : Type 0 where
   pub saved : (making : ℕ) (k : Savepoint) → savepoint_made making w.savepoints ≡ Some k → HasRows q (kept k)
   pub saved_bases : (making : ℕ) (k : Savepoint) → savepoint_made making w.savepoints ≡ Some k → HasRows q k.base
 
-RowsStand-frame : (q : Parts) (t : State) → ((n : ℕ) (w : Workspace) → workspace_of t.spaces n ≡ Some w → Rows q w) → ((n : ℕ) → All (HasRow q) (log_of t.spaces n)) → RowsStand q t
+RowsStand-frame : (q : Parts) (t : Durable) → ((n : ℕ) (w : Workspace) → workspace_of t.spaces n ≡ Some w → Rows q w) → ((n : ℕ) → All (HasRow q) (log_of t.spaces n)) → RowsStand q t
 RowsStand-frame q t each logs = record {
   there = λ n w is. (each n w is).there;
   births = λ n w is. (each n w is).births;
@@ -175,7 +175,7 @@ RowsStand-frame q t each logs = record {
 -- ---- where no savepoint and no workspace is new
 
 -- a workspace is one of before, but for its own changes, its log and its fields
-pub record Still (s : State) (n : ℕ) (w : Workspace) : Type 0 where
+pub record Still (s : Durable) (n : ℕ) (w : Workspace) : Type 0 where
   pub old : Workspace
   pub is : workspace_of s.spaces n ≡ Some old
   pub parent : w.parent ≡ old.parent
@@ -192,7 +192,7 @@ pub record StillNames (p : Parts) (n : ℕ) (r : Space) : Type 0 where
   pub base : r.base_version ≡ old.base_version
 
 -- so it is of each, and all versions that are named hold what they held
-pub record Framed (p q : Parts) (s t : State) : Type 0 where
+pub record Framed (p q : Parts) (s t : Durable) : Type 0 where
   pub savepoints : q.savepoints ≡ p.savepoints
   pub still : (n : ℕ) (w : Workspace) → workspace_of t.spaces n ≡ Some w → Still s n w
   pub names : (n : ℕ) (r : Space) → space_of q.spaces n ≡ Some r → StillNames p n r
@@ -209,7 +209,7 @@ saved_in-same p q same n = ap (λ xs. by_making (filter (λ (x : Record). x.spac
 saved_as-same : (p q : Parts) → q.savepoints ≡ p.savepoints → (n making : ℕ) → saved_as q n making ≡ saved_as p n making
 saved_as-same p q same n making = ap (λ xs. find (λ (x : Record). (x.space == n) && (x.making == making)) xs) same
 
-point_of : (p q : Parts) (s t : State) → Framed p q s t → (n making : ℕ) (w : Workspace) (k : Savepoint) (x : Record) → workspace_of t.spaces n ≡ Some w → savepoint_made making w.savepoints ≡ Some k
+point_of : (p q : Parts) (s t : Durable) → Framed p q s t → (n making : ℕ) (w : Workspace) (k : Savepoint) (x : Record) → workspace_of t.spaces n ≡ Some w → savepoint_made making w.savepoints ≡ Some k
     → saved_as q n making ≡ Some x → Point p q s n making w k x
 point_of p q s t f n making w k x is point recorded =
     let y = f.still n w is in
@@ -226,17 +226,17 @@ point_of p q s t f n making w k x is point recorded =
     }
 
 -- the savepoints of each workspace and their records are those of before
-pub SavepointsStand-same : (p q : Parts) (s t : State) → q.savepoints ≡ p.savepoints → ((n : ℕ) → savepoints_of t.spaces n ≡ savepoints_of s.spaces n) → SavepointsStand p s → SavepointsStand q t
+pub SavepointsStand-same : (p q : Parts) (s t : Durable) → q.savepoints ≡ p.savepoints → ((n : ℕ) → savepoints_of t.spaces n ≡ savepoints_of s.spaces n) → SavepointsStand p s → SavepointsStand q t
 SavepointsStand-same p q s t recorded same = SavepointsStand-frame p q s t (λ n. inl (record { recorded = saved_in-same p q recorded n; same = same n }))
 
-pub KeptStand-framed : (p q : Parts) (s t : State) → Framed p q s t → KeptStand p s → KeptStand q t
+pub KeptStand-framed : (p q : Parts) (s t : Durable) → Framed p q s t → KeptStand p s → KeptStand q t
 KeptStand-framed p q s t f = KeptStand-frame p q s t (λ n making w k x is point recorded. inl (point_of p q s t f n making w k x is point recorded))
 
-pub KeptOwnStand-framed : (p q : Parts) (s t : State) → Framed p q s t → KeptOwnStand p s → KeptOwnStand q t
+pub KeptOwnStand-framed : (p q : Parts) (s t : Durable) → Framed p q s t → KeptOwnStand p s → KeptOwnStand q t
 KeptOwnStand-framed p q s t f = KeptOwnStand-frame p q s t (λ n making w k x is point recorded. inl (point_of p q s t f n making w k x is point recorded))
 
 -- where pieces end, but for the workspaces' own
-pub EndsStand-framed : (p q : Parts) (s t : State) → Framed p q s t
+pub EndsStand-framed : (p q : Parts) (s t : Durable) → Framed p q s t
     → ((n : ℕ) (w : Workspace) (r : Space) → workspace_of t.spaces n ≡ Some w → space_of q.spaces n ≡ Some r → have_ends q r.base_version (latest q n) w.lists.own ≡ true) → EndsStand p s → EndsStand q t
 EndsStand-framed p q s t f own stand = record {
   own = own;
@@ -244,7 +244,7 @@ EndsStand-framed p q s t f own stand = record {
       let z = point_of p q s t f n making w k x is point recorded in f.ends n making x z.recorded k.own (stand.kept n making z.old k x z.is z.point z.recorded (same ∙ z.rebases));
 }
 
-pub BasesStand-framed : (p q : Parts) (s t : State) → Framed p q s t → BasesStand p s → BasesStand q t
+pub BasesStand-framed : (p q : Parts) (s t : Durable) → Framed p q s t → BasesStand p s → BasesStand q t
 BasesStand-framed p q s t f = BasesStand-frame p q s t (λ n w r some is recorded. inl (base_of n w r some (f.still n w is) (f.names n r recorded)))
   where
     base_of : (n : ℕ) (w : Workspace) (r : Space) → 0 < n → Still s n w → StillNames p n r → Base p q s n w r
@@ -259,7 +259,7 @@ BasesStand-framed p q s t f = BasesStand-frame p q s t (λ n w r some is recorde
       bases = λ c. ap (λ v. seen q v c) y.base ∙ f.bases n y.old some y.is c;
     }
 
-pub RowsStand-framed : (p q : Parts) (s t : State) → Framed p q s t → KeepRows p q → ((n : ℕ) (w : Workspace) → workspace_of t.spaces n ≡ Some w → HasRows q (content w))
+pub RowsStand-framed : (p q : Parts) (s t : Durable) → Framed p q s t → KeepRows p q → ((n : ℕ) (w : Workspace) → workspace_of t.spaces n ≡ Some w → HasRows q (content w))
     → ((n : ℕ) → All (HasRow q) (log_of t.spaces n)) → RowsStand p s → RowsStand q t
 RowsStand-framed p q s t f keep there logs stand = RowsStand-frame q t (λ n w is. rows_of n w is (f.still n w is)) logs
   where

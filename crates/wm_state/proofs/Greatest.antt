@@ -5,12 +5,12 @@ use Rattle.std.specs.List.{list_all, filter}
 use Rattle.wm_graph.specs.Parts.{Parts}
 use Rattle.wm_graph.specs.Rules.{differ}
 use Rattle.wm_spec.specs.declared.record.savepoint.Savepoint.{Savepoint as Record}
-use Rattle.wm_state.specs.State.{State, Workspace, Savepoint, workspace_of}
+use Rattle.wm_state.specs.State.{Durable, Workspace, Savepoint, workspace_of}
 use Rattle.wm_state.specs.Standing.{SavepointFields, saved_fields, fields_saved, place_making, by_making, saved_in, SavepointsStand}
 use Rattle.wm_state.proofs.Apart.{found-passes}
 use Rattle.wm_state.proofs.Frames.{savepoints_of-found, savepoints_of-none}
-use Rattle.wm_state.proofs.KeepSaved.{greatest_making}
 use Rattle.wm_state.proofs.Making.{all-making}
+use Rattle.wm_state.proofs.Makings.{greatest_making}
 use Rattle.wm_state.proofs.Mapped.{all-alike, all-found}
 use Rattle.wm_state.proofs.Tests.{both, and_true, all_if, all_filter}
 
@@ -117,7 +117,7 @@ none_mapped [] e = refl
 none_mapped (x ∷ xs) e = cc
 
 -- where no two workspaces have one number, the greatest making of the state is that of the records
-pub greatest_same : (p : Parts) (s : State) → SavepointsStand p s → workspaces_differ s.spaces ≡ true → greatest_in s.spaces ≡ greatest_making p.savepoints
+pub greatest_same : (p : Parts) (s : Durable) → SavepointsStand p s → workspaces_differ s.spaces ≡ true → greatest_in s.spaces ≡ greatest_making p.savepoints
 greatest_same p s stand apart = one_number (greatest_in s.spaces) (greatest_making p.savepoints) below above
   where
     alike : (n : ℕ) (w : Workspace) → workspace_of s.spaces n ≡ Some w → map saved_fields (saved_in p n) ≡ map fields_saved w.savepoints

@@ -18,7 +18,7 @@ use Rattle.wm_spec.specs.declared.record.row.RowRecord.{RowRecord}
 use Rattle.wm_spec.specs.declared.record.savepoint.Savepoint.{Savepoint as Record}
 use Rattle.wm_spec.proofs.Stretches.{value-rows, AreMaximal-rows}
 use Rattle.wm_tree.specs.declared.version.Version.{Version as Node}
-use Rattle.wm_state.specs.State.{State, Workspace, Savepoint, content, kept, workspace_of, savepoint_made}
+use Rattle.wm_state.specs.State.{Durable, Workspace, Savepoint, content, kept, workspace_of, savepoint_made}
 use Rattle.wm_state.specs.Standing.{held_of, stored_at, seen_at, seen, newest_first, latest, saved_as, HasRows, Stands}
 use Rattle.wm_state.specs.Listing.{standing, stamp_seen, stamp_shown, listed, row_on, row_with, seen_row, row_shown, row_shown_with, is_unwritten, IsListing, IsShowing, AreRowsOf, Groups, keys_of, joined, AreAllRowsOf}
 use Rattle.wm_state.proofs.Shown.{showing_listed}
@@ -68,7 +68,7 @@ pub seen_is : (p : Parts) (version : ℕ) (es : List Entry) → HoldsAll p versi
 seen_is p version es holds table key t =
     ap (option_and_then standing) (holds (record { table = table; key = key; time = t })) ∙ stamp_same (told es (record { table = table; key = key; time = t }))
 
-pub shown_is : (p : Parts) (s : State) (n : ℕ) (w : Workspace) → Stands p s → workspace_of s.spaces n ≡ Some w → (table : ℕ) (key : List Value) (t : ℕ) → stamp_shown p n table key t ≡ stamp_at (content w) table key t
+pub shown_is : (p : Parts) (s : Durable) (n : ℕ) (w : Workspace) → Stands p s → workspace_of s.spaces n ≡ Some w → (table : ℕ) (key : List Value) (t : ℕ) → stamp_shown p n table key t ≡ stamp_at (content w) table key t
 shown_is p s n w st is = seen_is p (latest p n) (content w) (st.latest.told n w is)
 
 -- ---- the rows themselves
@@ -164,12 +164,12 @@ showing_of p version es table valid within out holds has l =
         ∙ ap (λ rest. map (λ s. (g.0, s)) (rows_of_key es table g.0) ++ rest) (joined_is gs held.1)
 
 -- what the newest version of a workspace shows is what its content has
-pub showing_is : (p : Parts) (s : State) (n : ℕ) (w : Workspace) (table : ℕ) (valid : Bool) (within : Span) (out : List Row) → Stands p s → workspace_of s.spaces n ≡ Some w
+pub showing_is : (p : Parts) (s : Durable) (n : ℕ) (w : Workspace) (table : ℕ) (valid : Bool) (within : Span) (out : List Row) → Stands p s → workspace_of s.spaces n ≡ Some w
     → IsShowing p (latest p n) table valid within out → out ≡ filter_map (row_shown (content w) table valid within) (rows (content w) table)
 showing_is p s n w table valid within out st is = showing_of p (latest p n) (content w) table valid within out (st.latest.told n w is) (st.rows.there n w is)
 
 -- what the version of a savepoint shows is what stood there
-pub showing_saved : (p : Parts) (s : State) (n making : ℕ) (w : Workspace) (k : Savepoint) (x : Record) (table : ℕ) (valid : Bool) (within : Span) (out : List Row) → Stands p s → workspace_of s.spaces n ≡ Some w
+pub showing_saved : (p : Parts) (s : Durable) (n making : ℕ) (w : Workspace) (k : Savepoint) (x : Record) (table : ℕ) (valid : Bool) (within : Span) (out : List Row) → Stands p s → workspace_of s.spaces n ≡ Some w
     → savepoint_made making w.savepoints ≡ Some k → saved_as p n making ≡ Some x → IsShowing p x.version table valid within out → out ≡ filter_map (row_shown (kept k) table valid within) (rows (kept k) table)
 showing_saved p s n making w k x table valid within out st is made saved =
     showing_of p x.version (kept k) table valid within out (st.kept.told n making w k x is made saved) (st.rows.saved n making w k is made)
@@ -179,14 +179,9 @@ showing_saved p s n making w k x table valid within out st is made saved =
 pub listing_of : (p : Parts) (version : ℕ) (es : List Entry) (table : ℕ) (out : List Row) → HoldsAll p version es → HasRows p es → IsListing p version table out → out ≡ filter_map (row_on es table) (rows es table)
 listing_of p version es table out holds has l = showing_of p version es table false always out holds has (showing_listed p version table always out l)
 
-pub listing_is : (p : Parts) (s : State) (n : ℕ) (w : Workspace) (table : ℕ) (out : List Row) → Stands p s → workspace_of s.spaces n ≡ Some w → IsListing p (latest p n) table out
+pub listing_is : (p : Parts) (s : Durable) (n : ℕ) (w : Workspace) (table : ℕ) (out : List Row) → Stands p s → workspace_of s.spaces n ≡ Some w → IsListing p (latest p n) table out
     → out ≡ filter_map (row_on (content w) table) (rows (content w) table)
 listing_is p s n w table out st is = listing_of p (latest p n) (content w) table out (st.latest.told n w is) (st.rows.there n w is)
-
-pub listing_saved : (p : Parts) (s : State) (n making : ℕ) (w : Workspace) (k : Savepoint) (x : Record) (table : ℕ) (out : List Row) → Stands p s → workspace_of s.spaces n ≡ Some w
-    → savepoint_made making w.savepoints ≡ Some k → saved_as p n making ≡ Some x → IsListing p x.version table out → out ≡ filter_map (row_on (kept k) table) (rows (kept k) table)
-listing_saved p s n making w k x table out st is made saved =
-    listing_of p x.version (kept k) table out (st.kept.told n making w k x is made saved) (st.rows.saved n making w k is made)
 
 -- ---- one key
 

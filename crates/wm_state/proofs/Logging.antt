@@ -8,7 +8,7 @@ use Rattle.wm_graph.specs.Parts.{Parts}
 use Rattle.wm_spec.specs.Lists.{Entry}
 use Rattle.wm_spec.specs.declared.record.hist.Hist.{Hist}
 use Rattle.wm_state.specs.Entries.{hist_of, hists_from}
-use Rattle.wm_state.specs.State.{State, Workspace, workspace_of, with_space, log_of}
+use Rattle.wm_state.specs.State.{Durable, Workspace, workspace_of, with_space, log_of}
 use Rattle.wm_state.specs.Standing.{HasRow, HistsStand, logged, logged_as, hist_at}
 use Rattle.wm_state.proofs.Changing.{workspace_of-changed}
 use Rattle.wm_state.proofs.Frames.{KeepRows, row-kept}
@@ -39,7 +39,7 @@ log_of-changed n act same kept ws m = by_test (m == n) (workspace_of ws m) refl 
     by_test true (Some w) found after = log_of-found (with_space n act ws) m (act w) after ∙ kept w ∙ sym (log_of-found ws m w found)
     by_test false (Some w) found after = log_of-found (with_space n act ws) m w after ∙ sym (log_of-found ws m w found)
 
-pub HistsStand-frame : (p q : Parts) (s t : State) → q.hists ≡ p.hists → ((n : ℕ) → log_of t.spaces n ≡ log_of s.spaces n) → HistsStand p s → HistsStand q t
+pub HistsStand-frame : (p q : Parts) (s t : Durable) → q.hists ≡ p.hists → ((n : ℕ) → log_of t.spaces n ≡ log_of s.spaces n) → HistsStand p s → HistsStand q t
 HistsStand-frame p q s t hists logs stand = record {
   same = λ n position. ap (λ hs. option_map logged (hist_at hs n position)) hists ∙ stand.same n position ∙ ap (λ es. option_map logged_as (slice_get es position)) (sym (logs n));
 }
@@ -48,7 +48,7 @@ HistsStand-frame p q s t hists logs stand = record {
 pub rows-kept : (p q : Parts) → KeepRows p q → (es : List Entry) → All (HasRow p) es → All (HasRow q) es
 rows-kept p q keep es has k d lt row is = row-kept p q keep _ row (has k d lt row is)
 
-pub logs-kept : (p q : Parts) (s t : State) → KeepRows p q → ((n : ℕ) → log_of t.spaces n ≡ log_of s.spaces n) → ((n : ℕ) → All (HasRow p) (log_of s.spaces n)) → (n : ℕ) → All (HasRow q) (log_of t.spaces n)
+pub logs-kept : (p q : Parts) (s t : Durable) → KeepRows p q → ((n : ℕ) → log_of t.spaces n ≡ log_of s.spaces n) → ((n : ℕ) → All (HasRow p) (log_of s.spaces n)) → (n : ℕ) → All (HasRow q) (log_of t.spaces n)
 logs-kept p q s t keep logs has n = subst (λ es. All (HasRow q) es) (sym (logs n)) (rows-kept p q keep (log_of s.spaces n) (has n))
 
 -- ---- entries behind others
@@ -119,7 +119,7 @@ or-none None = refl
 or-none (Some x) = refl
 
 -- a workspace has more entries in its log, and their records stand behind the others
-pub HistsStand-longer : (p q : Parts) (s t : State) (n : ℕ) (es : List Entry) → q.hists ≡ p.hists ++ hists_from n (length (log_of s.spaces n)) es → log_of t.spaces n ≡ log_of s.spaces n ++ es
+pub HistsStand-longer : (p q : Parts) (s t : Durable) (n : ℕ) (es : List Entry) → q.hists ≡ p.hists ++ hists_from n (length (log_of s.spaces n)) es → log_of t.spaces n ≡ log_of s.spaces n ++ es
     → ((m : ℕ) → m ≢ n → log_of t.spaces m ≡ log_of s.spaces m) → HistsStand p s → HistsStand q t
 HistsStand-longer p q s t n es hists longer away stand = record { same = λ m i. split m i ∙ by_number m i (cases_eq m n) }
   where

@@ -46,7 +46,11 @@ all_true : {A : Type 0} (xs : List A) → list_all (λ (x : A). true) xs ≡ tru
 all_true [] = refl
 all_true (x ∷ xs) = all_true xs
 
--- what is found has the number
+-- what is found is one
+pub one_space : (a b : Space) → Some a ≡ Some b → a ≡ b
+one_space a b e = cc
+
+-- it has the number
 pub space_number : (p : Parts) (n : ℕ) (s : Space) → space_of p.spaces n ≡ Some s → s.number ≡ n
 space_number p n s found = eqb-true _ _ (found-passes (λ (x : Space). x.number == n) (λ x. true) p.spaces s found (all_true p.spaces)).0
 

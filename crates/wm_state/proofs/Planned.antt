@@ -14,7 +14,7 @@ use Rattle.wm_spec.specs.declared.record.piece.PieceRecord.{PieceRecord}
 use Rattle.wm_spec.specs.declared.record.table.Table.{Table}
 use Rattle.wm_state.specs.ById.{Ascend, set_at, applied}
 use Rattle.wm_state.specs.Batches.{keeps, is_dropped, AreDropped, AllUnder, create_batch, enable_batch, ready}
-use Rattle.wm_state.specs.State.{State, Readiness, enabled}
+use Rattle.wm_state.specs.State.{Durable, Readiness, enabled}
 use Rattle.wm_state.specs.Standing.{CountersStand, FieldsStand, Stands}
 use Rattle.wm_state.proofs.ById.{Ascend-set, record_at-set}
 use Rattle.wm_state.proofs.ByKind.{kinds, stored, Split, split_of, set-split}
@@ -124,7 +124,7 @@ dropped-still test ids ss id r q sorted found kept_r kept_q are other x there = 
 -- ---- the laws of the two batches
 
 -- a table was made: the records agree with the state with it
-pub agree_created : (ss : List Stored) (counters_id id : ℕ) (old new : Counters) (t : Table) (s u : State) → FieldsStand (parts_of ss) s → Ascend ss → record_at ss counters_id ≡ Some (records.Counters old)
+pub agree_created : (ss : List Stored) (counters_id id : ℕ) (old new : Counters) (t : Table) (s u : Durable) → FieldsStand (parts_of ss) s → Ascend ss → record_at ss counters_id ≡ Some (records.Counters old)
     → AllUnder id ss → MayCreate (parts_of ss) old new t → u.spaces ≡ s.spaces → u.tables ≡ s.tables ++ t ∷ [] → CountersStand (created (parts_of ss) new t) u
     → FieldsStand (parts_of (applied (create_batch counters_id new id t) ss)) u
 agree_created ss counters_id id old new t s u st sorted counters under may spaces tables stands =
@@ -132,7 +132,7 @@ agree_created ss counters_id id old new t s u st sorted counters under may space
     (FieldsStand-created (parts_of ss) old new t s u st may spaces tables stands)
 
 -- and stand for it
-pub plan_created : (ss : List Stored) (counters_id id : ℕ) (old new : Counters) (t : Table) (s u : State) → Stands (parts_of ss) s → Ascend ss → record_at ss counters_id ≡ Some (records.Counters old)
+pub plan_created : (ss : List Stored) (counters_id id : ℕ) (old new : Counters) (t : Table) (s u : Durable) → Stands (parts_of ss) s → Ascend ss → record_at ss counters_id ≡ Some (records.Counters old)
     → AllUnder id ss → MayCreate (parts_of ss) old new t → u.spaces ≡ s.spaces → u.tables ≡ s.tables ++ t ∷ [] → CountersStand (created (parts_of ss) new t) u
     → Stands (parts_of (applied (create_batch counters_id new id t) ss)) u
 plan_created ss counters_id id old new t s u st sorted counters under may spaces tables stands =
@@ -140,7 +140,7 @@ plan_created ss counters_id id old new t s u st sorted counters under may spaces
     (Stands-created (parts_of ss) old new t s u st may spaces tables stands)
 
 -- a table became ready: the records agree with the state whose table it is
-pub agree_readied : (ss : List Stored) (counters_id id : ℕ) (old new : Counters) (how : Readiness) (t : Table) (s u : State) → keep_rules (parts_of ss) ≡ true → FieldsStand (parts_of ss) s → Ascend ss
+pub agree_readied : (ss : List Stored) (counters_id id : ℕ) (old new : Counters) (how : Readiness) (t : Table) (s u : Durable) → keep_rules (parts_of ss) ≡ true → FieldsStand (parts_of ss) s → Ascend ss
     → record_at ss counters_id ≡ Some (records.Counters old) → (parts_of ss).counters ≡ old ∷ [] → record_at ss id ≡ Some (records.Table t) → u.spaces ≡ s.spaces → u.tables ≡ enabled t.number how s.tables
     → ((front back : List Table) → CountersStand (readied (parts_of ss) new front how t back) u) → FieldsStand (parts_of (applied (enable_batch counters_id new id how t) ss)) u
 agree_readied ss counters_id id old new how t s u rules st sorted counters one found spaces tables stands =
@@ -148,7 +148,7 @@ agree_readied ss counters_id id old new how t s u rules st sorted counters one f
     subst (λ p. FieldsStand p u) (sym r.is) (FieldsStand-readied (parts_of ss) new r.front how t r.back s u rules st r.old spaces tables (stands r.front r.back))
 
 -- and stand for it
-pub plan_readied : (ss : List Stored) (counters_id id : ℕ) (old new : Counters) (how : Readiness) (t : Table) (s u : State) → Stands (parts_of ss) s → Ascend ss → record_at ss counters_id ≡ Some (records.Counters old)
+pub plan_readied : (ss : List Stored) (counters_id id : ℕ) (old new : Counters) (how : Readiness) (t : Table) (s u : Durable) → Stands (parts_of ss) s → Ascend ss → record_at ss counters_id ≡ Some (records.Counters old)
     → (parts_of ss).counters ≡ old ∷ [] → record_at ss id ≡ Some (records.Table t) → t.has_key ≡ true → are_counters new ≡ true → new.next_version ≡ old.next_version → new.next_stamp ≡ old.next_stamp → old.work ≤ new.work → u.spaces ≡ s.spaces
     → u.tables ≡ enabled t.number how s.tables → ((front back : List Table) → CountersStand (readied (parts_of ss) new front how t back) u)
     → Stands (parts_of (applied (enable_batch counters_id new id how t) ss)) u

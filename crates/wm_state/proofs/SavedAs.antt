@@ -10,7 +10,7 @@ use Rattle.std.specs.Str.{bytes_eq}
 use Rattle.wm_graph.specs.Parts.{Parts}
 use Rattle.wm_graph.specs.Rules.{keep_rules, same_savepoint, differ}
 use Rattle.wm_spec.specs.declared.record.savepoint.Savepoint.{Savepoint as Record}
-use Rattle.wm_state.specs.State.{State, Workspace, Savepoint, workspace_of, savepoint_made, savepoints_of}
+use Rattle.wm_state.specs.State.{Durable, Workspace, Savepoint, workspace_of, savepoint_made, savepoints_of}
 use Rattle.wm_state.specs.Standing.{SavepointFields, saved_fields, fields_saved, saved_in, saved_as, SavepointsStand, Stands}
 use Rattle.wm_state.proofs.Apart.{ruled}
 use Rattle.wm_state.proofs.Making.{same_making, making-itself, is_made, length-making, differ-making, find-one, find-making}
@@ -76,19 +76,19 @@ named_sorted p rules n name =
 -- ---- among records and among savepoints
 
 -- the records of a workspace's savepoints have their fields
-saved_alike : (p : Parts) (s : State) (n : ℕ) (w : Workspace) → SavepointsStand p s → workspace_of s.spaces n ≡ Some w → map saved_fields (saved_in p n) ≡ map fields_saved w.savepoints
+saved_alike : (p : Parts) (s : Durable) (n : ℕ) (w : Workspace) → SavepointsStand p s → workspace_of s.spaces n ≡ Some w → map saved_fields (saved_in p n) ≡ map fields_saved w.savepoints
 saved_alike p s n w st found = st.same n ∙ ap (map fields_saved) (of_found (workspace_of s.spaces n) found)
   where
     of_found : (o : Option Workspace) → o ≡ Some w → savepoints_of s.spaces n ≡ w.savepoints
     of_found o is = rw found refl
 
 -- the first that passes a test of its fields
-passed_alike : (p : Parts) (s : State) (n : ℕ) (w : Workspace) → SavepointsStand p s → workspace_of s.spaces n ≡ Some w → (P : SavepointFields → Bool)
+passed_alike : (p : Parts) (s : Durable) (n : ℕ) (w : Workspace) → SavepointsStand p s → workspace_of s.spaces n ≡ Some w → (P : SavepointFields → Bool)
     → option_map saved_fields (find (λ (x : Record). P (saved_fields x)) (saved_in p n)) ≡ option_map fields_saved (find (λ (k : Savepoint). P (fields_saved k)) w.savepoints)
 passed_alike p s n w st found P = find-alike saved_fields fields_saved P (saved_in p n) w.savepoints (saved_alike p s n w st found)
 
 -- as many as there are records
-pub saved_count_there : (p : Parts) (s : State) (n : ℕ) (w : Workspace) → SavepointsStand p s → workspace_of s.spaces n ≡ Some w → length w.savepoints ≡ count_by (λ (x : Record). x.space == n) p.savepoints
+pub saved_count_there : (p : Parts) (s : Durable) (n : ℕ) (w : Workspace) → SavepointsStand p s → workspace_of s.spaces n ≡ Some w → length w.savepoints ≡ count_by (λ (x : Record). x.space == n) p.savepoints
 saved_count_there p s n w st found =
     sym (length-map w.savepoints fields_saved)
     ∙ ap length (sym (saved_alike p s n w st found))
@@ -96,7 +96,7 @@ saved_count_there p s n w st found =
     ∙ length-making (filter (λ (x : Record). x.space == n) p.savepoints)
     ∙ length-filter (λ (x : Record). x.space == n) p.savepoints
 
-pub saved_count : (p : Parts) (s : State) (n : ℕ) (w : Workspace) → Stands p s → workspace_of s.spaces n ≡ Some w → length w.savepoints ≡ count_by (λ (x : Record). x.space == n) p.savepoints
+pub saved_count : (p : Parts) (s : Durable) (n : ℕ) (w : Workspace) → Stands p s → workspace_of s.spaces n ≡ Some w → length w.savepoints ≡ count_by (λ (x : Record). x.space == n) p.savepoints
 saved_count p s n w st found = saved_count_there p s n w st.savepoints found
 
 -- ---- a savepoint and its record
@@ -108,12 +108,12 @@ pub record IsSaved (p : Parts) (n : ℕ) (w : Workspace) (x : Record) (k : Savep
   pub made : savepoint_made k.making w.savepoints ≡ Some k
 
 -- the makings of a workspace's savepoints differ
-made-apart : (p : Parts) (s : State) (n : ℕ) (w : Workspace) → keep_rules p ≡ true → SavepointsStand p s → workspace_of s.spaces n ≡ Some w → differ (λ (j k : Savepoint). j.making == k.making) w.savepoints ≡ true
+made-apart : (p : Parts) (s : Durable) (n : ℕ) (w : Workspace) → keep_rules p ≡ true → SavepointsStand p s → workspace_of s.spaces n ≡ Some w → differ (λ (j k : Savepoint). j.making == k.making) w.savepoints ≡ true
 made-apart p s n w rules st found =
     sym (differ-alike saved_fields fields_saved (λ f g. f.making == g.making) (saved_in p n) w.savepoints (saved_alike p s n w st found))
     ∙ differ-making (filter (λ (x : Record). x.space == n) p.savepoints) (differ_filter same_making (λ (x : Record). x.space == n) p.savepoints (makings_differ p rules))
 
-both_saved : (p : Parts) (s : State) (n : ℕ) (w : Workspace) → keep_rules p ≡ true → SavepointsStand p s → workspace_of s.spaces n ≡ Some w → (P : SavepointFields → Bool) (x : Record) (k : Savepoint) → find (λ (y : Record). P (saved_fields y)) (saved_in p n) ≡ Some x
+both_saved : (p : Parts) (s : Durable) (n : ℕ) (w : Workspace) → keep_rules p ≡ true → SavepointsStand p s → workspace_of s.spaces n ≡ Some w → (P : SavepointFields → Bool) (x : Record) (k : Savepoint) → find (λ (y : Record). P (saved_fields y)) (saved_in p n) ≡ Some x
     → find (λ (j : Savepoint). P (fields_saved j)) w.savepoints ≡ Some k → saved_fields x ≡ fields_saved k → IsSaved p n w x k
 both_saved p s n w rules st found P x k recorded made fields = record {
   fields = fields;
@@ -126,7 +126,7 @@ both_saved p s n w rules st found P x k recorded made fields = record {
 }
 
 -- where a record passes a test of its fields, a savepoint does
-passed_some : (p : Parts) (s : State) (n : ℕ) (w : Workspace) → keep_rules p ≡ true → SavepointsStand p s → workspace_of s.spaces n ≡ Some w → (P : SavepointFields → Bool) (x : Record) → find (λ (y : Record). P (saved_fields y)) (saved_in p n) ≡ Some x
+passed_some : (p : Parts) (s : Durable) (n : ℕ) (w : Workspace) → keep_rules p ≡ true → SavepointsStand p s → workspace_of s.spaces n ≡ Some w → (P : SavepointFields → Bool) (x : Record) → find (λ (y : Record). P (saved_fields y)) (saved_in p n) ≡ Some x
     → (k : Savepoint) × (find (λ (j : Savepoint). P (fields_saved j)) w.savepoints ≡ Some k) × IsSaved p n w x k
 passed_some p s n w rules st found P x recorded = by_savepoint (find (λ (j : Savepoint). P (fields_saved j)) w.savepoints) refl (sym (ap (option_map saved_fields) recorded) ∙ passed_alike p s n w st found P)
   where
@@ -142,7 +142,7 @@ passed_some p s n w rules st found P x recorded = by_savepoint (find (λ (j : Sa
     by_savepoint (Some k) is same = (k, is, both_saved p s n w rules st found P x k recorded is (some_fields (saved_fields x) (fields_saved k) (same ∙ ap (option_map fields_saved) is)))
 
 -- and where none does, none does
-pub passed_none : (p : Parts) (s : State) (n : ℕ) (w : Workspace) → SavepointsStand p s → workspace_of s.spaces n ≡ Some w → (P : SavepointFields → Bool) → find (λ (y : Record). P (saved_fields y)) (saved_in p n) ≡ None
+pub passed_none : (p : Parts) (s : Durable) (n : ℕ) (w : Workspace) → SavepointsStand p s → workspace_of s.spaces n ≡ Some w → (P : SavepointFields → Bool) → find (λ (y : Record). P (saved_fields y)) (saved_in p n) ≡ None
     → find (λ (j : Savepoint). P (fields_saved j)) w.savepoints ≡ None
 passed_none p s n w st found P none = by_savepoint (find (λ (j : Savepoint). P (fields_saved j)) w.savepoints) (sym (ap (option_map saved_fields) none) ∙ passed_alike p s n w st found P)
   where
@@ -151,7 +151,7 @@ passed_none p s n w st found P none = by_savepoint (find (λ (j : Savepoint). P 
     by_savepoint (Some k) same = cc
 
 -- where no savepoint passes, no record does
-pub unpassed : (p : Parts) (s : State) (n : ℕ) (w : Workspace) → SavepointsStand p s → workspace_of s.spaces n ≡ Some w → (P : SavepointFields → Bool) → find (λ (k : Savepoint). P (fields_saved k)) w.savepoints ≡ None
+pub unpassed : (p : Parts) (s : Durable) (n : ℕ) (w : Workspace) → SavepointsStand p s → workspace_of s.spaces n ≡ Some w → (P : SavepointFields → Bool) → find (λ (k : Savepoint). P (fields_saved k)) w.savepoints ≡ None
     → find (λ (x : Record). P (saved_fields x)) (saved_in p n) ≡ None
 unpassed p s n w st found P none = by_saved (find (λ (x : Record). P (saved_fields x)) (saved_in p n)) (passed_alike p s n w st found P ∙ ap (option_map fields_saved) none)
   where
@@ -160,22 +160,22 @@ unpassed p s n w st found P none = by_saved (find (λ (x : Record). P (saved_fie
     by_saved (Some x) same = cc
 
 -- by name
-pub named_some : (p : Parts) (s : State) (n : ℕ) (w : Workspace) → Stands p s → workspace_of s.spaces n ≡ Some w → (name : List ℕ) (x : Record) → find (λ (y : Record). bytes_eq name y.name) (saved_in p n) ≡ Some x
+pub named_some : (p : Parts) (s : Durable) (n : ℕ) (w : Workspace) → Stands p s → workspace_of s.spaces n ≡ Some w → (name : List ℕ) (x : Record) → find (λ (y : Record). bytes_eq name y.name) (saved_in p n) ≡ Some x
     → (k : Savepoint) × (find (λ (j : Savepoint). bytes_eq name j.name) w.savepoints ≡ Some k) × IsSaved p n w x k
 named_some p s n w st found name x recorded = passed_some p s n w st.rules st.savepoints found (λ f. bytes_eq name f.name) x recorded
 
-pub named_none : (p : Parts) (s : State) (n : ℕ) (w : Workspace) → Stands p s → workspace_of s.spaces n ≡ Some w → (name : List ℕ) → find (λ (y : Record). bytes_eq name y.name) (saved_in p n) ≡ None
+pub named_none : (p : Parts) (s : Durable) (n : ℕ) (w : Workspace) → Stands p s → workspace_of s.spaces n ≡ Some w → (name : List ℕ) → find (λ (y : Record). bytes_eq name y.name) (saved_in p n) ≡ None
     → find (λ (j : Savepoint). bytes_eq name j.name) w.savepoints ≡ None
 named_none p s n w st found name none = passed_none p s n w st.savepoints found (λ f. bytes_eq name f.name) none
 
 -- by making
-pub made_some_there : (p : Parts) (s : State) (n : ℕ) (w : Workspace) → keep_rules p ≡ true → SavepointsStand p s → workspace_of s.spaces n ≡ Some w → (making : ℕ) (x : Record) → saved_as p n making ≡ Some x
+pub made_some_there : (p : Parts) (s : Durable) (n : ℕ) (w : Workspace) → keep_rules p ≡ true → SavepointsStand p s → workspace_of s.spaces n ≡ Some w → (making : ℕ) (x : Record) → saved_as p n making ≡ Some x
     → (k : Savepoint) × (savepoint_made making w.savepoints ≡ Some k) × IsSaved p n w x k
 made_some_there p s n w rules st found making x recorded = passed_some p s n w rules st found (λ f. f.making == making) x (sym (saved_sorted p rules n making) ∙ recorded)
 
-pub made_some : (p : Parts) (s : State) (n : ℕ) (w : Workspace) → Stands p s → workspace_of s.spaces n ≡ Some w → (making : ℕ) (x : Record) → saved_as p n making ≡ Some x
+pub made_some : (p : Parts) (s : Durable) (n : ℕ) (w : Workspace) → Stands p s → workspace_of s.spaces n ≡ Some w → (making : ℕ) (x : Record) → saved_as p n making ≡ Some x
     → (k : Savepoint) × (savepoint_made making w.savepoints ≡ Some k) × IsSaved p n w x k
 made_some p s n w st found making x recorded = made_some_there p s n w st.rules st.savepoints found making x recorded
 
-pub made_none : (p : Parts) (s : State) (n : ℕ) (w : Workspace) → Stands p s → workspace_of s.spaces n ≡ Some w → (making : ℕ) → saved_as p n making ≡ None → savepoint_made making w.savepoints ≡ None
+pub made_none : (p : Parts) (s : Durable) (n : ℕ) (w : Workspace) → Stands p s → workspace_of s.spaces n ≡ Some w → (making : ℕ) → saved_as p n making ≡ None → savepoint_made making w.savepoints ≡ None
 made_none p s n w st found making none = passed_none p s n w st.savepoints found (λ f. f.making == making) (sym (saved_sorted p st.rules n making) ∙ none)

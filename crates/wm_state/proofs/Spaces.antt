@@ -11,11 +11,11 @@ use Rattle.wm_graph.specs.Rules.{keep_rules, is_space, differ}
 use Rattle.wm_spec.specs.declared.record.counters.Counters.{Counters}
 use Rattle.wm_spec.specs.declared.record.savepoint.Savepoint.{Savepoint as Record}
 use Rattle.wm_spec.specs.declared.record.space.Space.{Space}
-use Rattle.wm_state.specs.State.{State, Workspace, Savepoint, workspace_of, workspace_named, next_space, making_after, next_making}
+use Rattle.wm_state.specs.State.{Durable, Workspace, Savepoint, workspace_of, workspace_named, next_space, making_after, next_making}
 use Rattle.wm_state.specs.Standing.{SpaceFields, fields_of, fields_in, space_after, making_behind, SpacesStand, OnceStand, SavepointsStand, Stands}
 use Rattle.wm_state.proofs.Apart.{ruled, found-passes}
 use Rattle.wm_state.proofs.Greatest.{greatest_kept, greatest_in, greatest_same}
-use Rattle.wm_state.proofs.KeepSaved.{greatest_making, made_before, greatest_room}
+use Rattle.wm_state.proofs.Makings.{greatest_making, made_before, greatest_room}
 use Rattle.wm_state.proofs.Mapped.{find-passes, find-again, find-else, found-fails, none-found, all-found}
 use Rattle.wm_state.proofs.Tests.{bool_apart, both, and_true, all_if}
 
@@ -39,18 +39,18 @@ ruled_spaces p rules =
 -- ---- by number
 
 -- a workspace and its record, by their number
-pub record IsSpace (p : Parts) (s : State) (n : ℕ) (r : Space) (w : Workspace) : Type 0 where
+pub record IsSpace (p : Parts) (s : Durable) (n : ℕ) (r : Space) (w : Workspace) : Type 0 where
   pub found : workspace_of s.spaces n ≡ Some w
   pub recorded : space_of p.spaces n ≡ Some r
   pub fields : fields_of r ≡ fields_in w
   pub number : w.number ≡ n
   pub record_number : r.number ≡ n
 
-pub record SpaceIs (p : Parts) (s : State) (n : ℕ) (r : Space) : Type 0 where
+pub record SpaceIs (p : Parts) (s : Durable) (n : ℕ) (r : Space) : Type 0 where
   pub workspace : Workspace
   pub is : IsSpace p s n r workspace
 
-pub record RecordIs (p : Parts) (s : State) (n : ℕ) (w : Workspace) : Type 0 where
+pub record RecordIs (p : Parts) (s : Durable) (n : ℕ) (w : Workspace) : Type 0 where
   pub recorded : Space
   pub is : IsSpace p s n recorded w
 
@@ -64,7 +64,7 @@ none_mapped : {A B : Type 0} (f : A → B) (o : Option A) → option_map f o ≡
 none_mapped f None e = refl
 none_mapped f (Some x) e = cc
 
-is_space_of : (p : Parts) (s : State) (n : ℕ) (r : Space) (w : Workspace) → SpacesStand p s → space_of p.spaces n ≡ Some r → workspace_of s.spaces n ≡ Some w → IsSpace p s n r w
+is_space_of : (p : Parts) (s : Durable) (n : ℕ) (r : Space) (w : Workspace) → SpacesStand p s → space_of p.spaces n ≡ Some r → workspace_of s.spaces n ≡ Some w → IsSpace p s n r w
 is_space_of p s n r w st recorded found = record {
   found = found;
   recorded = recorded;
@@ -74,7 +74,7 @@ is_space_of p s n r w st recorded found = record {
 }
 
 -- a record has its workspace
-pub space_there : (p : Parts) (s : State) (n : ℕ) (r : Space) → SpacesStand p s → space_of p.spaces n ≡ Some r → SpaceIs p s n r
+pub space_there : (p : Parts) (s : Durable) (n : ℕ) (r : Space) → SpacesStand p s → space_of p.spaces n ≡ Some r → SpaceIs p s n r
 space_there p s n r st recorded = by_workspace (workspace_of s.spaces n) refl
   where
     same : option_map fields_in (workspace_of s.spaces n) ≡ Some (fields_of r)
@@ -85,7 +85,7 @@ space_there p s n r st recorded = by_workspace (workspace_of s.spaces n) refl
     by_workspace (Some w) found = record { workspace = w; is = is_space_of p s n r w st recorded found }
 
 -- and a workspace its record
-pub record_there : (p : Parts) (s : State) (n : ℕ) (w : Workspace) → SpacesStand p s → workspace_of s.spaces n ≡ Some w → RecordIs p s n w
+pub record_there : (p : Parts) (s : Durable) (n : ℕ) (w : Workspace) → SpacesStand p s → workspace_of s.spaces n ≡ Some w → RecordIs p s n w
 record_there p s n w st found = by_record (space_of p.spaces n) refl
   where
     same : option_map fields_of (space_of p.spaces n) ≡ Some (fields_in w)
@@ -96,20 +96,20 @@ record_there p s n w st found = by_record (space_of p.spaces n) refl
     by_record (Some r) recorded = record { recorded = r; is = is_space_of p s n r w st recorded found }
 
 -- so it is where the records stand for the state
-pub space_is : (p : Parts) (s : State) (n : ℕ) (r : Space) → Stands p s → space_of p.spaces n ≡ Some r → SpaceIs p s n r
+pub space_is : (p : Parts) (s : Durable) (n : ℕ) (r : Space) → Stands p s → space_of p.spaces n ≡ Some r → SpaceIs p s n r
 space_is p s n r st recorded = space_there p s n r st.spaces recorded
 
-pub record_is : (p : Parts) (s : State) (n : ℕ) (w : Workspace) → Stands p s → workspace_of s.spaces n ≡ Some w → RecordIs p s n w
+pub record_is : (p : Parts) (s : Durable) (n : ℕ) (w : Workspace) → Stands p s → workspace_of s.spaces n ≡ Some w → RecordIs p s n w
 record_is p s n w st found = record_there p s n w st.spaces found
 
 -- there is no workspace where there is no record
-pub space_none : (p : Parts) (s : State) (n : ℕ) → Stands p s → space_of p.spaces n ≡ None → workspace_of s.spaces n ≡ None
+pub space_none : (p : Parts) (s : Durable) (n : ℕ) → Stands p s → space_of p.spaces n ≡ None → workspace_of s.spaces n ≡ None
 space_none p s n st none = none_mapped fields_in (workspace_of s.spaces n) (sym (st.spaces.same n) ∙ ap (option_map fields_of) none)
 
 -- ---- by name
 
 -- the record of a name is that of the workspace of the name
-pub record NamedSpace (p : Parts) (s : State) (name : List ℕ) (r : Space) : Type 0 where
+pub record NamedSpace (p : Parts) (s : Durable) (name : List ℕ) (r : Space) : Type 0 where
   pub workspace : Workspace
   pub named : workspace_named name s.spaces ≡ Some workspace
   pub is : IsSpace p s r.number r workspace
@@ -125,19 +125,19 @@ record_numbered : (p : Parts) (name : List ℕ) (r : Space) → keep_rules p ≡
 record_numbered p name r rules recorded =
     find-again (λ (q t : Space). q.number == t.number) (λ q. eq-eqb q.number q.number refl) (λ (q : Space). bytes_eq name q.name) p.spaces r (ruled_spaces p rules).numbers recorded
 
-workspace_numbered : (p : Parts) (s : State) (name : List ℕ) (w : Workspace) → Stands p s → workspace_named name s.spaces ≡ Some w → workspace_of s.spaces w.number ≡ Some w
+workspace_numbered : (p : Parts) (s : Durable) (name : List ℕ) (w : Workspace) → Stands p s → workspace_named name s.spaces ≡ Some w → workspace_of s.spaces w.number ≡ Some w
 workspace_numbered p s name w st named =
     find-again (λ (u v : Workspace). u.number == v.number) (λ v. eq-eqb v.number v.number refl) (λ (v : Workspace). bytes_eq name v.name) s.spaces w st.once.numbers named
 
 -- the record of a workspace of the name has the name, and is the one that the name finds
-record_named : (p : Parts) (s : State) (name : List ℕ) (r : Space) (w : Workspace) → Stands p s → workspace_named name s.spaces ≡ Some w → IsSpace p s w.number r w → find (λ (q : Space). bytes_eq name q.name) p.spaces ≡ Some r
+record_named : (p : Parts) (s : Durable) (name : List ℕ) (r : Space) (w : Workspace) → Stands p s → workspace_named name s.spaces ≡ Some w → IsSpace p s w.number r w → find (λ (q : Space). bytes_eq name q.name) p.spaces ≡ Some r
 record_named p s name r w st named is =
     find-else (λ (q : Space). bytes_eq name q.name) (λ (q : Space). q.number == w.number) (λ (q t : Space). bytes_eq q.name t.name)
     (λ q t one other. (bytes_eq-Decides q.name t.name).1 (sym ((bytes_eq-Decides name q.name).0 one) ∙ (bytes_eq-Decides name t.name).0 other))
     p.spaces r (ruled_spaces p st.rules).names is.recorded
     (ap (λ (f : SpaceFields). bytes_eq name f.name) is.fields ∙ find-passes (λ (v : Workspace). bytes_eq name v.name) s.spaces w named)
 
-pub named_space : (p : Parts) (s : State) (name : List ℕ) (r : Space) → Stands p s → find (λ (q : Space). bytes_eq name q.name) p.spaces ≡ Some r → NamedSpace p s name r
+pub named_space : (p : Parts) (s : Durable) (name : List ℕ) (r : Space) → Stands p s → find (λ (q : Space). bytes_eq name q.name) p.spaces ≡ Some r → NamedSpace p s name r
 named_space p s name r st recorded = by_name (space_is p s r.number r st (record_numbered p name r st.rules recorded)) (workspace_named name s.spaces) refl
   where
     by_name : SpaceIs p s r.number r → (o : Option Workspace) → workspace_named name s.spaces ≡ o → NamedSpace p s name r
@@ -153,21 +153,7 @@ named_space p s name r st recorded = by_name (space_is p s r.number r st (record
         let same : v ≡ x.workspace = some_workspace v x.workspace (sym y.is.found ∙ ap (workspace_of s.spaces) number ∙ x.is.found) in
         record { workspace = x.workspace; named = named ∙ ap Some same; is = x.is }
 
--- where no workspace has the name, no record has
-pub unnamed_there : (p : Parts) (s : State) (name : List ℕ) → keep_rules p ≡ true → SpacesStand p s → workspace_named name s.spaces ≡ None → find (λ (q : Space). bytes_eq name q.name) p.spaces ≡ None
-unnamed_there p s name rules st none = by_record (find (λ (q : Space). bytes_eq name q.name) p.spaces) refl
-  where
-    by_workspace : (r : Space) → find (λ (q : Space). bytes_eq name q.name) p.spaces ≡ Some r → SpaceIs p s r.number r → ⊥
-    by_workspace r recorded x =
-        let passes : bytes_eq name x.workspace.name ≡ true = ap (λ (f : SpaceFields). bytes_eq name f.name) (sym x.is.fields) ∙ find-passes (λ (q : Space). bytes_eq name q.name) p.spaces r recorded in
-        bool_apart (sym passes ∙ found-fails (λ (v : Workspace). v.number == r.number) (λ (v : Workspace). bytes_eq name v.name) s.spaces x.workspace x.is.found
-        (none-found (λ (v : Workspace). bytes_eq name v.name) s.spaces none))
-
-    by_record : (o : Option Space) → find (λ (q : Space). bytes_eq name q.name) p.spaces ≡ o → find (λ (q : Space). bytes_eq name q.name) p.spaces ≡ None
-    by_record None is = is
-    by_record (Some r) recorded = absurd (by_workspace r recorded (space_there p s r.number r st (record_numbered p name r rules recorded)))
-
-pub named_no_space : (p : Parts) (s : State) (name : List ℕ) → Stands p s → find (λ (q : Space). bytes_eq name q.name) p.spaces ≡ None → workspace_named name s.spaces ≡ None
+pub named_no_space : (p : Parts) (s : Durable) (name : List ℕ) → Stands p s → find (λ (q : Space). bytes_eq name q.name) p.spaces ≡ None → workspace_named name s.spaces ≡ None
 named_no_space p s name st none = by_name (workspace_named name s.spaces) refl
   where
     apart : (o : Option Space) (r : Space) → o ≡ None → o ≡ Some r → ⊥
@@ -218,7 +204,7 @@ next_least : (ws : List Workspace) (n : ℕ) → list_all (λ (w : Workspace). n
 next_least [] n all = zero_under n
 next_least (w ∷ ws) n all = let h = both (nat_lt w.number n) (list_all (λ (v : Workspace). nat_lt v.number n) ws) all in next_both w.number (next_space ws) n h.0 (next_least ws n h.1)
 
-pub next_space_there : (p : Parts) (s : State) → keep_rules p ≡ true → SpacesStand p s → OnceStand p s → next_space s.spaces ≡ space_after p.spaces
+pub next_space_there : (p : Parts) (s : Durable) → keep_rules p ≡ true → SpacesStand p s → OnceStand p s → next_space s.spaces ≡ space_after p.spaces
 next_space_there p s rules st once = one_number (next_space s.spaces) (space_after p.spaces) below above
   where
     below : nat_le (next_space s.spaces) (space_after p.spaces) ≡ true
@@ -235,7 +221,7 @@ next_space_there p s rules st once = one_number (next_space s.spaces) (space_aft
         ap (λ k. nat_lt k (next_space s.spaces)) (y.is.record_number ∙ sym y.is.number)
         ∙ (found-passes (λ (w : Workspace). w.number == n) (λ (w : Workspace). nat_lt w.number (next_space s.spaces)) s.spaces y.workspace y.is.found (workspaces_under s.spaces)).1))
 
-pub next_space_same : (p : Parts) (s : State) → Stands p s → next_space s.spaces ≡ space_after p.spaces
+pub next_space_same : (p : Parts) (s : Durable) → Stands p s → next_space s.spaces ≡ space_after p.spaces
 next_space_same p s st = next_space_there p s st.rules st.spaces st.once
 
 -- ---- the making of the next savepoint
@@ -256,11 +242,8 @@ next_greatest [] = refl
 next_greatest (w ∷ ws) =
     ap (λ k. max k (next_making ws)) (after_greatest w.savepoints) ∙ ap (max (greatest_kept w.savepoints + 1)) (next_greatest ws) ∙ more_both (greatest_kept w.savepoints) (greatest_in ws)
 
-pub next_making_there : (p : Parts) (s : State) → SavepointsStand p s → OnceStand p s → next_making s.spaces ≡ making_behind p.savepoints
+pub next_making_there : (p : Parts) (s : Durable) → SavepointsStand p s → OnceStand p s → next_making s.spaces ≡ making_behind p.savepoints
 next_making_there p s st once = next_greatest s.spaces ∙ ap (λ k. k + 1) (greatest_same p s st once.numbers) ∙ sym (behind_greatest p.savepoints)
-
-pub next_making_same : (p : Parts) (s : State) → Stands p s → next_making s.spaces ≡ making_behind p.savepoints
-next_making_same p s st = next_making_there p s st.savepoints st.once
 
 -- each record of a savepoint was made before
 pub makings_under : (xs : List Record) → list_all (λ (x : Record). nat_lt x.making (making_behind xs)) xs ≡ true

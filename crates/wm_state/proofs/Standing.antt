@@ -2,7 +2,7 @@
 use Rattle.std.proofs.Common.{◌≡◌, ℕ, true, refl, sym, ap, subst, ◌∙◌}
 use Rattle.wm_graph.specs.Parts.{Parts, row_of, space_of}
 use Rattle.wm_graph.specs.Rules.{keep_rules}
-use Rattle.wm_state.specs.State.{State, begin, content, workspace_of, savepoints_of, log_of}
+use Rattle.wm_state.specs.State.{Durable, content, workspace_of, savepoints_of, log_of}
 use Rattle.wm_tree.specs.Versions.{latest_in}
 use Rattle.wm_state.specs.Standing.{newest_first, Climbs, CountersStand, TablesStand, FieldsStand, Stands}
 use Rattle.wm_state.proofs.Frames.{Framed, KeepRows, fields_stand, OnceStand-same, HasRows-kept, SavepointsStand-same, KeptStand-framed, KeptOwnStand-framed, BasesStand-framed, RowsStand-framed, EndsStand-framed}
@@ -20,7 +20,7 @@ pub record Retabled (p q : Parts) : Type 0 where
   pub pieces : q.pieces ≡ p.pieces
   pub hists : q.hists ≡ p.hists
 
-framed_retabled : (p q : Parts) (s t : State) → Retabled p q → t.spaces ≡ s.spaces → Framed p q s t
+framed_retabled : (p q : Parts) (s t : Durable) → Retabled p q → t.spaces ≡ s.spaces → Framed p q s t
 framed_retabled p q s t r spaces = record {
   savepoints = r.savepoints;
   still = λ n w is. record { old = w; is = ap (λ ws. workspace_of ws n) (sym spaces) ∙ is; parent = refl; savepoints = refl; rebases = refl; at_birth = refl; base = refl };
@@ -34,7 +34,7 @@ framed_retabled p q s t r spaces = record {
 }
 
 -- the records agree with the state that they agreed with, but for tables and counters
-pub FieldsStand-retabled : (p q : Parts) (s t : State) → Retabled p q → FieldsStand p s → t.spaces ≡ s.spaces → TablesStand q t → CountersStand q t → FieldsStand q t
+pub FieldsStand-retabled : (p q : Parts) (s t : Durable) → Retabled p q → FieldsStand p s → t.spaces ≡ s.spaces → TablesStand q t → CountersStand q t → FieldsStand q t
 FieldsStand-retabled p q s t r st spaces tables counters = record {
   counters = counters;
   tables = tables;
@@ -43,7 +43,7 @@ FieldsStand-retabled p q s t r st spaces tables counters = record {
   savepoints = SavepointsStand-same p q s t r.savepoints (λ n. ap (λ ws. savepoints_of ws n) spaces) st.savepoints;
 }
 
-pub Stands-retabled : (p q : Parts) (s t : State) → Retabled p q → Stands p s → t.spaces ≡ s.spaces → TablesStand q t → CountersStand q t → keep_rules q ≡ true → Stands q t
+pub Stands-retabled : (p q : Parts) (s t : Durable) → Retabled p q → Stands p s → t.spaces ≡ s.spaces → TablesStand q t → CountersStand q t → keep_rules q ≡ true → Stands q t
 Stands-retabled p q s t r st spaces tables counters rules = record {
   rules = rules;
   counters = counters;
@@ -74,31 +74,3 @@ Stands-retabled p q s t r st spaces tables counters rules = record {
 
     logs : (n : ℕ) → log_of t.spaces n ≡ log_of s.spaces n
     logs n = ap (λ ws. log_of ws n) spaces
-
--- sessions and the moment stand in no record
-pub Stands-begin : (p : Parts) (s : State) (now : ℕ) → Stands p s → Stands p (begin s now)
-unfolding begin
-Stands-begin p s now st = record {
-  rules = st.rules;
-  counters = record {
-    counters = st.counters.counters;
-    one = st.counters.one;
-    next_stamp = st.counters.next_stamp;
-    last_moment = st.counters.last_moment;
-    limit = st.counters.limit;
-    work = st.counters.work;
-  };
-  tables = record { same = st.tables.same };
-  spaces = record { same = st.spaces.same };
-  once = record { numbers = st.once.numbers; count = st.once.count };
-  latest = record { told = st.latest.told };
-  own = record { covered = st.own.covered };
-  savepoints = record { same = st.savepoints.same };
-  kept = record { told = st.kept.told; base = st.kept.base };
-  kept_own = record { covered = st.kept_own.covered };
-  bases = record { birth = st.bases.birth; base = st.bases.base };
-  paths = record { latest = st.paths.latest; kept = st.paths.kept; births = st.paths.births; bases = st.paths.bases; kept_bases = st.paths.kept_bases };
-  ends = record { own = st.ends.own; kept = st.ends.kept };
-  rows = record { there = st.rows.there; births = st.rows.births; bases = st.rows.bases; saved = st.rows.saved; saved_bases = st.rows.saved_bases; logs = st.rows.logs };
-  hists = record { same = st.hists.same };
-}

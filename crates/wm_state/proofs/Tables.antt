@@ -6,7 +6,7 @@ use Rattle.wm_graph.specs.Parts.{Parts}
 use Rattle.wm_graph.specs.Rules.{keep_rules, are_counters, are_tables, is_table, are_versions, differ}
 use Rattle.wm_spec.specs.declared.record.counters.Counters.{Counters}
 use Rattle.wm_spec.specs.declared.record.table.Table.{Table}
-use Rattle.wm_state.specs.State.{State}
+use Rattle.wm_state.specs.State.{Durable}
 use Rattle.wm_state.specs.Standing.{by_number, place_table, CountersStand, TablesStand, FieldsStand, Stands}
 use Rattle.wm_state.proofs.Tests.{both, and_true, all_push, differ_push, none_if}
 use Rattle.wm_state.proofs.Apart.{Ruled, ruled, keeps_all}
@@ -147,16 +147,16 @@ keep-created p old new t may rules = keeps_all q new refl may.counters
     stamps = ap (λ (c : Counters). nat_le c.next_stamp new.next_stamp) (sym same) ∙ ap (nat_le old.next_stamp) may.stamps ∙ le_itself old.next_stamp
 
 -- the records agree with the state with the table
-tables_created : (p : Parts) (old new : Counters) (t : Table) (s u : State) → TablesStand p s → MayCreate p old new t → u.tables ≡ s.tables ++ t ∷ [] → TablesStand (created p new t) u
+tables_created : (p : Parts) (old new : Counters) (t : Table) (s u : Durable) → TablesStand p s → MayCreate p old new t → u.tables ≡ s.tables ++ t ∷ [] → TablesStand (created p new t) u
 tables_created p old new t s u st may tables = record { same = by_number-push p.tables t may.number ∙ ap (λ ts. ts ++ t ∷ []) st.same ∙ sym tables }
 
-pub FieldsStand-created : (p : Parts) (old new : Counters) (t : Table) (s u : State) → FieldsStand p s → MayCreate p old new t → u.spaces ≡ s.spaces → u.tables ≡ s.tables ++ t ∷ [] → CountersStand (created p new t) u
+pub FieldsStand-created : (p : Parts) (old new : Counters) (t : Table) (s u : Durable) → FieldsStand p s → MayCreate p old new t → u.spaces ≡ s.spaces → u.tables ≡ s.tables ++ t ∷ [] → CountersStand (created p new t) u
     → FieldsStand (created p new t) u
 FieldsStand-created p old new t s u st may spaces tables counters =
     FieldsStand-retabled p (created p new t) s u (record { spaces = refl; versions = refl; savepoints = refl; rows = refl; pieces = refl; hists = refl }) st spaces (tables_created p old new t s u st.tables may tables) counters
 
 -- and stand for it
-pub Stands-created : (p : Parts) (old new : Counters) (t : Table) (s u : State) → Stands p s → MayCreate p old new t → u.spaces ≡ s.spaces → u.tables ≡ s.tables ++ t ∷ [] → CountersStand (created p new t) u
+pub Stands-created : (p : Parts) (old new : Counters) (t : Table) (s u : Durable) → Stands p s → MayCreate p old new t → u.spaces ≡ s.spaces → u.tables ≡ s.tables ++ t ∷ [] → CountersStand (created p new t) u
     → Stands (created p new t) u
 Stands-created p old new t s u st may spaces tables counters =
     Stands-retabled p (created p new t) s u (record { spaces = refl; versions = refl; savepoints = refl; rows = refl; pieces = refl; hists = refl }) st spaces

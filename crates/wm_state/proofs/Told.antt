@@ -8,7 +8,7 @@ use Rattle.wm_base.specs.declared.value.Value.{Value}
 use Rattle.wm_graph.specs.Parts.{Parts, row_of}
 use Rattle.wm_spec.specs.Lists.{Entry}
 use Rattle.wm_spec.specs.declared.record.row.RowRecord.{RowRecord}
-use Rattle.wm_state.specs.State.{State, log_of}
+use Rattle.wm_state.specs.State.{Durable, log_of}
 use Rattle.wm_state.specs.Standing.{HasRow, Logged, logged_as, Stands}
 use Rattle.wm_state.proofs.Tests.{bool_apart}
 
@@ -50,7 +50,7 @@ lists_same {A = A} (x ∷ xs) (y ∷ ys) each = both_same (some_same x y (each 0
     both_same : x ≡ y → xs ≡ ys → (x ∷ xs) ≡ (y ∷ ys)
     both_same one rest = cc
 
-pub logs_told : (p : Parts) (s t : State) → Stands p s → Stands p t → (n : ℕ) → log_of s.spaces n ≡ log_of t.spaces n
+pub logs_told : (p : Parts) (s t : Durable) → Stands p s → Stands p t → (n : ℕ) → log_of s.spaces n ≡ log_of t.spaces n
 logs_told p s t st other n = lists_same (log_of s.spaces n) (log_of t.spaces n) each
   where
     by_entry : (i : ℕ) (a b : Option Entry) → slice_get (log_of s.spaces n) i ≡ a → slice_get (log_of t.spaces n) i ≡ b → option_map logged_as a ≡ option_map logged_as b → a ≡ b

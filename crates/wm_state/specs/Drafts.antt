@@ -1,5 +1,5 @@
--- What is asked of records before edits, which records edits may change and add, and what changes of records are to make of them.
-use Rattle.std.specs.Prelude.{ℕ, ◌≡◌, ◌≤◌, ◌+◌, ◌*◌, ◌==◌, ◌&&◌, ◌||◌, ◌⊎◌, not, nat_le, nat_lt, Bool, true, false, List, [], ◌∷◌, ◌++◌, map, length, Option, Some, None}
+-- What is asked of records before edits, and what changes of records are to make of them.
+use Rattle.std.specs.Prelude.{ℕ, ◌≡◌, ◌≤◌, ◌+◌, ◌*◌, ◌==◌, ◌&&◌, not, nat_le, nat_lt, Bool, true, false, List, [], ◌∷◌, ◌++◌, map, length, Option, Some, None}
 use Rattle.std.specs.List.{filter, find, list_all, list_any}
 use Rattle.std.specs.Option.{option_map_or}
 use Rattle.std.specs.Str.{bytes_eq}
@@ -8,13 +8,12 @@ use Rattle.wm_base.specs.declared.value.Value.{Value}
 use Rattle.wm_base.specs.declared.value.Value.TheVariants as values
 use Rattle.wm_graph.specs.Parts.{Parts, parts_of, space_of, table_of}
 use Rattle.wm_graph.specs.Rules.{is_short, is_table, keep_rules}
-use Rattle.wm_spec.specs.Lists.{Entry, is_of}
+use Rattle.wm_spec.specs.Lists.{Entry}
 use Rattle.wm_spec.specs.Records.{AreChanges, record_at}
 use Rattle.wm_spec.specs.declared.record.Record.{Record}
 use Rattle.wm_spec.specs.declared.record.Record.TheVariants as records
 use Rattle.wm_spec.specs.declared.record.batch.Change.{Change}
 use Rattle.wm_spec.specs.declared.record.counters.Counters.{Counters}
-use Rattle.wm_spec.specs.declared.record.piece.PieceRecord.{PieceRecord}
 use Rattle.wm_spec.specs.declared.record.row.RowRecord.{RowRecord}
 use Rattle.wm_spec.specs.declared.record.space.Space.{Space}
 use Rattle.wm_spec.specs.declared.record.stored.Stored.{Stored}
@@ -22,10 +21,10 @@ use Rattle.wm_spec.specs.declared.record.table.Table.{Table}
 use Rattle.wm_state.specs.ById.{applied}
 use Rattle.wm_state.specs.Drawing.{are_sorted}
 use Rattle.wm_state.specs.Editing.{counter_limit, drafted_by, entry_of, line_work, number_limit, stand_of}
-use Rattle.wm_state.specs.Entries.{AreStamped, entry_keys, is_well, rows_in}
+use Rattle.wm_state.specs.Entries.{AreStamped, entry_keys, is_well}
 use Rattle.wm_state.specs.Points.{HasRoom, Point, implicit_of, next_place_at, point_at}
-use Rattle.wm_state.specs.Standing.{FieldsStand, Stands, by_number, latest, space_after}
-use Rattle.wm_state.specs.State.{State, table_named}
+use Rattle.wm_state.specs.Standing.{FieldsStand, Stands, by_number, space_after}
+use Rattle.wm_state.specs.State.{Durable, table_named}
 use Rattle.wm_state.specs.declared.edit.Edit.{Edit}
 use Rattle.wm_state.specs.declared.edit.Edit.TheVariants as edits
 
@@ -124,63 +123,6 @@ CanEdit p m (edits.Append n entries) = CanAppend p n (map entry_of entries.items
 CanEdit p m (edits.Save n name) = CanSave p n name
 CanEdit p m (edits.Bear n at name) = CanBear p m n at name
 
--- ---- what an edit may change
-
--- the entry is of the piece's key, and has a moment of its period
-abbrev pub shares_moment : PieceRecord → Entry → Bool
-shares_moment x e = is_of x.cells.table x.cells.key e && (nat_lt e.from x.cells.till && nat_lt x.cells.from e.till)
-
--- one of the entries is so
-abbrev pub is_met : List Entry → PieceRecord → Bool
-is_met es x = list_any (shares_moment x) es
-
--- the edit may change the record or drop it: the counters, the table that it makes ready, its workspace, and the pieces of its entries'
--- keys that share a moment with one of these
-abbrev pub may_change : Edit → Record → Bool
-may_change e (records.Counters c) = true
-may_change (edits.Enable name valid history) (records.Table t) = bytes_eq name t.name
-may_change (edits.Append n entries) (records.Space w) = w.number == n
-may_change (edits.Append n entries) (records.Piece x) = is_met (map entry_of entries.items) x
-may_change (edits.Save n name) (records.Space w) = w.number == n
-may_change (edits.Bear n at name) (records.Space w) = w.number == n
-may_change e r = false
-
--- ---- what an edit may add
-
--- one of the entries is of the piece's key
-abbrev pub is_written : List Entry → PieceRecord → Bool
-is_written es x = list_any (is_of x.cells.table x.cells.key) es
-
--- the number is the one that the counters have for the next version
-abbrev pub is_next_version : Parts → ℕ → Bool
-is_next_version p number = list_any (λ (c : Counters). c.next_version == number) p.counters
-
--- one of the entries is of the piece's key and has its stamp
-abbrev pub is_said : List Entry → PieceRecord → Bool
-is_said es x = list_any (λ (e : Entry). is_of x.cells.table x.cells.key e && (e.stamp == x.stamp)) es
-
--- the edit may add the record: its table; of entries the rows, entries of the log of their workspace, pieces of their keys in its newest
--- version, and the next version with pieces that they say; its savepoint of the newest version of its workspace; the workspace that is
--- born, the savepoint of its parent at which it is born, and its version
-abbrev pub may_add : Parts → Edit → Record → Bool
-may_add p (edits.Create t) (records.Table u) = (u.number == t.number) && bytes_eq u.name t.name
-may_add p (edits.Append n entries) (records.Row r) = list_any (λ (x : RowRecord). (x.stamp == r.stamp) && (x.table == r.table)) (rows_in (map entry_of entries.items))
-may_add p (edits.Append n entries) (records.Hist h) = h.space == n
-may_add p (edits.Append n entries) (records.Piece x) = (is_written (map entry_of entries.items) x && (x.version == latest p n)) || (is_said (map entry_of entries.items) x && is_next_version p x.version)
-may_add p (edits.Append n entries) (records.Version v) = is_next_version p v.number && ((v.space == n) && (v.parent == latest p n))
-may_add p (edits.Save n name) (records.Savepoint k) = (k.space == n) && (bytes_eq k.name name && (k.version == latest p n))
-may_add p (edits.Bear n at name) (records.Savepoint k) = (k.space == n) && k.implicit
-may_add p (edits.Bear n at name) (records.Space x) = (x.number == space_after p.spaces) && ((x.parent == n) && bytes_eq x.name name)
-may_add p (edits.Bear n at name) (records.Version v) = is_next_version p v.number && (v.space == space_after p.spaces)
-may_add p e r = false
-
--- a record may take the place of another one: counters that of counters, and a table or a workspace that of its number
-abbrev pub takes_place : Record → Record → Bool
-takes_place (records.Counters c) (records.Counters d) = true
-takes_place (records.Table t) (records.Table u) = u.number == t.number
-takes_place (records.Space w) (records.Space x) = x.number == w.number
-takes_place q r = false
-
 -- ---- what is made of them
 
 -- the edit makes a savepoint, or a workspace and so a savepoint
@@ -214,19 +156,15 @@ pub record WorksOn (old new : Parts) (work : ℕ) : Type 0 where
   pub more : after.work ≡ before.work + work
 
 -- changes make of records what edits make of each state that they stand for, and of each state with which they agree in counters,
--- tables, workspaces and savepoints, with so much work: the rules stay kept, no id changes twice, each record that no edit may change
--- stays under its id, and so each row, with one edit each record that comes under an id which had none is one that it may add, and what
--- stands under an id that had one is this one or takes its place, each value that comes can be kept, without edits there are no changes,
--- and where all edits make savepoints or workspaces, there are six changes at most for each
+-- tables, workspaces and savepoints, with so much work: the rules stay kept, no id changes twice, each row stays under its id, each value
+-- that comes can be kept, without edits there are no changes, and where all edits make savepoints or workspaces, there are six changes at
+-- most for each
 pub record DraftsBy (work : ℕ) (rs : List Stored) (m : ℕ) (es : List Edit) (changes : List Change) : Type 0 where
   pub keeps : keep_rules (parts_of (applied changes rs)) ≡ true
   pub once : AreChanges changes
-  pub stands : (s : State) → Stands (parts_of rs) s → Stands (parts_of (applied changes rs)) (drafted_by work m es s)
-  pub fields : (s : State) → FieldsStand (parts_of rs) s → FieldsStand (parts_of (applied changes rs)) (drafted_by work m es s)
-  pub others : (id : ℕ) (r : Record) → record_at rs id ≡ Some r → list_any (λ (e : Edit). may_change e r) es ≡ false → record_at (applied changes rs) id ≡ Some r
+  pub stands : (s : Durable) → Stands (parts_of rs) s → Stands (parts_of (applied changes rs)) (drafted_by work m es s)
+  pub fields : (s : Durable) → FieldsStand (parts_of rs) s → FieldsStand (parts_of (applied changes rs)) (drafted_by work m es s)
   pub rows : (id : ℕ) (r : RowRecord) → record_at rs id ≡ Some (records.Row r) → record_at (applied changes rs) id ≡ Some (records.Row r)
-  pub added : (e : Edit) (id : ℕ) (r : Record) → es ≡ e ∷ [] → record_at rs id ≡ None → record_at (applied changes rs) id ≡ Some r → may_add (parts_of rs) e r ≡ true
-  pub placed : (e : Edit) (id : ℕ) (q r : Record) → es ≡ e ∷ [] → record_at rs id ≡ Some q → record_at (applied changes rs) id ≡ Some r → (r ≡ q) ⊎ (takes_place q r ≡ true)
   pub kept : list_all is_kept_change changes ≡ true
   pub counted : (es ≡ [] → ⊥) → WorksOn (parts_of rs) (parts_of (applied changes rs)) work
   pub nothing : es ≡ [] → changes ≡ []

@@ -10,7 +10,7 @@ use Rattle.wm_spec.specs.declared.record.table.Table.{Table}
 use Rattle.wm_state.specs.declared.edit.Edit.{Edit}
 use Rattle.wm_state.specs.declared.edit.Edit.TheVariants as edits
 use Rattle.wm_state.specs.declared.edit.NewEntry.{NewEntry}
-use Rattle.wm_state.specs.State.{State, Workspace, Savepoint, Stand, Latest, At, Readiness, kept, enabled, with_space, with_entries, with_savepoint, workspace_of, savepoint_made, table_named, next_making, next_space}
+use Rattle.wm_state.specs.State.{Durable, Workspace, Savepoint, Stand, Latest, At, Readiness, kept, enabled, with_space, with_entries, with_savepoint, workspace_of, savepoint_made, table_named, next_making, next_space}
 
 -- ---- what is counted
 
@@ -47,7 +47,7 @@ entry_of e = record {
 }
 
 -- the entries are in the workspace of this number, and their stamps are given
-abbrev pub written_all : ℕ → List Entry → State → State
+abbrev pub written_all : ℕ → List Entry → Durable → Durable
 written_all n es s = record s { spaces = with_space n (with_entries es) s.spaces; next_stamp = s.next_stamp + length es }
 
 -- ---- savepoints
@@ -76,11 +76,11 @@ place_behind w Latest = w.next_place + 1
 place_behind w (At making) = w.next_place
 
 -- the workspace of this number has a savepoint more
-abbrev pub saved : ℕ → ℕ → ℕ → Savepoint → State → State
+abbrev pub saved : ℕ → ℕ → ℕ → Savepoint → Durable → Durable
 saved n place implicit k s = record s { spaces = with_space n (with_savepoint place implicit k) s.spaces }
 
 -- what is newest in a workspace is kept under a name
-abbrev pub save_in : ℕ → List ℕ → State → Workspace → Option State
+abbrev pub save_in : ℕ → List ℕ → Durable → Workspace → Option Durable
 save_in m name s w = option_map (λ (k : Savepoint). saved w.number (w.next_place + 1) w.next_implicit k s) (saved_at m s.spaces w Latest name false)
 
 -- ---- workspaces
@@ -112,13 +112,13 @@ child_of m spaces w k name = record {
 }
 
 -- the state with a workspace more, born at a savepoint that is made for it
-abbrev pub born : ℕ → Workspace → Stand → List ℕ → Savepoint → State → State
+abbrev pub born : ℕ → Workspace → Stand → List ℕ → Savepoint → Durable → Durable
 born m w stand name k s =
     let t = saved w.number (place_behind w stand) (w.next_implicit + 1) k s in
     record t { spaces = t.spaces ++ child_of m s.spaces w k name ∷ [] }
 
 -- a workspace is born where one stands in another
-abbrev pub bear_in : ℕ → Stand → List ℕ → State → Workspace → Option State
+abbrev pub bear_in : ℕ → Stand → List ℕ → Durable → Workspace → Option Durable
 bear_in m stand name s w = option_map (λ (k : Savepoint). born m w stand name k s) (saved_at m s.spaces w stand (implicit_name w) true)
 
 -- ---- edits
@@ -129,12 +129,12 @@ stand_of None = Latest
 stand_of (Some making) = At making
 
 -- the table of a name becomes so ready for rows
-abbrev pub enable_named : Readiness → State → Table → State
+abbrev pub enable_named : Readiness → Durable → Table → Durable
 enable_named how s t = record s { tables = enabled t.number how s.tables }
 
 -- what an edit makes of a state at a moment; where the table that it makes ready, its workspace or its savepoint is not there, nothing,
 -- but entries are counted in the stamps even so
-abbrev pub edited : ℕ → Edit → State → State
+abbrev pub edited : ℕ → Edit → Durable → Durable
 edited m (edits.Create t) s = record s { tables = s.tables ++ t ∷ [] }
 edited m (edits.Enable name valid history) s = unwrap_or (option_map (enable_named (record { valid = valid; history = history }) s) (table_named name s.tables)) s
 edited m (edits.Append n entries) s = written_all n (map entry_of entries.items) s
@@ -142,15 +142,15 @@ edited m (edits.Save n name) s = unwrap_or (option_and_then (save_in m name s) (
 edited m (edits.Bear n at name) s = unwrap_or (option_and_then (bear_in m (stand_of at) name s) (workspace_of s.spaces n)) s
 
 -- and what edits make of it in their order
-abbrev pub all_edited : ℕ → List Edit → State → State
+abbrev pub all_edited : ℕ → List Edit → Durable → Durable
 all_edited m [] s = s
 all_edited m (e ∷ es) s = all_edited m es (edited m e s)
 
 -- the state once edits were made at a moment: if there are any, they are counted as so much work
-abbrev pub drafted_by : ℕ → ℕ → List Edit → State → State
+abbrev pub drafted_by : ℕ → ℕ → List Edit → Durable → Durable
 drafted_by work m [] s = s
 drafted_by work m (e ∷ es) s = record (all_edited m (e ∷ es) s) { last_moment = m; work = s.work + work }
 
 -- and once a line has made them
-abbrev pub drafted : ℕ → List Edit → State → State
+abbrev pub drafted : ℕ → List Edit → Durable → Durable
 drafted m es s = drafted_by line_work m es s

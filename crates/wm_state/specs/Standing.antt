@@ -25,7 +25,7 @@ use Rattle.wm_spec.specs.declared.record.version.Version.{Version}
 use Rattle.wm_tree.specs.Versions.{grow, latest_in}
 use Rattle.wm_tree.specs.declared.version.Version.{Version as Node}
 use Rattle.wm_spec.specs.declared.record.savepoint.Savepoint.{Savepoint as Record}
-use Rattle.wm_state.specs.State.{State, Workspace, Savepoint, content, kept, workspace_of, savepoint_made, savepoints_of, log_of}
+use Rattle.wm_state.specs.State.{Durable, Workspace, Savepoint, content, kept, workspace_of, savepoint_made, savepoints_of, log_of}
 
 -- ---- what versions hold
 
@@ -268,7 +268,7 @@ making_behind [] = 1
 making_behind (x ∷ xs) = max (x.making + 1) (making_behind xs)
 
 -- the one record of counters says what the state counts
-pub record CountersStand (p : Parts) (s : State) : Type 0 where
+pub record CountersStand (p : Parts) (s : Durable) : Type 0 where
   pub counters : Counters
   pub one : p.counters ≡ counters ∷ []
   pub next_stamp : counters.next_stamp ≡ s.next_stamp
@@ -277,52 +277,52 @@ pub record CountersStand (p : Parts) (s : State) : Type 0 where
   pub work : counters.work ≡ s.work
 
 -- the records of tables, by number, are the tables
-pub record TablesStand (p : Parts) (s : State) : Type 0 where
+pub record TablesStand (p : Parts) (s : Durable) : Type 0 where
   pub same : by_number p.tables ≡ s.tables
 
 -- each workspace has a record of its fields, and there is no other
-pub record SpacesStand (p : Parts) (s : State) : Type 0 where
+pub record SpacesStand (p : Parts) (s : Durable) : Type 0 where
   pub same : (n : ℕ) → option_map fields_of (space_of p.spaces n) ≡ option_map fields_in (workspace_of s.spaces n)
 
 -- each workspace is there once, and there are as many as records of them
-pub record OnceStand (p : Parts) (s : State) : Type 0 where
+pub record OnceStand (p : Parts) (s : Durable) : Type 0 where
   pub numbers : differ (λ (v w : Workspace). v.number == w.number) s.spaces ≡ true
   pub count : length p.spaces ≡ length s.spaces
 
 -- the newest version of a workspace holds at each cell what its content holds
-pub record LatestStand (p : Parts) (s : State) : Type 0 where
+pub record LatestStand (p : Parts) (s : Durable) : Type 0 where
   pub told : (n : ℕ) (w : Workspace) → workspace_of s.spaces n ≡ Some w → (c : Cell) → shown p n c ≡ option_map held_of (told (content w) c)
 
 -- what stands above the base of a workspace covers the cells of its own changes, and no others
-pub record OwnStand (p : Parts) (s : State) : Type 0 where
+pub record OwnStand (p : Parts) (s : Durable) : Type 0 where
   pub covered : (n : ℕ) (w : Workspace) (r : Space) → workspace_of s.spaces n ≡ Some w → space_of p.spaces n ≡ Some r → (c : Cell) → is_some (owned p r.base_version n c) ≡ touched w.lists.own c
 
 -- the records of the savepoints of each workspace, by making, have the fields of its savepoints
-pub record SavepointsStand (p : Parts) (s : State) : Type 0 where
+pub record SavepointsStand (p : Parts) (s : Durable) : Type 0 where
   pub same : (n : ℕ) → map saved_fields (saved_in p n) ≡ map fields_saved (savepoints_of s.spaces n)
 
 -- the version of a savepoint holds at each cell what stood there, and in a workspace with a parent the version under its own holds at
 -- each cell its copy of its parent's content there
-pub record KeptStand (p : Parts) (s : State) : Type 0 where
+pub record KeptStand (p : Parts) (s : Durable) : Type 0 where
   pub base : (n making : ℕ) (w : Workspace) (k : Savepoint) (x : Record) → 0 < n → workspace_of s.spaces n ≡ Some w → savepoint_made making w.savepoints ≡ Some k → saved_as p n making ≡ Some x
       → (c : Cell) → seen p x.base_version c ≡ option_map held_of (told k.base c)
   pub told : (n making : ℕ) (w : Workspace) (k : Savepoint) (x : Record) → workspace_of s.spaces n ≡ Some w → savepoint_made making w.savepoints ≡ Some k → saved_as p n making ≡ Some x
       → (c : Cell) → seen p x.version c ≡ option_map held_of (told (kept k) c)
 
 -- what stands above its base covers the cells of the workspace's own changes there, where the workspace was not rebased since
-pub record KeptOwnStand (p : Parts) (s : State) : Type 0 where
+pub record KeptOwnStand (p : Parts) (s : Durable) : Type 0 where
   pub covered : (n making : ℕ) (w : Workspace) (k : Savepoint) (x : Record) → workspace_of s.spaces n ≡ Some w → savepoint_made making w.savepoints ≡ Some k → saved_as p n making ≡ Some x
       → k.rebases ≡ w.rebases → (c : Cell) → is_some (seen_above p x.base_version x.version c) ≡ touched k.own c
 
 -- in a workspace with a parent, the versions that it was born from and that it sees under its own hold at each cell what it was born
 -- with, and its copy of its parent's content
-pub record BasesStand (p : Parts) (s : State) : Type 0 where
+pub record BasesStand (p : Parts) (s : Durable) : Type 0 where
   pub birth : (n : ℕ) (w : Workspace) (r : Space) → 0 < n → workspace_of s.spaces n ≡ Some w → space_of p.spaces n ≡ Some r → (c : Cell) → seen p r.birth_version c ≡ option_map held_of (told w.lists.at_birth c)
   pub base : (n : ℕ) (w : Workspace) (r : Space) → 0 < n → workspace_of s.spaces n ≡ Some w → space_of p.spaces n ≡ Some r → (c : Cell) → seen p r.base_version c ≡ option_map held_of (told w.lists.base c)
 
 -- the path of each version that is named leads up: of the newest one of a workspace, of those of its savepoints, and in a workspace with
 -- a parent of those that it was born from and that it and its savepoints see under their own, which are its parent's
-pub record PathsStand (p : Parts) (s : State) : Type 0 where
+pub record PathsStand (p : Parts) (s : Durable) : Type 0 where
   pub latest : (n : ℕ) (w : Workspace) → workspace_of s.spaces n ≡ Some w → Climbs p s.spaces (latest p n) n
   pub kept : (n making : ℕ) (w : Workspace) (x : Record) → workspace_of s.spaces n ≡ Some w → saved_as p n making ≡ Some x → Climbs p s.spaces x.version n
   pub births : (n : ℕ) (w : Workspace) (r : Space) → 0 < n → workspace_of s.spaces n ≡ Some w → space_of p.spaces n ≡ Some r → Climbs p s.spaces r.birth_version w.parent
@@ -331,7 +331,7 @@ pub record PathsStand (p : Parts) (s : State) : Type 0 where
 
 -- each piece that stands above the base of a workspace ends where its own changes do, and so it was at each savepoint of it, where it
 -- was not rebased since
-pub record EndsStand (p : Parts) (s : State) : Type 0 where
+pub record EndsStand (p : Parts) (s : Durable) : Type 0 where
   pub own : (n : ℕ) (w : Workspace) (r : Space) → workspace_of s.spaces n ≡ Some w → space_of p.spaces n ≡ Some r → have_ends p r.base_version (latest p n) w.lists.own ≡ true
   pub kept : (n making : ℕ) (w : Workspace) (k : Savepoint) (x : Record) → workspace_of s.spaces n ≡ Some w → savepoint_made making w.savepoints ≡ Some k → saved_as p n making ≡ Some x
       → k.rebases ≡ w.rebases → have_ends p x.base_version x.version k.own ≡ true
@@ -345,7 +345,7 @@ abbrev pub HasRow : Parts → Entry → Type 0
 HasRow p e = (row : Row) → e.row ≡ Some row → option_map (λ (r : RowRecord). r.values) (row_of p.rows e.stamp) ≡ Some row.values
 
 -- so it is of each list that a workspace or a savepoint has, and of each entry of a log
-pub record RowsStand (p : Parts) (s : State) : Type 0 where
+pub record RowsStand (p : Parts) (s : Durable) : Type 0 where
   pub there : (n : ℕ) (w : Workspace) → workspace_of s.spaces n ≡ Some w → HasRows p (content w)
   pub births : (n : ℕ) (w : Workspace) → workspace_of s.spaces n ≡ Some w → HasRows p w.lists.at_birth
   pub bases : (n : ℕ) (w : Workspace) → workspace_of s.spaces n ≡ Some w → HasRows p w.lists.base
@@ -354,11 +354,11 @@ pub record RowsStand (p : Parts) (s : State) : Type 0 where
   pub logs : (n : ℕ) → All (HasRow p) (log_of s.spaces n)
 
 -- each position of each workspace's log has a record of its entry, and there is no other
-pub record HistsStand (p : Parts) (s : State) : Type 0 where
+pub record HistsStand (p : Parts) (s : Durable) : Type 0 where
   pub same : (n position : ℕ) → option_map logged (hist_at p.hists n position) ≡ option_map logged_as (slice_get (log_of s.spaces n) position)
 
 -- the records agree with the state in counters, tables, workspaces and savepoints, whatever these hold
-pub record FieldsStand (p : Parts) (s : State) : Type 0 where
+pub record FieldsStand (p : Parts) (s : Durable) : Type 0 where
   pub counters : CountersStand p s
   pub tables : TablesStand p s
   pub spaces : SpacesStand p s
@@ -366,7 +366,7 @@ pub record FieldsStand (p : Parts) (s : State) : Type 0 where
   pub savepoints : SavepointsStand p s
 
 -- the records keep every rule and stand for the state
-pub record Stands (p : Parts) (s : State) : Type 0 where
+pub record Stands (p : Parts) (s : Durable) : Type 0 where
   pub rules : keep_rules p ≡ true
   pub counters : CountersStand p s
   pub tables : TablesStand p s

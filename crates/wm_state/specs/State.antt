@@ -60,17 +60,21 @@ pub record Session : Type 0 where
   pub stand : Stand
   pub period : Option Span
 
--- tables in the order of their making; workspaces by number; sessions in the order of CONNECT; next_stamp: the stamp that the
--- next change gets; limit: the greatest stamp that a change may get; last_moment: that of the last line that changed a
--- durable part; work: what these lines have counted; moment: now
-pub record State : Type 0 where
+-- the part of the state that a store keeps: tables in the order of their making; workspaces by number; next_stamp: the stamp that
+-- the next change gets; limit: the greatest stamp that a change may get; last_moment: that of the last line that changed something
+-- here; work: what these lines have counted
+pub record Durable : Type 0 where
   pub tables : List Table
   pub spaces : List Workspace
-  pub sessions : List Session
   pub next_stamp : ℕ
   pub last_moment : ℕ
   pub limit : ℕ
   pub work : ℕ
+
+-- sessions in the order of CONNECT; moment: now
+pub record State : Type 0 where
+  pub durable : Durable
+  pub sessions : List Session
   pub moment : ℕ
 
 -- what stands in a workspace
@@ -104,11 +108,15 @@ fresh_live = record {
 
 -- a store that takes this many changes, before its first line
 unfoldable pub fresh : ℕ → State
-fresh limit = record { tables = []; spaces = fresh_live ∷ []; sessions = []; next_stamp = 1; last_moment = 0; limit = limit; work = 0; moment = 0 }
+fresh limit = record {
+  durable = record { tables = []; spaces = fresh_live ∷ []; next_stamp = 1; last_moment = 0; limit = limit; work = 0 };
+  sessions = [];
+  moment = 0;
+}
 
 -- where a run begins at a moment: without sessions, and not before the last moment of the store
 unfoldable pub begin : State → ℕ → State
-begin s now = record s { sessions = []; moment = max now s.last_moment }
+begin s now = record { durable = s.durable; sessions = []; moment = max now s.durable.last_moment }
 
 -- ---- what is looked up
 

@@ -1,0 +1,12 @@
+mod Dropping
+mod DroppingAll
+mod Redrawing
+mod Following
+mod Drafting
+mod Putting
+mod Entering
+mod Placed
+mod Written
+mod Born
+mod Appended
+mod Sequenced

@@ -1,0 +1,4 @@
+pub mod Gone
+pub mod Redraw
+pub mod Points
+pub mod Drafting

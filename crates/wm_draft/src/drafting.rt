@@ -1,0 +1,98 @@
+//! What becomes of the records where a line makes its edits.
+ghost use Rattle.std.specs.Prelude.{◌≡◌, ◌≤◌, ◌∷◌, [], length, true, IfOk, OnOk};
+ghost use Rattle.wm_graph.specs.Parts.{parts_of};
+ghost use Rattle.wm_graph.specs.Rules.{keep_rules};
+ghost use Rattle.wm_state.specs.ById.{Ascend, applied};
+ghost use Rattle.wm_state.specs.Drafts.{CanDraft, CanEdit, CanWork, Drafts, DraftsBy};
+
+use crate::append::append;
+use crate::births::bear;
+use crate::copies::change_copies;
+use crate::followed::followed_by;
+use crate::saves::save;
+use crate::tables::{create, enable};
+use std::alloc::Global;
+use wm_base::Memory;
+use wm_image::Image;
+use wm_spec::record::{Batch, Changes};
+use wm_state::edit::{Edit, LINE_WORK};
+
+/// What an edit at a moment makes of the records, with so much work.
+fn draft_one(
+    alloc: Global,
+    image: &Image,
+    moment: u64,
+    work: u64,
+    edit: Edit,
+) -> Result<Changes, Memory>
+    requires rules { keep_rules (parts_of image.now) ≡ true }
+    requires work { CanWork (parts_of image.now) moment work }
+    requires can { CanEdit (parts_of image.now) moment edit }
+    ensures { IfOk result (DraftsBy work image.now moment (edit ∷ [])) }
+{
+    match edit {
+        Edit::Create(table) => create(alloc, image, moment, work, table),
+        Edit::Enable {
+            name,
+            valid,
+            history,
+        } => enable(alloc, image, moment, work, &name, valid, history),
+        Edit::Append { space, entries } => append(alloc, image, moment, work, space, entries),
+        Edit::Save { space, name } => save(alloc, image, moment, work, space, name),
+        Edit::Bear { parent, at, name } => bear(alloc, image, moment, work, parent, at, name),
+    }
+}
+
+/// What the edits of a line at a moment make of the records. The changes of all edits but the last are applied to the
+/// image, so that each is drafted of what the ones before it left. Each adds work, since the numbers of versions and the
+/// makings of savepoints are held to it: the first the line's work less 1 for each other one, each other one 1.
+fn draft_all(
+    alloc: Global,
+    image: &mut Image,
+    moment: u64,
+    edits: Vec<Edit>,
+) -> Result<Changes, Memory>
+    requires sorted { Ascend image.old }
+    requires rules { keep_rules (parts_of image.old) ≡ true }
+    requires can { CanDraft image.old moment edits.items }
+    ensures drafts { IfOk result (Drafts image.old moment edits.items) }
+    ensures rest { IfOk result (λ changes. applied changes image.new ≡ applied changes image.old) }
+    ensures one { length edits.items ≤ 1 → OnOk result (image.new ≡ image.old) }
+{
+    let mut edits = edits.into_iter();
+    let Some(first) = edits.next() else {
+        return Ok(Changes::new(alloc));
+    };
+    let work = LINE_WORK - edits.len() as u64;
+    let mut front = Changes::new(alloc);
+    let mut last = draft_one(alloc, image, moment, work, first)?;
+    for edit in edits {
+        let copies = change_copies(alloc, &last)?;
+        image.apply(alloc, Batch { changes: copies })?;
+        front = followed_by(alloc, front, last)?;
+        last = draft_one(alloc, image, moment, 1, edit)?;
+    }
+    let changes = followed_by(alloc, front, last)?;
+    Ok(changes)
+}
+
+/// What the edits of a line at a moment make of the records: of each state that they stand for, what the edits make of it
+/// in their order. Where there are several the image goes on to what all but the last one leave; then it is good for one
+/// thing, which is to apply the batch, and that makes of it what it makes of the records as they were. Where memory runs
+/// out the image is not to be used any more.
+pub fn draft(
+    alloc: Global,
+    image: &mut Image,
+    moment: u64,
+    edits: Vec<Edit>,
+) -> Result<Batch, Memory>
+    requires rules { keep_rules (parts_of image.old) ≡ true }
+    requires can { CanDraft image.old moment edits.items }
+    ensures drafts { IfOk result (λ batch. Drafts image.old moment edits.items batch.changes) }
+    ensures rest { IfOk result (λ batch. applied batch.changes image.new ≡ applied batch.changes image.old) }
+    ensures one { length edits.items ≤ 1 → OnOk result (image.new ≡ image.old) }
+{
+    image.law_of_order();
+    let changes = draft_all(alloc, image, moment, edits)?;
+    Ok(Batch { changes })
+}

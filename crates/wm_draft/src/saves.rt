@@ -1,0 +1,42 @@
+//! What is newest in a workspace is kept under a name.
+ghost use Rattle.std.specs.Prelude.{◌≡◌, ◌∷◌, [], true, IfOk};
+ghost use Rattle.wm_graph.specs.Parts.{parts_of};
+ghost use Rattle.wm_graph.specs.Rules.{keep_rules};
+ghost use Rattle.wm_state.specs.Drafts.{CanSave, CanWork, DraftsBy};
+ghost use Rattle.wm_state.specs.declared.edit.Edit.TheVariants as edits;
+
+use crate::changes::{marked, savepoint_changes};
+use crate::counts::moved;
+use crate::points::{made_at, newest_point};
+use std::alloc::Global;
+use wm_base::{Memory, Name};
+use wm_image::Image;
+use wm_spec::record::Changes;
+
+/// A savepoint of a name is made of what is newest in a workspace.
+pub fn save(
+    alloc: Global,
+    image: &Image,
+    moment: u64,
+    work: u64,
+    space: u32,
+    name: Name,
+) -> Result<Changes, Memory>
+    requires rules { keep_rules (parts_of image.now) ≡ true }
+    requires work { CanWork (parts_of image.now) moment work }
+    requires can { CanSave (parts_of image.now) space name }
+    ensures { IfOk result (DraftsBy work image.now moment (edits.Save space name ∷ [])) }
+{
+    let Some(id) = image.next_id() else {
+        return Err(Memory);
+    };
+    let old = image.space(space).unwrap();
+    let space_id = image.id_of_space(space).unwrap();
+    let point = newest_point(image, moment, old);
+    let savepoint = made_at(image, old, name, false, point);
+    let counters = moved(image.counters(), moment, work);
+    let new = marked(alloc, old.next_place + 1, old.next_implicit, old)?;
+    let counters_id = image.id_of_counters();
+    let changes = savepoint_changes(alloc, counters_id, counters, space_id, new, id, savepoint)?;
+    Ok(changes)
+}

@@ -1,0 +1,15 @@
+pub mod Sprouting
+pub mod Birth
+pub mod KeptSpaces
+pub mod KeepBorn
+pub mod PlannedBorn
+pub mod Births
+pub mod PlannedBirth
+pub mod Saving
+pub mod KeepSaved
+pub mod PlannedSaved
+pub mod Points
+pub mod FewChanged
+pub mod DraftedSaved
+pub mod DraftedBorn
+pub mod SavesNext

@@ -1,0 +1,48 @@
+//! Copies of tables.
+ghost use Rattle.std.specs.Prelude.{◌≡◌, IfOk};
+
+use std::alloc::Global;
+use wm_base::Memory;
+use wm_spec::record::{Table, TableColumn, TableColumns};
+
+/// A copy of a column.
+fn column_copy(alloc: Global, column: &TableColumn) -> Result<TableColumn, Memory>
+    ensures { IfOk result (λ new. new ≡ column.now) }
+{
+    let name = column.name.copy(alloc)?;
+    Ok(TableColumn {
+        name,
+        kind: column.kind,
+        size: column.size,
+        not_null: column.not_null,
+    })
+}
+
+/// A copy of some columns.
+fn column_copies(alloc: Global, columns: &TableColumns) -> Result<TableColumns, Memory>
+    ensures { IfOk result (λ new. new ≡ columns.now) }
+{
+    let mut copies = TableColumns::new(alloc);
+    for column in columns.as_slice() {
+        copies.push(column_copy(alloc, column)?)?;
+    }
+    Ok(copies)
+}
+
+/// A copy of a table.
+pub fn table_copy(alloc: Global, table: &Table) -> Result<Table, Memory>
+    ensures { IfOk result (λ new. new ≡ table.now) }
+{
+    let name = table.name.copy(alloc)?;
+    let columns = column_copies(alloc, &table.columns)?;
+    Ok(Table {
+        number: table.number,
+        name,
+        versioned: table.versioned,
+        valid: table.valid,
+        history: table.history,
+        has_key: table.has_key,
+        key_column: table.key_column,
+        columns,
+    })
+}

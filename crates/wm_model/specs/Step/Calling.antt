@@ -1,0 +1,67 @@
+-- Calls, by what is given for their parameters.
+use Rattle.std.specs.Prelude.{ℕ, List, [], Bool, false, not, if◌then◌else◌, unwrap_or, Option, None, Some, codes}
+use Rattle.std.specs.Str.{bytes_eq}
+use Rattle.wm_base.specs.declared.instant.TheConstants.{END}
+use Rattle.wm_base.specs.declared.tree.statement.Arg.{Arg}
+use Rattle.wm_grammar.specs.declared.procedure.Procedure.{Procedure}
+use Rattle.wm_grammar.specs.declared.procedure.Procedure.TheVariants as procedures
+use Rattle.wm_grammar.specs.declared.procedure.Parameter.TheVariants as parameters
+use Rattle.wm_calls.specs.Arguments.{text_given, moment_given, is_true_given}
+use Rattle.wm_calls.specs.Faults.{argument_fault}
+use Rattle.wm_reader.specs.Reading.{folded}
+use Rattle.wm_state.specs.State.{State, Session, Readiness}
+use Rattle.wm_print.specs.Texts.{Answer}
+use Rattle.wm_model.specs.Step.Refusing.{not_built, bad_name, reserved_name, unless_mistyped}
+use Rattle.wm_model.specs.Step.Naming.{is_name, names_no_workspace, latest, names_no_savepoint}
+use Rattle.wm_model.specs.Step.Tables.{enable}
+use Rattle.wm_model.specs.Step.Periods.{set_valid_time}
+use Rattle.wm_model.specs.Step.Rows.{taken}
+use Rattle.wm_model.specs.Step.Savepoints.{create_savepoint, goto_savepoint}
+use Rattle.wm_model.specs.Step.Workspaces.{create_workspace, goto_workspace}
+
+-- what is done with a text that is given for a parameter; else something is wrong with the arguments
+abbrev pub given : Option (List ℕ) → Option (List ℕ) → State → (List ℕ → State × Answer) → State × Answer
+given None fault s act = unless_mistyped fault s (s, not_built)
+given (Some text) fault s act = act text
+
+-- a name that is made is tested, then that it is no reserved one, and then the other arguments
+abbrev pub newly_named : List ℕ → Bool → Option (List ℕ) → State → State × Answer → State × Answer
+newly_named name taken fault s done = if not (is_name name) then (s, bad_name) else (if taken then (s, reserved_name name) else unless_mistyped fault s done)
+
+-- the word with which a table keeps its history
+abbrev pub keeps_history : Option (List ℕ) → Bool
+keeps_history None = false
+keeps_history (Some word) = bytes_eq (folded word) (codes "VIEW_WO_OVERWRITE")
+
+-- how the arguments ask for a table to become ready
+abbrev pub readiness_given : List Arg → Readiness
+readiness_given args = record {
+  valid = is_true_given procedures.EnableVersioning args parameters.ValidTime;
+  history = keeps_history (text_given procedures.EnableVersioning args parameters.Hist);
+}
+
+-- a call, by the arguments for its parameters and what is wrong with them
+abbrev pub call : Session → Option Procedure → List Arg → State → State × Answer
+call session (Some procedures.EnableVersioning) args s =
+    let fault = argument_fault procedures.EnableVersioning args in
+    given (text_given procedures.EnableVersioning args parameters.TableName) fault s
+    (λ name. enable (folded name) (readiness_given args) fault s)
+call session (Some procedures.CreateWorkspace) args s =
+    let fault = argument_fault procedures.CreateWorkspace args in
+    given (text_given procedures.CreateWorkspace args parameters.Workspace) fault s
+    (λ name. newly_named name (names_no_workspace name) fault s (create_workspace session name s))
+call session (Some procedures.CreateSavepoint) args s =
+    let fault = argument_fault procedures.CreateSavepoint args in
+    given (text_given procedures.CreateSavepoint args parameters.SavepointName) fault s
+    (λ name. newly_named name (names_no_savepoint name) fault s (create_savepoint (unwrap_or (text_given procedures.CreateSavepoint args parameters.Workspace) []) name s))
+call session (Some procedures.GotoWorkspace) args s =
+    let fault = argument_fault procedures.GotoWorkspace args in
+    unless_mistyped fault s (goto_workspace session (unwrap_or (text_given procedures.GotoWorkspace args parameters.Workspace) []) s)
+call session (Some procedures.GotoSavepoint) args s =
+    let fault = argument_fault procedures.GotoSavepoint args in
+    unless_mistyped fault s (goto_savepoint session (unwrap_or (text_given procedures.GotoSavepoint args parameters.SavepointName) latest) s)
+call session (Some procedures.SetValidTime) args s =
+    let fault = argument_fault procedures.SetValidTime args in
+    unless_mistyped fault s
+    (set_valid_time session (moment_given procedures.SetValidTime args parameters.ValidFrom) (unwrap_or (moment_given procedures.SetValidTime args parameters.ValidTill) END) s)
+call session _ args s = (s, not_built)

@@ -1,0 +1,14 @@
+-- What a line that changes something durable counts.
+use Rattle.std.specs.Prelude.{ℕ, ◌+◌, nat_lt, if◌then◌else◌, codes}
+use Rattle.wm_state.specs.State.{State}
+use Rattle.wm_state.specs.Editing.{counter_limit, line_work}
+use Rattle.wm_print.specs.Texts.{Answer}
+use Rattle.wm_model.specs.Step.Refusing.{at_its_end}
+
+-- a line that changes a durable part: it makes a log so long, sets the last moment and counts its work, unless a counter is
+-- at its end
+abbrev pub durably : State → ℕ → State × Answer → State × Answer
+durably s log done =
+    if nat_lt counter_limit log then (s, at_its_end (codes "LOG")) else
+    (if nat_lt counter_limit (s.durable.work + line_work) then (s, at_its_end (codes "WORK")) else
+    (record done.0 { durable = record done.0.durable { last_moment = s.moment; work = s.durable.work + line_work } }, done.1))

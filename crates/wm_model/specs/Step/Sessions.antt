@@ -1,0 +1,48 @@
+-- Who is connected, and the moment.
+use Rattle.std.specs.Prelude.{ℕ, ◌+◌, List, [], ◌∷◌, ◌++◌, not, ◌&&◌, nat_le, nat_lt, if◌then◌else◌, length, map, is_some, Option, None}
+use Rattle.std.specs.List.{filter}
+use Rattle.std.specs.Str.{bytes_eq}
+use Rattle.wm_base.specs.Period.{Span}
+use Rattle.wm_state.specs.State as state
+use Rattle.wm_state.specs.State.{State, Session, Latest}
+use Rattle.wm_print.specs.Texts.{Answer, Fine}
+use Rattle.wm_model.specs.Step.Refusing.{no_session, session_there, bad_name, moment_back, most_sessions}
+use Rattle.wm_model.specs.Step.Naming.{is_name, session_of}
+
+-- ---- sessions
+
+-- a session of this name is open no more
+abbrev pub closed : List ℕ → List Session → List Session
+closed name sessions = filter (λ (x : Session). not (bytes_eq name x.name)) sessions
+
+-- what is set of a session: where it stands; the period in which it sees and changes rows, which is what is left of time where there is none
+pub data Setting : Type 0 where
+  Stand : (space : ℕ) (stand : state.Stand) → Setting
+  Period : (period : Option Span) → Setting
+
+abbrev pub with_setting : Setting → Session → Session
+with_setting (Stand space stand) x = record x { space = space; stand = stand }
+with_setting (Period period) x = record x { period = period }
+
+-- it is set of a session of this name
+abbrev pub altered : List ℕ → Setting → List Session → List Session
+altered name setting sessions = map (λ (x : Session). if bytes_eq name x.name then with_setting setting x else x) sessions
+
+-- CONNECT opens a session, which stands in LIVE at what is newest, and for which no period is set
+abbrev pub connect : List ℕ → List ℕ → State → State × Answer
+connect name user s =
+    if is_some (session_of name s.sessions) then (s, session_there name) else
+    (if not (is_name name && is_name user) then (s, bad_name) else
+    (if nat_le 256 (length s.sessions) then (s, most_sessions) else
+    (record s { sessions = s.sessions ++ record { name = name; user = user; space = 0; stand = Latest; period = None } ∷ [] }, Fine)))
+
+-- DISCONNECT ends one
+abbrev pub disconnect : List ℕ → State → State × Answer
+disconnect name s =
+    if is_some (session_of name s.sessions) then (record s { sessions = closed name s.sessions }, Fine) else (s, no_session name)
+
+-- ---- the moment
+
+-- AT sets it, and never back; nothing durable changes
+abbrev pub set_moment : ℕ → State → State × Answer
+set_moment instant s = if nat_lt instant s.moment then (s, moment_back s.moment) else (record s { moment = instant }, Fine)

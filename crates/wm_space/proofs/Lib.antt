@@ -1,0 +1,5 @@
+pub mod Bearing
+pub mod Calling
+pub mod Creating
+pub mod Lengths
+pub mod Saving
