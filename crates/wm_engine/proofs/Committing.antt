@@ -1,5 +1,5 @@
 -- What a commit makes of the records that an engine keeps over its store.
-use Rattle.std.proofs.Common.{◌≡◌, ℕ, List, [], ◌⊎◌, inl, inr, ap, sym, ◌∙◌, refl}
+use Rattle.std.proofs.Common.{◌≡◌, ℕ, List, [], ◌⊎◌, inl, inr, ap, sym, ◌∙◌, refl, suc, true, false, ◌==◌, ◌∷◌, length, arith}
 use Rattle.wm_spec.specs.Records.{AreChanges, AfterBatch}
 use Rattle.wm_spec.specs.declared.record.batch.Change.{Change}
 use Rattle.wm_spec.specs.declared.record.stored.Stored.{Stored}
@@ -13,6 +13,7 @@ use Rattle.wm_store.specs.Stores.{IsStoreOf, OldOrAfter}
 use Rattle.wm_store.specs.declared.store.Store.{Store}
 use Rattle.wm_store.proofs.Distinct.{held_differ}
 use Rattle.wm_engine.specs.Working.{HoldsSorted, KeepsOver}
+use Rattle.std.proofs.lemmas.Bool.Decides.{nat_tests}
 
 -- what is said of a run of calls with less said of its files
 pub ended_weaken : (old new : History) (P Q : List ℕ → Type 0) → ((file : List ℕ) → P file → Q file) → Ended old new P → Ended old new Q
@@ -72,3 +73,15 @@ commit_works store after rs cs old new works once is held = by_made (held at.rec
 -- where nothing changes a call that did nothing is a commit
 pub nothing_ended : (store : Store) (rs : List Stored) (cs : List Change) (h : History) → KeepsOver store rs h → cs ≡ [] → Ended h h (λ file. HoldsSorted file rs ⊎ HoldsSorted file (applied cs rs))
 nothing_ended store rs cs h works none = ended_begun h (λ file. HoldsSorted file rs ⊎ HoldsSorted file (applied cs rs)) (holds_weaken h (λ file. HoldsSorted file rs) (λ file. HoldsSorted file rs ⊎ HoldsSorted file (applied cs rs)) (λ file held. inl held) works.holds)
+
+-- a list of no length is empty, and one of some length is not
+pub none_counted : {A : Type 0} (xs : List A) → true ≡ (length xs == 0) → xs ≡ []
+none_counted [] e = refl
+none_counted (x ∷ xs) e = absurd (more (length xs) e)
+  where
+    more : (n : ℕ) → true ≡ (suc n == 0) → ⊥
+    more n e = grind (arith, nat_tests, e)
+
+pub some_counted : {A : Type 0} (xs : List A) → false ≡ (length xs == 0) → xs ≡ [] → ⊥
+some_counted [] e none = absurd (let f : false ≡ true = e in cc)
+some_counted (x ∷ xs) e none = cc

@@ -1,16 +1,14 @@
 -- Records that keep the rules fit pages, where no text in them is empty.
-use Rattle.std.proofs.Common.{◌≡◌, ℕ, zero, suc, ◌≤◌, ◌+◌, ◌==◌, ◌&&◌, nat_le, nat_lt, Bool, true, false, List, [], ◌∷◌, length, Option, Some, None, is_some, unwrap_or, if◌then◌else◌, slice_get, refl, sym, ap, ◌∙◌, arith}
+use Rattle.std.proofs.Common.{◌≡◌, ℕ, suc, ◌≤◌, ◌+◌, ◌==◌, ◌&&◌, nat_le, nat_lt, Bool, true, false, List, [], ◌∷◌, length, Option, Some, None, is_some, slice_get, refl, sym, ap, ◌∙◌, arith}
 use Rattle.std.specs.List.{list_all, AllByRecursion}
-use Rattle.std.specs.Option.{option_and_then, option_map_or}
+use Rattle.std.specs.Option.{option_map_or}
 use Rattle.std.specs.Str.{bytes_eq}
 use Rattle.wm_base.specs.Value.{type_place, weight_of}
 use Rattle.wm_base.specs.declared.instant.TheConstants.{END}
 use Rattle.wm_base.specs.declared.value.Value.{Value}
 use Rattle.wm_base.specs.declared.value.Value.TheVariants.{Null, Num, Text, Time, Span}
-use Rattle.wm_dml.specs.Changing.{row_key}
 use Rattle.wm_graph.specs.Parts.{Parts, parts_of, as_hist, as_piece, as_row, as_savepoint, as_space, as_table, row_of, space_of, table_of, version_of}
 use Rattle.wm_graph.specs.Rules.{keep_rules, are_cells, are_savepoints, are_spaces, are_tables, collide, differ, fit_columns, fits_column, has_few, is_hist, is_key_of, is_light_key, is_piece, is_placed, is_row, is_row_of, is_savepoint, is_short, is_space, is_table, key_of, same_column, same_position, same_savepoint, type_of, weight}
-use Rattle.wm_making.specs.Rows.{is_filled}
 use Rattle.wm_spec.specs.Records.{record_at}
 use Rattle.wm_spec.specs.declared.record.Record.{Record}
 use Rattle.wm_spec.specs.declared.record.Record.TheVariants as records
@@ -242,18 +240,3 @@ record_fits ss id (records.Hist x) rules found kept =
     let g = ruled p rules in
     let test = is_hist (table_of p.tables) (space_of p.spaces) (row_of p.rows) g.counters.next_stamp in
     hist_in p g.counters.next_stamp x g.tables (one_of as_hist test ss id (records.Hist x) x found refl (both (differ same_position p.hists) (list_all test p.hists) g.hists).1) kept
-
--- ---- keys
-
--- the key of a row in which no text is empty is no empty text
-pub filled_key : (t : Table) (row : List Value) → list_all is_filled row ≡ true → list_all is_filled (row_key t row) ≡ true
-filled_key t row filled = by_place row t.key_column filled
-  where
-    alone : (v : Value) (b : Bool) → is_filled v ≡ true → list_all is_filled (unwrap_or (if b then Some (v ∷ []) else None) []) ≡ true
-    alone v true e = and_true (is_filled v) true e refl
-    alone v false e = refl
-
-    by_place : (vs : List Value) (i : ℕ) → list_all is_filled vs ≡ true → list_all is_filled (unwrap_or (option_and_then (λ v. if t.has_key then Some (v ∷ []) else None) (slice_get vs i)) []) ≡ true
-    by_place [] i e = refl
-    by_place (v ∷ vs) zero e = alone v t.has_key (both (is_filled v) (list_all is_filled vs) e).0
-    by_place (v ∷ vs) (suc i) e = by_place vs i (both (is_filled v) (list_all is_filled vs) e).1

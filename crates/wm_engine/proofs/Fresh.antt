@@ -123,7 +123,7 @@ counted limit some most = rw (one limit some, few limit most, next limit) refl
     next : (n : ℕ) → nat_le 1 (n + 1) ≡ true
     next n = grind (arith, nat_tests)
 
-pub fresh_stands : (limit : ℕ) → 1 ≤ limit → limit ≤ 1048576 → Stands (parts_of (by_id (fresh_records limit))) (fresh limit)
+pub fresh_stands : (limit : ℕ) → 1 ≤ limit → limit ≤ 1048576 → Stands (parts_of (by_id (fresh_records limit))) (fresh limit).durable
 unfolding parts_of fresh keep_rules
 fresh_stands limit some most = record {
   rules = rw (counted limit some most) refl;

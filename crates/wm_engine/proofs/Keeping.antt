@@ -1,21 +1,18 @@
 -- What a file stands for once a line was run over the records that it holds.
-use Rattle.std.proofs.Common.{◌≤◌, ◌+◌, ◌*◌, length, ◌≡◌, ℕ, true, List, [], ◌∷◌, ◌⊎◌, inl, inr, refl, sym, ap, subst, ◌∙◌, arith}
+use Rattle.std.proofs.Common.{◌≤◌, ◌+◌, length, ◌≡◌, ℕ, true, List, [], ◌∷◌, ◌⊎◌, inl, inr, refl, sym, ap, subst, ◌∙◌, arith}
 use Rattle.std.specs.List.{list_all}
 use Rattle.wm_graph.specs.Parts.{parts_of}
 use Rattle.wm_graph.specs.Rules.{keep_rules}
-use Rattle.wm_model.proofs.Doing.{stands_sessions}
-use Rattle.wm_model.proofs.Timing.{stands_moment}
 use Rattle.wm_model.specs.Planning.{StandsAt, DoesAt, Seating, seated}
 use Rattle.wm_print.specs.Texts.{Answer, answer_text}
 use Rattle.wm_spec.specs.declared.record.batch.Change.{Change}
 use Rattle.wm_spec.specs.declared.record.stored.Stored.{Stored}
 use Rattle.wm_state.specs.ById.{applied}
-use Rattle.wm_state.proofs.FewChanged.{forks_few}
+use Rattle.wm_forked.proofs.FewChanged.{forks_few}
 use Rattle.wm_state.specs.Drafts.{ChangesFew, Drafts, is_fork as is_fork_edit}
-use Rattle.wm_state.specs.Editing.{line_work}
-use Rattle.wm_state.specs.Editing.{drafted as drafted_state}
+use Rattle.wm_state.specs.Editing.{line_work, drafted as drafted_state}
 use Rattle.wm_state.specs.Standing.{Stands}
-use Rattle.wm_state.specs.State.{State, Session}
+use Rattle.wm_state.specs.State.{Durable, State, Session}
 use Rattle.wm_state.specs.declared.edit.Edit.{Edit}
 use Rattle.wm_station.specs.History.{History}
 use Rattle.wm_station.specs.Moments.{Ended}
@@ -50,12 +47,10 @@ ended_drafted rs m es changes old new drafts ended =
 
 -- records that were drafted for a plan stand for the state that the plan makes
 pub drafted_stands : (rs new : List Stored) (xs : List Session) (m : ℕ) (es : List Edit) (seating : Seating) (after : ℕ) (answer : Answer) (act : State → State × Answer) → DoesAt rs xs m es seating after answer act → AreDrafted rs m es new
-    → (s : State) → StandsAt rs xs m s → Stands (parts_of new) (act s).0
+    → (s : State) → StandsAt rs xs m s → Stands (parts_of new) (act s).0.durable
 drafted_stands rs new xs m es seating after answer act does drafted s st =
-    subst (λ (r : State × Answer). Stands (parts_of new) r.0) (sym (does.does s st))
-    (stands_moment (parts_of new) (record (drafted_state m es s) { sessions = seated s.sessions seating }) after
-    (stands_sessions (parts_of new) (drafted_state m es s) (seated s.sessions seating)
-    (subst (λ ss. Stands (parts_of ss) (drafted_state m es s)) (sym drafted.is) (drafted.drafts.stands s st.stands))))
+    subst (λ (r : State × Answer). Stands (parts_of new) r.0.durable) (sym (does.does s st))
+    (subst (λ ss. Stands (parts_of ss) (drafted_state m es s.durable)) (sym drafted.is) (drafted.drafts.stands s.durable st.stands))
 
 -- once a plan was kept the file stands for the state before it or after it
 pub kept_stands : (rs : List Stored) (xs : List Session) (m : ℕ) (es made : List Edit) (seating : Seating) (after : ℕ) (answer : Answer) (act : State → State × Answer) (old new : History) (s : State)
@@ -87,7 +82,7 @@ pub kept_same : (rs new : List Stored) (m : ℕ) (es : List Edit) → AreDrafted
 kept_same rs new m es drafted none = drafted.is ∙ ap (λ cs. applied cs rs) (drafted.drafts.nothing none)
 
 -- edits are counted as work, so a line that counts none makes none
-pub workless_edits : (m : ℕ) (es : List Edit) (s : State) → (drafted_state m es s).work ≡ s.work → es ≡ []
+pub workless_edits : (m : ℕ) (es : List Edit) (s : Durable) → (drafted_state m es s).work ≡ s.work → es ≡ []
 workless_edits m [] s same = refl
 workless_edits m (e ∷ es) s same = absurd (counts s.work same)
   where
@@ -96,9 +91,9 @@ workless_edits m (e ∷ es) s same = absurd (counts s.work same)
 
 -- so is a plan that does what a line does which counts none
 pub workless_plan : (rs : List Stored) (xs : List Session) (m : ℕ) (es made : List Edit) (seating : Seating) (after : ℕ) (answer : Answer) (act : State → State × Answer) → DoesAt rs xs m es seating after answer act → made ≡ es
-    → (s : State) → StandsAt rs xs m s → (act s).0.work ≡ s.work → made ≡ []
+    → (s : State) → StandsAt rs xs m s → (act s).0.durable.work ≡ s.durable.work → made ≡ []
 workless_plan rs xs m es made seating after answer act does same s st workless =
-    same ∙ workless_edits m es s (ap (λ (r : State × Answer). r.0.work) (sym (does.does s st)) ∙ workless)
+    same ∙ workless_edits m es s.durable (ap (λ (r : State × Answer). r.0.durable.work) (sym (does.does s st)) ∙ workless)
 
 -- savepoints and workspaces change few records
 pub kept_few : (rs new : List Stored) (m : ℕ) (es made : List Edit) → made ≡ es → AreDrafted rs m made new → (list_all is_fork_edit es ≡ true) × (length es ≤ 1) → ChangesFew rs new

@@ -10,7 +10,7 @@ use Rattle.wm_model.specs.Step.{run_line, run_parsed, timed_line}
 use Rattle.wm_spec.specs.declared.record.stored.Stored.{Stored}
 use Rattle.wm_state.specs.State.{State, Session}
 use Rattle.std.specs.Prelude.{Ok}
-use Rattle.wm_engine.specs.Forks.{is_fork_line}
+use Rattle.wm_engine.specs.ForkLines.{is_fork_line}
 
 -- a projection without an empty period
 projection_is : (p : Projection) → projection_has_empty p ≡ false → projection_lasts p ≡ true

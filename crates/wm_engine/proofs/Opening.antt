@@ -12,7 +12,6 @@ use Rattle.wm_spec.specs.Records.{AreRecords}
 use Rattle.wm_spec.specs.declared.record.counters.Counters.{Counters}
 use Rattle.wm_spec.specs.declared.record.stored.Stored.{Stored}
 use Rattle.wm_state.proofs.Apart.{ruled}
-use Rattle.wm_state.proofs.Standing.{Stands-begin}
 use Rattle.wm_state.specs.ById.{by_id}
 use Rattle.wm_state.specs.State.{State, begin}
 use Rattle.wm_state.specs.Standing.{Stands}
@@ -52,14 +51,15 @@ same_records file a b one two = ok_same (sym one.opens ∙ two.opens)
     ok_same : ◌≡◌ {A = Result (List Stored) (ℕ × Damage)} (Ok a) (Ok b) → a ≡ b
     ok_same e = cc
 
-pub opens_stand : (file : List ℕ) (records rs : List Stored) (m : ℕ) (s : State) → Held records file → rs ≡ by_id records → FileStands file s → Stands (parts_of rs) (begin s m)
+pub opens_stand : (file : List ℕ) (records rs : List Stored) (m : ℕ) (s : State) → Held records file → rs ≡ by_id records → FileStands file s → Stands (parts_of rs) (begin s m).durable
+unfolding begin
 opens_stand file records rs m s held same stands =
-    Stands-begin (parts_of rs) s m (subst (λ xs. Stands (parts_of xs) s) (ap by_id (same_records file stands.records records stands.held held) ∙ sym same) stands.stands)
+    subst (λ xs. Stands (parts_of xs) s.durable) (ap by_id (same_records file stands.records records stands.held held) ∙ sym same) stands.stands
 
 pub opens_at : (file : List ℕ) (records rs : List Stored) (c : Counters) (m : ℕ) (s : State) → Held records file → rs ≡ by_id records → (parts_of rs).counters ≡ c ∷ [] → FileStands file s → max m c.last_moment ≡ (begin s m).moment
 unfolding begin
 opens_at file records rs c m s held same one stands =
-    let st : Stands (parts_of rs) s = subst (λ xs. Stands (parts_of xs) s) (ap by_id (same_records file stands.records records stands.held held) ∙ sym same) stands.stands in
+    let st : Stands (parts_of rs) s.durable = subst (λ xs. Stands (parts_of xs) s.durable) (ap by_id (same_records file stands.records records stands.held held) ∙ sym same) stands.stands in
     ap (max m) (ap (λ (k : Counters). k.last_moment) (first_counters c st.counters.counters (sym one ∙ st.counters.one)) ∙ st.counters.last_moment)
 
 pub opens_none : (m : ℕ) (s : State) → [] ≡ (begin s m).sessions

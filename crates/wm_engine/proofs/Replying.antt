@@ -6,8 +6,8 @@ use Rattle.wm_spec.specs.declared.record.stored.Stored.{Stored}
 use Rattle.wm_state.specs.State.{Session}
 use Rattle.wm_store.specs.declared.store.Store.{Store}
 use Rattle.wm_print.specs.Texts.{Answer, Nothing, Fine, Done, Listing, Refused, answer_text}
-use Rattle.wm_engine.specs.Idle.{is_idle}
-use Rattle.wm_engine.specs.Views.{refusal_of}
+use Rattle.wm_plan.specs.Idle.{is_idle}
+use Rattle.wm_model.specs.Step.Refusing.{refusal_of}
 use Rattle.wm_engine.specs.Working.{Engaged}
 
 -- what an idle line leaves a refused one leaves

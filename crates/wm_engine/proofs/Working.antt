@@ -11,8 +11,8 @@ use Rattle.wm_engine.proofs.Committing.{holds_weaken}
 use Rattle.wm_engine.specs.Working.{Engaged, FileStands, HoldsSorted, StandsFor, WorksOver}
 
 -- a file that holds records stands for what they stand for
-pub file_stands : (file : List ℕ) (rs : List Stored) (s : State) → HoldsSorted file rs → Stands (parts_of rs) s → FileStands file s
-file_stands file rs s holds stands = record { records = holds.records; held = holds.held; stands = subst (λ xs. Stands (parts_of xs) s) holds.same stands }
+pub file_stands : (file : List ℕ) (rs : List Stored) (s : State) → HoldsSorted file rs → Stands (parts_of rs) s.durable → FileStands file s
+file_stands file rs s holds stands = record { records = holds.records; held = holds.held; stands = subst (λ xs. Stands (parts_of xs) s.durable) holds.same stands }
 
 -- what a read gives, and each file that a crash may leave, stands for what the engine stands for
 pub stands_over : (e : Engaged) (h : History) (s : State) → WorksOver e h → StandsFor e s → Holds h (λ file. FileStands file s)

@@ -32,11 +32,11 @@ pub record Engaged : Type 0 where
 pub record FileStands (file : List ℕ) (s : State) : Type 0 where
   pub records : List Stored
   pub held : Held records file
-  pub stands : Stands (parts_of (by_id records)) s
+  pub stands : Stands (parts_of (by_id records)) s.durable
 
 -- the engine's records stand for the state, and its sessions and its moment are the state's
 pub record StandsFor (e : Engaged) (s : State) : Type 0 where
-  pub stands : Stands (parts_of e.records) s
+  pub stands : Stands (parts_of e.records) s.durable
   pub sessions : e.sessions ≡ s.sessions
   pub moment : e.moment ≡ s.moment
 

@@ -4,11 +4,11 @@ ghost use Rattle.wm_base.specs.declared.fault.MakeFault.TheVariants as making;
 ghost use Rattle.wm_base.specs.declared.fault.OpenFault.TheVariants as opening;
 ghost use Rattle.wm_base.specs.declared.instant.TheConstants.{END};
 ghost use Rattle.wm_engine.specs.Cause.{LineCause};
-ghost use Rattle.wm_engine.specs.Forks.{is_fork};
-ghost use Rattle.wm_engine.specs.Idle.{is_idle};
-ghost use Rattle.wm_parser.specs.Parsed.{parsed};
+ghost use Rattle.wm_engine.specs.ForkLines.{is_fork};
+ghost use Rattle.wm_plan.specs.Idle.{is_idle};
+ghost use Rattle.wm_grammar.specs.Parsed.{parsed};
 ghost use Rattle.wm_engine.specs.Working.{FileStands, HoldsSorted, IsSound, LeavesAlone, StandsFor, WorksOver, Tells};
-ghost use Rattle.wm_engine.specs.Views.{refusal_of};
+ghost use Rattle.wm_model.specs.Step.Refusing.{refusal_of};
 ghost use Rattle.wm_engine.specs.declared.fault.LineFault.TheVariants as faults;
 ghost use Rattle.wm_state.specs.Drafts.{ChangesFew};
 ghost use Rattle.wm_state.specs.State.{State, begin, fresh};
@@ -23,14 +23,14 @@ ghost use Rattle.wm_graph.specs.Parts.{parts_of};
 ghost use Rattle.wm_graph.specs.Rules.{keep_rules};
 ghost use Rattle.wm_station.specs.Moments.{During, Ended, Holds};
 
-use crate::answer::Reply;
 use crate::fault::LineFault;
 use crate::keep::run_line;
-use crate::session::Session;
+use crate::reply::Reply;
 use std::alloc::Global;
 use std::marker::Model;
 use wm_base::{Damage, Instant, MakeFault, OpenFault};
 use wm_image::{Image, ImageFault};
+use wm_plan::session::Session;
 use wm_station::Station;
 use wm_store::Store;
 
@@ -156,8 +156,8 @@ impl Engine {
         // Such a line writes nothing, and syncs nothing.
         ensures unwritten { P.tells → (s : State) → StandsFor self.old s → is_idle (step s line.now).1 ≡ true → P.history station.new ≡ P.history station.old }
         // Nor does any line that counts no work change a record, write, or sync: one that moves a session or the moment alone.
-        ensures workless { (s : State) → StandsFor self.old s → (step s line.now).0.work ≡ s.work → OnOk result (self.new.records ≡ self.old.records) }
-        ensures workless_unwritten { P.tells → (s : State) → StandsFor self.old s → (step s line.now).0.work ≡ s.work → P.history station.new ≡ P.history station.old }
+        ensures workless { (s : State) → StandsFor self.old s → (step s line.now).0.durable.work ≡ s.durable.work → OnOk result (self.new.records ≡ self.old.records) }
+        ensures workless_unwritten { P.tells → (s : State) → StandsFor self.old s → (step s line.now).0.durable.work ≡ s.durable.work → P.history station.new ≡ P.history station.old }
         // A crash at any moment of the call, and a read after it, finds a file that stands for the state before the line or after it.
         ensures any_moment { P.tells → (s : State) → StandsFor self.old s → Ended (P.history station.old) (P.history station.new) (λ file. FileStands file s ⊎ FileStands file (step s line.now).0) }
         // Whatever the records stand for, the file stays a store whose records keep the rules, where the engine's do.

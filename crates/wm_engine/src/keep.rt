@@ -2,33 +2,35 @@
 ghost use Rattle.std.specs.Prelude.{◌≡◌, ◌<◌, ◌≤◌, ◌⊎◌, ℕ, List, [], true, OnOk, OnSome, IfOk, IfSome, IsErrOf};
 ghost use Rattle.wm_base.specs.declared.instant.TheConstants.{END};
 ghost use Rattle.wm_engine.specs.Cause.{LineCause};
-ghost use Rattle.wm_engine.specs.Forks.{is_fork};
-ghost use Rattle.wm_engine.specs.Idle.{is_idle};
+ghost use Rattle.wm_engine.specs.ForkLines.{is_fork};
+ghost use Rattle.wm_plan.specs.Idle.{is_idle};
 ghost use Rattle.wm_engine.specs.Keeping.{AreDrafted, HoldsDrafted};
 ghost use Rattle.wm_engine.specs.Working.{FileStands, HoldsSorted, IsSound, KeepsOver};
 ghost use Rattle.wm_engine.specs.declared.fault.LineFault.TheVariants as faults;
 ghost use Rattle.wm_graph.specs.Parts.{parts_of};
 ghost use Rattle.wm_graph.specs.Rules.{keep_rules};
-ghost use Rattle.wm_engine.specs.Views.{refusal_of, seating_view};
+ghost use Rattle.wm_plan.specs.Views.{seating_view};
+ghost use Rattle.wm_model.specs.Step.Refusing.{refusal_of};
 ghost use Rattle.wm_model.specs.Planning.{StandsAt, seated};
 ghost use Rattle.wm_model.specs.Step.{step, answer_text};
-ghost use Rattle.wm_parser.specs.Parsed.{parsed};
+ghost use Rattle.wm_grammar.specs.Parsed.{parsed};
 ghost use Rattle.wm_print.specs.Texts.{Refused};
 ghost use Rattle.wm_state.specs.Drafts.{CanDraft, ChangesFew};
 ghost use Rattle.wm_state.specs.State.{State};
 ghost use Rattle.wm_station.specs.Cause.{Rises};
 ghost use Rattle.wm_station.specs.Moments.{Ended};
 
-use crate::answer::Reply;
 use crate::commit::commit;
 use crate::fault::LineFault;
 use crate::plan::line::plan;
-use crate::planned::{Changed, Planned, Timed};
 use crate::print::reply_of;
-use crate::seating::seat;
-use crate::session::Session;
+use crate::reply::Reply;
 use std::alloc::Global;
+use wm_draft::draft;
 use wm_image::Image;
+use wm_plan::planned::{Changed, Planned, Timed};
+use wm_plan::seating::seat;
+use wm_plan::session::Session;
 use wm_station::Station;
 use wm_store::Store;
 
@@ -69,7 +71,7 @@ fn keep<P: Station>(
     let Changed { edits, seating } = changed;
     let mut image = image;
     // Where this or what follows fails, the image is not that of the file, and is given up.
-    let batch = image.draft(alloc, moment, edits)?;
+    let batch = draft(alloc, &mut image, moment, edits)?;
     commit(alloc, station, store, &batch)?;
     image.apply(alloc, batch)?;
     seat(sessions, seating)?;
@@ -102,8 +104,8 @@ pub fn run_line<P: Station>(
     // A line that is refused, that reads, that changes no row, or that says nothing does not touch the file, whatever the result.
     ensures unwritten { P.tells → (s : State) → StandsAt image sessions.old.items moment s → is_idle (step s line.now).1 ≡ true → P.history station.new ≡ P.history station.old }
     // Nor does one that counts no work.
-    ensures workless { IfOk result (λ k. (s : State) → StandsAt image sessions.old.items moment s → (step s line.now).0.work ≡ s.work → k.image ≡ image) }
-    ensures workless_unwritten { P.tells → (s : State) → StandsAt image sessions.old.items moment s → (step s line.now).0.work ≡ s.work → P.history station.new ≡ P.history station.old }
+    ensures workless { IfOk result (λ k. (s : State) → StandsAt image sessions.old.items moment s → (step s line.now).0.durable.work ≡ s.durable.work → k.image ≡ image) }
+    ensures workless_unwritten { P.tells → (s : State) → StandsAt image sessions.old.items moment s → (step s line.now).0.durable.work ≡ s.durable.work → P.history station.new ≡ P.history station.old }
     ensures works { P.tells → IfOk result (λ k. KeepsOver store.new k.image (P.history station.new)) }
     ensures any_moment { P.tells → (s : State) → StandsAt image sessions.old.items moment s → Ended (P.history station.old) (P.history station.new) (λ file. FileStands file s ⊎ FileStands file (step s line.now).0) }
     // Whatever the records stand for, the file stays a store whose records keep the rules.

@@ -1,20 +1,14 @@
 //! One line at a time: what it says is done, kept and answered.
 #![tactic(auto)]
 
-mod answer;
 mod commit;
 mod engine;
 mod fault;
 mod keep;
-mod names;
 mod plan;
-mod planned;
 mod print;
-mod refuse;
-mod seating;
-mod session;
-mod work;
+mod reply;
 
-pub use answer::Reply;
 pub use engine::Engine;
 pub use fault::LineFault;
+pub use reply::Reply;

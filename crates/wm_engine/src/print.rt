@@ -1,11 +1,13 @@
 //! The bytes of answers.
 ghost use Rattle.std.specs.Prelude.{◌≡◌, IfOk, codes};
 ghost use Rattle.wm_print.specs.Texts.{answer_text};
-ghost use Rattle.wm_engine.specs.Views.{answer_view, refusal_of};
+ghost use Rattle.wm_plan.specs.Views.{answer_view};
+ghost use Rattle.wm_model.specs.Step.Refusing.{refusal_of};
 
-use crate::answer::{Answer, Reply};
+use crate::reply::Reply;
 use std::alloc::Global;
 use wm_base::{Bytes, Memory};
+use wm_plan::answer::Answer;
 use wm_print::{print_done, print_refusal, print_rows};
 
 /// An answer written out.

@@ -10,12 +10,9 @@ use Rattle.wm_station.specs.History.{History, now, said, Leaves}
 use Rattle.wm_station.specs.Moments.{During, Holds}
 use Rattle.wm_station.proofs.Steps.{weaken, followed}
 use Rattle.wm_model.specs.Lines.{cap, ended_lines}
-use Rattle.wm_state.specs.ById.{by_id}
 use Rattle.wm_state.specs.State.{State, begin}
 use Rattle.wm_model.specs.Running.{transcript, after, Stopped}
-use Rattle.wm_state.proofs.Standing.{Stands-begin}
 use Rattle.wm_model.proofs.Running.{transcript-cap, after-cap, Stopped-cap, stopped_all, stopped_before, stopped_front}
-use Rattle.wm_graph.specs.Parts.{parts_of}
 use Rattle.wm_host.specs.Crash.{CrashOpens, CrashAnswers, CrashOfRun}
 use Rattle.wm_host.specs.Hosting.{Begins, Finishes, Halts}
 use Rattle.wm_host.specs.Script.{AnswersTaken}
@@ -140,7 +137,8 @@ takes_none limit script left same = record { taken = []; script_is = sym same; f
 
 -- sessions and the moment stand in no file
 file_begins : (file : List ℕ) (s : State) (moment : ℕ) → FileStands file s → FileStands file (begin s moment)
-file_begins file s moment stands = record { records = stands.records; held = stands.held; stands = Stands-begin (parts_of (by_id stands.records)) s moment stands.stands }
+unfolding begin
+file_begins file s moment stands = record { records = stands.records; held = stands.held; stands = stands.stands }
 
 -- nothing was said, and the file stands for the state at entry
 stands_before : (old : History) (s : State) (moment : ℕ) (ls : List (List ℕ)) (file after_it : List ℕ) → FileStands file s → after_it ≡ said old → CrashAnswers old (begin s moment) ls file after_it

@@ -1,5 +1,5 @@
 -- What CreateWorkspace does to each state that the records stand for.
-use Rattle.std.proofs.Common.{◌≡◌, ℕ, ◌+◌, ◌++◌, ◌==◌, nat_lt, nat_le, Bool, true, false, List, [], ◌∷◌, length, Option, Some, None, unwrap_or, is_some, if◌then◌else◌, refl, sym, ap, subst, ◌∙◌, codes}
+use Rattle.std.proofs.Common.{◌≡◌, ℕ, ◌+◌, ◌++◌, ◌==◌, nat_lt, nat_le, Bool, true, false, List, [], ◌∷◌, length, Option, Some, None, unwrap_or, is_some, refl, sym, ap, subst, ◌∙◌, codes}
 use Rattle.std.specs.Fmt.{decimal}
 use Rattle.std.specs.List.{find, count_by}
 use Rattle.std.specs.Option.{option_and_then, option_map}
@@ -23,7 +23,7 @@ use Rattle.wm_forked.proofs.Points.{place_same, name_taken, name_free, few_same,
 use Rattle.wm_state.proofs.Spaces.{IsSpace, space_is, space_none, named_space, named_no_space, next_space_same}
 use Rattle.wm_model.specs.Planning.{StandsAt, Does, Stay}
 use Rattle.wm_model.specs.Saving.{BearsIn, BearsRoomy, MayBearIn}
-use Rattle.wm_model.specs.Step.{create_workspace, bear, born, implicit_name, implicit_front, place_behind, saved_at, durably, is_name, names_no_workspace, workspace_there, not_built, savepoint_there, most_workspaces, most_savepoints, at_its_end, number_limit, counter_limit, line_work}
+use Rattle.wm_model.specs.Step.{create_workspace, bear, bearing_faults, counting_faults, first_fault, unless, born, implicit_name, implicit_front, place_behind, saved_at, durably, is_name, names_no_workspace, workspace_there, not_built, savepoint_there, most_workspaces, most_savepoints, at_its_end, number_limit, counter_limit, line_work}
 use Rattle.wm_model.proofs.Doing.{does_nothing, does_edit, spent_at, not_spent_at}
 use Rattle.wm_model.proofs.SavingLine.{name_short}
 
@@ -44,10 +44,7 @@ bear_homeless rs xs m session name rules good plain new none =
 
 -- what is done with it
 abbrev body : Session → List ℕ → State → Workspace → State × Answer
-body session name s w =
-    if is_some (savepoint_named (implicit_name w) w.savepoints) then (s, savepoint_there (implicit_name w)) else
-    (if nat_le 1024 (length s.durable.spaces) then (s, most_workspaces) else
-    (if nat_le 4096 (length w.savepoints) then (s, most_savepoints) else bear session.stand name s w))
+body session name s w = unless (first_fault (bearing_faults session.stand s w)) s (bear session.stand name s w)
 
 -- it is the record's
 record IsHome (rs : List Stored) (s : State) (session : Session) (name : List ℕ) (a : Space) : Type 0 where
@@ -103,9 +100,12 @@ bear_crowded rs xs m session name a bears new few full =
 
 -- ---- the counts
 
--- there is room for both
+-- what is done where there is room for both
+abbrev counted : Stand → List ℕ → State → Workspace → State × Answer
+counted stand name s w = unless (first_fault (counting_faults stand s w)) s (bear stand name s w)
+
 roomy : (rs : List Stored) (s : State) (session : Session) (name : List ℕ) (a : Space) (h : IsHome rs s session name a) → Stands (parts_of rs) s.durable → BearsRoomy rs session name a
-    → create_workspace session name s ≡ bear session.stand name s h.workspace
+    → create_workspace session name s ≡ counted session.stand name s h.workspace
 roomy rs s session name a h st may =
     h.runs
     ∙ rw (free_so rs s session name a h st may.room.new, spaces_so (parts_of rs) s.durable false st may.few, few_same (parts_of rs) s.durable a h.workspace false st h.is may.room.few) refl
@@ -149,12 +149,12 @@ bear_numberless rs xs m session name a may places implicits much =
 
 -- nothing is at its end, and there is no savepoint where it stands
 nowhere : (stand : Stand) (name : List ℕ) (s : State) (w : Workspace) → nat_lt number_limit (place_behind w stand) ≡ false → nat_lt number_limit (w.next_implicit + 1) ≡ false → nat_lt number_limit (next_space s.durable.spaces) ≡ false
-    → saved_at s.moment s.durable.spaces w stand (implicit_name w) true ≡ None → bear stand name s w ≡ (s, not_built)
+    → saved_at s.moment s.durable.spaces w stand (implicit_name w) true ≡ None → counted stand name s w ≡ (s, not_built)
 nowhere stand name s w places implicits numbers none = rw (places, implicits, numbers, none) refl
 
 -- or one is made
 somewhere : (stand : Stand) (name : List ℕ) (s : State) (w : Workspace) (k : Savepoint) → nat_lt number_limit (place_behind w stand) ≡ false → nat_lt number_limit (w.next_implicit + 1) ≡ false
-    → nat_lt number_limit (next_space s.durable.spaces) ≡ false → saved_at s.moment s.durable.spaces w stand (implicit_name w) true ≡ Some k → bear stand name s w ≡ durably s 0 (record s { durable = born s.moment w stand name k s.durable }, Fine)
+    → nat_lt number_limit (next_space s.durable.spaces) ≡ false → saved_at s.moment s.durable.spaces w stand (implicit_name w) true ≡ Some k → counted stand name s w ≡ durably s 0 (record s { durable = born s.moment w stand name k s.durable }, Fine)
 somewhere stand name s w k places implicits numbers some = rw (places, implicits, numbers, some) refl
 
 pub bear_nowhere : (rs : List Stored) (xs : List Session) (m : ℕ) (session : Session) (name : List ℕ) (a : Space) → MayBearIn rs session name a → point_at (parts_of rs) a m session.stand ≡ None

@@ -14,8 +14,9 @@ use Rattle.wm_state.specs.Standing.{saved_in}
 use Rattle.wm_state.specs.State.{State, Session, Workspace, Stand, Latest, At, workspace_named}
 use Rattle.wm_state.proofs.SavedAs.{named_some, named_none}
 use Rattle.wm_state.proofs.Spaces.{named_space, named_no_space}
-use Rattle.wm_model.specs.Step.{run_for, run_statement, session_of, goto_workspace, goto_savepoint, latest, moved_to, no_workspace, no_savepoint, not_built}
-use Rattle.wm_model.specs.Planning.{StandsAt, Does, Seating, Stay, Move}
+use Rattle.wm_model.specs.Step.{run_for, run_statement, session_of, goto_workspace, goto_savepoint, latest, altered, no_workspace, no_savepoint, not_built}
+use Rattle.wm_model.specs.Planning.{StandsAt, Does, Seating, Stay, Set}
+use Rattle.wm_model.specs.Step.Sessions as settings
 use Rattle.wm_model.proofs.Doing.{does_nothing, does_seat}
 use Rattle.wm_model.proofs.Homes.{home_is, home_none}
 
@@ -36,16 +37,16 @@ run_some rs xs m name session statement es seating answer some does =
 
 -- the session stands there
 abbrev standing : Session → State → ℕ → Stand → State × Answer
-standing session s space stand = (record s { sessions = moved_to session.name space stand s.sessions }, Fine)
+standing session s space stand = (record s { sessions = altered session.name (settings.Stand space stand) s.sessions }, Fine)
 
 pub goto_no_space : (rs : List Stored) (xs : List Session) (m : ℕ) (session : Session) (name : List ℕ) → keep_rules (parts_of rs) ≡ true → ((s : State) → StandsAt rs xs m s → workspace_named name s.durable.spaces ≡ None)
     → Does rs xs m [] Stay (no_workspace name) (goto_workspace session name)
 goto_no_space rs xs m session name rules none = does_nothing rs xs m (no_workspace name) (goto_workspace session name) (λ s st. rw (none s st) refl)
 
 pub does_goto_workspace : (rs : List Stored) (xs : List Session) (m : ℕ) (session : Session) (name : List ℕ) (n : ℕ) → keep_rules (parts_of rs) ≡ true
-    → ((s : State) → StandsAt rs xs m s → (w : Workspace) × (workspace_named name s.durable.spaces ≡ Some w) × (w.number ≡ n)) → Does rs xs m [] (Move session.name n Latest) Fine (goto_workspace session name)
+    → ((s : State) → StandsAt rs xs m s → (w : Workspace) × (workspace_named name s.durable.spaces ≡ Some w) × (w.number ≡ n)) → Does rs xs m [] (Set session.name (settings.Stand n Latest)) Fine (goto_workspace session name)
 does_goto_workspace rs xs m session name n rules some =
-    does_seat rs xs m (Move session.name n Latest) Fine (goto_workspace session name)
+    does_seat rs xs m (Set session.name (settings.Stand n Latest)) Fine (goto_workspace session name)
     (λ s st. let r = some s st in rw r.1 (ap (λ a. standing session s a Latest) r.2))
 
 -- as the records say
@@ -54,7 +55,7 @@ pub goto_unnamed_space : (rs : List Stored) (xs : List Session) (m : ℕ) (sessi
 goto_unnamed_space rs xs m session name rules none = goto_no_space rs xs m session name rules (λ s st. named_no_space (parts_of rs) s.durable name st.stands none)
 
 pub does_goto_named_space : (rs : List Stored) (xs : List Session) (m : ℕ) (session : Session) (name : List ℕ) (r : Space) → keep_rules (parts_of rs) ≡ true → find (λ (q : Space). bytes_eq name q.name) (parts_of rs).spaces ≡ Some r
-    → Does rs xs m [] (Move session.name r.number Latest) Fine (goto_workspace session name)
+    → Does rs xs m [] (Set session.name (settings.Stand r.number Latest)) Fine (goto_workspace session name)
 does_goto_named_space rs xs m session name r rules some =
     does_goto_workspace rs xs m session name r.number rules (λ s st. let x = named_space (parts_of rs) s.durable name r st.stands some in (x.workspace, x.named, x.is.number))
 
@@ -67,9 +68,9 @@ goto_homeless rs xs m session name rules none = does_nothing rs xs m not_built (
 
 -- what is newest
 pub does_goto_latest : (rs : List Stored) (xs : List Session) (m : ℕ) (session : Session) (name : List ℕ) (r : Space) → keep_rules (parts_of rs) ≡ true → space_of (parts_of rs).spaces session.space ≡ Some r
-    → bytes_eq name latest ≡ true → Does rs xs m [] (Move session.name session.space Latest) Fine (goto_savepoint session name)
+    → bytes_eq name latest ≡ true → Does rs xs m [] (Set session.name (settings.Stand session.space Latest)) Fine (goto_savepoint session name)
 does_goto_latest rs xs m session name r rules found is =
-    does_seat rs xs m (Move session.name session.space Latest) Fine (goto_savepoint session name) (λ s st. rw ((home_is rs xs m s session.space r st found).is, is) refl)
+    does_seat rs xs m (Set session.name (settings.Stand session.space Latest)) Fine (goto_savepoint session name) (λ s st. rw ((home_is rs xs m s session.space r st found).is, is) refl)
 
 -- no savepoint of the workspace has the name
 pub goto_no_savepoint : (rs : List Stored) (xs : List Session) (m : ℕ) (session : Session) (name : List ℕ) (r : Space) → keep_rules (parts_of rs) ≡ true → space_of (parts_of rs).spaces session.space ≡ Some r
@@ -81,9 +82,9 @@ goto_no_savepoint rs xs m session name r rules found other none =
 -- the savepoint of the name
 pub does_goto_savepoint : (rs : List Stored) (xs : List Session) (m : ℕ) (session : Session) (name : List ℕ) (r : Space) (x : Saved) → keep_rules (parts_of rs) ≡ true → space_of (parts_of rs).spaces session.space ≡ Some r
     → bytes_eq name latest ≡ false → find (λ (y : Saved). bytes_eq name y.name) (saved_in (parts_of rs) session.space) ≡ Some x
-    → Does rs xs m [] (Move session.name session.space (At x.making)) Fine (goto_savepoint session name)
+    → Does rs xs m [] (Set session.name (settings.Stand session.space (At x.making))) Fine (goto_savepoint session name)
 does_goto_savepoint rs xs m session name r x rules found other some =
-    does_seat rs xs m (Move session.name session.space (At x.making)) Fine (goto_savepoint session name)
+    does_seat rs xs m (Set session.name (settings.Stand session.space (At x.making))) Fine (goto_savepoint session name)
     (λ s st.
     let h = home_is rs xs m s session.space r st found in
     let k = named_some (parts_of rs) s.durable session.space h.space st.stands h.is name x some in

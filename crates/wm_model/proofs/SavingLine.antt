@@ -1,5 +1,5 @@
 -- What CreateSavepoint does to each state that the records stand for.
-use Rattle.std.proofs.Common.{◌≡◌, ℕ, ◌+◌, ◌==◌, ◌&&◌, nat_lt, nat_le, Bool, true, false, List, [], ◌∷◌, length, Option, Some, None, unwrap_or, is_some, if◌then◌else◌, refl, sym, ap, ◌∙◌, codes}
+use Rattle.std.proofs.Common.{◌≡◌, ℕ, ◌+◌, ◌==◌, ◌&&◌, nat_lt, nat_le, Bool, true, false, List, [], ◌∷◌, length, Option, Some, None, unwrap_or, refl, sym, ap, ◌∙◌, codes}
 use Rattle.std.proofs.lemmas.Bool.{eq-eqb}
 use Rattle.std.specs.List.{find, count_by, list_all}
 use Rattle.std.specs.Option.{option_and_then}
@@ -15,7 +15,7 @@ use Rattle.wm_spec.specs.declared.record.stored.Stored.{Stored}
 use Rattle.wm_state.specs.Editing.{save_in}
 use Rattle.wm_state.specs.Points.{HasRoom}
 use Rattle.wm_state.specs.Standing.{SpaceFields, saved_in}
-use Rattle.wm_state.specs.State.{Durable, State, Session, Workspace, savepoint_named}
+use Rattle.wm_state.specs.State.{Durable, State, Session, Workspace}
 use Rattle.wm_state.specs.declared.edit.Edit.TheVariants as edits
 use Rattle.wm_state.proofs.Mapped.{find-again}
 use Rattle.wm_forked.proofs.Points.{name_taken, name_free, few_same}
@@ -23,7 +23,7 @@ use Rattle.wm_state.proofs.Spaces.{IsSpace, NamedSpace, ruled_spaces, named_spac
 use Rattle.wm_state.proofs.Tests.{both}
 use Rattle.wm_model.specs.Planning.{StandsAt, Does, Stay}
 use Rattle.wm_model.specs.Saving.{SavesIn, MaySaveIn}
-use Rattle.wm_model.specs.Step.{create_savepoint, save, durably, is_name, names_no_savepoint, no_workspace, savepoint_there, most_savepoints, at_its_end, number_limit, counter_limit, line_work}
+use Rattle.wm_model.specs.Step.{create_savepoint, save, saving_faults, first_fault, unless, durably, is_name, names_no_savepoint, no_workspace, savepoint_there, most_savepoints, at_its_end, number_limit, counter_limit, line_work}
 use Rattle.wm_model.proofs.Doing.{does_nothing, does_edit, spent_at, not_spent_at}
 
 -- ---- refusals
@@ -37,10 +37,7 @@ save_homeless rs xs m workspace name rules good plain none =
 
 -- what is done with the workspace
 abbrev body : List ℕ → State → Workspace → State × Answer
-body name s w =
-    if is_some (savepoint_named name w.savepoints) then (s, savepoint_there name) else
-    (if nat_le 4096 (length w.savepoints) then (s, most_savepoints) else
-    (if nat_lt number_limit (w.next_place + 1) then (s, at_its_end (codes "PLACE")) else save name s w))
+body name s w = unless (first_fault (saving_faults name w)) s (save name s w)
 
 -- the workspace of the name
 home : (rs : List Stored) (xs : List Session) (m : ℕ) (workspace name : List ℕ) (a : Space) (s : State) → SavesIn rs workspace name a → StandsAt rs xs m s → NamedSpace (parts_of rs) s.durable workspace a

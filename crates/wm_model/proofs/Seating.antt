@@ -6,7 +6,8 @@ use Rattle.wm_print.specs.Texts.{Fine}
 use Rattle.wm_spec.specs.declared.record.stored.Stored.{Stored}
 use Rattle.wm_state.specs.State.{State, Session, Latest}
 use Rattle.wm_model.specs.Step.{connect, disconnect, empty_period, set_period, set_valid_time, run_for, session_of, is_name, session_there, no_session, bad_name, most_sessions}
-use Rattle.wm_model.specs.Planning.{StandsAt, Does, Stay, Open, Close, Limit}
+use Rattle.wm_model.specs.Planning.{StandsAt, Does, Stay, Open, Close, Set}
+use Rattle.wm_model.specs.Step.Sessions as settings
 use Rattle.wm_model.proofs.Doing.{does_nothing, does_seat}
 use Rattle.wm_base.specs.Trees.{Statement}
 
@@ -45,9 +46,9 @@ does_disconnect rs xs m name rules there = does_seat rs xs m (Close name) Fine (
 
 -- no period is set any more
 pub does_unset : (rs : List Stored) (xs : List Session) (m : ℕ) (session : Session) (from : Option ℕ) (till : ℕ) → keep_rules (parts_of rs) ≡ true → from ≡ None
-    → Does rs xs m [] (Limit session.name None) Fine (set_valid_time session from till)
+    → Does rs xs m [] (Set session.name (settings.Period None)) Fine (set_valid_time session from till)
 does_unset rs xs m session from till rules none =
-    does_seat rs xs m (Limit session.name None) Fine (set_valid_time session from till) (λ s st. ap (λ o. set_valid_time session o till s) none)
+    does_seat rs xs m (Set session.name (settings.Period None)) Fine (set_valid_time session from till) (λ s st. ap (λ o. set_valid_time session o till s) none)
 
 -- the period would be empty
 pub sets_empty : (rs : List Stored) (xs : List Session) (m : ℕ) (session : Session) (given : Option ℕ) (from till : ℕ) → keep_rules (parts_of rs) ≡ true → given ≡ Some from → nat_lt from till ≡ false
@@ -60,9 +61,9 @@ sets_empty rs xs m session given from till rules is empty =
 
 -- it is set
 pub does_set : (rs : List Stored) (xs : List Session) (m : ℕ) (session : Session) (given : Option ℕ) (from till : ℕ) → keep_rules (parts_of rs) ≡ true → given ≡ Some from → nat_lt from till ≡ true
-    → Does rs xs m [] (Limit session.name (Some (record { from = from; till = till }))) Fine (set_valid_time session given till)
+    → Does rs xs m [] (Set session.name (settings.Period (Some (record { from = from; till = till })))) Fine (set_valid_time session given till)
 does_set rs xs m session given from till rules is lasts =
-    does_seat rs xs m (Limit session.name (Some (record { from = from; till = till }))) Fine (set_valid_time session given till)
+    does_seat rs xs m (Set session.name (settings.Period (Some (record { from = from; till = till })))) Fine (set_valid_time session given till)
     (λ s st. ap (λ o. set_valid_time session o till s) is ∙ set s)
   where
     set : (s : State) → set_valid_time session (Some from) till s ≡ set_period session (Some (record { from = from; till = till })) s

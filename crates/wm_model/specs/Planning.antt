@@ -1,14 +1,13 @@
 -- What a plan over the records of a store says that a line does and answers.
 use Rattle.std.specs.Prelude.{◌≡◌, ℕ, List, [], ◌∷◌, ◌++◌, Option}
 use Rattle.std.specs.Option.{option_map_or}
-use Rattle.wm_base.specs.Period.{Span}
 use Rattle.wm_graph.specs.Parts.{Parts, parts_of}
 use Rattle.wm_print.specs.Texts.{Answer}
 use Rattle.wm_spec.specs.declared.record.stored.Stored.{Stored}
 use Rattle.wm_state.specs.Drafts.{CanDraft}
 use Rattle.wm_state.specs.Editing.{drafted}
 use Rattle.wm_state.specs.State.{State, Session, Stand, Latest, At, table_named}
-use Rattle.wm_model.specs.Step.{closed, moved_to, limited}
+use Rattle.wm_model.specs.Step.{Setting, closed, altered}
 use Rattle.wm_state.specs.Standing.{Stands, by_number, latest, saved_as}
 use Rattle.wm_spec.specs.declared.record.savepoint.Savepoint.{Savepoint}
 use Rattle.wm_spec.specs.declared.record.table.Table.{Table}
@@ -20,20 +19,18 @@ pub record StandsAt (records : List Stored) (sessions : List Session) (moment : 
   pub sessions_are : sessions ≡ s.sessions
   pub moment_is : moment ≡ s.moment
 
--- what becomes of the sessions: nothing, one is opened, those of a name are closed, stand elsewhere, or have another period
+-- what becomes of the sessions: nothing, one is opened, those of a name are closed, or something is set of them
 pub data Seating : Type 0 where
   Stay : Seating
   Open : (session : Session) → Seating
   Close : (name : List ℕ) → Seating
-  Move : (name : List ℕ) (space : ℕ) (stand : Stand) → Seating
-  Limit : (name : List ℕ) (period : Option Span) → Seating
+  Set : (name : List ℕ) (setting : Setting) → Seating
 
 abbrev pub seated : List Session → Seating → List Session
 seated sessions Stay = sessions
 seated sessions (Open x) = sessions ++ x ∷ []
 seated sessions (Close name) = closed name sessions
-seated sessions (Move name space stand) = moved_to name space stand sessions
-seated sessions (Limit name period) = limited name period sessions
+seated sessions (Set name setting) = altered name setting sessions
 
 -- the state with what a plan makes of it at a moment: its edits, what becomes of the sessions, and the moment behind it
 abbrev pub planned : ℕ → ℕ → List Edit → Seating → State → State

@@ -2,29 +2,30 @@
 ghost use Rattle.std.specs.Prelude.{◌≡◌, ◌<◌, ◌≤◌, length, true, IfOk, Ok as Read};
 ghost use Rattle.wm_base.specs.declared.instant.TheConstants.{END};
 ghost use Rattle.wm_base.specs.Views.{line_view};
-ghost use Rattle.wm_engine.specs.Forks.{AreForks, is_fork, is_fork_line};
-ghost use Rattle.wm_engine.specs.Idle.{Idles, StaysAt};
-ghost use Rattle.wm_engine.specs.Planning.{DoesTimed};
+ghost use Rattle.wm_plan.specs.Forks.{AreForks};
+ghost use Rattle.wm_engine.specs.ForkLines.{is_fork, is_fork_line};
+ghost use Rattle.wm_plan.specs.Idle.{Idles, StaysAt};
+ghost use Rattle.wm_plan.specs.Planning.{DoesTimed};
 ghost use Rattle.wm_engine.specs.Timely.{IsTimely};
 ghost use Rattle.wm_graph.specs.Parts.{parts_of};
 ghost use Rattle.wm_graph.specs.Rules.{keep_rules};
 ghost use Rattle.wm_model.specs.Step.{run_line, run_parsed, step, timed_line};
-ghost use Rattle.wm_parser.specs.Parsed.{parsed};
+ghost use Rattle.wm_grammar.specs.Parsed.{parsed};
 
-use crate::answer::Answer;
-use crate::plan::at::at_moment;
-use crate::plan::connect::{connect, disconnect};
 use crate::plan::statement::run;
-use crate::planned::Timed;
-use crate::refuse::{bad_literal, no_text, not_built, syntax, too_long_line};
-use crate::session::Session;
 use std::alloc::Global;
 use wm_base::tree::line::Line;
 use wm_base::{Instant, Memory};
 use wm_calls::is_later;
 use wm_image::Image;
 use wm_parser::{ParseFault, discard, parse};
+use wm_plan::answer::Answer;
+use wm_plan::planned::Timed;
+use wm_plan::refuse::{bad_literal, no_text, not_built, syntax, too_long_line};
+use wm_plan::session::Session;
 use wm_reader::{is_remark, is_text};
+use wm_space::at::at_moment;
+use wm_space::connect::{connect, disconnect};
 use wm_timed::set_moment;
 
 /// The most bytes that a line may have.

@@ -1,40 +1,42 @@
 //! A statement of a session.
-ghost use Rattle.std.specs.Prelude.{◌≡◌, ◌<◌, ℕ, List, true, IfOk};
+ghost use Rattle.std.specs.Prelude.{◌≡◌, ◌<◌, true, IfOk};
 ghost use Rattle.wm_base.specs.declared.instant.TheConstants.{END};
 ghost use Rattle.wm_base.specs.Views.{statement_view};
-ghost use Rattle.wm_engine.specs.Forks.{AreForks, forks};
-ghost use Rattle.wm_engine.specs.Idle.{Idles};
-ghost use Rattle.wm_engine.specs.Planning.{DoesIt};
+ghost use Rattle.wm_plan.specs.Forks.{AreForks};
+ghost use Rattle.wm_engine.specs.ForkLines.{forks};
+ghost use Rattle.wm_plan.specs.Idle.{Idles};
+ghost use Rattle.wm_plan.specs.Planning.{DoesIt};
 ghost use Rattle.wm_graph.specs.Parts.{parts_of};
 ghost use Rattle.wm_graph.specs.Rules.{keep_rules};
 ghost use Rattle.wm_model.specs.Step.{run_for, run_statement, session_of};
-ghost use Rattle.wm_state.specs.State.{Session as SessionState};
 
 use crate::plan::call::call;
-use crate::plan::change::{delete, update};
-use crate::plan::create::create;
-use crate::plan::insert::insert;
-use crate::plan::select::select;
-use crate::planned::Planned;
-use crate::refuse::no_session;
-use crate::session::{Session, session_named};
 use std::alloc::Global;
 use wm_base::tree::statement::Statement;
 use wm_base::{Memory, Name};
 use wm_calls::has_empty_period;
+use wm_change::change::{delete, update};
+use wm_change::insert::insert;
 use wm_image::Image;
+use wm_plan::given::Given;
+use wm_plan::planned::Planned;
+use wm_plan::refuse::no_session;
+use wm_plan::session::{Session, session_named};
+use wm_space::create::create;
+use wm_views::select::select;
 
 /// What a statement does and answers.
 fn run_statement(
     alloc: Global,
     image: &Image,
+    sessions: &[Session],
     moment: u64,
     session: &Session,
     statement: &Statement,
 ) -> Result<Planned, Memory>
     requires rules { keep_rules (parts_of image.now) ≡ true }
     requires moment { moment < END }
-    ensures does { IfOk result (λ p. (xs : List SessionState) → DoesIt image.now xs moment p (run_statement session.now (statement_view statement.now))) }
+    ensures does { IfOk result (λ p. DoesIt image.now sessions.now moment p (run_statement session.now (statement_view statement.now))) }
     ensures idle { IfOk result Idles }
     // A savepoint or a workspace is made by such an edit alone.
     ensures few { forks (statement_view statement.now) ≡ true → IfOk result AreForks }
@@ -77,8 +79,12 @@ fn run_statement(
         Statement::Call {
             procedure,
             args,
-            ..
-        } => call(alloc, image, moment, session, procedure, args.as_slice()),
+            condition,
+        } => {
+            let args = args.as_slice();
+            let given = Given { args, condition };
+            call(alloc, image, sessions, moment, session, procedure, given)
+        }
     }
 }
 
@@ -100,5 +106,5 @@ pub fn run(
     let Some(session) = session_named(sessions, name) else {
         return Ok(Planned::answered(alloc, no_session(name.copy(alloc)?)));
     };
-    run_statement(alloc, image, moment, session, statement)
+    run_statement(alloc, image, sessions, moment, session, statement)
 }

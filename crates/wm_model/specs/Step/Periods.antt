@@ -6,7 +6,8 @@ use Rattle.wm_spec.specs.declared.record.table.Table.{Table}
 use Rattle.wm_state.specs.State.{State, Session}
 use Rattle.wm_print.specs.Texts.{Answer, Fine}
 use Rattle.wm_model.specs.Step.Refusing.{empty_period}
-use Rattle.wm_model.specs.Step.Sessions.{limited}
+use Rattle.wm_model.specs.Step.Sessions as settings
+use Rattle.wm_model.specs.Step.Sessions.{altered}
 
 -- the period in which a session sees rows of a table and changes them: all of time where the table has no valid time, and else the one
 -- that is set for the session, or what is left of time
@@ -15,7 +16,7 @@ within moment session table = if table.valid then unwrap_or session.period (reco
 
 -- SetValidTime sets the period, or sets none
 abbrev pub set_period : Session → Option Span → State → State × Answer
-set_period session period s = (record s { sessions = limited session.name period s.sessions }, Fine)
+set_period session period s = (record s { sessions = altered session.name (settings.Period period) s.sessions }, Fine)
 
 -- from a moment to another
 abbrev pub set_valid_time : Session → Option ℕ → ℕ → State → State × Answer

@@ -1,5 +1,5 @@
 -- What is refused, and what is done behind a refusal.
-use Rattle.std.specs.Prelude.{ℕ, List, Bool, if◌then◌else◌, Option, None, Some}
+use Rattle.std.specs.Prelude.{ℕ, List, [], ◌∷◌, Bool, if◌then◌else◌, Option, None, Some}
 use Rattle.wm_base.specs.Period.{Span}
 use Rattle.wm_base.specs.declared.value.Value.{Value}
 use Rattle.wm_base.specs.declared.refusal.Refusal.TheVariants.{Form, Limit}
@@ -10,7 +10,7 @@ use Rattle.wm_base.specs.declared.refusal.CellRefusal.TheVariants.{Wm060, Wm064,
 use Rattle.wm_base.specs.declared.refusal.LimitRefusal.TheVariants.{Wm070, Wm071, Wm072, Wm073, Wm074, Wm075, Wm076, Wm099}
 use Rattle.wm_base.specs.declared.refusal.Refusal.{Refusal}
 use Rattle.wm_state.specs.State.{State}
-use Rattle.wm_print.specs.Texts.{Answer, Refused}
+use Rattle.wm_print.specs.Texts.{Answer, Nothing, Fine, Done, Listing, Refused}
 
 -- ---- refusals
 
@@ -115,7 +115,25 @@ out_of_range = Refused (refusals.Cell Wm064)
 abbrev pub at_its_end : List ℕ → Answer
 at_its_end counter = Refused (Limit (Wm076 counter))
 
+-- the refusal that an answer is, if it is one
+abbrev pub refusal_of : Answer → Option Refusal
+refusal_of Nothing = None
+refusal_of Fine = None
+refusal_of (Done count) = None
+refusal_of (Listing rows) = None
+refusal_of (Refused refusal) = Some refusal
+
 -- ---- one refusal behind another
+
+-- this refusal where the test holds
+abbrev pub refused_if : Bool → Answer → Option Refusal
+refused_if test answer = if test then refusal_of answer else None
+
+-- the first of what a line is refused for, in the order in which it is told
+abbrev pub first_fault : List (Option Refusal) → Option Refusal
+first_fault [] = None
+first_fault (None ∷ others) = first_fault others
+first_fault (Some refusal ∷ others) = Some refusal
 
 -- the refusal where there is one, and else what is done
 abbrev pub unless : Option Refusal → State → State × Answer → State × Answer

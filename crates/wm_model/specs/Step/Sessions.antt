@@ -3,7 +3,8 @@ use Rattle.std.specs.Prelude.{ℕ, ◌+◌, List, [], ◌∷◌, ◌++◌, not, 
 use Rattle.std.specs.List.{filter}
 use Rattle.std.specs.Str.{bytes_eq}
 use Rattle.wm_base.specs.Period.{Span}
-use Rattle.wm_state.specs.State.{State, Session, Stand, Latest}
+use Rattle.wm_state.specs.State as state
+use Rattle.wm_state.specs.State.{State, Session, Latest}
 use Rattle.wm_print.specs.Texts.{Answer, Fine}
 use Rattle.wm_model.specs.Step.Refusing.{no_session, session_there, bad_name, moment_back, most_sessions}
 use Rattle.wm_model.specs.Step.Naming.{is_name, session_of}
@@ -14,13 +15,18 @@ use Rattle.wm_model.specs.Step.Naming.{is_name, session_of}
 abbrev pub closed : List ℕ → List Session → List Session
 closed name sessions = filter (λ (x : Session). not (bytes_eq name x.name)) sessions
 
--- a session of this name stands elsewhere
-abbrev pub moved_to : List ℕ → ℕ → Stand → List Session → List Session
-moved_to name space stand sessions = map (λ (x : Session). if bytes_eq name x.name then record x { space = space; stand = stand } else x) sessions
+-- what is set of a session: where it stands; the period in which it sees and changes rows, which is what is left of time where there is none
+pub data Setting : Type 0 where
+  Stand : (space : ℕ) (stand : state.Stand) → Setting
+  Period : (period : Option Span) → Setting
 
--- a session of this name sees and changes rows in this period, or where it is none in what is left of time
-abbrev pub limited : List ℕ → Option Span → List Session → List Session
-limited name period sessions = map (λ (x : Session). if bytes_eq name x.name then record x { period = period } else x) sessions
+abbrev pub with_setting : Setting → Session → Session
+with_setting (Stand space stand) x = record x { space = space; stand = stand }
+with_setting (Period period) x = record x { period = period }
+
+-- it is set of a session of this name
+abbrev pub altered : List ℕ → Setting → List Session → List Session
+altered name setting sessions = map (λ (x : Session). if bytes_eq name x.name then with_setting setting x else x) sessions
 
 -- CONNECT opens a session, which stands in LIVE at what is newest, and for which no period is set
 abbrev pub connect : List ℕ → List ℕ → State → State × Answer

@@ -4,7 +4,7 @@ use Rattle.wm_engine.specs.Working.{KeepsOver}
 use Rattle.wm_state.specs.ById.{applied}
 use Rattle.wm_engine.proofs.Causes.{line_cause}
 use Rattle.wm_engine.proofs.Committing.{commit_ended, commit_works, nothing_ended}
-use Rattle.wm_engine.proofs.Planning.{none_counted, some_counted}
+use Rattle.wm_engine.proofs.Committing.{none_counted, some_counted}
 use Rattle.wm_engine.proofs.commit.commit.Goals as goal
 
 pub returns-then-is_empty-clause-any_moment : goal.returns-then-is_empty-clause-any_moment

@@ -6,9 +6,10 @@ use Rattle.wm_state.specs.State.{State, Session}
 use Rattle.wm_engine.proofs.Keeping.{begun_stands, kept_does, kept_few, kept_rules, kept_same, kept_stands, workless_plan}
 use Rattle.wm_engine.proofs.Replying.{of_refusal, tells_refusal}
 use Rattle.wm_engine.proofs.Sounding.{sound_begun, sound_kept}
-use Rattle.wm_engine.specs.Idle.{is_idle}
-use Rattle.wm_engine.specs.Views.{answer_view, refusal_of, seating_view}
-use Rattle.wm_engine.specs.declared.seating.Seating.{Seating}
+use Rattle.wm_plan.specs.Idle.{is_idle}
+use Rattle.wm_plan.specs.Views.{answer_view, seating_view}
+use Rattle.wm_model.specs.Step.Refusing.{refusal_of}
+use Rattle.wm_plan.specs.declared.seating.Seating.{Seating}
 use Rattle.wm_engine.proofs.keep.run_line.Goals as goal
 
 pub returns-in_err-planned-clause-any_moment : goal.returns-in_err-planned-clause-any_moment

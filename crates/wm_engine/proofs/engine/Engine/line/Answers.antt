@@ -18,7 +18,7 @@ returns-in_default-clause-any_moment g c = λ told s for.
 
 -- the engine's records, its sessions and its moment stand for what it stands for
 stands_at : (e : Engaged) (rs : List Stored) (s : State) → e.records ≡ rs → StandsFor e s → StandsAt rs e.sessions e.moment s
-stands_at e rs s same for = record { stands = subst (λ (xs : List Stored). Stands (parts_of xs) s) same for.stands; sessions_are = for.sessions; moment_is = for.moment }
+stands_at e rs s same for = record { stands = subst (λ (xs : List Stored). Stands (parts_of xs) s.durable) same for.stands; sessions_are = for.sessions; moment_is = for.moment }
 
 pub returns-clause-answered : goal.returns-clause-answered
 returns-clause-answered g c = λ s for.

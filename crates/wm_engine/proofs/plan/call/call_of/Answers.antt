@@ -2,47 +2,48 @@ use Rattle.std.proofs.Common.{Some, ap, ◌∙◌}
 use Rattle.wm_grammar.specs.declared.procedure.Procedure.{Procedure}
 use Rattle.wm_grammar.specs.declared.procedure.Procedure.TheVariants as procedures
 use Rattle.wm_model.specs.Step.{call, not_built}
-use Rattle.wm_engine.proofs.Calling.{refused, other_call}
-use Rattle.wm_engine.proofs.Planning.{for_sessions, for_moment, forks_none}
-use Rattle.wm_engine.specs.Views.{answer_view}
+use Rattle.wm_plan.proofs.Planning.{refused}
+use Rattle.wm_engine.proofs.Calling.{other_call}
+use Rattle.wm_plan.proofs.Planning.{does_here, for_moment, for_one, for_these, forks_none}
+use Rattle.wm_plan.specs.Views.{answer_view}
 use Rattle.wm_engine.proofs.plan.call.call_of.Goals as goal
 
 pub returns-in-EnableVersioning-clause-does : goal.returns-in-EnableVersioning-clause-does
 returns-in-EnableVersioning-clause-does c =
-    for_sessions c.args.image.now c.args.moment c.enable_call.result (call c.args.session.now (Some procedures.EnableVersioning) c.args.args.now) (call c.args.session.now (Some c.args.procedure) c.args.args.now)
-    (λ s. ap (λ (p : Procedure). call c.args.session.now (Some p) c.args.args.now s) c.in-EnableVersioning.is) c.enable_call.ensures.does
+    for_these c.args.image.now c.args.sessions.now c.args.moment c.enable_call.result (call c.args.session.now (Some procedures.EnableVersioning) c.args.given.args.now) (call c.args.session.now (Some c.args.procedure) c.args.given.args.now)
+    (λ s. ap (λ (p : Procedure). call c.args.session.now (Some p) c.args.given.args.now s) c.in-EnableVersioning.is) c.enable_call.ensures.does
 
 pub returns-in-CreateWorkspace-clause-does : goal.returns-in-CreateWorkspace-clause-does
 returns-in-CreateWorkspace-clause-does c =
-    for_sessions c.args.image.now c.args.moment c.workspace_call.result (call c.args.session.now (Some procedures.CreateWorkspace) c.args.args.now) (call c.args.session.now (Some c.args.procedure) c.args.args.now)
-    (λ s. ap (λ (p : Procedure). call c.args.session.now (Some p) c.args.args.now s) c.in-CreateWorkspace.is) c.workspace_call.ensures.does
+    does_here c.args.image.now c.args.sessions.now c.args.moment c.workspace_call.result (call c.args.session.now (Some procedures.CreateWorkspace) c.args.given.args.now) (call c.args.session.now (Some c.args.procedure) c.args.given.args.now)
+    (λ s. ap (λ (p : Procedure). call c.args.session.now (Some p) c.args.given.args.now s) c.in-CreateWorkspace.is) c.workspace_call.ensures.does
 
 pub returns-in-CreateSavepoint-clause-does : goal.returns-in-CreateSavepoint-clause-does
 returns-in-CreateSavepoint-clause-does c =
-    for_sessions c.args.image.now c.args.moment c.savepoint_call.result (call c.args.session.now (Some procedures.CreateSavepoint) c.args.args.now) (call c.args.session.now (Some c.args.procedure) c.args.args.now)
-    (λ s. ap (λ (p : Procedure). call c.args.session.now (Some p) c.args.args.now s) c.in-CreateSavepoint.is) c.savepoint_call.ensures.does
+    does_here c.args.image.now c.args.sessions.now c.args.moment c.savepoint_call.result (call c.args.session.now (Some procedures.CreateSavepoint) c.args.given.args.now) (call c.args.session.now (Some c.args.procedure) c.args.given.args.now)
+    (λ s. ap (λ (p : Procedure). call c.args.session.now (Some p) c.args.given.args.now s) c.in-CreateSavepoint.is) c.savepoint_call.ensures.does
 
 pub returns-in-GotoWorkspace-clause-does : goal.returns-in-GotoWorkspace-clause-does
 returns-in-GotoWorkspace-clause-does c =
-    for_moment c.args.image.now c.args.moment c.goto_workspace_call.result (call c.args.session.now (Some procedures.GotoWorkspace) c.args.args.now) (call c.args.session.now (Some c.args.procedure) c.args.args.now)
-    (λ s. ap (λ (p : Procedure). call c.args.session.now (Some p) c.args.args.now s) c.in-GotoWorkspace.is) c.goto_workspace_call.ensures.does
+    for_moment c.args.image.now c.args.sessions.now c.args.moment c.goto_workspace_call.result (call c.args.session.now (Some procedures.GotoWorkspace) c.args.given.args.now) (call c.args.session.now (Some c.args.procedure) c.args.given.args.now)
+    (λ s. ap (λ (p : Procedure). call c.args.session.now (Some p) c.args.given.args.now s) c.in-GotoWorkspace.is) c.goto_workspace_call.ensures.does
 
 pub returns-in-GotoSavepoint-clause-does : goal.returns-in-GotoSavepoint-clause-does
 returns-in-GotoSavepoint-clause-does c =
-    for_moment c.args.image.now c.args.moment c.goto_savepoint_call.result (call c.args.session.now (Some procedures.GotoSavepoint) c.args.args.now) (call c.args.session.now (Some c.args.procedure) c.args.args.now)
-    (λ s. ap (λ (p : Procedure). call c.args.session.now (Some p) c.args.args.now s) c.in-GotoSavepoint.is) c.goto_savepoint_call.ensures.does
+    for_one c.args.image.now c.args.sessions.now c.args.moment c.goto_savepoint_call.result (call c.args.session.now (Some procedures.GotoSavepoint) c.args.given.args.now) (call c.args.session.now (Some c.args.procedure) c.args.given.args.now)
+    (λ s. ap (λ (p : Procedure). call c.args.session.now (Some p) c.args.given.args.now s) c.in-GotoSavepoint.is) c.goto_savepoint_call.ensures.does
 
 pub returns-in-SetValidTime-clause-does : goal.returns-in-SetValidTime-clause-does
 returns-in-SetValidTime-clause-does c =
-    for_moment c.args.image.now c.args.moment c.valid_time_call.result (call c.args.session.now (Some procedures.SetValidTime) c.args.args.now) (call c.args.session.now (Some c.args.procedure) c.args.args.now)
-    (λ s. ap (λ (p : Procedure). call c.args.session.now (Some p) c.args.args.now s) c.in-SetValidTime.is) c.valid_time_call.ensures.does
+    for_one c.args.image.now c.args.sessions.now c.args.moment c.valid_time_call.result (call c.args.session.now (Some procedures.SetValidTime) c.args.given.args.now) (call c.args.session.now (Some c.args.procedure) c.args.given.args.now)
+    (λ s. ap (λ (p : Procedure). call c.args.session.now (Some p) c.args.given.args.now s) c.in-SetValidTime.is) c.valid_time_call.ensures.does
 
 pub returns-in_default : goal.returns-in_default
 returns-in_default c = record {
-  does = λ xs.
-      refused c.args.image.now xs c.args.moment c.answered.result not_built (call c.args.session.now (Some c.args.procedure) c.args.args.now) c.answered.ensures.edits c.answered.ensures.seating
+  does =
+      refused c.args.image.now c.args.sessions.now c.args.moment c.answered.result not_built (call c.args.session.now (Some c.args.procedure) c.args.given.args.now) c.answered.ensures.edits c.answered.ensures.seating
       (ap answer_view c.answered.ensures.answer ∙ c.not_built.ensures) c.requires.rules
-      (λ s. other_call c.args.session.now c.args.procedure c.args.args.now s c.in_default.not-EnableVersioning c.in_default.not-CreateWorkspace c.in_default.not-CreateSavepoint c.in_default.not-GotoWorkspace c.in_default.not-GotoSavepoint c.in_default.not-SetValidTime);
+      (λ s. other_call c.args.session.now c.args.procedure c.args.given.args.now s c.in_default.not-EnableVersioning c.in_default.not-CreateWorkspace c.in_default.not-CreateSavepoint c.in_default.not-GotoWorkspace c.in_default.not-GotoSavepoint c.in_default.not-SetValidTime);
   idle = λ idle. (c.answered.ensures.edits, c.answered.ensures.seating);
   few = λ forks. forks_none c.answered.result c.answered.ensures.edits;
 }

@@ -1,7 +1,7 @@
 use Rattle.wm_base.specs.Views.{line_view}
 use Rattle.wm_base.specs.declared.tree.line.Line.TheVariants.{Connect, Disconnect}
 use Rattle.wm_model.specs.Step.{run_line}
-use Rattle.wm_engine.proofs.Planning.{timed}
+use Rattle.wm_plan.proofs.Planning.{timed}
 use Rattle.wm_engine.proofs.plan.line.plan_line.Goals as goal
 
 pub returns-in_ok-planned-in-Connect-clause-does : goal.returns-in_ok-planned-in-Connect-clause-does

@@ -1,9 +1,9 @@
 use Rattle.std.proofs.Common.{Ok, refl, sym, ap, ◌∙◌}
 use Rattle.wm_base.specs.Views.{line_view}
 use Rattle.wm_model.specs.Step.{run_parsed, not_built}
-use Rattle.wm_engine.proofs.Planning.{told_alone}
+use Rattle.wm_plan.proofs.Planning.{told_alone}
 use Rattle.wm_engine.proofs.Timely.{timely_timed}
-use Rattle.wm_engine.specs.Views.{answer_view, seating_view}
+use Rattle.wm_plan.specs.Views.{answer_view, seating_view}
 use Rattle.wm_engine.proofs.plan.line.plan_read.Goals as goal
 
 pub returns-then-is_later-clause-does : goal.returns-then-is_later-clause-does

@@ -8,17 +8,17 @@ use Rattle.wm_model.specs.Planning.{Stay}
 use Rattle.wm_model.specs.Step.{run_for, run_statement, session_of, no_session}
 use Rattle.wm_spec.specs.declared.record.stored.Stored.{Stored}
 use Rattle.wm_state.specs.State.{Session}
-use Rattle.wm_engine.proofs.Planning.{told}
-use Rattle.wm_engine.specs.Planning.{DoesIt}
-use Rattle.wm_engine.specs.Views.{answer_view, seating_view}
-use Rattle.wm_engine.specs.declared.planned.Planned.{Planned}
+use Rattle.wm_plan.proofs.Planning.{told}
+use Rattle.wm_plan.specs.Planning.{DoesIt}
+use Rattle.wm_plan.specs.Views.{answer_view, seating_view}
+use Rattle.wm_plan.specs.declared.planned.Planned.{Planned}
 use Rattle.wm_engine.proofs.plan.statement.run.Goals as goal
 
 -- where the session is open, its statement is run for it
 runs_for : (rs : List Stored) (xs : List Session) (m : ℕ) (name : List ℕ) (session : Session) (statement : Statement) (r : Result Planned Memory) → session_of name xs ≡ Some session
-    → IfOk r (λ p. (xs : List Session) → DoesIt rs xs m p (run_statement session statement)) → IfOk r (λ p. DoesIt rs xs m p (λ s. run_for name (session_of name s.sessions) statement s))
+    → IfOk r (λ p. DoesIt rs xs m p (run_statement session statement)) → IfOk r (λ p. DoesIt rs xs m p (λ s. run_for name (session_of name s.sessions) statement s))
 runs_for rs xs m name session statement (Err e) some does = tt
-runs_for rs xs m name session statement (Ok p) some does = run_some rs xs m name session statement p.edits.items (seating_view p.seating) (answer_view p.answer) some (does xs)
+runs_for rs xs m name session statement (Ok p) some does = run_some rs xs m name session statement p.edits.items (seating_view p.seating) (answer_view p.answer) some does
 
 pub returns-in_default-clause-does : goal.returns-in_default-clause-does
 returns-in_default-clause-does c =

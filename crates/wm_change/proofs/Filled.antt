@@ -1,0 +1,83 @@
+-- No text is empty in what is written of rows in which none is.
+use Rattle.std.proofs.Common.{◌≡◌, ℕ, zero, suc, ◌&&◌, Bool, true, false, if◌then◌else◌, List, [], ◌∷◌, take, length, map, refl, Some, None, unwrap_or, slice_get}
+use Rattle.std.specs.List.{list_all}
+use Rattle.wm_base.specs.Period.{Span}
+use Rattle.wm_base.specs.declared.row.Row.{Row}
+use Rattle.wm_base.specs.declared.value.Value.{Value}
+use Rattle.wm_dml.specs.Changing.{added, declared_values, gone, replaced, replacing, row_key}
+use Rattle.wm_dml.specs.Standing.{all_stand, is_shown, stands_in}
+use Rattle.wm_graph.specs.Rules.{is_key_of, is_row_of}
+use Rattle.wm_making.specs.Rows.{is_filled}
+use Rattle.wm_spec.specs.declared.record.table.Table.{Table}
+use Rattle.wm_state.proofs.Tests.{both, and_true}
+use Rattle.wm_change.proofs.Filled.{filled_key}
+use Rattle.wm_change.specs.Changing.{is_filled_change}
+use Rattle.wm_chosen.specs.Chosen.{are_keyed, is_keyed_row, is_keyed_shown}
+use Rattle.std.specs.Option.{option_and_then}
+
+-- the key of a row in which no text is empty is no empty text
+pub filled_key : (t : Table) (row : List Value) → list_all is_filled row ≡ true → list_all is_filled (row_key t row) ≡ true
+filled_key t row filled = by_place row t.key_column filled
+  where
+    alone : (v : Value) (b : Bool) → is_filled v ≡ true → list_all is_filled (unwrap_or (if b then Some (v ∷ []) else None) []) ≡ true
+    alone v true e = and_true (is_filled v) true e refl
+    alone v false e = refl
+
+    by_place : (vs : List Value) (i : ℕ) → list_all is_filled vs ≡ true → list_all is_filled (unwrap_or (option_and_then (λ v. if t.has_key then Some (v ∷ []) else None) (slice_get vs i)) []) ≡ true
+    by_place [] i e = refl
+    by_place (v ∷ vs) zero e = alone v t.has_key (both (is_filled v) (list_all is_filled vs) e).0
+    by_place (v ∷ vs) (suc i) e = by_place vs i (both (is_filled v) (list_all is_filled vs) e).1
+
+abbrev pub are_filled : List Row → Bool
+are_filled rows = list_all (λ (r : Row). list_all is_filled r.values) rows
+
+take_filled : (n : ℕ) (vs : List Value) → list_all is_filled vs ≡ true → list_all is_filled (take n vs) ≡ true
+take_filled zero vs all = refl
+take_filled (suc n) [] all = refl
+take_filled (suc n) (v ∷ vs) all = let h = both (is_filled v) (list_all is_filled vs) all in and_true (is_filled v) (list_all is_filled (take n vs)) h.0 (take_filled n vs h.1)
+
+-- nor in its declared values
+declared_filled : (t : Table) (vs : List Value) → list_all is_filled vs ≡ true → list_all is_filled (declared_values t vs) ≡ true
+declared_filled t vs all = by_valid t.valid
+  where
+    by_valid : (b : Bool) → list_all is_filled (if b then take (length t.columns) vs else vs) ≡ true
+    by_valid true = take_filled (length t.columns) vs all
+    by_valid false = all
+
+-- in a row that goes
+pub gone_filled : (t : Table) (within : Span) (rows : List Row) → are_filled rows ≡ true → list_all is_filled_change (map (gone t within) rows) ≡ true
+gone_filled t within [] all = refl
+gone_filled t within (r ∷ rs) all =
+    let h = both (list_all is_filled r.values) (are_filled rs) all in
+    and_true (is_filled_change (gone t within r)) (list_all is_filled_change (map (gone t within) rs))
+    (and_true (list_all is_filled (row_key t (declared_values t r.values))) true (filled_key t (declared_values t r.values) (declared_filled t r.values h.0)) refl) (gone_filled t within rs h.1)
+
+-- in rows that take the places of others
+pub replacing_filled : (t : Table) (within : Span) (olds : List Row) (news : List (List Value)) → list_all (stands_in t) news ≡ true → list_all is_filled_change (replacing t within olds news) ≡ true
+replacing_filled t within [] news all = refl
+replacing_filled t within (o ∷ olds) [] all = refl
+replacing_filled t within (o ∷ olds) (r ∷ rs) all =
+    let h = both (stands_in t r) (list_all (stands_in t) rs) all in
+    let k = both (is_row_of r t) (is_key_of (row_key t r) t && list_all is_filled r) h.0 in
+    let f = (both (is_key_of (row_key t r) t) (list_all is_filled r) k.1).1 in
+    and_true (is_filled_change (replaced t within o r)) (list_all is_filled_change (replacing t within olds rs)) (and_true (list_all is_filled (row_key t r)) (list_all is_filled r) (filled_key t r f) f)
+    (replacing_filled t within olds rs h.1)
+
+-- in a new row
+pub added_filled : (t : Table) (period : Span) (row : List Value) → list_all is_filled row ≡ true → list_all is_filled_change (added t period row ∷ []) ≡ true
+added_filled t period row filled =
+    and_true (is_filled_change (added t period row)) true (and_true (list_all is_filled (row_key t row)) (list_all is_filled row) (filled_key t row filled) filled) refl
+
+-- rows of the table under keys of it, in which no text is empty, stand in it
+pub keyed_stand : (t : Table) (rows : List Row) → are_keyed t rows ≡ true → are_filled rows ≡ true → all_stand t rows ≡ true
+keyed_stand t [] keyed filled = refl
+keyed_stand t (r ∷ rs) keyed filled =
+    let k = both (is_keyed_shown t r) (are_keyed t rs) keyed in
+    let f = both (list_all is_filled r.values) (are_filled rs) filled in
+    let vs = declared_values t r.values in
+    let shown = both (is_keyed_row t vs) _ k.0 in
+    let row = both (is_row_of vs t) (is_key_of (row_key t vs) t) shown.0 in
+    and_true (is_shown t r.values) (all_stand t rs)
+    (and_true (stands_in t vs) _
+    (and_true (is_row_of vs t) (is_key_of (row_key t vs) t && list_all is_filled vs) row.0 (and_true (is_key_of (row_key t vs) t) (list_all is_filled vs) row.1 (declared_filled t r.values f.0))) shown.1)
+    (keyed_stand t rs k.1 f.1)

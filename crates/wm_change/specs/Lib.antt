@@ -1,0 +1,4 @@
+pub mod Acting
+pub mod Changing
+pub mod Inserting
+pub mod Moved

@@ -1,0 +1,297 @@
+//! UPDATE and DELETE.
+ghost use Rattle.std.specs.Prelude.{◌≡◌, ◌<◌, List, length, map, true, false, Some, IfOk};
+ghost use Rattle.std.specs.List.{list_all};
+ghost use Rattle.wm_base.specs.declared.instant.TheConstants.{END};
+ghost use Rattle.wm_base.specs.declared.row.Row.{Row as RowOf};
+ghost use Rattle.wm_base.specs.Trees.{Set as SetTree};
+ghost use Rattle.wm_base.specs.Views.{filter_view, sets_view};
+ghost use Rattle.wm_dml.specs.Changing.{all_overlap, gone, updated_rows};
+ghost use Rattle.wm_dml.specs.Standing.{MayReplace, all_stand};
+ghost use Rattle.wm_change.specs.Acting.{DoesAs, IsUpdate};
+ghost use Rattle.wm_chosen.specs.Chosen.{are_keyed};
+ghost use Rattle.wm_plan.specs.Idle.{Idles};
+ghost use Rattle.wm_plan.specs.Planning.{DoesIt};
+ghost use Rattle.wm_graph.specs.Parts.{parts_of, space_of, table_of};
+ghost use Rattle.wm_graph.specs.Rules.{keep_rules};
+ghost use Rattle.wm_making.specs.Rows.{is_filled};
+ghost use Rattle.wm_model.specs.Step.{change_all, delete, replace_all, unless_empty, update, write_ascending};
+ghost use Rattle.wm_spec.specs.Expressions.{has_no_empty_period};
+ghost use Rattle.wm_state.specs.State.{Session as SessionState};
+
+use crate::moving::move_all;
+use crate::write_all::write_all;
+use std::alloc::Global;
+use wm_base::tree::cond::Cond;
+use wm_base::tree::statement::Set;
+use wm_base::{Memory, Name, Period, Row, Value, Values};
+use wm_chosen::choosing::chosen_rows;
+use wm_dml::{deleted, moves_of, replacing, rows_fault, sets_period, updated_rows};
+use wm_expr::ValueFault;
+use wm_image::Image;
+use wm_plan::answer::Answer;
+use wm_plan::planned::Planned;
+use wm_plan::refuse::{empty_period, no_table, not_built, not_latest, out_of_range, versioning};
+use wm_plan::session::{Session, Stand};
+use wm_plan::within::within;
+use wm_spec::record::{Space, Table};
+use wm_typing::{delete_fault, update_fault};
+
+/// Whether the value is no empty text.
+fn is_filled(value: &Value) -> bool
+    ensures { result ≡ is_filled value.now }
+{
+    match value {
+        Value::Text(text) => text.len() > 0,
+        _ => true,
+    }
+}
+
+/// Whether no text in the values is empty.
+fn is_row_filled(values: &[Value]) -> bool
+    ensures { result ≡ list_all is_filled values.now }
+{
+    for value in values {
+        if !is_filled(value) {
+            return false;
+        }
+    }
+    true
+}
+
+/// Whether no text in the rows is empty.
+fn are_filled(rows: &[Row]) -> bool
+    ensures { result ≡ list_all (λ (r : RowOf). list_all is_filled r.values) rows.now }
+{
+    for row in rows {
+        if !is_row_filled(row.values.as_slice()) {
+            return false;
+        }
+    }
+    true
+}
+
+/// Makes the rows gone, unless a text in them is empty.
+fn delete_rows(
+    alloc: Global,
+    image: &Image,
+    moment: u64,
+    session: &Session,
+    space: &Space,
+    table: &Table,
+    within: &Period,
+    rows: &[Row],
+) -> Result<Planned, Memory>
+    requires rules { keep_rules (parts_of image.now) ≡ true }
+    requires moment { moment < END }
+    requires there { table_of (parts_of image.now).tables table.now.number ≡ Some table.now }
+    requires home { space_of (parts_of image.now).spaces session.now.space ≡ Some space.now }
+    requires keyed { are_keyed table.now rows.now ≡ true }
+    requires overlap { all_overlap table.now within.now rows.now ≡ true }
+    ensures does { IfOk result (DoesAs image.now moment session.now space.now (unless_empty rows.now (λ kept. write_ascending session.now.user table.now (length kept) (map (gone table.now within.now) kept)))) }
+    ensures idle { IfOk result Idles }
+{
+    if !are_filled(rows) {
+        return Ok(Planned::answered(alloc, not_built()));
+    }
+    let count = rows.len() as u64;
+    let changes = deleted(alloc, table, within, rows)?;
+    write_all(alloc, image, moment, session, space, table, count, changes)
+}
+
+/// DELETE makes the rows gone on which the condition is true.
+pub fn delete(
+    alloc: Global,
+    image: &Image,
+    moment: u64,
+    session: &Session,
+    name: &Name,
+    filter: &Option<Cond>,
+    empty: bool,
+) -> Result<Planned, Memory>
+    requires rules { keep_rules (parts_of image.now) ≡ true }
+    requires moment { moment < END }
+    ensures does { IfOk result (λ p. (xs : List SessionState) → DoesIt image.now xs moment p (delete session.now name.now (filter_view filter.now) empty)) }
+    ensures idle { IfOk result Idles }
+{
+    let Some(table) = image.table(name.as_bytes()) else {
+        return Ok(Planned::answered(alloc, no_table(name.copy(alloc)?)));
+    };
+    if !table.versioned {
+        return Ok(Planned::answered(alloc, versioning(name.copy(alloc)?, false)));
+    }
+    if let Some(refusal) = delete_fault(alloc, table, filter)? {
+        return Ok(Planned::answered(alloc, Answer::Refused(refusal)));
+    }
+    let Some(space) = image.space(session.space()) else {
+        return Ok(Planned::answered(alloc, not_built()));
+    };
+    if let Stand::At(_) = session.stand() {
+        return Ok(Planned::answered(alloc, not_latest()));
+    }
+    if empty {
+        return Ok(Planned::answered(alloc, empty_period()));
+    }
+    let within = within(moment, session, table);
+    let version = image.latest(session.space());
+    let rows = chosen_rows(alloc, image, version, table, &within, filter)?;
+    delete_rows(
+        alloc,
+        image,
+        moment,
+        session,
+        space,
+        table,
+        &within,
+        rows.as_slice(),
+    )
+}
+
+/// Writes the new rows in the places of the old ones, or over the new periods that the sets give them.
+fn change_all(
+    alloc: Global,
+    image: &Image,
+    moment: u64,
+    session: &Session,
+    space: &Space,
+    table: &Table,
+    within: &Period,
+    sets: &[Set],
+    rows: &[Row],
+    news: Vec<Values>,
+) -> Result<Planned, Memory>
+    requires rules { keep_rules (parts_of image.now) ≡ true }
+    requires moment { moment < END }
+    requires there { table_of (parts_of image.now).tables table.now.number ≡ Some table.now }
+    requires home { space_of (parts_of image.now).spaces session.now.space ≡ Some space.now }
+    requires lasting { list_all (λ (s : SetTree). has_no_empty_period s.becomes) (sets_view sets.now) ≡ true }
+    requires stand { all_stand table.now rows.now ≡ true }
+    requires overlap { all_overlap table.now within.now rows.now ≡ true }
+    requires may_replace { MayReplace table.now rows.now news.items }
+    ensures does { IfOk result (DoesAs image.now moment session.now space.now (change_all session.now.user table.now within.now (sets_view sets.now) rows.now news.items)) }
+    ensures idle { IfOk result Idles }
+{
+    if sets_period(table, sets) {
+        let moves = moves_of(alloc, table, sets, rows, news)?;
+        return move_all(alloc, image, moment, session, space, table, moves);
+    }
+    let count = rows.len() as u64;
+    let changes = replacing(alloc, table, within, rows, news)?;
+    write_all(alloc, image, moment, session, space, table, count, changes)
+}
+
+/// Writes what the sets make of the rows.
+fn replace_all(
+    alloc: Global,
+    image: &Image,
+    moment: u64,
+    session: &Session,
+    space: &Space,
+    table: &Table,
+    within: &Period,
+    sets: &[Set],
+    rows: &[Row],
+) -> Result<Planned, Memory>
+    requires rules { keep_rules (parts_of image.now) ≡ true }
+    requires moment { moment < END }
+    requires there { table_of (parts_of image.now).tables table.now.number ≡ Some table.now }
+    requires home { space_of (parts_of image.now).spaces session.now.space ≡ Some space.now }
+    requires update { IsUpdate table.now (sets_view sets.now) }
+    requires stand { all_stand table.now rows.now ≡ true }
+    requires overlap { all_overlap table.now within.now rows.now ≡ true }
+    ensures does { IfOk result (DoesAs image.now moment session.now space.now (replace_all session.now.user table.now within.now (sets_view sets.now) rows.now (updated_rows table.now (sets_view sets.now) rows.now))) }
+    ensures idle { IfOk result Idles }
+{
+    let news = match updated_rows(alloc, table, sets, rows) {
+        Ok(news) => news,
+        Err(ValueFault::OutOfRange) => return Ok(Planned::answered(alloc, out_of_range())),
+        Err(ValueFault::Memory) => return Err(Memory),
+    };
+    if let Some(refusal) = rows_fault(alloc, table, news.as_slice())? {
+        return Ok(Planned::answered(alloc, Answer::Refused(refusal)));
+    }
+    change_all(
+        alloc, image, moment, session, space, table, within, sets, rows, news,
+    )
+}
+
+/// Writes what the sets make of the rows, unless a text in them is empty.
+fn update_rows(
+    alloc: Global,
+    image: &Image,
+    moment: u64,
+    session: &Session,
+    space: &Space,
+    table: &Table,
+    within: &Period,
+    sets: &[Set],
+    rows: &[Row],
+) -> Result<Planned, Memory>
+    requires rules { keep_rules (parts_of image.now) ≡ true }
+    requires moment { moment < END }
+    requires there { table_of (parts_of image.now).tables table.now.number ≡ Some table.now }
+    requires home { space_of (parts_of image.now).spaces session.now.space ≡ Some space.now }
+    requires update { IsUpdate table.now (sets_view sets.now) }
+    requires keyed { are_keyed table.now rows.now ≡ true }
+    requires overlap { all_overlap table.now within.now rows.now ≡ true }
+    ensures does { IfOk result (DoesAs image.now moment session.now space.now (unless_empty rows.now (λ kept. replace_all session.now.user table.now within.now (sets_view sets.now) kept (updated_rows table.now (sets_view sets.now) kept)))) }
+    ensures idle { IfOk result Idles }
+{
+    if !are_filled(rows) {
+        return Ok(Planned::answered(alloc, not_built()));
+    }
+    replace_all(
+        alloc, image, moment, session, space, table, within, sets, rows,
+    )
+}
+
+/// UPDATE writes a new row for each on which the condition is true.
+pub fn update(
+    alloc: Global,
+    image: &Image,
+    moment: u64,
+    session: &Session,
+    name: &Name,
+    sets: &[Set],
+    filter: &Option<Cond>,
+    empty: bool,
+) -> Result<Planned, Memory>
+    requires rules { keep_rules (parts_of image.now) ≡ true }
+    requires moment { moment < END }
+    // Where it has no empty period, none of its sets has one.
+    requires lasting { empty ≡ false → list_all (λ (s : SetTree). has_no_empty_period s.becomes) (sets_view sets.now) ≡ true }
+    ensures does { IfOk result (λ p. (xs : List SessionState) → DoesIt image.now xs moment p (update session.now name.now (sets_view sets.now) (filter_view filter.now) empty)) }
+    ensures idle { IfOk result Idles }
+{
+    let Some(table) = image.table(name.as_bytes()) else {
+        return Ok(Planned::answered(alloc, no_table(name.copy(alloc)?)));
+    };
+    if !table.versioned {
+        return Ok(Planned::answered(alloc, versioning(name.copy(alloc)?, false)));
+    }
+    if let Some(refusal) = update_fault(alloc, table, sets, filter)? {
+        return Ok(Planned::answered(alloc, Answer::Refused(refusal)));
+    }
+    let Some(space) = image.space(session.space()) else {
+        return Ok(Planned::answered(alloc, not_built()));
+    };
+    if let Stand::At(_) = session.stand() {
+        return Ok(Planned::answered(alloc, not_latest()));
+    }
+    if empty {
+        return Ok(Planned::answered(alloc, empty_period()));
+    }
+    let within = within(moment, session, table);
+    let version = image.latest(session.space());
+    let rows = chosen_rows(alloc, image, version, table, &within, filter)?;
+    update_rows(
+        alloc,
+        image,
+        moment,
+        session,
+        space,
+        table,
+        &within,
+        sets,
+        rows.as_slice(),
+    )
+}

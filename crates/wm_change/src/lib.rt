@@ -1,0 +1,8 @@
+//! What INSERT, UPDATE and DELETE do and answer.
+#![tactic(auto)]
+
+pub mod change;
+pub mod insert;
+mod moving;
+mod write_all;
+mod write_changes;

@@ -1,0 +1,66 @@
+-- The rows that a condition chooses of a table.
+use Rattle.std.proofs.Common.{◌≡◌, ℕ, Bool, true, false, List, Option, Some, Result, Ok, Err, IfOk, Vec, Global, ap, ◌∙◌, None, refl}
+use Rattle.std.specs.List.{list_all}
+use Rattle.wm_base.specs.Period.{Span, always, overlaps}
+use Rattle.wm_base.specs.declared.columns.Column.{Column}
+use Rattle.wm_base.specs.declared.memory.Memory.{Memory}
+use Rattle.wm_base.specs.declared.row.Row.{Row}
+use Rattle.wm_base.specs.Trees.{Cond}
+use Rattle.wm_dml.specs.Changing.{all_overlap, chosen, meets, own_columns, row_period}
+use Rattle.wm_graph.specs.Parts.{parts_of, table_of}
+use Rattle.wm_graph.specs.Rules.{keep_rules}
+use Rattle.wm_select.specs.Query.{where_of}
+use Rattle.wm_spec.specs.Conditions.{fits, typed}
+use Rattle.wm_spec.specs.declared.record.stored.Stored.{Stored}
+use Rattle.wm_spec.specs.declared.record.table.Table.{Table}
+use Rattle.wm_state.specs.Listing.{IsShowing}
+use Rattle.wm_state.proofs.Tests.{all_filter}
+use Rattle.wm_chosen.proofs.Seen.{shown_fits, shown_keyed, shown_overlaps}
+use Rattle.wm_chosen.proofs.Stood.{showing_all}
+use Rattle.wm_chosen.specs.Chosen.{AreChosen, are_keyed, is_keyed_shown}
+use Rattle.wm_typing.specs.Types.{is_filter_typed}
+
+-- those on which the condition is true that stands for WHERE are those that WHERE chooses
+pub kept_so : (r : Result (Vec Row Global) Memory) (columns : List Column) (cond : Cond) (condition : Option Cond) (rows : List Row) → cond ≡ where_of condition
+    → IfOk r (λ kept. (t : Table) (asked : Option Cond) → columns ≡ own_columns t → cond ≡ where_of asked → kept.items ≡ chosen t asked rows) → IfOk r (λ kept. (t : Table) → columns ≡ own_columns t → kept.items ≡ chosen t condition rows)
+kept_so (Ok kept) columns cond condition rows is so = λ t own. so t condition own is
+kept_so (Err e) columns cond condition rows is so = tt
+
+-- rows that are shown fit the columns of their table
+pub rows_fit_own : (rs : List Stored) (version : ℕ) (t : Table) (within : Span) (columns : List Column) (rows shown : List Row) → keep_rules (parts_of rs) ≡ true → table_of (parts_of rs).tables t.number ≡ Some t
+    → columns ≡ own_columns t → rows ≡ shown → IsShowing (parts_of rs) version t.number t.valid within shown → list_all (fits columns) rows ≡ true
+rows_fit_own rs version t within columns rows shown rules there own same is =
+    ap (λ (cs : List Column). list_all (fits cs) rows) own ∙ ap (list_all (fits (own_columns t))) same
+    ∙ showing_all (fits (own_columns t)) (parts_of rs) version t within shown rules there is (λ key row is. shown_fits t.name t within key row is)
+
+-- those that are chosen of them
+pub are_chosen : (r : Result (Vec Row Global) Memory) (rs : List Stored) (version : ℕ) (t : Table) (within : Span) (condition : Option Cond) (columns : List Column) (rows shown : List Row) → columns ≡ own_columns t → rows ≡ shown
+    → IsShowing (parts_of rs) version t.number t.valid within shown → IfOk r (λ kept. (t : Table) → columns ≡ own_columns t → kept.items ≡ chosen t condition rows)
+    → IfOk r (λ kept. AreChosen rs version t within condition kept.items)
+are_chosen (Ok kept) rs version t within condition columns rows shown own same is so = record { all = shown; listed = is; are = so t own ∙ ap (chosen t condition) same }
+are_chosen (Err e) rs version t within condition columns rows shown own same is so = tt
+
+-- are rows of the table, each under a key of it, with its period where the table has valid time
+pub chosen_keyed : (rs : List Stored) (version : ℕ) (t : Table) (within : Span) (condition : Option Cond) (rows : List Row) → keep_rules (parts_of rs) ≡ true → table_of (parts_of rs).tables t.number ≡ Some t
+    → AreChosen rs version t within condition rows → are_keyed t rows ≡ true
+chosen_keyed rs version t within condition rows rules there are =
+    ap (list_all (is_keyed_shown t)) are.are
+    ∙ all_filter (is_keyed_shown t) (meets condition (own_columns t)) are.all
+    (showing_all (is_keyed_shown t) (parts_of rs) version t within are.all rules there are.listed (λ key row is. shown_keyed t within key row is))
+
+-- each of them holds somewhere in the period, which is all of time where the table has no valid time
+pub chosen_overlap : (rs : List Stored) (version : ℕ) (t : Table) (within : Span) (condition : Option Cond) (rows : List Row) → keep_rules (parts_of rs) ≡ true → table_of (parts_of rs).tables t.number ≡ Some t
+    → (t.valid ≡ false → within ≡ always) → AreChosen rs version t within condition rows → all_overlap t within rows ≡ true
+chosen_overlap rs version t within condition rows rules there plain are =
+    ap (all_overlap t within) are.are
+    ∙ all_filter overlapping (meets condition (own_columns t)) are.all
+    (showing_all overlapping (parts_of rs) version t within are.all rules there are.listed (λ key row is. shown_overlaps t within key row plain is))
+  where
+    overlapping : Row → Bool
+    overlapping r = overlaps (row_period t r) within
+
+-- the condition of a query that is typed, which is 1 = 1 where it has none
+pub where_typed : (filter : Option Cond) (columns : List Column) → is_filter_typed columns filter ≡ true → typed (where_of filter) columns ≡ true
+unfolding typed
+where_typed None columns is = refl
+where_typed (Some condition) columns is = is

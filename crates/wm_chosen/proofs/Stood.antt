@@ -1,0 +1,287 @@
+-- What is shown of a table: rows of it, each under a key of the table's, and with a period where the table has valid time.
+use Rattle.std.proofs.Common.{◌≡◌, ℕ, ◌≤◌, ◌<◌, ◌-◌, ◌==◌, ◌&&◌, ◌||◌, nat_lt, nat_le, Bool, true, false, if◌then◌else◌, List, [], ◌∷◌, ◌++◌, map, Option, Some, None, unwrap_or, refl, sym, ap, ◌∙◌, subst, arith}
+use Rattle.std.proofs.lemmas.Bool.{eqb-true}
+use Rattle.std.proofs.lemmas.List.Elements.{filter_map-append}
+use Rattle.std.specs.Bool.{then_some}
+use Rattle.std.specs.List.{filter_map, list_all}
+use Rattle.std.specs.Option.{option_or, option_and_then, option_map_or, option_map}
+use Rattle.std.specs.Ordering.{is_eq}
+use Rattle.std.specs.declared.cmp.Ordering.{Ordering}
+use Rattle.std.specs.declared.cmp.Ordering.TheVariants.{Less, Equal, Greater}
+use Rattle.wm_base.specs.Key.{key_order}
+use Rattle.wm_base.specs.Orders.{key_order-equal}
+use Rattle.wm_base.specs.Period.{Span, overlaps}
+use Rattle.wm_base.specs.declared.instant.TheConstants.{END}
+use Rattle.wm_base.specs.declared.row.Row.{Row}
+use Rattle.wm_base.specs.declared.value.Value.{Value}
+use Rattle.wm_dml.specs.Changing.{row_key}
+use Rattle.wm_dml.specs.Standing.{is_lasting}
+use Rattle.wm_period.specs.Pieces.{Held}
+use Rattle.wm_graph.specs.Parts.{Parts, row_of, table_of, version_of}
+use Rattle.wm_graph.specs.Rules.{keep_rules, differ, is_piece, is_row, is_row_at, is_row_of, is_key, is_key_of, key_of, are_cells}
+use Rattle.wm_spec.specs.Lists.{Cell}
+use Rattle.wm_spec.specs.Stretches.{Stretch, value_at, AreMaximal}
+use Rattle.wm_spec.specs.declared.record.piece.PieceRecord.{PieceRecord}
+use Rattle.wm_spec.specs.declared.record.row.RowRecord.{RowRecord}
+use Rattle.wm_spec.specs.declared.record.table.Table.{Table}
+use Rattle.wm_state.specs.Listing.{standing, stamp_seen, row_with, row_shown_with, seen_row, span_on, with_span, AreRowsOf, IsShowing, Groups, joined, AreAllRowsOf}
+use Rattle.wm_state.specs.Standing.{covers_at, held_by, stored_at, seen_at, seen, newest_first}
+use Rattle.wm_state.proofs.Apart.{found-passes, ruled}
+use Rattle.wm_state.proofs.Laying.{key_same}
+use Rattle.wm_state.proofs.Listing.{first-held, behind-held}
+use Rattle.wm_state.proofs.Shown.{has_period}
+use Rattle.wm_state.proofs.Tests.{bool_apart, both, and_true}
+use Rattle.wm_chosen.specs.Chosen.{is_keyed_row}
+
+-- ---- what a version holds is a row of its table
+
+-- the row of a stamp is one of the table, under the key of the cell, which is one of the table's; the cell is before the end of time
+record IsKeyedAt (p : Parts) (t : Table) (c : Cell) (stamp : ℕ) : Type 0 where
+  row : RowRecord
+  found : row_of p.rows stamp ≡ Some row
+  keyed : is_keyed_row t row.values ≡ true
+  under : is_key c.key (key_of t row.values) ≡ true
+  early : c.time < END
+
+-- what is held at a cell, where it is not gone, is such a row
+abbrev Backs : Parts → Table → Cell → Option Held → Type 0
+Backs p t c None = Unit {0}
+Backs p t c (Some h) = (stamp : ℕ) → standing h ≡ Some stamp → IsKeyedAt p t c stamp
+
+abbrev InOrder : Parts → ℕ → List PieceRecord → Type 0
+InOrder p next pieces = list_all (is_piece (table_of p.tables) (version_of p.versions) (row_of p.rows) next) pieces ≡ true
+
+-- what is asked of the records and the table
+record Asks (p : Parts) (t : Table) : Type 0 where
+  rules : keep_rules p ≡ true
+  there : table_of p.tables t.number ≡ Some t
+
+-- the key of a row that is at cells of a key of the table is that one
+at_key : (t : Table) (key row : List Value) → is_key_of key t ≡ true → is_key key (key_of t row) ≡ true → is_key_of (row_key t row) t ≡ true
+at_key t key row fits is = by_key (key_of t row) refl is
+  where
+    equal : (o : Ordering) → is_eq o ≡ true → o ≡ Equal
+    equal Equal e = refl
+    equal Less e = absurd (bool_apart (sym e))
+    equal Greater e = absurd (bool_apart (sym e))
+
+    by_key : (o : Option (List Value)) → key_of t row ≡ o → is_key key o ≡ true → is_key_of (row_key t row) t ≡ true
+    by_key None e h = absurd (bool_apart (sym h))
+    by_key (Some k) e h = ap (λ (o : Option (List Value)). is_key_of (unwrap_or o []) t) e ∙ ap (λ j. is_key_of j t) (key_order-equal k key (equal (key_order k key) h)) ∙ fits
+
+before_end : (from till time end : ℕ) → nat_lt time till ≡ true → (nat_lt from till && nat_le till end) ≡ true → time < end
+before_end from till time end at cells = grind (arith, at, (both (nat_lt from till) (nat_le till end) cells).1)
+
+piece_backs : (p : Parts) (t : Table) (x : PieceRecord) (version : ℕ) (c : Cell) (asks : Asks p t) → c.table ≡ t.number
+    → is_piece (table_of p.tables) (version_of p.versions) (row_of p.rows) (ruled p asks.rules).counters.next_stamp x ≡ true → Backs p t c (then_some (covers_at x version c) (held_by x))
+piece_backs p t x version c asks of is = by_test (covers_at x version c) refl
+  where
+    next : ℕ
+    next = (ruled p asks.rules).counters.next_stamp
+
+    none_some : (stamp : ℕ) → (let nothing : Option ℕ = None in nothing) ≡ Some stamp → ⊥
+    none_some stamp e = cc
+
+    some_same : (a b : ℕ) → Some a ≡ Some b → a ≡ b
+    some_same a b e = cc
+
+    cells : (are_cells (table_of p.tables) x.cells ≡ true) × ((nat_lt x.stamp next && (x.gone || option_map_or (is_row_at (table_of p.tables) x.cells) (row_of p.rows x.stamp) false)) ≡ true)
+    cells =
+        let a = both _ (are_cells (table_of p.tables) x.cells && (nat_lt x.stamp next && (x.gone || option_map_or (is_row_at (table_of p.tables) x.cells) (row_of p.rows x.stamp) false))) is in
+        both (are_cells (table_of p.tables) x.cells) (nat_lt x.stamp next && (x.gone || option_map_or (is_row_at (table_of p.tables) x.cells) (row_of p.rows x.stamp) false)) a.1
+
+    row_there : x.gone ≡ false → option_map_or (is_row_at (table_of p.tables) x.cells) (row_of p.rows x.stamp) false ≡ true
+    row_there kept =
+        let d = both (nat_lt x.stamp next) (x.gone || option_map_or (is_row_at (table_of p.tables) x.cells) (row_of p.rows x.stamp) false) cells.1 in
+        sym (ap (λ g. g || option_map_or (is_row_at (table_of p.tables) x.cells) (row_of p.rows x.stamp) false) kept) ∙ d.1
+
+    of_table : covers_at x version c ≡ true → x.cells.table ≡ t.number
+    of_table e =
+        let a = both (x.version == version) _ e in
+        let b = both _ _ a.1 in
+        let d = both (x.cells.table == c.table) _ b.0 in
+        eqb-true x.cells.table c.table d.0 ∙ of
+
+    of_key : covers_at x version c ≡ true → x.cells.key ≡ c.key
+    of_key e =
+        let a = both (x.version == version) _ e in
+        let b = both _ _ a.1 in
+        let d = both (x.cells.table == c.table) _ b.0 in
+        key_same x.cells.key c.key d.1
+
+    key_there : x.cells.table ≡ t.number → is_key_of x.cells.key t ≡ true
+    key_there same =
+        sym (ap (λ (o : Option Table). option_map_or (is_key_of x.cells.key) o false) (ap (table_of p.tables) same ∙ asks.there))
+        ∙ (both (nat_lt x.cells.from x.cells.till && nat_le x.cells.till END) (option_map_or (is_key_of x.cells.key) (table_of p.tables x.cells.table) false) cells.0).1
+
+    early : covers_at x version c ≡ true → c.time < END
+    early e =
+        let a = both (x.version == version) _ e in
+        let b = both ((x.cells.table == c.table) && is_eq (key_order x.cells.key c.key)) (nat_le x.cells.from c.time && nat_lt c.time x.cells.till) a.1 in
+        before_end x.cells.from x.cells.till c.time END (both (nat_le x.cells.from c.time) (nat_lt c.time x.cells.till) b.1).1
+        (both (nat_lt x.cells.from x.cells.till && nat_le x.cells.till END) (option_map_or (is_key_of x.cells.key) (table_of p.tables x.cells.table) false) cells.0).0
+
+    keyed_at : (r : RowRecord) → row_of p.rows x.stamp ≡ Some r → is_row_at (table_of p.tables) x.cells r ≡ true → x.cells.table ≡ t.number → is_keyed_row t r.values ≡ true
+    keyed_at r found at same =
+        let h = both (r.table == x.cells.table) (is_key x.cells.key (option_and_then (λ (u : Table). key_of u r.values) (table_of p.tables x.cells.table))) at in
+        let here : table_of p.tables x.cells.table ≡ Some t = ap (table_of p.tables) same ∙ asks.there in
+        let passed = (found-passes (λ (r : RowRecord). r.stamp == x.stamp) (is_row (table_of p.tables) next) p.rows r found (both (differ _ p.rows) _ (ruled p asks.rules).rows).1).1 in
+        and_true (is_row_of r.values t) (is_key_of (row_key t r.values) t)
+        (sym (ap (λ (o : Option Table). option_map_or (is_row_of r.values) o false) (ap (table_of p.tables) (eqb-true r.table x.cells.table h.0) ∙ here)) ∙ (both (nat_lt r.stamp next) _ passed).1)
+        (at_key t x.cells.key r.values (key_there same) (sym (ap (λ (o : Option Table). is_key x.cells.key (option_and_then (λ (u : Table). key_of u r.values) o)) here) ∙ h.1))
+
+    under_at : (r : RowRecord) → is_row_at (table_of p.tables) x.cells r ≡ true → x.cells.table ≡ t.number → x.cells.key ≡ c.key → is_key c.key (key_of t r.values) ≡ true
+    under_at r at same key =
+        let h = both (r.table == x.cells.table) (is_key x.cells.key (option_and_then (λ (u : Table). key_of u r.values) (table_of p.tables x.cells.table))) at in
+        let here : table_of p.tables x.cells.table ≡ Some t = ap (table_of p.tables) same ∙ asks.there in
+        ap (λ (k : List Value). is_key k (key_of t r.values)) (sym key) ∙ sym (ap (λ (o : Option Table). is_key x.cells.key (option_and_then (λ (u : Table). key_of u r.values) o)) here) ∙ h.1
+
+    by_row : (o : Option RowRecord) → row_of p.rows x.stamp ≡ o → option_map_or (is_row_at (table_of p.tables) x.cells) o false ≡ true → x.cells.table ≡ t.number → x.cells.key ≡ c.key
+        → c.time < END → IsKeyedAt p t c x.stamp
+    by_row None e at same key before = absurd (bool_apart (sym at))
+    by_row (Some r) e at same key before = record { row = r; found = e; keyed = keyed_at r e at same; under = under_at r at same key; early = before }
+
+    by_gone : (g : Bool) → x.gone ≡ g → (stamp : ℕ) → (let nothing : Option ℕ = None in if g then nothing else Some x.stamp) ≡ Some stamp → x.cells.table ≡ t.number → x.cells.key ≡ c.key
+        → c.time < END → IsKeyedAt p t c stamp
+    by_gone true e stamp held same key before = absurd (none_some stamp held)
+    by_gone false e stamp held same key before = subst (IsKeyedAt p t c) (some_same x.stamp stamp held) (by_row (row_of p.rows x.stamp) refl (row_there e) same key before)
+
+    by_test : (b : Bool) → covers_at x version c ≡ b → Backs p t c (then_some b (held_by x))
+    by_test false e = tt
+    by_test true e = λ stamp held. by_gone x.gone refl stamp held (of_table e) (of_key e) (early e)
+
+or_backs : (p : Parts) (t : Table) (c : Cell) (a b : Option Held) → Backs p t c a → Backs p t c b → Backs p t c (option_or a b)
+or_backs p t c None b one two = two
+or_backs p t c (Some h) b one two = one
+
+stored_backs : (p : Parts) (t : Table) (pieces : List PieceRecord) (version : ℕ) (c : Cell) (asks : Asks p t) → c.table ≡ t.number → InOrder p (ruled p asks.rules).counters.next_stamp pieces → Backs p t c (stored_at pieces version c)
+stored_backs p t [] version c asks of all = tt
+stored_backs p t (x ∷ xs) version c asks of all =
+    let h = both (is_piece (table_of p.tables) (version_of p.versions) (row_of p.rows) (ruled p asks.rules).counters.next_stamp x) (list_all (is_piece (table_of p.tables) (version_of p.versions) (row_of p.rows) (ruled p asks.rules).counters.next_stamp) xs) all in
+    or_backs p t c (then_some (covers_at x version c) (held_by x)) (stored_at xs version c) (piece_backs p t x version c asks of h.0) (stored_backs p t xs version c asks of h.1)
+
+seen_backs : (p : Parts) (t : Table) (nodes : _) (version : ℕ) (c : Cell) → Asks p t → c.table ≡ t.number → Backs p t c (seen_at p.pieces nodes version c)
+seen_backs p t [] version c asks of = tt
+seen_backs p t (x ∷ older) version c asks of = by_number (x.number == version) (seen_backs p t older x.parent c asks of) (seen_backs p t older version c asks of)
+  where
+    ordered : InOrder p (ruled p asks.rules).counters.next_stamp p.pieces
+    ordered = (both (differ _ p.pieces) _ (ruled p asks.rules).pieces).1
+
+    by_number : (b : Bool) → Backs p t c (seen_at p.pieces older x.parent c) → Backs p t c (seen_at p.pieces older version c)
+        → Backs p t c (if b then option_or (stored_at p.pieces version c) (seen_at p.pieces older x.parent c) else seen_at p.pieces older version c)
+    by_number true up along = or_backs p t c (stored_at p.pieces version c) (seen_at p.pieces older x.parent c) (stored_backs p t p.pieces version c asks of ordered) up
+    by_number false up along = along
+
+row_seen : (p : Parts) (version : ℕ) (t : Table) (key : List Value) (u stamp : ℕ) → Asks p t → stamp_seen p version t.number key u ≡ Some stamp → IsKeyedAt p t (record { table = t.number; key = key; time = u }) stamp
+row_seen p version t key u stamp asks is = by_held (seen p version cell) (seen_backs p t (newest_first p.versions) version cell asks refl) is
+  where
+    cell : Cell
+    cell = record { table = t.number; key = key; time = u }
+
+    none_some : (let nothing : Option ℕ = None in nothing) ≡ Some stamp → ⊥
+    none_some e = cc
+
+    by_held : (o : Option Held) → Backs p t cell o → option_and_then standing o ≡ Some stamp → IsKeyedAt p t cell stamp
+    by_held None backs e = absurd (none_some e)
+    by_held (Some h) backs e = backs stamp e
+
+-- ---- what is shown of it
+
+-- a row that is shown is one of the table's, under this key; where the table has valid time, a period stands behind its values that is not
+-- empty, ends at most at END and overlaps the asked one
+pub record IsShownUnder (t : Table) (within : Span) (key : List Value) (shown : Row) : Type 0 where
+  pub row : Row
+  pub period : Span
+  pub keyed : is_keyed_row t row.values ≡ true
+  pub under : is_key key (key_of t row.values) ≡ true
+  pub lasts : is_lasting period ≡ true
+  pub overlapping : t.valid ≡ true → overlaps period within ≡ true
+  pub is : shown ≡ (if t.valid then with_span period row else row)
+
+row_shown : (p : Parts) (t : Table) (within : Span) (c : Cell) (s : Stretch) (shown : Row) → IsKeyedAt p t c s.stamp → is_lasting (span_on s) ≡ true → row_shown_with p t.valid within (c.key, s) ≡ Some shown
+    → IsShownUnder t within c.key shown
+row_shown p t within c s shown at lasts e = by_valid t.valid refl e
+  where
+    row : Row
+    row = record { values = at.row.values }
+
+    some_same : (a b : Row) → Some a ≡ Some b → a ≡ b
+    some_same a b e = cc
+
+    found : row_with p (c.key, s) ≡ Some row
+    found = ap (λ (o : Option RowRecord). option_map (λ (r : RowRecord). let made : Row = record { values = r.values } in made) o) at.found
+
+    by_valid : (valid : Bool) → t.valid ≡ valid → seen_row valid within s (row_with p (c.key, s)) ≡ Some shown → IsShownUnder t within c.key shown
+    by_valid false plain h = record {
+      row = row;
+      period = span_on s;
+      keyed = at.keyed;
+      under = at.under;
+      lasts = lasts;
+      overlapping = λ valid. absurd (bool_apart (sym valid ∙ plain));
+      is = some_same shown row (sym h ∙ found) ∙ sym (ap (λ b. if b then with_span (span_on s) row else row) plain);
+    }
+    by_valid true valid h =
+        let has = has_period within s (row_with p (c.key, s)) shown h in
+        record {
+          row = row;
+          period = span_on s;
+          keyed = at.keyed;
+          under = at.under;
+          lasts = lasts;
+          overlapping = λ valid. has.overlapping;
+          is = has.timed ∙ ap (with_span (span_on s)) (some_same has.row row (sym has.found ∙ found)) ∙ sym (ap (λ b. if b then with_span (span_on s) row else row) valid);
+        }
+
+-- ---- all of them
+
+all_append : {A : Type 0} (P : A → Bool) (xs ys : List A) → list_all P xs ≡ true → list_all P ys ≡ true → list_all P (xs ++ ys) ≡ true
+all_append P [] ys one two = two
+all_append P (x ∷ xs) ys one two = let h = both (P x) (list_all P xs) one in rw h.0 (all_append P xs ys h.1 two)
+
+all_step : {X : Type 0} (P : Row → Bool) (f : X → Option Row) (a : X) (l : List X) → ((row : Row) → f a ≡ Some row → P row ≡ true) → list_all P (filter_map f l) ≡ true → list_all P (filter_map f (a ∷ l)) ≡ true
+all_step P f a l first rest = by_some (f a) refl
+  where
+    by_some : (o : Option Row) → f a ≡ o → list_all P (filter_map f (a ∷ l)) ≡ true
+    by_some None e = rw e rest
+    by_some (Some row) e = rw (e, first row e) rest
+
+-- a stretch that is held up to its end ends at most at the end of time
+lasting : (from till end : ℕ) → from < till → till - 1 < end → (nat_lt from till && nat_le till end) ≡ true
+lasting from till end lt early = and_true (nat_lt from till) (nat_le till end) (grind (arith, lt)) (grind (arith, lt, early))
+
+key_all : (P : Row → Bool) (p : Parts) (t : Table) (version : ℕ) (within : Span) (key : List Value) (ss : List Stretch) (low : ℕ) → Asks p t → AreMaximal low ss
+    → ((u : ℕ) → low ≤ u → value_at ss u ≡ stamp_seen p version t.number key u) → ((row : Row) → IsShownUnder t within key row → P row ≡ true)
+    → list_all P (filter_map (row_shown_with p t.valid within) (map (λ x. (key, x)) ss)) ≡ true
+key_all P p t version within key [] low asks max held each = refl
+key_all P p t version within key (x ∷ xs) low asks max held each =
+    all_step P (row_shown_with p t.valid within) (key, x) (map (λ x. (key, x)) xs) (λ row shown. each row (row_shown p t within (cell x.from) x row (at x.from (omega arith) max.1) lasts shown))
+    (key_all P p t version within key xs x.till asks max.3 (λ u le. sym (behind-held x xs u le) ∙ held u (omega (arith, max.0, max.1, le))) each)
+  where
+    cell : ℕ → Cell
+    cell u = record { table = t.number; key = key; time = u }
+
+    at : (u : ℕ) → x.from ≤ u → u < x.till → IsKeyedAt p t (cell u) x.stamp
+    at u le lt = row_seen p version t key u x.stamp asks (sym (held u (omega (arith, max.0, le))) ∙ first-held low x xs u max le lt)
+
+    lasts : is_lasting (span_on x) ≡ true
+    lasts = lasting x.from x.till END max.1 (at (x.till - 1) (omega (arith, max.1)) (omega (arith, max.1))).early
+
+groups_all : (P : Row → Bool) (p : Parts) (t : Table) (version : ℕ) (within : Span) (gs : Groups) → Asks p t → AreAllRowsOf p version t.number gs → ((key : List Value) (row : Row) → IsShownUnder t within key row → P row ≡ true)
+    → list_all P (filter_map (row_shown_with p t.valid within) (joined gs)) ≡ true
+groups_all P p t version within [] asks held each = refl
+groups_all P p t version within (g ∷ gs) asks held each =
+    let shown = row_shown_with p t.valid within in
+    ap (list_all P) (filter_map-append shown (map (λ s. (g.0, s)) g.1) (joined gs))
+    ∙ all_append P (filter_map shown (map (λ s. (g.0, s)) g.1)) (filter_map shown (joined gs)) (key_all P p t version within g.0 g.1 0 asks held.0.maximal (λ u le. held.0.held u) (each g.0))
+    (groups_all P p t version within gs asks held.1 each)
+
+-- what holds of each row that may be shown of a table holds of all that are
+pub showing_all : (P : Row → Bool) (p : Parts) (version : ℕ) (t : Table) (within : Span) (rows : List Row) → keep_rules p ≡ true → table_of p.tables t.number ≡ Some t → IsShowing p version t.number t.valid within rows
+    → ((key : List Value) (row : Row) → IsShownUnder t within key row → P row ≡ true) → list_all P rows ≡ true
+showing_all P p version t within rows rules there is each = ap (list_all P) is.are ∙ groups_all P p t version within is.groups (record { rules = rules; there = there }) is.held each
+
+-- so of those of one key
+pub key_showing_all : (P : Row → Bool) (p : Parts) (version : ℕ) (t : Table) (within : Span) (key : List Value) (ss : List Stretch) → keep_rules p ≡ true → table_of p.tables t.number ≡ Some t → AreRowsOf p version t.number key ss
+    → ((row : Row) → IsShownUnder t within key row → P row ≡ true) → list_all P (filter_map (row_shown_with p t.valid within) (map (λ x. (key, x)) ss)) ≡ true
+key_showing_all P p version t within key ss rules there are each = key_all P p t version within key ss 0 (record { rules = rules; there = there }) are.maximal (λ u le. are.held u) each

@@ -1,0 +1,160 @@
+//! The rows of a table that a condition chooses.
+ghost use Rattle.std.specs.Prelude.{◌≡◌, List, Option, true, None, Some, IfOk};
+ghost use Rattle.std.specs.List.{list_all};
+ghost use Rattle.wm_base.specs.Trees.{Cond as CondTree};
+ghost use Rattle.wm_base.specs.declared.row.Row.{Row as RowOf};
+ghost use Rattle.wm_base.specs.declared.truth.Truth.{Truth as TruthOf};
+ghost use Rattle.wm_base.specs.Views.{cond_view, filter_view};
+ghost use Rattle.wm_dml.specs.Changing.{chosen, own_columns};
+ghost use Rattle.wm_chosen.specs.Chosen.{AreChosen};
+ghost use Rattle.wm_chosen.specs.Keyed.{FixesKey};
+ghost use Rattle.wm_graph.specs.Parts.{parts_of, table_of};
+ghost use Rattle.wm_graph.specs.Rules.{keep_rules};
+ghost use Rattle.wm_select.specs.Query.{where_of};
+ghost use Rattle.wm_spec.specs.Conditions.{fits, truth_of, typed};
+ghost use Rattle.wm_spec.specs.declared.record.table.Table.{Table as TableOf};
+
+use crate::keyed::key_asked;
+use std::alloc::Global;
+use wm_base::tree::cond::{Cmp, Cond};
+use wm_base::tree::constant::Const;
+use wm_base::tree::operand::Operand;
+use wm_base::{Columns, Key, Memory, Period, Row, Truth};
+use wm_dml::chosen;
+use wm_expr::truth;
+use wm_image::Image;
+use wm_rowtest::{Judge, RowTest};
+use wm_spec::record::Table;
+use wm_typing::columns_of_table;
+
+/// What stands for a WHERE that is not there: 1 = 1.
+pub fn always() -> Cond
+    ensures { cond_view result ≡ where_of None }
+{
+    Cond::Compare {
+        left: Operand::Const(Const::Num(1)),
+        cmp: Cmp::Eq,
+        right: Operand::Const(Const::Num(1)),
+    }
+}
+
+/// The rows on which the condition is true, which the closure judges.
+fn chosen_by<F: Fn(&Row) -> Truth + Judge + Drop>(
+    alloc: Global,
+    cond: &Cond,
+    columns: &Columns,
+    rows: Vec<Row>,
+    test: F,
+) -> Result<Vec<Row>, Memory>
+    requires typed { typed (cond_view cond.now) columns.now ≡ true }
+    requires fitting { list_all (fits columns.now) rows.items ≡ true }
+    requires callable { (row : RowOf) → fits columns.now row ≡ true → ∥ F.may test row ∥₁ }
+    requires answers { (row : RowOf) (truth : TruthOf) → fits columns.now row ≡ true → F.gives test row truth → truth ≡ truth_of (cond_view cond.now) columns.now row }
+    ensures { IfOk result (λ kept. (t : TableOf) (condition : Option CondTree) → columns.now ≡ own_columns t → cond_view cond.now ≡ where_of condition → kept.items ≡ chosen t condition rows.items) }
+{
+    let test = RowTest::new(alloc, cond, columns, test)?;
+    let kept = chosen(alloc, rows, &test)?;
+    Ok(kept)
+}
+
+/// The rows on which the condition is true.
+fn chosen_with(
+    alloc: Global,
+    cond: &Cond,
+    columns: &Columns,
+    rows: Vec<Row>,
+) -> Result<Vec<Row>, Memory>
+    requires typed { typed (cond_view cond.now) columns.now ≡ true }
+    requires fitting { list_all (fits columns.now) rows.items ≡ true }
+    ensures { IfOk result (λ kept. (t : TableOf) (condition : Option CondTree) → columns.now ≡ own_columns t → cond_view cond.now ≡ where_of condition → kept.items ≡ chosen t condition rows.items) }
+{
+    chosen_by(
+        alloc,
+        cond,
+        columns,
+        rows,
+        |row: &Row| truth(cond, columns, row),
+    )
+}
+
+/// Those of the rows on which the condition is true, where there is one.
+fn chosen_of(
+    alloc: Global,
+    columns: &Columns,
+    filter: &Option<Cond>,
+    rows: Vec<Row>,
+) -> Result<Vec<Row>, Memory>
+    requires typed { typed (where_of (filter_view filter.now)) columns.now ≡ true }
+    requires fitting { list_all (fits columns.now) rows.items ≡ true }
+    ensures { IfOk result (λ kept. (t : TableOf) → columns.now ≡ own_columns t → kept.items ≡ chosen t (filter_view filter.now) rows.items) }
+{
+    match filter {
+        Some(cond) => chosen_with(alloc, cond, columns, rows),
+        None => chosen_with(alloc, &always(), columns, rows),
+    }
+}
+
+/// The rows of a table on which the condition is true, found among all that a version shows.
+fn chosen_of_all(
+    alloc: Global,
+    image: &Image,
+    version: u64,
+    table: &Table,
+    within: &Period,
+    columns: &Columns,
+    filter: &Option<Cond>,
+) -> Result<Vec<Row>, Memory>
+    requires rules { keep_rules (parts_of image.now) ≡ true }
+    requires there { table_of (parts_of image.now).tables table.now.number ≡ Some table.now }
+    requires own { columns.now ≡ own_columns table.now }
+    requires typed { typed (where_of (filter_view filter.now)) columns.now ≡ true }
+    ensures { IfOk result (λ rows. AreChosen image.now version table.now within.now (filter_view filter.now) rows.items) }
+{
+    let rows = image.showing(alloc, version, table, within)?.into_vec();
+    chosen_of(alloc, columns, filter, rows)
+}
+
+/// The same of a condition that is true on no rows but those of one key: the others are not looked at.
+fn chosen_under(
+    alloc: Global,
+    image: &Image,
+    version: u64,
+    table: &Table,
+    within: &Period,
+    columns: &Columns,
+    filter: &Option<Cond>,
+    key: &Key,
+) -> Result<Vec<Row>, Memory>
+    requires rules { keep_rules (parts_of image.now) ≡ true }
+    requires there { table_of (parts_of image.now).tables table.now.number ≡ Some table.now }
+    requires own { columns.now ≡ own_columns table.now }
+    requires typed { typed (where_of (filter_view filter.now)) columns.now ≡ true }
+    requires fixed { FixesKey table.now (filter_view filter.now) key.now }
+    ensures { IfOk result (λ rows. AreChosen image.now version table.now within.now (filter_view filter.now) rows.items) }
+{
+    let rows = image
+        .showing_of_key(alloc, version, table, within, key)?
+        .into_vec();
+    chosen_of(alloc, columns, filter, rows)
+}
+
+/// The rows of a table on which the condition is true, where there is one, of those that a version shows in a period.
+pub fn chosen_rows(
+    alloc: Global,
+    image: &Image,
+    version: u64,
+    table: &Table,
+    within: &Period,
+    filter: &Option<Cond>,
+) -> Result<Vec<Row>, Memory>
+    requires rules { keep_rules (parts_of image.now) ≡ true }
+    requires there { table_of (parts_of image.now).tables table.now.number ≡ Some table.now }
+    requires typed { typed (where_of (filter_view filter.now)) (own_columns table.now) ≡ true }
+    ensures { IfOk result (λ rows. AreChosen image.now version table.now within.now (filter_view filter.now) rows.items) }
+{
+    let columns = columns_of_table(alloc, &table.name, table)?;
+    match key_asked(alloc, &columns, table, filter)? {
+        Some(key) => chosen_under(alloc, image, version, table, within, &columns, filter, &key),
+        None => chosen_of_all(alloc, image, version, table, within, &columns, filter),
+    }
+}

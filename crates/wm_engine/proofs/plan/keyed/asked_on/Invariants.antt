@@ -1,7 +1,0 @@
-use Rattle.std.proofs.Common.{◌≡◌, drop}
-use Rattle.wm_base.specs.Views.{srcs_view}
-use Rattle.wm_engine.specs.Narrowed.{asked_on}
-use Rattle.wm_engine.proofs.plan.keyed.asked_on.Given as goal
-
-abbrev pub invariant-loop-source : goal.invariant-loop-source
-invariant-loop-source l = asked_on l.columns l.place (srcs_view l.sources) ≡ asked_on l.columns l.place (srcs_view (drop l.source-index l.sources))

@@ -1,0 +1,61 @@
+//! What is given of the arguments of a call, and what is wrong with them.
+ghost use Rattle.std.specs.Prelude.{◌≡◌, [], unwrap_or, IfOk};
+ghost use Rattle.wm_calls.specs.Arguments.{text_given};
+ghost use Rattle.wm_calls.specs.Faults.{argument_fault};
+ghost use Rattle.wm_plan.specs.Lacking.{lacks};
+ghost use Rattle.wm_plan.specs.Views.{answer_view};
+ghost use Rattle.wm_plan.specs.declared.seating.Seating.TheVariants.{Stay};
+
+use crate::planned::Planned;
+use crate::refuse::{mistyped, not_built};
+use std::alloc::Global;
+use wm_base::tree::cond::Cond;
+use wm_base::tree::statement::Arg;
+use wm_base::{Memory, Name};
+use wm_calls::{argument_fault, parameter_name, text_given};
+use wm_grammar::{Parameter, Procedure};
+
+/// What a call is given.
+#[derive(Clone, Copy)]
+pub struct Given<'a> {
+    pub args: &'a [Arg],
+    /// The condition of its WHERE, where it has one.
+    pub condition: &'a Option<Cond>,
+}
+
+/// The name of the parameter whose argument is wrong, or that lacks one.
+pub fn fault_of(alloc: Global, procedure: Procedure, args: &[Arg]) -> Result<Option<Name>, Memory>
+    ensures { IfOk result (λ fault. fault ≡ argument_fault procedure args.now) }
+{
+    match argument_fault(procedure, args) {
+        Some(parameter) => Ok(Some(Name::copy_of(alloc, parameter_name(parameter))?)),
+        None => Ok(None),
+    }
+}
+
+/// The answer of a call that lacks a text.
+pub fn lacking(alloc: Global, fault: Option<Name>) -> Planned
+    ensures edits { result.edits.items ≡ [] }
+    ensures seating { result.seating ≡ Stay }
+    ensures answer { answer_view result.answer ≡ lacks fault }
+{
+    match fault {
+        Some(parameter) => Planned::answered(alloc, mistyped(parameter)),
+        None => Planned::answered(alloc, not_built()),
+    }
+}
+
+/// The bytes of the text that is given for a parameter, or these.
+pub fn bytes_given<'a>(
+    procedure: Procedure,
+    args: &'a [Arg],
+    parameter: Parameter,
+    default: &'a [u8],
+) -> &'a [u8]
+    ensures { result.now ≡ unwrap_or (text_given procedure args.now parameter) default.now }
+{
+    match text_given(procedure, args, parameter) {
+        Some(text) => text.as_bytes(),
+        None => default,
+    }
+}

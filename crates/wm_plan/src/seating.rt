@@ -1,0 +1,62 @@
+//! What becomes of the sessions.
+ghost use Rattle.std.specs.Prelude.{◌≡◌, ◌++◌, ◌∷◌, [], OnOk, if◌then◌else◌};
+ghost use Rattle.std.specs.Str.{bytes_eq};
+ghost use Rattle.wm_plan.specs.Stands.{setting_view};
+ghost use Rattle.wm_plan.specs.Views.{seating_view};
+ghost use Rattle.wm_model.specs.Planning.{seated};
+ghost use Rattle.wm_model.specs.Step.{altered, closed, with_setting};
+
+use crate::session::{Session, Setting};
+use wm_base::{Memory, Name};
+
+/// What a line does to the sessions.
+#[derive(Drop)]
+pub enum Seating {
+    /// Nothing.
+    Stay,
+    /// One is opened.
+    Open(Session),
+    /// The one of this name is closed.
+    Close(Name),
+    /// This is set of the one of this name.
+    Set { name: Name, setting: Setting },
+}
+
+/// Closes the sessions of a name.
+fn close(sessions: &mut Vec<Session>, name: &Name)
+    ensures { sessions.new.items ≡ closed name.now sessions.old.items }
+{
+    sessions.retain(|session| !session.is_named(name));
+}
+
+/// Sets this of the session, where it has this name.
+fn alter_one(session: &mut Session, name: &Name, setting: Setting)
+    ensures { session.new ≡ (if bytes_eq name.now session.old.name then with_setting (setting_view setting) session.old else session.old) }
+{
+    if session.is_named(name) {
+        session.set(setting);
+    }
+}
+
+/// Sets this of the sessions of a name.
+fn alter(sessions: &mut [Session], name: &Name, setting: Setting)
+    ensures { sessions.new ≡ altered name.now (setting_view setting) sessions.old }
+{
+    if let Some((session, rest)) = sessions.split_first_mut() {
+        alter_one(session, name, setting);
+        alter(rest, name, setting);
+    }
+}
+
+/// Does to the sessions what a line does to them.
+pub fn seat(sessions: &mut Vec<Session>, seating: Seating) -> Result<(), Memory>
+    ensures { OnOk result (sessions.new.items ≡ seated sessions.old.items (seating_view seating)) }
+{
+    match seating {
+        Seating::Stay => {}
+        Seating::Open(session) => sessions.push(session)?,
+        Seating::Close(name) => close(sessions, &name),
+        Seating::Set { name, setting } => alter(sessions, &name, setting),
+    }
+    Ok(())
+}

@@ -1,0 +1,143 @@
+//! Who is connected, and where they stand.
+ghost use Rattle.std.specs.Prelude.{◌≡◌, None, is_some, true};
+ghost use Rattle.std.specs.Option.{option_copied};
+ghost use Rattle.std.specs.Str.{bytes_eq};
+ghost use Rattle.wm_plan.specs.Stands.{setting_view, stand_view};
+ghost use Rattle.wm_graph.specs.Rules.{is_short};
+ghost use Rattle.wm_model.specs.Step.{session_of, with_setting};
+ghost use Rattle.wm_state.specs.State.{Latest};
+
+use std::marker::Model;
+use wm_base::{Name, Period};
+
+/// Where a session stands in its workspace.
+#[derive(Clone, Copy, Debug, PartialEq)]
+pub enum Stand {
+    /// At what is newest.
+    Latest,
+    /// At the savepoint of this making.
+    At(u64),
+}
+
+/// What is set of a session.
+#[derive(Clone, Copy)]
+pub enum Setting {
+    /// The workspace that it stands in, and where there.
+    Stand { space: u32, stand: Stand },
+    /// The period in which it sees rows and changes them, or none.
+    Period(Option<Period>),
+}
+
+/// Somebody who is connected, under the name that lines begin with.
+#[derive(Drop)]
+pub struct Session {
+    name: Name,
+    user: Name,
+    /// The number of the workspace that the session stands in.
+    space: u32,
+    stand: Stand,
+    /// The period that was set for it.
+    period: Option<Period>,
+}
+
+impl Model for Session {
+    ghost use Rattle.std.specs.Prelude.{◌≡◌, true};
+    ghost use Rattle.wm_plan.specs.Stands.{stand_view};
+    ghost use Rattle.wm_graph.specs.Rules.{is_short};
+    ghost use Rattle.wm_state.specs.State.{Session as SessionState};
+
+    ghost Value = { SessionState };
+
+    ghost view = { λ s. record { name = s.name; user = s.user; space = s.space; stand = stand_view s.stand; period = s.period } };
+
+    ghost invariant = { λ s. is_short s.user ≡ true };
+}
+
+impl Session {
+    /// A session of this name for this user, which stands in LIVE at what is newest, and for which no period is set.
+    pub fn new(name: Name, user: Name) -> Session
+        // An entry of a log has room for the user.
+        requires { is_short user ≡ true }
+        ensures { result ≡ record { name = name; user = user; space = 0; stand = Latest; period = None } }
+    {
+        Session {
+            name,
+            user,
+            space: 0,
+            stand: Stand::Latest,
+            period: None,
+        }
+    }
+
+    pub fn name(&self) -> &Name
+        ensures { result.now ≡ self.now.name }
+    {
+        &self.name
+    }
+
+    pub fn user(&self) -> &Name
+        ensures user { result.now ≡ self.now.user }
+        ensures short { is_short self.now.user ≡ true }
+    {
+        &self.user
+    }
+
+    /// The number of the workspace that the session stands in.
+    pub fn space(&self) -> u32
+        ensures { result ≡ self.now.space }
+    {
+        self.space
+    }
+
+    /// The period that was set for it.
+    pub fn period(&self) -> Option<Period>
+        ensures { result ≡ self.now.period }
+    {
+        self.period
+    }
+
+    pub fn stand(&self) -> Stand
+        ensures { stand_view result ≡ self.now.stand }
+    {
+        self.stand
+    }
+
+    /// Whether the session has this name.
+    pub fn is_named(&self, name: &Name) -> bool
+        ensures { result ≡ bytes_eq name.now self.now.name }
+    {
+        name.as_bytes() == self.name.as_bytes()
+    }
+
+    /// Sets this of it.
+    pub fn set(&mut self, setting: Setting)
+        ensures { self.new ≡ with_setting (setting_view setting) self.old }
+    {
+        match setting {
+            Setting::Stand { space, stand } => {
+                self.space = space;
+                self.stand = stand;
+            }
+            Setting::Period(period) => self.period = period,
+        }
+    }
+}
+
+/// The session of this name, where it is open.
+pub fn session_named<'a>(sessions: &'a [Session], name: &Name) -> Option<&'a Session>
+    ensures { option_copied result ≡ session_of name.now sessions.now }
+{
+    for session in sessions {
+        if session.is_named(name) {
+            return Some(session);
+        }
+    }
+    None
+}
+
+/// Whether a session of this name is open.
+pub fn is_open(sessions: &[Session], name: &Name) -> bool
+    ensures { result ≡ is_some (session_of name.now sessions.now) }
+{
+    session_named(sessions, name).is_some()
+}

@@ -1,0 +1,5 @@
+pub mod BirthPlans
+pub mod Calling
+pub mod Creating
+pub mod Lengths
+pub mod SavepointPlans

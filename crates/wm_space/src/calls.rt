@@ -1,0 +1,7 @@
+//! What each call is given by its arguments.
+
+pub mod enable;
+pub mod going;
+pub mod savepoint;
+pub mod valid_time;
+pub mod workspace;

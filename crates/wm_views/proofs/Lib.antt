@@ -1,0 +1,4 @@
+pub mod Fits
+pub mod Listing
+pub mod Narrowing
+pub mod Querying

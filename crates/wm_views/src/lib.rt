@@ -1,0 +1,4 @@
+//! What SELECT answers.
+#![tactic(auto)]
+
+pub mod select;
