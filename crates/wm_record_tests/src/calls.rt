@@ -2,13 +2,13 @@
 use std::alloc::Global;
 use std::process::Abort;
 use std::test::Fail;
-use wm_base::{Instant, Kind, Memory, Name, Period, Stamp, StoreFault};
+use wm_base::{Instant, Kind, Memory, Period, Stamp, StoreFault};
 use wm_lexer::{TokenKind, lex};
 use wm_period::{Piece, Pieces};
-use wm_spec::record::{Record, Table, TableColumns};
+use wm_spec::record::Record;
 use wm_station::{FuseStation, QuietStation};
 use wm_store::Store;
-use wm_temporal::{are_in_order, split, uncovered};
+use wm_temporal::{split, uncovered};
 use wm_tree::Tree;
 
 fn period(from: u64, till: u64) -> Option<Period> {
@@ -69,9 +69,6 @@ fn old_periods_are_uncovered(rt: HostRuntime) -> Result<(), Fail> {
     let alloc = rt.alloc();
     let olds = [period(10, 20).ok_or("a period")?];
     let news = [period(12, 15).ok_or("a period")?];
-    if !are_in_order(olds.as_slice()) || !are_in_order(news.as_slice()) {
-        return Err("periods in order".into());
-    }
     let left = uncovered(alloc, olds.as_slice(), news.as_slice())?;
     assert_eq!(rt; left.first().copied(), period(10, 12));
     assert_eq!(rt; left.last().copied(), period(15, 20));

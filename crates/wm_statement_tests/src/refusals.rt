@@ -3,7 +3,8 @@ use std::alloc::Global;
 use std::process::Abort;
 use std::test::Fail;
 use wm_base::{
-    CellRefusal, FormRefusal, Instant, Key, Name, Period, Refusal, SpaceRefusal, Text, Value, Values,
+    CellRefusal, FormRefusal, Instant, Key, Name, Period, Refusal, SpaceRefusal, Text, Value,
+    Values,
 };
 use wm_print::print_refusal;
 

@@ -8,10 +8,7 @@ use Rattle.wm_base.specs.Trees.{Out}
 use Rattle.wm_base.specs.Views.{out_view, outs_view}
 use Rattle.wm_base.specs.declared.tree.query.Out.{Out as OutNode}
 
-pub or_assoc : {T : Type 0} (a b c : Option T) → option_or (option_or a b) c ≡ option_or a (option_or b c)
-or_assoc None b c = refl
-or_assoc (Some x) b c = refl
-
+-- (an attribute of a function cannot write a name with a hyphen, as that of the plain fact has)
 pub or_none : {T : Type 0} (a : Option T) → option_or a None ≡ a
 or_none None = refl
 or_none (Some x) = refl

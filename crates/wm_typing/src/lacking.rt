@@ -80,7 +80,7 @@ fn lacking_in_operand<'a>(columns: &[Column], operand: &'a Operand) -> Option<&'
 }
 
 /// The first that the expression names. A chain of operators nests to the left, and is gone down in a loop.
-#[tactic(auto, using(crate::proofs::Firsts::or_assoc, crate::proofs::Firsts::or_none))]
+#[tactic(auto, using(wm_base::proofs::Plain::option_or_assoc, crate::proofs::Firsts::or_none))]
 pub fn lacking_in_expr<'a>(columns: &[Column], expr: &'a Expr) -> Option<&'a Option<Name>>
     ensures { option_copied result ≡ lacking_in_expr columns.now (expr_view expr.now) }
 {
@@ -101,7 +101,7 @@ pub fn lacking_in_expr<'a>(columns: &[Column], expr: &'a Expr) -> Option<&'a Opt
 }
 
 /// The first that the condition names. A chain of OR and AND nests to the left, and is gone down in a loop.
-#[tactic(auto, using(crate::proofs::Firsts::or_assoc, crate::proofs::Firsts::or_none))]
+#[tactic(auto, using(wm_base::proofs::Plain::option_or_assoc, crate::proofs::Firsts::or_none))]
 pub fn lacking_in_cond<'a>(columns: &[Column], cond: &'a Cond) -> Option<&'a Option<Name>>
     ensures { option_copied result ≡ lacking_in_cond columns.now (cond_view cond.now) }
 {
@@ -136,7 +136,7 @@ pub fn lacking_in_cond<'a>(columns: &[Column], cond: &'a Cond) -> Option<&'a Opt
     }
 }
 
-/// The same of two operands, the one that stands first first.
+/// The first WM_VALID without valid time in two operands, in the order in which they stand.
 fn lacking_in_both<'a>(
     columns: &[Column],
     one: &'a Operand,
@@ -150,7 +150,7 @@ fn lacking_in_both<'a>(
     )
 }
 
-/// The same of a condition that may be left out.
+/// The first WM_VALID without valid time in a condition that may be left out.
 pub fn lacking_in_filter<'a>(
     columns: &[Column],
     filter: &'a Option<Cond>,

@@ -1,3 +1,4 @@
+//! The first name that means no column.
 ghost use Rattle.std.specs.Prelude.{◌≡◌, option_copied};
 ghost use Rattle.std.specs.Option.{option_or};
 ghost use Rattle.wm_base.specs.Views.{cond_view, expr_view, filter_view};
@@ -45,7 +46,7 @@ fn unknown_in_operand<'a>(columns: &[Column], operand: &'a Operand) -> Option<&'
 
 /// The first column that the expression names and that is not exactly one of these. A chain of operators nests to the
 /// left, and is gone down in a loop.
-#[tactic(auto, using(crate::proofs::Firsts::or_assoc, crate::proofs::Firsts::or_none))]
+#[tactic(auto, using(wm_base::proofs::Plain::option_or_assoc, crate::proofs::Firsts::or_none))]
 pub fn unknown_in_expr<'a>(columns: &[Column], expr: &'a Expr) -> Option<&'a [u8]>
     ensures { option_copied result ≡ unknown_in_expr columns.now (expr_view expr.now) }
 {
@@ -67,7 +68,7 @@ pub fn unknown_in_expr<'a>(columns: &[Column], expr: &'a Expr) -> Option<&'a [u8
 
 /// The first column that the condition names and that is not exactly one of these. A chain of OR and AND nests to the
 /// left, and is gone down in a loop.
-#[tactic(auto, using(crate::proofs::Firsts::or_assoc, crate::proofs::Firsts::or_none))]
+#[tactic(auto, using(wm_base::proofs::Plain::option_or_assoc, crate::proofs::Firsts::or_none))]
 pub fn unknown_in_cond<'a>(columns: &[Column], cond: &'a Cond) -> Option<&'a [u8]>
     ensures { option_copied result ≡ unknown_in_cond columns.now (cond_view cond.now) }
 {
@@ -99,7 +100,7 @@ pub fn unknown_in_cond<'a>(columns: &[Column], cond: &'a Cond) -> Option<&'a [u8
     }
 }
 
-/// The same of two operands, the one that stands first first.
+/// The first name of no column in two operands, in the order in which they stand.
 fn unknown_in_both<'a>(columns: &[Column], one: &'a Operand, other: &'a Operand) -> Option<&'a [u8]>
     ensures { option_copied result ≡ option_or (unknown_in_operand columns.now one.now) (unknown_in_operand columns.now other.now) }
 {
@@ -109,7 +110,7 @@ fn unknown_in_both<'a>(columns: &[Column], one: &'a Operand, other: &'a Operand)
     )
 }
 
-/// The same of a condition that may be left out.
+/// The first name of no column in a condition that may be left out.
 pub fn unknown_in_filter<'a>(columns: &[Column], filter: &'a Option<Cond>) -> Option<&'a [u8]>
     ensures { option_copied result ≡ unknown_in_filter columns.now (filter_view filter.now) }
 {

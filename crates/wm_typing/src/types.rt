@@ -1,3 +1,4 @@
+//! The kinds of expressions, and the first that is wrong.
 ghost use Rattle.std.specs.Prelude.{◌≡◌, ◌&&◌, codes, option_copied};
 ghost use Rattle.std.specs.List.{list_all};
 ghost use Rattle.wm_base.specs.Views.{cond_view, expr_view, filter_view};
@@ -61,7 +62,7 @@ fn mark_between(
 
 /// The first mark of arithmetic of which an operand is no number. A chain of operators nests to the left, and is gone
 /// down in a loop.
-#[tactic(auto, using(crate::proofs::Firsts::or_assoc, crate::proofs::Firsts::or_none))]
+#[tactic(auto, using(wm_base::proofs::Plain::option_or_assoc, crate::proofs::Firsts::or_none))]
 pub fn mistyped_in_expr(columns: &[Column], expr: &Expr) -> Option<&'static [u8]>
     ensures { option_copied result ≡ mistyped_in_expr columns.now (expr_view expr.now) }
 {
@@ -120,7 +121,7 @@ fn unless_listed(columns: &[Column], what: &Operand, list: &Consts) -> Option<&'
 
 /// The first comparison whose operands differ in type, or one of which is a period. A chain of OR and AND nests to the
 /// left, and is gone down in a loop.
-#[tactic(auto, using(crate::proofs::Firsts::or_assoc, crate::proofs::Firsts::or_none))]
+#[tactic(auto, using(wm_base::proofs::Plain::option_or_assoc, crate::proofs::Firsts::or_none))]
 pub fn mistyped_in_cond(columns: &[Column], cond: &Cond) -> Option<&'static [u8]>
     ensures { option_copied result ≡ mistyped_in_cond columns.now (cond_view cond.now) }
 {
@@ -156,7 +157,7 @@ pub fn mistyped_in_cond(columns: &[Column], cond: &Cond) -> Option<&'static [u8]
     }
 }
 
-/// The same of a condition that may be left out.
+/// What is of a wrong type first in a condition that may be left out.
 pub fn mistyped_in_filter(columns: &[Column], filter: &Option<Cond>) -> Option<&'static [u8]>
     ensures { option_copied result ≡ mistyped_in_filter columns.now (filter_view filter.now) }
 {
