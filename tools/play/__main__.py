@@ -1,18 +1,19 @@
 #!/usr/bin/env python3
 """python3 tools/play STORE [SCRIPT] [--new [--limit N]] [--now T] [--stop] [--csv] [--quiet] [--program WM]
 
-Plays a script through the built program, and shows each line with its answer below it. Without SCRIPT the lines come from standard
-input; at a terminal each is asked for. The last line, on standard error, says how many were accepted and refused.
+Plays a script through the built program, and shows each line with its answer below it. Without SCRIPT the lines come
+from standard input; at a terminal each is asked for. The last line, on standard error, counts accepted and refused ones.
 
-    --new        makes the store first. What is at STORE already is never touched
-    --limit N    how many changes the new store takes (1048576, which is the most)
-    --now T      when the run begins, in UTC: '2024-06-01' or '2024-06-01 17:30:00'. Else it is the clock's time
-    --stop       ends at the first refused line; the lines behind it are not played
-    --csv        gives the rows of the queries alone, for a spreadsheet
-    --quiet      says nothing on standard error but what went wrong
-    --program WM the program, with words before the store's path if need be. Else $WM, build/wm, or wm on the path
+    --new         makes the store first. What is at STORE already is never touched
+    --limit N     how many changes the new store takes (1048576, which is the most)
+    --now T       when the run begins, in UTC: '2024-06-01' or '2024-06-01 17:30:00'. Without it, by the clock
+    --stop        ends at the first refused line; the lines behind it are not played
+    --csv         gives the rows of the queries alone, for a spreadsheet
+    --quiet       says nothing on standard error but what went wrong
+    --program WM  the program. Without it $WM, build/wm, or wm on the path
 
-The status is 0 where each line was accepted, 1 where one was refused, 2 where nothing could be played, and else the program's own.
+The status is 0 where each line was accepted, 1 where one was refused, 2 where nothing could be played, and else the
+program's own.
 """
 import argparse
 import fcntl

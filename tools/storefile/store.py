@@ -33,6 +33,7 @@ class Store:
 
     def __init__(self, pages):
         self.pages = pages
+        self.found = {}  # the conflicts of a workspace, once they were asked for
         by_kind = defaultdict(list)
         for record in records_of(pages):
             by_kind[type(record)].append(record)
@@ -95,7 +96,8 @@ class Store:
         """What is seen of a table, or of one key: each part of a piece that no nearer version covers."""
         covered, found = defaultdict(list), []
         for nearer in self.path(version):
-            stored = [piece for piece in self.pieces[nearer] if piece.cells.table == table.number and key in (None, piece.cells.key)]
+            stored = [piece for piece in self.pieces[nearer]
+                      if piece.cells.table == table.number and key in (None, piece.cells.key)]
             for piece in stored:
                 parts = [piece.cells.period]
                 for other in covered[piece.cells.key]:
@@ -140,9 +142,13 @@ class Store:
     # What will conflict
 
     def conflicts(self, space):
-        """The longest periods that the workspace and its parent both changed since the one was made of the other, by table and key."""
-        if space.number == LIVE:
-            return []
+        """The longest periods that the workspace and its parent both changed since the one was made of the other, by
+        table and key."""
+        if space.number not in self.found:
+            self.found[space.number] = self.find_conflicts(space) if space.number != LIVE else []
+        return self.found[space.number]
+
+    def find_conflicts(self, space):
         touched = defaultdict(list)
         for entry in self.pending(space):
             touched[entry.cells.table, entry.cells.key].append(entry.cells.period)

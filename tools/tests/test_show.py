@@ -36,8 +36,8 @@ def selections(found, version):
 
 
 def cells_in_conflict(found, space):
-    """The ends that matter of each key, and between which of them both logs have an entry. No merge and no refresh is built yet, so
-    what a workspace changed and did not merge is its whole log."""
+    """What both logs have an entry over, by key. No merge and no refresh is built yet, so what a workspace changed and did
+    not merge is its whole log."""
     inside = {}
     for ours in found.log_of(space):
         for theirs in found.pending(space):
@@ -152,8 +152,8 @@ class Files(WithFolder):
 
 def stopped(before, after):
     """The file as a stop leaves it when the gate is open: the old pages, and behind them a journal with the new ones."""
-    places = [place for place in range(1, len(before) // SIZE) if before[place * SIZE:(place + 1) * SIZE] != after[place * SIZE:(place + 1) * SIZE]
-              and place < int.from_bytes(after[SIZE:SIZE + 8], "big")]
+    places = [place for place in range(1, int.from_bytes(after[SIZE:SIZE + 8], "big"))
+              if before[place * SIZE:(place + 1) * SIZE] != after[place * SIZE:(place + 1) * SIZE]]
     first = max(int.from_bytes(data[SIZE:SIZE + 8], "big") for data in (before, after))
     head = bytearray(before[:SIZE])
     head[8] = 0x47
