@@ -16,7 +16,6 @@ The status is 0 where each line was accepted, 1 where one was refused, 2 where n
 program's own.
 """
 import argparse
-import fcntl
 import os
 import sys
 from datetime import datetime, timezone
@@ -30,6 +29,7 @@ from lines import is_refusal, is_silent, script_lines
 from output import Progress, Sheet, Transcript
 from program import Ended, NoProgram, Program, found_program, make_store
 from storefile.pages import MADE, Damaged, NotAStore
+from storefile.use import has_a_run
 
 GREATEST_LIMIT = 1_048_576
 REASONS = {"wm: disk fault": "the store could not be read or written, or another run has it open",
@@ -82,17 +82,6 @@ def see_to_store(words, program):
             raise Refused(f"{words.store} is no store")
         if has_a_run(file):
             raise Refused(f"another run has {words.store} open")
-
-
-def has_a_run(file):
-    """Whether a run holds the lock of the file, which is looked at for a moment only."""
-    try:
-        fcntl.flock(file, fcntl.LOCK_SH | fcntl.LOCK_NB)
-    except BlockingIOError:
-        return True
-    except OSError:
-        pass
-    return False
 
 
 def warn_of_moment(words, catalog):
