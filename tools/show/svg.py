@@ -50,7 +50,7 @@ def shortened(text, width, height=VALUE):
     if width_of(text, height) <= width:
         return text
     most = next(most for most in range(len(text), -1, -1) if width_of(text[:most] + "…", height) <= width or most == 0)
-    return text[:most].rstrip() + "…" if most > 1 else ""
+    return text[:most].rstrip(" ·,") + "…" if most > 1 else ""
 
 
 def name_label(x, y, name, width):
