@@ -14,6 +14,6 @@ pub returns : goal.returns
 returns c = λ differs.
     let ss = listed c.args.kept.now.entries in
     let are : c.in_ok-tables-2.tables.items ≡ by_number (parts_of ss).tables =
-        c.in_ok-tables-2.ensures
-        ∙ ap by_number (c.in_ok-tables.ensures ∙ ap (λ (ids : List ℕ). kind_at as_table ss ids) c.as_slice.ensures.value ∙ tables_told c.args.kept.now c.args.index.now c.requires) in
+    c.in_ok-tables-2.ensures
+    ∙ ap by_number (c.in_ok-tables.ensures ∙ ap (λ (ids : List ℕ). kind_at as_table ss ids) c.as_slice.ensures.value ∙ tables_told c.args.kept.now c.args.index.now c.requires) in
     c.in_ok-catalog.ensures (ap (λ (ts : List Table). differ same_name ts) are ∙ differ_sorted (parts_of ss).tables differs) ∙ are

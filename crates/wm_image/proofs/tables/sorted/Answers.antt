@@ -13,7 +13,7 @@ loop-table-preserved c =
     let t = c.in-Some.table in
     let rest = c.pop.new.self.items in
     let there : insert old c.place_of-place.result t ≡ place_table t old =
-        subst (λ (ts : List Table). insert ts c.place_of-place.result t ≡ place_table t ts) c.as_slice.ensures.value c.place_of-place.ensures.there in
+    subst (λ (ts : List Table). insert ts c.place_of-place.result t ≡ place_table t ts) c.as_slice.ensures.value c.place_of-place.ensures.there in
     ap (placing rest) (c.in_ok-insert.ensures.items ∙ there)
     ∙ sym (placing_last rest old t)
     ∙ ap (λ (ts : List Table). placing ts old) (sym c.in-Some.ensures.items)
