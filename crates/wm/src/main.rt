@@ -1,12 +1,11 @@
 //! The program: `wm STORE WORDS..`. A script comes from standard input, answers go to standard output.
 #![tactic(auto)]
 
-use std::fs::File;
-use std::io::{ErrorKind, Stdout};
+use std::io::ErrorKind;
 use std::process::ExitCode;
 use std::{env, io};
 use wm_base::Damage;
-use wm_host::{Ended, Place, run};
+use wm_host::{Command, Ended, Place, command_of, run};
 use wm_station::{FileStation, StreamSource};
 
 /// The first argument is the program's name, and the second the store's path.
@@ -43,23 +42,21 @@ fn arguments(rt: &HostRuntime) -> io::Result<Vec<String>> {
     Ok(arguments)
 }
 
-/// Runs the words behind the path, over the file at the path. Where there is none it is made.
+/// Runs the words behind the path, over the file at the path, which no other run has meanwhile. Where there
+/// is none, `init` alone makes it.
 fn play(rt: &HostRuntime, arguments: &[String]) -> Ended {
     if arguments.len() < WORDS_BEGIN {
         return ended(2);
     }
+    let words = &arguments[WORDS_BEGIN..];
+    let path = arguments[PATH].as_str();
+    let mut station = match command_of(words) {
+        Some(Command::Init { .. }) => FileStation::open(rt, path, rt.stdout()),
+        Some(Command::Run { .. }) => FileStation::open_existing(rt, path, rt.stdout()),
+        None => return ended(2),
+    };
     let mut source = StreamSource::new(rt.stdin());
-    let mut station: FileStation<File, Stdout> = FileStation::open(
-        rt,
-        arguments[PATH].as_str(),
-        rt.stdout(),
-    );
-    run(
-        rt.alloc(),
-        &arguments[WORDS_BEGIN..],
-        &mut source,
-        &mut station,
-    )
+    run(rt.alloc(), words, &mut source, &mut station)
 }
 
 /// Says on standard error why the run ended, where it did not end well.

@@ -1,5 +1,5 @@
 -- What a tree in memory is as a tree.
-use Rattle.std.specs.Prelude.{ℕ, List, map, Option, option_map}
+use Rattle.std.specs.Prelude.{List, map, Option, option_map}
 use Rattle.wm_base.specs.declared.tree.expr.Expr.{Expr as ExprNode}
 use Rattle.wm_base.specs.declared.tree.expr.Expr.TheVariants as exprs
 use Rattle.wm_base.specs.declared.tree.cond.Cond.{Cond as CondNode}

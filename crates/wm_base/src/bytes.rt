@@ -1,3 +1,4 @@
+//! Bytes that are written one after another.
 ghost use Rattle.std.specs.Prelude.{◌≡◌, ℕ, ◌<◌, ◌^◌, ◌↔◌, List, [], ◌∷◌, ◌++◌, length, IsTrue, IfOk, OnOk, OnErr};
 
 use crate::memory::Memory;
@@ -5,7 +6,7 @@ use std::alloc::Global;
 use std::marker::Model;
 
 /// A list of bytes that grows at its end.
-#[derive(Debug, Drop)]
+#[derive(Drop)]
 pub struct Bytes {
     bytes: Vec<u8>,
 }

@@ -1,3 +1,4 @@
+//! Columns of tables and listings.
 ghost use Rattle.std.specs.Prelude.{◌≡◌, IfOk};
 
 use crate::memory::Memory;
@@ -15,7 +16,7 @@ pub const TIME: u8 = 3;
 pub const PERIOD: u8 = 4;
 
 /// A column of a table or a listing, with the name of its source there.
-#[derive(Debug, Drop)]
+#[derive(Drop)]
 pub struct Column {
     pub source: Name,
     pub name: Name,
@@ -36,7 +37,7 @@ impl Column {
 }
 
 /// The columns of a table, or those of the sources of a query, one source after another.
-#[derive(Debug, Drop)]
+#[derive(Drop)]
 pub struct Columns {
     list: Vec<Column>,
 }

@@ -1,3 +1,4 @@
+//! Why a store is not made, opened, changed or read.
 ghost use Rattle.std.specs.Prelude.{◌≡◌};
 ghost use Rattle.wm_base.specs.declared.fault.MakeFault.TheVariants.{Memory as MakeMemory};
 ghost use Rattle.wm_base.specs.declared.fault.OpenFault.TheVariants.{Memory as OpenMemory};

@@ -1,3 +1,4 @@
+//! Moments, in seconds.
 ghost use Rattle.std.specs.Prelude.{◌≡◌, ℕ, ◌<◌, ◌≤◌, ◌↔◌, IsTrue, IsSome, IfSome};
 
 use std::marker::Model;

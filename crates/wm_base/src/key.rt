@@ -1,3 +1,4 @@
+//! The key of a row.
 ghost use Rattle.std.specs.Prelude.{◌≡◌, ◌↔◌, ◌∷◌, [], IsTrue, IfOk};
 ghost use Rattle.wm_base.specs.Key.{key_order};
 

@@ -1,3 +1,4 @@
+//! The rows of a source or an answer, and the sources of a query.
 ghost use Rattle.std.specs.Prelude.{◌≡◌, [], ◌∷◌, ◌++◌, length, OnOk, OnErr};
 
 use crate::columns::Columns;
@@ -7,7 +8,7 @@ use std::alloc::Global;
 use std::marker::Model;
 
 /// Rows in order: those of a listing, or those of an answer.
-#[derive(Debug, Drop)]
+#[derive(Drop)]
 pub struct RowList {
     list: Vec<Row>,
 }
@@ -66,14 +67,14 @@ impl RowList {
 }
 
 /// What a source of a query shows: its columns, and its rows in order.
-#[derive(Debug, Drop)]
+#[derive(Drop)]
 pub struct Listing {
     pub columns: Columns,
     pub rows: RowList,
 }
 
 /// The sources of a query, in order.
-#[derive(Debug, Drop)]
+#[derive(Drop)]
 pub struct Listings {
     list: Vec<Listing>,
 }

@@ -1,5 +1,6 @@
+//! Periods of time and the questions about two of them.
 ghost use Rattle.std.specs.Prelude.{◌≡◌, ℕ, ◌<◌, ◌≤◌, ◌↔◌, IsTrue, IsSome, IfSome};
-ghost use Rattle.wm_base.specs.Period.{Span, covers, overlaps, contains, meets, equals, before, after, shared, always, span_order};
+ghost use Rattle.wm_base.specs.Period.{Span, overlaps, contains, meets, equals, before, after, shared, always, span_order};
 ghost use Rattle.wm_base.specs.declared.instant.TheConstants.{END};
 
 use crate::instant::Instant;
@@ -64,13 +65,6 @@ impl Period {
         ensures bound { self.now.till ≤ END }
     {
         self.till
-    }
-
-    /// Whether the instant lies in the period, as its beginning does and its end does not.
-    pub fn covers(&self, at: Instant) -> bool
-        ensures { result ≡ covers self.now at }
-    {
-        self.from <= at && at < self.till
     }
 
     /// Whether some instant lies in both.

@@ -1,3 +1,4 @@
+//! The refusals of a line, with what their texts name.
 use crate::instant::Instant;
 use crate::key::Key;
 use crate::period::Period;
@@ -5,7 +6,7 @@ use crate::text::Name;
 
 /// Why a line is refused. A variant is named by the number of its text and keeps what the text names, in the
 /// order of the text.
-#[derive(Debug, Drop)]
+#[derive(Drop)]
 pub enum Refusal {
     Form(FormRefusal),
     Space(SpaceRefusal),
@@ -14,7 +15,7 @@ pub enum Refusal {
 }
 
 /// What is wrong with the line itself: its form, its session, its names, its types.
-#[derive(Debug, Drop)]
+#[derive(Drop)]
 pub enum FormRefusal {
     /// The line has more than 16,384 bytes.
     Wm001,
@@ -49,7 +50,7 @@ pub enum FormRefusal {
 }
 
 /// What is wrong with the workspaces, savepoints and moments that the line names.
-#[derive(Debug, Drop)]
+#[derive(Drop)]
 pub enum SpaceRefusal {
     /// There is no workspace of this name.
     Wm020(Name),
@@ -88,7 +89,7 @@ pub enum SpaceRefusal {
 }
 
 /// What is wrong with the cells that the line reads, writes or locks.
-#[derive(Debug, Drop)]
+#[derive(Drop)]
 pub enum CellRefusal {
     /// In the workspace, the user's lock of this mode bars this key; of a valid-time table, on this period.
     Wm050(Name, Name, Name, Key, Option<Period>),
@@ -113,7 +114,7 @@ pub enum CellRefusal {
 }
 
 /// What the store does not do, or has no room for.
-#[derive(Debug, Drop)]
+#[derive(Drop)]
 pub enum LimitRefusal {
     /// The store takes so many changes.
     Wm070(u64),

@@ -1,3 +1,4 @@
+//! A row of values.
 ghost use Rattle.std.specs.Prelude.{◌≡◌, IfOk};
 
 use crate::memory::Memory;
@@ -5,7 +6,7 @@ use crate::values::Values;
 use std::alloc::Global;
 
 /// The values of a row, one for each column of its table or listing.
-#[derive(Debug, Drop)]
+#[derive(Drop)]
 pub struct Row {
     pub values: Values,
 }

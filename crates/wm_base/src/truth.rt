@@ -1,3 +1,4 @@
+//! Three-valued logic.
 ghost use Rattle.std.specs.Prelude.{◌≡◌};
 ghost use Rattle.wm_base.specs.Truth.{truth_and, truth_or, truth_not};
 

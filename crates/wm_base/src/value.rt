@@ -1,3 +1,4 @@
+//! One value of a row, a key or a condition.
 ghost use Rattle.std.specs.Prelude.{◌≡◌, ℕ, ◌↔◌, ◌+◌, ◌<◌, ◌^◌, length, IsTrue, IfOk};
 ghost use Rattle.wm_base.specs.Value.{same_type, compare_of, value_order, weight_of, type_place};
 
@@ -45,16 +46,7 @@ impl Value {
         }
     }
 
-    /// Whether the two may be compared: NULL is of every type.
-    pub fn has_type_of(&self, q: &Value) -> bool
-        ensures { result ≡ same_type self.now q.now }
-    {
-        let place = self.type_place();
-        let other_place = q.type_place();
-        place == 0 || other_place == 0 || place == other_place
-    }
-
-    /// How two values of one type compare, or None exactly where one is NULL.
+    /// How two values of one type compare, or None exactly where one is NULL, which is of every type.
     pub fn compare(&self, q: &Value) -> Option<Ordering>
         requires { IsTrue (same_type self.now q.now) }
         ensures { result ≡ compare_of self.now q.now }

@@ -4,7 +4,7 @@ use Rattle.wm_base.specs.Trees.{Line, Run, Statement, Call}
 use Rattle.wm_grammar.specs.Calls.{procedure_of}
 use Rattle.wm_grammar.specs.declared.procedure.Procedure.{Procedure}
 use Rattle.wm_grammar.specs.declared.procedure.Procedure.TheVariants as procedures
-use Rattle.wm_parser.specs.Parsed.{Bad}
+use Rattle.wm_grammar.specs.Parsed.{Bad}
 
 -- the call makes a savepoint, or a workspace and so a savepoint
 abbrev pub forks_call : Option Procedure → Bool

@@ -6,7 +6,7 @@ ghost use Rattle.wm_base.specs.declared.instant.TheConstants.{END};
 ghost use Rattle.wm_engine.specs.Cause.{LineCause};
 ghost use Rattle.wm_engine.specs.ForkLines.{is_fork};
 ghost use Rattle.wm_plan.specs.Idle.{is_idle};
-ghost use Rattle.wm_parser.specs.Parsed.{parsed};
+ghost use Rattle.wm_grammar.specs.Parsed.{parsed};
 ghost use Rattle.wm_engine.specs.Working.{FileStands, HoldsSorted, IsSound, LeavesAlone, StandsFor, WorksOver, Tells};
 ghost use Rattle.wm_model.specs.Step.Refusing.{refusal_of};
 ghost use Rattle.wm_engine.specs.declared.fault.LineFault.TheVariants as faults;

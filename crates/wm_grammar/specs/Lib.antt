@@ -1,6 +1,7 @@
 pub mod Sorts
 pub mod Words
 pub mod Symbols
+pub mod Next
 pub mod Scanned
 pub mod Meaning
 pub mod Forms
@@ -17,3 +18,5 @@ pub mod CallForms
 pub mod CallReaders
 pub mod Statements
 pub mod StatementReaders
+pub mod Literals
+pub mod Parsed

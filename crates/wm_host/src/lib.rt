@@ -14,3 +14,4 @@ mod words;
 
 pub use command::run;
 pub use ended::{Ended, Place};
+pub use words::{Command, command_of};

@@ -9,7 +9,7 @@ use wm_instants::read_instant;
 
 /// What the words ask for.
 #[derive(Clone, Copy, Debug, PartialEq)]
-pub(crate) enum Command {
+pub enum Command {
     /// To make a store that takes so many changes.
     Init { limit: u32 },
     /// To run a script from this moment on.
@@ -24,7 +24,7 @@ const GREATEST_LIMIT: u128 = 1_048_576;
 
 /// The command that the words give, or None where they are not in the grammar: `init --limit N` and
 /// `run --now T`, where `=` may stand in place of the space.
-pub(crate) fn command_of(words: &[String]) -> Option<Command>
+pub fn command_of(words: &[String]) -> Option<Command>
     ensures value { result ≡ command_in (map string_bytes words.now) }
     ensures bounds { IfSome result IsInBounds }
 {

@@ -8,9 +8,9 @@ use Rattle.wm_grammar.specs.Sorts as sorts
 use Rattle.wm_grammar.specs.Meaning.{number_of, greatest}
 use Rattle.wm_grammar.specs.Scanned.{scan, scanned, symbols_of}
 use Rattle.wm_grammar.proofs.Scans.{skipped_shorter}
-use Rattle.wm_terms.specs.Cursor.{next_sort, behind, no_more}
+use Rattle.wm_grammar.specs.Next.{next_sort, behind, no_more}
 use Rattle.wm_terms.proofs.Numbers.{no_number}
-use Rattle.wm_literals.specs.Literals.{Before, nothing, depth_after, after, first_from, is_bad, bad_within, is_bad_in_line, bad_literal}
+use Rattle.wm_grammar.specs.Literals.{Before, nothing, depth_after, after, first_from, is_bad, bad_within, is_bad_in_line, bad_literal}
 
 scan_short : (n : ℕ) (bytes : List ℕ) → length (scan n bytes) ≤ n
 unfolding scan

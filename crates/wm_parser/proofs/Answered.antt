@@ -6,11 +6,12 @@ use Rattle.wm_base.specs.Trees.{Line}
 use Rattle.wm_grammar.specs.Scanned.{symbols_of}
 use Rattle.wm_grammar.specs.Faults.{all_of}
 use Rattle.wm_grammar.specs.StatementReaders.{line_at}
-use Rattle.wm_literals.specs.Literals.{bad_literal}
+use Rattle.wm_grammar.specs.Literals.{bad_literal}
 use Rattle.wm_parser.specs.declared.fault.ParseFault.{ParseFault}
-use Rattle.wm_parser.specs.Parsing.{column_of, judged}
-use Rattle.wm_parser.specs.Parsed.{Bad, within_range, read_line, parsed, Gives}
-use Rattle.wm_parser.specs.Parsed as bads
+use Rattle.wm_parser.specs.Parsing.{judged}
+use Rattle.wm_grammar.specs.Parsed.{column_of, Bad, within_range, read_line, parsed}
+use Rattle.wm_grammar.specs.Parsed as bads
+use Rattle.wm_parser.specs.Parsed.{Gives}
 
 parsed_of : (text : List ℕ) (read : Result Line ℕ) (bad : Option ℕ) → all_of (line_at 64 (symbols_of text)) ≡ read → bad ≡ bad_literal text → parsed text ≡ read_line text read bad
 unfolding parsed

@@ -11,11 +11,12 @@ use Rattle.wm_grammar.specs.Statements.{line}
 use Rattle.wm_grammar.specs.StatementReaders.{line_at}
 use Rattle.wm_grammar.proofs.Whole.{all_exact, all_complete, fault_not_whole}
 use Rattle.wm_grammar.proofs.StatementLaws.{line_exact}
-use Rattle.wm_terms.specs.Cursor.{no_more}
+use Rattle.wm_grammar.specs.Next.{no_more}
 use Rattle.wm_parser.proofs.Unique.{one_fault}
-use Rattle.wm_literals.specs.Literals.{bad_literal}
+use Rattle.wm_grammar.specs.Literals.{bad_literal}
 use Rattle.wm_parser.specs.declared.fault.ParseFault.{ParseFault}
-use Rattle.wm_parser.specs.Parsing.{column_of, judged, IsLine, IsSyntax, IsLiteral, IsFault, Refuses}
+use Rattle.wm_grammar.specs.Parsed.{column_of}
+use Rattle.wm_parser.specs.Parsing.{judged, IsLine, IsSyntax, IsLiteral, IsFault, Refuses}
 use Rattle.wm_parser.specs.declared.fault.ParseFault.TheVariants as faults
 
 -- no literal

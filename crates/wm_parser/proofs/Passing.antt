@@ -4,7 +4,7 @@ use Rattle.std.specs.Prelude.{◌==◌, ◌||◌}
 use Rattle.wm_grammar.specs.Symbols.{Symbol, next_in}
 use Rattle.wm_grammar.specs.Sorts as sorts
 use Rattle.wm_grammar.specs.Reading.{mark_at, bind}
-use Rattle.wm_terms.specs.Cursor.{behind}
+use Rattle.wm_grammar.specs.Next.{behind}
 use Rattle.wm_parser.specs.Lines.{semicolon_at, some_if}
 
 abbrev pub Read : Type 0

@@ -1,5 +1,4 @@
 pub mod Lines
-pub mod Gathering
 pub mod Parsing
 pub mod Parsed
 pub mod Tokens

@@ -1,29 +1,14 @@
 -- What the parser says of a whole line.
-use Rattle.std.specs.Prelude.{◌≡◌, ◌⊎◌, ℕ, ◌+◌, ◌-◌, List, length, Option, Some, None, Result, Ok, Err}
+use Rattle.std.specs.Prelude.{◌≡◌, ◌⊎◌, ℕ, List, Option, Some, None, Result, Ok, Err}
 use Rattle.wm_base.specs.declared.tree.line.Line.{Line as LineNode}
 use Rattle.wm_base.specs.Trees.{Line}
-use Rattle.wm_grammar.specs.Symbols.{Symbol}
 use Rattle.wm_grammar.specs.Scanned.{symbols_of}
 use Rattle.wm_grammar.specs.Faults.{Fault}
 use Rattle.wm_grammar.specs.Statements.{line}
-use Rattle.wm_terms.specs.declared.error.ParseError.{ParseError}
-use Rattle.wm_terms.specs.declared.error.ParseError.TheVariants as errors
+use Rattle.wm_grammar.specs.Literals.{bad_literal}
+use Rattle.wm_grammar.specs.Parsed.{column_of}
 use Rattle.wm_parser.specs.declared.fault.ParseFault.{ParseFault}
 use Rattle.wm_parser.specs.declared.fault.ParseFault.TheVariants as faults
-use Rattle.wm_literals.specs.Literals.{bad_literal}
-
-abbrev pub FailsAll : {Y : Type 0} → ParseError → Result Y ℕ → Type 0
-FailsAll errors.Memory read = Unit {0}
-FailsAll (errors.Syntax left) read = read ≡ Err left
-
--- the value, seen by the view, is what is read of all the symbols, or the fault is its fault, unless memory ran out
-abbrev pub Tells : {X Y : Type 0} → (X → Y) → Result X ParseError → Result Y ℕ → Type 0
-Tells view (Ok x) read = read ≡ Ok (view x)
-Tells view (Err e) read = FailsAll e read
-
--- the column, from 1, of a symbol from which so many bytes of the line are left
-abbrev pub column_of : List ℕ → ℕ → ℕ
-column_of line left = length line - left + 1
 
 -- the tree, or the fault of the first literal out of range
 abbrev pub judged : List ℕ → LineNode → Option ℕ → Result LineNode ParseFault

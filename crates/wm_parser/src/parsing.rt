@@ -2,9 +2,10 @@ ghost use Rattle.std.specs.Prelude.{◌≡◌, ℕ, ◌≤◌, List, length, IfO
 ghost use Rattle.wm_base.specs.Trees.{Line as Tree};
 ghost use Rattle.wm_base.specs.Views.{line_view};
 ghost use Rattle.wm_grammar.specs.Scanned.{symbols_of};
-ghost use Rattle.wm_literals.specs.Literals.{bad_literal};
-ghost use Rattle.wm_parser.specs.Parsed.{parsed, Gives};
-ghost use Rattle.wm_parser.specs.Parsing.{column_of, judged, IsLine, IsSyntax, IsLiteral, IsFault, Refuses};
+ghost use Rattle.wm_grammar.specs.Literals.{bad_literal};
+ghost use Rattle.wm_parser.specs.Parsed.{Gives};
+ghost use Rattle.wm_grammar.specs.Parsed.{column_of, parsed};
+ghost use Rattle.wm_parser.specs.Parsing.{judged, IsLine, IsSyntax, IsLiteral, IsFault, Refuses};
 ghost use Rattle.wm_parser.specs.Tokens.{AreOfTokens};
 
 use crate::fault::ParseFault;

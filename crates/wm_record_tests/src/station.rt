@@ -1,5 +1,6 @@
 //! The device at each call: in memory, over a fuse, and over a file of the system.
 use std::alloc::Global;
+use std::fs;
 use std::test::Fail;
 use wm_station::*;
 
@@ -92,6 +93,9 @@ fn a_file_of_the_system_is_written_and_read(rt: HostRuntime) -> Result<(), Fail>
     assert_eq!(rt; station.sync(), Ok(()));
     assert_eq!(rt; station.len(), Ok(4));
     assert_eq!(rt; station.say(b"OK"), Ok(2));
+    let mut beside = FileStation::open(&rt, "wm_station_test.disk", rt.stdout());
+    assert_eq!(rt; beside.len(), Err(DiskFailed::Failed));
+    drop(station);
     let mut again = FileStation::open(&rt, "wm_station_test.disk", rt.stdout());
     let mut into = [0; 3];
     assert_eq!(rt; again.read(1, &mut into), Ok(()));
@@ -99,5 +103,10 @@ fn a_file_of_the_system_is_written_and_read(rt: HostRuntime) -> Result<(), Fail>
     assert_eq!(rt; again.read(2, &mut into), Err(DiskFailed::Failed));
     let mut none = FileStation::open(&rt, "no_such_folder/disk", rt.stdout());
     assert_eq!(rt; none.len(), Err(DiskFailed::Failed));
+    let mut absent = FileStation::open_existing(&rt, "wm_station_test.absent", rt.stdout());
+    assert_eq!(rt; absent.len(), Ok(0));
+    assert_eq!(rt; absent.sync(), Ok(()));
+    assert_eq!(rt; absent.write_at(0, b"wm"), Err(DiskFailed::Failed));
+    assert_eq!(rt; fs::exists(&rt, "wm_station_test.absent")?, false);
     Ok(())
 }

@@ -3,58 +3,56 @@ ghost use Rattle.std.specs.Prelude.{◌≡◌, ◌<◌, ◌≤◌, ◌↔◌, []
 ghost use Rattle.wm_station.specs.History.{Begin};
 ghost use Rattle.wm_station.specs.Cause.{DiskCause};
 
+use crate::opening::{Opened, open_alone};
 use crate::{DiskFailed, SayFailed, Station};
-use std::fs::{OpenFile, OpenOptions};
+use std::fs::File;
 use std::io;
 use std::io::{ErrorKind, Read, Seek, SeekFrom, Write};
 use std::rt::Files;
 
 /// A file of the system, and a writer for answers. It tells nothing, and never wants memory.
 #[derive(Drop)]
-pub struct FileStation<F, W> {
-    // None where the file was not opened: then every call on it fails.
-    file: Option<F>,
+pub struct FileStation<W> {
+    file: Opened,
     out: W,
     disk_faults: u64,
     say_faults: u64,
 }
 
-impl<F: Read + Write + Seek + OpenFile, W: Write> FileStation<F, W> {
-    /// Opens the file at this path for reading and writing, and makes it where it is absent. Answers go to
-    /// `out`.
-    pub fn open<R: Files<File = F>>(rt: &R, path: &str, out: W) -> Self
-        ensures disk { ⟦<FileStation<F, W> as Station>⟧.disk_faults result ≡ 0 }
-        ensures say { ⟦<FileStation<F, W> as Station>⟧.say_faults result ≡ 0 }
+impl<W: Write> FileStation<W> {
+    /// Opens the file at this path for reading and writing, for this station alone, and makes it where it is
+    /// absent. Where it cannot be opened, or another station has it, each call on the disk fails. Answers go
+    /// to `out`.
+    pub fn open<R: Files<File = File>>(rt: &R, path: &str, out: W) -> Self
+        ensures disk { ⟦<FileStation<W> as Station>⟧.disk_faults result ≡ 0 }
+        ensures say { ⟦<FileStation<W> as Station>⟧.say_faults result ≡ 0 }
     {
-        let file = OpenOptions::new()
-            .read(true)
-            .write(true)
-            .create(true)
-            .open(rt, path)
-            .ok();
-        FileStation {
-            file,
-            out,
-            disk_faults: 0,
-            say_faults: 0,
-        }
+        over(open_alone(rt, path, true), out)
     }
 
-    /// A station that has no file: each call on the disk fails. Answers go to `out`.
-    pub fn without_file(out: W) -> Self
-        ensures disk { ⟦<FileStation<F, W> as Station>⟧.disk_faults result ≡ 0 }
-        ensures say { ⟦<FileStation<F, W> as Station>⟧.say_faults result ≡ 0 }
+    /// The same, but a file that is absent is not made: the station reads as an empty one, and each write
+    /// fails.
+    pub fn open_existing<R: Files<File = File>>(rt: &R, path: &str, out: W) -> Self
+        ensures disk { ⟦<FileStation<W> as Station>⟧.disk_faults result ≡ 0 }
+        ensures say { ⟦<FileStation<W> as Station>⟧.say_faults result ≡ 0 }
     {
-        FileStation {
-            file: None,
-            out,
-            disk_faults: 0,
-            say_faults: 0,
-        }
+        over(open_alone(rt, path, false), out)
     }
 }
 
-impl<F: Read + Write + Seek + OpenFile, W: Write> Station for FileStation<F, W> {
+fn over<W: Write>(file: Opened, out: W) -> FileStation<W>
+    ensures disk { ⟦<FileStation<W> as Station>⟧.disk_faults result ≡ 0 }
+    ensures say { ⟦<FileStation<W> as Station>⟧.say_faults result ≡ 0 }
+{
+    FileStation {
+        file,
+        out,
+        disk_faults: 0,
+        say_faults: 0,
+    }
+}
+
+impl<W: Write> Station for FileStation<W> {
     ghost tells = { ⊥ };
 
     ghost wants = { ⊥ };
@@ -116,32 +114,38 @@ fn not_open() -> io::Error {
     io::Error::from(ErrorKind::NotFound)
 }
 
-fn len_of<F: OpenFile>(file: &Option<F>) -> io::Result<u64> {
+fn len_of(file: &Opened) -> io::Result<u64> {
     match file {
-        Some(file) => Ok(file.metadata()?.len()),
-        None => Err(not_open()),
+        Opened::File(file) => Ok(file.metadata()?.len()),
+        Opened::Nothing => Ok(0),
+        Opened::Fault => Err(not_open()),
     }
 }
 
 // Goes on until `into` is full. The end of the file before that is an error.
-fn read_at<F: Read + Seek>(file: &mut Option<F>, at: u64, into: &mut [u8]) -> io::Result<()> {
-    let file = file.as_mut().ok_or(not_open())?;
+fn read_at(file: &mut Opened, at: u64, into: &mut [u8]) -> io::Result<()> {
+    let Opened::File(file) = file else {
+        return Err(not_open());
+    };
     file.seek(SeekFrom::Start(at))?;
     file.read_exact(into)
 }
 
 // Goes on until all bytes are written.
-fn write_all_at<F: Write + Seek>(file: &mut Option<F>, at: u64, bytes: &[u8]) -> io::Result<()> {
-    let file = file.as_mut().ok_or(not_open())?;
+fn write_all_at(file: &mut Opened, at: u64, bytes: &[u8]) -> io::Result<()> {
+    let Opened::File(file) = file else {
+        return Err(not_open());
+    };
     file.seek(SeekFrom::Start(at))?;
     file.write_all(bytes)?;
     file.flush()
 }
 
-fn sync_of<F: OpenFile>(file: &Option<F>) -> io::Result<()> {
+fn sync_of(file: &Opened) -> io::Result<()> {
     match file {
-        Some(file) => file.sync_all(),
-        None => Err(not_open()),
+        Opened::File(file) => file.sync_all(),
+        Opened::Nothing => Ok(()),
+        Opened::Fault => Err(not_open()),
     }
 }
 

@@ -7,6 +7,7 @@ mod file_station;
 mod fuse_station;
 mod memory_source;
 mod memory_station;
+mod opening;
 mod quiet_station;
 mod recording;
 mod source;

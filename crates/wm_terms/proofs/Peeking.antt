@@ -12,7 +12,8 @@ use Rattle.wm_lexer.proofs.Longest.{some_byte}
 use Rattle.wm_grammar.specs.Symbols.{Symbol, left_of, has, next_in}
 use Rattle.wm_grammar.specs.Scanned.{symbol_from, scanned}
 use Rattle.wm_grammar.proofs.Scans.{scanned_none, scanned_one}
-use Rattle.wm_terms.specs.Cursor.{next_sort, next_text, behind, no_more, Peeks}
+use Rattle.wm_grammar.specs.Next.{next_sort, next_text, behind, no_more}
+use Rattle.wm_terms.specs.Cursor.{Peeks}
 
 pub left_is : (rest : List ℕ) → length rest ≡ left_of (scanned rest)
 left_is [] = sym (ap left_of scanned_none)

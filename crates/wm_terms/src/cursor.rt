@@ -6,7 +6,8 @@ ghost use Rattle.wm_grammar.specs.Meaning.{greatest};
 ghost use Rattle.wm_grammar.specs.Reading.{mark_at};
 ghost use Rattle.wm_grammar.specs.OperandReaders.{word_at, integer_at, quoted_at, mask_at, text_at};
 ghost use Rattle.wm_grammar.specs.StatementReaders.{no_scale_at, size_at};
-ghost use Rattle.wm_terms.specs.Cursor.{next_sort, next_text, behind, no_more, Peeks, Fits};
+ghost use Rattle.wm_grammar.specs.Next.{next_sort, next_text, behind, no_more};
+ghost use Rattle.wm_terms.specs.Cursor.{Peeks, Fits};
 ghost use Rattle.wm_terms.specs.Telling.{Told};
 
 use crate::error::ParseError;

@@ -1,11 +1,9 @@
-//! The terms of the language: a cursor over the symbols of a line, and what it reads of names, constants, columns, expressions and conditions.
+//! The terms of the language: a cursor over the symbols of a line, and what it reads of names, constants and columns.
 #![tactic(auto)]
 
-pub mod conditions;
 pub mod cursor;
-mod depth;
+pub mod depth;
 pub mod error;
-pub mod expressions;
 pub mod meaning;
 pub mod operands;
 

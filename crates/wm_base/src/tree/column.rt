@@ -1,3 +1,4 @@
+//! Columns and names in a line.
 ghost use Rattle.std.specs.Prelude.{◌≡◌};
 
 use crate::text::Name;

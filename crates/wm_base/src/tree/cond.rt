@@ -1,3 +1,4 @@
+//! Conditions.
 use crate::tree::constant::Consts;
 use crate::tree::operand::Operand;
 

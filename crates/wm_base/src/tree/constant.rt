@@ -1,3 +1,4 @@
+//! Constants.
 ghost use Rattle.std.specs.Prelude.{◌≡◌};
 
 use crate::instant::Instant;

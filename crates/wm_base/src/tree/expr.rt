@@ -1,3 +1,4 @@
+//! Expressions.
 use crate::tree::operand::Operand;
 
 /// An expression. Parentheses leave no node, and chains nest to the left.

@@ -1,3 +1,4 @@
+//! A whole line.
 use crate::instant::Instant;
 use crate::text::Name;
 use crate::tree::statement::Statement;

@@ -1,3 +1,4 @@
+//! What conditions and expressions are made of.
 use crate::text::Name;
 use crate::tree::column::Col;
 use crate::tree::constant::{Const, PeriodEnd};

@@ -1,3 +1,4 @@
+//! Queries: their items, sources and orders.
 ghost use Rattle.std.specs.Prelude.{◌≡◌};
 
 use crate::text::Name;

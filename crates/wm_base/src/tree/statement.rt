@@ -1,3 +1,4 @@
+//! Statements and what stands in them.
 ghost use Rattle.std.specs.Prelude.{◌≡◌};
 
 use crate::text::Name;

@@ -10,7 +10,7 @@ ghost use Rattle.wm_engine.specs.Timely.{IsTimely};
 ghost use Rattle.wm_graph.specs.Parts.{parts_of};
 ghost use Rattle.wm_graph.specs.Rules.{keep_rules};
 ghost use Rattle.wm_model.specs.Step.{run_line, run_parsed, step, timed_line};
-ghost use Rattle.wm_parser.specs.Parsed.{parsed};
+ghost use Rattle.wm_grammar.specs.Parsed.{parsed};
 
 use crate::plan::statement::run;
 use std::alloc::Global;

@@ -1,5 +1,5 @@
 use Rattle.std.proofs.Common.{sym, ◌∙◌}
-use Rattle.wm_literals.specs.Literals.{is_bad_in_line}
+use Rattle.wm_grammar.specs.Literals.{is_bad_in_line}
 use Rattle.wm_literals.specs.Places.{before}
 use Rattle.wm_literals.proofs.Scanning.{room_starts, room_goes_on, line_starts, moved}
 use Rattle.wm_literals.proofs.literals.bad_literal.Goals as goal

@@ -1,5 +1,5 @@
 use Rattle.std.proofs.Common.{◌≡◌, ◌+◌, ◌<◌, ◌^◌, length}
-use Rattle.wm_literals.specs.Literals.{first_from, is_bad_in_line, bad_literal}
+use Rattle.wm_grammar.specs.Literals.{first_from, is_bad_in_line, bad_literal}
 use Rattle.wm_literals.specs.Places.{before}
 use Rattle.wm_literals.proofs.literals.bad_literal.Given as goal
 

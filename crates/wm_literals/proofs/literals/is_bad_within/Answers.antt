@@ -1,6 +1,6 @@
 use Rattle.std.proofs.Common.{sym, ap, ◌∙◌, Bool, Option, ℕ}
 use Rattle.std.specs.Prelude.{is_some}
-use Rattle.wm_literals.specs.Literals.{is_bad}
+use Rattle.wm_grammar.specs.Literals.{is_bad}
 use Rattle.wm_literals.specs.Places.{before}
 use Rattle.wm_literals.proofs.Scanning.{room_starts, room_goes_on, within_starts, moved}
 use Rattle.wm_literals.proofs.literals.is_bad_within.Goals as goal

@@ -1,6 +1,6 @@
 use Rattle.std.proofs.Common.{◌≡◌, ◌+◌, ◌<◌, ◌^◌, length}
 use Rattle.std.specs.Prelude.{is_some}
-use Rattle.wm_literals.specs.Literals.{first_from, is_bad, bad_within}
+use Rattle.wm_grammar.specs.Literals.{first_from, is_bad, bad_within}
 use Rattle.wm_literals.specs.Places.{before}
 use Rattle.wm_literals.proofs.literals.is_bad_within.Given as goal
 

@@ -2,7 +2,7 @@ use Rattle.std.proofs.Common.{◌≡◌, ℕ, ◌<◌, ◌≤◌, nat_le, true, 
 use Rattle.std.proofs.lemmas.Bool.Decides.{nat_tests}
 use Rattle.wm_model.specs.Step.{step, run_parsed, too_long_line, no_text}
 use Rattle.wm_print.specs.Texts.{Nothing}
-use Rattle.wm_parser.specs.Parsed.{parsed}
+use Rattle.wm_grammar.specs.Parsed.{parsed}
 use Rattle.wm_plan.proofs.Planning.{told_alone, timed_same}
 use Rattle.wm_plan.specs.Views.{answer_view, seating_view}
 use Rattle.wm_engine.proofs.plan.line.plan.Goals as goal

@@ -1,7 +1,7 @@
 use Rattle.std.proofs.Common.{refl, ap, ◌∙◌}
 use Rattle.wm_grammar.specs.Scanned.{symbols_of}
 use Rattle.wm_model.specs.Step.{run_parsed, syntax, bad_literal}
-use Rattle.wm_parser.specs.Parsed.{parsed}
+use Rattle.wm_grammar.specs.Parsed.{parsed}
 use Rattle.wm_plan.proofs.Planning.{told_alone}
 use Rattle.wm_engine.proofs.Timely.{line_timely}
 use Rattle.wm_plan.specs.Views.{answer_view, seating_view}

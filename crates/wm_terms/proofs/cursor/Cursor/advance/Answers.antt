@@ -1,7 +1,7 @@
 use Rattle.std.proofs.Common.{ap, ◌∙◌}
 use Rattle.wm_grammar.specs.Scanned.{scanned}
 use Rattle.wm_grammar.specs.Sorts.{code_of}
-use Rattle.wm_terms.specs.Cursor.{behind}
+use Rattle.wm_grammar.specs.Next.{behind}
 use Rattle.wm_terms.proofs.Peeking.{behind_is}
 use Rattle.wm_terms.proofs.cursor.Cursor.advance.Goals as goal
 

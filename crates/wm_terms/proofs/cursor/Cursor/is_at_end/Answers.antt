@@ -1,6 +1,6 @@
 use Rattle.std.proofs.Common.{ap, ◌∙◌}
 use Rattle.wm_grammar.specs.Sorts.{code_of}
-use Rattle.wm_terms.specs.Cursor.{no_more}
+use Rattle.wm_grammar.specs.Next.{no_more}
 use Rattle.wm_terms.proofs.Peeking.{end_is}
 use Rattle.wm_terms.proofs.cursor.Cursor.is_at_end.Goals as goal
 

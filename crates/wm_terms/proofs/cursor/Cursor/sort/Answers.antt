@@ -1,6 +1,6 @@
 use Rattle.std.proofs.Common.{ap, ◌∙◌}
 use Rattle.wm_grammar.specs.Sorts.{code_of}
-use Rattle.wm_terms.specs.Cursor.{next_sort}
+use Rattle.wm_grammar.specs.Next.{next_sort}
 use Rattle.wm_terms.proofs.Peeking.{sort_is}
 use Rattle.wm_terms.proofs.cursor.Cursor.sort.Goals as goal
 

@@ -1,6 +1,6 @@
 use Rattle.std.proofs.Common.{ap, ◌∙◌}
 use Rattle.wm_grammar.specs.Sorts.{code_of}
-use Rattle.wm_terms.specs.Cursor.{next_text}
+use Rattle.wm_grammar.specs.Next.{next_text}
 use Rattle.wm_terms.proofs.Peeking.{word_is}
 use Rattle.wm_terms.proofs.cursor.Cursor.word.Goals as goal
 

@@ -1,0 +1,6 @@
+//! Expressions: operands with signs, and their products, sums and differences.
+#![tactic(auto)]
+
+mod expressions;
+
+pub use expressions::expr;

@@ -1,0 +1,248 @@
+ghost use Rattle.std.specs.Prelude.{◌≡◌, List, IfOk, IfErr};
+ghost use Rattle.wm_base.specs.Trees.{And, Or};
+ghost use Rattle.wm_base.specs.Views.{cond_view, filter_view};
+ghost use Rattle.wm_grammar.specs.ExpressionReaders.{comparison_at, next_constant_at, constant_list_at, chosen_at, test_of_at, test_at, and_at, conj_at, or_at, cond_of_at, negation_at, condition_at};
+ghost use Rattle.wm_grammar.specs.QueryReaders.{filter_at};
+ghost use Rattle.wm_terms.specs.Telling.{Told};
+ghost use Rattle.wm_terms.specs.declared.error.ParseError.TheVariants.{Memory};
+
+use std::alloc::Global;
+use wm_base::tree::cond::{Cmp, Cond};
+use wm_base::tree::constant::{Const, Consts};
+use wm_base::tree::operand::Operand;
+use wm_grammar::Sort;
+use wm_terms::cursor::Cursor;
+use wm_terms::depth::DEPTH;
+use wm_terms::error::ParseError;
+use wm_terms::operands::{constant, operand};
+
+#[tactic(auto, unfolding(wm_grammar::specs::ExpressionReaders::comparison_at))]
+fn comparison(cursor: &mut Cursor) -> Result<Cmp, ParseError>
+    ensures { Told (λ c. c) result cursor.new (comparison_at cursor.old) }
+{
+    if cursor.is(Sort::Eq) {
+        cursor.mark(Sort::Eq)?;
+        return Ok(Cmp::Eq);
+    }
+    if cursor.is(Sort::NotEq) {
+        cursor.mark(Sort::NotEq)?;
+        return Ok(Cmp::NotEq);
+    }
+    if cursor.is(Sort::BangEq) {
+        cursor.mark(Sort::BangEq)?;
+        return Ok(Cmp::BangEq);
+    }
+    if cursor.is(Sort::Lt) {
+        cursor.mark(Sort::Lt)?;
+        return Ok(Cmp::Lt);
+    }
+    if cursor.is(Sort::Le) {
+        cursor.mark(Sort::Le)?;
+        return Ok(Cmp::Le);
+    }
+    if cursor.is(Sort::Gt) {
+        cursor.mark(Sort::Gt)?;
+        return Ok(Cmp::Gt);
+    }
+    cursor.mark(Sort::Ge)?;
+    Ok(Cmp::Ge)
+}
+
+fn next_constant(cursor: &mut Cursor, alloc: Global) -> Result<Const, ParseError>
+    ensures { Told (λ k. k) result cursor.new (next_constant_at cursor.old) }
+{
+    cursor.mark(Sort::Comma)?;
+    constant(cursor, alloc)
+}
+
+#[tactic(auto, unfolding(wm_grammar::specs::ExpressionReaders::constant_list_at))]
+fn constant_list(cursor: &mut Cursor, alloc: Global) -> Result<Consts, ParseError>
+    ensures { Told (λ ks. ks) result cursor.new (constant_list_at cursor.old) }
+{
+    let first = constant(cursor, alloc)?;
+    let mut list = Vec::new(alloc);
+    list.push(first)?;
+    'items: while cursor.is(Sort::Comma) {
+        let next = next_constant(cursor, alloc)?;
+        list.push(next)?;
+    }
+    Ok(Consts::from_vec(list))
+}
+
+/// What follows an operand and perhaps NOT: IN or BETWEEN.
+#[tactic(auto, unfolding(wm_grammar::specs::ExpressionReaders::chosen_at))]
+fn chosen(
+    cursor: &mut Cursor,
+    alloc: Global,
+    what: Operand,
+    negated: bool,
+) -> Result<Cond, ParseError>
+    ensures { Told cond_view result cursor.new (chosen_at what negated cursor.old) }
+{
+    if cursor.is(Sort::In) {
+        cursor.mark(Sort::In)?;
+        cursor.mark(Sort::Open)?;
+        let list = constant_list(cursor, alloc)?;
+        cursor.mark(Sort::Close)?;
+        return Ok(Cond::OneOf {
+            what,
+            negated,
+            list,
+        });
+    }
+    cursor.mark(Sort::Between)?;
+    let low = operand(cursor, alloc)?;
+    cursor.mark(Sort::And)?;
+    let high = operand(cursor, alloc)?;
+    Ok(Cond::Between {
+        what,
+        negated,
+        low,
+        high,
+    })
+}
+
+/// What makes a test of an operand.
+#[tactic(auto, unfolding(wm_grammar::specs::ExpressionReaders::test_of_at))]
+fn test_of(cursor: &mut Cursor, alloc: Global, what: Operand) -> Result<Cond, ParseError>
+    ensures { Told cond_view result cursor.new (test_of_at what cursor.old) }
+{
+    if cursor.is(Sort::Is) {
+        cursor.mark(Sort::Is)?;
+        let negated = cursor.is(Sort::Not);
+        if negated {
+            cursor.mark(Sort::Not)?;
+        }
+        cursor.mark(Sort::Null)?;
+        return Ok(Cond::IsNull { what, negated });
+    }
+    if cursor.is(Sort::Not) {
+        cursor.mark(Sort::Not)?;
+        return chosen(cursor, alloc, what, true);
+    }
+    if cursor.is_any(&[
+        Sort::Eq,
+        Sort::NotEq,
+        Sort::BangEq,
+        Sort::Lt,
+        Sort::Le,
+        Sort::Gt,
+        Sort::Ge,
+    ]) {
+        let cmp = comparison(cursor)?;
+        let right = operand(cursor, alloc)?;
+        return Ok(Cond::Compare {
+            left: what,
+            cmp,
+            right,
+        });
+    }
+    chosen(cursor, alloc, what, false)
+}
+
+#[tactic(auto, unfolding(wm_grammar::specs::ExpressionReaders::test_at))]
+fn test(cursor: &mut Cursor, alloc: Global) -> Result<Cond, ParseError>
+    ensures { Told cond_view result cursor.new (test_at cursor.old) }
+{
+    let what = operand(cursor, alloc)?;
+    test_of(cursor, alloc, what)
+}
+
+fn and_of(alloc: Global, left: Cond, right: Cond) -> Result<Cond, ParseError>
+    ensures ok { IfOk result (λ x. cond_view x ≡ And (cond_view left) (cond_view right)) }
+    ensures err { IfErr result (λ e. e ≡ Memory) }
+{
+    Ok(Cond::And(Box::new(alloc, left)?, Box::new(alloc, right)?))
+}
+
+fn or_of(alloc: Global, left: Cond, right: Cond) -> Result<Cond, ParseError>
+    ensures ok { IfOk result (λ x. cond_view x ≡ Or (cond_view left) (cond_view right)) }
+    ensures err { IfErr result (λ e. e ≡ Memory) }
+{
+    Ok(Cond::Or(Box::new(alloc, left)?, Box::new(alloc, right)?))
+}
+
+/// A negation, in which at most `depth` parentheses and NOT are open.
+#[cycle(conditions)]
+#[tactic(auto, unfolding(wm_grammar::specs::ExpressionReaders::negation_at))]
+fn negation(cursor: &mut Cursor, alloc: Global, depth: u8) -> Result<Cond, ParseError>
+    ensures { Told cond_view result cursor.new (negation_at depth cursor.old) }
+{
+    if depth == 0 {
+        return test(cursor, alloc);
+    }
+    if cursor.is(Sort::Not) {
+        cursor.mark(Sort::Not)?;
+        let negated = negation(cursor, alloc, depth - 1)?;
+        return Ok(Cond::Not(Box::new(alloc, negated)?));
+    }
+    if cursor.is(Sort::Open) {
+        cursor.mark(Sort::Open)?;
+        let inner = cond_within(cursor, alloc, depth - 1)?;
+        cursor.mark(Sort::Close)?;
+        return Ok(inner);
+    }
+    test(cursor, alloc)
+}
+
+#[cycle(conditions)]
+fn next_negation(cursor: &mut Cursor, alloc: Global, depth: u8) -> Result<Cond, ParseError>
+    ensures { Told cond_view result cursor.new (and_at (negation_at depth) cursor.old) }
+{
+    cursor.mark(Sort::And)?;
+    negation(cursor, alloc, depth)
+}
+
+#[cycle(conditions)]
+fn conj(cursor: &mut Cursor, alloc: Global, depth: u8) -> Result<Cond, ParseError>
+    ensures { Told cond_view result cursor.new (conj_at (negation_at depth) cursor.old) }
+{
+    let mut all = negation(cursor, alloc, depth)?;
+    'items: while cursor.is(Sort::And) {
+        let next = next_negation(cursor, alloc, depth)?;
+        let made = and_of(alloc, all, next)?;
+        all = made;
+    }
+    Ok(all)
+}
+
+#[cycle(conditions)]
+fn next_conj(cursor: &mut Cursor, alloc: Global, depth: u8) -> Result<Cond, ParseError>
+    ensures { Told cond_view result cursor.new (or_at (negation_at depth) cursor.old) }
+{
+    cursor.mark(Sort::Or)?;
+    conj(cursor, alloc, depth)
+}
+
+#[cycle(conditions)]
+fn cond_within(cursor: &mut Cursor, alloc: Global, depth: u8) -> Result<Cond, ParseError>
+    ensures { Told cond_view result cursor.new (cond_of_at (negation_at depth) cursor.old) }
+{
+    let mut all = conj(cursor, alloc, depth)?;
+    'items: while cursor.is(Sort::Or) {
+        let next = next_conj(cursor, alloc, depth)?;
+        let made = or_of(alloc, all, next)?;
+        all = made;
+    }
+    Ok(all)
+}
+
+/// A condition.
+#[tactic(auto, unfolding(wm_grammar::specs::ExpressionReaders::condition_at))]
+pub fn condition(cursor: &mut Cursor, alloc: Global) -> Result<Cond, ParseError>
+    ensures { Told cond_view result cursor.new (condition_at 64 cursor.old) }
+{
+    cond_within(cursor, alloc, DEPTH)
+}
+
+/// The condition behind WHERE, if it stands there.
+pub fn filter(cursor: &mut Cursor, alloc: Global) -> Result<Option<Cond>, ParseError>
+    ensures { Told filter_view result cursor.new (filter_at 64 cursor.old) }
+{
+    if cursor.is(Sort::Where) {
+        cursor.mark(Sort::Where)?;
+        let test = condition(cursor, alloc)?;
+        return Ok(Some(test));
+    }
+    Ok(None)
+}

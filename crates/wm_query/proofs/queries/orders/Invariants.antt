@@ -1,0 +1,10 @@
+use Rattle.std.proofs.Common.{length}
+use Rattle.wm_grammar.specs.QueryReaders.{next_at, list_of_at, order_at}
+use Rattle.wm_terms.proofs.Listing.{Lists}
+use Rattle.wm_query.proofs.queries.orders.Given as goal
+
+abbrev pub invariant-items : goal.invariant-items
+invariant-items l = Lists (next_at order_at) l.list.items l.cursor (list_of_at order_at l.fn.cursor)
+
+abbrev pub decreases-items : goal.decreases-items
+decreases-items l = length l.cursor

@@ -1,0 +1,11 @@
+use Rattle.std.proofs.Common.{length}
+use Rattle.wm_base.specs.Views.{outs_view}
+use Rattle.wm_grammar.specs.QueryReaders.{next_at, list_of_at, out_at}
+use Rattle.wm_terms.proofs.Listing.{Lists}
+use Rattle.wm_query.proofs.queries.outs.Given as goal
+
+abbrev pub invariant-items : goal.invariant-items
+invariant-items l = Lists (next_at (out_at 64)) (outs_view l.list.items) l.cursor (list_of_at (out_at 64) l.fn.cursor)
+
+abbrev pub decreases-items : goal.decreases-items
+decreases-items l = length l.cursor

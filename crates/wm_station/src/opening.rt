@@ -1,0 +1,40 @@
+//! Opening a file for one station alone.
+
+use std::fs::{File, OpenOptions};
+use std::io;
+use std::io::ErrorKind;
+use std::rt::Files;
+
+/// What a path leads to.
+#[derive(Drop)]
+pub(crate) enum Opened {
+    File(File),
+    /// Nothing is there: it reads as an empty file, and is not written.
+    Nothing,
+    /// It cannot be opened, or is held elsewhere.
+    Fault,
+}
+
+/// Opens the file at this path for reading and writing, and holds it as long as it is open. Where `makes`, a
+/// file that is absent is made.
+pub(crate) fn open_alone<R: Files<File = File>>(rt: &R, path: &str, makes: bool) -> Opened {
+    match open_locked(rt, path, makes) {
+        Ok(file) => Opened::File(file),
+        Err(error) if !makes && error.kind() == ErrorKind::NotFound => Opened::Nothing,
+        Err(_) => Opened::Fault,
+    }
+}
+
+fn open_locked<R: Files<File = File>>(rt: &R, path: &str, makes: bool) -> io::Result<File> {
+    let first = OpenOptions::new()
+        .read(true)
+        .write(true)
+        .create(makes)
+        .open(rt, path)?;
+    // Where standard input, output or error is closed, the file that is opened next has its descriptor. That
+    // of a clone is above them, so that no answer is written into the file, and no script read from it.
+    let file = first.try_clone()?;
+    // The lock is of the file that was opened, so the clone keeps it.
+    file.try_lock()?;
+    Ok(file)
+}

@@ -1,0 +1,34 @@
+"""What the store's file says beside the answers: the columns of its tables, and its last moment."""
+import re
+
+from storefile.pages import Pages
+from storefile.records import decoded
+
+MAKES_COLUMNS = re.compile(rb"[^:]*:\s*(CREATE\s+TABLE|EXEC(UTE)?\s+DBMS_WM\s*\.\s*EnableVersioning)\b", re.IGNORECASE)
+COUNTERS, TABLE = 1, 2
+
+
+class Catalog:
+    """The tables of a store. The file is read where they are asked for, and again where a line may have changed them."""
+
+    def __init__(self, path):
+        self.path, self.known = path, None
+
+    def records(self, tag):
+        return [decoded(data) for _, _, data in Pages(self.path.read_bytes()).slots() if data[0] == tag]
+
+    def last_moment(self):
+        [counters] = self.records(COUNTERS)
+        return counters.last_moment
+
+    def forget(self, line):
+        """Called behind each accepted line."""
+        if MAKES_COLUMNS.match(line):
+            self.known = None
+
+    def columns(self):
+        """The names of the columns that `*` gives of each table, by the table's name."""
+        if self.known is None:
+            self.known = {table.name: [column.name for column in table.columns] + ["WM_VALID"] * table.is_valid
+                          for table in self.records(TABLE)}
+        return self.known

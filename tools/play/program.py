@@ -1,0 +1,69 @@
+"""The built program while it plays a script, line by line."""
+import os
+import shlex
+import shutil
+import subprocess
+from pathlib import Path
+
+from lines import ends_answer, is_silent
+
+REPOSITORY = Path(__file__).resolve().parents[2]
+
+
+class Ended(Exception):
+    """The program ended before it had answered a line."""
+
+
+class NoProgram(Exception):
+    """There is no built program."""
+
+
+def found_program(asked):
+    """The words that begin a call of the program: those asked for, else the one built here, else the one on the path."""
+    asked = asked or os.environ.get("WM")
+    if asked:
+        return shlex.split(asked)
+    built = REPOSITORY / "build" / "wm"
+    found = str(built) if built.is_file() else shutil.which("wm")
+    if found is None:
+        raise NoProgram
+    return [found]
+
+
+class Program:
+    """A run over a store. Each line is sent when the one before it is answered."""
+
+    def __init__(self, program, store, now):
+        call = [*program, str(store), "run", "--now", now]
+        self.process = subprocess.Popen(call, stdin=subprocess.PIPE, stdout=subprocess.PIPE, stderr=subprocess.PIPE)
+
+    def answer(self, line):
+        """The lines of the answer."""
+        try:
+            self.process.stdin.write(line + b"\n")
+            self.process.stdin.flush()
+        except BrokenPipeError:
+            raise Ended from None
+        found = []
+        while not is_silent(line) and not (found and ends_answer(found[-1])):
+            said = self.process.stdout.readline()
+            if not said.endswith(b"\n"):
+                raise Ended
+            found.append(said[:-1])
+        return found
+
+    def end(self):
+        """Ends the script. The status, and what the program says of it."""
+        try:
+            self.process.stdin.close()
+        except BrokenPipeError:
+            pass
+        self.process.stdout.close()
+        complaint = self.process.stderr.read()
+        return self.process.wait(), complaint.decode("utf-8", "replace").strip()
+
+
+def make_store(program, store, limit):
+    """Makes a store. The status, and what the program says of it."""
+    done = subprocess.run([*program, str(store), "init", "--limit", str(limit)], stdin=subprocess.DEVNULL, capture_output=True)
+    return done.returncode, done.stderr.decode("utf-8", "replace").strip()

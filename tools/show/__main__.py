@@ -1,0 +1,55 @@
+#!/usr/bin/env python3
+"""python3 tools/show STORE [--log N] [--html FILE [--keys N]]
+
+Shows what a store holds: its tables, the tree of its workspaces and savepoints, how many changes it still takes, who changed what and
+when, and what a merge would find in conflict. The file is read as docs/FORMAT.md says, and never written; no run is needed.
+
+    --log N      so many of the last changes (20)
+    --html FILE  writes a page with pictures instead, for a browser
+    --keys N     so many keys of a table are drawn on the page, the last changed ones (40)
+
+The status is 0, or 1 where the file is no store or is damaged; the damage is named as the program names it.
+"""
+import argparse
+import sys
+from pathlib import Path
+
+sys.path.insert(1, str(Path(__file__).resolve().parents[1]))
+
+from overview import overview
+from storefile.pages import Damaged, NotAStore
+from storefile.store import opened
+
+
+def asked():
+    parser = argparse.ArgumentParser(prog="show", usage=__doc__.split("\n")[0], add_help=False)
+    parser.add_argument("store", type=Path)
+    parser.add_argument("--log", type=int, default=20)
+    parser.add_argument("--keys", type=int, default=40)
+    parser.add_argument("--html", type=Path)
+    if {"--help", "-h"} & set(sys.argv[1:]) or len(sys.argv) == 1:
+        print(__doc__.strip())
+        sys.exit(0 if len(sys.argv) > 1 else 2)
+    return parser.parse_args()
+
+
+def main():
+    words = asked()
+    try:
+        store = opened(words.store)
+    except NotAStore:
+        return f"show: {words.store} is no store"
+    except Damaged as damage:
+        return f"show: {damage}"
+    except OSError as error:
+        return f"show: {words.store}: {error.strerror}"
+    if words.html is None:
+        print("\n".join(overview(words.store, store, words.log)))
+        return 0
+    from page import page
+    words.html.write_text(page(words.store.name, store, words.keys), encoding="utf-8")
+    return 0
+
+
+if __name__ == "__main__":
+    sys.exit(main())

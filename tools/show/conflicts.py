@@ -1,0 +1,44 @@
+"""What a merge would find in conflict, side by side: as it was, in the parent, and in the workspace."""
+from html import escape
+
+from colours import colour_of
+from storefile.values import printed
+
+MOST = 200
+
+
+def value_text(value):
+    return '<span class="null">NULL</span>' if value is None else escape(value if isinstance(value, str) else printed(value))
+
+
+def side(name, colour, row, base, table):
+    """One of the three: its row, with the values marked that are not as they were."""
+    head = f'<span class="space" style="background:{colour}">{escape(name)}</span>'
+    if row is None:
+        return f'<div class="side">{head}<p class="{"changed" if base else ""}" style="margin-top:8px">no row</p></div>'
+    cells = []
+    for place, (column, value) in enumerate(zip(table.columns, row.values)):
+        is_changed = row is not base and (base is None or base.values[place] != value)
+        cells.append(f'<dt>{escape(column.name)}</dt><dd{" class=changed" if is_changed else ""}>{value_text(value)}</dd>')
+    return f'<div class="side">{head}<dl>{"".join(cells)}</dl></div>'
+
+
+def conflict_card(store, space, found):
+    parent = store.spaces[space.parent]
+    period = f' <span class="when">{found.period}</span>' if found.table.is_valid else ""
+    sides = [side("before", "var(--soft)", found.base, found.base, found.table),
+             side(parent.name, colour_of(parent), found.parent, found.base, found.table),
+             side(space.name, colour_of(space), found.child, found.base, found.table)]
+    heading = f"<h3>{escape(found.table.name)} {escape(printed(found.key))}{period}</h3>"
+    return f'<div class="card conflict">{heading}<div class="sides">{"".join(sides)}</div></div>'
+
+
+def conflicts_section(store, found):
+    """What the section says, and its cards."""
+    if not found:
+        return ["None: no workspace and its parent have changed the same key at the same time since the one was made of the other."]
+    told = ("What a workspace and its parent both changed since the one was made of the other: as it was then, and as each of them has it now. "
+            "Marked is what is no more as it was. It counts also where both wrote the same.")
+    if len(found) > MOST:
+        told += f" The first {MOST} of {len(found)} are here."
+    return [told, *(conflict_card(store, space, conflict) for space, conflict in found[:MOST])]

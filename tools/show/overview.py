@@ -1,0 +1,129 @@
+"""What a store holds, as text."""
+from textwrap import wrap
+
+from storefile.store import LIVE
+from storefile.values import printed
+
+WORDS = {1: "inserted", 2: "updated", 3: "deleted"}
+TYPES = {1: "NUMBER", 2: "VARCHAR2({})", 3: "DATE"}
+FREEZES = ["", "NO_ACCESS", "READ_ONLY", "1WRITER", "WM_ONLY"]
+
+
+def counted(number, word):
+    return f"{number:,} {word}" + ("" if number == 1 else "s")
+
+
+def described(column, table):
+    """A column as CREATE TABLE declares it. DATE and TIMESTAMP are one kind in the file."""
+    is_key = table.has_key and table.columns[table.key_column] is column
+    marks = " PRIMARY KEY" * is_key + " NOT NULL" * (column.is_needed and not is_key)
+    return f"{column.name} {TYPES[column.kind].format(column.size)}{marks}"
+
+
+def state_of(table):
+    if not table.is_versioned:
+        return "takes no rows yet: EnableVersioning is due"
+    return ", ".join(["with valid time"] * table.is_valid + ["its history is asked for"] * table.has_history) or "version-enabled"
+
+
+def head(path, store):
+    counters, taken = store.counters, store.counters.next_stamp - 1
+    repaired = " (the last change is still in the journal; the next run puts it in place)" if store.pages.is_repaired else ""
+    moment = str(counters.last_moment) if taken or store.tables else "nothing yet"
+    return [f"{path}: {store.pages.count} pages{repaired}",
+            f"last change: {moment}",
+            f"changes: {taken:,} taken, {counters.limit - taken:,} left of {counters.limit:,}"]
+
+
+def tables(store):
+    lines = ["", "Tables"]
+    for table in store.tables.values():
+        rows = len(store.rows_of(store.spaces[LIVE], table))
+        columns = ", ".join(described(column, table) for column in table.columns)
+        lines += [f"  {table.name}: {state_of(table)}; {counted(rows, 'row')} in LIVE",
+                  *wrap(columns, 100, initial_indent=" " * 6, subsequent_indent=" " * 6, break_long_words=False)]
+    return lines if store.tables else lines + ["  none"]
+
+
+def changed_keys(store, space):
+    return {(cells.table, cells.key) for cells in store.own_cells(space)}
+
+
+def facts(store, space):
+    """What a workspace's line says behind its name."""
+    found = [counted(space.log_length, "change")]
+    if space.number != LIVE:
+        keys, conflicts = changed_keys(store, space), store.conflicts(space)
+        found = [f"made {space.born}", f"{counted(space.log_length, 'change')} on {counted(len(keys), 'key')}",
+                 f"{counted(len(store.pending(space)), 'change')} in {store.spaces[space.parent].name} since",
+                 counted(len(conflicts), "conflict") if conflicts else "no conflict"]
+    return found + ([f"frozen {FREEZES[space.freeze]}"] if space.freeze else [])
+
+
+def branch(store, space, indent=""):
+    """A workspace, its savepoints and its children, as a tree."""
+    below = [("savepoint", point) for point in store.savepoints_of(space)] + [("workspace", child) for child in store.children(space)]
+    lines = []
+    for place, (kind, item) in enumerate(below):
+        is_last = place == len(below) - 1
+        mark, further = ("└─ ", "   ") if is_last else ("├─ ", "│  ")
+        if kind == "savepoint":
+            made = " (made for a workspace)" if item.is_implicit else ""
+            lines.append(f"{indent}{mark}{printed(item.name)} {item.moment}{made}")
+        else:
+            lines.append(f"{indent}{mark}{item.name}: {', '.join(facts(store, item))}")
+            lines += branch(store, item, indent + further)
+    return lines
+
+
+def workspaces(store):
+    live = store.spaces[LIVE]
+    return ["", "Workspaces, and their savepoints in quotes", f"  LIVE: {', '.join(facts(store, live))}", *branch(store, live, "  ")]
+
+
+def entry_line(store, entry):
+    table = store.tables[entry.cells.table]
+    period = f" {entry.cells.period}" if table.is_valid else ""
+    row = "" if entry.is_gone else "  " + "|".join(map(printed, store.rows[entry.stamp]))
+    return [str(entry.moment), entry.user, store.spaces[entry.space].name,
+            f"{WORDS[entry.kind]} {table.name} {printed(entry.cells.key)}{period}{row}"]
+
+
+def fitted(rows):
+    """Rows of texts with all columns but the last aligned."""
+    widths = [max(map(len, column)) for column in list(zip(*rows))[:-1]]
+    return ["  " + "  ".join([*(text.ljust(width) for text, width in zip(row, widths)), row[-1]]) for row in rows]
+
+
+def in_time(store):
+    """The entries of all logs, the older ones first."""
+    return sorted(store.log, key=lambda entry: (entry.moment, entry.stamp, entry.space, entry.position))
+
+
+def log(store, most):
+    entries = in_time(store)
+    told = f", the last {most} of {len(entries)}" if len(entries) > most else ""
+    shown = entries[len(entries) - most:] if len(entries) > most else entries
+    return ["", f"Who changed what{told}", *(fitted([entry_line(store, entry) for entry in shown]) if shown else ["  nobody anything"])]
+
+
+def side_line(name, row):
+    if row is None:
+        return [name, "no row"]
+    return [name, "|".join(map(printed, row.values))]
+
+
+def conflicts(store):
+    lines = ["", "What a merge would find in conflict"]
+    for space in store.spaces.values():
+        parent = store.spaces[space.parent]
+        for found in store.conflicts(space):
+            period = f" {found.period}" if found.table.is_valid else ""
+            lines.append(f"  {space.name} and {parent.name}: {found.table.name} {printed(found.key)}{period}")
+            sides = [side_line("before", found.base), side_line(parent.name, found.parent), side_line(space.name, found.child)]
+            lines += ["    " + line for line in fitted(sides)]
+    return lines if len(lines) > 2 else lines + ["  nothing"]
+
+
+def overview(path, store, most):
+    return [*head(path, store), *tables(store), *workspaces(store), *log(store, most), *conflicts(store)]

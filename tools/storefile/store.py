@@ -1,0 +1,182 @@
+"""What the records of a store say together."""
+from collections import defaultdict
+from pathlib import Path
+from typing import NamedTuple
+
+from .pages import Damaged, Pages
+from .records import Counters, Hist, Piece, Row, Savepoint, Space, Table, Version, records_of
+from .values import in_order
+
+LIVE, NO_VERSION = 0, 0
+
+
+class Shown(NamedTuple):
+    """A row as a version shows it: its piece, of which a part or the whole is seen."""
+    key: object
+    period: object
+    stamp: int
+    values: list
+
+
+class Conflict(NamedTuple):
+    """A longest period of a key that a workspace and its parent both changed, and on which each side holds one row or none."""
+    table: Table
+    key: object
+    period: object
+    base: object
+    parent: object
+    child: object
+
+
+class Store:
+    """The records of a file, found by what they are."""
+
+    def __init__(self, pages):
+        self.pages = pages
+        by_kind = defaultdict(list)
+        for record in records_of(pages):
+            by_kind[type(record)].append(record)
+        try:
+            self.arrange(by_kind)
+        except (LookupError, ValueError):
+            raise Damaged(0, "graph") from None
+
+    def arrange(self, by_kind):
+        [self.counters] = by_kind[Counters]
+        self.tables = {table.number: table for table in sorted(by_kind[Table], key=lambda table: table.number)}
+        self.spaces = {space.number: space for space in sorted(by_kind[Space], key=lambda space: space.number)}
+        self.versions = {version.number: version for version in by_kind[Version]}
+        self.savepoints = sorted(by_kind[Savepoint], key=lambda point: (point.space, point.place, point.making))
+        self.rows = {row.stamp: row.values for row in by_kind[Row]}
+        self.log = sorted(by_kind[Hist], key=lambda entry: (entry.space, entry.position))
+        self.pieces = defaultdict(list)
+        for piece in by_kind[Piece]:
+            self.pieces[piece.version].append(piece)
+        self.newest = {number: max(version.number for version in self.versions.values() if version.space == number)
+                       for number in self.spaces}
+        self.test_references(by_kind[Piece])
+
+    def test_references(self, pieces):
+        """Looks at what the questions below rely on. The rest of the rules over all records is the program's to test."""
+        found = [self.tables[part.cells.table] for part in [*pieces, *self.log]]
+        found += [self.spaces[part.space] for part in [*self.savepoints, *self.log]]
+        found += [self.spaces[space.parent] for space in self.spaces.values()]
+        found += [self.rows[part.stamp] for part in [*pieces, *self.log] if not part.is_gone]
+        found += [self.path(version) for version in self.versions]
+
+    # Workspaces and versions
+
+    def children(self, space):
+        return [other for other in self.spaces.values() if other.parent == space.number and other.number != LIVE]
+
+    def savepoints_of(self, space):
+        return [point for point in self.savepoints if point.space == space.number]
+
+    def path(self, version):
+        """The version, the one it stands under, and so on up."""
+        found = []
+        while version != NO_VERSION:
+            if version in found:
+                raise Damaged(0, "graph")
+            found.append(version)
+            version = self.versions[version].parent
+        return found
+
+    def own_path(self, space):
+        """The versions that hold what the workspace changed since it was born or last took over its parent."""
+        path = self.path(self.newest[space.number])
+        return path[:path.index(space.base_version)] if space.base_version in path else path
+
+    # What a version holds
+
+    def pieces_seen(self, version, table, key=None):
+        """What is seen of a table, or of one key: each part of a piece that no nearer version covers."""
+        covered, found = defaultdict(list), []
+        for nearer in self.path(version):
+            stored = [piece for piece in self.pieces[nearer] if piece.cells.table == table.number and key in (None, piece.cells.key)]
+            for piece in stored:
+                parts = [piece.cells.period]
+                for other in covered[piece.cells.key]:
+                    parts = [left for part in parts for left in part.without(other)]
+                found += [piece._replace(cells=piece.cells._replace(period=part)) for part in parts]
+            for piece in stored:
+                covered[piece.cells.key].append(piece.cells.period)
+        return sorted(found, key=lambda piece: (in_order(piece.cells.key), piece.cells.period))
+
+    def rows_seen(self, version, table, key=None):
+        """The rows of a table in a version: pieces of one stamp that meet are one row."""
+        found = []
+        for piece in self.pieces_seen(version, table, key):
+            _, key_seen, period = piece.cells
+            if piece.is_gone:
+                continue
+            last = found[-1] if found else None
+            if last and (last.key, last.stamp, last.period.till) == (key_seen, piece.stamp, period.begin):
+                found[-1] = last._replace(period=last.period._replace(till=period.till))
+            else:
+                found.append(Shown(key_seen, period, piece.stamp, self.rows[piece.stamp]))
+        return found
+
+    def rows_of(self, space, table, key=None):
+        """What stands in a workspace now."""
+        return self.rows_seen(self.newest[space.number], table, key)
+
+    # Who changed what
+
+    def log_of(self, space):
+        return [entry for entry in self.log if entry.space == space.number]
+
+    def own_cells(self, space):
+        """The cells that the workspace changed and did not merge."""
+        return [piece.cells for version in self.own_path(space) for piece in self.pieces[version]]
+
+    def pending(self, space):
+        """The entries of the parent's log since the workspace last looked at its parent."""
+        parent = self.spaces[space.parent]
+        return [entry for entry in self.log_of(parent) if entry.position >= space.parent_log_length]
+
+    # What will conflict
+
+    def conflicts(self, space):
+        """The longest periods that the workspace and its parent both changed since the one was made of the other, by table and key."""
+        if space.number == LIVE:
+            return []
+        touched = defaultdict(list)
+        for entry in self.pending(space):
+            touched[entry.cells.table, entry.cells.key].append(entry.cells.period)
+        shared = defaultdict(list)
+        for cells in self.own_cells(space):
+            for period in touched[cells.table, cells.key]:
+                part = cells.period.overlap(period)
+                shared[cells.table, cells.key] += [part] if part else []
+        found = []
+        for table, key in sorted((cell for cell in shared if shared[cell]), key=lambda cell: (cell[0], in_order(cell[1]))):
+            found += self.stretches(space, self.tables[table], key, shared[table, key])
+        return found
+
+    def stretches(self, space, table, key, periods):
+        """The conflicts of one key: its shared periods, cut where one of the three sides changes, and joined where none does."""
+        points = [space.base_version, self.newest[space.parent], self.newest[space.number]]
+        sides = [self.rows_seen(version, table, key) for version in points]
+        ends = {end for period in periods for end in period} | {end for rows in sides for row in rows for end in row.period}
+        found = []
+        for begin, till in zip(sorted(ends), sorted(ends)[1:]):
+            if not any(period.begin <= begin and till <= period.till for period in periods):
+                continue
+            held = [next((row for row in rows if row.period.begin <= begin < row.period.till), None) for rows in sides]
+            stretch = Conflict(table, key, periods[0]._replace(begin=begin, till=till), *held)
+            last = found[-1] if found else None
+            if last and last.period.till == begin and stamps(last) == stamps(stretch):
+                found[-1] = last._replace(period=last.period._replace(till=till))
+            else:
+                found.append(stretch)
+        return found
+
+
+def stamps(conflict):
+    return [row and row.stamp for row in (conflict.base, conflict.parent, conflict.child)]
+
+
+def opened(path):
+    """The store in a file, which is only read."""
+    return Store(Pages(Path(path).read_bytes()))
