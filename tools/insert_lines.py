@@ -16,6 +16,7 @@ each other one of texts. Nothing between two separators is NULL. The status is 1
 import argparse
 import csv
 import re
+import signal
 import sys
 from pathlib import Path
 
@@ -158,4 +159,6 @@ def main():
 
 
 if __name__ == "__main__":
+    # Who reads only the beginning of what is written ends this quietly.
+    signal.signal(signal.SIGPIPE, signal.SIG_DFL)
     sys.exit(main())

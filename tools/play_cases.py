@@ -13,6 +13,9 @@ start, so most cases begin with 'init'. A line of a case is
     = N         its status (0 where there is none)    ! TEXT     its line on standard error
     @ cut N | poke OFFSET HEX | new | save NAME | load NAME      done to the store file between commands
     @ few NAME N TAGS   at most N records differ from those of the file saved as NAME, and none of them has one of the tags
+    @ same NAME         the file is the one that was saved as NAME
+    @ is TAG N HEX      the N-th record of a tag, in order of ids from 1, has these bytes (given with blanks between them)
+    @ set TAG N AT HEX  bytes of such a record, from AT on, become these
 
 and a comment begins with '#'. The output of a command is its '>' lines and nothing beside.
 """
@@ -117,6 +120,11 @@ def change(store, words):
         store.write_bytes(old[:at] + new + old[at + len(new):])
     elif kind == "new":
         store.unlink(missing_ok=True)
+    elif kind == "set":
+        old = bytearray(store.read_bytes())
+        at, new = placed(old, rest[0], rest[1])[0] + int(rest[2]), bytes.fromhex(rest[3])
+        old[at:at + len(new)] = new
+        store.write_bytes(old)
     elif kind in ("save", "load"):
         kept = store.with_name("kept-" + rest[0])
         shutil.copyfile(*((store, kept) if kind == "save" else (kept, store)))
@@ -124,16 +132,38 @@ def change(store, words):
         raise ValueError(f"no such change: {kind}")
 
 
-def records(file):
-    """The bytes of each record by its id, the journal's gate being closed."""
+def slots(file):
+    """Where each record stands by its id, and its size, the journal's gate being closed."""
     found = {}
     for page in range(2, int.from_bytes(file[4096:4104], "big")):
         at = page * 4096 + 2
         for _ in range(int.from_bytes(file[at - 2:at], "big")):
             size = int.from_bytes(file[at + 8:at + 10], "big")
-            found[file[at:at + 8]] = file[at + 10:at + 10 + size]
+            found[bytes(file[at:at + 8])] = at + 10, size
             at += 10 + size
     return found
+
+
+def records(file):
+    """The bytes of each record by its id."""
+    return {key: file[at:at + size] for key, (at, size) in slots(file).items()}
+
+
+def placed(file, tag, number):
+    """Where the record of a number among those of a tag stands, and its size."""
+    found = [place for _, place in sorted(slots(file).items()) if file[place[0]] == int(tag)]
+    return found[int(number) - 1]
+
+
+def otherwise(store, words):
+    """What of the file is not as it should be, or None."""
+    file = store.read_bytes()
+    if words[0] == "few":
+        return too_many(store, words)
+    if words[0] == "same":
+        return None if file == store.with_name("kept-" + words[1]).read_bytes() else "the file is another one"
+    at, size = placed(file, words[1], words[2])
+    return None if file[at:at + size] == bytes.fromhex("".join(words[3:])) else f"the record is {file[at:at + size].hex(' ')}"
 
 
 def too_many(store, words):
@@ -151,8 +181,8 @@ def play(program, path):
     with tempfile.TemporaryDirectory() as folder:
         store = Path(folder) / "s.wm"
         for step in read_case(path):
-            if isinstance(step, list) and step[0] == "few":
-                why = too_many(store, step)
+            if isinstance(step, list) and step[0] in ("few", "same", "is"):
+                why = otherwise(store, step)
                 if why is not None:
                     return f"{path}: @ {' '.join(step)}: {why}"
                 continue

@@ -15,6 +15,8 @@ input; at a terminal each is asked for. The last line, on standard error, says h
 The status is 0 where each line was accepted, 1 where one was refused, 2 where nothing could be played, and else the program's own.
 """
 import argparse
+import fcntl
+import os
 import sys
 from datetime import datetime, timezone
 from pathlib import Path
@@ -77,6 +79,19 @@ def see_to_store(words, program):
     with words.store.open("rb") as file:
         if file.read(1) != bytes([MADE]):
             raise Refused(f"{words.store} is no store")
+        if has_a_run(file):
+            raise Refused(f"another run has {words.store} open")
+
+
+def has_a_run(file):
+    """Whether a run holds the lock of the file, which is looked at for a moment only."""
+    try:
+        fcntl.flock(file, fcntl.LOCK_SH | fcntl.LOCK_NB)
+    except BlockingIOError:
+        return True
+    except OSError:
+        pass
+    return False
 
 
 def warn_of_moment(words, catalog):
@@ -189,3 +204,7 @@ if __name__ == "__main__":
     except Refused as why:
         print(f"play: {why}", file=sys.stderr)
         sys.exit(2)
+    except (BrokenPipeError, KeyboardInterrupt):
+        # Nobody reads any more, or the user has had enough. The program ends with its input, behind an answered line.
+        os.dup2(os.open(os.devnull, os.O_WRONLY), sys.stdout.fileno())
+        sys.exit(1)

@@ -11,12 +11,13 @@ when, and what a merge would find in conflict. The file is read as docs/FORMAT.m
 The status is 0, or 1 where the file is no store or is damaged; the damage is named as the program names it.
 """
 import argparse
+import signal
 import sys
 from pathlib import Path
 
 sys.path.insert(1, str(Path(__file__).resolve().parents[1]))
 
-from overview import overview
+from shown import shown
 from storefile.pages import Damaged, NotAStore
 from storefile.store import opened
 
@@ -36,7 +37,7 @@ def asked():
 def main():
     words = asked()
     try:
-        store = opened(words.store)
+        text, page = shown(words.store, opened(words.store), words.log, words.keys)
     except NotAStore:
         return f"show: {words.store} is no store"
     except Damaged as damage:
@@ -44,12 +45,13 @@ def main():
     except OSError as error:
         return f"show: {words.store}: {error.strerror}"
     if words.html is None:
-        print("\n".join(overview(words.store, store, words.log)))
-        return 0
-    from page import page
-    words.html.write_text(page(words.store.name, store, words.keys), encoding="utf-8")
+        print(text)
+    else:
+        words.html.write_text(page, encoding="utf-8")
     return 0
 
 
 if __name__ == "__main__":
+    # Who reads only the beginning of what is written ends this quietly.
+    signal.signal(signal.SIGPIPE, signal.SIG_DFL)
     sys.exit(main())

@@ -3,7 +3,7 @@ from bisect import bisect_right
 
 from colours import colour_of
 from storefile.store import LIVE
-from svg import LETTER, element, label, picture, shortened, title
+from svg import VALUE, element, label, name_label, picture, title, width_of
 
 NAMES, TOP, LANE, GAP, LEAST, WIDTH = 232, 44, 62, 26, 54, 1040
 
@@ -36,7 +36,7 @@ class Graph:
         self.births = births(store)
         self.level = {space.number: TOP + LANE * place + LANE // 2 for place, space in enumerate(self.spaces)}
         self.points = sorted(store.savepoints, key=lambda point: point.making)
-        widths = [max(LEAST, LETTER * len(self.name(point)) + GAP) for point in self.points]
+        widths = [max(LEAST, width_of(self.name(point), VALUE) + GAP) for point in self.points]
         spare = max(0.0, WIDTH - NAMES - LEAST - sum(widths)) / (len(widths) + 1)
         self.column, right = {}, float(NAMES)
         for point, width in zip(self.points, widths):
@@ -102,10 +102,9 @@ class Graph:
         words = f"{space.log_length} changes" if space.log_length != 1 else "1 change"
         told = [label(16, level + 16, words, class_="small")]
         if conflicts:
-            told.append(label(16 + LETTER * (len(words) + 2), level + 16, f"{conflicts} in conflict", class_="small alarm"))
-        name = element("text", title(space.name), shortened(space.name, NAMES - 40).replace("&", "&amp;").replace("<", "&lt;"),
-                       x=16, y=level, class_="name")
-        return element("rect", x=4, y=level - 13, width=4, height=32, rx=2, style=f"fill:{colour}") + name + "".join(told)
+            told.append(label(16 + width_of(words, VALUE) + 12, level + 16, f"{conflicts} in conflict", class_="small alarm"))
+        mark = element("rect", x=4, y=level - 13, width=4, height=32, rx=2, style=f"fill:{colour}")
+        return mark + name_label(16, level, space.name, NAMES - 30) + "".join(told)
 
     def node(self, point, level, colour):
         x = self.column[point.making]

@@ -1,8 +1,20 @@
 """Elements of a picture, as text."""
 from html import escape
 
-# What a letter of the page's font takes at 12 pixels, on the safe side.
-LETTER = 7.2
+# What letters take of the height of a bold font that is rather wide; of others by kind.
+WIDTHS = {**dict.fromkeys("W@%&", 1.1), **dict.fromkeys("mM", 1.05), "w": 0.93, **dict.fromkeys("ijlI.,;:'|!()[]", 0.46), " ": 0.36}
+CAPITAL, SMALL, DIGIT, OTHER = 0.8, 0.7, 0.7, 1.05
+# Bold letters of 13 pixels, and others of 12, which are narrower.
+NAME, VALUE = 13, 10.9
+
+
+def width_of(text, height):
+    """The room that a text takes at a height of its letters, on the safe side."""
+    def share(letter):
+        if not letter.isascii():
+            return OTHER
+        return CAPITAL if letter.isupper() else DIGIT if letter.isdigit() else SMALL
+    return height * sum(WIDTHS.get(letter) or share(letter) for letter in text)
 
 
 def attributes(named):
@@ -31,9 +43,14 @@ def picture(width, height, *inside, **named):
     return element("svg", *inside, viewBox=f"0 0 {rounded(width)} {rounded(height)}", width=width, height=height, role="img", **named)
 
 
-def shortened(text, width):
+def shortened(text, width, height=VALUE):
     """As much of a text as a width surely has room for."""
-    most = int(width // LETTER)
-    if len(text) <= most:
+    if width_of(text, height) <= width:
         return text
-    return text[:most - 1] + "…" if most > 2 else ""
+    most = next(most for most in range(len(text), -1, -1) if width_of(text[:most] + "…", height) <= width or most == 0)
+    return text[:most].rstrip() + "…" if most > 1 else ""
+
+
+def name_label(x, y, name, width):
+    """A name, shortened to a width; the pointer shows it whole."""
+    return element("text", title(name), escape(shortened(name, width, NAME)), x=x, y=y, class_="name")

@@ -2,7 +2,7 @@
 from axis import Axis
 from colours import colours_of_rows
 from storefile.values import UNTIL_CHANGED, printed
-from svg import element, label, picture, shortened, title
+from svg import element, label, name_label, picture, shortened, title
 
 NAMES, WIDTH, LANE, BAR, TOP = 232, 1040, 40, 28, 10
 
@@ -56,11 +56,10 @@ def timeline(store, table, key, rows_by_space, conflicts):
     for place, (names, held) in enumerate(shown):
         level = TOP + LANE * place + 6
         text = ", ".join(names)
-        parts.append(element("text", title(text), shortened(text, NAMES - 24).replace("&", "&amp;").replace("<", "&lt;"), x=8, y=level + BAR / 2 + 4,
-                             class_="name"))
+        parts.append(name_label(8, level + BAR / 2 + 4, text, NAMES - 20))
         parts += [bar(axis, row, level, text_of(row, table), colours[row.stamp]) for row in held]
         parts += [hatched(axis, conflict, level) for space, conflict in conflicts if space.name in names]
         if not held:
             parts.append(label(NAMES + 8, level + BAR / 2 + 4, "no row", class_="small"))
-    parts += [label(axis.place(at), bottom + 16, text, class_="day", text_anchor="middle") for at, text in axis.ticks()]
+    parts += [label(axis.place(at), bottom + 16, text, class_="day", text_anchor="middle") for at, text in axis.ticks() if axis.place(at) < WIDTH - 40]
     return picture(WIDTH, bottom + 26, *parts, class_="timeline")

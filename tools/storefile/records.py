@@ -129,16 +129,12 @@ class Reader:
         return found
 
     def text(self):
-        try:
-            return self.take(self.number(2)).decode()
-        except UnicodeDecodeError:
-            raise NoRecord from None
+        """Lines write UTF-8 alone, but any bytes are a text."""
+        return self.take(self.number(2)).decode("utf-8", "backslashreplace")
 
     def instant(self):
-        found = self.number(8)
-        if found > UNTIL_CHANGED:
-            raise NoRecord
-        return Instant(found)
+        """A field that is a time, of which the rules over all records may say more."""
+        return Instant(self.number(8))
 
     def value(self):
         tag = self.one_of(0, 1, 2, 3)
@@ -149,7 +145,13 @@ class Reader:
             if not found:
                 raise NoRecord
             return found
-        return self.instant() if tag == 3 else None
+        return self.time() if tag == 3 else None
+
+    def time(self):
+        found = self.instant()
+        if found > UNTIL_CHANGED:
+            raise NoRecord
+        return found
 
     def cells(self):
         return Cells(self.number(2), self.value(), Period(self.instant(), self.instant()))

@@ -38,13 +38,15 @@ class Store:
             by_kind[type(record)].append(record)
         try:
             self.arrange(by_kind)
-        except (LookupError, ValueError):
+        except (LookupError, TypeError, ValueError):
             raise Damaged(0, "graph") from None
 
     def arrange(self, by_kind):
         [self.counters] = by_kind[Counters]
         self.tables = {table.number: table for table in sorted(by_kind[Table], key=lambda table: table.number)}
         self.spaces = {space.number: space for space in sorted(by_kind[Space], key=lambda space: space.number)}
+        # LIVE has no parent, and what its record says of one is not looked at.
+        self.spaces[LIVE] = self.spaces[LIVE]._replace(parent=LIVE)
         self.versions = {version.number: version for version in by_kind[Version]}
         self.savepoints = sorted(by_kind[Savepoint], key=lambda point: (point.space, point.place, point.making))
         self.rows = {row.stamp: row.values for row in by_kind[Row]}

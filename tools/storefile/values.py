@@ -11,7 +11,9 @@ class Instant(int):
     """A time, as seconds from the beginning of the year 1. A number of its own type, so that a value tells its kind."""
 
     def __str__(self):
-        return "UNTIL_CHANGED" if self == UNTIL_CHANGED else str(BEGINNING + timedelta(seconds=int(self)))
+        if self >= UNTIL_CHANGED:
+            return "UNTIL_CHANGED" if self == UNTIL_CHANGED else f"second {int(self)}"
+        return str(BEGINNING + timedelta(seconds=int(self)))
 
 
 class Period(NamedTuple):

@@ -31,3 +31,8 @@ none_mapped f (Some x) e = cc
 pub unless_parts : (a b : Bool) → cond a false b ≡ true → (a ≡ false) × (b ≡ true)
 unless_parts true b e = cc
 unless_parts false b e = (refl, e)
+
+-- what neither of two tests finds
+pub either_parts : (a b : Bool) → cond a true b ≡ false → (a ≡ false) × (b ≡ false)
+either_parts true b e = cc
+either_parts false b e = (refl, e)

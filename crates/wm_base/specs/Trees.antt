@@ -1,5 +1,6 @@
 -- The trees of the lines, without where they lie in memory.
-use Rattle.std.specs.Prelude.{ℕ, Bool, List, Option}
+use Rattle.std.specs.Prelude.{ℕ, Bool, true, false, ◌||◌, not, List, [], ◌∷◌, Option}
+use Rattle.std.specs.List.{list_any}
 use Rattle.wm_base.specs.declared.tree.column.Col.{Col}
 use Rattle.wm_base.specs.declared.tree.constant.Const.{Const}
 use Rattle.wm_base.specs.declared.tree.operand.Operand.{Operand}
@@ -69,3 +70,22 @@ pub data Line : Type 0 where
   Disconnect : List ℕ → Line
   At : ℕ → Line
   Run : List ℕ → Statement → Line
+
+-- ---- queries that answer groups of rows
+
+abbrev pub is_aggregate : Item → Bool
+is_aggregate (Plain x) = false
+is_aggregate CountAll = true
+is_aggregate (Aggregate agg x) = true
+
+abbrev pub has_aggregate : Projection → Bool
+has_aggregate All = false
+has_aggregate (Outs outs) = list_any (λ (o : Out). is_aggregate o.item) outs
+
+abbrev pub is_empty : {X : Type 0} → List X → Bool
+is_empty [] = true
+is_empty (x ∷ xs) = false
+
+-- the query has GROUP BY or an aggregate
+abbrev pub is_grouped : Query → Bool
+is_grouped query = not (is_empty query.groups) || has_aggregate query.projection

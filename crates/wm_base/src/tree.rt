@@ -1,5 +1,6 @@
 //! The trees of the lines.
 
+pub mod aggregates;
 pub mod column;
 pub mod cond;
 pub mod constant;

@@ -1,5 +1,5 @@
 -- Laws of tables that stand under their names.
-use Rattle.std.proofs.Common.{◌≡◌, ℕ, ◌+◌, ◌<◌, List, [], ◌∷◌, ◌++◌, length, drop, get_or, Bool, true, false, cond, not, ◌||◌, Option, Some, None, refl, sym, ap, ◌∙◌}
+use Rattle.std.proofs.Common.{◌≡◌, ℕ, ◌+◌, ◌<◌, List, [], ◌∷◌, ◌++◌, length, drop, get_or, Bool, true, false, cond, not, ◌&&◌, ◌||◌, Option, Some, None, refl, sym, ap, ◌∙◌}
 use Rattle.std.specs.List.{list_any}
 use Rattle.std.specs.Str.{bytes_eq}
 use Rattle.std.specs.Map.{values_of, lookup}
@@ -64,7 +64,7 @@ pub unnamed_before : (front back : List Table) (t : Table) → differ same_name 
 unnamed_before [] back t differs = refl
 unnamed_before (u ∷ us) back t differs = by_test (bytes_eq t.name u.name) refl (unnamed_before us back t (both (list_any (same_name u) (us ++ t ∷ back)) (differ same_name (us ++ t ∷ back)) differs).1)
   where
-    both : (a b : Bool) → cond (not a) b false ≡ true → (a ≡ false) × (b ≡ true)
+    both : (a b : Bool) → (not a && b) ≡ true → (a ≡ false) × (b ≡ true)
     both true b e = cc
     both false b e = (refl, e)
 

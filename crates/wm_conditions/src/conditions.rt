@@ -1,5 +1,5 @@
 ghost use Rattle.std.specs.Prelude.{◌≡◌, List, IfOk, IfErr};
-ghost use Rattle.wm_base.specs.Trees.{And, Or};
+ghost use Rattle.wm_base.specs.Trees.{And, Or, Not, Compare, IsNull, OneOf, Between};
 ghost use Rattle.wm_base.specs.Views.{cond_view, filter_view};
 ghost use Rattle.wm_grammar.specs.ExpressionReaders.{comparison_at, next_constant_at, constant_list_at, chosen_at, test_of_at, test_at, and_at, conj_at, or_at, cond_of_at, negation_at, condition_at};
 ghost use Rattle.wm_grammar.specs.QueryReaders.{filter_at};
@@ -69,6 +69,97 @@ fn constant_list(cursor: &mut Cursor, alloc: Global) -> Result<Consts, ParseErro
     Ok(Consts::from_vec(list))
 }
 
+/// A condition in a box, in which it is handed on while it is read: as a value it is large, and what its drop takes is proved once.
+fn boxed(alloc: Global, test: Cond) -> Result<Box<Cond>, ParseError>
+    ensures ok { IfOk result (λ b. b.value ≡ test) }
+    ensures err { IfErr result (λ e. e ≡ Memory) }
+{
+    match Box::new(alloc, test) {
+        Ok(made) => Ok(made),
+        Err(_) => Err(ParseError::Memory),
+    }
+}
+
+fn null_test(alloc: Global, what: Operand, negated: bool) -> Result<Box<Cond>, ParseError>
+    ensures ok { IfOk result (λ b. cond_view b.value ≡ IsNull what negated) }
+    ensures err { IfErr result (λ e. e ≡ Memory) }
+{
+    boxed(alloc, Cond::IsNull { what, negated })
+}
+
+fn comparison_of(
+    alloc: Global,
+    left: Operand,
+    cmp: Cmp,
+    right: Operand,
+) -> Result<Box<Cond>, ParseError>
+    ensures ok { IfOk result (λ b. cond_view b.value ≡ Compare left cmp right) }
+    ensures err { IfErr result (λ e. e ≡ Memory) }
+{
+    boxed(alloc, Cond::Compare { left, cmp, right })
+}
+
+fn one_of(
+    alloc: Global,
+    what: Operand,
+    negated: bool,
+    list: Consts,
+) -> Result<Box<Cond>, ParseError>
+    ensures ok { IfOk result (λ b. cond_view b.value ≡ OneOf what negated list) }
+    ensures err { IfErr result (λ e. e ≡ Memory) }
+{
+    boxed(
+        alloc,
+        Cond::OneOf {
+            what,
+            negated,
+            list,
+        },
+    )
+}
+
+fn between(
+    alloc: Global,
+    what: Operand,
+    negated: bool,
+    low: Operand,
+    high: Operand,
+) -> Result<Box<Cond>, ParseError>
+    ensures ok { IfOk result (λ b. cond_view b.value ≡ Between what negated low high) }
+    ensures err { IfErr result (λ e. e ≡ Memory) }
+{
+    boxed(
+        alloc,
+        Cond::Between {
+            what,
+            negated,
+            low,
+            high,
+        },
+    )
+}
+
+fn not_of(alloc: Global, negated: Box<Cond>) -> Result<Box<Cond>, ParseError>
+    ensures ok { IfOk result (λ b. cond_view b.value ≡ Not (cond_view negated.value)) }
+    ensures err { IfErr result (λ e. e ≡ Memory) }
+{
+    boxed(alloc, Cond::Not(negated))
+}
+
+fn and_of(alloc: Global, left: Box<Cond>, right: Box<Cond>) -> Result<Box<Cond>, ParseError>
+    ensures ok { IfOk result (λ b. cond_view b.value ≡ And (cond_view left.value) (cond_view right.value)) }
+    ensures err { IfErr result (λ e. e ≡ Memory) }
+{
+    boxed(alloc, Cond::And(left, right))
+}
+
+fn or_of(alloc: Global, left: Box<Cond>, right: Box<Cond>) -> Result<Box<Cond>, ParseError>
+    ensures ok { IfOk result (λ b. cond_view b.value ≡ Or (cond_view left.value) (cond_view right.value)) }
+    ensures err { IfErr result (λ e. e ≡ Memory) }
+{
+    boxed(alloc, Cond::Or(left, right))
+}
+
 /// What follows an operand and perhaps NOT: IN or BETWEEN.
 #[tactic(auto, unfolding(wm_grammar::specs::ExpressionReaders::chosen_at))]
 fn chosen(
@@ -76,36 +167,29 @@ fn chosen(
     alloc: Global,
     what: Operand,
     negated: bool,
-) -> Result<Cond, ParseError>
-    ensures { Told cond_view result cursor.new (chosen_at what negated cursor.old) }
+) -> Result<Box<Cond>, ParseError>
+    ensures { Told (λ b. cond_view b.value) result cursor.new (chosen_at what negated cursor.old) }
 {
     if cursor.is(Sort::In) {
         cursor.mark(Sort::In)?;
         cursor.mark(Sort::Open)?;
         let list = constant_list(cursor, alloc)?;
         cursor.mark(Sort::Close)?;
-        return Ok(Cond::OneOf {
-            what,
-            negated,
-            list,
-        });
+        let found = one_of(alloc, what, negated, list)?;
+        return Ok(found);
     }
     cursor.mark(Sort::Between)?;
     let low = operand(cursor, alloc)?;
     cursor.mark(Sort::And)?;
     let high = operand(cursor, alloc)?;
-    Ok(Cond::Between {
-        what,
-        negated,
-        low,
-        high,
-    })
+    let found = between(alloc, what, negated, low, high)?;
+    Ok(found)
 }
 
 /// What makes a test of an operand.
 #[tactic(auto, unfolding(wm_grammar::specs::ExpressionReaders::test_of_at))]
-fn test_of(cursor: &mut Cursor, alloc: Global, what: Operand) -> Result<Cond, ParseError>
-    ensures { Told cond_view result cursor.new (test_of_at what cursor.old) }
+fn test_of(cursor: &mut Cursor, alloc: Global, what: Operand) -> Result<Box<Cond>, ParseError>
+    ensures { Told (λ b. cond_view b.value) result cursor.new (test_of_at what cursor.old) }
 {
     if cursor.is(Sort::Is) {
         cursor.mark(Sort::Is)?;
@@ -114,7 +198,8 @@ fn test_of(cursor: &mut Cursor, alloc: Global, what: Operand) -> Result<Cond, Pa
             cursor.mark(Sort::Not)?;
         }
         cursor.mark(Sort::Null)?;
-        return Ok(Cond::IsNull { what, negated });
+        let found = null_test(alloc, what, negated)?;
+        return Ok(found);
     }
     if cursor.is(Sort::Not) {
         cursor.mark(Sort::Not)?;
@@ -131,42 +216,25 @@ fn test_of(cursor: &mut Cursor, alloc: Global, what: Operand) -> Result<Cond, Pa
     ]) {
         let cmp = comparison(cursor)?;
         let right = operand(cursor, alloc)?;
-        return Ok(Cond::Compare {
-            left: what,
-            cmp,
-            right,
-        });
+        let found = comparison_of(alloc, what, cmp, right)?;
+        return Ok(found);
     }
     chosen(cursor, alloc, what, false)
 }
 
 #[tactic(auto, unfolding(wm_grammar::specs::ExpressionReaders::test_at))]
-fn test(cursor: &mut Cursor, alloc: Global) -> Result<Cond, ParseError>
-    ensures { Told cond_view result cursor.new (test_at cursor.old) }
+fn test(cursor: &mut Cursor, alloc: Global) -> Result<Box<Cond>, ParseError>
+    ensures { Told (λ b. cond_view b.value) result cursor.new (test_at cursor.old) }
 {
     let what = operand(cursor, alloc)?;
     test_of(cursor, alloc, what)
 }
 
-fn and_of(alloc: Global, left: Cond, right: Cond) -> Result<Cond, ParseError>
-    ensures ok { IfOk result (λ x. cond_view x ≡ And (cond_view left) (cond_view right)) }
-    ensures err { IfErr result (λ e. e ≡ Memory) }
-{
-    Ok(Cond::And(Box::new(alloc, left)?, Box::new(alloc, right)?))
-}
-
-fn or_of(alloc: Global, left: Cond, right: Cond) -> Result<Cond, ParseError>
-    ensures ok { IfOk result (λ x. cond_view x ≡ Or (cond_view left) (cond_view right)) }
-    ensures err { IfErr result (λ e. e ≡ Memory) }
-{
-    Ok(Cond::Or(Box::new(alloc, left)?, Box::new(alloc, right)?))
-}
-
 /// A negation, in which at most `depth` parentheses and NOT are open.
 #[cycle(conditions)]
 #[tactic(auto, unfolding(wm_grammar::specs::ExpressionReaders::negation_at))]
-fn negation(cursor: &mut Cursor, alloc: Global, depth: u8) -> Result<Cond, ParseError>
-    ensures { Told cond_view result cursor.new (negation_at depth cursor.old) }
+fn negation(cursor: &mut Cursor, alloc: Global, depth: u8) -> Result<Box<Cond>, ParseError>
+    ensures { Told (λ b. cond_view b.value) result cursor.new (negation_at depth cursor.old) }
 {
     if depth == 0 {
         return test(cursor, alloc);
@@ -174,7 +242,8 @@ fn negation(cursor: &mut Cursor, alloc: Global, depth: u8) -> Result<Cond, Parse
     if cursor.is(Sort::Not) {
         cursor.mark(Sort::Not)?;
         let negated = negation(cursor, alloc, depth - 1)?;
-        return Ok(Cond::Not(Box::new(alloc, negated)?));
+        let found = not_of(alloc, negated)?;
+        return Ok(found);
     }
     if cursor.is(Sort::Open) {
         cursor.mark(Sort::Open)?;
@@ -186,16 +255,16 @@ fn negation(cursor: &mut Cursor, alloc: Global, depth: u8) -> Result<Cond, Parse
 }
 
 #[cycle(conditions)]
-fn next_negation(cursor: &mut Cursor, alloc: Global, depth: u8) -> Result<Cond, ParseError>
-    ensures { Told cond_view result cursor.new (and_at (negation_at depth) cursor.old) }
+fn next_negation(cursor: &mut Cursor, alloc: Global, depth: u8) -> Result<Box<Cond>, ParseError>
+    ensures { Told (λ b. cond_view b.value) result cursor.new (and_at (negation_at depth) cursor.old) }
 {
     cursor.mark(Sort::And)?;
     negation(cursor, alloc, depth)
 }
 
 #[cycle(conditions)]
-fn conj(cursor: &mut Cursor, alloc: Global, depth: u8) -> Result<Cond, ParseError>
-    ensures { Told cond_view result cursor.new (conj_at (negation_at depth) cursor.old) }
+fn conj(cursor: &mut Cursor, alloc: Global, depth: u8) -> Result<Box<Cond>, ParseError>
+    ensures { Told (λ b. cond_view b.value) result cursor.new (conj_at (negation_at depth) cursor.old) }
 {
     let mut all = negation(cursor, alloc, depth)?;
     'items: while cursor.is(Sort::And) {
@@ -207,16 +276,16 @@ fn conj(cursor: &mut Cursor, alloc: Global, depth: u8) -> Result<Cond, ParseErro
 }
 
 #[cycle(conditions)]
-fn next_conj(cursor: &mut Cursor, alloc: Global, depth: u8) -> Result<Cond, ParseError>
-    ensures { Told cond_view result cursor.new (or_at (negation_at depth) cursor.old) }
+fn next_conj(cursor: &mut Cursor, alloc: Global, depth: u8) -> Result<Box<Cond>, ParseError>
+    ensures { Told (λ b. cond_view b.value) result cursor.new (or_at (negation_at depth) cursor.old) }
 {
     cursor.mark(Sort::Or)?;
     conj(cursor, alloc, depth)
 }
 
 #[cycle(conditions)]
-fn cond_within(cursor: &mut Cursor, alloc: Global, depth: u8) -> Result<Cond, ParseError>
-    ensures { Told cond_view result cursor.new (cond_of_at (negation_at depth) cursor.old) }
+fn cond_within(cursor: &mut Cursor, alloc: Global, depth: u8) -> Result<Box<Cond>, ParseError>
+    ensures { Told (λ b. cond_view b.value) result cursor.new (cond_of_at (negation_at depth) cursor.old) }
 {
     let mut all = conj(cursor, alloc, depth)?;
     'items: while cursor.is(Sort::Or) {
@@ -232,7 +301,10 @@ fn cond_within(cursor: &mut Cursor, alloc: Global, depth: u8) -> Result<Cond, Pa
 pub fn condition(cursor: &mut Cursor, alloc: Global) -> Result<Cond, ParseError>
     ensures { Told cond_view result cursor.new (condition_at 64 cursor.old) }
 {
-    cond_within(cursor, alloc, DEPTH)
+    match cond_within(cursor, alloc, DEPTH) {
+        Ok(found) => Ok(Box::into_inner(found)),
+        Err(e) => Err(e),
+    }
 }
 
 /// The condition behind WHERE, if it stands there.

@@ -33,11 +33,6 @@ or_no Yes = refl
 or_no No = refl
 or_no Unknown = refl
 
-pub and_yes : (a : Truth) → truth_and a Yes ≡ a
-and_yes Yes = refl
-and_yes No = refl
-and_yes Unknown = refl
-
 -- one constant more
 pub one_of_more : (v : Value) (list : List Const) (constant : Const) → one_of v (list ++ constant ∷ []) ≡ truth_or (one_of v list) (test Eq v (constant_value constant))
 one_of_more v [] constant = or_no (test Eq v (constant_value constant))

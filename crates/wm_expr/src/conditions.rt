@@ -1,3 +1,4 @@
+//! How true a condition is on a row.
 ghost use Rattle.std.specs.Prelude.{◌≡◌};
 ghost use Rattle.wm_base.specs.Truth.{truth_and, truth_or};
 ghost use Rattle.wm_base.specs.Views.{cond_view};
@@ -72,7 +73,7 @@ fn truth_with_or(cond: &Cond, behind: Truth, columns: &[Column], row: &[Value]) 
     truth_in(rest, columns, row).or(truth)
 }
 
-/// How true the condition is together with what stands behind it, likewise.
+/// How true the condition is together with what stands behind it. A chain of AND nests to the left, and is gone down in a loop.
 #[cycle(truths)]
 #[tactic(auto, using(crate::proofs::Logic::and_assoc))]
 fn truth_with_and(cond: &Cond, behind: Truth, columns: &[Column], row: &[Value]) -> Truth

@@ -1,3 +1,4 @@
+//! Copies of conditions and of what stands in them.
 ghost use Rattle.std.specs.Prelude.{◌≡◌, IfOk};
 ghost use Rattle.wm_base.specs.Trees as trees;
 ghost use Rattle.wm_base.specs.Views.{cond_view};

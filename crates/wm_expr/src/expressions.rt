@@ -1,3 +1,4 @@
+//! The value of an expression for a row.
 ghost use Rattle.std.specs.Prelude.{◌≡◌, ℤ, ◌+ℤ◌, ◌-ℤ◌, ◌*ℤ◌, true, IfOk, option_map, SomeIff, FitsSigned};
 ghost use Rattle.std.specs.Int.{w64};
 ghost use Rattle.std.specs.Result.{IsErrOf};

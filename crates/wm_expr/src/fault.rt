@@ -1,3 +1,4 @@
+//! Why an expression has no value.
 use thiserror::Error;
 
 /// Why an expression has no value.

@@ -1,3 +1,4 @@
+//! Which rows fit which columns.
 ghost use Rattle.std.specs.Prelude.{◌≡◌, ◌||◌, ◌==◌};
 ghost use Rattle.wm_base.specs.Value.{type_place};
 ghost use Rattle.wm_spec.specs.Conditions.{fits as fitting};

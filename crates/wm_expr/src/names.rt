@@ -1,3 +1,4 @@
+//! The column that a name means.
 ghost use Rattle.std.specs.Prelude.{◌≡◌, bytes_eq, option_map, option_copied, slice_get};
 ghost use Rattle.std.specs.List.{position};
 ghost use Rattle.wm_spec.specs.Operands.{is_of_source as of_source, is_named as named, kind_of as kind_named, found_at as found};

@@ -1,3 +1,4 @@
+//! The value of an operand, looked at where it lies.
 ghost use Rattle.std.specs.Prelude.{◌≡◌, option_map};
 ghost use Rattle.wm_spec.specs.Operands.{value_at as named_value, suffixed, constant_value, period_of, period_at, holds as operator_holds, tested, operand_value};
 ghost use Rattle.wm_expr.specs.Seen.{seen_value, ends_span};
@@ -64,7 +65,7 @@ pub fn constant_seen(constant: &Const) -> Seen<'_>
 }
 
 /// The two ends of a period.
-#[derive(Clone, Copy, Debug)]
+#[derive(Clone, Copy)]
 struct Ends {
     from: u64,
     till: u64,

@@ -1,3 +1,4 @@
+//! The value of an operand, copied.
 ghost use Rattle.std.specs.Prelude.{◌≡◌, true, IfOk, option_copied, unwrap_or, nat_lt};
 ghost use Rattle.wm_spec.specs.Operands.{value_at as named_value, suffixed, end_seconds, constant_value as value_of_constant, span_between, operand_value as value_of_operand};
 ghost use Rattle.wm_spec.specs.Expressions.{lasts};

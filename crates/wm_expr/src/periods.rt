@@ -1,3 +1,4 @@
+//! Whether written periods are empty.
 ghost use Rattle.std.specs.Prelude.{◌≡◌};
 ghost use Rattle.wm_base.specs.Views.{expr_view};
 ghost use Rattle.wm_spec.specs.Operands.{end_seconds};

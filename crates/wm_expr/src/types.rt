@@ -1,3 +1,4 @@
+//! The kinds of operands, and whether a condition is typed.
 ghost use Rattle.std.specs.Prelude.{◌≡◌, ◌&&◌, is_some};
 ghost use Rattle.std.specs.List.{list_all};
 ghost use Rattle.wm_base.specs.Views.{cond_view};

@@ -5,7 +5,7 @@ use Rattle.wm_base.specs.declared.tree.query.Agg.TheVariants as aggs
 use Rattle.wm_base.specs.declared.tree.query.OrderBy.TheVariants as keys
 use Rattle.wm_base.specs.declared.tree.query.Order.{Order}
 use Rattle.wm_base.specs.declared.tree.column.Col.{Col}
-use Rattle.wm_base.specs.Trees.{Expr, Cond, Item, Out, Projection, Src, Query}
+use Rattle.wm_base.specs.Trees.{Expr, Cond, Item, Out, Projection, Src, Query, has_aggregate}
 use Rattle.wm_base.specs.Trees as trees
 use Rattle.wm_grammar.specs.Sorts as sorts
 use Rattle.wm_grammar.specs.Forms.{Form, many_from}
@@ -13,7 +13,7 @@ use Rattle.wm_grammar.specs.Reading.{Reader, many_from_at}
 use Rattle.wm_grammar.specs.Operands.{id, column}
 use Rattle.wm_grammar.specs.OperandReaders.{id_at, column_at}
 use Rattle.wm_grammar.proofs.Lists.{within}
-use Rattle.wm_grammar.specs.Queries.{list_of, filter, other_aggregate, counted, query_item, out, projection, has_aggregate, source, joined, next_source, room, one_less, source_list, is_alone, grouping, direction, order_key, order, ordering, query}
+use Rattle.wm_grammar.specs.Queries.{list_of, filter, other_aggregate, counted, query_item, out, projection, source, joined, next_source, room, one_less, source_list, is_alone, grouping, direction, order_key, order, ordering, query}
 use Rattle.wm_grammar.specs.QueryReaders.{list_of_at, filter_at, other_aggregate_at, counted_at, other_aggregates, query_item_at, out_at, projection_at, source_at, joined_at, next_source_at, separators, source_list_at, grouping_at, direction_at, order_key_at, order_at, ordering_at, query_at}
 use Rattle.wm_grammar.proofs.Laws.{Shape, Exact, gives_exact, never_exact, mark_exact, then_exact, or_exact, optional_exact, loosened}
 use Rattle.wm_grammar.proofs.Repeating.{item_shape, many_shape, many_exact, many_from_exact}

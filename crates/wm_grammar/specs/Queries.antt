@@ -1,12 +1,12 @@
 -- Queries.
-use Rattle.std.specs.Prelude.{ℕ, zero, suc, ◌-◌, Bool, true, false, is_some, ◌||◌, List, [], ◌∷◌, Option, Some, None, pos}
+use Rattle.std.specs.Prelude.{ℕ, zero, suc, ◌-◌, Bool, true, false, is_some, List, [], ◌∷◌, Option, Some, None, pos}
 use Rattle.wm_base.specs.declared.tree.column.Col.{Col}
 use Rattle.wm_base.specs.declared.tree.query.Agg.{Agg}
 use Rattle.wm_base.specs.declared.tree.query.Agg.TheVariants as aggs
 use Rattle.wm_base.specs.declared.tree.query.OrderBy.{OrderBy}
 use Rattle.wm_base.specs.declared.tree.query.OrderBy.TheVariants as keys
 use Rattle.wm_base.specs.declared.tree.query.Order.{Order}
-use Rattle.wm_base.specs.Trees.{Expr, Cond, Item, Out, Projection, Src, Query}
+use Rattle.wm_base.specs.Trees.{Expr, Cond, Item, Out, Projection, Src, Query, has_aggregate}
 use Rattle.wm_base.specs.Trees as trees
 use Rattle.wm_grammar.specs.Sorts as sorts
 use Rattle.wm_grammar.specs.Forms.{Form, gives, mark, never, ◌>>=◌, ◌>>◌, ◌or◌, optional, many, many_from}
@@ -56,19 +56,6 @@ unfoldable pub projection : ℕ → Form Projection
 projection depth =
     (do mark sorts.STAR; gives trees.All)
     or (do outs ← list_of (out depth); gives (trees.Outs outs))
-
-abbrev pub is_aggregate : Item → Bool
-is_aggregate (trees.Plain e) = false
-is_aggregate trees.CountAll = true
-is_aggregate (trees.Aggregate agg e) = true
-
-abbrev pub some_aggregate : List Out → Bool
-some_aggregate [] = false
-some_aggregate (o ∷ os) = is_aggregate o.item || some_aggregate os
-
-abbrev pub has_aggregate : Projection → Bool
-has_aggregate trees.All = false
-has_aggregate (trees.Outs os) = some_aggregate os
 
 -- src = id [id]
 unfoldable pub source : Form Src

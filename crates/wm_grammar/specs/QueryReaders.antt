@@ -6,13 +6,13 @@ use Rattle.wm_base.specs.declared.tree.query.Agg.TheVariants as aggs
 use Rattle.wm_base.specs.declared.tree.query.OrderBy.{OrderBy}
 use Rattle.wm_base.specs.declared.tree.query.OrderBy.TheVariants as keys
 use Rattle.wm_base.specs.declared.tree.query.Order.{Order}
-use Rattle.wm_base.specs.Trees.{Expr, Cond, Item, Out, Projection, Src, Query}
+use Rattle.wm_base.specs.Trees.{Expr, Cond, Item, Out, Projection, Src, Query, has_aggregate}
 use Rattle.wm_base.specs.Trees as trees
 use Rattle.wm_grammar.specs.Sorts as sorts
 use Rattle.wm_grammar.specs.Reading.{Reader, gives_at, never_at, mark_at, ◌>>=◌, ◌>>◌, choose_at, optional_at, many_at, many_from_at}
 use Rattle.wm_grammar.specs.OperandReaders.{id_at, integer_at, column_at}
 use Rattle.wm_grammar.specs.ExpressionReaders.{expr_at, condition_at}
-use Rattle.wm_grammar.specs.Queries.{has_aggregate, room, one_less, is_alone}
+use Rattle.wm_grammar.specs.Queries.{room, one_less, is_alone}
 
 abbrev pub next_at : {A : Type 0} → Reader A → Reader A
 next_at item = do mark_at sorts.COMMA; item

@@ -1,16 +1,17 @@
 -- Pieces in their order: where no two neighbours collide, no two do.
-use Rattle.std.proofs.Common.{◌≡◌, ℕ, ◌<◌, ◌≤◌, ◌==◌, Bool, true, false, not, ◌&&◌, ◌||◌, nat_lt, List, [], ◌∷◌, length, suc, zero, refl, sym, ap, ◌∙◌, arith, get_or}
+use Rattle.std.proofs.Common.{◌≡◌, ℕ, ◌<◌, ◌≤◌, ◌==◌, Bool, true, false, not, ◌&&◌, ◌||◌, nat_lt, List, [], ◌∷◌, refl, sym, ap, ◌∙◌, arith}
 use Rattle.std.proofs.lemmas.Bool.Decides.{nat_tests}
+use Rattle.std.proofs.lemmas.Bool.{and_parts, lt-ltb, ltb-true}
 use Rattle.std.proofs.lemmas.Cmp.{nat_cmp_total, on_total, then_total}
-use Rattle.std.proofs.lemmas.List.Sorted.{ranks_by, sorted_far, IsPermutation-map}
-use Rattle.std.specs.Cmp.{IsTotalOrder, IsStrictWeakOrder}
+use Rattle.std.proofs.lemmas.List.Sorted.{IsPermutation-map}
+use Rattle.std.specs.Cmp.{IsTotalOrder}
 use Rattle.std.specs.List.{list_any, list_all}
 use Rattle.std.specs.List.Sorted.{IsSortedBy, IsPermutation}
 use Rattle.std.specs.Ordering.{nat_cmp, is_lt, is_eq, ordering_then, ordering_reverse}
 use Rattle.std.specs.declared.cmp.Ordering.{Ordering}
 use Rattle.std.specs.declared.cmp.Ordering.TheVariants.{Less, Equal, Greater}
 use Rattle.wm_base.specs.Key.{key_order}
-use Rattle.wm_base.specs.Orders.{key_order_total}
+use Rattle.wm_base.specs.Orders.{both_equal, key_order_total}
 use Rattle.wm_graph.proofs.Rising.{InOrder, Each, Rises, stands_before, sorted_rises}
 use Rattle.wm_graph.proofs.Permuted.{differ_permuted, all_permuted}
 use Rattle.wm_graph.specs.Lookups.{referred}
@@ -57,26 +58,11 @@ between x y z low high one = by_order (group_order y x) refl
     by_order Greater e =
         absurd (not_less _ _ high (sym (group_order_total.congr x z y one) ∙ turned (group_order x y) (group_order y x) (group_order_total.antisymm x y) e))
 
-both_true : (a b : Bool) → (a && b) ≡ true → (a ≡ true) × (b ≡ true)
-both_true true b e = (refl, e)
-both_true false b e = cc
-
-both_equal : (a b : Ordering) → ordering_then a b ≡ Equal → (a ≡ Equal) × (b ≡ Equal)
-both_equal Less b e = cc
-both_equal Equal b e = (refl, e)
-both_equal Greater b e = cc
-
 same_nat : (m n : ℕ) → (m == n) ≡ true → nat_cmp m n ≡ Equal
 same_nat m n e = grind (arith, nat_tests)
 
 equal_nat : (m n : ℕ) → nat_cmp m n ≡ Equal → (m == n) ≡ true
 equal_nat m n e = grind (arith, nat_tests)
-
-below_nat : (m n : ℕ) → nat_lt m n ≡ true → m < n
-below_nat m n e = grind (arith, nat_tests)
-
-nat_below : (m n : ℕ) → m < n → nat_lt m n ≡ true
-nat_below m n e = grind (arith, nat_tests)
 
 is_equal : (o : Ordering) → is_eq o ≡ true → o ≡ Equal
 is_equal Less e = cc
@@ -91,21 +77,21 @@ record Colliding (x y : PieceRecord) : Type 0 where
 
 colliding : (x y : PieceRecord) → collide x y ≡ true → Colliding x y
 colliding x y e =
-    let parts = both_true ((x.version == y.version) && ((x.cells.table == y.cells.table) && is_eq (key_order x.cells.key y.cells.key))) (nat_lt x.cells.from y.cells.till && nat_lt y.cells.from x.cells.till) e in
-    let group = both_true (x.version == y.version) ((x.cells.table == y.cells.table) && is_eq (key_order x.cells.key y.cells.key)) parts.0 in
-    let rest = both_true (x.cells.table == y.cells.table) (is_eq (key_order x.cells.key y.cells.key)) group.1 in
-    let times = both_true (nat_lt x.cells.from y.cells.till) (nat_lt y.cells.from x.cells.till) parts.1 in
+    let parts = and_parts ((x.version == y.version) && ((x.cells.table == y.cells.table) && is_eq (key_order x.cells.key y.cells.key))) (nat_lt x.cells.from y.cells.till && nat_lt y.cells.from x.cells.till) e in
+    let group = and_parts (x.version == y.version) ((x.cells.table == y.cells.table) && is_eq (key_order x.cells.key y.cells.key)) parts.0 in
+    let rest = and_parts (x.cells.table == y.cells.table) (is_eq (key_order x.cells.key y.cells.key)) group.1 in
+    let times = and_parts (nat_lt x.cells.from y.cells.till) (nat_lt y.cells.from x.cells.till) parts.1 in
     record {
       group = rw (same_nat x.version y.version group.0, same_nat x.cells.table y.cells.table rest.0, is_equal (key_order x.cells.key y.cells.key) rest.1) refl;
-      first = below_nat x.cells.from y.cells.till times.0;
-      second = below_nat y.cells.from x.cells.till times.1;
+      first = ltb-true x.cells.from y.cells.till times.0;
+      second = ltb-true y.cells.from x.cells.till times.1;
     }
 
 collided : (x y : PieceRecord) → Colliding x y → collide x y ≡ true
 collided x y c =
     let group = both_equal (nat_cmp x.version y.version) (ordering_then (nat_cmp x.cells.table y.cells.table) (key_order x.cells.key y.cells.key)) c.group in
     let rest = both_equal (nat_cmp x.cells.table y.cells.table) (key_order x.cells.key y.cells.key) group.1 in
-    rw (equal_nat x.version y.version group.0, equal_nat x.cells.table y.cells.table rest.0, rest.1, nat_below x.cells.from y.cells.till c.first, nat_below y.cells.from x.cells.till c.second) refl
+    rw (equal_nat x.version y.version group.0, equal_nat x.cells.table y.cells.table rest.0, rest.1, lt-ltb x.cells.from y.cells.till c.first, lt-ltb y.cells.from x.cells.till c.second) refl
 
 -- whether two collide does not depend on which is first
 collide_turned : (x y : PieceRecord) → collide x y ≡ collide y x
@@ -148,10 +134,10 @@ neighbours_tell : (xs : List PieceRecord) → Rises piece_order xs → list_all 
 neighbours_tell [] up all = refl
 neighbours_tell (x ∷ []) up all = refl
 neighbours_tell (x ∷ (y ∷ ys)) up all =
-    let first = both_true (lasts x) (list_all lasts (y ∷ ys)) all in
-    let second = both_true (lasts y) (list_all lasts ys) first.1 in
+    let first = and_parts (lasts x) (list_all lasts (y ∷ ys)) all in
+    let second = and_parts (lasts y) (list_all lasts ys) first.1 in
     by_test (collide x y) refl (neighbours_tell (y ∷ ys) up.1 first.1)
-    (λ near. none_far x y ys (below_nat y.cells.from y.cells.till second.0) up.0.0 up.1.0 near)
+    (λ near. none_far x y ys (ltb-true y.cells.from y.cells.till second.0) up.0.0 up.1.0 near)
   where
     by_test : (b : Bool) → collide x y ≡ b → neighbours_differ collide (y ∷ ys) ≡ differ collide (y ∷ ys) → (collide x y ≡ false → list_any (collide x) ys ≡ false) → (not b && neighbours_differ collide (y ∷ ys)) ≡ (not (b || list_any (collide x) ys) && differ collide (y ∷ ys))
     by_test true e rest far = refl

@@ -1,5 +1,6 @@
 -- The rules, as the code asks them of indexes and of references.
 use Rattle.std.proofs.Common.{◌≡◌, ◌≢◌, ℕ, Bool, true, false, ◌&&◌, nat_lt, nat_le, List, [], ◌∷◌, length, Option, is_some, refl, sym, ap, ◌∙◌, arith, get_or}
+use Rattle.std.proofs.lemmas.Bool.{and_parts}
 use Rattle.std.specs.BTreeSet.{contains}
 use Rattle.std.specs.List.{list_all}
 use Rattle.std.specs.Ordering.{nat_cmp}
@@ -31,22 +32,18 @@ versions_told p i next versions spaces o all others =
 pub two_held : (a b c : Bool) → a ≡ true → b ≡ true → c ≡ (a && (b && c))
 two_held a b c first second = rw (first, second) refl
 
-both_true : (a b : Bool) → (a && b) ≡ true → (a ≡ true) × (b ≡ true)
-both_true true b e = (refl, e)
-both_true false b e = cc
-
 -- a piece that keeps the rules begins before it ends
 piece_lasts : (tables : ℕ → Option Table) (versions : ℕ → Option Version) (rows : ℕ → Option RowRecord) (next : ℕ) (x : PieceRecord) → is_piece tables versions rows next x ≡ true → nat_lt x.cells.from x.cells.till ≡ true
 piece_lasts tables versions rows next x e =
-    let cells = both_true (is_some (versions x.version)) _ e in
-    let ends = both_true (are_cells tables x.cells) _ cells.1 in
-    let period = both_true (nat_lt x.cells.from x.cells.till && nat_le x.cells.till END) _ ends.0 in
-    (both_true (nat_lt x.cells.from x.cells.till) (nat_le x.cells.till END) period.0).0
+    let cells = and_parts (is_some (versions x.version)) _ e in
+    let ends = and_parts (are_cells tables x.cells) _ cells.1 in
+    let period = and_parts (nat_lt x.cells.from x.cells.till && nat_le x.cells.till END) _ ends.0 in
+    (and_parts (nat_lt x.cells.from x.cells.till) (nat_le x.cells.till END) period.0).0
 
 pub pieces_last : (tables : ℕ → Option Table) (versions : ℕ → Option Version) (rows : ℕ → Option RowRecord) (next : ℕ) (xs : List PieceRecord) → list_all (is_piece tables versions rows next) xs ≡ true → list_all (λ (x : PieceRecord). nat_lt x.cells.from x.cells.till) xs ≡ true
 pieces_last tables versions rows next [] e = refl
 pieces_last tables versions rows next (x ∷ xs) e =
-    let parts = both_true (is_piece tables versions rows next x) (list_all (is_piece tables versions rows next) xs) e in
+    let parts = and_parts (is_piece tables versions rows next x) (list_all (is_piece tables versions rows next) xs) e in
     rw (piece_lasts tables versions rows next x parts.0) (pieces_last tables versions rows next xs parts.1)
 
 -- the counters are these alone

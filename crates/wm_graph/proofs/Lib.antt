@@ -1,4 +1,3 @@
-mod Samples
 pub mod Referring
 pub mod Finding
 pub mod Collecting

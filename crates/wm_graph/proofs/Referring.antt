@@ -1,8 +1,7 @@
 -- What holds of the items that references refer to, said of the references.
 use Rattle.std.proofs.Common.{◌≡◌, ℕ, ◌+◌, ◌<◌, Bool, List, [], ◌∷◌, ◌++◌, length, suc, refl, ap, take, get_or}
 use Rattle.std.proofs.lemmas.List.{take_more, map-append}
-use Rattle.std.proofs.lemmas.List.Folds.{list_all-map}
-use Rattle.std.specs.List.{list_any, list_all}
+use Rattle.std.specs.List.{list_any}
 use Rattle.wm_graph.specs.Lookups.{referred}
 use Rattle.wm_graph.specs.Rules.{differ}
 use denote.Ref.{Bor}
@@ -14,9 +13,6 @@ referred_more {A} xs i d h = rw (take_more xs i d h) (map-append (λ (r : Bor A)
 pub length_referred : {A : Type 0} (xs : List (Bor A)) → length (referred xs) ≡ length xs
 length_referred [] = refl
 length_referred (x ∷ xs) = ap (λ n. suc n) (length_referred xs)
-
-pub all_referred : {A : Type 0} (test : A → Bool) (xs : List (Bor A)) → list_all test (referred xs) ≡ list_all (λ x. test x.now) xs
-all_referred {A} test xs = list_all-map test (λ (r : Bor A). r.now) xs
 
 any_referred : {A : Type 0} (test : A → Bool) (xs : List (Bor A)) → list_any test (referred xs) ≡ list_any (λ x. test x.now) xs
 any_referred test [] = refl

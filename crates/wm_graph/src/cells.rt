@@ -1,3 +1,4 @@
+//! The rules of the cells that a record speaks of.
 ghost use Rattle.std.specs.Prelude.{◌≡◌, ◌∷◌, [], Some};
 ghost use Rattle.wm_graph.specs.Lookups.{found};
 ghost use Rattle.wm_graph.specs.Rules.{is_key_value, is_key_of, are_cells, is_key, is_row_at};

@@ -1,3 +1,4 @@
+//! Which values fit the columns of a table.
 ghost use Rattle.std.specs.Prelude.{◌≡◌, ◌==◌};
 ghost use Rattle.wm_base.specs.Value.{type_place};
 ghost use Rattle.wm_graph.specs.Rules.{fit_columns, fits_column, type_of};

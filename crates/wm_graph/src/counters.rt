@@ -1,3 +1,4 @@
+//! The rules of the counts over the whole store.
 ghost use Rattle.std.specs.Prelude.{◌≡◌};
 ghost use Rattle.wm_graph.specs.Rules.{are_counters};
 

@@ -1,3 +1,4 @@
+//! The rules of the records of entries of logs.
 ghost use Rattle.std.specs.Prelude.{◌≡◌, nat_lt, false, IfOk};
 ghost use Rattle.std.specs.Option.{option_map_or};
 ghost use Rattle.std.specs.List.{list_all};

@@ -1,3 +1,4 @@
+//! All rules, asked one kind of records after another.
 ghost use Rattle.std.specs.Prelude.{◌≡◌, ◌∷◌, [], IfOk};
 ghost use Rattle.wm_graph.specs.Indexing.{IndexesOf};
 ghost use Rattle.wm_graph.specs.Lookups.{collected};

@@ -1,3 +1,4 @@
+//! The rules of the records of savepoints.
 ghost use Rattle.std.specs.Prelude.{◌≡◌, ◌==◌, ◌&&◌, ℕ, nat_le, IfOk};
 ghost use Rattle.std.specs.List.{list_all, count_by};
 ghost use Rattle.wm_graph.specs.Lookups.{found, referred, counted};

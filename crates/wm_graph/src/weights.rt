@@ -1,3 +1,4 @@
+//! How much values weigh together.
 ghost use Rattle.std.specs.Prelude.{◌≡◌, nat_le};
 ghost use Rattle.wm_graph.specs.Rules.{weight};
 

@@ -1,6 +1,6 @@
+//! Whole runs over stations in memory that fail or stop at each call.
 use std::alloc::Global;
 use std::test::Fail;
-use wm_base::Damage;
 use wm_host::*;
 use wm_station::{Call, Failing, Faults, MemorySource, MemoryStation, Tear};
 
@@ -78,157 +78,6 @@ fn store(alloc: Global, limit: &str) -> Result<Vec<u8>, Fail> {
 
 fn station_over(alloc: Global, file: &[u8], faults: Faults) -> Result<MemoryStation, Fail> {
     Ok(MemoryStation::new(alloc, file.to_vec(alloc)?, faults)?)
-}
-
-#[test]
-fn a_second_run_finds_the_rows(rt: HostRuntime) -> Result<(), Fail> {
-    let alloc = rt.alloc();
-    let mut station = empty(alloc, Faults::none(alloc))?;
-    let (end, said) = play_all(alloc, &mut station, &["init", "--limit", "2"], b"")?;
-    assert_eq!(rt; end, ended(0, 0));
-    assert_eq!(rt; said.as_slice(), b"OK\n".as_slice());
-    let (end, said) = play_all(alloc, &mut station, &RUN, ROWS)?;
-    assert_eq!(rt; end, ended(0, 5));
-    assert_eq!(rt; said.as_slice(), ROWS_SAID);
-    let (end, said) = play_all(
-        alloc,
-        &mut station,
-        &["run", "--now=2019-12-31T23:59:59"],
-        b"CONNECT A ANN\nA: INSERT INTO BUD VALUES (3, 30)\nA: SELECT * FROM BUD",
-    )?;
-    assert_eq!(rt; end, ended(0, 3));
-    assert_eq!(rt;
-        said.as_slice(),
-        b"OK\nWM-070 change limit 2\n1|10\n2|20\nROWS 2\n".as_slice()
-    );
-    Ok(())
-}
-
-#[test]
-fn a_table_is_filled_and_read(rt: HostRuntime) -> Result<(), Fail> {
-    let alloc = rt.alloc();
-    let made = store(alloc, "1000")?;
-    let mut station = station_over(alloc, &made, Faults::none(alloc))?;
-    play_all(alloc, &mut station, &RUN, ROWS)?;
-    let (end, said) = play_all(
-        alloc,
-        &mut station,
-        &RUN,
-        b"CONNECT a Ann\n\
-        A: select * from bud\n\
-        A: INSERT INTO BUD VALUES (1, 5)\n\
-        A: SELECT * FROM NOPE\n\
-        A: SELEC\n\
-        B: SELECT * FROM BUD\n\
-        AT DATE '2020-01-02'\n",
-    )?;
-    assert_eq!(rt; end, ended(0, 7));
-    assert_eq!(rt;
-        said.as_slice(),
-        b"OK\n1|10\n2|20\nROWS 2\n\
-        WM-060 key there 1\n\
-        WM-010 no table NOPE\n\
-        WM-003 syntax 4\n\
-        WM-004 no session B\n\
-        OK\n"
-            .as_slice()
-    );
-    Ok(())
-}
-
-#[test]
-fn a_refused_line_changes_no_byte(rt: HostRuntime) -> Result<(), Fail> {
-    let alloc = rt.alloc();
-    let made = store(alloc, "2")?;
-    let mut station = station_over(alloc, &made, Faults::none(alloc))?;
-    play_all(alloc, &mut station, &RUN, ROWS)?;
-    let before = station.recording().image().to_vec(alloc)?;
-    let (end, said) = play_all(
-        alloc,
-        &mut station,
-        &RUN,
-        b"CONNECT A ANN\n\
-        A: INSERT INTO BUD VALUES (1, 11)\n\
-        A: INSERT INTO BUD VALUES (3, 30)\n\
-        A: INSERT INTO NOPE VALUES (3, 30)\n\
-        A: CREATE TABLE BUD (ID NUMBER PRIMARY KEY, AMT NUMBER)\n\
-        A: EXECUTE DBMS_WM.EnableVersioning('BUD')\n\
-        CONNECT A BEN\n",
-    )?;
-    assert_eq!(rt; end, ended(0, 7));
-    assert_eq!(rt;
-        said.as_slice(),
-        b"OK\n\
-        WM-060 key there 1\n\
-        WM-070 change limit 2\n\
-        WM-010 no table NOPE\n\
-        WM-011 table exists BUD\n\
-        WM-019 versioning BUD on\n\
-        WM-005 session exists A\n"
-            .as_slice()
-    );
-    assert_eq!(rt; station.recording().image(), before.as_slice());
-    Ok(())
-}
-
-#[test]
-fn words_out_of_order_do_nothing(rt: HostRuntime) -> Result<(), Fail> {
-    let alloc = rt.alloc();
-    let mut station = empty(alloc, Faults::none(alloc))?;
-    for words in [["init", "--limit=0"], ["run", "--now=2019-02-29"]] {
-        let (end, said) = play_all(alloc, &mut station, words.as_slice(), ROWS)?;
-        assert_eq!(rt; end, ended(2, 0));
-        assert_eq!(rt; said.as_slice(), b"".as_slice());
-        assert!(rt; station.recording().calls().is_empty());
-    }
-    Ok(())
-}
-
-#[test]
-fn there_is_a_store_or_none(rt: HostRuntime) -> Result<(), Fail> {
-    let alloc = rt.alloc();
-    let made = store(alloc, "5")?;
-    let mut station = station_over(alloc, &made, Faults::none(alloc))?;
-    let (end, said) = play_all(alloc, &mut station, &["init", "--limit=5"], b"")?;
-    assert_eq!(rt; end, ended(8, 0));
-    assert_eq!(rt; said.as_slice(), b"".as_slice());
-    for file in [b"".as_slice(), b"\0", b"no store"] {
-        let mut station = station_over(alloc, file, Faults::none(alloc))?;
-        let (end, said) = play_all(alloc, &mut station, &RUN, ROWS)?;
-        assert_eq!(rt; end, ended(6, 0), "over {file:?}");
-        assert_eq!(rt; said.as_slice(), b"".as_slice());
-        assert_eq!(rt; station.recording().image(), file);
-    }
-    Ok(())
-}
-
-#[test]
-fn damage_is_told_by_its_page(rt: HostRuntime) -> Result<(), Fail> {
-    let alloc = rt.alloc();
-    let mut other_format = store(alloc, "5")?;
-    if let Some(format) = other_format.as_mut_slice().get_mut(1) {
-        *format = 0xff;
-    }
-    let mut cut = store(alloc, "5")?;
-    cut.truncate(5_000);
-    for (file, number, kind) in [
-        (b"\x5a".as_slice(), 0, Damage::Short),
-        (other_format.as_slice(), 0, Damage::Format),
-        (cut.as_slice(), 1, Damage::Short),
-    ] {
-        let mut station = station_over(alloc, file, Faults::none(alloc))?;
-        let (end, said) = play_all(alloc, &mut station, &RUN, ROWS)?;
-        assert_eq!(rt;
-            end,
-            Ended {
-                status: 7,
-                lines: 0,
-                place: Place::Page { number, kind }
-            }
-        );
-        assert_eq!(rt; said.as_slice(), b"".as_slice());
-    }
-    Ok(())
 }
 
 #[test]
@@ -385,81 +234,20 @@ fn a_crash_keeps_what_was_answered(rt: HostRuntime) -> Result<(), Fail> {
             answered = answered.saturating_add(1);
         }
         let more = answered.saturating_add(1);
-        for tear in [
-            Tear::Whole,
-            Tear::Lost,
-            Tear::Front,
-            Tear::Back,
-            Tear::Filled(255),
+        for tears in [
+            [Tear::Whole, Tear::Whole],
+            [Tear::Lost, Tear::Whole],
+            [Tear::Whole, Tear::Lost],
+            [Tear::Front, Tear::Back],
+            [Tear::Filled(0x47), Tear::Lost],
         ] {
-            let rows = rows_of(alloc, done.crash_image(calls + 1, &[tear])?)?;
+            let rows = rows_of(alloc, done.crash_image(calls + 1, &tears)?)?;
             assert!(rt;
                 rows == Some(answered) || rows == Some(more),
-                "behind call {calls}, {tear:?}"
+                "behind call {calls}, {tears:?}"
             );
         }
     }
     assert_eq!(rt; answered, 2);
-    Ok(())
-}
-
-#[test]
-fn a_line_counts_up_to_16384_bytes(rt: HostRuntime) -> Result<(), Fail> {
-    let alloc = rt.alloc();
-    let made = store(alloc, "1000")?;
-    for (count, answer) in [
-        (16_384, b"".as_slice()),
-        (16_385, b"WM-001 line too long\n"),
-        (17_000, b"WM-001 line too long\n"),
-    ] {
-        let mut script = vec![in alloc; b' '; count]?;
-        script.extend_from_slice(b"\r\n")?;
-        let mut station = station_over(alloc, &made, Faults::none(alloc))?;
-        let (end, said) = play_all(alloc, &mut station, &RUN, &script)?;
-        assert_eq!(rt; end, ended(0, 1), "at {count}");
-        assert_eq!(rt; said.as_slice(), answer, "at {count}");
-    }
-    Ok(())
-}
-
-#[test]
-fn words_are_in_the_grammar_or_not(rt: HostRuntime) -> Result<(), Fail> {
-    let alloc = rt.alloc();
-    let made = store(alloc, "1000")?;
-    for (words, status) in [
-        (["run", "--now", "0001-01-01"].as_slice(), 0),
-        (&["run", "--now=9999-12-31 23:59:59"], 0),
-        (&["run", "--now=2020-02-29T00:00:00"], 0),
-        (&["run", "--now=2019-02-29"], 2),
-        (&["run", "--now=2020-13-28"], 2),
-        (&["run", "--now", "0000-01-01"], 2),
-        (&["run", "--now", "2020-1-01"], 2),
-        (&["run", "--now", "2020-01-01 "], 2),
-        (&["run", "--now", "01-31-2020"], 2),
-        (&["run", "--now", "2020-01-01 24:00:00"], 2),
-        (&["run", "--now"], 2),
-        (&["run", "--now=2020-01-01", "--now=2020-01-01"], 2),
-        (&["run", "--limit", "5"], 2),
-        (&["RUN", "--now", "2020-01-01"], 2),
-        (&["run", "2020-01-01"], 2),
-        (&["run"], 2),
-        (&[], 2),
-        (&["init", "--limit", "1"], 8),
-        (&["init", "--limit=1048576"], 8),
-        (&["init", "--limit", "00000000000000000005"], 8),
-        (&["init", "--limit", "000000000000000000005"], 2),
-        (&["init", "--limit", "0"], 2),
-        (&["init", "--limit=1048577"], 2),
-        (&["init", "--limit", "99999999999999999999"], 2),
-        (&["init", "--limit", "+5"], 2),
-        (&["init", "--limit="], 2),
-        (&["init", "--limit"], 2),
-        (&["init", "--now", "2020-01-01"], 2),
-        (&["init"], 2),
-    ] {
-        let mut station = station_over(alloc, &made, Faults::none(alloc))?;
-        let (end, _) = play_all(alloc, &mut station, words, b"CONNECT A ANN\n")?;
-        assert_eq!(rt; end.status, status, "at {words:?}");
-    }
     Ok(())
 }

@@ -3,12 +3,12 @@ use Rattle.std.proofs.Common.{◌≡◌, ℕ, ◌<◌, ◌≤◌, ◌==◌, ◌&
 use Rattle.std.proofs.lemmas.Bool.{eq-eqb, eqb-true}
 use Rattle.std.specs.Bool.{then_some}
 use Rattle.std.specs.Option.{option_or, option_and_then}
+use Rattle.wm_base.proofs.Plain.{option_or-none, option_or_assoc}
 use Rattle.wm_base.specs.Period.{covers}
 use Rattle.wm_period.specs.Pieces.{Between, held, held_at}
 use Rattle.wm_period.specs.declared.piece.Piece.{Piece}
 use Rattle.wm_period.proofs.Order.{held_at-early}
 use Rattle.wm_spec.specs.Stretches.{Stretch, value_at, IsApart, AreMaximal}
-use Rattle.wm_spec.proofs.Lists.{option_or-none, option_or_assoc}
 use Rattle.wm_state.specs.Listing.{standing}
 use Rattle.wm_state.proofs.Tests.{both, not_true, bool_apart}
 use Rattle.wm_image.specs.Standing.{goes_on}

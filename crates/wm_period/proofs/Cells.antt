@@ -6,19 +6,10 @@ use Rattle.std.proofs.lemmas.Bool.Decides.{nat_tests}
 use Rattle.std.specs.Bool.{then_some}
 use Rattle.std.specs.List.{cons_option}
 use Rattle.std.specs.Option.{option_or, option_to_list}
+use Rattle.wm_base.proofs.Plain.{option_or_assoc}
 use Rattle.wm_base.specs.Period.{covers}
 use Rattle.wm_period.specs.Pieces.{Held, held, held_at, part_in, parts_in}
 use Rattle.wm_period.specs.declared.piece.Piece.{Piece}
-
--- ---- answers that may be missing
-
-pub option_or_assoc : {T : Type 0} (a b c : Option T) → option_or (option_or a b) c ≡ option_or a (option_or b c)
-option_or_assoc None b c = refl
-option_or_assoc (Some x) b c = refl
-
-pub option_or-none : {T : Type 0} (a : Option T) → option_or a None ≡ a
-option_or-none None = refl
-option_or-none (Some x) = refl
 
 -- ---- appending
 

@@ -4,4 +4,3 @@ pub mod Over
 pub mod JoinLaws
 pub mod Canonical
 pub mod Search
-pub mod PeriodLaws

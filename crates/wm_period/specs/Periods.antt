@@ -8,16 +8,6 @@ use Rattle.wm_base.specs.declared.instant.TheConstants.{END}
 abbrev pub covered : List Span → ℕ → Bool
 covered ps t = list_any (λ p. covers p t) ps
 
--- all periods have ended by an instant
-abbrev pub HaveEnded : ℕ → List Span → Type 0
-HaveEnded at [] = Unit {0}
-HaveEnded at (p ∷ ps) = (p.till ≤ at) × HaveEnded at ps
-
--- all periods have ended before an instant
-abbrev pub EndBefore : ℕ → List Span → Type 0
-EndBefore at [] = Unit {0}
-EndBefore at (p ∷ ps) = (p.till < at) × EndBefore at ps
-
 -- the first period begins after an instant
 abbrev pub BeginsAfter : ℕ → List Span → Type 0
 BeginsAfter at [] = Unit {0}

@@ -3,9 +3,8 @@
 
 mod joining;
 mod parts;
-pub mod periods;
 pub mod piece;
 pub mod pieces;
-pub use periods::Periods;
+
 pub use piece::Piece;
 pub use pieces::Pieces;

@@ -1,3 +1,4 @@
+//! Pieces cut to a period, and pieces laid over others.
 ghost use Rattle.std.specs.Prelude.{◌≡◌, ◌≤◌, ◌++◌, take, length, IfOk, OnOk};
 ghost use Rattle.wm_period.specs.Pieces.{Between, EndBy, parts_in, over_from};
 ghost use Rattle.wm_base.specs.declared.instant.TheConstants.{END};

@@ -1,3 +1,4 @@
+//! What was written for one key over one period.
 ghost use Rattle.std.specs.Prelude.{◌≡◌, ◌<◌, ◌≤◌, ◌↔◌, IsTrue, IsNone, IfSome, length, drop};
 ghost use Rattle.wm_base.specs.Period.{meets};
 ghost use Rattle.wm_period.specs.Pieces.{part_in, held, IsApart, JoinsFirst};

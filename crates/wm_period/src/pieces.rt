@@ -1,3 +1,4 @@
+//! The pieces of one key, laid over one another.
 ghost use Rattle.std.specs.Prelude.{◌≡◌, ℕ, ◌↔◌, List, [], length, Option, None, if◌then◌else◌, IsTrue, IfSome, IfOk, OnOk, OnErr, Contains};
 ghost use Rattle.std.specs.Bool.{then_some};
 ghost use Rattle.std.specs.Option.{option_or, option_map};
@@ -13,7 +14,7 @@ use std::marker::Model;
 use wm_base::{Instant, Memory, Period};
 
 /// The pieces of one key. They lie one after another and do not overlap; where none lies nothing is held.
-#[derive(Debug, Drop)]
+#[derive(Drop)]
 pub struct Pieces {
     list: Vec<Piece>,
 }

@@ -1,7 +1,7 @@
 ghost use Rattle.std.specs.Prelude.{◌≡◌, List};
 ghost use Rattle.wm_base.specs.Views.{item_view, out_view, outs_view, projection_view, src_view, srcs_view, query_view};
 ghost use Rattle.wm_grammar.specs.OperandReaders.{column_at};
-ghost use Rattle.wm_grammar.specs.Queries.{some_aggregate, has_aggregate, is_aggregate, is_alone, room};
+ghost use Rattle.wm_grammar.specs.Queries.{is_alone, room};
 ghost use Rattle.wm_grammar.specs.QueryReaders.{next_at, list_of_at, other_aggregate_at, counted_at, query_item_at, out_at, projection_at, source_at, joined_at, next_source_at, separators, source_list_at, grouping_at, direction_at, order_key_at, order_at, ordering_at, query_at};
 ghost use Rattle.wm_grammar.specs.Symbols.{next_in};
 ghost use Rattle.wm_terms.specs.Telling.{Told};
@@ -117,36 +117,6 @@ fn projection(cursor: &mut Cursor, alloc: Global) -> Result<Projection, ParseErr
     }
     let list = outs(cursor, alloc)?;
     Ok(Projection::Outs(list))
-}
-
-fn is_aggregate(item: &Item) -> bool
-    ensures { result ≡ is_aggregate (item_view item.now) }
-{
-    match item {
-        Item::Expr(_) => false,
-        Item::CountAll | Item::Agg { .. } => true,
-    }
-}
-
-/// Whether one of the items is an aggregate.
-fn some_aggregate(outs: &[Out]) -> bool
-    ensures { result ≡ some_aggregate (outs_view outs.now) }
-{
-    for out in outs {
-        if is_aggregate(&out.item) {
-            return true;
-        }
-    }
-    false
-}
-
-fn has_aggregate(projection: &Projection) -> bool
-    ensures { result ≡ has_aggregate (projection_view projection.now) }
-{
-    match projection {
-        Projection::All => false,
-        Projection::Outs(outs) => some_aggregate(outs.as_slice()),
-    }
 }
 
 #[tactic(auto, unfolding(wm_grammar::specs::QueryReaders::source_at))]
@@ -361,7 +331,7 @@ pub fn query(cursor: &mut Cursor, alloc: Global) -> Result<Query, ParseError>
     }
     let projection = projection(cursor, alloc)?;
     cursor.mark(Sort::From)?;
-    let sources = source_list(cursor, alloc, has_aggregate(&projection))?;
+    let sources = source_list(cursor, alloc, projection.has_aggregate())?;
     let filter = filter(cursor, alloc)?;
     let groups = grouping(cursor, alloc, is_alone(sources.as_slice()))?;
     let orders = ordering(cursor, alloc)?;

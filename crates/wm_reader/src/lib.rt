@@ -2,7 +2,8 @@
 #![tactic(auto)]
 
 mod capitals;
-mod remark;mod text;
+mod remark;
+mod text;
 
 pub use capitals::capitals_of;
 pub use remark::is_remark;

@@ -2,10 +2,13 @@
 use std::alloc::Global;
 use std::process::Abort;
 use std::test::Fail;
-use wm_base::{Instant, Kind, Memory, Period, Stamp};
+use wm_base::{Instant, Kind, Memory, Name, Period, Stamp, StoreFault};
 use wm_lexer::{TokenKind, lex};
 use wm_period::{Piece, Pieces};
-use wm_temporal::{are_in_order, split, uncovered};
+use wm_spec::record::{Record, Table, TableColumns};
+use wm_station::{FuseStation, QuietStation};
+use wm_store::Store;
+use wm_temporal::{split, uncovered};
 use wm_tree::Tree;
 
 fn period(from: u64, till: u64) -> Option<Period> {
@@ -66,9 +69,6 @@ fn old_periods_are_uncovered(rt: HostRuntime) -> Result<(), Fail> {
     let alloc = rt.alloc();
     let olds = [period(10, 20).ok_or("a period")?];
     let news = [period(12, 15).ok_or("a period")?];
-    if !are_in_order(olds.as_slice()) || !are_in_order(news.as_slice()) {
-        return Err("periods in order".into());
-    }
     let left = uncovered(alloc, olds.as_slice(), news.as_slice())?;
     assert_eq!(rt; left.first().copied(), period(10, 12));
     assert_eq!(rt; left.last().copied(), period(15, 20));
@@ -113,5 +113,23 @@ fn a_line_has_tokens(rt: HostRuntime) -> Result<(), Fail> {
     assert_eq!(rt; tokens.as_slice().len(), 3);
     assert_eq!(rt; last.kind, TokenKind::Text);
     assert_eq!(rt; [last.from, last.till], [5, 12]);
+    Ok(())
+}
+
+#[test]
+fn a_record_is_fetched(rt: HostRuntime) -> Result<(), Fail> {
+    let alloc = rt.alloc();
+    let mut station = QuietStation::new(alloc, Vec::new(alloc))?;
+    let store = Store::make(alloc, &mut station, 1000)?;
+    let limit = match store.fetch(alloc, &mut station, 1)? {
+        Some(Record::Counters(counters)) => counters.limit,
+        _ => 0,
+    };
+    assert_eq!(rt; limit, 1000);
+    assert!(rt; store.fetch(alloc, &mut station, 4)?.is_none());
+    // The size of the file is told, and then the reading of the page fails.
+    let mut failing = FuseStation::new(station, 1);
+    let failed = store.fetch(alloc, &mut failing, 1).err();
+    assert_eq!(rt; failed, Some(StoreFault::Disk));
     Ok(())
 }

@@ -4,10 +4,4 @@
 #[cfg(test)]
 mod calls;
 #[cfg(test)]
-mod codec;
-#[cfg(test)]
-mod graph;
-#[cfg(test)]
 mod station;
-#[cfg(test)]
-mod store;

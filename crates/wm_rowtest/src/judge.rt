@@ -1,3 +1,4 @@
+//! What a kept closure may be asked and may answer.
 ghost use Rattle.std.specs.Fn.{FnReturnsAt};
 ghost use Rattle.wm_base.specs.declared.row.Row.{Row as RowOf};
 ghost use Rattle.wm_base.specs.declared.truth.Truth.{Truth as TruthOf};

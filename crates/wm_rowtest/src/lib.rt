@@ -2,9 +2,7 @@
 #![tactic(auto)]
 
 pub mod judge;
-pub mod once;
 pub mod row_test;
 
 pub use judge::Judge;
-pub use once::keeps;
 pub use row_test::RowTest;

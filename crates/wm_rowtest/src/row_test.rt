@@ -1,3 +1,4 @@
+//! A condition that is kept with the closure that answers it.
 ghost use Rattle.std.specs.Prelude.{◌≡◌, true, IfOk};
 ghost use Rattle.wm_base.specs.declared.row.Row.{Row as RowOf};
 ghost use Rattle.wm_base.specs.declared.truth.Truth.{Truth as TruthOf};
@@ -31,18 +32,13 @@ impl<F: Fn(&Row) -> Truth + Judge> RowTest<F> {
         requires answers { (row : RowOf) (truth : TruthOf) → fits columns.now row ≡ true → F.gives test row truth → truth ≡ truth_of (cond_view cond.now) columns.now row }
         ensures { IfOk result (λ made. (cond_view made.cond ≡ cond_view cond.now) × (made.columns ≡ columns.now) × (made.test ≡ test)) }
     {
+        let columns = columns.copy(alloc)?;
+        let cond = cond_copy(alloc, cond)?;
         Ok(RowTest {
-            cond: cond_copy(alloc, cond)?,
-            columns: columns.copy(alloc)?,
+            cond,
+            columns,
             test,
         })
-    }
-
-    /// The condition.
-    pub fn cond(&self) -> &Cond
-        ensures { result.now ≡ self.now.cond }
-    {
-        &self.cond
     }
 
     /// The columns whose rows it judges.

@@ -1,16 +1,9 @@
 -- Laws of what a list holds.
-use Rattle.std.proofs.Common.{◌≡◌, List, [], ◌∷◌, ◌++◌, Option, None, Some, refl, sym, ap, ◌∙◌}
+use Rattle.std.proofs.Common.{◌≡◌, List, [], ◌∷◌, ◌++◌, Option, sym, ap, ◌∙◌}
 use Rattle.std.specs.Bool.{then_some}
 use Rattle.std.specs.Option.{option_or}
+use Rattle.wm_base.proofs.Plain.{option_or-none, option_or_assoc}
 use Rattle.wm_spec.specs.Lists.{Entry, Cell, Told, told, told_of, covers}
-
-pub option_or-none : {A : Type 0} (x : Option A) → option_or x None ≡ x
-option_or-none None = refl
-option_or-none (Some a) = refl
-
-pub option_or_assoc : {A : Type 0} (x y z : Option A) → option_or (option_or x y) z ≡ option_or x (option_or y z)
-option_or_assoc None y z = refl
-option_or_assoc (Some a) y z = refl
 
 -- later entries lie over earlier ones
 pub told-append : (xs ys : List Entry) (c : Cell) → told (xs ++ ys) c ≡ option_or (told ys c) (told xs c)

@@ -1,11 +1,12 @@
 -- Laws of the maximal stretches of a function of the moment, and of the rows of a list.
 use Rattle.std.proofs.Common.{◌≡◌, ℕ, ◌<◌, ◌≤◌, ◌⊎◌, inl, inr, List, [], ◌∷◌, Option, None, Some, Bool, true, false, ◌&&◌, ◌||◌, ◌==◌, nat_le, nat_lt, refl, sym, ap, ◌∙◌, arith, ⊎_elim}
+use Rattle.std.proofs.lemmas.Bool.{and_parts, eq-eqb}
 use Rattle.std.specs.Bool.{then_some}
 use Rattle.std.specs.Option.{option_or, option_and_then}
+use Rattle.wm_base.proofs.Plain.{option_or-none, option_or_assoc}
 use Rattle.wm_spec.specs.Lists.{Entry, Cell, told, told_of, is_of, has_time, stamp_at, standing_stamp}
 use Rattle.wm_spec.specs.Stretches.{Stretch, value_at, joined, onto, stretches, cut_in, cuts, rows_of_key, IsApart, AreMaximal}
 use Rattle.wm_base.specs.declared.value.Value.{Value}
-use Rattle.wm_spec.proofs.Lists.{option_or-none, option_or_assoc}
 
 -- the cuts ascend from an instant on
 abbrev pub Up : ℕ → List ℕ → Type 0
@@ -152,15 +153,8 @@ IsApart-stamp : (till a b : ℕ) (ss : List Stretch) → a ≡ b → IsApart til
 IsApart-stamp till a b [] same apart = tt
 IsApart-stamp till a b (s ∷ ss) same apart = λ meets equal. apart meets (sym same ∙ equal)
 
-and-true : (a b : Bool) → (a && b) ≡ true → (a ≡ true) × (b ≡ true)
-and-true true b e = (refl, e)
-and-true false b e = absurd (let it : false ≡ true = e in cc)
-
 and-false : (a b : Bool) → (a && b) ≡ false → a ≡ true → b ≡ true → ⊥
 and-false a b e x y = let it : true ≡ false = sym (rw (x, y) refl) ∙ e in cc
-
-number_same : (m n : ℕ) → m ≡ n → (m == n) ≡ true
-number_same m n e = grind (arith, e)
 
 AreMaximal-joined : (from till stamp : ℕ) (ss : List Stretch) → from < till → AreMaximal till ss → AreMaximal from (joined from till stamp ss)
 AreMaximal-joined from till stamp [] lt max = (omega arith, lt, tt, tt)
@@ -169,13 +163,13 @@ AreMaximal-joined from till stamp (s ∷ ss) lt max =
     (λ e. rw e (
       omega arith,
       omega (arith, lt, max.0, max.1),
-      IsApart-stamp s.till stamp s.stamp ss (same_number stamp s.stamp (and-true (till == s.from) (stamp == s.stamp) e).1) max.2,
+      IsApart-stamp s.till stamp s.stamp ss (same_number stamp s.stamp (and_parts (till == s.from) (stamp == s.stamp) e).1) max.2,
       max.3,
     ))
     (λ e. rw e (
       omega arith,
       lt,
-      (λ meets equal. and-false (till == s.from) (stamp == s.stamp) e (number_same till s.from meets) (number_same stamp s.stamp equal)),
+      (λ meets equal. and-false (till == s.from) (stamp == s.stamp) e (eq-eqb till s.from meets) (eq-eqb stamp s.stamp equal)),
       (max.0, max.1, max.2, max.3),
     ))
 
@@ -211,8 +205,8 @@ value-joined : (from till stamp t : ℕ) (ss : List Stretch) → from < till →
 value-joined from till stamp t [] lt max = refl
 value-joined from till stamp t (s ∷ ss) lt max =
     by_test ((till == s.from) && (stamp == s.stamp))
-    (λ e. rw e (rw (← same_number till s.from (and-true (till == s.from) (stamp == s.stamp) e).0, ← same_number stamp s.stamp (and-true (till == s.from) (stamp == s.stamp) e).1)
-    (merged (value_at ss t) from till s.till stamp t lt (omega (arith, max.0, max.1, same_number till s.from (and-true (till == s.from) (stamp == s.stamp) e).0)))))
+    (λ e. rw e (rw (← same_number till s.from (and_parts (till == s.from) (stamp == s.stamp) e).0, ← same_number stamp s.stamp (and_parts (till == s.from) (stamp == s.stamp) e).1)
+    (merged (value_at ss t) from till s.till stamp t lt (omega (arith, max.0, max.1, same_number till s.from (and_parts (till == s.from) (stamp == s.stamp) e).0)))))
     (λ e. rw e refl)
 
 value-onto : (from till t : ℕ) (o : Option ℕ) (ss : List Stretch) → from < till → AreMaximal till ss

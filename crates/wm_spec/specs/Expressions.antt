@@ -1,8 +1,7 @@
 -- Expressions: the value that they have for a row.
-use Rattle.std.specs.Prelude.{ℕ, Bool, true, ◌&&◌, ◌^◌, nat_lt, List, Option, Some, None, option_map, if◌then◌else◌, ℤ, pos, negsuc, neg_ℤ, ◌+ℤ◌, ◌-ℤ◌, ◌*ℤ◌}
+use Rattle.std.specs.Prelude.{Bool, true, ◌&&◌, ◌^◌, nat_lt, List, Option, Some, None, option_map, if◌then◌else◌, ℤ, pos, negsuc, neg_ℤ, ◌+ℤ◌, ◌-ℤ◌, ◌*ℤ◌}
 use Rattle.wm_base.specs.declared.columns.Column.{Column}
 use Rattle.wm_base.specs.declared.row.Row.{Row}
-use Rattle.wm_base.specs.declared.tree.constant.Const.{Const}
 use Rattle.wm_base.specs.declared.tree.constant.Const.TheVariants as constants
 use Rattle.wm_base.specs.declared.tree.operand.Operand.{Operand}
 use Rattle.wm_base.specs.declared.tree.operand.Operand.TheVariants as operands
@@ -66,7 +65,7 @@ abbrev pub lasts : Operand → Bool
 lasts (operands.Const (constants.Span from till)) = nat_lt (end_seconds from) (end_seconds till)
 lasts _ = true
 
--- so has each such operand of the expression
+-- each operand of the expression that is a written period has its first end below its second
 abbrev pub has_no_empty_period : Expr → Bool
 has_no_empty_period (Of operand) = lasts operand
 has_no_empty_period (Neg x) = has_no_empty_period x

@@ -2,7 +2,6 @@
 use Rattle.std.specs.Prelude.{ℕ, Bool, true, false, ◌&&◌, ◌||◌, ◌==◌, List, [], ◌∷◌, count_by, slice_get, Option, Some, None, option_and_then, option_map, unwrap_or, bytes_eq, codes, if◌then◌else◌, pos}
 use Rattle.std.specs.List.{position}
 use Rattle.wm_base.specs.declared.columns.Column.{Column}
-use Rattle.wm_base.specs.declared.tree.column.Col.{Col}
 use Rattle.wm_base.specs.declared.tree.column.Suffix.{Suffix}
 use Rattle.wm_base.specs.declared.tree.column.Suffix.TheVariants.{ValidFrom, ValidTill}
 use Rattle.wm_base.specs.declared.tree.constant.PeriodEnd.{PeriodEnd}

@@ -2,18 +2,14 @@
 #![tactic(auto)]
 
 #[cfg(test)]
-mod calls;
+mod choosing;
 #[cfg(test)]
-mod dml;
+mod counting;
 #[cfg(test)]
-mod expr;
-#[cfg(test)]
-mod making;
-#[cfg(test)]
-mod print;
-#[cfg(test)]
-mod rowtest;
+mod refusals;
 #[cfg(test)]
 mod selecting;
 #[cfg(test)]
-mod typing;
+mod tables;
+#[cfg(test)]
+mod trees;

@@ -3,13 +3,14 @@
 use std::fs::{File, OpenOptions};
 use std::io;
 use std::io::ErrorKind;
+use std::path::Path;
 use std::rt::Files;
 
 /// What a path leads to.
 #[derive(Drop)]
 pub(crate) enum Opened {
     File(File),
-    /// Nothing is there: it reads as an empty file, and is not written.
+    /// Nothing is there, and could be: it reads as an empty file, and is not written.
     Nothing,
     /// It cannot be opened, or is held elsewhere.
     Fault,
@@ -20,8 +21,18 @@ pub(crate) enum Opened {
 pub(crate) fn open_alone<R: Files<File = File>>(rt: &R, path: &str, makes: bool) -> Opened {
     match open_locked(rt, path, makes) {
         Ok(file) => Opened::File(file),
-        Err(error) if !makes && error.kind() == ErrorKind::NotFound => Opened::Nothing,
+        Err(error) if !makes && error.kind() == ErrorKind::NotFound && has_folder(rt, path) => {
+            Opened::Nothing
+        }
         Err(_) => Opened::Fault,
+    }
+}
+
+// Whether the folder is there that a file at this path is in.
+fn has_folder<R: Files>(rt: &R, path: &str) -> bool {
+    match Path::new(path).parent() {
+        Some(folder) => folder.as_str().is_empty() || folder.exists(rt),
+        None => false,
     }
 }
 

@@ -1,53 +1,16 @@
 -- What periods in order leave free between two instants.
 use Rattle.std.proofs.Common.{◌≡◌, ◌<◌, ◌≤◌, ◌+◌, ℕ, Bool, true, false, ◌&&◌, ◌||◌, not, min, max, leb, ltb, List, [], ◌∷◌, ◌++◌, length, get_or, drop, refl, sym, ap, ◌∙◌, arith, ◌⊎◌, inl, inr}
-use Rattle.std.proofs.lemmas.Bool.{ltb-true, le-ltb, cases_lt}
+use Rattle.std.proofs.Math.Bool.{and-true, or-false}
+use Rattle.std.proofs.lemmas.Bool.{ltb-true, cases_lt}
 use Rattle.std.proofs.lemmas.Bool.Decides.{nat_tests}
-use Rattle.std.proofs.lemmas.List.{append-nil, append_assoc, drop_more, drop_all}
+use Rattle.std.proofs.lemmas.List.{append_assoc, drop_more, drop_all}
 use Rattle.std.proofs.lemmas.List.Folds.{list_any-append}
 use Rattle.std.specs.Bool.{then_some}
 use Rattle.std.specs.Option.{option_to_list}
 use Rattle.wm_base.specs.Period.{Span, covers}
 use Rattle.wm_base.specs.declared.instant.TheConstants.{END}
-use Rattle.wm_period.specs.Periods.{covered, HaveEnded, BeginsAfter, AreApart}
+use Rattle.wm_period.specs.Periods.{covered, BeginsAfter, AreApart}
 use Rattle.wm_temporal.specs.Uncovered.{Follow, stretch, free}
-
--- ---- which periods count
-
-stretch-none : (from till : ℕ) → till ≤ from → stretch from till ≡ []
-stretch-none from till none =
-    ap (λ v. option_to_list (then_some v (let s : Span = record { from = from; till = till } in s))) (le-ltb from till none)
-
--- nothing is free from an instant to one that is not later
-pub free-none : (from till : ℕ) (ps : List Span) → till ≤ from → free from till ps ≡ []
-free-none from till [] none = stretch-none from till none
-free-none from till (p ∷ ps) none =
-    ap (λ l. l ++ free (max from p.till) till ps) (stretch-none from (min p.from till) (omega arith)) ∙ free-none (max from p.till) till ps (omega arith)
-
--- periods that have ended leave what the others do
-pub free-ended : (from till low high : ℕ) (ps qs : List Span) → Follow low (ps ++ qs) high → HaveEnded from ps → free from till (ps ++ qs) ≡ free from till qs
-free-ended from till low high [] qs order ended = refl
-free-ended from till low high (p ∷ ps) qs order ended =
-    let long = order.1 in
-    let early = ended.0 in
-    let same : max from p.till ≡ from = omega arith in
-    ap (λ l. l ++ free (max from p.till) till (ps ++ qs)) (stretch-none from (min p.from till) (omega arith))
-    ∙ ap (λ n. free n till (ps ++ qs)) same ∙ free-ended from till p.till high ps qs order.2 ended.1
-
--- periods that begin later leave what no periods do
-free-later : (from till low high : ℕ) (ps : List Span) → Follow low ps high → till ≤ low → free from till ps ≡ stretch from till
-free-later from till low high [] order late = refl
-free-later from till low high (p ∷ ps) order late =
-    let least = order.0 in
-    let long = order.1 in
-    let same : min p.from till ≡ till = omega arith in
-    ap (λ n. stretch from n ++ free (max from p.till) till ps) same
-    ∙ ap (λ l. stretch from till ++ l) (free-none (max from p.till) till ps (omega arith)) ∙ append-nil (stretch from till)
-
--- periods before those that begin later leave what they do alone
-pub free-before : (from till low high : ℕ) (ps qs : List Span) → Follow low qs high → till ≤ low → free from till (ps ++ qs) ≡ free from till ps
-free-before from till low high [] qs order late = free-later from till low high qs order late
-free-before from till low high (p ∷ ps) qs order late =
-    ap (λ l. stretch from (min p.from till) ++ l) (free-before (max from p.till) till low high ps qs order late)
 
 -- ---- where the free periods lie
 
@@ -123,12 +86,8 @@ covered-early a b (p ∷ ps) t order early =
 covered-stretch : (from till t : ℕ) → covered (stretch from till) t ≡ (leb from t && ltb t till)
 covered-stretch from till t = by_test (ltb from till) refl
   where
-    or_none : (c : Bool) → (c || false) ≡ c
-    or_none true = refl
-    or_none false = refl
-
     by_test : (v : Bool) → ltb from till ≡ v → covered (option_to_list (then_some v (let s : Span = record { from = from; till = till } in s))) t ≡ (leb from t && ltb t till)
-    by_test true e = or_none (leb from t && ltb t till)
+    by_test true e = or-false (leb from t && ltb t till)
     by_test false e = grind (arith, nat_tests)
 
 -- the first period and the others, by whether the moment lies before the first one's end
@@ -143,11 +102,7 @@ free_case a b x y t false long early = grind (arith, nat_tests)
 
 -- the free periods cover the moments between the instants that no period covers
 pub free-covered : (from till a b : ℕ) (ps : List Span) (t : ℕ) → Follow a ps b → covered (free from till ps) t ≡ ((leb from t && ltb t till) && not (covered ps t))
-free-covered from till a b [] t order = covered-stretch from till t ∙ and_true (leb from t && ltb t till)
-  where
-    and_true : (v : Bool) → v ≡ (v && true)
-    and_true true = refl
-    and_true false = refl
+free-covered from till a b [] t order = covered-stretch from till t ∙ sym (and-true (leb from t && ltb t till))
 free-covered from till a b (p ∷ ps) t order =
     covered-append (stretch from (min p.from till)) (free (max from p.till) till ps) t
     ∙ ap (λ v. v || covered (free (max from p.till) till ps) t) (covered-stretch from (min p.from till) t)

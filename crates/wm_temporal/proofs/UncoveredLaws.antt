@@ -1,15 +1,15 @@
 -- What new periods leave of old ones.
-use Rattle.std.proofs.Common.{◌≡◌, ◌<◌, ◌≤◌, ◌+◌, ◌-◌, ℕ, Bool, true, false, ◌&&◌, ◌||◌, not, min, List, [], ◌∷◌, ◌++◌, length, get_or, take, drop, length-drop, refl, sym, ap, subst, ◌∙◌, arith, slice_range, zero, suc, ◌⊎◌, inl, inr}
-use Rattle.std.proofs.lemmas.Bool.{cases_lt}
+use Rattle.std.proofs.Common.{◌≡◌, ◌<◌, ◌≤◌, ◌+◌, ◌-◌, ℕ, Bool, true, false, ◌&&◌, ◌||◌, not, List, [], ◌∷◌, ◌++◌, length, get_or, take, refl, sym, ap, ◌∙◌, arith, suc}
 use Rattle.std.proofs.lemmas.Bool.Decides.{nat_tests}
-use Rattle.std.proofs.lemmas.List.{append_assoc, append-nil, take-append-drop, drop_more, drop_all, take_more, drop-drop}
+use Rattle.std.proofs.lemmas.Grind.{flat_map-append}
+use Rattle.std.proofs.lemmas.List.{append-nil, take_all, take_more}
 use Rattle.std.proofs.lemmas.List.Elements.{All-cons, All-nil, All-append}
 use Rattle.std.specs.List.{All, Any}
 use Rattle.wm_base.specs.Period.{Span, covers}
 use Rattle.wm_base.specs.declared.instant.TheConstants.{END}
-use Rattle.wm_period.specs.Periods.{covered, HaveEnded, BeginsAfter, AreApart}
-use Rattle.wm_temporal.proofs.FreeLaws.{Follow-append, Follow-ends, free-order, free-apart, free-covered, free-ended, free-before, covered-append}
-use Rattle.wm_temporal.specs.Uncovered.{Follow, free, uncovered, is_left, IsLongest, EndsAfter}
+use Rattle.wm_period.specs.Periods.{covered, BeginsAfter, AreApart}
+use Rattle.wm_temporal.proofs.FreeLaws.{Follow-append, Follow-ends, free-order, free-apart, free-covered, covered-append}
+use Rattle.wm_temporal.specs.Uncovered.{Follow, free, uncovered, is_left, IsLongest}
 
 -- ---- what is left of all old periods
 
@@ -98,115 +98,17 @@ uncovered-longest low high a b (o ∷ os) news order ends others =
     (λ k d within. (0, o, omega arith, refl, here k d within))
     (λ k d within. let some = there k d within in (suc some.0, some.1, omega (arith, some.2), some.3, some.4))
 
--- ---- the loop over the new periods that have ended
-
-pub HaveEnded-later : (a b : ℕ) (ps : List Span) → a ≤ b → HaveEnded a ps → HaveEnded b ps
-HaveEnded-later a b [] less ended = tt
-HaveEnded-later a b (p ∷ ps) less ended = (omega (arith, ended.0), HaveEnded-later a b ps less ended.1)
-
-HaveEnded-append : (a : ℕ) (ps : List Span) (p : Span) → HaveEnded a ps → p.till ≤ a → HaveEnded a (ps ++ p ∷ [])
-HaveEnded-append a [] p ended last = (last, tt)
-HaveEnded-append a (q ∷ qs) p ended last = (ended.0, HaveEnded-append a qs p ended.1 last)
-
--- one period more has ended
-pub HaveEnded-more : (a : ℕ) (ps : List Span) (i : ℕ) (p : Span) → i < length ps → p ≡ get_or ps i p → HaveEnded a (take i ps) → p.till ≤ a → HaveEnded a (take (i + 1) ps)
-HaveEnded-more a ps i p within read ended early = rw (take_more ps i p within, ← read) (HaveEnded-append a (take i ps) p ended early)
-
--- the period at a place has not ended
-pub EndsAfter-here : (a : ℕ) (ps : List Span) (i : ℕ) (p : Span) → i < length ps → p ≡ get_or ps i p → a < p.till → EndsAfter a (drop i ps)
-EndsAfter-here a ps i p within read late = rw (drop_more ps i p within, ← read) late
-
--- no period is left
-pub EndsAfter-none : (a : ℕ) (ps : List Span) (i : ℕ) → length ps ≤ i → EndsAfter a (drop i ps)
-EndsAfter-none a ps i all = rw (drop_all i ps all) tt
-
--- ---- the stretch of new periods that one old period is looked at with
-
--- what stands from a place on, and where it begins at the earliest
-record Behind (ps : List Span) (i low high : ℕ) : Type 0 where
-  from : ℕ
-  least : low ≤ from
-  order : Follow from (drop i ps) high
-
-Follow-drop : (low high i : ℕ) (ps : List Span) → Follow low ps high → Behind ps i low high
-Follow-drop low high zero ps order = record { from = low; least = omega arith; order = order }
-Follow-drop low high (suc i) [] order = record { from = low; least = omega arith; order = order }
-Follow-drop low high (suc i) (p ∷ ps) order =
-    let rest = Follow-drop p.till high i ps order.2 in
-    record { from = rest.from; least = omega (arith, rest.least, order.0, order.1); order = rest.order }
-
--- behind the first that has not ended by an instant all begin at it or later
-behind_past : (till low high next r : ℕ) (news : List Span) → Follow low news high → next ≤ length news → r ≡ min (next + 1) (length news) → EndsAfter till (drop next news)
-    → (h : ℕ) × Behind news r till h
-behind_past till low high next r news order within is past = by_place (cases_lt next (length news))
-  where
-    after : (l : List Span) (w : ℕ) → Follow w l high → EndsAfter till l → 0 < length l → (v : ℕ) × (till ≤ v) × Follow v (drop 1 l) high
-    after [] w follow later some = absurd (omega arith)
-    after (p ∷ ps) w follow later some = (p.till, omega arith, follow.2)
-
-    by_place : (next < length news) ⊎ (length news ≤ next) → (h : ℕ) × Behind news r till h
-    by_place (inl inside) =
-        let there = Follow-drop low high next news order in
-        let rest = after (drop next news) there.from there.order past (omega (arith, length-drop next news)) in
-        let same : drop 1 (drop next news) ≡ drop r news = drop-drop 1 next news ∙ ap (λ n. drop n news) (omega arith) in
-        (high, record { from = rest.0; least = rest.1; order = (let P : List Span → Type 0 = λ l. Follow rest.0 l high in subst P same rest.2) })
-    by_place (inr outside) =
-        let none : drop r news ≡ [] = drop_all r news (omega arith) in
-        (till, record { from = till; least = omega arith; order = (let P : List Span → Type 0 = λ l. Follow till l till in subst P (sym none) (omega arith)) })
-
--- the new periods before the stretch have ended and those behind it begin later, so that it leaves what all of them do
-pub free-gap : (from till high rest next r : ℕ) (news : List Span) → Follow 0 news high → HaveEnded from (take rest news) → rest ≤ next → next ≤ length news
-    → r ≡ min (next + 1) (length news) → EndsAfter till (drop next news) → free from till (slice_range news rest r) ≡ free from till news
-free-gap from till high rest next r news order ended forward within is past =
-    let split : take rest news ++ drop rest news ≡ news = take-append-drop rest news in
-    let back = behind_past till 0 high next r news order within is past in
-    let same : drop (r - rest) (drop rest news) ≡ drop r news = drop-drop (r - rest) rest news ∙ ap (λ n. drop n news) (omega arith) in
-    let behind : Follow back.1.from (drop (r - rest) (drop rest news)) back.0 = (let P : List Span → Type 0 = λ l. Follow back.1.from l back.0 in subst P (sym same) back.1.order) in
-    sym (free-before from till back.1.from back.0 (take (r - rest) (drop rest news)) (drop (r - rest) (drop rest news)) behind back.1.least)
-    ∙ ap (free from till) (take-append-drop (r - rest) (drop rest news))
-    ∙ sym (free-ended from till 0 high (take rest news) (drop rest news) (let P : List Span → Type 0 = λ l. Follow 0 l high in subst P (sym split) order) ended)
-    ∙ ap (free from till) split
-
 -- ---- the loop over the old periods
 
--- where the loop stands: `list` is made of the old periods before `i`, and the new ones before `rest` have ended
-pub record Going (olds news list : List Span) (i rest : ℕ) : Type 0 where
-  pub low : ℕ
-  pub so_far : list ++ uncovered (drop i olds) news ≡ uncovered olds news
-  pub order : Follow low (drop i olds) END
-  pub ended : HaveEnded low (take rest news)
-  pub within : rest ≤ length news
-
-pub going_none : (olds news : List Span) → Follow 0 olds END → Going olds news [] 0 0
-going_none olds news order = record { low = 0; so_far = refl; order = order; ended = tt; within = omega arith }
-
-here : (olds : List Span) (i : ℕ) (o : Span) → i < length olds → o ≡ get_or olds i o → drop i olds ≡ o ∷ drop (i + 1) olds
-here olds i o within read = drop_more olds i o within ∙ ap (λ p. p ∷ drop (i + 1) olds) (sym read)
-
--- the new periods before `rest` have ended when the next old one begins
-pub going_ended : (olds news list : List Span) (i rest : ℕ) (o : Span) → Going olds news list i rest → i < length olds → o ≡ get_or olds i o → HaveEnded o.from (take rest news)
-going_ended olds news list i rest o so within read =
-    let order : Follow so.low (o ∷ drop (i + 1) olds) END = rw (here olds i o within read) at so.order in
-    HaveEnded-later so.low o.from (take rest news) order.0 so.ended
-
 -- one old period more
-pub going_more : (olds news list now : List Span) (i rest next : ℕ) (o : Span) → Going olds news list i rest → i < length olds → o ≡ get_or olds i o
-    → now ≡ list ++ free o.from o.till news → HaveEnded o.till (take next news) → next ≤ length news → Going olds news now (i + 1) next
-going_more olds news list now i rest next o so within read is ended place =
-    let order : Follow so.low (o ∷ drop (i + 1) olds) END = rw (here olds i o within read) at so.order in
-    record {
-      low = o.till;
-      so_far =
-          ap (λ l. l ++ uncovered (drop (i + 1) olds) news) is
-          ∙ append_assoc list (free o.from o.till news) (uncovered (drop (i + 1) olds) news)
-          ∙ ap (λ l. list ++ uncovered l news) (sym (here olds i o within read))
-          ∙ so.so_far;
-      order = order.2;
-      ended = ended;
-      within = place;
-    }
+pub uncovered-more : (olds news now list : List Span) (i : ℕ) (o : Span) → i < length olds → o ≡ get_or olds i o
+    → list ≡ uncovered (take i olds) news → now ≡ list ++ free o.from o.till news → now ≡ uncovered (take (i + 1) olds) news
+uncovered-more olds news now list i o within read so_far is =
+    is ∙ ap (λ l. l ++ free o.from o.till news) so_far
+    ∙ ap (λ l. uncovered (take i olds) news ++ l) (sym (append-nil (free o.from o.till news)))
+    ∙ sym (flat_map-append (λ old. free old.from old.till news) (take i olds) (o ∷ []))
+    ∙ ap (λ l. uncovered l news) (rw (take_more olds i o within, ← read) refl)
 
--- after the last old period
-pub going_all : (olds news list : List Span) (i rest : ℕ) → Going olds news list i rest → length olds ≤ i → list ≡ uncovered olds news
-going_all olds news list i rest so all =
-    sym (append-nil list) ∙ ap (λ l. list ++ uncovered l news) (sym (drop_all i olds all)) ∙ so.so_far
+-- after the last
+pub uncovered-all : (olds news list : List Span) (i : ℕ) → length olds ≤ i → list ≡ uncovered (take i olds) news → list ≡ uncovered olds news
+uncovered-all olds news list i all so_far = so_far ∙ ap (λ l. uncovered l news) (take_all i olds all)

@@ -33,8 +33,3 @@ pub record IsLongest (news : List Span) (old part : Span) : Type 0 where
   pub within : (t : ℕ) → covers part t ≡ true → is_left news old t ≡ true
   pub before : (t : ℕ) → t + 1 ≡ part.from → is_left news old t ≡ false
   pub after : is_left news old part.till ≡ false
-
--- the first period ends after an instant
-abbrev pub EndsAfter : ℕ → List Span → Type 0
-EndsAfter at [] = Unit {0}
-EndsAfter at (p ∷ ps) = at < p.till

@@ -2,9 +2,8 @@
 //! changed, and what is left of the old periods of a key under its new ones.
 #![tactic(auto)]
 
-pub mod order;
-pub mod splitting;pub mod uncovering;
+pub mod splitting;
+pub mod uncovering;
 
-pub use order::are_in_order;
 pub use splitting::{Parts, split};
 pub use uncovering::{push_free, uncovered};

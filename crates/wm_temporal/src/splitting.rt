@@ -1,3 +1,4 @@
+//! What a piece has before a period, inside it and after it.
 ghost use Rattle.std.specs.Prelude.{◌≡◌, ◌↔◌, ℕ, ◌&&◌, nat_lt, nat_le, ◌∷◌, [], IsSome, IfSome, IsFalse, IsTrue};
 ghost use Rattle.wm_base.specs.Period.{covers, overlaps, shared};
 ghost use Rattle.wm_period.specs.Pieces.{Between, held_at};
@@ -8,7 +9,7 @@ use wm_period::Piece;
 
 /// What a piece has before a period, inside it and after it. A part is None exactly where the piece
 /// has no instant there.
-#[derive(Clone, Copy, Debug, PartialEq, Eq)]
+#[derive(Clone, Copy)]
 pub struct Parts {
     pub before: Option<Piece>,
     pub inside: Option<Piece>,

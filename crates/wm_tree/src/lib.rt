@@ -3,7 +3,8 @@
 
 mod numbers;
 pub mod path;
-mod place;pub mod tree;
+mod place;
+pub mod tree;
 pub mod version;
 
 pub use path::Path;

@@ -1,3 +1,4 @@
+//! The path of a version up to its root.
 ghost use Rattle.std.specs.Prelude.{◌≡◌};
 ghost use Rattle.std.specs.Iterator.{YieldsFirst, item_count};
 ghost use Rattle.wm_tree.specs.Versions.{path_in};

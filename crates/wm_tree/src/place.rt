@@ -1,3 +1,4 @@
+//! Where a version stands among those by number.
 ghost use Rattle.std.specs.Prelude.{◌≡◌, ◌≤◌, length, take, drop};
 ghost use Rattle.wm_tree.specs.Versions.{AllBelow, AllFrom, IsTree, newest_first, version_in};
 

@@ -1,3 +1,4 @@
+//! The tree of versions.
 ghost use Rattle.std.specs.Prelude.{◌≡◌, ◌≢◌, ℕ, ◌<◌, ◌==◌, if◌then◌else◌, [], ◌∷◌, None, IsSome, IfSome, IfNone, IsSomeAnd, OnOk, OnErr};
 ghost use Rattle.std.specs.List.{filter};
 ghost use Rattle.wm_tree.specs.Versions.{Grown, version_in, parent_in, path_in, latest_in, number_at, grow, is_outside, NoneUnder, shared_of, IsTree, newest_first};

@@ -1,3 +1,4 @@
+//! A version of the store.
 /// A version of the store: a state of one space. Numbers begin at 1.
 #[derive(Clone, Copy, Debug, PartialEq, Eq)]
 pub struct Version {

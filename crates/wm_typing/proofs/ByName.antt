@@ -1,7 +1,9 @@
 -- Where no WM_VALID is lacking, the kinds by the names are those of the columns.
 use Rattle.std.proofs.Common.{◌≡◌, ℕ, Bool, true, false, ◌&&◌, ◌||◌, ◌==◌, List, [], ◌∷◌, Option, None, Some, is_some, refl, ap, ◌∙◌, if◌then◌else◌}
+use Rattle.std.proofs.lemmas.Bool.{or_parts}
 use Rattle.std.specs.Prelude.{not, option_and_then, unwrap_or}
 use Rattle.std.specs.List.{list_all}
+use Rattle.wm_base.proofs.Plain.{none_since, option_or_parts}
 use Rattle.wm_base.specs.declared.columns.Column.{Column}
 use Rattle.wm_base.specs.declared.tree.operand.Operand.{Operand}
 use Rattle.wm_base.specs.declared.tree.operand.Operand.TheVariants as operands
@@ -11,7 +13,6 @@ use Rattle.wm_base.specs.Trees.{Set}
 use Rattle.wm_spec.specs.Operands.{wm_valid, kind_of, suffixed_kind, is_period, operand_kind}
 use Rattle.wm_typing.specs.Lacking.{lacking_name, lacking_period, lacking_in_operand, lacking_in_expr, lacks_in_set, lacks_in_sets}
 use Rattle.wm_typing.specs.Names.{lacks_period, kind_named, is_kind_of_periods, named_period, named_kind}
-use Rattle.wm_typing.proofs.Nones.{first_none, second_none, not_some}
 
 there : (lacks : Bool) (kind : Option ℕ) → lacks ≡ false → (if lacks then Some 4 else kind) ≡ kind
 there false kind e = refl
@@ -48,22 +49,17 @@ operand_is columns (operands.Const constant) e = refl
 operand_is columns (operands.Test operator left right) e =
     ap (λ test. number_if test)
     (both_are (named_period left columns) (named_period right columns) (is_period left columns) (is_period right columns)
-    (period_is columns left (first_none (lacking_period columns left) (lacking_period columns right) e))
-    (period_is columns right (second_none (lacking_period columns left) (lacking_period columns right) e)))
-
--- so what is set, and what it becomes
-pub neither : (a b : Bool) → a || b ≡ false → (a ≡ false) × (b ≡ false)
-neither false b e = (refl, e)
-neither true b e = (e, cc)
+    (period_is columns left (option_or_parts (lacking_period columns left) (lacking_period columns right) e).0)
+    (period_is columns right (option_or_parts (lacking_period columns left) (lacking_period columns right) e).1))
 
 pub set_kind_is : (columns : List Column) (set : Set) → lacks_in_set columns set ≡ false → (kind_named None set.name columns ≡ kind_of None set.name columns) × (lacking_in_expr columns set.becomes ≡ None)
 set_kind_is columns set e =
-    let parts = neither (lacks_period None set.name columns) (is_some (lacking_in_expr columns set.becomes)) e in
-    (kind_is None set.name columns parts.0, not_some (lacking_in_expr columns set.becomes) parts.1)
+    let parts = or_parts (lacks_period None set.name columns) (is_some (lacking_in_expr columns set.becomes)) e in
+    (kind_is None set.name columns parts.0, none_since (lacking_in_expr columns set.becomes) parts.1)
 
 -- none of the sets lacks it where they do not
 pub each_served : (columns : List Column) (sets : List Set) → lacks_in_sets columns sets ≡ false → list_all (λ (set : Set). not (lacks_in_set columns set)) sets ≡ true
 each_served columns [] e = refl
 each_served columns (set ∷ sets) e =
-    let parts = neither (lacks_in_set columns set) (lacks_in_sets columns sets) e in
+    let parts = or_parts (lacks_in_set columns set) (lacks_in_sets columns sets) e in
     both_are (not (lacks_in_set columns set)) (list_all (λ (set : Set). not (lacks_in_set columns set)) sets) true true (ap not parts.0) (each_served columns sets parts.1)

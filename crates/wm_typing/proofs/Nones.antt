@@ -5,18 +5,6 @@ use Rattle.std.specs.Option.{option_or}
 use Rattle.wm_typing.specs.Names.{unless}
 use Rattle.wm_typing.specs.Refusals.{first_refusal}
 
-pub first_none : {T : Type 0} (a b : Option T) → option_or a b ≡ None → a ≡ None
-first_none None b e = refl
-first_none (Some x) b e = e
-
-pub second_none : {T : Type 0} (a b : Option T) → option_or a b ≡ None → b ≡ None
-second_none None b e = e
-second_none (Some x) b e = cc
-
-pub map_none : {S T : Type 0} (f : S → T) (o : Option S) → option_map f o ≡ None → o ≡ None
-map_none f None e = refl
-map_none f (Some x) e = cc
-
 -- the test does not fail
 pub holds : (test : Bool) (text : List ℕ) → unless test text ≡ None → test ≡ true
 holds true text e = refl
@@ -26,10 +14,6 @@ holds false text e = cc
 pub fails : (test : Bool) (text : List ℕ) → unless (not test) text ≡ None → test ≡ false
 fails false text e = refl
 fails true text e = cc
-
-pub not_some : {T : Type 0} (found : Option T) → is_some found ≡ false → found ≡ None
-not_some None e = refl
-not_some (Some x) e = cc
 
 pub unknown_none : (u m k t : Option (List ℕ)) → first_refusal u m k t ≡ None → u ≡ None
 unknown_none None m k t e = refl

@@ -1,6 +1,7 @@
 -- A condition that names nothing unknown or lacking and compares nothing mistyped is typed.
 use Rattle.std.proofs.Common.{◌≡◌, ℕ, Bool, true, false, ◌&&◌, List, [], ◌∷◌, Option, None, Some, is_some, refl, sym, ap, ◌∙◌, if◌then◌else◌}
 use Rattle.std.specs.List.{list_all}
+use Rattle.wm_base.proofs.Plain.{none_mapped, none_since, option_or_parts}
 use Rattle.wm_base.specs.declared.columns.Column.{Column}
 use Rattle.wm_base.specs.declared.tree.constant.Const.{Const}
 use Rattle.wm_base.specs.declared.tree.operand.Operand.{Operand}
@@ -17,7 +18,7 @@ use Rattle.wm_typing.specs.Lacking.{lacking_in_operand, lacking_in_cond, lacking
 use Rattle.wm_typing.specs.Names.{named_kind, unknown_in_operand, unknown_in_cond, unknown_in_filter}
 use Rattle.wm_typing.specs.Types.{mark_text, mistyped_in_cond, mistyped_in_filter, is_filter_typed}
 use Rattle.wm_typing.proofs.ByName.{operand_is}
-use Rattle.wm_typing.proofs.Nones.{first_none, second_none, map_none, holds, fails, not_some, unknown_none, mistyped_none, lacking_none}
+use Rattle.wm_typing.proofs.Nones.{holds, fails, unknown_none, mistyped_none, lacking_none}
 
 both : (a b : Bool) → a ≡ true → b ≡ true → a && b ≡ true
 both true b e f = f
@@ -33,7 +34,7 @@ tested false right e f = cc
 named : (columns : List Column) (x : Operand) → unknown_in_operand columns x ≡ None → is_some (named_kind x columns) ≡ true
 named columns (operands.Col col) e = holds _ col.name e
 named columns (operands.Const constant) e = refl
-named columns (operands.Test operator left right) e = tested _ _ (holds _ _ (first_none _ _ e)) (holds _ _ (second_none _ _ e))
+named columns (operands.Test operator left right) e = tested _ _ (holds _ _ (option_or_parts _ _ e).0) (holds _ _ (option_or_parts _ _ e).1)
 
 -- and so it has one by its columns
 there : (columns : List Column) (x : Operand) → unknown_in_operand columns x ≡ None → lacking_in_operand columns x ≡ None → is_some (operand_kind x columns) ≡ true
@@ -65,16 +66,16 @@ between columns what low high w l h may =
 
 pub typed_where : (columns : List Column) (c : Cond) → unknown_in_cond columns c ≡ None → mistyped_in_cond columns c ≡ None → lacking_in_cond columns c ≡ None → typed_in c columns ≡ true
 typed_where columns (Or c d) u m l =
-    both _ _ (typed_where columns c (first_none _ _ u) (first_none _ _ m) (first_none _ _ l)) (typed_where columns d (second_none _ _ u) (second_none _ _ m) (second_none _ _ l))
+    both _ _ (typed_where columns c (option_or_parts _ _ u).0 (option_or_parts _ _ m).0 (option_or_parts _ _ l).0) (typed_where columns d (option_or_parts _ _ u).1 (option_or_parts _ _ m).1 (option_or_parts _ _ l).1)
 typed_where columns (And c d) u m l =
-    both _ _ (typed_where columns c (first_none _ _ u) (first_none _ _ m) (first_none _ _ l)) (typed_where columns d (second_none _ _ u) (second_none _ _ m) (second_none _ _ l))
+    both _ _ (typed_where columns c (option_or_parts _ _ u).0 (option_or_parts _ _ m).0 (option_or_parts _ _ l).0) (typed_where columns d (option_or_parts _ _ u).1 (option_or_parts _ _ m).1 (option_or_parts _ _ l).1)
 typed_where columns (Not c) u m l = typed_where columns c u m l
 typed_where columns (Compare left cmp right) u m l =
-    compared _ _ _ _ (operand_is columns left (first_none _ _ l)) (operand_is columns right (second_none _ _ l)) (holds _ (mark_text cmp) m)
+    compared _ _ _ _ (operand_is columns left (option_or_parts _ _ l).0) (operand_is columns right (option_or_parts _ _ l).1) (holds _ (mark_text cmp) m)
 typed_where columns (IsNull what negated) u m l = there columns what u l
 typed_where columns (OneOf what negated list) u m l = both _ _ (there columns what u l) (listed _ _ list (operand_is columns what l) (holds _ _ m))
 typed_where columns (Between what negated low high) u m l =
-    between columns what low high (first_none _ _ l) (first_none _ _ (second_none _ _ l)) (second_none _ _ (second_none _ _ l)) (holds _ _ m)
+    between columns what low high (option_or_parts _ _ l).0 (option_or_parts _ _ (option_or_parts _ _ l).1).0 (option_or_parts _ _ (option_or_parts _ _ l).1).1 (holds _ _ m)
 
 pub filter_typed : (columns : List Column) (filter : Option Cond) → unknown_in_filter columns filter ≡ None → mistyped_in_filter columns filter ≡ None → lacking_in_filter columns filter ≡ None →
     is_filter_typed columns filter ≡ true
@@ -85,39 +86,39 @@ filter_typed columns (Some c) u m l = typed_where columns c u m l
 pub update_typed : (table : Table) (sets : List Set) (filter : Option Cond) → update_fault table sets filter ≡ None → is_filter_typed (columns_of_table table.name table) filter ≡ true
 unfolding update_fault
 update_typed table sets filter e =
-    filter_typed _ filter (second_none _ _ (unknown_none _ _ _ _ e)) (second_none _ _ (mistyped_none _ _ _ _ e))
-    (not_some _ (fails _ table.name (second_none _ _ (lacking_none _ _ _ _ e))))
+    filter_typed _ filter (option_or_parts _ _ (unknown_none _ _ _ _ e)).1 (option_or_parts _ _ (mistyped_none _ _ _ _ e)).1
+    (none_since _ (fails _ table.name (option_or_parts _ _ (lacking_none _ _ _ _ e)).1))
 
 -- no WM_VALID is set that the table lacks, and none is in what is set
 pub update_served : (table : Table) (sets : List Set) (filter : Option Cond) → update_fault table sets filter ≡ None → lacks_in_sets (columns_of_table table.name table) sets ≡ false
 unfolding update_fault
-update_served table sets filter e = fails _ table.name (first_none _ _ (lacking_none _ _ _ _ e))
+update_served table sets filter e = fails _ table.name (option_or_parts _ _ (lacking_none _ _ _ _ e)).0
 
 pub delete_typed : (table : Table) (filter : Option Cond) → delete_fault table filter ≡ None → is_filter_typed (columns_of_table table.name table) filter ≡ true
 unfolding delete_fault
 delete_typed table filter e =
-    filter_typed _ filter (unknown_none _ _ _ _ e) (mistyped_none _ _ _ _ e) (not_some _ (fails _ table.name (lacking_none _ _ _ _ e)))
+    filter_typed _ filter (unknown_none _ _ _ _ e) (mistyped_none _ _ _ _ e) (none_since _ (fails _ table.name (lacking_none _ _ _ _ e)))
 
 each_typed : (columns : List Column) (sources : List Src) → unknown_in_sources columns sources ≡ None → mistyped_in_sources columns sources ≡ None → lacking_in_sources columns sources ≡ None →
     are_sources_typed columns sources ≡ true
 each_typed columns [] u m l = refl
 each_typed columns (source ∷ sources) u m l =
-    both _ _ (filter_typed columns source.on (first_none _ _ u) (first_none _ _ m) (first_none _ _ l)) (each_typed columns sources (second_none _ _ u) (second_none _ _ m) (second_none _ _ l))
+    both _ _ (filter_typed columns source.on (option_or_parts _ _ u).0 (option_or_parts _ _ m).0 (option_or_parts _ _ l).0) (each_typed columns sources (option_or_parts _ _ u).1 (option_or_parts _ _ m).1 (option_or_parts _ _ l).1)
 
 -- a query that is not refused lacks no WM_VALID
 pub query_served : (columns : List Column) (query : Query) → query_fault_in columns query ≡ None → lacking_in_query columns query ≡ None
-query_served columns query e = map_none (λ source. table_meant query.sources source) (lacking_in_query columns query) (lacking_none _ _ _ _ e)
+query_served columns query e = none_mapped (λ source. table_meant query.sources source) (lacking_in_query columns query) (lacking_none _ _ _ _ e)
 
 pub query_typed : (columns : List Column) (query : Query) → query_fault_in columns query ≡ None → is_filter_typed columns query.filter ≡ true
 query_typed columns query e =
     filter_typed columns query.filter
-    (first_none _ _ (second_none _ _ (second_none _ _ (first_none _ _ (unknown_none _ _ _ _ e)))))
-    (second_none _ _ (second_none _ _ (mistyped_none _ _ _ _ e)))
-    (first_none _ _ (second_none _ _ (second_none _ _ (query_served columns query e))))
+    (option_or_parts _ _ (option_or_parts _ _ (option_or_parts _ _ (option_or_parts _ _ (unknown_none _ _ _ _ e)).0).1).1).0
+    (option_or_parts _ _ (option_or_parts _ _ (mistyped_none _ _ _ _ e)).1).1
+    (option_or_parts _ _ (option_or_parts _ _ (option_or_parts _ _ (query_served columns query e)).1).1).0
 
 pub sources_typed : (columns : List Column) (query : Query) → query_fault_in columns query ≡ None → are_sources_typed columns query.sources ≡ true
 sources_typed columns query e =
     each_typed columns query.sources
-    (first_none _ _ (second_none _ _ (first_none _ _ (unknown_none _ _ _ _ e))))
-    (first_none _ _ (second_none _ _ (mistyped_none _ _ _ _ e)))
-    (first_none _ _ (second_none _ _ (query_served columns query e)))
+    (option_or_parts _ _ (option_or_parts _ _ (option_or_parts _ _ (unknown_none _ _ _ _ e)).0).1).0
+    (option_or_parts _ _ (option_or_parts _ _ (mistyped_none _ _ _ _ e)).1).0
+    (option_or_parts _ _ (option_or_parts _ _ (query_served columns query e)).1).0

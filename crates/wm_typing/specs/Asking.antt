@@ -6,7 +6,7 @@ use Rattle.wm_base.specs.declared.columns.Column.{Column}
 use Rattle.wm_base.specs.declared.refusal.Refusal.{Refusal}
 use Rattle.wm_base.specs.declared.tree.query.Agg.{Agg}
 use Rattle.wm_base.specs.declared.tree.query.Agg.TheVariants.{Count, Sum, Min, Max}
-use Rattle.wm_base.specs.Trees.{Item, Plain, CountAll, Aggregate, Out, Projection, All, Outs, Src, Query}
+use Rattle.wm_base.specs.Trees.{Item, Plain, CountAll, Aggregate, Out, Projection, All, Outs, Src, Query, is_grouped}
 use Rattle.wm_typing.specs.Items.{unknown_in_projection, unknown_in_cols, unknown_in_orders}
 use Rattle.wm_typing.specs.Lacking.{table_lacking}
 use Rattle.wm_typing.specs.Names.{unless, unknown_in_filter}
@@ -14,23 +14,6 @@ use Rattle.wm_typing.specs.Refusals.{first_refusal}
 use Rattle.wm_typing.specs.Types.{expr_kind, is_number, mistyped_in_expr, mistyped_in_filter, is_filter_typed}
 
 -- ---- names
-
-abbrev pub is_aggregate : Item → Bool
-is_aggregate (Plain x) = false
-is_aggregate CountAll = true
-is_aggregate (Aggregate agg x) = true
-
-abbrev pub has_aggregate : Projection → Bool
-has_aggregate All = false
-has_aggregate (Outs outs) = list_any (λ (o : Out). is_aggregate o.item) outs
-
-abbrev pub is_empty : {X : Type 0} → List X → Bool
-is_empty [] = true
-is_empty (x ∷ xs) = false
-
--- the query has GROUP BY or an aggregate
-abbrev pub is_grouped : Query → Bool
-is_grouped query = not (is_empty query.groups) || has_aggregate query.projection
 
 -- in the conditions behind JOIN, which may name each source
 abbrev pub unknown_in_sources : List Column → List Src → Option (List ℕ)

@@ -60,7 +60,7 @@ key_set table sets = option_map (λ (s : Set). s.name) (find (λ (s : Set). is_k
 abbrev pub lacking_where : List Column → Table → Option Cond → Option (List ℕ)
 lacking_where columns table filter = unless (not (is_some (lacking_in_filter columns filter))) table.name
 
--- the same in what is set too
+-- the table, where WM_VALID is named in the condition or in what is set and the table has none
 abbrev pub lacking_anywhere : List Column → Table → List Set → Option Cond → Option (List ℕ)
 lacking_anywhere columns table sets filter = option_or (unless (not (lacks_in_sets columns sets)) table.name) (lacking_where columns table filter)
 

@@ -56,7 +56,7 @@ lacking_in_cond columns (OneOf what negated list) = lacking_in_operand columns w
 lacking_in_cond columns (Between what negated low high) =
     option_or (lacking_in_operand columns what) (option_or (lacking_in_operand columns low) (lacking_in_operand columns high))
 
--- the same of a condition that may be left out
+-- the first WM_VALID without valid time in a condition that may be left out
 abbrev pub lacking_in_filter : List Column → Option Cond → Option Source
 lacking_in_filter columns None = None
 lacking_in_filter columns (Some condition) = lacking_in_cond columns condition

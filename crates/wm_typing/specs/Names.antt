@@ -74,7 +74,7 @@ unknown_in_cond columns (OneOf what negated list) = unknown_in_operand columns w
 unknown_in_cond columns (Between what negated low high) =
     option_or (unknown_in_operand columns what) (option_or (unknown_in_operand columns low) (unknown_in_operand columns high))
 
--- the same of a condition that may be left out
+-- the first name of no column in a condition that may be left out
 abbrev pub unknown_in_filter : List Column → Option Cond → Option (List ℕ)
 unknown_in_filter columns None = None
 unknown_in_filter columns (Some condition) = unknown_in_cond columns condition

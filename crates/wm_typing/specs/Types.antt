@@ -63,7 +63,7 @@ mistyped_in_cond columns (OneOf what negated list) =
 mistyped_in_cond columns (Between what negated low high) =
     unless (may_compare (named_kind what columns) (named_kind low columns) && may_compare (named_kind what columns) (named_kind high columns)) (codes "BETWEEN")
 
--- the same of a condition that may be left out
+-- what is of a wrong type first in a condition that may be left out
 abbrev pub mistyped_in_filter : List Column → Option Cond → Option (List ℕ)
 mistyped_in_filter columns None = None
 mistyped_in_filter columns (Some condition) = mistyped_in_cond columns condition

@@ -1,9 +1,8 @@
 //! What a query gets wrong.
 ghost use Rattle.std.specs.Prelude.{◌≡◌, true, None, IfOk, option_copied};
-ghost use Rattle.std.specs.List.{list_any};
-ghost use Rattle.wm_base.specs.Trees.{Out as OutTree};
+ghost use Rattle.wm_base.specs.Trees.{is_grouped};
 ghost use Rattle.wm_base.specs.Views.{filter_view, item_view, outs_view, projection_view, query_view, srcs_view};
-ghost use Rattle.wm_typing.specs.Asking.{is_aggregate, has_aggregate, is_grouped, unknown_in_sources, unknown_before, unknown_in_query, is_no_period, takes, agg_text, mistyped_in_item, mistyped_in_outs, mistyped_in_projection, mistyped_in_sources, mistyped_in_query, are_sources_typed, query_fault_in, query_fault};
+ghost use Rattle.wm_typing.specs.Asking.{unknown_in_sources, unknown_before, unknown_in_query, is_no_period, takes, agg_text, mistyped_in_item, mistyped_in_outs, mistyped_in_projection, mistyped_in_sources, mistyped_in_query, are_sources_typed, query_fault_in, query_fault};
 ghost use Rattle.wm_typing.specs.Types.{is_filter_typed};
 
 use crate::first::{first_of, unless};
@@ -17,42 +16,6 @@ use std::alloc::Global;
 use wm_base::columns::PERIOD;
 use wm_base::tree::query::{Agg, Item, Out, Projection, Query, Src};
 use wm_base::{Column, Columns, Memory, Name, Refusal};
-
-fn is_aggregate(item: &Item) -> bool
-    ensures { result ≡ is_aggregate (item_view item.now) }
-{
-    match item {
-        Item::Expr(_) => false,
-        Item::CountAll | Item::Agg { .. } => true,
-    }
-}
-
-fn any_aggregate(outs: &[Out]) -> bool
-    ensures { result ≡ list_any (λ (o : OutTree). is_aggregate o.item) (outs_view outs.now) }
-{
-    for out in outs {
-        if is_aggregate(&out.item) {
-            return true;
-        }
-    }
-    false
-}
-
-fn has_aggregate(projection: &Projection) -> bool
-    ensures { result ≡ has_aggregate (projection_view projection.now) }
-{
-    match projection {
-        Projection::All => false,
-        Projection::Outs(outs) => any_aggregate(outs.as_slice()),
-    }
-}
-
-/// Whether the query has GROUP BY or an aggregate.
-fn is_grouped(query: &Query) -> bool
-    ensures { result ≡ is_grouped (query_view query.now) }
-{
-    !query.groups.as_slice().is_empty() || has_aggregate(&query.projection)
-}
 
 fn unknown_in_sources<'a>(columns: &[Column], sources: &'a [Src]) -> Option<&'a [u8]>
     ensures { option_copied result ≡ unknown_in_sources columns.now (srcs_view sources.now) }
@@ -92,7 +55,7 @@ fn unknown_in_query(
 ) -> Result<Option<Name>, Memory>
     ensures { IfOk result (λ name. name ≡ unknown_in_query columns.now (query_view query.now)) }
 {
-    let grouped = is_grouped(query);
+    let grouped = query.is_grouped();
     if let Some(name) = unknown_before(columns, grouped, query) {
         return copy_of(alloc, Some(name));
     }

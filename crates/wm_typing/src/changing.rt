@@ -1,3 +1,4 @@
+//! What UPDATE and DELETE are refused for before they read a row.
 ghost use Rattle.std.specs.Prelude.{◌≡◌, [], bytes_eq, slice_get, true, false, None, IfOk, option_copied};
 ghost use Rattle.std.specs.List.{list_any};
 ghost use Rattle.std.specs.Option.{option_map_or};
@@ -159,7 +160,7 @@ fn lacking_where<'a>(
     )
 }
 
-/// The same in what is set too.
+/// The table, where WM_VALID is named in the condition or in what is set and the table has none.
 fn lacking_anywhere<'a>(
     columns: &[Column],
     table: &'a Table,
@@ -229,7 +230,7 @@ fn delete_fault_in(
     )
 }
 
-/// Why a DELETE from the table is refused likewise.
+/// Why a DELETE from the table is refused for the names and types of its condition.
 #[tactic(auto, using(crate::proofs::Typed::delete_typed), unfolding(crate::specs::Changing::delete_fault))]
 pub fn delete_fault(
     alloc: Global,

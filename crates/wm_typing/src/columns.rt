@@ -1,3 +1,4 @@
+//! The columns of a table, as statements name them.
 ghost use Rattle.std.specs.Prelude.{◌≡◌, ◌++◌, map, IfOk, OnOk, ◌∷◌, [], if◌then◌else◌};
 ghost use Rattle.wm_graph.specs.Rules.{type_of};
 ghost use Rattle.wm_typing.specs.Columns.{columns_of_table, declared_column, valid_column};

@@ -1,3 +1,4 @@
+//! The first of two texts.
 ghost use Rattle.std.specs.Prelude.{◌≡◌, option_copied};
 ghost use Rattle.std.specs.Option.{option_or};
 ghost use Rattle.wm_typing.specs.Names.{unless};

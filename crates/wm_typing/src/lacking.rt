@@ -136,7 +136,7 @@ pub fn lacking_in_cond<'a>(columns: &[Column], cond: &'a Cond) -> Option<&'a Opt
     }
 }
 
-/// The same of two operands, the one that stands first first.
+/// The first WM_VALID without valid time in two operands, in the order in which they stand.
 fn lacking_in_both<'a>(
     columns: &[Column],
     one: &'a Operand,
@@ -150,7 +150,7 @@ fn lacking_in_both<'a>(
     )
 }
 
-/// The same of a condition that may be left out.
+/// The first WM_VALID without valid time in a condition that may be left out.
 pub fn lacking_in_filter<'a>(
     columns: &[Column],
     filter: &'a Option<Cond>,

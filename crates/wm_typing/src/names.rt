@@ -1,3 +1,4 @@
+//! The first name that means no column.
 ghost use Rattle.std.specs.Prelude.{◌≡◌, option_copied};
 ghost use Rattle.std.specs.Option.{option_or};
 ghost use Rattle.wm_base.specs.Views.{cond_view, expr_view, filter_view};
@@ -99,7 +100,7 @@ pub fn unknown_in_cond<'a>(columns: &[Column], cond: &'a Cond) -> Option<&'a [u8
     }
 }
 
-/// The same of two operands, the one that stands first first.
+/// The first name of no column in two operands, in the order in which they stand.
 fn unknown_in_both<'a>(columns: &[Column], one: &'a Operand, other: &'a Operand) -> Option<&'a [u8]>
     ensures { option_copied result ≡ option_or (unknown_in_operand columns.now one.now) (unknown_in_operand columns.now other.now) }
 {
@@ -109,7 +110,7 @@ fn unknown_in_both<'a>(columns: &[Column], one: &'a Operand, other: &'a Operand)
     )
 }
 
-/// The same of a condition that may be left out.
+/// The first name of no column in a condition that may be left out.
 pub fn unknown_in_filter<'a>(columns: &[Column], filter: &'a Option<Cond>) -> Option<&'a [u8]>
     ensures { option_copied result ≡ unknown_in_filter columns.now (filter_view filter.now) }
 {

@@ -137,7 +137,7 @@ fn unknown_by_col<'a>(
     )
 }
 
-/// The same of a name that AS may have given: to one item it may, and to several it may not.
+/// The name, where AS gives it to several items, or to none and it is no column that may be named.
 fn unknown_by_name<'a>(
     columns: &[Column],
     shown: bool,

@@ -1,3 +1,4 @@
+//! Which of a statement's faults is told.
 ghost use Rattle.std.specs.Prelude.{◌≡◌, IfOk, option_copied};
 ghost use Rattle.wm_typing.specs.Refusals.{first_refusal};
 

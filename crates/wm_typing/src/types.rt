@@ -1,3 +1,4 @@
+//! The kinds of expressions, and the first that is wrong.
 ghost use Rattle.std.specs.Prelude.{◌≡◌, ◌&&◌, codes, option_copied};
 ghost use Rattle.std.specs.List.{list_all};
 ghost use Rattle.wm_base.specs.Views.{cond_view, expr_view, filter_view};
@@ -156,7 +157,7 @@ pub fn mistyped_in_cond(columns: &[Column], cond: &Cond) -> Option<&'static [u8]
     }
 }
 
-/// The same of a condition that may be left out.
+/// What is of a wrong type first in a condition that may be left out.
 pub fn mistyped_in_filter(columns: &[Column], filter: &Option<Cond>) -> Option<&'static [u8]>
     ensures { option_copied result ≡ mistyped_in_filter columns.now (filter_view filter.now) }
 {

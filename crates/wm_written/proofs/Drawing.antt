@@ -8,7 +8,7 @@ use Rattle.std.specs.Ordering.{is_eq}
 use Rattle.wm_base.specs.Key.{key_order}
 use Rattle.wm_base.specs.declared.value.Value.{Value}
 use Rattle.wm_graph.specs.Rules.{differ, collide}
-use Rattle.wm_period.proofs.Cells.{option_or_assoc, option_or-none}
+use Rattle.wm_base.proofs.Plain.{option_or-none, option_or_assoc}
 use Rattle.wm_period.specs.Pieces.{Held}
 use Rattle.wm_spec.specs.Lists.{Cell}
 use Rattle.wm_spec.specs.declared.record.piece.PieceRecord.{PieceRecord}

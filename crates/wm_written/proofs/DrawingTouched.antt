@@ -4,7 +4,7 @@ use Rattle.std.specs.List.{filter, flat_map, list_all, list_any}
 use Rattle.std.specs.Option.{option_or}
 use Rattle.wm_base.specs.declared.value.Value.{Value}
 use Rattle.wm_graph.specs.Rules.{collide, differ}
-use Rattle.wm_period.proofs.Cells.{option_or_assoc}
+use Rattle.wm_base.proofs.Plain.{option_or_assoc}
 use Rattle.wm_spec.specs.declared.record.piece.PieceRecord.{PieceRecord}
 use Rattle.wm_state.specs.Batches.{is_in, is_out}
 use Rattle.wm_state.specs.Drawing.{AreDrawn, has_moments, is_clear, left_by, stored_last, touched}

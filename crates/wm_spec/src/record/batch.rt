@@ -1,3 +1,4 @@
+//! What becomes of records in one commit.
 ghost use Rattle.std.specs.Prelude.{◌≡◌, ◌∷◌, [], ◌++◌, length, OnOk, OnErr};
 
 use crate::record::Record;

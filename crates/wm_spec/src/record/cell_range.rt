@@ -1,3 +1,4 @@
+//! The cells that a record speaks of.
 use wm_base::Key;
 
 /// The cells of one key of a table over a time: from `from` up to `till`, which is not of it.

@@ -1,3 +1,4 @@
+//! The columns in the record of a table.
 ghost use Rattle.std.specs.Prelude.{◌≡◌, ◌∷◌, [], ◌++◌, length, OnOk, OnErr};
 
 use std::alloc::Global;

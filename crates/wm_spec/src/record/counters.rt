@@ -1,3 +1,4 @@
+//! The record of what is counted over the whole store.
 /// What is counted over the whole store. There is one such record.
 #[derive(Clone, Copy, Debug, PartialEq)]
 pub struct Counters {

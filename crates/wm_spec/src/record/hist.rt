@@ -1,3 +1,4 @@
+//! The record of an entry of a log.
 use crate::record::CellRange;
 use wm_base::{Kind, Name};
 

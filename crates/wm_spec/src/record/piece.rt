@@ -1,3 +1,4 @@
+//! The record of what a version holds for a key over a time.
 use crate::record::CellRange;
 use wm_base::Kind;
 

@@ -1,3 +1,4 @@
+//! The record of a row's values.
 use wm_base::Values;
 
 /// A row of a table, which the pieces name by its stamp.

@@ -1,3 +1,4 @@
+//! The record of a savepoint.
 use wm_base::Name;
 
 /// A savepoint of a workspace: what stood in it at a place.

@@ -1,3 +1,4 @@
+//! The record of a workspace.
 use wm_base::Name;
 
 /// Who may write in a workspace that is frozen.

@@ -1,3 +1,4 @@
+//! Records with their ids in the store.
 ghost use Rattle.std.specs.Prelude.{◌≡◌, ◌∷◌, [], ◌++◌, length, OnOk, OnErr};
 
 use crate::record::Record;

@@ -1,3 +1,4 @@
+//! The record of a table.
 use crate::record::TableColumns;
 use wm_base::Name;
 

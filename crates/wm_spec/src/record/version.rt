@@ -1,3 +1,4 @@
+//! The record of a version.
 /// A version of a workspace.
 #[derive(Clone, Copy, Debug, PartialEq)]
 pub struct Version {

@@ -23,14 +23,14 @@ decreases-cond_within l = 5 * l.depth + 4
 
 abbrev pub invariant-conj-items : goal.invariant-conj-items
 invariant-conj-items l =
-    Going {S = Unit {0}} (λ s _. s) (λ _. sorts.AND ∷ []) (λ _. and_at (negation_at l.depth)) alls tt (cond_view l.all) l.cursor (conj_at (negation_at l.depth) l.fn.cursor)
+    Going {S = Unit {0}} (λ s _. s) (λ _. sorts.AND ∷ []) (λ _. and_at (negation_at l.depth)) alls tt (cond_view l.all.value) l.cursor (conj_at (negation_at l.depth) l.fn.cursor)
 
 abbrev pub decreases-conj-items : goal.decreases-conj-items
 decreases-conj-items l = length l.cursor
 
 abbrev pub invariant-cond_within-items : goal.invariant-cond_within-items
 invariant-cond_within-items l =
-    Going {S = Unit {0}} (λ s _. s) (λ _. sorts.OR ∷ []) (λ _. or_at (negation_at l.depth)) anys tt (cond_view l.all) l.cursor (cond_of_at (negation_at l.depth) l.fn.cursor)
+    Going {S = Unit {0}} (λ s _. s) (λ _. sorts.OR ∷ []) (λ _. or_at (negation_at l.depth)) anys tt (cond_view l.all.value) l.cursor (cond_of_at (negation_at l.depth) l.fn.cursor)
 
 abbrev pub decreases-cond_within-items : goal.decreases-cond_within-items
 decreases-cond_within-items l = length l.cursor

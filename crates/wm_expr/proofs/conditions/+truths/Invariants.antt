@@ -1,4 +1,4 @@
-use Rattle.std.proofs.Common.{◌≡◌, ℕ, ◌≤◌, ◌+◌, ◌*◌}
+use Rattle.std.proofs.Common.{◌≡◌, ◌≤◌, ◌+◌, ◌*◌}
 use Rattle.wm_base.specs.Truth.{truth_and, truth_or}
 use Rattle.wm_base.specs.Views.{cond_view}
 use Rattle.wm_spec.specs.Conditions.{truth_in}

@@ -1,4 +1,4 @@
-use Rattle.std.proofs.Common.{sym, ◌∙◌}
+use Rattle.std.proofs.Common.{◌∙◌}
 use Rattle.wm_catalog.proofs.Entries.{added, named_still}
 use Rattle.wm_catalog.proofs.catalog.Catalog.put.Goals as goal
 

@@ -1,0 +1,76 @@
+"""Standard input, output and error that are closed, full or of another kind."""
+import fcntl
+import os
+import subprocess
+from itertools import combinations
+
+from room import INIT, RUN, SECONDS, COMPLAINTS, ended, inserting, read
+
+SCRIPT, ANSWERS = inserting([0])
+
+
+def redirected(room, redirection, path, words):
+    """Plays the script through the program as a shell starts it with these redirections."""
+    call = ["sh", "-c", f'exec "$0" "$@" {redirection}', room.program, path, *words]
+    ran = subprocess.run(call, input=SCRIPT, capture_output=True, timeout=SECONDS)
+    return ran.returncode, ran.stdout, ran.stderr
+
+
+def closed(kind, room):
+    for size in (1, 2, 3):
+        for numbers in combinations((0, 1, 2), size):
+            closing = " ".join(f"{number}>&-" for number in numbers)
+            made, path = room.absent(), room.store()
+            status = 4 if 1 in numbers else 0
+            said = b"" if 1 in numbers else b"OK\n"
+            complaint = b"" if 2 in numbers else COMPLAINTS[status]
+            kind.expect(f"init {closing}", redirected(room, closing, made, INIT), (status, said, complaint))
+            kind.expect(f"the store of init {closing}", read(made) == room.fresh, True)
+            status = 3 if 0 in numbers else status
+            said = ANSWERS if status == 0 else b""
+            complaint = b"" if 2 in numbers else COMPLAINTS[status]
+            kind.expect(f"run {closing}", redirected(room, closing, path, RUN), (status, said, complaint))
+            kind.expect(f"the rows after run {closing}", room.rows(path), [0] if status == 0 else [])
+            kind.expect(f"the file after run {closing}", status == 0 or read(path) == room.ready, True)
+
+
+def failing(kind, room):
+    for redirection, init_status, run_status in [
+        ("> /dev/full", 4, 4),
+        ("1< /dev/null", 4, 4),
+        ("0> /dev/null", 0, 3),
+        ("< /", 0, 3),
+        ("2> /dev/full", 0, 0),
+    ]:
+        made, path = room.absent(), room.store()
+        says = init_status == 0
+        init, run = redirected(room, redirection, made, INIT), redirected(room, redirection, path, RUN)
+        kind.expect(f"init {redirection}", init, ended(init_status, b"OK\n" if says else b""))
+        kind.expect(f"the store of init {redirection}", read(made) == room.fresh, True)
+        kind.expect(f"run {redirection}", run, ended(run_status, ANSWERS if run_status == 0 else b""))
+        kind.expect(f"the rows after run {redirection}", room.rows(path), [0] if run_status == 0 else [])
+
+
+def not_taken(kind, room):
+    """Nobody reads the answers: the pipe is closed, or it is full and may not be waited for."""
+    path = room.store()
+    script = inserting(range(500))[0]
+    reading, writing = os.pipe()
+    os.close(reading)
+    status, _, complaint = room.play(path, RUN, script, stdout=writing)
+    os.close(writing)
+    kind.expect("a pipe that nobody reads", (status, b"", complaint), ended(4))
+    kind.expect_kept("a pipe that nobody reads", room, path, b"")
+    path = room.store()
+    reading, writing = os.pipe()
+    fcntl.fcntl(writing, fcntl.F_SETPIPE_SZ, 4096)
+    # From so many bytes on, a pipe takes pieces whole or not at all, so its front is filled first.
+    os.set_blocking(writing, False)
+    os.write(writing, b"-" * 3000)
+    status, _, complaint = room.play(path, RUN, script, stdout=writing)
+    os.close(writing)
+    with open(reading, "rb") as pipe:
+        said = pipe.read()[3000:]
+    kind.expect("a pipe that is full", (status, b"", complaint), ended(4))
+    kind.expect("some answers came", said.count(b"\n") > 10, True)
+    kind.expect_kept("a pipe that is full", room, path, said)

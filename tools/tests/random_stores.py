@@ -1,0 +1,57 @@
+"""Random scripts that make workspaces, savepoints and rows over periods, and nearly always are accepted."""
+import random
+
+TABLES = {"PLOT": True, "TAX": False}
+ENDS = ["DATE '2020-01-01'", "DATE '2020-03-01'", "TIMESTAMP '2020-05-01 12:00:00'", "DATE '2020-09-01'", "DATE '2021-01-01'", "DBMS_WM.UNTIL_CHANGED"]
+
+
+class Writer:
+    """The lines of one script."""
+
+    def __init__(self, seed):
+        self.random = random.Random(seed)
+        self.workspaces, self.points, self.day = ["LIVE"], [], 1
+        self.lines = ["CONNECT A ANN", "CONNECT B BEN"]
+        for table, is_valid in TABLES.items():
+            self.lines.append(f"A: CREATE TABLE {table} (ID NUMBER PRIMARY KEY, X NUMBER, NOTE VARCHAR2(20))")
+            self.lines.append(f"A: EXECUTE DBMS_WM.EnableVersioning('{table}', validTime => {str(is_valid).upper()})")
+
+    def period(self):
+        begin, till = sorted(self.random.sample(range(len(ENDS)), 2))
+        return f"{ENDS[begin]}, {ENDS[till]}"
+
+    def condition(self):
+        return self.random.choice(["", " WHERE ID = {}".format(self.random.randrange(6)), " WHERE X > 5", " WHERE NOTE IS NULL"])
+
+    def line(self):
+        pick, session = self.random.random(), self.random.choice("AB")
+        table, number = self.random.choice(list(TABLES)), self.random.randrange(6)
+        if pick < 0.30:
+            return f"{session}: INSERT INTO {table} VALUES ({number}, {self.random.randrange(10)}, {self.random.choice(['NULL', repr('it is ' + session)])})"
+        if pick < 0.52:
+            return f"{session}: UPDATE {table} SET X = {self.random.randrange(10)}, NOTE = NULL{self.condition()}"
+        if pick < 0.60:
+            return f"{session}: UPDATE PLOT SET WM_VALID = WM_PERIOD({self.period()}) WHERE ID = {number}"
+        if pick < 0.68:
+            return f"{session}: DELETE FROM {table}{self.condition()}"
+        return self.other_line(pick, session)
+
+    def other_line(self, pick, session):
+        if pick < 0.78:
+            return f"{session}: EXECUTE DBMS_WM.SetValidTime({self.period()})"
+        if pick < 0.83:
+            self.workspaces.append(f"W{len(self.workspaces)}")
+            return f"{session}: EXECUTE DBMS_WM.CreateWorkspace('{self.workspaces[-1]}')"
+        if pick < 0.92:
+            return f"{session}: EXECUTE DBMS_WM.GotoWorkspace('{self.random.choice(self.workspaces)}')"
+        if pick < 0.96:
+            self.points.append(f"P{len(self.points)}")
+            return f"{session}: EXECUTE DBMS_WM.CreateSavepoint('{self.random.choice(self.workspaces)}', '{self.points[-1]}')"
+        if pick < 0.98 and self.points:
+            return f"{session}: EXECUTE DBMS_WM.GotoSavepoint('{self.random.choice(self.points)}')"
+        self.day = min(self.day + 1, 28)
+        return f"AT DATE '2024-02-{self.day:02}'"
+
+    def script(self, length):
+        self.lines += [self.line() for _ in range(length)]
+        return "".join(line + "\n" for line in self.lines).encode()

@@ -1,0 +1,205 @@
+"""tools/play: what a person is shown, and the mistakes that it keeps from being made."""
+import fcntl
+import os
+import pty
+import re
+import subprocess
+import sys
+import time
+from datetime import datetime, timezone
+
+from around import PROGRAM, TOP, WithFolder, made, run, store_of_examples, tool
+
+TABLE = b"CONNECT A ANN\nA: CREATE TABLE T (ID NUMBER PRIMARY KEY, NOTE VARCHAR2(20))\nA: EXECUTE DBMS_WM.EnableVersioning('T')\n"
+REFUSED = b"CONNECT A ANN\nA: SELECT * FROM NOPE\nA: INSERT INTO T VALUES (7, NULL)\n"
+
+
+class Played(WithFolder):
+    def play(self, script, *words, **named):
+        path = self.folder / "s.wm"
+        path.write_bytes(script)
+        return tool("play", self.store, path, "--now", "2024-06-01", "--program", PROGRAM, *words, **named)
+
+    def lines(self, script, *words):
+        return self.play(script, *words).stdout.splitlines()
+
+
+class Lines(Played):
+    def test_each_line_stands_with_its_number_and_its_answer(self):
+        made(self.store)
+        self.assertEqual(self.lines(TABLE + b"-- all of it\n\nA: SELECT * FROM T\n")[4:],
+                         ["  3  A: EXECUTE DBMS_WM.EnableVersioning('T')", "     OK", "  4  -- all of it", "  5", "  6  A: SELECT * FROM T", "     ROWS 0"])
+
+    def test_answers_are_those_of_the_program(self):
+        """Played line by line or all at once: the same answers but for the look of rows, and the same store."""
+        other = made(self.folder / "other.store")
+        made(self.store)
+        for script in sorted((TOP / "examples").glob("*.wm")):
+            said = run(other, "2024-06-01", script.read_bytes()).stdout.decode().splitlines()
+            ends = r"OK|DONE \d+|ROWS \d+|WM-\d{3} .*"
+            self.assertEqual([line[5:] for line in self.lines(script.read_bytes()) if re.fullmatch(" {5}(" + ends + ")", line)],
+                             [line for line in said if re.fullmatch(ends, line)])
+            self.assertEqual(self.store.read_bytes(), other.read_bytes())
+
+    def test_caret_stands_below_the_column(self):
+        made(self.store)
+        cases = [(b"A: SELEC", "SELEC"), (b"\tA: SELECT '\xc3\xa9' FRM T", "FRM"), (b"A: INSERT INTO T VALUES (9223372036854775808)", "9223372036854775808"),
+                 (b"AT DATE '2024-02-30'", "'2024-02-30'")]
+        for line, word in cases:
+            shown, mark, _ = self.lines(line + b"\n")
+            self.assertEqual(shown.expandtabs()[len(mark.expandtabs()) - 1:].split(" T")[0].rstrip(")"), word)
+
+    def test_marks_and_ends_of_other_editors(self):
+        made(self.store)
+        self.assertEqual(self.play(b"\xef\xbb\xbf" + TABLE.replace(b"\n", b"\r\n")).returncode, 0)
+
+    def test_rows_are_aligned_below_their_names(self):
+        made(self.store)
+        script = TABLE + b"A: INSERT INTO T VALUES (5, 'it''s | so')\nA: INSERT INTO T VALUES (40, NULL)\nA: SELECT ID * 2 AS TWICE, t.NOTE FROM T t\n"
+        self.assertEqual(self.lines(script)[-5:], ["     TWICE | NOTE", "     ------+-------------", "        10 | 'it''s | so'", "        80 | NULL", "     ROWS 2"])
+
+    def test_star_has_the_names_of_the_tables(self):
+        store_of_examples(self.store)
+        self.assertIn("     PARCEL | AREA | MARKS                   | WM_VALID", self.lines(b"CONNECT A ANN\nA: SELECT * FROM boundary;\n"))
+        self.assertIn("     NR | NAME  | ID | TEAM | WHAT          | EUROS | DUE",
+                      self.lines(b"CONNECT A ANN\nA: SELECT * FROM TEAM t INNER JOIN COST c ON t.NR = c.TEAM WHERE t.NR = 2\n"))
+
+    def test_sheet(self):
+        store_of_examples(self.store)
+        done = self.play(b"CONNECT A ANN\nA: SELECT * FROM OWNER\nA: SELECT WHAT, DUE FROM COST WHERE TEAM = 2\nA: SELECT * FROM NOPE\n", "--csv", "--quiet")
+        self.assertEqual(done.stdout, "PARCEL,NAME,WM_VALID.VALIDFROM,WM_VALID.VALIDTILL\n17,Sommer,2021-03-15,UNTIL_CHANGED\n\n"
+                         "WHAT,DUE\nTrees,2024-10-31\nBenches,\nMayor's party,2024-06-01\n")
+        self.assertEqual(done.returncode, 1)
+        self.assertTrue(done.stderr.endswith("\nline 4: A: SELECT * FROM NOPE\n  WM-010 no table NOPE\n"))
+
+
+class Ends(Played):
+    def test_status(self):
+        made(self.store)
+        self.assertEqual(self.play(TABLE).returncode, 0)
+        self.assertEqual(self.play(REFUSED).returncode, 1)
+        self.assertEqual(self.play(TABLE, "--now", "yesterday").returncode, 2)
+
+    def test_stop_at_the_first_refusal(self):
+        made(self.store)
+        self.play(TABLE)
+        done = self.play(REFUSED, "--stop")
+        self.assertEqual(done.returncode, 1)
+        self.assertIn("stopped at line 2, 1 not played", done.stderr)
+        self.assertEqual(run(self.store, "2024-06-01", b"CONNECT A ANN\nA: SELECT * FROM T\n").stdout, b"OK\nROWS 0\n")
+
+    def test_program_that_ends_early(self):
+        made(self.store)
+        stub = self.folder / "stub.py"
+        stub.write_text("import sys\nprint('OK', flush=True)\nsys.stdin.readline()\nsys.stderr.write('wm: out of memory\\n')\nsys.exit(10)\n")
+        path = self.folder / "s.wm"
+        path.write_bytes(TABLE)
+        done = tool("play", self.store, path, "--program", f"{sys.executable} {stub}")
+        self.assertEqual(done.returncode, 10)
+        self.assertIn("line 2 was not answered: wm: out of memory", done.stderr)
+
+    def test_damaged_store(self):
+        data = made(self.store).read_bytes()
+        self.store.write_bytes(data[:10000])
+        done = self.play(TABLE)
+        self.assertEqual((done.returncode, "wm: damaged page 2 short" in done.stderr), (7, True))
+
+
+class Stores(Played):
+    def test_no_store(self):
+        done = self.play(TABLE)
+        self.assertEqual((done.returncode, self.store.exists()), (2, False))
+        self.store.write_bytes(TABLE)
+        self.assertEqual((self.play(TABLE).returncode, self.store.read_bytes()), (2, TABLE))
+        self.assertEqual(self.play(TABLE, "--new").returncode, 2)
+        self.assertEqual(self.store.read_bytes(), TABLE)
+
+    def test_new_store(self):
+        self.assertEqual(self.play(TABLE, "--new", "--limit", "0").returncode, 2)
+        self.assertFalse(self.store.exists())
+        self.assertEqual(self.play(TABLE, "--new").returncode, 0)
+        self.assertIn("1,048,576 left of 1,048,576", tool("show", self.store).stdout)
+
+    def test_two_plays_of_one_store_are_kept_apart(self):
+        made(self.store)
+        link = self.folder / "link.store"
+        link.symlink_to(self.store)
+        first = subprocess.Popen([sys.executable, str(TOP / "tools" / "play"), str(link), "--program", f"{sys.executable} {self.slow()}"],
+                                 stdin=subprocess.PIPE, stdout=subprocess.PIPE, stderr=subprocess.DEVNULL)
+        first.stdin.write(b"CONNECT A ANN\n")
+        first.stdin.close()
+        first.stdout.readline()
+        first.stdout.readline()
+        second = self.play(TABLE)
+        self.assertEqual((second.returncode, "another play has" in second.stderr), (2, True))
+        first.kill()
+        first.wait()
+        first.stdout.close()
+        self.assertEqual(self.play(TABLE).returncode, 0)
+
+    def test_a_run_beside_is_told(self):
+        made(self.store)
+        with self.store.open("rb") as file:
+            fcntl.flock(file, fcntl.LOCK_EX)
+            done = self.play(TABLE)
+        self.assertEqual((done.returncode, "another run has" in done.stderr), (2, True))
+
+    def slow(self):
+        path = self.folder / "slow.py"
+        path.write_text("import time\nprint('OK', flush=True)\ntime.sleep(60)\n")
+        return path
+
+    def test_moment_is_the_clocks(self):
+        made(self.store)
+        path = self.folder / "s.wm"
+        path.write_bytes(TABLE + b"A: CREATE TABLE D (ID NUMBER PRIMARY KEY, DAY DATE)\nA: EXECUTE DBMS_WM.EnableVersioning('D')\n"
+                         b"A: INSERT INTO D VALUES (1, SYSDATE)\nA: SELECT DAY FROM D\n")
+        before = datetime.now(timezone.utc).strftime("%Y-%m-%d %H:%M:%S")
+        said = tool("play", self.store, path, "--program", PROGRAM).stdout
+        after = datetime.now(timezone.utc).strftime("%Y-%m-%d %H:%M:%S")
+        self.assertTrue(before <= re.search(r"\d{4}-\d\d-\d\d \d\d:\d\d:\d\d", said)[0] <= after)
+
+    def test_wrong_years_are_told(self):
+        made(self.store)
+        self.assertIn("later than the clock", self.play(TABLE, "--now", "2942-06-01").stderr)
+        self.assertIn("last change is of 2942-06-01", self.play(b"").stderr)
+
+
+class Terminal(Played):
+    def test_lines_are_asked_for(self):
+        made(self.store)
+        said = self.typed(b"CONNECT A ANN\r", b"A: SELEC\r", b"\x04")
+        self.assertIn("wm>  CONNECT A ANN\r\n     OK\r\nwm>  A: SELEC\r\n        ^\r\n     WM-003 syntax 4\r\nwm>", plain(said))
+
+    def typed(self, *keys):
+        """What a terminal shows where these keys are pressed, each once the prompt is there."""
+        child, terminal = pty.fork()
+        if child == 0:
+            os.execvp(sys.executable, [sys.executable, str(TOP / "tools" / "play"), str(self.store), "--now", "2024-06-01", "--program", PROGRAM])
+        said, end = b"", time.monotonic() + 60
+        for count, key in enumerate(keys, 1):
+            while said.count(b"wm>") < count and time.monotonic() < end:
+                said += os.read(terminal, 1000)
+            os.write(terminal, key)
+        try:
+            while True:
+                said += os.read(terminal, 1000)
+        except OSError:
+            pass
+        os.waitpid(child, 0)
+        os.close(terminal)
+        return said
+
+    def test_progress(self):
+        """A line from time to time where standard error is no terminal."""
+        made(self.store)
+        path = self.folder / "slow.py"
+        path.write_text("import sys, time\nfor line in sys.stdin:\n    time.sleep(3)\n    print('OK', flush=True)\n")
+        (self.folder / "s.wm").write_bytes(b"CONNECT A ANN\n" * 3)
+        done = tool("play", self.store, self.folder / "s.wm", "--program", f"{sys.executable} {path}")
+        self.assertIn("2 of 3 lines, 0 refused, 6 s\n", done.stderr)
+
+
+def plain(said):
+    """The text of a terminal without what moves its cursor."""
+    return re.sub(r"\x1b\[[?0-9;]*[A-Za-z]", "", said.decode())

@@ -1,0 +1,174 @@
+"""tools/show: what it reads in a file is what the program answers, whatever the file holds."""
+import random
+import shutil
+
+from around import WithFolder, made, run, store_of_examples, store_of_tutorial, tool
+from random_stores import Writer
+from shown import shown
+from storefile.pages import SIZE, Damaged, NotAStore
+from storefile.store import LIVE, opened
+from storefile.values import printed
+
+SEEDS, LINES, DAMAGES = 16, 90, 150
+
+
+def text(name):
+    return "'" + name.replace("'", "''") + "'"
+
+
+def questions(found):
+    """Lines that ask for all rows of each workspace and of each savepoint; and what the file says to each."""
+    lines = [("CONNECT Z ZOE", ["OK"]), ("Z: EXECUTE DBMS_WM.SetValidTime(DATE '0001-01-01')", ["OK"])]
+    for space in found.spaces.values():
+        lines.append((f"Z: EXECUTE DBMS_WM.GotoWorkspace({text(space.name)})", ["OK"]))
+        lines += selections(found, found.newest[space.number])
+        for point in found.savepoints_of(space):
+            lines.append((f"Z: EXECUTE DBMS_WM.GotoSavepoint({text(point.name)})", ["OK"]))
+            lines += selections(found, point.version)
+    return lines
+
+
+def selections(found, version):
+    for table in (table for table in found.tables.values() if table.is_versioned):
+        rows = found.rows_seen(version, table)
+        shown = ["|".join([*map(printed, row.values), *([str(row.period)] if table.is_valid else [])]) for row in rows]
+        yield f"Z: SELECT * FROM {table.name}", [*shown, f"ROWS {len(rows)}"]
+
+
+def cells_in_conflict(found, space):
+    """The ends that matter of each key, and between which of them both logs have an entry. No merge and no refresh is built yet, so
+    what a workspace changed and did not merge is its whole log."""
+    inside = {}
+    for ours in found.log_of(space):
+        for theirs in found.pending(space):
+            shared = ours.cells.period.overlap(theirs.cells.period)
+            if ours.cells[:2] == theirs.cells[:2] and shared:
+                inside.setdefault(ours.cells[:2], []).append(shared)
+    return inside
+
+
+def covered(periods):
+    """The longest periods that some periods cover together."""
+    found = []
+    for begin, till in sorted(periods):
+        if found and begin <= found[-1][1]:
+            found[-1] = (found[-1][0], max(found[-1][1], till))
+        else:
+            found.append((begin, till))
+    return found
+
+
+class Contents(WithFolder):
+    def compare(self, store):
+        found = opened(store)
+        copy = store.with_suffix(".copy")
+        shutil.copyfile(store, copy)
+        asked = questions(found)
+        done = run(copy, "0001-01-01", "".join(line + "\n" for line, _ in asked).encode())
+        said = iter(done.stdout.decode().splitlines())
+        for line, wanted in asked:
+            self.assertEqual([next(said, None) for _ in wanted], wanted, line)
+        return found
+
+    def test_examples(self):
+        found = self.compare(store_of_examples(self.store))
+        self.assertEqual([space.name for space in found.spaces.values()], ["LIVE", "Plan", "Parks 2025", "Roads 2025"])
+
+    def test_random_stores(self):
+        for seed in range(SEEDS):
+            with self.subTest(seed=seed):
+                self.store.unlink(missing_ok=True)
+                done = run(made(self.store), "2024-01-01", Writer(seed).script(LINES))
+                self.assertEqual(done.returncode, 0)
+                found = self.compare(self.store)
+                self.logs(found)
+                self.conflicts(found)
+
+    def logs(self, found):
+        """Each change is in the log of its workspace, at its position; and each has a stamp of its own."""
+        for space in found.spaces.values():
+            self.assertEqual([entry.position for entry in found.log_of(space)], list(range(space.log_length)))
+        self.assertEqual(sorted(entry.stamp for entry in found.log), list(range(1, found.counters.next_stamp)))
+
+    def conflicts(self, found):
+        for space in found.spaces.values():
+            if space.number == LIVE:
+                continue
+            told = {}
+            for conflict in found.conflicts(space):
+                told.setdefault((conflict.table.number, conflict.key), []).append(tuple(conflict.period))
+            wanted = cells_in_conflict(found, space)
+            self.assertEqual({cell: covered(periods) for cell, periods in told.items()},
+                             {cell: covered(periods) for cell, periods in wanted.items()})
+
+
+class Files(WithFolder):
+    def test_file_is_never_written(self):
+        store = store_of_examples(self.store)
+        store.chmod(0o444)
+        before, moment = store.read_bytes(), store.stat().st_mtime_ns
+        self.assertEqual(tool("show", store).returncode, 0)
+        self.assertEqual(tool("show", store, "--html", self.folder / "s.html").returncode, 0)
+        self.assertEqual((store.read_bytes(), store.stat().st_mtime_ns), (before, moment))
+
+    def test_open_journal(self):
+        """A stop behind the second step of a change: the journal has the pages, and shows what the change made."""
+        store = store_of_tutorial(self.store, "planner")
+        before = store.read_bytes()
+        run(store, "2024-06-02", b"CONNECT A ANN\nA: INSERT INTO PARCEL VALUES (9, 'pond', 0)\n")
+        after = store.read_bytes()
+        store.write_bytes(stopped(before, after))
+        self.assertIn("9|'pond'|0", tool("show", store).stdout)
+        self.assertEqual(store.read_bytes(), stopped(before, after))
+        self.assertIn("still in the journal", tool("show", store).stdout)
+        self.assertIn(b"9|'pond'|0", run(store, "2024-06-02", b"CONNECT A ANN\nA: SELECT * FROM PARCEL\n").stdout)
+
+    def test_damage_is_named_as_the_program_names_it(self):
+        whole = store_of_examples(self.store).read_bytes()
+        chosen = random.Random(7)
+        for _ in range(DAMAGES):
+            self.store.write_bytes(damaged(whole, chosen))
+            told = self.told()
+            complaint = run(self.store, "2030-01-01", b"").stderr.decode().strip().removeprefix("wm: ")
+            # Of the rules over all records the reader looks only at those that it relies on.
+            if complaint != "damaged page 0 graph" or told:
+                self.assertEqual(told, complaint)
+
+    def told(self):
+        """What the reader says of the store, which it shows if nothing is wrong."""
+        try:
+            shown(self.store, opened(self.store), 20, 40)
+        except NotAStore:
+            return "not a store"
+        except Damaged as damage:
+            return str(damage)
+        return ""
+
+    def test_no_store(self):
+        self.assertIn("No such file", tool("show", self.folder / "none").stderr)
+        self.store.write_bytes(b"CONNECT A ANN\n")
+        self.assertEqual(tool("show", self.store).returncode, 1)
+
+
+def stopped(before, after):
+    """The file as a stop leaves it when the gate is open: the old pages, and behind them a journal with the new ones."""
+    places = [place for place in range(1, len(before) // SIZE) if before[place * SIZE:(place + 1) * SIZE] != after[place * SIZE:(place + 1) * SIZE]
+              and place < int.from_bytes(after[SIZE:SIZE + 8], "big")]
+    first = max(int.from_bytes(data[SIZE:SIZE + 8], "big") for data in (before, after))
+    head = bytearray(before[:SIZE])
+    head[8] = 0x47
+    head[16:32] = first.to_bytes(8, "big") + len(places).to_bytes(8, "big")
+    directory = b"".join(place.to_bytes(8, "big") for place in places).ljust(SIZE, b"\0")
+    images = b"".join(after[place * SIZE:(place + 1) * SIZE] for place in places)
+    return (bytes(head) + before[SIZE:first * SIZE]).ljust(first * SIZE, b"\0") + directory + images
+
+
+def damaged(data, chosen):
+    """The file with some of its bytes changed, or cut."""
+    data = bytearray(data)
+    if chosen.random() < 0.2:
+        return bytes(data[:chosen.randrange(len(data))])
+    for _ in range(chosen.randint(1, 3)):
+        at = chosen.choice([chosen.randrange(32), SIZE + chosen.randrange(8), chosen.randrange(2 * SIZE, len(data))])
+        data[at] = chosen.choice([0, 1, 0x47, 0xFF, chosen.randrange(256)])
+    return bytes(data)
