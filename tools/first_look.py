@@ -69,6 +69,9 @@ def main():
     print("The program is compiled, and not proved; that takes a minute or two ..", flush=True)
     done = subprocess.run([*(sys.argv[1:] or ["rt"]), "try", "--cases", str(CASES)], cwd=TOP / "crates" / "wm", stdout=subprocess.PIPE)
     found = answers(done.stdout)
+    if found.get("0-init") != [b"OK"]:
+        print(done.stdout.decode("utf-8", "replace"), "The program could not be tried.")
+        return 1
     for place, (name, now) in enumerate(EXAMPLES, 1):
         print(f"\nexamples/{name}.wm, on {now}")
         if not show((TOP / "examples" / f"{name}.wm").read_bytes(), found.get(f"{place}-{name}", [])):

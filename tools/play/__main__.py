@@ -158,6 +158,7 @@ def play_script(play, lines, catalog, is_told):
 def play_at_terminal(play, catalog):
     """Asks for lines until there are no more."""
     import readline  # noqa: F401  gives `input` its editing and its history
+    print(f"{play.words.store}, on {play.words.now}: one statement on each line, and Ctrl-D at the end", file=sys.stderr)
     while True:
         try:
             line = input("wm>  ")

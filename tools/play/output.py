@@ -1,4 +1,5 @@
 """What a person is shown: lines with their answers, or rows for a spreadsheet, and on standard error how far it is."""
+import os
 import sys
 import time
 
@@ -18,18 +19,23 @@ class Transcript:
 
     def __init__(self, catalog, echoes=True):
         self.catalog, self.echoes = catalog, echoes
+        self.has_colours = sys.stdout.isatty() and "NO_COLOR" not in os.environ
+
+    def marked(self, text, is_wrong):
+        """On a terminal what is refused is told in red."""
+        return f"\x1b[31m{text}\x1b[0m" if is_wrong and self.has_colours else text
 
     def show(self, number, line, answer):
         if self.echoes:
             print(f"{number:>3}  {readable(line)}".rstrip())
         mark = caret(line, answer)
         if mark is not None:
-            print(INDENT + mark)
+            print(INDENT + self.marked(mark, True))
+        texts = [readable(text) for text in answer]
         if answer and answer[-1].startswith(b"ROWS "):
-            rows = [readable(row) for row in answer[:-1]]
-            answer = [*[text.encode() for text in table(names_of(line, self.catalog), rows)], answer[-1]]
-        for text in answer:
-            print(INDENT + readable(text))
+            texts = [*table(names_of(line, self.catalog), texts[:-1]), texts[-1]]
+        for text in texts:
+            print(INDENT + self.marked(text, is_refusal(answer)))
         sys.stdout.flush()
 
 

@@ -197,7 +197,7 @@ class Terminal(Played):
         path.write_text("import sys, time\nfor line in sys.stdin:\n    time.sleep(3)\n    print('OK', flush=True)\n")
         (self.folder / "s.wm").write_bytes(b"CONNECT A ANN\n" * 3)
         done = tool("play", self.store, self.folder / "s.wm", "--program", f"{sys.executable} {path}")
-        self.assertIn("2 of 3 lines, 0 refused, 6 s\n", done.stderr)
+        self.assertRegex(done.stderr, r"2 of 3 lines, 0 refused, \d+ s\n")
 
 
 def plain(said):

@@ -1,3 +1,3 @@
 pub mod Changing
-pub mod Moving
+pub mod MovedRows
 pub mod Standing

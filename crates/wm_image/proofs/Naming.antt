@@ -5,8 +5,7 @@ use Rattle.std.specs.BTreeMap.{BTreeMap}
 use Rattle.std.specs.List.{find, list_any, list_all}
 use Rattle.std.specs.Option.{option_copied, option_or}
 use Rattle.std.specs.Str.{bytes_eq}
-use Rattle.wm_catalog.specs.Catalog.{same_name}
-use Rattle.wm_graph.specs.Parts.{Parts, parts_of, as_table}
+use Rattle.wm_graph.specs.Parts.{Parts, parts_of, as_table, table_of}
 use Rattle.wm_graph.specs.Rules.{keep_rules, differ, is_table}
 use Rattle.wm_spec.specs.declared.record.Record.{Record}
 use Rattle.wm_spec.specs.declared.record.Record.TheVariants as records
@@ -65,6 +64,9 @@ find-placed p t (u ∷ us) alone = by_place (nat_lt u.number t.number) (p t) (p 
 abbrev pub has_name : List ℕ → Table → Bool
 has_name name t = bytes_eq name t.name
 
+abbrev pub same_name : Table → Table → Bool
+same_name t u = bytes_eq t.name u.name
+
 -- no other table has the name
 no_other : (name : List ℕ) (t : Table) (us : List Table) → list_any (same_name t) us ≡ false → name ≡ t.name → find (has_name name) us ≡ None
 no_other name t [] none e = refl
@@ -82,7 +84,7 @@ find-by_number name (t ∷ ts) apart =
 
 -- ---- the rules of tables
 
-pub names_differ : (p : Parts) → keep_rules p ≡ true → differ same_name p.tables ≡ true
+names_differ : (p : Parts) → keep_rules p ≡ true → differ same_name p.tables ≡ true
 names_differ p kept =
     let h = both (nat_le (length p.tables) 256) _ (ruled p kept).tables in
     let g = both (differ (λ (t u : Table). t.number == u.number) p.tables) _ h.1 in
@@ -97,6 +99,10 @@ tables_test _ = refl
 pub tables_told : (kept : BTreeMap ℕ Record) (x : Index) → IsIndexed kept x → kind_at as_table (listed kept.entries) (ids_at x Tables) ≡ (parts_of (listed kept.entries)).tables
 unfolding parts_of
 tables_told kept x is = sought_kind as_table (λ t. true) Tables tables_test kept x is ∙ filter_all (parts_of (listed kept.entries)).tables
+
+pub numbered_told : (kept : BTreeMap ℕ Record) (x : Index) → IsIndexed kept x → (number : ℕ)
+    → find (λ (t : Table). t.number == number) (kind_at as_table (listed kept.entries) (ids_at x Tables)) ≡ table_of (parts_of (listed kept.entries)).tables number
+numbered_told kept x is number = ap (λ ts. table_of ts number) (tables_told kept x is)
 
 pub named_told : (kept : BTreeMap ℕ Record) (x : Index) → IsIndexed kept x → keep_rules (parts_of (listed kept.entries)) ≡ true → (name : List ℕ)
     → find (has_name name) (kind_at as_table (listed kept.entries) (ids_at x Tables)) ≡ find (has_name name) (by_number (parts_of (listed kept.entries)).tables)

@@ -1,22 +1,18 @@
 //! Records under their ids, with the index of them.
 
-ghost use Rattle.std.specs.Prelude.{◌≡◌, ◌<◌, ◌≤◌, ◌+◌, ◌^◌, ◌||◌, ℕ, None, false, is_some, IsSome, IfSome, IfNone, IfOk, OnOk};
+ghost use Rattle.std.specs.Prelude.{◌≡◌, ◌<◌, ◌≤◌, ◌+◌, ◌^◌, ℕ, None, IsSome, IfSome, IfNone, OnOk};
 ghost use Rattle.std.specs.BTreeMap.{IsOrdered};
-ghost use Rattle.std.specs.Option.{option_and_then, option_copied};
+ghost use Rattle.std.specs.Option.{option_copied};
 ghost use Rattle.std.specs.Ordering.{nat_cmp};
-ghost use Rattle.wm_graph.specs.Parts.{as_table, parts_of};
 ghost use Rattle.wm_spec.specs.Records.{record_at};
 ghost use Rattle.wm_state.specs.ById.{applied, set_at};
-ghost use Rattle.wm_image.specs.Indexed.{ids_at, listed, IsCatalog, IsIndexed};
+ghost use Rattle.wm_image.specs.Indexed.{ids_at, listed, IsIndexed};
 ghost use Rattle.wm_image.specs.Sought.{Sought, is_sought, ids_less, ids_more, first_of};
 
 use crate::index::Index;
-use crate::kinds::table_of;
-use crate::tables::catalog_of;
 use std::alloc::Global;
 use std::collections::BTreeMap;
 use wm_base::Memory;
-use wm_catalog::Catalog;
 use wm_spec::record::{Changes, Record};
 
 pub type Kept = BTreeMap<u64, Record>;
@@ -67,88 +63,62 @@ pub fn set(kept: &mut Kept, id: u64, becomes: Option<Record>) -> Result<(), Memo
     Ok(())
 }
 
-/// Drops the id of a record that goes, and tells whether that is a table.
-fn drop_old(alloc: Global, kept: &Kept, index: &mut Index, id: u64) -> Result<bool, Memory>
-    ensures dropped { OnOk result ((q : Sought) → ids_at index.new q ≡ ids_less (is_sought q) id (record_at (listed kept.now.entries) id) (ids_at index.old q)) }
-    ensures table { IfOk result (λ was. was ≡ is_some (option_and_then as_table (record_at (listed kept.now.entries) id))) }
+/// Drops the id of a record that goes.
+fn drop_old(alloc: Global, kept: &Kept, index: &mut Index, id: u64) -> Result<(), Memory>
+    ensures { OnOk result ((q : Sought) → ids_at index.new q ≡ ids_less (is_sought q) id (record_at (listed kept.now.entries) id) (ids_at index.old q)) }
 {
-    let found = at(kept, id);
-    if let Some(old) = found {
+    if let Some(old) = at(kept, id) {
         index.drop_record(alloc, id, old)?;
     }
-    Ok(table_of(found).is_some())
+    Ok(())
 }
 
-/// Adds the id of a record that comes, and tells whether that is a table.
+/// Adds the id of a record that comes.
 fn add_new(
     alloc: Global,
     index: &mut Index,
     id: u64,
     becomes: &Option<Record>,
-) -> Result<bool, Memory>
-    ensures added { OnOk result ((q : Sought) → ids_at index.new q ≡ ids_more (is_sought q) id becomes.now (ids_at index.old q)) }
-    ensures table { IfOk result (λ is. is ≡ is_some (option_and_then as_table becomes.now)) }
+) -> Result<(), Memory>
+    ensures { OnOk result ((q : Sought) → ids_at index.new q ≡ ids_more (is_sought q) id becomes.now (ids_at index.old q)) }
 {
     if let Some(new) = becomes {
         index.add_record(alloc, id, new)?;
     }
-    Ok(table_of(becomes.as_ref()).is_some())
+    Ok(())
 }
 
-/// Changes what stands under an id, and the index with it, and tells whether a table was or is there.
+/// Changes what stands under an id, and the index with it.
 pub fn change(
     alloc: Global,
     kept: &mut Kept,
     index: &mut Index,
     id: u64,
     becomes: Option<Record>,
-) -> Result<bool, Memory>
+) -> Result<(), Memory>
     requires { IsIndexed kept.old index.old }
     ensures listed { OnOk result (listed kept.new.entries ≡ set_at id becomes (listed kept.old.entries)) }
     ensures indexed { OnOk result (IsIndexed kept.new index.new) }
-    ensures tables { IfOk result (λ touched. touched ≡ false → (parts_of (listed kept.new.entries)).tables ≡ (parts_of (listed kept.old.entries)).tables) }
 {
-    let was = drop_old(alloc, kept, index, id)?;
-    let is = add_new(alloc, index, id, &becomes)?;
+    drop_old(alloc, kept, index, id)?;
+    add_new(alloc, index, id, &becomes)?;
     set(kept, id, becomes)?;
-    Ok(was || is)
+    Ok(())
 }
 
-/// Makes the changes of a batch, one after another, and tells whether a table was or is under one of their ids.
-fn change_all(
+/// Makes the changes of a batch, one after another.
+pub fn change_all(
     alloc: Global,
     kept: &mut Kept,
     index: &mut Index,
     changes: Changes,
-) -> Result<bool, Memory>
+) -> Result<(), Memory>
     requires { IsIndexed kept.old index.old }
     ensures listed { OnOk result (listed kept.new.entries ≡ applied changes (listed kept.old.entries)) }
     ensures indexed { OnOk result (IsIndexed kept.new index.new) }
-    ensures tables { IfOk result (λ touched. touched ≡ false → (parts_of (listed kept.new.entries)).tables ≡ (parts_of (listed kept.old.entries)).tables) }
 {
-    let mut touched = false;
     for one in changes.into_vec() {
-        touched = change(alloc, kept, index, one.id, one.becomes)? || touched;
-    }
-    Ok(touched)
-}
-
-/// Makes the changes of a batch, one after another, and then the catalog anew where a table was or is under one of their ids.
-pub fn apply_all(
-    alloc: Global,
-    kept: &mut Kept,
-    index: &mut Index,
-    catalog: &mut Catalog,
-    changes: Changes,
-) -> Result<(), Memory>
-    requires indexed { IsIndexed kept.old index.old }
-    requires tables { IsCatalog (listed kept.old.entries) catalog.old }
-    ensures listed { OnOk result (listed kept.new.entries ≡ applied changes (listed kept.old.entries)) }
-    ensures indexed { OnOk result (IsIndexed kept.new index.new) }
-    ensures tables { OnOk result (IsCatalog (listed kept.new.entries) catalog.new) }
-{
-    if change_all(alloc, kept, index, changes)? {
-        *catalog = catalog_of(alloc, kept, index)?;
+        change(alloc, kept, index, one.id, one.becomes)?;
     }
     Ok(())
 }
