@@ -1,3 +1,3 @@
 pub mod Changing
-pub mod MovedRows
+pub mod Moving
 pub mod Standing

@@ -1,4 +1,4 @@
 pub mod Gone
 pub mod Redraw
 pub mod Points
-pub mod DraftLaws
+pub mod Drafting

@@ -5,7 +5,7 @@ pub mod KeepBorn
 pub mod PlannedBorn
 pub mod Births
 pub mod PlannedBirth
-pub mod SavepointPlans
+pub mod Saving
 pub mod KeepSaved
 pub mod PlannedSaved
 pub mod Points

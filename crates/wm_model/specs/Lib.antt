@@ -1,7 +1,7 @@
 pub mod Lines
 pub mod Step
 pub mod Planning
-pub mod SavepointPlans
+pub mod Saving
 pub mod Running
 pub mod Sources
 pub mod Changes
