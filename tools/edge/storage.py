@@ -71,7 +71,7 @@ def limited(kind, room):
         def limit():
             resource.setrlimit(resource.RLIMIT_FSIZE, (size, size))
 
-        # Python passes on that it leaves the signal out, unless it is told to restore it.
+        # Python ignores the signal, and so does what it starts, unless it restores it.
         more = {"preexec_fn": limit, "restore_signals": takes_signal}
         status, said, _ = room.play(path, RUN, script, **more)
         kind.expect(f"a run that is {name}", status, wanted)

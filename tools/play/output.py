@@ -15,10 +15,10 @@ def names_of(line, catalog):
 
 
 class Transcript:
-    """Each line with its number, and its answer below it."""
+    """Each line with its number, and its answer below it. What is added to an answer is marked by a star."""
 
-    def __init__(self, catalog, echoes=True):
-        self.catalog, self.echoes = catalog, echoes
+    def __init__(self, catalog, echoes=True, hints=None):
+        self.catalog, self.echoes, self.hints = catalog, echoes, hints
         self.has_colours = sys.stdout.isatty() and "NO_COLOR" not in os.environ
 
     def marked(self, text, is_wrong):
@@ -36,6 +36,9 @@ class Transcript:
             texts = [*table(names_of(line, self.catalog), texts[:-1]), texts[-1]]
         for text in texts:
             print(INDENT + self.marked(text, is_refusal(answer)))
+        hint = self.hints.hint(line, answer) if self.hints else None
+        if hint is not None:
+            print(f"{INDENT}* {hint}")
         sys.stdout.flush()
 
 

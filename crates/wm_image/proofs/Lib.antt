@@ -8,6 +8,7 @@ pub mod Finding
 pub mod Newest
 pub mod Walking
 pub mod Naming
+pub mod Cataloguing
 pub mod Using
 pub mod Tabled
 pub mod Leaves

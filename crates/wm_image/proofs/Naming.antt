@@ -3,9 +3,10 @@ use Rattle.std.proofs.Common.{◌≡◌, ℕ, Bool, true, false, cond, not, ◌=
 use Rattle.std.proofs.lemmas.Slice.Eq.{bytes_eq-Decides}
 use Rattle.std.specs.BTreeMap.{BTreeMap}
 use Rattle.std.specs.List.{find, list_any, list_all}
-use Rattle.std.specs.Option.{option_copied, option_or}
+use Rattle.std.specs.Option.{option_copied}
 use Rattle.std.specs.Str.{bytes_eq}
-use Rattle.wm_graph.specs.Parts.{Parts, parts_of, as_table, table_of}
+use Rattle.wm_catalog.specs.Catalog.{same_name}
+use Rattle.wm_graph.specs.Parts.{Parts, parts_of, as_table}
 use Rattle.wm_graph.specs.Rules.{keep_rules, differ, is_table}
 use Rattle.wm_spec.specs.declared.record.Record.{Record}
 use Rattle.wm_spec.specs.declared.record.Record.TheVariants as records
@@ -21,14 +22,6 @@ use Rattle.wm_image.specs.Sought.{Tables, is_sought}
 use Rattle.wm_image.specs.declared.index.Index.{Index}
 
 -- ---- loops over ids
-
-or_some : (x y : Option Table) → is_some x ≡ true → option_or x y ≡ x
-or_some None y e = cc
-or_some (Some h) y e = refl
-
-or_none : (x y : Option Table) → is_some x ≡ false → option_or x y ≡ y
-or_none None y e = refl
-or_none (Some h) y e = cc
 
 pub some_table : (o : Option (Bor Table)) (b : Bool) → b ≡ is_some o → is_some (option_copied o) ≡ b
 some_table None b e = sym e
@@ -64,9 +57,6 @@ find-placed p t (u ∷ us) alone = by_place (nat_lt u.number t.number) (p t) (p 
 abbrev pub has_name : List ℕ → Table → Bool
 has_name name t = bytes_eq name t.name
 
-abbrev pub same_name : Table → Table → Bool
-same_name t u = bytes_eq t.name u.name
-
 -- no other table has the name
 no_other : (name : List ℕ) (t : Table) (us : List Table) → list_any (same_name t) us ≡ false → name ≡ t.name → find (has_name name) us ≡ None
 no_other name t [] none e = refl
@@ -84,7 +74,7 @@ find-by_number name (t ∷ ts) apart =
 
 -- ---- the rules of tables
 
-names_differ : (p : Parts) → keep_rules p ≡ true → differ same_name p.tables ≡ true
+pub names_differ : (p : Parts) → keep_rules p ≡ true → differ same_name p.tables ≡ true
 names_differ p kept =
     let h = both (nat_le (length p.tables) 256) _ (ruled p kept).tables in
     let g = both (differ (λ (t u : Table). t.number == u.number) p.tables) _ h.1 in
@@ -99,10 +89,6 @@ tables_test _ = refl
 pub tables_told : (kept : BTreeMap ℕ Record) (x : Index) → IsIndexed kept x → kind_at as_table (listed kept.entries) (ids_at x Tables) ≡ (parts_of (listed kept.entries)).tables
 unfolding parts_of
 tables_told kept x is = sought_kind as_table (λ t. true) Tables tables_test kept x is ∙ filter_all (parts_of (listed kept.entries)).tables
-
-pub numbered_told : (kept : BTreeMap ℕ Record) (x : Index) → IsIndexed kept x → (number : ℕ)
-    → find (λ (t : Table). t.number == number) (kind_at as_table (listed kept.entries) (ids_at x Tables)) ≡ table_of (parts_of (listed kept.entries)).tables number
-numbered_told kept x is number = ap (λ ts. table_of ts number) (tables_told kept x is)
 
 pub named_told : (kept : BTreeMap ℕ Record) (x : Index) → IsIndexed kept x → keep_rules (parts_of (listed kept.entries)) ≡ true → (name : List ℕ)
     → find (has_name name) (kind_at as_table (listed kept.entries) (ids_at x Tables)) ≡ find (has_name name) (by_number (parts_of (listed kept.entries)).tables)

@@ -1,9 +1,14 @@
--- An index of records: the ids of whatever may be sought.
-use Rattle.std.specs.Prelude.{ℕ, ◌≡◌, if◌then◌else◌, List, map}
+-- An index of records: the ids of whatever may be sought; and the catalog of the tables.
+use Rattle.std.specs.Prelude.{ℕ, ◌≡◌, true, if◌then◌else◌, List, map}
 use Rattle.std.specs.BTreeMap.{BTreeMap, IsOrdered}
 use Rattle.std.specs.Ordering.{nat_cmp}
+use Rattle.wm_catalog.specs.Catalog.{same_name}
+use Rattle.wm_graph.specs.Parts.{parts_of}
+use Rattle.wm_graph.specs.Rules.{differ}
 use Rattle.wm_spec.specs.declared.record.Record.{Record}
 use Rattle.wm_spec.specs.declared.record.stored.Stored.{Stored}
+use Rattle.wm_spec.specs.declared.record.table.Table.{Table}
+use Rattle.wm_state.specs.Standing.{by_number}
 use Rattle.wm_image.specs.Sought.{Sought, TheCounters, Tables, Spaces, SpaceAt, VersionAt, VersionsOf, VersionsUnder, SavepointsOf, SavepointAt, KeptAs, KeptUnder, BornAs, SeenUnder, RowAt, PiecesAt, is_sought, ids_with, placed, without, ids_in, piece_ids}
 use Rattle.wm_image.specs.declared.index.Index.{Index}
 
@@ -41,3 +46,7 @@ listed entries = map (λ (e : ℕ × Record). let s : Stored = record { id = e.0
 pub record IsIndexed (kept : BTreeMap ℕ Record) (x : Index) : Type 0 where
   pub ordered : IsOrdered nat_cmp kept
   pub told : (q : Sought) → ids_at x q ≡ ids_with (is_sought q) (listed kept.entries)
+
+-- the catalog has the tables by number, where their names differ
+abbrev pub IsCatalog : List Stored → List Table → Type 0
+IsCatalog ss catalog = differ same_name (parts_of ss).tables ≡ true → catalog ≡ by_number (parts_of ss).tables

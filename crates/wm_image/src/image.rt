@@ -1,3 +1,4 @@
+//! All records of a store, found by what they are.
 ghost use Rattle.std.specs.Prelude.{◌≡◌, ◌<◌, ◌≤◌, ◌+◌, ◌^◌, ◌==◌, ◌||◌, nat_lt, ℕ, not, length, List, map, [], ◌∷◌, true, false, None, is_some, IsSome, IfSome, IfNone, IfOk, IfErr, OnOk, OnErr};
 ghost use Rattle.std.specs.List.{count_by, find, list_all, list_any};
 ghost use Rattle.std.specs.List.Sorted.{IsStrictlySortedBy};
@@ -11,7 +12,7 @@ ghost use Rattle.wm_spec.specs.declared.record.table.Table.{Table as OneTable};
 ghost use Rattle.wm_spec.specs.declared.record.version.Version.{Version as OneVersion};
 ghost use Rattle.wm_base.specs.declared.instant.TheConstants.{END};
 ghost use Rattle.wm_period.specs.Pieces.{held_at};
-ghost use Rattle.wm_graph.specs.Parts.{as_counters, as_space, as_table, parts_of, row_of, space_of, table_of, version_of};
+ghost use Rattle.wm_graph.specs.Parts.{as_counters, as_space, as_table, parts_of, row_of, space_of, version_of};
 ghost use Rattle.wm_graph.specs.Rules.{keep_rules};
 ghost use Rattle.wm_spec.specs.Records.{AreRecords, record_at};
 ghost use Rattle.wm_image.specs.Sought.{PiecesAt, ids_with, is_sought};
@@ -33,38 +34,40 @@ use crate::laying::lay_path;
 use crate::listing::{Asked, list_key, list_rows};
 use crate::load::{ImageFault, put_all, sorted};
 use crate::overlap::{find_shared, find_spans};
-use crate::records::{Kept, at, change_all, first, next_id};
+use crate::records::{Kept, apply_all, at, first, next_id};
 use crate::savepoints::{making_after, savepoint_in, savepoint_of_name};
 use crate::shown::{latest_of, version_at};
 use crate::spaces::{number_after, space_of_name};
-use crate::tables::{after_last, first_named, first_numbered, id_named};
+use crate::tables::{after_last, catalog_of, id_named};
 use std::alloc::Global;
 use std::collections::BTreeMap;
 use std::marker::Model;
 use wm_base::{Key, Memory, Period, RowList};
+use wm_catalog::Catalog;
 use wm_graph::keeps_rules;
 use wm_period::Pieces;
 use wm_spec::record::{
     Batch, Counters, Record, Records, RowRecord, Savepoint, Space, Table, Version,
 };
 
-/// All records of a store, in the order of their ids, with an index of them.
+/// All records of a store, in the order of their ids, with an index of them and a catalog of the tables.
 #[derive(Drop)]
 pub struct Image {
     kept: Kept,
     index: Index,
+    catalog: Catalog,
 }
 
 impl Model for Image {
     ghost use Rattle.std.specs.Prelude.{List};
-    ghost use Rattle.wm_image.specs.Indexed.{listed, IsIndexed};
+    ghost use Rattle.wm_image.specs.Indexed.{listed, IsCatalog, IsIndexed};
     ghost use Rattle.wm_spec.specs.declared.record.stored.Stored.{Stored};
 
     ghost Value = { List Stored };
 
     ghost view = { λ i. listed i.kept.entries };
 
-    ghost invariant = { λ i. IsIndexed i.kept i.index };
+    ghost invariant = { λ i. IsIndexed i.kept i.index × IsCatalog (listed i.kept.entries) i.catalog };
 }
 
 impl Image {
@@ -75,6 +78,7 @@ impl Image {
         Image {
             kept: BTreeMap::new(alloc),
             index: Index::new(alloc),
+            catalog: Catalog::new(alloc),
         }
     }
 
@@ -102,7 +106,12 @@ impl Image {
         let mut kept = BTreeMap::new(alloc);
         let mut index = Index::new(alloc);
         put_all(alloc, &mut kept, &mut index, records)?;
-        Ok(Image { kept, index })
+        let catalog = catalog_of(alloc, &kept, &index)?;
+        Ok(Image {
+            kept,
+            index,
+            catalog,
+        })
     }
 
     /// The counters of the store.
@@ -133,14 +142,7 @@ impl Image {
         requires { keep_rules (parts_of self.now) ≡ true }
         ensures { option_copied result ≡ find (λ (t : OneTable). bytes_eq name.now t.name) (by_number (parts_of self.now).tables) }
     {
-        first_named(&self.kept, self.index.tables.as_slice(), name)
-    }
-
-    /// The table of a number.
-    pub fn table_numbered(&self, number: u16) -> Option<&Table>
-        ensures { option_copied result ≡ table_of (parts_of self.now).tables number }
-    {
-        first_numbered(&self.kept, self.index.tables.as_slice(), number)
+        self.catalog.find(name)
     }
 
     /// The id after the greatest of a record, 1 where there is none, or None where the greatest id that there is has a record.
@@ -406,10 +408,17 @@ impl Image {
         ensures ok { OnOk result (self.new ≡ applied batch.changes self.old) }
         ensures err { OnErr result (self.new ≡ []) }
     {
-        let made = change_all(alloc, &mut self.kept, &mut self.index, batch.changes);
+        let made = apply_all(
+            alloc,
+            &mut self.kept,
+            &mut self.index,
+            &mut self.catalog,
+            batch.changes,
+        );
         if made.is_err() {
             self.kept = BTreeMap::new(alloc);
             self.index = Index::new(alloc);
+            self.catalog = Catalog::new(alloc);
         }
         made
     }

@@ -1,18 +1,22 @@
 //! Records under their ids, with the index of them.
 
-ghost use Rattle.std.specs.Prelude.{◌≡◌, ◌<◌, ◌≤◌, ◌+◌, ◌^◌, ℕ, None, IsSome, IfSome, IfNone, OnOk};
+ghost use Rattle.std.specs.Prelude.{◌≡◌, ◌<◌, ◌≤◌, ◌+◌, ◌^◌, ◌||◌, ℕ, None, false, is_some, IsSome, IfSome, IfNone, IfOk, OnOk};
 ghost use Rattle.std.specs.BTreeMap.{IsOrdered};
-ghost use Rattle.std.specs.Option.{option_copied};
+ghost use Rattle.std.specs.Option.{option_and_then, option_copied};
 ghost use Rattle.std.specs.Ordering.{nat_cmp};
+ghost use Rattle.wm_graph.specs.Parts.{as_table, parts_of};
 ghost use Rattle.wm_spec.specs.Records.{record_at};
 ghost use Rattle.wm_state.specs.ById.{applied, set_at};
-ghost use Rattle.wm_image.specs.Indexed.{ids_at, listed, IsIndexed};
+ghost use Rattle.wm_image.specs.Indexed.{ids_at, listed, IsCatalog, IsIndexed};
 ghost use Rattle.wm_image.specs.Sought.{Sought, is_sought, ids_less, ids_more, first_of};
 
 use crate::index::Index;
+use crate::kinds::table_of;
+use crate::tables::catalog_of;
 use std::alloc::Global;
 use std::collections::BTreeMap;
 use wm_base::Memory;
+use wm_catalog::Catalog;
 use wm_spec::record::{Changes, Record};
 
 pub type Kept = BTreeMap<u64, Record>;
@@ -63,62 +67,97 @@ pub fn set(kept: &mut Kept, id: u64, becomes: Option<Record>) -> Result<(), Memo
     Ok(())
 }
 
-/// Drops the id of a record that goes.
-fn drop_old(alloc: Global, kept: &Kept, index: &mut Index, id: u64) -> Result<(), Memory>
-    ensures { OnOk result ((q : Sought) → ids_at index.new q ≡ ids_less (is_sought q) id (record_at (listed kept.now.entries) id) (ids_at index.old q)) }
+/// Drops the id of a record that goes, and tells whether that is a table.
+fn drop_old(alloc: Global, kept: &Kept, index: &mut Index, id: u64) -> Result<bool, Memory>
+    ensures dropped { OnOk result ((q : Sought) → ids_at index.new q ≡ ids_less (is_sought q) id (record_at (listed kept.now.entries) id) (ids_at index.old q)) }
+    ensures table { IfOk result (λ was. was ≡ is_some (option_and_then as_table (record_at (listed kept.now.entries) id))) }
 {
-    if let Some(old) = at(kept, id) {
+    let found = at(kept, id);
+    if let Some(old) = found {
         index.drop_record(alloc, id, old)?;
     }
-    Ok(())
+    Ok(table_of(found).is_some())
 }
 
-/// Adds the id of a record that comes.
+/// Adds the id of a record that comes, and tells whether that is a table.
 fn add_new(
     alloc: Global,
     index: &mut Index,
     id: u64,
     becomes: &Option<Record>,
-) -> Result<(), Memory>
-    ensures { OnOk result ((q : Sought) → ids_at index.new q ≡ ids_more (is_sought q) id becomes.now (ids_at index.old q)) }
+) -> Result<bool, Memory>
+    ensures added { OnOk result ((q : Sought) → ids_at index.new q ≡ ids_more (is_sought q) id becomes.now (ids_at index.old q)) }
+    ensures table { IfOk result (λ is. is ≡ is_some (option_and_then as_table becomes.now)) }
 {
     if let Some(new) = becomes {
         index.add_record(alloc, id, new)?;
     }
-    Ok(())
+    Ok(table_of(becomes.as_ref()).is_some())
 }
 
-/// Changes what stands under an id, and the index with it.
+/// Whether one is true or the other.
+fn is_either(one: bool, other: bool) -> bool
+    ensures { result ≡ (one || other) }
+{
+    one || other
+}
+
+/// Changes what stands under an id, and the index with it, and tells whether a table was or is there.
 pub fn change(
     alloc: Global,
     kept: &mut Kept,
     index: &mut Index,
     id: u64,
     becomes: Option<Record>,
-) -> Result<(), Memory>
+) -> Result<bool, Memory>
     requires { IsIndexed kept.old index.old }
     ensures listed { OnOk result (listed kept.new.entries ≡ set_at id becomes (listed kept.old.entries)) }
     ensures indexed { OnOk result (IsIndexed kept.new index.new) }
+    ensures tables { IfOk result (λ touched. touched ≡ false → (parts_of (listed kept.new.entries)).tables ≡ (parts_of (listed kept.old.entries)).tables) }
 {
-    drop_old(alloc, kept, index, id)?;
-    add_new(alloc, index, id, &becomes)?;
+    let stood = drop_old(alloc, kept, index, id)?;
+    let stands = add_new(alloc, index, id, &becomes)?;
     set(kept, id, becomes)?;
-    Ok(())
+    Ok(is_either(stood, stands))
 }
 
-/// Makes the changes of a batch, one after another.
-pub fn change_all(
+/// Makes the changes of a batch, one after another, and tells whether a table was or is under one of their ids.
+fn change_all(
     alloc: Global,
     kept: &mut Kept,
     index: &mut Index,
     changes: Changes,
-) -> Result<(), Memory>
+) -> Result<bool, Memory>
     requires { IsIndexed kept.old index.old }
     ensures listed { OnOk result (listed kept.new.entries ≡ applied changes (listed kept.old.entries)) }
     ensures indexed { OnOk result (IsIndexed kept.new index.new) }
+    ensures tables { IfOk result (λ touched. touched ≡ false → (parts_of (listed kept.new.entries)).tables ≡ (parts_of (listed kept.old.entries)).tables) }
 {
+    let mut touched = false;
     for one in changes.into_vec() {
-        change(alloc, kept, index, one.id, one.becomes)?;
+        let changed = change(alloc, kept, index, one.id, one.becomes)?;
+        touched = is_either(changed, touched);
+    }
+    Ok(touched)
+}
+
+/// Makes the changes of a batch, one after another, and then the catalog anew where a table was or is under one of their ids.
+pub fn apply_all(
+    alloc: Global,
+    kept: &mut Kept,
+    index: &mut Index,
+    catalog: &mut Catalog,
+    changes: Changes,
+) -> Result<(), Memory>
+    requires indexed { IsIndexed kept.old index.old }
+    requires tables { IsCatalog (listed kept.old.entries) catalog.old }
+    ensures listed { OnOk result (listed kept.new.entries ≡ applied changes (listed kept.old.entries)) }
+    ensures indexed { OnOk result (IsIndexed kept.new index.new) }
+    ensures tables { OnOk result (IsCatalog (listed kept.new.entries) catalog.new) }
+{
+    let touched = change_all(alloc, kept, index, changes)?;
+    if touched {
+        *catalog = catalog_of(alloc, kept, index)?;
     }
     Ok(())
 }

@@ -1,4 +1,5 @@
 use Rattle.std.proofs.Common.{sym, ap, ◌∙◌}
+use Rattle.wm_image.proofs.Cataloguing.{tables_kept}
 use Rattle.wm_image.proofs.Listed.{Ascend-listed}
 use Rattle.wm_image.proofs.Lists.{ids_with-set}
 use Rattle.wm_image.specs.Indexed.{listed}
@@ -10,10 +11,14 @@ pub returns-clause-indexed : goal.returns-clause-indexed
 returns-clause-indexed c = record {
   ordered = c.in_ok-set.ensures.ordered;
   told = λ q.
-      c.in_ok-add_new.ensures q
+      c.in_ok-stands.ensures.added q
       ∙ ap (ids_more (is_sought q) c.args.id c.args.becomes)
-      (c.in_ok-drop_old.ensures q
+      (c.in_ok-stood.ensures.dropped q
       ∙ ap (ids_less (is_sought q) c.args.id (record_at (listed c.args.kept.now.entries) c.args.id)) (c.requires.told q))
       ∙ sym (ids_with-set (is_sought q) c.args.id c.args.becomes (listed c.args.kept.now.entries) (Ascend-listed c.args.kept.now.entries c.requires.ordered))
       ∙ ap (ids_with (is_sought q)) (sym c.in_ok-set.ensures.listed);
 }
+
+pub returns-clause-tables : goal.returns-clause-tables
+returns-clause-tables c = λ neither.
+    tables_kept (listed c.args.kept.now.entries) (listed c.set.new.kept.entries) c.args.id c.args.becomes c.in_ok-stood.stood c.in_ok-stands.stands c.in_ok-set.ensures.listed c.in_ok-stood.ensures.table c.in_ok-stands.ensures.table (sym c.is_either.ensures ∙ neither)

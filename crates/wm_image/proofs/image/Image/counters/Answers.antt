@@ -9,11 +9,11 @@ use Rattle.wm_image.proofs.image.Image.counters.Goals as goal
 pub unwrap-requires : goal.unwrap-requires
 unwrap-requires c =
     (one_counters (parts_of c.args.self.now) c.counters_of-found.result c.requires
-    (counters_told c.self.inside.kept c.self.inside.index c.self.invariant c.args.self.now c.self.view_is (option_copied c.first.result) c.counters_of-found.result
+    (counters_told c.self.inside.kept c.self.inside.index c.self.invariant.0 c.args.self.now c.self.view_is (option_copied c.first.result) c.counters_of-found.result
     (c.first.ensures ∙ ap (first_of (listed c.self.inside.kept.entries)) c.as_slice.ensures.value) c.counters_of-found.ensures)).0
 
 pub returns : goal.returns
 returns c =
     (one_counters (parts_of c.args.self.now) c.counters_of-found.result c.requires
-    (counters_told c.self.inside.kept c.self.inside.index c.self.invariant c.args.self.now c.self.view_is (option_copied c.first.result) c.counters_of-found.result
+    (counters_told c.self.inside.kept c.self.inside.index c.self.invariant.0 c.args.self.now c.self.view_is (option_copied c.first.result) c.counters_of-found.result
     (c.first.ensures ∙ ap (first_of (listed c.self.inside.kept.entries)) c.as_slice.ensures.value) c.counters_of-found.ensures)).1 c.unwrap.result c.unwrap.ensures

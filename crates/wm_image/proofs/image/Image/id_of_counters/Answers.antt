@@ -7,13 +7,13 @@ use Rattle.wm_image.proofs.image.Image.id_of_counters.Goals as goal
 
 pub unwrap-requires : goal.unwrap-requires
 unwrap-requires c =
-    (one_id c.self.inside.kept c.self.inside.index c.self.invariant c.args.self.now c.self.view_is c.requires c.first_id-found.result
+    (one_id c.self.inside.kept c.self.inside.index c.self.invariant.0 c.args.self.now c.self.view_is c.requires c.first_id-found.result
     (c.first_id-found.ensures ∙ ap head_of c.as_slice.ensures.value)).0
 
 pub returns-clause-there : goal.returns-clause-there
 returns-clause-there c =
-    (one_id c.self.inside.kept c.self.inside.index c.self.invariant c.args.self.now c.self.view_is c.requires c.first_id-found.result
+    (one_id c.self.inside.kept c.self.inside.index c.self.invariant.0 c.args.self.now c.self.view_is c.requires c.first_id-found.result
     (c.first_id-found.ensures ∙ ap head_of c.as_slice.ensures.value)).1 c.unwrap.result c.unwrap.ensures
 
 pub returns-clause-ascend : goal.returns-clause-ascend
-returns-clause-ascend c = subst Ascend c.self.view_is (Ascend-listed c.self.inside.kept.entries c.self.invariant.ordered)
+returns-clause-ascend c = subst Ascend c.self.view_is (Ascend-listed c.self.inside.kept.entries c.self.invariant.0.ordered)

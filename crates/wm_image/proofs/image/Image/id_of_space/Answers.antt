@@ -12,11 +12,11 @@ pub returns-clause-there : goal.returns-clause-there
 returns-clause-there c =
     ap (λ (ss : List Stored). option_and_then as_space (option_and_then (record_at ss) c.first_id.result)) (sym c.self.view_is)
     ∙ ap (λ (o : Option ℕ). option_and_then as_space (option_and_then (record_at (listed c.self.inside.kept.entries)) o)) (c.first_id.ensures ∙ ap head_of c.ids_of.ensures)
-    ∙ (space_id c.self.inside.kept c.self.inside.index c.self.invariant c.args.number).0
+    ∙ (space_id c.self.inside.kept c.self.inside.index c.self.invariant.0 c.args.number).0
     ∙ ap (λ (ss : List Stored). space_of (parts_of ss).spaces c.args.number) c.self.view_is
 
 pub returns-clause-found : goal.returns-clause-found
 returns-clause-found c =
     ap is_some (c.first_id.ensures ∙ ap head_of c.ids_of.ensures)
-    ∙ (space_id c.self.inside.kept c.self.inside.index c.self.invariant c.args.number).1
+    ∙ (space_id c.self.inside.kept c.self.inside.index c.self.invariant.0 c.args.number).1
     ∙ ap (λ (ss : List Stored). is_some (space_of (parts_of ss).spaces c.args.number)) c.self.view_is

@@ -18,7 +18,7 @@ told : (c : goal.After-id_named)
 told c =
     let rules : keep_rules (parts_of (listed c.self.inside.kept.entries)) ≡ true = ap (λ (ss : List Stored). keep_rules (parts_of ss)) c.self.view_is ∙ c.requires in
     ap (λ (ids : List ℕ). find (has_name c.args.name.now) (kind_at as_table (listed c.self.inside.kept.entries) ids)) c.as_slice.ensures.value
-    ∙ named_told c.self.inside.kept c.self.inside.index c.self.invariant rules c.args.name.now
+    ∙ named_told c.self.inside.kept c.self.inside.index c.self.invariant.0 rules c.args.name.now
     ∙ ap (λ (ss : List Stored). find (has_name c.args.name.now) (by_number (parts_of ss).tables)) c.self.view_is
 
 pub returns-clause-there : goal.returns-clause-there

@@ -8,7 +8,7 @@ use Rattle.wm_image.proofs.image.Image.is_free.Goals as goal
 told : (c : goal.After-are_empty) → c.are_empty.result ≡ is_unnamed (parts_of c.args.self.now) c.args.version
 told c =
     c.are_empty.ensures
-    ∙ free_by c.self.inside.kept c.self.inside.index c.self.invariant c.args.version c.ids_of.result.now c.ids_of-2.result.now c.ids_of-3.result.now c.ids_of-4.result.now c.ids_of.ensures c.ids_of-2.ensures c.ids_of-3.ensures c.ids_of-4.ensures
+    ∙ free_by c.self.inside.kept c.self.inside.index c.self.invariant.0 c.args.version c.ids_of.result.now c.ids_of-2.result.now c.ids_of-3.result.now c.ids_of-4.result.now c.ids_of.ensures c.ids_of-2.ensures c.ids_of-3.ensures c.ids_of-4.ensures
     ∙ ap (λ (ss : List Stored). is_unnamed (parts_of ss) c.args.version) c.self.view_is
 
 pub returns-clause-exact : goal.returns-clause-exact

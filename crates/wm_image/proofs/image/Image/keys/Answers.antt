@@ -13,7 +13,7 @@ use Rattle.wm_image.proofs.image.Image.keys.Goals as goal
 pub returns-clause-each : goal.returns-clause-each
 returns-clause-each c = λ k.
     ap (λ (ks : List (List Value)). list_any (λ q. is_eq (key_order k q)) ks) c.in_ok-keys.ensures.keys
-    ∙ keys_told c.self.inside.kept c.self.inside.index c.self.invariant c.args.table (keyed_at c.self.inside.index.pieces.entries c.args.table) refl c.in_ok-keys.ensures.ordered k
+    ∙ keys_told c.self.inside.kept c.self.inside.index c.self.invariant.0 c.args.table (keyed_at c.self.inside.index.pieces.entries c.args.table) refl c.in_ok-keys.ensures.ordered k
     ∙ ap (λ (ss : List Stored). list_any (is_sought (PiecesAt c.args.table k)) (all_of ss)) c.self.view_is
 
 pub returns-clause-ascending : goal.returns-clause-ascending

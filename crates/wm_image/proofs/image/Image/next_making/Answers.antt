@@ -10,12 +10,12 @@ use Rattle.wm_image.proofs.image.Image.next_making.Goals as goal
 pub making_after-requires : goal.making_after-requires
 making_after-requires c =
     next_fits (parts_of c.args.self.now) c.requires (option_copied c.last_key.result)
-    (last_made c.self.inside.kept c.self.inside.index c.self.invariant c.args.self.now c.self.view_is (option_copied c.last_key.result) c.last_key.ensures.ordered c.last_key.ensures.last)
+    (last_made c.self.inside.kept c.self.inside.index c.self.invariant.0 c.args.self.now c.self.view_is (option_copied c.last_key.result) c.last_key.ensures.ordered c.last_key.ensures.last)
 
 -- the last making is that of a savepoint
 last : (c : goal.After-making_after) → LastOf (is_made (parts_of c.args.self.now)) (option_copied c.last_key.result)
 last c =
-    last_made c.self.inside.kept c.self.inside.index c.self.invariant c.args.self.now c.self.view_is (option_copied c.last_key.result) c.last_key.ensures.ordered c.last_key.ensures.last
+    last_made c.self.inside.kept c.self.inside.index c.self.invariant.0 c.args.self.now c.self.view_is (option_copied c.last_key.result) c.last_key.ensures.ordered c.last_key.ensures.last
 
 pub returns-clause-above : goal.returns-clause-above
 returns-clause-above c =

@@ -12,7 +12,7 @@ use Rattle.wm_image.proofs.image.Image.next_space.Goals as goal
 -- the last number is that of a workspace
 last : (c : goal.After-number_after) → LastOf (is_numbered (parts_of c.args.self.now)) (option_copied c.last_key.result)
 last c =
-    last_numbered c.self.inside.kept c.self.inside.index c.self.invariant c.args.self.now c.self.view_is (option_copied c.last_key.result) c.last_key.ensures.ordered c.last_key.ensures.last
+    last_numbered c.self.inside.kept c.self.inside.index c.self.invariant.0 c.args.self.now c.self.view_is (option_copied c.last_key.result) c.last_key.ensures.ordered c.last_key.ensures.last
 
 -- all numbers are below it
 above : (c : goal.After-number_after) → list_all (λ (r : Space). nat_lt r.number c.number_after.result) (parts_of c.args.self.now).spaces ≡ true

@@ -12,5 +12,5 @@ pub returns : goal.returns
 returns c =
     c.after_last.ensures
     ∙ ap (λ (ids : List ℕ). next_table (kind_at as_table (listed c.self.inside.kept.entries) ids)) c.as_slice.ensures.value
-    ∙ next_told c.self.inside.kept c.self.inside.index c.self.invariant
+    ∙ next_told c.self.inside.kept c.self.inside.index c.self.invariant.0
     ∙ ap (λ (ss : List Stored). next_table (by_number (parts_of ss).tables)) c.self.view_is

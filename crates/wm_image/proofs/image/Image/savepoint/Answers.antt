@@ -13,5 +13,5 @@ pub returns : goal.returns
 returns c =
     c.savepoint_in.ensures
     ∙ ap (λ (ids : List ℕ). find (λ (x : Savepoint). x.space == c.args.space) (kind_at as_savepoint (listed c.self.inside.kept.entries) ids)) c.ids_of.ensures
-    ∙ saved_told c.self.inside.kept c.self.inside.index c.self.invariant c.args.space c.args.making
+    ∙ saved_told c.self.inside.kept c.self.inside.index c.self.invariant.0 c.args.space c.args.making
     ∙ ap (λ (ss : List Stored). saved_as (parts_of ss) c.args.space c.args.making) c.self.view_is

@@ -9,5 +9,5 @@ use Rattle.wm_image.proofs.image.Image.savepoint_count.Goals as goal
 pub returns : goal.returns
 returns c =
     ap (λ (ids : List ℕ). length ids) c.ids_of.ensures
-    ∙ count_told c.self.inside.kept c.self.inside.index c.self.invariant c.args.space
+    ∙ count_told c.self.inside.kept c.self.inside.index c.self.invariant.0 c.args.space
     ∙ ap (λ (ss : List Stored). count_by (λ (x : Savepoint). x.space == c.args.space) (parts_of ss).savepoints) c.self.view_is

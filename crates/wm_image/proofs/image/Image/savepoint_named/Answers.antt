@@ -14,5 +14,5 @@ returns c =
     let rules : keep_rules (parts_of (listed c.self.inside.kept.entries)) ≡ true = ap (λ (ss : List Stored). keep_rules (parts_of ss)) c.self.view_is ∙ c.requires in
     c.savepoint_of_name.ensures
     ∙ ap (λ (ids : List ℕ). find (has_name c.args.name.now) (kind_at as_savepoint (listed c.self.inside.kept.entries) ids)) c.ids_of.ensures
-    ∙ named_told c.self.inside.kept c.self.inside.index c.self.invariant rules c.args.space c.args.name.now
+    ∙ named_told c.self.inside.kept c.self.inside.index c.self.invariant.0 rules c.args.space c.args.name.now
     ∙ ap (λ (ss : List Stored). find (has_name c.args.name.now) (saved_in (parts_of ss) c.args.space)) c.self.view_is

@@ -11,5 +11,5 @@ pub returns : goal.returns
 returns c =
     c.space_of.ensures
     ∙ ap (option_and_then as_space) (c.first.ensures ∙ ap (first_of (listed c.self.inside.kept.entries)) c.ids_of.ensures)
-    ∙ space_found c.self.inside.kept c.self.inside.index c.self.invariant c.args.number
+    ∙ space_found c.self.inside.kept c.self.inside.index c.self.invariant.0 c.args.number
     ∙ ap (λ (ss : List Stored). space_of (parts_of ss).spaces c.args.number) c.self.view_is

@@ -11,4 +11,4 @@ counted v = omega arith
 
 pub returns : goal.returns
 returns c =
-    c.len.ensures ∙ counted c.self.inside.index.all_spaces ∙ spaces_counted c.self.inside.kept c.self.inside.index c.self.invariant ∙ ap (λ (ss : List Stored). length (parts_of ss).spaces) c.self.view_is
+    c.len.ensures ∙ counted c.self.inside.index.all_spaces ∙ spaces_counted c.self.inside.kept c.self.inside.index c.self.invariant.0 ∙ ap (λ (ss : List Stored). length (parts_of ss).spaces) c.self.view_is

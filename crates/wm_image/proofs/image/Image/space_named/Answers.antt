@@ -13,5 +13,5 @@ pub returns : goal.returns
 returns c =
     c.space_of_name.ensures
     ∙ ap (λ (ids : List ℕ). find (λ (r : Space). bytes_eq c.args.name.now r.name) (kind_at as_space (listed c.self.inside.kept.entries) ids)) c.as_slice.ensures.value
-    ∙ ap (find (λ (r : Space). bytes_eq c.args.name.now r.name)) (spaces_told c.self.inside.kept c.self.inside.index c.self.invariant)
+    ∙ ap (find (λ (r : Space). bytes_eq c.args.name.now r.name)) (spaces_told c.self.inside.kept c.self.inside.index c.self.invariant.0)
     ∙ ap (λ (ss : List Stored). find (λ (r : Space). bytes_eq c.args.name.now r.name) (parts_of ss).spaces) c.self.view_is

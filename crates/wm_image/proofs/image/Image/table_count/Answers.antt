@@ -15,6 +15,6 @@ pub returns : goal.returns
 unfolding parts_of
 returns c =
     c.len.ensures
-    ∙ counted c.self.inside.index.tables _ (ap length (c.self.invariant.told Tables))
+    ∙ counted c.self.inside.index.tables _ (ap length (c.self.invariant.0.told Tables))
     ∙ tables_counted (listed c.self.inside.kept.entries)
     ∙ ap (λ (ss : List Stored). length (parts_of ss).tables) c.self.view_is
