@@ -23,8 +23,10 @@ use Rattle.wm_reader.specs.Reading.{is_remark}
 use Rattle.wm_state.specs.State.{Session}
 use Rattle.wm_print.specs.Texts.{Nothing}
 pub use Rattle.wm_state.specs.State.{State, fresh}
+use Rattle.wm_state.specs.State.{Session}
 pub use Rattle.wm_state.specs.Editing.{counter_limit, number_limit, line_work, implicit_front, implicit_name, saved_at, place_behind, saved, child_of, born, written_all}
 pub use Rattle.wm_print.specs.Texts.{Answer, answer_text}
+use Rattle.wm_print.specs.Texts.{Nothing}
 pub use Rattle.wm_model.specs.Step.Refusing.{not_built, too_long_line, no_text, syntax, bad_literal, no_session, session_there, bad_name, long_name, mistyped, reserved_name, no_table, table_there, versioning, no_key, no_workspace, workspace_there, no_savepoint, savepoint_there, not_latest, moment_back, key_there, empty_period, change_limit, most_workspaces, most_savepoints, most_tables, most_rows, most_sessions, out_of_range, at_its_end, refusal_of, refused_if, first_fault, unless, unless_mistyped, unless_empty_period}
 pub use Rattle.wm_model.specs.Step.Counting.{durably}
 pub use Rattle.wm_model.specs.Step.Naming.{is_name, names_no_workspace, latest, names_no_savepoint, session_of, with_table, with_named, at_home}

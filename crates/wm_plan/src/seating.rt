@@ -30,8 +30,8 @@ fn close(sessions: &mut Vec<Session>, name: &Name)
 }
 
 /// Sets this of the session, where it has this name.
-fn alter_one(session: &mut Session, name: &Name, setting: Setting)
-    ensures { session.new ≡ (if bytes_eq name.now session.old.name then with_setting (setting_view setting) session.old else session.old) }
+fn alter_one(session: &mut Session, name: &Name, setting: &Setting)
+    ensures { session.new ≡ (if bytes_eq name.now session.old.name then with_setting (setting_view setting.now) session.old else session.old) }
 {
     if session.is_named(name) {
         session.set(setting);
@@ -39,8 +39,8 @@ fn alter_one(session: &mut Session, name: &Name, setting: Setting)
 }
 
 /// Sets this of the sessions of a name.
-fn alter(sessions: &mut [Session], name: &Name, setting: Setting)
-    ensures { sessions.new ≡ altered name.now (setting_view setting) sessions.old }
+fn alter(sessions: &mut [Session], name: &Name, setting: &Setting)
+    ensures { sessions.new ≡ altered name.now (setting_view setting.now) sessions.old }
 {
     if let Some((session, rest)) = sessions.split_first_mut() {
         alter_one(session, name, setting);
@@ -56,7 +56,7 @@ pub fn seat(sessions: &mut Vec<Session>, seating: Seating) -> Result<(), Memory>
         Seating::Stay => {}
         Seating::Open(session) => sessions.push(session)?,
         Seating::Close(name) => close(sessions, &name),
-        Seating::Set { name, setting } => alter(sessions, &name, setting),
+        Seating::Set { name, setting } => alter(sessions, &name, &setting),
     }
     Ok(())
 }

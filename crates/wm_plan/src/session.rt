@@ -110,15 +110,15 @@ impl Session {
     }
 
     /// Sets this of it.
-    pub fn set(&mut self, setting: Setting)
-        ensures { self.new ≡ with_setting (setting_view setting) self.old }
+    pub fn set(&mut self, setting: &Setting)
+        ensures { self.new ≡ with_setting (setting_view setting.now) self.old }
     {
         match setting {
             Setting::Stand { space, stand } => {
-                self.space = space;
-                self.stand = stand;
+                self.space = *space;
+                self.stand = *stand;
             }
-            Setting::Period(period) => self.period = period,
+            Setting::Period(period) => self.period = *period,
         }
     }
 }
