@@ -49,7 +49,8 @@ input { font: inherit; padding: 7px 12px; border: 1px solid var(--line); border-
   width: 100%; max-width: 360px; margin-bottom: 12px; }
 svg { display: block; height: auto; }
 svg text { font: 13px system-ui, "Segoe UI", "DejaVu Sans", sans-serif; fill: var(--ink); }
-svg .name { font-weight: 600; font-size: 13px; } svg .small { font-size: 11.5px; fill: var(--soft); } svg .small.alarm { fill: var(--alarm); font-weight: 600; }
+svg .name { font-weight: 600; font-size: 13px; } svg .small { font-size: 11.5px; fill: var(--soft); }
+svg .small.alarm { fill: var(--alarm); font-weight: 600; }
 svg .day { font-size: 11.5px; fill: var(--soft); } svg .grid { stroke: var(--line); stroke-dasharray: 3 4; }
 svg .lane { stroke-width: 3; } svg .birth { fill: none; stroke-width: 3; } svg .halo { fill: none; stroke: var(--card); stroke-width: 9; }
 svg .implicit { fill: var(--card); stroke-width: 2.5; } svg .savepoint, svg .newest { stroke: var(--card); stroke-width: 2; }
@@ -76,5 +77,8 @@ for (const box of document.querySelectorAll("input[data-finds]")) {
 
 
 def shell(name, inside):
-    return (f'<!doctype html>\n<html lang="en">\n<head>\n<meta charset="utf-8">\n<meta name="viewport" content="width=device-width, initial-scale=1">\n'
-            f"<title>{name}</title>\n<style>{STYLE}</style>\n</head>\n<body>\n{HATCH}\n<main>\n{inside}\n</main>\n<script>{SCRIPT}</script>\n</body>\n</html>\n")
+    """A whole page. All that it needs is in it."""
+    head = ('<meta charset="utf-8">\n<meta name="viewport" content="width=device-width, initial-scale=1">\n'
+            f"<title>{name}</title>\n<style>{STYLE}</style>\n")
+    body = f"{HATCH}\n<main>\n{inside}\n</main>\n<script>{SCRIPT}</script>\n"
+    return f'<!doctype html>\n<html lang="en">\n<head>\n{head}</head>\n<body>\n{body}</body>\n</html>\n'

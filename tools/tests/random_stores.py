@@ -2,7 +2,8 @@
 import random
 
 TABLES = {"PLOT": True, "TAX": False}
-ENDS = ["DATE '2020-01-01'", "DATE '2020-03-01'", "TIMESTAMP '2020-05-01 12:00:00'", "DATE '2020-09-01'", "DATE '2021-01-01'", "DBMS_WM.UNTIL_CHANGED"]
+ENDS = ["DATE '2020-01-01'", "DATE '2020-03-01'", "TIMESTAMP '2020-05-01 12:00:00'", "DATE '2020-09-01'", "DATE '2021-01-01'",
+        "DBMS_WM.UNTIL_CHANGED"]
 
 
 class Writer:
@@ -27,7 +28,8 @@ class Writer:
         pick, session = self.random.random(), self.random.choice("AB")
         table, number = self.random.choice(list(TABLES)), self.random.randrange(6)
         if pick < 0.30:
-            return f"{session}: INSERT INTO {table} VALUES ({number}, {self.random.randrange(10)}, {self.random.choice(['NULL', repr('it is ' + session)])})"
+            note = self.random.choice(["NULL", f"'it is {session}'"])
+            return f"{session}: INSERT INTO {table} VALUES ({number}, {self.random.randrange(10)}, {note})"
         if pick < 0.52:
             return f"{session}: UPDATE {table} SET X = {self.random.randrange(10)}, NOTE = NULL{self.condition()}"
         if pick < 0.60:

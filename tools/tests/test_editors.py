@@ -36,8 +36,8 @@ class Modes(WithFolder):
     def test_vim(self):
         script = self.folder / "s.wm"
         script.write_text("-- a remark\nA: EXECUTE DBMS_WM.GotoWorkspace('It''s')\nA: SELECT NR FROM T WHERE X > 5\n")
-        places = {(1, 4): "wmRemark", (2, 1): "wmSession", (2, 4): "wmWord", (2, 20): "wmCall", (2, 35): "wmText", (2, 38): "wmText", (3, 4): "wmWord",
-                  (3, 11): "", (3, 31): "wmNumber"}
+        places = {(1, 4): "wmRemark", (2, 1): "wmSession", (2, 4): "wmWord", (2, 20): "wmCall", (2, 35): "wmText",
+                  (2, 38): "wmText", (3, 4): "wmWord", (3, 11): "", (3, 31): "wmNumber"}
         asked = "".join(f"call add(g:found, synIDattr(synID({line}, {column}, 1), 'name'))\n" for line, column in places)
         commands = self.folder / "asked.vim"
         commands.write_text(f"set runtimepath^={MODES / 'vim'}\nfiletype on\nsyntax on\nedit {script}\nlet g:found = []\n{asked}"

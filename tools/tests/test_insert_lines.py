@@ -24,7 +24,8 @@ class InsertLines(WithFolder):
 
     def test_a_sheet_of_play_goes_back(self):
         """The rows that tools/play writes as CSV make the same rows again."""
-        script = self.lines("NR,CODE,MADE,VALIDFROM,VALIDTILL\n1,007,2020-01-01,2019-01-01,2020-01-01\n2,x,UNTIL_CHANGED,2020-01-01,\n", "--session", "A").stdout
+        sheet = "NR,CODE,MADE,VALIDFROM,VALIDTILL\n1,007,2020-01-01,2019-01-01,2020-01-01\n2,x,UNTIL_CHANGED,2020-01-01,\n"
+        script = self.lines(sheet, "--session", "A").stdout
         wanted = self.held(script)
         query = self.folder / "q.wm"
         query.write_bytes(b"CONNECT A ANN\nA: EXECUTE DBMS_WM.SetValidTime(DATE '0001-01-01')\nA: SELECT * FROM LOT\n")

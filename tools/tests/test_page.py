@@ -22,7 +22,8 @@ addEventListener("load", () => {
     const boxes = inside.map(text => [text.textContent, text.getBoundingClientRect(), text.closest("svg svg")]);
     for (const [text, box, clip] of boxes) {
       const room = clip ? clip.getBoundingClientRect() : frame;
-      if (box.left < room.left - 1 || box.right > room.right + 1 || box.top < frame.top - 1 || box.bottom > frame.bottom + 1) bad.push("cut off: " + text);
+      const fits = box.left >= room.left - 1 && box.right <= room.right + 1 && box.top >= frame.top - 1 && box.bottom <= frame.bottom + 1;
+      if (!fits) bad.push("cut off: " + text);
     }
     for (let one = 0; one < boxes.length; one++) for (let two = one + 1; two < boxes.length; two++) {
       const a = boxes[one][1], b = boxes[two][1];

@@ -27,8 +27,9 @@ class Played(WithFolder):
 class Lines(Played):
     def test_each_line_stands_with_its_number_and_its_answer(self):
         made(self.store)
-        self.assertEqual(self.lines(TABLE + b"-- all of it\n\nA: SELECT * FROM T\n")[4:],
-                         ["  3  A: EXECUTE DBMS_WM.EnableVersioning('T')", "     OK", "  4  -- all of it", "  5", "  6  A: SELECT * FROM T", "     ROWS 0"])
+        wanted = ["  3  A: EXECUTE DBMS_WM.EnableVersioning('T')", "     OK", "  4  -- all of it", "  5", "  6  A: SELECT * FROM T",
+                  "     ROWS 0"]
+        self.assertEqual(self.lines(TABLE + b"-- all of it\n\nA: SELECT * FROM T\n")[4:], wanted)
 
     def test_answers_are_those_of_the_program(self):
         """Played line by line or all at once: the same answers but for the look of rows, and the same store."""
@@ -43,8 +44,8 @@ class Lines(Played):
 
     def test_caret_stands_below_the_column(self):
         made(self.store)
-        cases = [(b"A: SELEC", "SELEC"), (b"\tA: SELECT '\xc3\xa9' FRM T", "FRM"), (b"A: INSERT INTO T VALUES (9223372036854775808)", "9223372036854775808"),
-                 (b"AT DATE '2024-02-30'", "'2024-02-30'")]
+        cases = [(b"A: SELEC", "SELEC"), (b"\tA: SELECT '\xc3\xa9' FRM T", "FRM"), (b"AT DATE '2024-02-30'", "'2024-02-30'"),
+                 (b"A: INSERT INTO T VALUES (9223372036854775808)", "9223372036854775808")]
         for line, word in cases:
             shown, mark, _ = self.lines(line + b"\n")
             self.assertEqual(shown.expandtabs()[len(mark.expandtabs()) - 1:].split(" T")[0].rstrip(")"), word)
@@ -55,8 +56,9 @@ class Lines(Played):
 
     def test_rows_are_aligned_below_their_names(self):
         made(self.store)
-        script = TABLE + b"A: INSERT INTO T VALUES (5, 'it''s | so')\nA: INSERT INTO T VALUES (40, NULL)\nA: SELECT ID * 2 AS TWICE, t.NOTE FROM T t\n"
-        self.assertEqual(self.lines(script)[-5:], ["     TWICE | NOTE", "     ------+-------------", "        10 | 'it''s | so'", "        80 | NULL", "     ROWS 2"])
+        script = TABLE + b"A: INSERT INTO T VALUES (5, 'it''s | so')\nA: INSERT INTO T VALUES (40, NULL)\n"
+        wanted = ["     TWICE | NOTE", "     ------+-------------", "        10 | 'it''s | so'", "        80 | NULL", "     ROWS 2"]
+        self.assertEqual(self.lines(script + b"A: SELECT ID * 2 AS TWICE, t.NOTE FROM T t\n")[-5:], wanted)
 
     def test_star_has_the_names_of_the_tables(self):
         store_of_examples(self.store)
@@ -66,7 +68,8 @@ class Lines(Played):
 
     def test_sheet(self):
         store_of_examples(self.store)
-        done = self.play(b"CONNECT A ANN\nA: SELECT * FROM OWNER\nA: SELECT WHAT, DUE FROM COST WHERE TEAM = 2\nA: SELECT * FROM NOPE\n", "--csv", "--quiet")
+        script = b"CONNECT A ANN\nA: SELECT * FROM OWNER\nA: SELECT WHAT, DUE FROM COST WHERE TEAM = 2\nA: SELECT * FROM NOPE\n"
+        done = self.play(script, "--csv", "--quiet")
         self.assertEqual(done.stdout, "PARCEL,NAME,WM_VALID.VALIDFROM,WM_VALID.VALIDTILL\n17,Sommer,2021-03-15,UNTIL_CHANGED\n\n"
                          "WHAT,DUE\nTrees,2024-10-31\nBenches,\nMayor's party,2024-06-01\n")
         self.assertEqual(done.returncode, 1)
@@ -79,8 +82,9 @@ class Hinted(Played):
 
     def test_three_answers_that_mislead(self):
         made(self.store)
-        script = TABLE.replace(b"'T'", b"'T', validTime => TRUE") + b"A: INSERT INTO T VALUES (1, 'WM_PERIOD')\nA: EXECUTE DBMS_WM.SetValidTime(SYSDATE)\n"
-        script += (b"A: INSERT INTO T VALUES (2, NULL)\nA: INSERT INTO T VALUES (2, NULL)\nA: EXEC DBMS_WM.SetValidTime ( ) ;\n"
+        script = TABLE.replace(b"'T'", b"'T', validTime => TRUE")
+        script += (b"A: INSERT INTO T VALUES (1, 'WM_PERIOD')\nA: EXECUTE DBMS_WM.SetValidTime(SYSDATE)\n"
+                   b"A: INSERT INTO T VALUES (2, NULL)\nA: INSERT INTO T VALUES (2, NULL)\nA: EXEC DBMS_WM.SetValidTime ( ) ;\n"
                    b"A: INSERT INTO T VALUES (3, NULL, WM_PERIOD(DATE '2020-01-01', DATE '2021-01-01'))\nA: DELETE T WHERE ID = 3\n"
                    b"A: EXECUTE DBMS_WM.GotoWorkspace('nowhere')\nA: SELECT * FROM T\nA: DELETE FROM T\n")
         said = self.hints(script)
