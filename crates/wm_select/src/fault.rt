@@ -1,3 +1,4 @@
+//! Why a query has no answer.
 use thiserror::Error;
 
 /// Why a query has no answer.

@@ -1,10 +1,8 @@
 //! What each row of an answer is made of.
 ghost use Rattle.std.specs.Prelude.{◌≡◌, [], ◌∷◌, map, IfOk};
-ghost use Rattle.std.specs.List.{list_any};
 ghost use Rattle.wm_base.specs.declared.row.Row.{Row as RowOf};
-ghost use Rattle.wm_base.specs.Trees.{Out as OutTree};
-ghost use Rattle.wm_base.specs.Views.{item_view, outs_view, projection_view, query_view};
-ghost use Rattle.wm_select.specs.Query.{group_values, in_groups, is_aggregate, has_aggregate, is_grouped, groups_of};
+ghost use Rattle.wm_base.specs.Views.{query_view};
+ghost use Rattle.wm_select.specs.Query.{group_values, in_groups, groups_of};
 ghost use Rattle.wm_select.specs.Keys.{keyed_by_group, cut};
 
 use crate::keyed::Keyed;
@@ -12,7 +10,7 @@ use crate::order::{has_keys_of, sort_ascending};
 use std::alloc::Global;
 use std::mem;
 use wm_base::tree::column::Col;
-use wm_base::tree::query::{Item, Out, Projection, Query};
+use wm_base::tree::query::Query;
 use wm_base::{Column, Columns, Memory, Row, RowList, Value, Values};
 use wm_expr::owned::column_value;
 
@@ -114,42 +112,6 @@ fn alone(alloc: Global, rows: &[Row]) -> Result<Vec<RowList>, Memory>
     Ok(groups)
 }
 
-fn is_aggregate(item: &Item) -> bool
-    ensures { result ≡ is_aggregate (item_view item.now) }
-{
-    match item {
-        Item::Expr(_) => false,
-        Item::CountAll | Item::Agg { .. } => true,
-    }
-}
-
-fn any_aggregate(outs: &[Out]) -> bool
-    ensures { result ≡ list_any (λ (o : OutTree). is_aggregate o.item) (outs_view outs.now) }
-{
-    for out in outs {
-        if is_aggregate(&out.item) {
-            return true;
-        }
-    }
-    false
-}
-
-fn has_aggregate(projection: &Projection) -> bool
-    ensures { result ≡ has_aggregate (projection_view projection.now) }
-{
-    match projection {
-        Projection::All => false,
-        Projection::Outs(outs) => any_aggregate(outs.as_slice()),
-    }
-}
-
-/// Whether the query has GROUP BY or an aggregate.
-pub fn is_grouped(query: &Query) -> bool
-    ensures { result ≡ is_grouped (query_view query.now) }
-{
-    !query.groups.as_slice().is_empty() || has_aggregate(&query.projection)
-}
-
 /// What each row of the answer is made of: a group, or one tuple where the query has no groups.
 pub fn groups_of(
     alloc: Global,
@@ -159,7 +121,7 @@ pub fn groups_of(
 ) -> Result<Vec<RowList>, Memory>
     ensures { IfOk result (λ groups. groups.items ≡ groups_of (query_view query.now) columns.now rows) }
 {
-    if is_grouped(query) {
+    if query.is_grouped() {
         let groups = in_groups(alloc, query.groups.as_slice(), columns, rows)?;
         Ok(groups)
     } else {

@@ -1,10 +1,11 @@
+//! A row with the values that put it in order.
 ghost use Rattle.std.specs.Prelude.{◌≡◌, IfOk};
 
 use std::alloc::Global;
 use wm_base::{Memory, Row, Values};
 
 /// A row that is put in order by values of its own.
-#[derive(Debug, Drop)]
+#[derive(Drop)]
 pub struct Keyed {
     pub keys: Values,
     pub row: Row,

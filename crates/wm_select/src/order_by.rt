@@ -47,7 +47,7 @@ fn item_named(outs: &[Out], col: &Col) -> Option<usize>
     }
 }
 
-/// The same, where the query has items.
+/// The place of the first item with that name, where the query has items.
 fn named_item(projection: &Projection, col: &Col) -> Option<usize>
     ensures { result ≡ named_item (projection_view projection.now) col.now }
 {

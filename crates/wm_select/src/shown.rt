@@ -1,7 +1,8 @@
+//! A row of an answer with its tuple.
 use wm_base::Row;
 
 /// A row of an answer, with the tuple that stands for what it is made of.
-#[derive(Debug, Drop)]
+#[derive(Drop)]
 pub struct Shown {
     pub tuple: Row,
     pub row: Row,

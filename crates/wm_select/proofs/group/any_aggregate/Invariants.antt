@@ -1,9 +1,0 @@
-use Rattle.std.proofs.Common.{◌≡◌, drop}
-use Rattle.std.specs.List.{list_any}
-use Rattle.wm_base.specs.Trees.{Out}
-use Rattle.wm_base.specs.Views.{outs_view}
-use Rattle.wm_select.specs.Query.{is_aggregate}
-use Rattle.wm_select.proofs.group.any_aggregate.Given as goal
-
-abbrev pub invariant-loop-out : goal.invariant-loop-out
-invariant-loop-out l = list_any (λ (o : Out). is_aggregate o.item) (outs_view (drop l.out-index l.outs)) ≡ list_any (λ (o : Out). is_aggregate o.item) (outs_view l.outs)
