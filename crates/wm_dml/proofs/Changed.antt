@@ -1,16 +1,17 @@
 -- The rows that UPDATE and DELETE write are in order.
 use Rattle.std.proofs.Common.{◌≡◌, suc, true, false, List, [], ◌∷◌, length, map, refl, sym, ap, ◌∙◌, arith}
+use Rattle.std.proofs.lemmas.Bool.{and_from, and_parts}
 use Rattle.std.specs.Prelude.{Option, Some, None, ◌&&◌, option_map}
 use Rattle.std.specs.List.{list_all}
 use Rattle.std.specs.Option.{option_or}
 use Rattle.std.specs.Ordering.{is_eq}
+use Rattle.wm_base.proofs.Plain.{none_mapped, option_or_parts}
 use Rattle.wm_base.specs.Orders.{key_order-itself}
 use Rattle.wm_base.specs.Period.{Span, shared}
 use Rattle.wm_base.specs.Trees.{Cond, Set}
 use Rattle.wm_base.specs.declared.row.Row.{Row}
 use Rattle.wm_base.specs.declared.value.Value.{Value}
 use Rattle.wm_graph.specs.Rules.{is_table, key_of, is_row_of, is_key_of, is_key}
-use Rattle.wm_making.proofs.Nones.{or_none, map_none, both_true, cong_and}
 use Rattle.wm_making.specs.Rows.{first_column, lacks_value, heavy_part, is_filled, null_in, too_heavy, row_fault}
 use Rattle.wm_spec.specs.Expressions.{has_no_empty_period}
 use Rattle.wm_spec.specs.declared.record.table.Table.{Table}
@@ -27,8 +28,8 @@ use Rattle.wm_dml.proofs.ShownRows.{shown_parts}
 pub gone_fit : (t : Table) (within : Span) (rows : List Row) → all_stand t rows ≡ true → list_all (is_change t) (map (gone t within) rows) ≡ true
 gone_fit t within [] all = refl
 gone_fit t within (row ∷ rows) all =
-    let parts = both_true (is_shown t row.values) (all_stand t rows) all in
-    cong_and (cong_and (shown_parts t row.values parts.0).1 refl) (gone_fit t within rows parts.1)
+    let parts = and_parts (is_shown t row.values) (all_stand t rows) all in
+    and_from _ _ (and_from _ _ (shown_parts t row.values parts.0).1 refl) (gone_fit t within rows parts.1)
 
 pub gone_keys : (t : Table) (within : Span) (rows : List Row) → change_keys (map (gone t within) rows) ≡ keys_of t rows
 gone_keys t within [] = refl
@@ -54,18 +55,18 @@ pub replaced_fit : (t : Table) (within : Span) (olds : List Row) (news : List (L
 replaced_fit t within [] news all = refl
 replaced_fit t within (old ∷ olds) [] all = refl
 replaced_fit t within (old ∷ olds) (row ∷ news) all =
-    let parts = both_true (stands_in t row) (list_all (stands_in t) news) all in
-    let one = both_true (is_row_of row t) (is_key_of (row_key t row) t && list_all is_filled row) parts.0 in
-    let key = (both_true (is_key_of (row_key t row) t) (list_all is_filled row) one.1).0 in
-    cong_and (cong_and key (cong_and one.0 (same_key t row key))) (replaced_fit t within olds news parts.1)
+    let parts = and_parts (stands_in t row) (list_all (stands_in t) news) all in
+    let one = and_parts (is_row_of row t) (is_key_of (row_key t row) t && list_all is_filled row) parts.0 in
+    let key = (and_parts (is_key_of (row_key t row) t) (list_all is_filled row) one.1).0 in
+    and_from _ _ (and_from _ _ key (and_from _ _ one.0 (same_key t row key))) (replaced_fit t within olds news parts.1)
 
 pub replaced_filled : (t : Table) (within : Span) (olds : List Row) (news : List (List Value)) → list_all (stands_in t) news ≡ true → list_all writes_filled (replacing t within olds news) ≡ true
 replaced_filled t within [] news all = refl
 replaced_filled t within (old ∷ olds) [] all = refl
 replaced_filled t within (old ∷ olds) (row ∷ news) all =
-    let parts = both_true (stands_in t row) (list_all (stands_in t) news) all in
-    let one = both_true (is_row_of row t) (is_key_of (row_key t row) t && list_all is_filled row) parts.0 in
-    cong_and (both_true (is_key_of (row_key t row) t) (list_all is_filled row) one.1).1 (replaced_filled t within olds news parts.1)
+    let parts = and_parts (stands_in t row) (list_all (stands_in t) news) all in
+    let one = and_parts (is_row_of row t) (is_key_of (row_key t row) t && list_all is_filled row) parts.0 in
+    and_from _ _ (and_parts (is_key_of (row_key t row) t) (list_all is_filled row) one.1).1 (replaced_filled t within olds news parts.1)
 
 pub replaced_keys : (t : Table) (within : Span) (olds : List Row) (news : List (List Value)) → length olds ≡ length news → change_keys (replacing t within olds news) ≡ map (row_key t) news
 replaced_keys t within [] [] same = refl
@@ -89,8 +90,8 @@ fault_parts : (t : Table) (rows : List (List Value)) → rows_fault t rows ≡ N
     (first_some (λ row. first_column (lacks_value t) 0 t.columns row) rows ≡ None) × (first_some (heavy_part t) rows ≡ None)
 unfolding rows_fault
 fault_parts t rows none =
-    let parts = or_none (option_map null_in (first_some (λ row. first_column (lacks_value t) 0 t.columns row) rows)) (option_map too_heavy (first_some (heavy_part t) rows)) none in
-    (map_none null_in (first_some (λ row. first_column (lacks_value t) 0 t.columns row) rows) parts.0, map_none too_heavy (first_some (heavy_part t) rows) parts.1)
+    let parts = option_or_parts (option_map null_in (first_some (λ row. first_column (lacks_value t) 0 t.columns row) rows)) (option_map too_heavy (first_some (heavy_part t) rows)) none in
+    (none_mapped null_in (first_some (λ row. first_column (lacks_value t) 0 t.columns row) rows) parts.0, none_mapped too_heavy (first_some (heavy_part t) rows) parts.1)
 
 not_refused : (t : Table) (row : List Value) → first_column (lacks_value t) 0 t.columns row ≡ None → heavy_part t row ≡ None → row_fault t row ≡ None
 unfolding row_fault
@@ -119,13 +120,13 @@ rows_replace : (t : Table) (sets : List Set) → is_table t ≡ true → t.has_k
 rows_replace t sets order keyed typed unset [] news old made full light = let e : news ≡ [] = cc in (ap (list_all (stands_in t)) e, ap (map (row_key t)) e)
 rows_replace t sets order keyed typed unset (row ∷ rows) news old made full light =
     let parts = rows_made (updated_row t sets row) (updated_rows t sets rows) news made in
-    let olds = both_true (is_shown t row.values) (all_stand t rows) old in
-    let fulls = or_none (first_column (lacks_value t) 0 t.columns parts.0) (first_some (λ row. first_column (lacks_value t) 0 t.columns row) parts.1)
+    let olds = and_parts (is_shown t row.values) (all_stand t rows) old in
+    let fulls = option_or_parts (first_column (lacks_value t) 0 t.columns parts.0) (first_some (λ row. first_column (lacks_value t) 0 t.columns row) parts.1)
     (sym (ap (first_some (λ row. first_column (lacks_value t) 0 t.columns row)) parts.4) ∙ full) in
-    let lights = or_none (heavy_part t parts.0) (first_some (heavy_part t) parts.1) (sym (ap (first_some (heavy_part t)) parts.4) ∙ light) in
+    let lights = option_or_parts (heavy_part t parts.0) (first_some (heavy_part t) parts.1) (sym (ap (first_some (heavy_part t)) parts.4) ∙ light) in
     let one = row_replaces t sets row parts.0 order keyed typed unset olds.0 parts.2 (not_refused t parts.0 fulls.0 lights.0) in
     let rest = rows_replace t sets order keyed typed unset rows parts.1 olds.1 parts.3 fulls.1 lights.1 in (
-      ap (list_all (stands_in t)) parts.4 ∙ cong_and one.0 rest.0,
+      ap (list_all (stands_in t)) parts.4 ∙ and_from _ _ one.0 rest.0,
       ap (map (row_key t)) parts.4 ∙ ap (λ key. key ∷ map (row_key t) parts.1) one.1 ∙ ap (λ keys. row_key t (declared_values t row.values) ∷ keys) rest.1,
     )
 

@@ -1,5 +1,6 @@
 -- No period that is written in what an UPDATE sets is empty, where it does not set WM_VALID.
 use Rattle.std.proofs.Common.{◌≡◌, ℕ, zero, suc, Bool, true, false, cond, List, [], ◌∷◌, ◌++◌, map, refl, sym, ap, ◌∙◌, ◌⊎◌, inl, inr}
+use Rattle.std.proofs.lemmas.Bool.{and_from}
 use Rattle.std.specs.Prelude.{Some, None, ◌&&◌, ◌||◌, ◌==◌, slice_get}
 use Rattle.std.specs.List.{list_all, list_any}
 use Rattle.std.specs.Str.{bytes_eq}
@@ -9,7 +10,6 @@ use Rattle.wm_base.specs.declared.columns.Column.{Column}
 use Rattle.wm_base.specs.Trees.{Set}
 use Rattle.wm_graph.specs.Rules.{type_of}
 use Rattle.wm_making.proofs.Fitted.{suited_last}
-use Rattle.wm_making.proofs.Nones.{cong_and}
 use Rattle.wm_making.specs.Inserting.{suits}
 use Rattle.wm_spec.specs.Expressions.{has_no_empty_period}
 use Rattle.wm_spec.specs.Operands.{is_named, wm_valid}
@@ -66,7 +66,7 @@ all_last : (valid : Bool) (source : List ℕ) (cs : List TableColumn) (sets : Li
 all_last valid source cs [] other each = refl
 all_last valid source cs (s ∷ ss) other each =
     let parts = neither_set valid (bytes_eq s.name wm_valid) (list_any (λ (s : Set). bytes_eq s.name wm_valid) ss) other in
-    cong_and (set_lasts valid source cs s parts.0 each.0) (all_last valid source cs ss parts.1 each.1)
+    and_from _ _ (set_lasts valid source cs s parts.0 each.0) (all_last valid source cs ss parts.1 each.1)
 
 pub sets_last : (t : Table) (sets : List Set) → sets_period t sets ≡ false → EachFits (own_columns t) sets → list_all (λ (s : Set). has_no_empty_period s.becomes) sets ≡ true
 sets_last t sets other each = all_last t.valid t.name t.columns sets other each

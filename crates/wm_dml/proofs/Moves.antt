@@ -1,5 +1,6 @@
 -- What new periods overlap, and what is written of rows that move.
 use Rattle.std.proofs.Common.{◌≡◌, ◌≤◌, ◌-◌, Bool, true, false, cond, List, [], ◌∷◌, ◌++◌, length, get_or, take, drop, map, refl, sym, ap, ◌∙◌, arith}
+use Rattle.std.proofs.lemmas.Bool.{and_from, and_parts}
 use Rattle.std.proofs.lemmas.List.{take_all}
 use Rattle.std.proofs.lemmas.List.Folds.{list_all-append, list_all-map}
 use Rattle.std.specs.Prelude.{Option, not, ◌&&◌}
@@ -9,7 +10,6 @@ use Rattle.wm_base.specs.Trees.{Set}
 use Rattle.wm_base.specs.declared.row.Row.{Row}
 use Rattle.wm_base.specs.declared.value.Value.{Value}
 use Rattle.wm_graph.specs.Rules.{is_row_of, is_key_of}
-use Rattle.wm_making.proofs.Nones.{both_true, cong_and}
 use Rattle.wm_making.specs.Rows.{is_filled}
 use Rattle.wm_select.specs.Sorting.{placed, sorted}
 use Rattle.wm_spec.specs.declared.record.table.Table.{Table}
@@ -60,10 +60,10 @@ pub moved_fit : (t : Table) (sets : List Set) (olds : List Row) (news : List (Li
 moved_fit t sets [] news all = refl
 moved_fit t sets (old ∷ olds) [] all = refl
 moved_fit t sets (old ∷ olds) (row ∷ news) all =
-    let parts = both_true (stands_in t row) (list_all (stands_in t) news) all in
-    let one = both_true (is_row_of row t) (is_key_of (row_key t row) t && list_all is_filled row) parts.0 in
-    let key = (both_true (is_key_of (row_key t row) t) (list_all is_filled row) one.1).0 in
-    cong_and (cong_and key (cong_and one.0 (same_key t row key))) (moved_fit t sets olds news parts.1)
+    let parts = and_parts (stands_in t row) (list_all (stands_in t) news) all in
+    let one = and_parts (is_row_of row t) (is_key_of (row_key t row) t && list_all is_filled row) parts.0 in
+    let key = (and_parts (is_key_of (row_key t row) t) (list_all is_filled row) one.1).0 in
+    and_from _ _ (and_from _ _ key (and_from _ _ one.0 (same_key t row key))) (moved_fit t sets olds news parts.1)
 
 -- ---- all that is written
 
@@ -85,21 +85,17 @@ pub all-sorted : {X : Type 0} (p : X → Bool) (lt : X → X → Bool) (xs : Lis
 all-sorted p lt [] = refl
 all-sorted p lt (x ∷ xs) = all-placed p lt x (sorted lt xs) ∙ ap (λ b. p x && b) (all-sorted p lt xs)
 
--- one more
-pub all_pushed : {X : Type 0} (p : X → Bool) (xs : List X) (x : X) → list_all p xs ≡ true → p x ≡ true → list_all p (xs ++ x ∷ []) ≡ true
-all_pushed p xs x all one = list_all-append p xs (x ∷ []) ∙ cong_and all (cong_and one refl)
-
 parts_pass : (p : RowChange → Bool) (m : Move) (parts : List Span) → ((part : Span) → p (left_part m part) ≡ true) → list_all p (map (left_part m) parts) ≡ true
 parts_pass p m [] each = refl
-parts_pass p m (part ∷ parts) each = cong_and (each part) (parts_pass p m parts each)
+parts_pass p m (part ∷ parts) each = and_from _ _ (each part) (parts_pass p m parts each)
 
 left_pass : (p : RowChange → Bool) (all moves : List Move) → list_all (λ (m : Move). p (moved_row m)) moves ≡ true → ((m : Move) (part : Span) → p (moved_row m) ≡ true → p (left_part m part) ≡ true) →
     list_all p (flat_map (left_parts all) moves) ≡ true
 left_pass p all [] rows each = refl
 left_pass p all (m ∷ ms) rows each =
-    let parts = both_true (p (moved_row m)) (list_all (λ (m : Move). p (moved_row m)) ms) rows in
+    let parts = and_parts (p (moved_row m)) (list_all (λ (m : Move). p (moved_row m)) ms) rows in
     list_all-append p (left_parts all m) (flat_map (left_parts all) ms)
-    ∙ cong_and (parts_pass p m (free m.shift.old.from m.shift.old.till (sorted begins_before (news_of (shifts_of m.key all)))) (λ part. each m part parts.0)) (left_pass p all ms parts.1 each)
+    ∙ and_from _ _ (parts_pass p m (free m.shift.old.from m.shift.old.till (sorted begins_before (news_of (shifts_of m.key all)))) (λ part. each m part parts.0)) (left_pass p all ms parts.1 each)
 
 -- what holds of each row over its new period, and then of the parts of its old one, holds of all that is written
 pub written_pass : (p : RowChange → Bool) (moves : List Move) → list_all (λ (m : Move). p (moved_row m)) moves ≡ true → ((m : Move) (part : Span) → p (moved_row m) ≡ true → p (left_part m part) ≡ true) →
@@ -107,4 +103,4 @@ pub written_pass : (p : RowChange → Bool) (moves : List Move) → list_all (λ
 written_pass p moves rows each =
     all-sorted p goes_before (flat_map (left_parts moves) moves ++ map moved_row moves)
     ∙ list_all-append p (flat_map (left_parts moves) moves) (map moved_row moves)
-    ∙ cong_and (left_pass p moves moves rows each) (list_all-map p moved_row moves ∙ rows)
+    ∙ and_from _ _ (left_pass p moves moves rows each) (list_all-map p moved_row moves ∙ rows)

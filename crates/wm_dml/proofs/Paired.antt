@@ -1,11 +1,11 @@
 -- New rows in the places of old ones, from some place on.
 use Rattle.std.proofs.Common.{◌≡◌, ℕ, ◌+◌, true, List, [], ◌∷◌, ◌++◌, length, refl, sym, ap, ◌∙◌, arith}
+use Rattle.std.proofs.lemmas.Bool.{and_parts}
 use Rattle.std.proofs.lemmas.List.{append-nil, append_assoc}
 use Rattle.wm_base.specs.Period.{Span, overlaps}
 use Rattle.wm_base.specs.declared.row.Row.{Row}
 use Rattle.wm_base.specs.declared.value.Value.{Value}
 use Rattle.wm_spec.specs.declared.record.table.Table.{Table}
-use Rattle.wm_making.proofs.Nones.{both_true}
 use Rattle.wm_dml.specs.Changing.{all_overlap, row_period, replaced, replacing}
 use Rattle.wm_dml.specs.declared.change.RowChange.{RowChange}
 
@@ -28,7 +28,7 @@ replacing_begins {t} {within} {olds} {rows} {changes} {olds_left} {rows_left} {l
 pub replacing_one : {t : Table} {within : Span} {olds : List Row} {rows : List (List Value)} {changes : List RowChange} {olds_left : List Row} {rows_left : List (List Value)} {left : ℕ} {old : Row} {others : List Row} →
     Replacing t within olds rows changes olds_left rows_left left → olds_left ≡ old ∷ others → overlaps (row_period t old) within ≡ true
 replacing_one {t} {within} {olds} {rows} {changes} {olds_left} {rows_left} {left} {old} {others} f is =
-    (both_true (overlaps (row_period t old) within) (all_overlap t within others) (sym (ap (all_overlap t within) is) ∙ f.overlap)).0
+    (and_parts (overlaps (row_period t old) within) (all_overlap t within others) (sym (ap (all_overlap t within) is) ∙ f.overlap)).0
 
 -- one more is done
 pub replacing_more : {t : Table} {within : Span} {olds : List Row} {rows : List (List Value)} {changes : List RowChange} {olds_left : List Row} {rows_left : List (List Value)} {left : ℕ} {old : Row} {others : List Row} {row : List Value} {more : List (List Value)} {fewer : ℕ} {change : RowChange} {next : List RowChange} →
@@ -37,7 +37,7 @@ pub replacing_more : {t : Table} {within : Span} {olds : List Row} {rows : List 
 replacing_more {t} {within} {olds} {rows} {changes} {olds_left} {rows_left} {left} {old} {others} {row} {more} {fewer} {change} {next} f is new less one all = record {
   same = f.same ∙ ap (λ os. changes ++ replacing t within os rows_left) is ∙ ap (λ rs. changes ++ replacing t within (old ∷ others) rs) new ∙ sym (append_assoc changes (replaced t within old row ∷ []) (replacing t within others more))
       ∙ sym (ap (λ cs. cs ++ replacing t within others more) (all ∙ ap (λ (x : RowChange). changes ++ x ∷ []) one));
-  overlap = (both_true (overlaps (row_period t old) within) (all_overlap t within others) (sym (ap (all_overlap t within) is) ∙ f.overlap)).1;
+  overlap = (and_parts (overlaps (row_period t old) within) (all_overlap t within others) (sym (ap (all_overlap t within) is) ∙ f.overlap)).1;
   counted = omega (arith, less, f.counted, ap length new);
 }
 

@@ -1,5 +1,6 @@
 -- Rows of a table without valid time hold always, and are nothing but their declared values.
 use Rattle.std.proofs.Common.{◌≡◌, Bool, true, false, cond, List, [], ◌∷◌, length, map, take, drop, refl, ap, ◌∙◌}
+use Rattle.std.proofs.lemmas.Bool.{and_from}
 use Rattle.std.specs.Prelude.{Option, Some, None, ◌&&◌, slice_get, unwrap_or}
 use Rattle.std.specs.List.{list_all}
 use Rattle.std.specs.Option.{option_and_then}
@@ -12,7 +13,6 @@ use Rattle.wm_spec.specs.declared.record.table.Table.{Table}
 use Rattle.wm_dml.specs.Changing.{declared_values, row_period, all_overlap, row_key, gone, replaced}
 use Rattle.wm_dml.specs.Standing.{stands_in, is_period_alone, is_shown, all_stand, keys_of}
 use Rattle.wm_dml.specs.declared.change.RowChange.{RowChange}
-use Rattle.wm_making.proofs.Nones.{cong_and}
 
 pub always_shared : shared always always ≡ always
 always_shared = refl
@@ -28,7 +28,7 @@ plain_shared t row plain = ap (λ p. shared p always) (plain_period t row plain)
 
 pub plain_overlap : (t : Table) (rows : List Row) → t.valid ≡ false → all_overlap t always rows ≡ true
 plain_overlap t [] plain = refl
-plain_overlap t (row ∷ rows) plain = cong_and (ap (λ p. overlaps p always) (plain_period t row plain)) (plain_overlap t rows plain)
+plain_overlap t (row ∷ rows) plain = and_from _ _ (ap (λ p. overlaps p always) (plain_period t row plain)) (plain_overlap t rows plain)
 
 and_nothing : (a : Bool) → (a && true) ≡ a
 and_nothing true = refl
@@ -46,16 +46,3 @@ pub plain_keys : (t : Table) (rows : List Row) → t.valid ≡ false → keys_of
 plain_keys t [] plain = refl
 plain_keys t (row ∷ rows) plain =
     ap (λ vs. row_key t vs ∷ keys_of t rows) (plain_values t row.values plain) ∙ ap (λ keys. row_key t row.values ∷ keys) (plain_keys t rows plain)
-
--- what DELETE writes of one
-pub plain_gone : (t : Table) (row : Row) → t.valid ≡ false → gone t always row ≡ record { key = row_key t row.values; period = always; row = None; kind = Delete }
-plain_gone t row plain =
-    let without : Option (List Value) = None in
-    let change : List Value → Span → RowChange = λ vs period. record { key = row_key t vs; period = period; row = without; kind = Delete } in
-    ap (λ vs. change vs (shared (row_period t row) always)) (plain_values t row.values plain) ∙ ap (λ period. change row.values period) (plain_shared t row plain)
-
--- and what UPDATE writes in its place
-pub plain_replaced : (t : Table) (old : Row) (row : List Value) → t.valid ≡ false → replaced t always old row ≡ record { key = row_key t row; period = always; row = Some row; kind = Update }
-plain_replaced t old row plain =
-    let change : Span → RowChange = λ period. record { key = row_key t row; period = period; row = Some row; kind = Update } in
-    ap change (plain_shared t old plain)

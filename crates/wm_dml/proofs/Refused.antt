@@ -1,14 +1,15 @@
 -- What is known of the sets of an UPDATE that is refused for nothing by its names and its types.
 use Rattle.std.proofs.Common.{◌≡◌, ℕ, Bool, true, false, List, [], ◌∷◌, refl, sym, ◌∙◌}
+use Rattle.std.proofs.lemmas.Bool.{or_parts}
 use Rattle.std.specs.Prelude.{Option, Some, None, ◌&&◌, ◌||◌, ◌==◌, not}
 use Rattle.std.specs.Option.{option_or}
+use Rattle.wm_base.proofs.Plain.{option_or_parts}
 use Rattle.wm_base.specs.declared.columns.Column.{Column}
 use Rattle.wm_base.specs.Trees.{Cond, Set, Expr, Of, Neg, Add, Sub, Mul}
-use Rattle.wm_making.proofs.Fitted.{unless_none}
-use Rattle.wm_making.proofs.Nones.{or_none}
 use Rattle.wm_spec.specs.Operands.{kind_of}
 use Rattle.wm_spec.specs.declared.record.table.Table.{Table}
-use Rattle.wm_typing.proofs.ByName.{neither, operand_is, set_kind_is}
+use Rattle.wm_typing.proofs.ByName.{operand_is, set_kind_is}
+use Rattle.wm_typing.proofs.Nones.{holds}
 use Rattle.wm_typing.proofs.Typed.{update_served}
 use Rattle.wm_typing.specs.Changing.{lacking_anywhere, may_stand, mistyped_in_set, mistyped_in_sets, key_set, unknown_in_sets, update_fault}
 use Rattle.wm_typing.specs.Lacking.{lacking_in_expr, lacks_in_set, lacks_in_sets}
@@ -54,8 +55,8 @@ same_kind columns (Mul x y) here = refl
 
 one_fits : (columns : List Column) (s : Set) → mistyped_in_set columns s ≡ None → lacks_in_set columns s ≡ false → Fits columns s
 one_fits columns s none served =
-    let parts = or_none (unless (may_stand (kind_named None s.name columns) (expr_kind columns s.becomes)) s.name) (mistyped_in_expr columns s.becomes) none in
-    let kinds = stand_kinds (kind_named None s.name columns) (expr_kind columns s.becomes) (unless_none (may_stand (kind_named None s.name columns) (expr_kind columns s.becomes)) s.name parts.0) in
+    let parts = option_or_parts (unless (may_stand (kind_named None s.name columns) (expr_kind columns s.becomes)) s.name) (mistyped_in_expr columns s.becomes) none in
+    let kinds = stand_kinds (kind_named None s.name columns) (expr_kind columns s.becomes) (holds (may_stand (kind_named None s.name columns) (expr_kind columns s.becomes)) s.name parts.0) in
     let here = set_kind_is columns s served in
     record {
       column = kinds.0;
@@ -70,8 +71,8 @@ one_fits columns s none served =
 each_fits : (columns : List Column) (sets : List Set) → mistyped_in_sets columns sets ≡ None → lacks_in_sets columns sets ≡ false → EachFits columns sets
 each_fits columns [] none served = tt
 each_fits columns (s ∷ ss) none served =
-    let parts = or_none (mistyped_in_set columns s) (mistyped_in_sets columns ss) none in
-    let each = neither (lacks_in_set columns s) (lacks_in_sets columns ss) served in
+    let parts = option_or_parts (mistyped_in_set columns s) (mistyped_in_sets columns ss) none in
+    let each = or_parts (lacks_in_set columns s) (lacks_in_sets columns ss) served in
     (one_fits columns s parts.0 each.0, each_fits columns ss parts.1 each.1)
 
 refusal_parts : (u m k t : Option (List ℕ)) → first_refusal u m k t ≡ None → (u ≡ None) × (m ≡ None) × (k ≡ None)
@@ -85,4 +86,4 @@ pub update_parts : (t : Table) (sets : List Set) (filter : Option Cond) → upda
 unfolding update_fault
 update_parts t sets filter none =
     let parts = refusal_parts (option_or (unknown_in_sets (own_columns t) [] sets) (unknown_in_filter (own_columns t) filter)) (option_or (mistyped_in_sets (own_columns t) sets) (mistyped_in_filter (own_columns t) filter)) (key_set t sets) (lacking_anywhere (own_columns t) t sets filter) none in
-    (each_fits (own_columns t) sets (or_none (mistyped_in_sets (own_columns t) sets) (mistyped_in_filter (own_columns t) filter) parts.1).0 (update_served t sets filter none), parts.2)
+    (each_fits (own_columns t) sets (option_or_parts (mistyped_in_sets (own_columns t) sets) (mistyped_in_filter (own_columns t) filter) parts.1).0 (update_served t sets filter none), parts.2)

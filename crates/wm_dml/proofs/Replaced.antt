@@ -1,5 +1,6 @@
 -- A row that UPDATE makes of another may stand in its place.
 use Rattle.std.proofs.Common.{◌≡◌, ℕ, zero, suc, ◌<◌, ◌≤◌, Bool, true, false, cond, List, [], ◌∷◌, ◌++◌, length, map, take, nat_lt, refl, sym, ap, ◌∙◌, subst, arith, get_or}
+use Rattle.std.proofs.lemmas.Bool.{and_from, and_parts, ltb-false, ltb-true}
 use Rattle.std.specs.Prelude.{Option, Some, None, ◌&&◌, ◌||◌, ◌==◌, slice_get, option_map, unwrap_or}
 use Rattle.std.specs.List.{find, list_all, position}
 use Rattle.std.specs.Option.{option_map_or, option_and_then}
@@ -7,6 +8,7 @@ use Rattle.std.specs.Str.{bytes_eq}
 use Rattle.std.proofs.lemmas.List.{length-map}
 use Rattle.std.proofs.lemmas.List.Quantifiers.{position-Some}
 use Rattle.std.proofs.lemmas.Option.{slice_get-map, slice_get_within, get_or_from_slice_get}
+use Rattle.wm_base.proofs.Plain.{none_mapped}
 use Rattle.wm_base.specs.declared.columns.Column.{Column}
 use Rattle.wm_base.specs.declared.row.Row.{Row}
 use Rattle.wm_base.specs.declared.value.Value.{Value}
@@ -15,9 +17,9 @@ use Rattle.wm_base.specs.Value.{type_place}
 use Rattle.wm_graph.specs.Rules.{differ, same_column, is_table, type_of, fits_column, fit_columns, is_key_of}
 use Rattle.wm_making.proofs.Filled.{stored_filled}
 use Rattle.wm_making.proofs.Fitted.{of_type, suits_on}
-use Rattle.wm_making.proofs.Nones.{map_none, if_none, both_true, cong_and, not_above, same_bytes, same_name}
+use Rattle.wm_making.proofs.Nones.{if_none, same_bytes, same_name}
 use Rattle.wm_making.proofs.Placed.{got}
-use Rattle.wm_making.proofs.Written.{turned, found_itself, before_some, stored_typed, table_parts, is_below, stands}
+use Rattle.wm_making.proofs.Written.{turned, found_itself, before_some, stored_typed, table_parts, stands}
 use Rattle.wm_making.specs.Inserting.{has_name}
 use Rattle.wm_making.specs.Rows.{before, stored, is_filled, row_fault}
 use Rattle.wm_spec.specs.Expressions.{value_of}
@@ -48,9 +50,9 @@ not_behind : {A : Type 0} (test : A → Bool) (xs : List A) (q p : ℕ) (d : A) 
 not_behind test xs q p d first passes = by_order (nat_lt p q) refl
   where
     by_order : (b : Bool) → nat_lt p q ≡ b → q ≤ p
-    by_order false is = not_above p q is
+    by_order false is = ltb-false p q is
     by_order true is =
-        let fails = (position-Some test xs q d first).2 p (is_below p q is) in
+        let fails = (position-Some test xs q d first).2 p (ltb-true p q is) in
         absurd (let e : true ≡ false = sym passes ∙ fails in cc)
 
 -- a column of the name of a declared one is that one, where it is the first of the columns of that name
@@ -156,10 +158,10 @@ each_set columns sets row (d ∷ ds) (u ∷ us) new fit made zero c w column val
     let parts = before_some (set_value columns sets row d u) (set_values columns sets row ds us) new made in
     let e : c ≡ d = cc in
     let f : Some parts.0 ≡ Some w = sym (ap (λ l. slice_get l 0) parts.4) ∙ value in
-    (u, refl, ap (λ x. fits_column x u) e ∙ (both_true (fits_column d u) (fit_columns ds us) fit).0, ap (λ x. set_value columns sets row x u) e ∙ parts.2 ∙ f)
+    (u, refl, ap (λ x. fits_column x u) e ∙ (and_parts (fits_column d u) (fit_columns ds us) fit).0, ap (λ x. set_value columns sets row x u) e ∙ parts.2 ∙ f)
 each_set columns sets row (d ∷ ds) (u ∷ us) new fit made (suc p) c w column value =
     let parts = before_some (set_value columns sets row d u) (set_values columns sets row ds us) new made in
-    each_set columns sets row ds us parts.1 (both_true (fits_column d u) (fit_columns ds us) fit).1 parts.3 p c w column (sym (ap (λ l. slice_get l (suc p)) parts.4) ∙ value)
+    each_set columns sets row ds us parts.1 (and_parts (fits_column d u) (fit_columns ds us) fit).1 parts.3 p c w column (sym (ap (λ l. slice_get l (suc p)) parts.4) ∙ value)
 
 -- what stands behind the declared values is not read as one of them
 set_taken : (columns : List Column) (sets : List Set) (row : Row) (cs : List TableColumn) (vs : List Value) → set_values columns sets row cs (take (length cs) vs) ≡ set_values columns sets row cs vs
@@ -179,7 +181,7 @@ new_length columns sets row [] vs new fit made = let e : new ≡ [] = cc in sym 
 new_length columns sets row (c ∷ cs) [] new fit made = absurd (cc)
 new_length columns sets row (c ∷ cs) (v ∷ vs) new fit made =
     let parts = before_some (set_value columns sets row c v) (set_values columns sets row cs vs) new made in
-    ap (λ n. suc n) (new_length columns sets row cs vs parts.1 (both_true (fits_column c v) (fit_columns cs vs) fit).1 parts.3) ∙ sym (ap length parts.4)
+    ap (λ n. suc n) (new_length columns sets row cs vs parts.1 (and_parts (fits_column c v) (fit_columns cs vs) fit).1 parts.3) ∙ sym (ap length parts.4)
 
 -- no empty text comes of what has none
 set_filled : (columns : List Column) (sets : List Set) (row : Row) (c : TableColumn) (v w : Value) → is_filled v ≡ true → set_value columns sets row c v ≡ Some w → is_filled w ≡ true
@@ -201,8 +203,8 @@ new_filled columns sets row [] vs new filled made = let e : new ≡ [] = cc in a
 new_filled columns sets row (c ∷ cs) [] new filled made = let e : new ≡ [] = cc in ap (list_all is_filled) e
 new_filled columns sets row (c ∷ cs) (v ∷ vs) new filled made =
     let parts = before_some (set_value columns sets row c v) (set_values columns sets row cs vs) new made in
-    let old = both_true (is_filled v) (list_all is_filled vs) filled in
-    ap (list_all is_filled) parts.4 ∙ cong_and (set_filled columns sets row c v parts.0 old.0 parts.2) (new_filled columns sets row cs vs parts.1 old.1 parts.3)
+    let old = and_parts (is_filled v) (list_all is_filled vs) filled in
+    ap (list_all is_filled) parts.4 ∙ and_from _ _ (set_filled columns sets row c v parts.0 old.0 parts.2) (new_filled columns sets row cs vs parts.1 old.1 parts.3)
 
 -- ---- its key
 
@@ -220,12 +222,12 @@ not_key t c (s ∷ ss) keyed there none =
 key_stays : (t : Table) (columns : List Column) (sets : List Set) (row : Row) (vs new : List Value) → is_table t ≡ true → t.has_key ≡ true → key_set t sets ≡ None → fit_columns t.columns vs ≡ true →
     set_values columns sets row t.columns vs ≡ Some new → slice_get new t.key_column ≡ slice_get vs t.key_column
 key_stays t columns sets row vs new order keyed none fit made =
-    let near : t.key_column < length t.columns = is_below t.key_column (length t.columns) (sym (ap (λ b. cond b (nat_lt t.key_column (length t.columns)) true) keyed) ∙ (table_parts t order).1) in
+    let near : t.key_column < length t.columns = ltb-true t.key_column (length t.columns) (sym (ap (λ b. cond b (nat_lt t.key_column (length t.columns)) true) keyed) ∙ (table_parts t order).1) in
     let same : length t.columns ≡ length new = new_length columns sets row t.columns vs new fit made in
     let column = got t.columns t.key_column near in
     let value = got new t.key_column (omega (arith, near, same)) in
     let old = each_set columns sets row t.columns vs new fit made t.key_column column.0 value.0 column.1 value.1 in
-    let unset = not_key t column.0 sets keyed column.1 (map_none (λ (s : Set). s.name) (find (λ (s : Set). is_key t s.name) sets) none) in
+    let unset = not_key t column.0 sets keyed column.1 (none_mapped (λ (s : Set). s.name) (find (λ (s : Set). is_key t s.name) sets) none) in
     value.1 ∙ sym old.3 ∙ unset_value columns sets row column.0 old.0 unset ∙ sym old.1
 
 -- ---- the law
@@ -238,12 +240,12 @@ row_replaces t sets row new order keyed typed unset old made light =
     let columns = own_columns t in
     let vs = declared_values t row.values in
     let olds = shown_parts t row.values old in
-    let fit = (both_true (fit_columns t.columns vs) _ olds.0).0 in
+    let fit = (and_parts (fit_columns t.columns vs) _ olds.0).0 in
     let set : set_values columns sets row t.columns vs ≡ Some new = set_declared columns sets row t row.values ∙ made in
     let stand = stands t new order keyed light (new_length columns sets row t.columns vs new fit set) (λ p c w column value.
     let was = each_set columns sets row t.columns vs new fit set p c w column value in
     value_suits t.name t.columns (cond t.valid (valid_column t.name ∷ []) []) sets row p c was.0 w (table_parts t order).0 typed (shown_fits t row.values old) column was.2 was.3) in
     let key : row_key t new ≡ stand.value ∷ [] = ap (λ o. unwrap_or o []) stand.key in (
-      cong_and stand.fits (cong_and (ap (λ k. is_key_of k t) key ∙ stand.key_fits) (new_filled columns sets row t.columns vs new olds.2 set)),
+      and_from _ _ stand.fits (and_from _ _ (ap (λ k. is_key_of k t) key ∙ stand.key_fits) (new_filled columns sets row t.columns vs new olds.2 set)),
       ap (λ o. unwrap_or (option_and_then (λ v. cond t.has_key (Some (v ∷ [])) None) o) []) (key_stays t columns sets row vs new order keyed unset fit set),
     )

@@ -1,5 +1,6 @@
 -- What is known of shown rows: they fit the columns of their table, and the period of each lasts.
 use Rattle.std.proofs.Common.{◌≡◌, ℕ, zero, suc, Bool, true, false, cond, List, [], ◌∷◌, ◌++◌, length, map, take, drop, refl, sym, ap, ◌∙◌}
+use Rattle.std.proofs.lemmas.Bool.{and_from, and_parts}
 use Rattle.std.specs.Prelude.{◌&&◌, ◌==◌, slice_get, unwrap_or}
 use Rattle.std.specs.List.{list_all}
 use Rattle.std.specs.Option.{option_and_then}
@@ -11,9 +12,9 @@ use Rattle.wm_base.specs.declared.value.Value.{Value}
 use Rattle.wm_base.specs.declared.value.Value.TheVariants as values
 use Rattle.wm_graph.specs.Rules.{type_of, fits_column, fit_columns, is_row_of, is_key_of}
 use Rattle.wm_making.proofs.Fitted.{of_type}
-use Rattle.wm_making.proofs.Nones.{both_true, cong_and}
 use Rattle.wm_making.proofs.Written.{turned_test}
 use Rattle.wm_making.specs.Rows.{is_filled}
+use Rattle.wm_select.proofs.FitLemmas.{fits_append}
 use Rattle.wm_spec.specs.Conditions.{fits}
 use Rattle.wm_spec.specs.Operands.{fits_columns, period_of}
 use Rattle.wm_spec.specs.declared.record.column.TableColumn.{TableColumn}
@@ -28,9 +29,9 @@ use Rattle.wm_dml.specs.Standing.{stands_in, is_lasting, is_period_alone, is_sho
 pub shown_parts : (t : Table) (vs : List Value) → is_shown t vs ≡ true →
     (is_row_of (declared_values t vs) t ≡ true) × (is_key_of (row_key t (declared_values t vs)) t ≡ true) × (list_all is_filled (declared_values t vs) ≡ true)
 shown_parts t vs shown =
-    let stand = (both_true (stands_in t (declared_values t vs)) (cond t.valid (is_period_alone (drop (length t.columns) vs)) true) shown).0 in
-    let row = both_true (is_row_of (declared_values t vs) t) (is_key_of (row_key t (declared_values t vs)) t && list_all is_filled (declared_values t vs)) stand in
-    let key = both_true (is_key_of (row_key t (declared_values t vs)) t) (list_all is_filled (declared_values t vs)) row.1 in
+    let stand = (and_parts (stands_in t (declared_values t vs)) (cond t.valid (is_period_alone (drop (length t.columns) vs)) true) shown).0 in
+    let row = and_parts (is_row_of (declared_values t vs) t) (is_key_of (row_key t (declared_values t vs)) t && list_all is_filled (declared_values t vs)) stand in
+    let key = and_parts (is_key_of (row_key t (declared_values t vs)) t) (list_all is_filled (declared_values t vs)) row.1 in
     (row.0, key.0, key.1)
 
 alone : (vs : List Value) → is_period_alone vs ≡ true → (p : Span) × (vs ≡ values.Span p ∷ []) × (is_lasting p ≡ true)
@@ -48,7 +49,7 @@ alone (values.Time instant ∷ vs) is = absurd (cc)
 pub of_column : (c : TableColumn) (v : Value) → fits_column c v ≡ true → of_type v (type_of c.kind) ≡ true
 of_column c values.Null fit = refl
 of_column c (values.Num n) fit = fit
-of_column c (values.Text text) fit = turned_test (type_of c.kind) 2 (both_true (type_of c.kind == 2) _ fit).0
+of_column c (values.Text text) fit = turned_test (type_of c.kind) 2 (and_parts (type_of c.kind == 2) _ fit).0
 of_column c (values.Time instant) fit = fit
 of_column c (values.Span period) fit = fit
 
@@ -58,16 +59,8 @@ declared_fit source [] [] fit = refl
 declared_fit source [] (v ∷ vs) fit = absurd (cc)
 declared_fit source (c ∷ cs) [] fit = absurd (cc)
 declared_fit source (c ∷ cs) (v ∷ vs) fit =
-    let parts = both_true (fits_column c v) (fit_columns cs vs) fit in
-    cong_and (of_column c v parts.0) (declared_fit source cs vs parts.1)
-
-both_fit : (cs ds : List Column) (vs ws : List Value) → fits_columns cs vs ≡ true → fits_columns ds ws ≡ true → fits_columns (cs ++ ds) (vs ++ ws) ≡ true
-both_fit [] ds [] ws one other = other
-both_fit [] ds (v ∷ vs) ws one other = absurd (cc)
-both_fit (c ∷ cs) ds [] ws one other = absurd (cc)
-both_fit (c ∷ cs) ds (v ∷ vs) ws one other =
-    let parts = both_true (of_type v c.kind) (fits_columns cs vs) one in
-    cong_and parts.0 (both_fit cs ds vs ws parts.1 other)
+    let parts = and_parts (fits_column c v) (fit_columns cs vs) fit in
+    and_from _ _ (of_column c v parts.0) (declared_fit source cs vs parts.1)
 
 period_fits : (source : List ℕ) (vs : List Value) → is_period_alone vs ≡ true → fits_columns (valid_column source ∷ []) vs ≡ true
 period_fits source vs is = let one = alone vs is in ap (λ ws. fits_columns (valid_column source ∷ []) ws) one.1
@@ -76,21 +69,21 @@ values_fit : (valid : Bool) (source : List ℕ) (cs : List TableColumn) (vs : Li
     fits_columns (map (declared_column source) cs ++ cond valid (valid_column source ∷ []) []) vs ≡ true
 values_fit true source cs vs fit last =
     ap (λ ws. fits_columns (map (declared_column source) cs ++ valid_column source ∷ []) ws) (sym (take-append-drop (length cs) vs))
-    ∙ both_fit (map (declared_column source) cs) (valid_column source ∷ []) (take (length cs) vs) (drop (length cs) vs) (declared_fit source cs (take (length cs) vs) fit) (period_fits source (drop (length cs) vs) last)
+    ∙ fits_append (map (declared_column source) cs) (valid_column source ∷ []) (take (length cs) vs) (drop (length cs) vs) (declared_fit source cs (take (length cs) vs) fit) (period_fits source (drop (length cs) vs) last)
 values_fit false source cs vs fit last = ap (λ ds. fits_columns ds vs) (append-nil (map (declared_column source) cs)) ∙ declared_fit source cs vs fit
 
 -- a shown row fits the columns of its table
 pub shown_fits : (t : Table) (vs : List Value) → is_shown t vs ≡ true → fits_columns (own_columns t) vs ≡ true
 shown_fits t vs shown =
-    values_fit t.valid t.name t.columns vs (both_true (fit_columns t.columns (declared_values t vs)) _ (shown_parts t vs shown).0).0
-    (both_true (stands_in t (declared_values t vs)) (cond t.valid (is_period_alone (drop (length t.columns) vs)) true) shown).1
+    values_fit t.valid t.name t.columns vs (and_parts (fit_columns t.columns (declared_values t vs)) _ (shown_parts t vs shown).0).0
+    (and_parts (stands_in t (declared_values t vs)) (cond t.valid (is_period_alone (drop (length t.columns) vs)) true) shown).1
 
 pub rows_fit : (t : Table) (rows : List Row) → all_stand t rows ≡ true → list_all (fits (own_columns t)) rows ≡ true
 unfolding fits
 rows_fit t [] all = refl
 rows_fit t (row ∷ rows) all =
-    let parts = both_true (is_shown t row.values) (all_stand t rows) all in
-    cong_and (shown_fits t row.values parts.0) (rows_fit t rows parts.1)
+    let parts = and_parts (is_shown t row.values) (all_stand t rows) all in
+    and_from _ _ (shown_fits t row.values parts.0) (rows_fit t rows parts.1)
 
 -- ---- their periods last
 
@@ -107,4 +100,4 @@ period_lasts false n vs last = refl
 
 pub shown_lasts : (t : Table) (row : Row) → is_shown t row.values ≡ true → is_lasting (row_period t row) ≡ true
 shown_lasts t row shown =
-    period_lasts t.valid (length t.columns) row.values (both_true (stands_in t (declared_values t row.values)) (cond t.valid (is_period_alone (drop (length t.columns) row.values)) true) shown).1
+    period_lasts t.valid (length t.columns) row.values (and_parts (stands_in t (declared_values t row.values)) (cond t.valid (is_period_alone (drop (length t.columns) row.values)) true) shown).1

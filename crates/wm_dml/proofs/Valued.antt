@@ -1,5 +1,6 @@
 -- The value of an expression over a row that fits its columns has the type of the expression, or is NULL.
 use Rattle.std.proofs.Common.{◌≡◌, ℕ, zero, suc, Bool, true, false, cond, List, [], ◌∷◌, refl, sym, ap, ◌∙◌}
+use Rattle.std.proofs.lemmas.Bool.{and_parts}
 use Rattle.std.specs.Prelude.{Option, Some, None, ◌&&◌, ◌==◌, count_by, slice_get, option_map, unwrap_or}
 use Rattle.std.specs.List.{position}
 use Rattle.std.specs.Option.{option_and_then}
@@ -13,7 +14,6 @@ use Rattle.wm_base.specs.declared.value.Value.{Value}
 use Rattle.wm_base.specs.declared.value.Value.TheVariants as values
 use Rattle.wm_base.specs.Trees.{Expr, Of, Neg, Add, Sub, Mul}
 use Rattle.wm_making.proofs.Fitted.{of_type, number_typed, constant_typed, tested_typed, chosen as one_chosen}
-use Rattle.wm_making.proofs.Nones.{both_true}
 use Rattle.wm_spec.specs.Expressions.{number_in, value_of}
 use Rattle.wm_spec.specs.Operands.{is_named, kind_of, suffixed_kind, constant_kind, constant_value, is_period, operand_kind, fits_columns, value_at, suffixed, period_at, tested, operand_value}
 
@@ -44,8 +44,8 @@ fits_at (d ∷ ds) [] q c v fit column value = absurd (cc)
 fits_at (d ∷ ds) (w ∷ ws) zero c v fit column value =
     let e : c ≡ d = cc in
     let f : v ≡ w = cc in
-    ap (λ (x : Column). of_type v x.kind) e ∙ ap (λ x. of_type x d.kind) f ∙ (both_true (of_type w d.kind) (fits_columns ds ws) fit).0
-fits_at (d ∷ ds) (w ∷ ws) (suc q) c v fit column value = fits_at ds ws q c v (both_true (of_type w d.kind) (fits_columns ds ws) fit).1 column value
+    ap (λ (x : Column). of_type v x.kind) e ∙ ap (λ x. of_type x d.kind) f ∙ (and_parts (of_type w d.kind) (fits_columns ds ws) fit).0
+fits_at (d ∷ ds) (w ∷ ws) (suc q) c v fit column value = fits_at ds ws q c v (and_parts (of_type w d.kind) (fits_columns ds ws) fit).1 column value
 
 found_typed : (source : Option (List ℕ)) (name : List ℕ) (columns : List Column) (vs : List Value) (k q : ℕ) (c : Column) → fits_columns columns vs ≡ true →
     position (is_named source name) columns ≡ Some q → slice_get columns q ≡ Some c → c.kind ≡ k → of_type (value_at source name columns vs) k ≡ true

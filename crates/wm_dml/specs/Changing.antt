@@ -86,7 +86,7 @@ set_value columns sets row c v = of (find (λ (s : Set). bytes_eq s.name c.name)
     of None = Some v
     of (Some s) = option_map stored (value_of s.becomes columns row)
 
--- so for all columns
+-- the values of all columns once they are set
 abbrev pub set_values : List Column → List Set → Row → List TableColumn → List Value → Option (List Value)
 set_values columns sets row (c ∷ cs) (v ∷ vs) = before (set_value columns sets row c v) (set_values columns sets row cs vs)
 set_values columns sets row _ _ = Some []

@@ -102,7 +102,7 @@ left_part m part = record { key = m.key; period = part; row = let nothing : Opti
 abbrev pub begins_before : Span → Span → Bool
 begins_before p q = is_lt (span_order p q)
 
--- the same for each longest part of it that no new period of the key covers
+-- no row over each longest part of the old period that no new period of the key covers
 abbrev pub left_parts : List Move → Move → List RowChange
 left_parts moves m = map (left_part m) (free m.shift.old.from m.shift.old.till (sorted begins_before (news_of (shifts_of m.key moves))))
 

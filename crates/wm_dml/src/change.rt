@@ -1,3 +1,4 @@
+//! A change of a key over a period.
 use wm_base::{Key, Kind, Period, Values};
 
 /// What becomes of a key over a period.

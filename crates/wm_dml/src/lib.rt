@@ -21,5 +21,5 @@ pub use faults::rows_fault;
 pub use moving::{Move, Shift, clash_in, moved, moves_of};
 pub use replaced_rows::replacing;
 pub use shifts::Shifts;
-pub use shown::{all_overlap, declared_values, row_period};
+pub use shown::{declared_values, row_period};
 pub use updated::{sets_period, updated_rows};

@@ -28,7 +28,7 @@ use wm_base::tree::statement::Set;
 use wm_base::{Columns, Key, Kind, Memory, Period, Row, Value, Values};
 use wm_expr::{ValueFault, value};
 use wm_spec::record::Table;
-use wm_temporal::push_free;
+use wm_temporal::uncovered;
 use wm_typing::columns_of_table;
 
 /// Where a row stood, and where it will stand.
@@ -252,8 +252,7 @@ fn parts_left(alloc: Global, shifts: &[Shift], one: &Move) -> Result<Vec<Period>
 {
     let mut news = new_periods(alloc, shifts)?;
     sort_periods(&mut news)?;
-    let mut parts = Vec::new(alloc);
-    push_free(&mut parts, &one.shift.old, news.as_slice())?;
+    let parts = uncovered(alloc, &[one.shift.old], news.as_slice())?;
     Ok(parts)
 }
 
@@ -290,7 +289,7 @@ fn push_left(
     Ok(())
 }
 
-/// The same for all rows that move.
+/// Writes for each row that moves that no row stands over what the new periods of its key leave of its old one.
 fn all_left(alloc: Global, moves: &[Move], shifts: &Shifts) -> Result<Vec<RowChange>, Memory>
     requires { (key : List OneValue) → shifts_under shifts.now key ≡ shifts_of key moves.now }
     ensures exact { IfOk result (λ changes. changes.items ≡ flat_map (left_parts moves.now) moves.now) }

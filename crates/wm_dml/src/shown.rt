@@ -3,7 +3,7 @@ ghost use Rattle.std.specs.Prelude.{◌≡◌, true, take, slice_get, unwrap_or}
 ghost use Rattle.std.specs.Option.{option_and_then};
 ghost use Rattle.wm_base.specs.Period.{always, overlaps, shared as shared_of};
 ghost use Rattle.wm_spec.specs.Operands.{period_of};
-ghost use Rattle.wm_dml.specs.Changing.{declared_values as declared_of, row_period as period_of_row, all_overlap as each_overlaps};
+ghost use Rattle.wm_dml.specs.Changing.{declared_values as declared_of, row_period as period_of_row};
 
 use wm_base::{Period, Row, Value};
 use wm_spec::record::Table;
@@ -49,19 +49,6 @@ pub fn row_period(table: &Table, row: &Row) -> Period
     } else {
         Period::always()
     }
-}
-
-fn overlaps_in(table: &Table, within: &Period, row: &Row) -> bool
-    ensures { result ≡ overlaps (period_of_row table.now row.now) within.now }
-{
-    row_period(table, row).overlaps(within)
-}
-
-/// Whether each of the rows holds somewhere in the period.
-pub fn all_overlap(table: &Table, within: &Period, rows: &[Row]) -> bool
-    ensures { result ≡ each_overlaps table.now within.now rows.now }
-{
-    rows.iter().all(|row| overlaps_in(table, within, row))
 }
 
 /// What two periods share that overlap.

@@ -93,7 +93,7 @@ fn set_value(
     }
 }
 
-/// So the values of all columns.
+/// The values of all columns once the sets are done.
 fn set_values(
     alloc: Global,
     columns: &Columns,
@@ -118,7 +118,7 @@ fn set_values(
     Ok(made)
 }
 
-/// So the rows that are made of all.
+/// The row that the sets make of each.
 fn all_updated(
     alloc: Global,
     table: &Table,

@@ -1,7 +1,8 @@
 -- What stands under an id in lists of slots.
 use Rattle.std.proofs.Common.{◌≡◌, ℕ, Bool, true, false, cond, not, ◌||◌, eqb, List, [], ◌∷◌, ◌++◌, filter, Option, Some, None, is_some, refl, ap, subst, ◌∙◌, arith}
 use Rattle.std.specs.Option.{option_or}
-use Rattle.std.proofs.lemmas.Bool.{eqb-true}
+use Rattle.std.proofs.lemmas.Bool.{eqb-true, or_parts}
+use Rattle.wm_base.proofs.Plain.{either_parts, none_since}
 use Rattle.wm_heap.specs.declared.slot.Slot.{Slot}
 use Rattle.wm_heap.specs.Content.{bytes_at, is_twice}
 use Rattle.wm_heap.specs.Places.{Once}
@@ -11,10 +12,6 @@ use Rattle.wm_heap.specs.Places.{Once}
 -- three numbers of which two pairs are the same
 same_third : (a b c : ℕ) → eqb a b ≡ true → eqb a c ≡ true → eqb c b ≡ true
 same_third a b c e f = let p = eqb-true a b e in let q = eqb-true a c f in grind (arith, p, q)
-
-pub is_none : {A : Type 0} (o : Option A) → is_some o ≡ false → o ≡ None
-is_none (Some x) e = absurd cc
-is_none None e = refl
 
 pub none_is : {A : Type 0} (o : Option A) → o ≡ None → is_some o ≡ false
 none_is (Some x) e = absurd cc
@@ -87,19 +84,11 @@ Once-push (x ∷ xs) s once none =
 
 -- ---- ids that were seen
 
-split_test : (b c : Bool) → cond b true c ≡ false → (b ≡ false) × (c ≡ false)
-split_test true c e = absurd cc
-split_test false c e = (refl, e)
-
-split_or : (b c : Bool) → (b || c) ≡ false → (b ≡ false) × (c ≡ false)
-split_or true c e = absurd cc
-split_or false c e = (refl, e)
-
 pub seen-before : (seen : ℕ → Bool) (xs : List Slot) (id : ℕ) → is_twice seen xs ≡ false → is_some (bytes_at xs id) ≡ true → seen id ≡ false
 seen-before seen [] id never there = absurd cc
 seen-before seen (s ∷ xs) id never there =
-    let t = split_test (seen s.id) (is_twice (λ j. eqb s.id j || seen j) xs) never in
-    by_test (eqb s.id id) refl t.0 (λ here. (split_or (eqb s.id id) (seen id) (seen-before (λ j. eqb s.id j || seen j) xs id t.1 here)).1) there
+    let t = either_parts (seen s.id) (is_twice (λ j. eqb s.id j || seen j) xs) never in
+    by_test (eqb s.id id) refl t.0 (λ here. (or_parts (eqb s.id id) (seen id) (seen-before (λ j. eqb s.id j || seen j) xs id t.1 here)).1) there
   where
     by_test : (b : Bool) → eqb s.id id ≡ b → seen s.id ≡ false → (is_some (bytes_at xs id) ≡ true → seen id ≡ false) → is_some (cond b (Some s.bytes) (bytes_at xs id)) ≡ true → seen id ≡ false
     by_test true e not_seen rest here = subst (λ j. seen j ≡ false) (eqb-true s.id id e) not_seen
@@ -108,12 +97,12 @@ seen-before seen (s ∷ xs) id never there =
 pub Once-seen : (seen : ℕ → Bool) (xs : List Slot) → is_twice seen xs ≡ false → Once xs
 Once-seen seen [] never = tt
 Once-seen seen (s ∷ xs) never =
-    let t = split_test (seen s.id) (is_twice (λ j. eqb s.id j || seen j) xs) never in
-    (by_case (is_some (bytes_at xs s.id)) refl (λ there. (split_or (eqb s.id s.id) (seen s.id) (seen-before (λ j. eqb s.id j || seen j) xs s.id t.1 there)).0), Once-seen (λ j. eqb s.id j || seen j) xs t.1)
+    let t = either_parts (seen s.id) (is_twice (λ j. eqb s.id j || seen j) xs) never in
+    (by_case (is_some (bytes_at xs s.id)) refl (λ there. (or_parts (eqb s.id s.id) (seen s.id) (seen-before (λ j. eqb s.id j || seen j) xs s.id t.1 there)).0), Once-seen (λ j. eqb s.id j || seen j) xs t.1)
   where
     by_case : (b : Bool) → is_some (bytes_at xs s.id) ≡ b → (is_some (bytes_at xs s.id) ≡ true → eqb s.id s.id ≡ false) → bytes_at xs s.id ≡ None
     by_case true e differs = absurd (let apart = differs e in grind (arith, apart))
-    by_case false e differs = is_none (bytes_at xs s.id) e
+    by_case false e differs = none_since (bytes_at xs s.id) e
 
 pub is_twice-none : (seen : ℕ → Bool) (xs : List Slot) → Once xs → ((id : ℕ) → is_some (bytes_at xs id) ≡ true → seen id ≡ false) → is_twice seen xs ≡ false
 is_twice-none seen [] once apart = refl

@@ -4,6 +4,7 @@ use Rattle.std.specs.List.{All, AllByRecursion}
 use Rattle.std.specs.Ordering.{nat_cmp, is_eq}
 use Rattle.std.proofs.Common.{take, drop, replicate}
 use Rattle.std.proofs.lemmas.List.{length-append, length-take, length-drop, length-replicate}
+use Rattle.wm_page.proofs.Batches.{entries-append}
 use Rattle.wm_page.proofs.Numbers.{length-eight_bytes}
 use Rattle.wm_page.specs.Fields.{eight_bytes}
 use Rattle.wm_heap.specs.Plan.{root_of}
@@ -13,10 +14,6 @@ use Rattle.wm_heap.specs.declared.slot.Slot.{Slot}
 use Rattle.wm_heap.specs.Slots.{slots_of, page_of, used}
 use Rattle.wm_heap.specs.Places.{at}
 use Rattle.wm_heap.specs.Draft.{HasRoom, written}
-
-pub entries-append : (ws vs : List PageWrite) → entries (ws ++ vs) ≡ entries ws ++ entries vs
-entries-append [] vs = refl
-entries-append (w ∷ ws) vs = ap (λ (l : List (ℕ × List ℕ)). (w.page, w.bytes) ∷ l) (entries-append ws vs)
 
 -- each slots have room, one after another
 pub room_each : (changed : List (ℕ × List Slot)) (all : List (ℕ × List Slot)) → HasRoom all → All (λ e. at all e.0 ≡ Some e.1) changed → AllByRecursion (λ e. used e.1 ≤ 4096) changed

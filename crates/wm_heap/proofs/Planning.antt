@@ -6,8 +6,10 @@ use Rattle.std.specs.List.Sorted.{IsStrictlySortedBy}
 use Rattle.std.specs.Ordering.{nat_cmp, is_eq}
 use Rattle.std.specs.declared.cmp.Ordering.TheVariants.{Less}
 use Rattle.std.specs.Map.{keys_of}
-use Rattle.std.proofs.lemmas.Bool.{cases_lt, lt-ltb, ltb-true, eqb-true}
+use Rattle.std.proofs.lemmas.Bool.{cases_lt, eqb-true, lt-ltb, ltb-true, or_parts}
 use Rattle.std.proofs.lemmas.List.{drop_more, drop_all}
+use Rattle.wm_base.proofs.Plain.{unless_parts}
+use Rattle.wm_page.proofs.Batches.{length-entries}
 use Rattle.wm_page.specs.declared.write.PageWrite.{PageWrite}
 use Rattle.wm_page.specs.Batch.{entries}
 use Rattle.wm_spec.specs.Records.{ids_differ}
@@ -27,22 +29,14 @@ use Rattle.wm_heap.proofs.Standing.{Grows-none, Grows-then}
 
 -- ---- blobs, each with an id of its own
 
-test_apart : (b : Bool) (rest : Bool) → cond b false rest ≡ true → (b ≡ false) × (rest ≡ true)
-test_apart true rest e = absurd cc
-test_apart false rest e = (refl, e)
-
-split_or : (b c : Bool) → (b || c) ≡ false → (b ≡ false) × (c ≡ false)
-split_or true c e = absurd cc
-split_or false c e = (refl, e)
-
 not_named : (id : ℕ) (blobs : List Blob) → list_any (λ other. eqb other id) (map (λ (b : Blob). b.id) blobs) ≡ false → blob_at blobs id ≡ None
 not_named id [] apart = refl
-not_named id (b ∷ blobs) apart = let t = split_or (eqb b.id id) (list_any (λ other. eqb other id) (map (λ (b : Blob). b.id) blobs)) apart in rw t.0 (not_named id blobs t.1)
+not_named id (b ∷ blobs) apart = let t = or_parts (eqb b.id id) (list_any (λ other. eqb other id) (map (λ (b : Blob). b.id) blobs)) apart in rw t.0 (not_named id blobs t.1)
 
 pub AreBlobs-rest : (b : Blob) (blobs : List Blob) → AreBlobs (b ∷ blobs) → (blob_at blobs b.id ≡ None) × AreBlobs blobs
 unfolding ids_differ
 AreBlobs-rest b blobs once =
-    let t = test_apart (list_any (λ other. eqb other b.id) (map (λ (b : Blob). b.id) blobs)) (ids_differ (map (λ (b : Blob). b.id) blobs)) once in
+    let t = unless_parts (list_any (λ other. eqb other b.id) (map (λ (b : Blob). b.id) blobs)) (ids_differ (map (λ (b : Blob). b.id) blobs)) once in
     (not_named b.id blobs t.0, t.1)
 
 -- ---- the steps
@@ -334,10 +328,6 @@ changed_is heap changed held in_use in_file before blobs i end none telling agai
     by_place id (Some p) e = ap (λ xs. bytes_at xs id) (slots_are p (placed.there id p e).0)
 
 -- ---- as the calls say it
-
-length-entries : (ws : List PageWrite) → length (entries ws) ≡ length ws
-length-entries [] = refl
-length-entries (w ∷ ws) = omega (arith, length-entries ws)
 
 -- at the end nothing is left to change
 all_gone : (b : Bool) (blobs : List Blob) (there : ℕ → Bool) → blobs ≡ [] → (b && not (change_something there blobs)) ≡ b

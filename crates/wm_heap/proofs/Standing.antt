@@ -2,13 +2,14 @@
 use Rattle.std.proofs.Common.{◌≡◌, ℕ, suc, ◌+◌, ◌<◌, ◌≤◌, max, ◌⊎◌, inl, inr, ⊎_elim, Bool, true, false, cond, not, eqb, List, [], ◌∷◌, ◌++◌, length, filter, Option, Some, None, is_some, unwrap_or, refl, sym, ap, subst, ◌∙◌, arith}
 use Rattle.std.specs.Option.{option_and_then}
 use Rattle.std.proofs.lemmas.Bool.{cases_lt, eqb-true}
+use Rattle.wm_base.proofs.Plain.{none_since}
 use Rattle.wm_heap.specs.declared.slot.Slot.{Slot}
 use Rattle.wm_heap.specs.declared.heap.Heap.{Heap}
 use Rattle.wm_heap.specs.Slots.{used}
 use Rattle.wm_heap.specs.Content.{bytes_at, slots_in}
 use Rattle.wm_heap.specs.Places.{at, ids_on, ids_of, place_of, page_count, Once, IsPlaced}
 use Rattle.wm_heap.specs.Draft.{slots_now, bytes_now, HasRoom, IsThere, Stands, Puts, Grows, Goes, Done}
-use Rattle.wm_heap.proofs.Finding.{is_none, none_is, bytes_at-push, bytes_at-without, Once-push, Once-without}
+use Rattle.wm_heap.proofs.Finding.{none_is, bytes_at-push, bytes_at-without, Once-push, Once-without}
 use Rattle.wm_heap.proofs.Upto.{away}
 
 -- The slots of one page change, and the place of one id: where it was it is no more, and it is on this page or nowhere.
@@ -30,19 +31,9 @@ with_page slots page new p = cond (eqb p page) new (slots p)
 test_here : (p : ℕ) → eqb p p ≡ true
 test_here p = grind arith
 
-test_away : (p q : ℕ) → (p ≡ q → ⊥) → eqb p q ≡ false
-test_away p q apart = by_test (eqb p q) refl
-  where
-    by_test : (b : Bool) → eqb p q ≡ b → b ≡ false
-    by_test true e = absurd (apart (eqb-true p q e))
-    by_test false e = refl
-
 -- the slots of a page that has them now
 on_page : (slots : ℕ → List Slot) (page : ℕ) (new : List Slot) → with_page slots page new page ≡ new
 on_page slots page new = rw (test_here page) refl
-
-off_page : (slots : ℕ → List Slot) (page : ℕ) (new : List Slot) (p : ℕ) → eqb p page ≡ false → with_page slots page new p ≡ slots p
-off_page slots page new p e = rw e refl
 
 pub IsPlaced-moves : (slots now : ℕ → List Slot) (count after : ℕ) (old place : ℕ → Option ℕ) (id page : ℕ) (new : List Slot) (where_to : Option ℕ) → IsPlaced slots count old → Moves slots count old id page new where_to
     → ((p : ℕ) → now p ≡ with_page slots page new p) → after ≡ max count (suc page) → ((j : ℕ) → place j ≡ cond (eqb j id) where_to (old j)) → IsPlaced now after place
@@ -133,7 +124,7 @@ bytes-move slots now count old place id page new where_to placed moves now_is pl
   where
     to_page : (b : Bool) → is_some (bytes_at new id) ≡ b → option_and_then (λ p. bytes_at (now p) id) where_to ≡ bytes_at new id
     to_page true e = rw (moves.now e) (ap (λ xs. bytes_at xs id) (now_is page ∙ on_page slots page new))
-    to_page false e = rw (moves.gone e) (sym (is_none (bytes_at new id) e))
+    to_page false e = rw (moves.gone e) (sym (none_since (bytes_at new id) e))
 
     by_old : eqb j id ≡ false → (o : Option ℕ) → old j ≡ o → option_and_then (λ p. bytes_at (now p) j) o ≡ option_and_then (λ p. bytes_at (slots p) j) o
     by_old e None f = refl

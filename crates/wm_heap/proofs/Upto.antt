@@ -2,12 +2,13 @@
 use Rattle.std.proofs.Common.{◌≡◌, ℕ, zero, suc, ◌+◌, ◌-◌, ◌<◌, ◌≤◌, ◌⊎◌, inl, inr, Bool, true, false, cond, ltb, List, [], Option, Some, None, is_some, unwrap_or, refl, sym, ap, subst, ◌∙◌, arith}
 use Rattle.std.specs.Option.{option_or, option_and_then}
 use Rattle.std.proofs.lemmas.Bool.{cases_lt, ltb-true, ltb-false, lt-ltb, le-ltb}
+use Rattle.wm_base.proofs.Plain.{none_since}
 use Rattle.wm_base.specs.declared.fault.Damage.{Damage}
 use Rattle.wm_heap.specs.declared.slot.Slot.{Slot}
 use Rattle.wm_heap.specs.Slots.{slots_of}
 use Rattle.wm_heap.specs.Content.{bytes_at, is_twice, slots_upto, slots_in, is_in, damage_on, fault_in}
 use Rattle.wm_heap.specs.Places.{Once, IsPlaced}
-use Rattle.wm_heap.proofs.Finding.{is_none, bytes_at-append, is_twice-none, seen-before, Once-seen}
+use Rattle.wm_heap.proofs.Finding.{bytes_at-append, is_twice-none, seen-before, Once-seen}
 
 -- an id stands on no page but its place
 pub away : (slots : ℕ → List Slot) (count : ℕ) (place : ℕ → Option ℕ) (id p : ℕ) → IsPlaced slots count place → 2 ≤ p → p < count → (place id ≡ Some p → ⊥) → bytes_at (slots p) id ≡ None
@@ -15,16 +16,12 @@ away slots count place id p placed from till apart = by_case (is_some (bytes_at 
   where
     by_case : (b : Bool) → is_some (bytes_at (slots p) id) ≡ b → bytes_at (slots p) id ≡ None
     by_case true e = absurd (apart (placed.only id p from till e))
-    by_case false e = is_none (bytes_at (slots p) id) e
+    by_case false e = none_since (bytes_at (slots p) id) e
 
 -- the bytes on the place of an id, where that is one of the first pages
 abbrev pub at_place : (ℕ → List Slot) → Option ℕ → ℕ → ℕ → Option (List ℕ)
 at_place slots None n id = None
 at_place slots (Some p) n id = cond (ltb p (n + 2)) (bytes_at (slots p) id) None
-
-or_none : (o : Option (List ℕ)) → option_or o None ≡ o
-or_none (Some x) = refl
-or_none None = refl
 
 or_some : (o p : Option (List ℕ)) → is_some o ≡ true → option_or o p ≡ o
 or_some (Some x) p there = refl
@@ -139,7 +136,7 @@ IsPlaced-page slots count place new placed enough never set = record {
     only_by id p (inl less) from till here = set id ∙ by_test (is_some (bytes_at (slots count) id)) refl (placed.only id p from less here)
       where
         by_test : (b : Bool) → is_some (bytes_at (slots count) id) ≡ b → place id ≡ Some p → cond b (Some count) (place id) ≡ Some p
-        by_test true b e = absurd (let unseen : is_some (place id) ≡ false = seen-before (λ j. is_some (place j)) (slots count) id never b in let gone = is_none (place id) unseen in cc)
+        by_test true b e = absurd (let unseen : is_some (place id) ≡ false = seen-before (λ j. is_some (place j)) (slots count) id never b in let gone = none_since (place id) unseen in cc)
         by_test false b e = e
     only_by id p (inr more) from till here =
         let same : p ≡ count = omega arith in

@@ -1,3 +1,4 @@
+//! What is to stand under ids, as bytes.
 ghost use Rattle.std.specs.Prelude.{◌≡◌, ◌∷◌, [], ◌++◌, length, OnOk, OnErr};
 
 use std::alloc::Global;

@@ -1,3 +1,4 @@
+//! The bytes of a page as slots.
 ghost use Rattle.std.specs.Prelude.{◌≡◌, IfOk};
 ghost use Rattle.wm_codec.specs.Fields.{text_at};
 ghost use Rattle.wm_codec.specs.Format.{times};

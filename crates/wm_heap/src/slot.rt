@@ -1,3 +1,4 @@
+//! The slots of a page.
 ghost use Rattle.std.specs.Prelude.{◌≡◌, ◌+◌, ◌<◌, ◌≤◌, false, IsTrue, ◌∷◌, [], ◌++◌, length, filter, not, ◌==◌, Some, OnOk, OnErr, IfOk};
 ghost use Rattle.wm_heap.specs.Slots.{used};
 ghost use Rattle.wm_heap.specs.Content.{bytes_at};
@@ -59,7 +60,7 @@ impl Slots {
         Ok(())
     }
 
-    /// The same slots once more.
+    /// A copy of the slots.
     pub fn copy(&self, alloc: Global) -> Result<Slots, Memory>
         ensures { IfOk result (λ slots. slots ≡ self.now) }
     {

@@ -1,3 +1,4 @@
+//! The places at which records stand.
 ghost use Rattle.std.specs.Prelude.{◌≡◌, ◌∷◌, [], ◌++◌, length, OnOk, OnErr};
 
 use std::alloc::Global;

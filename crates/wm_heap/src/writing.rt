@@ -1,3 +1,4 @@
+//! Slots as the bytes of a page.
 ghost use Rattle.std.specs.Prelude.{◌≡◌, ◌≤◌, ◌++◌, length, Some, IfOk, OnOk};
 ghost use Rattle.std.specs.List.{AllByRecursion};
 ghost use Rattle.wm_codec.specs.Fields.{text};

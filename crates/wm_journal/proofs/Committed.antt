@@ -1,9 +1,11 @@
 -- What a commit is asked for and what it gives, of a batch as it is handed in.
 use Rattle.std.proofs.Common.{◌≡◌, ℕ, ◌^◌, ◌<◌, ◌≤◌, inl, inr, max, Bool, true, List, [], ◌∷◌, length, refl, sym, ◌∙◌, ap, subst, arith}
+use Rattle.std.proofs.lemmas.Bool.{and_from}
 use Rattle.std.specs.Prelude.{◌&&◌, All}
 use Rattle.std.specs.List.{AllByRecursion}
 use Rattle.std.proofs.lemmas.Grind.{common_steps}
 use Rattle.std.proofs.lemmas.List.Elements.{All-from_recursion}
+use Rattle.wm_page.proofs.Batches.{length-entries}
 use Rattle.wm_page.specs.Batch.{entries}
 use Rattle.wm_page.specs.Entries.{is_named, no_page_twice, found, AreWhole}
 use Rattle.wm_page.specs.Fields.{number_at}
@@ -29,10 +31,6 @@ pub record Asked (count : ℕ) (ws : List PageWrite) (old : History) : Type 0 wh
   pub enough : 3 ≤ count
   pub rests : IsAtRest old count
 
-pub length-entries : (ws : List PageWrite) → length (entries ws) ≡ length ws
-length-entries [] = refl
-length-entries (w ∷ ws) = omega (arith, length-entries ws)
-
 pub whole_entries : (ws : List PageWrite) → AreWhole (entries ws)
 whole_entries [] = tt
 whole_entries (w ∷ ws) = (w.whole, whole_entries ws)
@@ -45,15 +43,12 @@ below_each s (w ∷ ws) below = (grind (arith, common_steps), below_each s ws (g
 pub all_below : (s : ℕ) (ws : List PageWrite) → are_below s (entries ws) ≡ true → All (λ (w : PageWrite). w.page < s) ws
 all_below s ws below = All-from_recursion (λ (w : PageWrite). w.page < s) ws (below_each s ws below)
 
-pub both_true : (a b : Bool) → a ≡ true → b ≡ true → (a && b) ≡ true
-both_true a b one two = grind arith
-
 commits : (count : ℕ) (ws : List PageWrite) (old : History) → Asked count ws old → max count (count_after count (entries ws)) < 2 ^ 64 → length ws < 2 ^ 64 → Commits (max count (count_after count (entries ws))) count (count_after count (entries ws)) (entries ws)
 commits count ws old asked fits few =
     let es = entries ws in
     let s = max count (count_after count es) in
     record {
-      sound = record { low = omega (arith, asked.root); some = omega (arith, asked.some, length-entries ws); names = both_true (are_below s es) (no_page_twice es) asked.pages asked.distinct; whole = whole_entries ws };
+      sound = record { low = omega (arith, asked.root); some = omega (arith, asked.some, length-entries ws); names = and_from (are_below s es) (no_page_twice es) asked.pages asked.distinct; whole = whole_entries ws };
       fits = below_fit s es (omega arith) asked.pages;
       start_fits = fits;
       size_fits = omega (arith, length-entries ws);

@@ -1,7 +1,7 @@
 -- A store that was made.
 use Rattle.std.proofs.Common.{◌≡◌, ℕ, ◌+◌, ◌*◌, ◌<◌, ◌≤◌, ⊎_elim, inl, inr, max, true, false, List, [], ◌∷◌, ◌++◌, length, take, drop, set, get_or, replicate, slice_index, refl, sym, ◌∙◌, ap, subst, arith}
 use Rattle.std.specs.Prelude.{◌==◌, ◌^◌, All}
-use Rattle.std.proofs.lemmas.Bool.{cases_eq}
+use Rattle.std.proofs.lemmas.Bool.{and_from, cases_eq}
 use Rattle.std.proofs.lemmas.List.{length-set, length-replicate, get_or-set_same, get_or-set_other, get_or-replicate, set_split, drop-take}
 use Rattle.std.proofs.Math.Seq.{take-add}
 use Rattle.wm_page.specs.Entries.{is_named, no_page_twice, found, AreWhole}
@@ -13,7 +13,7 @@ use Rattle.wm_station.proofs.Steps.{Torn-done}
 use Rattle.wm_journal.specs.Disk.{page, are_below}
 use Rattle.wm_journal.specs.Store.{Rests, IsAtRest, count_after, made_page}
 use Rattle.wm_journal.specs.Writes.{Step, Write, Sync, Did, DidPart, placing, marking, rooting, making, root_page}
-use Rattle.wm_journal.proofs.Committed.{count_found, whole_entries, both_true}
+use Rattle.wm_journal.proofs.Committed.{count_found, whole_entries}
 use Rattle.wm_journal.proofs.Reading.{all_small}
 use Rattle.wm_journal.proofs.Kept.{page_kept, slice_index-stretch}
 use Rattle.wm_journal.proofs.Names.{below_named}
@@ -203,4 +203,4 @@ make_given ws vs old middle new one told below once first second count did =
     (subst (λ (h : History). Did (making root_page (entries ws)) h new) told (subst (λ (v : List PageWrite). Did (making root_page (entries v)) middle new) one did))
 
 pub make_small : (ws vs : List PageWrite) → vs ≡ ws → are_below 3 (entries ws) ≡ true → no_page_twice (entries ws) ≡ true → All (λ (w : PageWrite). w.page * 4096 < 2 ^ 64) vs
-make_small ws vs one below once = subst (λ (v : List PageWrite). All (λ (w : PageWrite). w.page * 4096 < 2 ^ 64) v) (sym one) (all_small 3 ws (omega arith) (both_true (are_below 3 (entries ws)) (no_page_twice (entries ws)) below once))
+make_small ws vs one below once = subst (λ (v : List PageWrite). All (λ (w : PageWrite). w.page * 4096 < 2 ^ 64) v) (sym one) (all_small 3 ws (omega arith) (and_from (are_below 3 (entries ws)) (no_page_twice (entries ws)) below once))

@@ -39,10 +39,6 @@ images_read file (e ∷ es) numbers images fits whole first second =
     let number : number_at file numbers ≡ e.0 = number_at-eight_bytes file numbers e.0 fits.0 here in
     entry_same (number_at file numbers) e.0 (stretch file images 4096) e.1 (images_at file (length es) (numbers + 8) (images + 4096)) es number there rest
 
--- the directory takes whole pages
-pub directory-room : (n : ℕ) → 8 * n ≤ directory_pages n * 4096
-directory-room n = omega arith
-
 pub length-journal_bytes : (es : List (ℕ × List ℕ)) → AreWhole es → length (journal_bytes es) ≡ (directory_pages (length es) + length es) * 4096
 unfolding journal_bytes
 length-journal_bytes es whole =

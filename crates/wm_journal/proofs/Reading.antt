@@ -56,10 +56,6 @@ pub read_all : (file : List ℕ) (s n i numbers images : ℕ) (es : List (ℕ ×
 read_all file s n i numbers images es done read =
     sym (append-nil es) ∙ ap (λ (l : List (ℕ × List ℕ)). es ++ l) (sym (none_left file (n - i) (numbers + i * 8) (images + i * 4096) (omega arith))) ∙ read.left
 
-pub entries-append : (ws vs : List PageWrite) → entries (ws ++ vs) ≡ entries ws ++ entries vs
-entries-append [] vs = refl
-entries-append (w ∷ ws) vs = ap (λ (l : List (ℕ × List ℕ)). (w.page, w.bytes) ∷ l) (entries-append ws vs)
-
 -- one page more that may be named
 below_more : (s : ℕ) (es : List (ℕ × List ℕ)) (e : ℕ × List ℕ) → are_below s es ≡ true → 0 < e.0 → e.0 < s → are_below s (es ++ e ∷ []) ≡ true
 below_more s [] e below low high = grind (arith, nat_tests)

@@ -1,5 +1,6 @@
 -- The replay of a journal: the file goes on saying what it said.
 use Rattle.std.proofs.Common.{◌≡◌, ℕ, zero, suc, ◌+◌, ◌*◌, ◌/◌, ◌<◌, ◌≤◌, ⊎_elim, Bool, true, false, List, length, drop, slice_index, refl, sym, ◌∙◌, ap, subst, arith}
+use Rattle.std.proofs.lemmas.Bool.{eqb-true, leb-true, ltb-true}
 use Rattle.std.specs.Prelude.{◌==◌, ◌&&◌, not, nat_lt, nat_le}
 use Rattle.std.proofs.lemmas.Bool.Decides.{nat_tests}
 use Rattle.std.proofs.lemmas.List.{length-take, length-drop}
@@ -31,19 +32,13 @@ pub record Order (a : List ℕ) : Type 0 where
 split_four : (a b c d : Bool) → (a && b && c && d) ≡ true → (a ≡ true) × (b ≡ true) × (c ≡ true) × (d ≡ true)
 split_four a b c d all = grind arith
 
-le_of : (a b : ℕ) → nat_le a b ≡ true → a ≤ b
-le_of a b test = grind (arith, nat_tests)
-
-lt_of : (a b : ℕ) → nat_lt a b ≡ true → a < b
-lt_of a b test = grind (arith, nat_tests)
-
 pub order : (a : List ℕ) → is_in_order a ≡ true → Order a
 unfolding is_in_order
 order a test =
     let s = journal_page a in
     let n = journal_size a in
     let parts = split_four (nat_le 2 s) (nat_lt 0 n) (nat_le ((s + directory_pages n + n) * 4096) (length a)) (may_name s (journal a)) test in
-    record { low = le_of 2 s parts.0; some = lt_of 0 n parts.1; room = le_of ((s + directory_pages n + n) * 4096) (length a) parts.2; names = parts.3 }
+    record { low = leb-true 2 s parts.0; some = ltb-true 0 n parts.1; room = leb-true ((s + directory_pages n + n) * 4096) (length a) parts.2; names = parts.3 }
 
 length-images_at : (a : List ℕ) (n numbers images : ℕ) → length (images_at a n numbers images) ≡ n
 unfolding images_at
@@ -84,9 +79,6 @@ open_ready a open_ =
       room = subst (λ (k : ℕ). (s + directory_pages k + k) * 4096 ≤ length a) (sym size) facts.room;
     }
 
-byte_of : (a b : ℕ) → (a == b) ≡ true → a ≡ b
-byte_of a b test = grind (arith, nat_tests)
-
 -- the order of the tests, for two files that pass the same
 damage_same : (a c : List ℕ) → length c ≡ length a → has_format a ≡ true → has_format c ≡ true → (is_open a && not (is_in_order a)) ≡ false → (is_open c && not (is_in_order c)) ≡ false → count_of c ≡ count_of a → damage_of c ≡ damage_of a
 damage_same a c size one two three four five =
@@ -111,8 +103,8 @@ pub stores_keeps : (a c : List ℕ) → Open a → Stores (over (journal a) (pag
 stores_keeps a c open_ stores size =
     let facts = order a open_.order in
     let pages : (p : ℕ) → 1 ≤ p → p < whole_pages a → held c p ≡ held a p = λ p one under. stores.pages p one under ∙ sym (held_open a (journal a) p open_.open_ refl) in
-    let one : slice_index c 0 ≡ 90 = byte_of (slice_index c 0) 90 stores.made in
-    let two : slice_index a 0 ≡ 90 = byte_of (slice_index a 0) 90 open_.made in
+    let one : slice_index c 0 ≡ 90 = eqb-true (slice_index c 0) 90 stores.made in
+    let two : slice_index a 0 ≡ 90 = eqb-true (slice_index a 0) 90 open_.made in
     record {
       made = one ∙ sym two;
       damage = damage_same a c size open_.format stores.format (order_passes (is_open a) (is_in_order a) (λ _. open_.order)) (order_passes (is_open c) (is_in_order c) stores.order)

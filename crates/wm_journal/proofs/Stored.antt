@@ -1,6 +1,7 @@
 -- Files that opening finds to hold a store's pages.
 use Rattle.std.proofs.Common.{◌≡◌, ℕ, ◌+◌, ◌*◌, ◌<◌, ◌≤◌, ◌⊎◌, ⊎_elim, inl, inr, Bool, true, false, List, length, refl, sym, ◌∙◌, ap, subst, arith}
 use Rattle.std.proofs.lemmas.Bool.Decides.{nat_tests}
+use Rattle.std.proofs.lemmas.Bool.{le-leb, lt-ltb}
 use Rattle.std.specs.Prelude.{nat_le, nat_lt, ◌&&◌}
 use Rattle.wm_page.specs.Entries.{is_named, found}
 use Rattle.wm_journal.specs.Disk.{page, is_open, journal_page, journal_size, directory_pages, journal_at, journal, may_name, is_in_order, held}
@@ -19,12 +20,6 @@ journal_same c s t m n one two = ap (λ (k : ℕ). journal_at c k m) one ∙ ap 
 pub ready_journal : (s : ℕ) (es : List (ℕ × List ℕ)) (c : List ℕ) → Ready s es c → journal c ≡ es
 ready_journal s es c ready = journal_same c (journal_page c) s (journal_size c) (length es) ready.start ready.images ∙ ready.journal
 
-is_le : (a b : ℕ) → a ≤ b → nat_le a b ≡ true
-is_le a b le = grind (arith, nat_tests)
-
-is_lt : (a b : ℕ) → a < b → nat_lt a b ≡ true
-is_lt a b lt = grind (arith, nat_tests)
-
 all_four : (a b c d : Bool) → a ≡ true → b ≡ true → c ≡ true → d ≡ true → (a && b && c && d) ≡ true
 all_four a b c d one two three four = grind arith
 
@@ -36,7 +31,7 @@ unfolding is_in_order
 order_of c s n es start size same low some room names =
     let named : may_name (journal_page c) (journal c) ≡ true = subst (λ (l : List (ℕ × List ℕ)). may_name (journal_page c) l ≡ true) (sym same) (subst (λ (k : ℕ). may_name k es ≡ true) (sym start) names) in
     all_four (nat_le 2 (journal_page c)) (nat_lt 0 (journal_size c)) (nat_le ((journal_page c + directory_pages (journal_size c) + journal_size c) * 4096) (length c)) (may_name (journal_page c) (journal c))
-    (is_le 2 (journal_page c) (omega arith)) (is_lt 0 (journal_size c) (omega arith)) (is_le ((journal_page c + directory_pages (journal_size c) + journal_size c) * 4096) (length c) (size_same (journal_page c) s (journal_size c) n (length c) start size room)) named
+    (le-leb 2 (journal_page c) (omega arith)) (lt-ltb 0 (journal_size c) (omega arith)) (le-leb ((journal_page c + directory_pages (journal_size c) + journal_size c) * 4096) (length c) (size_same (journal_page c) s (journal_size c) n (length c) start size room)) named
 
 pub ready_order : (s : ℕ) (es : List (ℕ × List ℕ)) (c : List ℕ) → Sound s es → Ready s es c → is_in_order c ≡ true
 ready_order s es c sound ready = order_of c s (length es) es ready.start ready.images (ready_journal s es c ready) sound.low sound.some ready.room sound.names

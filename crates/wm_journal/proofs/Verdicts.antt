@@ -1,5 +1,6 @@
 -- The tests of opening, one by one, and the fields as they are read.
 use Rattle.std.proofs.Common.{◌≡◌, ℕ, ◌+◌, ◌-◌, ◌<◌, ◌≤◌, Bool, true, false, List, length, take, drop, slice_index, refl, sym, ◌∙◌, ap, arith, Option, Some, None}
+use Rattle.std.proofs.lemmas.Bool.{le-ltb, lt-ltb}
 use Rattle.std.specs.Prelude.{◌==◌, ◌&&◌, not, nat_lt, if◌then◌else◌}
 use Rattle.std.proofs.lemmas.Bool.Decides.{nat_tests}
 use Rattle.std.proofs.lemmas.List.{drop-take, take-take}
@@ -26,45 +27,39 @@ pub damage_is : (a : List ℕ) → damage_of a ≡ verdict (length a) (has_forma
 unfolding damage_of verdict
 damage_is a = refl
 
-lt_yes : (a b : ℕ) → a < b → nat_lt a b ≡ true
-lt_yes a b lt = grind (arith, nat_tests)
-
-lt_no : (a b : ℕ) → b ≤ a → nat_lt a b ≡ false
-lt_no a b le = grind (arith, nat_tests)
-
 verdict_short : (size : ℕ) (f d : Bool) (k : ℕ) → size < 4096 → verdict size f d k ≡ Some (0, Short)
 unfolding verdict
-verdict_short size f d k lt = let e : nat_lt size 4096 ≡ true = lt_yes size 4096 lt in rw e
+verdict_short size f d k lt = let e : nat_lt size 4096 ≡ true = lt-ltb size 4096 lt in rw e
 
 verdict_format : (size : ℕ) (f d : Bool) (k : ℕ) → 4096 ≤ size → f ≡ false → verdict size f d k ≡ Some (0, Format)
 unfolding verdict
-verdict_format size f d k le format = let e : nat_lt size 4096 ≡ false = lt_no size 4096 le in rw (e, format)
+verdict_format size f d k le format = let e : nat_lt size 4096 ≡ false = le-ltb size 4096 le in rw (e, format)
 
 verdict_journal : (size : ℕ) (f d : Bool) (k : ℕ) → 4096 ≤ size → f ≡ true → d ≡ true → verdict size f d k ≡ Some (0, Journal)
 unfolding verdict
-verdict_journal size f d k le format disorder = let e : nat_lt size 4096 ≡ false = lt_no size 4096 le in rw (e, format, disorder)
+verdict_journal size f d k le format disorder = let e : nat_lt size 4096 ≡ false = le-ltb size 4096 le in rw (e, format, disorder)
 
 verdict_root_short : (size : ℕ) (f d : Bool) (k : ℕ) → 4096 ≤ size → f ≡ true → d ≡ false → size < 8192 → verdict size f d k ≡ Some (1, Short)
 unfolding verdict
 verdict_root_short size f d k le format disorder lt =
-    let e : nat_lt size 4096 ≡ false = lt_no size 4096 le in
-    let r : nat_lt size 8192 ≡ true = lt_yes size 8192 lt in
+    let e : nat_lt size 4096 ≡ false = le-ltb size 4096 le in
+    let r : nat_lt size 8192 ≡ true = lt-ltb size 8192 lt in
     rw (e, format, disorder, r)
 
 verdict_root : (size : ℕ) (f d : Bool) (k : ℕ) → f ≡ true → d ≡ false → 8192 ≤ size → k < 3 → verdict size f d k ≡ Some (1, Root)
 unfolding verdict
 verdict_root size f d k format disorder le lt =
-    let e : nat_lt size 4096 ≡ false = lt_no size 4096 (omega arith) in
-    let r : nat_lt size 8192 ≡ false = lt_no size 8192 le in
-    let c : nat_lt k 3 ≡ true = lt_yes k 3 lt in
+    let e : nat_lt size 4096 ≡ false = le-ltb size 4096 (omega arith) in
+    let r : nat_lt size 8192 ≡ false = le-ltb size 8192 le in
+    let c : nat_lt k 3 ≡ true = lt-ltb k 3 lt in
     rw (e, format, disorder, r, c)
 
 verdict_none : (size : ℕ) (f d : Bool) (k : ℕ) → f ≡ true → d ≡ false → 8192 ≤ size → 3 ≤ k → verdict size f d k ≡ None
 unfolding verdict
 verdict_none size f d k format disorder le more =
-    let e : nat_lt size 4096 ≡ false = lt_no size 4096 (omega arith) in
-    let r : nat_lt size 8192 ≡ false = lt_no size 8192 le in
-    let c : nat_lt k 3 ≡ false = lt_no k 3 more in
+    let e : nat_lt size 4096 ≡ false = le-ltb size 4096 (omega arith) in
+    let r : nat_lt size 8192 ≡ false = le-ltb size 8192 le in
+    let c : nat_lt k 3 ≡ false = le-ltb k 3 more in
     rw (e, format, disorder, r, c)
 
 and_closed : (b d : Bool) → b ≡ false → (b && d) ≡ false
@@ -108,12 +103,6 @@ unfolding stretch page
 count_read file bytes closed same =
     let here : number_at bytes 0 ≡ number_at (page file 1) 0 = number_at-same bytes (page file 1) 0 0 (ap (take 8) same ∙ take-take 8 8 (drop 4096 file) (omega arith) ∙ sym (take-take 8 4096 (drop 4096 file) (omega arith))) in
     here ∙ ap (λ (l : List ℕ). number_at l 0) (sym (held_closed file 1 closed))
-
-pub eq_yes : (a b : ℕ) → a ≡ b → (a == b) ≡ true
-eq_yes a b same = grind (arith, nat_tests)
-
-pub eq_no : (a b : ℕ) → (a ≡ b → ⊥) → (a == b) ≡ false
-eq_no a b other = grind (arith, nat_tests)
 
 -- a number, in what was read from its place
 pub number_there : (file bytes : List ℕ) (at : ℕ) → bytes ≡ stretch file at 8 → number_at bytes 0 ≡ number_at file at

@@ -14,7 +14,7 @@ use wm_page::read_number;
 use wm_station::{DiskFailed, Station};
 
 /// What page 0 says of the journal.
-#[derive(Debug, Drop)]
+#[derive(Drop)]
 pub(crate) struct Header {
     pub(crate) open: bool,
     pub(crate) start: u64,

@@ -1,6 +1,7 @@
 -- No text of a row that INSERT writes is empty.
 use Rattle.std.proofs.Common.{◌≡◌, ℕ, zero, suc, true, nat_lt, length, arith, List, [], ◌∷◌, map, take, refl, sym, ap, ◌∙◌}
 use Rattle.std.proofs.lemmas.Bool.Decides.{nat_tests}
+use Rattle.std.proofs.lemmas.Bool.{and_from, and_parts}
 use Rattle.std.specs.Prelude.{Option, Some, None, option_map, slice_get, unwrap_or, bytes_eq}
 use Rattle.std.specs.List.{list_all, position}
 use Rattle.std.specs.Option.{option_and_then}
@@ -11,7 +12,6 @@ use Rattle.wm_spec.specs.Expressions.{value_of}
 use Rattle.wm_spec.specs.declared.record.column.TableColumn.{TableColumn}
 use Rattle.wm_spec.specs.declared.record.table.Table.{Table}
 use Rattle.wm_making.specs.Rows.{no_row, before, stored, is_filled, value_alone, values_of, value_named, arranged, row_of}
-use Rattle.wm_making.proofs.Nones.{both_true, cong_and}
 
 pub stored_filled : (v : Value) → is_filled (stored v) ≡ true
 stored_filled (values.Text []) = refl
@@ -28,7 +28,7 @@ before_filled : (first : Option Value) (rest : Option (List Value)) (vs : List V
     → before first rest ≡ Some vs → list_all is_filled vs ≡ true
 before_filled None rest vs one all made = absurd (cc)
 before_filled (Some v) None vs one all made = absurd (cc)
-before_filled (Some v) (Some ws) vs one all made = let e : v ∷ ws ≡ vs = cc in ap (list_all is_filled) (sym e) ∙ cong_and (one v refl) (all ws refl)
+before_filled (Some v) (Some ws) vs one all made = let e : v ∷ ws ≡ vs = cc in ap (list_all is_filled) (sym e) ∙ and_from _ _ (one v refl) (all ws refl)
 
 alone_filled : (x : Expr) (v : Value) → value_alone x ≡ Some v → is_filled v ≡ true
 alone_filled x v made = by_value (value_of x [] no_row) made
@@ -43,8 +43,8 @@ values_filled (x ∷ xs) vs made = before_filled (value_alone x) (values_of xs) 
 
 one_filled : (vs : List Value) (p : ℕ) → list_all is_filled vs ≡ true → is_filled (unwrap_or (slice_get vs p) values.Null) ≡ true
 one_filled [] p all = refl
-one_filled (v ∷ vs) zero all = (both_true (is_filled v) (list_all is_filled vs) all).0
-one_filled (v ∷ vs) (suc p) all = one_filled vs p (both_true (is_filled v) (list_all is_filled vs) all).1
+one_filled (v ∷ vs) zero all = (and_parts (is_filled v) (list_all is_filled vs) all).0
+one_filled (v ∷ vs) (suc p) all = one_filled vs p (and_parts (is_filled v) (list_all is_filled vs) all).1
 
 named_filled : (names : List (List ℕ)) (vs : List Value) (name : List ℕ) → list_all is_filled vs ≡ true → is_filled (value_named names vs name) ≡ true
 named_filled names vs name all = by_place (position (bytes_eq name) names)
@@ -55,12 +55,12 @@ named_filled names vs name all = by_place (position (bytes_eq name) names)
 
 columns_filled : (names : List (List ℕ)) (vs : List Value) (cs : List TableColumn) → list_all is_filled vs ≡ true → list_all is_filled (map (λ (c : TableColumn). value_named names vs c.name) cs) ≡ true
 columns_filled names vs [] all = refl
-columns_filled names vs (c ∷ cs) all = cong_and (named_filled names vs c.name all) (columns_filled names vs cs all)
+columns_filled names vs (c ∷ cs) all = and_from _ _ (named_filled names vs c.name all) (columns_filled names vs cs all)
 
 taken_filled : (n : ℕ) (vs : List Value) → list_all is_filled vs ≡ true → list_all is_filled (take n vs) ≡ true
 taken_filled zero vs all = refl
 taken_filled (suc n) [] all = refl
-taken_filled (suc n) (v ∷ vs) all = let parts = both_true (is_filled v) (list_all is_filled vs) all in cong_and parts.0 (taken_filled n vs parts.1)
+taken_filled (suc n) (v ∷ vs) all = let parts = and_parts (is_filled v) (list_all is_filled vs) all in and_from _ _ parts.0 (taken_filled n vs parts.1)
 
 arranged_filled : (t : Table) (names : Option (List (List ℕ))) (vs : List Value) → list_all is_filled vs ≡ true → list_all is_filled (arranged t names vs) ≡ true
 arranged_filled t None vs all = taken_filled (length t.columns) vs all

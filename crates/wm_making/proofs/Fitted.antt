@@ -1,8 +1,10 @@
 -- Expressions that are not refused for their types: their periods last, and their values have their types.
 use Rattle.std.proofs.Common.{◌≡◌, ℕ, Bool, true, false, cond, List, [], refl, sym, ap, ◌∙◌, arith, ℤ}
+use Rattle.std.proofs.lemmas.Bool.{and_from, and_parts}
 use Rattle.std.specs.Prelude.{Option, Some, None, ◌&&◌, ◌||◌, ◌==◌, option_map, codes}
 use Rattle.std.specs.Option.{option_or}
 use Rattle.std.proofs.lemmas.Bool.Decides.{nat_tests}
+use Rattle.wm_base.proofs.Plain.{option_or_parts}
 use Rattle.wm_base.specs.Period.{Span as Period}
 use Rattle.wm_base.specs.Trees.{Expr, Of, Neg, Add, Sub, Mul}
 use Rattle.wm_base.specs.Value.{type_place}
@@ -19,17 +21,13 @@ use Rattle.wm_spec.specs.Expressions.{number_value, number_in, value_of, lasts, 
 use Rattle.wm_spec.specs.Operands.{suffixed_kind, constant_kind, constant_value, operand_value, tested, period_at}
 use Rattle.wm_spec.specs.declared.record.column.ColumnKind.{ColumnKind}
 use Rattle.wm_spec.specs.declared.record.column.ColumnKind.TheVariants as kinds
+use Rattle.wm_typing.proofs.Nones.{holds}
 use Rattle.wm_typing.specs.Names.{unless}
 use Rattle.wm_typing.specs.Types.{expr_kind, is_number, is_numeric, mistyped_in_expr}
 use Rattle.wm_making.specs.Inserting.{suits}
 use Rattle.wm_making.specs.Rows.{no_row}
-use Rattle.wm_making.proofs.Nones.{or_none, both_true, cong_and}
 
 -- ---- periods
-
-pub unless_none : (holds : Bool) (text : List ℕ) → unless holds text ≡ None → holds ≡ true
-unless_none true text none = refl
-unless_none false text none = absurd (cc)
 
 pub numbers_last : (kind : Option ℕ) → is_number kind ≡ true → kind ≡ Some 4 → ⊥
 numbers_last kind number period = let e : is_number kind ≡ false = ap (λ k. is_number k) period in cc
@@ -53,23 +51,23 @@ operand_lasts (operands.Test operator left right) other = refl
 pub lasting : (x : Expr) → mistyped_in_expr [] x ≡ None → (expr_kind [] x ≡ Some 4 → ⊥) → has_no_empty_period x ≡ true
 lasting (Of operand) none other = operand_lasts operand other
 lasting (Neg x) none other =
-    let parts = or_none (unless (is_numeric [] x) (codes "-")) (mistyped_in_expr [] x) none in
-    lasting x parts.1 (numbers_last (expr_kind [] x) (unless_none (is_numeric [] x) (codes "-") parts.0))
+    let parts = option_or_parts (unless (is_numeric [] x) (codes "-")) (mistyped_in_expr [] x) none in
+    lasting x parts.1 (numbers_last (expr_kind [] x) (holds (is_numeric [] x) (codes "-") parts.0))
 lasting (Add x y) none other =
-    let parts = or_none (mistyped_in_expr [] x) (option_or (unless (is_numeric [] x && is_numeric [] y) (codes "+")) (mistyped_in_expr [] y)) none in
-    let more = or_none (unless (is_numeric [] x && is_numeric [] y) (codes "+")) (mistyped_in_expr [] y) parts.1 in
-    let both = both_true (is_numeric [] x) (is_numeric [] y) (unless_none (is_numeric [] x && is_numeric [] y) (codes "+") more.0) in
-    cong_and (lasting x parts.0 (numbers_last (expr_kind [] x) both.0)) (lasting y more.1 (numbers_last (expr_kind [] y) both.1))
+    let parts = option_or_parts (mistyped_in_expr [] x) (option_or (unless (is_numeric [] x && is_numeric [] y) (codes "+")) (mistyped_in_expr [] y)) none in
+    let more = option_or_parts (unless (is_numeric [] x && is_numeric [] y) (codes "+")) (mistyped_in_expr [] y) parts.1 in
+    let both = and_parts (is_numeric [] x) (is_numeric [] y) (holds (is_numeric [] x && is_numeric [] y) (codes "+") more.0) in
+    and_from _ _ (lasting x parts.0 (numbers_last (expr_kind [] x) both.0)) (lasting y more.1 (numbers_last (expr_kind [] y) both.1))
 lasting (Sub x y) none other =
-    let parts = or_none (mistyped_in_expr [] x) (option_or (unless (is_numeric [] x && is_numeric [] y) (codes "-")) (mistyped_in_expr [] y)) none in
-    let more = or_none (unless (is_numeric [] x && is_numeric [] y) (codes "-")) (mistyped_in_expr [] y) parts.1 in
-    let both = both_true (is_numeric [] x) (is_numeric [] y) (unless_none (is_numeric [] x && is_numeric [] y) (codes "-") more.0) in
-    cong_and (lasting x parts.0 (numbers_last (expr_kind [] x) both.0)) (lasting y more.1 (numbers_last (expr_kind [] y) both.1))
+    let parts = option_or_parts (mistyped_in_expr [] x) (option_or (unless (is_numeric [] x && is_numeric [] y) (codes "-")) (mistyped_in_expr [] y)) none in
+    let more = option_or_parts (unless (is_numeric [] x && is_numeric [] y) (codes "-")) (mistyped_in_expr [] y) parts.1 in
+    let both = and_parts (is_numeric [] x) (is_numeric [] y) (holds (is_numeric [] x && is_numeric [] y) (codes "-") more.0) in
+    and_from _ _ (lasting x parts.0 (numbers_last (expr_kind [] x) both.0)) (lasting y more.1 (numbers_last (expr_kind [] y) both.1))
 lasting (Mul x y) none other =
-    let parts = or_none (mistyped_in_expr [] x) (option_or (unless (is_numeric [] x && is_numeric [] y) (codes "*")) (mistyped_in_expr [] y)) none in
-    let more = or_none (unless (is_numeric [] x && is_numeric [] y) (codes "*")) (mistyped_in_expr [] y) parts.1 in
-    let both = both_true (is_numeric [] x) (is_numeric [] y) (unless_none (is_numeric [] x && is_numeric [] y) (codes "*") more.0) in
-    cong_and (lasting x parts.0 (numbers_last (expr_kind [] x) both.0)) (lasting y more.1 (numbers_last (expr_kind [] y) both.1))
+    let parts = option_or_parts (mistyped_in_expr [] x) (option_or (unless (is_numeric [] x && is_numeric [] y) (codes "*")) (mistyped_in_expr [] y)) none in
+    let more = option_or_parts (unless (is_numeric [] x && is_numeric [] y) (codes "*")) (mistyped_in_expr [] y) parts.1 in
+    let both = and_parts (is_numeric [] x) (is_numeric [] y) (holds (is_numeric [] x && is_numeric [] y) (codes "*") more.0) in
+    and_from _ _ (lasting x parts.0 (numbers_last (expr_kind [] x) both.0)) (lasting y more.1 (numbers_last (expr_kind [] y) both.1))
 
 -- ---- values
 

@@ -9,14 +9,6 @@ use Rattle.std.specs.Prelude.{Option, Some, None, ◌&&◌, ◌||◌, not}
 use denote.Bor.{Bor}
 use Rattle.std.specs.Option.{is_some, option_or, option_map, option_copied}
 
-pub or_none : {A : Type 0} (a b : Option A) → option_or a b ≡ None → (a ≡ None) × (b ≡ None)
-or_none None b none = (refl, none)
-or_none (Some x) b none = absurd (cc)
-
-pub map_none : {A B : Type 0} (f : A → B) (a : Option A) → option_map f a ≡ None → a ≡ None
-map_none f None none = refl
-map_none f (Some x) none = absurd (cc)
-
 -- a choice of something gives nothing: the other was chosen
 pub if_none : {A : Type 0} (test : Bool) (x : A) (rest : Option A) → cond test (Some x) rest ≡ None → (test ≡ false) × (rest ≡ None)
 if_none true x rest none = absurd (cc)
@@ -26,40 +18,9 @@ pub if_not_none : {A : Type 0} (test : Bool) (x : A) (rest : Option A) → cond 
 if_not_none true x rest none = (refl, none)
 if_not_none false x rest none = absurd (cc)
 
-pub both_true : (a b : Bool) → (a && b) ≡ true → (a ≡ true) × (b ≡ true)
-both_true true true both = (refl, refl)
-both_true true false both = absurd (cc)
-both_true false b both = absurd (cc)
-
-pub neither : (a b : Bool) → (a || b) ≡ false → (a ≡ false) × (b ≡ false)
-neither false false none = (refl, refl)
-neither false true none = absurd (cc)
-neither true b none = absurd (cc)
-
-pub is_not : (a : Bool) → not a ≡ true → a ≡ false
-is_not false is = refl
-is_not true is = absurd (cc)
-
-pub cong_and : {a b : Bool} → a ≡ true → b ≡ true → (a && b) ≡ true
-cong_and {a} {b} one other = ap (λ x. x && b) one ∙ other
-
-pub cong_or : {a b : Bool} → a ≡ false → b ≡ false → (a || b) ≡ false
-cong_or {a} {b} one other = ap (λ x. x || b) one ∙ other
-
 pub or_true : (a : Bool) → (a || (true || false)) ≡ true
 or_true true = refl
 or_true false = refl
-
--- ---- numbers
-
-pub at_most : (m n : ℕ) → m ≤ n → nat_le m n ≡ true
-at_most m n is = grind (arith, nat_tests)
-
-pub below : (m n : ℕ) → m < n → nat_lt m n ≡ true
-below m n is = grind (arith, nat_tests)
-
-pub not_above : (most n : ℕ) → nat_lt most n ≡ false → n ≤ most
-not_above most n not = grind (arith, nat_tests)
 
 -- ---- names
 

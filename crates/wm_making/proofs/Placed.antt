@@ -1,9 +1,11 @@
 -- Where INSERT is refused for nothing, no period that is written in a value for a declared column is empty, and a period is written
 -- in the value for WM_VALID.
 use Rattle.std.proofs.Common.{◌≡◌, ℕ, zero, suc, ◌+◌, ◌<◌, Bool, true, false, cond, List, [], ◌∷◌, length, refl, ap, ◌∙◌, arith}
+use Rattle.std.proofs.lemmas.Bool.{and_from, and_parts}
 use Rattle.std.specs.Prelude.{Option, Some, None, is_none, is_some, slice_get}
 use Rattle.std.specs.List.{list_all}
 use Rattle.std.specs.Option.{option_and_then}
+use Rattle.wm_base.proofs.Plain.{option_or_parts}
 use Rattle.wm_base.specs.Trees.{Expr, Of, Neg, Add, Sub, Mul}
 use Rattle.wm_base.specs.declared.tree.column.Suffix.{Suffix}
 use Rattle.wm_base.specs.declared.tree.constant.Const.TheVariants as constants
@@ -17,7 +19,7 @@ use Rattle.wm_typing.specs.Types.{expr_kind, mistyped_in_expr}
 use Rattle.wm_making.specs.Inserting.{column_for, suits, is_period, misfit_in, misfit_from, value_for_period}
 use Rattle.wm_making.specs.Rows.{written_in, written_period}
 use Rattle.wm_making.proofs.Fitted.{lasting, suited_last}
-use Rattle.wm_making.proofs.Nones.{or_none, if_none, if_not_none, both_true, cong_and}
+use Rattle.wm_making.proofs.Nones.{if_none, if_not_none}
 
 pub got : {A : Type 0} (xs : List A) (p : ℕ) → p < length xs → (x : A) × (slice_get xs p ≡ Some x)
 got [] p near = absurd (omega arith)
@@ -37,9 +39,9 @@ pub periods_last : (t : Table) (names : Option (List (List ℕ))) (place : ℕ) 
     list_all has_no_empty_period xs ≡ true
 periods_last t names place [] none nowhere = refl
 periods_last t names place (x ∷ xs) none nowhere =
-    let parts = or_none (misfit_in x (column_for t names place)) (misfit_from t names (place + 1) xs) none in
+    let parts = option_or_parts (misfit_in x (column_for t names place)) (misfit_from t names (place + 1) xs) none in
     let others = if_none (is_none (column_for t names place)) x (value_for_period t names (place + 1) xs) nowhere in
-    cong_and (one_lasts x (column_for t names place) others.0 parts.0) (periods_last t names (place + 1) xs parts.1 others.1)
+    and_from _ _ (one_lasts x (column_for t names place) others.0 parts.0) (periods_last t names (place + 1) xs parts.1 others.1)
 
 -- ---- the value for WM_VALID
 
@@ -74,7 +76,7 @@ pub period_written : (t : Table) (names : Option (List (List ℕ))) (place : ℕ
     is_some (option_and_then written_period (value_for_period t names place xs)) ≡ is_some (value_for_period t names place xs)
 period_written t names place [] none = refl
 period_written t names place (x ∷ xs) none =
-    let parts = or_none (misfit_in x (column_for t names place)) (misfit_from t names (place + 1) xs) none in
+    let parts = option_or_parts (misfit_in x (column_for t names place)) (misfit_from t names (place + 1) xs) none in
     choose (column_for t names place) (value_for_period t names (place + 1) xs) parts.0 (period_written t names (place + 1) xs parts.1)
   where
     choose : (column : Option TableColumn) (rest : Option Expr) → misfit_in x column ≡ None → is_some (option_and_then written_period rest) ≡ is_some rest →
@@ -86,7 +88,7 @@ period_written t names place (x ∷ xs) none =
 pub value_passes : (test : Expr → Bool) (t : Table) (names : Option (List (List ℕ))) (place : ℕ) (xs : List Expr) (x : Expr) → list_all test xs ≡ true → value_for_period t names place xs ≡ Some x → test x ≡ true
 value_passes test t names place [] x all there = absurd (cc)
 value_passes test t names place (y ∷ ys) x all there =
-    let parts = both_true (test y) (list_all test ys) all in
+    let parts = and_parts (test y) (list_all test ys) all in
     choose (is_none (column_for t names place)) parts.0 (value_passes test t names (place + 1) ys x parts.1) there
   where
     choose : (b : Bool) → test y ≡ true → (value_for_period t names (place + 1) ys ≡ Some x → test x ≡ true) → cond b (Some y) (value_for_period t names (place + 1) ys) ≡ Some x → test x ≡ true

@@ -1,11 +1,13 @@
 -- The table that items declare is in order, where they are refused for nothing.
 use Rattle.std.proofs.Common.{◌≡◌, ℕ, ◌+◌, ◌≤◌, ◌<◌, Bool, true, false, List, [], ◌∷◌, ◌++◌, length, refl, ap, ◌∙◌, arith, cond, nat_lt}
+use Rattle.std.proofs.lemmas.Bool.{and_from, and_parts, le-leb, lt-ltb, ltb-false, or_from}
 use Rattle.std.specs.Prelude.{Option, Some, None, ◌&&◌, ◌||◌, not, is_some, ◌==◌, unwrap_or}
 use Rattle.std.specs.List.{list_any, list_all, position_or_len}
 use Rattle.std.specs.Option.{option_map}
 use Rattle.std.specs.Str.{bytes_eq}
 use Rattle.std.proofs.lemmas.Bool.Decides.{nat_tests}
 use Rattle.std.proofs.lemmas.List.Folds.{list_any-append}
+use Rattle.wm_base.proofs.Plain.{none_mapped, option_or_parts}
 use Rattle.wm_base.specs.declared.refusal.FormRefusal.TheVariants.{Wm016}
 use Rattle.wm_base.specs.declared.refusal.Refusal.TheVariants.{Form}
 use Rattle.wm_base.specs.declared.tree.statement.CreateItem.{CreateItem}
@@ -14,7 +16,7 @@ use Rattle.wm_graph.specs.Rules.{differ, same_column, is_short, is_table}
 use Rattle.wm_spec.specs.declared.record.column.TableColumn.{TableColumn}
 use Rattle.wm_spec.specs.declared.record.table.Table.{Table}
 use Rattle.wm_making.specs.Creating.{declares_short, names_fault, reserved_name, reserved, declares, bad_column, bad_columns, columns_in, keys_in, too_many, no_column, asked, shape_fault, key_name, is_key, columns_of, key_place, table_of}
-use Rattle.wm_making.proofs.Nones.{or_none, map_none, if_none, if_not_none, both_true, cong_and, cong_or, or_true, still, same_bytes, another, at_most, below, not_above}
+use Rattle.wm_making.proofs.Nones.{if_none, if_not_none, or_true, still, same_bytes, another}
 
 -- ---- how many columns there are
 
@@ -36,7 +38,7 @@ counted columns keys [] few none =
     (grind (arith, nat_tests), omega arith)
 counted columns keys (item ∷ items) few none =
     let within = if_none (nat_lt 32 (columns + columns_in item)) 32 (cond (nat_lt 1 (keys + keys_in item)) (Some 1) (too_many (columns + columns_in item) (keys + keys_in item) items)) none in
-    let fits : columns + columns_in item ≤ 32 = not_above 32 (columns + columns_in item) within.0 in
+    let fits : columns + columns_in item ≤ 32 = ltb-false 32 (columns + columns_in item) within.0 in
     let once = if_none (nat_lt 1 (keys + keys_in item)) 1 (too_many (columns + columns_in item) (keys + keys_in item) items) within.1 in
     let rest = counted (columns + columns_in item) (keys + keys_in item) items fits once.1 in
     (omega (arith, rest.0), omega (arith, rest.1))
@@ -44,8 +46,8 @@ counted columns keys (item ∷ items) few none =
 pub few_columns : (key : Option (List ℕ)) (items : List CreateItem) → shape_fault items ≡ None → (1 ≤ length (columns_of key items)) × (length (columns_of key items) ≤ 32)
 unfolding shape_fault
 few_columns key items none =
-    let parts = or_none (option_map no_column (bad_columns items [] items)) (option_map asked (too_many 0 0 items)) none in
-    let counts = counted 0 0 items (omega arith) (map_none asked (too_many 0 0 items) parts.1) in
+    let parts = option_or_parts (option_map no_column (bad_columns items [] items)) (option_map asked (too_many 0 0 items)) none in
+    let counts = counted 0 0 items (omega arith) (none_mapped asked (too_many 0 0 items) parts.1) in
     (omega (arith, counts.0, length-columns key items), omega (arith, counts.1, length-columns key items))
 
 -- ---- their names
@@ -55,31 +57,31 @@ later : (key : Option (List ℕ)) (table before items : List CreateItem) (name :
 later key table before [] name none there = refl
 later key table before (Column other of primary not_null ∷ items) name none there =
     let item = Column other of primary not_null in
-    let parts = or_none (bad_column table before item) (bad_columns table (before ++ item ∷ []) items) none in
+    let parts = option_or_parts (bad_column table before item) (bad_columns table (before ++ item ∷ []) items) none in
     let new = (if_none (list_any (declares other) before) other None parts.0).0 in
-    cong_or (another name other (λ n. list_any (declares n) before) there new) (later key table (before ++ item ∷ []) items name parts.1 (still (declares name) before (item ∷ []) there))
+    or_from _ _ (another name other (λ n. list_any (declares n) before) there new) (later key table (before ++ item ∷ []) items name parts.1 (still (declares name) before (item ∷ []) there))
 later key table before (Primary constraint names ∷ items) name none there =
     let item = Primary constraint names in
-    let parts = or_none (bad_column table before item) (bad_columns table (before ++ item ∷ []) items) none in
+    let parts = option_or_parts (bad_column table before item) (bad_columns table (before ++ item ∷ []) items) none in
     later key table (before ++ item ∷ []) items name parts.1 (still (declares name) before (item ∷ []) there)
 
 names_differ : (key : Option (List ℕ)) (table before items : List CreateItem) → bad_columns table before items ≡ None → differ same_column (columns_of key items) ≡ true
 names_differ key table before [] none = refl
 names_differ key table before (Column name of primary not_null ∷ items) none =
     let item = Column name of primary not_null in
-    let parts = or_none (bad_column table before item) (bad_columns table (before ++ item ∷ []) items) none in
+    let parts = option_or_parts (bad_column table before item) (bad_columns table (before ++ item ∷ []) items) none in
     let apart = later key table (before ++ item ∷ []) items name parts.1 (list_any-append (declares name) before (item ∷ []) ∙ ap (λ b. list_any (declares name) before || (b || false)) (same_bytes name) ∙ or_true (list_any (declares name) before)) in
-    cong_and (ap (λ b. not b) apart) (names_differ key table (before ++ item ∷ []) items parts.1)
+    and_from _ _ (ap (λ b. not b) apart) (names_differ key table (before ++ item ∷ []) items parts.1)
 names_differ key table before (Primary constraint names ∷ items) none =
     let item = Primary constraint names in
-    let parts = or_none (bad_column table before item) (bad_columns table (before ++ item ∷ []) items) none in
+    let parts = option_or_parts (bad_column table before item) (bad_columns table (before ++ item ∷ []) items) none in
     names_differ key table (before ++ item ∷ []) items parts.1
 
 names_short : (key : Option (List ℕ)) (items : List CreateItem) → list_all declares_short items ≡ true → list_all (λ (c : TableColumn). is_short c.name) (columns_of key items) ≡ true
 names_short key [] short = refl
 names_short key (Column name of primary not_null ∷ items) short =
-    let parts = both_true (is_short name) (list_all declares_short items) short in
-    cong_and parts.0 (names_short key items parts.1)
+    let parts = and_parts (is_short name) (list_all declares_short items) short in
+    and_from _ _ parts.0 (names_short key items parts.1)
 names_short key (Primary constraint names ∷ items) short = names_short key items short
 
 -- ---- the table
@@ -100,16 +102,16 @@ unfolding names_fault shape_fault table_of
 table_in_order number name items names shape =
     let key = key_name items in
     let columns = columns_of key items in
-    let short = both_true (is_short name) (list_all declares_short items) (if_not_none (is_short name && list_all declares_short items) (Form (Wm016 30)) (option_map reserved (reserved_name name items)) names).0 in
-    let parts = or_none (option_map no_column (bad_columns items [] items)) (option_map asked (too_many 0 0 items)) shape in
-    let good = map_none no_column (bad_columns items [] items) parts.0 in
+    let short = and_parts (is_short name) (list_all declares_short items) (if_not_none (is_short name && list_all declares_short items) (Form (Wm016 30)) (option_map reserved (reserved_name name items)) names).0 in
+    let parts = option_or_parts (option_map no_column (bad_columns items [] items)) (option_map asked (too_many 0 0 items)) shape in
+    let good = none_mapped no_column (bad_columns items [] items) parts.0 in
     let counts = few_columns key items shape in
     let place = near_place key columns counts.0 in
-    cong_and
-    (cong_and
-    (cong_and (at_most 1 (length columns) counts.0) (at_most (length columns) 32 counts.1))
-    (cong_and (names_differ key items [] items good) (cong_and short.0 (names_short key items short.1))))
-    (cong_and (placed (is_some key) (nat_lt (key_place key columns) (length columns)) (below (key_place key columns) (length columns) place)) refl)
+    and_from _ _
+    (and_from _ _
+    (and_from _ _ (le-leb 1 (length columns) counts.0) (le-leb (length columns) 32 counts.1))
+    (and_from _ _ (names_differ key items [] items good) (and_from _ _ short.0 (names_short key items short.1))))
+    (and_from _ _ (placed (is_some key) (nat_lt (key_place key columns) (length columns)) (lt-ltb (key_place key columns) (length columns) place)) refl)
   where
     placed : (has test : Bool) → test ≡ true → cond has test true ≡ true
     placed true test is = is

@@ -1,5 +1,6 @@
 -- A row that INSERT writes may stand in its table.
 use Rattle.std.proofs.Common.{◌≡◌, ℕ, zero, suc, ◌+◌, ◌<◌, ◌≤◌, Bool, true, false, cond, List, [], ◌∷◌, length, map, take, get_or, refl, sym, ap, ◌∙◌, arith, nat_lt, nat_le, zero-add}
+use Rattle.std.proofs.lemmas.Bool.{and_from, and_parts, le-leb, ltb-false, ltb-true, not-true, or_parts, or_right}
 use Rattle.std.specs.Prelude.{Option, Some, None, ◌&&◌, ◌||◌, ◌==◌, not, option_map, slice_get, unwrap_or, codes}
 use Rattle.std.specs.List.{find, list_any, list_all, position}
 use Rattle.std.specs.Option.{option_or, option_and_then, option_map_or}
@@ -8,6 +9,7 @@ use Rattle.std.proofs.lemmas.Bool.Decides.{nat_tests}
 use Rattle.std.proofs.lemmas.List.{length-map, length-take-le}
 use Rattle.std.proofs.lemmas.List.Quantifiers.{position-Some}
 use Rattle.std.proofs.lemmas.Option.{slice_get-get_or, slice_get-map}
+use Rattle.wm_base.proofs.Plain.{none_mapped, option_or_parts}
 use Rattle.wm_base.specs.Trees.{Expr}
 use Rattle.wm_base.specs.Value.{type_place, weight_of}
 use Rattle.wm_base.specs.declared.value.Value.{Value}
@@ -23,15 +25,15 @@ use Rattle.wm_making.specs.Creating.{no_column, asked}
 use Rattle.wm_making.specs.Inserting.{has_name, bad_name, column_in, values_asked, may_be_so_many, column_for, suits, misfit, misfit_in, misfit_from, no_type, name_fault, value_fault, period_fault, insert_fault}
 use Rattle.wm_making.specs.Rows.{no_row, before, stored, value_alone, values_of, value_named, arranged, row_of, is_key_at, first_column, lacks_value, is_long, is_heavy, heavy_part, null_in, too_heavy, row_fault, MayStand}
 use Rattle.wm_making.proofs.Fitted.{of_type, value_suits}
-use Rattle.wm_making.proofs.Nones.{or_none, map_none, if_none, if_not_none, both_true, neither, is_not, cong_and, at_most, not_above, same_bytes, same_name}
+use Rattle.wm_making.proofs.Nones.{if_none, if_not_none, same_bytes, same_name}
 
 -- ---- lists
 
 -- what none of a list passes, one of them does not
 none_at : {A : Type 0} (test : A → Bool) (xs : List A) (p : ℕ) (x : A) → list_any test xs ≡ false → slice_get xs p ≡ Some x → test x ≡ false
 none_at test [] p x none there = absurd (cc)
-none_at test (y ∷ ys) zero x none there = let e : y ≡ x = cc in sym (ap test e) ∙ (neither (test y) (list_any test ys) none).0
-none_at test (y ∷ ys) (suc p) x none there = none_at test ys p x (neither (test y) (list_any test ys) none).1 there
+none_at test (y ∷ ys) zero x none there = let e : y ≡ x = cc in sym (ap test e) ∙ (or_parts (test y) (list_any test ys) none).0
+none_at test (y ∷ ys) (suc p) x none there = none_at test ys p x (or_parts (test y) (list_any test ys) none).1 there
 
 pub turned : (name other : List ℕ) → bytes_eq name other ≡ false → bytes_eq other name ≡ false
 turned name other apart = by_test (bytes_eq other name) refl
@@ -49,8 +51,8 @@ found_itself (d ∷ ds) zero c apart there =
     let e : d ≡ c = cc in
     ap (λ (x : TableColumn). find (has_name c.name) (x ∷ ds)) e ∙ ap (λ b. cond b (Some c) (find (has_name c.name) ds)) (same_bytes c.name)
 found_itself (d ∷ ds) (suc p) c apart there =
-    let parts = both_true (not (list_any (same_column d) ds)) (differ same_column ds) apart in
-    let other = turned d.name c.name (none_at (same_column d) ds p c (is_not (list_any (same_column d) ds) parts.0) there) in
+    let parts = and_parts (not (list_any (same_column d) ds)) (differ same_column ds) apart in
+    let other = turned d.name c.name (none_at (same_column d) ds p c (not-true (list_any (same_column d) ds) parts.0) there) in
     ap (λ b. cond b (Some d) (find (has_name c.name) ds)) other ∙ found_itself ds p c parts.1 there
 
 -- no value of the row passes the test
@@ -81,7 +83,7 @@ each_fits : (cs : List TableColumn) (vs : List Value) → length cs ≡ length v
 each_fits [] [] same each = refl
 each_fits [] (v ∷ vs) same each = absurd (omega arith)
 each_fits (c ∷ cs) [] same each = absurd (omega arith)
-each_fits (c ∷ cs) (v ∷ vs) same each = cong_and (each 0 c v refl refl) (each_fits cs vs (omega arith) (λ p d w column value. each (suc p) d w column value))
+each_fits (c ∷ cs) (v ∷ vs) same each = and_from _ _ (each 0 c v refl refl) (each_fits cs vs (omega arith) (λ p d w column value. each (suc p) d w column value))
 
 -- ---- values
 
@@ -124,14 +126,14 @@ typed_at t names place (x ∷ xs) vs none made zero v c value column =
     let same : parts.0 ≡ v = cc in
     let n : place + 0 ≡ place = omega arith in
     let here : column_for t names place ≡ Some c = sym (ap (λ q. column_for t names q) n) ∙ column in
-    let fit = (or_none (misfit_in x (column_for t names place)) (misfit_from t names (place + 1) xs) none).0 in
+    let fit = (option_or_parts (misfit_in x (column_for t names place)) (misfit_from t names (place + 1) xs) none).0 in
     let fit_c : misfit x c ≡ None = sym (ap (λ o. misfit_in x o) here) ∙ fit in
     alone_suits x c.kind v (if_not_none (suits (expr_kind [] x) c.kind) c.name (mistyped_in_expr [] x) fit_c).0 (parts.2 ∙ ap (λ w. Some w) same)
 typed_at t names place (x ∷ xs) vs none made (suc p) v c value column =
     let parts = before_some (value_alone x) (values_of xs) vs made in
     let e : slice_get vs (suc p) ≡ slice_get parts.1 p = ap (λ l. slice_get l (suc p)) parts.4 in
     let n : place + suc p ≡ (place + 1) + p = omega arith in
-    typed_at t names (place + 1) xs parts.1 (or_none (misfit_in x (column_for t names place)) (misfit_from t names (place + 1) xs) none).1 parts.3 p v c
+    typed_at t names (place + 1) xs parts.1 (option_or_parts (misfit_in x (column_for t names place)) (misfit_from t names (place + 1) xs) none).1 parts.3 p v c
     (sym e ∙ value) (sym (ap (λ q. column_for t names q) n) ∙ column)
 
 -- the value that stands where the name of the column stands
@@ -185,7 +187,7 @@ turned_test m n same = grind (arith, nat_tests)
 fits_so : (c : TableColumn) (v : Value) → of_type v (type_of c.kind) ≡ true → is_long c v ≡ false → fits_column c v ≡ true
 fits_so c values.Null typed short = refl
 fits_so c (values.Num n) typed short = typed
-fits_so c (values.Text text) typed short = cong_and (turned_test 2 (type_of c.kind) typed) (at_most (length text) c.size (not_above c.size (length text) short))
+fits_so c (values.Text text) typed short = and_from _ _ (turned_test 2 (type_of c.kind) typed) (le-leb (length text) c.size (ltb-false c.size (length text) short))
 fits_so c (values.Time instant) typed short = typed
 fits_so c (values.Span period) typed short = typed
 
@@ -203,11 +205,11 @@ pub insert_parts : (t : Table) (names : Option (List (List ℕ))) (xs : List Exp
     (bad_name t names ≡ None) × (column_in xs ≡ None) × (may_be_so_many t names (length xs) ≡ true) × (misfit_from t names 0 xs ≡ None) × (period_fault t names xs ≡ None)
 unfolding insert_fault
 insert_parts t names xs none =
-    let parts = or_none (name_fault t names xs) (option_or (value_fault t names xs) (period_fault t names xs)) none in
-    let named = or_none (bad_name t names) (column_in xs) (map_none no_column (option_or (bad_name t names) (column_in xs)) parts.0) in
-    let typed = or_none (value_fault t names xs) (period_fault t names xs) parts.1 in
+    let parts = option_or_parts (name_fault t names xs) (option_or (value_fault t names xs) (period_fault t names xs)) none in
+    let named = option_or_parts (bad_name t names) (column_in xs) (none_mapped no_column (option_or (bad_name t names) (column_in xs)) parts.0) in
+    let typed = option_or_parts (value_fault t names xs) (period_fault t names xs) parts.1 in
     let valued = if_not_none (may_be_so_many t names (length xs)) (asked (values_asked t names)) (option_map no_type (misfit_from t names 0 xs)) typed.0 in
-    (named.0, named.1, valued.0, map_none no_type (misfit_from t names 0 xs) valued.1, typed.1)
+    (named.0, named.1, valued.0, none_mapped no_type (misfit_from t names 0 xs) valued.1, typed.1)
 
 row_made : (t : Table) (names : Option (List (List ℕ))) (xs : List Expr) (row : List Value) → row_of t names xs ≡ Some row → (vs : List Value) × (values_of xs ≡ Some vs) × (row ≡ arranged t names vs)
 unfolding row_of
@@ -220,35 +222,28 @@ row_made t names xs row made = by_values (values_of xs) refl
 -- what a table in order has
 pub table_parts : (t : Table) → is_table t ≡ true → (differ same_column t.columns ≡ true) × (cond t.has_key (nat_lt t.key_column (length t.columns)) true ≡ true)
 table_parts t order =
-    let all = both_true
+    let all = and_parts
     ((nat_le 1 (length t.columns) && nat_le (length t.columns) 32) && (differ same_column t.columns && (is_short t.name && list_all (λ (c : TableColumn). is_short c.name) t.columns)))
     (cond t.has_key (nat_lt t.key_column (length t.columns)) true && cond t.versioned t.has_key true) order in
-    let columns = both_true (nat_le 1 (length t.columns) && nat_le (length t.columns) 32) (differ same_column t.columns && (is_short t.name && list_all (λ (c : TableColumn). is_short c.name) t.columns)) all.0 in (
-      (both_true (differ same_column t.columns) (is_short t.name && list_all (λ (c : TableColumn). is_short c.name) t.columns) columns.1).0,
-      (both_true (cond t.has_key (nat_lt t.key_column (length t.columns)) true) (cond t.versioned t.has_key true) all.1).0,
+    let columns = and_parts (nat_le 1 (length t.columns) && nat_le (length t.columns) 32) (differ same_column t.columns && (is_short t.name && list_all (λ (c : TableColumn). is_short c.name) t.columns)) all.0 in (
+      (and_parts (differ same_column t.columns) (is_short t.name && list_all (λ (c : TableColumn). is_short c.name) t.columns) columns.1).0,
+      (and_parts (cond t.has_key (nat_lt t.key_column (length t.columns)) true) (cond t.versioned t.has_key true) all.1).0,
     )
 
 row_parts : (t : Table) (row : List Value) → row_fault t row ≡ None →
     (first_column (lacks_value t) 0 t.columns row ≡ None) × (first_column (is_heavy t) 0 t.columns row ≡ None) × (nat_lt 2000 (weight row) ≡ false)
 unfolding row_fault
 row_parts t row none =
-    let parts = or_none (option_map null_in (first_column (lacks_value t) 0 t.columns row)) (option_map too_heavy (heavy_part t row)) none in
-    let heavy = or_none (first_column (is_heavy t) 0 t.columns row) (cond (nat_lt 2000 (weight row)) (Some (codes "ROW")) None) (map_none too_heavy (heavy_part t row) parts.1) in
-    (map_none null_in (first_column (lacks_value t) 0 t.columns row) parts.0, heavy.0, (if_none (nat_lt 2000 (weight row)) (codes "ROW") None heavy.1).0)
+    let parts = option_or_parts (option_map null_in (first_column (lacks_value t) 0 t.columns row)) (option_map too_heavy (heavy_part t row)) none in
+    let heavy = option_or_parts (first_column (is_heavy t) 0 t.columns row) (cond (nat_lt 2000 (weight row)) (Some (codes "ROW")) None) (none_mapped too_heavy (heavy_part t row) parts.1) in
+    (none_mapped null_in (first_column (lacks_value t) 0 t.columns row) parts.0, heavy.0, (if_none (nat_lt 2000 (weight row)) (codes "ROW") None heavy.1).0)
 
 key_there : (t : Table) → t.has_key ≡ true → is_key_at t t.key_column ≡ true
-key_there t keyed = cong_and keyed (grind (arith, nat_tests))
-
-pub is_below : (m n : ℕ) → nat_lt m n ≡ true → m < n
-is_below m n is = grind (arith, nat_tests)
+key_there t keyed = and_from _ _ keyed (grind (arith, nat_tests))
 
 when_both : (a b : Bool) → (a && b) ≡ false → b ≡ true → a ≡ false
 when_both true b none there = absurd (cc)
 when_both false b none there = refl
-
-or_there : (a b : Bool) → b ≡ true → (a || b) ≡ true
-or_there true b there = refl
-or_there false b there = there
 
 and_fails : (a b : Bool) → (a && b) ≡ false → a ≡ true → b ≡ false
 and_fails true b none there = none
@@ -267,7 +262,7 @@ pub stands : (t : Table) (row : List Value) → is_table t ≡ true → t.has_ke
     ((p : ℕ) (c : TableColumn) (v : Value) → slice_get t.columns p ≡ Some c → slice_get row p ≡ Some v → of_type v (type_of c.kind) ≡ true) → MayStand t row
 stands t row order keyed none same typed =
     let faults = row_parts t row none in
-    let near : t.key_column < length t.columns = is_below t.key_column (length t.columns) (sym (ap (λ b. cond b (nat_lt t.key_column (length t.columns)) true) keyed) ∙ (table_parts t order).1) in
+    let near : t.key_column < length t.columns = ltb-true t.key_column (length t.columns) (sym (ap (λ b. cond b (nat_lt t.key_column (length t.columns)) true) keyed) ∙ (table_parts t order).1) in
     let near_row : t.key_column < length row = omega (arith, near, same) in
     let v = get_or row t.key_column values.Null in
     let there : slice_get row t.key_column ≡ Some v = slice_get-get_or row t.key_column values.Null near_row in
@@ -275,7 +270,7 @@ stands t row order keyed none same typed =
   where
     short_so : first_column (is_heavy t) 0 t.columns row ≡ None → (p : ℕ) (c : TableColumn) (v : Value) → slice_get t.columns p ≡ Some c → slice_get row p ≡ Some v → fits_column c v ≡ true
     short_so light p c v column value =
-        fits_so c v (typed p c v column value) (neither (is_long c v) (is_key_at t (0 + p) && nat_lt 200 (weight_of v)) (none_so (is_heavy t) 0 t.columns row light p c v column value)).0
+        fits_so c v (typed p c v column value) (or_parts (is_long c v) (is_key_at t (0 + p) && nat_lt 200 (weight_of v)) (none_so (is_heavy t) 0 t.columns row light p c v column value)).0
 
     by_column : (v : Value) → slice_get row t.key_column ≡ Some v → t.key_column < length t.columns → first_column (lacks_value t) 0 t.columns row ≡ None → first_column (is_heavy t) 0 t.columns row ≡ None →
         nat_lt 2000 (weight row) ≡ false → (column : Option TableColumn) → slice_get t.columns t.key_column ≡ column → MayStand t row
@@ -283,18 +278,18 @@ stands t row order keyed none same typed =
         let e = slice_get_within_not t.columns t.key_column near is in absurd e
     by_column v there near full light total (Some c) is =
         let zero_key : is_key_at t (0 + t.key_column) ≡ true = ap (λ n. is_key_at t n) (zero-add t.key_column) ∙ key_there t keyed in
-        let not_light = neither (is_long c v) (is_key_at t (0 + t.key_column) && nat_lt 200 (weight_of v)) (none_so (is_heavy t) 0 t.columns row light t.key_column c v is there) in
+        let not_light = or_parts (is_long c v) (is_key_at t (0 + t.key_column) && nat_lt 200 (weight_of v)) (none_so (is_heavy t) 0 t.columns row light t.key_column c v is there) in
         let light_key : nat_lt 200 (weight_of v) ≡ false = and_fails (is_key_at t (0 + t.key_column)) (nat_lt 200 (weight_of v)) not_light.1 zero_key in
-        let not_null : is_null v ≡ false = when_both (is_null v) (c.not_null || is_key_at t (0 + t.key_column)) (none_so (lacks_value t) 0 t.columns row full t.key_column c v is there) (or_there c.not_null (is_key_at t (0 + t.key_column)) zero_key) in
-        let small : nat_le (weight_of v) 200 ≡ true = at_most (weight_of v) 200 (not_above 200 (weight_of v) light_key) in
+        let not_null : is_null v ≡ false = when_both (is_null v) (c.not_null || is_key_at t (0 + t.key_column)) (none_so (lacks_value t) 0 t.columns row full t.key_column c v is there) (or_right c.not_null (is_key_at t (0 + t.key_column)) zero_key) in
+        let small : nat_le (weight_of v) 200 ≡ true = le-leb (weight_of v) 200 (ltb-false 200 (weight_of v) light_key) in
         let key : key_of t row ≡ Some (v ∷ []) =
         ap (λ o. option_and_then (λ w. cond t.has_key (Some (w ∷ [])) None) o) there ∙ ap (λ b. cond b (Some (v ∷ [])) None) keyed in
         let type : (type_place v == type_of c.kind) ≡ true = typed_full v (type_of c.kind) (typed t.key_column c v is there) not_null in
         record {
-          fits = cong_and (each_fits t.columns row same (short_so light)) (cong_and (at_most (weight row) 2000 (not_above 2000 (weight row) total)) (ap is_light_key key ∙ light_one v small));
+          fits = and_from _ _ (each_fits t.columns row same (short_so light)) (and_from _ _ (le-leb (weight row) 2000 (ltb-false 2000 (weight row) total)) (ap is_light_key key ∙ light_one v small));
           value = v;
           key = key;
-          key_fits = cong_and small (cong_and keyed (ap (λ o. option_map_or (λ (d : TableColumn). type_place v == type_of d.kind) o false) is ∙ type));
+          key_fits = and_from _ _ small (and_from _ _ keyed (ap (λ o. option_map_or (λ (d : TableColumn). type_place v == type_of d.kind) o false) is ∙ type));
         }
 
 -- a row that INSERT writes may stand in the table

@@ -69,11 +69,11 @@ abbrev pub is_period : Option ℕ → Bool
 is_period None = false
 is_period (Some kind) = kind == 4
 
--- the same of a value for WM_VALID, which is a period
+-- what a value for WM_VALID gets wrong: a mark within it, or WM_VALID where it is no period
 abbrev pub misfit_period : Expr → Option (List ℕ)
 misfit_period x = if is_period (expr_kind [] x) then mistyped_in_expr [] x else Some wm_valid
 
--- the same of a value for a declared column, or for WM_VALID
+-- what a value gets wrong that goes to a declared column, or to WM_VALID
 abbrev pub misfit_in : Expr → Option TableColumn → Option (List ℕ)
 misfit_in x (Some c) = misfit x c
 misfit_in x None = misfit_period x

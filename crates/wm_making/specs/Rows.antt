@@ -49,7 +49,7 @@ is_filled v = true
 abbrev pub value_alone : Expr → Option Value
 value_alone x = option_map stored (value_of x [] no_row)
 
--- so the values of all
+-- the values of all expressions
 abbrev pub values_of : List Expr → Option (List Value)
 values_of [] = Some []
 values_of (x ∷ xs) = before (value_alone x) (values_of xs)
@@ -74,7 +74,7 @@ abbrev pub written_in : Operand → Option Span
 written_in (operands.Const (constants.Span from till)) = Some (span_between from till)
 written_in _ = None
 
--- the same of an expression
+-- the period that an expression is, where it is a written one
 abbrev pub written_period : Expr → Option Span
 written_period (Of operand) = written_in operand
 written_period (Neg x) = None

@@ -165,7 +165,7 @@ fn misfit_period<'a>(value: &Expr) -> Option<&'a [u8]>
     }
 }
 
-/// The same of a value for a declared column, or for WM_VALID where there is none.
+/// What the value gets wrong, which goes to a declared column, or to WM_VALID where there is none.
 fn misfit_in<'a>(value: &Expr, column: Option<&'a TableColumn>) -> Option<&'a [u8]>
     ensures { option_copied result ≡ misfit_at (expr_view value.now) (option_copied column.entry) }
 {

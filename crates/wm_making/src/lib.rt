@@ -12,7 +12,7 @@ mod values;
 
 pub use insert::insert_fault;
 pub use names::names_fault;
-pub use period::{all_last, period_given, value_for_period};
+pub use period::{period_given, value_for_period};
 pub use row::{first_heavy, first_lacking, is_light, row_fault};
 pub use shape::shape_fault;
 pub use table::table_of;

@@ -13,7 +13,6 @@ use wm_base::tree::constant::{Const, PeriodEnd};
 use wm_base::tree::expr::Expr;
 use wm_base::tree::operand::Operand;
 use wm_base::{Instant, Period};
-use wm_expr::has_no_empty_period as expr_lasts;
 use wm_spec::record::Table;
 
 /// The value for WM_VALID: the first that goes to no declared column.
@@ -31,18 +30,6 @@ pub fn value_for_period<'a>(
         }
     }
     None
-}
-
-/// Whether each period that is written in the values has its first end below its second.
-pub fn all_last(values: &[Expr]) -> bool
-    ensures { result ≡ list_all has_no_empty_period (exprs_view values.now) }
-{
-    for value in values {
-        if !expr_lasts(value) {
-            return false;
-        }
-    }
-    true
 }
 
 /// The moment of the line stands in the place of SYSDATE before anything is evaluated.

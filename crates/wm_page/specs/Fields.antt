@@ -10,14 +10,6 @@ number_at bytes at = big_number 8 (take 8 (drop at bytes))
 unfoldable pub eight_bytes : ℕ → List ℕ
 eight_bytes number = big_bytes 8 number
 
--- the two bytes of a number
-unfoldable pub two_bytes : ℕ → List ℕ
-two_bytes number = big_bytes 2 number
-
--- the number in the two bytes from this place on
-unfoldable pub short_at : List ℕ → ℕ → ℕ
-short_at bytes at = big_number 2 (take 2 (drop at bytes))
-
 -- the bytes with these in place of as many from this place on
 abbrev pub with_bytes : List ℕ → ℕ → List ℕ → List ℕ
 with_bytes bytes at new = take at bytes ++ new ++ drop (at + length new) bytes

@@ -1,6 +1,6 @@
 //! Numbers in pages, with their highest byte first.
 ghost use Rattle.std.specs.Prelude.{◌≡◌, ◌+◌, ◌≤◌, length};
-ghost use Rattle.wm_page.specs.Fields.{number_at, short_at, eight_bytes, two_bytes, with_bytes};
+ghost use Rattle.wm_page.specs.Fields.{number_at, eight_bytes, with_bytes};
 
 use byteorder::{BigEndian, ByteOrder};
 
@@ -13,15 +13,6 @@ pub fn read_number(bytes: &[u8], at: usize) -> u64
     BigEndian::read_u64(&bytes[at..at + 8])
 }
 
-/// The number in the two bytes from `at` on.
-#[tactic(auto, unfolding(crate::specs::Fields::short_at))]
-pub fn read_short(bytes: &[u8], at: usize) -> u16
-    requires { at + 2 ≤ length bytes.now }
-    ensures { result ≡ short_at bytes.now at }
-{
-    BigEndian::read_u16(&bytes[at..at + 2])
-}
-
 /// Writes the number into the eight bytes from `at` on.
 #[tactic(auto, unfolding(crate::specs::Fields::number_at, crate::specs::Fields::eight_bytes))]
 pub fn write_number(bytes: &mut [u8], at: usize, number: u64)
@@ -30,14 +21,4 @@ pub fn write_number(bytes: &mut [u8], at: usize, number: u64)
     ensures reads { number_at bytes.new at ≡ number }
 {
     BigEndian::write_u64(&mut bytes[at..at + 8], number);
-}
-
-/// Writes the number into the two bytes from `at` on.
-#[tactic(auto, unfolding(crate::specs::Fields::short_at, crate::specs::Fields::two_bytes))]
-pub fn write_short(bytes: &mut [u8], at: usize, number: u16)
-    requires { at + 2 ≤ length bytes.old }
-    ensures bytes { bytes.new ≡ with_bytes bytes.old at (two_bytes number) }
-    ensures reads { short_at bytes.new at ≡ number }
-{
-    BigEndian::write_u16(&mut bytes[at..at + 2], number);
 }

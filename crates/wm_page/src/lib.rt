@@ -7,7 +7,7 @@ mod pages;
 mod write;
 
 pub use batch::PageBatch;
-pub use field::{read_number, read_short, write_number, write_short};
+pub use field::{read_number, write_number};
 pub use pages::{Pages, PagesFailed};
 pub use write::{PageWrite, PageWrites};
 

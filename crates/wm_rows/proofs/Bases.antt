@@ -3,7 +3,7 @@ use Rattle.std.proofs.Common.{◌≡◌, ◌≢◌, ◌<◌, ℕ, true, false, c
 use Rattle.std.proofs.lemmas.Bool.{cases_eq, eq-eqb, ne_eqb, eqb-true, or_cases}
 use Rattle.std.specs.List.{list_any}
 use Rattle.std.specs.Option.{option_or}
-use Rattle.wm_rows.proofs.Laying.{option_or_assoc}
+use Rattle.wm_base.proofs.Plain.{option_or_assoc}
 use Rattle.wm_rows.specs.Rows.{Layers, stored, nearest, above, seen_in, own_in}
 use Rattle.wm_rows.specs.declared.row_key.RowKey.{RowKey}
 use Rattle.wm_tree.proofs.Paths.{path_in-here, path_in-away}

@@ -2,12 +2,12 @@
 use Rattle.std.proofs.Common.{◌≡◌, ◌<◌, ◌≤◌, ℕ, Bool, true, false, cond, ◌&&◌, List, [], ◌∷◌, Option, Some, None, refl, sym, ap, ◌∙◌, arith}
 use Rattle.std.specs.Bool.{then_some}
 use Rattle.std.specs.Option.{option_map, option_or}
+use Rattle.wm_base.proofs.Plain.{option_or-none, option_or_assoc}
 use Rattle.wm_base.specs.declared.instant.TheConstants.{END}
 use Rattle.wm_base.specs.declared.value.Value.{Value}
 use Rattle.wm_period.proofs.Order.{Between-put, held_at-put}
 use Rattle.wm_period.specs.Pieces.{Held, held_at, put_in, Between}
 use Rattle.wm_period.specs.declared.piece.Piece.{Piece}
-use Rattle.wm_rows.proofs.Laying.{option_or-none, option_or_assoc}
 use Rattle.wm_rows.specs.Entries.{piece_of, with_entries, pieces_of, held_of, HavePeriods}
 use Rattle.wm_spec.specs.Lists.{Entry, Told, told, told_of, is_of, has_time}
 

@@ -4,19 +4,12 @@ use Rattle.std.proofs.lemmas.Map.Keys.{sorted_tail}
 use Rattle.std.specs.List.Sorted.{IsStrictlySortedBy}
 use Rattle.std.specs.Map.{keys_of}
 use Rattle.std.specs.Option.{option_or, unwrap_or}
+use Rattle.wm_base.proofs.Plain.{option_or-none}
 use Rattle.wm_period.specs.Pieces.{held_at}
 use Rattle.wm_period.specs.declared.piece.Piece.{Piece}
 use Rattle.wm_rows.proofs.Lookups.{cases_row, is_same-itself, is_same-symm, group_in-first, group_in-other, group_in-past}
 use Rattle.wm_rows.specs.Rows.{Groups, row_order, is_same, group_in, pieces_in}
 use Rattle.wm_rows.specs.declared.row_key.RowKey.{RowKey}
-
-pub option_or-none : {A : Type 0} (o : Option A) → option_or o None ≡ o
-option_or-none None = refl
-option_or-none (Some x) = refl
-
-pub option_or_assoc : {A : Type 0} (a b c : Option A) → option_or (option_or a b) c ≡ option_or a (option_or b c)
-option_or_assoc None b c = refl
-option_or_assoc (Some x) b c = refl
 
 -- where the laying stands: over what is laid so far, `rest` is still to come
 pub record Laying (upper start lower rest : Groups) : Type 0 where

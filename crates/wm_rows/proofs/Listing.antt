@@ -1,6 +1,6 @@
 -- The pieces of many rows in one list.
 use Rattle.std.proofs.Common.{◌≡◌, ◌≤◌, ℕ, Bool, true, false, ◌&&◌, ◌||◌, leb, List, [], ◌∷◌, ◌++◌, map, Option, None, refl, sym, ap, ◌∙◌, subst, ◌⊎◌, inl, inr}
-use Rattle.std.proofs.lemmas.Bool.{le-leb}
+use Rattle.std.proofs.lemmas.Bool.{le-leb, or_right}
 use Rattle.std.proofs.lemmas.Map.Keys.{sorted_head, sorted_tail}
 use Rattle.std.specs.Bool.{then_some}
 use Rattle.std.specs.List.{AllByRecursion}
@@ -9,11 +9,11 @@ use Rattle.std.specs.Map.{keys_of}
 use Rattle.std.specs.Option.{option_or, unwrap_or}
 use Rattle.std.specs.Ordering.{is_lt}
 use Rattle.std.specs.declared.cmp.Ordering.TheVariants.{Less}
+use Rattle.wm_base.proofs.Plain.{option_or-none, option_or_assoc}
 use Rattle.wm_base.specs.Period.{covers}
 use Rattle.wm_base.specs.declared.instant.TheConstants.{END}
 use Rattle.wm_period.specs.Pieces.{Held, held, held_at, Between}
 use Rattle.wm_period.specs.declared.piece.Piece.{Piece}
-use Rattle.wm_rows.proofs.Laying.{option_or-none, option_or_assoc}
 use Rattle.wm_rows.proofs.Lookups.{cases_row, is_same-itself, is_same-symm, group_in-first, group_in-other, group_in-past}
 use Rattle.wm_rows.specs.Own.{own_piece, row_of, own_list, own_at, precedes, GoesBefore, IsInOrder, AllInOrder}
 use Rattle.wm_rows.specs.Rows.{Groups, row_order, is_same, pieces_in}
@@ -85,13 +85,9 @@ below-list k (group ∷ rest) less = by_pieces group.1 less.0 (below-list k rest
 precedes_row : (p q : OwnPiece) → row_order (row_of p) (row_of q) ≡ Less → precedes p q ≡ true
 precedes_row p q less = ap (λ o. is_lt o || (is_same (row_of p) (row_of q) && leb p.piece.period.till q.piece.period.from)) less
 
-or-right : (a b : Bool) → b ≡ true → (a || b) ≡ true
-or-right true b e = refl
-or-right false b e = e
-
 precedes_piece : (k : RowKey) (p q : Piece) → p.period.till ≤ q.period.from → precedes (own_piece k p) (own_piece k q) ≡ true
 precedes_piece k p q ended =
-    or-right (is_lt (row_order k k)) (is_same k k && leb p.period.till q.period.from)
+    or_right (is_lt (row_order k k)) (is_same k k && leb p.period.till q.period.from)
     (ap (λ b. b && leb p.period.till q.period.from) (is_same-itself k) ∙ le-leb _ _ ended)
 
 in_order-row : (k : RowKey) (ps : List Piece) (low high : ℕ) (l : List OwnPiece) → Between low ps high → Below k l → IsInOrder l → IsInOrder (map (own_piece k) ps ++ l)

@@ -14,7 +14,7 @@ use Rattle.std.specs.Ordering.{nat_cmp, ordering_then, is_eq}
 use Rattle.std.specs.declared.cmp.Ordering.{Ordering}
 use Rattle.std.specs.declared.cmp.Ordering.TheVariants.{Less, Equal, Greater}
 use Rattle.wm_base.specs.Key.{key_order}
-use Rattle.wm_base.specs.Orders.{key_order-equal}
+use Rattle.wm_base.specs.Orders.{both_equal, key_order-equal}
 use Rattle.wm_period.specs.declared.piece.Piece.{Piece}
 use Rattle.wm_rows.proofs.Maps.{is_at-number}
 use Rattle.wm_rows.specs.RowOrder.{row_order_total}
@@ -22,11 +22,6 @@ use Rattle.wm_rows.specs.Rows.{Groups, row_order, is_same, group_in}
 use Rattle.wm_rows.specs.declared.row_key.RowKey.{RowKey}
 
 -- ---- rows
-
-both_equal : (a b : Ordering) → ordering_then a b ≡ Equal → (a ≡ Equal) × (b ≡ Equal)
-both_equal Less b e = cc
-both_equal Equal b e = (refl, e)
-both_equal Greater b e = cc
 
 -- rows that the order finds equal are one
 pub row_order-equal : CmpEqualImpliesEq row_order

@@ -8,10 +8,10 @@ use Rattle.std.specs.Map.{lookup}
 use Rattle.std.specs.Option.{IsSome, option_or, unwrap_or}
 use Rattle.std.specs.Ordering.{nat_cmp}
 use Rattle.std.specs.Prelude.{OnOk, OnErr}
+use Rattle.wm_base.proofs.Plain.{option_or_assoc}
 use Rattle.wm_base.specs.Period.{covers}
 use Rattle.wm_period.specs.Pieces.{Held, held, held_at, put_in}
 use Rattle.wm_period.specs.declared.piece.Piece.{Piece}
-use Rattle.wm_rows.proofs.Laying.{option_or_assoc}
 use Rattle.wm_rows.proofs.Lookups.{cases_row, is_same-itself}
 use Rattle.wm_rows.proofs.Maps.{is_at-number, entries_or_none, map_at-maps_of}
 use Rattle.wm_rows.proofs.Paths.{nearest-kept}

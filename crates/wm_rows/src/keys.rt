@@ -1,10 +1,11 @@
+//! The keys of a table, in order.
 ghost use Rattle.std.specs.Prelude.{◌≡◌};
 
 use std::marker::Model;
 use wm_base::Key;
 
 /// Keys of a table.
-#[derive(Debug, Drop)]
+#[derive(Drop)]
 pub struct Keys {
     list: Vec<Key>,
 }

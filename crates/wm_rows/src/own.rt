@@ -17,7 +17,7 @@ use wm_base::{Key, Memory};
 use wm_period::{Piece, Pieces};
 
 /// A piece with its table and key.
-#[derive(Debug, Drop)]
+#[derive(Drop)]
 pub struct OwnPiece {
     pub table: u16,
     pub key: Key,
@@ -25,7 +25,7 @@ pub struct OwnPiece {
 }
 
 /// Pieces by table, key and beginning. Those of one key do not overlap.
-#[derive(Debug, Drop)]
+#[derive(Drop)]
 pub struct OwnPieces {
     list: Vec<OwnPiece>,
 }

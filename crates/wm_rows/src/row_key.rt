@@ -1,3 +1,4 @@
+//! The key of a row, with its table.
 ghost use Rattle.std.specs.Prelude.{◌≡◌, IfOk};
 ghost use Rattle.wm_rows.specs.Rows.{row_order};
 
@@ -6,7 +7,7 @@ use std::cmp::Ordering;
 use wm_base::{Key, Memory};
 
 /// The key of a row, with its table.
-#[derive(Debug, Drop)]
+#[derive(Drop)]
 pub struct RowKey {
     pub table: u16,
     pub key: Key,

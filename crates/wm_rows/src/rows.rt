@@ -1,3 +1,4 @@
+//! The pieces of all rows in all versions.
 ghost use Rattle.std.specs.Prelude.{◌≡◌, ℕ, ◌==◌, ◌&&◌, ◌↔◌, false, nat_eq, List, Contains, [], None, if◌then◌else◌, IsTrue, IsSome, IfSome, IsOk, IfOk, OnOk, OnErr};
 ghost use Rattle.std.specs.Bool.{then_some};
 ghost use Rattle.std.specs.List.{list_any};

@@ -2,7 +2,8 @@
 use Rattle.std.proofs.Common.{◌≡◌, ℕ, zero, suc, ◌+◌, ◌-◌, ◌/◌, Bool, true, false, cond, ◌||◌, eqb, ltb, List, [], ◌∷◌, ◌++◌, length, map, Option, Some, None, is_some, unwrap_or, Ok, refl, sym, ap, subst, ◌∙◌, arith}
 use Rattle.std.specs.List.{list_any}
 use Rattle.std.specs.Option.{option_or, option_map}
-use Rattle.std.proofs.lemmas.Bool.{eqb-true}
+use Rattle.std.proofs.lemmas.Bool.{eqb-true, or_parts}
+use Rattle.wm_base.proofs.Plain.{either_parts, option_or_parts, unless_parts}
 use Rattle.wm_base.specs.declared.fault.Damage.{Damage}
 use Rattle.wm_base.specs.declared.fault.Damage.TheVariants as damages
 use Rattle.wm_spec.specs.declared.record.Record.{Record}
@@ -18,24 +19,12 @@ use Rattle.wm_store.specs.Opened.{stored_at, records_in, are_records, pages_open
 use Rattle.wm_store.proofs.Opening.{passed, opened_parts}
 use Rattle.wm_store.proofs.Reading.{unread_none}
 
-or_false : (a b : Bool) → (a || b) ≡ false → (a ≡ false) × (b ≡ false)
-or_false true b e = absurd cc
-or_false false b e = (refl, e)
-
-cond_false : (b c : Bool) → cond b true c ≡ false → (b ≡ false) × (c ≡ false)
-cond_false true c e = absurd cc
-cond_false false c e = (refl, e)
-
-cond_true : (b c : Bool) → cond b false c ≡ true → (b ≡ false) × (c ≡ true)
-cond_true true c e = absurd cc
-cond_true false c e = (refl, e)
-
 -- ids of which none was seen, and none stands twice
 once : (seen : ℕ → Bool) (slots : List Slot) → is_twice seen slots ≡ false → (ids_differ (ids_of slots) ≡ true) × ((id : ℕ) → seen id ≡ true → list_any (λ other. eqb other id) (ids_of slots) ≡ false)
 unfolding ids_differ
 once seen [] e = (refl, λ id was. refl)
 once seen (s ∷ slots) e =
-    let parts = cond_false (seen s.id) (is_twice (λ id. eqb s.id id || seen id) slots) e in
+    let parts = either_parts (seen s.id) (is_twice (λ id. eqb s.id id || seen id) slots) e in
     let rest = once (λ id. eqb s.id id || seen id) slots parts.1 in
     let self : eqb s.id s.id ≡ true = grind arith in
     let alone : list_any (λ other. eqb other s.id) (ids_of slots) ≡ false = rest.1 s.id (rw self refl) in
@@ -49,14 +38,14 @@ once seen (s ∷ slots) e =
 any_both : (id : ℕ) (xs ys : List Slot) → list_any (λ other. eqb other id) (ids_of xs) ≡ false → list_any (λ other. eqb other id) (ids_of ys) ≡ false → list_any (λ other. eqb other id) (ids_of (xs ++ ys)) ≡ false
 any_both id [] ys a b = b
 any_both id (s ∷ xs) ys a b =
-    let parts = or_false (eqb s.id id) (list_any (λ other. eqb other id) (ids_of xs)) a in
+    let parts = or_parts (eqb s.id id) (list_any (λ other. eqb other id) (ids_of xs)) a in
     rw parts.0 (any_both id xs ys parts.1 b)
 
 differ_both : (xs ys : List Slot) → ids_differ (ids_of xs) ≡ true → ids_differ (ids_of ys) ≡ true → ((id : ℕ) → is_some (bytes_at xs id) ≡ true → list_any (λ other. eqb other id) (ids_of ys) ≡ false) → ids_differ (ids_of (xs ++ ys)) ≡ true
 unfolding ids_differ
 differ_both [] ys a b apart = b
 differ_both (s ∷ xs) ys a b apart =
-    let parts = cond_true (list_any (λ other. eqb other s.id) (ids_of xs)) (ids_differ (ids_of xs)) a in
+    let parts = unless_parts (list_any (λ other. eqb other s.id) (ids_of xs)) (ids_differ (ids_of xs)) a in
     let self : eqb s.id s.id ≡ true = grind arith in
     let alone : list_any (λ other. eqb other s.id) (ids_of (xs ++ ys)) ≡ false = any_both s.id xs ys parts.0 (apart s.id (rw self refl)) in
     rw alone (differ_both xs ys parts.1 b (λ id there. apart id (by_test id (eqb s.id id) there)))
@@ -64,10 +53,6 @@ differ_both (s ∷ xs) ys a b apart =
     by_test : (id : ℕ) (t : Bool) → is_some (bytes_at xs id) ≡ true → is_some (cond t (Some s.bytes) (bytes_at xs id)) ≡ true
     by_test id true there = refl
     by_test id false there = there
-
-or_none : (o p : Option (ℕ × Damage)) → option_or o p ≡ None → (o ≡ None) × (p ≡ None)
-or_none None p e = (refl, e)
-or_none (Some x) p e = absurd cc
 
 -- a page that passed has no id that was seen before
 page_once : (seen : ℕ → Bool) (p : ℕ) (whole : Bool) (pages : ℕ → List ℕ) → damage_on seen p whole (slots_of (pages p)) ≡ None → is_twice seen (slots_in pages p) ≡ false
@@ -86,7 +71,7 @@ pages_once : (pages : ℕ → List ℕ) (whole n : ℕ) → fault_in pages whole
 unfolding ids_differ
 pages_once pages whole zero e = refl
 pages_once pages whole (suc n) e =
-    let parts = or_none (fault_in pages whole n) (damage_on (is_in (slots_in pages) n) (n + 2) (ltb (n + 2) whole) (slots_of (pages (n + 2)))) e in
+    let parts = option_or_parts (fault_in pages whole n) (damage_on (is_in (slots_in pages) n) (n + 2) (ltb (n + 2) whole) (slots_of (pages (n + 2)))) e in
     let here = once (is_in (slots_in pages) n) (slots_in pages (n + 2)) (page_once (is_in (slots_in pages) n) (n + 2) (ltb (n + 2) whole) pages parts.1) in
     differ_both (slots_upto (slots_in pages) n) (slots_in pages (n + 2)) (pages_once pages whole n parts.0) here.0 here.1
 

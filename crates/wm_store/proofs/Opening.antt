@@ -2,6 +2,7 @@
 use Rattle.std.proofs.Common.{◌≡◌, ℕ, zero, suc, ◌+◌, ◌-◌, ◌/◌, ◌<◌, ◌≤◌, ◌⊎◌, inl, inr, Bool, true, false, cond, not, ◌&&◌, eqb, ltb, List, [], ◌++◌, length, Option, Some, None, is_some, unwrap_or, Result, Ok, Err, refl, sym, ap, ◌∙◌, arith}
 use Rattle.std.specs.Option.{option_map, option_or}
 use Rattle.std.proofs.lemmas.Bool.{cases_lt, lt-ltb, le-ltb, ltb-false, ltb-true}
+use Rattle.wm_base.proofs.Plain.{option_or_parts}
 use Rattle.wm_base.specs.declared.fault.Damage.{Damage}
 use Rattle.wm_base.specs.declared.fault.Damage.TheVariants as damages
 use Rattle.wm_spec.specs.declared.record.stored.Stored.{Stored}
@@ -50,15 +51,11 @@ fault-whole a x y (suc n) fits enough =
     let u : ltb (n + 2) y ≡ true = lt-ltb (n + 2) y (omega arith) in
     rw (before, t, u) refl
 
-or_none : (o p : Option (ℕ × Damage)) → option_or o p ≡ None → (o ≡ None) × (p ≡ None)
-or_none None p e = (refl, e)
-or_none (Some x) p e = absurd cc
-
 -- pages that passed are whole in the file
 fault-below : (a : ℕ → List ℕ) (whole n : ℕ) → fault_in a whole n ≡ None → (p : ℕ) → 2 ≤ p → p < n + 2 → p < whole
 fault-below a whole zero e p from till = absurd (omega arith)
 fault-below a whole (suc n) e p from till =
-    let t = or_none (fault_in a whole n) (damage_on (is_in (slots_in a) n) (n + 2) (ltb (n + 2) whole) (slots_of (a (n + 2)))) e in
+    let t = option_or_parts (fault_in a whole n) (damage_on (is_in (slots_in a) n) (n + 2) (ltb (n + 2) whole) (slots_of (a (n + 2)))) e in
     by_case (cases_lt p (n + 2)) (λ less. fault-below a whole n t.0 p from less) (ltb (n + 2) whole) refl t.1
   where
     by_case : (p < n + 2) ⊎ (n + 2 ≤ p) → (p < n + 2 → p < whole) → (b : Bool) → ltb (n + 2) whole ≡ b → damage_on (is_in (slots_in a) n) (n + 2) b (slots_of (a (n + 2))) ≡ None → p < whole

@@ -2,6 +2,7 @@
 use Rattle.std.proofs.Common.{◌≡◌, ℕ, zero, suc, ◌+◌, ◌-◌, ◌<◌, ◌≤◌, ◌⊎◌, inl, inr, max, Bool, true, false, cond, eqb, List, [], ◌∷◌, ◌++◌, Option, Some, None, is_some, refl, sym, ap, subst, ◌∙◌, append_assoc, arith}
 use Rattle.std.specs.Option.{option_or, option_and_then}
 use Rattle.std.proofs.lemmas.Bool.{cases_lt}
+use Rattle.wm_base.proofs.Plain.{option_or_parts}
 use Rattle.wm_base.specs.declared.fault.Damage.{Damage}
 use Rattle.wm_base.specs.declared.fault.Damage.TheVariants as damages
 use Rattle.wm_base.specs.declared.fault.OpenFault.{OpenFault}
@@ -70,14 +71,10 @@ cond_none : (b : Bool) (f : ℕ × Damage) → cond b None (Some f) ≡ None →
 cond_none true f e = refl
 cond_none false f e = absurd cc
 
-or_none : (o p : Option (ℕ × Damage)) → option_or o p ≡ None → (o ≡ None) × (p ≡ None)
-or_none None p e = (refl, e)
-or_none (Some x) p e = absurd cc
-
 pub unread_none : (slots : ℕ → List Slot) (n : ℕ) → unread_in slots n ≡ None → are_records (slots_upto slots n) ≡ true
 unread_none slots zero e = refl
 unread_none slots (suc n) e =
-    let t = or_none (unread_in slots n) (cond (are_records (slots (n + 2))) None (Some (n + 2, damages.Record))) e in
+    let t = option_or_parts (unread_in slots n) (cond (are_records (slots (n + 2))) None (Some (n + 2, damages.Record))) e in
     are_records-append (slots_upto slots n) (slots (n + 2)) (unread_none slots n t.0) (cond_none (are_records (slots (n + 2))) (n + 2, damages.Record) t.1)
 
 pub all_read : (slots : ℕ → List Slot) (n : ℕ) → ((p : ℕ) → 2 ≤ p → p < n + 2 → are_records (slots p) ≡ true) → unread_in slots n ≡ None

@@ -1,8 +1,8 @@
 use Rattle.std.proofs.Common.{ℕ, ◌++◌, ◌∷◌, [], List, ap, ◌∙◌}
+use Rattle.wm_page.proofs.Batches.{entries-append}
 use Rattle.wm_page.specs.Batch.{entries}
 use Rattle.wm_page.specs.Entries.{no_page_twice}
 use Rattle.wm_heap.specs.Plan.{root_of}
-use Rattle.wm_heap.proofs.Pending.{entries-append}
 use Rattle.wm_heap.proofs.load.first_pages.Goals as goal
 
 pub returns-clause-pages : goal.returns-clause-pages

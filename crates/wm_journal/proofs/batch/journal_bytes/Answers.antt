@@ -1,15 +1,12 @@
 use Rattle.std.proofs.Common.{◌≡◌, ℕ, ◌-◌, ◌*◌, List, [], ◌∷◌, ◌++◌, length, take, replicate, refl, sym, ◌∙◌, ap, subst, arith}
 use Rattle.std.proofs.lemmas.List.{take_all}
+use Rattle.wm_page.proofs.Batches.{length-entries}
 use Rattle.wm_page.specs.Batch.{entries}
 use Rattle.wm_page.specs.declared.write.PageWrite.{PageWrite}
 use Rattle.wm_journal.specs.Disk.{directory_pages}
 use Rattle.wm_journal.specs.Writes.{numbers_of, images_of, journal_bytes}
 use Rattle.wm_journal.proofs.ReadBack.{length-numbers_of}
 use Rattle.wm_journal.proofs.batch.journal_bytes.Goals as goal
-
-length-entries : (ws : List PageWrite) → length (entries ws) ≡ length ws
-length-entries [] = refl
-length-entries (w ∷ ws) = omega (arith, length-entries ws)
 
 -- the numbers, filled up to whole pages, and the images
 bytes_made : (es : List (ℕ × List ℕ)) (n size : ℕ) (numbers filled whole : List ℕ) → n ≡ length es → numbers ≡ [] ++ numbers_of es → size ≡ length numbers → filled ≡ take (directory_pages n * 4096) numbers ++ replicate (directory_pages n * 4096 - size) 0 → whole ≡ filled ++ images_of es → whole ≡ journal_bytes es

@@ -1,11 +1,12 @@
 use Rattle.std.proofs.Common.{◌≡◌, ℕ, ◌+◌, ◌-◌, ◌*◌, ◌≤◌, ◌⊎◌, inl, inr, true, false, List, [], ◌∷◌, ◌++◌, sym, ◌∙◌, ap, subst, arith}
+use Rattle.wm_page.proofs.Batches.{entries-append}
 use Rattle.wm_page.specs.Batch.{entries}
 use Rattle.wm_page.specs.Entries.{is_named}
 use Rattle.wm_page.specs.Fields.{number_at}
 use Rattle.wm_page.specs.declared.write.PageWrite.{PageWrite}
 use Rattle.wm_station.specs.History.{History, now, stretch}
 use Rattle.wm_journal.specs.Disk.{images_at, journal_at, may_name}
-use Rattle.wm_journal.proofs.Reading.{Read, read_next, read_more, read_all, entries-append, may_name_more, may_not_name, all_small}
+use Rattle.wm_journal.proofs.Reading.{Read, read_next, read_more, read_all, may_name_more, may_not_name, all_small}
 use Rattle.wm_journal.proofs.replay.read_pages.Goals as goal
 use Rattle.wm_journal.proofs.replay.read_pages.Goals.{then-page-eq0-via-then-page-eq0, then-page-eq0-via-else-page-eq0+then-page-header, then-page-eq0-via-else-page-eq0+else-page-header+then-is_named}
 

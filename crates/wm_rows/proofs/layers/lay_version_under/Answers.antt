@@ -1,8 +1,8 @@
 use Rattle.std.proofs.Common.{◌≡◌, ℕ, sym, ap, ◌∙◌, subst}
 use Rattle.std.specs.Option.{option_copied, option_or}
 use Rattle.std.specs.Prelude.{OnOk}
+use Rattle.wm_base.proofs.Plain.{option_or-none}
 use Rattle.wm_period.specs.Pieces.{held_at}
-use Rattle.wm_rows.proofs.Laying.{option_or-none}
 use Rattle.wm_rows.proofs.Maps.{map_at-some, map_at-none}
 use Rattle.wm_rows.specs.Rows.{Groups, pieces_in}
 use Rattle.wm_rows.specs.declared.row_key.RowKey.{RowKey}
