@@ -55,7 +55,7 @@ def main():
     by_other = [f"A: UPDATE BUD SET AMT = 5 WHERE AMT = {LARGE + row}" for row in range(changed)]
     join = "A: SELECT L.AMT, R.AMT FROM L JOIN R ON L.ID = R.ID"
     with tempfile.TemporaryDirectory() as folder:
-        store = str(Path(folder, "store.wm"))
+        store = str(Path(folder, "s.store"))
         subprocess.run([program, store, "init", "--limit", "100000"], check=True, stdout=subprocess.DEVNULL)
         timed(program, store, f"{rows} INSERT lines", made("BUD", rows), "DONE 1")
         timed(program, store, "opening that store", [], "OK")

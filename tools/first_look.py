@@ -1,8 +1,8 @@
 #!/usr/bin/env python3
 """python3 tools/first_look.py [RT]
 
-Plays the examples through the program as 'rt try' compiles it, in a minute or two and without any proof, and shows each line with its
-answer. What it makes is below build/try: the store, and a page with pictures of it.
+Plays the examples through the program as 'rt try' compiles it, in a minute or two and without any proof, and shows
+each line with its answer. What it makes is below build/try: the store, and a page with pictures of it.
 """
 import shutil
 import subprocess
@@ -67,8 +67,12 @@ def show(script, said):
 def main():
     prepare()
     print("The program is compiled, and not proved; that takes a minute or two ..", flush=True)
-    done = subprocess.run([*(sys.argv[1:] or ["rt"]), "try", "--cases", str(CASES)], cwd=TOP / "crates" / "wm", stdout=subprocess.PIPE)
+    call = [*(sys.argv[1:] or ["rt"]), "try", "--cases", str(CASES)]
+    done = subprocess.run(call, cwd=TOP / "crates" / "wm", stdout=subprocess.PIPE)
     found = answers(done.stdout)
+    if found.get("0-init") != [b"OK"]:
+        print(done.stdout.decode("utf-8", "replace"), "The program could not be tried.")
+        return 1
     for place, (name, now) in enumerate(EXAMPLES, 1):
         print(f"\nexamples/{name}.wm, on {now}")
         if not show((TOP / "examples" / f"{name}.wm").read_bytes(), found.get(f"{place}-{name}", [])):

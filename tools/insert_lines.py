@@ -1,17 +1,20 @@
 #!/usr/bin/env python3
-"""python3 tools/insert_lines.py TABLE FILE.csv [--session S [--user U]] [--workspace W] [--from COLUMN [--till COLUMN]] [--store STORE] [--separator ;]
+"""python3 tools/insert_lines.py TABLE FILE.csv [OPTION ..] > SCRIPT
 
-Makes a script of a CSV file: an INSERT line for each of its lines. The first line of the file has the names of the columns.
+Makes a script of a CSV file: an INSERT line for each of its lines. The first line has the names of the columns.
 
-    --session S      the session that says the lines (LOADER)    --user U         whom CONNECT opens it for; else it is open already
-    --workspace W    where the session goes first                --separator C    what stands between values, if not a comma
-    --from COLUMN    the column with the beginning of the row's period, and
-    --till COLUMN    the one with its end; nothing there means UNTIL_CHANGED. Else columns VALIDFROM and VALIDTILL, if there are any,
-                     also with 'WM_VALID.' before them, as tools/play --csv writes them
-    --store STORE    takes the types of the columns from the table in a store
+    --session S     the session that says the lines (LOADER)
+    --user U        whom CONNECT opens the session for; without it the session is open already
+    --workspace W   where the session goes first
+    --from COLUMN   the column with the beginning of the row's period, and
+    --till COLUMN   the one with its end, where nothing means UNTIL_CHANGED. Without these the columns VALIDFROM
+                    and VALIDTILL, if there are any, also with 'WM_VALID.' before them, as tools/play --csv writes them
+    --store STORE   takes the types of the columns from the table in a store
+    --separator C   what stands between values, if not a comma
 
-Without a store a column of whole numbers is one of numbers, a column of days or times (2024-10-31, 2024-10-31 17:30:00) one of times, and
-each other one of texts. Nothing between two separators is NULL. The status is 1 where a line of the file cannot be a statement.
+Without a store a column of whole numbers is one of numbers, a column of days or times (2024-10-31,
+2024-10-31 17:30:00) one of times, and each other one of texts. Nothing between two separators is NULL. The status is
+1 where a line of the file cannot be a statement.
 """
 import argparse
 import csv
@@ -23,7 +26,8 @@ from pathlib import Path
 sys.path.insert(1, str(Path(__file__).resolve().parent))
 
 NAME = re.compile(r"[A-Za-z][A-Za-z0-9_$#]*")
-NUMBER, DAY, TIME = re.compile(r"-?(0|[1-9]\d*)"), re.compile(r"\d{4}-\d\d-\d\d"), re.compile(r"\d{4}-\d\d-\d\d[ T]\d\d:\d\d:\d\d")
+NUMBER = re.compile(r"-?(0|[1-9]\d*)")
+DAY, TIME = re.compile(r"\d{4}-\d\d-\d\d"), re.compile(r"\d{4}-\d\d-\d\d[ T]\d\d:\d\d:\d\d")
 UNTIL_CHANGED = "UNTIL_CHANGED"
 LONGEST = 16_384
 KINDS = {1: "number", 2: "text", 3: "time"}
@@ -34,12 +38,14 @@ class NoStatement(Exception):
 
 
 def asked():
-    parser = argparse.ArgumentParser(prog="insert_lines", usage=__doc__.split("\n")[0])
+    parser = argparse.ArgumentParser(prog="insert_lines", usage=__doc__.split("\n")[0], add_help=False)
     parser.add_argument("table")
     parser.add_argument("file", type=Path)
-    for name, default in [("session", "LOADER"), ("user", None), ("workspace", None), ("from", None), ("till", None), ("store", None),
-                          ("separator", ",")]:
-        parser.add_argument(f"--{name}", default=default, dest=f"{name}_")
+    for name in ("session", "user", "workspace", "from", "till", "store", "separator"):
+        parser.add_argument(f"--{name}", default={"session": "LOADER", "separator": ","}.get(name), dest=f"{name}_")
+    if {"--help", "-h"} & set(sys.argv[1:]):
+        print(__doc__.strip())
+        sys.exit(0)
     return parser.parse_args()
 
 

@@ -179,7 +179,7 @@ def too_many(store, words):
 def play(program, path):
     """The first difference of a case, or None."""
     with tempfile.TemporaryDirectory() as folder:
-        store = Path(folder) / "s.wm"
+        store = Path(folder) / "s.store"
         for step in read_case(path):
             if isinstance(step, list) and step[0] in ("few", "same", "is"):
                 why = otherwise(store, step)

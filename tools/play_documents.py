@@ -3,10 +3,11 @@
 
 Plays what documents show. Two kinds of blocks are played, in order:
 
-    ```wm       lines of the language. All of a document's go through one run over a store of their own. A line that is followed by
-                lines '--> ..' is answered by exactly these; any other is not refused. As these are remarks, a block can be played as it is.
-    ```console  a line '$ COMMAND' is given to a shell at the top of the repository, and says the lines that follow it. What a command
-                makes is there for the ones behind it, and gone at the end of the document.
+    ```wm       lines of the language. All of a document's go through one run over a store of their own. A line that is
+                followed by lines '--> ..' is answered by exactly these; any other is not refused. As these are
+                remarks, a block can be played as it is.
+    ```console  a line '$ COMMAND' is given to a shell at the top of the repository, and says the lines that follow
+                it. What a command makes is there for the ones behind it, and gone at the end of the document.
 
 With --write the console blocks get what the commands say now. The built program is build/wm, or $WM.
 """
@@ -67,7 +68,8 @@ def play_lines(path, lines):
                 answer = run.answer(lines[place].encode())
                 said = [readable(line) for line in answer]
                 if (wanted and said != wanted) or (not wanted and is_refusal(answer)):
-                    found.append(f"{path}:{place + 1}: {lines[place]}\n  is answered {said}, and {wanted or 'no refusal'} is wanted")
+                    told = f"{path}:{place + 1}: {lines[place]}\n  is answered {said}"
+                    found.append(f"{told}, and {wanted or 'no refusal'} is wanted")
         run.end()
     return found
 

@@ -38,7 +38,7 @@ def expected(limit, runs):
 def answered(program, limit, runs):
     """What the program says, by run, with how it ended where that is not well."""
     with tempfile.TemporaryDirectory(dir="/dev/shm" if Path("/dev/shm").is_dir() else None) as folder:
-        store, found = str(Path(folder) / "s.wm"), []
+        store, found = str(Path(folder) / "s.store"), []
         subprocess.run([*program, store, "init", "--limit", str(limit)], check=True, capture_output=True, timeout=SECONDS)
         for now, lines in runs:
             done = subprocess.run([*program, store, "run", "--now", now], input=b"".join(line + b"\n" for line in lines),

@@ -60,7 +60,7 @@ class Room:
     def store(self, content=None):
         """A file of its own with this content, or with a store that has an empty table T."""
         self.made += 1
-        path = self.path(f"{self.made}.wm")
+        path = self.path(f"{self.made}.store")
         with open(path, "wb") as file:
             file.write(self.ready if content is None else content)
         return path
@@ -68,7 +68,7 @@ class Room:
     def absent(self):
         """A path of its own with no file."""
         self.made += 1
-        return self.path(f"{self.made}.wm")
+        return self.path(f"{self.made}.store")
 
     def play(self, path, words, script=b"", **more):
         streams = {"stdout": subprocess.PIPE, "stderr": subprocess.PIPE, **more}

@@ -19,8 +19,8 @@ def no_stores(kind, room):
         ("a device", "/dev/null"),
         ("a full device", "/dev/full"),
         ("a name that is too long", room.path("n" * 300)),
-        ("a file in a file", f"{text}/s.wm"),
-        ("a file in no folder", room.path("none/s.wm")),
+        ("a file in a file", f"{text}/s.store"),
+        ("a file in no folder", room.path("none/s.store")),
         ("the empty path", ""),
     ]:
         kind.expect(f"run over {name}", room.play(path, RUN, script), ended(5))
@@ -29,7 +29,7 @@ def no_stores(kind, room):
     kind.expect("a folder is made", os.path.exists(room.path("none")), False)
     dangling = room.absent()
     os.symlink(dangling + ".target", dangling)
-    for name, path in ("no file", room.absent()), ("a link to no file", dangling), ("no file here", "s.wm"):
+    for name, path in ("no file", room.absent()), ("a link to no file", dangling), ("no file here", "s.store"):
         kind.expect(f"run over {name}", room.play(path, RUN, script, cwd=room.folder), ended(6))
         path = room.path(path)
         kind.expect(f"{name} is made by a run", os.path.exists(path), False)
@@ -71,7 +71,7 @@ def limited(kind, room):
         def limit():
             resource.setrlimit(resource.RLIMIT_FSIZE, (size, size))
 
-        # Python passes on that it leaves the signal out, unless it is told to restore it.
+        # Python ignores the signal, and so does what it starts, unless it restores it.
         more = {"preexec_fn": limit, "restore_signals": takes_signal}
         status, said, _ = room.play(path, RUN, script, **more)
         kind.expect(f"a run that is {name}", status, wanted)
@@ -88,15 +88,15 @@ def full(kind, room):
         kind.remarks.append("skipped, for no disk can be mounted here")
         return
     try:
-        path = f"{disk}/s.wm"
+        path = f"{disk}/s.store"
         with open(path, "wb") as file:
             file.write(room.ready)
         status, said, complaint = room.play(path, RUN, inserting(range(900))[0])
         kind.expect("run", (status, b"", complaint), ended(5))
         kind.expect("some answers came", said.count(b"\n") > 10, True)
         content = read(path)
-        kind.expect("init where there is no room", room.play(f"{disk}/t.wm", INIT), ended(5))
-        os.remove(f"{disk}/t.wm")
+        kind.expect("init where there is no room", room.play(f"{disk}/t.store", INIT), ended(5))
+        os.remove(f"{disk}/t.store")
         kind.expect_kept("run", room, room.store(content), said)
     finally:
         subprocess.run(["umount", disk], check=True)

@@ -64,7 +64,7 @@ def not_taken(kind, room):
     path = room.store()
     reading, writing = os.pipe()
     fcntl.fcntl(writing, fcntl.F_SETPIPE_SZ, 4096)
-    # From so many bytes on, a pipe takes pieces whole or not at all, so its front is filled first.
+    # Most of the pipe is filled before, so that the answers soon are too many.
     os.set_blocking(writing, False)
     os.write(writing, b"-" * 3000)
     status, _, complaint = room.play(path, RUN, script, stdout=writing)

@@ -38,6 +38,6 @@ def none(kind, room):
     for word in "--help", "-h", "--version", "help", "init", "run":
         kind.expect(word, room.play(word, [], cwd=room.folder), ended(2))
         kind.expect(f"{word} makes a file", os.path.exists(room.path(word)), False)
-    strange = os.fsencode(room.path("")) + b"\xff.wm"
+    strange = os.fsencode(room.path("")) + b"\xff.store"
     kind.expect("a path that is not UTF-8", room.play(strange, ["init", "--limit", "5"]), ended(2))
     kind.expect("that path makes a file", os.path.exists(strange), False)

@@ -1,21 +1,22 @@
 #!/usr/bin/env python3
 """python3 tools/play STORE [SCRIPT] [--new [--limit N]] [--now T] [--stop] [--csv] [--quiet] [--program WM]
 
-Plays a script through the built program, and shows each line with its answer below it. Without SCRIPT the lines come from standard
-input; at a terminal each is asked for. The last line, on standard error, says how many were accepted and refused.
+Plays a script through the built program, and shows each line with its answer below it. Without SCRIPT the lines come
+from standard input; at a terminal each is asked for. The last line, on standard error, counts accepted and refused ones.
+Behind three answers that mislead stands a hint, which begins with a star and is no word of the program's.
 
-    --new        makes the store first. What is at STORE already is never touched
-    --limit N    how many changes the new store takes (1048576, which is the most)
-    --now T      when the run begins, in UTC: '2024-06-01' or '2024-06-01 17:30:00'. Else it is the clock's time
-    --stop       ends at the first refused line; the lines behind it are not played
-    --csv        gives the rows of the queries alone, for a spreadsheet
-    --quiet      says nothing on standard error but what went wrong
-    --program WM the program, with words before the store's path if need be. Else $WM, build/wm, or wm on the path
+    --new         makes the store first. What is at STORE already is never touched
+    --limit N     how many changes the new store takes (1048576, which is the most)
+    --now T       when the run begins, in UTC: '2024-06-01' or '2024-06-01 17:30:00'. Without it, by the clock
+    --stop        ends at the first refused line; the lines behind it are not played
+    --csv         gives the rows of the queries alone, for a spreadsheet
+    --quiet       says nothing on standard error but what went wrong, and adds no hints to answers
+    --program WM  the program. Without it $WM, build/wm, or wm on the path
 
-The status is 0 where each line was accepted, 1 where one was refused, 2 where nothing could be played, and else the program's own.
+The status is 0 where each line was accepted, 1 where one was refused, 2 where nothing could be played, and else the
+program's own.
 """
 import argparse
-import fcntl
 import os
 import sys
 from datetime import datetime, timezone
@@ -25,10 +26,12 @@ sys.path.insert(1, str(Path(__file__).resolve().parents[1]))
 
 from alone import InUse, hold
 from catalog import Catalog
+from hints import Hints
 from lines import is_refusal, is_silent, script_lines
 from output import Progress, Sheet, Transcript
 from program import Ended, NoProgram, Program, found_program, make_store
 from storefile.pages import MADE, Damaged, NotAStore
+from storefile.use import has_a_run
 
 GREATEST_LIMIT = 1_048_576
 REASONS = {"wm: disk fault": "the store could not be read or written, or another run has it open",
@@ -81,17 +84,6 @@ def see_to_store(words, program):
             raise Refused(f"{words.store} is no store")
         if has_a_run(file):
             raise Refused(f"another run has {words.store} open")
-
-
-def has_a_run(file):
-    """Whether a run holds the lock of the file, which is looked at for a moment only."""
-    try:
-        fcntl.flock(file, fcntl.LOCK_SH | fcntl.LOCK_NB)
-    except BlockingIOError:
-        return True
-    except OSError:
-        pass
-    return False
 
 
 def warn_of_moment(words, catalog):
@@ -158,6 +150,7 @@ def play_script(play, lines, catalog, is_told):
 def play_at_terminal(play, catalog):
     """Asks for lines until there are no more."""
     import readline  # noqa: F401  gives `input` its editing and its history
+    print(f"{play.words.store}, on {play.words.now}: one statement on each line, and Ctrl-D at the end", file=sys.stderr)
     while True:
         try:
             line = input("wm>  ")
@@ -188,7 +181,9 @@ def main():
     at_terminal = data is None and sys.stdin.isatty()
     words.now = words.now or clock()
     warn_of_moment(words, catalog)
-    play = Play(words, program, Sheet(catalog) if words.csv else Transcript(catalog, echoes=not at_terminal))
+    hints = None if words.quiet else Hints(catalog)
+    out = Sheet(catalog) if words.csv else Transcript(catalog, not at_terminal, hints)
+    play = Play(words, program, out)
     if at_terminal:
         play_at_terminal(play, catalog)
     else:

@@ -8,8 +8,8 @@ class InUse(Exception):
 
 
 def hold(store):
-    """A name that one process of this machine at a time can have, made of what the file is and not of how it is called. It is given
-    up when the process ends, however that comes. Needs a machine with names of sockets that are no files, as Linux has."""
+    """A name that one process of this machine at a time can have, made of what the file is and not of how it is called.
+    It is given up when the process ends, however that comes. Names of sockets that are no files are a thing of Linux."""
     found = os.stat(store)
     held = socket.socket(socket.AF_UNIX)
     try:

@@ -32,7 +32,12 @@ def parted(text, ends):
 def in_capitals(text):
     """A name or an expression as it is read: in capitals outside texts, without blanks where none are needed."""
     pieces = re.split(r"('(?:[^']|'')*')", text)
-    return "".join(piece if piece.startswith("'") else re.sub(r"\s*\.\s*", ".", re.sub(r"\s+", " ", piece)).upper() for piece in pieces)
+    return "".join(piece if piece.startswith("'") else closed(piece).upper() for piece in pieces)
+
+
+def closed(text):
+    """The text with one blank in the place of many, and none around a dot."""
+    return re.sub(r"\s*\.\s*", ".", re.sub(r"\s+", " ", text))
 
 
 def item_name(item):
@@ -54,8 +59,8 @@ def sources(text):
 
 
 def names_of_columns(line, columns_of):
-    """The names of the columns that the query on the line answers, or None where they are not known. `columns_of` has the names of
-    the columns of each table."""
+    """The names of the columns that the query on the line answers, or None where they are not known. `columns_of` has
+    those of each table."""
     items, rest = parted(line[SELECT.match(line).end():], {"FROM"})
     if items != ["*"]:
         return without_tables([item_name(item) for item in items])

@@ -1,4 +1,5 @@
 """What a person is shown: lines with their answers, or rows for a spreadsheet, and on standard error how far it is."""
+import os
 import sys
 import time
 
@@ -14,22 +15,30 @@ def names_of(line, catalog):
 
 
 class Transcript:
-    """Each line with its number, and its answer below it."""
+    """Each line with its number, and its answer below it. What is added to an answer is marked by a star."""
 
-    def __init__(self, catalog, echoes=True):
-        self.catalog, self.echoes = catalog, echoes
+    def __init__(self, catalog, echoes=True, hints=None):
+        self.catalog, self.echoes, self.hints = catalog, echoes, hints
+        self.has_colours = sys.stdout.isatty() and "NO_COLOR" not in os.environ
+
+    def marked(self, text, is_wrong):
+        """On a terminal what is refused is told in red."""
+        return f"\x1b[31m{text}\x1b[0m" if is_wrong and self.has_colours else text
 
     def show(self, number, line, answer):
         if self.echoes:
             print(f"{number:>3}  {readable(line)}".rstrip())
         mark = caret(line, answer)
         if mark is not None:
-            print(INDENT + mark)
+            print(INDENT + self.marked(mark, True))
+        texts = [readable(text) for text in answer]
         if answer and answer[-1].startswith(b"ROWS "):
-            rows = [readable(row) for row in answer[:-1]]
-            answer = [*[text.encode() for text in table(names_of(line, self.catalog), rows)], answer[-1]]
-        for text in answer:
-            print(INDENT + readable(text))
+            texts = [*table(names_of(line, self.catalog), texts[:-1]), texts[-1]]
+        for text in texts:
+            print(INDENT + self.marked(text, is_refusal(answer)))
+        hint = self.hints.hint(line, answer) if self.hints else None
+        if hint is not None:
+            print(f"{INDENT}* {hint}")
         sys.stdout.flush()
 
 

@@ -85,7 +85,7 @@ def play(program, store, lines, **more):
 
 
 def copied(room, store, name):
-    to = f"{room}/{name}.wm"
+    to = f"{room}/{name}.store"
     shutil.copyfile(store, to)
     return to
 
@@ -152,7 +152,7 @@ def main():
     given = words.parse_args()
     program, lines = os.path.abspath(given.program), lines_of(SCRIPT)
     with tempfile.TemporaryDirectory(prefix="wm-refuse-") as room:
-        store, shim, counted = f"{room}/fresh.wm", built_shim(room), f"{room}/count"
+        store, shim, counted = f"{room}/fresh.store", built_shim(room), f"{room}/count"
         subprocess.run([program, store, "init", "--limit", "1000"], check=True, capture_output=True)
         expected = Expected(program, room, store, lines)
         play(program, copied(room, store, "counted"), lines, LD_PRELOAD=shim, REFUSE_COUNT=counted)

@@ -8,7 +8,7 @@ YEARS = [1, 2, 5, 10, 20, 50, 100, 200, 500, 1000, 2000]
 
 
 class Axis:
-    """From the first to the last end that is a date, and some more on both sides. What has no beginning or no end reaches over the edge."""
+    """From the first to the last end that is a date, and some more on both sides."""
 
     def __init__(self, periods, left, right):
         ends = sorted({end for period in periods for end in period if 0 < end < UNTIL_CHANGED})
@@ -47,7 +47,8 @@ def days(begin, till):
         return []
     step = next((step for step in (1, 2, 7, 14) if (till - begin).days / step <= MOST), 14)
     first = begin.replace(hour=0, minute=0, second=0, microsecond=0)
-    return [(moment, f"{moment:%Y-%m-%d}") for moment in (first + timedelta(days=step * count) for count in range(1, 80)) if moment <= till]
+    found = [first + timedelta(days=step * count) for count in range(1, 80)]
+    return [(moment, f"{moment:%Y-%m-%d}") for moment in found if moment <= till]
 
 
 def months(begin, till):

@@ -15,7 +15,7 @@ def in_order(store, number=LIVE):
 
 
 def births(store):
-    """The savepoint that was made for each workspace but LIVE. Several may be born at one place: then in order of their making."""
+    """The savepoint that was made for each workspace but LIVE. Of several at one place, in order of their making."""
     found = {}
     for space in store.spaces.values():
         points = [point for point in store.savepoints_of(space) if point.is_implicit]
@@ -84,15 +84,18 @@ class Graph:
         bend = min(22.0, (level - y) / 2)
         across = max(till + bend, x + bend)
         path = f"M{x:.1f} {y} V{level - bend:.1f} Q{x:.1f} {level} {x + bend:.1f} {level} H{across:.1f}"
-        return element("path", d=path, class_="halo") + element("path", d=path, class_="birth", style=f"stroke:{colour_of(space)}")
+        drawn = element("path", d=path, class_="birth", style=f"stroke:{colour_of(space)}")
+        return element("path", d=path, class_="halo") + drawn
 
     def lane(self, space):
         level, begin = self.level[space.number], self.begin(space)
         colour = colour_of(space)
-        parts = [element("line", x1=begin + 22 * (space.number != LIVE), x2=self.end, y1=level, y2=level, class_="lane", style=f"stroke:{colour}")]
+        left = begin + 22 * (space.number != LIVE)
+        parts = [element("line", x1=left, x2=self.end, y1=level, y2=level, class_="lane", style=f"stroke:{colour}")]
         parts += [self.head(space, level, colour), self.changes(space, level, begin, colour)]
         parts += [self.node(point, level, colour) for point in self.nodes[space.number]]
-        parts.append(element("circle", title("what is newest"), cx=self.end, cy=level, r=6, class_="newest", style=f"fill:{colour}"))
+        parts.append(element("circle", title("what is newest"), cx=self.end, cy=level, r=6, class_="newest",
+                             style=f"fill:{colour}"))
         return element("g", *parts)
 
     def head(self, space, level, colour):
@@ -109,10 +112,10 @@ class Graph:
     def node(self, point, level, colour):
         x = self.column[point.making]
         if point.is_implicit:
-            return element("circle", title(f"{point.name}, {point.moment}: made for a workspace"), cx=x, cy=level, r=4.5, class_="implicit",
-                           style=f"stroke:{colour}")
-        mark = element("path", title(f"{point.name}, {point.moment}"), d=f"M{x - 7:.1f} {level} l7 -7 l7 7 l-7 7 z", class_="savepoint",
-                       style=f"fill:{colour}")
+            told = title(f"{point.name}, {point.moment}: made for a workspace")
+            return element("circle", told, cx=x, cy=level, r=4.5, class_="implicit", style=f"stroke:{colour}")
+        mark = element("path", title(f"{point.name}, {point.moment}"), d=f"M{x - 7:.1f} {level} l7 -7 l7 7 l-7 7 z",
+                       class_="savepoint", style=f"fill:{colour}")
         return mark + label(x, level - 15, point.name, class_="small", text_anchor="middle")
 
     def changes(self, space, level, begin, colour):
@@ -134,5 +137,6 @@ def pill(x, level, entries, colour):
     width = 14 + 7 * len(text)
     users = ", ".join(sorted({entry.user for entry in entries}))
     told = title(f"{text} change{'s' * (len(entries) != 1)} by {users}, {entries[0].moment} to {entries[-1].moment}")
-    return element("g", told, element("rect", x=x - width / 2, y=level - 10, width=width, height=20, rx=10, class_="pill", style=f"stroke:{colour}"),
-                   label(x, level + 4, text, class_="count", text_anchor="middle"))
+    frame = element("rect", x=x - width / 2, y=level - 10, width=width, height=20, rx=10, class_="pill",
+                    style=f"stroke:{colour}")
+    return element("g", told, frame, label(x, level + 4, text, class_="count", text_anchor="middle"))

@@ -26,7 +26,8 @@ def last_changed(store, table):
 
 def key_card(store, table, key, rows_by_space, found):
     ours = [(space, conflict) for space, conflict in found if conflict.table is table and conflict.key == key]
-    return f'<div class="key"><h3>{escape(table.columns[table.key_column].name)} {escape(printed(key))}</h3>{timeline(store, table, key, rows_by_space, ours)}</div>'
+    heading = f"<h3>{escape(table.columns[table.key_column].name)} {escape(printed(key))}</h3>"
+    return f'<div class="key">{heading}{timeline(store, table, key, rows_by_space, ours)}</div>'
 
 
 def row_text(rows, table):
@@ -37,7 +38,8 @@ def row_text(rows, table):
 
 
 def comparison(store, table, keys, rows_by_space):
-    """A line for each key, with a column for each workspace. Marked is what the workspace changed; pale is what the parent has otherwise now."""
+    """A line for each key, with a column for each workspace. Marked is what it changed; pale is what the parent has
+    otherwise now."""
     spaces = list(store.spaces.values())
     own = {space.number: changed_keys(store, space) if space.number != LIVE else set() for space in spaces}
     heads = "".join(f"<th>{escape(space.name)}</th>" for space in spaces)
@@ -46,8 +48,8 @@ def comparison(store, table, keys, rows_by_space):
         cells = []
         for space in spaces:
             rows, parents = (rows_by_space[number].get(key, []) for number in (space.number, space.parent))
-            mark = ' class="changed"' if (table.number, key) in own[space.number] else ' class="older"' if rows != parents else ""
-            cells.append(f"<td{mark}>{row_text(rows, table)}</td>")
+            mark = "changed" if (table.number, key) in own[space.number] else "older" if rows != parents else ""
+            cells.append(f'<td class="{mark}">{row_text(rows, table)}</td>')
         lines.append(f"<tr><td><b>{escape(printed(key))}</b></td>{''.join(cells)}</tr>")
     key_name = escape(table.columns[table.key_column].name)
     return f"<table><thead><tr><th>{key_name}</th>{heads}</tr></thead><tbody>{''.join(lines)}</tbody></table>"
@@ -70,7 +72,8 @@ def keys_section(store, found, most):
     tables = [table for table in store.tables.values() if any(entry.cells.table == table.number for entry in store.log)]
     if not tables:
         return ["There are no rows yet."]
-    told = ("Of a table with valid time, each key over time: a bar is a row and the period for which it holds, and equal colours are the work of one "
-            "change. Workspaces that hold the same share a lane; hatched is what is in conflict. Of other tables, each key in each workspace; "
-            "marked is what the workspace changed, and pale is what its parent has otherwise by now.")
+    told = ("Of a table with valid time, each key over time: a bar is a row and the period for which it holds, and equal "
+            "colours are the work of one change. Workspaces that hold the same share a lane; hatched is what is in conflict. "
+            "Of other tables, each key in each workspace; marked is what the workspace changed, and pale is what its parent "
+            "has otherwise by now.")
     return [told, *(table_card(store, table, found, most) for table in tables)]

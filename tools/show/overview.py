@@ -62,7 +62,8 @@ def facts(store, space):
 
 def branch(store, space, indent=""):
     """A workspace, its savepoints and its children, as a tree."""
-    below = [("savepoint", point) for point in store.savepoints_of(space)] + [("workspace", child) for child in store.children(space)]
+    below = [("savepoint", point) for point in store.savepoints_of(space)]
+    below += [("workspace", child) for child in store.children(space)]
     lines = []
     for place, (kind, item) in enumerate(below):
         is_last = place == len(below) - 1
@@ -78,7 +79,8 @@ def branch(store, space, indent=""):
 
 def workspaces(store):
     live = store.spaces[LIVE]
-    return ["", "Workspaces, and their savepoints in quotes", f"  LIVE: {', '.join(facts(store, live))}", *branch(store, live, "  ")]
+    head = f"  LIVE: {', '.join(facts(store, live))}"
+    return ["", "Workspaces, and their savepoints in quotes", head, *branch(store, live, "  ")]
 
 
 def entry_line(store, entry):
@@ -104,7 +106,8 @@ def log(store, most):
     entries = in_time(store)
     told = f", the last {most} of {len(entries)}" if len(entries) > most else ""
     shown = entries[len(entries) - most:] if len(entries) > most else entries
-    return ["", f"Who changed what{told}", *(fitted([entry_line(store, entry) for entry in shown]) if shown else ["  nobody anything"])]
+    lines = fitted([entry_line(store, entry) for entry in shown]) if shown else ["  nobody anything"]
+    return ["", f"Who changed what{told}", *lines]
 
 
 def side_line(name, row):

@@ -11,10 +11,11 @@ from storefile.store import LIVE
 from storefile.values import printed
 
 MOST_ENTRIES = 500
+SECTIONS = {"workspaces": "Workspaces", "tables": "Tables", "conflicts": "Conflicts", "keys": "Rows", "log": "Who changed what"}
 
 
-def section(name, heading, text, *inside):
-    return f'<section id="{name}">\n<h2>{heading}</h2>\n<p>{text}</p>\n' + "\n".join(inside) + "\n</section>"
+def section(name, text, *inside):
+    return f'<section id="{name}">\n<h2>{SECTIONS[name]}</h2>\n<p>{text}</p>\n' + "\n".join(inside) + "\n</section>"
 
 
 def card(*inside):
@@ -45,9 +46,9 @@ def header(name, store, conflicts):
     told = f"Last change {moment} UTC" if moment else "Nothing has been changed yet"
     if store.pages.is_repaired:
         told += "; the last change is still in the journal, and the next run puts it in place"
-    places = [("workspaces", "Workspaces"), ("tables", "Tables"), ("conflicts", "Conflicts"), ("keys", "Rows"), ("log", "Who changed what")]
-    links = "".join(f'<a href="#{place}">{text}</a>' for place, text in places)
-    return f"<header><h1>{escape(name)}</h1><p>{told}. {counted(store.pages.count, 'page')} of 4,096 bytes.</p>{facts(store, conflicts)}<nav>{links}</nav></header>"
+    links = "".join(f'<a href="#{place}">{text}</a>' for place, text in SECTIONS.items())
+    size = f"{counted(store.pages.count, 'page')} of 4,096 bytes"
+    return f"<header><h1>{escape(name)}</h1><p>{told}. {size}.</p>{facts(store, conflicts)}<nav>{links}</nav></header>"
 
 
 def column_mark(column, table):
@@ -61,7 +62,8 @@ def table_row(store, table):
     cells = []
     for space in store.spaces.values():
         rows = len(store.rows_of(space, table))
-        changed = len({key for number, key in changed_keys(store, space) if number == table.number}) if space.number != LIVE else 0
+        own = changed_keys(store, space) if space.number != LIVE else ()
+        changed = sum(number == table.number for number, _ in own)
         told = f"{rows:,}" + (f" <small>({changed} changed)</small>" if changed else "")
         cells.append(f'<td class="number{" changed" if changed else ""}">{told}</td>')
     return (f"<tr><td><b>{escape(table.name)}</b><br><small class='when'>{state_of(table)}</small></td>"
@@ -72,14 +74,14 @@ def tables_section(store):
     heads = "".join(f'<th class="number">{escape(space.name)}</th>' for space in store.spaces.values())
     rows = "".join(table_row(store, table) for table in store.tables.values())
     told = "How many rows each workspace sees. Marked is what it changed itself, by keys." if rows else "No table has been made yet."
-    inside = card(f"<table><thead><tr><th>Table</th><th>Columns</th>{heads}</tr></thead><tbody>{rows}</tbody></table>") if rows else ""
-    return section("tables", "Tables", told, inside)
+    head = f"<thead><tr><th>Table</th><th>Columns</th>{heads}</tr></thead>"
+    return section("tables", told, card(f"<table>{head}<tbody>{rows}</tbody></table>") if rows else "")
 
 
 def workspaces_section(store):
-    told = ("A lane for each workspace, from where it was born. A number in a lane is how many changes were made there; a diamond is a savepoint, "
-            "and a ring is one that was made for a workspace. What is newest stands to the right.")
-    return section("workspaces", "Workspaces", told, card(Graph(store).picture()))
+    told = ("A lane for each workspace, from where it was born. A number in a lane is how many changes were made there; a "
+            "diamond is a savepoint, and a ring is one that was made for a workspace. What is newest stands to the right.")
+    return section("workspaces", told, card(Graph(store).picture()))
 
 
 def value_mark(value):
@@ -90,9 +92,10 @@ def log_row(store, entry):
     table, space = store.tables[entry.cells.table], store.spaces[entry.space]
     values = "" if entry.is_gone else " | ".join(map(value_mark, store.rows[entry.stamp]))
     period = f'<br><small class="when">{entry.cells.period}</small>' if table.is_valid else ""
-    return (f'<tr><td class="when">{entry.moment}</td><td><span class="who">{escape(entry.user)}</span></td><td>{space_mark(space)}</td>'
-            f'<td class="{WORDS[entry.kind]}">{WORDS[entry.kind]}</td><td><b>{escape(table.name)}</b> {escape(printed(entry.cells.key))}{period}</td>'
-            f"<td>{values}</td></tr>")
+    who = f'<span class="who">{escape(entry.user)}</span>'
+    what = f"<b>{escape(table.name)}</b> {escape(printed(entry.cells.key))}{period}"
+    return (f'<tr><td class="when">{entry.moment}</td><td>{who}</td><td>{space_mark(space)}</td>'
+            f'<td class="{WORDS[entry.kind]}">{WORDS[entry.kind]}</td><td>{what}</td><td>{values}</td></tr>')
 
 
 def log_section(store):
@@ -104,12 +107,12 @@ def log_section(store):
     box = '<input hidden data-finds="#log tbody tr" placeholder="find a user, a table, a value ..">'
     heads = "".join(f"<th>{text}</th>" for text in ("When", "Who", "Where", "What", "Table and key", "The row then"))
     inside = [box, card(f"<table><thead><tr>{heads}</tr></thead><tbody>{rows}</tbody></table>")] if rows else []
-    return section("log", "Who changed what", told, *inside)
+    return section("log", told, *inside)
 
 
 def page(name, store, most_keys):
     found = [(space, conflict) for space in store.spaces.values() for conflict in store.conflicts(space)]
     parts = [header(name, store, len(found)), workspaces_section(store), tables_section(store),
-             section("conflicts", "Conflicts", *conflicts_section(store, found)),
-             section("keys", "Rows", *keys_section(store, found, most_keys)), log_section(store)]
+             section("conflicts", *conflicts_section(store, found)),
+             section("keys", *keys_section(store, found, most_keys)), log_section(store)]
     return shell(escape(name), "\n".join(parts))

@@ -2,7 +2,8 @@
 from html import escape
 
 # What letters take of the height of a bold font that is rather wide; of others by kind.
-WIDTHS = {**dict.fromkeys("W@%&", 1.1), **dict.fromkeys("mM", 1.05), "w": 0.93, **dict.fromkeys("ijlI.,;:'|!()[]", 0.46), " ": 0.36}
+WIDTHS = {**dict.fromkeys("W@%&", 1.1), **dict.fromkeys("mM", 1.05), "w": 0.93, " ": 0.36,
+          **dict.fromkeys("ijlI.,;:'|!()[]", 0.46)}
 CAPITAL, SMALL, DIGIT, OTHER = 0.8, 0.7, 0.7, 1.05
 # Bold letters of 13 pixels, and others of 12, which are narrower.
 NAME, VALUE = 13, 10.9
@@ -18,7 +19,7 @@ def width_of(text, height):
 
 
 def attributes(named):
-    return "".join(f' {name.rstrip("_").replace("_", "-")}="{escape(rounded(value))}"' for name, value in named.items() if value is not None)
+    return "".join(f' {name.rstrip("_").replace("_", "-")}="{escape(rounded(value))}"' for name, value in named.items())
 
 
 def rounded(value):
@@ -40,7 +41,8 @@ def title(text):
 
 
 def picture(width, height, *inside, **named):
-    return element("svg", *inside, viewBox=f"0 0 {rounded(width)} {rounded(height)}", width=width, height=height, role="img", **named)
+    frame = f"0 0 {rounded(width)} {rounded(height)}"
+    return element("svg", *inside, viewBox=frame, width=width, height=height, role="img", **named)
 
 
 def shortened(text, width, height=VALUE):
@@ -48,7 +50,7 @@ def shortened(text, width, height=VALUE):
     if width_of(text, height) <= width:
         return text
     most = next(most for most in range(len(text), -1, -1) if width_of(text[:most] + "…", height) <= width or most == 0)
-    return text[:most].rstrip() + "…" if most > 1 else ""
+    return text[:most].rstrip(" ·,") + "…" if most > 1 else ""
 
 
 def name_label(x, y, name, width):

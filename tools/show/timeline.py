@@ -41,8 +41,8 @@ def bar(axis, row, level, text, colour):
 
 def hatched(axis, conflict, level):
     begin, till = axis.place(conflict.period.begin), axis.place(conflict.period.till)
-    return element("rect", title(f"in conflict {conflict.period}"), x=begin, y=level + BAR - 5, width=max(till - begin, 2.0), height=9,
-                   class_="hatched", rx=3)
+    return element("rect", title(f"in conflict {conflict.period}"), x=begin, y=level + BAR - 5, width=max(till - begin, 2.0),
+                   height=9, class_="hatched", rx=3)
 
 
 def timeline(store, table, key, rows_by_space, conflicts):
@@ -61,5 +61,6 @@ def timeline(store, table, key, rows_by_space, conflicts):
         parts += [hatched(axis, conflict, level) for space, conflict in conflicts if space.name in names]
         if not held:
             parts.append(label(NAMES + 8, level + BAR / 2 + 4, "no row", class_="small"))
-    parts += [label(axis.place(at), bottom + 16, text, class_="day", text_anchor="middle") for at, text in axis.ticks() if axis.place(at) < WIDTH - 40]
+    parts += [label(axis.place(at), bottom + 16, text, class_="day", text_anchor="middle")
+              for at, text in axis.ticks() if axis.place(at) < WIDTH - 40]
     return picture(WIDTH, bottom + 26, *parts, class_="timeline")

@@ -1,13 +1,16 @@
 """What the records of a store say together."""
+import time
 from collections import defaultdict
 from pathlib import Path
 from typing import NamedTuple
 
 from .pages import Damaged, Pages
 from .records import Counters, Hist, Piece, Row, Savepoint, Space, Table, Version, records_of
+from .use import has_a_run
 from .values import in_order
 
 LIVE, NO_VERSION = 0, 0
+ATTEMPTS = 10
 
 
 class Shown(NamedTuple):
@@ -33,6 +36,7 @@ class Store:
 
     def __init__(self, pages):
         self.pages = pages
+        self.found = {}  # the conflicts of a workspace, once they were asked for
         by_kind = defaultdict(list)
         for record in records_of(pages):
             by_kind[type(record)].append(record)
@@ -95,7 +99,8 @@ class Store:
         """What is seen of a table, or of one key: each part of a piece that no nearer version covers."""
         covered, found = defaultdict(list), []
         for nearer in self.path(version):
-            stored = [piece for piece in self.pieces[nearer] if piece.cells.table == table.number and key in (None, piece.cells.key)]
+            stored = [piece for piece in self.pieces[nearer]
+                      if piece.cells.table == table.number and key in (None, piece.cells.key)]
             for piece in stored:
                 parts = [piece.cells.period]
                 for other in covered[piece.cells.key]:
@@ -140,9 +145,13 @@ class Store:
     # What will conflict
 
     def conflicts(self, space):
-        """The longest periods that the workspace and its parent both changed since the one was made of the other, by table and key."""
-        if space.number == LIVE:
-            return []
+        """The longest periods that the workspace and its parent both changed since the one was made of the other, by
+        table and key."""
+        if space.number not in self.found:
+            self.found[space.number] = self.find_conflicts(space) if space.number != LIVE else []
+        return self.found[space.number]
+
+    def find_conflicts(self, space):
         touched = defaultdict(list)
         for entry in self.pending(space):
             touched[entry.cells.table, entry.cells.key].append(entry.cells.period)
@@ -180,5 +189,12 @@ def stamps(conflict):
 
 
 def opened(path):
-    """The store in a file, which is only read."""
-    return Store(Pages(Path(path).read_bytes()))
+    """The store in a file, which is only read. What is read while a run changes it may not fit together: then again."""
+    for attempt in range(ATTEMPTS):
+        with Path(path).open("rb") as file:
+            try:
+                return Store(Pages(file.read()))
+            except Damaged:
+                if attempt == ATTEMPTS - 1 or not has_a_run(file):
+                    raise
+        time.sleep(0.2)

@@ -1,8 +1,8 @@
 #!/usr/bin/env python3
 """python3 tools/tests [NAME..]
 
-Tests of what stands around the program: tools/play, tools/show and its page, tools/insert_lines.py. They play through build/wm, or $WM. A test that
-lacks something, as a browser, is skipped and says so.
+Tests of what stands around the program: tools/play, tools/show and its page, tools/insert_lines.py, the editor modes.
+They play through build/wm, or $WM. A test that lacks something, as a browser, is skipped and says so.
 """
 import sys
 import unittest

@@ -1,15 +1,17 @@
 """tools/show: what it reads in a file is what the program answers, whatever the file holds."""
 import random
 import shutil
+import subprocess
+import threading
 
-from around import WithFolder, made, run, store_of_examples, store_of_tutorial, tool
+from around import PROGRAM, WithFolder, made, run, store_of_examples, store_of_tutorial, tool
 from random_stores import Writer
 from shown import shown
 from storefile.pages import SIZE, Damaged, NotAStore
 from storefile.store import LIVE, opened
 from storefile.values import printed
 
-SEEDS, LINES, DAMAGES = 16, 90, 150
+SEEDS, LINES, DAMAGES, ROWS = 16, 90, 150, 400
 
 
 def text(name):
@@ -36,8 +38,8 @@ def selections(found, version):
 
 
 def cells_in_conflict(found, space):
-    """The ends that matter of each key, and between which of them both logs have an entry. No merge and no refresh is built yet, so
-    what a workspace changed and did not merge is its whole log."""
+    """What both logs have an entry over, by key. No merge and no refresh is built yet, so what a workspace changed and did
+    not merge is its whole log."""
     inside = {}
     for ours in found.log_of(space):
         for theirs in found.pending(space):
@@ -144,6 +146,24 @@ class Files(WithFolder):
             return str(damage)
         return ""
 
+    def test_store_that_is_changed_meanwhile(self):
+        """While a run inserts rows, each look shows a front of them."""
+        made(self.store)
+        script = b"CONNECT A ANN\nA: CREATE TABLE T (ID NUMBER PRIMARY KEY)\nA: EXECUTE DBMS_WM.EnableVersioning('T')\n"
+        script += b"".join(b"A: INSERT INTO T VALUES (%d)\n" % number for number in range(ROWS))
+        with subprocess.Popen([*PROGRAM.split(), str(self.store), "run", "--now", "2024-01-01"], stdin=subprocess.PIPE,
+                              stdout=subprocess.DEVNULL) as writer:
+            threading.Thread(target=lambda: (writer.stdin.write(script), writer.stdin.close())).start()
+            looks = 0
+            while writer.poll() is None:
+                found = opened(self.store)
+                for table in found.tables.values():
+                    keys = [row.key for row in found.rows_of(found.spaces[LIVE], table)]
+                    self.assertEqual(keys, list(range(len(keys))))
+                looks += 1
+        self.assertGreater(looks, 1)
+        self.assertEqual(opened(self.store).counters.next_stamp, ROWS + 1)
+
     def test_no_store(self):
         self.assertIn("No such file", tool("show", self.folder / "none").stderr)
         self.store.write_bytes(b"CONNECT A ANN\n")
@@ -152,8 +172,8 @@ class Files(WithFolder):
 
 def stopped(before, after):
     """The file as a stop leaves it when the gate is open: the old pages, and behind them a journal with the new ones."""
-    places = [place for place in range(1, len(before) // SIZE) if before[place * SIZE:(place + 1) * SIZE] != after[place * SIZE:(place + 1) * SIZE]
-              and place < int.from_bytes(after[SIZE:SIZE + 8], "big")]
+    places = [place for place in range(1, int.from_bytes(after[SIZE:SIZE + 8], "big"))
+              if before[place * SIZE:(place + 1) * SIZE] != after[place * SIZE:(place + 1) * SIZE]]
     first = max(int.from_bytes(data[SIZE:SIZE + 8], "big") for data in (before, after))
     head = bytearray(before[:SIZE])
     head[8] = 0x47

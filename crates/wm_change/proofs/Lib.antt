@@ -4,5 +4,5 @@ pub mod ChangesWritten
 pub mod Counted
 pub mod Filled
 pub mod Inserting
-pub mod Moving
+pub mod MovedRows
 pub mod Rowing

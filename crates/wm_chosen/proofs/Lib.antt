@@ -1,4 +1,4 @@
-pub mod Choosing
+pub mod ChosenRows
 pub mod KeyAsked
 pub mod KeyAskedAt
 pub mod KeyRows

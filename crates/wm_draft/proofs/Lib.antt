@@ -2,7 +2,7 @@ mod Dropping
 mod DroppingAll
 mod Redrawing
 mod Following
-mod Drafting
+mod DraftLaws
 mod Putting
 mod Entering
 mod Placed

@@ -12,11 +12,11 @@ use Rattle.wm_spec.specs.Records.{record_at}
 use Rattle.wm_spec.specs.declared.record.Record.{Record}
 use Rattle.wm_spec.specs.declared.record.stored.Stored.{Stored}
 use Rattle.wm_spec.specs.declared.record.table.Table.{Table}
-use Rattle.wm_state.specs.ById.{Ascend, perhaps_before, set_at}
+use Rattle.wm_state.specs.ById.{perhaps_before, set_at}
 use Rattle.wm_state.specs.Standing.{by_number, place_table}
 use Rattle.wm_state.proofs.Tests.{bool_apart, both, and_true, either_false, not_true}
 use Rattle.wm_image.proofs.Lists.{record_at-here, record_at-away}
-use Rattle.wm_image.specs.Indexed.{IsCatalog}
+use Rattle.wm_image.specs.Indexed.{IsCatalog, listed}
 
 -- ---- a table among others
 
@@ -110,7 +110,7 @@ differ_sorted (t ∷ ts) apart =
 
 -- ---- a change that is of no table
 
-tables_in : List Stored → List Table
+abbrev tables_in : List Stored → List Table
 tables_in ss = filter_map as_table (map (λ (s : Stored). s.record) ss)
 
 no_table : (o : Option Record) → is_some (option_and_then as_table o) ≡ false → option_and_then as_table o ≡ None
@@ -120,31 +120,33 @@ no_table o none = by_found (option_and_then as_table o) none
     by_found None e = refl
     by_found (Some t) e = absurd (bool_apart e)
 
-unfolding tables_in
-
 tables_perhaps : (id : ℕ) (becomes : Option Record) (ss : List Stored) → option_and_then as_table becomes ≡ None → tables_in (perhaps_before id becomes ss) ≡ tables_in ss
 tables_perhaps id None ss none = refl
 tables_perhaps id (Some r) ss none = ap (λ o. cons_option o (tables_in ss)) none
 
 tables_set : (id : ℕ) (becomes : Option Record) (ss : List Stored) → option_and_then as_table (record_at ss id) ≡ None → option_and_then as_table becomes ≡ None → tables_in (set_at id becomes ss) ≡ tables_in ss
 tables_set id becomes [] was is = tables_perhaps id becomes [] is
-tables_set id becomes (s ∷ ss) was is = by_place (cases_eq s.id id) (cases_lt id s.id)
+tables_set id becomes (s ∷ ss) was is =
+    by_place (cases_eq s.id id) (cases_lt id s.id) (λ away. tables_set id becomes ss (ap (option_and_then as_table) (sym (record_at-away s ss id away)) ∙ was) is)
   where
-    by_place : (s.id ≡ id) ⊎ (s.id ≢ id) → (id < s.id) ⊎ (s.id ≤ id) → tables_in (set_at id becomes (s ∷ ss)) ≡ tables_in (s ∷ ss)
-    by_place (inl same) order =
+    by_place : (s.id ≡ id) ⊎ (s.id ≢ id) → (id < s.id) ⊎ (s.id ≤ id) → (s.id ≢ id → tables_in (set_at id becomes ss) ≡ tables_in ss) → tables_in (set_at id becomes (s ∷ ss)) ≡ tables_in (s ∷ ss)
+    by_place (inl same) order rest =
         rw (eq-eqb _ _ same)
         (tables_perhaps id becomes ss is ∙ ap (λ o. cons_option o (tables_in ss)) (sym (ap (option_and_then as_table) (sym (record_at-here s ss id same)) ∙ was)))
-    by_place (inr away) (inl lt) = rw (ne_eqb _ _ away, lt-ltb _ _ lt) (tables_perhaps id becomes (s ∷ ss) is)
-    by_place (inr away) (inr more) =
-        rw (ne_eqb _ _ away, le-ltb _ _ more)
-        (ap (λ ts. cons_option (as_table s.record) ts) (tables_set id becomes ss (ap (option_and_then as_table) (sym (record_at-away s ss id away)) ∙ was) is))
+    by_place (inr away) (inl lt) rest = rw (ne_eqb _ _ away, lt-ltb _ _ lt) (tables_perhaps id becomes (s ∷ ss) is)
+    by_place (inr away) (inr more) rest = rw (ne_eqb _ _ away, le-ltb _ _ more) (ap (λ ts. cons_option (as_table s.record) ts) (rest away))
 
 pub tables_kept : (old new : List Stored) (id : ℕ) (becomes : Option Record) (was is : Bool) → new ≡ set_at id becomes old → was ≡ is_some (option_and_then as_table (record_at old id))
     → is ≡ is_some (option_and_then as_table becomes) → (was || is) ≡ false → (parts_of new).tables ≡ (parts_of old).tables
-unfolding parts_of tables_in
+unfolding parts_of
 tables_kept old new id becomes was is set was_told is_told neither =
     let h = either_false was is neither in
     ap tables_in set ∙ tables_set id becomes old (no_table (record_at old id) (sym was_told ∙ h.0)) (no_table becomes (sym is_told ∙ h.1))
 
 pub catalog_still : (old new : List Stored) (catalog : List Table) → (parts_of new).tables ≡ (parts_of old).tables → IsCatalog old catalog → IsCatalog new catalog
 catalog_still old new catalog same is = λ differs. is (ap (differ same_name) (sym same) ∙ differs) ∙ ap by_number (sym same)
+
+-- a catalog of no records
+pub no_catalog : (es : List (ℕ × Record)) (catalog : List Table) → es ≡ [] → catalog ≡ [] → IsCatalog (listed es) catalog
+unfolding parts_of
+no_catalog es catalog none empty = λ differs. empty ∙ ap (λ fs. by_number (parts_of (listed fs)).tables) (sym none)

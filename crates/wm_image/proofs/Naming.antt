@@ -3,7 +3,7 @@ use Rattle.std.proofs.Common.{◌≡◌, ℕ, Bool, true, false, cond, not, ◌=
 use Rattle.std.proofs.lemmas.Slice.Eq.{bytes_eq-Decides}
 use Rattle.std.specs.BTreeMap.{BTreeMap}
 use Rattle.std.specs.List.{find, list_any, list_all}
-use Rattle.std.specs.Option.{option_copied, option_or}
+use Rattle.std.specs.Option.{option_copied}
 use Rattle.std.specs.Str.{bytes_eq}
 use Rattle.wm_catalog.specs.Catalog.{same_name}
 use Rattle.wm_graph.specs.Parts.{Parts, parts_of, as_table}
@@ -22,14 +22,6 @@ use Rattle.wm_image.specs.Sought.{Tables, is_sought}
 use Rattle.wm_image.specs.declared.index.Index.{Index}
 
 -- ---- loops over ids
-
-or_some : (x y : Option Table) → is_some x ≡ true → option_or x y ≡ x
-or_some None y e = cc
-or_some (Some h) y e = refl
-
-or_none : (x y : Option Table) → is_some x ≡ false → option_or x y ≡ y
-or_none None y e = refl
-or_none (Some h) y e = cc
 
 pub some_table : (o : Option (Bor Table)) (b : Bool) → b ≡ is_some o → is_some (option_copied o) ≡ b
 some_table None b e = sym e

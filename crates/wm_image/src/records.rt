@@ -95,6 +95,13 @@ fn add_new(
     Ok(table_of(becomes.as_ref()).is_some())
 }
 
+/// Whether one is true or the other.
+fn is_either(one: bool, other: bool) -> bool
+    ensures { result ≡ (one || other) }
+{
+    one || other
+}
+
 /// Changes what stands under an id, and the index with it, and tells whether a table was or is there.
 pub fn change(
     alloc: Global,
@@ -108,10 +115,10 @@ pub fn change(
     ensures indexed { OnOk result (IsIndexed kept.new index.new) }
     ensures tables { IfOk result (λ touched. touched ≡ false → (parts_of (listed kept.new.entries)).tables ≡ (parts_of (listed kept.old.entries)).tables) }
 {
-    let was = drop_old(alloc, kept, index, id)?;
-    let is = add_new(alloc, index, id, &becomes)?;
+    let stood = drop_old(alloc, kept, index, id)?;
+    let stands = add_new(alloc, index, id, &becomes)?;
     set(kept, id, becomes)?;
-    Ok(was || is)
+    Ok(is_either(stood, stands))
 }
 
 /// Makes the changes of a batch, one after another, and tells whether a table was or is under one of their ids.
@@ -128,7 +135,8 @@ fn change_all(
 {
     let mut touched = false;
     for one in changes.into_vec() {
-        touched = change(alloc, kept, index, one.id, one.becomes)? || touched;
+        let changed = change(alloc, kept, index, one.id, one.becomes)?;
+        touched = is_either(changed, touched);
     }
     Ok(touched)
 }
@@ -147,7 +155,8 @@ pub fn apply_all(
     ensures indexed { OnOk result (IsIndexed kept.new index.new) }
     ensures tables { OnOk result (IsCatalog (listed kept.new.entries) catalog.new) }
 {
-    if change_all(alloc, kept, index, changes)? {
+    let touched = change_all(alloc, kept, index, changes)?;
+    if touched {
         *catalog = catalog_of(alloc, kept, index)?;
     }
     Ok(())

@@ -205,7 +205,7 @@ fn takes_clause(place: &Place) -> bool
 }
 
 /// Whether some literal of a condition is out of range.
-#[tactic(auto, unfolding(crate::specs::Literals::bad_within))]
+#[tactic(auto, unfolding(wm_grammar::specs::Literals::bad_within))]
 fn is_bad_within(bytes: &[u8]) -> bool
     requires { length bytes.now < 2 ^ 32 }
     ensures { result ≡ bad_within bytes.now }
@@ -244,7 +244,7 @@ fn is_bad_in_line(alloc: Global, place: &Place, cursor: &Cursor) -> Result<bool,
 }
 
 /// How many bytes of the line are left from its first literal out of range on.
-#[tactic(auto, unfolding(crate::specs::Literals::bad_literal))]
+#[tactic(auto, unfolding(wm_grammar::specs::Literals::bad_literal))]
 pub fn bad_literal(alloc: Global, line: &[u8]) -> Result<Option<usize>, Memory>
     requires { length line.now < 2 ^ 32 }
     ensures { IfOk result (λ o. o ≡ bad_literal line.now) }

@@ -20,6 +20,8 @@ use Rattle.wm_calls.specs.Empty.{has_empty_period}
 use Rattle.wm_calls.specs.Later.{is_later}
 use Rattle.wm_timed.specs.Timed.{timed}
 use Rattle.wm_reader.specs.Reading.{is_remark}
+use Rattle.wm_state.specs.State.{Session}
+use Rattle.wm_print.specs.Texts.{Nothing}
 pub use Rattle.wm_state.specs.State.{State, fresh}
 pub use Rattle.wm_state.specs.Editing.{counter_limit, number_limit, line_work, implicit_front, implicit_name, saved_at, place_behind, saved, child_of, born, written_all}
 pub use Rattle.wm_print.specs.Texts.{Answer, answer_text}

@@ -5,8 +5,7 @@ use Rattle.wm_base.specs.Trees.{Line}
 use Rattle.wm_base.specs.Views.{line_view}
 use Rattle.wm_parser.specs.declared.fault.ParseFault.{ParseFault}
 use Rattle.wm_parser.specs.declared.fault.ParseFault.TheVariants as faults
-use Rattle.wm_grammar.specs.Parsed.{Syntax, Literal}
-unfoldable pub use Rattle.wm_grammar.specs.Parsed.{Bad, parsed}
+use Rattle.wm_grammar.specs.Parsed.{Bad, Syntax, Literal}
 
 abbrev pub GivesFault : ParseFault → Result Line Bad → Type 0
 GivesFault (faults.Syntax column) answer = answer ≡ Err (Syntax column)

@@ -2,10 +2,10 @@
 use std::alloc::Global;
 use std::process::Abort;
 use std::test::Fail;
-use wm_base::{Instant, Kind, Memory, Name, Period, Stamp, StoreFault};
+use wm_base::{Instant, Kind, Memory, Period, Stamp, StoreFault};
 use wm_lexer::{TokenKind, lex};
 use wm_period::{Piece, Pieces};
-use wm_spec::record::{Record, Table, TableColumns};
+use wm_spec::record::Record;
 use wm_station::{FuseStation, QuietStation};
 use wm_store::Store;
 use wm_temporal::{split, uncovered};

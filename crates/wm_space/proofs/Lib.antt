@@ -1,5 +1,5 @@
-pub mod Bearing
+pub mod BirthPlans
 pub mod Calling
 pub mod Creating
 pub mod Lengths
-pub mod Saving
+pub mod SavepointPlans

@@ -28,12 +28,18 @@ pub(crate) fn open_alone<R: Files<File = File>>(rt: &R, path: &str, makes: bool)
     }
 }
 
-// Whether the folder is there that a file at this path is in.
+// The folder that a file at this path is in. The empty path is in none.
+fn folder_of(path: &str) -> Option<Path<'_>> {
+    let folder = Path::new(path).parent()?;
+    Some(if folder.as_str().is_empty() {
+        Path::new(".")
+    } else {
+        folder
+    })
+}
+
 fn has_folder<R: Files>(rt: &R, path: &str) -> bool {
-    match Path::new(path).parent() {
-        Some(folder) => folder.as_str().is_empty() || folder.exists(rt),
-        None => false,
-    }
+    folder_of(path).is_some_and(|folder| folder.exists(rt))
 }
 
 fn open_locked<R: Files<File = File>>(rt: &R, path: &str, makes: bool) -> io::Result<File> {
@@ -47,5 +53,17 @@ fn open_locked<R: Files<File = File>>(rt: &R, path: &str, makes: bool) -> io::Re
     let file = first.try_clone()?;
     // The lock is of the file that was opened, so the clone keeps it.
     file.try_lock()?;
+    if makes {
+        // A folder that may not be read, or has no syncs, is left to the system.
+        let _ = sync_folder(rt, path);
+    }
     Ok(file)
+}
+
+// Brings the name of the file to the disk. A sync of the file alone need not.
+fn sync_folder<R: Files<File = File>>(rt: &R, path: &str) -> io::Result<()> {
+    match folder_of(path) {
+        Some(folder) => File::open(rt, folder)?.sync_all(),
+        None => Ok(()),
+    }
 }

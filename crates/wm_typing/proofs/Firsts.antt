@@ -9,12 +9,10 @@ use Rattle.wm_base.specs.Trees.{Out}
 use Rattle.wm_base.specs.Views.{out_view, outs_view}
 use Rattle.wm_base.specs.declared.tree.query.Out.{Out as OutNode}
 
--- two facts of Plain under names that `using` can cite
-pub or_assoc : {T : Type 0} (a b c : Option T) → option_or (option_or a b) c ≡ option_or a (option_or b c)
-or_assoc a b c = option_or_assoc a b c
-
+-- (an attribute of a function cannot write a name with a hyphen, as that of the plain fact has)
 pub or_none : {T : Type 0} (a : Option T) → option_or a None ≡ a
-or_none a = option_or-none a
+or_none None = refl
+or_none (Some x) = refl
 
 -- what a loop finds at a place is the first of all, where nothing was found before that place
 pub found_here : {A T : Type 0} (F : List A → Option T) (f : A → Option T) (behind : A → List A → Option T) →

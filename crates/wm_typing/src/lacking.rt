@@ -80,7 +80,7 @@ fn lacking_in_operand<'a>(columns: &[Column], operand: &'a Operand) -> Option<&'
 }
 
 /// The first that the expression names. A chain of operators nests to the left, and is gone down in a loop.
-#[tactic(auto, using(crate::proofs::Firsts::or_assoc, crate::proofs::Firsts::or_none))]
+#[tactic(auto, using(wm_base::proofs::Plain::option_or_assoc, crate::proofs::Firsts::or_none))]
 pub fn lacking_in_expr<'a>(columns: &[Column], expr: &'a Expr) -> Option<&'a Option<Name>>
     ensures { option_copied result ≡ lacking_in_expr columns.now (expr_view expr.now) }
 {
@@ -101,7 +101,7 @@ pub fn lacking_in_expr<'a>(columns: &[Column], expr: &'a Expr) -> Option<&'a Opt
 }
 
 /// The first that the condition names. A chain of OR and AND nests to the left, and is gone down in a loop.
-#[tactic(auto, using(crate::proofs::Firsts::or_assoc, crate::proofs::Firsts::or_none))]
+#[tactic(auto, using(wm_base::proofs::Plain::option_or_assoc, crate::proofs::Firsts::or_none))]
 pub fn lacking_in_cond<'a>(columns: &[Column], cond: &'a Cond) -> Option<&'a Option<Name>>
     ensures { option_copied result ≡ lacking_in_cond columns.now (cond_view cond.now) }
 {

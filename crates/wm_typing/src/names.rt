@@ -46,7 +46,7 @@ fn unknown_in_operand<'a>(columns: &[Column], operand: &'a Operand) -> Option<&'
 
 /// The first column that the expression names and that is not exactly one of these. A chain of operators nests to the
 /// left, and is gone down in a loop.
-#[tactic(auto, using(crate::proofs::Firsts::or_assoc, crate::proofs::Firsts::or_none))]
+#[tactic(auto, using(wm_base::proofs::Plain::option_or_assoc, crate::proofs::Firsts::or_none))]
 pub fn unknown_in_expr<'a>(columns: &[Column], expr: &'a Expr) -> Option<&'a [u8]>
     ensures { option_copied result ≡ unknown_in_expr columns.now (expr_view expr.now) }
 {
@@ -68,7 +68,7 @@ pub fn unknown_in_expr<'a>(columns: &[Column], expr: &'a Expr) -> Option<&'a [u8
 
 /// The first column that the condition names and that is not exactly one of these. A chain of OR and AND nests to the
 /// left, and is gone down in a loop.
-#[tactic(auto, using(crate::proofs::Firsts::or_assoc, crate::proofs::Firsts::or_none))]
+#[tactic(auto, using(wm_base::proofs::Plain::option_or_assoc, crate::proofs::Firsts::or_none))]
 pub fn unknown_in_cond<'a>(columns: &[Column], cond: &'a Cond) -> Option<&'a [u8]>
     ensures { option_copied result ≡ unknown_in_cond columns.now (cond_view cond.now) }
 {

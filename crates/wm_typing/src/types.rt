@@ -62,7 +62,7 @@ fn mark_between(
 
 /// The first mark of arithmetic of which an operand is no number. A chain of operators nests to the left, and is gone
 /// down in a loop.
-#[tactic(auto, using(crate::proofs::Firsts::or_assoc, crate::proofs::Firsts::or_none))]
+#[tactic(auto, using(wm_base::proofs::Plain::option_or_assoc, crate::proofs::Firsts::or_none))]
 pub fn mistyped_in_expr(columns: &[Column], expr: &Expr) -> Option<&'static [u8]>
     ensures { option_copied result ≡ mistyped_in_expr columns.now (expr_view expr.now) }
 {
@@ -121,7 +121,7 @@ fn unless_listed(columns: &[Column], what: &Operand, list: &Consts) -> Option<&'
 
 /// The first comparison whose operands differ in type, or one of which is a period. A chain of OR and AND nests to the
 /// left, and is gone down in a loop.
-#[tactic(auto, using(crate::proofs::Firsts::or_assoc, crate::proofs::Firsts::or_none))]
+#[tactic(auto, using(wm_base::proofs::Plain::option_or_assoc, crate::proofs::Firsts::or_none))]
 pub fn mistyped_in_cond(columns: &[Column], cond: &Cond) -> Option<&'static [u8]>
     ensures { option_copied result ≡ mistyped_in_cond columns.now (cond_view cond.now) }
 {

@@ -7,7 +7,7 @@ use Rattle.wm_model.proofs.Changing.{changes_moved, changes_replaced}
 use Rattle.wm_model.specs.Step.{change_all, move_all, write_ascending}
 use Rattle.wm_change.proofs.Acting.{does_so}
 use Rattle.wm_change.proofs.Filled.{replacing_filled}
-use Rattle.wm_change.proofs.Moving.{moved_filled}
+use Rattle.wm_change.proofs.MovedRows.{moved_filled}
 use Rattle.wm_dml.specs.Changing.{replacing}
 use Rattle.wm_change.proofs.Counted.{no_rows}
 use Rattle.wm_change.specs.Changing.{is_filled_change}

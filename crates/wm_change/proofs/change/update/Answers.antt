@@ -9,8 +9,8 @@ use Rattle.wm_model.specs.Step.{update, empty_period, no_table, not_built, not_l
 use Rattle.wm_print.specs.Texts.{Refused}
 use Rattle.wm_state.specs.Standing.{latest}
 use Rattle.wm_change.proofs.Acting.{does_change}
-use Rattle.wm_chosen.proofs.Choosing.{chosen_keyed, chosen_overlap}
-use Rattle.wm_chosen.proofs.Choosing.{where_typed}
+use Rattle.wm_chosen.proofs.ChosenRows.{chosen_keyed, chosen_overlap}
+use Rattle.wm_chosen.proofs.ChosenRows.{where_typed}
 use Rattle.wm_plan.proofs.Planning.{told}
 use Rattle.wm_change.proofs.Rowing.{update_acts, update_faults, updates, does_rows, plain_within}
 use Rattle.wm_chosen.specs.Chosen.{are_keyed}

@@ -3,7 +3,7 @@ use Rattle.wm_base.specs.Period.{Span}
 use Rattle.wm_dml.specs.Moving.{clash_in}
 use Rattle.wm_dml.specs.declared.moving.Shift.{Shift}
 use Rattle.wm_graph.specs.Parts.{parts_of}
-use Rattle.wm_change.proofs.Moving.{finds_at}
+use Rattle.wm_change.proofs.MovedRows.{finds_at}
 use Rattle.wm_change.proofs.moving.clash_at.Goals as goal
 
 pub returns : goal.returns

@@ -1,6 +1,6 @@
 use Rattle.std.proofs.Common.{refl}
 use Rattle.wm_graph.specs.Parts.{parts_of}
-use Rattle.wm_change.proofs.Moving.{finds_here, finds_none, finds_on, none_behind, none_before}
+use Rattle.wm_change.proofs.MovedRows.{finds_here, finds_none, finds_on, none_behind, none_before}
 use Rattle.wm_change.proofs.moving.first_clash.Goals as goal
 
 pub loop-left-init : goal.loop-left-init

@@ -1,7 +1,7 @@
 use Rattle.std.proofs.Common.{length}
 use Rattle.std.specs.Option.{option_copied}
 use Rattle.wm_graph.specs.Parts.{parts_of}
-use Rattle.wm_change.proofs.Moving.{FindsLeft}
+use Rattle.wm_change.proofs.MovedRows.{FindsLeft}
 use Rattle.wm_change.specs.Moved.{NoneAt}
 use Rattle.wm_change.proofs.moving.first_clash.Given as goal
 

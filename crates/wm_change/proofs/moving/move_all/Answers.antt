@@ -5,7 +5,7 @@ use Rattle.wm_graph.specs.Parts.{parts_of}
 use Rattle.wm_state.specs.Standing.{latest}
 use Rattle.wm_model.specs.Step.{write_ascending}
 use Rattle.wm_change.proofs.Acting.{does_so}
-use Rattle.wm_change.proofs.Moving.{counted_moves, finds_so, move_new, move_there, part_filled, part_fits}
+use Rattle.wm_change.proofs.MovedRows.{counted_moves, finds_so, move_new, move_there, part_filled, part_fits}
 use Rattle.wm_change.proofs.Counted.{no_rows}
 use Rattle.wm_change.specs.Changing.{is_filled_change}
 use Rattle.wm_plan.specs.Views.{answer_view, seating_view}

@@ -1,7 +1,7 @@
 use Rattle.std.proofs.Common.{sym, ap, ◌∙◌}
 use Rattle.wm_base.specs.Views.{cond_view, filter_view}
 use Rattle.wm_select.specs.Query.{where_of}
-use Rattle.wm_chosen.proofs.Choosing.{kept_so}
+use Rattle.wm_chosen.proofs.ChosenRows.{kept_so}
 use Rattle.wm_chosen.proofs.choosing.chosen_of.Goals as goal
 
 pub returns-in-Some : goal.returns-in-Some

@@ -1,5 +1,5 @@
 use Rattle.wm_base.specs.Views.{filter_view}
-use Rattle.wm_chosen.proofs.Choosing.{rows_fit_own, are_chosen}
+use Rattle.wm_chosen.proofs.ChosenRows.{rows_fit_own, are_chosen}
 use Rattle.wm_chosen.proofs.choosing.chosen_of_all.Goals as goal
 
 pub chosen_of-requires-clause-fitting : goal.chosen_of-requires-clause-fitting

@@ -1,4 +1,4 @@
-use Rattle.wm_draft.proofs.Drafting.{ids_told}
+use Rattle.wm_draft.proofs.DraftLaws.{ids_told}
 use Rattle.wm_draft.proofs.redraw.begin_key.Goals as goal
 
 pub returns-clause-left : goal.returns-clause-left

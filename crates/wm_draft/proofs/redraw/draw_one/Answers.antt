@@ -1,7 +1,7 @@
 use Rattle.std.proofs.Common.{List, sym, ap, ◌∙◌}
 use Rattle.wm_graph.specs.Parts.{parts_of}
 use Rattle.wm_spec.specs.declared.record.piece.PieceRecord.{PieceRecord}
-use Rattle.wm_draft.proofs.Drafting.{draft_laid, no_collision}
+use Rattle.wm_draft.proofs.DraftLaws.{draft_laid, no_collision}
 use Rattle.wm_draft.proofs.Redrawing.{draft_on, draft_begun}
 use Rattle.wm_draft.specs.Redraw.{is_at_hand}
 use Rattle.wm_draft.proofs.redraw.draw_one.Goals as goal

@@ -4,7 +4,7 @@ use Rattle.std.proofs.lemmas.Iterator.Consumers.{YieldsList-turn, YieldsList-end
 use Rattle.std.proofs.lemmas.List.{length_push, map-id}
 use Rattle.wm_spec.specs.declared.record.piece.PieceRecord.{PieceRecord}
 use Rattle.wm_graph.specs.Parts.{parts_of}
-use Rattle.wm_draft.proofs.Drafting.{draft_ended, no_collision}
+use Rattle.wm_draft.proofs.DraftLaws.{draft_ended, no_collision}
 use Rattle.wm_draft.proofs.Following.{follows, others_follow}
 use Rattle.wm_draft.proofs.Redrawing.{draft_ends}
 use Rattle.wm_draft.specs.Redraw.{CanFollow, IsRedrawn}

@@ -11,9 +11,9 @@ pub returns-clause-indexed : goal.returns-clause-indexed
 returns-clause-indexed c = record {
   ordered = c.in_ok-set.ensures.ordered;
   told = λ q.
-      c.in_ok-is.ensures.added q
+      c.in_ok-stands.ensures.added q
       ∙ ap (ids_more (is_sought q) c.args.id c.args.becomes)
-      (c.in_ok-was.ensures.dropped q
+      (c.in_ok-stood.ensures.dropped q
       ∙ ap (ids_less (is_sought q) c.args.id (record_at (listed c.args.kept.now.entries) c.args.id)) (c.requires.told q))
       ∙ sym (ids_with-set (is_sought q) c.args.id c.args.becomes (listed c.args.kept.now.entries) (Ascend-listed c.args.kept.now.entries c.requires.ordered))
       ∙ ap (ids_with (is_sought q)) (sym c.in_ok-set.ensures.listed);
@@ -21,4 +21,4 @@ returns-clause-indexed c = record {
 
 pub returns-clause-tables : goal.returns-clause-tables
 returns-clause-tables c = λ neither.
-    tables_kept (listed c.args.kept.now.entries) (listed c.set.new.kept.entries) c.args.id c.args.becomes c.in_ok-was.was c.in_ok-is.is c.in_ok-set.ensures.listed c.in_ok-was.ensures.table c.in_ok-is.ensures.table neither
+    tables_kept (listed c.args.kept.now.entries) (listed c.set.new.kept.entries) c.args.id c.args.becomes c.in_ok-stood.stood c.in_ok-stands.stands c.in_ok-set.ensures.listed c.in_ok-stood.ensures.table c.in_ok-stands.ensures.table (sym c.is_either.ensures ∙ neither)

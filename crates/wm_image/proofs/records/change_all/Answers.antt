@@ -7,11 +7,11 @@ use Rattle.wm_image.proofs.records.change_all.Goals as goal
 
 pub loop-one-preserved : goal.loop-one-preserved
 loop-one-preserved c = record {
-  indexed = c.in_ok-change.ensures.indexed;
-  are = c.in_ok-change.ensures.listed
+  indexed = c.in_ok-changed.ensures.indexed;
+  are = c.in_ok-changed.ensures.listed
       ∙ ap (set_at c.in-Some.one.id c.in-Some.one.becomes) c.loop-one.invariant.are
       ∙ sym (applied-push c.loop-one.yielded c.in-Some.one (listed c.args.kept.now.entries));
   tables = λ neither.
-      let h = either_false _ _ neither in
-      c.in_ok-change.ensures.tables h.0 ∙ c.loop-one.invariant.tables h.1;
+      let h = either_false c.in_ok-changed.changed c.loop-one.touched (sym c.is_either-touched.ensures ∙ neither) in
+      c.in_ok-changed.ensures.tables h.0 ∙ c.loop-one.invariant.tables h.1;
 }

@@ -6,7 +6,7 @@ use Rattle.wm_model.specs.Step.{create_workspace, at_its_end}
 use Rattle.wm_state.specs.Editing.{stand_of}
 use Rattle.wm_state.specs.Points.{point_at}
 use Rattle.wm_state.specs.declared.edit.Edit.TheVariants as edits
-use Rattle.wm_space.proofs.Bearing.{bears_edit}
+use Rattle.wm_space.proofs.BirthPlans.{bears_edit}
 use Rattle.wm_plan.proofs.Planning.{told, early, some_of, forks_edit, never_idle}
 use Rattle.wm_plan.specs.Views.{answer_view, seating_view}
 use Rattle.wm_space.proofs.bearing.bear.Goals as goal

@@ -9,7 +9,7 @@ use Rattle.wm_model.specs.Step.{create_workspace, savepoint_there, most_savepoin
 use Rattle.wm_spec.specs.declared.record.savepoint.Savepoint.{Savepoint}
 use Rattle.wm_state.specs.Standing.{saved_in}
 use Rattle.wm_plan.proofs.Planning.{told, some_of}
-use Rattle.wm_space.proofs.Saving.{is_there, is_gone, spaces_full, spaces_few, savepoints_full}
+use Rattle.wm_space.proofs.SavepointPlans.{is_there, is_gone, spaces_full, spaces_few, savepoints_full}
 use Rattle.wm_plan.specs.Views.{answer_view, seating_view}
 use Rattle.wm_space.proofs.bearing.bear_in.Goals as goal
 

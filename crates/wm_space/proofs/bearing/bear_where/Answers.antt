@@ -6,7 +6,7 @@ use Rattle.wm_model.specs.Step.{create_workspace, at_its_end, not_built, number_
 use Rattle.wm_state.specs.Editing.{stand_of}
 use Rattle.wm_state.specs.Points.{next_place_at, point_at}
 use Rattle.wm_state.specs.Standing.{space_after}
-use Rattle.wm_space.proofs.Bearing.{may_bear_in, number_end, number_left, none_of, bears_as}
+use Rattle.wm_space.proofs.BirthPlans.{may_bear_in, number_end, number_left, none_of, bears_as}
 use Rattle.wm_plan.proofs.Planning.{told}
 use Rattle.wm_plan.specs.Views.{answer_view, seating_view}
 use Rattle.wm_space.proofs.bearing.bear_where.Goals as goal

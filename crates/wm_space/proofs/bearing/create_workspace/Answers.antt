@@ -7,7 +7,7 @@ use Rattle.wm_model.specs.Planning.{Stay}
 use Rattle.wm_model.specs.Step.{create_workspace, workspace_there, not_built}
 use Rattle.wm_spec.specs.declared.record.space.Space.{Space}
 use Rattle.wm_plan.proofs.Planning.{told, some_of}
-use Rattle.wm_space.proofs.Saving.{is_there, is_gone}
+use Rattle.wm_space.proofs.SavepointPlans.{is_there, is_gone}
 use Rattle.wm_plan.specs.Views.{answer_view, seating_view}
 use Rattle.wm_space.proofs.bearing.create_workspace.Goals as goal
 

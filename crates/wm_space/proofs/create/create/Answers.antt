@@ -5,7 +5,7 @@ use Rattle.wm_model.specs.Step.{create, table_there, most_tables}
 use Rattle.wm_print.specs.Texts.{Refused}
 use Rattle.wm_space.proofs.Creating.{may_make}
 use Rattle.wm_plan.proofs.Planning.{told, some_of}
-use Rattle.wm_space.proofs.Saving.{is_there, is_gone}
+use Rattle.wm_space.proofs.SavepointPlans.{is_there, is_gone}
 use Rattle.wm_plan.specs.Views.{answer_view, seating_view}
 use Rattle.wm_space.proofs.create.create.Goals as goal
 

@@ -3,7 +3,7 @@ use Rattle.wm_model.proofs.SavingLine.{save_homeless}
 use Rattle.wm_model.specs.Planning.{Stay}
 use Rattle.wm_model.specs.Step.{create_savepoint, no_workspace}
 use Rattle.wm_plan.proofs.Planning.{told, forks_none}
-use Rattle.wm_space.proofs.Saving.{named_there, saves_as}
+use Rattle.wm_space.proofs.SavepointPlans.{named_there, saves_as}
 use Rattle.wm_plan.specs.Views.{answer_view, seating_view}
 use Rattle.wm_space.proofs.saving.create_savepoint.Goals as goal
 

@@ -4,7 +4,7 @@ use Rattle.wm_model.specs.Planning.{Stay}
 use Rattle.wm_model.specs.Step.{create_savepoint, at_its_end}
 use Rattle.wm_state.specs.declared.edit.Edit.TheVariants as edits
 use Rattle.wm_plan.proofs.Planning.{told, early, forks_edit, never_idle}
-use Rattle.wm_space.proofs.Saving.{saves_edit}
+use Rattle.wm_space.proofs.SavepointPlans.{saves_edit}
 use Rattle.wm_plan.specs.Views.{answer_view, seating_view}
 use Rattle.wm_space.proofs.saving.save.Goals as goal
 

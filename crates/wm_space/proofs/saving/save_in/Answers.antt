@@ -8,7 +8,7 @@ use Rattle.wm_model.specs.Step.{create_savepoint, at_its_end, savepoint_there, m
 use Rattle.wm_spec.specs.declared.record.savepoint.Savepoint.{Savepoint}
 use Rattle.wm_state.specs.Standing.{saved_in}
 use Rattle.wm_plan.proofs.Planning.{told, some_of}
-use Rattle.wm_space.proofs.Saving.{is_there, is_gone, savepoints_full, savepoints_few}
+use Rattle.wm_space.proofs.SavepointPlans.{is_there, is_gone, savepoints_full, savepoints_few}
 use Rattle.wm_plan.specs.Views.{answer_view, seating_view}
 use Rattle.wm_space.proofs.saving.save_in.Goals as goal
 

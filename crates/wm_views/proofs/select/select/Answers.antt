@@ -8,7 +8,7 @@ use Rattle.wm_model.specs.Sources.{AreListed}
 use Rattle.wm_model.specs.Step.{answer_rows, columns_in, empty_period, lost_source, no_table, not_built, select, table_off, tables_of, versioning, within}
 use Rattle.wm_print.specs.Texts.{Refused}
 use Rattle.wm_select.specs.Query.{answer_of, is_kept}
-use Rattle.wm_chosen.proofs.Choosing.{where_typed}
+use Rattle.wm_chosen.proofs.ChosenRows.{where_typed}
 use Rattle.wm_views.proofs.Narrowing.{answers_whole, columns_listed_for, rows_listed_for}
 use Rattle.wm_plan.proofs.Planning.{told}
 use Rattle.wm_views.proofs.Querying.{are_ready, fault_is}

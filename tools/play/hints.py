@@ -1,0 +1,58 @@
+"""What an answer does not say and a newcomer wants to know: three traps that are no refusals, or that a refusal does not stop."""
+import re
+
+from lines import is_refusal, readable
+
+ALL_TIME = "this row holds for all of time, from the year 1 on: SetValidTime or WM_PERIOD say from when"
+NOT_SHOWN = "no such row holds in the session's period: SetValidTime sets the time of which you speak"
+STANDS = "{} stands where it stood, and what it does next is done there"
+SAID = re.compile(r"\s*([A-Za-z][\w$#]*)\s*:\s*(.*)", re.DOTALL)
+CONNECT = re.compile(r"\s*CONNECT\s+([A-Za-z][\w$#]*)\s", re.IGNORECASE)
+CALL = re.compile(r"EXEC(?:UTE)?\s+DBMS_WM\s*\.\s*(\w+)\s*(?:\(\s*(.*?)\s*\))?\s*;?\s*", re.IGNORECASE | re.DOTALL)
+CHANGE = re.compile(r"(?:UPDATE|DELETE(?:\s+FROM)?)\s+([A-Za-z][\w$#]*)", re.IGNORECASE)
+INSERT = re.compile(r"INSERT\s+INTO\s+([A-Za-z][\w$#]*)", re.IGNORECASE)
+TEXT = re.compile(r"'(?:[^']|'')*'")
+
+
+class Hints:
+    """Follows the lines of a run, and knows which session has set a period."""
+
+    def __init__(self, catalog):
+        self.catalog, self.with_period = catalog, set()
+
+    def hint(self, line, answer):
+        """What is to be said behind the answer of a line, or None."""
+        said = SAID.fullmatch(readable(line))
+        if said is None:
+            self.connected(readable(line))
+            return None
+        session, statement = said[1].upper(), said[2]
+        call = CALL.fullmatch(statement)
+        if call:
+            return self.called(session, call[1].upper(), call[2], is_refusal(answer))
+        return self.changed(session, statement, answer)
+
+    def connected(self, line):
+        """A session begins without a period."""
+        found = CONNECT.match(line)
+        if found:
+            self.with_period.discard(found[1].upper())
+
+    def called(self, session, procedure, arguments, is_refused):
+        if procedure in ("GOTOWORKSPACE", "GOTOSAVEPOINT") and is_refused:
+            return STANDS.format(session)
+        if procedure == "SETVALIDTIME" and not is_refused:
+            (self.with_period.add if arguments else self.with_period.discard)(session)
+        return None
+
+    def changed(self, session, statement, answer):
+        change, insert = CHANGE.match(statement), INSERT.match(statement)
+        if change and answer == [b"DONE 0"] and self.has_valid_time(change[1]):
+            return NOT_SHOWN
+        names_period = re.search(r"\bWM_PERIOD\b", TEXT.sub("", statement), re.IGNORECASE)
+        if insert and answer == [b"DONE 1"] and session not in self.with_period and not names_period and self.has_valid_time(insert[1]):
+            return ALL_TIME
+        return None
+
+    def has_valid_time(self, table):
+        return "WM_VALID" in self.catalog.columns().get(table.upper(), [])
