@@ -4,7 +4,6 @@ use Rattle.std.proofs.lemmas.List.{drop_more}
 use Rattle.std.proofs.lemmas.List.Sums.{sum_by-cons}
 use Rattle.std.specs.List.{count_by}
 use Rattle.std.specs.Option.{option_or}
-use Rattle.wm_base.proofs.Plain.{option_or-none, option_or_assoc}
 use Rattle.wm_base.specs.Trees.{Out}
 use Rattle.wm_base.specs.Views.{out_view, outs_view}
 use Rattle.wm_base.specs.declared.tree.query.Out.{Out as OutNode}
