@@ -10,7 +10,6 @@ use Rattle.wm_graph.specs.Rules.{is_key_of, is_row_of}
 use Rattle.wm_making.specs.Rows.{is_filled}
 use Rattle.wm_spec.specs.declared.record.table.Table.{Table}
 use Rattle.wm_state.proofs.Tests.{both, and_true}
-use Rattle.wm_change.proofs.Filled.{filled_key}
 use Rattle.wm_change.specs.Changing.{is_filled_change}
 use Rattle.wm_chosen.specs.Chosen.{are_keyed, is_keyed_row, is_keyed_shown}
 use Rattle.std.specs.Option.{option_and_then}

@@ -4,13 +4,12 @@ use Rattle.std.proofs.lemmas.Bool.{and_from}
 use Rattle.std.specs.Prelude.{Option, Some, None, ◌&&◌, slice_get, unwrap_or}
 use Rattle.std.specs.List.{list_all}
 use Rattle.std.specs.Option.{option_and_then}
-use Rattle.wm_base.specs.Period.{Span, always, overlaps, shared}
-use Rattle.wm_base.specs.declared.kind.Kind.TheVariants.{Update, Delete}
+use Rattle.wm_base.specs.Period.{always, overlaps, shared}
 use Rattle.wm_base.specs.declared.row.Row.{Row}
 use Rattle.wm_base.specs.declared.value.Value.{Value}
 use Rattle.wm_spec.specs.Operands.{period_of}
 use Rattle.wm_spec.specs.declared.record.table.Table.{Table}
-use Rattle.wm_dml.specs.Changing.{declared_values, row_period, all_overlap, row_key, gone, replaced}
+use Rattle.wm_dml.specs.Changing.{declared_values, row_period, all_overlap, row_key}
 use Rattle.wm_dml.specs.Standing.{stands_in, is_period_alone, is_shown, all_stand, keys_of}
 use Rattle.wm_dml.specs.declared.change.RowChange.{RowChange}
 

@@ -1,6 +1,6 @@
 -- What is known of the period of an INSERT that is refused for nothing.
 use Rattle.std.proofs.Common.{◌≡◌, ℕ, Bool, true, false, List, sym, ap, ◌∙◌}
-use Rattle.std.specs.Prelude.{Option, Some, None, ◌&&◌, not, is_some}
+use Rattle.std.specs.Prelude.{Option, None, ◌&&◌, not, is_some}
 use Rattle.std.specs.List.{list_all}
 use Rattle.std.specs.Option.{option_and_then}
 use Rattle.wm_base.proofs.Plain.{none_since}

@@ -1,8 +1,8 @@
 -- Of rows in ascending order of their keys, those of one list of keys lie together.
-use Rattle.std.proofs.Common.{◌≡◌, ◌==◌, Bool, true, false, not, ◌&&◌, if◌then◌else◌, List, [], ◌∷◌, ◌++◌, length, map, filter, append-nil, append_assoc, refl, sym, ap, subst, ◌∙◌}
+use Rattle.std.proofs.Common.{◌≡◌, ◌==◌, Bool, true, false, List, [], ◌∷◌, ◌++◌, length, map, filter, append-nil, append_assoc, refl, sym, ap, ◌∙◌}
 use Rattle.std.proofs.Math.Bool.{false≢true}
 use Rattle.std.proofs.lemmas.List.Sorted.{ranks_by}
-use Rattle.std.specs.Cmp.{IsTotalOrder, IsStrictWeakOrder}
+use Rattle.std.specs.Cmp.{IsStrictWeakOrder}
 use Rattle.std.specs.List.Sorted.{ties}
 use Rattle.std.specs.Ordering.{is_eq, is_lt, ordering_reverse}
 use Rattle.std.specs.declared.cmp.Ordering.{Ordering}
@@ -10,10 +10,9 @@ use Rattle.std.specs.declared.cmp.Ordering.TheVariants.{Less, Equal, Greater}
 use Rattle.wm_base.specs.declared.columns.Column.{Column}
 use Rattle.wm_base.specs.declared.row.Row.{Row}
 use Rattle.wm_base.specs.declared.tree.column.Col.{Col}
-use Rattle.wm_base.specs.declared.value.Value.{Value}
 use Rattle.wm_select.specs.declared.keyed.Keyed.{Keyed}
-use Rattle.wm_select.specs.Sorting.{left_to_right, sorted, stands_before, has_values_of, changes_from, changes, distinct_by}
-use Rattle.wm_select.specs.Query.{group_values, in_groups}
+use Rattle.wm_select.specs.Sorting.{left_to_right, sorted, stands_before, has_values_of, changes_from, changes}
+use Rattle.wm_select.specs.Query.{in_groups}
 use Rattle.wm_select.specs.Keys.{keyed_by_group, members_of, cut_from, cut}
 use Rattle.wm_select.proofs.KeyLemmas.{distinct_keyed, groups_keyed}
 use Rattle.wm_select.proofs.SortLemmas.{Above, Rises, left_to_right_total, filter_sorted, rises_sorted}

@@ -1,15 +1,13 @@
 -- Rows with their keys are put in order as the rows are, and without repeats as the rows are.
-use Rattle.std.proofs.Common.{◌≡◌, ◌==◌, length, Bool, true, false, if◌then◌else◌, List, [], ◌∷◌, map, filter, refl, sym, ap, ◌∙◌}
+use Rattle.std.proofs.Common.{◌≡◌, ◌==◌, length, Bool, true, false, List, [], ◌∷◌, map, filter, refl, sym, ap, ◌∙◌}
 use Rattle.std.proofs.Math.Bool.{false≢true}
-use Rattle.std.specs.Ordering.{is_eq}
 use Rattle.wm_base.specs.declared.columns.Column.{Column}
 use Rattle.wm_base.specs.declared.row.Row.{Row}
 use Rattle.wm_base.specs.declared.tree.column.Col.{Col}
-use Rattle.wm_base.specs.declared.value.Value.{Value}
 use Rattle.wm_base.specs.Trees.{Query}
 use Rattle.wm_select.specs.declared.keyed.Keyed.{Keyed}
 use Rattle.wm_select.specs.declared.shown.Shown.{Shown}
-use Rattle.wm_select.specs.Query.{goes_before, order_values, directions_of, group_values, in_groups}
+use Rattle.wm_select.specs.Query.{goes_before, directions_of, group_values, in_groups}
 use Rattle.wm_select.specs.Sorting.{placed, sorted, changes_from, changes, goes_by, stands_before, has_values_of, distinct_by}
 use Rattle.wm_select.specs.Keys.{keyed_by_row, shown_by_row, keyed_by_group, keyed_by_order, members_of}
 

@@ -1,5 +1,5 @@
 -- The sum of values, one by one.
-use Rattle.std.proofs.Common.{◌≡◌, ℤ, pos, ◌+ℤ◌, List, ◌∷◌, unwrap_or, arith, refl}
+use Rattle.std.proofs.Common.{◌≡◌, pos, ◌+ℤ◌, List, ◌∷◌, unwrap_or, arith, refl}
 use Rattle.std.proofs.lemmas.Int.{ints}
 use Rattle.wm_base.specs.declared.value.Value.{Value}
 use Rattle.wm_base.specs.declared.value.Value.TheVariants.{Null, Num, Text, Time, Span}

@@ -1,5 +1,5 @@
 -- Aggregates of the values that an expression has on the rows of a group. NULL is skipped.
-use Rattle.std.specs.Prelude.{ℕ, Bool, not, ◌==◌, if◌then◌else◌, List, [], ◌∷◌, length, filter, Option, Some, None, option_map, ℤ, pos, ◌+ℤ◌, unwrap_or}
+use Rattle.std.specs.Prelude.{not, ◌==◌, if◌then◌else◌, List, [], ◌∷◌, length, filter, Option, Some, None, option_map, ℤ, pos, ◌+ℤ◌, unwrap_or}
 use Rattle.std.specs.Ordering.{is_lt, is_gt}
 use Rattle.wm_base.specs.declared.tree.query.Agg.{Agg}
 use Rattle.wm_base.specs.declared.tree.query.Agg.TheVariants as aggs

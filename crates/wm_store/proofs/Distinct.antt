@@ -1,10 +1,9 @@
 -- The records that a file holds have different ids.
 use Rattle.std.proofs.Common.{◌≡◌, ℕ, zero, suc, ◌+◌, ◌-◌, ◌/◌, Bool, true, false, cond, ◌||◌, eqb, ltb, List, [], ◌∷◌, ◌++◌, length, map, Option, Some, None, is_some, unwrap_or, Ok, refl, sym, ap, subst, ◌∙◌, arith}
 use Rattle.std.specs.List.{list_any}
-use Rattle.std.specs.Option.{option_or, option_map}
+use Rattle.std.specs.Option.{option_map}
 use Rattle.std.proofs.lemmas.Bool.{eqb-true, or_parts}
 use Rattle.wm_base.proofs.Plain.{either_parts, option_or_parts, unless_parts}
-use Rattle.wm_base.specs.declared.fault.Damage.{Damage}
 use Rattle.wm_base.specs.declared.fault.Damage.TheVariants as damages
 use Rattle.wm_spec.specs.declared.record.Record.{Record}
 use Rattle.wm_spec.specs.declared.record.stored.Stored.{Stored}

@@ -1,5 +1,5 @@
 -- Where no WM_VALID is lacking, the kinds by the names are those of the columns.
-use Rattle.std.proofs.Common.{◌≡◌, ℕ, Bool, true, false, ◌&&◌, ◌||◌, ◌==◌, List, [], ◌∷◌, Option, None, Some, is_some, refl, ap, ◌∙◌, if◌then◌else◌}
+use Rattle.std.proofs.Common.{◌≡◌, ℕ, Bool, true, false, ◌&&◌, ◌==◌, List, [], ◌∷◌, Option, None, Some, is_some, refl, ap, ◌∙◌, if◌then◌else◌}
 use Rattle.std.proofs.lemmas.Bool.{or_parts}
 use Rattle.std.specs.Prelude.{not, option_and_then, unwrap_or}
 use Rattle.std.specs.List.{list_all}
@@ -11,7 +11,7 @@ use Rattle.wm_base.specs.declared.tree.operand.Per.{Per}
 use Rattle.wm_base.specs.declared.tree.operand.Per.TheVariants as periods
 use Rattle.wm_base.specs.Trees.{Set}
 use Rattle.wm_spec.specs.Operands.{wm_valid, kind_of, suffixed_kind, is_period, operand_kind}
-use Rattle.wm_typing.specs.Lacking.{lacking_name, lacking_period, lacking_in_operand, lacking_in_expr, lacks_in_set, lacks_in_sets}
+use Rattle.wm_typing.specs.Lacking.{lacking_period, lacking_in_operand, lacking_in_expr, lacks_in_set, lacks_in_sets}
 use Rattle.wm_typing.specs.Names.{lacks_period, kind_named, is_kind_of_periods, named_period, named_kind}
 
 there : (lacks : Bool) (kind : Option ℕ) → lacks ≡ false → (if lacks then Some 4 else kind) ≡ kind

@@ -1,7 +1,6 @@
 -- What it says that nothing was found.
-use Rattle.std.proofs.Common.{◌≡◌, ℕ, Bool, true, false, List, Option, None, Some, is_some, refl}
-use Rattle.std.specs.Prelude.{not, option_map}
-use Rattle.std.specs.Option.{option_or}
+use Rattle.std.proofs.Common.{◌≡◌, ℕ, Bool, true, false, List, Option, None, Some, refl}
+use Rattle.std.specs.Prelude.{not}
 use Rattle.wm_typing.specs.Names.{unless}
 use Rattle.wm_typing.specs.Refusals.{first_refusal}
 

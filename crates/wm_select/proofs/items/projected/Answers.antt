@@ -1,5 +1,5 @@
-use Rattle.std.proofs.Common.{◌≡◌, List, map, Some, ap, sym, ◌∙◌}
-use Rattle.wm_base.specs.Trees.{Out, Outs}
+use Rattle.std.proofs.Common.{List, map, ap, sym, ◌∙◌}
+use Rattle.wm_base.specs.Trees.{Out}
 use Rattle.wm_base.specs.Views.{outs_view, projection_view}
 use Rattle.wm_base.specs.declared.tree.query.Out.{Out as OutNode}
 use Rattle.wm_base.specs.declared.tree.query.Projection.{Projection as ProjectionNode}
