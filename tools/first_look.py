@@ -67,8 +67,7 @@ def show(script, said):
 def main():
     prepare()
     print("The program is compiled, and not proved; that takes a minute or two ..", flush=True)
-    # The interpreter, which 'rt try' asks too, cannot run a program that reads files: it is given up at its first step.
-    call = [*(sys.argv[1:] or ["rt"]), "try", "--steps", "1", "--cases", str(CASES)]
+    call = [*(sys.argv[1:] or ["rt"]), "try", "--cases", str(CASES)]
     done = subprocess.run(call, cwd=TOP / "crates" / "wm", stdout=subprocess.PIPE)
     found = answers(done.stdout)
     if found.get("0-init") != [b"OK"]:
