@@ -12,6 +12,7 @@ Plays what documents show. Two kinds of blocks are played, in order:
 With --write the console blocks get what the commands say now. The built program is build/wm, or $WM.
 """
 import os
+import re
 import subprocess
 import sys
 import tempfile
@@ -24,6 +25,8 @@ from lines import is_refusal, readable
 from program import Ended, Program, found_program, make_store
 
 LIMIT, NOW = 1_048_576, "2024-06-01"
+# What tools/play tells from time to time on a slow machine.
+PROGRESS = re.compile(r"\d+ of \d+ lines, \d+ refused, \d+ s")
 SHARED = ("tools", "examples", "docs", "build")
 
 
@@ -79,8 +82,9 @@ def play_lines(path, lines):
 def said_by(command, folder):
     environment = {**os.environ, "PATH": f"{TOP / 'build'}:{os.environ['PATH']}", "COLUMNS": "100"}
     done = subprocess.run(["bash", "-c", command], cwd=folder, env=environment, stdin=subprocess.DEVNULL, stdout=subprocess.PIPE,
-                          stderr=subprocess.STDOUT, timeout=120)
-    return [line.rstrip() for line in done.stdout.decode("utf-8", "replace").splitlines()]
+                          stderr=subprocess.STDOUT, timeout=300)
+    lines = [line.rstrip() for line in done.stdout.decode("utf-8", "replace").splitlines()]
+    return [line for line in lines if not PROGRESS.fullmatch(line)]
 
 
 def play_commands(path, lines, is_written):
