@@ -28,7 +28,7 @@ returns-in-Select-clause-does c =
 
 pub returns-in-Call-clause-does : goal.returns-in-Call-clause-does
 returns-in-Call-clause-does c =
-    let done = rw c.as_slice-in-Call.ensures at c.call.ensures.does in
+    let done = rw c.as_slice-args.ensures at c.call.ensures.does in
     rw c.in-Call.is
     (does_here c.args.image.now c.args.sessions.now c.args.moment c.call.result (call c.args.session.now (procedure_of c.in-Call.procedure) c.in-Call.args)
     (run_statement c.args.session.now (statement_view (Call c.in-Call.procedure c.in-Call.args c.in-Call.condition))) (λ s. refl) done)
