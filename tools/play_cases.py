@@ -14,6 +14,7 @@ start, so most cases begin with 'init'. A line of a case is
     @ cut N | poke OFFSET HEX | new | save NAME | load NAME      done to the store file between commands
     @ few NAME N TAGS   at most N records differ from those of the file saved as NAME, and none of them has one of the tags
     @ same NAME         the file is the one that was saved as NAME
+    @ count TAG N       there are N records of the tag
     @ is TAG N HEX      the N-th record of a tag, in order of ids from 1, has these bytes (given with blanks between them)
     @ set TAG N AT HEX  bytes of such a record, from AT on, become these
 
@@ -162,6 +163,9 @@ def otherwise(store, words):
         return too_many(store, words)
     if words[0] == "same":
         return None if file == store.with_name("kept-" + words[1]).read_bytes() else "the file is another one"
+    if words[0] == "count":
+        count = sum(1 for at, _ in slots(file).values() if file[at] == int(words[1]))
+        return None if count == int(words[2]) else f"there are {count}"
     at, size = placed(file, words[1], words[2])
     return None if file[at:at + size] == bytes.fromhex("".join(words[3:])) else f"the record is {file[at:at + size].hex(' ')}"
 
@@ -181,7 +185,7 @@ def play(program, path):
     with tempfile.TemporaryDirectory() as folder:
         store = Path(folder) / "s.store"
         for step in read_case(path):
-            if isinstance(step, list) and step[0] in ("few", "same", "is"):
+            if isinstance(step, list) and step[0] in ("few", "same", "count", "is"):
                 why = otherwise(store, step)
                 if why is not None:
                     return f"{path}: @ {' '.join(step)}: {why}"

@@ -32,6 +32,7 @@ def main():
             "standard streams closed": lambda kind: streams.closed(kind, room),
             "standard streams that fail": lambda kind: streams.failing(kind, room),
             "answers that are not taken": lambda kind: streams.not_taken(kind, room),
+            "a script that is too long": lambda kind: streams.too_long(kind, room),
             "paths that lead to no store": lambda kind: storage.no_stores(kind, room),
             "a file that may only be read": lambda kind: storage.read_only(kind, room),
             "a file that may not grow": lambda kind: storage.limited(kind, room),

@@ -16,6 +16,7 @@ COMPLAINTS = {
     5: b"wm: disk fault\n",
     6: b"wm: not a store\n",
     8: b"wm: store exists\n",
+    9: b"wm: input limit\n",
 }
 
 TABLE = b"""CONNECT A ANN

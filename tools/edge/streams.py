@@ -1,4 +1,4 @@
-"""Standard input, output and error that are closed, full or of another kind."""
+"""Standard input, output and error that are closed, full or of another kind, and a script that is too long."""
 import fcntl
 import os
 import subprocess
@@ -74,3 +74,22 @@ def not_taken(kind, room):
     kind.expect("a pipe that is full", (status, b"", complaint), ended(4))
     kind.expect("some answers came", said.count(b"\n") > 10, True)
     kind.expect_kept("a pipe that is full", room, path, said)
+
+
+def too_long(kind, room):
+    """A script of 2^30 bytes, and one of a byte more: a line, and remarks behind it."""
+    for more, status in (0, 0), (1, 9):
+        path = room.store()
+        run = room.begin(path)
+        left = 2**30 + more
+        line = b"CONNECT A ANN\n"
+        remark = b"--" + b"x" * (2**14 - 3) + b"\n"
+        chunk = remark * 64
+        run.stdin.write(line)
+        left -= len(line)
+        while left >= len(chunk):
+            run.stdin.write(chunk)
+            left -= len(chunk)
+        run.stdin.write(chunk[: left - 1] + b"\n" if left else b"")
+        said, complaint = run.communicate(timeout=10 * SECONDS)
+        kind.expect(f"2^30 + {more} bytes", (run.returncode, said, complaint), ended(status, b"OK\n"))

@@ -2,8 +2,8 @@
 """python3 tools/show STORE [--log N] [--html FILE [--keys N]]
 
 Shows what a store holds: its tables, the tree of its workspaces and savepoints, how many changes it still takes, who
-changed what and when, and what a merge would find in conflict. The file is read as docs/FORMAT.md says, and never
-written; no run is needed.
+changed what and when in tables with history, and what a merge would find in conflict. The file is read as
+docs/FORMAT.md says, and never written; no run is needed.
 
     --log N      so many of the last changes (20)
     --html FILE  writes a page with pictures instead, for a browser

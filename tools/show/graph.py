@@ -1,6 +1,4 @@
 """The picture of the tree: a lane for each workspace, with its savepoints and changes, and a line from where it was born."""
-from bisect import bisect_right
-
 from colours import colour_of
 from storefile.store import LIVE
 from svg import VALUE, element, label, name_label, picture, title, width_of
@@ -122,21 +120,24 @@ class Graph:
         """Between two savepoints, how many changes were made."""
         nodes = self.nodes[space.number]
         places = [begin + 22 * (space.number != LIVE), *(self.column[point.making] for point in nodes), self.end]
-        lengths = [point.log_length for point in nodes]
-        entries = self.store.log_of(space)
+        lengths = [0, *(point.log_length for point in nodes), space.log_length]
+        entries = self.store.history_of(space)
         parts = []
-        for gap, (left, right) in enumerate(zip(places, places[1:])):
-            inside = [entry for entry in entries if bisect_right(lengths, entry.position) == gap]
-            if inside:
-                parts.append(pill((left + right) / 2, level, inside, colour))
+        for left, right, first, till in zip(places, places[1:], lengths, lengths[1:]):
+            if first < till:
+                kept = [entry for entry in entries if first <= entry.position < till]
+                parts.append(pill((left + right) / 2, level, till - first, kept, colour))
         return "".join(parts)
 
 
-def pill(x, level, entries, colour):
-    text = str(len(entries))
+def pill(x, level, count, kept, colour):
+    """How many changes, and who made those of which the history is kept."""
+    text = str(count)
     width = 14 + 7 * len(text)
-    users = ", ".join(sorted({entry.user for entry in entries}))
-    told = title(f"{text} change{'s' * (len(entries) != 1)} by {users}, {entries[0].moment} to {entries[-1].moment}")
+    told = f"{text} change{'s' * (count != 1)}"
+    if kept:
+        users = ", ".join(sorted({entry.user for entry in kept}))
+        told += f", in tables with history by {users}, {kept[0].moment} to {kept[-1].moment}"
     frame = element("rect", x=x - width / 2, y=level - 10, width=width, height=20, rx=10, class_="pill",
                     style=f"stroke:{colour}")
-    return element("g", told, frame, label(x, level + 4, text, class_="count", text_anchor="middle"))
+    return element("g", title(told), frame, label(x, level + 4, text, class_="count", text_anchor="middle"))

@@ -18,15 +18,13 @@ def by_key(rows):
 
 def last_changed(store, table):
     """The keys of a table, the last changed ones first."""
-    found = {}
-    for entry in sorted((entry for entry in store.log if entry.cells.table == table.number), key=lambda entry: entry.stamp):
-        found[entry.cells.key] = entry.stamp
+    found = store.last_stamps(table)
     return sorted(found, key=found.get, reverse=True)
 
 
 def key_card(store, table, key, rows_by_space, found):
     ours = [(space, conflict) for space, conflict in found if conflict.table is table and conflict.key == key]
-    heading = f"<h3>{escape(table.columns[table.key_column].name)} {escape(printed(key))}</h3>"
+    heading = f"<h3>{escape(table.key_name())} {escape(printed(key))}</h3>"
     return f'<div class="key">{heading}{timeline(store, table, key, rows_by_space, ours)}</div>'
 
 
@@ -34,7 +32,7 @@ def row_text(rows, table):
     """The values beside the key, or that there is no row."""
     if not rows:
         return '<span class="null">no row</span>'
-    return " | ".join(value_text(value) for place, value in enumerate(rows[0].values) if place != table.key_column) or "·"
+    return " | ".join(value_text(value) for place, value in enumerate(rows[0].values) if place not in table.key_columns) or "·"
 
 
 def comparison(store, table, keys, rows_by_space):
@@ -51,15 +49,14 @@ def comparison(store, table, keys, rows_by_space):
             mark = "changed" if (table.number, key) in own[space.number] else "older" if rows != parents else ""
             cells.append(f'<td class="{mark}">{row_text(rows, table)}</td>')
         lines.append(f"<tr><td><b>{escape(printed(key))}</b></td>{''.join(cells)}</tr>")
-    key_name = escape(table.columns[table.key_column].name)
-    return f"<table><thead><tr><th>{key_name}</th>{heads}</tr></thead><tbody>{''.join(lines)}</tbody></table>"
+    return f"<table><thead><tr><th>{escape(table.key_name())}</th>{heads}</tr></thead><tbody>{''.join(lines)}</tbody></table>"
 
 
 def table_card(store, table, found, most):
     rows_by_space = {space.number: by_key(store.rows_of(space, table)) for space in store.spaces.values()}
     keys = last_changed(store, table)
     told = f'<p>the {most} keys of {len(keys)} that were changed last</p>' if len(keys) > most else ""
-    names = ", ".join(column.name for place, column in enumerate(table.columns) if place != table.key_column)
+    names = ", ".join(column.name for column in table.columns if not table.has_in_key(column))
     if table.is_valid:
         inside = "".join(key_card(store, table, key, rows_by_space, found) for key in sorted(keys[:most], key=in_order))
     else:
@@ -69,7 +66,7 @@ def table_card(store, table, found, most):
 
 def keys_section(store, found, most):
     """What the section says, and a card for each table that has rows."""
-    tables = [table for table in store.tables.values() if any(entry.cells.table == table.number for entry in store.log)]
+    tables = [table for table in store.tables.values() if store.last_stamps(table)]
     if not tables:
         return ["There are no rows yet."]
     told = ("Of a table with valid time, each key over time: a bar is a row and the period for which it holds, and equal "

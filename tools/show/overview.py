@@ -15,7 +15,7 @@ def counted(number, word):
 
 def described(column, table):
     """A column as CREATE TABLE declares it. DATE and TIMESTAMP are one kind in the file."""
-    is_key = table.has_key and table.columns[table.key_column] is column
+    is_key = table.has_in_key(column)
     marks = " PRIMARY KEY" * is_key + " NOT NULL" * (column.is_needed and not is_key)
     return f"{column.name} {TYPES[column.kind].format(column.size)}{marks}"
 
@@ -23,7 +23,7 @@ def described(column, table):
 def state_of(table):
     if not table.is_versioned:
         return "takes no rows yet: EnableVersioning is due"
-    return ", ".join(["with valid time"] * table.is_valid + ["its history is asked for"] * table.has_history) or "version-enabled"
+    return ", ".join(["with valid time"] * table.is_valid + ["its history is kept"] * table.has_history) or "version-enabled"
 
 
 def head(path, store):
@@ -55,7 +55,7 @@ def facts(store, space):
     if space.number != LIVE:
         keys, conflicts = changed_keys(store, space), store.conflicts(space)
         found = [f"made {space.born}", f"{counted(space.log_length, 'change')} on {counted(len(keys), 'key')}",
-                 f"{counted(len(store.pending(space)), 'change')} in {store.spaces[space.parent].name} since",
+                 f"{counted(store.changes_since(space), 'change')} in {store.spaces[space.parent].name} since",
                  counted(len(conflicts), "conflict") if conflicts else "no conflict"]
     return found + ([f"frozen {FREEZES[space.freeze]}"] if space.freeze else [])
 
@@ -98,8 +98,8 @@ def fitted(rows):
 
 
 def in_time(store):
-    """The entries of all logs, the older ones first."""
-    return sorted(store.log, key=lambda entry: (entry.moment, entry.stamp, entry.space, entry.position))
+    """The entries of all logs that are kept, the older ones first."""
+    return sorted(store.history, key=lambda entry: (entry.moment, entry.stamp, entry.space, entry.position))
 
 
 def log(store, most):
@@ -107,7 +107,7 @@ def log(store, most):
     told = f", the last {most} of {len(entries)}" if len(entries) > most else ""
     shown = entries[len(entries) - most:] if len(entries) > most else entries
     lines = fitted([entry_line(store, entry) for entry in shown]) if shown else ["  nobody anything"]
-    return ["", f"Who changed what{told}", *lines]
+    return ["", f"Who changed what in tables with history{told}", *lines]
 
 
 def side_line(name, row):

@@ -52,7 +52,7 @@ def header(name, store, conflicts):
 
 
 def column_mark(column, table):
-    is_key = table.has_key and table.columns[table.key_column] is column
+    is_key = table.has_in_key(column)
     mark = " <i>key</i>" if is_key else " <i>not null</i>" if column.is_needed else ""
     return f"<span><b>{escape(column.name)}</b> {TYPES[column.kind].format(column.size)}{mark}</span>"
 
@@ -101,7 +101,7 @@ def log_row(store, entry):
 def log_section(store):
     entries = in_time(store)[::-1]
     rows = "".join(log_row(store, entry) for entry in entries[:MOST_ENTRIES])
-    told = f"{counted(len(entries), 'change')}, the newest first."
+    told = f"{counted(len(entries), 'change')} in tables with history, the newest first."
     if len(entries) > MOST_ENTRIES:
         told += f" The last {MOST_ENTRIES} are here; tools/show STORE --log N lists more."
     box = '<input hidden data-finds="#log tbody tr" placeholder="find a user, a table, a value ..">'

@@ -10,7 +10,7 @@ NAMES, WIDTH, LANE, BAR, TOP = 232, 1040, 40, 28, 10
 def text_of(row, table):
     """The row's values beside its key."""
     return " · ".join(value if isinstance(value, str) else printed(value).removesuffix(" 00:00:00")
-                      for place, value in enumerate(row.values) if place != table.key_column)
+                      for place, value in enumerate(row.values) if place not in table.key_columns)
 
 
 def lanes(store, table, key, rows_by_space):

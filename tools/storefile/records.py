@@ -30,9 +30,14 @@ class Table(NamedTuple):
     is_versioned: bool
     is_valid: bool
     has_history: bool
-    has_key: bool
-    key_column: int
+    key_columns: list
     columns: list
+
+    def key_name(self):
+        return ", ".join(self.columns[place].name for place in self.key_columns)
+
+    def has_in_key(self, column):
+        return any(self.columns[place] is column for place in self.key_columns)
 
 
 class Space(NamedTuple):
@@ -92,6 +97,30 @@ class Piece(NamedTuple):
     is_gone: bool
 
 
+class Trace(NamedTuple):
+    space: int
+    place: int
+    cells: Cells
+    position: int
+
+
+class Touch(Trace):
+    """Cells that a workspace changed."""
+
+
+class Mark(Trace):
+    """Cells that a workspace has settled with its parent."""
+
+
+class Lock(NamedTuple):
+    space: int
+    place: int
+    cells: Cells
+    mode: int
+    user: str
+    making: int
+
+
 class Hist(NamedTuple):
     space: int
     position: int
@@ -101,6 +130,13 @@ class Hist(NamedTuple):
     is_gone: bool
     moment: Instant
     user: str
+
+
+class Turn(NamedTuple):
+    space: int
+    rebase: int
+    log_length: int
+    rebases: int
 
 
 class Reader:
@@ -159,6 +195,13 @@ class Reader:
     def column(self):
         return Column(self.text(), self.one_of(1, 2, 3), self.number(2), self.truth())
 
+    def key_columns(self):
+        """The places of the key's columns. Today a key has one, and the place of none is 0."""
+        has_key, place = self.truth(), self.number(1)
+        if place and not has_key:
+            raise NoRecord
+        return [place] * has_key
+
     def many(self, item):
         return [item() for _ in range(self.number(1))]
 
@@ -168,6 +211,9 @@ class Reader:
     def kind(self):
         return self.one_of(1, 2, 3)
 
+    def mode(self):
+        return self.one_of(1, 2, 3, 4)
+
 
 def n(size):
     return lambda reader: reader.number(size)
@@ -176,13 +222,17 @@ def n(size):
 TEXT, TRUTH, INSTANT, CELLS, KIND = Reader.text, Reader.truth, Reader.instant, Reader.cells, Reader.kind
 KINDS = {
     1: (Counters, [n(8), INSTANT, n(4), n(8), n(8)]),
-    2: (Table, [n(2), TEXT, TRUTH, TRUTH, TRUTH, TRUTH, n(1), lambda reader: reader.many(reader.column)]),
+    2: (Table, [n(2), TEXT, TRUTH, TRUTH, TRUTH, Reader.key_columns, lambda reader: reader.many(reader.column)]),
     3: (Space, [n(4), TEXT, n(4), INSTANT, n(8), n(4), n(8), n(8), n(8), n(4), n(4), n(4), Reader.freeze, TEXT]),
     4: (Version, [n(8), n(4), n(8)]),
     5: (Savepoint, [n(4), TEXT, TRUTH, n(4), n(8), INSTANT, n(8), n(8), n(8), n(8), n(4)]),
     6: (Row, [n(8), n(2), lambda reader: reader.many(reader.value)]),
     7: (Piece, [n(8), CELLS, n(8), KIND, TRUTH]),
+    8: (Touch, [n(4), n(4), CELLS, n(8)]),
+    9: (Lock, [n(4), n(4), CELLS, Reader.mode, TEXT, n(8)]),
     10: (Hist, [n(4), n(8), CELLS, n(8), KIND, TRUTH, INSTANT, TEXT]),
+    11: (Mark, [n(4), n(4), CELLS, n(8)]),
+    12: (Turn, [n(4), n(4), n(8), n(4)]),
 }
 
 

@@ -5,7 +5,7 @@ from pathlib import Path
 from typing import NamedTuple
 
 from .pages import Damaged, Pages
-from .records import Counters, Hist, Piece, Row, Savepoint, Space, Table, Version, records_of
+from .records import Counters, Hist, Piece, Row, Savepoint, Space, Table, Touch, Turn, Version, records_of
 from .use import has_a_run
 from .values import in_order
 
@@ -54,7 +54,9 @@ class Store:
         self.versions = {version.number: version for version in by_kind[Version]}
         self.savepoints = sorted(by_kind[Savepoint], key=lambda point: (point.space, point.place, point.making))
         self.rows = {row.stamp: row.values for row in by_kind[Row]}
-        self.log = sorted(by_kind[Hist], key=lambda entry: (entry.space, entry.position))
+        self.history = sorted(by_kind[Hist], key=lambda entry: (entry.space, entry.position))
+        self.touches = sorted(by_kind[Touch], key=lambda touch: (touch.space, touch.place, touch.position))
+        self.turns = sorted(by_kind[Turn])
         self.pieces = defaultdict(list)
         for piece in by_kind[Piece]:
             self.pieces[piece.version].append(piece)
@@ -64,10 +66,10 @@ class Store:
 
     def test_references(self, pieces):
         """Looks at what the questions below rely on. The rest of the rules over all records is the program's to test."""
-        found = [self.tables[part.cells.table] for part in [*pieces, *self.log]]
-        found += [self.spaces[part.space] for part in [*self.savepoints, *self.log]]
+        found = [self.tables[part.cells.table] for part in [*pieces, *self.history, *self.touches]]
+        found += [self.spaces[part.space] for part in [*self.savepoints, *self.history, *self.touches, *self.turns]]
         found += [self.spaces[space.parent] for space in self.spaces.values()]
-        found += [self.rows[part.stamp] for part in [*pieces, *self.log] if not part.is_gone]
+        found += [self.rows[part.stamp] for part in [*pieces, *self.history] if not part.is_gone]
         found += [self.path(version) for version in self.versions]
 
     # Workspaces and versions
@@ -130,17 +132,32 @@ class Store:
 
     # Who changed what
 
-    def log_of(self, space):
-        return [entry for entry in self.log if entry.space == space.number]
+    def history_of(self, space):
+        """The entries of a workspace's log that are kept, which are those of tables with history."""
+        return [entry for entry in self.history if entry.space == space.number]
+
+    def touches_of(self, space):
+        return [touch for touch in self.touches if touch.space == space.number]
 
     def own_cells(self, space):
         """The cells that the workspace changed and did not merge."""
         return [piece.cells for version in self.own_path(space) for piece in self.pieces[version]]
 
     def pending(self, space):
-        """The entries of the parent's log since the workspace last looked at its parent."""
-        parent = self.spaces[space.parent]
-        return [entry for entry in self.log_of(parent) if entry.position >= space.parent_log_length]
+        """The cells that the parent changed since the workspace last looked at its parent."""
+        touches = self.touches_of(self.spaces[space.parent])
+        return [touch.cells for touch in touches if touch.position >= space.parent_log_length]
+
+    def changes_since(self, space):
+        """How many changes the parent made since then."""
+        return max(0, self.spaces[space.parent].log_length - space.parent_log_length)
+
+    def last_stamps(self, table):
+        """The stamp of the last change of each key of a table, in any workspace."""
+        found = {}
+        for piece in (piece for pieces in self.pieces.values() for piece in pieces if piece.cells.table == table.number):
+            found[piece.cells.key] = max(piece.stamp, found.get(piece.cells.key, 0))
+        return found
 
     # What will conflict
 
@@ -153,8 +170,8 @@ class Store:
 
     def find_conflicts(self, space):
         touched = defaultdict(list)
-        for entry in self.pending(space):
-            touched[entry.cells.table, entry.cells.key].append(entry.cells.period)
+        for cells in self.pending(space):
+            touched[cells.table, cells.key].append(cells.period)
         shared = defaultdict(list)
         for cells in self.own_cells(space):
             for period in touched[cells.table, cells.key]:

@@ -1,7 +1,8 @@
 """Random scripts that make workspaces, savepoints and rows over periods, and nearly always are accepted."""
 import random
 
-TABLES = {"PLOT": True, "TAX": False}
+# Whether a table has valid time, and its history.
+TABLES = {"PLOT": (True, "VIEW_WO_OVERWRITE"), "TAX": (False, "NONE"), "DEED": (True, "NONE")}
 ENDS = ["DATE '2020-01-01'", "DATE '2020-03-01'", "TIMESTAMP '2020-05-01 12:00:00'", "DATE '2020-09-01'", "DATE '2021-01-01'",
         "DBMS_WM.UNTIL_CHANGED"]
 
@@ -13,9 +14,9 @@ class Writer:
         self.random = random.Random(seed)
         self.workspaces, self.points, self.day = ["LIVE"], [], 1
         self.lines = ["CONNECT A ANN", "CONNECT B BEN"]
-        for table, is_valid in TABLES.items():
+        for table, (is_valid, history) in TABLES.items():
             self.lines.append(f"A: CREATE TABLE {table} (ID NUMBER PRIMARY KEY, X NUMBER, NOTE VARCHAR2(20))")
-            self.lines.append(f"A: EXECUTE DBMS_WM.EnableVersioning('{table}', validTime => {str(is_valid).upper()})")
+            self.lines.append(f"A: EXECUTE DBMS_WM.EnableVersioning('{table}', '{history}', FALSE, {str(is_valid).upper()})")
 
     def period(self):
         begin, till = sorted(self.random.sample(range(len(ENDS)), 2))

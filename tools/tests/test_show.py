@@ -3,6 +3,7 @@ import random
 import shutil
 import subprocess
 import threading
+from itertools import combinations
 
 from around import PROGRAM, WithFolder, made, run, store_of_examples, store_of_tutorial, tool
 from random_stores import Writer
@@ -38,15 +39,42 @@ def selections(found, version):
 
 
 def cells_in_conflict(found, space):
-    """What both logs have an entry over, by key. No merge and no refresh is built yet, so what a workspace changed and did
-    not merge is its whole log."""
+    """What both have touched, by key. No merge and no refresh is built yet, so what a workspace changed and did not merge
+    is all that it touched."""
     inside = {}
-    for ours in found.log_of(space):
+    for ours in found.touches_of(space):
         for theirs in found.pending(space):
-            shared = ours.cells.period.overlap(theirs.cells.period)
-            if ours.cells[:2] == theirs.cells[:2] and shared:
+            shared = ours.cells.period.overlap(theirs.period)
+            if ours.cells[:2] == theirs[:2] and shared:
                 inside.setdefault(ours.cells[:2], []).append(shared)
     return inside
+
+
+def by_key(cells):
+    """The longest periods of each key that some cells have."""
+    inside = {}
+    for part in cells:
+        inside.setdefault(part[:2], []).append(part.period)
+    return {key: covered(periods) for key, periods in inside.items()}
+
+
+def reaches(parts):
+    """The greatest position of the parts over each cell, by key, in longest periods."""
+    inside = {}
+    for part in parts:
+        inside.setdefault(part.cells[:2], []).append((part.cells.period, part.position))
+    return {key: stretches(held) for key, held in inside.items()}
+
+
+def stretches(held):
+    ends, found = sorted({end for period, _ in held for end in period}), []
+    for begin, till in zip(ends, ends[1:]):
+        greatest = max((position for period, position in held if period.begin <= begin and till <= period.till), default=None)
+        if found and found[-1][1:] == (begin, greatest):
+            found[-1] = (found[-1][0], till, greatest)
+        elif greatest is not None:
+            found.append((begin, till, greatest))
+    return found
 
 
 def covered(periods):
@@ -83,14 +111,43 @@ class Contents(WithFolder):
                 done = run(made(self.store), "2024-01-01", Writer(seed).script(LINES))
                 self.assertEqual(done.returncode, 0)
                 found = self.compare(self.store)
-                self.logs(found)
+                self.histories(found)
+                self.touches(found)
+                self.turns(found)
                 self.conflicts(found)
 
-    def logs(self, found):
-        """Each change is in the log of its workspace, at its position; and each has a stamp of its own."""
+    def histories(self, found):
+        """Each change took a stamp and a position in its workspace's log. Of a table with history each is kept, and of another
+        none."""
+        self.assertEqual(sum(space.log_length for space in found.spaces.values()), found.counters.next_stamp - 1)
+        self.assertTrue(all(found.tables[entry.cells.table].has_history for entry in found.history))
+        self.assertEqual(len({entry.stamp for entry in found.history}), len(found.history))
         for space in found.spaces.values():
-            self.assertEqual([entry.position for entry in found.log_of(space)], list(range(space.log_length)))
-        self.assertEqual(sorted(entry.stamp for entry in found.log), list(range(1, found.counters.next_stamp)))
+            positions = [entry.position for entry in found.history_of(space)]
+            self.assertEqual(positions, sorted(set(positions) & set(range(space.log_length))))
+
+    def touches(self, found):
+        """In tables with history touches reach as far as its entries do, also at each savepoint; in each table they are over
+        what the workspace changed, and none of one place is over another."""
+        for space in found.spaces.values():
+            touches = found.touches_of(space)
+            self.reach(found, touches, found.history_of(space))
+            for point in found.savepoints_of(space):
+                self.reach(found, [touch for touch in touches if touch.place < point.place],
+                           [entry for entry in found.history_of(space) if entry.position < point.log_length])
+            if space.number != LIVE:
+                self.assertEqual(by_key(touch.cells for touch in touches), by_key(found.own_cells(space)))
+            for one, other in combinations(touches, 2):
+                if (one.place, *one.cells[:2]) == (other.place, *other.cells[:2]):
+                    self.assertIsNone(one.cells.period.overlap(other.cells.period))
+
+    def reach(self, found, touches, entries):
+        self.assertEqual(reaches(touch for touch in touches if found.tables[touch.cells.table].has_history), reaches(entries))
+
+    def turns(self, found):
+        """No workspace was rebased yet: each but LIVE has the turn of its birth, which says where it began."""
+        born = [(space.number, 0, space.parent_log_length, 0) for space in found.spaces.values() if space.number != LIVE]
+        self.assertEqual(found.turns, born)
 
     def conflicts(self, found):
         for space in found.spaces.values():

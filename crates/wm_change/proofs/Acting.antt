@@ -2,6 +2,7 @@
 use Rattle.std.proofs.Common.{◌≡◌, ℕ, ◌+◌, nat_le, nat_lt, Bool, true, false, List, [], ◌∷◌, length, Option, Result, Ok, Err, IfOk, refl, sym, ap, ◌∙◌, codes, Vec, Global, vec_len, arith}
 use Rattle.wm_base.specs.declared.memory.Memory.{Memory}
 use Rattle.wm_base.specs.declared.refusal.Refusal.{Refusal}
+use Rattle.wm_base.specs.declared.row.Row.{Row}
 use Rattle.wm_dml.specs.Standing.{change_keys}
 use Rattle.wm_dml.specs.declared.change.RowChange.{RowChange}
 use Rattle.wm_graph.specs.Parts.{parts_of}
@@ -12,18 +13,21 @@ use Rattle.wm_spec.specs.declared.record.space.Space.{Space}
 use Rattle.wm_spec.specs.declared.record.stored.Stored.{Stored}
 use Rattle.wm_spec.specs.declared.record.table.Table.{Table}
 use Rattle.wm_state.proofs.Counting.{CountsAs}
+use Rattle.wm_state.proofs.Tests.{bool_apart}
+use Rattle.std.specs.List.{list_all}
+use Rattle.wm_model.specs.Lawful.{is_full_row}
 use Rattle.wm_state.specs.Drawing.{are_sorted}
 use Rattle.wm_state.specs.Standing.{SpaceFields}
 use Rattle.wm_state.specs.State.{State, Session, Workspace}
 use Rattle.wm_model.specs.Entered.{entries_of}
-use Rattle.wm_model.specs.Planning.{StandsAt, Stay}
+use Rattle.wm_model.specs.Planning.{IsOpen, StandsAt, Stay}
 use Rattle.wm_model.specs.Step.{at_newest, change_limit, counter_limit, durably, at_its_end, not_built, write_ascending, written_all}
 use Rattle.wm_model.proofs.Changing.{ascending, not_ascending}
 use Rattle.wm_model.proofs.Doing.{counts_as, does_nothing, spent_log}
 use Rattle.wm_model.proofs.Homes.{home_is}
 use Rattle.wm_model.proofs.Newest.{Acts, ComesTo, comes_to}
 use Rattle.wm_plan.proofs.Planning.{told}
-use Rattle.wm_change.specs.Acting.{DoesAs, IsHome}
+use Rattle.wm_change.specs.Acting.{AreFull, DoesAs, IsHome}
 use Rattle.wm_change.specs.Changing.{WritesAll}
 use Rattle.wm_plan.specs.Planning.{DoesIt}
 use Rattle.wm_plan.specs.Views.{answer_view, seating_view}
@@ -47,6 +51,12 @@ pub answers_so : (rs : List Stored) (m : ℕ) (p : Planned) (session : Session) 
     → p.edits.items ≡ [] → seating_view p.seating ≡ Stay → answer_view p.answer ≡ answer → DoesAs rs m session a done p
 answers_so rs m p session a done answer rules same none seats says = does_answer rs m p session a done answer rules (λ xs s w st home. same s w) none seats says
 
+-- where a text in the rows is empty whatever is said is so, since in no state one is
+pub answers_full : (rs : List Stored) (m : ℕ) (p : Planned) (session : Session) (a : Space) (done : InSpace) (answer : Answer) (rows : List Row) → keep_rules (parts_of rs) ≡ true → AreFull rs m session a rows → list_all is_full_row rows ≡ false
+    → p.edits.items ≡ [] → seating_view p.seating ≡ Stay → answer_view p.answer ≡ answer → DoesAs rs m session a done p
+answers_full rs m p session a done answer rows rules are empty none seats says =
+    does_answer rs m p session a done answer rules (λ xs s w st home. absurd (bool_apart (sym (are.full xs s w st home) ∙ empty))) none seats says
+
 -- what does the same
 pub does_so : (rs : List Stored) (m : ℕ) (r : Result Planned Memory) (session : Session) (a : Space) (done other : InSpace) → ((s : State) (w : Workspace) → other s w ≡ done s w)
     → IfOk r (DoesAs rs m session a done) → IfOk r (DoesAs rs m session a other)
@@ -61,8 +71,8 @@ does_known rs m (Err e) session a done other same does = tt
 
 -- the statement does it
 pub does_change : (rs : List Stored) (m : ℕ) (r : Result Planned Memory) (session : Session) (name : List ℕ) (fault : Table → Option Refusal) (empty : Bool) (act : Acts) (t : Table) (a : Space)
-    → ComesTo rs session name fault t a → empty ≡ false → IfOk r (DoesAs rs m session a (act t)) → IfOk r (λ p. (xs : List Session) → DoesIt rs xs m p (at_newest session name fault empty act))
-does_change rs m (Ok p) session name fault empty act t a to lasting does = λ xs. does xs (at_newest session name fault empty act) (λ s st.
+    → ComesTo rs session name fault t a → empty ≡ false → IfOk r (DoesAs rs m session a (act t)) → IfOk r (λ p. (xs : List Session) → IsOpen xs session → DoesIt rs xs m p (at_newest session name fault empty act))
+does_change rs m (Ok p) session name fault empty act t a to lasting does = λ xs among. does xs (at_newest session name fault empty act) (λ s st.
     let home = home_is rs xs m s session.space a st to.found in
     (home.space, record { is = home.is; number = home.number; log = ap (λ (f : SpaceFields). f.log_length) home.fields }, comes_to rs xs m session name fault empty act t a s to lasting st))
 does_change rs m (Err e) session name fault empty act t a to lasting does = tt

@@ -11,7 +11,7 @@ use Rattle.wm_spec.specs.declared.record.space.Space.{Space}
 use Rattle.wm_spec.specs.declared.record.stored.Stored.{Stored}
 use Rattle.wm_spec.specs.declared.record.table.Table.{Table}
 use Rattle.wm_state.proofs.Shared.{shared_of}
-use Rattle.wm_state.specs.Standing.{latest}
+use Rattle.wm_state.specs.Standing.{Newest, latest}
 use Rattle.wm_state.specs.State.{State, Session, Workspace, content}
 use Rattle.wm_model.proofs.Changing.{adds_new, adds_there}
 use Rattle.wm_model.specs.Planning.{StandsAt, Stay}
@@ -26,7 +26,7 @@ taken_is : (rs : List Stored) (xs : List Session) (m : ℕ) (session : Session) 
     → version ≡ latest (parts_of rs) session.space → IsFirstShared (parts_of rs) version t.number key period found → StandsAt rs xs m s → IsHome s session a w → taken (content w) t key period ≡ found
 taken_is rs xs m session a t key period version found s w newest shared st home =
     let at : IsFirstShared (parts_of rs) (latest (parts_of rs) session.space) t.number key period found = subst (λ v. IsFirstShared (parts_of rs) v t.number key period found) newest shared in
-    sym (shared_of (parts_of rs) (latest (parts_of rs) session.space) (content w) t.number key period at.stretches (st.stands.latest.told session.space w home.is) at.are) ∙ sym at.first
+    sym (shared_of (parts_of rs) (latest (parts_of rs) session.space) (content w) t.number key period at.stretches (st.stands.named.tells (latest (parts_of rs) session.space) session.space w.rebases (content w) (Newest w home.is)).holds at.are) ∙ sym at.first
 
 -- a row of the key stands there
 pub add_there : (rs : List Stored) (m : ℕ) (p : Planned) (session : Session) (a : Space) (t : Table) (period shared : Span) (row key : List Value) (version : ℕ) (found : Option Span) → keep_rules (parts_of rs) ≡ true

@@ -1,23 +1,23 @@
 -- What is known of the row that INSERT adds.
-use Rattle.std.proofs.Common.{◌≡◌, ℕ, ◌<◌, ◌≤◌, nat_le, nat_lt, arith, true, List, ◌∷◌, [], Option, Some, None, unwrap_or, refl, sym, ap, ◌∙◌}
+use Rattle.std.proofs.Common.{◌≡◌, ℕ, ◌<◌, ◌≤◌, nat_le, nat_lt, arith, true, List, ◌∷◌, [], Option, Some, None, unwrap_or, refl, ap, ◌∙◌}
 use Rattle.std.specs.List.{list_all}
 use Rattle.wm_base.specs.Period.{Span}
 use Rattle.wm_base.specs.Trees.{Expr}
 use Rattle.wm_base.specs.Views.{exprs_view}
 use Rattle.wm_base.specs.declared.value.Value.{Value}
+use Rattle.wm_dml.proofs.Changed.{same_key}
 use Rattle.wm_dml.specs.Changing.{added, row_key}
 use Rattle.wm_base.specs.declared.instant.TheConstants.{END}
 use Rattle.wm_dml.specs.Standing.{change_lasts, is_change}
 use Rattle.wm_graph.specs.Parts.{parts_of}
-use Rattle.wm_graph.specs.Rules.{keep_rules, is_key, is_row_of, is_key_of, is_table, key_of}
+use Rattle.wm_graph.specs.Rules.{has_key, keep_rules, is_key, is_row_of, is_key_of, is_table, key_of}
 use Rattle.wm_making.specs.Inserting.{insert_fault}
 use Rattle.wm_making.specs.Rows.{row_of, MayStand}
-use Rattle.wm_model.proofs.Named.{named_is, has_key}
+use Rattle.wm_model.proofs.Named.{named_is, ready_keyed}
 use Rattle.wm_model.proofs.Newest.{IsGood}
 use Rattle.wm_spec.specs.declared.record.stored.Stored.{Stored}
 use Rattle.wm_spec.specs.declared.record.table.Table.{Table}
-use Rattle.wm_state.proofs.Laying.{key_itself}
-use Rattle.wm_state.proofs.Tests.{bool_apart, both, and_true}
+use Rattle.wm_state.proofs.Tests.{both, and_true}
 use Rattle.wm_change.proofs.Rowing.{insert_faults}
 use Rattle.wm_chosen.specs.Chosen.{is_keyed_row}
 use Rattle.wm_change.specs.Inserting.{IsFine}
@@ -33,25 +33,18 @@ stands_keyed t row may = and_true (is_row_of row t) (is_key_of (row_key t row) t
 
 -- the row that the statement gives has its key, where it may stand in a table that is in order and has a key
 pub row_keyed : (rs : List Stored) (i : Insertion) (row : List Value) → keep_rules (parts_of rs) ≡ true → IsFine rs i → row_of i.table.now i.names.now (exprs_view i.values.now) ≡ Some row
-    → ((names : Option (List (List ℕ))) (xs : List Expr) → insert_fault i.table.now names xs ≡ None → row_of i.table.now names xs ≡ Some row → is_table i.table.now ≡ true → i.table.now.has_key ≡ true → MayStand i.table.now row)
+    → ((names : Option (List (List ℕ))) (xs : List Expr) → insert_fault i.table.now names xs ≡ None → row_of i.table.now names xs ≡ Some row → is_table i.table.now ≡ true → has_key i.table.now ≡ true → MayStand i.table.now row)
     → is_keyed_row i.table.now row ≡ true
 row_keyed rs i row rules fine is may =
     let well : is_table i.table.now ≡ true = (named_is rs i.name.now i.table.now rules fine.there).well in
-    stands_keyed i.table.now row (may i.names.now (exprs_view i.values.now) fine.good is well (has_key i.table.now well fine.on))
+    stands_keyed i.table.now row (may i.names.now (exprs_view i.values.now) fine.good is well (ready_keyed i.table.now well fine.on))
 
 -- a row with its key is a change of the table
 pub added_fits : (t : Table) (period : Span) (row : List Value) → is_keyed_row t row ≡ true → list_all (is_change t) (added t period row ∷ []) ≡ true
 added_fits t period row keyed =
     let h = both (is_row_of row t) (is_key_of (row_key t row) t) keyed in
     and_true (is_change t (added t period row)) true
-    (and_true (is_key_of (row_key t row) t) _ h.1 (and_true (is_row_of row t) (is_key (row_key t row) (key_of t row)) h.0 (by_key (key_of t row) h.1))) refl
-  where
-    none_apart : is_key_of [] t ≡ true → ⊥
-    none_apart e = bool_apart (sym e)
-
-    by_key : (o : Option (List Value)) → is_key_of (unwrap_or o []) t ≡ true → is_key (unwrap_or o []) o ≡ true
-    by_key None e = absurd (none_apart e)
-    by_key (Some k) e = key_itself k
+    (and_true (is_key_of (row_key t row) t) _ h.1 (and_true (is_row_of row t) (is_key (row_key t row) (key_of t row)) h.0 (same_key t row h.1))) refl
 
 -- and lasts where its period does
 pub added_lasts : (t : Table) (period : Span) (row : List Value) → period.from < period.till → period.till ≤ END → list_all change_lasts (added t period row ∷ []) ≡ true

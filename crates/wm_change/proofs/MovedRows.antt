@@ -26,7 +26,7 @@ use Rattle.wm_spec.specs.declared.record.table.Table.{Table}
 use Rattle.wm_state.proofs.Listed.{HoldsAll, key_rows}
 use Rattle.wm_state.proofs.Tests.{and_true, both}
 use Rattle.wm_state.specs.Listing.{span_on}
-use Rattle.wm_state.specs.Standing.{latest}
+use Rattle.wm_state.specs.Standing.{Newest, latest}
 use Rattle.wm_state.specs.State.{State, Session, Workspace, content}
 use Rattle.wm_model.proofs.Changing.{moves_new, moves_there}
 use Rattle.wm_model.specs.Planning.{StandsAt, Stay}
@@ -119,7 +119,7 @@ clash_is : (rs : List Stored) (xs : List Session) (m : ℕ) (session : Session) 
     → version ≡ latest (parts_of rs) session.space → Finds (parts_of rs) version (λ es. first_clash es t moves moves) found → StandsAt rs xs m s → IsHome s session a w → first_clash (content w) t moves moves ≡ found
 clash_is rs xs m session a t moves version found s w newest finds st home =
     let at : Finds (parts_of rs) (latest (parts_of rs) session.space) (λ es. first_clash es t moves moves) found = subst (λ v. Finds (parts_of rs) v (λ es. first_clash es t moves moves) found) newest finds in
-    at (content w) (st.stands.latest.told session.space w home.is)
+    at (content w) (st.stands.named.tells (latest (parts_of rs) session.space) session.space w.rebases (content w) (Newest w home.is)).holds
 
 -- a new period overlaps that of another row
 pub move_there : (rs : List Stored) (m : ℕ) (p : Planned) (session : Session) (a : Space) (t : Table) (moves : List Move) (key : List Value) (shared : Span) (version : ℕ) → keep_rules (parts_of rs) ≡ true

@@ -1,5 +1,6 @@
 -- What a plan that changes the rows of a table that a session sees does.
-use Rattle.std.proofs.Common.{◌≡◌, ℕ, false, refl, List, length, map, Option, Result, IfOk, sym, ap, subst, ◌∙◌}
+use Rattle.std.proofs.Common.{◌≡◌, ℕ, true, false, refl, List, length, map, Option, Result, IfOk, sym, ap, subst, ◌∙◌}
+use Rattle.std.specs.List.{list_all}
 use Rattle.wm_base.specs.Period.{Span, always}
 use Rattle.wm_base.specs.declared.memory.Memory.{Memory}
 use Rattle.wm_base.specs.declared.row.Row.{Row}
@@ -17,12 +18,14 @@ use Rattle.wm_state.specs.State.{State, Session, Workspace, content}
 use Rattle.wm_model.specs.Planning.{StandsAt}
 use Rattle.wm_making.specs.Inserting.{insert_fault}
 use Rattle.wm_making.specs.Rows.{row_of}
+use Rattle.wm_model.proofs.Lawful.Rows.{chosen_full, content_full, rows_full}
 use Rattle.wm_model.proofs.Newest.{Acts}
-use Rattle.wm_model.specs.Step.{add_found, new_period, replace_all, rows_in, unless_empty, with_rows, within, write_ascending}
+use Rattle.wm_model.specs.Lawful.{is_full_row}
+use Rattle.wm_model.specs.Step.{add_found, new_period, replace_all, rows_in, with_rows, within, write_ascending}
 use Rattle.wm_typing.specs.Changing.{delete_fault, update_fault}
 use Rattle.wm_print.specs.Texts.{Answer}
 use Rattle.wm_change.proofs.Acting.{does_known}
-use Rattle.wm_change.specs.Acting.{DoesAs, IsHome}
+use Rattle.wm_change.specs.Acting.{AreFull, DoesAs, IsHome}
 use Rattle.wm_chosen.specs.Chosen.{AreChosen}
 use Rattle.wm_plan.specs.declared.planned.Planned.{Planned}
 
@@ -55,6 +58,20 @@ does_rows rs m r session a filter act t period version rows given in_it newest a
         ∙ ap (λ all. act t period (chosen t filter all) s w) (sym (showing_is (parts_of rs) s.durable session.space w t.number t.valid period are.all st.stands home.is listed))
         ∙ ap (λ xs. act t period xs s w) (sym (same ∙ are.are))
 
+-- no text in those rows is empty
+pub rows_are_full : (rs : List Stored) (m : ℕ) (session : Session) (a : Space) (filter : Option Cond) (t : Table) (period : Span) (version : ℕ) (rows given : List Row)
+    → version ≡ latest (parts_of rs) session.space → AreChosen rs version t period filter given → rows ≡ given → AreFull rs m session a rows
+rows_are_full rs m session a filter t period version rows given newest are same = record { full = full }
+  where
+    listed : IsShowing (parts_of rs) (latest (parts_of rs) session.space) t.number t.valid period are.all
+    listed = subst (λ v. IsShowing (parts_of rs) v t.number t.valid period are.all) newest are.listed
+
+    full : (xs : List Session) (s : State) (w : Workspace) → StandsAt rs xs m s → IsHome s session a w → list_all is_full_row rows ≡ true
+    full xs s w st home =
+        ap (list_all is_full_row) (same ∙ are.are)
+        ∙ ap (λ all. list_all is_full_row (chosen t filter all)) (showing_is (parts_of rs) s.durable session.space w t.number t.valid period are.all st.stands home.is listed)
+        ∙ chosen_full t filter (rows_in period (content w) t) (rows_full period (content w) t (content_full s.durable session.space w st.lawful.durable home.is))
+
 -- ---- DELETE
 
 -- what is wrong with it
@@ -63,7 +80,7 @@ delete_faults filter = λ table. delete_fault table filter
 
 -- what it does with rows
 abbrev pub deletes : Session → OnRows
-deletes session = λ table period rows. unless_empty rows (λ kept. write_ascending session.user table (length kept) (map (gone table period) kept))
+deletes session = λ table period rows. write_ascending session.user table (length rows) (map (gone table period) rows)
 
 abbrev pub delete_acts : Session → Option Cond → Acts
 delete_acts session filter = with_rows session (on_chosen filter (deletes session))
@@ -74,7 +91,7 @@ abbrev pub update_faults : List Set → Option Cond → Table → Option Refusal
 update_faults sets filter = λ table. update_fault table sets filter
 
 abbrev pub updates : Session → List Set → OnRows
-updates session sets = λ table period rows. unless_empty rows (λ kept. replace_all session.user table period sets kept (updated_rows table sets kept))
+updates session sets = λ table period rows. replace_all session.user table period sets rows (updated_rows table sets rows)
 
 abbrev pub update_acts : Session → List Set → Option Cond → Acts
 update_acts session sets filter = with_rows session (on_chosen filter (updates session sets))

@@ -2,10 +2,12 @@
 use Rattle.std.specs.Prelude.{ℕ, ◌≡◌, true, List, length, Option, Some, None}
 use Rattle.std.specs.List.{list_all}
 use Rattle.wm_base.specs.Trees.{Cond, Set}
-use Rattle.wm_graph.specs.Rules.{is_table}
+use Rattle.wm_base.specs.declared.row.Row.{Row}
+use Rattle.wm_graph.specs.Rules.{has_key, is_table}
 use Rattle.wm_spec.specs.declared.record.table.Table.{Table}
 use Rattle.wm_spec.specs.Expressions.{has_no_empty_period}
 use Rattle.wm_typing.specs.Changing.{update_fault}
+use Rattle.wm_model.specs.Lawful.{is_full_row}
 use Rattle.wm_model.specs.Planning.{StandsAt}
 use Rattle.wm_print.specs.Texts.{Answer}
 use Rattle.wm_spec.specs.declared.record.space.Space.{Space}
@@ -34,5 +36,9 @@ pub record IsUpdate (t : Table) (sets : List Set) : Type 0 where
   pub filter : Option Cond
   pub fine : update_fault t sets filter ≡ None
   pub well : is_table t ≡ true
-  pub keyed : t.has_key ≡ true
+  pub keyed : has_key t ≡ true
   pub lasting : list_all (λ (x : Set). has_no_empty_period x.becomes) sets ≡ true
+
+-- no text in the rows is empty, in each state that records and a moment stand for
+pub record AreFull (rs : List Stored) (m : ℕ) (session : Session) (a : Space) (rows : List Row) : Type 0 where
+  pub full : (xs : List Session) (s : State) (w : Workspace) → StandsAt rs xs m s → IsHome s session a w → list_all is_full_row rows ≡ true

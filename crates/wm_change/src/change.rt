@@ -7,14 +7,15 @@ ghost use Rattle.wm_base.specs.Trees.{Set as SetTree};
 ghost use Rattle.wm_base.specs.Views.{filter_view, sets_view};
 ghost use Rattle.wm_dml.specs.Changing.{all_overlap, gone, updated_rows};
 ghost use Rattle.wm_dml.specs.Standing.{MayReplace, all_stand};
-ghost use Rattle.wm_change.specs.Acting.{DoesAs, IsUpdate};
+ghost use Rattle.wm_change.specs.Acting.{AreFull, DoesAs, IsUpdate};
 ghost use Rattle.wm_chosen.specs.Chosen.{are_keyed};
 ghost use Rattle.wm_plan.specs.Idle.{Idles};
 ghost use Rattle.wm_plan.specs.Planning.{DoesIt};
 ghost use Rattle.wm_graph.specs.Parts.{parts_of, space_of, table_of};
 ghost use Rattle.wm_graph.specs.Rules.{keep_rules};
 ghost use Rattle.wm_making.specs.Rows.{is_filled};
-ghost use Rattle.wm_model.specs.Step.{change_all, delete, replace_all, unless_empty, update, write_ascending};
+ghost use Rattle.wm_model.specs.Planning.{IsOpen};
+ghost use Rattle.wm_model.specs.Step.{change_all, delete, replace_all, update, write_ascending};
 ghost use Rattle.wm_spec.specs.Expressions.{has_no_empty_period};
 ghost use Rattle.wm_state.specs.State.{Session as SessionState};
 
@@ -70,7 +71,7 @@ fn are_filled(rows: &[Row]) -> bool
     true
 }
 
-/// Makes the rows gone, unless a text in them is empty.
+/// Makes the rows gone. No text in them is empty in a state that the records stand for.
 fn delete_rows(
     alloc: Global,
     image: &Image,
@@ -84,10 +85,12 @@ fn delete_rows(
     requires rules { keep_rules (parts_of image.now) ≡ true }
     requires moment { moment < END }
     requires there { table_of (parts_of image.now).tables table.now.number ≡ Some table.now }
+    requires on { table.now.versioned ≡ true }
     requires home { space_of (parts_of image.now).spaces session.now.space ≡ Some space.now }
     requires keyed { are_keyed table.now rows.now ≡ true }
+    requires full { AreFull image.now moment session.now space.now rows.now }
     requires overlap { all_overlap table.now within.now rows.now ≡ true }
-    ensures does { IfOk result (DoesAs image.now moment session.now space.now (unless_empty rows.now (λ kept. write_ascending session.now.user table.now (length kept) (map (gone table.now within.now) kept)))) }
+    ensures does { IfOk result (DoesAs image.now moment session.now space.now (write_ascending session.now.user table.now (length rows.now) (map (gone table.now within.now) rows.now))) }
     ensures idle { IfOk result Idles }
 {
     if !are_filled(rows) {
@@ -110,7 +113,7 @@ pub fn delete(
 ) -> Result<Planned, Memory>
     requires rules { keep_rules (parts_of image.now) ≡ true }
     requires moment { moment < END }
-    ensures does { IfOk result (λ p. (xs : List SessionState) → DoesIt image.now xs moment p (delete session.now name.now (filter_view filter.now) empty)) }
+    ensures does { IfOk result (λ p. (xs : List SessionState) → IsOpen xs session.now → DoesIt image.now xs moment p (delete session.now name.now (filter_view filter.now) empty)) }
     ensures idle { IfOk result Idles }
 {
     let Some(table) = image.table(name.as_bytes()) else {
@@ -162,6 +165,7 @@ fn change_all(
     requires rules { keep_rules (parts_of image.now) ≡ true }
     requires moment { moment < END }
     requires there { table_of (parts_of image.now).tables table.now.number ≡ Some table.now }
+    requires on { table.now.versioned ≡ true }
     requires home { space_of (parts_of image.now).spaces session.now.space ≡ Some space.now }
     requires lasting { list_all (λ (s : SetTree). has_no_empty_period s.becomes) (sets_view sets.now) ≡ true }
     requires stand { all_stand table.now rows.now ≡ true }
@@ -194,6 +198,7 @@ fn replace_all(
     requires rules { keep_rules (parts_of image.now) ≡ true }
     requires moment { moment < END }
     requires there { table_of (parts_of image.now).tables table.now.number ≡ Some table.now }
+    requires on { table.now.versioned ≡ true }
     requires home { space_of (parts_of image.now).spaces session.now.space ≡ Some space.now }
     requires update { IsUpdate table.now (sets_view sets.now) }
     requires stand { all_stand table.now rows.now ≡ true }
@@ -214,7 +219,7 @@ fn replace_all(
     )
 }
 
-/// Writes what the sets make of the rows, unless a text in them is empty.
+/// Writes what the sets make of the rows. No text in them is empty in a state that the records stand for.
 fn update_rows(
     alloc: Global,
     image: &Image,
@@ -229,11 +234,13 @@ fn update_rows(
     requires rules { keep_rules (parts_of image.now) ≡ true }
     requires moment { moment < END }
     requires there { table_of (parts_of image.now).tables table.now.number ≡ Some table.now }
+    requires on { table.now.versioned ≡ true }
     requires home { space_of (parts_of image.now).spaces session.now.space ≡ Some space.now }
     requires update { IsUpdate table.now (sets_view sets.now) }
     requires keyed { are_keyed table.now rows.now ≡ true }
+    requires full { AreFull image.now moment session.now space.now rows.now }
     requires overlap { all_overlap table.now within.now rows.now ≡ true }
-    ensures does { IfOk result (DoesAs image.now moment session.now space.now (unless_empty rows.now (λ kept. replace_all session.now.user table.now within.now (sets_view sets.now) kept (updated_rows table.now (sets_view sets.now) kept)))) }
+    ensures does { IfOk result (DoesAs image.now moment session.now space.now (replace_all session.now.user table.now within.now (sets_view sets.now) rows.now (updated_rows table.now (sets_view sets.now) rows.now))) }
     ensures idle { IfOk result Idles }
 {
     if !are_filled(rows) {
@@ -259,7 +266,7 @@ pub fn update(
     requires moment { moment < END }
     // Where it has no empty period, none of its sets has one.
     requires lasting { empty ≡ false → list_all (λ (s : SetTree). has_no_empty_period s.becomes) (sets_view sets.now) ≡ true }
-    ensures does { IfOk result (λ p. (xs : List SessionState) → DoesIt image.now xs moment p (update session.now name.now (sets_view sets.now) (filter_view filter.now) empty)) }
+    ensures does { IfOk result (λ p. (xs : List SessionState) → IsOpen xs session.now → DoesIt image.now xs moment p (update session.now name.now (sets_view sets.now) (filter_view filter.now) empty)) }
     ensures idle { IfOk result Idles }
 {
     let Some(table) = image.table(name.as_bytes()) else {

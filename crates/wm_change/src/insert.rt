@@ -11,6 +11,7 @@ ghost use Rattle.wm_plan.specs.Planning.{DoesIt};
 ghost use Rattle.wm_graph.specs.Parts.{parts_of, space_of, table_of};
 ghost use Rattle.wm_graph.specs.Rules.{keep_rules};
 ghost use Rattle.wm_making.specs.Rows.{is_filled, row_of};
+ghost use Rattle.wm_model.specs.Planning.{IsOpen};
 ghost use Rattle.wm_model.specs.Step.{add_found, add_to, insert, new_period, told_period};
 ghost use Rattle.wm_spec.specs.Expressions.{has_no_empty_period};
 ghost use Rattle.wm_state.specs.State.{Session as SessionState};
@@ -85,6 +86,7 @@ fn add_to(
     requires rules { keep_rules (parts_of image.now) ≡ true }
     requires moment { moment < END }
     requires there { table_of (parts_of image.now).tables table.now.number ≡ Some table.now }
+    requires on { table.now.versioned ≡ true }
     requires home { space_of (parts_of image.now).spaces session.now.space ≡ Some space.now }
     requires keyed { is_keyed_row table.now row ≡ true }
     requires filled { list_all is_filled row ≡ true }
@@ -146,7 +148,7 @@ fn add_found(
     requires moment { moment < END }
     requires fine { IsFine image.now insertion }
     requires lasting { empty ≡ false → list_all has_no_empty_period (exprs_view insertion.values.now) ≡ true }
-    ensures does { IfOk result (λ p. (xs : List SessionState) → DoesIt image.now xs moment p (insert session.now insertion.entry.name.now insertion.entry.names.now (exprs_view insertion.entry.values.now) empty)) }
+    ensures does { IfOk result (λ p. (xs : List SessionState) → IsOpen xs session.now → DoesIt image.now xs moment p (insert session.now insertion.entry.name.now insertion.entry.names.now (exprs_view insertion.entry.values.now) empty)) }
     ensures idle { IfOk result Idles }
 {
     let Some(space) = image.space(session.space()) else {
@@ -176,7 +178,7 @@ pub fn insert(
     requires moment { moment < END }
     // Where it has no empty period, none of its values has one.
     requires lasting { empty ≡ false → list_all has_no_empty_period (exprs_view values.now) ≡ true }
-    ensures does { IfOk result (λ p. (xs : List SessionState) → DoesIt image.now xs moment p (insert session.now name.now names.now (exprs_view values.now) empty)) }
+    ensures does { IfOk result (λ p. (xs : List SessionState) → IsOpen xs session.now → DoesIt image.now xs moment p (insert session.now name.now names.now (exprs_view values.now) empty)) }
     ensures idle { IfOk result Idles }
 {
     let Some(table) = image.table(name.as_bytes()) else {

@@ -101,6 +101,7 @@ pub fn move_all(
     requires rules { keep_rules (parts_of image.now) ≡ true }
     requires moment { moment < END }
     requires there { table_of (parts_of image.now).tables table.now.number ≡ Some table.now }
+    requires on { table.now.versioned ≡ true }
     requires home { space_of (parts_of image.now).spaces session.now.space ≡ Some space.now }
     requires fit { list_all (λ (m : MoveOf). is_change table.now (moved_row m)) moves.items ≡ true }
     requires filled { list_all (λ (m : MoveOf). is_filled_change (moved_row m)) moves.items ≡ true }

@@ -71,6 +71,7 @@ pub fn write_all(
     requires rules { keep_rules (parts_of image.now) ≡ true }
     requires moment { moment < END }
     requires there { table_of (parts_of image.now).tables table.now.number ≡ Some table.now }
+    requires on { table.now.versioned ≡ true }
     requires home { space_of (parts_of image.now).spaces session.now.space ≡ Some space.now }
     requires fit { list_all (is_change table.now) changes.items ≡ true }
     requires last { list_all change_lasts changes.items ≡ true }

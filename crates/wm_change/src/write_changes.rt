@@ -93,8 +93,9 @@ pub fn write_changes(
     requires moment { moment < END }
     requires some { nat_lt 0 (length changes.items) ≡ true }
     requires counted { nat_lt 0 writing.now.rows_changed ≡ true }
-    // The table and the workspace are the image's, and so are the counters.
+    // The table, which is in workspaces, and the workspace are the image's, and so are the counters.
     requires there { table_of (parts_of image.now).tables writing.now.table.now.number ≡ Some writing.now.table.now }
+    requires on { writing.now.table.now.versioned ≡ true }
     requires space { space_of (parts_of image.now).spaces session.now.space ≡ Some writing.now.space.now }
     requires one { (parts_of image.now).counters ≡ writing.now.counters ∷ [] }
     // The changes fit the table and stand by key, each over a period that has a moment, and no text in them is empty.

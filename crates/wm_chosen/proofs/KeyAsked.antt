@@ -1,5 +1,5 @@
 -- A condition is true on no row whose value in a column is another than the constant that it asks of the column.
-use Rattle.std.proofs.Common.{◌≡◌, ℕ, Bool, true, false, if◌then◌else◌, List, [], ◌∷◌, slice_get, Option, Some, None, Result, Ok, Err, IfOk, IfSome, option_and_then, unwrap_or, refl, sym, ap, ◌∙◌}
+use Rattle.std.proofs.Common.{◌≡◌, ℕ, ◌<◌, Bool, true, false, if◌then◌else◌, List, [], ◌∷◌, length, nat_lt, get_or, slice_get, Option, Some, None, Result, Ok, Err, IfOk, IfSome, option_and_then, option_map, unwrap_or, refl, sym, ap, ◌∙◌, arith}
 use Rattle.std.proofs.lemmas.Bool.{eqb-true}
 use Rattle.std.specs.List.{position}
 use Rattle.std.specs.Option.{option_or}
@@ -22,7 +22,7 @@ use Rattle.wm_base.specs.declared.truth.Truth.TheVariants.{Yes, No, Unknown}
 use Rattle.wm_base.specs.declared.value.Value.{Value}
 use Rattle.wm_base.specs.declared.value.Value.TheVariants as values
 use Rattle.wm_dml.specs.Changing.{own_columns}
-use Rattle.wm_graph.specs.Rules.{key_of}
+use Rattle.wm_graph.specs.Rules.{key_of, values_at}
 use Rattle.wm_spec.specs.Conditions.{is_yes, test, truth_if, truth_in, truth_of}
 use Rattle.wm_spec.specs.Operands.{constant_value, is_named, operand_value, suffixed}
 use Rattle.wm_spec.specs.declared.record.table.Table.{Table}
@@ -149,21 +149,29 @@ asked_there columns place (IsNull what negated) constant row is e = absurd (none
 asked_there columns place (OneOf what negated list) constant row is e = absurd (none_some constant is)
 asked_there columns place (Between what negated low high) constant row is e = absurd (none_some constant is)
 
+-- a list of one
+pub alone : (places : List ℕ) → 0 < length places → length places < 2 → places ≡ get_or places 0 0 ∷ []
+alone [] some few = absurd (omega arith)
+alone (place ∷ []) some few = refl
+alone (place ∷ other ∷ places) some few = absurd (omega arith)
+
 -- a row with a value at the place of the key is under the key of that value
-pub key_there : (t : Table) (v : Value) (row : List Value) → t.has_key ≡ true → slice_get row t.key_column ≡ Some v → key_of t row ≡ Some (v ∷ [])
-key_there t v row has e = ap (λ (o : Option Value). option_and_then (λ w. if t.has_key then Some (w ∷ []) else None) o) e ∙ ap (λ b. if b then Some (v ∷ []) else None) has
+pub key_there : (t : Table) (place : ℕ) (v : Value) (row : List Value) → t.key_columns ≡ place ∷ [] → slice_get row place ≡ Some v → key_of t row ≡ Some (v ∷ [])
+key_there t place v row one e =
+    ap (λ places. if nat_lt 0 (length places) then values_at places row else None) one
+    ∙ ap (λ (o : Option Value). option_and_then (λ w. option_map (λ ws. w ∷ ws) (Some [])) o) e
 
 -- so it fixes the key, where the place is that of the key
-pub fixes_key : (t : Table) (condition : Cond) (constant : Const) → t.has_key ≡ true → asked (own_columns t) t.key_column condition ≡ Some constant → FixesKey t (Some condition) (constant_value constant ∷ [])
+pub fixes_key : (t : Table) (place : ℕ) (condition : Cond) (constant : Const) → t.key_columns ≡ place ∷ [] → asked (own_columns t) place condition ≡ Some constant → FixesKey t (Some condition) (constant_value constant ∷ [])
 unfolding truth_of
-fixes_key t condition constant has is = record { under = λ row e. key_there t (constant_value constant) row.values has (asked_there (own_columns t) t.key_column condition constant row.values is e) }
+fixes_key t place condition constant one is = record { under = λ row e. key_there t place (constant_value constant) row.values one (asked_there (own_columns t) place condition constant row.values is e) }
 
 -- the same of the key that was made of the constant that was found
 pub key_fixed : (r : Result (Option (List Value)) Memory) (t : Table) (condition : Option Cond) (cond : Cond) (columns : List Column) (place : ℕ) (found : Option Const) (constant : Const) → condition ≡ Some cond
-    → columns ≡ own_columns t → place ≡ t.key_column → t.has_key ≡ true → found ≡ asked columns place cond → found ≡ Some constant → IfOk r (λ made. IfSome made (λ key. key ≡ constant_value constant ∷ []))
+    → columns ≡ own_columns t → t.key_columns ≡ place ∷ [] → found ≡ asked columns place cond → found ≡ Some constant → IfOk r (λ made. IfSome made (λ key. key ≡ constant_value constant ∷ []))
     → IfOk r (λ made. IfSome made (FixesKey t condition))
-key_fixed (Ok (Some key)) t condition cond columns place found constant some own at has is there made =
+key_fixed (Ok (Some key)) t condition cond columns place found constant some own one is there made =
     rw (some, made)
-    (fixes_key t cond constant has (ap (λ (cs : List Column). asked cs t.key_column cond) (sym own) ∙ ap (λ n. asked columns n cond) (sym at) ∙ sym is ∙ there))
-key_fixed (Ok None) t condition cond columns place found constant some own at has is there made = tt
-key_fixed (Err e) t condition cond columns place found constant some own at has is there made = tt
+    (fixes_key t place cond constant one (ap (λ (cs : List Column). asked cs place cond) (sym own) ∙ sym is ∙ there))
+key_fixed (Ok None) t condition cond columns place found constant some own one is there made = tt
+key_fixed (Err e) t condition cond columns place found constant some own one is there made = tt

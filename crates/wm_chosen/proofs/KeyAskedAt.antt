@@ -1,5 +1,5 @@
 -- No tuple that a query keeps has another key at a table than the one that its conditions ask for.
-use Rattle.std.proofs.Common.{◌≡◌, ℕ, ◌+◌, ◌<◌, ◌≤◌, nat_lt, ◌&&◌, true, if◌then◌else◌, List, [], ◌∷◌, ◌++◌, length, get_or, slice_get, Option, Some, None, Result, Ok, Err, IfOk, IfSome, append_assoc, arith, sym, ap, subst, ◌∙◌}
+use Rattle.std.proofs.Common.{◌≡◌, ℕ, ◌+◌, ◌<◌, ◌≤◌, nat_lt, nat_le, ◌&&◌, true, List, [], ◌∷◌, ◌++◌, length, get_or, slice_get, Option, Some, None, Result, Ok, Err, IfOk, IfSome, append_assoc, arith, sym, ap, subst, ◌∙◌}
 use Rattle.std.proofs.lemmas.Bool.{and_parts}
 use Rattle.std.proofs.lemmas.List.{get_or_append_left, get_or-append-add}
 use Rattle.std.proofs.lemmas.Option.{get_or_from_slice_get, slice_get-get_or}
@@ -9,6 +9,8 @@ use Rattle.wm_base.specs.declared.memory.Memory.{Memory}
 use Rattle.wm_base.specs.declared.row.Row.{Row}
 use Rattle.wm_base.specs.declared.tree.constant.Const.{Const}
 use Rattle.wm_base.specs.declared.value.Value.{Value}
+use Rattle.std.specs.List.{list_all}
+use Rattle.wm_graph.proofs.Keyed.{table_keyed}
 use Rattle.wm_graph.specs.Rules.{is_table, key_of}
 use Rattle.wm_select.specs.Query.{is_kept, meets, meets_each}
 use Rattle.wm_select.specs.Tuples.{beside}
@@ -48,29 +50,30 @@ in_middle xs ys zs i v within e =
     slice_get-get_or ys i v within ∙ ap (λ (w : Value). Some w) (sym (get_or_append_left ys zs v i within) ∙ sym (get_or-append-add xs (ys ++ zs) i v) ∙ there)
 
 -- the key is one of the columns
-key_inside : (t : Table) → is_table t ≡ true → t.has_key ≡ true → t.key_column < length t.columns
-key_inside t well has =
-    let h = and_parts _ ((if t.has_key then nat_lt t.key_column (length t.columns) else true) && (if t.versioned then t.has_key else true)) well in
-    let inside : (if t.has_key then nat_lt t.key_column (length t.columns) else true) ≡ true = (and_parts (if t.has_key then nat_lt t.key_column (length t.columns) else true) (if t.versioned then t.has_key else true) h.1).0 in
-    let lt : nat_lt t.key_column (length t.columns) ≡ true = ap (λ b. if b then nat_lt t.key_column (length t.columns) else true) (sym has) ∙ inside in
+key_inside : (t : Table) (place : ℕ) → is_table t ≡ true → t.key_columns ≡ place ∷ [] → place < length t.columns
+key_inside t place well one =
+    let all : (nat_lt place (length t.columns) && true) ≡ true = ap (list_all (λ (place : ℕ). nat_lt place (length t.columns))) (sym one) ∙ (and_parts (nat_le (length t.key_columns) 1) (list_all (λ (place : ℕ). nat_lt place (length t.columns)) t.key_columns) (table_keyed t well)).1 in
+    let lt = (and_parts (nat_lt place (length t.columns)) true all).0 in
     grind (arith, lt)
 
-fixes_key_at : (t : Table) (query : Query) (columns : List Column) (before : ℕ) (constant : Const) → is_table t ≡ true → t.has_key ≡ true → asked_by columns (before + t.key_column) query ≡ Some constant
+fixes_key_at : (t : Table) (query : Query) (columns : List Column) (before place : ℕ) (constant : Const) → is_table t ≡ true → t.key_columns ≡ place ∷ [] → asked_by columns (before + place) query ≡ Some constant
     → FixesKeyAt t (is_kept query columns) before (constant_value constant ∷ [])
-fixes_key_at t query columns before constant well has is = record { under = under }
+fixes_key_at t query columns before place constant well one is = record { under = under }
   where
-    under : (one row other : Row) → length one.values ≡ before → length t.columns ≤ length row.values → is_kept query columns (beside (beside one row) other) ≡ true → key_of t row.values ≡ Some (constant_value constant ∷ [])
-    under one row other behind wide e =
-        let inside : t.key_column < length t.columns = key_inside t well has in
-        key_there t (constant_value constant) row.values has
-        (in_middle one.values row.values other.values t.key_column (constant_value constant) (omega (arith, inside, wide))
-        (ap (λ n. slice_get ((one.values ++ row.values) ++ other.values) (n + t.key_column)) behind ∙ asked_kept columns (before + t.key_column) query constant (beside (beside one row) other) is e))
+    inside : place < length t.columns
+    inside = key_inside t place well one
+
+    under : (first row other : Row) → length first.values ≡ before → length t.columns ≤ length row.values → is_kept query columns (beside (beside first row) other) ≡ true → key_of t row.values ≡ Some (constant_value constant ∷ [])
+    under first row other behind wide e =
+        key_there t place (constant_value constant) row.values one
+        (in_middle first.values row.values other.values place (constant_value constant) (let near = inside in omega (arith, near, wide))
+        (ap (λ n. slice_get ((first.values ++ row.values) ++ other.values) (n + place)) behind ∙ asked_kept columns (before + place) query constant (beside (beside first row) other) is e))
 
 -- so the key that was made of it is that of each tuple that is kept
-pub key_fixed_at : (r : Result (Option (List Value)) Memory) (t : Table) (query : Query) (columns : List Column) (before place : ℕ) (found : Option Const) (constant : Const) → is_table t ≡ true → t.has_key ≡ true
-    → place ≡ before + t.key_column → found ≡ asked_by columns place query → found ≡ Some constant → IfOk r (λ made. IfSome made (λ key. key ≡ constant_value constant ∷ []))
+pub key_fixed_at : (r : Result (Option (List Value)) Memory) (t : Table) (query : Query) (columns : List Column) (before key place : ℕ) (found : Option Const) (constant : Const) → is_table t ≡ true → t.key_columns ≡ key ∷ []
+    → place ≡ before + key → found ≡ asked_by columns place query → found ≡ Some constant → IfOk r (λ made. IfSome made (λ key. key ≡ constant_value constant ∷ []))
     → IfOk r (λ made. IfSome made (FixesKeyAt t (is_kept query columns) before))
-key_fixed_at (Ok (Some key)) t query columns before place found constant well has at is there made =
-    subst (FixesKeyAt t (is_kept query columns) before) (sym made) (fixes_key_at t query columns before constant well has (ap (λ n. asked_by columns n query) (sym at) ∙ sym is ∙ there))
-key_fixed_at (Ok None) t query columns before place found constant well has at is there made = tt
-key_fixed_at (Err e) t query columns before place found constant well has at is there made = tt
+key_fixed_at (Ok (Some made_key)) t query columns before key place found constant well one at is there made =
+    subst (FixesKeyAt t (is_kept query columns) before) (sym made) (fixes_key_at t query columns before key constant well one (ap (λ n. asked_by columns n query) (sym at) ∙ sym is ∙ there))
+key_fixed_at (Ok None) t query columns before key place found constant well one at is there made = tt
+key_fixed_at (Err e) t query columns before key place found constant well one at is there made = tt

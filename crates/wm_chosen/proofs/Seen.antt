@@ -1,6 +1,6 @@
 -- What is known of a row that is shown: its declared values are a row of its table, it fits the columns, its key is that of its declared values, and
 -- its period overlaps the asked one.
-use Rattle.std.proofs.Common.{◌≡◌, ℕ, zero, suc, ◌==◌, ◌||◌, Bool, true, false, if◌then◌else◌, List, [], ◌∷◌, ◌++◌, map, length, take, drop, slice_get, Option, Some, None, option_and_then, unwrap_or, refl, sym, ap, ◌∙◌, append-nil}
+use Rattle.std.proofs.Common.{◌≡◌, ℕ, zero, suc, ◌==◌, ◌||◌, Bool, true, false, if◌then◌else◌, List, [], ◌∷◌, ◌++◌, map, length, take, drop, slice_get, Option, Some, None, option_and_then, option_map, unwrap_or, refl, sym, ap, ◌∙◌, append-nil}
 use Rattle.std.proofs.lemmas.List.{take-append-drop}
 use Rattle.wm_base.specs.Period.{Span, always, overlaps}
 use Rattle.wm_base.specs.Value.{type_place}
@@ -8,9 +8,10 @@ use Rattle.wm_base.specs.declared.columns.Column.{Column}
 use Rattle.wm_base.specs.declared.row.Row.{Row}
 use Rattle.wm_base.specs.declared.value.Value.{Value}
 use Rattle.wm_base.specs.declared.value.Value.TheVariants as values
+use Rattle.wm_dml.proofs.Changed.{same_key}
 use Rattle.wm_dml.specs.Changing.{declared_values, row_key, row_period}
 use Rattle.wm_dml.specs.Standing.{is_lasting, is_period_alone}
-use Rattle.wm_graph.specs.Rules.{fit_columns, fits_column, is_key, is_key_of, is_row_of, key_of, type_of}
+use Rattle.wm_graph.specs.Rules.{fit_columns, fits_column, has_key, is_key, is_key_of, is_row_of, key_of, type_of, values_at}
 use Rattle.wm_spec.specs.Conditions.{fits}
 use Rattle.wm_spec.specs.Operands.{fits_columns, period_of}
 use Rattle.wm_spec.specs.declared.record.column.ColumnKind.{ColumnKind}
@@ -53,16 +54,29 @@ kept [] more i v e = absurd (none_some e)
 kept (w ∷ vs) more zero v e = e
 kept (w ∷ vs) more (suc i) v e = kept vs more i v e
 
+-- a value in front of others, where all of them are there
+abbrev in_front : Option Value → Option (List Value) → Option (List Value)
+in_front o rest = option_and_then (λ v. option_map (λ ws. v ∷ ws) rest) o
+
+-- so do the values at places
+values_kept : (places : List ℕ) (vs more : List Value) → (values_at places vs ≡ None → ⊥) → values_at places (vs ++ more) ≡ values_at places vs
+values_kept [] vs more there = refl
+values_kept (place ∷ places) vs more there = by_value (slice_get vs place) refl (values_kept places vs more)
+  where
+    by_value : (o : Option Value) → slice_get vs place ≡ o → ((values_at places vs ≡ None → ⊥) → values_at places (vs ++ more) ≡ values_at places vs) → values_at (place ∷ places) (vs ++ more) ≡ values_at (place ∷ places) vs
+    by_value None e rest = absurd (there (ap (λ (o : Option Value). in_front o (values_at places vs)) e))
+    by_value (Some v) e rest =
+        ap (λ (o : Option Value). in_front o (values_at places (vs ++ more))) (kept vs more place v e)
+        ∙ ap (in_front (Some v)) (rest (λ (none : values_at places vs ≡ None). there (ap (λ (o : Option Value). in_front o (values_at places vs)) e ∙ ap (in_front (Some v)) none)))
+        ∙ ap (λ (o : Option Value). in_front o (values_at places vs)) (sym e)
+
 -- so the key is what it was, where there was one
 key_kept : (t : Table) (vs more : List Value) → (key_of t vs ≡ None → ⊥) → key_of t (vs ++ more) ≡ key_of t vs
-key_kept t vs more there = by_value (slice_get vs t.key_column) refl
+key_kept t vs more there = by_key (has_key t) there
   where
-    keyed : Option Value → Option (List Value)
-    keyed o = option_and_then (λ v. if t.has_key then Some (v ∷ []) else None) o
-
-    by_value : (o : Option Value) → slice_get vs t.key_column ≡ o → key_of t (vs ++ more) ≡ key_of t vs
-    by_value None e = absurd (there (ap keyed e))
-    by_value (Some v) e = ap keyed (kept vs more t.key_column v e ∙ sym e)
+    by_key : (b : Bool) → ((if b then values_at t.key_columns vs else None) ≡ None → ⊥) → (if b then values_at t.key_columns (vs ++ more) else None) ≡ (if b then values_at t.key_columns vs else None)
+    by_key true there = values_kept t.key_columns vs more there
+    by_key false there = refl
 
 -- ---- a row of a table fits its columns
 
@@ -149,7 +163,7 @@ keyed_key t r is = by_valid t.valid (both (is_row_of (declared_values t r.values
     by_valid : (valid : Bool) → is_key_of (row_key t (declared_in valid t.columns r.values)) t ≡ true → key_of t r.values ≡ key_of t (declared_in valid t.columns r.values)
     by_valid true e =
         ap (key_of t) (sym (take-append-drop (length t.columns) r.values))
-        ∙ key_kept t (take (length t.columns) r.values) (drop (length t.columns) r.values) (λ none. bool_apart (sym e ∙ ap (λ (o : Option (List Value)). is_key_of (unwrap_or o []) t) none))
+        ∙ key_kept t (take (length t.columns) r.values) (drop (length t.columns) r.values) (λ none. bool_apart (sym (same_key t (take (length t.columns) r.values) e) ∙ ap (is_key (row_key t (take (length t.columns) r.values))) none))
     by_valid false e = refl
 
 abbrev period_in : Bool → List TableColumn → List Value → Span

@@ -115,13 +115,13 @@ pub fn key_asked(
     requires { columns.now ≡ own_columns table.now }
     ensures { IfOk result (λ found. IfSome found (FixesKey table.now (filter_view filter.now))) }
 {
-    if !table.has_key {
+    let [key] = table.key_columns.as_slice() else {
         return Ok(None);
-    }
+    };
     let Some(cond) = filter else {
         return Ok(None);
     };
-    let place = usize::from(table.key_column);
+    let place = usize::from(*key);
     match asked(columns.as_slice(), place, cond) {
         Some(constant) => key_of_constant(alloc, constant),
         None => Ok(None),
@@ -173,10 +173,10 @@ pub fn key_asked_at(
     requires room { before + length table.now.columns ≤ length columns.now }
     ensures { IfOk result (λ found. IfSome found (FixesKeyAt table.now (is_kept (query_view query.now) columns.now) before)) }
 {
-    if !table.has_key {
+    let [key] = table.key_columns.as_slice() else {
         return Ok(None);
-    }
-    let place = before + usize::from(table.key_column);
+    };
+    let place = before + usize::from(*key);
     match asked_by(columns, place, query) {
         Some(constant) => key_of_constant(alloc, constant),
         None => Ok(None),

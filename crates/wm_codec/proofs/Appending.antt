@@ -1,5 +1,5 @@
 -- Fields that are written one behind the other.
-use Rattle.std.proofs.Common.{◌≡◌, ℕ, ◌<◌, List, [], ◌∷◌, ◌++◌, length, refl, sym, ap, ◌∙◌, append_assoc, Result, Ok, Err, OnOk}
+use Rattle.std.proofs.Common.{◌≡◌, ℕ, ◌<◌, List, [], ◌∷◌, ◌++◌, length, sym, ap, ◌∙◌, append_assoc, get_or, Result, Ok, Err, OnOk}
 use Rattle.std.specs.List.{flat_map, AllByRecursion}
 use Rattle.std.proofs.lemmas.Grind.{flat_map-append}
 use Rattle.std.proofs.lemmas.List.{append-nil}
@@ -44,11 +44,14 @@ with_count format old mid new xs short p q = record {
 
 -- ---- records
 
--- the byte of a kind, and the fields behind it
-pub tagged : {A : Type 0} (answer : Result (Unit {0}) Memory) (format : Format A) (tag : ℕ) (old mid new : List ℕ) (it : A) (r : Record) → spelling r ≡ tag ∷ format.spell it → (format.Fits it → HasSpelling r) → mid ≡ old ++ tag ∷ []
-    → OnOk answer (Appends format mid new it) → OnOk answer (AppendsRecord old new r)
-tagged (Ok x) format tag old mid new it r spelled fits p q = record {
-  is = q.is ∙ ap (λ t. t ++ format.spell it) p ∙ append_assoc old (tag ∷ []) (format.spell it) ∙ ap (λ t. old ++ t) (sym spelled);
-  fits = fits q.fits;
-}
-tagged (Err e) format tag old mid new it r spelled fits p q = tt
+-- the byte with which the spelling of a record begins, and its fields behind it
+pub tagged : {A : Type 0} (answer : Result (Unit {0}) Memory) (format : Format A) (tag byte : ℕ) (old mid new : List ℕ) (it : A) (r : Record) → spelling r ≡ tag ∷ format.spell it → (format.Fits it → HasSpelling r)
+    → get_or (spelling r) 0 0 ≡ byte → mid ≡ old ++ byte ∷ [] → OnOk answer (Appends format mid new it) → OnOk answer (AppendsRecord old new r)
+tagged (Ok x) format tag byte old mid new it r spelled fits begins p q =
+    let first : tag ≡ byte = ap (λ bytes. get_or bytes 0 0) (sym spelled) ∙ begins in
+    let put : mid ≡ old ++ tag ∷ [] = rw first p in
+    record {
+      is = q.is ∙ ap (λ t. t ++ format.spell it) put ∙ append_assoc old (tag ∷ []) (format.spell it) ∙ ap (λ t. old ++ t) (sym spelled);
+      fits = fits q.fits;
+    }
+tagged (Err e) format tag byte old mid new it r spelled fits begins p q = tt

@@ -1,12 +1,11 @@
 -- The format of each kind of field is exact.
-use Rattle.std.proofs.Common.{◌≡◌, ℕ, ℤ, zero, suc, ◌+◌, ◌-◌, ◌^◌, ◌<◌, ◌≤◌, Bool, true, false, cond, eqb, ltb, leb, List, [], ◌∷◌, ◌++◌, length, get_or, take, drop, Option, Some, None, refl, sym, ap, subst, ◌∙◌, append_assoc, arith, inl, inr, FitsSigned, Fits, rules}
+use Rattle.std.proofs.Common.{◌≡◌, ℕ, ◌^◌, ◌<◌, ◌≤◌, Bool, true, false, cond, ltb, List, [], ◌∷◌, ◌++◌, length, take, drop, Option, Some, None, refl, sym, ap, subst, ◌∙◌, append_assoc, arith, FitsSigned, Fits, rules}
 use Rattle.std.specs.Int.{Width, w16, w32, w64, byte_len, from_be_bytes, to_be_bytes, cast_unsigned, cast_signed}
-use Rattle.std.specs.List.{flat_map, AllByRecursion}
-use Rattle.std.specs.Option.{option_and_then, option_map}
-use Rattle.std.proofs.lemmas.Bool.{cases_lt, ltb-false, le-ltb, eqb-true, eqb-false, leb-true, le-leb}
+use Rattle.std.specs.Option.{option_map}
+use Rattle.std.proofs.lemmas.Bool.{ltb-false, le-ltb}
 use Rattle.std.proofs.lemmas.Int.{of_z-to_z}
 use Rattle.std.proofs.Math.Facts.{sfits_to_z, Fits-of_z, to_z-of_z}
-use Rattle.std.proofs.lemmas.List.{take_at, drop_at, take-append-drop, length-append, length-take, get_or-take, get_or_past}
+use Rattle.std.proofs.lemmas.List.{take_at, drop_at, take-append-drop, length-append, length-take}
 use Rattle.std.proofs.lemmas.Nat.{be_bytes_2, be_bytes_4, be_bytes_8, from_be_bytes-to_be_bytes_2, from_be_bytes-to_be_bytes_4, from_be_bytes-to_be_bytes_8}
 use Rattle.wm_base.specs.declared.kind.Kind.{Kind}
 use Rattle.wm_base.specs.declared.kind.Kind.TheVariants.{Insert, Update, Delete}
@@ -14,9 +13,11 @@ use Rattle.wm_spec.specs.declared.record.column.ColumnKind.{ColumnKind}
 use Rattle.wm_spec.specs.declared.record.column.ColumnKind.TheVariants as columns
 use Rattle.wm_spec.specs.declared.record.space.FreezeMode.{FreezeMode}
 use Rattle.wm_spec.specs.declared.record.space.FreezeMode.TheVariants as freezes
-use Rattle.wm_codec.specs.Format.{Format, ◌▸◌, fields, times, byte_at, counted, coded}
-use Rattle.wm_codec.specs.Fields.{number_at, number, u8, u16, u32, u64, i64, text, text_at, flag, flag_code, flag_of, kind, kind_code, kind_of, column_kind, column_kind_code, column_kind_of, freeze_mode, freeze_code, freeze_of}
-use Rattle.wm_codec.proofs.Exact.{IsBytes, IsBytes-rest, IsBytes-take, IsExact, then_some, map_some, guard_some, some_is}
+use Rattle.wm_spec.specs.declared.record.lock.LockMode.{LockMode}
+use Rattle.wm_spec.specs.declared.record.lock.LockMode.TheVariants as locks
+use Rattle.wm_codec.specs.Format.{byte_at, coded}
+use Rattle.wm_codec.specs.Fields.{number_at, number, u8, u16, u32, u64, i64, text, text_at, flag, flag_code, flag_of, kind, kind_code, kind_of, column_kind, column_kind_code, column_kind_of, freeze_mode, freeze_code, freeze_of, lock_mode, lock_code, lock_of}
+use Rattle.wm_codec.proofs.Exact.{IsBytes, IsBytes-take, IsExact, then_some, map_some, guard_some, some_is}
 
 -- ---- numbers
 
@@ -172,6 +173,21 @@ freeze_only n freezes.WmOnly e = grind arith
 
 pub freeze_mode_exact : IsExact freeze_mode
 freeze_mode_exact = coded_exact freeze_code freeze_of freeze_back freeze_only
+
+lock_back : (m : LockMode) → lock_of (lock_code m) ≡ Some m
+lock_back locks.Exclusive = refl
+lock_back locks.Shared = refl
+lock_back locks.WorkspaceExclusive = refl
+lock_back locks.VersionExclusive = refl
+
+lock_only : (n : ℕ) (m : LockMode) → lock_of n ≡ Some m → n ≡ lock_code m
+lock_only n locks.Exclusive e = grind arith
+lock_only n locks.Shared e = grind arith
+lock_only n locks.WorkspaceExclusive e = grind arith
+lock_only n locks.VersionExclusive e = grind arith
+
+pub lock_mode_exact : IsExact lock_mode
+lock_mode_exact = coded_exact lock_code lock_of lock_back lock_only
 
 -- ---- texts
 

@@ -1,17 +1,15 @@
 -- The records are exact: the bytes of a record are read as it, and as no other.
-use Rattle.std.proofs.Common.{◌≡◌, ℕ, zero, suc, ◌<◌, Bool, true, false, cond, eqb, List, [], ◌∷◌, ◌++◌, length, Option, Some, None, refl, sym, ap, subst, ◌∙◌, arith, ◌⊎◌, inl, inr}
-use Rattle.std.specs.Option.{option_and_then, option_map}
+use Rattle.std.proofs.Common.{◌≡◌, ℕ, cond, eqb, List, [], ◌∷◌, ◌++◌, length, Some, None, refl, sym, ap, subst, ◌∙◌, inl, inr}
 use Rattle.std.proofs.lemmas.Bool.{eqb-true}
 use Rattle.std.proofs.lemmas.List.{append-nil, nil_from_length}
 use Rattle.wm_spec.specs.declared.record.Record.{Record}
 use Rattle.wm_spec.specs.declared.record.Record.TheVariants as records
 use Rattle.wm_codec.specs.Format.{Format, byte_at}
-use Rattle.wm_codec.specs.Fields.{value}
-use Rattle.wm_codec.specs.Spelling.{counters, column, table, space, version, savepoint, row, piece, hist, spelling, HasSpelling}
+use Rattle.wm_codec.specs.Spelling.{counters, column, table, space, version, savepoint, row, piece, trace, lock, hist, turn, spelling, HasSpelling}
 use Rattle.wm_codec.specs.Reading.{whole, record_of, record_of_kind}
 use Rattle.wm_codec.proofs.Exact.{IsBytes, IsBytes-rest, IsExact, then_some, some_is, pair_exact, fields_exact}
-use Rattle.wm_codec.proofs.ExactFields.{byte_takes, u8_exact, u16_exact, u32_exact, u64_exact, flag_exact, kind_exact, column_kind_exact, freeze_mode_exact, text_exact}
-use Rattle.wm_codec.proofs.ExactValues.{value_exact, cell_range_exact, counted_exact, chosen, kept}
+use Rattle.wm_codec.proofs.ExactFields.{byte_takes, u16_exact, u32_exact, u64_exact, flag_exact, kind_exact, column_kind_exact, freeze_mode_exact, lock_mode_exact, text_exact}
+use Rattle.wm_codec.proofs.ExactValues.{value_exact, cell_range_exact, key_columns_exact, counted_exact, chosen, kept}
 
 -- ---- each record kind, from its fields
 
@@ -24,7 +22,7 @@ column_exact = fields_exact _ _ _ (λ b. refl) (λ a. refl) (pair_exact _ _ text
 table_exact : IsExact table
 table_exact = fields_exact _ _ _ (λ b. refl) (λ a. refl)
     (pair_exact _ _ u16_exact (pair_exact _ _ text_exact (pair_exact _ _ flag_exact (pair_exact _ _ flag_exact (pair_exact _ _ flag_exact
-    (pair_exact _ _ flag_exact (pair_exact _ _ u8_exact (counted_exact _ column_exact))))))))
+    (pair_exact _ _ key_columns_exact (counted_exact _ column_exact)))))))
 
 space_exact : IsExact space
 space_exact = fields_exact _ _ _ (λ b. refl) (λ a. refl)
@@ -47,10 +45,20 @@ pub piece_exact : IsExact piece
 piece_exact = fields_exact _ _ _ (λ b. refl) (λ a. refl)
     (pair_exact _ _ u64_exact (pair_exact _ _ cell_range_exact (pair_exact _ _ u64_exact (pair_exact _ _ kind_exact flag_exact))))
 
+trace_exact : IsExact trace
+trace_exact = fields_exact _ _ _ (λ b. refl) (λ a. refl) (pair_exact _ _ u32_exact (pair_exact _ _ u32_exact (pair_exact _ _ cell_range_exact u64_exact)))
+
+lock_exact : IsExact lock
+lock_exact = fields_exact _ _ _ (λ b. refl) (λ a. refl)
+    (pair_exact _ _ u32_exact (pair_exact _ _ u32_exact (pair_exact _ _ cell_range_exact (pair_exact _ _ lock_mode_exact (pair_exact _ _ text_exact u64_exact)))))
+
 hist_exact : IsExact hist
 hist_exact = fields_exact _ _ _ (λ b. refl) (λ a. refl)
     (pair_exact _ _ u32_exact (pair_exact _ _ u64_exact (pair_exact _ _ cell_range_exact (pair_exact _ _ u64_exact (pair_exact _ _ kind_exact
     (pair_exact _ _ flag_exact (pair_exact _ _ u64_exact text_exact)))))))
+
+turn_exact : IsExact turn
+turn_exact = fields_exact _ _ _ (λ b. refl) (λ a. refl) (pair_exact _ _ u32_exact (pair_exact _ _ u32_exact (pair_exact _ _ u64_exact u32_exact)))
 
 -- ---- all of the bytes
 
@@ -101,10 +109,26 @@ kind_takes tag bytes r fits e =
                 | inr e ↦ elim (chosen (eqb tag 7) _ _ _ e.1) [
                   | inl is ↦ let t = whole_takes piece records.Piece bytes r piece_exact fits is.1 in
                       rw (eqb-true tag 7 is.0) (subst (TakesRecord 7 bytes) t.made (t.fits, ap (λ b. 7 ∷ b) t.is))
-                  | inr e ↦ elim (chosen (eqb tag 10) _ _ _ e.1) [
-                    | inl is ↦ let t = whole_takes hist records.Hist bytes r hist_exact fits is.1 in
-                        rw (eqb-true tag 10 is.0) (subst (TakesRecord 10 bytes) t.made (t.fits, ap (λ b. 10 ∷ b) t.is))
-                    | inr e ↦ absurd cc
+                  | inr e ↦ elim (chosen (eqb tag 8) _ _ _ e.1) [
+                    | inl is ↦ let t = whole_takes trace records.Touch bytes r trace_exact fits is.1 in
+                        rw (eqb-true tag 8 is.0) (subst (TakesRecord 8 bytes) t.made (t.fits, ap (λ b. 8 ∷ b) t.is))
+                    | inr e ↦ elim (chosen (eqb tag 9) _ _ _ e.1) [
+                      | inl is ↦ let t = whole_takes lock records.Lock bytes r lock_exact fits is.1 in
+                          rw (eqb-true tag 9 is.0) (subst (TakesRecord 9 bytes) t.made (t.fits, ap (λ b. 9 ∷ b) t.is))
+                      | inr e ↦ elim (chosen (eqb tag 10) _ _ _ e.1) [
+                        | inl is ↦ let t = whole_takes hist records.Hist bytes r hist_exact fits is.1 in
+                            rw (eqb-true tag 10 is.0) (subst (TakesRecord 10 bytes) t.made (t.fits, ap (λ b. 10 ∷ b) t.is))
+                        | inr e ↦ elim (chosen (eqb tag 11) _ _ _ e.1) [
+                          | inl is ↦ let t = whole_takes trace records.Mark bytes r trace_exact fits is.1 in
+                              rw (eqb-true tag 11 is.0) (subst (TakesRecord 11 bytes) t.made (t.fits, ap (λ b. 11 ∷ b) t.is))
+                          | inr e ↦ elim (chosen (eqb tag 12) _ _ _ e.1) [
+                            | inl is ↦ let t = whole_takes turn records.Turn bytes r turn_exact fits is.1 in
+                                rw (eqb-true tag 12 is.0) (subst (TakesRecord 12 bytes) t.made (t.fits, ap (λ b. 12 ∷ b) t.is))
+                            | inr e ↦ absurd cc
+                          ]
+                        ]
+                      ]
+                    ]
                   ]
                 ]
               ]
@@ -134,7 +158,11 @@ record_again (records.Version r) fits = whole_again version records.Version r ve
 record_again (records.Savepoint r) fits = whole_again savepoint records.Savepoint r savepoint_exact fits
 record_again (records.Row r) fits = whole_again row records.Row r row_exact fits
 record_again (records.Piece r) fits = whole_again piece records.Piece r piece_exact fits
+record_again (records.Touch r) fits = whole_again trace records.Touch r trace_exact fits
+record_again (records.Lock r) fits = whole_again lock records.Lock r lock_exact fits
 record_again (records.Hist r) fits = whole_again hist records.Hist r hist_exact fits
+record_again (records.Mark r) fits = whole_again trace records.Mark r trace_exact fits
+record_again (records.Turn r) fits = whole_again turn records.Turn r turn_exact fits
 
 -- no two records have one spelling
 pub spelling_injective : (r s : Record) → HasSpelling r → HasSpelling s → spelling r ≡ spelling s → r ≡ s

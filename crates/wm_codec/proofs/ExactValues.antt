@@ -1,5 +1,5 @@
--- Values, keys, ranges of cells and lists are exact.
-use Rattle.std.proofs.Common.{◌≡◌, ℕ, ℤ, zero, suc, ◌+◌, ◌^◌, ◌<◌, ◌≤◌, Bool, true, false, cond, eqb, leb, List, [], ◌∷◌, ◌++◌, length, Option, Some, None, refl, sym, ap, subst, ◌∙◌, append_assoc, arith, ◌⊎◌, inl, inr, FitsSigned}
+-- Values, keys, ranges of cells, key columns and lists are exact.
+use Rattle.std.proofs.Common.{◌≡◌, ℕ, zero, suc, ◌<◌, Bool, true, false, cond, eqb, leb, List, [], ◌∷◌, ◌++◌, length, Some, None, refl, sym, ap, subst, ◌∙◌, append_assoc, arith, ◌⊎◌, inl, inr}
 use Rattle.std.specs.Int.{w64}
 use Rattle.std.specs.List.{flat_map, AllByRecursion}
 use Rattle.std.specs.Option.{option_and_then, option_map}
@@ -8,10 +8,10 @@ use Rattle.std.proofs.lemmas.List.Concat.{flat_map-cons}
 use Rattle.wm_base.specs.declared.instant.TheConstants.{END}
 use Rattle.wm_base.specs.declared.value.Value.{Value}
 use Rattle.wm_base.specs.declared.value.Value.TheVariants.{Null, Num, Text, Time, Span}
-use Rattle.wm_codec.specs.Format.{Format, ◌▸◌, fields, times, byte_at, counted}
-use Rattle.wm_codec.specs.Fields.{number_at, u16, u64, i64, text, text_at, value, value_at, value_of_type, spell_value, FitsValue, key, spell_key, FitsKey, cell_range}
+use Rattle.wm_codec.specs.Format.{Format, ◌▸◌, times, byte_at, counted}
+use Rattle.wm_codec.specs.Fields.{number_at, u8, i64, flag, text_at, value, value_at, value_of_type, spell_value, FitsValue, key, spell_key, FitsKey, cell_range, key_columns, key_columns_of, spell_key_columns, FitsKeyColumns}
 use Rattle.wm_codec.proofs.Exact.{IsBytes, IsBytes-rest, IsExact, then_some, map_some, guard_some, some_is, pair_exact, fields_exact}
-use Rattle.wm_codec.proofs.ExactFields.{byte_takes, u16_exact, u64_exact, i64_exact, text_exact}
+use Rattle.wm_codec.proofs.ExactFields.{byte_takes, u8_exact, u16_exact, u64_exact, i64_exact, flag_exact, text_exact}
 
 -- ---- values
 
@@ -112,6 +112,31 @@ key_exact = record {
 
 pub cell_range_exact : IsExact cell_range
 cell_range_exact = fields_exact _ _ _ (λ b. refl) (λ a. refl) (pair_exact _ _ u16_exact (pair_exact _ _ key_exact (pair_exact _ _ u64_exact u64_exact)))
+
+-- ---- key columns
+
+-- what the two bytes say is spelled by them
+key_columns_are : (has : Bool) (place : ℕ) (places : List ℕ) → place < 256 → key_columns_of has place ≡ Some places → ((flag ▸ u8).spell (has, place) ≡ spell_key_columns places) × FitsKeyColumns places
+key_columns_are true place places low e = subst (λ ks. (1 ∷ place ∷ [] ≡ spell_key_columns ks) × FitsKeyColumns ks) (some_is (place ∷ []) places e) (refl, low)
+key_columns_are false place places low e =
+    let k = kept (eqb place 0) [] places e in
+    subst (λ ks. (0 ∷ place ∷ [] ≡ spell_key_columns ks) × FitsKeyColumns ks) k.1 (ap (λ n. 0 ∷ n ∷ []) (eqb-true place 0 k.0), tt)
+
+key_columns_again : (places rest : List ℕ) → FitsKeyColumns places → key_columns.read (spell_key_columns places ++ rest) ≡ Some (places, rest)
+key_columns_again [] rest fits = refl
+key_columns_again (place ∷ []) rest fits = refl
+key_columns_again (place ∷ other ∷ places) rest fits = absurd fits
+
+pub key_columns_exact : IsExact key_columns
+key_columns_exact = record {
+  takes = λ bytes rest places fits e.
+      let p = then_some ((flag ▸ u8).read bytes) (λ p. option_map (λ places. (places, p.1)) (key_columns_of p.0.0 p.0.1)) (places, rest) e in
+      let m = map_some (key_columns_of p.0.0.0 p.0.0.1) (λ places. (places, p.0.1)) (places, rest) p.2 in
+      let t = (pair_exact _ _ flag_exact u8_exact).takes bytes p.0.1 p.0.0 fits p.1 in
+      let k = key_columns_are p.0.0.0 p.0.0.1 m.0 t.1.1 m.1 in
+      subst (λ q. (bytes ≡ spell_key_columns q.0 ++ q.1) × FitsKeyColumns q.0) m.2 (rw (← k.0) t.0, k.1);
+  again = key_columns_again;
+}
 
 -- ---- lists
 

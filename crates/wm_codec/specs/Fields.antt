@@ -10,6 +10,8 @@ use Rattle.wm_base.specs.declared.value.Value.TheVariants.{Null, Num, Text, Time
 use Rattle.wm_spec.specs.declared.record.cell_range.CellRange.{CellRange}
 use Rattle.wm_spec.specs.declared.record.column.ColumnKind.{ColumnKind}
 use Rattle.wm_spec.specs.declared.record.column.ColumnKind.TheVariants as columns
+use Rattle.wm_spec.specs.declared.record.lock.LockMode.{LockMode}
+use Rattle.wm_spec.specs.declared.record.lock.LockMode.TheVariants as locks
 use Rattle.wm_spec.specs.declared.record.space.FreezeMode.{FreezeMode}
 use Rattle.wm_spec.specs.declared.record.space.FreezeMode.TheVariants as freezes
 use Rattle.wm_codec.specs.Format.{Format, ◌▸◌, fields, coded, byte_at}
@@ -105,6 +107,20 @@ freeze_of n =
 abbrev pub freeze_mode : Format FreezeMode
 freeze_mode = coded freeze_code freeze_of
 
+abbrev pub lock_code : LockMode → ℕ
+lock_code locks.Exclusive = 1
+lock_code locks.Shared = 2
+lock_code locks.WorkspaceExclusive = 3
+lock_code locks.VersionExclusive = 4
+
+abbrev pub lock_of : ℕ → Option LockMode
+lock_of n =
+    if n == 1 then Some locks.Exclusive else (if n == 2 then Some locks.Shared
+    else (if n == 3 then Some locks.WorkspaceExclusive else (if n == 4 then Some locks.VersionExclusive else None)))
+
+abbrev pub lock_mode : Format LockMode
+lock_mode = coded lock_code lock_of
+
 -- ---- texts and values
 
 -- two bytes of length, and that many bytes
@@ -188,3 +204,34 @@ cell_range = fields
     (λ c. (c.table, (c.key, (c.from, c.till))))
     (λ p. record { table = p.0; key = p.1.0; from = p.1.1.0; till = p.1.1.1 })
     (u16 ▸ key ▸ u64 ▸ u64)
+
+-- ---- key columns
+
+-- a byte that says whether there is a key, and the place of its column, which is 0 where there is none
+abbrev pub spell_key_columns : List ℕ → List ℕ
+spell_key_columns [] = 0 ∷ 0 ∷ []
+spell_key_columns (place ∷ places) = 1 ∷ place ∷ []
+
+-- at most one
+abbrev pub CanSpellKeyColumns : List ℕ → Type 0
+CanSpellKeyColumns [] = Unit {0}
+CanSpellKeyColumns (place ∷ []) = Unit {0}
+CanSpellKeyColumns (place ∷ other ∷ places) = ⊥
+
+abbrev pub FitsKeyColumns : List ℕ → Type 0
+FitsKeyColumns [] = Unit {0}
+FitsKeyColumns (place ∷ []) = place < 256
+FitsKeyColumns (place ∷ other ∷ places) = ⊥
+
+-- the key columns that the two bytes say
+abbrev pub key_columns_of : Bool → ℕ → Option (List ℕ)
+key_columns_of true place = Some (place ∷ [])
+key_columns_of false place = if place == 0 then Some [] else None
+
+abbrev pub key_columns : Format (List ℕ)
+key_columns = record {
+  spell = spell_key_columns;
+  CanSpell = CanSpellKeyColumns;
+  Fits = FitsKeyColumns;
+  read = λ bytes. option_and_then (λ p. option_map (λ places. (places, p.1)) (key_columns_of p.0.0 p.0.1)) ((flag ▸ u8).read bytes);
+}

@@ -1,10 +1,10 @@
 -- What a function that reads returned, against what is to be read.
-use Rattle.std.specs.Prelude.{◌≡◌, ℕ, ◌==◌, if◌then◌else◌, List, [], ◌∷◌, length, Option, Some, None, Result, Ok, Err}
-use Rattle.std.specs.Option.{option_and_then, option_map}
+use Rattle.std.specs.Prelude.{◌≡◌, ℕ, ◌==◌, if◌then◌else◌, List, length, Option, Some, None, Result, Ok, Err}
+use Rattle.std.specs.Option.{option_and_then}
 use Rattle.wm_spec.specs.declared.record.Record.{Record}
 use Rattle.wm_spec.specs.declared.record.Record.TheVariants as records
 use Rattle.wm_codec.specs.Format.{Format, byte_at}
-use Rattle.wm_codec.specs.Spelling.{counters, table, space, version, savepoint, row, piece, hist}
+use Rattle.wm_codec.specs.Spelling.{counters, table, space, version, savepoint, row, piece, trace, lock, hist, turn}
 use Rattle.wm_codec.specs.declared.fault.ReadFault.{ReadFault}
 use Rattle.wm_codec.specs.declared.fault.ReadFault.TheVariants as faults
 
@@ -32,8 +32,12 @@ record_of_kind tag bytes =
     else (if tag == 5 then whole savepoint records.Savepoint bytes
     else (if tag == 6 then whole row records.Row bytes
     else (if tag == 7 then whole piece records.Piece bytes
+    else (if tag == 8 then whole trace records.Touch bytes
+    else (if tag == 9 then whole lock records.Lock bytes
     else (if tag == 10 then whole hist records.Hist bytes
-    else None)))))))
+    else (if tag == 11 then whole trace records.Mark bytes
+    else (if tag == 12 then whole turn records.Turn bytes
+    else None)))))))))))
 
 -- the record that the bytes spell
 unfoldable pub record_of : List ℕ → Option Record

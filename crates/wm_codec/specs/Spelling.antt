@@ -1,5 +1,5 @@
 -- The one spelling of each record: a byte for its kind, and its fields in order.
-use Rattle.std.specs.Prelude.{ℕ, List, [], ◌∷◌}
+use Rattle.std.specs.Prelude.{ℕ, List, ◌∷◌}
 use Rattle.wm_spec.specs.declared.record.Record.{Record}
 use Rattle.wm_spec.specs.declared.record.Record.TheVariants as records
 use Rattle.wm_spec.specs.declared.record.counters.Counters.{Counters}
@@ -10,9 +10,12 @@ use Rattle.wm_spec.specs.declared.record.version.Version.{Version}
 use Rattle.wm_spec.specs.declared.record.savepoint.Savepoint.{Savepoint}
 use Rattle.wm_spec.specs.declared.record.row.RowRecord.{RowRecord}
 use Rattle.wm_spec.specs.declared.record.piece.PieceRecord.{PieceRecord}
+use Rattle.wm_spec.specs.declared.record.trace.Trace.{Trace}
+use Rattle.wm_spec.specs.declared.record.lock.Lock.{Lock}
 use Rattle.wm_spec.specs.declared.record.hist.Hist.{Hist}
+use Rattle.wm_spec.specs.declared.record.turn.Turn.{Turn}
 use Rattle.wm_codec.specs.Format.{Format, ◌▸◌, fields, counted}
-use Rattle.wm_codec.specs.Fields.{u8, u16, u32, u64, flag, text, kind, column_kind, freeze_mode, value, cell_range}
+use Rattle.wm_codec.specs.Fields.{u16, u32, u64, flag, text, kind, column_kind, freeze_mode, lock_mode, value, cell_range, key_columns}
 
 abbrev pub counters : Format Counters
 counters = fields
@@ -28,18 +31,17 @@ column = fields
 
 abbrev pub table : Format Table
 table = fields
-    (λ t. (t.number, (t.name, (t.versioned, (t.valid, (t.history, (t.has_key, (t.key_column, t.columns))))))))
+    (λ t. (t.number, (t.name, (t.versioned, (t.valid, (t.history, (t.key_columns, t.columns)))))))
     (λ p. record {
       number = p.0;
       name = p.1.0;
       versioned = p.1.1.0;
       valid = p.1.1.1.0;
       history = p.1.1.1.1.0;
-      has_key = p.1.1.1.1.1.0;
-      key_column = p.1.1.1.1.1.1.0;
-      columns = p.1.1.1.1.1.1.1;
+      key_columns = p.1.1.1.1.1.0;
+      columns = p.1.1.1.1.1.1;
     })
-    (u16 ▸ text ▸ flag ▸ flag ▸ flag ▸ flag ▸ u8 ▸ counted column)
+    (u16 ▸ text ▸ flag ▸ flag ▸ flag ▸ key_columns ▸ counted column)
 
 abbrev pub space : Format Space
 space = fields
@@ -134,6 +136,26 @@ piece = fields
     (λ p. record { version = p.0; cells = p.1.0; stamp = p.1.1.0; kind = p.1.1.1.0; gone = p.1.1.1.1 })
     (u64 ▸ cell_range ▸ u64 ▸ kind ▸ flag)
 
+-- of a touch, and of a mark
+abbrev pub trace : Format Trace
+trace = fields
+    (λ t. (t.space, (t.place, (t.cells, t.position))))
+    (λ p. record { space = p.0; place = p.1.0; cells = p.1.1.0; position = p.1.1.1 })
+    (u32 ▸ u32 ▸ cell_range ▸ u64)
+
+abbrev pub lock : Format Lock
+lock = fields
+    (λ l. (l.space, (l.place, (l.cells, (l.mode, (l.user, l.making))))))
+    (λ p. record {
+      space = p.0;
+      place = p.1.0;
+      cells = p.1.1.0;
+      mode = p.1.1.1.0;
+      user = p.1.1.1.1.0;
+      making = p.1.1.1.1.1;
+    })
+    (u32 ▸ u32 ▸ cell_range ▸ lock_mode ▸ text ▸ u64)
+
 abbrev pub hist : Format Hist
 hist = fields
     (λ h. (h.space, (h.position, (h.cells, (h.stamp, (h.kind, (h.gone, (h.moment, h.user))))))))
@@ -149,6 +171,12 @@ hist = fields
     })
     (u32 ▸ u64 ▸ cell_range ▸ u64 ▸ kind ▸ flag ▸ u64 ▸ text)
 
+abbrev pub turn : Format Turn
+turn = fields
+    (λ t. (t.space, (t.rebase, (t.log_length, t.rebases))))
+    (λ p. record { space = p.0; rebase = p.1.0; log_length = p.1.1.0; rebases = p.1.1.1 })
+    (u32 ▸ u32 ▸ u64 ▸ u32)
+
 -- the bytes of a record
 unfoldable pub spelling : Record → List ℕ
 spelling (records.Counters r) = 1 ∷ counters.spell r
@@ -158,10 +186,14 @@ spelling (records.Version r) = 4 ∷ version.spell r
 spelling (records.Savepoint r) = 5 ∷ savepoint.spell r
 spelling (records.Row r) = 6 ∷ row.spell r
 spelling (records.Piece r) = 7 ∷ piece.spell r
+spelling (records.Touch r) = 8 ∷ trace.spell r
+spelling (records.Lock r) = 9 ∷ lock.spell r
 spelling (records.Hist r) = 10 ∷ hist.spell r
+spelling (records.Mark r) = 11 ∷ trace.spell r
+spelling (records.Turn r) = 12 ∷ turn.spell r
 
 -- what is asked of a record so that it has a spelling: its texts and lists are short enough, no text among its
--- values is empty, none of them is a period, and a key has one value
+-- values is empty, none of them is a period, a key has one value, and a table at most one key column
 abbrev pub CanSpell : Record → Type 0
 CanSpell (records.Counters r) = counters.CanSpell r
 CanSpell (records.Table r) = table.CanSpell r
@@ -170,7 +202,11 @@ CanSpell (records.Version r) = version.CanSpell r
 CanSpell (records.Savepoint r) = savepoint.CanSpell r
 CanSpell (records.Row r) = row.CanSpell r
 CanSpell (records.Piece r) = piece.CanSpell r
+CanSpell (records.Touch r) = trace.CanSpell r
+CanSpell (records.Lock r) = lock.CanSpell r
 CanSpell (records.Hist r) = hist.CanSpell r
+CanSpell (records.Mark r) = trace.CanSpell r
+CanSpell (records.Turn r) = turn.CanSpell r
 
 -- a record that has a spelling: that, and each number fits its bytes
 unfoldable pub HasSpelling : Record → Type 0
@@ -181,4 +217,8 @@ HasSpelling (records.Version r) = version.Fits r
 HasSpelling (records.Savepoint r) = savepoint.Fits r
 HasSpelling (records.Row r) = row.Fits r
 HasSpelling (records.Piece r) = piece.Fits r
+HasSpelling (records.Touch r) = trace.Fits r
+HasSpelling (records.Lock r) = lock.Fits r
 HasSpelling (records.Hist r) = hist.Fits r
+HasSpelling (records.Mark r) = trace.Fits r
+HasSpelling (records.Turn r) = turn.Fits r

@@ -1,3 +1,4 @@
+//! Why bytes are read as no record.
 ghost use Rattle.std.specs.Prelude.{◌≡◌};
 ghost use Rattle.wm_codec.specs.declared.fault.ReadFault.TheVariants.{Memory as OutOfMemory};
 

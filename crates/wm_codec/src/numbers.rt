@@ -1,3 +1,4 @@
+//! Reading numbers.
 ghost use Rattle.std.specs.Prelude.{◌≡◌};
 ghost use Rattle.std.specs.Int.{w16, w32, w64};
 ghost use Rattle.wm_codec.specs.Format.{byte_at};

@@ -1,16 +1,11 @@
+//! Writing fields.
 ghost use Rattle.std.specs.Prelude.{◌≡◌, ◌∷◌, [], ◌++◌, ◌<◌, ◌^◌, length, OnOk};
-ghost use Rattle.wm_codec.specs.Fields.{u8, u16, u32, u64, i64, flag, kind, column_kind, freeze_mode, text, value, key, cell_range, CanSpellValue, CanSpellKey};
+ghost use Rattle.wm_codec.specs.Fields.{u16, u32, u64, i64, flag, kind, column_kind, freeze_mode, lock_mode, text, value, key, cell_range, key_columns, CanSpellValue, CanSpellKey, CanSpellKeyColumns};
 ghost use Rattle.wm_codec.specs.Writing.{Appends};
 
 use byteorder::{BigEndian, ByteOrder};
 use wm_base::{Bytes, Key, Kind, Memory, Text, Value};
-use wm_spec::record::{CellRange, ColumnKind, FreezeMode};
-
-pub fn put_u8(into: &mut Bytes, number: u8) -> Result<(), Memory>
-    ensures { OnOk result (Appends u8 into.old into.new number) }
-{
-    into.push(number)
-}
+use wm_spec::record::{CellRange, ColumnKind, FreezeMode, KeyColumns, LockMode};
 
 pub fn put_u16(into: &mut Bytes, number: u16) -> Result<(), Memory>
     ensures { OnOk result (Appends u16 into.old into.new number) }
@@ -81,6 +76,17 @@ pub fn put_freeze_mode(into: &mut Bytes, mode: FreezeMode) -> Result<(), Memory>
     })
 }
 
+pub fn put_lock_mode(into: &mut Bytes, mode: LockMode) -> Result<(), Memory>
+    ensures { OnOk result (Appends lock_mode into.old into.new mode) }
+{
+    into.push(match mode {
+        LockMode::Exclusive => 1,
+        LockMode::Shared => 2,
+        LockMode::WorkspaceExclusive => 3,
+        LockMode::VersionExclusive => 4,
+    })
+}
+
 /// A text: two bytes of length, and its bytes.
 pub fn put_text(into: &mut Bytes, of: &Text) -> Result<(), Memory>
     requires { length of.now < 2 ^ 16 }
@@ -143,4 +149,16 @@ pub fn put_cell_range(into: &mut Bytes, of: &CellRange) -> Result<(), Memory>
     put_u64(into, of.from)?;
     put_u64(into, of.till)?;
     Ok(())
+}
+
+/// Whether there is a key column, and its place, which is 0 where there is none.
+pub fn put_key_columns(into: &mut Bytes, of: &KeyColumns) -> Result<(), Memory>
+    requires { CanSpellKeyColumns of.now }
+    ensures { OnOk result (Appends key_columns into.old into.new of.now) }
+{
+    match of.as_slice() {
+        [] => into.append(&[0, 0]),
+        [place] => into.append(&[1, *place]),
+        _ => unreachable!(),
+    }
 }

@@ -1,4 +1,5 @@
-ghost use Rattle.std.specs.Prelude.{◌≡◌, ◌↔◌, IfOk, Ok, Some};
+//! Reading a record.
+ghost use Rattle.std.specs.Prelude.{◌≡◌, ◌↔◌, ◌==◌, if◌then◌else◌, length, IfOk, Ok, None, Some};
 ghost use Rattle.wm_codec.specs.Reading.{Gives, record_of, record_of_kind};
 ghost use Rattle.wm_codec.specs.Spelling.{HasSpelling, spelling};
 ghost use Rattle.wm_spec.specs.declared.record.Record.{Record};
@@ -6,57 +7,46 @@ ghost use Rattle.wm_spec.specs.declared.record.Record.{Record};
 use crate::fault::ReadFault;
 use crate::numbers::u8_at;
 use crate::records::{
-    counters_at, hist_of, piece_of, row_of, savepoint_of, space_of, table_of, version_at,
+    counters_at, hist_of, lock_of, piece_of, row_of, savepoint_of, space_of, table_of, trace_of,
+    turn_at, version_at,
 };
 use std::alloc::Global;
 use wm_base::Memory;
 use wm_spec::record::Record;
+
+/// What was read, where nothing is behind it.
+fn alone<T: Drop>(read: (T, &[u8])) -> Result<T, ReadFault>
+    ensures { Gives (λ x. x) result (if length read.entry.1.now == 0 then Some read.entry.0 else None) }
+{
+    let (value, rest) = read;
+    if rest.is_empty() {
+        Ok(value)
+    } else {
+        Err(ReadFault::NoRecord)
+    }
+}
 
 /// The record of a kind, by its fields.
 #[tactic(auto, unfolding(crate::specs::Reading::record_of_kind))]
 fn record_of_fields(alloc: Global, tag: u8, bytes: &[u8]) -> Result<Record, ReadFault>
     ensures { Gives (λ x. x) result (record_of_kind tag bytes.now) }
 {
-    let (record, rest) = match tag {
-        1 => {
-            let (counters, rest) = counters_at(bytes)?;
-            (Record::Counters(counters), rest)
-        }
-        2 => {
-            let (table, rest) = table_of(alloc, bytes)?;
-            (Record::Table(table), rest)
-        }
-        3 => {
-            let (space, rest) = space_of(alloc, bytes)?;
-            (Record::Space(space), rest)
-        }
-        4 => {
-            let (version, rest) = version_at(bytes)?;
-            (Record::Version(version), rest)
-        }
-        5 => {
-            let (savepoint, rest) = savepoint_of(alloc, bytes)?;
-            (Record::Savepoint(savepoint), rest)
-        }
-        6 => {
-            let (row, rest) = row_of(alloc, bytes)?;
-            (Record::Row(row), rest)
-        }
-        7 => {
-            let (piece, rest) = piece_of(alloc, bytes)?;
-            (Record::Piece(piece), rest)
-        }
-        10 => {
-            let (hist, rest) = hist_of(alloc, bytes)?;
-            (Record::Hist(hist), rest)
-        }
+    let record = match tag {
+        1 => Record::Counters(alone(counters_at(bytes)?)?),
+        2 => Record::Table(alone(table_of(alloc, bytes)?)?),
+        3 => Record::Space(alone(space_of(alloc, bytes)?)?),
+        4 => Record::Version(alone(version_at(bytes)?)?),
+        5 => Record::Savepoint(alone(savepoint_of(alloc, bytes)?)?),
+        6 => Record::Row(alone(row_of(alloc, bytes)?)?),
+        7 => Record::Piece(alone(piece_of(alloc, bytes)?)?),
+        8 => Record::Touch(alone(trace_of(alloc, bytes)?)?),
+        9 => Record::Lock(alone(lock_of(alloc, bytes)?)?),
+        10 => Record::Hist(alone(hist_of(alloc, bytes)?)?),
+        11 => Record::Mark(alone(trace_of(alloc, bytes)?)?),
+        12 => Record::Turn(alone(turn_at(bytes)?)?),
         _ => return Err(ReadFault::NoRecord),
     };
-    if rest.is_empty() {
-        Ok(record)
-    } else {
-        Err(ReadFault::NoRecord)
-    }
+    Ok(record)
 }
 
 /// The record, as it is read from left to right.

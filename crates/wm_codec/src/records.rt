@@ -1,13 +1,18 @@
+//! Reading the fields of each kind of record.
 ghost use Rattle.std.specs.Prelude.{◌≡◌};
-ghost use Rattle.wm_codec.specs.Spelling.{counters, table, space, version, savepoint, row, piece, hist};
+ghost use Rattle.wm_codec.specs.Spelling.{counters, table, space, version, savepoint, row, piece, trace, lock, hist, turn};
 ghost use Rattle.wm_codec.specs.Reading.{Gives};
 
 use crate::fault::ReadFault;
 use crate::lists::{columns_of, values_of};
-use crate::numbers::{u8_at, u16_at, u32_at, u64_at};
-use crate::values::{cell_range_of, flag_at, freeze_mode_at, kind_at, text_of};
+use crate::numbers::{u16_at, u32_at, u64_at};
+use crate::values::{
+    cell_range_of, flag_at, freeze_mode_at, key_columns_of, kind_at, lock_mode_at, text_of,
+};
 use std::alloc::Global;
-use wm_spec::record::{Counters, Hist, PieceRecord, RowRecord, Savepoint, Space, Table, Version};
+use wm_spec::record::{
+    Counters, Hist, Lock, PieceRecord, RowRecord, Savepoint, Space, Table, Trace, Turn, Version,
+};
 
 pub fn counters_at(bytes: &[u8]) -> Result<(Counters, &[u8]), ReadFault>
     ensures { Gives (λ x. (x.0, x.1.now)) result (counters.read bytes.now) }
@@ -37,8 +42,7 @@ pub fn table_of(alloc: Global, bytes: &[u8]) -> Result<(Table, &[u8]), ReadFault
     let (versioned, rest) = flag_at(rest)?;
     let (valid, rest) = flag_at(rest)?;
     let (history, rest) = flag_at(rest)?;
-    let (has_key, rest) = flag_at(rest)?;
-    let (key_column, rest) = u8_at(rest)?;
+    let (key_columns, rest) = key_columns_of(alloc, rest)?;
     let (columns, rest) = columns_of(alloc, rest)?;
     Ok((
         Table {
@@ -47,8 +51,7 @@ pub fn table_of(alloc: Global, bytes: &[u8]) -> Result<(Table, &[u8]), ReadFault
             versioned,
             valid,
             history,
-            has_key,
-            key_column,
+            key_columns,
             columns,
         },
         rest,
@@ -177,6 +180,47 @@ pub fn piece_of(alloc: Global, bytes: &[u8]) -> Result<(PieceRecord, &[u8]), Rea
     ))
 }
 
+/// A touch, or a mark.
+pub fn trace_of(alloc: Global, bytes: &[u8]) -> Result<(Trace, &[u8]), ReadFault>
+    ensures { Gives (λ x. (x.0, x.1.now)) result (trace.read bytes.now) }
+{
+    let (space, rest) = u32_at(bytes)?;
+    let (place, rest) = u32_at(rest)?;
+    let (cells, rest) = cell_range_of(alloc, rest)?;
+    let (position, rest) = u64_at(rest)?;
+    Ok((
+        Trace {
+            space,
+            place,
+            cells,
+            position,
+        },
+        rest,
+    ))
+}
+
+pub fn lock_of(alloc: Global, bytes: &[u8]) -> Result<(Lock, &[u8]), ReadFault>
+    ensures { Gives (λ x. (x.0, x.1.now)) result (lock.read bytes.now) }
+{
+    let (space, rest) = u32_at(bytes)?;
+    let (place, rest) = u32_at(rest)?;
+    let (cells, rest) = cell_range_of(alloc, rest)?;
+    let (mode, rest) = lock_mode_at(rest)?;
+    let (user, rest) = text_of(alloc, rest)?;
+    let (making, rest) = u64_at(rest)?;
+    Ok((
+        Lock {
+            space,
+            place,
+            cells,
+            mode,
+            user,
+            making,
+        },
+        rest,
+    ))
+}
+
 pub fn hist_of(alloc: Global, bytes: &[u8]) -> Result<(Hist, &[u8]), ReadFault>
     ensures { Gives (λ x. (x.0, x.1.now)) result (hist.read bytes.now) }
 {
@@ -198,6 +242,24 @@ pub fn hist_of(alloc: Global, bytes: &[u8]) -> Result<(Hist, &[u8]), ReadFault>
             gone,
             moment,
             user,
+        },
+        rest,
+    ))
+}
+
+pub fn turn_at(bytes: &[u8]) -> Result<(Turn, &[u8]), ReadFault>
+    ensures { Gives (λ x. (x.0, x.1.now)) result (turn.read bytes.now) }
+{
+    let (space, rest) = u32_at(bytes)?;
+    let (rebase, rest) = u32_at(rest)?;
+    let (log_length, rest) = u64_at(rest)?;
+    let (rebases, rest) = u32_at(rest)?;
+    Ok((
+        Turn {
+            space,
+            rebase,
+            log_length,
+            rebases,
         },
         rest,
     ))

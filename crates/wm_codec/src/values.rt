@@ -1,12 +1,13 @@
+//! Reading fields that are no numbers.
 ghost use Rattle.std.specs.Prelude.{◌≡◌};
-ghost use Rattle.wm_codec.specs.Fields.{cell_range, column_kind, flag, freeze_mode, key, kind, text_at, value_at, value_of_type};
+ghost use Rattle.wm_codec.specs.Fields.{cell_range, column_kind, flag, freeze_mode, key, key_columns, kind, lock_mode, text_at, value_at, value_of_type};
 ghost use Rattle.wm_codec.specs.Reading.{Gives};
 
 use crate::fault::ReadFault;
 use crate::numbers::{i64_at, u8_at, u16_at, u64_at};
 use std::alloc::Global;
 use wm_base::{Instant, Key, Kind, Text, Value};
-use wm_spec::record::{CellRange, ColumnKind, FreezeMode};
+use wm_spec::record::{CellRange, ColumnKind, FreezeMode, KeyColumns, LockMode};
 
 pub fn flag_at(bytes: &[u8]) -> Result<(bool, &[u8]), ReadFault>
     ensures { Gives (λ x. (x.0, x.1.now)) result (flag.read bytes.now) }
@@ -53,6 +54,19 @@ pub fn freeze_mode_at(bytes: &[u8]) -> Result<(FreezeMode, &[u8]), ReadFault>
         2 => Ok((FreezeMode::ReadOnly, rest)),
         3 => Ok((FreezeMode::OneWriter, rest)),
         4 => Ok((FreezeMode::WmOnly, rest)),
+        _ => Err(ReadFault::NoRecord),
+    }
+}
+
+pub fn lock_mode_at(bytes: &[u8]) -> Result<(LockMode, &[u8]), ReadFault>
+    ensures { Gives (λ x. (x.0, x.1.now)) result (lock_mode.read bytes.now) }
+{
+    let (byte, rest) = u8_at(bytes)?;
+    match byte {
+        1 => Ok((LockMode::Exclusive, rest)),
+        2 => Ok((LockMode::Shared, rest)),
+        3 => Ok((LockMode::WorkspaceExclusive, rest)),
+        4 => Ok((LockMode::VersionExclusive, rest)),
         _ => Err(ReadFault::NoRecord),
     }
 }
@@ -137,4 +151,19 @@ pub fn cell_range_of(alloc: Global, bytes: &[u8]) -> Result<(CellRange, &[u8]), 
         },
         rest,
     ))
+}
+
+/// Whether there is a key column, and its place, which is 0 where there is none.
+pub fn key_columns_of(alloc: Global, bytes: &[u8]) -> Result<(KeyColumns, &[u8]), ReadFault>
+    ensures { Gives (λ x. (x.0, x.1.now)) result (key_columns.read bytes.now) }
+{
+    let (has_key, rest) = flag_at(bytes)?;
+    let (place, rest) = u8_at(rest)?;
+    let mut places = KeyColumns::new(alloc);
+    if has_key {
+        places.push(place)?;
+    } else if place > 0 {
+        return Err(ReadFault::NoRecord);
+    }
+    Ok((places, rest))
 }

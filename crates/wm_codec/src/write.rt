@@ -1,19 +1,20 @@
-ghost use Rattle.std.specs.Prelude.{◌≡◌, ◌++◌, ◌<◌, length, OnOk, OnErr};
+//! Writing a record.
+ghost use Rattle.std.specs.Prelude.{◌≡◌, ◌++◌, ◌<◌, length, slice_index, OnOk, OnErr};
 ghost use Rattle.std.specs.List.{AllByRecursion};
 ghost use Rattle.wm_codec.specs.Fields.{value, CanSpellValue};
 ghost use Rattle.wm_codec.specs.Format.{counted};
-ghost use Rattle.wm_codec.specs.Spelling.{counters, column, table, space, version, savepoint, row, piece, hist, CanSpell, HasSpelling, spelling};
+ghost use Rattle.wm_codec.specs.Spelling.{counters, column, table, space, version, savepoint, row, piece, trace, lock, hist, turn, CanSpell, HasSpelling, spelling};
 ghost use Rattle.wm_codec.specs.Writing.{Appends, AppendsEach, AppendsRecord};
 
 use crate::put::{
-    put_cell_range, put_column_kind, put_flag, put_freeze_mode, put_kind, put_text, put_u8,
-    put_u16, put_u32, put_u64, put_value,
+    put_cell_range, put_column_kind, put_flag, put_freeze_mode, put_key_columns, put_kind,
+    put_lock_mode, put_text, put_u16, put_u32, put_u64, put_value,
 };
 use std::alloc::Global;
 use wm_base::{Bytes, Memory, Value, Values};
 use wm_spec::record::{
-    Counters, Hist, PieceRecord, Record, RowRecord, Savepoint, Space, Table, TableColumn,
-    TableColumns, Version,
+    Counters, Hist, Lock, PieceRecord, Record, RowRecord, Savepoint, Space, Table, TableColumn,
+    TableColumns, Trace, Turn, Version,
 };
 
 fn put_counters(into: &mut Bytes, of: &Counters) -> Result<(), Memory>
@@ -87,8 +88,7 @@ fn put_table(into: &mut Bytes, of: &Table) -> Result<(), Memory>
     put_flag(into, of.versioned)?;
     put_flag(into, of.valid)?;
     put_flag(into, of.history)?;
-    put_flag(into, of.has_key)?;
-    put_u8(into, of.key_column)?;
+    put_key_columns(into, &of.key_columns)?;
     put_columns(into, &of.columns)?;
     Ok(())
 }
@@ -163,6 +163,31 @@ fn put_piece(into: &mut Bytes, of: &PieceRecord) -> Result<(), Memory>
     Ok(())
 }
 
+/// A touch, or a mark.
+fn put_trace(into: &mut Bytes, of: &Trace) -> Result<(), Memory>
+    requires { trace.CanSpell of.now }
+    ensures { OnOk result (Appends trace into.old into.new of.now) }
+{
+    put_u32(into, of.space)?;
+    put_u32(into, of.place)?;
+    put_cell_range(into, &of.cells)?;
+    put_u64(into, of.position)?;
+    Ok(())
+}
+
+fn put_lock(into: &mut Bytes, of: &Lock) -> Result<(), Memory>
+    requires { lock.CanSpell of.now }
+    ensures { OnOk result (Appends lock into.old into.new of.now) }
+{
+    put_u32(into, of.space)?;
+    put_u32(into, of.place)?;
+    put_cell_range(into, &of.cells)?;
+    put_lock_mode(into, of.mode)?;
+    put_text(into, &of.user)?;
+    put_u64(into, of.making)?;
+    Ok(())
+}
+
 fn put_hist(into: &mut Bytes, of: &Hist) -> Result<(), Memory>
     requires { hist.CanSpell of.now }
     ensures { OnOk result (Appends hist into.old into.new of.now) }
@@ -178,44 +203,56 @@ fn put_hist(into: &mut Bytes, of: &Hist) -> Result<(), Memory>
     Ok(())
 }
 
+fn put_turn(into: &mut Bytes, of: &Turn) -> Result<(), Memory>
+    ensures { OnOk result (Appends turn into.old into.new of.now) }
+{
+    put_u32(into, of.space)?;
+    put_u32(into, of.rebase)?;
+    put_u64(into, of.log_length)?;
+    put_u32(into, of.rebases)?;
+    Ok(())
+}
+
+/// The byte for the kind of the record, with which its spelling begins.
+#[tactic(auto, unfolding(crate::specs::Spelling::spelling))]
+fn tag_of(what: &Record) -> u8
+    ensures { slice_index (spelling what.now) 0 ≡ result }
+{
+    match what {
+        Record::Counters(_) => 1,
+        Record::Table(_) => 2,
+        Record::Space(_) => 3,
+        Record::Version(_) => 4,
+        Record::Savepoint(_) => 5,
+        Record::Row(_) => 6,
+        Record::Piece(_) => 7,
+        Record::Touch(_) => 8,
+        Record::Lock(_) => 9,
+        Record::Hist(_) => 10,
+        Record::Mark(_) => 11,
+        Record::Turn(_) => 12,
+    }
+}
+
 /// A byte for the kind of the record, and its fields.
 fn put_record(into: &mut Bytes, what: &Record) -> Result<(), Memory>
     requires { CanSpell what.now }
     ensures { OnOk result (AppendsRecord into.old into.new what.now) }
 {
+    into.push(tag_of(what))?;
     match what {
-        Record::Counters(counters) => {
-            into.push(1)?;
-            put_counters(into, counters)
-        }
-        Record::Table(table) => {
-            into.push(2)?;
-            put_table(into, table)
-        }
-        Record::Space(space) => {
-            into.push(3)?;
-            put_space(into, space)
-        }
-        Record::Version(version) => {
-            into.push(4)?;
-            put_version(into, version)
-        }
-        Record::Savepoint(savepoint) => {
-            into.push(5)?;
-            put_savepoint(into, savepoint)
-        }
-        Record::Row(row) => {
-            into.push(6)?;
-            put_row(into, row)
-        }
-        Record::Piece(piece) => {
-            into.push(7)?;
-            put_piece(into, piece)
-        }
-        Record::Hist(hist) => {
-            into.push(10)?;
-            put_hist(into, hist)
-        }
+        Record::Counters(counters) => put_counters(into, counters),
+        Record::Table(table) => put_table(into, table),
+        Record::Space(space) => put_space(into, space),
+        Record::Version(version) => put_version(into, version),
+        Record::Savepoint(savepoint) => put_savepoint(into, savepoint),
+        Record::Row(row) => put_row(into, row),
+        Record::Piece(piece) => put_piece(into, piece),
+        Record::Touch(touch) => put_trace(into, touch),
+        Record::Lock(lock) => put_lock(into, lock),
+        Record::Hist(hist) => put_hist(into, hist),
+        Record::Mark(mark) => put_trace(into, mark),
+        Record::Turn(turn) => put_turn(into, turn),
     }
 }
 

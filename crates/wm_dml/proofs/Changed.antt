@@ -1,5 +1,5 @@
 -- The rows that UPDATE and DELETE write are in order.
-use Rattle.std.proofs.Common.{◌≡◌, suc, true, false, List, [], ◌∷◌, length, map, refl, sym, ap, ◌∙◌, arith}
+use Rattle.std.proofs.Common.{◌≡◌, ℕ, suc, Bool, true, false, nat_lt, List, [], ◌∷◌, length, map, refl, sym, ap, ◌∙◌, arith}
 use Rattle.std.proofs.lemmas.Bool.{and_from, and_parts}
 use Rattle.std.specs.Prelude.{Option, Some, None, ◌&&◌, option_map}
 use Rattle.std.specs.List.{list_all}
@@ -11,9 +11,10 @@ use Rattle.wm_base.specs.Period.{Span, shared}
 use Rattle.wm_base.specs.Trees.{Cond, Set}
 use Rattle.wm_base.specs.declared.row.Row.{Row}
 use Rattle.wm_base.specs.declared.value.Value.{Value}
-use Rattle.wm_graph.specs.Rules.{is_table, key_of, is_row_of, is_key_of, is_key}
+use Rattle.wm_graph.specs.Rules.{is_table, has_key, key_of, is_row_of, is_key_of, is_key, are_typed}
 use Rattle.wm_making.specs.Rows.{first_column, lacks_value, heavy_part, is_filled, null_in, too_heavy, row_fault}
 use Rattle.wm_spec.specs.Expressions.{has_no_empty_period}
+use Rattle.wm_spec.specs.declared.record.column.TableColumn.{TableColumn}
 use Rattle.wm_spec.specs.declared.record.table.Table.{Table}
 use Rattle.wm_typing.specs.Changing.{key_set, update_fault}
 use Rattle.wm_dml.specs.Changing.{own_columns, declared_values, row_period, row_key, gone, sets_period, updated_row, row_before, updated_rows, first_some, rows_fault, replacing}
@@ -41,13 +42,22 @@ gone_periods t within (row ∷ rows) = ap (λ periods. shared (row_period t row)
 
 -- ---- UPDATE
 
+-- no values are no key
+none_typed : (columns : List TableColumn) (places : List ℕ) → (nat_lt 0 (length places) && are_typed columns places []) ≡ false
+none_typed columns [] = refl
+none_typed columns (place ∷ places) = never (nat_lt 0 (length (place ∷ places)))
+  where
+    never : (b : Bool) → (b && false) ≡ false
+    never true = refl
+    never false = refl
+
 -- a key of the table's is that of the row
 pub same_key : (t : Table) (row : List Value) → is_key_of (row_key t row) t ≡ true → is_key (row_key t row) (key_of t row) ≡ true
 same_key t row fits = by_key (key_of t row) refl
   where
     by_key : (o : Option (List Value)) → key_of t row ≡ o → is_key (row_key t row) (key_of t row) ≡ true
     by_key None is =
-        let e : is_key_of (row_key t row) t ≡ false = rw is refl in
+        let e : is_key_of (row_key t row) t ≡ false = rw is (none_typed t.columns t.key_columns) in
         absurd (let f : true ≡ false = sym fits ∙ e in cc)
     by_key (Some k) is = rw is (ap is_eq (key_order-itself k))
 
@@ -113,7 +123,7 @@ made_as_many t sets (row ∷ rows) news made =
     let parts = rows_made (updated_row t sets row) (updated_rows t sets rows) news made in
     ap (λ n. suc n) (made_as_many t sets rows parts.1 parts.3) ∙ sym (ap length parts.4)
 
-rows_replace : (t : Table) (sets : List Set) → is_table t ≡ true → t.has_key ≡ true → EachFits (own_columns t) sets → key_set t sets ≡ None →
+rows_replace : (t : Table) (sets : List Set) → is_table t ≡ true → has_key t ≡ true → EachFits (own_columns t) sets → key_set t sets ≡ None →
     (rows : List Row) (news : List (List Value)) → all_stand t rows ≡ true → updated_rows t sets rows ≡ Some news →
     first_some (λ row. first_column (lacks_value t) 0 t.columns row) news ≡ None → first_some (heavy_part t) news ≡ None →
     (list_all (stands_in t) news ≡ true) × (map (row_key t) news ≡ keys_of t rows)
@@ -131,7 +141,7 @@ rows_replace t sets order keyed typed unset (row ∷ rows) news old made full li
     )
 
 -- rows that UPDATE makes of shown rows of the table, where neither it nor they are refused, may stand in the places of the old ones
-pub may_replace : (t : Table) (sets : List Set) (filter : Option Cond) (rows : List Row) (news : List (List Value)) → is_table t ≡ true → t.has_key ≡ true →
+pub may_replace : (t : Table) (sets : List Set) (filter : Option Cond) (rows : List Row) (news : List (List Value)) → is_table t ≡ true → has_key t ≡ true →
     update_fault t sets filter ≡ None → all_stand t rows ≡ true → updated_rows t sets rows ≡ Some news → rows_fault t news ≡ None → MayReplace t rows news
 may_replace t sets filter rows news order keyed fine old made light =
     let update = update_parts t sets filter fine in

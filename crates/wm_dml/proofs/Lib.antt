@@ -12,3 +12,4 @@ pub mod Plain
 pub mod Moves
 pub mod Shifted
 pub mod Kept
+pub mod Gathered

@@ -1,7 +1,7 @@
 -- Rows of a table without valid time hold always, and are nothing but their declared values.
 use Rattle.std.proofs.Common.{◌≡◌, Bool, true, false, cond, List, [], ◌∷◌, length, map, take, drop, refl, ap, ◌∙◌}
 use Rattle.std.proofs.lemmas.Bool.{and_from}
-use Rattle.std.specs.Prelude.{Option, Some, None, ◌&&◌, slice_get, unwrap_or}
+use Rattle.std.specs.Prelude.{◌&&◌, slice_get, unwrap_or}
 use Rattle.std.specs.List.{list_all}
 use Rattle.std.specs.Option.{option_and_then}
 use Rattle.wm_base.specs.Period.{always, overlaps, shared}
@@ -11,7 +11,6 @@ use Rattle.wm_spec.specs.Operands.{period_of}
 use Rattle.wm_spec.specs.declared.record.table.Table.{Table}
 use Rattle.wm_dml.specs.Changing.{declared_values, row_period, all_overlap, row_key}
 use Rattle.wm_dml.specs.Standing.{stands_in, is_period_alone, is_shown, all_stand, keys_of}
-use Rattle.wm_dml.specs.declared.change.RowChange.{RowChange}
 
 pub always_shared : shared always always ≡ always
 always_shared = refl

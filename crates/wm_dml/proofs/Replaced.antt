@@ -1,9 +1,9 @@
 -- A row that UPDATE makes of another may stand in its place.
 use Rattle.std.proofs.Common.{◌≡◌, ℕ, zero, suc, ◌<◌, ◌≤◌, Bool, true, false, cond, List, [], ◌∷◌, ◌++◌, length, map, take, nat_lt, refl, sym, ap, ◌∙◌, subst, arith, get_or}
-use Rattle.std.proofs.lemmas.Bool.{and_from, and_parts, ltb-false, ltb-true}
-use Rattle.std.specs.Prelude.{Option, Some, None, ◌&&◌, ◌||◌, ◌==◌, slice_get, option_map, unwrap_or}
-use Rattle.std.specs.List.{find, list_all, position}
-use Rattle.std.specs.Option.{option_map_or, option_and_then}
+use Rattle.std.proofs.lemmas.Bool.{and_from, and_parts, ltb-false, ltb-true, or_parts}
+use Rattle.std.specs.Prelude.{Option, Some, None, ◌||◌, ◌==◌, slice_get, option_map, unwrap_or}
+use Rattle.std.specs.List.{find, list_all, list_any, position}
+use Rattle.std.specs.Option.{option_map_or}
 use Rattle.std.specs.Str.{bytes_eq}
 use Rattle.std.proofs.lemmas.List.{length-map}
 use Rattle.std.proofs.lemmas.List.Quantifiers.{position-Some}
@@ -14,19 +14,20 @@ use Rattle.wm_base.specs.declared.row.Row.{Row}
 use Rattle.wm_base.specs.declared.value.Value.{Value}
 use Rattle.wm_base.specs.Trees.{Set}
 use Rattle.wm_base.specs.Value.{type_place}
-use Rattle.wm_graph.specs.Rules.{differ, same_column, is_table, type_of, fits_column, fit_columns, is_key_of}
+use Rattle.wm_graph.specs.Rules.{differ, same_column, is_table, has_key, type_of, fits_column, fit_columns, is_key_of}
+use Rattle.wm_graph.proofs.Keyed.{OneKey, one_key, key_alone}
 use Rattle.wm_making.proofs.Filled.{stored_filled}
 use Rattle.wm_making.proofs.Fitted.{of_type, suits_on}
 use Rattle.wm_making.proofs.Nones.{if_none, same_bytes, same_name}
 use Rattle.wm_making.proofs.Placed.{got}
-use Rattle.wm_making.proofs.Written.{turned, found_itself, before_some, stored_typed, table_parts, stands}
+use Rattle.wm_making.proofs.Written.{turned, found_itself, before_some, stored_typed, columns_apart, stands}
 use Rattle.wm_making.specs.Inserting.{has_name}
 use Rattle.wm_making.specs.Rows.{before, stored, is_filled, row_fault}
 use Rattle.wm_spec.specs.Expressions.{value_of}
 use Rattle.wm_spec.specs.Operands.{is_named, kind_of, fits_columns}
 use Rattle.wm_spec.specs.declared.record.column.TableColumn.{TableColumn}
 use Rattle.wm_spec.specs.declared.record.table.Table.{Table}
-use Rattle.wm_typing.specs.Changing.{is_key, key_set}
+use Rattle.wm_typing.specs.Changing.{is_key, is_named_at, key_set}
 use Rattle.wm_typing.specs.Columns.{declared_column, valid_column}
 use Rattle.wm_dml.specs.Changing.{own_columns, declared_values, row_key, set_value, set_values, updated_row}
 use Rattle.wm_dml.specs.Standing.{stands_in, is_shown}
@@ -198,7 +199,7 @@ set_filled columns sets row c v w filled made = by_set (find (λ (s : Set). byte
         ap is_filled e ∙ filled
     by_set (Some s) is = by_value (value_of s.becomes columns row) (sym (set_becomes columns sets row c v s is) ∙ made)
 
-new_filled : (columns : List Column) (sets : List Set) (row : Row) (cs : List TableColumn) (vs new : List Value) → list_all is_filled vs ≡ true → set_values columns sets row cs vs ≡ Some new → list_all is_filled new ≡ true
+pub new_filled : (columns : List Column) (sets : List Set) (row : Row) (cs : List TableColumn) (vs new : List Value) → list_all is_filled vs ≡ true → set_values columns sets row cs vs ≡ Some new → list_all is_filled new ≡ true
 new_filled columns sets row [] vs new filled made = let e : new ≡ [] = cc in ap (list_all is_filled) e
 new_filled columns sets row (c ∷ cs) [] new filled made = let e : new ≡ [] = cc in ap (list_all is_filled) e
 new_filled columns sets row (c ∷ cs) (v ∷ vs) new filled made =
@@ -209,43 +210,44 @@ new_filled columns sets row (c ∷ cs) (v ∷ vs) new filled made =
 -- ---- its key
 
 -- where no key column is set, none of the sets has the name of the key
-not_key : (t : Table) (c : TableColumn) (sets : List Set) → t.has_key ≡ true → slice_get t.columns t.key_column ≡ Some c → find (λ (s : Set). is_key t s.name) sets ≡ None →
+not_key : (t : Table) (one : OneKey t) (c : TableColumn) (sets : List Set) → slice_get t.columns one.place ≡ Some c → find (λ (s : Set). is_key t s.name) sets ≡ None →
     find (λ (s : Set). bytes_eq s.name c.name) sets ≡ None
-not_key t c [] keyed there none = refl
-not_key t c (s ∷ ss) keyed there none =
+not_key t one c [] there none = refl
+not_key t one c (s ∷ ss) there none =
     let parts = if_none (is_key t s.name) s (find (λ (s : Set). is_key t s.name) ss) none in
-    let asked : is_key t s.name ≡ bytes_eq c.name s.name =
-    ap (λ b. b && option_map_or (λ (c : TableColumn). bytes_eq c.name s.name) (slice_get t.columns t.key_column) false) keyed
-    ∙ ap (λ o. option_map_or (λ (c : TableColumn). bytes_eq c.name s.name) o false) there in
-    ap (λ b. cond b (Some s) (find (λ (s : Set). bytes_eq s.name c.name) ss)) (turned c.name s.name (sym asked ∙ parts.0)) ∙ not_key t c ss keyed there parts.1
+    let asked : is_key t s.name ≡ (bytes_eq c.name s.name || false) =
+    ap (list_any (is_named_at t.columns s.name)) one.is
+    ∙ ap (λ o. option_map_or (λ (c : TableColumn). bytes_eq c.name s.name) o false || false) there in
+    ap (λ b. cond b (Some s) (find (λ (s : Set). bytes_eq s.name c.name) ss)) (turned c.name s.name (or_parts (bytes_eq c.name s.name) false (sym asked ∙ parts.0)).0) ∙ not_key t one c ss there parts.1
 
-key_stays : (t : Table) (columns : List Column) (sets : List Set) (row : Row) (vs new : List Value) → is_table t ≡ true → t.has_key ≡ true → key_set t sets ≡ None → fit_columns t.columns vs ≡ true →
-    set_values columns sets row t.columns vs ≡ Some new → slice_get new t.key_column ≡ slice_get vs t.key_column
-key_stays t columns sets row vs new order keyed none fit made =
-    let near : t.key_column < length t.columns = ltb-true t.key_column (length t.columns) (sym (ap (λ b. cond b (nat_lt t.key_column (length t.columns)) true) keyed) ∙ (table_parts t order).1) in
+key_stays : (t : Table) (one : OneKey t) (columns : List Column) (sets : List Set) (row : Row) (vs new : List Value) → key_set t sets ≡ None → fit_columns t.columns vs ≡ true →
+    set_values columns sets row t.columns vs ≡ Some new → slice_get new one.place ≡ slice_get vs one.place
+key_stays t one columns sets row vs new none fit made =
+    let near : one.place < length t.columns = one.near in
     let same : length t.columns ≡ length new = new_length columns sets row t.columns vs new fit made in
-    let column = got t.columns t.key_column near in
-    let value = got new t.key_column (omega (arith, near, same)) in
-    let old = each_set columns sets row t.columns vs new fit made t.key_column column.0 value.0 column.1 value.1 in
-    let unset = not_key t column.0 sets keyed column.1 (none_mapped (λ (s : Set). s.name) (find (λ (s : Set). is_key t s.name) sets) none) in
+    let column = got t.columns one.place near in
+    let value = got new one.place (omega (arith, near, same)) in
+    let old = each_set columns sets row t.columns vs new fit made one.place column.0 value.0 column.1 value.1 in
+    let unset = not_key t one column.0 sets column.1 (none_mapped (λ (s : Set). s.name) (find (λ (s : Set). is_key t s.name) sets) none) in
     value.1 ∙ sym old.3 ∙ unset_value columns sets row column.0 old.0 unset ∙ sym old.1
 
 -- ---- the law
 
 -- the row that UPDATE makes of a shown one stands in the table, under the same key
-pub row_replaces : (t : Table) (sets : List Set) (row : Row) (new : List Value) → is_table t ≡ true → t.has_key ≡ true →
+pub row_replaces : (t : Table) (sets : List Set) (row : Row) (new : List Value) → is_table t ≡ true → has_key t ≡ true →
     EachFits (own_columns t) sets → key_set t sets ≡ None → is_shown t row.values ≡ true → updated_row t sets row ≡ Some new → row_fault t new ≡ None →
     (stands_in t new ≡ true) × (row_key t new ≡ row_key t (declared_values t row.values))
 row_replaces t sets row new order keyed typed unset old made light =
     let columns = own_columns t in
+    let one = one_key t order keyed in
     let vs = declared_values t row.values in
     let olds = shown_parts t row.values old in
     let fit = (and_parts (fit_columns t.columns vs) _ olds.0).0 in
     let set : set_values columns sets row t.columns vs ≡ Some new = set_declared columns sets row t row.values ∙ made in
     let stand = stands t new order keyed light (new_length columns sets row t.columns vs new fit set) (λ p c w column value.
     let was = each_set columns sets row t.columns vs new fit set p c w column value in
-    value_suits t.name t.columns (cond t.valid (valid_column t.name ∷ []) []) sets row p c was.0 w (table_parts t order).0 typed (shown_fits t row.values old) column was.2 was.3) in
+    value_suits t.name t.columns (cond t.valid (valid_column t.name ∷ []) []) sets row p c was.0 w (columns_apart t order) typed (shown_fits t row.values old) column was.2 was.3) in
     let key : row_key t new ≡ stand.value ∷ [] = ap (λ o. unwrap_or o []) stand.key in (
       and_from _ _ stand.fits (and_from _ _ (ap (λ k. is_key_of k t) key ∙ stand.key_fits) (new_filled columns sets row t.columns vs new olds.2 set)),
-      ap (λ o. unwrap_or (option_and_then (λ v. cond t.has_key (Some (v ∷ [])) None) o) []) (key_stays t columns sets row vs new order keyed unset fit set),
+      ap (λ o. unwrap_or o []) (key_alone t one new) ∙ ap (λ o. unwrap_or (option_map (λ (v : Value). v ∷ []) o) []) (key_stays t one columns sets row vs new unset fit set) ∙ ap (λ o. unwrap_or o []) (sym (key_alone t one vs)),
     )

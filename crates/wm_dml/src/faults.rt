@@ -2,7 +2,7 @@
 ghost use Rattle.std.specs.Prelude.{◌≡◌, true, List, Option, None, Some, IfOk, option_copied};
 ghost use Rattle.wm_base.specs.Trees.{Cond as CondTree, Set as SetTree};
 ghost use Rattle.wm_base.specs.declared.row.Row.{Row as RowOf};
-ghost use Rattle.wm_graph.specs.Rules.{is_table};
+ghost use Rattle.wm_graph.specs.Rules.{has_key, is_table};
 ghost use Rattle.wm_making.specs.Rows.{first_column, lacks_value, heavy_part as heavy_of};
 ghost use Rattle.wm_typing.specs.Changing.{update_fault};
 ghost use Rattle.wm_dml.specs.Changing.{first_some, updated_rows, rows_fault as fault_of_rows};
@@ -71,7 +71,7 @@ pub fn rows_fault(alloc: Global, table: &Table, rows: &[Values]) -> Result<Optio
     ensures fault { IfOk result (λ refusal. refusal ≡ fault_of_rows table.now rows.now) }
 
     // Rows that an UPDATE makes of shown rows of the table, where neither is refused, may stand in their places.
-    ensures may_replace { IfOk result (λ refusal. refusal ≡ None → (sets : List SetTree) (filter : Option CondTree) (olds : List RowOf) → update_fault table.now sets filter ≡ None → updated_rows table.now sets olds ≡ Some rows.now → all_stand table.now olds ≡ true → is_table table.now ≡ true → table.now.has_key ≡ true → MayReplace table.now olds rows.now) }
+    ensures may_replace { IfOk result (λ refusal. refusal ≡ None → (sets : List SetTree) (filter : Option CondTree) (olds : List RowOf) → update_fault table.now sets filter ≡ None → updated_rows table.now sets olds ≡ Some rows.now → all_stand table.now olds ≡ true → is_table table.now ≡ true → has_key table.now ≡ true → MayReplace table.now olds rows.now) }
 {
     let refusal = fault_of(alloc, table, rows)?;
     Ok(refusal)

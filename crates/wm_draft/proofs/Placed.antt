@@ -1,5 +1,6 @@
 -- Where the records stand that an edit is about.
-use Rattle.std.proofs.Common.{◌≡◌, ℕ, ◌+◌, ◌<◌, ◌≤◌, ◌^◌, ◌&&◌, nat_le, nat_lt, true, List, [], ◌∷◌, Option, Some, None, Bor, refl, sym, ap, ◌∙◌, arith}
+use Rattle.std.proofs.Common.{◌≡◌, ℕ, ◌+◌, ◌-◌, ◌<◌, ◌≤◌, ◌^◌, ◌&&◌, nat_le, nat_lt, Bool, true, false, is_some, List, [], ◌∷◌, Option, Some, None, Bor, refl, sym, ap, ◌∙◌, arith}
+use Rattle.std.proofs.lemmas.Bool.Decides.{nat_tests}
 use Rattle.std.specs.Option.{option_and_then, option_copied, option_to_list}
 use Rattle.wm_base.specs.declared.instant.TheConstants.{END}
 use Rattle.wm_graph.specs.Parts.{Parts, parts_of, as_counters, as_space, as_table, space_of}
@@ -16,6 +17,7 @@ use Rattle.wm_state.proofs.Counting.{counted_well}
 use Rattle.wm_written.proofs.Ids.{under_next}
 use Rattle.wm_state.proofs.Settled.{Places}
 use Rattle.wm_state.proofs.Tests.{both}
+use Rattle.wm_draft.specs.Drafting.{HasGreatId}
 
 -- the id of the counters has them
 pub counters_at : (c : Counters) (cs : List Counters) (o : Option Record) → cs ≡ c ∷ [] → cs ≡ option_to_list (option_and_then as_counters o) → o ≡ Some (records.Counters c)
@@ -92,3 +94,23 @@ version_fits p c rules one =
   where
     fits : (v w : ℕ) → nat_le w (2 ^ 62) ≡ true → nat_le v (w + 2) ≡ true → v + 1 < 2 ^ 64
     fits v w few under = grind (arith, few, under)
+
+-- ---- where no ids are left
+
+-- fewer ids than are wanted, half of all at most, are left from the next one on
+pub used_up : (ss : List Stored) (id count : ℕ) (left : Bool) → left ≡ nat_lt (id + count) (2 ^ 64) → left ≡ false → count ≤ 2 ^ 63 → ((i : ℕ) → id ≡ i + 1 → 0 < i → is_some (record_at ss i) ≡ true) → HasGreatId ss
+used_up ss id count left is none few lowest =
+    let great = above id count (sym is ∙ none) few in
+    (id - 1, before id great, lowest (id - 1) (behind id great) (some id great))
+  where
+    above : (i k : ℕ) → nat_lt (i + k) (2 ^ 64) ≡ false → k ≤ 2 ^ 63 → 2 ^ 63 ≤ i
+    above i k more le = grind (arith, nat_tests, more, le)
+
+    before : (i : ℕ) → 2 ^ 63 ≤ i → 2 ^ 63 ≤ i - 1 + 1
+    before i le = grind (arith, le)
+
+    behind : (i : ℕ) → 2 ^ 63 ≤ i → i ≡ i - 1 + 1
+    behind i le = grind (arith, le)
+
+    some : (i : ℕ) → 2 ^ 63 ≤ i → 0 < i - 1
+    some i le = grind (arith, le)

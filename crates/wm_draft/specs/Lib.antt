@@ -1,4 +1,5 @@
-pub mod Gone
+pub mod Views
+pub mod Layers
 pub mod Redraw
 pub mod Points
 pub mod Drafting

@@ -1,25 +1,27 @@
 //! A workspace is born in another, at a savepoint that is made for it.
-ghost use Rattle.std.specs.Prelude.{◌≡◌, ◌+◌, ◌<◌, ◌^◌, ◌++◌, ◌∷◌, [], nat_lt, true, false, IfOk, ℕ};
+ghost use Rattle.std.specs.Prelude.{◌≡◌, ◌++◌, ◌∷◌, [], nat_lt, true, false, IfOk, IfErr};
 ghost use Rattle.std.specs.Fmt.{decimal};
-ghost use Rattle.wm_graph.specs.Parts.{Parts, parts_of};
+ghost use Rattle.wm_graph.specs.Parts.{parts_of};
 ghost use Rattle.wm_graph.specs.Rules.{keep_rules};
+ghost use Rattle.wm_draft.specs.Drafting.{HasGreatId};
 ghost use Rattle.wm_draft.specs.Points.{point_view};
 ghost use Rattle.wm_state.specs.Drafts.{CanBear, CanWork, DraftsBy};
 ghost use Rattle.wm_state.specs.Editing.{implicit_front, number_limit, stand_of};
-ghost use Rattle.wm_state.specs.Points.{child_record, next_place_at};
+ghost use Rattle.wm_state.specs.Points.{child_record, child_turn, child_version, next_place_at};
 ghost use Rattle.wm_state.specs.Standing.{space_after};
 ghost use Rattle.wm_state.specs.declared.edit.Edit.TheVariants as edits;
 
 use crate::changes::{birth_changes, marked, savepoint_changes};
-use crate::counts::versioned;
+use crate::counts::{ids_from, versioned};
+use crate::drafting::DraftFault;
 use crate::points::{Point, made_at, point_at};
 use std::alloc::Global;
 use wm_base::{Memory, Name};
 use wm_image::Image;
-use wm_spec::record::{Changes, FreezeMode, Space, Version};
+use wm_spec::record::{Changes, Counters, FreezeMode, Space, Turn, Version};
 
-/// The id from which on a birth finds no room.
-const ID_LIMIT: u64 = u64::MAX - 2;
+/// How many new ids the records of a birth take: a savepoint, a workspace, a version and a turn.
+const BIRTH_IDS: u64 = 4;
 
 /// The name of the implicit savepoint of a number.
 pub fn implicit_name(alloc: Global, number: u32) -> Result<Name, Memory>
@@ -43,18 +45,31 @@ fn next_place_at(space: &Space, at: Option<u64>) -> u32
     }
 }
 
-/// The workspace that is born at a point of another.
-fn child_record(
+/// What is new of a workspace that is born: itself, a version of its own, and the turn of its birth.
+#[derive(Drop)]
+struct Newborn {
+    child: Space,
+    version: Version,
+    turn: Turn,
+}
+
+/// What is new of a workspace that is born at a moment, at a point of another, the counters being these.
+fn born_at(
     alloc: Global,
-    number: u32,
+    image: &Image,
+    counters: Counters,
     name: Name,
     parent: &Space,
     born: u64,
     point: Point,
-) -> Space
-    ensures { (p : Parts) → number ≡ space_after p.spaces → result ≡ child_record p parent.now born name (point_view point) }
+) -> Newborn
+    requires numbers { nat_lt number_limit (space_after (parts_of image.now).spaces) ≡ false }
+    ensures child { result.child ≡ child_record (parts_of image.now) parent.now born name (point_view point) }
+    ensures version { result.version ≡ child_version (parts_of image.now) counters (point_view point) }
+    ensures turn { result.turn ≡ child_turn (parts_of image.now) (point_view point) }
 {
-    Space {
+    let number = image.next_space() as u32;
+    let child = Space {
         number,
         name,
         parent: parent.number,
@@ -69,6 +84,22 @@ fn child_record(
         next_implicit: 1,
         freeze: FreezeMode::Free,
         writer: Name::from_vec(Vec::new(alloc)),
+    };
+    let version = Version {
+        number: counters.next_version,
+        space: number,
+        parent: point.version,
+    };
+    let turn = Turn {
+        space: number,
+        rebase: 0,
+        log_length: point.log_length,
+        rebases: point.rebases,
+    };
+    Newborn {
+        child,
+        version,
+        turn,
     }
 }
 
@@ -81,31 +112,20 @@ pub fn bear(
     parent: u32,
     at: Option<u64>,
     name: Name,
-) -> Result<Changes, Memory>
+) -> Result<Changes, DraftFault>
     requires rules { keep_rules (parts_of image.now) ≡ true }
     requires work { CanWork (parts_of image.now) moment work }
     requires can { CanBear (parts_of image.now) moment parent at name }
-    ensures { IfOk result (DraftsBy work image.now moment (edits.Bear parent at name ∷ [])) }
+    ensures drafts { IfOk result (DraftsBy work image.now moment (edits.Bear parent at name ∷ [])) }
+    ensures full { IfErr result (λ fault. fault ≡ DraftFault.Ids → HasGreatId image.now) }
 {
-    let Some(id) = image.next_id() else {
-        return Err(Memory);
-    };
-    if id >= ID_LIMIT {
-        return Err(Memory);
-    }
+    let id = ids_from(image, BIRTH_IDS)?;
     let space = image.space(parent).unwrap();
     let space_id = image.id_of_space(parent).unwrap();
     let point = point_at(image, moment, space, at).unwrap();
-    let number = image.next_space() as u32;
-    let counters = image.counters();
-    let version = Version {
-        number: counters.next_version,
-        space: number,
-        parent: point.version,
-    };
     let implicit = implicit_name(alloc, space.next_implicit)?;
     let savepoint = made_at(image, space, implicit, true, point);
-    let child = child_record(alloc, number, name, space, moment, point);
+    let counters = image.counters();
     let counted = versioned(counters, moment, work);
     let new = marked(
         alloc,
@@ -115,6 +135,7 @@ pub fn bear(
     )?;
     let counters_id = image.id_of_counters();
     let saved = savepoint_changes(alloc, counters_id, counted, space_id, new, id, savepoint)?;
-    let changes = birth_changes(saved, id, child, version)?;
+    let born = born_at(alloc, image, counters, name, space, moment, point);
+    let changes = birth_changes(saved, id, born.child, born.version, born.turn)?;
     Ok(changes)
 }

@@ -9,10 +9,10 @@ use crate::copies::space_copy;
 use std::alloc::Global;
 use wm_base::Memory;
 use wm_image::copies::table_copy;
-use wm_spec::record::{Change, Changes, Counters, Record, Savepoint, Space, Table, Version};
+use wm_spec::record::{Change, Changes, Counters, Record, Savepoint, Space, Table, Turn, Version};
 
 /// A record takes the place of the one of its id, or is new.
-fn put(id: u64, new: Record) -> Change
+pub fn put(id: u64, new: Record) -> Change
     ensures { result ≡ put id new }
 {
     Change {
@@ -22,7 +22,7 @@ fn put(id: u64, new: Record) -> Change
 }
 
 /// Drops the records of these ids.
-fn drop_all(changes: &mut Changes, ids: &[u64]) -> Result<(), Memory>
+pub fn drop_all(changes: &mut Changes, ids: &[u64]) -> Result<(), Memory>
     ensures { OnOk result (changes.new ≡ changes.old ++ map drop_one ids.now) }
 {
     for id in ids {
@@ -35,7 +35,7 @@ fn drop_all(changes: &mut Changes, ids: &[u64]) -> Result<(), Memory>
 }
 
 /// Puts new records, whose ids follow one another from this one on.
-fn put_all(changes: &mut Changes, id: u64, records: Vec<Record>) -> Result<(), Memory>
+pub fn put_all(changes: &mut Changes, id: u64, records: Vec<Record>) -> Result<(), Memory>
     requires { id + length records.items < 2 ^ 64 }
     ensures { OnOk result (changes.new ≡ changes.old ++ put_all id records.items) }
 {
@@ -60,34 +60,6 @@ pub fn table_changes(
     let mut changes = Changes::new(alloc);
     changes.push(put(counters_id, Record::Counters(counters)))?;
     changes.push(put(id, Record::Table(table)))?;
-    Ok(changes)
-}
-
-/// What is put for rows, for pieces in the place of the records of some ids, and for entries of a log, behind other changes.
-pub fn written_changes(
-    front: Changes,
-    counters_id: u64,
-    counters: Counters,
-    space_id: u64,
-    space: Space,
-    dropped: &[u64],
-    id: u64,
-    rows: Vec<Record>,
-    pieces: Vec<Record>,
-    hists: Vec<Record>,
-) -> Result<Changes, Memory>
-    requires { id + length rows.items + length pieces.items + length hists.items < 2 ^ 64 }
-    ensures { IfOk result (λ changes. changes ≡ front ++ (put counters_id (records.Counters counters) ∷ put space_id (records.Space space) ∷ (map drop_one dropped.now ++ (put_all id rows.items ++ (put_all (id + length rows.items) pieces.items ++ put_all (id + length rows.items + length pieces.items) hists.items))))) }
-{
-    let mut changes = front;
-    changes.push(put(counters_id, Record::Counters(counters)))?;
-    changes.push(put(space_id, Record::Space(space)))?;
-    drop_all(&mut changes, dropped)?;
-    let piece_id = id + rows.len() as u64;
-    let hist_id = piece_id + pieces.len() as u64;
-    put_all(&mut changes, id, rows)?;
-    put_all(&mut changes, piece_id, pieces)?;
-    put_all(&mut changes, hist_id, hists)?;
     Ok(changes)
 }
 
@@ -136,13 +108,15 @@ pub fn birth_changes(
     id: u64,
     child: Space,
     version: Version,
+    turn: Turn,
 ) -> Result<Changes, Memory>
-    requires { id + 2 < 2 ^ 64 }
-    ensures { IfOk result (λ changes. changes ≡ saved ++ put (id + 1) (records.Space child) ∷ put (id + 2) (records.Version version) ∷ []) }
+    requires { id + 3 < 2 ^ 64 }
+    ensures { IfOk result (λ changes. changes ≡ saved ++ put (id + 1) (records.Space child) ∷ put (id + 2) (records.Version version) ∷ put (id + 3) (records.Turn turn) ∷ []) }
 {
     let mut changes = saved;
     changes.push(put(id + 1, Record::Space(child)))?;
     changes.push(put(id + 2, Record::Version(version)))?;
+    changes.push(put(id + 3, Record::Turn(turn)))?;
     Ok(changes)
 }
 

@@ -5,7 +5,7 @@ use std::alloc::Global;
 use wm_base::Memory;
 use wm_image::copies::table_copy;
 use wm_spec::record::{
-    CellRange, Change, Changes, Hist, PieceRecord, Record, RowRecord, Savepoint, Space,
+    CellRange, Change, Changes, Hist, Lock, PieceRecord, Record, RowRecord, Savepoint, Space, Trace,
 };
 
 /// A copy of a workspace.
@@ -65,7 +65,7 @@ fn row_copy(alloc: Global, row: &RowRecord) -> Result<RowRecord, Memory>
 }
 
 /// A copy of cells.
-fn cells_copy(alloc: Global, cells: &CellRange) -> Result<CellRange, Memory>
+pub fn cells_copy(alloc: Global, cells: &CellRange) -> Result<CellRange, Memory>
     ensures { IfOk result (λ new. new ≡ cells.now) }
 {
     let key = cells.key.copy(alloc)?;
@@ -88,6 +88,35 @@ fn piece_copy(alloc: Global, piece: &PieceRecord) -> Result<PieceRecord, Memory>
         stamp: piece.stamp,
         kind: piece.kind,
         gone: piece.gone,
+    })
+}
+
+/// A copy of a touch or of a mark.
+fn trace_copy(alloc: Global, trace: &Trace) -> Result<Trace, Memory>
+    ensures { IfOk result (λ new. new ≡ trace.now) }
+{
+    let cells = cells_copy(alloc, &trace.cells)?;
+    Ok(Trace {
+        space: trace.space,
+        place: trace.place,
+        cells,
+        position: trace.position,
+    })
+}
+
+/// A copy of a lock.
+fn lock_copy(alloc: Global, lock: &Lock) -> Result<Lock, Memory>
+    ensures { IfOk result (λ new. new ≡ lock.now) }
+{
+    let cells = cells_copy(alloc, &lock.cells)?;
+    let user = lock.user.copy(alloc)?;
+    Ok(Lock {
+        space: lock.space,
+        place: lock.place,
+        cells,
+        mode: lock.mode,
+        user,
+        making: lock.making,
     })
 }
 
@@ -121,7 +150,11 @@ fn record_copy(alloc: Global, old: &Record) -> Result<Record, Memory>
         Record::Savepoint(savepoint) => Record::Savepoint(savepoint_copy(alloc, savepoint)?),
         Record::Row(row) => Record::Row(row_copy(alloc, row)?),
         Record::Piece(piece) => Record::Piece(piece_copy(alloc, piece)?),
+        Record::Touch(touch) => Record::Touch(trace_copy(alloc, touch)?),
+        Record::Lock(lock) => Record::Lock(lock_copy(alloc, lock)?),
         Record::Hist(hist) => Record::Hist(hist_copy(alloc, hist)?),
+        Record::Mark(mark) => Record::Mark(trace_copy(alloc, mark)?),
+        Record::Turn(turn) => Record::Turn(*turn),
     })
 }
 

@@ -1,5 +1,7 @@
 //! What becomes of the records where a line makes its edits.
-ghost use Rattle.std.specs.Prelude.{◌≡◌, ◌≤◌, ◌∷◌, [], length, true, IfOk, OnOk};
+ghost use Rattle.std.specs.Prelude.{◌≡◌, ◌≤◌, ◌∷◌, [], length, true, IfOk, IfErr, OnOk};
+ghost use Rattle.wm_draft.specs.Drafting.{HasGreatId};
+ghost use Rattle.wm_draft.specs.declared.drafting.DraftFault.TheVariants.{Memory as NoMemory};
 ghost use Rattle.wm_graph.specs.Parts.{parts_of};
 ghost use Rattle.wm_graph.specs.Rules.{keep_rules};
 ghost use Rattle.wm_state.specs.ById.{Ascend, applied};
@@ -12,10 +14,29 @@ use crate::followed::followed_by;
 use crate::saves::save;
 use crate::tables::{create, enable};
 use std::alloc::Global;
+use thiserror::Error;
 use wm_base::Memory;
 use wm_image::Image;
 use wm_spec::record::{Batch, Changes};
 use wm_state::edit::{Edit, LINE_WORK};
+
+/// Why the edits of a line are not drafted.
+#[derive(Clone, Copy, Debug, PartialEq, Eq, Error)]
+pub enum DraftFault {
+    #[error("out of memory")]
+    Memory,
+    /// Too few ids are left for the records that they add.
+    #[error("out of ids")]
+    Ids,
+}
+
+impl From<Memory> for DraftFault {
+    ghost from_gives = { λ _ e. e ≡ NoMemory };
+
+    fn from(_error: Memory) -> DraftFault {
+        DraftFault::Memory
+    }
+}
 
 /// What an edit at a moment makes of the records, with so much work.
 fn draft_one(
@@ -24,11 +45,12 @@ fn draft_one(
     moment: u64,
     work: u64,
     edit: Edit,
-) -> Result<Changes, Memory>
+) -> Result<Changes, DraftFault>
     requires rules { keep_rules (parts_of image.now) ≡ true }
     requires work { CanWork (parts_of image.now) moment work }
     requires can { CanEdit (parts_of image.now) moment edit }
-    ensures { IfOk result (DraftsBy work image.now moment (edit ∷ [])) }
+    ensures drafts { IfOk result (DraftsBy work image.now moment (edit ∷ [])) }
+    ensures full { IfErr result (λ fault. fault ≡ DraftFault.Ids → HasGreatId image.now) }
 {
     match edit {
         Edit::Create(table) => create(alloc, image, moment, work, table),
@@ -36,7 +58,7 @@ fn draft_one(
             name,
             valid,
             history,
-        } => enable(alloc, image, moment, work, &name, valid, history),
+        } => Ok(enable(alloc, image, moment, work, &name, valid, history)?),
         Edit::Append { space, entries } => append(alloc, image, moment, work, space, entries),
         Edit::Save { space, name } => save(alloc, image, moment, work, space, name),
         Edit::Bear { parent, at, name } => bear(alloc, image, moment, work, parent, at, name),
@@ -51,13 +73,14 @@ fn draft_all(
     image: &mut Image,
     moment: u64,
     edits: Vec<Edit>,
-) -> Result<Changes, Memory>
+) -> Result<Changes, DraftFault>
     requires sorted { Ascend image.old }
     requires rules { keep_rules (parts_of image.old) ≡ true }
     requires can { CanDraft image.old moment edits.items }
     ensures drafts { IfOk result (Drafts image.old moment edits.items) }
     ensures rest { IfOk result (λ changes. applied changes image.new ≡ applied changes image.old) }
     ensures one { length edits.items ≤ 1 → OnOk result (image.new ≡ image.old) }
+    ensures full { IfErr result (λ fault. fault ≡ DraftFault.Ids → HasGreatId image.new) }
 {
     let mut edits = edits.into_iter();
     let Some(first) = edits.next() else {
@@ -79,18 +102,20 @@ fn draft_all(
 /// What the edits of a line at a moment make of the records: of each state that they stand for, what the edits make of it
 /// in their order. Where there are several the image goes on to what all but the last one leave; then it is good for one
 /// thing, which is to apply the batch, and that makes of it what it makes of the records as they were. Where memory runs
-/// out the image is not to be used any more.
+/// out, or ids do, the image is not to be used any more; ids do so only where a record of the image has an id of
+/// 2 ^ 63 - 1 or more.
 pub fn draft(
     alloc: Global,
     image: &mut Image,
     moment: u64,
     edits: Vec<Edit>,
-) -> Result<Batch, Memory>
+) -> Result<Batch, DraftFault>
     requires rules { keep_rules (parts_of image.old) ≡ true }
     requires can { CanDraft image.old moment edits.items }
     ensures drafts { IfOk result (λ batch. Drafts image.old moment edits.items batch.changes) }
     ensures rest { IfOk result (λ batch. applied batch.changes image.new ≡ applied batch.changes image.old) }
     ensures one { length edits.items ≤ 1 → OnOk result (image.new ≡ image.old) }
+    ensures full { IfErr result (λ fault. fault ≡ DraftFault.Ids → HasGreatId image.new) }
 {
     image.law_of_order();
     let changes = draft_all(alloc, image, moment, edits)?;

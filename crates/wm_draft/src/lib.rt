@@ -14,4 +14,4 @@ mod saves;
 mod tables;
 
 pub use births::implicit_name;
-pub use drafting::draft;
+pub use drafting::{DraftFault, draft};

@@ -1,15 +1,17 @@
 //! What is newest in a workspace is kept under a name.
-ghost use Rattle.std.specs.Prelude.{◌≡◌, ◌∷◌, [], true, IfOk};
+ghost use Rattle.std.specs.Prelude.{◌≡◌, ◌∷◌, [], true, IfOk, IfErr};
 ghost use Rattle.wm_graph.specs.Parts.{parts_of};
 ghost use Rattle.wm_graph.specs.Rules.{keep_rules};
+ghost use Rattle.wm_draft.specs.Drafting.{HasGreatId};
 ghost use Rattle.wm_state.specs.Drafts.{CanSave, CanWork, DraftsBy};
 ghost use Rattle.wm_state.specs.declared.edit.Edit.TheVariants as edits;
 
 use crate::changes::{marked, savepoint_changes};
-use crate::counts::moved;
+use crate::counts::{ids_from, moved};
+use crate::drafting::DraftFault;
 use crate::points::{made_at, newest_point};
 use std::alloc::Global;
-use wm_base::{Memory, Name};
+use wm_base::Name;
 use wm_image::Image;
 use wm_spec::record::Changes;
 
@@ -21,15 +23,14 @@ pub fn save(
     work: u64,
     space: u32,
     name: Name,
-) -> Result<Changes, Memory>
+) -> Result<Changes, DraftFault>
     requires rules { keep_rules (parts_of image.now) ≡ true }
     requires work { CanWork (parts_of image.now) moment work }
     requires can { CanSave (parts_of image.now) space name }
-    ensures { IfOk result (DraftsBy work image.now moment (edits.Save space name ∷ [])) }
+    ensures drafts { IfOk result (DraftsBy work image.now moment (edits.Save space name ∷ [])) }
+    ensures full { IfErr result (λ fault. fault ≡ DraftFault.Ids → HasGreatId image.now) }
 {
-    let Some(id) = image.next_id() else {
-        return Err(Memory);
-    };
+    let id = ids_from(image, 1)?;
     let old = image.space(space).unwrap();
     let space_id = image.id_of_space(space).unwrap();
     let point = newest_point(image, moment, old);

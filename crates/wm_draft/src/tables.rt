@@ -1,12 +1,14 @@
 //! A table is made, or becomes ready for rows.
-ghost use Rattle.std.specs.Prelude.{◌≡◌, ◌∷◌, [], true, IfOk};
+ghost use Rattle.std.specs.Prelude.{◌≡◌, ◌∷◌, [], true, IfOk, IfErr};
 ghost use Rattle.wm_graph.specs.Parts.{parts_of};
 ghost use Rattle.wm_graph.specs.Rules.{keep_rules};
+ghost use Rattle.wm_draft.specs.Drafting.{HasGreatId};
 ghost use Rattle.wm_state.specs.Drafts.{CanCreate, CanEnable, CanWork, DraftsBy};
 ghost use Rattle.wm_state.specs.declared.edit.Edit.TheVariants as edits;
 
 use crate::changes::{readied, table_changes};
-use crate::counts::moved;
+use crate::counts::{ids_from, moved};
+use crate::drafting::DraftFault;
 use std::alloc::Global;
 use wm_base::{Memory, Name};
 use wm_image::Image;
@@ -19,15 +21,14 @@ pub fn create(
     moment: u64,
     work: u64,
     table: Table,
-) -> Result<Changes, Memory>
+) -> Result<Changes, DraftFault>
     requires rules { keep_rules (parts_of image.now) ≡ true }
     requires work { CanWork (parts_of image.now) moment work }
     requires can { CanCreate (parts_of image.now) table }
-    ensures { IfOk result (DraftsBy work image.now moment (edits.Create table ∷ [])) }
+    ensures drafts { IfOk result (DraftsBy work image.now moment (edits.Create table ∷ [])) }
+    ensures full { IfErr result (λ fault. fault ≡ DraftFault.Ids → HasGreatId image.now) }
 {
-    let Some(id) = image.next_id() else {
-        return Err(Memory);
-    };
+    let id = ids_from(image, 1)?;
     let counters = moved(image.counters(), moment, work);
     let changes = table_changes(alloc, image.id_of_counters(), counters, id, table)?;
     Ok(changes)

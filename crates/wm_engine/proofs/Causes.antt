@@ -1,5 +1,5 @@
 -- The cause of a fault of the store is that of the line.
-use Rattle.std.proofs.Common.{◌≡◌, ℕ, refl, Err}
+use Rattle.std.proofs.Common.{ℕ, refl, Err}
 use Rattle.wm_base.specs.declared.fault.StoreFault.{StoreFault}
 use Rattle.wm_base.specs.declared.fault.StoreFault.TheVariants.{Disk, Changed, Memory}
 use Rattle.wm_page.specs.Cause.{StoreCause}

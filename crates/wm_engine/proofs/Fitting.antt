@@ -1,14 +1,15 @@
 -- Records that keep the rules fit pages, where no text in them is empty.
-use Rattle.std.proofs.Common.{◌≡◌, ℕ, suc, ◌≤◌, ◌+◌, ◌==◌, ◌&&◌, nat_le, nat_lt, Bool, true, false, List, [], ◌∷◌, length, Option, Some, None, is_some, slice_get, refl, sym, ap, ◌∙◌, arith}
+use Rattle.std.proofs.Common.{◌≡◌, ℕ, suc, ◌≤◌, ◌+◌, ◌==◌, ◌&&◌, nat_le, nat_lt, if◌then◌else◌, Bool, true, false, List, [], ◌∷◌, length, Option, Some, None, is_some, slice_get, refl, sym, ap, ◌∙◌, arith}
 use Rattle.std.specs.List.{list_all, AllByRecursion}
+use Rattle.std.proofs.lemmas.List.Sums.{sum_by-cons}
 use Rattle.std.specs.Option.{option_map_or}
 use Rattle.std.specs.Str.{bytes_eq}
 use Rattle.wm_base.specs.Value.{type_place, weight_of}
 use Rattle.wm_base.specs.declared.instant.TheConstants.{END}
 use Rattle.wm_base.specs.declared.value.Value.{Value}
 use Rattle.wm_base.specs.declared.value.Value.TheVariants.{Null, Num, Text, Time, Span}
-use Rattle.wm_graph.specs.Parts.{Parts, parts_of, as_hist, as_piece, as_row, as_savepoint, as_space, as_table, row_of, space_of, table_of, version_of}
-use Rattle.wm_graph.specs.Rules.{keep_rules, are_cells, are_savepoints, are_spaces, are_tables, collide, differ, fit_columns, fits_column, has_few, is_hist, is_key_of, is_light_key, is_piece, is_placed, is_row, is_row_of, is_savepoint, is_short, is_space, is_table, key_of, same_column, same_position, same_savepoint, type_of, weight}
+use Rattle.wm_graph.specs.Parts.{Parts, parts_of, as_hist, as_lock, as_mark, as_piece, as_row, as_savepoint, as_space, as_table, as_touch, row_of, space_of, table_of, version_of}
+use Rattle.wm_graph.specs.Rules.{keep_rules, are_cells, are_key_columns, are_savepoints, are_spaces, are_tables, are_typed, collide, differ, fit_columns, fits_column, has_few, has_key, is_given, is_hist, is_key_of, is_light_key, is_lock, is_piece, is_placed, is_row, is_row_of, is_savepoint, is_short, is_space, is_table, is_touch, is_trace, is_typed, key_of, meet, same_column, same_position, same_savepoint, type_of, weight}
 use Rattle.wm_spec.specs.Records.{record_at}
 use Rattle.wm_spec.specs.declared.record.Record.{Record}
 use Rattle.wm_spec.specs.declared.record.Record.TheVariants as records
@@ -17,17 +18,19 @@ use Rattle.wm_spec.specs.declared.record.column.ColumnKind.{ColumnKind}
 use Rattle.wm_spec.specs.declared.record.column.ColumnKind.TheVariants as kinds
 use Rattle.wm_spec.specs.declared.record.column.TableColumn.{TableColumn}
 use Rattle.wm_spec.specs.declared.record.hist.Hist.{Hist}
+use Rattle.wm_spec.specs.declared.record.lock.Lock.{Lock}
 use Rattle.wm_spec.specs.declared.record.piece.PieceRecord.{PieceRecord}
 use Rattle.wm_spec.specs.declared.record.row.RowRecord.{RowRecord}
 use Rattle.wm_spec.specs.declared.record.savepoint.Savepoint.{Savepoint}
 use Rattle.wm_spec.specs.declared.record.space.Space.{Space}
 use Rattle.wm_spec.specs.declared.record.stored.Stored.{Stored}
 use Rattle.wm_spec.specs.declared.record.table.Table.{Table}
+use Rattle.wm_spec.specs.declared.record.trace.Trace.{Trace}
 use Rattle.wm_state.specs.Drafts.{can_keep, is_kept}
 use Rattle.wm_state.proofs.Apart.{ruled, found-passes}
 use Rattle.wm_state.proofs.ByKind.{kinds as of_kind, Split, split_of, kinds-one}
 use Rattle.wm_state.proofs.Tests.{bool_apart, both, and_true, all_middle}
-use Rattle.wm_store.proofs.Fitting.{FitsPage, is_spelled, fits_counters, fits_version, fits_space, fits_savepoint, fits_table, fits_row, fits_piece, fits_hist}
+use Rattle.wm_store.proofs.Fitting.{FitsPage, is_spelled, fits_counters, fits_version, fits_turn, fits_space, fits_savepoint, fits_table, fits_row, fits_piece, fits_touch, fits_mark, fits_lock, fits_hist}
 
 -- ---- records that fit
 
@@ -36,17 +39,22 @@ at_most m n e = grind (arith, e)
 
 record IsSmall (t : Table) : Type 0 where
   name : length t.name ≤ 30
+  single : length t.key_columns ≤ 1
   few : length t.columns ≤ 32
   names : AllByRecursion (λ (c : TableColumn). length c.name ≤ 30) t.columns
 
 small : (t : Table) → is_table t ≡ true → IsSmall t
 small t e =
-    let h = both ((nat_le 1 (length t.columns) && nat_le (length t.columns) 32) && (differ same_column t.columns && (is_short t.name && list_all (λ (c : TableColumn). is_short c.name) t.columns))) _ e in
-    let g = both (nat_le 1 (length t.columns) && nat_le (length t.columns) 32) (differ same_column t.columns && (is_short t.name && list_all (λ (c : TableColumn). is_short c.name) t.columns)) h.0 in
+    let few = nat_le 1 (length t.columns) && nat_le (length t.columns) 32 in
+    let names = differ same_column t.columns && (is_short t.name && list_all (λ (c : TableColumn). is_short c.name) t.columns) in
+    let h = both (few && names) (are_key_columns t && (if t.versioned then has_key t else true)) e in
+    let g = both few names h.0 in
     let k = both (differ same_column t.columns) (is_short t.name && list_all (λ (c : TableColumn). is_short c.name) t.columns) g.1 in
     let l = both (is_short t.name) (list_all (λ (c : TableColumn). is_short c.name) t.columns) k.1 in
+    let places = both (are_key_columns t) (if t.versioned then has_key t else true) h.1 in
     record {
       name = at_most (length t.name) 30 l.0;
+      single = at_most (length t.key_columns) 1 (both (nat_le (length t.key_columns) 1) (list_all (λ place. nat_lt place (length t.columns)) t.key_columns) places.0).0;
       few = at_most (length t.columns) 32 (both (nat_le 1 (length t.columns)) (nat_le (length t.columns) 32) g.0).1;
       names = each t.columns l.1;
     }
@@ -56,7 +64,7 @@ small t e =
     each (c ∷ cs) all = let h = both (is_short c.name) (list_all (λ (c : TableColumn). is_short c.name) cs) all in (at_most (length c.name) 30 h.0, each cs h.1)
 
 table_fits : (t : Table) → is_table t ≡ true → FitsPage (records.Table t)
-table_fits t e = let s = small t e in fits_table t s.name s.few s.names
+table_fits t e = let s = small t e in fits_table t s.name s.single s.few s.names
 
 space_fits : (a : Space) → is_short a.name ≡ true → is_short a.writer ≡ true → FitsPage (records.Space a)
 space_fits a name writer = fits_space a (at_most (length a.name) 30 name) (at_most (length a.writer) 30 writer)
@@ -107,35 +115,48 @@ record OneKey (key : List Value) : Type 0 where
   spelled : is_spelled value ≡ true
   light : weight_of value ≤ 2000
 
-one_key : (key : List Value) (t : Table) → is_key_of key t ≡ true → list_all can_keep key ≡ true → OneKey key
-one_key [] t e f = absurd (bool_apart (sym e))
-one_key (v ∷ w ∷ vs) t e f = absurd (bool_apart (sym e))
-one_key (v ∷ []) t e f =
-    let h = both (nat_le (weight_of v) 200) (t.has_key && typed (slice_get t.columns t.key_column)) e in
-    record {
-      value = v;
-      is = refl;
-      spelled = by_column (slice_get t.columns t.key_column) (both t.has_key (typed (slice_get t.columns t.key_column)) h.1).1;
-      light = lighter (weight_of v) h.0;
-    }
+typed_value : (columns : List TableColumn) (place : ℕ) (v : Value) → is_typed columns place v ≡ true → can_keep v ≡ true → is_spelled v ≡ true
+typed_value columns place v e kept = by_column (slice_get columns place) e
   where
-    lighter : (n : ℕ) → nat_le n 200 ≡ true → n ≤ 2000
-    lighter n e = grind (arith, e)
-
-    typed : Option TableColumn → Bool
-    typed o = option_map_or (λ (c : TableColumn). type_place v == type_of c.kind) o false
-
-    by_column : (o : Option TableColumn) → typed o ≡ true → is_spelled v ≡ true
+    by_column : (o : Option TableColumn) → option_map_or (λ (c : TableColumn). type_place v == type_of c.kind) o false ≡ true → is_spelled v ≡ true
     by_column None g = absurd (bool_apart (sym g))
-    by_column (Some c) g = spelled_of c.kind v (both (can_keep v) true f).0 (λ p is. sym (ap (λ w. type_place w == type_of c.kind) is) ∙ g)
+    by_column (Some c) g = spelled_of c.kind v kept (λ p is. sym (ap (λ w. type_place w == type_of c.kind) is) ∙ g)
+
+typed_key : (columns : List TableColumn) (places : List ℕ) (key : List Value) → length places ≤ 1 → nat_lt 0 (length places) ≡ true → are_typed columns places key ≡ true → weight key ≤ 200 → list_all can_keep key ≡ true → OneKey key
+typed_key columns [] key single some e light kept = absurd (bool_apart (sym some))
+typed_key columns (place ∷ other ∷ places) key single some e light kept = absurd (omega (arith, single))
+typed_key columns (place ∷ []) [] single some e light kept = absurd (bool_apart (sym e))
+typed_key columns (place ∷ []) (v ∷ w ∷ vs) single some e light kept = absurd (bool_apart (sym (both (is_typed columns place v) false e).1))
+typed_key columns (place ∷ []) (v ∷ []) single some e light kept = record {
+  value = v;
+  is = refl;
+  spelled = typed_value columns place v (both (is_typed columns place v) true e).0 (both (can_keep v) true kept).0;
+  light = omega (arith, light, sum_by-cons weight_of v []);
+}
+
+one_key : (key : List Value) (t : Table) → is_table t ≡ true → is_key_of key t ≡ true → list_all can_keep key ≡ true → OneKey key
+one_key key t table e kept =
+    let h = both (nat_le (weight key) 200) (has_key t && are_typed t.columns t.key_columns key) e in
+    let g = both (has_key t) (are_typed t.columns t.key_columns key) h.1 in
+    typed_key t.columns t.key_columns key (small t table).single g.0 g.1 (at_most (weight key) 200 h.0) kept
 
 -- and a piece whose key is one of the table
-piece_fits : (x : PieceRecord) (t : Table) → is_key_of x.cells.key t ≡ true → list_all can_keep x.cells.key ≡ true → FitsPage (records.Piece x)
-piece_fits x t key filled = let k = one_key x.cells.key t key filled in fits_piece x k.value k.is k.spelled k.light
+piece_fits : (x : PieceRecord) (t : Table) → is_table t ≡ true → is_key_of x.cells.key t ≡ true → list_all can_keep x.cells.key ≡ true → FitsPage (records.Piece x)
+piece_fits x t table key filled = let k = one_key x.cells.key t table key filled in fits_piece x k.value k.is k.spelled k.light
 
--- and an entry of a log, if its user is short
-hist_fits : (x : Hist) (t : Table) → is_key_of x.cells.key t ≡ true → list_all can_keep x.cells.key ≡ true → is_short x.user ≡ true → FitsPage (records.Hist x)
-hist_fits x t key filled user = let k = one_key x.cells.key t key filled in fits_hist x k.value k.is k.spelled k.light (at_most (length x.user) 30 user)
+-- and a touch, and a mark
+touch_fits : (x : Trace) (t : Table) → is_table t ≡ true → is_key_of x.cells.key t ≡ true → list_all can_keep x.cells.key ≡ true → FitsPage (records.Touch x)
+touch_fits x t table key filled = let k = one_key x.cells.key t table key filled in fits_touch x k.value k.is k.spelled k.light
+
+mark_fits : (x : Trace) (t : Table) → is_table t ≡ true → is_key_of x.cells.key t ≡ true → list_all can_keep x.cells.key ≡ true → FitsPage (records.Mark x)
+mark_fits x t table key filled = let k = one_key x.cells.key t table key filled in fits_mark x k.value k.is k.spelled k.light
+
+-- and a lock and an entry of a log, if its user is short
+lock_fits : (x : Lock) (t : Table) → is_table t ≡ true → is_key_of x.cells.key t ≡ true → list_all can_keep x.cells.key ≡ true → is_short x.user ≡ true → FitsPage (records.Lock x)
+lock_fits x t table key filled user = let k = one_key x.cells.key t table key filled in fits_lock x k.value k.is k.spelled k.light (at_most (length x.user) 30 user)
+
+hist_fits : (x : Hist) (t : Table) → is_table t ≡ true → is_key_of x.cells.key t ≡ true → list_all can_keep x.cells.key ≡ true → is_short x.user ≡ true → FitsPage (records.Hist x)
+hist_fits x t table key filled user = let k = one_key x.cells.key t table key filled in fits_hist x k.value k.is k.spelled k.light (at_most (length x.user) 30 user)
 
 -- ---- what the rules say of all records of a kind
 
@@ -202,20 +223,36 @@ piece_in : (p : Parts) (next : ℕ) (x : PieceRecord) → are_tables p.tables �
 piece_in p next x rules e kept =
     let h = both (is_some (version_of p.versions x.version)) _ e in
     let t = cells_of p x.cells rules (both (are_cells (table_of p.tables) x.cells) _ h.1).0 in
-    piece_fits x t.table t.that kept
+    piece_fits x t.table t.well t.that kept
+
+trace_cells : (p : Parts) (x : Trace) → are_tables p.tables ≡ true → is_trace (table_of p.tables) (space_of p.spaces) x ≡ true → TableThat (is_key_of x.cells.key)
+trace_cells p x rules e = cells_of p x.cells rules (both (are_cells (table_of p.tables) x.cells) (is_given (space_of p.spaces) x.space x.place) e).0
+
+touch_in : (p : Parts) (x : Trace) → are_tables p.tables ≡ true → is_touch (table_of p.tables) (space_of p.spaces) x ≡ true → list_all can_keep x.cells.key ≡ true → FitsPage (records.Touch x)
+touch_in p x rules e kept = let t = trace_cells p x rules (both (is_trace (table_of p.tables) (space_of p.spaces) x) _ e).0 in touch_fits x t.table t.well t.that kept
+
+mark_in : (p : Parts) (x : Trace) → are_tables p.tables ≡ true → is_trace (table_of p.tables) (space_of p.spaces) x ≡ true → list_all can_keep x.cells.key ≡ true → FitsPage (records.Mark x)
+mark_in p x rules e kept = let t = trace_cells p x rules e in mark_fits x t.table t.well t.that kept
+
+lock_in : (p : Parts) (work : ℕ) (x : Lock) → are_tables p.tables ≡ true → is_lock (table_of p.tables) (space_of p.spaces) work x ≡ true → list_all can_keep x.cells.key ≡ true → FitsPage (records.Lock x)
+lock_in p work x rules e kept =
+    let h = both (is_short x.user && nat_le x.making (work + 2)) (are_cells (table_of p.tables) x.cells && is_given (space_of p.spaces) x.space x.place) e in
+    let t = cells_of p x.cells rules (both (are_cells (table_of p.tables) x.cells) (is_given (space_of p.spaces) x.space x.place) h.1).0 in
+    lock_fits x t.table t.well t.that kept (both (is_short x.user) (nat_le x.making (work + 2)) h.0).0
 
 hist_in : (p : Parts) (next : ℕ) (x : Hist) → are_tables p.tables ≡ true → is_hist (table_of p.tables) (space_of p.spaces) (row_of p.rows) next x ≡ true → list_all can_keep x.cells.key ≡ true → FitsPage (records.Hist x)
 hist_in p next x rules e kept =
     let h = both (is_short x.user && option_map_or (λ (s : Space). nat_lt x.position s.log_length) (space_of p.spaces x.space) false) _ e in
     let user = (both (is_short x.user) (option_map_or (λ (s : Space). nat_lt x.position s.log_length) (space_of p.spaces x.space) false) h.0).0 in
     let t = cells_of p x.cells rules (both (are_cells (table_of p.tables) x.cells) _ h.1).0 in
-    hist_fits x t.table t.that kept user
+    hist_fits x t.table t.well t.that kept user
 
 -- a record of records that keep the rules fits a page, where no text in it is empty
 pub record_fits : (ss : List Stored) (id : ℕ) (r : Record) → keep_rules (parts_of ss) ≡ true → record_at ss id ≡ Some r → is_kept r ≡ true → FitsPage r
 unfolding parts_of
 record_fits ss id (records.Counters c) rules found kept = fits_counters c
 record_fits ss id (records.Version v) rules found kept = fits_version v
+record_fits ss id (records.Turn t) rules found kept = fits_turn t
 record_fits ss id (records.Table t) rules found kept =
     table_fits t (one_of as_table is_table ss id (records.Table t) t found refl (each_table (parts_of ss) (ruled (parts_of ss) rules).tables))
 record_fits ss id (records.Space a) rules found kept =
@@ -235,6 +272,21 @@ record_fits ss id (records.Piece x) rules found kept =
     let g = ruled p rules in
     let test = is_piece (table_of p.tables) (version_of p.versions) (row_of p.rows) g.counters.next_stamp in
     piece_in p g.counters.next_stamp x g.tables (one_of as_piece test ss id (records.Piece x) x found refl (both (differ collide p.pieces) (list_all test p.pieces) g.pieces).1) kept
+record_fits ss id (records.Touch x) rules found kept =
+    let p = parts_of ss in
+    let g = ruled p rules in
+    let test = is_touch (table_of p.tables) (space_of p.spaces) in
+    touch_in p x g.tables (one_of as_touch test ss id (records.Touch x) x found refl (both (differ meet p.touches) (list_all test p.touches) g.touches).1) kept
+record_fits ss id (records.Lock x) rules found kept =
+    let p = parts_of ss in
+    let g = ruled p rules in
+    let test = is_lock (table_of p.tables) (space_of p.spaces) g.counters.work in
+    lock_in p g.counters.work x g.tables (one_of as_lock test ss id (records.Lock x) x found refl (both (differ (λ (x y : Lock). x.making == y.making) p.locks) (list_all test p.locks) g.locks).1) kept
+record_fits ss id (records.Mark x) rules found kept =
+    let p = parts_of ss in
+    let g = ruled p rules in
+    let test = is_trace (table_of p.tables) (space_of p.spaces) in
+    mark_in p x g.tables (one_of as_mark test ss id (records.Mark x) x found refl (both (differ meet p.marks) (list_all test p.marks) g.marks).1) kept
 record_fits ss id (records.Hist x) rules found kept =
     let p = parts_of ss in
     let g = ruled p rules in

@@ -1,34 +1,42 @@
 -- A store that was just made stands for a state in which nothing was done.
-use Rattle.std.proofs.Common.{◌≡◌, ◌≢◌, ℕ, ◌+◌, ◌<◌, ◌≤◌, ◌==◌, nat_le, Bool, true, false, cond, [], ◌∷◌, map, Option, Some, None, is_some, refl, sym, ap, subst, ◌∙◌, ◌⊎◌, inl, inr, arith}
+use Rattle.std.proofs.Common.{◌≡◌, ◌≢◌, ℕ, ◌+◌, ◌<◌, ◌≤◌, ◌==◌, nat_le, Bool, true, false, cond, List, [], ◌∷◌, map, Option, Some, None, is_some, refl, sym, ap, ◌∙◌, ◌⊎◌, inl, inr, arith}
 use Rattle.std.proofs.lemmas.Bool.{cases_eq}
 use Rattle.std.proofs.lemmas.Bool.Decides.{nat_tests}
 use Rattle.std.proofs.lemmas.List.Elements.{All-nil}
-use Rattle.std.specs.List.{All, slice_get}
-use Rattle.std.specs.Option.{option_map}
+use Rattle.std.specs.List.{slice_get}
+use Rattle.std.specs.Bool.{then_some}
+use Rattle.std.specs.Option.{option_map, option_and_then}
 use Rattle.wm_graph.specs.Parts.{Parts, parts_of, space_of}
 use Rattle.wm_graph.specs.Rules.{keep_rules, are_counters}
 use Rattle.wm_period.specs.Pieces.{Held}
-use Rattle.wm_spec.specs.Lists.{Cell, Told, told}
+use Rattle.wm_spec.specs.Lists.{Cell, Entry, Told, told, touched}
 use Rattle.wm_spec.specs.declared.record.savepoint.Savepoint.{Savepoint as Record}
 use Rattle.wm_state.specs.ById.{by_id}
-use Rattle.wm_state.specs.State.{Workspace, Savepoint, content, fresh, fresh_live, log_of, savepoint_made, savepoints_of, workspace_of}
-use Rattle.wm_state.specs.Standing.{HasRow, Stands, Top, logged_as, fields_of, fields_in, fields_saved, held_of, shown, owned, latest}
+use Rattle.wm_state.specs.State.{Durable, Workspace, Savepoint, Turn, content, fresh, fresh_live, log_of, savepoint_made, savepoints_of, turn_of, turns_of, workspace_of}
+use Rattle.wm_state.specs.Standing.{Base, Birth, Covers, HasRow, IsReal, Kept, KeptBase, KeptOwn, Names, Newest, Own, Owns, Stands, Tells, Top, fields_in, fields_of, fields_saved, has_history, held_of, latest, logged_as, seen, seen_above, turned_in}
 use Rattle.wm_store.specs.Fresh.{fresh_records, fresh_counters, live, first_version}
 
 -- the records of a store that was just made
 abbrev pub fresh_parts : ℕ → Parts
-fresh_parts limit = record { counters = fresh_counters limit ∷ []; tables = []; spaces = live ∷ []; versions = first_version ∷ []; savepoints = []; rows = []; pieces = []; hists = [] }
+fresh_parts limit = record { counters = fresh_counters limit ∷ []; tables = []; spaces = live ∷ []; versions = first_version ∷ []; savepoints = []; rows = []; pieces = []; touches = []; locks = []; hists = []; marks = []; turns = [] }
+
+-- and what it keeps
+abbrev fresh_durable : ℕ → Durable
+fresh_durable limit = record { tables = []; spaces = fresh_live ∷ []; next_stamp = 1; last_moment = 0; limit = limit; work = 0 }
 
 -- without pieces nothing is seen
-seen_none : (limit n : ℕ) (c : Cell) → shown (fresh_parts limit) n c ≡ None
-seen_none limit n c = by_test (1 == latest (fresh_parts limit) n)
+seen_none : (limit version : ℕ) (c : Cell) → seen (fresh_parts limit) version c ≡ None
+seen_none limit version c = by_test (1 == version)
   where
-    by_test : (b : Bool) → cond b (let none : Option Held = None in none) (let none : Option Held = None in none) ≡ None
+    nothing : Option Held
+    nothing = None
+
+    by_test : (b : Bool) → cond b nothing nothing ≡ nothing
     by_test true = refl
     by_test false = refl
 
-own_none : (limit n base : ℕ) (c : Cell) → owned (fresh_parts limit) base n c ≡ None
-own_none limit n base c = by_base (latest (fresh_parts limit) n == base) (1 == latest (fresh_parts limit) n)
+own_none : (limit base version : ℕ) (c : Cell) → seen_above (fresh_parts limit) base version c ≡ None
+own_none limit base version c = by_base (version == base) (1 == version)
   where
     nothing : Option Held
     nothing = None
@@ -102,6 +110,20 @@ none_logged n = by_space (workspace_of (fresh_live ∷ []) n) refl
     by_space None e = rw e refl
     by_space (Some w) e = rw e (ap (λ (v : Workspace). v.lists.log) (only_live n w e))
 
+-- nor a turn
+none_turned : (n : ℕ) → turns_of (fresh_live ∷ []) n ≡ []
+none_turned n = by_space (workspace_of (fresh_live ∷ []) n) refl
+  where
+    by_space : (o : Option Workspace) → workspace_of (fresh_live ∷ []) n ≡ o → turns_of (fresh_live ∷ []) n ≡ []
+    by_space None e = rw e refl
+    by_space (Some w) e = rw e (ap (λ (v : Workspace). v.turns) (only_live n w e))
+
+no_turn : (n number : ℕ) (w : Workspace) (t : Turn) → workspace_of (fresh_live ∷ []) n ≡ Some w → turn_of w number ≡ Some t → ⊥
+no_turn n number w t is turn = none_some (ap (λ (v : Workspace). turn_of v number) (sym (only_live n w is)) ∙ turn)
+  where
+    none_some : (let nothing : Option Turn = None in nothing) ≡ Some t → ⊥
+    none_some e = cc
+
 no_record : (x : Record) → (let nothing : Option Record = None in nothing) ≡ Some x → ⊥
 no_record x e = cc
 
@@ -110,6 +132,32 @@ none_made n making w k is made = none_some (ap (λ (v : Workspace). savepoint_ma
   where
     none_some : (let nothing : Option Savepoint = None in nothing) ≡ Some k → ⊥
     none_some e = cc
+
+none_told : (w : Workspace) (c : Cell) (t : Told) → w ≡ fresh_live → told (content w) c ≡ Some t → ⊥
+none_told w c t is e = none_some (sym (told_none w c is) ∙ e)
+  where
+    none_some : (let nothing : Option Told = None in nothing) ≡ Some t → ⊥
+    none_some e = cc
+
+-- of the versions that are named there is that of LIVE alone
+named_tells : (limit v n r : ℕ) (es : List Entry) → Names (fresh_parts limit) (fresh_durable limit) v n r es → Tells (fresh_parts limit) (fresh_live ∷ []) v n r es
+named_tells limit v n r es (Newest w is) = record {
+  holds = λ c. seen_none limit (latest (fresh_parts limit) n) c ∙ ap (option_map held_of) (sym (told_none w c (only_live n w is)));
+  climbs = Top (live_alone n w is);
+  rows = λ c t row e h. absurd (none_told w c t (only_live n w is) e);
+}
+named_tells limit v n r es (Kept making w k x is made saved) = absurd (no_record x saved)
+named_tells limit v n r es (Birth {n = i} w a t some is recorded turn) = absurd (alone i w some is)
+named_tells limit v n r es (Base {n = i} w a t some is recorded turn) = absurd (alone i w some is)
+named_tells limit v n r es (KeptBase {n = i} making w k x t some is made saved turn) = absurd (alone i w some is)
+
+-- and nothing is its own
+own_covers : (limit base version : ℕ) (es : List Entry) → Owns (fresh_parts limit) (fresh_durable limit) base version es → Covers (fresh_parts limit) base version es
+own_covers limit base version es (Own n w r is found) = record {
+  cells = λ c. ap is_some (own_none limit base (latest (fresh_parts limit) n) c) ∙ sym (ap (λ (v : Workspace). touched v.lists.own c) (only_live n w is));
+  ends = refl;
+}
+own_covers limit base version es (KeptOwn n making w k x is made saved based) = absurd (no_record x saved)
 
 counted : (limit : ℕ) → 1 ≤ limit → limit ≤ 1048576 → are_counters (fresh_counters limit) ≡ true
 counted limit some most = rw (one limit some, few limit most, next limit) refl
@@ -131,33 +179,26 @@ fresh_stands limit some most = record {
   tables = record { same = refl };
   spaces = record { same = fields_same limit };
   once = record { numbers = refl; count = refl };
-  latest = record { told = λ n w is c. seen_none limit n c ∙ ap (option_map held_of) (sym (told_none w c (only_live n w is))) };
-  own = record { covered = λ n w r is found c. rw (only_live n w is) (ap is_some (own_none limit n r.base_version c)) };
   savepoints = record { same = λ n. none_saved n };
-  kept = record {
-    told = λ n making w k x is made recorded c. absurd (no_record x recorded);
-    base = λ n making w k x some is made recorded c. absurd (no_record x recorded);
+  named = record { tells = λ v n r es named. named_tells limit v n r es named };
+  owns = record { covers = λ base version es own. own_covers limit base version es own; past = λ n making w k is made. absurd (none_made n making w k is made) };
+  turns = record {
+    counted = λ n w some is. absurd (alone n w some is);
+    same = λ n number. ap (λ ts. option_map turned_in (slice_get ts number)) (sym (none_turned n));
   };
-  kept_own = record { covered = λ n making w k x is made recorded same c. absurd (no_record x recorded) };
-  bases = record { birth = λ n w r some is found c. absurd (alone n w some is); base = λ n w r some is found c. absurd (alone n w some is) };
-  paths = record {
-    latest = λ n w is. Top (live_alone n w is);
-    kept = λ n making w x is recorded. absurd (no_record x recorded);
-    births = λ n w r some is found. absurd (alone n w some is);
-    bases = λ n w r some is found. absurd (alone n w some is);
-    kept_bases = λ n making w x some is recorded. absurd (no_record x recorded);
+  touches = record {
+    latest = λ n w is. rw (only_live n w is) (record { reaches = λ c. refl; ends = refl });
+    kept = λ n making w k is made. absurd (none_made n making w k is made);
   };
-  ends = record { own = λ n w r is found. refl; kept = λ n making w k x is made recorded same. absurd (no_record x recorded) };
+  later = record { locks = refl; marks = refl };
+  hists = record { same = λ n position. ap (λ es. option_and_then (λ (e : Entry). then_some (has_history [] e.table) (logged_as e)) (slice_get es position)) (sym (none_logged n)) };
+  entries = record {
+    logs = λ n. rw (none_logged n) (All-nil (IsReal []));
+    own = λ n w is. rw (only_live n w is) (All-nil (IsReal []));
+    kept = λ n making w k is made. absurd (none_made n making w k is made);
+  };
   rows = record {
-    there = λ n w is c t row e h. absurd (none_told t (told (content w) c) (told_none w c (only_live n w is)) e);
-    births = λ n w is c t row e h. absurd (none_told t (told w.lists.at_birth c) (ap (λ (v : Workspace). told v.lists.at_birth c) (only_live n w is)) e);
-    bases = λ n w is c t row e h. absurd (none_told t (told w.lists.base c) (ap (λ (v : Workspace). told v.lists.base c) (only_live n w is)) e);
-    saved = λ n making w k is made c t row e h. absurd (none_made n making w k is made);
-    saved_bases = λ n making w k is made c t row e h. absurd (none_made n making w k is made);
-    logs = λ n. subst (λ es. All (HasRow (parts_of (by_id (fresh_records limit)))) es) (sym (none_logged n)) (All-nil (HasRow (parts_of (by_id (fresh_records limit)))));
+    logs = λ n. rw (none_logged n) (All-nil (λ (e : Entry). has_history [] e.table ≡ true → HasRow (fresh_parts limit) e));
+    turns = λ n number w t is turn. absurd (no_turn n number w t is turn);
   };
-  hists = record { same = λ n position. ap (λ es. option_map logged_as (slice_get es position)) (sym (none_logged n)) };
 }
-  where
-    none_told : (t : Told) (o : Option Told) → o ≡ None → o ≡ Some t → ⊥
-    none_told t o none some = cc

@@ -3,6 +3,7 @@ use Rattle.std.proofs.Common.{◌≤◌, ◌+◌, length, ◌≡◌, ℕ, true, 
 use Rattle.std.specs.List.{list_all}
 use Rattle.wm_graph.specs.Parts.{parts_of}
 use Rattle.wm_graph.specs.Rules.{keep_rules}
+use Rattle.wm_model.specs.Lawful.{LawfulState}
 use Rattle.wm_model.specs.Planning.{StandsAt, DoesAt, Seating, seated}
 use Rattle.wm_print.specs.Texts.{Answer, answer_text}
 use Rattle.wm_spec.specs.declared.record.batch.Change.{Change}
@@ -25,7 +26,7 @@ use Rattle.wm_engine.specs.Working.{FileStands, HoldsSorted, KeepsOver}
 -- where nothing was done the file stands for what it stood for
 pub begun_stands : (store : Store) (rs : List Stored) (xs : List Session) (m : ℕ) (h : History) (s t : State) → KeepsOver store rs h → StandsAt rs xs m s → Ended h h (λ file. FileStands file s ⊎ FileStands file t)
 begun_stands store rs xs m h s t works stands =
-    ended_begun h (λ file. FileStands file s ⊎ FileStands file t) (holds_weaken h (λ file. HoldsSorted file rs) (λ file. FileStands file s ⊎ FileStands file t) (λ file holds. inl (file_stands file rs s holds stands.stands)) works.holds)
+    ended_begun h (λ file. FileStands file s ⊎ FileStands file t) (holds_weaken h (λ file. HoldsSorted file rs) (λ file. FileStands file s ⊎ FileStands file t) (λ file holds. inl (file_stands file rs s holds stands.stands stands.lawful.durable)) works.holds)
 
 -- records that were made by changes that draft edits
 pub drafted_as : (rs new : List Stored) (m : ℕ) (es : List Edit) (changes : List Change) → Drafts rs m es changes → new ≡ applied changes rs → AreDrafted rs m es new
@@ -54,20 +55,21 @@ drafted_stands rs new xs m es seating after answer act does drafted s st =
 
 -- once a plan was kept the file stands for the state before it or after it
 pub kept_stands : (rs : List Stored) (xs : List Session) (m : ℕ) (es made : List Edit) (seating : Seating) (after : ℕ) (answer : Answer) (act : State → State × Answer) (old new : History) (s : State)
-    → DoesAt rs xs m es seating after answer act → made ≡ es → StandsAt rs xs m s → Ended old new (λ file. HoldsSorted file rs ⊎ HoldsDrafted file rs m made) → Ended old new (λ file. FileStands file s ⊎ FileStands file (act s).0)
-kept_stands rs xs m es made seating after answer act old new s does same stands ended =
+    → DoesAt rs xs m es seating after answer act → ((t : State) → LawfulState t → LawfulState (act t).0) → made ≡ es → StandsAt rs xs m s → Ended old new (λ file. HoldsSorted file rs ⊎ HoldsDrafted file rs m made) → Ended old new (λ file. FileStands file s ⊎ FileStands file (act s).0)
+kept_stands rs xs m es made seating after answer act old new s does keeps same stands ended =
     ended_weaken old new (λ file. HoldsSorted file rs ⊎ HoldsDrafted file rs m made) (λ file. FileStands file s ⊎ FileStands file (act s).0) (λ file. by_side file) ended
   where
     by_side : (file : List ℕ) → HoldsSorted file rs ⊎ HoldsDrafted file rs m made → FileStands file s ⊎ FileStands file (act s).0
-    by_side file (inl holds) = inl (file_stands file rs s holds stands.stands)
-    by_side file (inr h) = inr (file_stands file h.new (act s).0 h.holds (drafted_stands rs h.new xs m es seating after answer act does (subst (λ ds. AreDrafted rs m ds h.new) same h.drafted) s stands))
+    by_side file (inl holds) = inl (file_stands file rs s holds stands.stands stands.lawful.durable)
+    by_side file (inr h) = inr (file_stands file h.new (act s).0 h.holds (drafted_stands rs h.new xs m es seating after answer act does (subst (λ ds. AreDrafted rs m ds h.new) same h.drafted) s stands) (keeps s stands.lawful).durable)
 
 -- what was kept of a plan does what the plan does
 pub kept_does : (rs new : List Stored) (xs now : List Session) (m moment : ℕ) (es made : List Edit) (seating : Seating) (answer : Answer) (act : State → State × Answer) (bytes : List ℕ) → DoesAt rs xs m es seating moment answer act
-    → made ≡ es → AreDrafted rs m made new → now ≡ seated xs seating → bytes ≡ answer_text answer → (s : State) → StandsAt rs xs m s → StandsAt new now moment (act s).0 × (bytes ≡ answer_text (act s).1)
-kept_does rs new xs now m moment es made seating answer act bytes does same drafted sessions says s st = (
+    → ((t : State) → LawfulState t → LawfulState (act t).0) → made ≡ es → AreDrafted rs m made new → now ≡ seated xs seating → bytes ≡ answer_text answer → (s : State) → StandsAt rs xs m s → StandsAt new now moment (act s).0 × (bytes ≡ answer_text (act s).1)
+kept_does rs new xs now m moment es made seating answer act bytes does keeps same drafted sessions says s st = (
   record {
     stands = drafted_stands rs new xs m es seating moment answer act does (subst (λ ds. AreDrafted rs m ds new) same drafted) s st;
+    lawful = keeps s st.lawful;
     sessions_are = sessions ∙ ap (λ ys. seated ys seating) st.sessions_are ∙ ap (λ (r : State × Answer). r.0.sessions) (sym (does.does s st));
     moment_is = ap (λ (r : State × Answer). r.0.moment) (sym (does.does s st));
   },

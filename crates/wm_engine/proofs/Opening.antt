@@ -8,6 +8,7 @@ use Rattle.wm_base.specs.declared.instant.TheConstants.{END}
 use Rattle.wm_graph.specs.Parts.{parts_of}
 use Rattle.wm_graph.specs.Rules.{keep_rules, are_counters}
 use Rattle.wm_journal.specs.Disk.{is_made}
+use Rattle.wm_model.specs.Lawful.{Lawful, LawfulState}
 use Rattle.wm_spec.specs.Records.{AreRecords}
 use Rattle.wm_spec.specs.declared.record.counters.Counters.{Counters}
 use Rattle.wm_spec.specs.declared.record.stored.Stored.{Stored}
@@ -55,6 +56,11 @@ pub opens_stand : (file : List ℕ) (records rs : List Stored) (m : ℕ) (s : St
 unfolding begin
 opens_stand file records rs m s held same stands =
     subst (λ xs. Stands (parts_of xs) s.durable) (ap by_id (same_records file stands.records records stands.held held) ∙ sym same) stands.stands
+
+-- no session stands anywhere
+pub opens_lawful : (m : ℕ) (s : State) → Lawful s.durable → LawfulState (begin s m)
+unfolding begin
+opens_lawful m s lawful = record { durable = lawful; seats = tt }
 
 pub opens_at : (file : List ℕ) (records rs : List Stored) (c : Counters) (m : ℕ) (s : State) → Held records file → rs ≡ by_id records → (parts_of rs).counters ≡ c ∷ [] → FileStands file s → max m c.last_moment ≡ (begin s m).moment
 unfolding begin

@@ -9,6 +9,7 @@ use Rattle.wm_base.specs.declared.fault.StoreFault.TheVariants as storing
 use Rattle.wm_graph.specs.Parts.{parts_of}
 use Rattle.wm_graph.specs.Rules.{keep_rules}
 use Rattle.wm_journal.specs.Disk.{is_made}
+use Rattle.wm_model.specs.Lawful.{Lawful, LawfulState}
 use Rattle.wm_state.specs.State.{State, Session}
 use Rattle.wm_state.specs.ById.{by_id}
 use Rattle.wm_state.specs.Standing.{Stands}
@@ -28,15 +29,17 @@ pub record Engaged : Type 0 where
   pub sessions : List Session
   pub moment : ℕ
 
--- the file holds records that stand for the state
+-- the file holds records that stand for the state, and what a store keeps of it is lawful
 pub record FileStands (file : List ℕ) (s : State) : Type 0 where
   pub records : List Stored
   pub held : Held records file
   pub stands : Stands (parts_of (by_id records)) s.durable
+  pub lawful : Lawful s.durable
 
--- the engine's records stand for the state, and its sessions and its moment are the state's
+-- the engine's records stand for the state, which is lawful, and its sessions and its moment are the state's
 pub record StandsFor (e : Engaged) (s : State) : Type 0 where
   pub stands : Stands (parts_of e.records) s.durable
+  pub lawful : LawfulState s
   pub sessions : e.sessions ≡ s.sessions
   pub moment : e.moment ≡ s.moment
 

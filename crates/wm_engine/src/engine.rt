@@ -149,7 +149,7 @@ impl Engine {
         ensures untouched { P.tells → IfOk result (λ reply. OnSome reply.refused (P.history station.new ≡ P.history station.old)) }
         ensures works { P.tells → OnOk result (WorksOver self.new (P.history station.new)) }
         ensures rules { OnOk result (keep_rules (parts_of self.new.records) ≡ true) }
-        // A line that makes a savepoint or a workspace changes few records, and none of a row, a piece or an entry of a log.
+        // A line that makes a savepoint or a workspace changes few records, and none of a row, a piece, a touch or an entry of a log.
         ensures few { is_fork (parsed line.now) ≡ true → OnOk result (ChangesFew self.old.records self.new.records) }
         // A line that is refused, that reads, that changes no row, or that says nothing changes no record and no session, and leaves the moment.
         ensures idle { (s : State) → StandsFor self.old s → is_idle (step s line.now).1 ≡ true → OnOk result ((self.new.records ≡ self.old.records) × (self.new.sessions ≡ self.old.sessions) × (self.new.moment ≡ self.old.moment)) }

@@ -4,6 +4,7 @@ ghost use Rattle.wm_engine.specs.declared.fault.LineFault.TheVariants.{Memory as
 
 use thiserror::Error;
 use wm_base::{Memory, StoreFault};
+use wm_draft::DraftFault;
 
 /// Why a line was not answered. The engine is given up then, and the store is opened again.
 #[derive(Clone, Copy, Debug, PartialEq, Eq, Error)]
@@ -20,6 +21,14 @@ impl From<Memory> for LineFault {
     ghost from_gives = { λ _ e. e ≡ NoMemory };
 
     fn from(_error: Memory) -> LineFault {
+        LineFault::Memory
+    }
+}
+
+impl From<DraftFault> for LineFault {
+    ghost from_gives = { λ _ e. e ≡ NoMemory };
+
+    fn from(_fault: DraftFault) -> LineFault {
         LineFault::Memory
     }
 }

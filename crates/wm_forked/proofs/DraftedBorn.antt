@@ -5,6 +5,8 @@ use Rattle.std.proofs.lemmas.Slice.Eq.{bytes_eq-Decides}
 use Rattle.std.specs.Fmt.{decimal}
 use Rattle.std.specs.Option.{option_and_then, option_map, unwrap_or}
 use Rattle.std.specs.Str.{bytes_eq}
+use Rattle.std.specs.declared.alloc.Global.{Global}
+use Rattle.std.specs.declared.vec.Vec.{Vec}
 use Rattle.wm_graph.specs.Parts.{Parts, parts_of, space_of}
 use Rattle.wm_graph.specs.Rules.{keep_rules, is_short}
 use Rattle.wm_spec.specs.Records.{AreChanges}
@@ -15,18 +17,19 @@ use Rattle.wm_spec.specs.declared.record.savepoint.Savepoint.{Savepoint as Recor
 use Rattle.wm_spec.specs.declared.record.space.FreezeMode.TheVariants.{Free}
 use Rattle.wm_spec.specs.declared.record.space.Space.{Space}
 use Rattle.wm_spec.specs.declared.record.stored.Stored.{Stored}
+use Rattle.wm_spec.specs.declared.record.turn.Turn.{Turn}
 use Rattle.wm_spec.specs.declared.record.version.Version.{Version}
 use Rattle.wm_state.specs.Batches.{birth_batch, put}
 use Rattle.wm_state.specs.ById.{applied}
 use Rattle.wm_state.specs.Drafts.{CanBear, CanWork, DraftsBy}
 use Rattle.wm_state.specs.Editing.{bear_in, born, child_of, edited, implicit_front, implicit_name, number_limit, place_behind, saved_at, stand_of}
 use Rattle.wm_state.specs.Effects.{marked}
-use Rattle.wm_state.specs.Points.{HasRoom, Point, birth_record, child_record, child_version, implicit_of, next_place_at, point_at, versioned}
-use Rattle.wm_state.specs.Standing.{SpaceFields, fields_of, fields_in, FieldsStand, Stands}
-use Rattle.wm_state.specs.State.{Durable, Stand, Workspace, Savepoint, kept, workspace_of, with_space, with_savepoint}
+use Rattle.wm_state.specs.Points.{HasRoom, Point, birth_record, child_record, child_turn, child_version, implicit_of, next_place_at, point_at, versioned}
+use Rattle.wm_state.specs.Standing.{SpaceFields, TurnFields, fields_of, fields_in, FieldsStand, Stands}
+use Rattle.wm_state.specs.State.{Durable, Stand, Workspace, Savepoint, workspace_of, with_space, with_savepoint}
 use Rattle.wm_state.specs.declared.edit.Edit.TheVariants as edits
-use Rattle.wm_forked.proofs.Birth.{IsChild}
-use Rattle.wm_forked.proofs.Births.{child_kept}
+use Rattle.wm_state.specs.declared.edit.NewEntry.{NewEntry}
+use Rattle.wm_forked.proofs.Births.{IsBornAt}
 use Rattle.wm_state.proofs.ByKind.{under_found}
 use Rattle.wm_state.proofs.Counting.{counts_as, counts_in, version_well, work_grows, work_room}
 use Rattle.wm_state.proofs.Drafted.{some_edit}
@@ -106,11 +109,24 @@ child_fields p s a m w k name pt is place log = ap (λ n. fields n pt.place pt.l
       writer = [];
     }
 
+-- and is born where the savepoint was made
 child_same : (p : Parts) (s : Durable) (a : Space) (m : ℕ) (w : Workspace) (stand : Stand) (name : List ℕ) (pt : Point) → Stands p s → IsSpace p s a.number a w → (k : MadeAt p s a w m stand pt (implicit_of a) true)
-    → IsChild p s.spaces (child_record p a m name pt) (child_of m s.spaces w k.savepoint name) (kept k.savepoint)
-child_same p s a m w stand name pt st is k =
-    child_kept p s.spaces w (child_of m s.spaces w k.savepoint name) k.savepoint (birth_record p a pt) (child_record p a m name pt) k.kept refl refl
-    (child_fields p s a m w k.savepoint name pt is k.place k.log) (next_space_same p s st) refl refl refl refl refl
+    → IsBornAt (birth_record p a pt) k.savepoint (child_record p a m name pt) (child_turn p pt) (child_of m s.spaces w k.savepoint name)
+child_same p s a m w stand name pt st is k = record {
+  under = refl;
+  parent = is.number;
+  fields = child_fields p s a m w k.savepoint name pt is k.place k.log;
+  number = next_space_same p s st;
+  turns = refl;
+  turned = ap (λ n. fields n pt.rebases) k.log ∙ ap (fields k.savepoint.log_length) k.rebases;
+  base = refl;
+  own = refl;
+  log = refl;
+  savepoints = refl;
+}
+  where
+    fields : ℕ → ℕ → TurnFields
+    fields log_length rebases = record { log_length = log_length; rebases = rebases }
 
 -- the workspaces with the savepoint are those that its record tells
 same_spaces : (p : Parts) (s : Durable) (a : Space) (w : Workspace) (stand : Stand) (k : Savepoint) → IsSpace p s a.number a w
@@ -123,7 +139,7 @@ same_spaces p s a w stand k is =
 -- what a birth is asked of the records that are looked up by id
 may_birth : (rs : List Stored) (m work n : ℕ) (at : Option ℕ) (name : List ℕ) (a : Space) (pt : Point) (c : Counters) (counters_id space_id id : ℕ) → keep_rules (parts_of rs) ≡ true → CanWork (parts_of rs) m work
     → CanBear (parts_of rs) m n at name → space_of (parts_of rs).spaces n ≡ Some a → point_at (parts_of rs) a m (stand_of at) ≡ Some pt → Places rs counters_id space_id id c a
-    → MayBirth rs counters_id space_id id c (versioned c m work) a (next_place_at a (stand_of at)) (a.next_implicit + 1) (birth_record (parts_of rs) a pt) a (child_record (parts_of rs) a m name pt) (child_version (parts_of rs) c pt)
+    → MayBirth rs counters_id space_id id c (versioned c m work) a (next_place_at a (stand_of at)) (a.next_implicit + 1) (birth_record (parts_of rs) a pt) a (child_record (parts_of rs) a m name pt) (child_version (parts_of rs) c pt) (child_turn (parts_of rs) pt)
 may_birth rs m work n at name a pt c counters_id space_id id rules can_work can there point places = record {
   sorted = places.sorted;
   counters = places.counters;
@@ -151,6 +167,10 @@ may_birth rs m work n at name a pt c counters_id space_id id rules can_work can 
     number = refl;
     space = refl;
     under = refl;
+    rebases = refl;
+    turn_space = refl;
+    turn_number = refl;
+    turn_from = refl;
   };
 }
   where
@@ -170,7 +190,8 @@ may_birth rs m work n at name a pt c counters_id space_id id rules can_work can 
 pub drafts_born : (rs : List Stored) (m work n : ℕ) (at : Option ℕ) (name : List ℕ) (a : Space) (pt : Point) (c : Counters) (counters_id space_id id : ℕ) → keep_rules (parts_of rs) ≡ true → CanWork (parts_of rs) m work
     → CanBear (parts_of rs) m n at name → space_of (parts_of rs).spaces n ≡ Some a → point_at (parts_of rs) a m (stand_of at) ≡ Some pt → Places rs counters_id space_id id c a
     → DraftsBy work rs m (edits.Bear n at name ∷ [])
-    (birth_batch counters_id (versioned c m work) space_id (marked (next_place_at a (stand_of at)) (a.next_implicit + 1) a) id (birth_record (parts_of rs) a pt) (child_record (parts_of rs) a m name pt) (child_version (parts_of rs) c pt))
+    (birth_batch counters_id (versioned c m work) space_id (marked (next_place_at a (stand_of at)) (a.next_implicit + 1) a) id (birth_record (parts_of rs) a pt) (child_record (parts_of rs) a m name pt) (child_version (parts_of rs) c pt)
+    (child_turn (parts_of rs) pt))
 drafts_born rs m work n at name a pt c counters_id space_id id rules can_work can there point places = record {
   keeps = keeps;
   once = once;
@@ -178,9 +199,9 @@ drafts_born rs m work n at name a pt c counters_id space_id id rules can_work ca
       let h = home_of (parts_of rs) s n a st.spaces there in
       let k = made_there (parts_of rs) s a h.workspace m (stand_of at) pt (implicit_of a) true st h.is point in
       let counts = counts_as (parts_of rs) s c st places.one in
-      subst (λ (u : Durable). Stands (parts_of (applied (birth_batch counters_id (versioned c m work) space_id (marked place implicit a) id x r v) rs)) (record u { last_moment = m; work = s.work + work }))
+      subst (λ (t : Durable). Stands (parts_of (applied (birth_batch counters_id (versioned c m work) space_id (marked place implicit a) id x r v u) rs)) (record t { last_moment = m; work = s.work + work }))
       (sym (born_so m n at name s h.workspace k.savepoint h.found (ap (λ i. saved_at m s.spaces h.workspace (stand_of at) i true) (implicit_same (parts_of rs) s a h.workspace h.is) ∙ k.is)))
-      (plan_birth rs counters_id space_id id c (versioned c m work) a place implicit x a r v h.workspace (child_of m s.spaces h.workspace k.savepoint name) k.savepoint (kept k.savepoint) s _ st birth h.is.found k.kept
+      (plan_birth rs counters_id space_id id c (versioned c m work) a place implicit x a r v u h.workspace (child_of m s.spaces h.workspace k.savepoint name) k.savepoint s _ st birth h.is.found k.kept
       (child_same (parts_of rs) s a m h.workspace (stand_of at) name pt st h.is k)
       (ap (λ ws. ws ++ child_of m s.spaces h.workspace k.savepoint name ∷ []) (same_spaces (parts_of rs) s a h.workspace (stand_of at) k.savepoint h.is)) refl
       (record { counters = versioned c m work; one = refl; next_stamp = counts.next_stamp; last_moment = refl; limit = counts.limit; work = ap (λ w. w + work) counts.work }));
@@ -188,9 +209,9 @@ drafts_born rs m work n at name a pt c counters_id space_id id rules can_work ca
       let h = home_of (parts_of rs) s n a st.spaces there in
       let k = made_as (parts_of rs) s a h.workspace m (stand_of at) pt (implicit_of a) true rules st h.is point in
       let counts = counts_in (parts_of rs) s c st.counters places.one in
-      subst (λ (u : Durable). FieldsStand (parts_of (applied (birth_batch counters_id (versioned c m work) space_id (marked place implicit a) id x r v) rs)) (record u { last_moment = m; work = s.work + work }))
+      subst (λ (t : Durable). FieldsStand (parts_of (applied (birth_batch counters_id (versioned c m work) space_id (marked place implicit a) id x r v u) rs)) (record t { last_moment = m; work = s.work + work }))
       (sym (born_so m n at name s h.workspace k.savepoint h.found (ap (λ i. saved_at m s.spaces h.workspace (stand_of at) i true) (implicit_same (parts_of rs) s a h.workspace h.is) ∙ k.is)))
-      (agree_birth rs counters_id space_id id c (versioned c m work) a place implicit x a r v h.workspace (child_of m s.spaces h.workspace k.savepoint name) k.savepoint s _ rules st birth h.is.found k.fields
+      (agree_birth rs counters_id space_id id c (versioned c m work) a place implicit x a r v u h.workspace (child_of m s.spaces h.workspace k.savepoint name) k.savepoint s _ rules st birth h.is.found k.fields
       (child_fields (parts_of rs) s a m h.workspace k.savepoint name pt h.is k.place k.log) (next_space_there (parts_of rs) s rules st.spaces st.once) refl
       (ap (λ ws. ws ++ child_of m s.spaces h.workspace k.savepoint name ∷ []) (same_spaces (parts_of rs) s a h.workspace (stand_of at) k.savepoint h.is)) refl
       (record { counters = versioned c m work; one = refl; next_stamp = counts.next_stamp; last_moment = refl; limit = counts.limit; work = ap (λ w. w + work) counts.work }));
@@ -201,10 +222,14 @@ drafts_born rs m work n at name a pt c counters_id space_id id rules can_work ca
       ));
   kept = refl;
   counted = λ some. counted_put rs work counters_id c (versioned c m work) batch places.sorted places.one once (first_change counters_id _ _) keeps refl;
-  nothing = some_edit (edits.Bear n at name) [] (birth_batch counters_id (versioned c m work) space_id (marked place implicit a) id x r v);
-  few = λ forks. few_birth rs counters_id space_id c (versioned c m work) a place implicit id x r v places;
+  nothing = some_edit (edits.Bear n at name) [] (birth_batch counters_id (versioned c m work) space_id (marked place implicit a) id x r v u);
+  few = λ forks. few_birth rs counters_id space_id c (versioned c m work) a place implicit id x a r v u birth;
+  spared = λ i entries one_append. absurd (no_append i entries one_append);
 }
   where
+    no_append : (i : ℕ) (entries : Vec NewEntry Global) → edits.Bear n at name ∷ [] ≡ edits.Append i entries ∷ [] → ⊥
+    no_append i entries e = cc
+
     place : ℕ
     place = next_place_at a (stand_of at)
 
@@ -220,23 +245,26 @@ drafts_born rs m work n at name a pt c counters_id space_id id rules can_work ca
     v : Version
     v = child_version (parts_of rs) c pt
 
+    u : Turn
+    u = child_turn (parts_of rs) pt
+
     apart : PlacesApart counters_id space_id id
     apart = places_apart rs counters_id space_id id c a places
 
     behind : (k more : ℕ) → k < id → k < id + more
     behind k more low = omega (arith, low)
 
-    birth : MayBirth rs counters_id space_id id c (versioned c m work) a place implicit x a r v
+    birth : MayBirth rs counters_id space_id id c (versioned c m work) a place implicit x a r v u
     birth = may_birth rs m work n at name a pt c counters_id space_id id rules can_work can there point places
 
     batch : List Change
-    batch = birth_batch counters_id (versioned c m work) space_id (marked place implicit a) id x r v
+    batch = birth_batch counters_id (versioned c m work) space_id (marked place implicit a) id x r v u
 
-    away_new : (k : ℕ) → k < id → AwayFrom k (put id (records.Savepoint x) ∷ put (id + 1) (records.Space r) ∷ put (id + 2) (records.Version v) ∷ [])
-    away_new k low = (below_apart k id low, (below_apart k (id + 1) (behind k 1 low), (below_apart k (id + 2) (behind k 2 low), tt)))
+    away_new : (k : ℕ) → k < id → AwayFrom k (put id (records.Savepoint x) ∷ put (id + 1) (records.Space r) ∷ put (id + 2) (records.Version v) ∷ put (id + 3) (records.Turn u) ∷ [])
+    away_new k low = (below_apart k id low, (below_apart k (id + 1) (behind k 1 low), (below_apart k (id + 2) (behind k 2 low), (below_apart k (id + 3) (behind k 3 low), tt))))
 
     keeps : keep_rules (parts_of (applied batch rs)) ≡ true
-    keeps = keep_plan_birth rs counters_id space_id id c (versioned c m work) a place implicit x a r v rules birth
+    keeps = keep_plan_birth rs counters_id space_id id c (versioned c m work) a place implicit x a r v u rules birth
 
     once : AreChanges batch
-    once = changes-birth counters_id (versioned c m work) space_id (marked place implicit a) id x r v apart.apart apart.counters apart.space
+    once = changes-birth counters_id (versioned c m work) space_id (marked place implicit a) id x r v u apart.apart apart.counters apart.space

@@ -1,6 +1,8 @@
 -- What the batch that makes a savepoint makes of the records.
 use Rattle.std.proofs.Common.{◌≡◌, ℕ, ◌+◌, ◌≤◌, true, false, List, [], ◌∷◌, ◌++◌, Some, refl, sym, ap, subst, ◌∙◌, arith}
 use Rattle.std.specs.Option.{option_and_then, option_map, unwrap_or}
+use Rattle.std.specs.declared.alloc.Global.{Global}
+use Rattle.std.specs.declared.vec.Vec.{Vec}
 use Rattle.wm_graph.specs.Parts.{Parts, parts_of, space_of}
 use Rattle.wm_graph.specs.Rules.{keep_rules}
 use Rattle.wm_spec.specs.Records.{AreChanges}
@@ -19,6 +21,7 @@ use Rattle.wm_state.specs.Points.{HasRoom, moved, newest_point, saved_record}
 use Rattle.wm_state.specs.Standing.{SpaceFields, SpacesStand, FieldsStand, Stands}
 use Rattle.wm_state.specs.State.{Durable, Workspace, Savepoint, Latest, workspace_of, with_space, with_savepoint}
 use Rattle.wm_state.specs.declared.edit.Edit.TheVariants as edits
+use Rattle.wm_state.specs.declared.edit.NewEntry.{NewEntry}
 use Rattle.wm_state.proofs.Counting.{counts_as, counts_in, work_room}
 use Rattle.wm_state.proofs.Drafted.{some_edit}
 use Rattle.wm_forked.proofs.FewChanged.{few_saved}
@@ -109,8 +112,12 @@ drafts_saved rs m work n name a c counters_id space_id id rules can_work can the
   counted = λ some. counted_put rs work counters_id c (moved c m work) batch at.sorted at.one once (first_change counters_id _ _) keeps refl;
   nothing = some_edit (edits.Save n name) [] (savepoint_batch counters_id (moved c m work) space_id (marked (a.next_place + 1) a.next_implicit a) id x);
   few = λ forks. few_saved rs counters_id space_id c (moved c m work) a (a.next_place + 1) a.next_implicit id x at;
+  spared = λ i entries one_append. absurd (no_append i entries one_append);
 }
   where
+    no_append : (i : ℕ) (entries : Vec NewEntry Global) → edits.Save n name ∷ [] ≡ edits.Append i entries ∷ [] → ⊥
+    no_append i entries e = cc
+
     x : Record
     x = saved_record (parts_of rs) a m name
 

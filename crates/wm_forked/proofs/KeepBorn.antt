@@ -1,34 +1,39 @@
 -- The records with a workspace more, and with a version of its own.
-use Rattle.std.proofs.Common.{◌≡◌, ℕ, ◌+◌, ◌<◌, ◌≤◌, ◌==◌, ◌^◌, nat_lt, nat_le, Bool, true, false, ◌&&◌, ◌||◌, if◌then◌else◌, List, [], ◌∷◌, ◌++◌, length, Option, Some, None, is_some, refl, sym, ap, ◌∙◌, arith, length-append}
+use Rattle.std.proofs.Common.{◌≡◌, ℕ, ◌+◌, ◌<◌, ◌≤◌, ◌==◌, ◌^◌, nat_lt, nat_le, Bool, true, false, not, ◌&&◌, ◌||◌, cond, if◌then◌else◌, List, [], ◌∷◌, ◌++◌, length, Option, Some, None, is_some, refl, sym, ap, ◌∙◌, arith, length-append}
 use Rattle.std.proofs.lemmas.Bool.{eq-eqb, ne_eqb, eqb-true}
-use Rattle.std.specs.List.{list_all, list_any, count_by}
+use Rattle.std.proofs.lemmas.List.Elements.{filter-append}
+use Rattle.std.specs.List.{list_all, list_any, filter, count_by}
 use Rattle.std.specs.Option.{option_map_or}
 use Rattle.std.specs.Str.{bytes_eq}
-use Rattle.wm_graph.specs.Parts.{Parts, space_of, version_of, has_version}
-use Rattle.wm_graph.specs.Rules.{keep_rules, are_counters, are_spaces, is_space, is_placed, is_short, live, are_versions, is_version, is_version_of, has_versions, stands_under, is_savepoint, is_saved_in, has_few, are_savepoints, are_rows, are_pieces, are_hists, differ}
+use Rattle.wm_graph.specs.Parts.{Parts, table_of, space_of, version_of, has_version}
+use Rattle.wm_graph.specs.Rules.{keep_rules, are_counters, are_spaces, is_space, is_placed, is_short, live, are_versions, is_version, is_version_of, has_versions, stands_under, is_savepoint, is_saved_in, has_few, are_savepoints, are_rows, are_pieces, are_hists, is_trace, is_touch, meet, are_locks, is_asked, asked_turns, same_turn, has_turns, are_turns, differ}
 use Rattle.wm_spec.specs.declared.record.counters.Counters.{Counters}
 use Rattle.wm_spec.specs.declared.record.savepoint.Savepoint.{Savepoint}
 use Rattle.wm_spec.specs.declared.record.space.Space.{Space}
+use Rattle.wm_spec.specs.declared.record.trace.Trace.{Trace}
+use Rattle.wm_spec.specs.declared.record.turn.Turn.{Turn}
 use Rattle.wm_spec.specs.declared.record.version.Version.{Version}
 use Rattle.wm_state.specs.Standing.{node_of, newest_first, latest}
 use Rattle.wm_state.specs.Effects.{Born, Forked}
-use Rattle.wm_state.proofs.Tests.{bool_apart, both, either_false, and_true, all_if, all_push, differ_push, none_if, find_new}
-use Rattle.wm_state.proofs.Mapped.{find-none}
+use Rattle.wm_state.proofs.Tests.{bool_apart, both, either_false, and_true, all_if, all_push, any_filter, differ_push, none_if, find_new}
+use Rattle.wm_state.proofs.Mapped.{any-if, find-none}
 use Rattle.wm_state.proofs.Apart.{Ruled, ruled, keeps_all, ruled_versions, found-passes}
 use Rattle.wm_state.proofs.Named.{ruled_savepoints, space_number, version_there}
-use Rattle.wm_state.proofs.Keeping.{le_itself, le_of, le_next, KeepSpaces, KeepVersions, KeepTables-same, KeepSpaces-push, KeepVersions-push, KeepRows-same, is_version_of-kept, are_savepoints-kept, are_rows-kept, are_pieces-kept, are_hists-kept}
+use Rattle.wm_state.proofs.KeepingTurns.{RuledTurns, ruled_turns, are_touches-kept, are_locks-kept, are_marks-kept, asked_same}
+use Rattle.wm_state.proofs.Keeping.{le_itself, le_of, le_next, KeepSpaces, KeepTables, KeepVersions, KeepTables-same, KeepSpaces-push, KeepVersions-push, KeepRows-same, is_version_of-kept, are_savepoints-kept, are_rows-kept, are_pieces-kept, are_hists-kept}
 use Rattle.wm_forked.proofs.KeptSpaces.{is_space-kept, is_version-kept, has_versions-kept, has_push, has_new, some-kept}
 use Rattle.wm_state.proofs.Growing.{forked, forked_of, below-next, found-below, same_counters}
 use Rattle.wm_forked.proofs.Sprouting.{newest-behind}
 use Rattle.wm_forked.proofs.Birth.{find_numbered}
+use Rattle.wm_forked.proofs.KeepSaved.{count_push}
 
--- the records with a workspace more, a version more and other counters
-abbrev pub born : Parts → Counters → Space → Version → Parts
-born p c r v = record p { counters = c ∷ []; spaces = p.spaces ++ r ∷ []; versions = p.versions ++ v ∷ [] }
+-- the records with a workspace more, a version more, a turn more and other counters
+abbrev pub born : Parts → Counters → Space → Version → Turn → Parts
+born p c r v u = record p { counters = c ∷ []; spaces = p.spaces ++ r ∷ []; versions = p.versions ++ v ∷ []; turns = p.turns ++ u ∷ [] }
 
--- what these are asked: a workspace after all others, of a new name, born from a version of its parent, and the next version, under
--- that one
-pub record MayBear (p : Parts) (old new : Counters) (a r : Space) (v : Version) : Type 0 where
+-- what these are asked: a workspace after all others, of a new name, born from a version of its parent, the next version, under that
+-- one, and its first turn
+pub record MayBear (p : Parts) (old new : Counters) (a r : Space) (v : Version) (u : Turn) : Type 0 where
   pub one : p.counters ≡ old ∷ []
   pub counters : are_counters new ≡ true
   pub stamps : new.next_stamp ≡ old.next_stamp
@@ -48,6 +53,10 @@ pub record MayBear (p : Parts) (old new : Counters) (a r : Space) (v : Version) 
   pub number : v.number ≡ old.next_version
   pub space : v.space ≡ r.number
   pub under : v.parent ≡ r.base_version
+  pub rebases : r.rebases ≡ 0
+  pub turn_space : u.space ≡ r.number
+  pub turn_number : u.rebase ≡ 0
+  pub turn_from : u.log_length ≡ r.from
 
 -- ---- numbers
 
@@ -65,70 +74,93 @@ lt_next n = grind arith
 
 -- ---- the new number
 
-parent_below : (p : Parts) (old new : Counters) (a r : Space) (v : Version) → MayBear p old new a r v → nat_lt r.parent r.number ≡ true
-parent_below p old new a r v may =
+parent_below : (p : Parts) (old new : Counters) (a r : Space) (v : Version) (u : Turn) → MayBear p old new a r v u → nat_lt r.parent r.number ≡ true
+parent_below p old new a r v u may =
     ap (λ k. nat_lt k r.number) (sym (space_number p r.parent a may.parent))
     ∙ (found-passes (λ (s : Space). s.number == r.parent) (λ (s : Space). nat_lt s.number r.number) p.spaces a may.parent may.after).1
 
 -- no workspace has it
-number_new : (p : Parts) (old new : Counters) (a r : Space) (v : Version) → MayBear p old new a r v → list_any (λ (s : Space). s.number == r.number) p.spaces ≡ false
-number_new p old new a r v may = none_if (λ (s : Space). nat_lt s.number r.number) (λ (s : Space). s.number == r.number) (λ s. lt_apart s.number r.number) p.spaces may.after
+number_new : (p : Parts) (old new : Counters) (a r : Space) (v : Version) (u : Turn) → MayBear p old new a r v u → list_any (λ (s : Space). s.number == r.number) p.spaces ≡ false
+number_new p old new a r v u may = none_if (λ (s : Space). nat_lt s.number r.number) (λ (s : Space). s.number == r.number) (λ s. lt_apart s.number r.number) p.spaces may.after
 
--- and no savepoint is of it
-unsaved : (p : Parts) (old new : Counters) (a r : Space) (v : Version) → MayBear p old new a r v → keep_rules p ≡ true → list_any (λ (x : Savepoint). x.space == r.number) p.savepoints ≡ false
-unsaved p old new a r v may e =
-    let u = ruled p e in
-    none_if (is_savepoint (space_of p.spaces) (version_of p.versions) u.counters.work) (λ (x : Savepoint). x.space == r.number)
-    (λ x is. ne_eqb x.space r.number (λ same.
-    bool_apart (sym (sym (ap (λ o. option_map_or (is_saved_in (version_of p.versions) x) o false)
-    (ap (space_of p.spaces) same ∙ find-none (λ (s : Space). s.number == r.number) p.spaces (number_new p old new a r v may)))
-    ∙ (both (is_short x.name && nat_le x.making (u.counters.work + 2)) _ is).1))))
-    p.savepoints (ruled_savepoints p u.counters.work u.savepoints).each
+number_none : (p : Parts) (old new : Counters) (a r : Space) (v : Version) (u : Turn) → MayBear p old new a r v u → space_of p.spaces r.number ≡ None
+number_none p old new a r v u may = find-none (λ (s : Space). s.number == r.number) p.spaces (number_new p old new a r v u may)
+
+-- so nothing that is asked of a workspace that is there is passed by what is of it
+module _ {A : Type 0} (p : Parts) (number : ℕ) (none : space_of p.spaces number ≡ None) (in_space : A → ℕ) (asks : A → Space → Bool) where
+  new_free : (xs : List A) → list_all (λ x. option_map_or (asks x) (space_of p.spaces (in_space x)) false) xs ≡ true → list_any (λ x. in_space x == number) xs ≡ false
+  new_free = none_if (λ x. option_map_or (asks x) (space_of p.spaces (in_space x)) false) (λ x. in_space x == number)
+      (λ x is. ne_eqb (in_space x) number (λ same. bool_apart (sym is ∙ ap (λ o. option_map_or (asks x) o false) (ap (space_of p.spaces) same ∙ none))))
+
+-- no savepoint is of it, no touch and no turn
+unsaved : (p : Parts) (old new : Counters) (a r : Space) (v : Version) (u : Turn) → MayBear p old new a r v u → keep_rules p ≡ true → list_any (λ (x : Savepoint). x.space == r.number) p.savepoints ≡ false
+unsaved p old new a r v u may e =
+    let rule = ruled p e in
+    new_free p r.number (number_none p old new a r v u may) (λ (x : Savepoint). x.space) (is_saved_in (version_of p.versions)) p.savepoints
+    (all_if (is_savepoint (space_of p.spaces) (version_of p.versions) rule.counters.work) (λ (x : Savepoint). option_map_or (is_saved_in (version_of p.versions) x) (space_of p.spaces x.space) false)
+    (λ x is. (both (is_short x.name && nat_le x.making (rule.counters.work + 2)) _ is).1) p.savepoints (ruled_savepoints p rule.counters.work rule.savepoints).each)
+
+untouched : (p : Parts) (old new : Counters) (a r : Space) (v : Version) (u : Turn) → MayBear p old new a r v u → keep_rules p ≡ true → list_any (λ (x : Trace). x.space == r.number) p.touches ≡ false
+untouched p old new a r v u may e =
+    new_free p r.number (number_none p old new a r v u may) (λ (x : Trace). x.space) (λ x (s : Space). nat_lt x.position s.log_length) p.touches
+    (all_if (is_touch (table_of p.tables) (space_of p.spaces)) (λ (x : Trace). option_map_or (λ (s : Space). nat_lt x.position s.log_length) (space_of p.spaces x.space) false)
+    (λ x is. (both (is_trace (table_of p.tables) (space_of p.spaces) x) _ is).1) p.touches
+    (both (differ meet p.touches) (list_all (is_touch (table_of p.tables) (space_of p.spaces)) p.touches) (ruled p e).touches).1)
+
+unturned : (p : Parts) (old new : Counters) (a r : Space) (v : Version) (u : Turn) → MayBear p old new a r v u → keep_rules p ≡ true → list_any (λ (x : Turn). x.space == r.number) p.turns ≡ false
+unturned p old new a r v u may e =
+    new_free p r.number (number_none p old new a r v u may) (λ (x : Turn). x.space) (λ x (s : Space). true) p.turns
+    (all_if (λ (x : Turn). is_some (space_of p.spaces x.space)) (λ (x : Turn). option_map_or (λ (s : Space). true) (space_of p.spaces x.space) false) (λ x is. some_passes (space_of p.spaces x.space) is) p.turns
+    (ruled_turns p (ruled p e).turns).there)
+  where
+    some_passes : (o : Option Space) → is_some o ≡ true → option_map_or (λ (s : Space). true) o false ≡ true
+    some_passes None is = is
+    some_passes (Some s) is = refl
 
 -- ---- what is there still
 
-keep_spaces : (p : Parts) (c : Counters) (r : Space) (v : Version) → KeepSpaces p (born p c r v)
-keep_spaces p c r v = KeepSpaces-push p (born p c r v) r refl
+keep_spaces : (p : Parts) (c : Counters) (r : Space) (v : Version) (u : Turn) → KeepSpaces p (born p c r v u)
+keep_spaces p c r v u = KeepSpaces-push p (born p c r v u) r refl
 
-keep_versions : (p : Parts) (c : Counters) (r : Space) (v : Version) → KeepVersions p (born p c r v)
-keep_versions p c r v = KeepVersions-push p (born p c r v) v refl
+keep_versions : (p : Parts) (c : Counters) (r : Space) (v : Version) (u : Turn) → KeepVersions p (born p c r v u)
+keep_versions p c r v u = KeepVersions-push p (born p c r v u) v refl
 
 -- the new workspace is found
-found_new : (p : Parts) (old new : Counters) (a r : Space) (v : Version) → MayBear p old new a r v → space_of (p.spaces ++ r ∷ []) r.number ≡ Some r
-found_new p old new a r v may = find_new (λ (s : Space). s.number == r.number) p.spaces r (number_new p old new a r v may) (eq-eqb r.number r.number refl)
+found_new : (p : Parts) (old new : Counters) (a r : Space) (v : Version) (u : Turn) → MayBear p old new a r v u → space_of (p.spaces ++ r ∷ []) r.number ≡ Some r
+found_new p old new a r v u may = find_new (λ (s : Space). s.number == r.number) p.spaces r (number_new p old new a r v u may) (eq-eqb r.number r.number refl)
 
 -- ---- the rules on workspaces
 
 -- the new workspace itself
-new_space : (p : Parts) (old new : Counters) (a r : Space) (v : Version) → MayBear p old new a r v → is_space (space_of (p.spaces ++ r ∷ [])) r ≡ true
-new_space p old new a r v may =
+new_space : (p : Parts) (old new : Counters) (a r : Space) (v : Version) (u : Turn) → MayBear p old new a r v u → is_space (space_of (p.spaces ++ r ∷ [])) r ≡ true
+new_space p old new a r v u may =
     and_true (is_placed (space_of (p.spaces ++ r ∷ [])) r && (is_short r.name && is_short r.writer)) (nat_le 1 r.next_place && (nat_le 1 r.next_implicit && nat_le r.log_length (2 ^ 62)))
     (and_true (is_placed (space_of (p.spaces ++ r ∷ [])) r) (is_short r.name && is_short r.writer) placed (and_true (is_short r.name) (is_short r.writer) may.name may.writer))
     (and_true (nat_le 1 r.next_place) (nat_le 1 r.next_implicit && nat_le r.log_length (2 ^ 62)) (le_of 1 r.next_place may.place)
     (and_true (nat_le 1 r.next_implicit) (nat_le r.log_length (2 ^ 62)) (le_of 1 r.next_implicit may.implicit) (ap (λ k. nat_le k (2 ^ 62)) may.log)))
   where
     there : is_some (space_of (p.spaces ++ r ∷ []) r.parent) ≡ true
-    there = some-kept p (born p new r v) (keep_spaces p new r v) r.parent (ap is_some may.parent)
+    there = some-kept p (born p new r v u) (keep_spaces p new r v u) r.parent (ap is_some may.parent)
 
     placed : is_placed (space_of (p.spaces ++ r ∷ [])) r ≡ true
     placed =
-        ap (λ b. if b then bytes_eq r.name live else nat_lt r.parent r.number && is_some (space_of (p.spaces ++ r ∷ []) r.parent)) (lt_some r.parent r.number (parent_below p old new a r v may))
-        ∙ and_true (nat_lt r.parent r.number) (is_some (space_of (p.spaces ++ r ∷ []) r.parent)) (parent_below p old new a r v may) there
+        ap (λ b. if b then bytes_eq r.name live else nat_lt r.parent r.number && is_some (space_of (p.spaces ++ r ∷ []) r.parent)) (lt_some r.parent r.number (parent_below p old new a r v u may))
+        ∙ and_true (nat_lt r.parent r.number) (is_some (space_of (p.spaces ++ r ∷ []) r.parent)) (parent_below p old new a r v u may) there
 
-spaces_kept : (p : Parts) (old new : Counters) (a r : Space) (v : Version) → MayBear p old new a r v → are_spaces p.spaces ≡ true → are_spaces (p.spaces ++ r ∷ []) ≡ true
-spaces_kept p old new a r v may e =
+spaces_kept : (p : Parts) (old new : Counters) (a r : Space) (v : Version) (u : Turn) → MayBear p old new a r v u → are_spaces p.spaces ≡ true → are_spaces (p.spaces ++ r ∷ []) ≡ true
+spaces_kept p old new a r v u may e =
     let h = both (nat_le (length p.spaces) 1024 && is_some (space_of p.spaces 0)) _ e in
     let g = both (differ (λ (s t : Space). s.number == t.number) p.spaces) _ h.1 in
     let k = both (differ (λ (s t : Space). bytes_eq s.name t.name) p.spaces) (list_all (is_space (space_of p.spaces)) p.spaces) g.1 in
     let ss = p.spaces ++ r ∷ [] in
     and_true (nat_le (length ss) 1024 && is_some (space_of ss 0)) _
     (and_true (nat_le (length ss) 1024) (is_some (space_of ss 0)) (ap (λ n. nat_le n 1024) (length-append p.spaces (r ∷ [])) ∙ one_more (length p.spaces) may.room)
-    (some-kept p (born p new r v) (keep_spaces p new r v) 0 (both (nat_le (length p.spaces) 1024) (is_some (space_of p.spaces 0)) h.0).1))
-    (and_true (differ (λ (s t : Space). s.number == t.number) ss) _ (differ_push (λ (s t : Space). s.number == t.number) p.spaces r g.0 (number_new p old new a r v may))
+    (some-kept p (born p new r v u) (keep_spaces p new r v u) 0 (both (nat_le (length p.spaces) 1024) (is_some (space_of p.spaces 0)) h.0).1))
+    (and_true (differ (λ (s t : Space). s.number == t.number) ss) _ (differ_push (λ (s t : Space). s.number == t.number) p.spaces r g.0 (number_new p old new a r v u may))
     (and_true (differ (λ (s t : Space). bytes_eq s.name t.name) ss) (list_all (is_space (space_of ss)) ss) (differ_push (λ (s t : Space). bytes_eq s.name t.name) p.spaces r k.0 may.unnamed)
     (all_push (is_space (space_of ss)) p.spaces r
-    (all_if (is_space (space_of p.spaces)) (is_space (space_of ss)) (is_space-kept p (born p new r v) (keep_spaces p new r v)) p.spaces k.1)
-    (new_space p old new a r v may))))
+    (all_if (is_space (space_of p.spaces)) (is_space (space_of ss)) (is_space-kept p (born p new r v u) (keep_spaces p new r v u)) p.spaces k.1)
+    (new_space p old new a r v u may))))
   where
     one_more : (n : ℕ) → n < 1024 → nat_le (n + 1) 1024 ≡ true
     one_more n lt = grind (arith, lt)
@@ -147,7 +179,7 @@ numbered spaces versions next w e = by_space (spaces w.space) (both (nat_lt w.nu
     by_space None h = absurd (bool_apart (sym h))
     by_space (Some s) h = by_parent s (w.parent == 0) h
 
-version_numbered : (p : Parts) (next k space : ℕ) → are_versions p next ≡ true → is_version_of (version_of p.versions) k space ≡ true → (k == 0) ≡ false
+pub version_numbered : (p : Parts) (next k space : ℕ) → are_versions p next ≡ true → is_version_of (version_of p.versions) k space ≡ true → (k == 0) ≡ false
 version_numbered p next k space e is = by_version (version_of p.versions k) refl (version_there (version_of p.versions) k space is)
   where
     by_version : (o : Option Version) → version_of p.versions k ≡ o → is_some o ≡ true → (k == 0) ≡ false
@@ -157,20 +189,20 @@ version_numbered p next k space e is = by_version (version_of p.versions k) refl
         ap (λ j. j == 0) (sym (eqb-true w.number k g.0)) ∙ numbered (space_of p.spaces) (version_of p.versions) next w g.1
 
 -- the version that the new one stands under is below it
-under_below : (p : Parts) (old new : Counters) (a r : Space) (v : Version) → MayBear p old new a r v → are_versions p old.next_version ≡ true → nat_lt v.parent v.number ≡ true
-under_below p old new a r v may e =
+under_below : (p : Parts) (old new : Counters) (a r : Space) (v : Version) (u : Turn) → MayBear p old new a r v u → are_versions p old.next_version ≡ true → nat_lt v.parent v.number ≡ true
+under_below p old new a r v u may e =
     ap (λ k. nat_lt k v.number) may.under
     ∙ ap (nat_lt r.base_version) may.number
     ∙ found-below p.versions old.next_version r.base_version (below-next p old.next_version e) (version_there (version_of p.versions) r.base_version r.parent may.base)
 
 -- the new version itself
-new_version : (p : Parts) (old new : Counters) (a r : Space) (v : Version) → MayBear p old new a r v → are_versions p old.next_version ≡ true
+new_version : (p : Parts) (old new : Counters) (a r : Space) (v : Version) (u : Turn) → MayBear p old new a r v u → are_versions p old.next_version ≡ true
     → is_version (space_of (p.spaces ++ r ∷ [])) (version_of (p.versions ++ v ∷ [])) (old.next_version + 1) v ≡ true
-new_version p old new a r v may e =
+new_version p old new a r v u may e =
     and_true (nat_lt v.number (old.next_version + 1)) _ (ap (λ k. nat_lt k (old.next_version + 1)) may.number ∙ lt_next old.next_version)
-    (ap (λ o. option_map_or stands o false) (ap (space_of (p.spaces ++ r ∷ [])) may.space ∙ found_new p old new a r v may)
+    (ap (λ o. option_map_or stands o false) (ap (space_of (p.spaces ++ r ∷ [])) may.space ∙ found_new p old new a r v u may)
     ∙ ap (λ b. if b then v.number == 1 else stands_under vs v r) (ap (λ k. k == 0) may.under ∙ version_numbered p old.next_version r.base_version r.parent e may.base)
-    ∙ and_true (nat_lt v.parent v.number) _ (under_below p old new a r v may e) (or_second (is_version_of vs v.parent v.space) (is_version_of vs v.parent r.parent) parents))
+    ∙ and_true (nat_lt v.parent v.number) _ (under_below p old new a r v u may e) (or_second (is_version_of vs v.parent v.space) (is_version_of vs v.parent r.parent) parents))
   where
     vs : ℕ → Option Version
     vs = version_of (p.versions ++ v ∷ [])
@@ -179,29 +211,29 @@ new_version p old new a r v may e =
     stands s = if v.parent == 0 then v.number == 1 else stands_under vs v s
 
     parents : is_version_of vs v.parent r.parent ≡ true
-    parents = ap (λ k. is_version_of vs k r.parent) may.under ∙ is_version_of-kept p (born p new r v) (keep_versions p new r v) r.base_version r.parent may.base
+    parents = ap (λ k. is_version_of vs k r.parent) may.under ∙ is_version_of-kept p (born p new r v u) (keep_versions p new r v u) r.base_version r.parent may.base
 
     or_second : (b c : Bool) → c ≡ true → (b || c) ≡ true
     or_second true c e = refl
     or_second false c e = e
 
 -- the new workspace has it, and what it names is there
-new_has : (p : Parts) (old new : Counters) (a r : Space) (v : Version) → MayBear p old new a r v → has_versions (has_version (p.versions ++ v ∷ [])) (version_of (p.versions ++ v ∷ [])) r ≡ true
-new_has p old new a r v may =
+new_has : (p : Parts) (old new : Counters) (a r : Space) (v : Version) (u : Turn) → MayBear p old new a r v u → has_versions (has_version (p.versions ++ v ∷ [])) (version_of (p.versions ++ v ∷ [])) r ≡ true
+new_has p old new a r v u may =
     and_true (has_version (p.versions ++ v ∷ []) r.number) _ (has_new p.versions v r.number (eq-eqb _ _ may.space))
-    (ap (λ b. if b then (r.birth_version == 1) && (r.base_version == 0) else is_version_of vs r.birth_version r.parent && is_version_of vs r.base_version r.parent) (lt_some r.parent r.number (parent_below p old new a r v may))
+    (ap (λ b. if b then (r.birth_version == 1) && (r.base_version == 0) else is_version_of vs r.birth_version r.parent && is_version_of vs r.base_version r.parent) (lt_some r.parent r.number (parent_below p old new a r v u may))
     ∙ and_true (is_version_of vs r.birth_version r.parent) (is_version_of vs r.base_version r.parent) (ap (λ k. is_version_of vs k r.parent) may.from ∙ base) base)
   where
     vs : ℕ → Option Version
     vs = version_of (p.versions ++ v ∷ [])
 
     base : is_version_of vs r.base_version r.parent ≡ true
-    base = is_version_of-kept p (born p new r v) (keep_versions p new r v) r.base_version r.parent may.base
+    base = is_version_of-kept p (born p new r v u) (keep_versions p new r v u) r.base_version r.parent may.base
 
-versions_kept : (p : Parts) (old new : Counters) (a r : Space) (v : Version) → MayBear p old new a r v → are_versions p old.next_version ≡ true → are_versions (born p new r v) (old.next_version + 1) ≡ true
-versions_kept p old new a r v may e =
+versions_kept : (p : Parts) (old new : Counters) (a r : Space) (v : Version) (u : Turn) → MayBear p old new a r v u → are_versions p old.next_version ≡ true → are_versions (born p new r v u) (old.next_version + 1) ≡ true
+versions_kept p old new a r v u may e =
     let h = ruled_versions p old.next_version e in
-    let q = born p new r v in
+    let q = born p new r v u in
     and_true (differ (λ (v w : Version). v.number == w.number) q.versions) _
     (differ_push (λ (v w : Version). v.number == w.number) p.versions v h.numbers
     (none_if (λ (w : Version). nat_lt w.number old.next_version) (λ (w : Version). w.number == v.number) (λ w lt. ap (λ k. w.number == k) may.number ∙ lt_apart w.number old.next_version lt) p.versions
@@ -209,57 +241,147 @@ versions_kept p old new a r v may e =
     (and_true (list_all (is_version (space_of q.spaces) (version_of q.versions) (old.next_version + 1)) q.versions) (list_all (has_versions (has_version q.versions) (version_of q.versions)) q.spaces)
     (all_push (is_version (space_of q.spaces) (version_of q.versions) (old.next_version + 1)) p.versions v
     (all_if (is_version (space_of p.spaces) (version_of p.versions) old.next_version) (is_version (space_of q.spaces) (version_of q.versions) (old.next_version + 1))
-    (is_version-kept p q old.next_version (old.next_version + 1) (le_next old.next_version) (keep_spaces p new r v) (keep_versions p new r v)) p.versions h.each)
-    (new_version p old new a r v may e))
+    (is_version-kept p q old.next_version (old.next_version + 1) (le_next old.next_version) (keep_spaces p new r v u) (keep_versions p new r v u)) p.versions h.each)
+    (new_version p old new a r v u may e))
     (all_push (has_versions (has_version q.versions) (version_of q.versions)) p.spaces r
     (all_if (has_versions (has_version p.versions) (version_of p.versions)) (has_versions (has_version q.versions) (version_of q.versions))
-    (λ s. has_versions-kept p q (keep_versions p new r v) s (has_push p.versions v s.number)) p.spaces h.spaces)
-    (new_has p old new a r v may)))
+    (λ s. has_versions-kept p q (keep_versions p new r v u) s (has_push p.versions v s.number)) p.spaces h.spaces)
+    (new_has p old new a r v u may)))
+
+-- ---- the rules on turns
+
+-- the new workspace has none of what is counted of it
+count-none : {A : Type 0} (P : A → Bool) (xs : List A) → list_any P xs ≡ false → count_by P xs ≡ 0
+count-none P [] e = refl
+count-none P (x ∷ xs) e = let h = either_false (P x) (list_any P xs) e in rw h.0 (count-none P xs h.1)
+
+-- the new turn is asked for, beside those that were
+asked_born : (p : Parts) (old new : Counters) (a r : Space) (v : Version) (u : Turn) → MayBear p old new a r v u → list_all (λ (x : Turn). is_some (space_of p.spaces x.space)) p.turns ≡ true
+    → asked_turns (born p new r v u) ≡ asked_turns p ++ u ∷ []
+asked_born p old new a r v u may there =
+    filter-append (is_asked (space_of (p.spaces ++ r ∷ []))) p.turns (u ∷ [])
+    ∙ ap (λ xs. xs ++ filter (is_asked (space_of (p.spaces ++ r ∷ []))) (u ∷ [])) (asked_same p (born p new r v u) (keep_spaces p new r v u) p.turns there)
+    ∙ ap (λ b. asked_turns p ++ cond b (u ∷ []) []) asked_for
+  where
+    asked_for : is_asked (space_of (p.spaces ++ r ∷ [])) u ≡ true
+    asked_for = and_true (not (u.space == 0)) _
+        (ap not (ap (λ k. k == 0) may.turn_space ∙ lt_some r.parent r.number (parent_below p old new a r v u may)))
+        (ap (λ o. option_map_or (λ (s : Space). nat_le u.rebase s.rebases) o false) (ap (space_of (p.spaces ++ r ∷ [])) may.turn_space ∙ found_new p old new a r v u may)
+        ∙ ap (λ k. nat_le k r.rebases) may.turn_number ∙ ap (nat_le 0) may.rebases)
+
+-- every other workspace has as many as it had, and the new one has one
+turned_born : (p : Parts) (old new : Counters) (a r : Space) (v : Version) (u : Turn) → MayBear p old new a r v u → list_any (λ (x : Turn). x.space == r.number) (asked_turns p) ≡ false
+    → list_all (has_turns (asked_turns p)) p.spaces ≡ true → list_all (has_turns (asked_turns p ++ u ∷ [])) (p.spaces ++ r ∷ []) ≡ true
+turned_born p old new a r v u may none each =
+    all_push (has_turns (asked_turns p ++ u ∷ [])) p.spaces r (others p.spaces may.after each) one_more
+  where
+    counted : (k : ℕ) → count_by (λ (x : Turn). x.space == k) (asked_turns p ++ u ∷ []) ≡ count_by (λ (x : Turn). x.space == k) (asked_turns p) + cond (r.number == k) 1 0
+    counted k = count_push (λ (x : Turn). x.space == k) (asked_turns p) u ∙ ap (λ j. count_by (λ (x : Turn). x.space == k) (asked_turns p) + cond (j == k) 1 0) may.turn_space
+
+    or_right : (b c : Bool) → c ≡ true → (b || c) ≡ true
+    or_right true c e = refl
+    or_right false c e = e
+
+    no_more : (n : ℕ) → n + 0 ≡ n
+    no_more n = omega arith
+
+    above : (m n : ℕ) → nat_lt m n ≡ true → (n == m) ≡ false
+    above m n lt = grind (arith, lt)
+
+    still : (s : Space) → nat_lt s.number r.number ≡ true → has_turns (asked_turns p) s ≡ true → has_turns (asked_turns p ++ u ∷ []) s ≡ true
+    still s low has =
+        ap (λ k. (s.number == 0) || (k == s.rebases + 1))
+        (counted s.number ∙ ap (λ b. count_by (λ (x : Turn). x.space == s.number) (asked_turns p) + cond b 1 0) (above s.number r.number low) ∙ no_more (count_by (λ (x : Turn). x.space == s.number) (asked_turns p)))
+        ∙ has
+
+    others : (ss : List Space) → list_all (λ (s : Space). nat_lt s.number r.number) ss ≡ true → list_all (has_turns (asked_turns p)) ss ≡ true → list_all (has_turns (asked_turns p ++ u ∷ [])) ss ≡ true
+    others [] low has = refl
+    others (s ∷ ss) low has =
+        let h = both (nat_lt s.number r.number) (list_all (λ (t : Space). nat_lt t.number r.number) ss) low in
+        let g = both (has_turns (asked_turns p) s) (list_all (has_turns (asked_turns p)) ss) has in
+        and_true (has_turns (asked_turns p ++ u ∷ []) s) (list_all (has_turns (asked_turns p ++ u ∷ [])) ss) (still s h.0 g.0) (others ss h.1 g.1)
+
+    one_more : has_turns (asked_turns p ++ u ∷ []) r ≡ true
+    one_more = or_right (r.number == 0) _
+        (ap (λ k. k == r.rebases + 1) (counted r.number ∙ ap (λ b. count_by (λ (x : Turn). x.space == r.number) (asked_turns p) + cond b 1 0) (eq-eqb r.number r.number refl) ∙ ap (λ k. k + 1) (count-none (λ (x : Turn). x.space == r.number) (asked_turns p) none))
+        ∙ ap (λ k. 1 == k + 1) may.rebases)
+
+turns_kept : (p : Parts) (old new : Counters) (a r : Space) (v : Version) (u : Turn) → MayBear p old new a r v u → list_any (λ (x : Turn). x.space == r.number) p.turns ≡ false → are_turns p ≡ true → are_turns (born p new r v u) ≡ true
+turns_kept p old new a r v u may none e =
+    and_true (list_all (λ (x : Turn). is_some (space_of q.spaces x.space)) q.turns) _
+    (all_push (λ (x : Turn). is_some (space_of q.spaces x.space)) p.turns u
+    (all_if (λ (x : Turn). is_some (space_of p.spaces x.space)) (λ (x : Turn). is_some (space_of q.spaces x.space)) (λ x. some-kept p q (keep_spaces p new r v u) x.space) p.turns rule.there)
+    (ap is_some (ap (space_of q.spaces) may.turn_space ∙ found_new p old new a r v u may)))
+    (and_true (differ same_turn (asked_turns q)) (list_all (has_turns (asked_turns q)) q.spaces)
+    (ap (differ same_turn) asked
+    ∙ differ_push same_turn (asked_turns p) u rule.numbers (any-if (λ (x : Turn). x.space == r.number) (λ x. same_turn x u) (λ x same. ap (λ k. x.space == k) (sym may.turn_space) ∙ (both (x.space == u.space) (x.rebase == u.rebase) same).0) (asked_turns p) gone))
+    (ap (λ ts. list_all (has_turns ts) q.spaces) asked ∙ turned_born p old new a r v u may gone rule.each))
+  where
+    q : Parts
+    q = born p new r v u
+
+    rule : RuledTurns p
+    rule = ruled_turns p e
+
+    asked : asked_turns q ≡ asked_turns p ++ u ∷ []
+    asked = asked_born p old new a r v u may rule.there
+
+    gone : list_any (λ (x : Turn). x.space == r.number) (asked_turns p) ≡ false
+    gone = any_filter (λ (x : Turn). x.space == r.number) (is_asked (space_of p.spaces)) p.turns none
 
 -- ---- all rules
 
 -- the new workspace has no savepoint
 new_few : (xs : List Savepoint) (r : Space) → list_any (λ (x : Savepoint). x.space == r.number) xs ≡ false → has_few xs r ≡ true
 new_few xs r none = ap (λ k. nat_le k 4096) (count-none (λ (x : Savepoint). x.space == r.number) xs none)
-  where
-    count-none : (P : Savepoint → Bool) (xs : List Savepoint) → list_any P xs ≡ false → count_by P xs ≡ 0
-    count-none P [] e = refl
-    count-none P (x ∷ xs) e = let h = either_false (P x) (list_any P xs) e in rw h.0 (count-none P xs h.1)
 
-pub keep-born : (p : Parts) (old new : Counters) (a r : Space) (v : Version) → MayBear p old new a r v → keep_rules p ≡ true → keep_rules (born p new r v) ≡ true
-keep-born p old new a r v may e =
-    keeps_all q new refl may.counters u.tables (spaces_kept p old new a r v may u.spaces)
-    (ap (are_versions q) may.next ∙ versions_kept p old new a r v may (ap (λ (c : Counters). are_versions p c.next_version) same ∙ u.versions))
-    (are_savepoints-kept p q old.work new.work (le_of old.work new.work may.work) (keep_spaces p new r v) (keep_versions p new r v) refl few savepoints)
-    (are_rows-kept p q old.next_stamp new.next_stamp stamps (KeepTables-same p q refl) refl (ap (λ (c : Counters). are_rows p c.next_stamp) same ∙ u.rows))
-    (are_pieces-kept p q old.next_stamp new.next_stamp stamps (KeepTables-same p q refl) (keep_versions p new r v) (KeepRows-same p q refl) refl (ap (λ (c : Counters). are_pieces p c.next_stamp) same ∙ u.pieces))
-    (are_hists-kept p q old.next_stamp new.next_stamp stamps (KeepTables-same p q refl) (keep_spaces p new r v) (KeepRows-same p q refl) refl (ap (λ (c : Counters). are_hists p c.next_stamp) same ∙ u.hists))
+pub keep-born : (p : Parts) (old new : Counters) (a r : Space) (v : Version) (u : Turn) → MayBear p old new a r v u → keep_rules p ≡ true → keep_rules (born p new r v u) ≡ true
+keep-born p old new a r v u may e =
+    keeps_all q new refl may.counters rule.tables (spaces_kept p old new a r v u may rule.spaces)
+    (ap (are_versions q) may.next ∙ versions_kept p old new a r v u may (ap (λ (c : Counters). are_versions p c.next_version) same ∙ rule.versions))
+    (are_savepoints-kept p q old.work new.work work spaces (keep_versions p new r v u) refl few savepoints)
+    (are_rows-kept p q old.next_stamp new.next_stamp stamps tables refl (ap (λ (c : Counters). are_rows p c.next_stamp) same ∙ rule.rows))
+    (are_pieces-kept p q old.next_stamp new.next_stamp stamps tables (keep_versions p new r v u) (KeepRows-same p q refl) refl (ap (λ (c : Counters). are_pieces p c.next_stamp) same ∙ rule.pieces))
+    (are_hists-kept p q old.next_stamp new.next_stamp stamps tables spaces (KeepRows-same p q refl) refl (ap (λ (c : Counters). are_hists p c.next_stamp) same ∙ rule.hists))
+    (are_touches-kept p q tables spaces refl rule.touches)
+    (are_locks-kept p q old.work new.work work tables spaces refl (ap (λ (c : Counters). are_locks p c.work) same ∙ rule.locks))
+    (are_marks-kept p q tables spaces refl rule.marks)
+    (turns_kept p old new a r v u may (unturned p old new a r v u may e) rule.turns)
   where
     q : Parts
-    q = born p new r v
+    q = born p new r v u
 
-    u : Ruled p
-    u = ruled p e
+    rule : Ruled p
+    rule = ruled p e
 
-    same : old ≡ u.counters
-    same = sym (same_counters p old u.counters may.one u.one)
+    tables : KeepTables p q
+    tables = KeepTables-same p q refl
+
+    spaces : KeepSpaces p q
+    spaces = keep_spaces p new r v u
+
+    same : old ≡ rule.counters
+    same = sym (same_counters p old rule.counters may.one rule.one)
+
+    work : nat_le old.work new.work ≡ true
+    work = le_of old.work new.work may.work
 
     stamps : nat_le old.next_stamp new.next_stamp ≡ true
     stamps = ap (nat_le old.next_stamp) may.stamps ∙ le_itself old.next_stamp
 
     savepoints : are_savepoints p old.work ≡ true
-    savepoints = ap (λ (c : Counters). are_savepoints p c.work) same ∙ u.savepoints
+    savepoints = ap (λ (c : Counters). are_savepoints p c.work) same ∙ rule.savepoints
 
     few : list_all (has_few p.savepoints) (p.spaces ++ r ∷ []) ≡ true
-    few = all_push (has_few p.savepoints) p.spaces r (ruled_savepoints p old.work savepoints).few (new_few p.savepoints r (unsaved p old new a r v may e))
+    few = all_push (has_few p.savepoints) p.spaces r (ruled_savepoints p old.work savepoints).few (new_few p.savepoints r (unsaved p old new a r v u may e))
 
 -- ---- what becomes of the records
 
-pub born_of : (p : Parts) (old new : Counters) (a r : Space) (v : Version) → MayBear p old new a r v → keep_rules p ≡ true → Born p (born p new r v) r v.number
-born_of p old new a r v may e = record {
-  child = lt_above r.parent r.number (parent_below p old new a r v may);
+pub born_of : (p : Parts) (old new : Counters) (a r : Space) (v : Version) (u : Turn) → MayBear p old new a r v u → keep_rules p ≡ true → Born p (born p new r v u) r v.number u
+born_of p old new a r v u may e = record {
+  child = lt_above r.parent r.number (parent_below p old new a r v u may);
   none = none;
-  unsaved = unsaved p old new a r v may e;
+  unsaved = unsaved p old new a r v u may e;
   from = may.from;
   there = version_there (version_of p.versions) r.base_version r.parent may.base;
   below = fork.below;
@@ -267,15 +389,18 @@ born_of p old new a r v may e = record {
   empty = fork.empty;
   count = length-append p.spaces (r ∷ []);
   spaces = λ m. find_numbered (λ (s : Space). s.number) p.spaces r m none;
-  tables = refl;
-  savepoints = refl;
-  rows = refl;
-  pieces = refl;
-  hists = refl;
+  rebases = may.rebases;
+  unturned = unturned p old new a r v u may e;
+  untouched = untouched p old new a r v u may e;
+  turns = refl;
+  turn_space = may.turn_space;
+  turn_number = may.turn_number;
+  turn_from = may.turn_from;
+  rest = refl;
 }
   where
     none : space_of p.spaces r.number ≡ None
-    none = find-none (λ (s : Space). s.number == r.number) p.spaces (number_new p old new a r v may)
+    none = number_none p old new a r v u may
 
     -- what holds of the next version holds of it wherever it stands
     beside : Version
@@ -286,7 +411,7 @@ born_of p old new a r v may e = record {
         (record { one = may.one; counters = may.counters; stamps = may.stamps; next = may.next; work = may.work; there = may.parent; number = may.number; space = refl; parent = refl }) e
 
     versions : are_versions p old.next_version ≡ true
-    versions = let u = ruled p e in ap (λ (c : Counters). are_versions p c.next_version) (sym (same_counters p old u.counters may.one u.one)) ∙ u.versions
+    versions = let rule = ruled p e in ap (λ (c : Counters). are_versions p c.next_version) (sym (same_counters p old rule.counters may.one rule.one)) ∙ rule.versions
 
     below : list_all (λ (w : Version). nat_lt w.number v.number) p.versions ≡ true
     below = ap (λ k. list_all (λ (w : Version). nat_lt w.number k) p.versions) may.number ∙ below-next p old.next_version versions

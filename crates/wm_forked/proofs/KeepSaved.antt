@@ -1,5 +1,5 @@
 -- The records with a savepoint more.
-use Rattle.std.proofs.Common.{◌≡◌, ◌≢◌, ℕ, ◌+◌, ◌^◌, ◌≤◌, ◌==◌, nat_lt, nat_le, Bool, true, false, ◌&&◌, cond, if◌then◌else◌, List, [], ◌∷◌, ◌++◌, Option, Some, None, refl, sym, ap, ◌∙◌, ◌⊎◌, inl, inr, length, length-append, arith}
+use Rattle.std.proofs.Common.{◌≡◌, ◌≢◌, ℕ, ◌+◌, ◌^◌, ◌≤◌, ◌==◌, nat_lt, nat_le, Bool, true, false, ◌&&◌, cond, if◌then◌else◌, List, [], ◌∷◌, ◌++◌, Option, Some, None, refl, sym, ap, subst, ◌∙◌, ◌⊎◌, inl, inr, length, length-append, arith}
 use Rattle.std.proofs.lemmas.Bool.{cases_eq, eq-eqb, ne_eqb}
 use Rattle.std.proofs.lemmas.List.Elements.{filter-append}
 use Rattle.std.proofs.lemmas.List.Sums.{length-filter}
@@ -8,23 +8,26 @@ use Rattle.std.specs.List.{list_all, list_any, filter, count_by}
 use Rattle.std.specs.Option.{option_map}
 use Rattle.std.specs.Str.{bytes_eq}
 use Rattle.wm_graph.specs.Parts.{Parts, space_of, version_of, has_version}
-use Rattle.wm_graph.specs.Rules.{keep_rules, are_counters, are_spaces, is_space, is_placed, is_short, are_versions, has_versions, is_version_of, is_base_of, is_saved_in, are_savepoints, is_savepoint, same_savepoint, has_few, are_rows, are_pieces, are_hists, differ}
+use Rattle.wm_graph.specs.Rules.{keep_rules, are_counters, are_spaces, is_space, is_placed, is_short, are_versions, has_versions, is_version_of, is_base_of, is_saved_in, are_savepoints, is_savepoint, same_savepoint, has_few, are_rows, are_pieces, are_hists, are_locks, differ}
 use Rattle.wm_spec.specs.declared.record.counters.Counters.{Counters}
 use Rattle.wm_spec.specs.declared.record.savepoint.Savepoint.{Savepoint}
 use Rattle.wm_spec.specs.declared.record.space.Space.{Space}
 use Rattle.wm_state.specs.State.{Durable, Workspace, workspace_of, with_space, with_savepoint}
 use Rattle.wm_state.specs.State.{Savepoint as Kept}
-use Rattle.wm_state.specs.Standing.{latest, saved_as, saved_fields, fields_saved, CountersStand, FieldsStand, Stands}
+use Rattle.wm_state.specs.Standing.{latest, saved_as, SpaceFields, saved_fields, fields_saved, CountersStand, FieldsStand, Stands}
 use Rattle.wm_state.specs.Effects.{Saved, marked}
 use Rattle.wm_state.proofs.Apart.{ruled, keeps_all, ruled_versions, newest_record, found-passes}
+use Rattle.wm_state.proofs.Climbing.{Recorded, recorded_of}
 use Rattle.wm_state.proofs.Growing.{same_counters}
+use Rattle.wm_state.proofs.KeepingTurns.{are_touches-kept, are_locks-kept, are_marks-kept, are_turns-kept, turned-swap}
 use Rattle.wm_state.proofs.Making.{same_making}
 use Rattle.wm_state.proofs.Mapped.{any-if, none-found}
 use Rattle.wm_state.proofs.Keeping.{KeepSpaces, le_itself, le_of, KeepTables-same, KeepSpaces-swap, KeepVersions-same, KeepRows-same, is_savepoint-kept, are_hists-kept}
 use Rattle.wm_state.proofs.Respaced.{MayReplace, spaces_replaced, versions_replaced, space_here, space_elsewhere}
-use Rattle.wm_state.proofs.Named.{ruled_savepoints, space_number, saved_there}
+use Rattle.wm_state.proofs.Named.{one_space, ruled_savepoints, space_number, saved_there}
 use Rattle.wm_state.proofs.SavedAs.{named_as}
-use Rattle.wm_forked.proofs.Saving.{IsKept, FieldsStand-saved, Stands-saved}
+use Rattle.wm_forked.proofs.SavedStands.{IsKept, Stands-saved}
+use Rattle.wm_forked.proofs.Saving.{FieldsStand-saved}
 use Rattle.wm_state.proofs.Tests.{bool_apart, both, and_true, all_if, all_push, all_swap, all_middle, differ_push, none_if}
 
 -- the records with a savepoint more of a workspace, whose record has counted it, and other counters
@@ -86,11 +89,11 @@ spaces_marked front back a place implicit places implicits e =
 -- each workspace has as much of a log as it had, and has given as many places
 spaces_still : (p : Parts) (old new : Counters) (front : List Space) (a : Space) (back : List Space) (place implicit : ℕ) (x : Savepoint) → MaySave p old new front a back place implicit x → KeepSpaces p (saved p new front a back place implicit x)
 spaces_still p old new front a back place implicit x may =
-    KeepSpaces-swap p (saved p new front a back place implicit x) front back a (marked place implicit a) refl refl (le_itself a.log_length) (le_of a.next_place place may.places) may.spaces refl
+    KeepSpaces-swap p (saved p new front a back place implicit x) front back a (marked place implicit a) refl refl (le_itself a.log_length) (le_of a.next_place place may.places) refl may.spaces refl
 
 -- ---- savepoints
 
-count_push : {A : Type 0} (P : A → Bool) (xs : List A) (x : A) → count_by P (xs ++ x ∷ []) ≡ count_by P xs + cond (P x) 1 0
+pub count_push : {A : Type 0} (P : A → Bool) (xs : List A) (x : A) → count_by P (xs ++ x ∷ []) ≡ count_by P xs + cond (P x) 1 0
 count_push {A = A} P xs x =
     sym (length-filter P (xs ++ x ∷ []))
     ∙ ap length (filter-append P xs (x ∷ []))
@@ -161,38 +164,38 @@ keep-saved p old new front a back place implicit x may e =
     let same : r.counters ≡ old = same_counters p old r.counters may.one r.one in
     let q = saved p new front a back place implicit x in
     let mark = may_mark a place implicit in
+    let still : KeepSpaces p q = spaces_still p old new front a back place implicit x may in
     let spaces : are_spaces q.spaces ≡ true = spaces_marked front back a place implicit may.places may.implicits (ap are_spaces (sym may.spaces) ∙ r.spaces) in
     keeps_all q new refl may.counters r.tables spaces
     (ap (are_versions q) may.versions ∙ versions_replaced p q front back a (marked place implicit a) old.next_version mark may.spaces refl refl (ap (λ (c : Counters). are_versions p c.next_version) (sym same) ∙ r.versions))
     (savepoints_kept p old new front a back place implicit x may spaces (ap (λ (c : Counters). are_savepoints p c.work) (sym same) ∙ r.savepoints))
     (ap (are_rows p) may.stamps ∙ ap (λ (c : Counters). are_rows p c.next_stamp) (sym same) ∙ r.rows)
     (ap (are_pieces p) may.stamps ∙ ap (λ (c : Counters). are_pieces p c.next_stamp) (sym same) ∙ r.pieces)
-    (ap (are_hists q) may.stamps ∙ are_hists-kept p q old.next_stamp old.next_stamp (le_itself old.next_stamp) (KeepTables-same p q refl) (spaces_still p old new front a back place implicit x may) (KeepRows-same p q refl) refl (ap (λ (c : Counters). are_hists p c.next_stamp) (sym same) ∙ r.hists))
+    (ap (are_hists q) may.stamps ∙ are_hists-kept p q old.next_stamp old.next_stamp (le_itself old.next_stamp) (KeepTables-same p q refl) still (KeepRows-same p q refl) refl (ap (λ (c : Counters). are_hists p c.next_stamp) (sym same) ∙ r.hists))
+    (are_touches-kept p q (KeepTables-same p q refl) still refl r.touches)
+    (are_locks-kept p q old.work new.work (le_of old.work new.work may.work) (KeepTables-same p q refl) still refl (ap (λ (c : Counters). are_locks p c.work) (sym same) ∙ r.locks))
+    (are_marks-kept p q (KeepTables-same p q refl) still refl r.marks)
+    (are_turns-kept p q still refl (turned-swap p q front back a (marked place implicit a) refl refl may.spaces refl r.turns) r.turns)
 
 -- ---- what becomes of the records
 
-saved_of : (p : Parts) (old new : Counters) (front : List Space) (a : Space) (back : List Space) (place implicit : ℕ) (x : Savepoint) → MaySave p old new front a back place implicit x → keep_rules p ≡ true
+-- the record of its workspace
+parent_found : (p : Parts) (old new : Counters) (front : List Space) (a : Space) (back : List Space) (place implicit : ℕ) (x : Savepoint) → MaySave p old new front a back place implicit x → keep_rules p ≡ true → space_of p.spaces x.space ≡ Some a
+parent_found p old new front a back place implicit x may e = ap (λ ss. space_of ss x.space) may.spaces ∙ space_here front back a x.space (ap are_spaces (sym may.spaces) ∙ (ruled p e).spaces) may.space
+
+pub saved_of : (p : Parts) (old new : Counters) (front : List Space) (a : Space) (back : List Space) (place implicit : ℕ) (x : Savepoint) → MaySave p old new front a back place implicit x → keep_rules p ≡ true
     → Saved p (saved p new front a back place implicit x) x.space place implicit x
 saved_of p old new front a back place implicit x may e = record {
   space = refl;
   after = may.after;
   savepoints = refl;
   count = length-append front (marked place implicit a ∷ back) ∙ sym (length-append front (a ∷ back)) ∙ sym (ap length may.spaces);
-  here = space_here front back (marked place implicit a) x.space (spaces_marked front back a place implicit may.places may.implicits spaces) may.space ∙ sym (ap (option_map (marked place implicit)) found);
+  here = space_here front back (marked place implicit a) x.space (spaces_marked front back a place implicit may.places may.implicits (ap are_spaces (sym may.spaces) ∙ (ruled p e).spaces)) may.space
+      ∙ sym (ap (option_map (marked place implicit)) (parent_found p old new front a back place implicit x may e));
   elsewhere = λ m other. space_elsewhere front back a (marked place implicit a) m (away m other) (away m other) ∙ ap (λ ss. space_of ss m) (sym may.spaces);
-  tables = refl;
-  versions = refl;
-  rows = refl;
-  pieces = refl;
-  hists = refl;
+  rest = refl;
 }
   where
-    spaces : are_spaces (front ++ a ∷ back) ≡ true
-    spaces = ap are_spaces (sym may.spaces) ∙ (ruled p e).spaces
-
-    found : space_of p.spaces x.space ≡ Some a
-    found = ap (λ ss. space_of ss x.space) may.spaces ∙ space_here front back a x.space spaces may.space
-
     away : (m : ℕ) → (m == x.space) ≡ false → a.number ≢ m
     away m other same = bool_apart (sym (eq-eqb m x.space (sym same ∙ may.space)) ∙ other)
 
@@ -205,11 +208,17 @@ FieldsStand-kept p old new front a back place implicit x w k s t rules st may fo
 
 -- the records stand for the state with the savepoint
 pub Stands-kept : (p : Parts) (old new : Counters) (front : List Space) (a : Space) (back : List Space) (place implicit : ℕ) (x : Savepoint) (w : Workspace) (k : Kept) (s t : Durable) → Stands p s → MaySave p old new front a back place implicit x
-    → workspace_of s.spaces x.space ≡ Some w → IsKept p s.spaces w k x → t.spaces ≡ with_space x.space (with_savepoint place implicit k) s.spaces → t.tables ≡ s.tables → CountersStand (saved p new front a back place implicit x) t
+    → workspace_of s.spaces x.space ≡ Some w → IsKept p s w k x → t.spaces ≡ with_space x.space (with_savepoint place implicit k) s.spaces → t.tables ≡ s.tables → CountersStand (saved p new front a back place implicit x) t
     → Stands (saved p new front a back place implicit x) t
 Stands-kept p old new front a back place implicit x w k s t st may found kept spaces tables counters =
-    Stands-saved p (saved p new front a back place implicit x) s t x.space place implicit w k x (saved_of p old new front a back place implicit x may st.rules) st found kept spaces tables counters
-    (keep-saved p old new front a back place implicit x may st.rules)
+    Stands-saved p (saved p new front a back place implicit x) s t x.space place implicit w k x (saved_of p old new front a back place implicit x may st.rules) st found kept spaces tables
+    (wide (recorded_of p s st.spaces x.space w found)) counters (keep-saved p old new front a back place implicit x may st.rules)
+  where
+    -- no fewer places are given than before
+    wide : Recorded p x.space w → w.next_place ≤ place
+    wide r = subst (λ (b : ℕ). b ≤ place)
+        (ap (λ (z : Space). z.next_place) (one_space a r.space (sym (parent_found p old new front a back place implicit x may st.rules) ∙ r.found)) ∙ ap (λ (f : SpaceFields). f.next_place) r.fields)
+        may.places
 
 -- ---- what a new savepoint is asked, of what is there
 

@@ -11,6 +11,7 @@ use Rattle.wm_spec.specs.declared.record.batch.Change.{Change}
 use Rattle.wm_spec.specs.declared.record.counters.Counters.{Counters}
 use Rattle.wm_spec.specs.declared.record.savepoint.Savepoint.{Savepoint}
 use Rattle.wm_spec.specs.declared.record.space.Space.{Space}
+use Rattle.wm_spec.specs.declared.record.turn.Turn.{Turn}
 use Rattle.wm_spec.specs.declared.record.version.Version.{Version}
 use Rattle.wm_state.specs.ById.{Ascend, set_at, applied}
 use Rattle.wm_state.specs.Batches.{AllUnder, savepoint_batch}
@@ -20,10 +21,10 @@ use Rattle.wm_state.specs.State.{Savepoint as Kept}
 use Rattle.wm_state.specs.Standing.{saved_fields, fields_saved, CountersStand, FieldsStand, Stands}
 use Rattle.wm_state.proofs.ById.{Ascend-set}
 use Rattle.wm_state.proofs.ByKind.{kinds, Split, split_of, set-split, set-behind}
-use Rattle.wm_state.proofs.Planning.{recounted, parts-spaced, spaces-split, parts-more_savepoint, parts-more_space, parts-more_version}
+use Rattle.wm_state.proofs.Planning.{recounted, parts-spaced, spaces-split, parts-more_savepoint, parts-more_space, parts-more_turn, parts-more_version}
 use Rattle.wm_state.proofs.Planned.{counted, found_still, AllUnder-set, AllUnder-next}
 use Rattle.wm_forked.proofs.KeepSaved.{saved, MaySave, keep-saved, FieldsStand-kept, Stands-kept}
-use Rattle.wm_forked.proofs.Saving.{IsKept}
+use Rattle.wm_forked.proofs.SavedStands.{IsKept}
 
 -- ---- single steps
 
@@ -57,6 +58,9 @@ more_space ss id a under = ap parts_of (set-behind ss id (records.Space a) under
 
 pub more_version : (ss : List Stored) (id : ℕ) (v : Version) → AllUnder id ss → parts_of (set_at id (Some (records.Version v)) ss) ≡ record (parts_of ss) { versions = (parts_of ss).versions ++ v ∷ [] }
 more_version ss id v under = ap parts_of (set-behind ss id (records.Version v) under) ∙ parts-more_version ss id v
+
+pub more_turn : (ss : List Stored) (id : ℕ) (x : Turn) → AllUnder id ss → parts_of (set_at id (Some (records.Turn x)) ss) ≡ record (parts_of ss) { turns = (parts_of ss).turns ++ x ∷ [] }
+more_turn ss id x under = ap parts_of (set-behind ss id (records.Turn x) under) ∙ parts-more_turn ss id x
 
 -- all ids are under the next once one is behind all
 pub AllUnder-more : (n : ℕ) (ss : List Stored) (r : Record) → AllUnder n ss → AllUnder (n + 1) (set_at n (Some r) ss)
@@ -150,7 +154,7 @@ agree_saved ss counters_id space_id old new a place implicit id x w k s u rules 
 pub plan_saved : (ss : List Stored) (counters_id space_id : ℕ) (old new : Counters) (a : Space) (place implicit id : ℕ) (x : Savepoint) (w : Workspace) (k : Kept) (s u : Durable) → Stands (parts_of ss) s → Ascend ss
     → record_at ss counters_id ≡ Some (records.Counters old) → (parts_of ss).counters ≡ old ∷ [] → record_at ss space_id ≡ Some (records.Space a) → AllUnder id ss
     → ((front back : List Space) → (parts_of ss).spaces ≡ front ++ a ∷ back → MaySave (parts_of ss) old new front a back place implicit x)
-    → workspace_of s.spaces x.space ≡ Some w → IsKept (parts_of ss) s.spaces w k x → u.spaces ≡ with_space x.space (with_savepoint place implicit k) s.spaces → u.tables ≡ s.tables
+    → workspace_of s.spaces x.space ≡ Some w → IsKept (parts_of ss) s w k x → u.spaces ≡ with_space x.space (with_savepoint place implicit k) s.spaces → u.tables ≡ s.tables
     → CountersStand (recounted (parts_of ss) new) u → Stands (parts_of (applied (savepoint_batch counters_id new space_id (marked place implicit a) id x) ss)) u
 plan_saved ss counters_id space_id old new a place implicit id x w k s u st sorted counters one space under may found kept spaces tables stands =
     let i = parts-saved ss counters_id space_id old new a place implicit id x sorted counters one space under in

@@ -16,7 +16,7 @@ use Rattle.wm_state.specs.Standing.{SpaceFields, SavepointFields, fields_of, fie
 use Rattle.wm_state.proofs.Counting.{counted_well, counters_move}
 use Rattle.wm_forked.proofs.KeepSaved.{MaySave, version_latest, base_latest, saved_in_space, unnamed_if}
 use Rattle.wm_state.proofs.SavedAs.{IsSaved, named_sorted, named_some, named_none, made_some, made_some_there, made_none, saved_count}
-use Rattle.wm_forked.proofs.Saving.{IsKept, kept_latest, kept_again}
+use Rattle.wm_forked.proofs.SavedStands.{IsKept, kept_latest, kept_again}
 use Rattle.wm_state.proofs.Spaces.{IsSpace, next_making_there, makings_under, making_behind_room}
 use Rattle.wm_state.proofs.Tests.{both}
 
@@ -147,9 +147,10 @@ few_same p s a w b st is few = ap (nat_le 4096) (saved_count p s a.number w st i
 pub record MadeAt (p : Parts) (s : Durable) (a : Space) (w : Workspace) (m : ℕ) (stand : Stand) (pt : Point) (name : List ℕ) (flag : Bool) : Type 0 where
   pub savepoint : Savepoint
   pub is : saved_at m s.spaces w stand name flag ≡ Some savepoint
-  pub kept : IsKept p s.spaces w savepoint (made_at p a name flag pt)
+  pub kept : IsKept p s w savepoint (made_at p a name flag pt)
   pub place : pt.place ≡ savepoint.place
   pub log : pt.log_length ≡ savepoint.log_length
+  pub rebases : pt.rebases ≡ savepoint.rebases
 
 -- those of one at what is newest
 abbrev newest_fields : List ℕ → Bool → ℕ → ℕ → SpaceFields → SavepointFields
@@ -232,10 +233,11 @@ made_newest : (p : Parts) (s : Durable) (a : Space) (w : Workspace) (m : ℕ) (n
 made_newest p s a w m name flag st is = record {
   savepoint = k;
   is = refl;
-  kept = kept_latest p s a.number w a k x st is.found is.recorded refl refl refl refl refl
+  kept = kept_latest p s a.number w a k x st is.found is.recorded refl refl refl refl refl refl refl refl
       (newest_same p s a w m name flag st.savepoints st.once is);
   place = ap (λ (f : SpaceFields). f.next_place) is.fields;
   log = ap (λ (f : SpaceFields). f.log_length) is.fields;
+  rebases = ap (λ (f : SpaceFields). f.rebases) is.fields;
 }
   where
     k : Savepoint
@@ -266,10 +268,11 @@ made_again p s a w m making y name flag st is found = by_savepoint (made_some p 
     by_savepoint (j, made, saved) = record {
       savepoint = again j;
       is = ap (option_map (λ (k : Savepoint). record k { making = next_making s.spaces; name = name; implicit = flag })) made;
-      kept = kept_again p s a.number making w (again j) j (made_at p a name flag (saved_point y)) y st is.found found made refl refl refl refl refl refl
+      kept = kept_again p s a.number making w (again j) j (made_at p a name flag (saved_point y)) y st is.found found made refl refl refl refl refl refl refl refl
           (again_same p s a y j name flag st.savepoints st.once saved.fields);
       place = ap (λ (f : SavepointFields). f.place) saved.fields;
       log = ap (λ (f : SavepointFields). f.log_length) saved.fields;
+      rebases = ap (λ (f : SavepointFields). f.rebases) saved.fields;
     }
 
 pub made_there : (p : Parts) (s : Durable) (a : Space) (w : Workspace) (m : ℕ) (stand : Stand) (pt : Point) (name : List ℕ) (flag : Bool) → Stands p s → IsSpace p s a.number a w → point_at p a m stand ≡ Some pt → MadeAt p s a w m stand pt name flag

@@ -1,5 +1,2 @@
 pub mod Parts
 pub mod Rules
-pub mod Lookups
-pub mod Order
-pub mod Indexing

@@ -11,6 +11,9 @@ use Rattle.wm_spec.specs.declared.record.row.RowRecord.{RowRecord}
 use Rattle.wm_spec.specs.declared.record.piece.PieceRecord.{PieceRecord}
 use Rattle.wm_spec.specs.declared.record.savepoint.Savepoint.{Savepoint}
 use Rattle.wm_spec.specs.declared.record.hist.Hist.{Hist}
+use Rattle.wm_spec.specs.declared.record.lock.Lock.{Lock}
+use Rattle.wm_spec.specs.declared.record.trace.Trace.{Trace}
+use Rattle.wm_spec.specs.declared.record.turn.Turn.{Turn}
 use Rattle.wm_spec.specs.declared.record.stored.Stored.{Stored}
 
 pub record Parts : Type 0 where
@@ -21,7 +24,11 @@ pub record Parts : Type 0 where
   pub savepoints : List Savepoint
   pub rows : List RowRecord
   pub pieces : List PieceRecord
+  pub touches : List Trace
+  pub locks : List Lock
   pub hists : List Hist
+  pub marks : List Trace
+  pub turns : List Turn
 
 abbrev pub as_counters : Record → Option Counters
 as_counters (records.Counters r) = Some r
@@ -51,9 +58,25 @@ abbrev pub as_piece : Record → Option PieceRecord
 as_piece (records.Piece r) = Some r
 as_piece _ = None
 
+abbrev pub as_touch : Record → Option Trace
+as_touch (records.Touch r) = Some r
+as_touch _ = None
+
+abbrev pub as_lock : Record → Option Lock
+as_lock (records.Lock r) = Some r
+as_lock _ = None
+
 abbrev pub as_hist : Record → Option Hist
 as_hist (records.Hist r) = Some r
 as_hist _ = None
+
+abbrev pub as_mark : Record → Option Trace
+as_mark (records.Mark r) = Some r
+as_mark _ = None
+
+abbrev pub as_turn : Record → Option Turn
+as_turn (records.Turn r) = Some r
+as_turn _ = None
 
 -- each kind of record, in the order in which the records stand
 abbrev pub parts_in : List Record → Parts
@@ -65,7 +88,11 @@ parts_in all = record {
   savepoints = filter_map as_savepoint all;
   rows = filter_map as_row all;
   pieces = filter_map as_piece all;
+  touches = filter_map as_touch all;
+  locks = filter_map as_lock all;
   hists = filter_map as_hist all;
+  marks = filter_map as_mark all;
+  turns = filter_map as_turn all;
 }
 
 unfoldable pub parts_of : List Stored → Parts

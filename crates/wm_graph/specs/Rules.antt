@@ -1,12 +1,13 @@
 -- The rules over all records. A store whose records break one is damaged, though each record is in order by itself.
 use Rattle.std.specs.Prelude.{ℕ, ◌+◌, ◌^◌, Bool, true, false, not, ◌&&◌, ◌||◌, ◌==◌, nat_lt, nat_le, if◌then◌else◌, List, [], ◌∷◌, length, slice_get, Option, Some, None, is_some, codes}
-use Rattle.std.specs.List.{list_any, list_all, sum_by, count_by}
-use Rattle.std.specs.Option.{option_and_then, option_map_or}
+use Rattle.std.specs.List.{filter, list_any, list_all, sum_by, count_by}
+use Rattle.std.specs.Option.{option_and_then, option_map, option_map_or}
 use Rattle.std.specs.Ordering.{is_eq}
 use Rattle.std.specs.Str.{bytes_eq}
 use Rattle.wm_base.specs.Key.{key_order}
 use Rattle.wm_base.specs.Value.{type_place, weight_of}
 use Rattle.wm_base.specs.declared.instant.TheConstants.{END}
+use Rattle.wm_base.specs.declared.kind.Kind.TheVariants.{Insert}
 use Rattle.wm_base.specs.declared.value.Value.{Value}
 use Rattle.wm_base.specs.declared.value.Value.TheVariants as values
 use Rattle.wm_spec.specs.declared.record.counters.Counters.{Counters}
@@ -21,6 +22,9 @@ use Rattle.wm_spec.specs.declared.record.row.RowRecord.{RowRecord}
 use Rattle.wm_spec.specs.declared.record.cell_range.CellRange.{CellRange}
 use Rattle.wm_spec.specs.declared.record.piece.PieceRecord.{PieceRecord}
 use Rattle.wm_spec.specs.declared.record.hist.Hist.{Hist}
+use Rattle.wm_spec.specs.declared.record.lock.Lock.{Lock}
+use Rattle.wm_spec.specs.declared.record.trace.Trace.{Trace}
+use Rattle.wm_spec.specs.declared.record.turn.Turn.{Turn}
 use Rattle.wm_graph.specs.Parts.{Parts, table_of, space_of, version_of, row_of, has_version}
 
 -- no two of the list are the same
@@ -48,12 +52,20 @@ are_counters c =
 abbrev pub same_column : TableColumn → TableColumn → Bool
 same_column c d = bytes_eq c.name d.name
 
--- 1 to 32 columns of different names; the key is one of them, and a table in workspaces has one
+-- the table has a key
+abbrev pub has_key : Table → Bool
+has_key t = nat_lt 0 (length t.key_columns)
+
+-- the key is of one column at most, which is there
+abbrev pub are_key_columns : Table → Bool
+are_key_columns t = nat_le (length t.key_columns) 1 && list_all (λ place. nat_lt place (length t.columns)) t.key_columns
+
+-- 1 to 32 columns of different names; the key is among them, and a table in workspaces has one
 abbrev pub is_table : Table → Bool
 is_table t =
     (nat_le 1 (length t.columns) && nat_le (length t.columns) 32)
     && (differ same_column t.columns && (is_short t.name && list_all (λ (c : TableColumn). is_short c.name) t.columns))
-    && ((if t.has_key then nat_lt t.key_column (length t.columns) else true) && (if t.versioned then t.has_key else true))
+    && (are_key_columns t && (if t.versioned then has_key t else true))
 
 -- at most 256, whose numbers and names differ
 abbrev pub are_tables : List Table → Bool
@@ -174,9 +186,14 @@ fit_columns _ _ = false
 abbrev pub weight : List Value → ℕ
 weight = sum_by weight_of
 
--- the key of a row: its value in the key column
+-- the values of a row at these places, where it has them all
+abbrev pub values_at : List ℕ → List Value → Option (List Value)
+values_at [] row = Some []
+values_at (place ∷ places) row = option_and_then (λ v. option_map (λ vs. v ∷ vs) (values_at places row)) (slice_get row place)
+
+-- the key of a row: its values in the key columns, where the table has a key
 abbrev pub key_of : Table → List Value → Option (List Value)
-key_of t row = option_and_then (λ v. if t.has_key then Some (v ∷ []) else None) (slice_get row t.key_column)
+key_of t row = if has_key t then values_at t.key_columns row else None
 
 -- a key weighs at most 200, where there is one
 abbrev pub is_light_key : Option (List Value) → Bool
@@ -197,16 +214,19 @@ are_rows p next = differ (λ (r q : RowRecord). r.stamp == q.stamp) p.rows && li
 
 -- ---- cells and pieces
 
--- a value of the key column's type, which is not NULL, and of a weight of at most 200
-abbrev pub is_key_value : Value → Table → Bool
-is_key_value v t =
-    nat_le (weight_of v) 200
-    && (t.has_key && option_map_or (λ (c : TableColumn). type_place v == type_of c.kind) (slice_get t.columns t.key_column) false)
+-- a value, which is not NULL, of the type of the column at this place
+abbrev pub is_typed : List TableColumn → ℕ → Value → Bool
+is_typed columns place v = option_map_or (λ (c : TableColumn). type_place v == type_of c.kind) (slice_get columns place) false
 
--- one such value
+-- such a value for each of these places
+abbrev pub are_typed : List TableColumn → List ℕ → List Value → Bool
+are_typed columns [] [] = true
+are_typed columns (place ∷ places) (v ∷ vs) = is_typed columns place v && are_typed columns places vs
+are_typed columns _ _ = false
+
+-- a key of the table, which has one: a value for each key column, and of a weight of at most 200
 abbrev pub is_key_of : List Value → Table → Bool
-is_key_of (v ∷ []) t = is_key_value v t
-is_key_of _ t = false
+is_key_of key t = nat_le (weight key) 200 && (has_key t && are_typed t.columns t.key_columns key)
 
 -- cells of a table that is there, over a period
 abbrev pub are_cells : (ℕ → Option Table) → CellRange → Bool
@@ -256,6 +276,71 @@ same_position x y = (x.space == y.space) && (x.position == y.position)
 abbrev pub are_hists : Parts → ℕ → Bool
 are_hists p next = differ same_position p.hists && list_all (is_hist (table_of p.tables) (space_of p.spaces) (row_of p.rows) next) p.hists
 
+-- ---- touched and settled cells
+
+-- a touch as a piece: its place is the version, its position the stamp
+abbrev pub as_drawn : Trace → PieceRecord
+as_drawn x = record { version = x.place; cells = x.cells; stamp = x.position; kind = Insert; gone = false }
+
+-- two of one workspace, place, table and key whose periods overlap
+abbrev pub meet : Trace → Trace → Bool
+meet x y = (x.space == y.space) && collide (as_drawn x) (as_drawn y)
+
+-- a place was given in a workspace that is there, or is that before the first
+abbrev pub is_given : (ℕ → Option Space) → ℕ → ℕ → Bool
+is_given spaces space place = option_map_or (λ (s : Space). nat_lt place s.next_place) (spaces space) false
+
+-- cells of a table that is there, at a place that was given
+abbrev pub is_trace : (ℕ → Option Table) → (ℕ → Option Space) → Trace → Bool
+is_trace tables spaces x = are_cells tables x.cells && is_given spaces x.space x.place
+
+-- and at a position that the log of the workspace has
+abbrev pub is_touch : (ℕ → Option Table) → (ℕ → Option Space) → Trace → Bool
+is_touch tables spaces x = is_trace tables spaces x && option_map_or (λ (s : Space). nat_lt x.position s.log_length) (spaces x.space) false
+
+-- touches of which no two meet, each in order
+abbrev pub are_touches : Parts → Bool
+are_touches p = differ meet p.touches && list_all (is_touch (table_of p.tables) (space_of p.spaces)) p.touches
+
+-- marks of which no two meet, each in order
+abbrev pub are_marks : Parts → Bool
+are_marks p = differ meet p.marks && list_all (is_trace (table_of p.tables) (space_of p.spaces)) p.marks
+
+-- ---- locks
+
+-- a short user, cells of a table that is there, and a place that was given; each line that makes one has added to the work
+abbrev pub is_lock : (ℕ → Option Table) → (ℕ → Option Space) → ℕ → Lock → Bool
+is_lock tables spaces work x =
+    (is_short x.user && nat_le x.making (work + 2))
+    && (are_cells tables x.cells && is_given spaces x.space x.place)
+
+-- locks of different makings, each in order
+abbrev pub are_locks : Parts → ℕ → Bool
+are_locks p work = differ (λ (x y : Lock). x.making == y.making) p.locks && list_all (is_lock (table_of p.tables) (space_of p.spaces) work) p.locks
+
+-- ---- turns
+
+-- a turn of a workspace other than LIVE, of a number up to that of its rebases
+abbrev pub is_asked : (ℕ → Option Space) → Turn → Bool
+is_asked spaces x = not (x.space == 0) && option_map_or (λ (s : Space). nat_le x.rebase s.rebases) (spaces x.space) false
+
+abbrev pub asked_turns : Parts → List Turn
+asked_turns p = filter (is_asked (space_of p.spaces)) p.turns
+
+-- two turns of one workspace and one number
+abbrev pub same_turn : Turn → Turn → Bool
+same_turn x y = (x.space == y.space) && (x.rebase == y.rebase)
+
+-- a workspace other than LIVE has as many as rebases, and one more
+abbrev pub has_turns : List Turn → Space → Bool
+has_turns turns s = (s.number == 0) || (count_by (λ (x : Turn). x.space == s.number) turns == s.rebases + 1)
+
+-- turns of workspaces that are there; those that are asked for differ, and there are as many of them as numbers: one for each
+abbrev pub are_turns : Parts → Bool
+are_turns p =
+    list_all (λ (x : Turn). is_some (space_of p.spaces x.space)) p.turns
+    && (differ same_turn (asked_turns p) && list_all (has_turns (asked_turns p)) p.spaces)
+
 -- ---- all of them
 
 -- what the rules ask of all records but the counters, of which there is one
@@ -265,7 +350,10 @@ keep_rules_with p (c ∷ []) =
     && (are_tables p.tables
     && (are_spaces p.spaces
     && (are_versions p c.next_version
-    && (are_savepoints p c.work && (are_rows p c.next_stamp && (are_pieces p c.next_stamp && are_hists p c.next_stamp))))))
+    && (are_savepoints p c.work
+    && (are_rows p c.next_stamp
+    && (are_pieces p c.next_stamp
+    && (are_hists p c.next_stamp && (are_touches p && (are_locks p c.work && (are_marks p && are_turns p))))))))))
 keep_rules_with p _ = false
 
 -- the records keep every rule

@@ -138,7 +138,7 @@ takes_none limit script left same = record { taken = []; script_is = sym same; f
 -- sessions and the moment stand in no file
 file_begins : (file : List ℕ) (s : State) (moment : ℕ) → FileStands file s → FileStands file (begin s moment)
 unfolding begin
-file_begins file s moment stands = record { records = stands.records; held = stands.held; stands = stands.stands }
+file_begins file s moment stands = record { records = stands.records; held = stands.held; stands = stands.stands; lawful = stands.lawful }
 
 -- nothing was said, and the file stands for the state at entry
 stands_before : (old : History) (s : State) (moment : ℕ) (ls : List (List ℕ)) (file after_it : List ℕ) → FileStands file s → after_it ≡ said old → CrashAnswers old (begin s moment) ls file after_it

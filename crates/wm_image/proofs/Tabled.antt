@@ -23,13 +23,7 @@ tables_counted (s ∷ ss) = by_kind (tables_counted ss) s.record
     by_kind : length (ids_with (is_sought Tables) ss) ≡ length (filter_map as_table (map (λ (t : Stored). t.record) ss)) → (r : Record)
         → length (cond (is_sought Tables r) (s.id ∷ ids_with (is_sought Tables) ss) (ids_with (is_sought Tables) ss)) ≡ length (cons_option (as_table r) (filter_map as_table (map (λ (t : Stored). t.record) ss)))
     by_kind rest (records.Table t) = ap suc rest
-    by_kind rest (records.Counters t) = rest
-    by_kind rest (records.Space t) = rest
-    by_kind rest (records.Version t) = rest
-    by_kind rest (records.Savepoint t) = rest
-    by_kind rest (records.Row t) = rest
-    by_kind rest (records.Piece t) = rest
-    by_kind rest (records.Hist t) = rest
+    by_kind rest _ = rest
 
 -- the number that comes next does not turn on the order of the tables
 next-place : (t : Table) (ts : List Table) → next_table (place_table t ts) ≡ max (t.number + 1) (next_table ts)

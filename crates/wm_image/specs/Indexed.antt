@@ -9,7 +9,7 @@ use Rattle.wm_spec.specs.declared.record.Record.{Record}
 use Rattle.wm_spec.specs.declared.record.stored.Stored.{Stored}
 use Rattle.wm_spec.specs.declared.record.table.Table.{Table}
 use Rattle.wm_state.specs.Standing.{by_number}
-use Rattle.wm_image.specs.Sought.{Sought, TheCounters, Tables, Spaces, SpaceAt, VersionAt, VersionsOf, VersionsUnder, SavepointsOf, SavepointAt, KeptAs, KeptUnder, BornAs, SeenUnder, RowAt, PiecesAt, is_sought, ids_with, placed, without, ids_in, piece_ids}
+use Rattle.wm_image.specs.Sought.{Sought, TheCounters, Tables, Spaces, SpaceAt, VersionAt, VersionsOf, VersionsUnder, SavepointsOf, SavepointAt, KeptAs, KeptUnder, BornAs, SeenUnder, RowAt, PiecesAt, TouchesAt, is_sought, ids_with, placed, without, ids_in, piece_ids}
 use Rattle.wm_image.specs.declared.index.Index.{Index}
 
 -- the ids that an index has of what is sought
@@ -29,6 +29,7 @@ ids_at x (BornAs version) = ids_in nat_cmp x.born_as.entries version
 ids_at x (SeenUnder version) = ids_in nat_cmp x.seen_under.entries version
 ids_at x (RowAt stamp) = ids_in nat_cmp x.rows.entries stamp
 ids_at x (PiecesAt table key) = piece_ids x.pieces.entries table key
+ids_at x (TouchesAt table key) = piece_ids x.touches.entries table key
 
 -- the index has an id more, of a record
 abbrev pub Adds : Index → Index → ℕ → Record → Type 0

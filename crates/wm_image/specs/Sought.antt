@@ -18,7 +18,7 @@ use Rattle.wm_spec.specs.Records.{record_at}
 -- counters; tables; workspaces; a workspace or a version by its number; the versions of a workspace, or those under a version;
 -- the savepoints of a workspace, one by its making, those that keep a version, or those of workspaces with a number above 0 that see
 -- a version under their workspace's own; workspaces with a number above 0 that were born from a version, or see it under their own; a
--- row by its stamp; the pieces on a table and a key
+-- row by its stamp; the pieces on a table and a key, or the touches
 pub data Sought : Type 0 where
   TheCounters : Sought
   Tables : Sought
@@ -35,6 +35,7 @@ pub data Sought : Type 0 where
   SeenUnder : ℕ → Sought
   RowAt : ℕ → Sought
   PiecesAt : ℕ → List Value → Sought
+  TouchesAt : ℕ → List Value → Sought
 
 -- the record is what is sought
 abbrev pub is_sought : Sought → Record → Bool
@@ -53,6 +54,7 @@ is_sought (BornAs version) (records.Space r) = not (r.number == 0) && (r.birth_v
 is_sought (SeenUnder version) (records.Space r) = not (r.number == 0) && (r.base_version == version)
 is_sought (RowAt stamp) (records.Row r) = r.stamp == stamp
 is_sought (PiecesAt table key) (records.Piece r) = (r.cells.table == table) && is_eq (key_order r.cells.key key)
+is_sought (TouchesAt table key) (records.Touch r) = (r.cells.table == table) && is_eq (key_order r.cells.key key)
 is_sought _ _ = false
 
 -- the ids of the records that pass a test

@@ -3,7 +3,7 @@ ghost use Rattle.std.specs.Prelude.{◌≡◌, IfOk};
 
 use std::alloc::Global;
 use wm_base::Memory;
-use wm_spec::record::{Table, TableColumn, TableColumns};
+use wm_spec::record::{KeyColumns, Table, TableColumn, TableColumns};
 
 /// A copy of a column.
 fn column_copy(alloc: Global, column: &TableColumn) -> Result<TableColumn, Memory>
@@ -29,11 +29,23 @@ fn column_copies(alloc: Global, columns: &TableColumns) -> Result<TableColumns, 
     Ok(copies)
 }
 
+/// A copy of the places of key columns.
+fn key_copy(alloc: Global, places: &KeyColumns) -> Result<KeyColumns, Memory>
+    ensures { IfOk result (λ new. new ≡ places.now) }
+{
+    let mut copies = KeyColumns::new(alloc);
+    for place in places.as_slice() {
+        copies.push(*place)?;
+    }
+    Ok(copies)
+}
+
 /// A copy of a table.
 pub fn table_copy(alloc: Global, table: &Table) -> Result<Table, Memory>
     ensures { IfOk result (λ new. new ≡ table.now) }
 {
     let name = table.name.copy(alloc)?;
+    let key_columns = key_copy(alloc, &table.key_columns)?;
     let columns = column_copies(alloc, &table.columns)?;
     Ok(Table {
         number: table.number,
@@ -41,8 +53,7 @@ pub fn table_copy(alloc: Global, table: &Table) -> Result<Table, Memory>
         versioned: table.versioned,
         valid: table.valid,
         history: table.history,
-        has_key: table.has_key,
-        key_column: table.key_column,
+        key_columns,
         columns,
     })
 }

@@ -12,10 +12,10 @@ ghost use Rattle.wm_spec.specs.declared.record.table.Table.{Table as OneTable};
 ghost use Rattle.wm_spec.specs.declared.record.version.Version.{Version as OneVersion};
 ghost use Rattle.wm_base.specs.declared.instant.TheConstants.{END};
 ghost use Rattle.wm_period.specs.Pieces.{held_at};
-ghost use Rattle.wm_graph.specs.Parts.{as_counters, as_space, as_table, parts_of, row_of, space_of, version_of};
+ghost use Rattle.wm_graph.specs.Parts.{as_counters, as_space, as_table, parts_of, row_of, space_of, table_of, version_of};
 ghost use Rattle.wm_graph.specs.Rules.{keep_rules};
 ghost use Rattle.wm_spec.specs.Records.{AreRecords, record_at};
-ghost use Rattle.wm_image.specs.Sought.{PiecesAt, ids_with, is_sought};
+ghost use Rattle.wm_image.specs.Sought.{PiecesAt, TouchesAt, ids_with, is_sought};
 ghost use Rattle.wm_state.specs.ById.{Ascend, applied, by_id};
 ghost use Rattle.wm_image.specs.Listing.{AreSpans, IsFirstShared, IsKeyShowing};
 ghost use Rattle.wm_image.specs.Shown.{names, rests_on};
@@ -38,14 +38,14 @@ use crate::records::{Kept, apply_all, at, first, next_id};
 use crate::savepoints::{making_after, savepoint_in, savepoint_of_name};
 use crate::shown::{latest_of, version_at};
 use crate::spaces::{number_after, space_of_name};
-use crate::tables::{after_last, catalog_of, id_named};
+use crate::tables::{after_last, catalog_of, id_named, table_of_number};
 use std::alloc::Global;
 use std::collections::BTreeMap;
 use std::marker::Model;
 use wm_base::{Key, Memory, Period, RowList};
 use wm_catalog::Catalog;
-use wm_graph::keeps_rules;
 use wm_period::Pieces;
+use wm_rules::keeps_rules;
 use wm_spec::record::{
     Batch, Counters, Record, Records, RowRecord, Savepoint, Space, Table, Version,
 };
@@ -143,6 +143,13 @@ impl Image {
         ensures { option_copied result ≡ find (λ (t : OneTable). bytes_eq name.now t.name) (by_number (parts_of self.now).tables) }
     {
         self.catalog.find(name)
+    }
+
+    /// The table of a number.
+    pub fn table_numbered(&self, number: u16) -> Option<&Table>
+        ensures { option_copied result ≡ table_of (parts_of self.now).tables number }
+    {
+        table_of_number(&self.kept, self.index.tables.as_slice(), number)
     }
 
     /// The id after the greatest of a record, 1 where there is none, or None where the greatest id that there is has a record.
@@ -298,6 +305,13 @@ impl Image {
         ensures { result.now ≡ ids_with (is_sought (PiecesAt table key.now)) self.now }
     {
         ids_on(&self.index.pieces, table, key)
+    }
+
+    /// The ids of the touches for a key of a table, of any workspace and place, in order.
+    pub fn touches_of(&self, table: u16, key: &Key) -> &[u64]
+        ensures { result.now ≡ ids_with (is_sought (TouchesAt table key.now)) self.now }
+    {
+        ids_on(&self.index.touches, table, key)
     }
 
     /// Each key for which a table has pieces, of any version, once and in order.

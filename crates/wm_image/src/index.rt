@@ -16,7 +16,7 @@ use wm_spec::record::{Record, Savepoint, Space};
 /// of the versions of a workspace, and of those under a version; of the savepoints of a workspace, by making, of
 /// those that keep a version, and of those of workspaces with a parent that see a version under their workspace's
 /// own; of the workspaces with a parent that were born from a version, or see it under their own; of rows by stamp;
-/// of pieces by table and key.
+/// of pieces and of touches by table and key.
 #[derive(Drop)]
 pub struct Index {
     pub counters: Vec<u64>,
@@ -34,6 +34,7 @@ pub struct Index {
     pub seen_under: Ids<u64>,
     pub rows: Ids<u64>,
     pub pieces: TableIds,
+    pub touches: TableIds,
 }
 
 impl Index {
@@ -57,6 +58,7 @@ impl Index {
             seen_under: BTreeMap::new(alloc),
             rows: BTreeMap::new(alloc),
             pieces: BTreeMap::new(alloc),
+            touches: BTreeMap::new(alloc),
         }
     }
 
@@ -82,7 +84,14 @@ impl Index {
                 &piece.cells.key,
                 id,
             ),
-            Record::Hist(_) => Ok(()),
+            Record::Touch(touch) => add_on(
+                alloc,
+                &mut self.touches,
+                touch.cells.table,
+                &touch.cells.key,
+                id,
+            ),
+            Record::Lock(_) | Record::Hist(_) | Record::Mark(_) | Record::Turn(_) => Ok(()),
         }
     }
 
@@ -136,7 +145,16 @@ impl Index {
                     id,
                 );
             }
-            Record::Hist(_) => {}
+            Record::Touch(touch) => {
+                return drop_on(
+                    alloc,
+                    &mut self.touches,
+                    touch.cells.table,
+                    &touch.cells.key,
+                    id,
+                );
+            }
+            Record::Lock(_) | Record::Hist(_) | Record::Mark(_) | Record::Turn(_) => {}
         }
         Ok(())
     }

@@ -1,3 +1,4 @@
+//! The records of a store, put under their ids with an index of them.
 ghost use Rattle.std.specs.Prelude.{◌≡◌, [], map, true, false, Some, None, is_some, IfOk, IfErr, OnOk};
 ghost use Rattle.std.specs.BTreeMap.{IsOrdered};
 ghost use Rattle.std.specs.Ordering.{nat_cmp};

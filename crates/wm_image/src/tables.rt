@@ -1,6 +1,6 @@
-//! The tables: each by its name in a catalog, their ids by name, and the number after theirs.
+//! The tables: each by its name in a catalog or by its number, their ids by name, and the number after theirs.
 
-ghost use Rattle.std.specs.Prelude.{◌≡◌, ◌≤◌, ◌++◌, ℕ, length, insert, is_some, IfOk, OnOk};
+ghost use Rattle.std.specs.Prelude.{◌≡◌, ◌≤◌, ◌==◌, ◌++◌, ℕ, length, insert, is_some, IfOk, OnOk};
 ghost use Rattle.std.specs.List.{find};
 ghost use Rattle.std.specs.Option.{option_copied, option_and_then, option_to_list};
 ghost use Rattle.std.specs.Str.{bytes_eq};
@@ -99,6 +99,31 @@ pub fn id_named(kept: &Kept, ids: &[u64], name: &[u8]) -> Option<u64>
     for id in ids {
         if named(at(kept, *id), name).is_some() {
             return Some(*id);
+        }
+    }
+    None
+}
+
+/// A record that is a table of a number.
+fn numbered(found: Option<&Record>, number: u16) -> Option<&Table>
+    ensures { option_copied result ≡ passing (λ (t : OneTable). t.number == number) (option_and_then as_table (option_copied found.entry)) }
+{
+    let table = table_of(found)?;
+    if table.number == number {
+        Some(table)
+    } else {
+        None
+    }
+}
+
+/// The first of some tables that has a number.
+pub fn table_of_number<'a>(kept: &'a Kept, ids: &[u64], number: u16) -> Option<&'a Table>
+    ensures { option_copied result ≡ find (λ (t : OneTable). t.number == number) (kind_at as_table (listed kept.now.entries) ids.now) }
+{
+    for id in ids {
+        let found = numbered(at(kept, *id), number);
+        if found.is_some() {
+            return found;
         }
     }
     None

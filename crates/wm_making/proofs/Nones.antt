@@ -5,8 +5,6 @@ use Rattle.std.proofs.lemmas.Slice.Eq.{bytes_eq-Decides}
 use Rattle.std.specs.List.{list_any}
 use Rattle.std.specs.Str.{bytes_eq}
 use Rattle.std.specs.Prelude.{Option, Some, None, ◌||◌}
-use denote.Bor.{Bor}
-use Rattle.std.specs.Option.{is_some, option_copied}
 
 -- a choice of something gives nothing: the other was chosen
 pub if_none : {A : Type 0} (test : Bool) (x : A) (rest : Option A) → cond test (Some x) rest ≡ None → (test ≡ false) × (rest ≡ None)
@@ -40,7 +38,3 @@ another name other test passes fails = by_test (bytes_eq name other) refl
     by_test : (b : Bool) → bytes_eq name other ≡ b → b ≡ false
     by_test false is = refl
     by_test true is = let same = same_name name other is in absurd (let e : true ≡ false = sym passes ∙ ap test same ∙ fails in cc)
-
-pub some_copied : {A : Type 0} (x : Option (Bor A)) → is_some x ≡ is_some (option_copied x)
-some_copied None = refl
-some_copied (Some a) = refl

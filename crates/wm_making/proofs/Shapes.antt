@@ -1,5 +1,5 @@
 -- The table that items declare is in order, where they are refused for nothing.
-use Rattle.std.proofs.Common.{◌≡◌, ℕ, ◌+◌, ◌≤◌, ◌<◌, Bool, true, false, List, [], ◌∷◌, ◌++◌, length, refl, ap, ◌∙◌, arith, cond, nat_lt}
+use Rattle.std.proofs.Common.{◌≡◌, ℕ, ◌+◌, ◌≤◌, ◌<◌, Bool, true, false, List, [], ◌∷◌, ◌++◌, length, refl, ap, ◌∙◌, arith, cond, nat_lt, nat_le}
 use Rattle.std.proofs.lemmas.Bool.{and_from, and_parts, le-leb, lt-ltb, ltb-false, or_from}
 use Rattle.std.specs.Prelude.{Option, Some, None, ◌&&◌, ◌||◌, not, is_some, ◌==◌, unwrap_or}
 use Rattle.std.specs.List.{list_any, list_all, position_or_len}
@@ -15,7 +15,7 @@ use Rattle.wm_base.specs.declared.tree.statement.CreateItem.TheVariants.{Column,
 use Rattle.wm_graph.specs.Rules.{differ, same_column, is_short, is_table}
 use Rattle.wm_spec.specs.declared.record.column.TableColumn.{TableColumn}
 use Rattle.wm_spec.specs.declared.record.table.Table.{Table}
-use Rattle.wm_making.specs.Creating.{declares_short, names_fault, reserved_name, reserved, declares, bad_column, bad_columns, columns_in, keys_in, too_many, no_column, asked, shape_fault, key_name, is_key, columns_of, key_place, table_of}
+use Rattle.wm_making.specs.Creating.{declares_short, names_fault, reserved_name, reserved, declares, bad_column, bad_columns, columns_in, keys_in, too_many, no_column, asked, shape_fault, key_name, is_key, columns_of, key_place, key_places, table_of}
 use Rattle.wm_making.proofs.Nones.{if_none, if_not_none, or_true, still, same_bytes, another}
 
 -- ---- how many columns there are
@@ -111,28 +111,21 @@ table_in_order number name items names shape =
     (and_from _ _
     (and_from _ _ (le-leb 1 (length columns) counts.0) (le-leb (length columns) 32 counts.1))
     (and_from _ _ (names_differ key items [] items good) (and_from _ _ short.0 (names_short key items short.1))))
-    (and_from _ _ (placed (is_some key) (nat_lt (key_place key columns) (length columns)) (lt-ltb (key_place key columns) (length columns) place)) refl)
+    (and_from _ _ (placed (is_some key) (key_place key columns) (length columns) (lt-ltb (key_place key columns) (length columns) place)) refl)
   where
-    placed : (has test : Bool) → test ≡ true → cond has test true ≡ true
-    placed true test is = is
-    placed false test is = refl
+    placed : (has : Bool) (p n : ℕ) → nat_lt p n ≡ true → (nat_le (length (cond has (p ∷ []) [])) 1 && list_all (λ place. nat_lt place n) (cond has (p ∷ []) [])) ≡ true
+    placed true p n is = ap (λ b. b && true) is
+    placed false p n is = refl
 
 -- ---- as it is made
 
-pub small_place : (place : ℕ) (items : List CreateItem) → place ≡ key_place (key_name items) (columns_of (key_name items) items) → shape_fault items ≡ None → place < 256
-small_place place items is shape =
-    let counts = few_columns (key_name items) items shape in
-    let near = near_place (key_name items) (columns_of (key_name items) items) counts.0 in
-    omega (arith, is, near, counts.1)
-
-pub made_in_order : (number : ℕ) (name : List ℕ) (items : List CreateItem) (has : Bool) (place : ℕ) (columns : List TableColumn) →
-    has ≡ is_some (key_name items) → columns ≡ columns_of (key_name items) items → place ≡ key_place (key_name items) (columns_of (key_name items) items) →
+pub made_in_order : (number : ℕ) (name : List ℕ) (items : List CreateItem) (places : List ℕ) (columns : List TableColumn) →
+    columns ≡ columns_of (key_name items) items → places ≡ key_places (key_name items) (columns_of (key_name items) items) →
     shape_fault items ≡ None → names_fault name items ≡ None →
-    is_table (record { number = number; name = name; versioned = false; valid = false; history = false; has_key = has; key_column = place; columns = columns }) ≡ true
+    is_table (record { number = number; name = name; versioned = false; valid = false; history = false; key_columns = places; columns = columns }) ≡ true
 unfolding table_of
-made_in_order number name items has place columns keyed there at shape names =
-    let made : Bool → ℕ → List TableColumn → Table = λ h p cs. record { number = number; name = name; versioned = false; valid = false; history = false; has_key = h; key_column = p; columns = cs } in
-    ap (λ h. is_table (made h place columns)) keyed
-    ∙ ap (λ p. is_table (made (is_some (key_name items)) p columns)) at
-    ∙ ap (λ cs. is_table (made (is_some (key_name items)) (key_place (key_name items) (columns_of (key_name items) items)) cs)) there
+made_in_order number name items places columns there at shape names =
+    let made : List ℕ → List TableColumn → Table = λ ps cs. record { number = number; name = name; versioned = false; valid = false; history = false; key_columns = ps; columns = cs } in
+    ap (λ ps. is_table (made ps columns)) at
+    ∙ ap (λ cs. is_table (made (key_places (key_name items) (columns_of (key_name items) items)) cs)) there
     ∙ table_in_order number name items names shape

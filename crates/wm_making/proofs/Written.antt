@@ -1,6 +1,6 @@
 -- A row that INSERT writes may stand in its table.
 use Rattle.std.proofs.Common.{◌≡◌, ℕ, zero, suc, ◌+◌, ◌<◌, ◌≤◌, Bool, true, false, cond, List, [], ◌∷◌, length, map, take, get_or, refl, sym, ap, ◌∙◌, arith, nat_lt, nat_le, zero-add}
-use Rattle.std.proofs.lemmas.Bool.{and_from, and_parts, le-leb, ltb-false, ltb-true, not-true, or_parts, or_right}
+use Rattle.std.proofs.lemmas.Bool.{and_from, and_parts, eq-eqb, le-leb, ltb-false, not-true, or_parts, or_right}
 use Rattle.std.specs.Prelude.{Option, Some, None, ◌&&◌, ◌||◌, ◌==◌, not, option_map, slice_get, unwrap_or, codes}
 use Rattle.std.specs.List.{find, list_any, list_all, position}
 use Rattle.std.specs.Option.{option_or, option_and_then, option_map_or}
@@ -14,7 +14,8 @@ use Rattle.wm_base.specs.Trees.{Expr}
 use Rattle.wm_base.specs.Value.{type_place, weight_of}
 use Rattle.wm_base.specs.declared.value.Value.{Value}
 use Rattle.wm_base.specs.declared.value.Value.TheVariants as values
-use Rattle.wm_graph.specs.Rules.{differ, same_column, is_short, is_table, type_of, fits_column, fit_columns, weight, key_of, is_light_key}
+use Rattle.wm_graph.specs.Rules.{differ, same_column, is_short, is_table, has_key, are_key_columns, type_of, fits_column, fit_columns, weight, key_of, is_light_key}
+use Rattle.wm_graph.proofs.Keyed.{OneKey, one_key, key_alone, is_key_alone}
 use Rattle.wm_spec.specs.Conditions.{is_null}
 use Rattle.wm_spec.specs.Expressions.{value_of}
 use Rattle.wm_spec.specs.declared.record.column.ColumnKind.{ColumnKind}
@@ -219,16 +220,14 @@ row_made t names xs row made = by_values (values_of xs) refl
     by_values None is = let e : option_map (arranged t names) (values_of xs) ≡ None = ap (option_map (arranged t names)) is in absurd (cc)
     by_values (Some vs) is = let e : option_map (arranged t names) (values_of xs) ≡ Some (arranged t names vs) = ap (option_map (arranged t names)) is in (vs, is, cc)
 
--- what a table in order has
-pub table_parts : (t : Table) → is_table t ≡ true → (differ same_column t.columns ≡ true) × (cond t.has_key (nat_lt t.key_column (length t.columns)) true ≡ true)
-table_parts t order =
+-- the columns of a table in order have different names
+pub columns_apart : (t : Table) → is_table t ≡ true → differ same_column t.columns ≡ true
+columns_apart t order =
     let all = and_parts
     ((nat_le 1 (length t.columns) && nat_le (length t.columns) 32) && (differ same_column t.columns && (is_short t.name && list_all (λ (c : TableColumn). is_short c.name) t.columns)))
-    (cond t.has_key (nat_lt t.key_column (length t.columns)) true && cond t.versioned t.has_key true) order in
-    let columns = and_parts (nat_le 1 (length t.columns) && nat_le (length t.columns) 32) (differ same_column t.columns && (is_short t.name && list_all (λ (c : TableColumn). is_short c.name) t.columns)) all.0 in (
-      (and_parts (differ same_column t.columns) (is_short t.name && list_all (λ (c : TableColumn). is_short c.name) t.columns) columns.1).0,
-      (and_parts (cond t.has_key (nat_lt t.key_column (length t.columns)) true) (cond t.versioned t.has_key true) all.1).0,
-    )
+    (are_key_columns t && cond t.versioned (has_key t) true) order in
+    let columns = and_parts (nat_le 1 (length t.columns) && nat_le (length t.columns) 32) (differ same_column t.columns && (is_short t.name && list_all (λ (c : TableColumn). is_short c.name) t.columns)) all.0 in
+    (and_parts (differ same_column t.columns) (is_short t.name && list_all (λ (c : TableColumn). is_short c.name) t.columns) columns.1).0
 
 row_parts : (t : Table) (row : List Value) → row_fault t row ≡ None →
     (first_column (lacks_value t) 0 t.columns row ≡ None) × (first_column (is_heavy t) 0 t.columns row ≡ None) × (nat_lt 2000 (weight row) ≡ false)
@@ -238,8 +237,8 @@ row_parts t row none =
     let heavy = option_or_parts (first_column (is_heavy t) 0 t.columns row) (cond (nat_lt 2000 (weight row)) (Some (codes "ROW")) None) (none_mapped too_heavy (heavy_part t row) parts.1) in
     (none_mapped null_in (first_column (lacks_value t) 0 t.columns row) parts.0, heavy.0, (if_none (nat_lt 2000 (weight row)) (codes "ROW") None heavy.1).0)
 
-key_there : (t : Table) → t.has_key ≡ true → is_key_at t t.key_column ≡ true
-key_there t keyed = and_from _ _ keyed (grind (arith, nat_tests))
+key_there : (t : Table) (one : OneKey t) → is_key_at t one.place ≡ true
+key_there t one = ap (list_any (λ key. one.place == key)) one.is ∙ ap (λ b. b || false) (eq-eqb one.place one.place refl)
 
 when_both : (a b : Bool) → (a && b) ≡ false → b ≡ true → a ≡ false
 when_both true b none there = absurd (cc)
@@ -254,53 +253,52 @@ slice_get_within_not [] p near none = omega arith
 slice_get_within_not (c ∷ cs) zero near none = cc
 slice_get_within_not (c ∷ cs) (suc p) near none = slice_get_within_not cs p (omega arith) none
 
-light_one : (v : Value) → nat_le (weight_of v) 200 ≡ true → is_light_key (Some (v ∷ [])) ≡ true
-light_one v small = ap (λ n. nat_le n 200) (let e : weight (v ∷ []) ≡ weight_of v = omega arith in e) ∙ small
+light_value : (v : Value) → nat_le (weight_of v) 200 ≡ true → nat_le (weight (v ∷ [])) 200 ≡ true
+light_value v small = ap (λ n. nat_le n 200) (let e : weight (v ∷ []) ≡ weight_of v = omega arith in e) ∙ small
 
 -- a row in which nothing is missing or heavy, and whose values have their types
-pub stands : (t : Table) (row : List Value) → is_table t ≡ true → t.has_key ≡ true → row_fault t row ≡ None → length t.columns ≡ length row →
+pub stands : (t : Table) (row : List Value) → is_table t ≡ true → has_key t ≡ true → row_fault t row ≡ None → length t.columns ≡ length row →
     ((p : ℕ) (c : TableColumn) (v : Value) → slice_get t.columns p ≡ Some c → slice_get row p ≡ Some v → of_type v (type_of c.kind) ≡ true) → MayStand t row
 stands t row order keyed none same typed =
     let faults = row_parts t row none in
-    let near : t.key_column < length t.columns = ltb-true t.key_column (length t.columns) (sym (ap (λ b. cond b (nat_lt t.key_column (length t.columns)) true) keyed) ∙ (table_parts t order).1) in
-    let near_row : t.key_column < length row = omega (arith, near, same) in
-    let v = get_or row t.key_column values.Null in
-    let there : slice_get row t.key_column ≡ Some v = slice_get-get_or row t.key_column values.Null near_row in
-    by_column v there near faults.0 faults.1 faults.2 (slice_get t.columns t.key_column) refl
+    let one = one_key t order keyed in
+    let near : one.place < length t.columns = one.near in
+    let v = get_or row one.place values.Null in
+    let there : slice_get row one.place ≡ Some v = slice_get-get_or row one.place values.Null (omega (arith, near, same)) in
+    by_column one v there faults.0 faults.1 faults.2 (slice_get t.columns one.place) refl
   where
     short_so : first_column (is_heavy t) 0 t.columns row ≡ None → (p : ℕ) (c : TableColumn) (v : Value) → slice_get t.columns p ≡ Some c → slice_get row p ≡ Some v → fits_column c v ≡ true
     short_so light p c v column value =
         fits_so c v (typed p c v column value) (or_parts (is_long c v) (is_key_at t (0 + p) && nat_lt 200 (weight_of v)) (none_so (is_heavy t) 0 t.columns row light p c v column value)).0
 
-    by_column : (v : Value) → slice_get row t.key_column ≡ Some v → t.key_column < length t.columns → first_column (lacks_value t) 0 t.columns row ≡ None → first_column (is_heavy t) 0 t.columns row ≡ None →
-        nat_lt 2000 (weight row) ≡ false → (column : Option TableColumn) → slice_get t.columns t.key_column ≡ column → MayStand t row
-    by_column v there near full light total None is =
-        let e = slice_get_within_not t.columns t.key_column near is in absurd e
-    by_column v there near full light total (Some c) is =
-        let zero_key : is_key_at t (0 + t.key_column) ≡ true = ap (λ n. is_key_at t n) (zero-add t.key_column) ∙ key_there t keyed in
-        let not_light = or_parts (is_long c v) (is_key_at t (0 + t.key_column) && nat_lt 200 (weight_of v)) (none_so (is_heavy t) 0 t.columns row light t.key_column c v is there) in
-        let light_key : nat_lt 200 (weight_of v) ≡ false = and_fails (is_key_at t (0 + t.key_column)) (nat_lt 200 (weight_of v)) not_light.1 zero_key in
-        let not_null : is_null v ≡ false = when_both (is_null v) (c.not_null || is_key_at t (0 + t.key_column)) (none_so (lacks_value t) 0 t.columns row full t.key_column c v is there) (or_right c.not_null (is_key_at t (0 + t.key_column)) zero_key) in
-        let small : nat_le (weight_of v) 200 ≡ true = le-leb (weight_of v) 200 (ltb-false 200 (weight_of v) light_key) in
-        let key : key_of t row ≡ Some (v ∷ []) =
-        ap (λ o. option_and_then (λ w. cond t.has_key (Some (w ∷ [])) None) o) there ∙ ap (λ b. cond b (Some (v ∷ [])) None) keyed in
-        let type : (type_place v == type_of c.kind) ≡ true = typed_full v (type_of c.kind) (typed t.key_column c v is there) not_null in
+    by_column : (one : OneKey t) (v : Value) → slice_get row one.place ≡ Some v → first_column (lacks_value t) 0 t.columns row ≡ None → first_column (is_heavy t) 0 t.columns row ≡ None →
+        nat_lt 2000 (weight row) ≡ false → (column : Option TableColumn) → slice_get t.columns one.place ≡ column → MayStand t row
+    by_column one v there full light total None is =
+        let e = slice_get_within_not t.columns one.place one.near is in absurd e
+    by_column one v there full light total (Some c) is =
+        let zero_key : is_key_at t (0 + one.place) ≡ true = ap (λ n. is_key_at t n) (zero-add one.place) ∙ key_there t one in
+        let not_light = or_parts (is_long c v) (is_key_at t (0 + one.place) && nat_lt 200 (weight_of v)) (none_so (is_heavy t) 0 t.columns row light one.place c v is there) in
+        let light_key : nat_lt 200 (weight_of v) ≡ false = and_fails (is_key_at t (0 + one.place)) (nat_lt 200 (weight_of v)) not_light.1 zero_key in
+        let not_null : is_null v ≡ false = when_both (is_null v) (c.not_null || is_key_at t (0 + one.place)) (none_so (lacks_value t) 0 t.columns row full one.place c v is there) (or_right c.not_null (is_key_at t (0 + one.place)) zero_key) in
+        let small : nat_le (weight (v ∷ [])) 200 ≡ true = light_value v (le-leb (weight_of v) 200 (ltb-false 200 (weight_of v) light_key)) in
+        let key : key_of t row ≡ Some (v ∷ []) = key_alone t one row ∙ ap (option_map (λ (w : Value). w ∷ [])) there in
+        let type : (type_place v == type_of c.kind) ≡ true = typed_full v (type_of c.kind) (typed one.place c v is there) not_null in
         record {
-          fits = and_from _ _ (each_fits t.columns row same (short_so light)) (and_from _ _ (le-leb (weight row) 2000 (ltb-false 2000 (weight row) total)) (ap is_light_key key ∙ light_one v small));
+          fits = and_from _ _ (each_fits t.columns row same (short_so light)) (and_from _ _ (le-leb (weight row) 2000 (ltb-false 2000 (weight row) total)) (ap is_light_key key ∙ small));
           value = v;
           key = key;
-          key_fits = and_from _ _ small (and_from _ _ keyed (ap (λ o. option_map_or (λ (d : TableColumn). type_place v == type_of d.kind) o false) is ∙ type));
+          key_fits = is_key_alone t one v ∙ and_from _ _ small (and_from _ _ (ap (λ o. option_map_or (λ (d : TableColumn). type_place v == type_of d.kind) o false) is ∙ type) refl);
         }
 
 -- a row that INSERT writes may stand in the table
 pub row_stands : (t : Table) (names : Option (List (List ℕ))) (xs : List Expr) (row : List Value) → insert_fault t names xs ≡ None → row_of t names xs ≡ Some row → row_fault t row ≡ None →
-    is_table t ≡ true → t.has_key ≡ true → MayStand t row
+    is_table t ≡ true → has_key t ≡ true → MayStand t row
 row_stands t names xs row fine made light order keyed =
     let parts = insert_parts t names xs fine in
     let there = row_made t names xs row made in
     let length_row : length t.columns ≡ length row = row_length t names xs there.0 parts.2 there.1 ∙ sym (ap length there.2) in
     stands t row order keyed light length_row (λ p c v column value.
-    typed_row t names xs there.0 (table_parts t order).0 parts.3 there.1 p c v column (sym (ap (λ l. slice_get l p) there.2) ∙ value))
+    typed_row t names xs there.0 (columns_apart t order) parts.3 there.1 p c v column (sym (ap (λ l. slice_get l p) there.2) ∙ value))
 
 -- ---- as it is found
 

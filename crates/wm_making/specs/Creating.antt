@@ -139,6 +139,10 @@ columns_of key (Primary constraint names ∷ items) = columns_of key items
 abbrev pub key_place : Option (List ℕ) → List TableColumn → ℕ
 key_place key columns = unwrap_or (position (λ (c : TableColumn). is_key key c.name) columns) 0
 
+-- the places of the key columns
+abbrev pub key_places : Option (List ℕ) → List TableColumn → List ℕ
+key_places key columns = if is_some key then key_place key columns ∷ [] else []
+
 -- the table that the items declare
 unfoldable pub table_of : ℕ → List ℕ → List CreateItem → Table
 table_of number name items = record {
@@ -147,7 +151,6 @@ table_of number name items = record {
   versioned = false;
   valid = false;
   history = false;
-  has_key = is_some (key_name items);
-  key_column = key_place (key_name items) (columns_of (key_name items) items);
+  key_columns = key_places (key_name items) (columns_of (key_name items) items);
   columns = columns_of (key_name items) items;
 }

@@ -1,6 +1,6 @@
 -- INSERT: the row that it writes, and what the row is refused for.
 use Rattle.std.specs.Prelude.{◌≡◌, ℕ, ◌+◌, Bool, true, false, ◌&&◌, ◌||◌, ◌==◌, nat_lt, length, if◌then◌else◌, List, [], ◌∷◌, map, take, slice_get, Option, Some, None, option_map, unwrap_or, codes}
-use Rattle.std.specs.List.{position}
+use Rattle.std.specs.List.{list_any, position}
 use Rattle.std.specs.Option.{option_or, option_and_then}
 use Rattle.std.specs.Str.{bytes_eq}
 use Rattle.wm_base.specs.declared.refusal.Refusal.{Refusal}
@@ -88,8 +88,9 @@ period_given t names xs = option_and_then written_period (value_for_period t nam
 
 -- ---- what it is refused for
 
+-- a key column stands at the place
 abbrev pub is_key_at : Table → ℕ → Bool
-is_key_at t place = t.has_key && (place == t.key_column)
+is_key_at t place = list_any (λ key. place == key) t.key_columns
 
 -- the name of the first column, from this place on, of whose value the test holds
 abbrev pub first_column : (ℕ → TableColumn → Value → Bool) → ℕ → List TableColumn → List Value → Option (List ℕ)

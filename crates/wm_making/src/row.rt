@@ -1,7 +1,7 @@
 //! What a row is refused for by its values.
 ghost use Rattle.std.specs.Prelude.{◌≡◌, ℕ, List, Option, Some, None, true, nat_le, IfOk, option_copied};
 ghost use Rattle.wm_base.specs.Trees.{Expr as Tree};
-ghost use Rattle.wm_graph.specs.Rules.{weight, is_table};
+ghost use Rattle.wm_graph.specs.Rules.{weight, has_key, is_table};
 ghost use Rattle.wm_spec.specs.Conditions.{is_null as null};
 ghost use Rattle.wm_making.specs.Rows.{is_key_at as key_at, first_column, lacks_value as lacks_a_value, is_long as long_in, is_heavy as heavy_in, row_fault as fault_of_row, row_of, MayStand};
 ghost use Rattle.wm_making.specs.Inserting.{insert_fault};
@@ -19,7 +19,11 @@ const HEAVIEST_KEY: u64 = 200;
 fn is_key_at(table: &Table, place: usize) -> bool
     ensures { result ≡ key_at table.now place }
 {
-    table.has_key && place == usize::from(table.key_column)
+    table
+        .key_columns
+        .as_slice()
+        .iter()
+        .any(|key| place == usize::from(*key))
 }
 
 fn is_null(value: &Value) -> bool
@@ -108,7 +112,7 @@ pub fn row_fault(alloc: Global, table: &Table, row: &[Value]) -> Result<Option<R
     ensures fault { IfOk result (λ refusal. refusal ≡ fault_of_row table.now row.now) }
 
     // A row of what an INSERT gives, where neither is refused, may stand in the table.
-    ensures may_stand { IfOk result (λ refusal. refusal ≡ None → (names : Option (List (List ℕ))) (xs : List Tree) → insert_fault table.now names xs ≡ None → row_of table.now names xs ≡ Some row.now → is_table table.now ≡ true → table.now.has_key ≡ true → MayStand table.now row.now) }
+    ensures may_stand { IfOk result (λ refusal. refusal ≡ None → (names : Option (List (List ℕ))) (xs : List Tree) → insert_fault table.now names xs ≡ None → row_of table.now names xs ≡ Some row.now → is_table table.now ≡ true → has_key table.now ≡ true → MayStand table.now row.now) }
 {
     if let Some(name) = first_lacking(table, row) {
         return Ok(Some(Refusal::Cell(CellRefusal::Wm061(name.copy(alloc)?))));

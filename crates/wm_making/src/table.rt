@@ -3,12 +3,12 @@ ghost use Rattle.std.specs.Prelude.{◌≡◌, ◌≤◌, true, None, length, If
 ghost use Rattle.std.specs.List.{position};
 ghost use Rattle.wm_graph.specs.Rules.{is_table};
 ghost use Rattle.wm_spec.specs.declared.record.column.TableColumn.{TableColumn as ColumnOf};
-ghost use Rattle.wm_making.specs.Creating.{key_name as name_of_key, kind_of as kind_of_type, size_of as size_of_type, is_key as names_key, columns_of as columns_of_items, key_place as place_of_key, names_fault, shape_fault, table_of as table_of_items};
+ghost use Rattle.wm_making.specs.Creating.{key_name as name_of_key, kind_of as kind_of_type, size_of as size_of_type, is_key as names_key, columns_of as columns_of_items, key_place as place_of_key, key_places as places_of_key, names_fault, shape_fault, table_of as table_of_items};
 
 use std::alloc::Global;
 use wm_base::tree::statement::{ColumnType, CreateItem, CreateItems};
 use wm_base::{Memory, Name};
-use wm_spec::record::{ColumnKind, Table, TableColumn, TableColumns};
+use wm_spec::record::{ColumnKind, KeyColumns, Table, TableColumn, TableColumns};
 
 /// The name of the first column of the key.
 fn key_name(items: &[CreateItem]) -> Option<&Name>
@@ -104,6 +104,24 @@ fn key_place(key: Option<&Name>, columns: &[TableColumn]) -> usize
     place_of(key, columns).unwrap_or(0)
 }
 
+/// The places of the key columns among the columns, of which there are 1 to 32.
+fn key_places(
+    alloc: Global,
+    key: Option<&Name>,
+    columns: &[TableColumn],
+) -> Result<KeyColumns, Memory>
+    requires some { 1 ≤ length columns.now }
+    requires few { length columns.now ≤ 32 }
+    ensures { IfOk result (λ places. places ≡ places_of_key (option_copied key.entry) columns.now) }
+{
+    let mut places = KeyColumns::new(alloc);
+    if key.is_some() {
+        let place = key_place(key, columns);
+        places.push(place as u8)?;
+    }
+    Ok(places)
+}
+
 /// The table that the items declare.
 #[tactic(auto, unfolding(crate::specs::Creating::table_of))]
 pub fn table_of(
@@ -120,15 +138,14 @@ pub fn table_of(
 {
     let key = key_name(items.as_slice());
     let columns = columns_of(alloc, key, items.as_slice())?;
-    let key_column = key_place(key, columns.as_slice());
+    let key_columns = key_places(alloc, key, columns.as_slice())?;
     Ok(Table {
         number,
         name,
         versioned: false,
         valid: false,
         history: false,
-        has_key: key.is_some(),
-        key_column: key_column as u8,
+        key_columns,
         columns,
     })
 }

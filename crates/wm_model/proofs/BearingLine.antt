@@ -15,16 +15,21 @@ use Rattle.wm_spec.specs.declared.record.stored.Stored.{Stored}
 use Rattle.wm_state.specs.Drafts.{CanBear}
 use Rattle.wm_state.specs.Editing.{bear_in, edited, stand_of}
 use Rattle.wm_state.specs.Points.{Point, implicit_of, next_place_at, point_at}
-use Rattle.wm_state.specs.State.{Durable, State, Session, Stand, Workspace, Savepoint, savepoint_named, next_space, workspace_of}
+use Rattle.wm_state.specs.State.{Durable, State, Session, Stand, Workspace, Savepoint, fresh_live, savepoint_named, next_space, workspace_of}
 use Rattle.wm_state.specs.Standing.{SpaceFields, saved_in, space_after, Stands}
 use Rattle.wm_state.specs.declared.edit.Edit.TheVariants as edits
 use Rattle.wm_state.proofs.Named.{space_number}
 use Rattle.wm_forked.proofs.Points.{place_same, name_taken, name_free, few_same, made_there, made_nowhere}
-use Rattle.wm_state.proofs.Spaces.{IsSpace, space_is, space_none, named_space, named_no_space, next_space_same}
-use Rattle.wm_model.specs.Planning.{StandsAt, Does, Stay}
+use Rattle.wm_state.proofs.Spaces.{IsSpace, space_is, named_space, named_no_space, next_space_same}
+use Rattle.wm_state.proofs.Tests.{bool_apart}
+use Rattle.wm_model.specs.Lawful.{IsAt}
+use Rattle.wm_model.specs.Planning.{StandsAt, Does, IsOpen, Stay}
 use Rattle.wm_model.specs.Saving.{BearsIn, BearsRoomy, MayBearIn}
-use Rattle.wm_model.specs.Step.{create_workspace, bear, bearing_faults, counting_faults, first_fault, unless, born, implicit_name, implicit_front, place_behind, saved_at, durably, is_name, names_no_workspace, workspace_there, not_built, savepoint_there, most_workspaces, most_savepoints, at_its_end, number_limit, counter_limit, line_work}
+use Rattle.wm_model.specs.Step.{create_workspace, bear, bearing_faults, counting_faults, first_fault, unless, born, implicit_name, implicit_front, place_behind, saved_at, durably, is_name, names_no_workspace, workspace_there, savepoint_there, most_workspaces, most_savepoints, at_its_end, number_limit, counter_limit, line_work}
 use Rattle.wm_model.proofs.Doing.{does_nothing, does_edit, spent_at, not_spent_at}
+use Rattle.wm_model.proofs.Homes.{open_place}
+use Rattle.wm_model.proofs.Lawful.Lists.{one_some}
+use Rattle.wm_model.proofs.Lawful.Places.{saved_there}
 use Rattle.wm_model.proofs.SavingLine.{name_short}
 
 -- ---- the name
@@ -33,12 +38,6 @@ pub bear_there : (rs : List Stored) (xs : List Session) (m : ℕ) (session : Ses
     → find (λ (r : Space). bytes_eq name r.name) (parts_of rs).spaces ≡ Some b → Does rs xs m [] Stay (workspace_there name) (create_workspace session name)
 bear_there rs xs m session name b rules good plain there =
     does_nothing rs xs m (workspace_there name) (create_workspace session name) (λ s st. rw ((named_space (parts_of rs) s.durable name b st.stands there).named) refl)
-
-pub bear_homeless : (rs : List Stored) (xs : List Session) (m : ℕ) (session : Session) (name : List ℕ) → keep_rules (parts_of rs) ≡ true → is_name name ≡ true → names_no_workspace name ≡ false
-    → find (λ (r : Space). bytes_eq name r.name) (parts_of rs).spaces ≡ None → space_of (parts_of rs).spaces session.space ≡ None → Does rs xs m [] Stay not_built (create_workspace session name)
-bear_homeless rs xs m session name rules good plain new none =
-    does_nothing rs xs m not_built (create_workspace session name)
-    (λ s st. rw (named_no_space (parts_of rs) s.durable name st.stands new, space_none (parts_of rs) s.durable session.space st.stands none) refl)
 
 -- ---- the session's workspace
 
@@ -59,7 +58,7 @@ home rs xs m session name a s bears st =
     record {
       workspace = h.workspace;
       is = subst (λ n. IsSpace (parts_of rs) s.durable n a h.workspace) (sym h.is.record_number) h.is;
-      runs = rw (named_no_space (parts_of rs) s.durable name st.stands bears.new, h.is.found) refl;
+      runs = rw (named_no_space (parts_of rs) s.durable name st.stands bears.new) (ap (λ (o : Option Workspace). body session name s (unwrap_or o fresh_live)) h.is.found);
       implicit = ap (λ (f : SpaceFields). implicit_front ++ decimal f.next_implicit) (sym h.is.fields);
     }
 
@@ -147,29 +146,23 @@ bear_numberless rs xs m session name a may places implicits much =
 
 -- ---- where the session stands
 
--- nothing is at its end, and there is no savepoint where it stands
-nowhere : (stand : Stand) (name : List ℕ) (s : State) (w : Workspace) → nat_lt number_limit (place_behind w stand) ≡ false → nat_lt number_limit (w.next_implicit + 1) ≡ false → nat_lt number_limit (next_space s.durable.spaces) ≡ false
-    → saved_at s.moment s.durable.spaces w stand (implicit_name w) true ≡ None → counted stand name s w ≡ (s, not_built)
-nowhere stand name s w places implicits numbers none = rw (places, implicits, numbers, none) refl
-
--- or one is made
+-- nothing is at its end, and one is made
 somewhere : (stand : Stand) (name : List ℕ) (s : State) (w : Workspace) (k : Savepoint) → nat_lt number_limit (place_behind w stand) ≡ false → nat_lt number_limit (w.next_implicit + 1) ≡ false
     → nat_lt number_limit (next_space s.durable.spaces) ≡ false → saved_at s.moment s.durable.spaces w stand (implicit_name w) true ≡ Some k → counted stand name s w ≡ durably s 0 (record s { durable = born s.moment w stand name k s.durable }, Fine)
 somewhere stand name s w k places implicits numbers some = rw (places, implicits, numbers, some) refl
 
-pub bear_nowhere : (rs : List Stored) (xs : List Session) (m : ℕ) (session : Session) (name : List ℕ) (a : Space) → MayBearIn rs session name a → point_at (parts_of rs) a m session.stand ≡ None
-    → Does rs xs m [] Stay not_built (create_workspace session name)
-bear_nowhere rs xs m session name a may none =
-    does_nothing rs xs m not_built (create_workspace session name)
-    (λ s st. let h = home rs xs m session name a s may.roomy.bears st in
-    roomy rs s session name a h st.stands may.roomy
-    ∙ nowhere session.stand name s h.workspace
-    (place_so (parts_of rs) s.durable a h.workspace session.stand false h.is may.places)
-    (implicit_so number_limit (parts_of rs) s.durable a h.workspace false h.is may.implicits)
-    (number_so (parts_of rs) s.durable false st.stands may.numbers)
-    (ap (λ n. saved_at n s.durable.spaces h.workspace session.stand (implicit_name h.workspace) true) (sym st.moment_is)
-    ∙ ap (λ n. saved_at m s.durable.spaces h.workspace session.stand n true) h.implicit
-    ∙ made_nowhere (parts_of rs) s.durable a h.workspace m session.stand (implicit_of a) true st.stands h.is none))
+-- an open session stands where a savepoint may be made, so what is done elsewhere does whatever is said
+pub does_standless : (rs : List Stored) (xs : List Session) (m : ℕ) (session : Session) (a : Space) (answer : Answer) (act : State → State × Answer) → IsOpen xs session → space_of (parts_of rs).spaces session.space ≡ Some a
+    → point_at (parts_of rs) a m session.stand ≡ None → Does rs xs m [] Stay answer act
+does_standless rs xs m session a answer act among found none =
+    does_nothing rs xs m answer act
+    (λ s st. let h = space_is (parts_of rs) s.durable session.space a st.stands found in
+    let p = open_place rs xs m s session st among in
+    let same : p.space ≡ h.workspace = one_some p.space h.workspace (sym p.is ∙ h.is.found) in
+    let is : IsSpace (parts_of rs) s.durable a.number a h.workspace = subst (λ n. IsSpace (parts_of rs) s.durable n a h.workspace) (sym h.is.record_number) h.is in
+    let there : is_some (saved_at m s.durable.spaces h.workspace session.stand (implicit_of a) true) ≡ true =
+    saved_there m s.durable.spaces h.workspace session.stand (implicit_of a) true (subst (λ (w : Workspace). IsAt w session.stand) same p.stands) in
+    absurd (bool_apart (sym there ∙ ap (λ o. is_some o) (made_nowhere (parts_of rs) s.durable a h.workspace m session.stand (implicit_of a) true st.stands is none))))
 
 -- the savepoint that is made in the state
 record IsMade (s : State) (m : ℕ) (w : Workspace) (stand : Stand) : Type 0 where

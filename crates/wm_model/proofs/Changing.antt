@@ -1,6 +1,5 @@
 -- What is done with the rows of a table in a workspace.
 use Rattle.std.proofs.Common.{◌≡◌, ℕ, true, false, List, [], ◌∷◌, length, Option, Some, None, refl, ap, ◌∙◌}
-use Rattle.std.specs.List.{list_all}
 use Rattle.wm_base.specs.Period.{Span}
 use Rattle.wm_base.specs.Trees.{Set}
 use Rattle.wm_base.specs.declared.refusal.Refusal.{Refusal}
@@ -11,12 +10,12 @@ use Rattle.wm_dml.specs.Moving.{moves_of, moving}
 use Rattle.wm_dml.specs.Standing.{change_keys}
 use Rattle.wm_dml.specs.declared.change.RowChange.{RowChange}
 use Rattle.wm_dml.specs.declared.moving.Move.{Move}
-use Rattle.wm_making.specs.Rows.{is_filled, row_fault}
-use Rattle.wm_print.specs.Texts.{Answer, Refused}
+use Rattle.wm_making.specs.Rows.{row_fault}
+use Rattle.wm_print.specs.Texts.{Refused}
 use Rattle.wm_spec.specs.declared.record.table.Table.{Table}
 use Rattle.wm_state.specs.State.{State, Workspace, content}
 use Rattle.wm_state.specs.Drawing.{are_sorted}
-use Rattle.wm_model.specs.Step.{add_found, add_to, change_all, first_clash, key_there, move_all, not_built, out_of_range, replace_all, taken, told_period, unless, unless_empty, write_all, write_ascending}
+use Rattle.wm_model.specs.Step.{add_found, add_to, change_all, first_clash, key_there, move_all, not_built, out_of_range, replace_all, taken, told_period, unless, write_all, write_ascending}
 
 -- ---- INSERT
 
@@ -81,14 +80,6 @@ moves_there user t moves key shared s w there = rw there refl
 pub moves_new : (user : List ℕ) (t : Table) (moves : List Move) (s : State) (w : Workspace) → first_clash (content w) t moves moves ≡ None
     → move_all user t moves s w ≡ write_ascending user t (length moves) (moving moves) s w
 moves_new user t moves s w free = rw free refl
-
--- ---- rows in which a text is empty
-
-pub kept_filled : (rows : List Row) (act : List Row → State → Workspace → State × Answer) (s : State) (w : Workspace) → list_all (λ (r : Row). list_all is_filled r.values) rows ≡ true → unless_empty rows act s w ≡ act rows s w
-kept_filled rows act s w filled = rw filled refl
-
-pub kept_empty : (rows : List Row) (act : List Row → State → Workspace → State × Answer) (s : State) (w : Workspace) → list_all (λ (r : Row). list_all is_filled r.values) rows ≡ false → unless_empty rows act s w ≡ (s, not_built)
-kept_empty rows act s w empty = rw empty refl
 
 -- ---- keys that do not ascend
 

@@ -3,7 +3,7 @@ use Rattle.std.proofs.Common.{◌≡◌, ℕ, ◌+◌, nat_lt, true, false, not,
 use Rattle.std.specs.Option.{option_map}
 use Rattle.wm_base.specs.declared.instant.TheConstants.{END}
 use Rattle.wm_graph.specs.Parts.{parts_of}
-use Rattle.wm_graph.specs.Rules.{keep_rules}
+use Rattle.wm_graph.specs.Rules.{has_key, keep_rules}
 use Rattle.wm_print.specs.Texts.{Answer, Fine}
 use Rattle.wm_spec.specs.declared.record.counters.Counters.{Counters}
 use Rattle.wm_spec.specs.declared.record.stored.Stored.{Stored}
@@ -21,7 +21,7 @@ abbrev readying : List ℕ → Readiness → Option (List ℕ) → State → Tab
 readying name how fault s table =
     if table.versioned then (s, versioning name true) else
     unless_mistyped fault s
-    (if not table.has_key then (s, no_key name) else durably s 0 (record s { durable = record s.durable { tables = enabled table.number how s.durable.tables } }, Fine))
+    (if not (has_key table) then (s, no_key name) else durably s 0 (record s { durable = record s.durable { tables = enabled table.number how s.durable.tables } }, Fine))
 
 -- ---- what is refused
 
@@ -46,25 +46,25 @@ enable_mistyped rs xs m name how parameter t rules short some off =
     does_nothing rs xs m (mistyped parameter) (enable name how (Some parameter))
     (λ s st. rw short (with_some rs xs m s name (readying name how (Some parameter) s) t st some ∙ rw off refl))
 
-pub enable_keyless : (rs : List Stored) (xs : List Session) (m : ℕ) (name : List ℕ) (how : Readiness) (t : Table) → keep_rules (parts_of rs) ≡ true → nat_lt 25 (length name) ≡ false → named rs name ≡ Some t → t.versioned ≡ false → t.has_key ≡ false
+pub enable_keyless : (rs : List Stored) (xs : List Session) (m : ℕ) (name : List ℕ) (how : Readiness) (t : Table) → keep_rules (parts_of rs) ≡ true → nat_lt 25 (length name) ≡ false → named rs name ≡ Some t → t.versioned ≡ false → has_key t ≡ false
     → Does rs xs m [] Stay (no_key name) (enable name how None)
 enable_keyless rs xs m name how t rules short some off keyless =
     does_nothing rs xs m (no_key name) (enable name how None) (λ s st. rw short (with_some rs xs m s name (readying name how None s) t st some ∙ rw (off, keyless) refl))
 
 -- ---- the table becomes ready
 
-enabled_is : (rs : List Stored) (xs : List Session) (m : ℕ) (s : State) (name : List ℕ) (how : Readiness) (t : Table) → StandsAt rs xs m s → nat_lt 25 (length name) ≡ false → named rs name ≡ Some t → t.versioned ≡ false → t.has_key ≡ true
+enabled_is : (rs : List Stored) (xs : List Session) (m : ℕ) (s : State) (name : List ℕ) (how : Readiness) (t : Table) → StandsAt rs xs m s → nat_lt 25 (length name) ≡ false → named rs name ≡ Some t → t.versioned ≡ false → has_key t ≡ true
     → enable name how None s ≡ durably s 0 (record s { durable = record s.durable { tables = enabled t.number how s.durable.tables } }, Fine)
 enabled_is rs xs m s name how t st short some off key = rw short (with_some rs xs m s name (readying name how None s) t st some ∙ rw (off, key) refl)
 
-pub enable_spent : (rs : List Stored) (xs : List Session) (m : ℕ) (name : List ℕ) (how : Readiness) (t : Table) (c : Counters) → keep_rules (parts_of rs) ≡ true → nat_lt 25 (length name) ≡ false → named rs name ≡ Some t → t.versioned ≡ false → t.has_key ≡ true
+pub enable_spent : (rs : List Stored) (xs : List Session) (m : ℕ) (name : List ℕ) (how : Readiness) (t : Table) (c : Counters) → keep_rules (parts_of rs) ≡ true → nat_lt 25 (length name) ≡ false → named rs name ≡ Some t → t.versioned ≡ false → has_key t ≡ true
     → (parts_of rs).counters ≡ c ∷ [] → nat_lt counter_limit (c.work + line_work) ≡ true → Does rs xs m [] Stay (at_its_end (codes "WORK")) (enable name how None)
 enable_spent rs xs m name how t c rules short some off key one much =
     does_nothing rs xs m (at_its_end (codes "WORK")) (enable name how None)
     (λ s st. enabled_is rs xs m s name how t st short some off key
     ∙ spent_at rs xs m s 0 c (record s { durable = record s.durable { tables = enabled t.number how s.durable.tables } }, Fine) st one refl much)
 
-pub does_enable : (rs : List Stored) (xs : List Session) (m : ℕ) (name : List ℕ) (how : Readiness) (t : Table) (c : Counters) → nat_lt 25 (length name) ≡ false → named rs name ≡ Some t → t.versioned ≡ false → t.has_key ≡ true
+pub does_enable : (rs : List Stored) (xs : List Session) (m : ℕ) (name : List ℕ) (how : Readiness) (t : Table) (c : Counters) → nat_lt 25 (length name) ≡ false → named rs name ≡ Some t → t.versioned ≡ false → has_key t ≡ true
     → (parts_of rs).counters ≡ c ∷ [] → nat_lt counter_limit (c.work + line_work) ≡ false → nat_lt m END ≡ true → Does rs xs m (edits.Enable name how.valid how.history ∷ []) Stay Fine (enable name how None)
 does_enable rs xs m name how t c short some off key one room early =
     does_edit rs xs m (edits.Enable name how.valid how.history) Fine (enable name how None) (record { counters = c; one = one; some = refl; room = room; early = early }) (record { table = t; named = some; off = off; key = key })

@@ -14,11 +14,11 @@ use Rattle.wm_state.specs.Standing.{saved_in}
 use Rattle.wm_state.specs.State.{State, Session, Workspace, Stand, Latest, At, workspace_named}
 use Rattle.wm_state.proofs.SavedAs.{named_some, named_none}
 use Rattle.wm_state.proofs.Spaces.{named_space, named_no_space}
-use Rattle.wm_model.specs.Step.{run_for, run_statement, session_of, goto_workspace, goto_savepoint, latest, altered, no_workspace, no_savepoint, not_built}
+use Rattle.wm_model.specs.Step.{run_for, run_statement, session_of, goto_workspace, goto_savepoint, latest, altered, no_workspace, no_savepoint}
 use Rattle.wm_model.specs.Planning.{StandsAt, Does, Seating, Stay, Set}
 use Rattle.wm_model.specs.Step.Sessions as settings
 use Rattle.wm_model.proofs.Doing.{does_nothing, does_seat}
-use Rattle.wm_model.proofs.Homes.{home_is, home_none}
+use Rattle.wm_model.proofs.Homes.{home_is}
 
 -- ---- a statement of a session
 
@@ -60,11 +60,6 @@ does_goto_named_space rs xs m session name r rules some =
     does_goto_workspace rs xs m session name r.number rules (λ s st. let x = named_space (parts_of rs) s.durable name r st.stands some in (x.workspace, x.named, x.is.number))
 
 -- ---- GotoSavepoint
-
--- the session's workspace is not there
-pub goto_homeless : (rs : List Stored) (xs : List Session) (m : ℕ) (session : Session) (name : List ℕ) → keep_rules (parts_of rs) ≡ true → space_of (parts_of rs).spaces session.space ≡ None
-    → Does rs xs m [] Stay not_built (goto_savepoint session name)
-goto_homeless rs xs m session name rules none = does_nothing rs xs m not_built (goto_savepoint session name) (λ s st. home_none rs xs m s session _ st none)
 
 -- what is newest
 pub does_goto_latest : (rs : List Stored) (xs : List Session) (m : ℕ) (session : Session) (name : List ℕ) (r : Space) → keep_rules (parts_of rs) ≡ true → space_of (parts_of rs).spaces session.space ≡ Some r

@@ -15,3 +15,6 @@ pub mod SavingLine
 pub mod BearingLine
 pub mod Seating
 pub mod Timing
+pub mod Lawful
+pub mod Telling
+pub mod Given

@@ -4,7 +4,7 @@ use Rattle.std.proofs.lemmas.Bool.{eq-eqb}
 use Rattle.std.specs.List.{find, list_all, list_any}
 use Rattle.std.specs.Str.{bytes_eq}
 use Rattle.wm_graph.specs.Parts.{parts_of, table_of}
-use Rattle.wm_graph.specs.Rules.{keep_rules, is_table, differ}
+use Rattle.wm_graph.specs.Rules.{keep_rules, is_table, has_key, are_key_columns, differ}
 use Rattle.wm_spec.specs.declared.record.stored.Stored.{Stored}
 use Rattle.wm_spec.specs.declared.record.table.Table.{Table}
 use Rattle.wm_state.specs.Standing.{by_number, place_table}
@@ -85,7 +85,7 @@ named_is rs name t rules found = record {
         (g.0, (both (differ (λ (t u : Table). bytes_eq t.name u.name) (parts_of rs).tables) (list_all is_table (parts_of rs).tables) g.1).1)
 
 -- a table that is ready for rows has a key
-pub has_key : (t : Table) → is_table t ≡ true → t.versioned ≡ true → t.has_key ≡ true
-has_key t well on =
-    let h = both _ ((if t.has_key then nat_lt t.key_column (length t.columns) else true) && (if t.versioned then t.has_key else true)) well in
-    sym (ap (λ b. if b then t.has_key else true) on) ∙ (both (if t.has_key then nat_lt t.key_column (length t.columns) else true) (if t.versioned then t.has_key else true) h.1).1
+pub ready_keyed : (t : Table) → is_table t ≡ true → t.versioned ≡ true → has_key t ≡ true
+ready_keyed t well on =
+    let h = both _ (are_key_columns t && (if t.versioned then has_key t else true)) well in
+    sym (ap (λ b. if b then has_key t else true) on) ∙ (both (are_key_columns t) (if t.versioned then has_key t else true) h.1).1

@@ -9,9 +9,9 @@ use Rattle.wm_spec.specs.declared.record.stored.Stored.{Stored}
 use Rattle.wm_spec.specs.declared.record.table.Table.{Table}
 use Rattle.wm_state.specs.State.{State, Session, Workspace, Stand, Latest, At}
 use Rattle.wm_model.specs.Planning.{StandsAt, Does, Stay, named}
-use Rattle.wm_model.specs.Step.{at_home, at_latest, at_newest, empty_period, no_table, not_built, not_latest, unless, unless_empty_period, versioning}
+use Rattle.wm_model.specs.Step.{at_home, at_latest, at_newest, empty_period, no_table, not_latest, unless, unless_empty_period, versioning}
 use Rattle.wm_model.proofs.Doing.{does_nothing}
-use Rattle.wm_model.proofs.Homes.{home_is, home_none, home_some, with_none, with_some}
+use Rattle.wm_model.proofs.Homes.{home_is, home_some, with_none, with_some}
 
 -- what is done with a table in a workspace
 abbrev pub Acts : Type 0
@@ -68,13 +68,6 @@ comes_home : (rs : List Stored) (xs : List Session) (m : ℕ) (session : Session
     → StandsAt rs xs m s → at_newest session name fault empty act s ≡ at_home s session (in_home session empty act s t)
 comes_home rs xs m session name fault empty act t s g st =
     on_table rs xs m session name fault empty act t s g.ready st ∙ ap (λ f. unless f s (at_home s session (in_home session empty act s t))) g.good
-
--- the session's workspace is not there
-pub newest_homeless : (rs : List Stored) (xs : List Session) (m : ℕ) (session : Session) (name : List ℕ) (fault : Table → Option Refusal) (empty : Bool) (act : Acts) (t : Table) → IsGood rs name fault t
-    → space_of (parts_of rs).spaces session.space ≡ None → Does rs xs m [] Stay not_built (at_newest session name fault empty act)
-newest_homeless rs xs m session name fault empty act t g none =
-    does_nothing rs xs m not_built (at_newest session name fault empty act)
-    (λ s st. comes_home rs xs m session name fault empty act t s g st ∙ home_none rs xs m s session (in_home session empty act s t) st none)
 
 at_stand : (rs : List Stored) (xs : List Session) (m : ℕ) (session : Session) (name : List ℕ) (fault : Table → Option Refusal) (empty : Bool) (act : Acts) (t : Table) (a : Space) (stand : Stand) (s : State) → IsGood rs name fault t
     → (found : space_of (parts_of rs).spaces session.space ≡ Some a) → session.stand ≡ stand → (st : StandsAt rs xs m s)

@@ -23,11 +23,11 @@ use Rattle.wm_state.specs.Standing.{Stands, latest, saved_as}
 use Rattle.wm_state.proofs.Listed.{showing_is, showing_saved}
 use Rattle.wm_state.proofs.Showing.{none_shown}
 use Rattle.wm_state.proofs.SavedAs.{made_some, made_none}
-use Rattle.wm_model.specs.Step.{select, select_among, select_ready, lost_source, tables_of, table_off, columns_in, sources_in, shown_by, source_name, rows_in, answer_rows, unless_empty_period, within, at_home, empty_period, no_table, not_built, versioning}
+use Rattle.wm_model.specs.Step.{select, select_among, select_ready, lost_source, tables_of, table_off, columns_in, sources_in, shown_by, source_name, rows_in, answer_rows, unless_empty_period, within, at_home, empty_period, no_table, versioning}
 use Rattle.wm_model.specs.Planning.{StandsAt, Does, Stay, tables_in, version_read}
 use Rattle.wm_model.specs.Sources.{AreListed}
 use Rattle.wm_model.proofs.Doing.{does_nothing}
-use Rattle.wm_model.proofs.Homes.{home_is, home_none, home_some}
+use Rattle.wm_model.proofs.Homes.{home_is, home_some}
 
 -- ---- refusals
 
@@ -82,13 +82,6 @@ comes_home rs xs m session query empty s fine st = selects_ready rs xs m session
   where
     taken : query_fault (columns_in (tables_in rs) query.sources) query ≡ None → select_ready session query empty (tables_in rs) s ≡ at_home s session (in_home session query empty (tables_in rs) s)
     taken good = rw good refl
-
--- the session's workspace is not there
-pub select_homeless : (rs : List Stored) (xs : List Session) (m : ℕ) (session : Session) (query : Query) (empty : Bool) → IsFine rs query → space_of (parts_of rs).spaces session.space ≡ None
-    → Does rs xs m [] Stay not_built (select session query empty)
-select_homeless rs xs m session query empty fine none =
-    does_nothing rs xs m not_built (select session query empty)
-    (λ s st. comes_home rs xs m session query empty s fine st ∙ home_none rs xs m s session (in_home session query empty (tables_in rs) s) st none)
 
 comes_in : (rs : List Stored) (xs : List Session) (m : ℕ) (session : Session) (query : Query) (empty : Bool) (a : Space) (s : State) → IsFine rs query → (there : space_of (parts_of rs).spaces session.space ≡ Some a) → (st : StandsAt rs xs m s)
     → select session query empty s ≡ in_home session query empty (tables_in rs) s (home_is rs xs m s session.space a st there).space

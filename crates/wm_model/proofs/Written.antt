@@ -73,6 +73,7 @@ can_append rs n m user t a c changes may = record {
   one = may.one;
   table = t;
   tabled = may.there;
+  on = may.on;
   some = ap (nat_lt 0) many ∙ may.some;
   stamped = stamped_are c.next_stamp m user t changes may.last;
   well = well_are rs c.next_stamp m user t changes may.there may.fit;

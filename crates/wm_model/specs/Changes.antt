@@ -15,11 +15,12 @@ use Rattle.wm_spec.specs.declared.record.table.Table.{Table}
 use Rattle.wm_state.specs.Drafts.{can_keep_entry}
 use Rattle.wm_state.specs.Drawing.{are_sorted}
 
--- there are changes; the table and the workspace are there, the changes fit the table and stand by key, stamps are left for them, and
--- no counter is at its end
+-- there are changes; the table is ready for rows and the workspace is there, the changes fit the table and stand by key, stamps are
+-- left for them, and no counter is at its end
 pub record MayWrite (rs : List Stored) (n m : ℕ) (user : List ℕ) (t : Table) (a : Space) (c : Counters) (changes : List RowChange) : Type 0 where
   pub some : nat_lt 0 (length changes) ≡ true
   pub there : table_of (parts_of rs).tables t.number ≡ Some t
+  pub on : t.versioned ≡ true
   pub fit : list_all (is_change t) changes ≡ true
   pub last : list_all change_lasts changes ≡ true
   pub keys : are_sorted (change_keys changes) ≡ true

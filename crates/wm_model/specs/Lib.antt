@@ -6,3 +6,4 @@ pub mod Running
 pub mod Sources
 pub mod Changes
 pub mod Entered
+pub mod Lawful

@@ -1,5 +1,5 @@
 -- What a plan over the records of a store says that a line does and answers.
-use Rattle.std.specs.Prelude.{◌≡◌, ℕ, List, [], ◌∷◌, ◌++◌, Option}
+use Rattle.std.specs.Prelude.{◌≡◌, ℕ, List, [], ◌∷◌, ◌++◌, Option, Some}
 use Rattle.std.specs.Option.{option_map_or}
 use Rattle.wm_graph.specs.Parts.{Parts, parts_of}
 use Rattle.wm_print.specs.Texts.{Answer}
@@ -7,17 +7,24 @@ use Rattle.wm_spec.specs.declared.record.stored.Stored.{Stored}
 use Rattle.wm_state.specs.Drafts.{CanDraft}
 use Rattle.wm_state.specs.Editing.{drafted}
 use Rattle.wm_state.specs.State.{State, Session, Stand, Latest, At, table_named}
-use Rattle.wm_model.specs.Step.{Setting, closed, altered}
+use Rattle.wm_model.specs.Lawful.{LawfulState}
+use Rattle.wm_model.specs.Step.{Setting, closed, altered, session_of}
 use Rattle.wm_state.specs.Standing.{Stands, by_number, latest, saved_as}
 use Rattle.wm_spec.specs.declared.record.savepoint.Savepoint.{Savepoint}
 use Rattle.wm_spec.specs.declared.record.table.Table.{Table}
 use Rattle.wm_state.specs.declared.edit.Edit.{Edit}
 
--- records, sessions and a moment stand for a state
+-- records, sessions and a moment stand for a lawful state
 pub record StandsAt (records : List Stored) (sessions : List Session) (moment : ℕ) (s : State) : Type 0 where
   pub stands : Stands (parts_of records) s.durable
+  pub lawful : LawfulState s
   pub sessions_are : sessions ≡ s.sessions
   pub moment_is : moment ≡ s.moment
+
+-- the session is one of these
+pub record IsOpen (sessions : List Session) (session : Session) : Type 0 where
+  pub name : List ℕ
+  pub found : session_of name sessions ≡ Some session
 
 -- what becomes of the sessions: nothing, one is opened, those of a name are closed, or something is set of them
 pub data Seating : Type 0 where

@@ -5,11 +5,13 @@ use Rattle.std.specs.List.{list_all}
 use Rattle.wm_base.specs.declared.memory.Memory.{Memory}
 use Rattle.wm_base.specs.declared.instant.TheConstants.{END}
 use Rattle.wm_print.specs.Texts.{Answer, Fine}
+use Rattle.wm_spec.specs.declared.record.space.Space.{Space}
 use Rattle.wm_spec.specs.declared.record.stored.Stored.{Stored}
 use Rattle.wm_state.specs.State.{State, Session}
 use Rattle.wm_state.specs.declared.edit.Edit.{Edit}
-use Rattle.wm_model.specs.Planning.{StandsAt, Does, DoesAt, Seating, Stay}
+use Rattle.wm_model.specs.Planning.{StandsAt, Does, DoesAt, IsOpen, Seating, Stay, planned}
 use Rattle.wm_model.proofs.Doing.{does_nothing}
+use Rattle.wm_model.proofs.Homes.{home_recorded}
 use Rattle.wm_state.specs.Drafts.{is_fork as is_fork_edit}
 use Rattle.wm_plan.specs.Forks.{AreForks}
 use Rattle.wm_plan.specs.Idle.{Idles, is_idle}
@@ -19,7 +21,7 @@ use Rattle.wm_plan.specs.declared.answer.Answer.TheVariants as answers
 use Rattle.wm_plan.specs.declared.planned.Planned.{Planned}
 use Rattle.wm_plan.specs.declared.planned.Timed.{Timed}
 use Rattle.wm_plan.specs.declared.seating.Seating.TheVariants as seatings
-use Rattle.wm_graph.specs.Parts.{parts_of}
+use Rattle.wm_graph.specs.Parts.{parts_of, space_of}
 use Rattle.wm_graph.specs.Rules.{keep_rules}
 
 -- a plan of these edits, of this that becomes of the sessions, and of this answer
@@ -115,6 +117,53 @@ pub for_moments : (rs : List Stored) (xs : List Session) (r : Result Planned Mem
     → IfOk r (λ p. (ys : List Session) (n : ℕ) → DoesIt rs ys n p act) → IfOk r (λ p. (n : ℕ) → DoesIt rs xs n p other)
 for_moments rs xs (Ok p) act other same does = λ n. does_one rs xs n p act other (λ s st. same s) (does xs n)
 for_moments rs xs (Err e) act other same does = tt
+
+-- ---- a plan for a session that is open
+
+-- a plan for each record that its workspace may have is one, since its workspace has a record wherever these stand for a state
+pub does_at_home : (rs : List Stored) (xs : List Session) (m : ℕ) (session : Session) (seating : Seating) (answer : Answer) (act : State → State × Answer) → IsOpen xs session
+    → ((a : Space) → space_of (parts_of rs).spaces session.space ≡ Some a → Does rs xs m [] seating answer act) → Does rs xs m [] seating answer act
+does_at_home rs xs m session seating answer act among each = record { can = tt; does = λ s st. by_record s st (space_of (parts_of rs).spaces session.space) refl (home_recorded rs xs m s session st among) }
+  where
+    by_record : (s : State) → StandsAt rs xs m s → (o : Option Space) → space_of (parts_of rs).spaces session.space ≡ o → is_some o ≡ true → act s ≡ (planned m m [] seating s, answer)
+    by_record s st None none there = absurd (let e : false ≡ true = there in cc)
+    by_record s st (Some a) found there = (each a found).does s st
+
+-- it is one of these
+pub for_open : (rs : List Stored) (xs : List Session) (m : ℕ) (r : Result Planned Memory) (session : Session) (act other : State → State × Answer) → IsOpen xs session → ((s : State) → other s ≡ act s)
+    → IfOk r (λ p. (ys : List Session) → IsOpen ys session → DoesIt rs ys m p act) → IfOk r (λ p. DoesIt rs xs m p other)
+for_open rs xs m (Ok p) session act other among same does = does_one rs xs m p act other (λ s st. same s) (does xs among)
+for_open rs xs m (Err e) session act other among same does = tt
+
+pub for_open_one : (rs : List Stored) (xs : List Session) (m : ℕ) (r : Result Planned Memory) (session : Session) (act other : State → State × Answer) → IsOpen xs session → ((s : State) → other s ≡ act s)
+    → IfOk r (λ p. (ys : List Session) (n : ℕ) → IsOpen ys session → DoesIt rs ys n p act) → IfOk r (λ p. DoesIt rs xs m p other)
+for_open_one rs xs m (Ok p) session act other among same does = does_one rs xs m p act other (λ s st. same s) (does xs m among)
+for_open_one rs xs m (Err e) session act other among same does = tt
+
+-- where it is one of these
+pub where_open : (rs : List Stored) (xs : List Session) (m : ℕ) (r : Result Planned Memory) (session : Session) (act other : State → State × Answer) → ((s : State) → other s ≡ act s)
+    → IfOk r (λ p. (ys : List Session) → IsOpen ys session → DoesIt rs ys m p act) → IfOk r (λ p. IsOpen xs session → DoesIt rs xs m p other)
+where_open rs xs m (Ok p) session act other same does = λ among. does_one rs xs m p act other (λ s st. same s) (does xs among)
+where_open rs xs m (Err e) session act other same does = tt
+
+-- so it is with a plan for these that it is done where it is open
+pub is_open_here : (rs : List Stored) (xs : List Session) (m : ℕ) (r : Result Planned Memory) (session : Session) (act other : State → State × Answer) → IsOpen xs session → ((s : State) → other s ≡ act s)
+    → IfOk r (λ p. IsOpen xs session → DoesIt rs xs m p act) → IfOk r (λ p. DoesIt rs xs m p other)
+is_open_here rs xs m (Ok p) session act other among same does = does_one rs xs m p act other (λ s st. same s) (does among)
+is_open_here rs xs m (Err e) session act other among same does = tt
+
+pub for_all_open : (rs : List Stored) (r : Result Planned Memory) (session : Session) (act other : State → State × Answer) → ((s : State) → other s ≡ act s)
+    → IfOk r (λ p. (xs : List Session) (m : ℕ) → IsOpen xs session → DoesIt rs xs m p act) → IfOk r (λ p. (xs : List Session) (m : ℕ) → IsOpen xs session → DoesIt rs xs m p other)
+for_all_open rs (Ok p) session act other same does = λ xs m among. does_one rs xs m p act other (λ s st. same s) (does xs m among)
+for_all_open rs (Err e) session act other same does = tt
+
+-- and where a function may find no memory
+pub told_open : (rs : List Stored) (r : Result Planned Memory) (session : Session) (es : List Edit) (seating : Seating) (answer : Answer) (act : State → State × Answer) → IfOk r (λ p. p.edits.items ≡ es) → IfOk r (λ p. seating_view p.seating ≡ seating)
+    → IfOk r (λ p. answer_view p.answer ≡ answer) → ((xs : List Session) (m : ℕ) → IsOpen xs session → Does rs xs m es seating answer act) → IfOk r (λ p. (xs : List Session) (m : ℕ) → IsOpen xs session → DoesIt rs xs m p act)
+told_open rs (Ok p) session es seating answer act changes seats says does = λ xs m among. told rs xs m p es seating answer act changes seats says (does xs m among)
+told_open rs (Err e) session es seating answer act changes seats says does = tt
+
+-- ---- other sessions
 
 -- a plan for all sessions
 pub for_sessions : (rs : List Stored) (m : ℕ) (r : Result Planned Memory) (act other : State → State × Answer) → ((s : State) → other s ≡ act s)

@@ -2,12 +2,12 @@
 ghost use Rattle.std.specs.Prelude.{◌≡◌, [], unwrap_or, IfOk};
 ghost use Rattle.wm_calls.specs.Arguments.{text_given};
 ghost use Rattle.wm_calls.specs.Faults.{argument_fault};
-ghost use Rattle.wm_plan.specs.Lacking.{lacks};
+ghost use Rattle.wm_model.specs.Step.{mistyped};
 ghost use Rattle.wm_plan.specs.Views.{answer_view};
 ghost use Rattle.wm_plan.specs.declared.seating.Seating.TheVariants.{Stay};
 
 use crate::planned::Planned;
-use crate::refuse::{mistyped, not_built};
+use crate::refuse::mistyped;
 use std::alloc::Global;
 use wm_base::tree::cond::Cond;
 use wm_base::tree::statement::Arg;
@@ -33,16 +33,14 @@ pub fn fault_of(alloc: Global, procedure: Procedure, args: &[Arg]) -> Result<Opt
     }
 }
 
-/// The answer of a call that lacks a text.
+/// The answer of a call that lacks a text which it requires: that of the parameter that is at fault.
 pub fn lacking(alloc: Global, fault: Option<Name>) -> Planned
     ensures edits { result.edits.items ≡ [] }
     ensures seating { result.seating ≡ Stay }
-    ensures answer { answer_view result.answer ≡ lacks fault }
+    ensures answer { answer_view result.answer ≡ mistyped (unwrap_or fault []) }
 {
-    match fault {
-        Some(parameter) => Planned::answered(alloc, mistyped(parameter)),
-        None => Planned::answered(alloc, not_built()),
-    }
+    let parameter = fault.unwrap_or(Name::from_vec(Vec::new(alloc)));
+    Planned::answered(alloc, mistyped(parameter))
 }
 
 /// The bytes of the text that is given for a parameter, or these.

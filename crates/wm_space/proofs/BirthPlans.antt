@@ -2,7 +2,7 @@
 use Rattle.std.proofs.Common.{◌≡◌, ℕ, ◌+◌, ◌<◌, ◌≤◌, nat_lt, true, false, List, [], ◌∷◌, Option, Some, None, is_some, Result, Ok, Err, IfOk, refl, sym, ap, ◌∙◌, arith}
 use Rattle.wm_base.specs.declared.memory.Memory.{Memory}
 use Rattle.wm_graph.specs.Parts.{parts_of}
-use Rattle.wm_model.specs.Planning.{Does, Stay}
+use Rattle.wm_model.specs.Planning.{Does, IsOpen, Stay}
 use Rattle.wm_model.specs.Saving.{BearsRoomy, MayBearIn}
 use Rattle.wm_model.specs.Step.{create_workspace, number_limit}
 use Rattle.wm_print.specs.Texts.{Fine}
@@ -57,6 +57,6 @@ bears_edit rs m (Err e) name a at made seats says does = tt
 
 -- a plan for each session that stands there is one for this session
 pub bears_as : (rs : List Stored) (m : ℕ) (r : Result Planned Memory) (session : Session) (name : List ℕ) (a : Space) (at : Option ℕ) → MayBearIn rs session name a → stand_of at ≡ session.stand
-    → IfOk r (λ p. (xs : List Session) (session : Session) → MayBearIn rs session name a → stand_of at ≡ session.stand → DoesIt rs xs m p (create_workspace session name)) → IfOk r (λ p. (xs : List Session) → DoesIt rs xs m p (create_workspace session name))
-bears_as rs m (Ok p) session name a at may stands does = λ xs. does xs session may stands
+    → IfOk r (λ p. (xs : List Session) (session : Session) → MayBearIn rs session name a → stand_of at ≡ session.stand → DoesIt rs xs m p (create_workspace session name)) → IfOk r (λ p. (xs : List Session) → IsOpen xs session → DoesIt rs xs m p (create_workspace session name))
+bears_as rs m (Ok p) session name a at may stands does = λ xs among. does xs session may stands
 bears_as rs m (Err e) session name a at may stands does = tt

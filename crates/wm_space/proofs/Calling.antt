@@ -6,20 +6,15 @@ use Rattle.wm_calls.specs.Arguments.{moment_given, text_given}
 use Rattle.wm_calls.specs.Faults.{argument_fault}
 use Rattle.wm_grammar.specs.declared.procedure.Parameter.TheVariants as parameters
 use Rattle.wm_grammar.specs.declared.procedure.Procedure.TheVariants as procedures
-use Rattle.wm_model.specs.Step.{call, given, newly_named, unless_mistyped, readiness_given, enable, set_valid_time, create_workspace, create_savepoint, goto_workspace, goto_savepoint, is_name, names_no_workspace, names_no_savepoint, bad_name, reserved_name, mistyped, not_built, latest}
+use Rattle.wm_model.specs.Step.{call, given, newly_named, unless_mistyped, readiness_given, enable, set_valid_time, create_workspace, create_savepoint, goto_workspace, goto_savepoint, is_name, names_no_workspace, names_no_savepoint, bad_name, reserved_name, mistyped, latest}
 use Rattle.wm_print.specs.Texts.{Answer}
 use Rattle.wm_reader.specs.Reading.{folded}
 use Rattle.wm_state.specs.State.{State, Session, Readiness}
-use Rattle.wm_plan.specs.Lacking.{lacks}
 
 -- ---- the steps of a call
 
-given_none : (o fault : Option (List ℕ)) (s : State) (act : List ℕ → State × Answer) → o ≡ None → given o fault s act ≡ (s, lacks fault)
-given_none o fault s act none = ap (λ p. given p fault s act) none ∙ by_fault fault
-  where
-    by_fault : (f : Option (List ℕ)) → unless_mistyped f s (s, not_built) ≡ (s, lacks f)
-    by_fault None = refl
-    by_fault (Some parameter) = refl
+given_none : (o fault : Option (List ℕ)) (s : State) (act : List ℕ → State × Answer) → o ≡ None → given o fault s act ≡ (s, mistyped (unwrap_or fault []))
+given_none o fault s act none = ap (λ p. given p fault s act) none
 
 given_some : (o fault : Option (List ℕ)) (text : List ℕ) (s : State) (act : List ℕ → State × Answer) → o ≡ Some text → given o fault s act ≡ act text
 given_some o fault text s act some = ap (λ p. given p fault s act) some
@@ -42,7 +37,7 @@ named_well name taken fault s done good is = rw (good, is) refl
 -- ---- EnableVersioning
 
 pub enable_lacks : (session : Session) (args : List Arg) (s : State) → text_given procedures.EnableVersioning args parameters.TableName ≡ None
-    → call session (Some procedures.EnableVersioning) args s ≡ (s, lacks (argument_fault procedures.EnableVersioning args))
+    → call session (Some procedures.EnableVersioning) args s ≡ (s, mistyped (unwrap_or (argument_fault procedures.EnableVersioning args) []))
 enable_lacks session args s none = given_none (text_given procedures.EnableVersioning args parameters.TableName) (argument_fault procedures.EnableVersioning args) s _ none
 
 pub enable_given : (session : Session) (args : List Arg) (s : State) (text name : List ℕ) (how : Readiness) (fault : Option (List ℕ)) → text_given procedures.EnableVersioning args parameters.TableName ≡ Some text → name ≡ folded text
@@ -71,7 +66,7 @@ valid_time_done session args s from till end right is_from is_till is_end =
 -- ---- CreateWorkspace
 
 pub workspace_lacks : (session : Session) (args : List Arg) (s : State) → text_given procedures.CreateWorkspace args parameters.Workspace ≡ None
-    → call session (Some procedures.CreateWorkspace) args s ≡ (s, lacks (argument_fault procedures.CreateWorkspace args))
+    → call session (Some procedures.CreateWorkspace) args s ≡ (s, mistyped (unwrap_or (argument_fault procedures.CreateWorkspace args) []))
 workspace_lacks session args s none = given_none (text_given procedures.CreateWorkspace args parameters.Workspace) (argument_fault procedures.CreateWorkspace args) s _ none
 
 workspace_given : (session : Session) (args : List Arg) (s : State) (name : List ℕ) → text_given procedures.CreateWorkspace args parameters.Workspace ≡ Some name
@@ -109,7 +104,7 @@ abbrev saved_in : List Arg → List ℕ
 saved_in args = unwrap_or (text_given procedures.CreateSavepoint args parameters.Workspace) []
 
 pub savepoint_lacks : (session : Session) (args : List Arg) (s : State) → text_given procedures.CreateSavepoint args parameters.SavepointName ≡ None
-    → call session (Some procedures.CreateSavepoint) args s ≡ (s, lacks (argument_fault procedures.CreateSavepoint args))
+    → call session (Some procedures.CreateSavepoint) args s ≡ (s, mistyped (unwrap_or (argument_fault procedures.CreateSavepoint args) []))
 savepoint_lacks session args s none = given_none (text_given procedures.CreateSavepoint args parameters.SavepointName) (argument_fault procedures.CreateSavepoint args) s _ none
 
 savepoint_given : (session : Session) (args : List Arg) (s : State) (name : List ℕ) → text_given procedures.CreateSavepoint args parameters.SavepointName ≡ Some name

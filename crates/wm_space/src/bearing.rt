@@ -7,6 +7,7 @@ ghost use Rattle.wm_plan.specs.Planning.{DoesIt};
 ghost use Rattle.wm_plan.specs.Stands.{stand_view};
 ghost use Rattle.wm_graph.specs.Parts.{parts_of};
 ghost use Rattle.wm_graph.specs.Rules.{keep_rules};
+ghost use Rattle.wm_model.specs.Planning.{IsOpen};
 ghost use Rattle.wm_model.specs.Saving.{BearsIn, BearsRoomy, MayBearIn};
 ghost use Rattle.wm_model.specs.Step.{create_workspace, is_name, names_no_workspace, number_limit};
 ghost use Rattle.wm_state.specs.Editing.{stand_of};
@@ -97,7 +98,7 @@ fn bear_where(
 ) -> Result<Planned, Memory>
     requires moment { moment < END }
     requires roomy { BearsRoomy image.now session.now name space.now }
-    ensures does { IfOk result (λ p. (xs : List SessionState) → DoesIt image.now xs moment p (create_workspace session.now name)) }
+    ensures does { IfOk result (λ p. (xs : List SessionState) → IsOpen xs session.now → DoesIt image.now xs moment p (create_workspace session.now name)) }
     ensures idle { IfOk result Idles }
     ensures few { IfOk result AreForks }
 {
@@ -128,7 +129,7 @@ fn bear_in(
 ) -> Result<Planned, Memory>
     requires moment { moment < END }
     requires bears { BearsIn image.now session.now name space.now }
-    ensures does { IfOk result (λ p. (xs : List SessionState) → DoesIt image.now xs moment p (create_workspace session.now name)) }
+    ensures does { IfOk result (λ p. (xs : List SessionState) → IsOpen xs session.now → DoesIt image.now xs moment p (create_workspace session.now name)) }
     ensures idle { IfOk result Idles }
     ensures few { IfOk result AreForks }
 {
@@ -160,7 +161,7 @@ pub fn create_workspace(
     requires moment { moment < END }
     requires good { is_name name ≡ true }
     requires plain { names_no_workspace name ≡ false }
-    ensures does { IfOk result (λ p. (xs : List SessionState) → DoesIt image.now xs moment p (create_workspace session.now name)) }
+    ensures does { IfOk result (λ p. (xs : List SessionState) → IsOpen xs session.now → DoesIt image.now xs moment p (create_workspace session.now name)) }
     ensures idle { IfOk result Idles }
     ensures few { IfOk result AreForks }
 {

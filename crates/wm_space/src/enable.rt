@@ -3,7 +3,7 @@ ghost use Rattle.wm_plan.specs.Idle.{Idles};
 ghost use Rattle.std.specs.Prelude.{◌≡◌, ◌<◌, nat_lt, length, List, true, false, None, Some, IfOk};
 ghost use Rattle.wm_base.specs.declared.instant.TheConstants.{END};
 ghost use Rattle.wm_graph.specs.Parts.{parts_of};
-ghost use Rattle.wm_graph.specs.Rules.{keep_rules};
+ghost use Rattle.wm_graph.specs.Rules.{has_key, keep_rules};
 ghost use Rattle.wm_model.specs.Planning.{named};
 ghost use Rattle.wm_model.specs.Step.{enable};
 ghost use Rattle.wm_state.specs.State.{Session as SessionState};
@@ -43,7 +43,7 @@ fn make_ready(
     requires moment { moment < END }
     requires named { named image.now name ≡ Some table.now }
     requires off { table.now.versioned ≡ false }
-    requires key { table.now.has_key ≡ true }
+    requires key { has_key table.now ≡ true }
     requires short { nat_lt 25 (length name) ≡ false }
     ensures does { IfOk result (λ p. (xs : List SessionState) → DoesIt image.now xs moment p (enable name (readiness_view how) None)) }
     ensures idle { IfOk result Idles }
@@ -85,7 +85,7 @@ pub fn enable(
     if let Some(parameter) = fault {
         return Ok(Planned::answered(alloc, mistyped(parameter)));
     }
-    if !table.has_key {
+    if table.key_columns.as_slice().is_empty() {
         return Ok(Planned::answered(alloc, no_key(name)));
     }
     make_ready(alloc, image, moment, name, how, table)

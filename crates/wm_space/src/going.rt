@@ -6,7 +6,7 @@ ghost use Rattle.wm_plan.specs.Stands.{stand_view};
 ghost use Rattle.wm_plan.specs.Views.{answer_view, seating_view};
 ghost use Rattle.wm_graph.specs.Parts.{parts_of};
 ghost use Rattle.wm_graph.specs.Rules.{keep_rules};
-ghost use Rattle.wm_model.specs.Planning.{Set};
+ghost use Rattle.wm_model.specs.Planning.{IsOpen, Set};
 ghost use Rattle.wm_model.specs.Step.Sessions as settings;
 ghost use Rattle.wm_model.specs.Step.{goto_savepoint, goto_workspace};
 ghost use Rattle.wm_print.specs.Texts.{Fine};
@@ -17,7 +17,7 @@ use wm_base::{Memory, Name};
 use wm_image::Image;
 use wm_plan::names::is_latest;
 use wm_plan::planned::Planned;
-use wm_plan::refuse::{no_savepoint, no_workspace, not_built};
+use wm_plan::refuse::{no_savepoint, no_workspace};
 use wm_plan::seating::Seating;
 use wm_plan::session::{Session, Setting, Stand};
 
@@ -57,13 +57,10 @@ pub fn goto_savepoint(
     name: &[u8],
 ) -> Result<Planned, Memory>
     requires rules { keep_rules (parts_of image.now) ≡ true }
-    ensures does { IfOk result (λ p. (xs : List SessionState) (m : ℕ) → DoesIt image.now xs m p (goto_savepoint session.now name.now)) }
+    ensures does { IfOk result (λ p. (xs : List SessionState) (m : ℕ) → IsOpen xs session.now → DoesIt image.now xs m p (goto_savepoint session.now name.now)) }
     ensures idle { IfOk result Idles }
 {
     let space = session.space();
-    let Some(_) = image.space(space) else {
-        return Ok(Planned::answered(alloc, not_built()));
-    };
     if is_latest(name) {
         return go(alloc, session, space, Stand::Latest);
     }

@@ -1,5 +1,5 @@
 -- Lists of entries: what a list holds at a cell is what the last entry that covers the cell says.
-use Rattle.std.specs.Prelude.{ℕ, ◌≡◌, Bool, ◌&&◌, ◌==◌, nat_le, nat_lt, List, [], ◌∷◌, Option, None, is_some}
+use Rattle.std.specs.Prelude.{ℕ, ◌≡◌, ◌+◌, Bool, ◌&&◌, ◌==◌, nat_le, nat_lt, if◌then◌else◌, List, [], ◌∷◌, Option, None, is_some}
 use Rattle.std.specs.Bool.{then_some}
 use Rattle.std.specs.Option.{option_or, option_and_then}
 use Rattle.std.specs.Ordering.{is_eq}
@@ -55,6 +55,11 @@ told (e ∷ es) c = option_or (told es c) (then_some (covers e c) (told_of e))
 -- some entry covers the cell
 abbrev pub touched : List Entry → Cell → Bool
 touched es c = is_some (told es c)
+
+-- one more than the position of the last entry that covers the cell; 0 where there is none
+abbrev pub reach : List Entry → Cell → ℕ
+reach [] c = 0
+reach (e ∷ es) c = if touched es c then reach es c + 1 else (if covers e c then 1 else 0)
 
 -- two lists hold the same at each cell
 pub record Alike (xs ys : List Entry) : Type 0 where

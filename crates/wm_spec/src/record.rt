@@ -5,12 +5,16 @@ pub mod cell_range;
 pub mod column;
 pub mod counters;
 pub mod hist;
+pub mod key_columns;
+pub mod lock;
 pub mod piece;
 pub mod row;
 pub mod savepoint;
 pub mod space;
 pub mod stored;
 pub mod table;
+pub mod trace;
+pub mod turn;
 pub mod version;
 
 pub use batch::{Batch, Change, Changes};
@@ -18,12 +22,16 @@ pub use cell_range::CellRange;
 pub use column::{ColumnKind, TableColumn, TableColumns};
 pub use counters::Counters;
 pub use hist::Hist;
+pub use key_columns::KeyColumns;
+pub use lock::{Lock, LockMode};
 pub use piece::PieceRecord;
 pub use row::RowRecord;
 pub use savepoint::Savepoint;
 pub use space::{FreezeMode, Space};
 pub use stored::{Records, Stored};
 pub use table::Table;
+pub use trace::Trace;
+pub use turn::Turn;
 pub use version::Version;
 
 /// A record of the store.
@@ -36,5 +44,9 @@ pub enum Record {
     Savepoint(Savepoint),
     Row(RowRecord),
     Piece(PieceRecord),
+    Touch(Trace),
+    Lock(Lock),
     Hist(Hist),
+    Mark(Trace),
+    Turn(Turn),
 }

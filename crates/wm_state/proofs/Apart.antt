@@ -5,7 +5,7 @@ use Rattle.std.specs.List.{list_all, find}
 use Rattle.std.specs.Option.{option_map, option_map_or}
 use Rattle.std.specs.Str.{bytes_eq}
 use Rattle.wm_graph.specs.Parts.{Parts, space_of, version_of, has_version}
-use Rattle.wm_graph.specs.Rules.{keep_rules, keep_rules_with, are_counters, are_tables, are_spaces, is_space, is_placed, is_short, live, are_versions, is_version, has_versions, stands_under, is_version_of, are_savepoints, are_rows, are_pieces, are_hists, differ}
+use Rattle.wm_graph.specs.Rules.{keep_rules, keep_rules_with, are_counters, are_tables, are_spaces, is_space, is_placed, is_short, live, are_versions, is_version, has_versions, stands_under, is_version_of, are_savepoints, are_rows, are_pieces, are_hists, are_touches, are_locks, are_marks, are_turns, differ}
 use Rattle.wm_spec.specs.declared.record.counters.Counters.{Counters}
 use Rattle.wm_spec.specs.declared.record.space.Space.{Space}
 use Rattle.wm_spec.specs.declared.record.version.Version.{Version}
@@ -41,6 +41,10 @@ pub record Ruled (p : Parts) : Type 0 where
   pub rows : are_rows p counters.next_stamp ≡ true
   pub pieces : are_pieces p counters.next_stamp ≡ true
   pub hists : are_hists p counters.next_stamp ≡ true
+  pub touches : are_touches p ≡ true
+  pub locks : are_locks p counters.work ≡ true
+  pub marks : are_marks p ≡ true
+  pub turns : are_turns p ≡ true
 
 pub ruled : (p : Parts) → keep_rules p ≡ true → Ruled p
 unfolding keep_rules
@@ -56,20 +60,43 @@ ruled p e = by_counters p.counters refl e
         let f = both (are_versions p c.next_version) _ d.1 in
         let g = both (are_savepoints p c.work) _ f.1 in
         let k = both (are_rows p c.next_stamp) _ g.1 in
-        let l = both (are_pieces p c.next_stamp) (are_hists p c.next_stamp) k.1 in
-        record { counters = c; one = is; counted = a.0; tables = b.0; spaces = d.0; versions = f.0; savepoints = g.0; rows = k.0; pieces = l.0; hists = l.1 }
+        let l = both (are_pieces p c.next_stamp) _ k.1 in
+        let m = both (are_hists p c.next_stamp) _ l.1 in
+        let n = both (are_touches p) _ m.1 in
+        let o = both (are_locks p c.work) _ n.1 in
+        let q = both (are_marks p) (are_turns p) o.1 in
+        record {
+          counters = c;
+          one = is;
+          counted = a.0;
+          tables = b.0;
+          spaces = d.0;
+          versions = f.0;
+          savepoints = g.0;
+          rows = k.0;
+          pieces = l.0;
+          hists = m.0;
+          touches = n.0;
+          locks = o.0;
+          marks = q.0;
+          turns = q.1;
+        }
 
 -- the rules hold where all of them do
 pub keeps_all : (p : Parts) (c : Counters) → p.counters ≡ c ∷ [] → are_counters c ≡ true → are_tables p.tables ≡ true → are_spaces p.spaces ≡ true → are_versions p c.next_version ≡ true
-    → are_savepoints p c.work ≡ true → are_rows p c.next_stamp ≡ true → are_pieces p c.next_stamp ≡ true → are_hists p c.next_stamp ≡ true → keep_rules p ≡ true
+    → are_savepoints p c.work ≡ true → are_rows p c.next_stamp ≡ true → are_pieces p c.next_stamp ≡ true → are_hists p c.next_stamp ≡ true → are_touches p ≡ true → are_locks p c.work ≡ true
+    → are_marks p ≡ true → are_turns p ≡ true → keep_rules p ≡ true
 unfolding keep_rules
-keeps_all p c one counters tables spaces versions savepoints rows pieces hists =
+keeps_all p c one counters tables spaces versions savepoints rows pieces hists touches locks marks turns =
     ap (keep_rules_with p) one
     ∙ and_true (are_counters c) _ counters
     (and_true (are_tables p.tables) _ tables
     (and_true (are_spaces p.spaces) _ spaces
     (and_true (are_versions p c.next_version) _ versions
-    (and_true (are_savepoints p c.work) _ savepoints (and_true (are_rows p c.next_stamp) _ rows (and_true (are_pieces p c.next_stamp) (are_hists p c.next_stamp) pieces hists))))))
+    (and_true (are_savepoints p c.work) _ savepoints
+    (and_true (are_rows p c.next_stamp) _ rows
+    (and_true (are_pieces p c.next_stamp) _ pieces
+    (and_true (are_hists p c.next_stamp) _ hists (and_true (are_touches p) _ touches (and_true (are_locks p c.work) _ locks (and_true (are_marks p) (are_turns p) marks turns))))))))))
 
 pub record RuledVersions (p : Parts) (next : ℕ) : Type 0 where
   pub numbers : numbers_differ p.versions

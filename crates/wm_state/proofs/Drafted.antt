@@ -1,8 +1,10 @@
 -- What the batches that make a table and make one ready make of the records.
-use Rattle.std.proofs.Common.{◌≡◌, ◌≢◌, ◌≤◌, ◌<◌, ℕ, ◌+◌, Bool, true, List, [], ◌∷◌, Some, refl, sym, ap, subst, ◌∙◌, arith}
+use Rattle.std.proofs.Common.{◌≡◌, ◌≢◌, ◌≤◌, ◌<◌, ℕ, ◌+◌, Bool, true, false, List, [], ◌∷◌, Some, refl, sym, ap, subst, ◌∙◌, arith}
 use Rattle.std.specs.Option.{option_map, unwrap_or}
+use Rattle.std.specs.declared.alloc.Global.{Global}
+use Rattle.std.specs.declared.vec.Vec.{Vec}
 use Rattle.wm_graph.specs.Parts.{parts_of}
-use Rattle.wm_graph.specs.Rules.{are_counters, keep_rules}
+use Rattle.wm_graph.specs.Rules.{are_counters, has_key, keep_rules}
 use Rattle.wm_spec.specs.Records.{AreChanges, ids_differ, record_at}
 use Rattle.wm_spec.specs.declared.record.Record.{Record}
 use Rattle.wm_spec.specs.declared.record.Record.TheVariants as records
@@ -18,6 +20,7 @@ use Rattle.wm_state.specs.Points.{moved}
 use Rattle.wm_state.specs.Standing.{TablesStand, FieldsStand, Stands, by_number}
 use Rattle.wm_state.specs.State.{Readiness, Durable, table_named}
 use Rattle.wm_state.specs.declared.edit.Edit.{Edit}
+use Rattle.wm_state.specs.declared.edit.NewEntry.{NewEntry}
 use Rattle.wm_state.specs.declared.edit.Edit.TheVariants as edits
 use Rattle.wm_state.proofs.ByKind.{under_found}
 use Rattle.wm_state.proofs.Counting.{counts_as, counts_in, moved_well, two_changes, work_grows}
@@ -37,6 +40,9 @@ none_changes : AreChanges []
 unfolding ids_differ
 none_changes = refl
 
+no_edit : (e : Edit) (es : List Edit) → [] ≡ e ∷ es → ⊥
+no_edit e es some = cc
+
 -- without edits nothing changes, whatever the work
 pub drafts_none : (work : ℕ) (rs : List Stored) (m : ℕ) → keep_rules (parts_of rs) ≡ true → DraftsBy work rs m [] []
 drafts_none work rs m rules = record {
@@ -48,7 +54,8 @@ drafts_none work rs m rules = record {
   kept = refl;
   counted = λ some. absurd (some refl);
   nothing = λ none. refl;
-  few = λ forks. record { count = omega arith; rows = refl; pieces = refl; hists = refl };
+  few = λ forks. record { count = omega arith; rest = refl };
+  spared = λ n entries some. absurd (no_edit _ [] some);
 }
 
 -- nor in a line
@@ -95,8 +102,12 @@ drafts_created rs m work t c counters_id id rules can_work can one there sorted 
   counted = λ some. counted_put rs work counters_id c (moved c m work) (create_batch counters_id (moved c m work) id t) sorted one once (first_change counters_id _ _) keeps refl;
   nothing = some_edit (edits.Create t) [] (create_batch counters_id (moved c m work) id t);
   few = λ forks. absurd (bool_apart (sym forks));
+  spared = λ n entries one_append. absurd (no_append n entries one_append);
 }
   where
+    no_append : (n : ℕ) (entries : Vec NewEntry Global) → edits.Create t ∷ [] ≡ edits.Append n entries ∷ [] → ⊥
+    no_append n entries e = cc
+
     below : (a b : ℕ) → a < b → a ≡ b → ⊥
     below a b lt e = omega (arith, lt, e)
 
@@ -118,15 +129,15 @@ enabled_so rs m name valid history t s st named = ap (λ o. unwrap_or (option_ma
 
 -- the batch makes of the records what its readiness makes of each state
 pub drafts_enabled : (rs : List Stored) (m work : ℕ) (name : List ℕ) (valid history : Bool) (t : Table) (c : Counters) (counters_id id : ℕ) → keep_rules (parts_of rs) ≡ true → CanWork (parts_of rs) m work
-    → table_named name (by_number (parts_of rs).tables) ≡ Some t → t.has_key ≡ true → (parts_of rs).counters ≡ c ∷ [] → record_at rs counters_id ≡ Some (records.Counters c) → record_at rs id ≡ Some (records.Table t) → Ascend rs
+    → table_named name (by_number (parts_of rs).tables) ≡ Some t → t.versioned ≡ false → has_key t ≡ true → (parts_of rs).counters ≡ c ∷ [] → record_at rs counters_id ≡ Some (records.Counters c) → record_at rs id ≡ Some (records.Table t) → Ascend rs
     → DraftsBy work rs m (edits.Enable name valid history ∷ []) (enable_batch counters_id (moved c m work) id (record { valid = valid; history = history }) t)
-drafts_enabled rs m work name valid history t c counters_id id rules can_work named key one there found sorted = record {
+drafts_enabled rs m work name valid history t c counters_id id rules can_work named off key one there found sorted = record {
   keeps = keeps;
   once = once;
   stands = λ s st.
       let counts = counts_as (parts_of rs) s c st one in
       subst (λ (u : Durable). Stands (parts_of (applied (enable_batch counters_id (moved c m work) id how t) rs)) (record u { last_moment = m; work = s.work + work })) (sym (enabled_so rs m name valid history t s st.tables named))
-      (plan_readied rs counters_id id c (moved c m work) how t s _ st sorted there one found key counts_well refl refl (work_grows c.work work) refl refl
+      (plan_readied rs counters_id id c (moved c m work) how t s _ st sorted there one found off key counts_well refl refl (work_grows c.work work) refl refl
       (λ front back. record { counters = moved c m work; one = refl; next_stamp = counts.next_stamp; last_moment = refl; limit = counts.limit; work = ap (λ w. w + work) counts.work }));
   fields = λ s st.
       let counts = counts_in (parts_of rs) s c st.counters one in
@@ -139,8 +150,12 @@ drafts_enabled rs m work name valid history t c counters_id id rules can_work na
   counted = λ some. counted_put rs work counters_id c (moved c m work) (enable_batch counters_id (moved c m work) id how t) sorted one once (first_change counters_id _ _) keeps refl;
   nothing = some_edit (edits.Enable name valid history) [] (enable_batch counters_id (moved c m work) id how t);
   few = λ forks. absurd (bool_apart (sym forks));
+  spared = λ n entries one_append. absurd (no_append n entries one_append);
 }
   where
+    no_append : (n : ℕ) (entries : Vec NewEntry Global) → edits.Enable name valid history ∷ [] ≡ edits.Append n entries ∷ [] → ⊥
+    no_append n entries e = cc
+
     how : Readiness
     how = record { valid = valid; history = history }
 

@@ -9,11 +9,12 @@ use Rattle.wm_spec.specs.declared.record.batch.Change.{Change}
 use Rattle.wm_spec.specs.declared.record.counters.Counters.{Counters}
 use Rattle.wm_spec.specs.declared.record.stored.Stored.{Stored}
 use Rattle.wm_state.specs.ById.{Ascend, applied}
-use Rattle.wm_state.specs.Drafts.{CanWork, DraftsBy, FewChanges, WorksOn, followed_by, is_fork, is_kept_change}
+use Rattle.wm_state.specs.Drafts.{CanWork, DraftsBy, FewChanges, ForksAlone, WorksOn, followed_by, is_fork, is_kept_change}
 use Rattle.wm_state.specs.Editing.{counter_limit, drafted_by}
 use Rattle.wm_state.specs.Standing.{FieldsStand, Stands}
 use Rattle.wm_state.specs.State.{Durable}
 use Rattle.wm_state.specs.declared.edit.Edit.{Edit}
+use Rattle.wm_state.specs.declared.edit.Edit.TheVariants as edits
 use Rattle.wm_state.proofs.EditedLater.{drafted_append}
 use Rattle.wm_state.proofs.Following.{AreChanges-followed, all_followed, applied_followed, length-followed}
 use Rattle.wm_state.proofs.Growing.{same_counters}
@@ -34,13 +35,17 @@ works_more p q r k l one two = record {
     summed : (middle before after end : ℕ) → middle ≡ after → after ≡ before + k → end ≡ middle + l → end ≡ before + (k + l)
     summed middle before after end same first last = omega (arith, same, first, last)
 
+-- what only forks change, behind what only forks change
+pub alone_more : (p q r : Parts) → ForksAlone p q → ForksAlone q r → ForksAlone p r
+alone_more p q r one two = ap (λ (z : Parts). record z { counters = p.counters; spaces = p.spaces; versions = p.versions; savepoints = p.savepoints; turns = p.turns }) two ∙ one
+
 -- few changes behind few
 few_more : (rs : List Stored) (most more : ℕ) (cs ds : List Change) → Ascend rs → FewChanges rs most cs → FewChanges (applied cs rs) more ds → FewChanges rs (most + more) (followed_by cs ds)
 few_more rs most more cs ds sorted one two = record {
   count = at_most (length (followed_by cs ds)) (length cs) (length ds) (length-followed cs ds) one.count two.count;
-  rows = ap (λ (ss : List Stored). (parts_of ss).rows) (applied_followed rs cs ds sorted) ∙ two.rows ∙ one.rows;
-  pieces = ap (λ (ss : List Stored). (parts_of ss).pieces) (applied_followed rs cs ds sorted) ∙ two.pieces ∙ one.pieces;
-  hists = ap (λ (ss : List Stored). (parts_of ss).hists) (applied_followed rs cs ds sorted) ∙ two.hists ∙ one.hists;
+  rest =
+      subst (λ (ss : List Stored). ForksAlone (parts_of rs) (parts_of ss)) (sym (applied_followed rs cs ds sorted))
+      (alone_more (parts_of rs) (parts_of (applied cs rs)) (parts_of (applied ds (applied cs rs))) one.rest two.rest);
 }
   where
     at_most : (n i j : ℕ) → n ≤ i + j → i ≤ most → j ≤ more → n ≤ most + more
@@ -83,8 +88,13 @@ drafts_followed rs k l m e (f ∷ fs) es cs ds sorted one some two = record {
   few = λ forks.
       let h = both (list_all is_fork (f ∷ fs)) (list_all is_fork (e ∷ es)) (sym (list_all-append is_fork (f ∷ fs) (e ∷ es)) ∙ forks) in
       few_each rs cs ds (f ∷ fs) (e ∷ es) sorted (one.few h.0) (two.few h.1);
+  spared = λ n entries alone. absurd (two_edits (edits.Append n entries) fs alone);
 }
   where
+    two_edits : (g : Edit) (gs : List Edit) → f ∷ gs ++ e ∷ es ≡ g ∷ [] → ⊥
+    two_edits g [] alone = cc
+    two_edits g (x ∷ gs) alone = cc
+
     same : applied (followed_by cs ds) rs ≡ applied ds (applied cs rs)
     same = applied_followed rs cs ds sorted
 

@@ -1,10 +1,10 @@
 -- The records with one table ready for rows.
-use Rattle.std.proofs.Common.{◌≡◌, ◌≢◌, ℕ, ◌≤◌, ◌==◌, nat_lt, nat_le, Bool, true, false, not, ◌&&◌, cond, if◌then◌else◌, List, [], ◌∷◌, ◌++◌, refl, sym, ap, ◌∙◌, ◌⊎◌, inl, inr, length, length-append}
+use Rattle.std.proofs.Common.{◌≡◌, ◌≢◌, ℕ, ◌≤◌, ◌==◌, nat_lt, nat_le, Bool, true, false, not, ◌&&◌, cond, if◌then◌else◌, List, [], ◌∷◌, ◌++◌, Some, refl, sym, ap, ◌∙◌, ◌⊎◌, inl, inr, length, length-append}
 use Rattle.std.proofs.lemmas.Bool.{cases_eq, eq-eqb, ne_eqb}
 use Rattle.std.specs.List.{list_all, list_any}
 use Rattle.std.specs.Str.{bytes_eq}
-use Rattle.wm_graph.specs.Parts.{Parts}
-use Rattle.wm_graph.specs.Rules.{keep_rules, are_counters, are_tables, is_table, are_versions, differ}
+use Rattle.wm_graph.specs.Parts.{Parts, table_of}
+use Rattle.wm_graph.specs.Rules.{keep_rules, are_counters, are_key_columns, are_tables, has_key, is_table, are_versions, differ}
 use Rattle.wm_spec.specs.declared.record.counters.Counters.{Counters}
 use Rattle.wm_spec.specs.declared.record.table.Table.{Table}
 use Rattle.wm_state.specs.State.{Durable, Readiness, enabled}
@@ -14,6 +14,8 @@ use Rattle.wm_state.proofs.Tests.{bool_apart, both, and_true, not_true, either_f
 use Rattle.wm_state.proofs.Apart.{Ruled, ruled, keeps_all}
 use Rattle.wm_state.proofs.Standing.{FieldsStand-retabled, Stands-retabled}
 use Rattle.wm_state.proofs.Keeping.{le_of, le_itself, KeepTables, KeepTables-swap, KeepSpaces-same, KeepVersions-same, KeepRows-same, are_savepoints-kept, are_rows-kept, are_pieces-kept, are_hists-kept, few-same}
+use Rattle.wm_state.proofs.KeepingTurns.{are_locks-kept, are_marks-kept, are_touches-kept}
+use Rattle.wm_state.proofs.Ready.{KeepReady-enabled, tables_found}
 
 -- the records with one table so ready, and other counters
 abbrev pub readied : Parts → Counters → List Table → Readiness → Table → List Table → Parts
@@ -21,13 +23,13 @@ readied p c front how t back = record p { counters = c ∷ []; tables = front ++
 
 -- ---- what the rules ask of tables
 
-table_ready : (how : Readiness) (t : Table) → t.has_key ≡ true → is_table t ≡ true → is_table (ready how t) ≡ true
+table_ready : (how : Readiness) (t : Table) → has_key t ≡ true → is_table t ≡ true → is_table (ready how t) ≡ true
 table_ready how t key e =
-    let h = both _ ((if t.has_key then nat_lt t.key_column (length t.columns) else true) && (if t.versioned then t.has_key else true)) e in
-    let g = both (if t.has_key then nat_lt t.key_column (length t.columns) else true) (if t.versioned then t.has_key else true) h.1 in
-    and_true _ ((if t.has_key then nat_lt t.key_column (length t.columns) else true) && t.has_key) h.0 (and_true (if t.has_key then nat_lt t.key_column (length t.columns) else true) t.has_key g.0 key)
+    let h = both _ (are_key_columns t && (if t.versioned then has_key t else true)) e in
+    let g = both (are_key_columns t) (if t.versioned then has_key t else true) h.1 in
+    and_true _ (are_key_columns t && has_key t) h.0 (and_true (are_key_columns t) (has_key t) g.0 key)
 
-tables_ready : (front back : List Table) (how : Readiness) (t : Table) → t.has_key ≡ true → are_tables (front ++ t ∷ back) ≡ true → are_tables (front ++ ready how t ∷ back) ≡ true
+tables_ready : (front back : List Table) (how : Readiness) (t : Table) → has_key t ≡ true → are_tables (front ++ t ∷ back) ≡ true → are_tables (front ++ ready how t ∷ back) ≡ true
 tables_ready front back how t key e =
     let h = both (nat_le (length (front ++ t ∷ back)) 256) (differ (λ (t u : Table). t.number == u.number) (front ++ t ∷ back) && (differ (λ (t u : Table). bytes_eq t.name u.name) (front ++ t ∷ back) && list_all is_table (front ++ t ∷ back))) e in
     let g = both (differ (λ (t u : Table). t.number == u.number) (front ++ t ∷ back)) (differ (λ (t u : Table). bytes_eq t.name u.name) (front ++ t ∷ back) && list_all is_table (front ++ t ∷ back)) h.1 in
@@ -38,7 +40,7 @@ tables_ready front back how t key e =
     (differ_swap (λ (t u : Table). bytes_eq t.name u.name) t (ready how t) (λ x. refl) (λ x. refl) front back ∙ k.0)
     (all_swap is_table is_table t (ready how t) front back (λ x is. is) (table_ready how t key (all_middle is_table t front back k.1)) k.1)))
 
-pub keep-readied : (p : Parts) (new : Counters) (front : List Table) (how : Readiness) (t : Table) (back : List Table) → keep_rules p ≡ true → p.tables ≡ front ++ t ∷ back → t.has_key ≡ true → are_counters new ≡ true
+pub keep-readied : (p : Parts) (new : Counters) (front : List Table) (how : Readiness) (t : Table) (back : List Table) → keep_rules p ≡ true → p.tables ≡ front ++ t ∷ back → has_key t ≡ true → are_counters new ≡ true
     → ((c : Counters) → p.counters ≡ c ∷ [] → (new.next_version ≡ c.next_version) × (new.next_stamp ≡ c.next_stamp) × (c.work ≤ new.work)) → keep_rules (readied p new front how t back) ≡ true
 keep-readied p new front how t back rules old key counted same = keeps_all q new refl counted
     (tables_ready front back how t key (ap are_tables (sym old) ∙ r.tables))
@@ -48,6 +50,10 @@ keep-readied p new front how t back rules old key counted same = keeps_all q new
     (are_rows-kept p q r.counters.next_stamp new.next_stamp stamps tables refl r.rows)
     (are_pieces-kept p q r.counters.next_stamp new.next_stamp stamps tables (KeepVersions-same p q refl) (KeepRows-same p q refl) refl r.pieces)
     (are_hists-kept p q r.counters.next_stamp new.next_stamp stamps tables (KeepSpaces-same p q refl) (KeepRows-same p q refl) refl r.hists)
+    (are_touches-kept p q tables (KeepSpaces-same p q refl) refl r.touches)
+    (are_locks-kept p q r.counters.work new.work (le_of r.counters.work new.work c.2) tables (KeepSpaces-same p q refl) refl r.locks)
+    (are_marks-kept p q tables (KeepSpaces-same p q refl) refl r.marks)
+    r.turns
   where
     q : Parts
     q = readied p new front how t back
@@ -59,7 +65,7 @@ keep-readied p new front how t back rules old key counted same = keeps_all q new
     c = same r.counters r.one
 
     tables : KeepTables p q
-    tables = KeepTables-swap p q front back t (ready how t) refl refl refl refl old refl
+    tables = KeepTables-swap p q front back t (ready how t) refl refl refl old refl
 
     stamps : nat_le r.counters.next_stamp new.next_stamp ≡ true
     stamps = ap (nat_le r.counters.next_stamp) c.1 ∙ le_itself r.counters.next_stamp
@@ -136,26 +142,38 @@ sorted-ready how t [] back before behind = enabled-here how t (by_number back) (
 sorted-ready how t (y ∷ front) back before behind =
     ap (place_table y) (sorted-ready how t front back before.1 behind) ∙ enabled-away t.number how y (by_number (front ++ t ∷ back)) before.0
 
+-- the table is the only one of its number
+alone_of : (p : Parts) (front back : List Table) (t : Table) → keep_rules p ≡ true → p.tables ≡ front ++ t ∷ back → AreOthers t.number front back
+alone_of p front back t rules old =
+    let rule = ruled p rules in
+    let h = both (nat_le (length p.tables) 256) (differ (λ (t u : Table). t.number == u.number) p.tables && (differ (λ (t u : Table). bytes_eq t.name u.name) p.tables && list_all is_table p.tables)) rule.tables in
+    let g = both (differ (λ (t u : Table). t.number == u.number) p.tables) (differ (λ (t u : Table). bytes_eq t.name u.name) p.tables && list_all is_table p.tables) h.1 in
+    others_of t front back (ap (differ (λ (t u : Table). t.number == u.number)) (sym old) ∙ g.0)
+
+-- so it is found
+found_in : (front back : List Table) (t : Table) → is_other t.number front → table_of (front ++ t ∷ back) t.number ≡ Some t
+found_in [] back t before = rw (eq-eqb t.number t.number refl) refl
+found_in (u ∷ front) back t before = rw (ne_eqb _ _ before.0) (found_in front back t before.1)
+
 -- the records agree with the state whose table is ready
 tables_readied : (p : Parts) (new : Counters) (front : List Table) (how : Readiness) (t : Table) (back : List Table) (s u : Durable) → keep_rules p ≡ true → TablesStand p s → p.tables ≡ front ++ t ∷ back
     → u.tables ≡ enabled t.number how s.tables → TablesStand (readied p new front how t back) u
 tables_readied p new front how t back s u rules st old tables =
-    let rule = ruled p rules in
-    let h = both (nat_le (length p.tables) 256) (differ (λ (t u : Table). t.number == u.number) p.tables && (differ (λ (t u : Table). bytes_eq t.name u.name) p.tables && list_all is_table p.tables)) rule.tables in
-    let g = both (differ (λ (t u : Table). t.number == u.number) p.tables) (differ (λ (t u : Table). bytes_eq t.name u.name) p.tables && list_all is_table p.tables) h.1 in
-    let others = others_of t front back (ap (differ (λ (t u : Table). t.number == u.number)) (sym old) ∙ g.0) in
+    let others = alone_of p front back t rules old in
     record { same = sorted-ready how t front back others.before others.behind ∙ ap (enabled t.number how) (ap by_number (sym old) ∙ st.same) ∙ sym tables }
 
 pub FieldsStand-readied : (p : Parts) (new : Counters) (front : List Table) (how : Readiness) (t : Table) (back : List Table) (s u : Durable) → keep_rules p ≡ true → FieldsStand p s → p.tables ≡ front ++ t ∷ back → u.spaces ≡ s.spaces
     → u.tables ≡ enabled t.number how s.tables → CountersStand (readied p new front how t back) u → FieldsStand (readied p new front how t back) u
 FieldsStand-readied p new front how t back s u rules st old spaces tables counters =
-    FieldsStand-retabled p (readied p new front how t back) s u (record { spaces = refl; versions = refl; savepoints = refl; rows = refl; pieces = refl; hists = refl }) st spaces
-    (tables_readied p new front how t back s u rules st.tables old tables) counters
+    FieldsStand-retabled p (readied p new front how t back) s u (record { rest = refl }) spaces st (tables_readied p new front how t back s u rules st.tables old tables) counters
 
--- and stand for it
-pub Stands-readied : (p : Parts) (new : Counters) (front : List Table) (how : Readiness) (t : Table) (back : List Table) (s u : Durable) → Stands p s → p.tables ≡ front ++ t ∷ back → t.has_key ≡ true → are_counters new ≡ true
+-- and stand for it, where the table was not ready before
+pub Stands-readied : (p : Parts) (new : Counters) (front : List Table) (how : Readiness) (t : Table) (back : List Table) (s u : Durable) → Stands p s → p.tables ≡ front ++ t ∷ back → t.versioned ≡ false → has_key t ≡ true → are_counters new ≡ true
     → ((c : Counters) → p.counters ≡ c ∷ [] → (new.next_version ≡ c.next_version) × (new.next_stamp ≡ c.next_stamp) × (c.work ≤ new.work)) → u.spaces ≡ s.spaces → u.tables ≡ enabled t.number how s.tables
     → CountersStand (readied p new front how t back) u → Stands (readied p new front how t back) u
-Stands-readied p new front how t back s u st old key counted same spaces tables counters =
-    Stands-retabled p (readied p new front how t back) s u (record { spaces = refl; versions = refl; savepoints = refl; rows = refl; pieces = refl; hists = refl }) st spaces
-    (tables_readied p new front how t back s u st.rules st.tables old tables) counters (keep-readied p new front how t back st.rules old key counted same)
+Stands-readied p new front how t back s u st old off key counted same spaces tables counters =
+    Stands-retabled p (readied p new front how t back) s u (record { rest = refl }) spaces st (tables_readied p new front how t back s u st.rules st.tables old tables) counters
+    (keep-readied p new front how t back st.rules old key counted same)
+    (KeepReady-enabled s.tables u.tables how t
+    (tables_found p s st.tables t.number ∙ ap (λ ts. table_of ts t.number) old ∙ found_in front back t (alone_of p front back t st.rules old).before)
+    off tables)

@@ -57,6 +57,7 @@ workspace_for p r = record {
   freeze = r.freeze;
   writer = r.writer;
   savepoints = map savepoint_for (saved_in p r.number);
+  turns = [];
 }
 
 -- a state of such workspaces

@@ -1,24 +1,27 @@
 -- A workspace gets a version more, with nothing in it, under its newest one.
-use Rattle.std.proofs.Common.{◌≡◌, ◌≢◌, ℕ, ◌<◌, ◌==◌, Bool, true, false, cond, List, [], ◌∷◌, Option, Some, None, is_some, refl, sym, ap, subst, ◌∙◌, ◌⊎◌, inl, inr, arith}
+use Rattle.std.proofs.Common.{◌≡◌, ◌≢◌, ℕ, ◌<◌, ◌==◌, Bool, true, false, cond, List, [], ◌∷◌, Option, Some, None, is_some, refl, sym, ap, ◌∙◌, ◌⊎◌, inl, inr, ⊎_elim, arith}
 use Rattle.std.proofs.lemmas.Bool.{cases_eq, eq-eqb, ne_eqb}
-use Rattle.wm_graph.specs.Parts.{Parts, space_of, version_of, row_of}
-use Rattle.wm_graph.specs.Rules.{keep_rules, is_version_of}
+use Rattle.wm_graph.specs.Parts.{Parts, space_of}
+use Rattle.wm_graph.specs.Rules.{keep_rules}
 use Rattle.wm_period.specs.Pieces.{Held}
 use Rattle.wm_spec.specs.Lists.{Entry, Cell}
 use Rattle.wm_spec.specs.declared.record.piece.PieceRecord.{PieceRecord}
-use Rattle.wm_spec.specs.declared.record.savepoint.Savepoint.{Savepoint}
 use Rattle.wm_spec.specs.declared.record.space.Space.{Space}
 use Rattle.wm_tree.specs.Versions.{latest_in, AllBelow}
 use Rattle.wm_tree.specs.declared.version.Version.{Version as Node}
 use Rattle.wm_state.specs.State.{Durable, Workspace, content, workspace_of, savepoints_of, log_of}
-use Rattle.wm_state.specs.Standing.{stored_at, seen_at, own_at, newest_first, latest, shown, owned, seen, seen_above, saved_as, Climbs, CountersStand, FieldsStand, Stands, by_number, is_above, have_ends}
+use Rattle.wm_state.specs.Standing.{stored_at, seen_at, own_at, newest_first, latest, seen, by_number, is_above, have_ends, Names, Newest, Tells, NamedStand, Owns, Own, Covers, OwnsStand, SpacesStand, CountersStand, FieldsStand, Stands}
 use Rattle.wm_state.specs.Effects.{Forked, node_under}
-use Rattle.wm_state.proofs.Frames.{Framed, KeepRows, fields_stand, OnceStand-same, HasRows-kept, SavepointsStand-same, KeptStand-framed, KeptOwnStand-framed, BasesStand-framed, RowsStand-framed, EndsStand-framed}
-use Rattle.wm_state.proofs.Climbing.{ordered_of, carried, carries-more, stays-same, Climbs-sprout, PathsStand-framed}
 use Rattle.wm_state.proofs.Above.{ends-beside, ends-under, pieces_lower}
+use Rattle.wm_state.proofs.Climbing.{ordered_of}
 use Rattle.wm_state.proofs.Ending.{all_end}
-use Rattle.wm_state.proofs.Logging.{HistsStand-frame, logs-kept}
-use Rattle.wm_state.proofs.Named.{saved_there, saved_base_there, bases_there, version_there, version_below}
+use Rattle.wm_state.proofs.Frames.{KeepRows, fields_stand, HasRows-kept, OnceStand-same, SavepointsStand-same}
+use Rattle.wm_state.proofs.Keeping.{KeepRows-same}
+use Rattle.wm_state.proofs.Logging.{HistsStand-frame}
+use Rattle.wm_state.proofs.Named.{version_below}
+use Rattle.wm_state.proofs.Naming.{Carries, Climbs-sprout, Covers-as, Framed, IsKeptOwn, IsMarked, IsNewest, IsNewestOwn, NamedStand-kept, Named-as, Owned-as, OwnsStand-kept, Tells-as, WasNamed, carries-more, climbs_kept, framed_same, named_framed, own_there, owns_framed, past_framed, stays-same, there_of}
+use Rattle.wm_state.proofs.Ready.{KeepReady, KeepReady-same}
+use Rattle.wm_state.proofs.Staying.{EntriesStand-same, LaterStand-same, RowsStand-alike, SameTurns, SameTurns-same, TouchesStand-same, TurnsStand-alike}
 
 -- the newest version of a workspace is below what all versions are below
 pub latest-below : (n : ℕ) (nodes : List Node) (m : ℕ) → 0 < n → AllBelow n nodes → latest_in nodes m < n
@@ -56,95 +59,131 @@ pub own-under : (pieces : List PieceRecord) (x : Node) (older : List Node) (base
     → own_at pieces (x ∷ older) base x.number c ≡ own_at pieces older base x.parent c
 own-under pieces x older base c above empty = rw (above, eq-eqb x.number x.number refl, empty) refl
 
--- ---- the newest version of each workspace
+-- ---- what becomes of versions
 
--- a workspace sees what it saw
-shown-forked : (p q : Parts) (n number : ℕ) → Forked p q n number → (m : ℕ) (c : Cell) → shown q m c ≡ shown p m c
-shown-forked p q n number f m c =
-    ap (λ nodes. seen_at q.pieces nodes (latest_in nodes m) c) f.versions
-    ∙ ap (λ pieces. seen_at pieces (node_under p n number ∷ newest_first p.versions) (cond (n == m) number (latest p m)) c) f.pieces
-    ∙ by_space (cases_eq n m)
-  where
-    by_space : (n ≡ m) ⊎ (n ≢ m) → seen_at p.pieces (node_under p n number ∷ newest_first p.versions) (cond (n == m) number (latest p m)) c ≡ shown p m c
-    by_space (inl same) = rw (sym same, eq-eqb n n refl) (seen-under p.pieces (node_under p n number) (newest_first p.versions) c (f.empty c))
-    by_space (inr other) = rw (ne_eqb n m other) (seen-beside p.pieces (node_under p n number) (newest_first p.versions) (latest p m) c (latest-below number (newest_first p.versions) m f.some f.below))
+module _ (p q : Parts) (n number : ℕ) (f : Forked p q n number) where
+  pieces : q.pieces ≡ p.pieces
+  pieces = ap (λ (z : Parts). z.pieces) f.rest
 
--- and has above its base what it had
-owned-forked : (p q : Parts) (n number : ℕ) → Forked p q n number → (m : ℕ) (r : Space) → space_of p.spaces m ≡ Some r → (c : Cell) → owned q r.base_version m c ≡ owned p r.base_version m c
-owned-forked p q n number f m r found c =
-    ap (λ nodes. own_at q.pieces nodes r.base_version (latest_in nodes m) c) f.versions
-    ∙ ap (λ pieces. own_at pieces (node_under p n number ∷ newest_first p.versions) r.base_version (cond (n == m) number (latest p m)) c) f.pieces
-    ∙ by_space (cases_eq n m)
-  where
-    by_space : (n ≡ m) ⊎ (n ≢ m) → own_at p.pieces (node_under p n number ∷ newest_first p.versions) r.base_version (cond (n == m) number (latest p m)) c ≡ owned p r.base_version m c
-    by_space (inl same) =
-        rw (sym same, eq-eqb n n refl) (own-under p.pieces (node_under p n number) (newest_first p.versions) r.base_version c (f.above r (ap (space_of p.spaces) same ∙ found)) (f.empty c))
-    by_space (inr other) =
-        rw (ne_eqb n m other) (own-beside p.pieces (node_under p n number) (newest_first p.versions) r.base_version (latest p m) c (latest-below number (newest_first p.versions) m f.some f.below))
+  -- the newest version of the workspace is the new one, and that of another is the one of before
+  latest_here : (m : ℕ) → n ≡ m → latest q m ≡ number
+  latest_here m same = ap (λ nodes. latest_in nodes m) f.versions ∙ ap (λ b. cond b number (latest p m)) (eq-eqb n m same)
 
--- a version of before sees what it saw
-seen-forked : (p q : Parts) (n number : ℕ) → Forked p q n number → (v : ℕ) → v < number → (c : Cell) → seen q v c ≡ seen p v c
-seen-forked p q n number f v lt c =
-    ap (λ nodes. seen_at q.pieces nodes v c) f.versions
-    ∙ ap (λ pieces. seen_at pieces (node_under p n number ∷ newest_first p.versions) v c) f.pieces
-    ∙ seen-beside p.pieces (node_under p n number) (newest_first p.versions) v c lt
+  latest_away : (m : ℕ) → n ≢ m → latest q m ≡ latest p m
+  latest_away m other = ap (λ nodes. latest_in nodes m) f.versions ∙ ap (λ b. cond b number (latest p m)) (ne_eqb n m other)
 
-above-forked : (p q : Parts) (n number : ℕ) → Forked p q n number → (base v : ℕ) → v < number → (c : Cell) → seen_above q base v c ≡ seen_above p base v c
-above-forked p q n number f base v lt c =
-    ap (λ nodes. own_at q.pieces nodes base v c) f.versions
-    ∙ ap (λ pieces. own_at pieces (node_under p n number ∷ newest_first p.versions) base v c) f.pieces
-    ∙ own-beside p.pieces (node_under p n number) (newest_first p.versions) base v c lt
+  -- a version of before sees what it saw
+  seen_beside : (v : ℕ) → v < number → (c : Cell) → seen q v c ≡ seen p v c
+  seen_beside v lt c =
+      ap (λ nodes. seen_at q.pieces nodes v c) f.versions ∙ ap (λ xs. seen_at xs (node_under p n number ∷ newest_first p.versions) v c) pieces ∙ seen-beside p.pieces (node_under p n number) (newest_first p.versions) v c lt
 
--- and what stands on its path ends where it did
-ends-in : (p q : Parts) (n number : ℕ) → Forked p q n number → (base v : ℕ) (es : List Entry) → have_ends q base v es ≡ all_end (is_above (node_under p n number ∷ newest_first p.versions) base v) es p.pieces
-ends-in p q n number f base v es = ap (λ nodes. all_end (is_above nodes base v) es q.pieces) f.versions ∙ ap (all_end (is_above (node_under p n number ∷ newest_first p.versions) base v) es) f.pieces
+  -- what stands on its path
+  ends_in : (base v : ℕ) (es : List Entry) → have_ends q base v es ≡ all_end (is_above (node_under p n number ∷ newest_first p.versions) base v) es p.pieces
+  ends_in base v es = ap (λ nodes. all_end (is_above nodes base v) es q.pieces) f.versions ∙ ap (all_end (is_above (node_under p n number ∷ newest_first p.versions) base v) es) pieces
 
-ends-forked : (p q : Parts) (n number : ℕ) → Forked p q n number → keep_rules p ≡ true → (base v : ℕ) → v < number → (es : List Entry) → have_ends p base v es ≡ true → have_ends q base v es ≡ true
-ends-forked p q n number f rules base v lt es e = ends-in p q n number f base v es ∙ ends-beside (node_under p n number) (newest_first p.versions) base v es p.pieces lt (pieces_lower p rules number f.below) e
+  -- and covers what it covered
+  covers_beside : keep_rules p ≡ true → (base v : ℕ) (es : List Entry) → v < number → Covers p base v es → Covers q base v es
+  covers_beside rules base v es lt h = record {
+    cells = λ c.
+        ap is_some
+        (ap (λ nodes. own_at q.pieces nodes base v c) f.versions
+        ∙ ap (λ xs. own_at xs (node_under p n number ∷ newest_first p.versions) base v c) pieces
+        ∙ own-beside p.pieces (node_under p n number) (newest_first p.versions) base v c lt)
+        ∙ h.cells c;
+    ends = ends_in base v es ∙ ends-beside (node_under p n number) (newest_first p.versions) base v es p.pieces lt (pieces_lower p rules number f.below) h.ends;
+  }
 
--- so it is on the path of the newest version of each workspace
-own-ends-forked : (p q : Parts) (n number : ℕ) → Forked p q n number → keep_rules p ≡ true → (m : ℕ) (r : Space) → space_of p.spaces m ≡ Some r → (es : List Entry)
-    → have_ends p r.base_version (latest p m) es ≡ true → have_ends q r.base_version (latest q m) es ≡ true
-own-ends-forked p q n number f rules m r found es e = ap (λ nodes. have_ends q r.base_version (latest_in nodes m) es) f.versions ∙ by_space (cases_eq n m)
-  where
-    by_space : (n ≡ m) ⊎ (n ≢ m) → have_ends q r.base_version (cond (n == m) number (latest p m)) es ≡ true
-    by_space (inl same) =
-        ap (λ b. have_ends q r.base_version (cond b number (latest p m)) es) (eq-eqb _ _ same)
-        ∙ ends-in p q n number f r.base_version number es
-        ∙ ends-under (node_under p n number) (newest_first p.versions) r.base_version es p.pieces (f.above r (ap (space_of p.spaces) same ∙ found)) (pieces_lower p rules number f.below)
-        (ap (λ k. have_ends p r.base_version (latest p k) es) same ∙ e)
-    by_space (inr other) =
-        ap (λ b. have_ends q r.base_version (cond b number (latest p m)) es) (ne_eqb _ _ other)
-        ∙ ends-forked p q n number f rules r.base_version (latest p m) (latest-below number (newest_first p.versions) m f.some f.below) es e
+  -- so does the new one with what the newest one saw and covered
+  seen_under : (c : Cell) → seen q number c ≡ seen p (latest p n) c
+  seen_under c =
+      ap (λ nodes. seen_at q.pieces nodes number c) f.versions
+      ∙ ap (λ xs. seen_at xs (node_under p n number ∷ newest_first p.versions) number c) pieces
+      ∙ seen-under p.pieces (node_under p n number) (newest_first p.versions) c (f.empty c)
 
--- all versions that are named are of before
-framed_forked : (p q : Parts) (s t : Durable) (n number : ℕ) → Forked p q n number → keep_rules p ≡ true → t.spaces ≡ s.spaces → Framed p q s t
-framed_forked p q s t n number f rules spaces = record {
-  savepoints = f.savepoints;
-  still = λ m w is. record { old = w; is = ap (λ ws. workspace_of ws m) (sym spaces) ∙ is; parent = refl; savepoints = refl; rebases = refl; at_birth = refl; base = refl };
-  names = λ m r recorded. record { old = r; is = ap (λ ss. space_of ss m) (sym f.spaces) ∙ recorded; birth = refl; base = refl };
-  sees = λ m making x found c. seen-forked p q n number f x.version (saved m making x found) c;
-  has = λ m making x found c. above-forked p q n number f x.base_version x.version (saved m making x found) c;
-  under = λ m making x some found. seen-forked p q n number f x.base_version (version_below p rules number f.below x.base_version (saved_base_there p rules m making x some found));
-  births = λ m r some is. seen-forked p q n number f r.birth_version (below r.birth_version r.parent (bases_there p rules m r some is).birth);
-  bases = λ m r some is. seen-forked p q n number f r.base_version (below r.base_version r.parent (bases_there p rules m r some is).base);
-  ends = λ m making x found. ends-forked p q n number f rules x.base_version x.version (saved m making x found);
-}
-  where
-    below : (v space : ℕ) → is_version_of (version_of p.versions) v space ≡ true → v < number
-    below v space there = version_below p rules number f.below v (version_there (version_of p.versions) v space there)
+  covers_under : keep_rules p ≡ true → (r : Space) → space_of p.spaces n ≡ Some r → (es : List Entry) → Covers p r.base_version (latest p n) es → Covers q r.base_version number es
+  covers_under rules r found es h = record {
+    cells = λ c.
+        ap is_some
+        (ap (λ nodes. own_at q.pieces nodes r.base_version number c) f.versions
+        ∙ ap (λ xs. own_at xs (node_under p n number ∷ newest_first p.versions) r.base_version number c) pieces
+        ∙ own-under p.pieces (node_under p n number) (newest_first p.versions) r.base_version c (f.above r found) (f.empty c))
+        ∙ h.cells c;
+    ends = ends_in r.base_version number es ∙ ends-under (node_under p n number) (newest_first p.versions) r.base_version es p.pieces (f.above r found) (pieces_lower p rules number f.below) h.ends;
+  }
 
-    saved : (m making : ℕ) (x : Savepoint) → saved_as p m making ≡ Some x → x.version < number
-    saved m making x found = below x.version m (saved_there p rules m making x found).version
+-- ---- what is named and what is own
+
+module _ (p q : Parts) (s t : Durable) (n number : ℕ) (f : Forked p q n number) (rules : keep_rules p ≡ true) (there : SpacesStand p s) (spaces : t.spaces ≡ s.spaces) where
+  framed : Framed p q s t
+  framed = framed_same p q s t (ap (λ (z : Parts). z.savepoints) f.rest) (ap (λ (z : Parts). z.spaces) f.rest) spaces
+
+  rows : KeepRows p q
+  rows = KeepRows-same p q (ap (λ (z : Parts). z.rows) f.rest)
+
+  carries : Carries p q s.spaces t.spaces
+  carries = carries-more p q s.spaces t.spaces (node_under p n number) rules f.versions f.below (λ v c lt. seen_beside p q n number f v lt c) (stays-same s.spaces t.spaces spaces) rows
+
+  was_there : (m : ℕ) (w : Workspace) → workspace_of t.spaces m ≡ Some w → workspace_of s.spaces m ≡ Some w
+  was_there m w is = ap (λ ws. workspace_of ws m) (sym spaces) ∙ is
+
+  -- a version that was named sees what it saw
+  was_named : (v m r : ℕ) (es : List Entry) → Names p s v m r es → WasNamed p q s v m r es
+  was_named v m r es named = record { named = named; sees = seen_beside p q n number f v (version_below p rules number f.below v (there_of p s rules there v m r es named)) }
+
+  pub NamedStand-forked : NamedStand p s → NamedStand q t
+  NamedStand-forked named = NamedStand-kept p q s t rules there named carries (λ v m r es x. ⊎_elim
+      (λ (h : IsMarked p s v m r es). inl (was_named v m r es h.named))
+      (λ (h : IsNewest q t v m r es). newest v m r es h (cases_eq n m))
+      (named_framed p q s t framed v m r es x))
+    where
+      -- the new version is led up from the newest one, and tells what that one told
+      grown : (w : Workspace) → workspace_of s.spaces n ≡ Some w → Tells q t.spaces number n w.rebases (content w)
+      grown w found = let name = Newest w found in record {
+        holds = λ c. seen_under p q n number f c ∙ (named.tells _ _ _ _ name).holds c;
+        climbs = Climbs-sprout q t.spaces (node_under p n number) (newest_first p.versions) w.rebases f.versions (latest-below number (newest_first p.versions) n f.some f.below)
+            (λ m v some is. (ordered_of p s rules there).lower m v some (was_there m v is))
+            (climbs_kept p q s t rules there named carries _ _ _ _ name);
+        rows = HasRows-kept p q rows (content w) (named.tells _ _ _ _ name).rows;
+      }
+
+      newest : (v m r : ℕ) (es : List Entry) → IsNewest q t v m r es → (n ≡ m) ⊎ (n ≢ m) → WasNamed p q s v m r es ⊎ Tells q t.spaces v m r es
+      newest v m r es h (inl same) =
+          inr (Tells-as q t.spaces v m r es _ _ _ _ (h.version ∙ latest_here p q n number f m same) (sym same) h.rebases h.content (grown h.now (ap (workspace_of s.spaces) same ∙ was_there m h.now h.is)))
+      newest v m r es h (inr other) =
+          inl (was_named v m r es (Named-as p s v m r es _ _ _ _ (h.version ∙ latest_away p q n number f m other) refl h.rebases h.content (Newest h.now (was_there m h.now h.is))))
+
+  pub OwnsStand-forked : OwnsStand p s → OwnsStand q t
+  OwnsStand-forked owns = OwnsStand-kept p q s t owns
+      (λ base version es x. ⊎_elim
+      (λ (h : IsKeptOwn p s base version es). inl (was_own base version es h.owned))
+      (λ (h : IsNewestOwn p q t base version es). newest base version es h (cases_eq n h.number))
+      (owns_framed p q s t framed base version es x))
+      (past_framed p q s t framed owns)
+    where
+      was_own : (base version : ℕ) (es : List Entry) → Owns p s base version es → Owns p s base version es × (Covers p base version es → Covers q base version es)
+      was_own base version es own = (own, covers_beside p q n number f rules base version es (version_below p rules number f.below version (own_there p s rules there base version es own)))
+
+      newest : (base version : ℕ) (es : List Entry) → (h : IsNewestOwn p q t base version es) → (n ≡ h.number) ⊎ (n ≢ h.number)
+          → (Owns p s base version es × (Covers p base version es → Covers q base version es)) ⊎ Covers q base version es
+      newest base version es h (inl same) =
+          let found : space_of p.spaces n ≡ Some h.old = ap (space_of p.spaces) same ∙ h.recorded in
+          inr (Covers-as q base version es _ _ _ h.under (h.over ∙ latest_here p q n number f h.number same) h.own
+          (covers_under p q n number f rules h.old found h.now.lists.own
+          (owns.covers _ _ _ (Own n h.now h.old (ap (workspace_of s.spaces) same ∙ was_there h.number h.now h.is) found))))
+      newest base version es h (inr other) =
+          inl (was_own base version es
+          (Owned-as p s base version es _ _ _ h.under (h.over ∙ latest_away p q n number f h.number other) h.own (Own h.number h.now h.old (was_there h.number h.now h.is) h.recorded)))
+
+-- ---- all clauses
 
 -- the records agree with what they agreed with, with counters of their own
 pub FieldsStand-forked : (p q : Parts) (s t : Durable) (n number : ℕ) → Forked p q n number → FieldsStand p s → t.spaces ≡ s.spaces → t.tables ≡ s.tables → CountersStand q t → FieldsStand q t
 FieldsStand-forked p q s t n number f st spaces tables counters = record {
   counters = counters;
-  tables = record { same = ap by_number f.tables ∙ st.tables.same ∙ sym tables };
-  spaces = record { same = λ m. rw (f.spaces, spaces) (st.spaces.same m) };
-  once = OnceStand-same p q s t f.spaces spaces st.once;
-  savepoints = SavepointsStand-same p q s t f.savepoints (λ m. ap (λ ws. savepoints_of ws m) spaces) st.savepoints;
+  tables = record { same = ap (λ (z : Parts). by_number z.tables) f.rest ∙ st.tables.same ∙ sym tables };
+  spaces = record { same = λ m. rw (ap (λ (z : Parts). z.spaces) f.rest, spaces) (st.spaces.same m) };
+  once = OnceStand-same p q s t (ap (λ (z : Parts). z.spaces) f.rest) spaces st.once;
+  savepoints = SavepointsStand-same p q s t (ap (λ (z : Parts). z.savepoints) f.rest) (λ m. ap (λ ws. savepoints_of ws m) spaces) st.savepoints;
 }
 
 -- the records stand for what they stood for, with counters of their own
@@ -155,51 +194,25 @@ Stands-forked p q s t n number f st spaces tables counters rules = record {
   tables = fields.tables;
   spaces = fields.spaces;
   once = fields.once;
-  latest = record { told = λ m w is c. shown-forked p q n number f m c ∙ st.latest.told m w (ap (λ ws. workspace_of ws m) (sym spaces) ∙ is) c };
-  own = record {
-    covered = λ m w r is recorded c.
-        let before : space_of p.spaces m ≡ Some r = ap (λ ss. space_of ss m) (sym f.spaces) ∙ recorded in
-        ap is_some (owned-forked p q n number f m r before c) ∙ st.own.covered m w r (ap (λ ws. workspace_of ws m) (sym spaces) ∙ is) before c;
-  };
   savepoints = fields.savepoints;
-  kept = KeptStand-framed p q s t framed st.kept;
-  kept_own = KeptOwnStand-framed p q s t framed st.kept_own;
-  bases = BasesStand-framed p q s t framed st.bases;
-  paths = PathsStand-framed p q s t framed
-      (carried p q s t.spaces st.rules st.spaces
-      (carries-more p q s.spaces t.spaces (node_under p n number) st.rules f.versions f.below (λ v c lt. seen-forked p q n number f v lt c) (stays-same s.spaces t.spaces spaces)) st.paths)
-      (λ m w is climbs. newest_climbs m climbs (cases_eq n m));
-  ends = EndsStand-framed p q s t framed
-      (λ m w r is recorded.
-      let before : space_of p.spaces m ≡ Some r = ap (λ ss. space_of ss m) (sym f.spaces) ∙ recorded in
-      own-ends-forked p q n number f st.rules m r before w.lists.own (st.ends.own m w r (ap (λ ws. workspace_of ws m) (sym spaces) ∙ is) before))
-      st.ends;
-  rows = RowsStand-framed p q s t framed rows (λ m w is. HasRows-kept p q rows (content w) (st.rows.there m w (ap (λ ws. workspace_of ws m) (sym spaces) ∙ is))) (logs-kept p q s t rows logs st.rows.logs)
-      st.rows;
-  hists = HistsStand-frame p q s t f.hists logs st.hists;
+  named = NamedStand-forked p q s t n number f st.rules st.spaces spaces st.named;
+  owns = OwnsStand-forked p q s t n number f st.rules st.spaces spaces st.owns;
+  turns = TurnsStand-alike p q s t (ap (λ (z : Parts). z.turns) f.rest) alike st.turns;
+  touches = TouchesStand-same p q s t (ap (λ (z : Parts). z.touches) f.rest) spaces st.touches;
+  later = LaterStand-same p q (ap (λ (z : Parts). z.locks) f.rest) (ap (λ (z : Parts). z.marks) f.rest) st.later;
+  hists = HistsStand-frame p q s t (ap (λ (z : Parts). z.hists) f.rest) logs ready st.entries st.hists;
+  entries = EntriesStand-same s t ready spaces st.entries;
+  rows = RowsStand-alike p q s t (KeepRows-same p q (ap (λ (z : Parts). z.rows) f.rest)) ready logs alike st.entries st.rows;
 }
   where
     fields : FieldsStand q t
     fields = FieldsStand-forked p q s t n number f (fields_stand p s st) spaces tables counters
 
-    framed : Framed p q s t
-    framed = framed_forked p q s t n number f st.rules spaces
+    ready : KeepReady s.tables t.tables
+    ready = KeepReady-same s.tables t.tables tables
 
-    rows : KeepRows p q
-    rows stamp x found = ap (λ rs. row_of rs stamp) f.rows ∙ found
+    alike : SameTurns s.spaces t.spaces
+    alike = SameTurns-same s.spaces t.spaces spaces
 
     logs : (m : ℕ) → log_of t.spaces m ≡ log_of s.spaces m
     logs m = ap (λ ws. log_of ws m) spaces
-
-    lower : (m : ℕ) (w : Workspace) → 0 < m → workspace_of t.spaces m ≡ Some w → m ≢ w.parent
-    lower m w some is = (ordered_of p s st.rules st.spaces).lower m w some (ap (λ ws. workspace_of ws m) (sym spaces) ∙ is)
-
-    -- the newest version is the new one, under the one of before, or the one of before
-    newest_climbs : (m : ℕ) → Climbs q t.spaces (latest p m) m → (n ≡ m) ⊎ (n ≢ m) → Climbs q t.spaces (latest q m) m
-    newest_climbs m climbs (inl same) =
-        subst (λ k. Climbs q t.spaces k m) (sym (ap (λ nodes. latest_in nodes m) f.versions ∙ ap (λ b. cond b number (latest p m)) (eq-eqb n m same)))
-        (subst (λ k. Climbs q t.spaces number k) same
-        (Climbs-sprout q t.spaces (node_under p n number) (newest_first p.versions) f.versions (latest-below number (newest_first p.versions) n f.some f.below) lower
-        (subst (λ k. Climbs q t.spaces (latest p k) k) (sym same) climbs)))
-    newest_climbs m climbs (inr other) =
-        subst (λ k. Climbs q t.spaces k m) (sym (ap (λ nodes. latest_in nodes m) f.versions ∙ ap (λ b. cond b number (latest p m)) (ne_eqb n m other))) climbs

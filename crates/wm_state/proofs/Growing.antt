@@ -4,7 +4,7 @@ use Rattle.std.proofs.lemmas.Bool.{eq-eqb, eqb-true}
 use Rattle.std.specs.List.{list_all, list_any}
 use Rattle.std.specs.Option.{option_map_or}
 use Rattle.wm_graph.specs.Parts.{Parts, table_of, space_of, version_of, row_of, has_version}
-use Rattle.wm_graph.specs.Rules.{keep_rules, are_counters, are_versions, is_version, is_version_of, has_versions, stands_under, are_savepoints, are_rows, are_pieces, is_piece, collide, are_hists, differ}
+use Rattle.wm_graph.specs.Rules.{keep_rules, are_counters, are_versions, is_version, is_version_of, has_versions, stands_under, are_savepoints, are_rows, are_pieces, is_piece, collide, are_hists, are_locks, differ}
 use Rattle.wm_spec.specs.Lists.{Cell}
 use Rattle.wm_spec.specs.declared.record.counters.Counters.{Counters}
 use Rattle.wm_spec.specs.declared.record.piece.PieceRecord.{PieceRecord}
@@ -15,7 +15,8 @@ use Rattle.wm_state.specs.Standing.{stored_at, node_of, newest_first, latest}
 use Rattle.wm_state.specs.Effects.{Forked}
 use Rattle.wm_state.proofs.Tests.{bool_apart, both, and_true, all_if, all_push, differ_push, find_push, none_if}
 use Rattle.wm_state.proofs.Newest.{AllBelow-grow}
-use Rattle.wm_state.proofs.Keeping.{le_of, KeepSpaces-same, KeepVersions-push, are_savepoints-kept, few-same}
+use Rattle.wm_state.proofs.Keeping.{le_of, KeepTables-same, KeepSpaces-same, KeepVersions-push, are_savepoints-kept, few-same}
+use Rattle.wm_state.proofs.KeepingTurns.{are_locks-kept}
 use Rattle.wm_state.proofs.Apart.{Ruled, ruled, keeps_all, ruled_versions, newest_record, newest_some, found-passes}
 
 -- the records with a version more and other counters
@@ -231,6 +232,10 @@ keep-forked p old new a n v may e = keeps_all q new refl may.counters
     (ap (are_rows p) may.stamps ∙ ap (λ (c : Counters). are_rows p c.next_stamp) (sym same) ∙ r.rows)
     (ap (are_pieces q) may.stamps ∙ pieces_kept p new v old.next_stamp (ap (λ (c : Counters). are_pieces p c.next_stamp) (sym same) ∙ r.pieces))
     (ap (are_hists q) may.stamps ∙ ap (λ (c : Counters). are_hists p c.next_stamp) (sym same) ∙ r.hists)
+    r.touches
+    (are_locks-kept p q old.work new.work (le_of old.work new.work may.work) (KeepTables-same p q refl) (KeepSpaces-same p q refl) refl (ap (λ (c : Counters). are_locks p c.work) (sym same) ∙ r.locks))
+    r.marks
+    r.turns
   where
     q : Parts
     q = forked p new v
@@ -274,12 +279,7 @@ forked_of p old new a n v may e = record {
       above_base p v.number s (above_zero v.number (latest p n) parent) below
       (found-passes (λ (x : Space). x.number == n) (has_versions (has_version p.versions) (version_of p.versions)) p.spaces s found (ruled_versions p r.counters.next_version r.versions).spaces).1;
   empty = empty-next p v.number r.counters.next_stamp (ap (are_versions p) number ∙ r.versions) r.pieces;
-  tables = refl;
-  spaces = refl;
-  savepoints = refl;
-  rows = refl;
-  pieces = refl;
-  hists = refl;
+  rest = refl;
 }
   where
     r : Ruled p

@@ -27,13 +27,12 @@ pub record TableStill (q : Parts) (n : ℕ) (t : Table) : Type 0 where
   pub new : Table
   pub is : table_of q.tables n ≡ Some new
   pub columns : new.columns ≡ t.columns
-  pub has_key : new.has_key ≡ t.has_key
-  pub key_column : new.key_column ≡ t.key_column
+  pub key_columns : new.key_columns ≡ t.key_columns
 
 abbrev pub KeepTables : Parts → Parts → Type 0
 KeepTables p q = (n : ℕ) (t : Table) → table_of p.tables n ≡ Some t → TableStill q n t
 
--- a workspace with the same parent, whose log and places are no fewer
+-- a workspace with the same parent and rebases, whose log and places are no fewer
 pub record SpaceStill (q : Parts) (n : ℕ) (s : Space) : Type 0 where
   pub new : Space
   pub is : space_of q.spaces n ≡ Some new
@@ -41,6 +40,7 @@ pub record SpaceStill (q : Parts) (n : ℕ) (s : Space) : Type 0 where
   pub parent : new.parent ≡ s.parent
   pub log : nat_le s.log_length new.log_length ≡ true
   pub place : nat_le s.next_place new.next_place ≡ true
+  pub rebases : new.rebases ≡ s.rebases
 
 abbrev pub KeepSpaces : Parts → Parts → Type 0
 KeepSpaces p q = (n : ℕ) (s : Space) → space_of p.spaces n ≡ Some s → SpaceStill q n s
@@ -58,33 +58,31 @@ pub le_next : (n : ℕ) → nat_le n (n + 1) ≡ true
 le_next n = grind arith
 
 pub KeepTables-same : (p q : Parts) → q.tables ≡ p.tables → KeepTables p q
-KeepTables-same p q same n t found = record { new = t; is = ap (λ ts. table_of ts n) same ∙ found; columns = refl; has_key = refl; key_column = refl }
+KeepTables-same p q same n t found = record { new = t; is = ap (λ ts. table_of ts n) same ∙ found; columns = refl; key_columns = refl }
 
 pub KeepTables-push : (p q : Parts) (u : Table) → q.tables ≡ p.tables ++ u ∷ [] → KeepTables p q
 KeepTables-push p q u more n t found = record {
   new = t;
   is = ap (λ ts. table_of ts n) more ∙ find_push (λ (x : Table). x.number == n) p.tables u t found;
   columns = refl;
-  has_key = refl;
-  key_column = refl;
+  key_columns = refl;
 }
 
 -- one in the place of another of its number, columns and key
-pub KeepTables-swap : (p q : Parts) (front back : List Table) (t u : Table) → u.number ≡ t.number → u.columns ≡ t.columns → u.has_key ≡ t.has_key → u.key_column ≡ t.key_column → p.tables ≡ front ++ t ∷ back
+pub KeepTables-swap : (p q : Parts) (front back : List Table) (t u : Table) → u.number ≡ t.number → u.columns ≡ t.columns → u.key_columns ≡ t.key_columns → p.tables ≡ front ++ t ∷ back
     → q.tables ≡ front ++ u ∷ back → KeepTables p q
-KeepTables-swap p q front back t u number columns has_key key_column old new n x found = ⊎_elim
-    (λ h. record { new = x; is = ap (λ ts. table_of ts n) new ∙ h; columns = refl; has_key = refl; key_column = refl })
+KeepTables-swap p q front back t u number columns key_columns old new n x found = ⊎_elim
+    (λ h. record { new = x; is = ap (λ ts. table_of ts n) new ∙ h; columns = refl; key_columns = refl })
     (λ h. record {
       new = u;
       is = ap (λ ts. table_of ts n) new ∙ h.1;
       columns = columns ∙ ap (λ (y : Table). y.columns) (sym h.0);
-      has_key = has_key ∙ ap (λ (y : Table). y.has_key) (sym h.0);
-      key_column = key_column ∙ ap (λ (y : Table). y.key_column) (sym h.0);
+      key_columns = key_columns ∙ ap (λ (y : Table). y.key_columns) (sym h.0);
     })
     (find_swapped (λ (y : Table). y.number == n) t u (ap (λ k. k == n) number) front back x (ap (λ ts. table_of ts n) (sym old) ∙ found))
 
 pub KeepSpaces-same : (p q : Parts) → q.spaces ≡ p.spaces → KeepSpaces p q
-KeepSpaces-same p q same n s found = record { new = s; is = ap (λ ss. space_of ss n) same ∙ found; number = refl; parent = refl; log = le_itself s.log_length; place = le_itself s.next_place }
+KeepSpaces-same p q same n s found = record { new = s; is = ap (λ ss. space_of ss n) same ∙ found; number = refl; parent = refl; log = le_itself s.log_length; place = le_itself s.next_place; rebases = refl }
 
 pub KeepSpaces-push : (p q : Parts) (a : Space) → q.spaces ≡ p.spaces ++ a ∷ [] → KeepSpaces p q
 KeepSpaces-push p q a more n s found = record {
@@ -94,13 +92,14 @@ KeepSpaces-push p q a more n s found = record {
   parent = refl;
   log = le_itself s.log_length;
   place = le_itself s.next_place;
+  rebases = refl;
 }
 
--- one in the place of another of its number and parent, with no shorter log and no fewer places
+-- one in the place of another of its number, parent and rebases, with no shorter log and no fewer places
 pub KeepSpaces-swap : (p q : Parts) (front back : List Space) (a b : Space) → b.number ≡ a.number → b.parent ≡ a.parent → nat_le a.log_length b.log_length ≡ true → nat_le a.next_place b.next_place ≡ true
-    → p.spaces ≡ front ++ a ∷ back → q.spaces ≡ front ++ b ∷ back → KeepSpaces p q
-KeepSpaces-swap p q front back a b number parent log place old new n x found = ⊎_elim
-    (λ h. record { new = x; is = ap (λ ss. space_of ss n) new ∙ h; number = refl; parent = refl; log = le_itself x.log_length; place = le_itself x.next_place })
+    → b.rebases ≡ a.rebases → p.spaces ≡ front ++ a ∷ back → q.spaces ≡ front ++ b ∷ back → KeepSpaces p q
+KeepSpaces-swap p q front back a b number parent log place rebases old new n x found = ⊎_elim
+    (λ h. record { new = x; is = ap (λ ss. space_of ss n) new ∙ h; number = refl; parent = refl; log = le_itself x.log_length; place = le_itself x.next_place; rebases = refl })
     (λ h. record {
       new = b;
       is = ap (λ ss. space_of ss n) new ∙ h.1;
@@ -108,6 +107,7 @@ KeepSpaces-swap p q front back a b number parent log place old new n x found = �
       parent = parent ∙ ap (λ (y : Space). y.parent) (sym h.0);
       log = ap (λ (y : Space). nat_le y.log_length b.log_length) h.0 ∙ log;
       place = ap (λ (y : Space). nat_le y.next_place b.next_place) h.0 ∙ place;
+      rebases = rebases ∙ ap (λ (y : Space). y.rebases) (sym h.0);
     })
     (find_swapped (λ (y : Space). y.number == n) a b (ap (λ k. k == n) number) front back x (ap (λ ss. space_of ss n) (sym old) ∙ found))
 
@@ -122,13 +122,13 @@ KeepRows-same p q same stamp r found = ap (λ rs. row_of rs stamp) same ∙ foun
 
 -- ---- numbers and tests
 
-lt_le : (m n k : ℕ) → nat_le n k ≡ true → nat_lt m n ≡ true → nat_lt m k ≡ true
+pub lt_le : (m n k : ℕ) → nat_le n k ≡ true → nat_lt m n ≡ true → nat_lt m k ≡ true
 lt_le m n k le lt = grind (arith, le, lt)
 
 le_le : (m n k : ℕ) → nat_le n k ≡ true → nat_le m n ≡ true → nat_le m k ≡ true
 le_le m n k le lt = grind (arith, le, lt)
 
-le_more : (m n k : ℕ) → nat_le n k ≡ true → nat_le m (n + 2) ≡ true → nat_le m (k + 2) ≡ true
+pub le_more : (m n k : ℕ) → nat_le n k ≡ true → nat_le m (n + 2) ≡ true → nat_le m (k + 2) ≡ true
 le_more m n k le lt = grind (arith, le, lt)
 
 or_if : (a b c : Bool) → (b ≡ true → c ≡ true) → (a || b) ≡ true → (a || c) ≡ true
@@ -136,36 +136,34 @@ or_if true b c to e = refl
 or_if false b c to e = to e
 
 -- what is asked of what is found is asked of what is found still
-asked : {A : Type 0} (f g : A → Bool) (old new : Option A) → ((a : A) → old ≡ Some a → f a ≡ true → option_map_or g new false ≡ true) → option_map_or f old false ≡ true → option_map_or g new false ≡ true
+pub asked : {A : Type 0} (f g : A → Bool) (old new : Option A) → ((a : A) → old ≡ Some a → f a ≡ true → option_map_or g new false ≡ true) → option_map_or f old false ≡ true → option_map_or g new false ≡ true
 asked f g None new to e = absurd (bool_apart (sym e))
 asked f g (Some a) new to e = to a refl e
 
 -- ---- tables
 
-row_of_same : (row : List Value) (t u : Table) → u.columns ≡ t.columns → u.has_key ≡ t.has_key → u.key_column ≡ t.key_column → is_row_of row u ≡ is_row_of row t
-row_of_same row t u columns has_key key_column = rw (columns, has_key, key_column) refl
+row_of_same : (row : List Value) (t u : Table) → u.columns ≡ t.columns → u.key_columns ≡ t.key_columns → is_row_of row u ≡ is_row_of row t
+row_of_same row t u columns key_columns = rw (columns, key_columns) refl
 
-key_of_same : (row : List Value) (t u : Table) → u.has_key ≡ t.has_key → u.key_column ≡ t.key_column → key_of u row ≡ key_of t row
-key_of_same row t u has_key key_column = rw (has_key, key_column) refl
+key_of_same : (row : List Value) (t u : Table) → u.key_columns ≡ t.key_columns → key_of u row ≡ key_of t row
+key_of_same row t u key_columns = rw key_columns refl
 
-is_key_of_same : (key : List Value) (t u : Table) → u.columns ≡ t.columns → u.has_key ≡ t.has_key → u.key_column ≡ t.key_column → is_key_of key u ≡ is_key_of key t
-is_key_of_same [] t u columns has_key key_column = refl
-is_key_of_same (v ∷ []) t u columns has_key key_column = rw (columns, has_key, key_column) refl
-is_key_of_same (v ∷ w ∷ vs) t u columns has_key key_column = refl
+is_key_of_same : (key : List Value) (t u : Table) → u.columns ≡ t.columns → u.key_columns ≡ t.key_columns → is_key_of key u ≡ is_key_of key t
+is_key_of_same key t u columns key_columns = rw (columns, key_columns) refl
 
 pub is_row-kept : (p q : Parts) (next more : ℕ) → nat_le next more ≡ true → KeepTables p q → (r : RowRecord) → is_row (table_of p.tables) next r ≡ true → is_row (table_of q.tables) more r ≡ true
 is_row-kept p q next more le tables r e =
     let h = both (nat_lt r.stamp next) (option_map_or (is_row_of r.values) (table_of p.tables r.table) false) e in
     and_true (nat_lt r.stamp more) _ (lt_le r.stamp next more le h.0)
     (asked (is_row_of r.values) (is_row_of r.values) (table_of p.tables r.table) (table_of q.tables r.table)
-    (λ t found is. let s = tables r.table t found in rw s.is (row_of_same r.values t s.new s.columns s.has_key s.key_column ∙ is)) h.1)
+    (λ t found is. let s = tables r.table t found in rw s.is (row_of_same r.values t s.new s.columns s.key_columns ∙ is)) h.1)
 
-are_cells-kept : (p q : Parts) → KeepTables p q → (c : CellRange) → are_cells (table_of p.tables) c ≡ true → are_cells (table_of q.tables) c ≡ true
+pub are_cells-kept : (p q : Parts) → KeepTables p q → (c : CellRange) → are_cells (table_of p.tables) c ≡ true → are_cells (table_of q.tables) c ≡ true
 are_cells-kept p q tables c e =
     let h = both (nat_lt c.from c.till && nat_le c.till END) (option_map_or (is_key_of c.key) (table_of p.tables c.table) false) e in
     and_true (nat_lt c.from c.till && nat_le c.till END) _ h.0
     (asked (is_key_of c.key) (is_key_of c.key) (table_of p.tables c.table) (table_of q.tables c.table)
-    (λ t found is. let s = tables c.table t found in rw s.is (is_key_of_same c.key t s.new s.columns s.has_key s.key_column ∙ is)) h.1)
+    (λ t found is. let s = tables c.table t found in rw s.is (is_key_of_same c.key t s.new s.columns s.key_columns ∙ is)) h.1)
 
 is_row_at-kept : (p q : Parts) → KeepTables p q → (c : CellRange) (r : RowRecord) → is_row_at (table_of p.tables) c r ≡ true → is_row_at (table_of q.tables) c r ≡ true
 is_row_at-kept p q tables c r e =
@@ -175,7 +173,7 @@ is_row_at-kept p q tables c r e =
     by_table : (o : Option Table) → table_of p.tables c.table ≡ o → is_key c.key (option_and_then (λ (t : Table). key_of t r.values) o) ≡ true
         → is_key c.key (option_and_then (λ (t : Table). key_of t r.values) (table_of q.tables c.table)) ≡ true
     by_table None found is = absurd (bool_apart (sym is))
-    by_table (Some t) found is = let s = tables c.table t found in rw s.is (ap (is_key c.key) (key_of_same r.values t s.new s.has_key s.key_column) ∙ is)
+    by_table (Some t) found is = let s = tables c.table t found in rw s.is (ap (is_key c.key) (key_of_same r.values t s.new s.key_columns) ∙ is)
 
 pub are_rows-kept : (p q : Parts) (next more : ℕ) → nat_le next more ≡ true → KeepTables p q → q.rows ≡ p.rows → are_rows p next ≡ true → are_rows q more ≡ true
 are_rows-kept p q next more le tables rows e =

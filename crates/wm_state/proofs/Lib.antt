@@ -10,6 +10,7 @@ pub mod Newest
 pub mod Apart
 pub mod Named
 pub mod Keeping
+pub mod KeepingTurns
 pub mod Tables
 pub mod Enabling
 pub mod ByKind
@@ -22,6 +23,7 @@ pub mod Shared
 pub mod Showing
 pub mod FirstIn
 pub mod Climbing
+pub mod Naming
 pub mod Forking
 pub mod Growing
 pub mod Mapped
@@ -33,8 +35,9 @@ pub mod Greatest
 pub mod Spaces
 pub mod Numbered
 pub mod Appending
+pub mod Ready
 pub mod Logging
-pub mod Told
+pub mod Staying
 pub mod DrawingEnds
 pub mod Above
 pub mod Ending

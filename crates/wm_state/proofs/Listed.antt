@@ -19,7 +19,7 @@ use Rattle.wm_spec.specs.declared.record.savepoint.Savepoint.{Savepoint as Recor
 use Rattle.wm_spec.proofs.Stretches.{value-rows, AreMaximal-rows}
 use Rattle.wm_tree.specs.declared.version.Version.{Version as Node}
 use Rattle.wm_state.specs.State.{Durable, Workspace, Savepoint, content, kept, workspace_of, savepoint_made}
-use Rattle.wm_state.specs.Standing.{held_of, stored_at, seen_at, seen, newest_first, latest, saved_as, HasRows, Stands}
+use Rattle.wm_state.specs.Standing.{held_of, stored_at, seen_at, seen, newest_first, latest, saved_as, HasRows, Newest, Kept, Stands}
 use Rattle.wm_state.specs.Listing.{standing, stamp_seen, stamp_shown, listed, row_on, row_with, seen_row, row_shown, row_shown_with, is_unwritten, IsListing, IsShowing, AreRowsOf, Groups, keys_of, joined, AreAllRowsOf}
 use Rattle.wm_state.proofs.Shown.{showing_listed}
 use Rattle.wm_state.proofs.Listing.{one_rows, rows_of, Covers, listed_same, first-listed, no_rows_of, first-held, behind-held, either_false}
@@ -69,7 +69,7 @@ seen_is p version es holds table key t =
     ap (option_and_then standing) (holds (record { table = table; key = key; time = t })) ∙ stamp_same (told es (record { table = table; key = key; time = t }))
 
 pub shown_is : (p : Parts) (s : Durable) (n : ℕ) (w : Workspace) → Stands p s → workspace_of s.spaces n ≡ Some w → (table : ℕ) (key : List Value) (t : ℕ) → stamp_shown p n table key t ≡ stamp_at (content w) table key t
-shown_is p s n w st is = seen_is p (latest p n) (content w) (st.latest.told n w is)
+shown_is p s n w st is = seen_is p (latest p n) (content w) (st.named.tells _ _ _ _ (Newest w is)).holds
 
 -- ---- the rows themselves
 
@@ -166,13 +166,13 @@ showing_of p version es table valid within out holds has l =
 -- what the newest version of a workspace shows is what its content has
 pub showing_is : (p : Parts) (s : Durable) (n : ℕ) (w : Workspace) (table : ℕ) (valid : Bool) (within : Span) (out : List Row) → Stands p s → workspace_of s.spaces n ≡ Some w
     → IsShowing p (latest p n) table valid within out → out ≡ filter_map (row_shown (content w) table valid within) (rows (content w) table)
-showing_is p s n w table valid within out st is = showing_of p (latest p n) (content w) table valid within out (st.latest.told n w is) (st.rows.there n w is)
+showing_is p s n w table valid within out st is = let y = st.named.tells _ _ _ _ (Newest w is) in showing_of p (latest p n) (content w) table valid within out y.holds y.rows
 
 -- what the version of a savepoint shows is what stood there
 pub showing_saved : (p : Parts) (s : Durable) (n making : ℕ) (w : Workspace) (k : Savepoint) (x : Record) (table : ℕ) (valid : Bool) (within : Span) (out : List Row) → Stands p s → workspace_of s.spaces n ≡ Some w
     → savepoint_made making w.savepoints ≡ Some k → saved_as p n making ≡ Some x → IsShowing p x.version table valid within out → out ≡ filter_map (row_shown (kept k) table valid within) (rows (kept k) table)
 showing_saved p s n making w k x table valid within out st is made saved =
-    showing_of p x.version (kept k) table valid within out (st.kept.told n making w k x is made saved) (st.rows.saved n making w k is made)
+    let y = st.named.tells _ _ _ _ (Kept making w k x is made saved) in showing_of p x.version (kept k) table valid within out y.holds y.rows
 
 -- ---- the same of all rows, without their periods
 
@@ -181,7 +181,7 @@ listing_of p version es table out holds has l = showing_of p version es table fa
 
 pub listing_is : (p : Parts) (s : Durable) (n : ℕ) (w : Workspace) (table : ℕ) (out : List Row) → Stands p s → workspace_of s.spaces n ≡ Some w → IsListing p (latest p n) table out
     → out ≡ filter_map (row_on (content w) table) (rows (content w) table)
-listing_is p s n w table out st is = listing_of p (latest p n) (content w) table out (st.latest.told n w is) (st.rows.there n w is)
+listing_is p s n w table out st is = let y = st.named.tells _ _ _ _ (Newest w is) in listing_of p (latest p n) (content w) table out y.holds y.rows
 
 -- ---- one key
 

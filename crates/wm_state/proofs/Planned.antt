@@ -1,19 +1,18 @@
 -- The records stand for the state after the batches that lines make.
-use Rattle.std.proofs.Common.{◌≡◌, ◌≢◌, ℕ, ◌+◌, ◌≤◌, ◌==◌, Bool, true, false, not, cond, if◌then◌else◌, List, [], ◌∷◌, ◌++◌, Some, refl, sym, ap, subst, ◌∙◌, ◌⊎◌, inl, inr, arith}
-use Rattle.std.proofs.lemmas.Bool.{cases_eq, eq-eqb, ne_eqb}
+use Rattle.std.proofs.Common.{◌≡◌, ◌≢◌, ℕ, ◌+◌, ◌≤◌, ◌==◌, Bool, true, false, cond, if◌then◌else◌, List, [], ◌∷◌, ◌++◌, Some, refl, sym, ap, subst, ◌∙◌, ◌⊎◌, inl, inr, arith}
+use Rattle.std.proofs.lemmas.Bool.{cases_eq, ne_eqb}
 use Rattle.std.specs.List.{filter}
 use Rattle.wm_graph.specs.Parts.{Parts, parts_of, as_table}
-use Rattle.wm_graph.specs.Rules.{are_counters, keep_rules}
+use Rattle.wm_graph.specs.Rules.{are_counters, has_key, keep_rules}
 use Rattle.wm_spec.specs.Records.{record_at}
 use Rattle.wm_spec.specs.declared.record.Record.{Record}
 use Rattle.wm_spec.specs.declared.record.Record.TheVariants as records
 use Rattle.wm_spec.specs.declared.record.stored.Stored.{Stored}
 use Rattle.wm_spec.specs.declared.record.batch.Change.{Change}
 use Rattle.wm_spec.specs.declared.record.counters.Counters.{Counters}
-use Rattle.wm_spec.specs.declared.record.piece.PieceRecord.{PieceRecord}
 use Rattle.wm_spec.specs.declared.record.table.Table.{Table}
 use Rattle.wm_state.specs.ById.{Ascend, set_at, applied}
-use Rattle.wm_state.specs.Batches.{keeps, is_dropped, AreDropped, AllUnder, create_batch, enable_batch, ready}
+use Rattle.wm_state.specs.Batches.{AllUnder, create_batch, enable_batch, ready}
 use Rattle.wm_state.specs.State.{Durable, Readiness, enabled}
 use Rattle.wm_state.specs.Standing.{CountersStand, FieldsStand, Stands}
 use Rattle.wm_state.proofs.ById.{Ascend-set, record_at-set}
@@ -107,20 +106,6 @@ AllUnder-set n ss id r q sorted found under = by_split (split_of ss id r found)
         (sym (ap (set_at id (Some q)) s.is ∙ set-split s.front s.back id r q (subst (λ xs. Ascend xs) s.is sorted)))
         (AllUnder-put n s.front s.back id r q (subst (λ xs. AllUnder n xs) s.is under))
 
--- what is dropped is dropped still once a record that is no piece took the place of one that is none
-pub dropped-still : (test : PieceRecord → Bool) (ids : List ℕ) (ss : List Stored) (id : ℕ) (r q : Record) → Ascend ss → record_at ss id ≡ Some r → keeps test r ≡ true → keeps test q ≡ true
-    → AreDropped (keeps test) ids ss → AreDropped (keeps test) ids (set_at id (Some q) ss)
-dropped-still test ids ss id r q sorted found kept_r kept_q are other x there = by_id (cases_eq other id) (sym (record_at-set id (Some q) ss sorted other) ∙ there)
-  where
-    some_record : (a b : Record) → Some a ≡ Some b → a ≡ b
-    some_record a b h = cc
-
-    by_id : (other ≡ id) ⊎ (other ≢ id) → (if other == id then Some q else record_at ss other) ≡ Some x → is_dropped ids other ≡ not (keeps test x)
-    by_id (inl same) e =
-        let is : q ≡ x = some_record q x (sym (ap (λ b. if b then Some q else record_at ss other) (eq-eqb _ _ same)) ∙ e) in
-        are other r (ap (record_at ss) same ∙ found) ∙ ap not (kept_r ∙ sym kept_q ∙ ap (keeps test) is)
-    by_id (inr apart) e = are other x (sym (ap (λ b. if b then Some q else record_at ss other) (ne_eqb _ _ apart)) ∙ e)
-
 -- ---- the laws of the two batches
 
 -- a table was made: the records agree with the state with it
@@ -149,13 +134,13 @@ agree_readied ss counters_id id old new how t s u rules st sorted counters one f
 
 -- and stand for it
 pub plan_readied : (ss : List Stored) (counters_id id : ℕ) (old new : Counters) (how : Readiness) (t : Table) (s u : Durable) → Stands (parts_of ss) s → Ascend ss → record_at ss counters_id ≡ Some (records.Counters old)
-    → (parts_of ss).counters ≡ old ∷ [] → record_at ss id ≡ Some (records.Table t) → t.has_key ≡ true → are_counters new ≡ true → new.next_version ≡ old.next_version → new.next_stamp ≡ old.next_stamp → old.work ≤ new.work → u.spaces ≡ s.spaces
+    → (parts_of ss).counters ≡ old ∷ [] → record_at ss id ≡ Some (records.Table t) → t.versioned ≡ false → has_key t ≡ true → are_counters new ≡ true → new.next_version ≡ old.next_version → new.next_stamp ≡ old.next_stamp → old.work ≤ new.work → u.spaces ≡ s.spaces
     → u.tables ≡ enabled t.number how s.tables → ((front back : List Table) → CountersStand (readied (parts_of ss) new front how t back) u)
     → Stands (parts_of (applied (enable_batch counters_id new id how t) ss)) u
-plan_readied ss counters_id id old new how t s u st sorted counters one found key counts versions stamps work spaces tables stands =
+plan_readied ss counters_id id old new how t s u st sorted counters one found off key counts versions stamps work spaces tables stands =
     let r = parts-readied ss counters_id id old new how t sorted counters one found in
     subst (λ p. Stands p u) (sym r.is)
-    (Stands-readied (parts_of ss) new r.front how t r.back s u st r.old key counts
+    (Stands-readied (parts_of ss) new r.front how t r.back s u st r.old off key counts
     (λ c is_one.
     let same : old ≡ c = only old c (sym one ∙ is_one) in (
       versions ∙ ap (λ (k : Counters). k.next_version) same,

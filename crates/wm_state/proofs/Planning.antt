@@ -1,32 +1,35 @@
 -- The parts of the records after the batches that lines make.
-use Rattle.std.proofs.Common.{◌≡◌, ℕ, Bool, true, List, [], ◌∷◌, ◌++◌, Option, Some, None, refl, sym, ap, subst, ◌∙◌}
-use Rattle.std.specs.List.{filter, list_all}
-use Rattle.wm_graph.specs.Parts.{Parts, parts_of, as_counters, as_table, as_space, as_version, as_savepoint, as_row, as_piece, as_hist}
+use Rattle.std.proofs.Common.{◌≡◌, ℕ, Bool, true, List, [], ◌∷◌, ◌++◌, Some, refl, sym, ap, subst, ◌∙◌}
+use Rattle.std.specs.List.{list_all}
+use Rattle.wm_graph.specs.Parts.{Parts, parts_of, as_counters, as_table, as_space, as_version, as_savepoint, as_row, as_piece, as_touch, as_lock, as_hist, as_mark, as_turn}
 use Rattle.wm_spec.specs.Records.{record_at}
 use Rattle.wm_spec.specs.declared.record.Record.{Record}
 use Rattle.wm_spec.specs.declared.record.Record.TheVariants as records
 use Rattle.wm_spec.specs.declared.record.stored.Stored.{Stored}
 use Rattle.wm_spec.specs.declared.record.counters.Counters.{Counters}
 use Rattle.wm_spec.specs.declared.record.hist.Hist.{Hist}
+use Rattle.wm_spec.specs.declared.record.lock.Lock.{Lock}
 use Rattle.wm_spec.specs.declared.record.piece.PieceRecord.{PieceRecord}
 use Rattle.wm_spec.specs.declared.record.row.RowRecord.{RowRecord}
 use Rattle.wm_spec.specs.declared.record.savepoint.Savepoint.{Savepoint}
 use Rattle.wm_spec.specs.declared.record.space.Space.{Space}
 use Rattle.wm_spec.specs.declared.record.table.Table.{Table}
+use Rattle.wm_spec.specs.declared.record.trace.Trace.{Trace}
+use Rattle.wm_spec.specs.declared.record.turn.Turn.{Turn}
 use Rattle.wm_spec.specs.declared.record.version.Version.{Version}
 use Rattle.wm_state.specs.ById.{Ascend, set_at, applied}
-use Rattle.wm_state.specs.Batches.{keeps, AllUnder, create_batch}
-use Rattle.wm_state.proofs.ByKind.{kinds, stored, Split, split_of, set-split, set-behind, kinds-same, kinds-one, kinds-more, kinds-no_more, kinds-kept, kinds-filter}
+use Rattle.wm_state.specs.Batches.{AllUnder, create_batch}
+use Rattle.wm_state.proofs.ByKind.{kinds, stored, Split, split_of, set-split, set-behind, kinds-same, kinds-one, kinds-more, kinds-no_more}
 use Rattle.wm_state.proofs.Tables.{created}
 use Rattle.wm_state.proofs.Tests.{all_middle}
 
 -- the parts, kind by kind
-abbrev made : List Counters → List Table → List Space → List Version → List Savepoint → List RowRecord → List PieceRecord → List Hist → Parts
-made c t s v k r p h = record { counters = c; tables = t; spaces = s; versions = v; savepoints = k; rows = r; pieces = p; hists = h }
+abbrev made : List Counters → List Table → List Space → List Version → List Savepoint → List RowRecord → List PieceRecord → List Trace → List Lock → List Hist → List Trace → List Turn → Parts
+made c t s v k r p x l h m u = record { counters = c; tables = t; spaces = s; versions = v; savepoints = k; rows = r; pieces = p; touches = x; locks = l; hists = h; marks = m; turns = u }
 
-made_same : {c d : List Counters} {t u : List Table} {s x : List Space} {v w : List Version} {k l : List Savepoint} {r q : List RowRecord} {p o : List PieceRecord} {h i : List Hist}
-    → c ≡ d → t ≡ u → s ≡ x → v ≡ w → k ≡ l → r ≡ q → p ≡ o → h ≡ i → made c t s v k r p h ≡ made d u x w l q o i
-made_same a b c d e f g h = rw (a, b, c, d, e, f, g, h) refl
+made_same : {a b : List Counters} {c d : List Table} {e f : List Space} {g h : List Version} {i j : List Savepoint} {k l : List RowRecord} {m n : List PieceRecord} {o p : List Trace} {q r : List Lock} {s t : List Hist} {u v : List Trace}
+    {w x : List Turn} → a ≡ b → c ≡ d → e ≡ f → g ≡ h → i ≡ j → k ≡ l → m ≡ n → o ≡ p → q ≡ r → s ≡ t → u ≡ v → w ≡ x → made a c e g i k m o q s u w ≡ made b d f h j l n p r t v x
+made_same one two three four five six seven eight nine ten eleven twelve = rw (one, two, three, four, five, six, seven, eight, nine, ten, eleven, twelve) refl
 
 alone : {A : Type 0} (xs ys : List A) (a b : A) → xs ++ a ∷ ys ≡ b ∷ [] → (xs ≡ []) × (ys ≡ [])
 alone [] [] a b e = (refl, refl)
@@ -62,7 +65,11 @@ parts-counted front back id old new one = made_same
     (kinds-same as_savepoint front back id (records.Counters old) (records.Counters new) refl refl)
     (kinds-same as_row front back id (records.Counters old) (records.Counters new) refl refl)
     (kinds-same as_piece front back id (records.Counters old) (records.Counters new) refl refl)
+    (kinds-same as_touch front back id (records.Counters old) (records.Counters new) refl refl)
+    (kinds-same as_lock front back id (records.Counters old) (records.Counters new) refl refl)
     (kinds-same as_hist front back id (records.Counters old) (records.Counters new) refl refl)
+    (kinds-same as_mark front back id (records.Counters old) (records.Counters new) refl refl)
+    (kinds-same as_turn front back id (records.Counters old) (records.Counters new) refl refl)
 
 pub parts-tabled : (front back : List Stored) (id : ℕ) (t u : Table)
     → parts_of (front ++ stored id (records.Table u) ∷ back) ≡ record (parts_of (front ++ stored id (records.Table t) ∷ back)) { tables = kinds as_table front ++ u ∷ kinds as_table back }
@@ -75,7 +82,11 @@ parts-tabled front back id t u = made_same
     (kinds-same as_savepoint front back id (records.Table t) (records.Table u) refl refl)
     (kinds-same as_row front back id (records.Table t) (records.Table u) refl refl)
     (kinds-same as_piece front back id (records.Table t) (records.Table u) refl refl)
+    (kinds-same as_touch front back id (records.Table t) (records.Table u) refl refl)
+    (kinds-same as_lock front back id (records.Table t) (records.Table u) refl refl)
     (kinds-same as_hist front back id (records.Table t) (records.Table u) refl refl)
+    (kinds-same as_mark front back id (records.Table t) (records.Table u) refl refl)
+    (kinds-same as_turn front back id (records.Table t) (records.Table u) refl refl)
 
 pub tables-split : (front back : List Stored) (id : ℕ) (t : Table) → (parts_of (front ++ stored id (records.Table t) ∷ back)).tables ≡ kinds as_table front ++ t ∷ kinds as_table back
 unfolding parts_of
@@ -92,11 +103,17 @@ parts-spaced front back id a b = made_same
     (kinds-same as_savepoint front back id (records.Space a) (records.Space b) refl refl)
     (kinds-same as_row front back id (records.Space a) (records.Space b) refl refl)
     (kinds-same as_piece front back id (records.Space a) (records.Space b) refl refl)
+    (kinds-same as_touch front back id (records.Space a) (records.Space b) refl refl)
+    (kinds-same as_lock front back id (records.Space a) (records.Space b) refl refl)
     (kinds-same as_hist front back id (records.Space a) (records.Space b) refl refl)
+    (kinds-same as_mark front back id (records.Space a) (records.Space b) refl refl)
+    (kinds-same as_turn front back id (records.Space a) (records.Space b) refl refl)
 
 pub spaces-split : (front back : List Stored) (id : ℕ) (a : Space) → (parts_of (front ++ stored id (records.Space a) ∷ back)).spaces ≡ kinds as_space front ++ a ∷ kinds as_space back
 unfolding parts_of
 spaces-split front back id a = kinds-one as_space front back id (records.Space a) a refl
+
+-- ---- one record more
 
 parts-more_table : (ss : List Stored) (id : ℕ) (t : Table) → parts_of (ss ++ stored id (records.Table t) ∷ []) ≡ record (parts_of ss) { tables = (parts_of ss).tables ++ t ∷ [] }
 unfolding parts_of
@@ -108,7 +125,11 @@ parts-more_table ss id t = made_same
     (kinds-no_more as_savepoint ss id (records.Table t) refl)
     (kinds-no_more as_row ss id (records.Table t) refl)
     (kinds-no_more as_piece ss id (records.Table t) refl)
+    (kinds-no_more as_touch ss id (records.Table t) refl)
+    (kinds-no_more as_lock ss id (records.Table t) refl)
     (kinds-no_more as_hist ss id (records.Table t) refl)
+    (kinds-no_more as_mark ss id (records.Table t) refl)
+    (kinds-no_more as_turn ss id (records.Table t) refl)
 
 pub parts-more_version : (ss : List Stored) (id : ℕ) (v : Version) → parts_of (ss ++ stored id (records.Version v) ∷ []) ≡ record (parts_of ss) { versions = (parts_of ss).versions ++ v ∷ [] }
 unfolding parts_of
@@ -120,52 +141,11 @@ parts-more_version ss id v = made_same
     (kinds-no_more as_savepoint ss id (records.Version v) refl)
     (kinds-no_more as_row ss id (records.Version v) refl)
     (kinds-no_more as_piece ss id (records.Version v) refl)
+    (kinds-no_more as_touch ss id (records.Version v) refl)
+    (kinds-no_more as_lock ss id (records.Version v) refl)
     (kinds-no_more as_hist ss id (records.Version v) refl)
-
--- a piece that is found is one of the pieces
-pub piece_found : (P : PieceRecord → Bool) (ss : List Stored) (id : ℕ) (x : PieceRecord) → record_at ss id ≡ Some (records.Piece x) → list_all P (parts_of ss).pieces ≡ true → P x ≡ true
-unfolding parts_of
-piece_found P ss id x found all = by_split (split_of ss id (records.Piece x) found)
-  where
-    by_split : Split ss id (records.Piece x) → P x ≡ true
-    by_split s = all_middle P x (kinds as_piece s.front) (kinds as_piece s.back)
-        (ap (list_all P) (sym (ap (kinds as_piece) s.is ∙ kinds-one as_piece s.front s.back id (records.Piece x) x refl)) ∙ all)
-
-pub parts-more_row : (ss : List Stored) (id : ℕ) (r : RowRecord) → parts_of (ss ++ stored id (records.Row r) ∷ []) ≡ record (parts_of ss) { rows = (parts_of ss).rows ++ r ∷ [] }
-unfolding parts_of
-parts-more_row ss id r = made_same
-    (kinds-no_more as_counters ss id (records.Row r) refl)
-    (kinds-no_more as_table ss id (records.Row r) refl)
-    (kinds-no_more as_space ss id (records.Row r) refl)
-    (kinds-no_more as_version ss id (records.Row r) refl)
-    (kinds-no_more as_savepoint ss id (records.Row r) refl)
-    (kinds-more as_row ss id (records.Row r) r refl)
-    (kinds-no_more as_piece ss id (records.Row r) refl)
-    (kinds-no_more as_hist ss id (records.Row r) refl)
-
-pub parts-more_piece : (ss : List Stored) (id : ℕ) (x : PieceRecord) → parts_of (ss ++ stored id (records.Piece x) ∷ []) ≡ record (parts_of ss) { pieces = (parts_of ss).pieces ++ x ∷ [] }
-unfolding parts_of
-parts-more_piece ss id x = made_same
-    (kinds-no_more as_counters ss id (records.Piece x) refl)
-    (kinds-no_more as_table ss id (records.Piece x) refl)
-    (kinds-no_more as_space ss id (records.Piece x) refl)
-    (kinds-no_more as_version ss id (records.Piece x) refl)
-    (kinds-no_more as_savepoint ss id (records.Piece x) refl)
-    (kinds-no_more as_row ss id (records.Piece x) refl)
-    (kinds-more as_piece ss id (records.Piece x) x refl)
-    (kinds-no_more as_hist ss id (records.Piece x) refl)
-
-pub parts-more_hist : (ss : List Stored) (id : ℕ) (x : Hist) → parts_of (ss ++ stored id (records.Hist x) ∷ []) ≡ record (parts_of ss) { hists = (parts_of ss).hists ++ x ∷ [] }
-unfolding parts_of
-parts-more_hist ss id x = made_same
-    (kinds-no_more as_counters ss id (records.Hist x) refl)
-    (kinds-no_more as_table ss id (records.Hist x) refl)
-    (kinds-no_more as_space ss id (records.Hist x) refl)
-    (kinds-no_more as_version ss id (records.Hist x) refl)
-    (kinds-no_more as_savepoint ss id (records.Hist x) refl)
-    (kinds-no_more as_row ss id (records.Hist x) refl)
-    (kinds-no_more as_piece ss id (records.Hist x) refl)
-    (kinds-more as_hist ss id (records.Hist x) x refl)
+    (kinds-no_more as_mark ss id (records.Version v) refl)
+    (kinds-no_more as_turn ss id (records.Version v) refl)
 
 pub parts-more_space : (ss : List Stored) (id : ℕ) (a : Space) → parts_of (ss ++ stored id (records.Space a) ∷ []) ≡ record (parts_of ss) { spaces = (parts_of ss).spaces ++ a ∷ [] }
 unfolding parts_of
@@ -177,7 +157,11 @@ parts-more_space ss id a = made_same
     (kinds-no_more as_savepoint ss id (records.Space a) refl)
     (kinds-no_more as_row ss id (records.Space a) refl)
     (kinds-no_more as_piece ss id (records.Space a) refl)
+    (kinds-no_more as_touch ss id (records.Space a) refl)
+    (kinds-no_more as_lock ss id (records.Space a) refl)
     (kinds-no_more as_hist ss id (records.Space a) refl)
+    (kinds-no_more as_mark ss id (records.Space a) refl)
+    (kinds-no_more as_turn ss id (records.Space a) refl)
 
 pub parts-more_savepoint : (ss : List Stored) (id : ℕ) (x : Savepoint) → parts_of (ss ++ stored id (records.Savepoint x) ∷ []) ≡ record (parts_of ss) { savepoints = (parts_of ss).savepoints ++ x ∷ [] }
 unfolding parts_of
@@ -189,48 +173,36 @@ parts-more_savepoint ss id x = made_same
     (kinds-more as_savepoint ss id (records.Savepoint x) x refl)
     (kinds-no_more as_row ss id (records.Savepoint x) refl)
     (kinds-no_more as_piece ss id (records.Savepoint x) refl)
+    (kinds-no_more as_touch ss id (records.Savepoint x) refl)
+    (kinds-no_more as_lock ss id (records.Savepoint x) refl)
     (kinds-no_more as_hist ss id (records.Savepoint x) refl)
+    (kinds-no_more as_mark ss id (records.Savepoint x) refl)
+    (kinds-no_more as_turn ss id (records.Savepoint x) refl)
 
--- ---- pieces go
-
--- a record of a kind of which no piece is stays
-stays : {A : Type 0} (as_kind : Record → Option A) (test : PieceRecord → Bool) → ((x : PieceRecord) → as_kind (records.Piece x) ≡ None) → (r : Record) (a : A) → as_kind r ≡ Some a → keeps test r ≡ true
-stays {A = A} as_kind test none (records.Piece x) a e = absurd (none_some (as_kind (records.Piece x)) (none x) e)
-  where
-    none_some : (o : Option A) → o ≡ None → o ≡ Some a → ⊥
-    none_some o f g = cc
-stays as_kind test none (records.Counters x) a e = refl
-stays as_kind test none (records.Table x) a e = refl
-stays as_kind test none (records.Space x) a e = refl
-stays as_kind test none (records.Version x) a e = refl
-stays as_kind test none (records.Savepoint x) a e = refl
-stays as_kind test none (records.Row x) a e = refl
-stays as_kind test none (records.Hist x) a e = refl
-
-pub parts-filtered : (ss : List Stored) (test : PieceRecord → Bool) → parts_of (filter (λ (s : Stored). keeps test s.record) ss) ≡ record (parts_of ss) { pieces = filter test (parts_of ss).pieces }
+pub parts-more_turn : (ss : List Stored) (id : ℕ) (x : Turn) → parts_of (ss ++ stored id (records.Turn x) ∷ []) ≡ record (parts_of ss) { turns = (parts_of ss).turns ++ x ∷ [] }
 unfolding parts_of
-parts-filtered ss test = made_same
-    (kinds-kept as_counters (λ (s : Stored). keeps test s.record) (λ s a. stays as_counters test (λ x. refl) s.record a) ss)
-    (kinds-kept as_table (λ (s : Stored). keeps test s.record) (λ s a. stays as_table test (λ x. refl) s.record a) ss)
-    (kinds-kept as_space (λ (s : Stored). keeps test s.record) (λ s a. stays as_space test (λ x. refl) s.record a) ss)
-    (kinds-kept as_version (λ (s : Stored). keeps test s.record) (λ s a. stays as_version test (λ x. refl) s.record a) ss)
-    (kinds-kept as_savepoint (λ (s : Stored). keeps test s.record) (λ s a. stays as_savepoint test (λ x. refl) s.record a) ss)
-    (kinds-kept as_row (λ (s : Stored). keeps test s.record) (λ s a. stays as_row test (λ x. refl) s.record a) ss)
-    (kinds-filter as_piece (λ (s : Stored). keeps test s.record) test (λ s a. of_piece s.record a) ss)
-    (kinds-kept as_hist (λ (s : Stored). keeps test s.record) (λ s a. stays as_hist test (λ x. refl) s.record a) ss)
-  where
-    some_piece : (x a : PieceRecord) → Some x ≡ Some a → x ≡ a
-    some_piece x a h = cc
+parts-more_turn ss id x = made_same
+    (kinds-no_more as_counters ss id (records.Turn x) refl)
+    (kinds-no_more as_table ss id (records.Turn x) refl)
+    (kinds-no_more as_space ss id (records.Turn x) refl)
+    (kinds-no_more as_version ss id (records.Turn x) refl)
+    (kinds-no_more as_savepoint ss id (records.Turn x) refl)
+    (kinds-no_more as_row ss id (records.Turn x) refl)
+    (kinds-no_more as_piece ss id (records.Turn x) refl)
+    (kinds-no_more as_touch ss id (records.Turn x) refl)
+    (kinds-no_more as_lock ss id (records.Turn x) refl)
+    (kinds-no_more as_hist ss id (records.Turn x) refl)
+    (kinds-no_more as_mark ss id (records.Turn x) refl)
+    (kinds-more as_turn ss id (records.Turn x) x refl)
 
-    of_piece : (r : Record) (a : PieceRecord) → as_piece r ≡ Some a → keeps test r ≡ test a
-    of_piece (records.Piece x) a e = ap test (some_piece x a e)
-    of_piece (records.Row x) a e = cc
-    of_piece (records.Table x) a e = cc
-    of_piece (records.Counters x) a e = cc
-    of_piece (records.Space x) a e = cc
-    of_piece (records.Version x) a e = cc
-    of_piece (records.Savepoint x) a e = cc
-    of_piece (records.Hist x) a e = cc
+-- a piece that is found is one of the pieces
+pub piece_found : (P : PieceRecord → Bool) (ss : List Stored) (id : ℕ) (x : PieceRecord) → record_at ss id ≡ Some (records.Piece x) → list_all P (parts_of ss).pieces ≡ true → P x ≡ true
+unfolding parts_of
+piece_found P ss id x found all = by_split (split_of ss id (records.Piece x) found)
+  where
+    by_split : Split ss id (records.Piece x) → P x ≡ true
+    by_split s = all_middle P x (kinds as_piece s.front) (kinds as_piece s.back)
+        (ap (list_all P) (sym (ap (kinds as_piece) s.is ∙ kinds-one as_piece s.front s.back id (records.Piece x) x refl)) ∙ all)
 
 -- ---- a table is made
 

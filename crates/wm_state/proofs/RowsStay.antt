@@ -1,19 +1,15 @@
 -- What a batch leaves as it is: the records of the ids that it does not have, and so each row.
-use Rattle.std.proofs.Common.{◌≡◌, ◌≢◌, ℕ, ◌+◌, ◌<◌, ◌==◌, Bool, true, false, List, [], ◌∷◌, ◌++◌, map, length, Some, refl, sym, ap, ◌∙◌, arith}
+use Rattle.std.proofs.Common.{◌≡◌, ◌≢◌, ℕ, ◌+◌, ◌<◌, ◌==◌, Bool, true, false, List, [], ◌∷◌, ◌++◌, map, Some, refl, sym, ap, ◌∙◌, arith}
 use Rattle.std.specs.List.{list_any}
 use Rattle.wm_spec.specs.Records.{record_at}
 use Rattle.wm_spec.specs.declared.record.Record.{Record}
 use Rattle.wm_spec.specs.declared.record.Record.TheVariants as records
 use Rattle.wm_spec.specs.declared.record.batch.Change.{Change}
-use Rattle.wm_spec.specs.declared.record.counters.Counters.{Counters}
-use Rattle.wm_spec.specs.declared.record.hist.Hist.{Hist}
-use Rattle.wm_spec.specs.declared.record.piece.PieceRecord.{PieceRecord}
 use Rattle.wm_spec.specs.declared.record.row.RowRecord.{RowRecord}
-use Rattle.wm_spec.specs.declared.record.space.Space.{Space}
 use Rattle.wm_spec.specs.declared.record.stored.Stored.{Stored}
 use Rattle.wm_state.specs.Batches.{AllUnder, drop_one, is_dropped}
 use Rattle.wm_state.specs.ById.{applied, set_at}
-use Rattle.wm_state.specs.Writes.{put_all, write_batch}
+use Rattle.wm_state.specs.Writes.{put_all}
 use Rattle.wm_state.proofs.ById.{either-none, eqb-apart}
 use Rattle.wm_state.proofs.ByKind.{under_found}
 use Rattle.wm_state.proofs.Putting.{set_other}
@@ -82,24 +78,3 @@ row_apart rs k id q r there other found same = bool_apart (sym (ap is_row (some_
 -- nor is a new one
 pub new_apart : (rs : List Stored) (next id : ℕ) (r : RowRecord) → AllUnder next rs → record_at rs id ≡ Some (records.Row r) → next ≢ id
 new_apart rs next id r under found = below_apart id next (under_found next rs id (records.Row r) under found)
-
--- ---- what entries leave
-
--- new rows, pieces and entries of a log do not have an id below theirs
-pub away_behind : (k id : ℕ) (rows : List RowRecord) (pieces : List PieceRecord) (hists : List Hist) → k < id
-    → AwayFrom k (put_all id (map records.Row rows) ++ (put_all (id + length rows) (map records.Piece pieces) ++ put_all (id + length rows + length pieces) (map records.Hist hists)))
-away_behind k id rows pieces hists lt =
-    away_append k (put_all id (map records.Row rows)) _ (away_put k id (map records.Row rows) lt)
-    (away_append k (put_all (id + length rows) (map records.Piece pieces)) _ (away_put k (id + length rows) (map records.Piece pieces) (behind (length rows)))
-    (away_put k (id + length rows + length pieces) (map records.Hist hists) (behind_both (length rows) (length pieces))))
-  where
-    behind : (m : ℕ) → k < id + m
-    behind m = omega (arith, lt)
-
-    behind_both : (m n : ℕ) → k < id + m + n
-    behind_both m n = omega (arith, lt)
-
--- the batch that writes entries does not have an id that is neither that of the counters nor that of the workspace, is not dropped and is below the new ones
-pub away_write : (k counters_id space_id id count : ℕ) (new : Counters) (a : Space) (ids : List ℕ) (rows : List RowRecord) (pieces : List PieceRecord) (hists : List Hist) → counters_id ≢ k → space_id ≢ k → is_dropped ids k ≡ false → k < id
-    → AwayFrom k (write_batch counters_id new space_id a count ids id rows pieces hists)
-away_write k counters_id space_id id count new a ids rows pieces hists counters space stays lt = (counters, (space, away_append k (map drop_one ids) _ (away_dropped k ids stays) (away_behind k id rows pieces hists lt)))

@@ -12,6 +12,8 @@ use Rattle.wm_state.proofs.Tests.{both, and_true, all_push, differ_push, none_if
 use Rattle.wm_state.proofs.Apart.{Ruled, ruled, keeps_all}
 use Rattle.wm_state.proofs.Standing.{FieldsStand-retabled, Stands-retabled}
 use Rattle.wm_state.proofs.Keeping.{le_of, le_itself, KeepTables-push, KeepSpaces-same, KeepVersions-same, KeepRows-same, are_savepoints-kept, are_rows-kept, are_pieces-kept, are_hists-kept, few-same}
+use Rattle.wm_state.proofs.KeepingTurns.{are_locks-kept, are_marks-kept, are_touches-kept}
+use Rattle.wm_state.proofs.Ready.{KeepReady-push}
 
 -- ---- the tables by number
 
@@ -127,6 +129,10 @@ keep-created p old new t may rules = keeps_all q new refl may.counters
     (are_rows-kept p q r.counters.next_stamp new.next_stamp stamps (KeepTables-push p q t refl) refl r.rows)
     (are_pieces-kept p q r.counters.next_stamp new.next_stamp stamps (KeepTables-push p q t refl) (KeepVersions-same p q refl) (KeepRows-same p q refl) refl r.pieces)
     (are_hists-kept p q r.counters.next_stamp new.next_stamp stamps (KeepTables-push p q t refl) (KeepSpaces-same p q refl) (KeepRows-same p q refl) refl r.hists)
+    (are_touches-kept p q (KeepTables-push p q t refl) (KeepSpaces-same p q refl) refl r.touches)
+    (are_locks-kept p q r.counters.work new.work work (KeepTables-push p q t refl) (KeepSpaces-same p q refl) refl r.locks)
+    (are_marks-kept p q (KeepTables-push p q t refl) (KeepSpaces-same p q refl) refl r.marks)
+    r.turns
   where
     q : Parts
     q = created p new t
@@ -153,12 +159,10 @@ tables_created p old new t s u st may tables = record { same = by_number-push p.
 pub FieldsStand-created : (p : Parts) (old new : Counters) (t : Table) (s u : Durable) → FieldsStand p s → MayCreate p old new t → u.spaces ≡ s.spaces → u.tables ≡ s.tables ++ t ∷ [] → CountersStand (created p new t) u
     → FieldsStand (created p new t) u
 FieldsStand-created p old new t s u st may spaces tables counters =
-    FieldsStand-retabled p (created p new t) s u (record { spaces = refl; versions = refl; savepoints = refl; rows = refl; pieces = refl; hists = refl }) st spaces (tables_created p old new t s u st.tables may tables) counters
+    FieldsStand-retabled p (created p new t) s u (record { rest = refl }) spaces st (tables_created p old new t s u st.tables may tables) counters
 
 -- and stand for it
 pub Stands-created : (p : Parts) (old new : Counters) (t : Table) (s u : Durable) → Stands p s → MayCreate p old new t → u.spaces ≡ s.spaces → u.tables ≡ s.tables ++ t ∷ [] → CountersStand (created p new t) u
     → Stands (created p new t) u
 Stands-created p old new t s u st may spaces tables counters =
-    Stands-retabled p (created p new t) s u (record { spaces = refl; versions = refl; savepoints = refl; rows = refl; pieces = refl; hists = refl }) st spaces
-    (tables_created p old new t s u st.tables may tables) counters
-    (keep-created p old new t may st.rules)
+    Stands-retabled p (created p new t) s u (record { rest = refl }) spaces st (tables_created p old new t s u st.tables may tables) counters (keep-created p old new t may st.rules) (KeepReady-push s.tables u.tables t tables)

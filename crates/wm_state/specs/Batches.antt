@@ -15,6 +15,7 @@ use Rattle.wm_spec.specs.declared.record.savepoint.Savepoint.{Savepoint}
 use Rattle.wm_spec.specs.declared.record.space.Space.{Space}
 use Rattle.wm_spec.specs.declared.record.version.Version.{Version}
 use Rattle.wm_spec.specs.declared.record.table.Table.{Table}
+use Rattle.wm_spec.specs.declared.record.turn.Turn.{Turn}
 use Rattle.wm_state.specs.State.{Readiness}
 
 -- a record takes the place of the one of its id, or is new
@@ -45,11 +46,11 @@ abbrev pub savepoint_batch : ℕ → Counters → ℕ → Space → ℕ → Save
 savepoint_batch counters_id counters space_id space id x =
     put counters_id (records.Counters counters) ∷ put space_id (records.Space space) ∷ put id (records.Savepoint x) ∷ []
 
--- a workspace is born at a savepoint that is made for it, with a version of its own
-abbrev pub birth_batch : ℕ → Counters → ℕ → Space → ℕ → Savepoint → Space → Version → List Change
-birth_batch counters_id counters space_id space id x child version =
+-- a workspace is born at a savepoint that is made for it, with a version of its own and the turn of its birth
+abbrev pub birth_batch : ℕ → Counters → ℕ → Space → ℕ → Savepoint → Space → Version → Turn → List Change
+birth_batch counters_id counters space_id space id x child version turn =
     savepoint_batch counters_id counters space_id space id x
-    ++ put (id + 1) (records.Space child) ∷ put (id + 2) (records.Version version) ∷ []
+    ++ put (id + 1) (records.Space child) ∷ put (id + 2) (records.Version version) ∷ put (id + 3) (records.Turn turn) ∷ []
 
 -- ---- what goes, and where new records come
 

@@ -3,11 +3,13 @@ use Rattle.std.specs.Prelude.{ℕ, ◌≡◌, ◌≤◌, ◌+◌, ◌*◌, ◌==
 use Rattle.std.specs.List.{filter, find, list_all, list_any}
 use Rattle.std.specs.Option.{option_map_or}
 use Rattle.std.specs.Str.{bytes_eq}
+use Rattle.std.specs.declared.alloc.Global.{Global}
+use Rattle.std.specs.declared.vec.Vec.{Vec}
 use Rattle.wm_base.specs.declared.instant.TheConstants.{END}
 use Rattle.wm_base.specs.declared.value.Value.{Value}
 use Rattle.wm_base.specs.declared.value.Value.TheVariants as values
 use Rattle.wm_graph.specs.Parts.{Parts, parts_of, space_of, table_of}
-use Rattle.wm_graph.specs.Rules.{is_short, is_table, keep_rules}
+use Rattle.wm_graph.specs.Rules.{has_key, is_short, is_table, keep_rules}
 use Rattle.wm_spec.specs.Lists.{Entry}
 use Rattle.wm_spec.specs.Records.{AreChanges, record_at}
 use Rattle.wm_spec.specs.declared.record.Record.{Record}
@@ -20,12 +22,14 @@ use Rattle.wm_spec.specs.declared.record.stored.Stored.{Stored}
 use Rattle.wm_spec.specs.declared.record.table.Table.{Table}
 use Rattle.wm_state.specs.ById.{applied}
 use Rattle.wm_state.specs.Drawing.{are_sorted}
+use Rattle.wm_state.specs.Effects.{IsFree, IsLeaf}
 use Rattle.wm_state.specs.Editing.{counter_limit, drafted_by, entry_of, line_work, number_limit, stand_of}
 use Rattle.wm_state.specs.Entries.{AreStamped, entry_keys, is_well}
 use Rattle.wm_state.specs.Points.{HasRoom, Point, implicit_of, next_place_at, point_at}
-use Rattle.wm_state.specs.Standing.{FieldsStand, Stands, by_number, space_after}
+use Rattle.wm_state.specs.Standing.{FieldsStand, Stands, by_number, latest, newest_first, space_after}
 use Rattle.wm_state.specs.State.{Durable, table_named}
 use Rattle.wm_state.specs.declared.edit.Edit.{Edit}
+use Rattle.wm_state.specs.declared.edit.NewEntry.{NewEntry}
 use Rattle.wm_state.specs.declared.edit.Edit.TheVariants as edits
 
 -- ---- texts
@@ -43,7 +47,10 @@ can_keep_entry e = list_all can_keep e.key && option_map_or (λ row. list_all ca
 abbrev pub is_kept : Record → Bool
 is_kept (records.Row r) = list_all can_keep r.values
 is_kept (records.Piece x) = list_all can_keep x.cells.key
+is_kept (records.Touch x) = list_all can_keep x.cells.key
+is_kept (records.Lock x) = list_all can_keep x.cells.key
 is_kept (records.Hist x) = list_all can_keep x.cells.key
+is_kept (records.Mark x) = list_all can_keep x.cells.key
 is_kept r = true
 
 -- so is what comes by a change
@@ -72,10 +79,10 @@ pub record CanEnable (p : Parts) (name : List ℕ) : Type 0 where
   pub table : Table
   pub named : table_named name (by_number p.tables) ≡ Some table
   pub off : table.versioned ≡ false
-  pub key : table.has_key ≡ true
+  pub key : has_key table ≡ true
 
--- the workspace is there, and the log has room; there are entries, all of a table that is there, which they fit, with the stamps that
--- come next; no key is above the next
+-- the workspace is there, and the log has room; there are entries, all of a table that is ready for rows, which they fit, with the stamps
+-- that come next; no key is above the next
 pub record CanAppend (p : Parts) (n : ℕ) (es : List Entry) : Type 0 where
   pub space : Space
   pub there : space_of p.spaces n ≡ Some space
@@ -83,6 +90,7 @@ pub record CanAppend (p : Parts) (n : ℕ) (es : List Entry) : Type 0 where
   pub one : p.counters ≡ counters ∷ []
   pub table : Table
   pub tabled : table_of p.tables table.number ≡ Some table
+  pub on : table.versioned ≡ true
   pub some : nat_lt 0 (length es) ≡ true
   pub stamped : AreStamped table.number counters.next_stamp es
   pub well : list_all (is_well (table_of p.tables)) es ≡ true
@@ -131,21 +139,21 @@ is_fork (edits.Save n name) = true
 is_fork (edits.Bear n at name) = true
 is_fork e = false
 
--- records differ at six ids at most, and rows, pieces and entries of logs are what they were
+-- but for counters, workspaces, versions, savepoints and turns the records are what they were
+abbrev pub ForksAlone : Parts → Parts → Type 0
+ForksAlone p q = record q { counters = p.counters; spaces = p.spaces; versions = p.versions; savepoints = p.savepoints; turns = p.turns } ≡ p
+
+-- records differ at six ids at most, and but for what forks change they are what they were
 pub record ChangesFew (old new : List Stored) : Type 0 where
   pub ids : List ℕ
   pub few : length ids ≤ 6
   pub others : (id : ℕ) → list_any (λ k. k == id) ids ≡ false → record_at new id ≡ record_at old id
-  pub rows : (parts_of new).rows ≡ (parts_of old).rows
-  pub pieces : (parts_of new).pieces ≡ (parts_of old).pieces
-  pub hists : (parts_of new).hists ≡ (parts_of old).hists
+  pub rest : ForksAlone (parts_of old) (parts_of new)
 
--- at most so many records are put or dropped, and rows, pieces and entries of logs are what they were
+-- at most so many records are put or dropped, and but for what forks change they are what they were
 pub record FewChanges (rs : List Stored) (most : ℕ) (changes : List Change) : Type 0 where
   pub count : length changes ≤ most
-  pub rows : (parts_of (applied changes rs)).rows ≡ (parts_of rs).rows
-  pub pieces : (parts_of (applied changes rs)).pieces ≡ (parts_of rs).pieces
-  pub hists : (parts_of (applied changes rs)).hists ≡ (parts_of rs).hists
+  pub rest : ForksAlone (parts_of rs) (parts_of (applied changes rs))
 
 -- the one record of counters tells of so much more work
 pub record WorksOn (old new : Parts) (work : ℕ) : Type 0 where
@@ -155,10 +163,14 @@ pub record WorksOn (old new : Parts) (work : ℕ) : Type 0 where
   pub same : new.counters ≡ after ∷ []
   pub more : after.work ≡ before.work + work
 
+-- nothing stands under the newest version of a workspace, and nothing names it
+abbrev pub IsSpare : Parts → ℕ → Type 0
+IsSpare p n = IsLeaf (latest p n) (newest_first p.versions) × IsFree p (latest p n)
+
 -- changes make of records what edits make of each state that they stand for, and of each state with which they agree in counters,
 -- tables, workspaces and savepoints, with so much work: the rules stay kept, no id changes twice, each row stays under its id, each value
--- that comes can be kept, without edits there are no changes, and where all edits make savepoints or workspaces, there are six changes at
--- most for each
+-- that comes can be kept, without edits there are no changes, where all edits make savepoints or workspaces, there are six changes at
+-- most for each, and entries that come into a workspace whose newest version is spare make no version
 pub record DraftsBy (work : ℕ) (rs : List Stored) (m : ℕ) (es : List Edit) (changes : List Change) : Type 0 where
   pub keeps : keep_rules (parts_of (applied changes rs)) ≡ true
   pub once : AreChanges changes
@@ -169,6 +181,7 @@ pub record DraftsBy (work : ℕ) (rs : List Stored) (m : ℕ) (es : List Edit) (
   pub counted : (es ≡ [] → ⊥) → WorksOn (parts_of rs) (parts_of (applied changes rs)) work
   pub nothing : es ≡ [] → changes ≡ []
   pub few : list_all is_fork es ≡ true → FewChanges rs (6 * length es) changes
+  pub spared : (n : ℕ) (entries : Vec NewEntry Global) → es ≡ edits.Append n entries ∷ [] → IsSpare (parts_of rs) n → (parts_of (applied changes rs)).versions ≡ (parts_of rs).versions
 
 -- and with the work of a line
 abbrev pub Drafts : List Stored → ℕ → List Edit → List Change → Type 0

@@ -10,7 +10,7 @@ use Rattle.wm_spec.specs.declared.record.table.Table.{Table}
 use Rattle.wm_state.specs.declared.edit.Edit.{Edit}
 use Rattle.wm_state.specs.declared.edit.Edit.TheVariants as edits
 use Rattle.wm_state.specs.declared.edit.NewEntry.{NewEntry}
-use Rattle.wm_state.specs.State.{Durable, Workspace, Savepoint, Stand, Latest, At, Readiness, kept, enabled, with_space, with_entries, with_savepoint, workspace_of, savepoint_made, table_named, next_making, next_space}
+use Rattle.wm_state.specs.State.{Durable, Workspace, Savepoint, Turn, Stand, Latest, At, Readiness, kept, enabled, with_space, with_entries, with_savepoint, workspace_of, savepoint_made, table_named, next_making, next_space}
 
 -- ---- what is counted
 
@@ -93,6 +93,10 @@ implicit_front = codes "ICP-"
 abbrev pub implicit_name : Workspace → List ℕ
 implicit_name w = implicit_front ++ decimal w.next_implicit
 
+-- what a workspace that is born at a savepoint takes of its parent
+abbrev pub turn_at_birth : Savepoint → Turn
+turn_at_birth k = record { log_length = k.log_length; rebases = k.rebases; content = kept k }
+
 -- a workspace that is born at a moment, at a savepoint of another
 abbrev pub child_of : ℕ → List Workspace → Workspace → Savepoint → List ℕ → Workspace
 child_of m spaces w k name = record {
@@ -109,6 +113,7 @@ child_of m spaces w k name = record {
   freeze = Free;
   writer = [];
   savepoints = [];
+  turns = turn_at_birth k ∷ [];
 }
 
 -- the state with a workspace more, born at a savepoint that is made for it

@@ -5,6 +5,8 @@ use Rattle.std.specs.Option.{option_map}
 use Rattle.wm_graph.specs.Parts.{Parts, space_of, version_of}
 use Rattle.wm_spec.specs.Lists.{Cell}
 use Rattle.wm_spec.specs.declared.record.space.Space.{Space}
+use Rattle.wm_spec.specs.declared.record.trace.Trace.{Trace}
+use Rattle.wm_spec.specs.declared.record.turn.Turn.{Turn}
 use Rattle.wm_tree.specs.Versions.{AllBelow}
 use Rattle.wm_tree.specs.declared.version.Version.{Version as Node}
 use Rattle.wm_spec.specs.declared.record.savepoint.Savepoint.{Savepoint}
@@ -45,12 +47,7 @@ pub record Forked (p q : Parts) (n number : ℕ) : Type 0 where
   pub versions : newest_first q.versions ≡ node_under p n number ∷ newest_first p.versions
   pub above : (r : Space) → space_of p.spaces n ≡ Some r → (number == r.base_version) ≡ false
   pub empty : (c : Cell) → stored_at p.pieces number c ≡ None
-  pub tables : q.tables ≡ p.tables
-  pub spaces : q.spaces ≡ p.spaces
-  pub savepoints : q.savepoints ≡ p.savepoints
-  pub rows : q.rows ≡ p.rows
-  pub pieces : q.pieces ≡ p.pieces
-  pub hists : q.hists ≡ p.hists
+  pub rest : record q { counters = p.counters; versions = p.versions } ≡ p
 
 -- the workspace's record, the next place and the next number of an implicit savepoint being these
 abbrev pub marked : ℕ → ℕ → Space → Space
@@ -64,15 +61,11 @@ pub record Saved (p q : Parts) (n place implicit : ℕ) (x : Savepoint) : Type 0
   pub count : length q.spaces ≡ length p.spaces
   pub here : space_of q.spaces n ≡ option_map (marked place implicit) (space_of p.spaces n)
   pub elsewhere : (m : ℕ) → (m == n) ≡ false → space_of q.spaces m ≡ space_of p.spaces m
-  pub tables : q.tables ≡ p.tables
-  pub versions : q.versions ≡ p.versions
-  pub rows : q.rows ≡ p.rows
-  pub pieces : q.pieces ≡ p.pieces
-  pub hists : q.hists ≡ p.hists
+  pub rest : record q { counters = p.counters; spaces = p.spaces; savepoints = p.savepoints } ≡ p
 
--- a workspace is born, with a version of this number of its own under the one that it is born from; but for counters all else is as
--- it was
-pub record Born (p q : Parts) (r : Space) (number : ℕ) : Type 0 where
+-- a workspace is born, with a version of this number of its own under the one that it is born from, and with this turn; but for counters
+-- all else is as it was
+pub record Born (p q : Parts) (r : Space) (number : ℕ) (turn : Turn) : Type 0 where
   pub child : 0 < r.number
   pub none : space_of p.spaces r.number ≡ None
   pub unsaved : list_any (λ (x : Savepoint). x.space == r.number) p.savepoints ≡ false
@@ -83,8 +76,11 @@ pub record Born (p q : Parts) (r : Space) (number : ℕ) : Type 0 where
   pub empty : (c : Cell) → stored_at p.pieces number c ≡ None
   pub count : length q.spaces ≡ length p.spaces + 1
   pub spaces : (m : ℕ) → space_of q.spaces m ≡ (if m == r.number then Some r else space_of p.spaces m)
-  pub tables : q.tables ≡ p.tables
-  pub savepoints : q.savepoints ≡ p.savepoints
-  pub rows : q.rows ≡ p.rows
-  pub pieces : q.pieces ≡ p.pieces
-  pub hists : q.hists ≡ p.hists
+  pub rebases : r.rebases ≡ 0
+  pub unturned : list_any (λ (x : Turn). x.space == r.number) p.turns ≡ false
+  pub untouched : list_any (λ (x : Trace). x.space == r.number) p.touches ≡ false
+  pub turns : q.turns ≡ p.turns ++ turn ∷ []
+  pub turn_space : turn.space ≡ r.number
+  pub turn_number : turn.rebase ≡ 0
+  pub turn_from : turn.log_length ≡ r.from
+  pub rest : record q { counters = p.counters; spaces = p.spaces; versions = p.versions; turns = p.turns } ≡ p

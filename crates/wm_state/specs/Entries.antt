@@ -1,5 +1,5 @@
 -- Entries that one line writes in one table: what is asked of them, and their rows and pieces.
-use Rattle.std.specs.Prelude.{ℕ, ◌≡◌, ◌+◌, Bool, true, false, ◌&&◌, nat_lt, nat_le, List, [], ◌∷◌, map, is_none, Option}
+use Rattle.std.specs.Prelude.{ℕ, ◌≡◌, ◌+◌, Bool, true, false, ◌&&◌, nat_lt, nat_le, if◌then◌else◌, List, [], ◌∷◌, map, is_none, Option}
 use Rattle.std.specs.List.{filter_map}
 use Rattle.std.specs.Option.{option_map, option_map_or}
 use Rattle.wm_base.specs.declared.instant.TheConstants.{END}
@@ -11,6 +11,7 @@ use Rattle.wm_spec.specs.declared.record.hist.Hist.{Hist}
 use Rattle.wm_spec.specs.declared.record.piece.PieceRecord.{PieceRecord}
 use Rattle.wm_spec.specs.declared.record.row.RowRecord.{RowRecord}
 use Rattle.wm_spec.specs.declared.record.table.Table.{Table}
+use Rattle.wm_state.specs.Standing.{has_history}
 
 -- ---- what is asked of them
 
@@ -76,7 +77,8 @@ hist_of n position e = record {
   user = e.user;
 }
 
--- and those of all of them, from a position on
-abbrev pub hists_from : ℕ → ℕ → List Entry → List Hist
-hists_from n position [] = []
-hists_from n position (e ∷ es) = hist_of n position e ∷ hists_from n (position + 1) es
+-- and those of the ones whose table keeps its history, from a position on
+abbrev pub hists_kept : List Table → ℕ → ℕ → List Entry → List Hist
+hists_kept tables n position [] = []
+hists_kept tables n position (e ∷ es) =
+    if has_history tables e.table then hist_of n position e ∷ hists_kept tables n (position + 1) es else hists_kept tables n (position + 1) es

@@ -8,5 +8,6 @@ pub mod Batches
 pub mod Listing
 pub mod Entries
 pub mod Drawing
+pub mod Touching
 pub mod Writes
 pub mod Drafts

@@ -10,6 +10,7 @@ use Rattle.wm_spec.specs.declared.record.counters.Counters.{Counters}
 use Rattle.wm_spec.specs.declared.record.savepoint.Savepoint.{Savepoint}
 use Rattle.wm_spec.specs.declared.record.space.FreezeMode.TheVariants.{Free}
 use Rattle.wm_spec.specs.declared.record.space.Space.{Space}
+use Rattle.wm_spec.specs.declared.record.turn.Turn.{Turn}
 use Rattle.wm_spec.specs.declared.record.version.Version.{Version}
 use Rattle.wm_state.specs.Editing.{implicit_front}
 use Rattle.wm_state.specs.State.{Stand, Latest, At}
@@ -135,6 +136,10 @@ child_record p a m name pt = record {
 -- and its version
 abbrev pub child_version : Parts → Counters → Point → Version
 child_version p c pt = record { number = c.next_version; space = space_after p.spaces; parent = pt.version }
+
+-- and the turn of its birth
+abbrev pub child_turn : Parts → Point → Turn
+child_turn p pt = record { space = space_after p.spaces; rebase = 0; log_length = pt.log_length; rebases = pt.rebases }
 
 -- ---- what is asked
 

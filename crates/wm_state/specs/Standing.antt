@@ -1,18 +1,19 @@
 -- Records that stand for a state. The records have one set of pieces, found through the paths of versions; the state has a
 -- whole list for each workspace.
-use Rattle.std.specs.Prelude.{ℕ, ◌≡◌, ◌+◌, ◌<◌, Bool, true, false, ◌&&◌, ◌||◌, ◌==◌, nat_le, nat_lt, max, if◌then◌else◌, List, [], ◌∷◌, map, length, slice_get, is_none, is_some, Option, None, Some}
+use Rattle.std.specs.Prelude.{ℕ, ◌≡◌, ◌+◌, ◌<◌, ◌≤◌, Bool, true, false, ◌&&◌, ◌||◌, ◌==◌, nat_le, nat_lt, max, if◌then◌else◌, List, [], ◌∷◌, map, length, slice_get, take, is_none, is_some, Option, None, Some}
 use Rattle.std.specs.Bool.{then_some}
 use Rattle.std.specs.List.{All, filter, find, list_all, list_any}
-use Rattle.std.specs.Option.{option_or, option_map}
+use Rattle.std.specs.Option.{option_or, option_map, option_map_or, option_and_then}
 use Rattle.std.specs.Ordering.{is_eq}
 use Rattle.wm_base.specs.Key.{key_order}
+use Rattle.wm_base.specs.declared.instant.TheConstants.{END}
 use Rattle.wm_base.specs.declared.kind.Kind.{Kind}
 use Rattle.wm_base.specs.declared.row.Row.{Row}
 use Rattle.wm_base.specs.declared.stamp.Stamp.{Stamp}
-use Rattle.wm_graph.specs.Parts.{Parts, row_of, space_of}
+use Rattle.wm_graph.specs.Parts.{Parts, row_of, space_of, table_of}
 use Rattle.wm_graph.specs.Rules.{keep_rules, differ}
 use Rattle.wm_period.specs.Pieces.{Held}
-use Rattle.wm_spec.specs.Lists.{Cell, Entry, Told, told, touched}
+use Rattle.wm_spec.specs.Lists.{Cell, Entry, Told, reach, told, touched}
 use Rattle.wm_spec.specs.declared.record.cell_range.CellRange.{CellRange}
 use Rattle.wm_spec.specs.declared.record.counters.Counters.{Counters}
 use Rattle.wm_spec.specs.declared.record.hist.Hist.{Hist}
@@ -21,11 +22,13 @@ use Rattle.wm_spec.specs.declared.record.row.RowRecord.{RowRecord}
 use Rattle.wm_spec.specs.declared.record.space.FreezeMode.{FreezeMode}
 use Rattle.wm_spec.specs.declared.record.space.Space.{Space}
 use Rattle.wm_spec.specs.declared.record.table.Table.{Table}
+use Rattle.wm_spec.specs.declared.record.trace.Trace.{Trace}
+use Rattle.wm_spec.specs.declared.record.turn.Turn.{Turn as TurnRecord}
 use Rattle.wm_spec.specs.declared.record.version.Version.{Version}
 use Rattle.wm_tree.specs.Versions.{grow, latest_in}
 use Rattle.wm_tree.specs.declared.version.Version.{Version as Node}
 use Rattle.wm_spec.specs.declared.record.savepoint.Savepoint.{Savepoint as Record}
-use Rattle.wm_state.specs.State.{Durable, Workspace, Savepoint, content, kept, workspace_of, savepoint_made, savepoints_of, log_of}
+use Rattle.wm_state.specs.State.{Durable, Workspace, Savepoint, Turn, content, kept, workspace_of, savepoint_made, savepoints_of, turn_of, turns_of, log_of}
 
 -- ---- what versions hold
 
@@ -97,13 +100,13 @@ first_in [] space version = None
 first_in (x ∷ older) space version =
     if x.number == version then (if x.space == space then Some version else first_in older space x.parent) else first_in older space version
 
--- the path of a version leads up: the first version of its workspace's parent on it is there, and holds at each cell what the workspace
--- was born with, and its own path leads up
-pub data Climbs (p : Parts) (spaces : List Workspace) : ℕ → ℕ → Type 0 where
+-- the path of a version leads up from a point with so many rebases: the first version of its workspace's parent on it is there, and
+-- holds at each cell what the workspace's turn of that number took, and its own path leads up from the point that the turn names
+pub data Climbs (p : Parts) (spaces : List Workspace) : ℕ → ℕ → ℕ → Type 0 where
   -- LIVE has no parent
-  Top : {version n : ℕ} → n ≡ 0 → Climbs p spaces version n
-  Up : {version n : ℕ} (u : ℕ) (w : Workspace) → workspace_of spaces n ≡ Some w → first_in (newest_first p.versions) w.parent version ≡ Some u
-      → ((c : Cell) → seen p u c ≡ option_map held_of (told w.lists.at_birth c)) → Climbs p spaces u w.parent → Climbs p spaces version n
+  Top : {version n r : ℕ} → n ≡ 0 → Climbs p spaces version n r
+  Up : {version n r : ℕ} (u : ℕ) (w : Workspace) (t : Turn) → workspace_of spaces n ≡ Some w → turn_of w r ≡ Some t → first_in (newest_first p.versions) w.parent version ≡ Some u
+      → ((c : Cell) → seen p u c ≡ option_map held_of (told t.content c)) → Climbs p spaces u w.parent t.rebases → Climbs p spaces version n r
 
 -- a version is on the path of another one, above a base
 abbrev pub is_above : List Node → ℕ → ℕ → ℕ → Bool
@@ -289,52 +292,9 @@ pub record OnceStand (p : Parts) (s : Durable) : Type 0 where
   pub numbers : differ (λ (v w : Workspace). v.number == w.number) s.spaces ≡ true
   pub count : length p.spaces ≡ length s.spaces
 
--- the newest version of a workspace holds at each cell what its content holds
-pub record LatestStand (p : Parts) (s : Durable) : Type 0 where
-  pub told : (n : ℕ) (w : Workspace) → workspace_of s.spaces n ≡ Some w → (c : Cell) → shown p n c ≡ option_map held_of (told (content w) c)
-
--- what stands above the base of a workspace covers the cells of its own changes, and no others
-pub record OwnStand (p : Parts) (s : Durable) : Type 0 where
-  pub covered : (n : ℕ) (w : Workspace) (r : Space) → workspace_of s.spaces n ≡ Some w → space_of p.spaces n ≡ Some r → (c : Cell) → is_some (owned p r.base_version n c) ≡ touched w.lists.own c
-
 -- the records of the savepoints of each workspace, by making, have the fields of its savepoints
 pub record SavepointsStand (p : Parts) (s : Durable) : Type 0 where
   pub same : (n : ℕ) → map saved_fields (saved_in p n) ≡ map fields_saved (savepoints_of s.spaces n)
-
--- the version of a savepoint holds at each cell what stood there, and in a workspace with a parent the version under its own holds at
--- each cell its copy of its parent's content there
-pub record KeptStand (p : Parts) (s : Durable) : Type 0 where
-  pub base : (n making : ℕ) (w : Workspace) (k : Savepoint) (x : Record) → 0 < n → workspace_of s.spaces n ≡ Some w → savepoint_made making w.savepoints ≡ Some k → saved_as p n making ≡ Some x
-      → (c : Cell) → seen p x.base_version c ≡ option_map held_of (told k.base c)
-  pub told : (n making : ℕ) (w : Workspace) (k : Savepoint) (x : Record) → workspace_of s.spaces n ≡ Some w → savepoint_made making w.savepoints ≡ Some k → saved_as p n making ≡ Some x
-      → (c : Cell) → seen p x.version c ≡ option_map held_of (told (kept k) c)
-
--- what stands above its base covers the cells of the workspace's own changes there, where the workspace was not rebased since
-pub record KeptOwnStand (p : Parts) (s : Durable) : Type 0 where
-  pub covered : (n making : ℕ) (w : Workspace) (k : Savepoint) (x : Record) → workspace_of s.spaces n ≡ Some w → savepoint_made making w.savepoints ≡ Some k → saved_as p n making ≡ Some x
-      → k.rebases ≡ w.rebases → (c : Cell) → is_some (seen_above p x.base_version x.version c) ≡ touched k.own c
-
--- in a workspace with a parent, the versions that it was born from and that it sees under its own hold at each cell what it was born
--- with, and its copy of its parent's content
-pub record BasesStand (p : Parts) (s : Durable) : Type 0 where
-  pub birth : (n : ℕ) (w : Workspace) (r : Space) → 0 < n → workspace_of s.spaces n ≡ Some w → space_of p.spaces n ≡ Some r → (c : Cell) → seen p r.birth_version c ≡ option_map held_of (told w.lists.at_birth c)
-  pub base : (n : ℕ) (w : Workspace) (r : Space) → 0 < n → workspace_of s.spaces n ≡ Some w → space_of p.spaces n ≡ Some r → (c : Cell) → seen p r.base_version c ≡ option_map held_of (told w.lists.base c)
-
--- the path of each version that is named leads up: of the newest one of a workspace, of those of its savepoints, and in a workspace with
--- a parent of those that it was born from and that it and its savepoints see under their own, which are its parent's
-pub record PathsStand (p : Parts) (s : Durable) : Type 0 where
-  pub latest : (n : ℕ) (w : Workspace) → workspace_of s.spaces n ≡ Some w → Climbs p s.spaces (latest p n) n
-  pub kept : (n making : ℕ) (w : Workspace) (x : Record) → workspace_of s.spaces n ≡ Some w → saved_as p n making ≡ Some x → Climbs p s.spaces x.version n
-  pub births : (n : ℕ) (w : Workspace) (r : Space) → 0 < n → workspace_of s.spaces n ≡ Some w → space_of p.spaces n ≡ Some r → Climbs p s.spaces r.birth_version w.parent
-  pub bases : (n : ℕ) (w : Workspace) (r : Space) → 0 < n → workspace_of s.spaces n ≡ Some w → space_of p.spaces n ≡ Some r → Climbs p s.spaces r.base_version w.parent
-  pub kept_bases : (n making : ℕ) (w : Workspace) (x : Record) → 0 < n → workspace_of s.spaces n ≡ Some w → saved_as p n making ≡ Some x → Climbs p s.spaces x.base_version w.parent
-
--- each piece that stands above the base of a workspace ends where its own changes do, and so it was at each savepoint of it, where it
--- was not rebased since
-pub record EndsStand (p : Parts) (s : Durable) : Type 0 where
-  pub own : (n : ℕ) (w : Workspace) (r : Space) → workspace_of s.spaces n ≡ Some w → space_of p.spaces n ≡ Some r → have_ends p r.base_version (latest p n) w.lists.own ≡ true
-  pub kept : (n making : ℕ) (w : Workspace) (k : Savepoint) (x : Record) → workspace_of s.spaces n ≡ Some w → savepoint_made making w.savepoints ≡ Some k → saved_as p n making ≡ Some x
-      → k.rebases ≡ w.rebases → have_ends p x.base_version x.version k.own ≡ true
 
 -- the row of each entry that a list holds at a cell stands under its stamp
 abbrev pub HasRows : Parts → List Entry → Type 0
@@ -344,18 +304,132 @@ HasRows p es = (c : Cell) (t : Told) (row : Row) → told es c ≡ Some t → t.
 abbrev pub HasRow : Parts → Entry → Type 0
 HasRow p e = (row : Row) → e.row ≡ Some row → option_map (λ (r : RowRecord). r.values) (row_of p.rows e.stamp) ≡ Some row.values
 
--- so it is of each list that a workspace or a savepoint has, and of each entry of a log
-pub record RowsStand (p : Parts) (s : Durable) : Type 0 where
-  pub there : (n : ℕ) (w : Workspace) → workspace_of s.spaces n ≡ Some w → HasRows p (content w)
-  pub births : (n : ℕ) (w : Workspace) → workspace_of s.spaces n ≡ Some w → HasRows p w.lists.at_birth
-  pub bases : (n : ℕ) (w : Workspace) → workspace_of s.spaces n ≡ Some w → HasRows p w.lists.base
-  pub saved : (n making : ℕ) (w : Workspace) (k : Savepoint) → workspace_of s.spaces n ≡ Some w → savepoint_made making w.savepoints ≡ Some k → HasRows p (kept k)
-  pub saved_bases : (n making : ℕ) (w : Workspace) (k : Savepoint) → workspace_of s.spaces n ≡ Some w → savepoint_made making w.savepoints ≡ Some k → HasRows p k.base
-  pub logs : (n : ℕ) → All (HasRow p) (log_of s.spaces n)
+-- a version that a record names, for which workspace, with how many rebases of it, and the content that it tells: the newest of a
+-- workspace, that of a savepoint; and, as versions of its parent, those that a workspace with a parent was born from, sees under its
+-- own, and saw so at a savepoint
+pub data Names (p : Parts) (d : Durable) : ℕ → ℕ → ℕ → List Entry → Type 0 where
+  Newest : {n : ℕ} (w : Workspace) → workspace_of d.spaces n ≡ Some w → Names p d (latest p n) n w.rebases (content w)
+  Kept : {n : ℕ} (making : ℕ) (w : Workspace) (k : Savepoint) (x : Record) → workspace_of d.spaces n ≡ Some w → savepoint_made making w.savepoints ≡ Some k → saved_as p n making ≡ Some x
+      → Names p d x.version n k.rebases (kept k)
+  Birth : {n : ℕ} (w : Workspace) (r : Space) (t : Turn) → 0 < n → workspace_of d.spaces n ≡ Some w → space_of p.spaces n ≡ Some r → turn_of w 0 ≡ Some t
+      → Names p d r.birth_version w.parent t.rebases t.content
+  Base : {n : ℕ} (w : Workspace) (r : Space) (t : Turn) → 0 < n → workspace_of d.spaces n ≡ Some w → space_of p.spaces n ≡ Some r → turn_of w w.rebases ≡ Some t
+      → Names p d r.base_version w.parent t.rebases t.content
+  KeptBase : {n : ℕ} (making : ℕ) (w : Workspace) (k : Savepoint) (x : Record) (t : Turn) → 0 < n → workspace_of d.spaces n ≡ Some w → savepoint_made making w.savepoints ≡ Some k
+      → saved_as p n making ≡ Some x → turn_of w k.rebases ≡ Some t → Names p d x.base_version w.parent t.rebases t.content
 
--- each position of each workspace's log has a record of its entry, and there is no other
-pub record HistsStand (p : Parts) (s : Durable) : Type 0 where
-  pub same : (n position : ℕ) → option_map logged (hist_at p.hists n position) ≡ option_map logged_as (slice_get (log_of s.spaces n) position)
+-- a version holds at each cell what it tells, its path leads up, and the rows of what it tells are there
+pub record Tells (p : Parts) (spaces : List Workspace) (v n r : ℕ) (es : List Entry) : Type 0 where
+  pub holds : (c : Cell) → seen p v c ≡ option_map held_of (told es c)
+  pub climbs : Climbs p spaces v n r
+  pub rows : HasRows p es
+
+-- so does each that is named
+pub record NamedStand (p : Parts) (d : Durable) : Type 0 where
+  pub tells : (v n r : ℕ) (es : List Entry) → Names p d v n r es → Tells p d.spaces v n r es
+
+-- a base, a version above it, and the entries that are its own: of a workspace, and of each savepoint of it with its number of rebases
+pub data Owns (p : Parts) (d : Durable) : ℕ → ℕ → List Entry → Type 0 where
+  Own : (n : ℕ) (w : Workspace) (r : Space) → workspace_of d.spaces n ≡ Some w → space_of p.spaces n ≡ Some r → Owns p d r.base_version (latest p n) w.lists.own
+  KeptOwn : (n making : ℕ) (w : Workspace) (k : Savepoint) (x : Record) → workspace_of d.spaces n ≡ Some w → savepoint_made making w.savepoints ≡ Some k → saved_as p n making ≡ Some x
+      → k.rebases ≡ w.rebases → Owns p d x.base_version x.version k.own
+
+-- what stands above a base covers the cells of these entries and no others, and each piece there ends where they do
+pub record Covers (p : Parts) (base version : ℕ) (es : List Entry) : Type 0 where
+  pub cells : (c : Cell) → is_some (seen_above p base version c) ≡ touched es c
+  pub ends : have_ends p base version es ≡ true
+
+-- so it is of each, and no savepoint has more rebases than its workspace
+pub record OwnsStand (p : Parts) (d : Durable) : Type 0 where
+  pub covers : (base version : ℕ) (es : List Entry) → Owns p d base version es → Covers p base version es
+  pub past : (n making : ℕ) (w : Workspace) (k : Savepoint) → workspace_of d.spaces n ≡ Some w → savepoint_made making w.savepoints ≡ Some k → k.rebases ≤ w.rebases
+
+-- ---- turns
+
+-- what the record of a turn and the turn itself have in common
+pub record TurnFields : Type 0 where
+  pub log_length : ℕ
+  pub rebases : ℕ
+
+abbrev pub turned : TurnRecord → TurnFields
+turned x = record { log_length = x.log_length; rebases = x.rebases }
+
+abbrev pub turned_in : Turn → TurnFields
+turned_in t = record { log_length = t.log_length; rebases = t.rebases }
+
+-- the record of a turn of a workspace
+abbrev pub turn_at : List TurnRecord → ℕ → ℕ → Option TurnRecord
+turn_at turns n number = find (λ (x : TurnRecord). (x.space == n) && (x.rebase == number)) turns
+
+-- a workspace with a parent has a turn for its birth and one for each rebase; each turn has a record of its fields, and a turn that a
+-- workspace does not have has none
+pub record TurnsStand (p : Parts) (d : Durable) : Type 0 where
+  pub counted : (n : ℕ) (w : Workspace) → 0 < n → workspace_of d.spaces n ≡ Some w → length w.turns ≡ w.rebases + 1
+  pub same : (n number : ℕ) → option_map turned (turn_at p.turns n number) ≡ option_map turned_in (slice_get (turns_of d.spaces n) number)
+
+-- ---- touched cells
+
+-- the cells have this one
+abbrev pub in_cells : CellRange → Cell → Bool
+in_cells r c = ((r.table == c.table) && is_eq (key_order r.key c.key)) && (nat_le r.from c.time && nat_lt c.time r.till)
+
+-- one more than the greatest last position of the touches of a workspace, made below a place, that cover a cell; 0 where there is none
+abbrev pub reached : List Trace → ℕ → ℕ → Cell → ℕ
+reached [] n below c = 0
+reached (x ∷ xs) n below c = max (if ((x.space == n) && nat_lt x.place below) && in_cells x.cells c then x.position + 1 else 0) (reached xs n below c)
+
+-- the touches of a workspace made below a place end where entries do
+abbrev pub touches_end : List Trace → ℕ → ℕ → List Entry → Bool
+touches_end xs n below es = list_all (λ (x : Trace). if (x.space == n) && nat_lt x.place below then has_ends es x.cells else true) xs
+
+-- the touches of a workspace made below a place tell a log: at each cell the last position of an entry that covers it, and they end
+-- where entries do
+pub record TouchesTell (touches : List Trace) (n below : ℕ) (log : List Entry) : Type 0 where
+  pub reaches : (c : Cell) → reached touches n below c ≡ reach log c
+  pub ends : touches_end touches n below log ≡ true
+
+-- all of them tell the log of the workspace, and those below the place of a savepoint what the log was there
+pub record TouchesStand (p : Parts) (d : Durable) : Type 0 where
+  pub latest : (n : ℕ) (w : Workspace) → workspace_of d.spaces n ≡ Some w → TouchesTell p.touches n w.next_place w.lists.log
+  pub kept : (n making : ℕ) (w : Workspace) (k : Savepoint) → workspace_of d.spaces n ≡ Some w → savepoint_made making w.savepoints ≡ Some k → TouchesTell p.touches n k.place (take k.log_length w.lists.log)
+
+-- nothing is locked, and nothing settled
+pub record LaterStand (p : Parts) : Type 0 where
+  pub locks : p.locks ≡ []
+  pub marks : p.marks ≡ []
+
+-- ---- logs
+
+-- the table of this number keeps its history
+abbrev pub has_history : List Table → ℕ → Bool
+has_history tables number = option_map_or (λ (t : Table). t.history) (table_of tables number) false
+
+-- the table of this number is ready for rows
+abbrev pub is_ready : List Table → ℕ → Bool
+is_ready tables number = option_map_or (λ (t : Table). t.versioned) (table_of tables number) false
+
+-- each position of each workspace's log whose entry is of a table with history has a record of the entry, and there is no other
+pub record HistsStand (p : Parts) (d : Durable) : Type 0 where
+  pub same : (n position : ℕ) → option_map logged (hist_at p.hists n position) ≡ option_and_then (λ (e : Entry). then_some (has_history d.tables e.table) (logged_as e)) (slice_get (log_of d.spaces n) position)
+
+-- an entry over a period, of a table that is ready for rows
+pub record IsReal (tables : List Table) (e : Entry) : Type 0 where
+  pub some : e.from < e.till
+  pub till : e.till ≤ END
+  pub on : is_ready tables e.table ≡ true
+
+-- so is each of a log, and of what a workspace or a savepoint has of its own
+pub record EntriesStand (d : Durable) : Type 0 where
+  pub logs : (n : ℕ) → All (IsReal d.tables) (log_of d.spaces n)
+  pub own : (n : ℕ) (w : Workspace) → workspace_of d.spaces n ≡ Some w → All (IsReal d.tables) w.lists.own
+  pub kept : (n making : ℕ) (w : Workspace) (k : Savepoint) → workspace_of d.spaces n ≡ Some w → savepoint_made making w.savepoints ≡ Some k → All (IsReal d.tables) k.own
+
+-- the row of each entry of a log that is of a table with history stands under its stamp, and so do the rows of what a turn took
+pub record RowsStand (p : Parts) (d : Durable) : Type 0 where
+  pub logs : (n : ℕ) → All (λ (e : Entry). has_history d.tables e.table ≡ true → HasRow p e) (log_of d.spaces n)
+  pub turns : (n number : ℕ) (w : Workspace) (t : Turn) → workspace_of d.spaces n ≡ Some w → turn_of w number ≡ Some t → HasRows p t.content
+
+-- ---- all of it
 
 -- the records agree with the state in counters, tables, workspaces and savepoints, whatever these hold
 pub record FieldsStand (p : Parts) (s : Durable) : Type 0 where
@@ -372,13 +446,12 @@ pub record Stands (p : Parts) (s : Durable) : Type 0 where
   pub tables : TablesStand p s
   pub spaces : SpacesStand p s
   pub once : OnceStand p s
-  pub latest : LatestStand p s
-  pub own : OwnStand p s
   pub savepoints : SavepointsStand p s
-  pub kept : KeptStand p s
-  pub kept_own : KeptOwnStand p s
-  pub bases : BasesStand p s
-  pub paths : PathsStand p s
-  pub ends : EndsStand p s
-  pub rows : RowsStand p s
+  pub named : NamedStand p s
+  pub owns : OwnsStand p s
+  pub turns : TurnsStand p s
+  pub touches : TouchesStand p s
+  pub later : LaterStand p
   pub hists : HistsStand p s
+  pub entries : EntriesStand s
+  pub rows : RowsStand p s

@@ -1,5 +1,5 @@
 -- The state between two lines. Each workspace has whole lists of its own: no version, no piece, no page is known here.
-use Rattle.std.specs.Prelude.{ℕ, ◌+◌, Bool, true, ◌==◌, if◌then◌else◌, List, [], ◌∷◌, ◌++◌, max, length, Option, Some, None, codes}
+use Rattle.std.specs.Prelude.{ℕ, ◌+◌, Bool, true, ◌==◌, if◌then◌else◌, List, [], ◌∷◌, ◌++◌, max, length, slice_get, Option, Some, None, codes}
 use Rattle.std.specs.List.{find}
 use Rattle.std.specs.Str.{bytes_eq}
 use Rattle.wm_base.specs.Period.{Span}
@@ -16,6 +16,13 @@ pub record Contents : Type 0 where
   pub own : List Entry
   pub log : List Entry
 
+-- a turn of a workspace, its birth or a rebase: how long its parent's log was, how often the parent had been rebased, and what stood in
+-- the parent there
+pub record Turn : Type 0 where
+  pub log_length : ℕ
+  pub rebases : ℕ
+  pub content : List Entry
+
 -- what stood in a workspace at a place: its copy of its parent's content and its own changes, and what was counted of it there.
 -- making: which savepoint of the store it is; implicit: it was made for a workspace that was born there; moment: when its
 -- place was made; from, log_length, rebases: those of the workspace there
@@ -31,7 +38,8 @@ pub record Savepoint : Type 0 where
   pub log_length : ℕ
   pub rebases : ℕ
 
--- parent is 0 in LIVE, whose number is 0; from: the length of the parent's log when base was taken; savepoints: by making
+-- parent is 0 in LIVE, whose number is 0; from: the length of the parent's log when base was taken; savepoints: by making; turns: none
+-- in LIVE, and in every other the birth and then each rebase
 pub record Workspace : Type 0 where
   pub number : ℕ
   pub name : List ℕ
@@ -46,6 +54,7 @@ pub record Workspace : Type 0 where
   pub freeze : FreezeMode
   pub writer : List ℕ
   pub savepoints : List Savepoint
+  pub turns : List Turn
 
 -- where a session stands in its workspace: at what is newest, or at the savepoint of this making
 pub data Stand : Type 0 where
@@ -104,6 +113,7 @@ fresh_live = record {
   freeze = Free;
   writer = [];
   savepoints = [];
+  turns = [];
 }
 
 -- a store that takes this many changes, before its first line
@@ -149,6 +159,18 @@ savepoints_of spaces number = of (workspace_of spaces number)
     of : Option Workspace → List Savepoint
     of None = []
     of (Some w) = w.savepoints
+
+-- the turn of a workspace of this number
+abbrev pub turn_of : Workspace → ℕ → Option Turn
+turn_of w number = slice_get w.turns number
+
+-- the turns of the workspace of this number
+abbrev pub turns_of : List Workspace → ℕ → List Turn
+turns_of spaces number = of (workspace_of spaces number)
+  where
+    of : Option Workspace → List Turn
+    of None = []
+    of (Some w) = w.turns
 
 -- the log of the workspace of this number
 abbrev pub log_of : List Workspace → ℕ → List Entry

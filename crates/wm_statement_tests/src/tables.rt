@@ -1,7 +1,7 @@
 //! The table BUD (ID NUMBER PRIMARY KEY, AMT NUMBER) with the rows 1|10 and 2|20.
 use std::alloc::Global;
 use wm_base::{Memory, Name, Row, Value, Values};
-use wm_spec::record::{ColumnKind, Table, TableColumn, TableColumns};
+use wm_spec::record::{ColumnKind, KeyColumns, Table, TableColumn, TableColumns};
 
 fn column(alloc: Global, name: &[u8]) -> Result<TableColumn, Memory> {
     Ok(TableColumn {
@@ -22,14 +22,15 @@ fn columns(alloc: Global) -> Result<TableColumns, Memory> {
 pub fn table(alloc: Global) -> Result<Table, Memory> {
     let name = Name::copy_of(alloc, b"BUD")?;
     let columns = columns(alloc)?;
+    let mut key_columns = KeyColumns::new(alloc);
+    key_columns.push(0)?;
     Ok(Table {
         number: 1,
         name,
         versioned: true,
         valid: false,
         history: false,
-        has_key: true,
-        key_column: 0,
+        key_columns,
         columns,
     })
 }

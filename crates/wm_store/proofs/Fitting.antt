@@ -7,18 +7,22 @@ use Rattle.std.proofs.lemmas.List.Sums.{sum_by-cons}
 use Rattle.wm_base.specs.Value.{weight_of}
 use Rattle.wm_base.specs.declared.value.Value.{Value}
 use Rattle.wm_base.specs.declared.value.Value.TheVariants.{Null, Num, Text, Time, Span}
-use Rattle.wm_codec.specs.Fields.{spell_value, spell_key, CanSpellKey, CanSpellValue}
+use Rattle.wm_codec.specs.Fields.{spell_value, spell_key, spell_key_columns, CanSpellKey, CanSpellKeyColumns, CanSpellValue, cell_range}
 use Rattle.wm_codec.specs.Spelling.{CanSpell, spelling, column}
 use Rattle.wm_spec.specs.declared.record.Record.{Record}
 use Rattle.wm_spec.specs.declared.record.Record.TheVariants as records
+use Rattle.wm_spec.specs.declared.record.cell_range.CellRange.{CellRange}
 use Rattle.wm_spec.specs.declared.record.column.TableColumn.{TableColumn}
 use Rattle.wm_spec.specs.declared.record.counters.Counters.{Counters}
 use Rattle.wm_spec.specs.declared.record.hist.Hist.{Hist}
+use Rattle.wm_spec.specs.declared.record.lock.Lock.{Lock}
 use Rattle.wm_spec.specs.declared.record.piece.PieceRecord.{PieceRecord}
 use Rattle.wm_spec.specs.declared.record.row.RowRecord.{RowRecord}
 use Rattle.wm_spec.specs.declared.record.savepoint.Savepoint.{Savepoint}
 use Rattle.wm_spec.specs.declared.record.space.Space.{Space}
 use Rattle.wm_spec.specs.declared.record.table.Table.{Table}
+use Rattle.wm_spec.specs.declared.record.trace.Trace.{Trace}
+use Rattle.wm_spec.specs.declared.record.turn.Turn.{Turn}
 use Rattle.wm_spec.specs.declared.record.version.Version.{Version}
 
 -- a record has a spelling of at most 4,084 bytes
@@ -34,6 +38,10 @@ fits_counters c = ((tt, (tt, (tt, (tt, tt)))), let e : length (spelling (records
 pub fits_version : (v : Version) → FitsPage (records.Version v)
 unfolding spelling
 fits_version v = ((tt, (tt, tt)), let e : length (spelling (records.Version v)) ≡ 21 = refl in omega (arith, e))
+
+pub fits_turn : (t : Turn) → FitsPage (records.Turn t)
+unfolding spelling
+fits_turn t = ((tt, (tt, (tt, tt))), let e : length (spelling (records.Turn t)) ≡ 21 = refl in omega (arith, e))
 
 -- ---- workspaces
 
@@ -75,11 +83,20 @@ length-columns (c ∷ cs) names =
     let one = ap length (flat_map-cons column.spell c cs) ∙ length-append (column.spell c) (flat_map column.spell cs) in
     omega (arith, one, length-column c, names.0, length-columns cs names.1)
 
-pub fits_table : (t : Table) → length t.name ≤ 30 → length t.columns ≤ 32 → AllByRecursion HasShortName t.columns → FitsPage (records.Table t)
+can_key_columns : (places : List ℕ) → length places ≤ 1 → CanSpellKeyColumns places
+can_key_columns [] single = tt
+can_key_columns (place ∷ []) single = tt
+can_key_columns (place ∷ other ∷ places) single = absurd (omega (arith, single))
+
+length-key_columns : (places : List ℕ) → length (spell_key_columns places) ≡ 2
+length-key_columns [] = refl
+length-key_columns (place ∷ places) = refl
+
+pub fits_table : (t : Table) → length t.name ≤ 30 → length t.key_columns ≤ 1 → length t.columns ≤ 32 → AllByRecursion HasShortName t.columns → FitsPage (records.Table t)
 unfolding spelling
-fits_table t name few names = (
-  (tt, (in_text t.name name, (tt, (tt, (tt, (tt, (tt, (omega (arith, few), can_columns t.columns names)))))))),
-  simp length-append (omega (arith, name, few, length-columns t.columns names)),
+fits_table t name single few names = (
+  (tt, (in_text t.name name, (tt, (tt, (tt, (can_key_columns t.key_columns single, (omega (arith, few), can_columns t.columns names))))))),
+  simp length-append (omega (arith, name, few, length-key_columns t.key_columns, length-columns t.columns names)),
 )
 
 -- ---- rows
@@ -134,17 +151,47 @@ pub fits_row : (r : RowRecord) → length r.values < 256 → list_all is_spelled
 unfolding spelling
 fits_row r few spelled light = ((tt, (tt, (few, can_values r.values spelled light))), omega (arith, light, length-values r.values))
 
--- ---- pieces
+-- ---- cells
+
+can_cells : (c : CellRange) (v : Value) → c.key ≡ v ∷ [] → is_spelled v ≡ true → weight_of v ≤ 2000 → cell_range.CanSpell c
+can_cells c v is spelled light = (tt, (subst CanSpellKey (sym is) (can_value v spelled light), (tt, tt)))
 
 length-key : (key : List Value) (v : Value) → key ≡ v ∷ [] → length (spell_key key) ≤ weight_of v
 unfolding spell_key
 length-key key v is = rw is (length-value v)
 
+-- ---- pieces
+
 pub fits_piece : (x : PieceRecord) (v : Value) → x.cells.key ≡ v ∷ [] → is_spelled v ≡ true → weight_of v ≤ 2000 → FitsPage (records.Piece x)
 unfolding spelling
 fits_piece x v is spelled light = (
-  (tt, ((tt, (subst CanSpellKey (sym is) (can_value v spelled light), (tt, tt))), (tt, (tt, tt)))),
+  (tt, (can_cells x.cells v is spelled light, (tt, (tt, tt)))),
   simp length-append (omega (arith, light, length-key x.cells.key v is)),
+)
+
+-- ---- touches and marks
+
+pub fits_touch : (x : Trace) (v : Value) → x.cells.key ≡ v ∷ [] → is_spelled v ≡ true → weight_of v ≤ 2000 → FitsPage (records.Touch x)
+unfolding spelling
+fits_touch x v is spelled light = (
+  (tt, (tt, (can_cells x.cells v is spelled light, tt))),
+  simp length-append (omega (arith, light, length-key x.cells.key v is)),
+)
+
+pub fits_mark : (x : Trace) (v : Value) → x.cells.key ≡ v ∷ [] → is_spelled v ≡ true → weight_of v ≤ 2000 → FitsPage (records.Mark x)
+unfolding spelling
+fits_mark x v is spelled light = (
+  (tt, (tt, (can_cells x.cells v is spelled light, tt))),
+  simp length-append (omega (arith, light, length-key x.cells.key v is)),
+)
+
+-- ---- locks
+
+pub fits_lock : (x : Lock) (v : Value) → x.cells.key ≡ v ∷ [] → is_spelled v ≡ true → weight_of v ≤ 2000 → length x.user ≤ 30 → FitsPage (records.Lock x)
+unfolding spelling
+fits_lock x v is spelled light user = (
+  (tt, (tt, (can_cells x.cells v is spelled light, (tt, (in_text x.user user, tt))))),
+  simp length-append (omega (arith, light, length-key x.cells.key v is, user)),
 )
 
 -- ---- entries of logs
@@ -152,6 +199,6 @@ fits_piece x v is spelled light = (
 pub fits_hist : (x : Hist) (v : Value) → x.cells.key ≡ v ∷ [] → is_spelled v ≡ true → weight_of v ≤ 2000 → length x.user ≤ 30 → FitsPage (records.Hist x)
 unfolding spelling
 fits_hist x v is spelled light user = (
-  (tt, (tt, ((tt, (subst CanSpellKey (sym is) (can_value v spelled light), (tt, tt))), (tt, (tt, (tt, (tt, in_text x.user user))))))),
+  (tt, (tt, (can_cells x.cells v is spelled light, (tt, (tt, (tt, (tt, in_text x.user user))))))),
   simp length-append (omega (arith, light, length-key x.cells.key v is, user)),
 )

@@ -46,9 +46,13 @@ mistyped_in_sets columns (set ∷ sets) = option_or (mistyped_in_set columns set
 
 -- ---- keys
 
--- the name is that of the key column
+-- the column at the place has the name
+abbrev pub is_named_at : List TableColumn → List ℕ → ℕ → Bool
+is_named_at columns name place = option_map_or (λ (c : TableColumn). bytes_eq c.name name) (slice_get columns place) false
+
+-- the name is that of a key column
 abbrev pub is_key : Table → List ℕ → Bool
-is_key table name = table.has_key && option_map_or (λ (c : TableColumn). bytes_eq c.name name) (slice_get table.columns table.key_column) false
+is_key table name = list_any (is_named_at table.columns name) table.key_columns
 
 -- the first key column that is set
 abbrev pub key_set : Table → List Set → Option (List ℕ)

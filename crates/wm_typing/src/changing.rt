@@ -5,7 +5,7 @@ ghost use Rattle.std.specs.Option.{option_map_or};
 ghost use Rattle.wm_spec.specs.declared.record.column.TableColumn.{TableColumn as OneColumn};
 ghost use Rattle.wm_base.specs.Trees.{Set as SetTree};
 ghost use Rattle.wm_base.specs.Views.{filter_view, set_view, sets_view};
-ghost use Rattle.wm_typing.specs.Changing.{may_set, unknown_in_set, unknown_in_sets, may_stand, mistyped_in_set, mistyped_in_sets, is_key, key_set, lacking_where, lacking_anywhere, update_fault, update_fault_in, delete_fault, delete_fault_in};
+ghost use Rattle.wm_typing.specs.Changing.{is_named_at as names_at, may_set, unknown_in_set, unknown_in_sets, may_stand, mistyped_in_set, mistyped_in_sets, is_key, key_set, lacking_where, lacking_anywhere, update_fault, update_fault_in, delete_fault, delete_fault_in};
 ghost use Rattle.wm_typing.specs.Columns.{columns_of_table};
 ghost use Rattle.wm_typing.specs.Lacking.{lacks_in_set, lacks_in_sets};
 ghost use Rattle.wm_typing.specs.Types.{is_filter_typed};
@@ -99,7 +99,7 @@ fn mistyped_in_sets<'a>(columns: &[Column], sets: &'a [Set]) -> Option<&'a [u8]>
 
 /// Whether the column at that place has the name.
 fn is_named_at(columns: &[TableColumn], place: usize, name: &[u8]) -> bool
-    ensures { result ≡ option_map_or (λ (c : OneColumn). bytes_eq c.name name.now) (slice_get columns.now place) false }
+    ensures { result ≡ names_at columns.now name.now place }
 {
     match columns.get(place) {
         Some(column) => column.name.as_bytes() == name,
@@ -107,12 +107,16 @@ fn is_named_at(columns: &[TableColumn], place: usize, name: &[u8]) -> bool
     }
 }
 
-/// Whether the name is that of the key column.
+/// Whether the name is that of a key column.
 fn is_key(table: &Table, name: &[u8]) -> bool
     ensures { result ≡ is_key table.now name.now }
 {
-    let place = usize::from(table.key_column);
-    table.has_key && is_named_at(table.columns.as_slice(), place, name)
+    let columns = table.columns.as_slice();
+    table
+        .key_columns
+        .as_slice()
+        .iter()
+        .any(|place| is_named_at(columns, usize::from(*place), name))
 }
 
 /// The first key column that is set.

@@ -13,7 +13,7 @@ ghost use Rattle.wm_plan.specs.Stands.{stand_view};
 ghost use Rattle.wm_plan.specs.Views.{answer_view};
 ghost use Rattle.wm_graph.specs.Parts.{parts_of};
 ghost use Rattle.wm_graph.specs.Rules.{keep_rules};
-ghost use Rattle.wm_model.specs.Planning.{tables_in, version_read};
+ghost use Rattle.wm_model.specs.Planning.{IsOpen, tables_in, version_read};
 ghost use Rattle.wm_model.specs.Step.{answer_rows, columns_in, lost_source, select, source_name, table_off, tables_of, within};
 ghost use Rattle.wm_select.specs.Query.{answer_of, columns_of, is_kept, projection_lasts, row_limit, rows_fit, where_of};
 ghost use Rattle.wm_spec.specs.Conditions.{fits, truth_of, typed};
@@ -30,7 +30,7 @@ use wm_expr::truth;
 use wm_image::Image;
 use wm_plan::answer::Answer;
 use wm_plan::planned::Planned;
-use wm_plan::refuse::{empty_period, most_rows, no_table, not_built, out_of_range, versioning};
+use wm_plan::refuse::{empty_period, most_rows, no_table, out_of_range, versioning};
 use wm_plan::session::{Session, Stand};
 use wm_plan::within::within;
 use wm_rowtest::{Judge, RowTest};
@@ -330,7 +330,7 @@ pub fn select(
     requires moment { moment < END }
     // Where it has no empty period, none of its items has one.
     requires lasting { empty ≡ false → projection_lasts (query_view query.now).projection ≡ true }
-    ensures does { IfOk result (λ p. (xs : List SessionState) → DoesIt image.now xs moment p (select session.now (query_view query.now) empty)) }
+    ensures does { IfOk result (λ p. (xs : List SessionState) → IsOpen xs session.now → DoesIt image.now xs moment p (select session.now (query_view query.now) empty)) }
     ensures idle { IfOk result Idles }
 {
     let sources = query.sources.as_slice();
@@ -344,9 +344,6 @@ pub fn select(
     if let Some(refusal) = query_fault(alloc, &columns, query)? {
         return Ok(Planned::answered(alloc, Answer::Refused(refusal)));
     }
-    let Some(_) = image.space(session.space()) else {
-        return Ok(Planned::answered(alloc, not_built()));
-    };
     if empty {
         return Ok(Planned::answered(alloc, empty_period()));
     }

@@ -1,7 +1,8 @@
 -- What the batch that writes entries into the newest version of a workspace makes of the records.
-use Rattle.std.proofs.Common.{◌≡◌, ℕ, ◌+◌, ◌<◌, ◌^◌, ◌==◌, nat_lt, nat_le, Bool, true, false, List, [], ◌∷◌, map, length, Option, Some, None, is_some, refl, sym, ap, subst, ◌∙◌, arith}
+use Rattle.std.proofs.Common.{◌≡◌, ℕ, ◌+◌, ◌<◌, ◌≤◌, ◌^◌, ◌==◌, nat_lt, nat_le, true, false, List, [], ◌∷◌, ◌++◌, map, length, Option, Some, None, is_some, refl, sym, ap, subst, ◌∙◌, arith}
 use Rattle.std.proofs.lemmas.Bool.{ne_eqb}
 use Rattle.std.specs.List.{list_all}
+use Rattle.std.specs.Option.{option_map_or}
 use Rattle.std.specs.declared.alloc.Global.{Global}
 use Rattle.std.specs.declared.vec.Vec.{Vec}
 use Rattle.wm_graph.specs.Parts.{Parts, parts_of, space_of}
@@ -12,35 +13,35 @@ use Rattle.wm_spec.specs.declared.record.Record.{Record}
 use Rattle.wm_spec.specs.declared.record.Record.TheVariants as records
 use Rattle.wm_spec.specs.declared.record.batch.Change.{Change}
 use Rattle.wm_spec.specs.declared.record.counters.Counters.{Counters}
-use Rattle.wm_spec.specs.declared.record.hist.Hist.{Hist}
 use Rattle.wm_spec.specs.declared.record.piece.PieceRecord.{PieceRecord}
-use Rattle.wm_spec.specs.declared.record.row.RowRecord.{RowRecord}
 use Rattle.wm_spec.specs.declared.record.space.Space.{Space}
 use Rattle.wm_spec.specs.declared.record.stored.Stored.{Stored}
-use Rattle.wm_state.specs.Batches.{AllUnder, AreDropped, is_dropped, keeps}
+use Rattle.wm_spec.specs.declared.record.table.Table.{Table}
+use Rattle.wm_state.specs.Batches.{AllUnder, drop_one, is_dropped, put}
 use Rattle.wm_state.specs.ById.{applied}
 use Rattle.wm_state.specs.Drafts.{CanAppend, CanWork, DraftsBy}
-use Rattle.wm_state.specs.Drawing.{AreDrawn, is_clear, touched}
 use Rattle.wm_state.specs.Editing.{counter_limit, drafted_by, entry_of}
 use Rattle.wm_state.specs.Effects.{IsFree, IsLeaf}
-use Rattle.wm_state.specs.Entries.{AreStamped, hists_from, pieces_of, rows_in}
+use Rattle.wm_state.specs.Entries.{AreStamped, hists_kept, rows_in}
 use Rattle.wm_state.specs.Points.{moved, stepped_by}
-use Rattle.wm_state.specs.Standing.{CountersStand, latest, newest_first}
+use Rattle.wm_state.specs.Standing.{CountersStand, is_ready, latest, newest_first}
 use Rattle.wm_state.specs.State.{Durable}
-use Rattle.wm_state.specs.Writes.{write_batch}
+use Rattle.wm_state.specs.Touching.{trace_of}
+use Rattle.wm_state.specs.Writes.{Redrawn, entries_batch, longer_by, put_all}
 use Rattle.wm_state.specs.declared.edit.Edit.TheVariants as edits
 use Rattle.wm_state.specs.declared.edit.NewEntry.{NewEntry}
 use Rattle.wm_state.proofs.ByKind.{under_found}
 use Rattle.wm_state.proofs.Counting.{CountsAs, counts_as, counts_in, in_room, moved_well, stamped_by, work_grows}
 use Rattle.wm_state.proofs.Drafted.{some_edit}
 use Rattle.wm_state.proofs.Growing.{same_counters}
-use Rattle.wm_written.proofs.Ids.{are_under}
 use Rattle.wm_state.proofs.Named.{one_space}
-use Rattle.wm_written.proofs.PlannedWritten.{MayWriteAll, agree_written, keep_planned, plan_written}
-use Rattle.wm_state.proofs.RowsStay.{away_write, row_apart, rows_stay}
+use Rattle.wm_state.proofs.RowsStay.{LeavesRows, away_append, away_dropped, away_put, row_apart, rows_stay}
 use Rattle.wm_state.proofs.Settled.{Places, PlacesApart, places_apart}
 use Rattle.wm_state.proofs.Tests.{bool_apart, both, and_true}
 use Rattle.wm_state.proofs.WorkedOn.{counted_put, first_change}
+use Rattle.wm_written.proofs.Behind.{new_records}
+use Rattle.wm_written.proofs.Ids.{are_under}
+use Rattle.wm_written.proofs.PlannedWritten.{MayWriteAll, Writing, agree_written, keep_planned, plan_written, versions_planned}
 use Rattle.wm_written.proofs.WrittenIds.{changes-write}
 use Rattle.wm_written.proofs.WrittenKept.{kept_write}
 
@@ -89,16 +90,6 @@ counts_on s m work n c d entries counts stamp moment limit more q one = record {
   work = more ∙ ap (λ w. w + work) counts.work;
 }
 
--- ---- what is drawn anew
-
--- entries come over the pieces of a version: the ids that go are those of its pieces that share a cell with one of them, each once, and
--- what is drawn stands for these pieces with those of the entries over them
-pub record Redrawn (rs : List Stored) (version : ℕ) (es : List Entry) (ids : List ℕ) (drawn : List PieceRecord) : Type 0 where
-  pub are : AreDrawn (pieces_of version es) (touched (pieces_of version es) (parts_of rs).pieces) drawn
-  pub gone : AreDropped (keeps (is_clear (pieces_of version es))) ids rs
-  pub once : ids_differ ids ≡ true
-  pub there : list_all (λ id. is_some (record_at rs id)) ids ≡ true
-
 -- ---- the ids
 
 -- ids that differ, with two before them
@@ -120,61 +111,88 @@ all_below rs id (k ∷ ks) under all =
     by_record None none some = absurd (bool_apart (sym some))
     by_record (Some r) found some = lt_test k id (under_found id rs k r under found)
 
--- the ids that are dropped differ from those of the counters and of the workspace, and all are below the new ones
-written_once : (rs : List Stored) (a : Space) (c new : Counters) (counters_id space_id id count : ℕ) (test : PieceRecord → Bool) (ids : List ℕ) (rows : List RowRecord) (pieces : List PieceRecord) (hists : List Hist)
-    → Places rs counters_id space_id id c a → AreDropped (keeps test) ids rs → ids_differ ids ≡ true → list_all (λ k. is_some (record_at rs k)) ids ≡ true
-    → AreChanges (write_batch counters_id new space_id a count ids id rows pieces hists)
-written_once rs a c new counters_id space_id id count test ids rows pieces hists at dropped differ there =
-    changes-write counters_id new space_id a count ids id rows pieces hists
-    (two_before counters_id space_id ids (ne_eqb space_id counters_id (λ same. apart.apart (sym same))) (dropped counters_id (records.Counters c) at.counters) (dropped space_id (records.Space a) at.space) differ)
-    (and_true (nat_lt counters_id id) _ (lt_test counters_id id apart.counters) (and_true (nat_lt space_id id) _ (lt_test space_id id apart.space) (all_below rs id ids at.under there)))
+-- the ids of the counters, of the workspace and those that go differ, and all are below the new ones
+pub record Apart (counters_id space_id id : ℕ) (ids : List ℕ) : Type 0 where
+  pub differ : ids_differ (counters_id ∷ space_id ∷ ids) ≡ true
+  pub under : are_under id (counters_id ∷ space_id ∷ ids) ≡ true
+
+pub apart_so : (rs : List Stored) (version counters_id space_id id : ℕ) (a : Space) (c : Counters) (es : List Entry) (ids : List ℕ) (drawn traced : List PieceRecord) → Places rs counters_id space_id id c a
+    → Redrawn rs version a es ids drawn traced → Apart counters_id space_id id ids
+apart_so rs version counters_id space_id id a c es ids drawn traced at r = record {
+  differ = two_before counters_id space_id ids (ne_eqb space_id counters_id (λ same. apart.apart (sym same))) (r.gone counters_id (records.Counters c) at.counters) (r.gone space_id (records.Space a) at.space) r.once;
+  under = and_true (nat_lt counters_id id) _ (lt_test counters_id id apart.counters) (and_true (nat_lt space_id id) _ (lt_test space_id id apart.space) (all_below rs id ids at.under r.there));
+}
   where
     apart : PlacesApart counters_id space_id id
     apart = places_apart rs counters_id space_id id c a at
 
+-- ---- rows
+
+-- a row is none of what the batch puts and drops, where new ids begin above all others
+pub rows_apart : (rs : List Stored) (version counters_id space_id id from count : ℕ) (a : Space) (c new : Counters) (es : List Entry) (ids : List ℕ) (drawn traced : List PieceRecord) (news : List Record) → Places rs counters_id space_id id c a
+    → Redrawn rs version a es ids drawn traced → id ≤ from → LeavesRows rs (put counters_id (records.Counters new) ∷ put space_id (records.Space (longer_by count a)) ∷ (map drop_one ids ++ put_all from news))
+rows_apart rs version counters_id space_id id from count a c new es ids drawn traced news at r le k q found = (
+  row_apart rs counters_id k (records.Counters c) q at.counters refl found,
+  (
+    row_apart rs space_id k (records.Space a) q at.space refl found,
+    away_append k (map drop_one ids) (put_all from news) (away_dropped k ids (r.gone k (records.Row q) found)) (away_put k from news (below k (under_found id rs k (records.Row q) at.under found))),
+  ),
+)
+  where
+    below : (n : ℕ) → n < id → n < from
+    below n lt = omega (arith, lt, le)
+
 -- ---- the batch
 
+-- the table of the entries is ready for rows
+pub on_table : (p : Parts) (n table : ℕ) (a : Space) (c : Counters) (es : List Entry) → Appends p n a c table es → is_ready p.tables table ≡ true
+on_table p n table a c [] v = absurd (none_more v.can.some)
+  where
+    none_more : nat_lt 0 0 ≡ true → ⊥
+    none_more e = grind (arith, e)
+on_table p n table a c (e ∷ es) v =
+    ap (is_ready p.tables) (sym v.stamped.0.table ∙ v.can.stamped.0.table) ∙ ap (λ o. option_map_or (λ (t : Table). t.versioned) o false) v.can.tabled ∙ v.can.on
+
 -- what is asked of the entries
-may_write : (p : Parts) (m work n table : ℕ) (a : Space) (c : Counters) (es : List Entry) → keep_rules p ≡ true → CanWork p m work → Appends p n a c table es → IsLeaf (latest p n) (newest_first p.versions) → IsFree p (latest p n)
-    → MayWriteAll p c (stepped_by c m work (length es)) n a table es
-may_write p m work n table a c es rules can_work v leaf free = record {
+may_write : (p : Parts) (m work table : ℕ) (a : Space) (c : Counters) (es : List Entry) → keep_rules p ≡ true → CanWork p m work → Appends p a.number a c table es → IsLeaf (latest p a.number) (newest_first p.versions)
+    → IsFree p (latest p a.number) → MayWriteAll p c (stepped_by c m work (length es)) a table es
+may_write p m work table a c es rules can_work v leaf free = record {
   one = v.one;
-  counters = stamped_by (moved c m work) (length es) (moved_well p m work c rules can_work v.one) (stamps_left p n table a c es v);
+  counters = stamped_by (moved c m work) (length es) (moved_well p m work c rules can_work v.one) (stamps_left p a.number table a c es v);
   stamps = refl;
   versions = refl;
   work = work_grows c.work work;
   space = v.there;
-  room = log_room p n table a c es v;
+  room = log_room p a.number table a c es v;
   leaf = leaf;
   free = free;
   stamped = v.stamped;
+  on = on_table p a.number table a c es v;
   well = v.can.well;
   users = v.can.users;
 }
 
 -- the batch makes of the records what the entries make of each state
-pub drafts_written : (rs : List Stored) (m work n table : ℕ) (entries : Vec NewEntry Global) (a : Space) (c : Counters) (counters_id space_id : ℕ) (ids : List ℕ) (id : ℕ) (drawn : List PieceRecord) → keep_rules (parts_of rs) ≡ true
-    → CanWork (parts_of rs) m work → Appends (parts_of rs) n a c table (entries_in entries) → Places rs counters_id space_id id c a → IsLeaf (latest (parts_of rs) n) (newest_first (parts_of rs).versions)
-    → IsFree (parts_of rs) (latest (parts_of rs) n) → Redrawn rs (latest (parts_of rs) n) (entries_in entries) ids drawn
-    → DraftsBy work rs m (edits.Append n entries ∷ [])
-    (write_batch counters_id (stepped_by c m work (length (entries_in entries))) space_id a (length (entries_in entries)) ids id (rows_in (entries_in entries)) drawn (hists_from a.number a.log_length (entries_in entries)))
-drafts_written rs m work n table entries a c counters_id space_id ids id drawn rules can_work v at leaf free r = record {
+pub drafts_written : (rs : List Stored) (m work table : ℕ) (entries : Vec NewEntry Global) (a : Space) (c : Counters) (counters_id space_id id : ℕ) (ids : List ℕ) (drawn traced : List PieceRecord) → keep_rules (parts_of rs) ≡ true
+    → CanWork (parts_of rs) m work → Appends (parts_of rs) a.number a c table (entries_in entries) → Places rs counters_id space_id id c a → IsLeaf (latest (parts_of rs) a.number) (newest_first (parts_of rs).versions)
+    → IsFree (parts_of rs) (latest (parts_of rs) a.number) → Redrawn rs (latest (parts_of rs) a.number) a (entries_in entries) ids drawn traced
+    → DraftsBy work rs m (edits.Append a.number entries ∷ [])
+    (entries_batch (parts_of rs).tables counters_id (stepped_by c m work (length (entries_in entries))) space_id a ids id (entries_in entries) drawn traced)
+drafts_written rs m work table entries a c counters_id space_id id ids drawn traced rules can_work v at leaf free r = record {
   keeps = keeps;
   once = once;
   stands = λ s st.
-      plan_written rs counters_id space_id c d a ids id n table es drawn s (drafted_by work m (edits.Append n entries ∷ []) s) st at.sorted at.counters at.space r.gone at.under may r.are refl refl
-      (counts_on s m work n c d entries (counts_as (parts_of rs) s c st v.one) refl refl refl refl);
+      plan_written rs counters_id space_id id c d a table es ids drawn traced writing s (drafted_by work m (edits.Append a.number entries ∷ []) s) st refl refl
+      (counts_on s m work a.number c d entries (counts_as (parts_of rs) s c st v.one) refl refl refl refl);
   fields = λ s st.
-      agree_written rs counters_id space_id c d a ids id n table es drawn s (drafted_by work m (edits.Append n entries ∷ []) s) rules st at.sorted at.counters at.space r.gone at.under may r.are refl refl
-      (counts_on s m work n c d entries (counts_in (parts_of rs) s c st.counters v.one) refl refl refl refl);
-  rows = rows_stay rs batch
-      (λ k q found.
-      away_write k counters_id space_id id (length es) d a ids (rows_in es) drawn (hists_from a.number a.log_length es) (row_apart rs counters_id k (records.Counters c) q at.counters refl found)
-      (row_apart rs space_id k (records.Space a) q at.space refl found) (r.gone k (records.Row q) found) (under_found id rs k (records.Row q) at.under found));
-  kept = kept_write (latest (parts_of rs) n) es (parts_of rs).pieces drawn counters_id space_id id a.number a.log_length d a ids v.can.kept r.are;
+      agree_written rs counters_id space_id id c d a table es ids drawn traced writing s (drafted_by work m (edits.Append a.number entries ∷ []) s) rules st refl refl
+      (counts_on s m work a.number c d entries (counts_in (parts_of rs) s c st.counters v.one) refl refl refl refl);
+  rows = rows_stay rs batch (rows_apart rs (latest (parts_of rs) a.number) counters_id space_id id id (length es) a c d es ids drawn traced (new_records (rows_in es) drawn (map (trace_of a.number) traced) (hists_kept (parts_of rs).tables a.number a.log_length es)) at r (no_less id));
+  kept = kept_write rs (parts_of rs).tables (latest (parts_of rs) a.number) counters_id space_id id d a es ids drawn traced v.can.kept r;
   counted = λ some. counted_put rs work counters_id c d batch at.sorted v.one once (first_change counters_id _ _) keeps refl;
-  nothing = some_edit (edits.Append n entries) [] (write_batch counters_id d space_id a (length es) ids id (rows_in es) drawn (hists_from a.number a.log_length es));
+  nothing = some_edit (edits.Append a.number entries) [] batch;
   few = λ forks. absurd (bool_apart (sym forks));
+  spared = λ n more same spare. versions_planned rs counters_id space_id id c d a table es ids drawn traced writing;
 }
   where
     es : List Entry
@@ -183,14 +201,26 @@ drafts_written rs m work n table entries a c counters_id space_id ids id drawn r
     d : Counters
     d = stepped_by c m work (length es)
 
-    may : MayWriteAll (parts_of rs) c d n a table es
-    may = may_write (parts_of rs) m work n table a c es rules can_work v leaf free
-
     batch : List Change
-    batch = write_batch counters_id d space_id a (length es) ids id (rows_in es) drawn (hists_from a.number a.log_length es)
+    batch = entries_batch (parts_of rs).tables counters_id d space_id a ids id es drawn traced
+
+    writing : Writing rs counters_id space_id id c d a table es ids drawn traced
+    writing = record {
+      at = at;
+      may = may_write (parts_of rs) m work table a c es rules can_work v leaf free;
+      place = r.place;
+      are = record { last = r.last; pieces = r.pieces; marks = r.marks };
+      gone = r.gone;
+    }
 
     keeps : keep_rules (parts_of (applied batch rs)) ≡ true
-    keeps = keep_planned rs counters_id space_id c d a ids id n table es drawn rules at.sorted at.counters at.space r.gone at.under may r.are
+    keeps = keep_planned rs counters_id space_id id c d a table es ids drawn traced writing rules
+
+    apart : Apart counters_id space_id id ids
+    apart = apart_so rs (latest (parts_of rs) a.number) counters_id space_id id a c es ids drawn traced at r
 
     once : AreChanges batch
-    once = written_once rs a c d counters_id space_id id (length es) (is_clear (pieces_of (latest (parts_of rs) n) es)) ids (rows_in es) drawn (hists_from a.number a.log_length es) at r.gone r.once r.there
+    once = changes-write counters_id d space_id a (length es) ids id (rows_in es) drawn (map (trace_of a.number) traced) (hists_kept (parts_of rs).tables a.number a.log_length es) apart.differ apart.under
+
+    no_less : (n : ℕ) → n ≤ n
+    no_less n = omega arith

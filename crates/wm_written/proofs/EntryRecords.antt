@@ -1,5 +1,5 @@
--- The rows and the pieces of entries that one line writes keep the rules.
-use Rattle.std.proofs.Common.{◌≡◌, ℕ, suc, ◌+◌, ◌==◌, nat_lt, nat_le, Bool, true, false, not, ◌&&◌, ◌||◌, List, [], ◌∷◌, length, Option, Some, None, is_none, is_some, refl, sym, ap, ◌∙◌, arith}
+-- The rows, the pieces and the records of entries that one line writes keep the rules.
+use Rattle.std.proofs.Common.{◌≡◌, ℕ, suc, ◌+◌, ◌==◌, ◌<◌, ◌≤◌, nat_lt, nat_le, Bool, true, false, not, ◌&&◌, ◌||◌, cond, List, [], ◌∷◌, length, Option, Some, None, is_none, is_some, refl, sym, ap, ◌∙◌, arith}
 use Rattle.std.proofs.lemmas.Bool.{eq-eqb}
 use Rattle.std.specs.Bool.{then_some}
 use Rattle.std.proofs.lemmas.List.Elements.{All-nil, All-cons}
@@ -16,7 +16,8 @@ use Rattle.wm_spec.specs.declared.record.row.RowRecord.{RowRecord}
 use Rattle.wm_spec.specs.declared.record.space.Space.{Space}
 use Rattle.wm_spec.specs.declared.record.table.Table.{Table}
 use Rattle.wm_spec.specs.declared.record.version.Version.{Version}
-use Rattle.wm_state.specs.Entries.{IsStamped, AreStamped, is_keyed, fits_table, is_well, piece_of, pieces_of, rows_in, hist_of, hists_from}
+use Rattle.wm_state.specs.Entries.{IsStamped, AreStamped, is_keyed, fits_table, is_well, piece_of, pieces_of, rows_in, hist_of, hists_kept}
+use Rattle.wm_state.specs.Standing.{IsReal, has_history, is_ready}
 use Rattle.wm_state.proofs.Apart.{found-passes}
 use Rattle.wm_state.proofs.Tests.{bool_apart, both, and_true, none_if}
 
@@ -192,40 +193,68 @@ pieces_well tables versions rows table stamp next version (e ∷ es) stamped le 
 -- ---- the entries of a log
 
 -- they are of the workspace, at this position or behind it
-pub hists_on : (n low k : ℕ) (es : List Entry) → nat_le low k ≡ true → list_all (λ (x : Hist). (x.space == n) && nat_le low x.position) (hists_from n k es) ≡ true
-hists_on n low k [] le = refl
-hists_on n low k (e ∷ es) le =
-    and_true ((n == n) && nat_le low k) _ (and_true (n == n) (nat_le low k) (eq-eqb n n refl) le) (hists_on n low (k + 1) es (later low k le))
+pub hists_on : (tables : List Table) (n low k : ℕ) (es : List Entry) → nat_le low k ≡ true → list_all (λ (x : Hist). (x.space == n) && nat_le low x.position) (hists_kept tables n k es) ≡ true
+hists_on tables n low k [] le = refl
+hists_on tables n low k (e ∷ es) le = by_test (has_history tables e.table) (hists_on tables n low (k + 1) es (later low k le))
   where
     later : (m j : ℕ) → nat_le m j ≡ true → nat_le m (j + 1) ≡ true
     later m j le = grind (arith, le)
 
-pub hists_differ : (n k : ℕ) (es : List Entry) → differ same_position (hists_from n k es) ≡ true
-hists_differ n k [] = refl
-hists_differ n k (e ∷ es) = and_true (not (list_any (same_position (hist_of n k e)) (hists_from n (k + 1) es))) _ (ap not apart) (hists_differ n (k + 1) es)
+    by_test : (b : Bool) → list_all (λ (x : Hist). (x.space == n) && nat_le low x.position) (hists_kept tables n (k + 1) es) ≡ true
+        → list_all (λ (x : Hist). (x.space == n) && nat_le low x.position) (cond b (hist_of n k e ∷ hists_kept tables n (k + 1) es) (hists_kept tables n (k + 1) es)) ≡ true
+    by_test true rest = and_true ((n == n) && nat_le low k) _ (and_true (n == n) (nat_le low k) (eq-eqb n n refl) le) rest
+    by_test false rest = rest
+
+pub hists_differ : (tables : List Table) (n k : ℕ) (es : List Entry) → differ same_position (hists_kept tables n k es) ≡ true
+hists_differ tables n k [] = refl
+hists_differ tables n k (e ∷ es) = by_test (has_history tables e.table) (hists_differ tables n (k + 1) es)
   where
     behind : (a b : Bool) → b ≡ false → (a && b) ≡ false
     behind true b e = e
     behind false b e = refl
 
-    apart : list_any (same_position (hist_of n k e)) (hists_from n (k + 1) es) ≡ false
+    apart : list_any (same_position (hist_of n k e)) (hists_kept tables n (k + 1) es) ≡ false
     apart = none_if (λ (x : Hist). (x.space == n) && nat_le (k + 1) x.position) (same_position (hist_of n k e))
-        (λ x is. behind (n == x.space) (k == x.position) (not_above k x.position k refl (both (x.space == n) (nat_le (k + 1) x.position) is).1)) (hists_from n (k + 1) es) (hists_on n (k + 1) (k + 1) es (le_self (k + 1)))
+        (λ x is. behind (n == x.space) (k == x.position) (not_above k x.position k refl (both (x.space == n) (nat_le (k + 1) x.position) is).1)) (hists_kept tables n (k + 1) es) (hists_on tables n (k + 1) (k + 1) es (le_self (k + 1)))
 
-pub hists_well : (tables : ℕ → Option Table) (spaces : ℕ → Option Space) (rows : ℕ → Option RowRecord) (table stamp next n k : ℕ) (a : Space) (es : List Entry) → AreStamped table stamp es → nat_le (stamp + length es) next ≡ true
-    → list_all (is_well tables) es ≡ true → list_all (λ (e : Entry). is_short e.user) es ≡ true → spaces n ≡ Some a → nat_le (k + length es) a.log_length ≡ true
-    → ((s : ℕ) (r : RowRecord) → row_of (rows_in es) s ≡ Some r → rows s ≡ Some r) → list_all (is_hist tables spaces rows next) (hists_from n k es) ≡ true
-hists_well tables spaces rows table stamp next n k a [] stamped le well short there room found = refl
-hists_well tables spaces rows table stamp next n k a (e ∷ es) stamped le well short there room found =
+    by_test : (b : Bool) → differ same_position (hists_kept tables n (k + 1) es) ≡ true → differ same_position (cond b (hist_of n k e ∷ hists_kept tables n (k + 1) es) (hists_kept tables n (k + 1) es)) ≡ true
+    by_test true rest = and_true (not (list_any (same_position (hist_of n k e)) (hists_kept tables n (k + 1) es))) _ (ap not apart) rest
+    by_test false rest = rest
+
+pub hists_well : (all : List Table) (tables : ℕ → Option Table) (spaces : ℕ → Option Space) (rows : ℕ → Option RowRecord) (table stamp next n k : ℕ) (a : Space) (es : List Entry) → AreStamped table stamp es
+    → nat_le (stamp + length es) next ≡ true → list_all (is_well tables) es ≡ true → list_all (λ (e : Entry). is_short e.user) es ≡ true → spaces n ≡ Some a → nat_le (k + length es) a.log_length ≡ true
+    → ((s : ℕ) (r : RowRecord) → row_of (rows_in es) s ≡ Some r → rows s ≡ Some r) → list_all (is_hist tables spaces rows next) (hists_kept all n k es) ≡ true
+hists_well all tables spaces rows table stamp next n k a [] stamped le well short there room found = refl
+hists_well all tables spaces rows table stamp next n k a (e ∷ es) stamped le well short there room found =
     let h = both (is_well tables e) (list_all (is_well tables) es) well in
     let g = both (is_short e.user) (list_all (λ (x : Entry). is_short x.user) es) short in
-    and_true (is_hist tables spaces rows next (hist_of n k e)) (list_all (is_hist tables spaces rows next) (hists_from n (k + 1) es))
+    by_test (has_history all e.table)
     (and_true (is_short e.user && option_map_or (λ (s : Space). nat_lt k s.log_length) (spaces n) false) _
     (and_true (is_short e.user) _ g.0 (ap (λ o. option_map_or (λ (s : Space). nat_lt k s.log_length) o false) there ∙ stamp_below k k (length es) a.log_length refl room))
     (cells_well tables rows table stamp next e (hist_of n k e).cells refl stamped.0 (well_of tables e h.0) (stamp_below e.stamp stamp (length es) next stamped.0.stamp le)
     (λ row is. found e.stamp (row_with e row) (row_first e es row is))))
-    (hists_well tables spaces rows table (stamp + 1) next n (k + 1) a es stamped.1 (rest_below stamp (length es) next le) h.1 g.1 there (rest_below k (length es) a.log_length room)
+    (hists_well all tables spaces rows table (stamp + 1) next n (k + 1) a es stamped.1 (rest_below stamp (length es) next le) h.1 g.1 there (rest_below k (length es) a.log_length room)
     (λ s r at. found s r (row_later table stamp e es stamped s r at)))
+  where
+    by_test : (b : Bool) → is_hist tables spaces rows next (hist_of n k e) ≡ true → list_all (is_hist tables spaces rows next) (hists_kept all n (k + 1) es) ≡ true
+        → list_all (is_hist tables spaces rows next) (cond b (hist_of n k e ∷ hists_kept all n (k + 1) es) (hists_kept all n (k + 1) es)) ≡ true
+    by_test true first rest = and_true (is_hist tables spaces rows next (hist_of n k e)) _ first rest
+    by_test false first rest = rest
+
+-- ---- each of them
+
+-- it is over a period, of a table that is ready for rows
+pub each_real : (tables : List Table) (table stamp : ℕ) (es : List Entry) → AreStamped table stamp es → is_ready tables table ≡ true → All (IsReal tables) es
+each_real tables table stamp [] stamped on = All-nil (IsReal tables)
+each_real tables table stamp (e ∷ es) stamped on =
+    let h = both (nat_lt e.from e.till) (nat_le e.till END) stamped.0.period in
+    All-cons (IsReal tables) e es (record { some = less e.from e.till h.0; till = no_more e.till END h.1; on = ap (is_ready tables) stamped.0.table ∙ on }) (each_real tables table (stamp + 1) es stamped.1 on)
+  where
+    less : (m n : ℕ) → nat_lt m n ≡ true → m < n
+    less m n e = grind (arith, e)
+
+    no_more : (m n : ℕ) → nat_le m n ≡ true → m ≤ n
+    no_more m n e = grind (arith, e)
 
 -- the row of each is found by its stamp
 pub each_row : (table stamp : ℕ) (es : List Entry) → AreStamped table stamp es

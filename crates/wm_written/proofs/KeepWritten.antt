@@ -1,40 +1,51 @@
--- The rules hold of the records with more rows, more pieces in the place of some, and more entries of a log.
+-- The rules hold of the records with more rows, more pieces and touches in the place of some, and more entries of a log.
 use Rattle.std.proofs.Common.{◌≡◌, ℕ, ◌+◌, ◌^◌, ◌≤◌, ◌==◌, nat_lt, nat_le, Bool, true, false, not, ◌&&◌, List, [], ◌∷◌, ◌++◌, Option, Some, is_some, length, refl, sym, ap, ◌∙◌, arith}
 use Rattle.std.proofs.lemmas.Bool.{eqb-true}
 use Rattle.std.specs.List.{list_all, list_any, filter}
 use Rattle.std.specs.Option.{option_map_or}
 use Rattle.std.specs.Str.{bytes_eq}
 use Rattle.wm_graph.specs.Parts.{Parts, table_of, space_of, version_of, row_of}
-use Rattle.wm_graph.specs.Rules.{keep_rules, are_counters, are_spaces, is_space, is_placed, is_short, are_versions, are_savepoints, has_few, are_rows, is_row, are_pieces, is_piece, collide, is_hist, same_position, are_hists, differ}
+use Rattle.wm_graph.specs.Rules.{keep_rules, are_counters, are_spaces, is_space, is_placed, is_short, are_versions, are_savepoints, has_few, are_rows, is_row, are_pieces, is_piece, collide, is_hist, same_position, are_hists, meet, is_touch, are_locks, differ}
 use Rattle.wm_spec.specs.declared.record.counters.Counters.{Counters}
 use Rattle.wm_spec.specs.declared.record.hist.Hist.{Hist}
 use Rattle.wm_spec.specs.declared.record.piece.PieceRecord.{PieceRecord}
 use Rattle.wm_spec.specs.declared.record.row.RowRecord.{RowRecord}
 use Rattle.wm_spec.specs.declared.record.space.Space.{Space}
+use Rattle.wm_spec.specs.declared.record.trace.Trace.{Trace}
 use Rattle.wm_state.specs.Writes.{longer_by}
 use Rattle.wm_state.proofs.Appending.{all_append, differ_append, find_before, find_behind}
 use Rattle.wm_state.proofs.Apart.{Ruled, ruled, keeps_all, found-passes}
 use Rattle.wm_state.proofs.Frames.{KeepRows}
 use Rattle.wm_state.proofs.Keeping.{le_of, le_itself, KeepTables, KeepTables-same, KeepSpaces, KeepSpaces-swap, KeepVersions-same, is_row-kept, is_piece-kept, is_hist-kept, are_savepoints-kept}
+use Rattle.wm_state.proofs.KeepingTurns.{are_locks-kept, are_marks-kept, are_turns-kept, turned-swap}
 use Rattle.wm_state.proofs.Named.{ruled_savepoints}
 use Rattle.wm_state.proofs.Respaced.{MayReplace, is_counted, space_here, spaces_replaced, versions_replaced}
 use Rattle.wm_state.proofs.Tests.{both, and_true, all_if, all_filter, all_swap, all_middle, differ_filter, none_if}
 use Rattle.wm_written.proofs.Touched.{AreApart}
 
--- the records with more rows, more pieces in the place of some, a log of one workspace that is longer by so many, more entries of logs,
--- and other counters
-abbrev pub all_written : Parts → Counters → List Space → Space → List Space → ℕ → (PieceRecord → Bool) → List RowRecord → List PieceRecord → List Hist → Parts
-all_written p c front a back k keep rows pieces hists = record p {
+-- what comes, and the tests of the pieces and of the touches that stay
+pub record Entering : Type 0 where
+  pub keep : PieceRecord → Bool
+  pub stay : Trace → Bool
+  pub rows : List RowRecord
+  pub pieces : List PieceRecord
+  pub touches : List Trace
+  pub hists : List Hist
+
+-- the records with that, a log of one workspace that is longer by so many, and other counters
+abbrev pub all_written : Parts → Counters → List Space → Space → List Space → ℕ → Entering → Parts
+all_written p c front a back k e = record p {
   counters = c ∷ [];
   spaces = front ++ longer_by k a ∷ back;
-  rows = p.rows ++ rows;
-  pieces = filter keep p.pieces ++ pieces;
-  hists = p.hists ++ hists;
+  rows = p.rows ++ e.rows;
+  pieces = filter e.keep p.pieces ++ e.pieces;
+  touches = filter e.stay p.touches ++ e.touches;
+  hists = p.hists ++ e.hists;
 }
 
--- what these are asked: the rows have new stamps, each its own; the rows of the pieces and of the entries are among all rows, no two
--- pieces collide, and the entries have new positions of the log that is longer, each its own
-pub record MayPut (p : Parts) (old new : Counters) (front : List Space) (a : Space) (back : List Space) (k : ℕ) (keep : PieceRecord → Bool) (rows : List RowRecord) (pieces : List PieceRecord) (hists : List Hist) : Type 0 where
+-- what is asked of it: the rows have new stamps, each its own; the rows of the pieces and of the entries are among all rows, no two
+-- pieces collide and no two touches meet, and the entries have new positions of the log that is longer, each its own
+pub record MayPut (p : Parts) (old new : Counters) (front : List Space) (a : Space) (back : List Space) (k : ℕ) (e : Entering) : Type 0 where
   pub one : p.counters ≡ old ∷ []
   pub counters : are_counters new ≡ true
   pub stamps : new.next_stamp ≡ old.next_stamp + k
@@ -42,15 +53,17 @@ pub record MayPut (p : Parts) (old new : Counters) (front : List Space) (a : Spa
   pub work : old.work ≤ new.work
   pub spaces : p.spaces ≡ front ++ a ∷ back
   pub room : nat_le (a.log_length + k) (2 ^ 62) ≡ true
-  pub rows_well : list_all (is_row (table_of p.tables) new.next_stamp) rows ≡ true
-  pub rows_new : list_all (λ (r : RowRecord). nat_le old.next_stamp r.stamp) rows ≡ true
-  pub rows_differ : differ (λ (r q : RowRecord). r.stamp == q.stamp) rows ≡ true
-  pub pieces_well : list_all (is_piece (table_of p.tables) (version_of p.versions) (row_of (p.rows ++ rows)) new.next_stamp) pieces ≡ true
-  pub pieces_differ : differ collide pieces ≡ true
-  pub apart : AreApart (filter keep p.pieces) pieces
-  pub hists_well : list_all (is_hist (table_of p.tables) (space_of (front ++ longer_by k a ∷ back)) (row_of (p.rows ++ rows)) new.next_stamp) hists ≡ true
-  pub hists_differ : differ same_position hists ≡ true
-  pub hists_new : list_all (λ (x : Hist). (x.space == a.number) && nat_le a.log_length x.position) hists ≡ true
+  pub rows_well : list_all (is_row (table_of p.tables) new.next_stamp) e.rows ≡ true
+  pub rows_new : list_all (λ (r : RowRecord). nat_le old.next_stamp r.stamp) e.rows ≡ true
+  pub rows_differ : differ (λ (r q : RowRecord). r.stamp == q.stamp) e.rows ≡ true
+  pub pieces_well : list_all (is_piece (table_of p.tables) (version_of p.versions) (row_of (p.rows ++ e.rows)) new.next_stamp) e.pieces ≡ true
+  pub pieces_differ : differ collide e.pieces ≡ true
+  pub apart : AreApart (filter e.keep p.pieces) e.pieces
+  pub touches_differ : differ meet (filter e.stay p.touches ++ e.touches) ≡ true
+  pub touches_well : list_all (is_touch (table_of p.tables) (space_of (front ++ longer_by k a ∷ back))) (filter e.stay p.touches ++ e.touches) ≡ true
+  pub hists_well : list_all (is_hist (table_of p.tables) (space_of (front ++ longer_by k a ∷ back)) (row_of (p.rows ++ e.rows)) new.next_stamp) e.hists ≡ true
+  pub hists_differ : differ same_position e.hists ≡ true
+  pub hists_new : list_all (λ (x : Hist). (x.space == a.number) && nat_le a.log_length x.position) e.hists ≡ true
 
 le_more : (n k : ℕ) → nat_le n (n + k) ≡ true
 le_more n k = grind arith
@@ -181,25 +194,29 @@ spaces_longer p front back a k e spaces room = spaces_replaced front back a (lon
 
 -- ---- all rules
 
-pub keep-written : (p : Parts) (old new : Counters) (front : List Space) (a : Space) (back : List Space) (k : ℕ) (keep : PieceRecord → Bool) (rows : List RowRecord) (pieces : List PieceRecord) (hists : List Hist)
-    → MayPut p old new front a back k keep rows pieces hists → keep_rules p ≡ true → keep_rules (all_written p new front a back k keep rows pieces hists) ≡ true
-keep-written p old new front a back k keep rows pieces hists may e = keeps_all q new refl may.counters
+pub keep-written : (p : Parts) (old new : Counters) (front : List Space) (a : Space) (back : List Space) (k : ℕ) (e : Entering)
+    → MayPut p old new front a back k e → keep_rules p ≡ true → keep_rules (all_written p new front a back k e) ≡ true
+keep-written p old new front a back k e may rules = keeps_all q new refl may.counters
     rule.tables
-    (spaces_longer p front back a k e may.spaces may.room)
+    (spaces_longer p front back a k rules may.spaces may.room)
     (ap (are_versions q) may.versions
     ∙ versions_replaced p q front back a (longer_by k a) old.next_version (longer_may a k) may.spaces refl refl (ap (λ (c : Counters). are_versions p c.next_version) same ∙ rule.versions))
-    (are_savepoints-kept p q old.work new.work (le_of old.work new.work may.work) spaces (KeepVersions-same p q refl) refl few savepoints)
-    (rows_kept p q old.next_stamp new.next_stamp rows later refl refl may.rows_well may.rows_new may.rows_differ rows_before)
-    (pieces_kept p q old.next_stamp new.next_stamp rows keep pieces later refl refl refl refl may.pieces_well may.pieces_differ may.apart
+    (are_savepoints-kept p q old.work new.work worked spaces (KeepVersions-same p q refl) refl few savepoints)
+    (rows_kept p q old.next_stamp new.next_stamp e.rows later refl refl may.rows_well may.rows_new may.rows_differ rows_before)
+    (pieces_kept p q old.next_stamp new.next_stamp e.rows e.keep e.pieces later refl refl refl refl may.pieces_well may.pieces_differ may.apart
     (ap (λ (c : Counters). are_pieces p c.next_stamp) same ∙ rule.pieces))
-    (hists_kept p q old.next_stamp new.next_stamp a hists later (KeepTables-same p q refl) spaces (KeepRows-append p q rows refl) refl
+    (hists_kept p q old.next_stamp new.next_stamp a e.hists later (KeepTables-same p q refl) spaces (KeepRows-append p q e.rows refl) refl
     (ap (λ ss. space_of ss a.number) may.spaces ∙ space_here front back a a.number before refl) may.hists_well may.hists_differ may.hists_new (ap (λ (c : Counters). are_hists p c.next_stamp) same ∙ rule.hists))
+    (and_true (differ meet q.touches) (list_all (is_touch (table_of q.tables) (space_of q.spaces)) q.touches) may.touches_differ may.touches_well)
+    (are_locks-kept p q old.work new.work worked (KeepTables-same p q refl) spaces refl (ap (λ (c : Counters). are_locks p c.work) same ∙ rule.locks))
+    (are_marks-kept p q (KeepTables-same p q refl) spaces refl rule.marks)
+    (are_turns-kept p q spaces refl (turned-swap p q front back a (longer_by k a) refl refl may.spaces refl rule.turns) rule.turns)
   where
     q : Parts
-    q = all_written p new front a back k keep rows pieces hists
+    q = all_written p new front a back k e
 
     rule : Ruled p
-    rule = ruled p e
+    rule = ruled p rules
 
     same : old ≡ rule.counters
     same = first_same old rule.counters (sym may.one ∙ rule.one)
@@ -210,11 +227,14 @@ keep-written p old new front a back k keep rows pieces hists may e = keeps_all q
     later : nat_le old.next_stamp new.next_stamp ≡ true
     later = ap (nat_le old.next_stamp) may.stamps ∙ le_more old.next_stamp k
 
+    worked : nat_le old.work new.work ≡ true
+    worked = le_of old.work new.work may.work
+
     before : are_spaces (front ++ a ∷ back) ≡ true
     before = ap are_spaces (sym may.spaces) ∙ rule.spaces
 
     spaces : KeepSpaces p q
-    spaces = KeepSpaces-swap p q front back a (longer_by k a) refl refl (le_more a.log_length k) (le_itself a.next_place) may.spaces refl
+    spaces = KeepSpaces-swap p q front back a (longer_by k a) refl refl (le_more a.log_length k) (le_itself a.next_place) refl may.spaces refl
 
     savepoints : are_savepoints p old.work ≡ true
     savepoints = ap (λ (c : Counters). are_savepoints p c.work) same ∙ rule.savepoints

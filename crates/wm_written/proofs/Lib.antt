@@ -3,6 +3,11 @@ pub mod Dropping
 pub mod Leaves
 pub mod Forks
 pub mod Ids
+pub mod Behind
+pub mod Wrote
+pub mod Logged
+pub mod WritingNamed
+pub mod WritingLogs
 pub mod WritingAll
 pub mod KeepWritten
 pub mod Entered
@@ -17,6 +22,8 @@ pub mod DrawingHeld
 pub mod DrawingApart
 pub mod Drawing
 pub mod DrawingTouched
+pub mod Touching
+pub mod TouchesKept
 pub mod DrawingNews
 pub mod WrittenKept
 pub mod DraftedWritten

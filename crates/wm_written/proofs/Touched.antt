@@ -184,7 +184,7 @@ filters-apart P Q not_both (x ∷ xs) apart =
 -- ---- what some of them hold
 
 -- where one covers a cell, no other does
-only-one : (x : PieceRecord) (w : ℕ) (c : Cell) → covers_at x w c ≡ true → (ys : List PieceRecord) → list_any (collide x) ys ≡ false → stored_at ys w c ≡ nothing
+pub only-one : (x : PieceRecord) (w : ℕ) (c : Cell) → covers_at x w c ≡ true → (ys : List PieceRecord) → list_any (collide x) ys ≡ false → stored_at ys w c ≡ nothing
 only-one x w c covered [] free = refl
 only-one x w c covered (y ∷ ys) free =
     let h = either_false (collide x y) (list_any (collide x) ys) free in

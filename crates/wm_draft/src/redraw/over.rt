@@ -1,7 +1,8 @@
 //! A new piece over others.
 
-ghost use Rattle.std.specs.Prelude.{◌≡◌, ◌∷◌, ◌++◌, IfOk, OnOk};
+ghost use Rattle.std.specs.Prelude.{◌≡◌, ◌∷◌, ◌++◌, false, IfOk, OnOk};
 ghost use Rattle.std.specs.List.{flat_map};
+ghost use Rattle.wm_base.specs.declared.kind.Kind.TheVariants.{Insert};
 ghost use Rattle.wm_graph.specs.Rules.{collide};
 ghost use Rattle.wm_state.specs.Drawing.{around, between, left_by, part};
 
@@ -49,16 +50,23 @@ fn push_part(
     Ok(())
 }
 
+/// Whether a piece has one of some cells of a version.
+pub fn meets(piece: &PieceRecord, version: u64, cells: &CellRange) -> bool
+    ensures { result ≡ collide piece.now (record { version = version; cells = cells.now; stamp = 0; kind = Insert; gone = false }) }
+{
+    let own = &piece.cells;
+    piece.version == version
+        && own.table == cells.table
+        && own.from < cells.till
+        && cells.from < own.till
+        && own.key.compare(&cells.key).is_eq()
+}
+
 /// Whether two pieces share a cell of a version.
 pub fn collide(piece: &PieceRecord, other: &PieceRecord) -> bool
     ensures { result ≡ collide piece.now other.now }
 {
-    let cells = &piece.cells;
-    piece.version == other.version
-        && cells.table == other.cells.table
-        && cells.from < other.cells.till
-        && other.cells.from < cells.till
-        && cells.key.compare(&other.cells.key).is_eq()
+    meets(piece, other.version, &other.cells)
 }
 
 /// Puts what a piece has before a new one, and what it has after it, behind others.

@@ -8,6 +8,7 @@ ghost use Rattle.wm_plan.specs.Planning.{DoesIt};
 ghost use Rattle.wm_grammar.specs.Calls.{procedure_of};
 ghost use Rattle.wm_graph.specs.Parts.{parts_of};
 ghost use Rattle.wm_graph.specs.Rules.{keep_rules};
+ghost use Rattle.wm_model.specs.Planning.{IsOpen};
 ghost use Rattle.wm_model.specs.Step.{call};
 
 use std::alloc::Global;
@@ -36,6 +37,7 @@ fn call_of(
 ) -> Result<Planned, Memory>
     requires rules { keep_rules (parts_of image.now) ≡ true }
     requires moment { moment < END }
+    requires open { IsOpen sessions.now session.now }
     ensures does { IfOk result (λ p. DoesIt image.now sessions.now moment p (call session.now (Some procedure) given.entry.args.now)) }
     ensures idle { IfOk result Idles }
     ensures few { forks_call (Some procedure) ≡ true → IfOk result AreForks }
@@ -69,6 +71,7 @@ pub fn call(
 ) -> Result<Planned, Memory>
     requires rules { keep_rules (parts_of image.now) ≡ true }
     requires moment { moment < END }
+    requires open { IsOpen sessions.now session.now }
     ensures does { IfOk result (λ p. DoesIt image.now sessions.now moment p (call session.now (procedure_of name.now) given.entry.args.now)) }
     ensures idle { IfOk result Idles }
     // A savepoint or a workspace is made by such an edit alone.

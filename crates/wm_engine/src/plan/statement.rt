@@ -8,6 +8,7 @@ ghost use Rattle.wm_plan.specs.Idle.{Idles};
 ghost use Rattle.wm_plan.specs.Planning.{DoesIt};
 ghost use Rattle.wm_graph.specs.Parts.{parts_of};
 ghost use Rattle.wm_graph.specs.Rules.{keep_rules};
+ghost use Rattle.wm_model.specs.Planning.{IsOpen};
 ghost use Rattle.wm_model.specs.Step.{run_for, run_statement, session_of};
 
 use crate::plan::call::call;
@@ -36,6 +37,7 @@ fn run_statement(
 ) -> Result<Planned, Memory>
     requires rules { keep_rules (parts_of image.now) ≡ true }
     requires moment { moment < END }
+    requires open { IsOpen sessions.now session.now }
     ensures does { IfOk result (λ p. DoesIt image.now sessions.now moment p (run_statement session.now (statement_view statement.now))) }
     ensures idle { IfOk result Idles }
     // A savepoint or a workspace is made by such an edit alone.

@@ -11,7 +11,7 @@ use Rattle.wm_calls.specs.Faults.{argument_fault}
 use Rattle.wm_reader.specs.Reading.{folded}
 use Rattle.wm_state.specs.State.{State, Session, Readiness}
 use Rattle.wm_print.specs.Texts.{Answer}
-use Rattle.wm_model.specs.Step.Refusing.{not_built, bad_name, reserved_name, unless_mistyped}
+use Rattle.wm_model.specs.Step.Refusing.{not_built, bad_name, mistyped, reserved_name, unless_mistyped}
 use Rattle.wm_model.specs.Step.Naming.{is_name, names_no_workspace, latest, names_no_savepoint}
 use Rattle.wm_model.specs.Step.Tables.{enable}
 use Rattle.wm_model.specs.Step.Periods.{set_valid_time}
@@ -19,9 +19,9 @@ use Rattle.wm_model.specs.Step.Rows.{taken}
 use Rattle.wm_model.specs.Step.Savepoints.{create_savepoint, goto_savepoint}
 use Rattle.wm_model.specs.Step.Workspaces.{create_workspace, goto_workspace}
 
--- what is done with a text that is given for a parameter; else something is wrong with the arguments
+-- what is done with a text that is given for a parameter that the call requires; where it is not, something is wrong with the arguments
 abbrev pub given : Option (List ℕ) → Option (List ℕ) → State → (List ℕ → State × Answer) → State × Answer
-given None fault s act = unless_mistyped fault s (s, not_built)
+given None fault s act = (s, mistyped (unwrap_or fault []))
 given (Some text) fault s act = act text
 
 -- a name that is made is tested, then that it is no reserved one, and then the other arguments

@@ -1,12 +1,12 @@
 -- Names that are made, and what is looked up by its name.
-use Rattle.std.specs.Prelude.{ℕ, List, Bool, ◌&&◌, ◌||◌, nat_le, nat_eq, length, Option, None, Some, codes}
+use Rattle.std.specs.Prelude.{ℕ, List, Bool, ◌&&◌, ◌||◌, nat_le, nat_eq, length, unwrap_or, Option, None, Some, codes}
 use Rattle.std.specs.List.{find, list_all, starts_with}
 use Rattle.std.specs.Str.{bytes_eq}
 use Rattle.wm_spec.specs.declared.record.table.Table.{Table}
-use Rattle.wm_state.specs.State.{State, Workspace, Session, workspace_of, table_named, workspace_named}
+use Rattle.wm_state.specs.State.{State, Workspace, Session, fresh_live, workspace_of, table_named, workspace_named}
 use Rattle.wm_state.specs.Editing.{implicit_front}
 use Rattle.wm_print.specs.Texts.{Answer}
-use Rattle.wm_model.specs.Step.Refusing.{not_built, no_table, no_workspace}
+use Rattle.wm_model.specs.Step.Refusing.{no_table, no_workspace}
 
 -- ---- names
 
@@ -48,10 +48,10 @@ with_named s name act = on (workspace_named name s.durable.spaces)
     on None = (s, no_workspace name)
     on (Some w) = act w
 
--- what is done with the workspace that a session stands in; it is there in each state that lines lead to
+-- the workspace that a session stands in; it is there in each state that lines lead to
+abbrev pub home_of : State → Session → Workspace
+home_of s session = unwrap_or (workspace_of s.durable.spaces session.space) fresh_live
+
+-- what is done with it
 abbrev pub at_home : State → Session → (Workspace → State × Answer) → State × Answer
-at_home s session act = on (workspace_of s.durable.spaces session.space)
-  where
-    on : Option Workspace → State × Answer
-    on None = (s, not_built)
-    on (Some w) = act w
+at_home s session act = act (home_of s session)

@@ -1,6 +1,5 @@
 -- INSERT, UPDATE and DELETE.
 use Rattle.std.specs.Prelude.{ℕ, ◌+◌, List, [], ◌∷◌, Bool, false, not, nat_le, if◌then◌else◌, length, map, unwrap_or, Option, None, Some}
-use Rattle.std.specs.List.{list_all}
 use Rattle.std.specs.Option.{option_map, option_or}
 use Rattle.wm_base.specs.Period.{Span, always}
 use Rattle.wm_base.specs.declared.value.Value.{Value}
@@ -16,7 +15,7 @@ use Rattle.wm_dml.specs.Standing.{change_keys}
 use Rattle.wm_dml.specs.declared.change.RowChange.{RowChange}
 use Rattle.wm_dml.specs.declared.moving.Move.{Move}
 use Rattle.wm_making.specs.Inserting.{insert_fault}
-use Rattle.wm_making.specs.Rows.{is_filled, period_given, row_of, row_fault}
+use Rattle.wm_making.specs.Rows.{period_given, row_of, row_fault}
 use Rattle.wm_model.specs.Entered.{entries_of}
 use Rattle.wm_typing.specs.Changing.{update_fault, delete_fault}
 use Rattle.wm_state.specs.State.{State, Workspace, Session, Stand, Latest, At, content}
@@ -124,18 +123,14 @@ abbrev pub replace_all : List ℕ → Table → Span → List Set → List Row �
 replace_all user table period sets rows None s w = (s, out_of_range)
 replace_all user table period sets rows (Some new) s w = unless (rows_fault table new) s (change_all user table period sets rows new s w)
 
--- rows in which a text is empty, which no line writes, are not changed
-abbrev pub unless_empty : List Row → (List Row → State → Workspace → State × Answer) → State → Workspace → State × Answer
-unless_empty rows act s w = if list_all (λ (r : Row). list_all is_filled r.values) rows then act rows s w else (s, not_built)
-
 -- UPDATE writes a new row for each on which the condition is true
 abbrev pub update : Session → List ℕ → List Set → Option Cond → Bool → State → State × Answer
 update session name sets filter empty =
     at_newest session name (λ table. update_fault table sets filter) empty
-    (with_rows session (λ table period rows. unless_empty (chosen table filter rows) (λ kept. replace_all session.user table period sets kept (updated_rows table sets kept))))
+    (with_rows session (λ table period rows. let kept = chosen table filter rows in replace_all session.user table period sets kept (updated_rows table sets kept)))
 
 -- DELETE makes each of them gone
 abbrev pub delete : Session → List ℕ → Option Cond → Bool → State → State × Answer
 delete session name filter empty =
     at_newest session name (λ table. delete_fault table filter) empty
-    (with_rows session (λ table period rows. unless_empty (chosen table filter rows) (λ kept. write_ascending session.user table (length kept) (map (gone table period) kept))))
+    (with_rows session (λ table period rows. let kept = chosen table filter rows in write_ascending session.user table (length kept) (map (gone table period) kept)))

@@ -1,11 +1,11 @@
 -- CreateSavepoint and GotoSavepoint.
-use Rattle.std.specs.Prelude.{ℕ, ◌+◌, List, [], ◌∷◌, false, nat_le, nat_lt, if◌then◌else◌, length, is_some, Option, None, Some, codes}
+use Rattle.std.specs.Prelude.{ℕ, ◌+◌, List, [], ◌∷◌, nat_le, nat_lt, if◌then◌else◌, length, is_some, unwrap_or, Option, None, Some, codes}
 use Rattle.std.specs.Str.{bytes_eq}
 use Rattle.wm_base.specs.declared.refusal.Refusal.{Refusal}
 use Rattle.wm_state.specs.State.{State, Workspace, Savepoint, Session, Stand, Latest, At, savepoint_named}
-use Rattle.wm_state.specs.Editing.{number_limit, saved_at, saved}
+use Rattle.wm_state.specs.Editing.{number_limit, save_in}
 use Rattle.wm_print.specs.Texts.{Answer, Fine}
-use Rattle.wm_model.specs.Step.Refusing.{not_built, no_savepoint, savepoint_there, most_savepoints, at_its_end, refused_if, first_fault, unless}
+use Rattle.wm_model.specs.Step.Refusing.{no_savepoint, savepoint_there, most_savepoints, at_its_end, refused_if, first_fault, unless}
 use Rattle.wm_model.specs.Step.Counting.{durably}
 use Rattle.wm_model.specs.Step.Naming.{latest, with_named, at_home}
 use Rattle.wm_model.specs.Step.Sessions as settings
@@ -13,11 +13,7 @@ use Rattle.wm_model.specs.Step.Sessions.{altered}
 
 -- what is newest in a workspace is kept under a name
 abbrev pub save : List ℕ → State → Workspace → State × Answer
-save name s w = of (saved_at s.moment s.durable.spaces w Latest name false)
-  where
-    of : Option Savepoint → State × Answer
-    of None = (s, not_built)
-    of (Some k) = durably s 0 (record s { durable = saved w.number (w.next_place + 1) w.next_implicit k s.durable }, Fine)
+save name s w = durably s 0 (record s { durable = unwrap_or (save_in s.moment name s.durable w) s.durable }, Fine)
 
 -- what CreateSavepoint is refused for in the workspace
 abbrev pub saving_faults : List ℕ → Workspace → List (Option Refusal)

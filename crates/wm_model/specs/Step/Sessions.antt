@@ -1,5 +1,5 @@
 -- Who is connected, and the moment.
-use Rattle.std.specs.Prelude.{ℕ, ◌+◌, List, [], ◌∷◌, ◌++◌, not, ◌&&◌, nat_le, nat_lt, if◌then◌else◌, length, map, is_some, Option, None}
+use Rattle.std.specs.Prelude.{ℕ, List, [], ◌∷◌, ◌++◌, not, ◌&&◌, nat_le, nat_lt, if◌then◌else◌, length, map, is_some, Option, None}
 use Rattle.std.specs.List.{filter}
 use Rattle.std.specs.Str.{bytes_eq}
 use Rattle.wm_base.specs.Period.{Span}

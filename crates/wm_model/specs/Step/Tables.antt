@@ -1,5 +1,6 @@
 -- CREATE TABLE and EnableVersioning.
-use Rattle.std.specs.Prelude.{ℕ, ◌+◌, List, [], ◌∷◌, ◌++◌, Bool, true, not, ◌||◌, nat_le, nat_lt, if◌then◌else◌, length, is_some, Option}
+use Rattle.std.specs.Prelude.{ℕ, List, [], ◌∷◌, ◌++◌, Bool, true, not, ◌||◌, nat_le, nat_lt, if◌then◌else◌, length, is_some, Option}
+use Rattle.wm_graph.specs.Rules.{has_key}
 use Rattle.wm_spec.specs.declared.record.table.Table.{Table}
 use Rattle.wm_base.specs.declared.tree.statement.CreateItem.{CreateItem}
 use Rattle.wm_making.specs.Creating.{names_fault, shape_fault, table_of}
@@ -28,4 +29,4 @@ enable name how fault s =
     with_table s name (λ table.
     if table.versioned then (s, versioning name true) else
     unless_mistyped fault s
-    (if not table.has_key then (s, no_key name) else durably s 0 (record s { durable = record s.durable { tables = enabled table.number how s.durable.tables } }, Fine)))
+    (if not (has_key table) then (s, no_key name) else durably s 0 (record s { durable = record s.durable { tables = enabled table.number how s.durable.tables } }, Fine)))

@@ -1,22 +1,18 @@
 -- CreateWorkspace and GotoWorkspace.
-use Rattle.std.specs.Prelude.{ℕ, ◌+◌, List, [], ◌∷◌, true, nat_le, nat_lt, if◌then◌else◌, length, is_some, Option, None, Some, codes}
+use Rattle.std.specs.Prelude.{ℕ, ◌+◌, List, [], ◌∷◌, nat_le, nat_lt, if◌then◌else◌, length, is_some, unwrap_or, Option, codes}
 use Rattle.wm_base.specs.declared.refusal.Refusal.{Refusal}
-use Rattle.wm_state.specs.State.{State, Workspace, Savepoint, Session, Stand, Latest, workspace_named, savepoint_named, next_space}
-use Rattle.wm_state.specs.Editing.{number_limit, implicit_name, saved_at, place_behind, born}
+use Rattle.wm_state.specs.State.{State, Workspace, Session, Stand, Latest, workspace_named, savepoint_named, next_space}
+use Rattle.wm_state.specs.Editing.{number_limit, implicit_name, place_behind, bear_in}
 use Rattle.wm_print.specs.Texts.{Answer, Fine}
-use Rattle.wm_model.specs.Step.Refusing.{not_built, workspace_there, savepoint_there, most_workspaces, most_savepoints, at_its_end, refused_if, first_fault, unless}
+use Rattle.wm_model.specs.Step.Refusing.{workspace_there, savepoint_there, most_workspaces, most_savepoints, at_its_end, refused_if, first_fault, unless}
 use Rattle.wm_model.specs.Step.Counting.{durably}
 use Rattle.wm_model.specs.Step.Naming.{with_named, at_home}
 use Rattle.wm_model.specs.Step.Sessions as settings
 use Rattle.wm_model.specs.Step.Sessions.{altered}
 
--- a workspace is born where a session stands
+-- a workspace is born where a session stands; its savepoint is there in each state that lines lead to
 abbrev pub bear : Stand → List ℕ → State → Workspace → State × Answer
-bear stand name s w = of (saved_at s.moment s.durable.spaces w stand (implicit_name w) true)
-  where
-    of : Option Savepoint → State × Answer
-    of None = (s, not_built)
-    of (Some k) = durably s 0 (record s { durable = born s.moment w stand name k s.durable }, Fine)
+bear stand name s w = durably s 0 (record s { durable = unwrap_or (bear_in s.moment stand name s.durable w) s.durable }, Fine)
 
 -- a counter that it needs is at its end
 abbrev pub counting_faults : Stand → State → Workspace → List (Option Refusal)

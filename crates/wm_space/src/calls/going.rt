@@ -5,6 +5,7 @@ ghost use Rattle.wm_plan.specs.Planning.{DoesIt};
 ghost use Rattle.wm_grammar.specs.declared.procedure.Procedure.TheVariants as procedures;
 ghost use Rattle.wm_graph.specs.Parts.{parts_of};
 ghost use Rattle.wm_graph.specs.Rules.{keep_rules};
+ghost use Rattle.wm_model.specs.Planning.{IsOpen};
 ghost use Rattle.wm_model.specs.Step.{call};
 ghost use Rattle.wm_state.specs.State.{Session as SessionState};
 
@@ -46,7 +47,7 @@ pub fn goto_savepoint_call(
     args: &[Arg],
 ) -> Result<Planned, Memory>
     requires rules { keep_rules (parts_of image.now) ≡ true }
-    ensures does { IfOk result (λ p. (xs : List SessionState) (m : ℕ) → DoesIt image.now xs m p (call session.now (Some procedures.GotoSavepoint) args.now)) }
+    ensures does { IfOk result (λ p. (xs : List SessionState) (m : ℕ) → IsOpen xs session.now → DoesIt image.now xs m p (call session.now (Some procedures.GotoSavepoint) args.now)) }
     ensures idle { IfOk result Idles }
 {
     if let Some(parameter) = fault_of(alloc, Procedure::GotoSavepoint, args)? {

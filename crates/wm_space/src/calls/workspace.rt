@@ -8,6 +8,7 @@ ghost use Rattle.wm_plan.specs.Planning.{DoesIt};
 ghost use Rattle.wm_grammar.specs.declared.procedure.Procedure.TheVariants as procedures;
 ghost use Rattle.wm_graph.specs.Parts.{parts_of};
 ghost use Rattle.wm_graph.specs.Rules.{keep_rules};
+ghost use Rattle.wm_model.specs.Planning.{IsOpen};
 ghost use Rattle.wm_model.specs.Step.{call};
 
 use crate::bearing::create_workspace;
@@ -34,7 +35,7 @@ pub fn workspace_call(
 ) -> Result<Planned, Memory>
     requires rules { keep_rules (parts_of image.now) ≡ true }
     requires moment { moment < END }
-    ensures does { IfOk result (λ p. DoesIt image.now sessions.now moment p (call session.now (Some procedures.CreateWorkspace) args.now)) }
+    ensures does { IfOk result (λ p. IsOpen sessions.now session.now → DoesIt image.now sessions.now moment p (call session.now (Some procedures.CreateWorkspace) args.now)) }
     ensures idle { IfOk result Idles }
     ensures few { IfOk result AreForks }
 {

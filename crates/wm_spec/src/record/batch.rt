@@ -1,5 +1,5 @@
 //! What becomes of records in one commit.
-ghost use Rattle.std.specs.Prelude.{◌≡◌, ◌∷◌, [], ◌++◌, length, OnOk, OnErr};
+ghost use Rattle.std.specs.Prelude.{◌≡◌, ◌∷◌, [], ◌++◌, OnOk, OnErr};
 
 use crate::record::Record;
 use std::alloc::Global;
@@ -38,12 +38,6 @@ impl Changes {
         }
     }
 
-    pub fn from_vec(list: Vec<Change>) -> Changes
-        ensures { result ≡ list.items }
-    {
-        Changes { list }
-    }
-
     pub fn into_vec(self) -> Vec<Change>
         ensures { result.items ≡ self }
     {
@@ -54,12 +48,6 @@ impl Changes {
         ensures { result.now ≡ self.now }
     {
         self.list.as_slice()
-    }
-
-    pub fn len(&self) -> usize
-        ensures { result ≡ length self.now }
-    {
-        self.list.len()
     }
 
     pub fn push(&mut self, change: Change) -> Result<(), Memory>

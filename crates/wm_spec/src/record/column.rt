@@ -48,18 +48,6 @@ impl TableColumns {
         }
     }
 
-    pub fn from_vec(list: Vec<TableColumn>) -> TableColumns
-        ensures { result ≡ list.items }
-    {
-        TableColumns { list }
-    }
-
-    pub fn into_vec(self) -> Vec<TableColumn>
-        ensures { result.items ≡ self }
-    {
-        self.list
-    }
-
     pub fn as_slice(&self) -> &[TableColumn]
         ensures { result.now ≡ self.now }
     {

@@ -1,5 +1,5 @@
 //! Records with their ids in the store.
-ghost use Rattle.std.specs.Prelude.{◌≡◌, ◌∷◌, [], ◌++◌, length, OnOk, OnErr};
+ghost use Rattle.std.specs.Prelude.{◌≡◌, ◌∷◌, [], ◌++◌, OnOk, OnErr};
 
 use crate::record::Record;
 use std::alloc::Global;
@@ -54,12 +54,6 @@ impl Records {
         ensures { result.now ≡ self.now }
     {
         self.list.as_slice()
-    }
-
-    pub fn len(&self) -> usize
-        ensures { result ≡ length self.now }
-    {
-        self.list.len()
     }
 
     pub fn push(&mut self, stored: Stored) -> Result<(), Memory>

@@ -1,5 +1,5 @@
 //! The record of a table.
-use crate::record::TableColumns;
+use crate::record::{KeyColumns, TableColumns};
 use wm_base::Name;
 
 /// A table: its name, what it keeps of its rows, and its columns.
@@ -13,8 +13,7 @@ pub struct Table {
     pub valid: bool,
     /// Whether its history is kept.
     pub history: bool,
-    /// Whether it has a key column, which is then the one at `key_column`, counted from 0.
-    pub has_key: bool,
-    pub key_column: u8,
+    /// The places of its key columns; none where it has no key.
+    pub key_columns: KeyColumns,
     pub columns: TableColumns,
 }

@@ -3,7 +3,8 @@ use Rattle.wm_base.specs.Views.{filter_view}
 use Rattle.wm_dml.specs.Changing.{all_overlap, own_columns}
 use Rattle.wm_graph.specs.Parts.{parts_of, space_of}
 use Rattle.wm_model.proofs.Named.{named_is}
-use Rattle.wm_model.proofs.Newest.{newest_none, newest_off, newest_faulty, newest_homeless, newest_elsewhere, newest_empty}
+use Rattle.wm_model.proofs.Homes.{does_homeless}
+use Rattle.wm_model.proofs.Newest.{newest_none, newest_off, newest_faulty, newest_elsewhere, newest_empty}
 use Rattle.wm_model.specs.Planning.{Stay, named}
 use Rattle.wm_model.specs.Step.{delete, empty_period, no_table, not_built, not_latest, versioning}
 use Rattle.wm_print.specs.Texts.{Refused}
@@ -12,43 +13,43 @@ use Rattle.wm_change.proofs.Acting.{does_change}
 use Rattle.wm_chosen.proofs.ChosenRows.{chosen_keyed, chosen_overlap}
 use Rattle.wm_chosen.proofs.ChosenRows.{where_typed}
 use Rattle.wm_plan.proofs.Planning.{told}
-use Rattle.wm_change.proofs.Rowing.{delete_acts, delete_faults, deletes, does_rows, plain_within}
+use Rattle.wm_change.proofs.Rowing.{delete_acts, delete_faults, deletes, does_rows, plain_within, rows_are_full}
 use Rattle.wm_chosen.specs.Chosen.{are_keyed}
 use Rattle.wm_plan.specs.Views.{answer_view, seating_view}
 use Rattle.wm_change.proofs.change.delete.Goals as goal
 
 pub returns-in_default-clause-does : goal.returns-in_default-clause-does
-returns-in_default-clause-does c = λ xs.
+returns-in_default-clause-does c = λ xs among.
     told c.args.image.now xs c.args.moment c.answered.result [] Stay (no_table c.args.name.now) (delete c.args.session.now c.args.name.now (filter_view c.args.filter.now) c.args.empty) c.answered.ensures.edits (ap seating_view c.answered.ensures.seating)
     (ap answer_view c.answered.ensures.answer ∙ c.no_table.ensures ∙ ap no_table c.in_ok-copy.ensures)
     (newest_none c.args.image.now xs c.args.moment c.args.session.now c.args.name.now (delete_faults (filter_view c.args.filter.now)) c.args.empty (delete_acts c.args.session.now (filter_view c.args.filter.now)) c.requires.rules (ap (named c.args.image.now) (sym c.as_bytes.ensures) ∙ sym c.in_default.ensures))
 
 pub returns-then-not-table-clause-does : goal.returns-then-not-table-clause-does
-returns-then-not-table-clause-does c = λ xs.
+returns-then-not-table-clause-does c = λ xs among.
     told c.args.image.now xs c.args.moment c.answered-then-not-table.result [] Stay (versioning c.args.name.now false) (delete c.args.session.now c.args.name.now (filter_view c.args.filter.now) c.args.empty) c.answered-then-not-table.ensures.edits (ap seating_view c.answered-then-not-table.ensures.seating)
     (ap answer_view c.answered-then-not-table.ensures.answer ∙ c.versioning.ensures ∙ ap (λ n. versioning n false) c.in_ok-copy-2.ensures)
     (newest_off c.args.image.now xs c.args.moment c.args.session.now c.args.name.now (delete_faults (filter_view c.args.filter.now)) c.args.empty (delete_acts c.args.session.now (filter_view c.args.filter.now)) c.in-Some.table.now c.requires.rules (ap (named c.args.image.now) (sym c.as_bytes.ensures) ∙ sym c.in-Some.ensures) c.if-not-table.true)
 
 pub returns-in-Some-2-clause-does : goal.returns-in-Some-2-clause-does
-returns-in-Some-2-clause-does c = λ xs.
+returns-in-Some-2-clause-does c = λ xs among.
     told c.args.image.now xs c.args.moment c.answered-in-Some-2.result [] Stay (Refused c.in-Some-2.refusal) (delete c.args.session.now c.args.name.now (filter_view c.args.filter.now) c.args.empty) c.answered-in-Some-2.ensures.edits (ap seating_view c.answered-in-Some-2.ensures.seating)
     (ap answer_view c.answered-in-Some-2.ensures.answer)
     (newest_faulty c.args.image.now xs c.args.moment c.args.session.now c.args.name.now (delete_faults (filter_view c.args.filter.now)) c.args.empty (delete_acts c.args.session.now (filter_view c.args.filter.now)) c.in-Some.table.now c.in-Some-2.refusal (record { rules = c.requires.rules; some = ap (named c.args.image.now) (sym c.as_bytes.ensures) ∙ sym c.in-Some.ensures; on = c.if-not-table.false }) (sym c.in_ok-refusal.ensures.exact ∙ c.in-Some-2.is))
 
 pub returns-in_default-space-clause-does : goal.returns-in_default-space-clause-does
-returns-in_default-space-clause-does c = λ xs.
+returns-in_default-space-clause-does c = λ xs among.
     told c.args.image.now xs c.args.moment c.answered-in_default-space.result [] Stay not_built (delete c.args.session.now c.args.name.now (filter_view c.args.filter.now) c.args.empty) c.answered-in_default-space.ensures.edits (ap seating_view c.answered-in_default-space.ensures.seating)
     (ap answer_view c.answered-in_default-space.ensures.answer ∙ c.not_built.ensures)
-    (newest_homeless c.args.image.now xs c.args.moment c.args.session.now c.args.name.now (delete_faults (filter_view c.args.filter.now)) c.args.empty (delete_acts c.args.session.now (filter_view c.args.filter.now)) c.in-Some.table.now (record { ready = (record { rules = c.requires.rules; some = ap (named c.args.image.now) (sym c.as_bytes.ensures) ∙ sym c.in-Some.ensures; on = c.if-not-table.false }); good = sym c.in_ok-refusal.ensures.exact ∙ c.in_default-2.is }) (ap (space_of (parts_of c.args.image.now).spaces) (sym c.space.ensures) ∙ sym c.in_default-space.ensures))
+    (does_homeless c.args.image.now xs c.args.moment c.args.session.now not_built (delete c.args.session.now c.args.name.now (filter_view c.args.filter.now) c.args.empty) among (ap (space_of (parts_of c.args.image.now).spaces) (sym c.space.ensures) ∙ sym c.in_default-space.ensures))
 
 pub returns-in-At-clause-does : goal.returns-in-At-clause-does
-returns-in-At-clause-does c = λ xs.
+returns-in-At-clause-does c = λ xs among.
     told c.args.image.now xs c.args.moment c.answered-in-At.result [] Stay not_latest (delete c.args.session.now c.args.name.now (filter_view c.args.filter.now) c.args.empty) c.answered-in-At.ensures.edits (ap seating_view c.answered-in-At.ensures.seating)
     (ap answer_view c.answered-in-At.ensures.answer ∙ c.not_latest.ensures)
     (newest_elsewhere c.args.image.now xs c.args.moment c.args.session.now c.args.name.now (delete_faults (filter_view c.args.filter.now)) c.args.empty (delete_acts c.args.session.now (filter_view c.args.filter.now)) c.in-Some.table.now c.in-Some-space.space.now c.in-At.field-0 (record { ready = (record { rules = c.requires.rules; some = ap (named c.args.image.now) (sym c.as_bytes.ensures) ∙ sym c.in-Some.ensures; on = c.if-not-table.false }); good = sym c.in_ok-refusal.ensures.exact ∙ c.in_default-2.is }) (ap (space_of (parts_of c.args.image.now).spaces) (sym c.space.ensures) ∙ sym c.in-Some-space.ensures) (sym c.in-At.ensures))
 
 pub returns-then-empty-clause-does : goal.returns-then-empty-clause-does
-returns-then-empty-clause-does c = λ xs.
+returns-then-empty-clause-does c = λ xs among.
     told c.args.image.now xs c.args.moment c.answered-then-empty.result [] Stay empty_period (delete c.args.session.now c.args.name.now (filter_view c.args.filter.now) c.args.empty) c.answered-then-empty.ensures.edits (ap seating_view c.answered-then-empty.ensures.seating)
     (ap answer_view c.answered-then-empty.ensures.answer ∙ c.empty_period.ensures)
     (newest_empty c.args.image.now xs c.args.moment c.args.session.now c.args.name.now (delete_faults (filter_view c.args.filter.now)) c.args.empty (delete_acts c.args.session.now (filter_view c.args.filter.now)) c.in-Some.table.now c.in-Some-space.space.now (record { good = (record { ready = (record { rules = c.requires.rules; some = ap (named c.args.image.now) (sym c.as_bytes.ensures) ∙ sym c.in-Some.ensures; on = c.if-not-table.false }); good = sym c.in_ok-refusal.ensures.exact ∙ c.in_default-2.is }); found = (ap (space_of (parts_of c.args.image.now).spaces) (sym c.space.ensures) ∙ sym c.in-Some-space.ensures); at = sym c.in_default-stand.ensures }) c.if-empty.true)
@@ -66,6 +67,11 @@ pub delete_rows-requires-clause-keyed : goal.delete_rows-requires-clause-keyed
 delete_rows-requires-clause-keyed c =
     ap (are_keyed c.in-Some.table.now) c.as_slice.ensures.value
     ∙ chosen_keyed c.args.image.now c.latest-version.result c.in-Some.table.now c.within-within.result (filter_view c.args.filter.now) c.in_ok-rows.rows.items c.requires.rules (named_is c.args.image.now c.args.name.now c.in-Some.table.now c.requires.rules (ap (named c.args.image.now) (sym c.as_bytes.ensures) ∙ sym c.in-Some.ensures)).there c.in_ok-rows.ensures
+
+pub delete_rows-requires-clause-full : goal.delete_rows-requires-clause-full
+delete_rows-requires-clause-full c =
+    rows_are_full c.args.image.now c.args.moment c.args.session.now c.in-Some-space.space.now (filter_view c.args.filter.now) c.in-Some.table.now c.within-within.result c.latest-version.result c.as_slice.result.now c.in_ok-rows.rows.items
+    (c.latest-version.ensures ∙ ap (latest (parts_of c.args.image.now)) c.space-3.ensures) c.in_ok-rows.ensures c.as_slice.ensures.value
 
 pub delete_rows-requires-clause-overlap : goal.delete_rows-requires-clause-overlap
 delete_rows-requires-clause-overlap c =

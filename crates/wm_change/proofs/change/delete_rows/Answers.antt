@@ -1,9 +1,8 @@
 use Rattle.std.proofs.Common.{length, refl, map, sym, ap, ◌∙◌}
 use Rattle.std.specs.List.{list_all}
 use Rattle.wm_dml.specs.Changing.{gone}
-use Rattle.wm_model.proofs.Changing.{kept_empty, kept_filled}
-use Rattle.wm_model.specs.Step.{not_built, unless_empty, write_ascending}
-use Rattle.wm_change.proofs.Acting.{answers_so, does_so}
+use Rattle.wm_model.specs.Step.{not_built, write_ascending}
+use Rattle.wm_change.proofs.Acting.{answers_full, does_so}
 use Rattle.wm_change.proofs.Filled.{gone_filled, keyed_stand}
 use Rattle.wm_change.proofs.Counted.{no_rows}
 use Rattle.wm_change.specs.Changing.{is_filled_change}
@@ -13,10 +12,8 @@ use Rattle.wm_change.proofs.change.delete_rows.Goals as goal
 pub returns-then-not-are_filled-clause-does : goal.returns-then-not-are_filled-clause-does
 returns-then-not-are_filled-clause-does c =
     let t = c.args.table.now in
-    let user = c.args.session.now.user in
-    answers_so c.args.image.now c.args.moment c.answered.result c.args.session.now c.args.space.now (unless_empty c.args.rows.now (λ kept. write_ascending user t (length kept) (map (gone t c.args.within.now) kept))) not_built c.requires.rules
-    (λ s w. kept_empty c.args.rows.now (λ kept. write_ascending user t (length kept) (map (gone t c.args.within.now) kept)) s w (sym c.if-not-are_filled.ensures)) c.answered.ensures.edits (ap seating_view c.answered.ensures.seating)
-    (ap answer_view c.answered.ensures.answer ∙ c.not_built.ensures)
+    answers_full c.args.image.now c.args.moment c.answered.result c.args.session.now c.args.space.now (write_ascending c.args.session.now.user t (length c.args.rows.now) (map (gone t c.args.within.now) c.args.rows.now)) not_built c.args.rows.now c.requires.rules
+    c.requires.full (sym c.if-not-are_filled.ensures) c.answered.ensures.edits (ap seating_view c.answered.ensures.seating) (ap answer_view c.answered.ensures.answer ∙ c.not_built.ensures)
 
 pub write_all-requires-clause-fit : goal.write_all-requires-clause-fit
 write_all-requires-clause-fit c = c.in_ok-changes.ensures.fit (keyed_stand c.args.table.now c.args.rows.now c.requires.keyed (sym c.if-not-are_filled.ensures))
@@ -35,7 +32,5 @@ returns-clause-does c =
     let t = c.args.table.now in
     let user = c.args.session.now.user in
     does_so c.args.image.now c.args.moment c.write_all.result c.args.session.now c.args.space.now (write_ascending user t (length c.args.rows.now) c.in_ok-changes.changes.items)
-    (unless_empty c.args.rows.now (λ kept. write_ascending user t (length kept) (map (gone t c.args.within.now) kept)))
-    (λ s w.
-    kept_filled c.args.rows.now (λ kept. write_ascending user t (length kept) (map (gone t c.args.within.now) kept)) s w (sym c.if-not-are_filled.ensures) ∙ ap (λ xs. write_ascending user t (length c.args.rows.now) xs s w) (sym c.in_ok-changes.ensures.exact))
-    c.write_all.ensures.does
+    (write_ascending user t (length c.args.rows.now) (map (gone t c.args.within.now) c.args.rows.now))
+    (λ s w. ap (λ xs. write_ascending user t (length c.args.rows.now) xs s w) (sym c.in_ok-changes.ensures.exact)) c.write_all.ensures.does

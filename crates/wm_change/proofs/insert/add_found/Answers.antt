@@ -1,7 +1,8 @@
 use Rattle.std.proofs.Common.{[], sym, ap, ◌∙◌}
 use Rattle.wm_base.specs.Views.{exprs_view}
 use Rattle.wm_graph.specs.Parts.{parts_of, space_of}
-use Rattle.wm_model.proofs.Newest.{newest_homeless, newest_elsewhere, newest_empty}
+use Rattle.wm_model.proofs.Homes.{does_homeless}
+use Rattle.wm_model.proofs.Newest.{newest_elsewhere, newest_empty}
 use Rattle.wm_model.specs.Planning.{Stay}
 use Rattle.wm_model.specs.Step.{empty_period, insert, not_built, not_latest}
 use Rattle.wm_change.proofs.Acting.{does_change}
@@ -12,15 +13,14 @@ use Rattle.wm_plan.specs.Views.{answer_view, seating_view}
 use Rattle.wm_change.proofs.insert.add_found.Goals as goal
 
 pub returns-in_default-clause-does : goal.returns-in_default-clause-does
-returns-in_default-clause-does c = λ xs.
+returns-in_default-clause-does c = λ xs among.
     let i = c.args.insertion in
     told c.args.image.now xs c.args.moment c.answered.result [] Stay not_built (insert c.args.session.now i.name.now i.names.now (exprs_view i.values.now) c.args.empty) c.answered.ensures.edits (ap seating_view c.answered.ensures.seating)
     (ap answer_view c.answered.ensures.answer ∙ c.not_built.ensures)
-    (newest_homeless c.args.image.now xs c.args.moment c.args.session.now i.name.now (insert_faults i.names.now (exprs_view i.values.now)) c.args.empty (insert_acts c.args.session.now i.names.now (exprs_view i.values.now)) i.table.now
-    (is_good c.args.image.now i c.requires.rules c.requires.fine) (ap (space_of (parts_of c.args.image.now).spaces) (sym c.space.ensures) ∙ sym c.in_default.ensures))
+    (does_homeless c.args.image.now xs c.args.moment c.args.session.now not_built (insert c.args.session.now i.name.now i.names.now (exprs_view i.values.now) c.args.empty) among (ap (space_of (parts_of c.args.image.now).spaces) (sym c.space.ensures) ∙ sym c.in_default.ensures))
 
 pub returns-in-At-clause-does : goal.returns-in-At-clause-does
-returns-in-At-clause-does c = λ xs.
+returns-in-At-clause-does c = λ xs among.
     let i = c.args.insertion in
     told c.args.image.now xs c.args.moment c.answered-in-At.result [] Stay not_latest (insert c.args.session.now i.name.now i.names.now (exprs_view i.values.now) c.args.empty) c.answered-in-At.ensures.edits (ap seating_view c.answered-in-At.ensures.seating)
     (ap answer_view c.answered-in-At.ensures.answer ∙ c.not_latest.ensures)
@@ -28,7 +28,7 @@ returns-in-At-clause-does c = λ xs.
     (is_good c.args.image.now i c.requires.rules c.requires.fine) (ap (space_of (parts_of c.args.image.now).spaces) (sym c.space.ensures) ∙ sym c.in-Some.ensures) (sym c.in-At.ensures))
 
 pub returns-then-empty-clause-does : goal.returns-then-empty-clause-does
-returns-then-empty-clause-does c = λ xs.
+returns-then-empty-clause-does c = λ xs among.
     let i = c.args.insertion in
     told c.args.image.now xs c.args.moment c.answered-then-empty.result [] Stay empty_period (insert c.args.session.now i.name.now i.names.now (exprs_view i.values.now) c.args.empty) c.answered-then-empty.ensures.edits
     (ap seating_view c.answered-then-empty.ensures.seating) (ap answer_view c.answered-then-empty.ensures.answer ∙ c.empty_period.ensures)

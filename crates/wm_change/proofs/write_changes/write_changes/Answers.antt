@@ -30,6 +30,7 @@ returns-clause-does c =
     (record {
       some = c.requires.some;
       there = c.requires.there;
+      on = c.requires.on;
       fit = c.requires.fit;
       last = c.requires.last;
       keys = c.requires.keys;

@@ -1,7 +1,5 @@
-use Rattle.std.proofs.Common.{◌≡◌, Some, None, sym, ap, ◌∙◌, subst, arith}
-use Rattle.wm_spec.specs.declared.record.Record.{Record}
+use Rattle.std.proofs.Common.{sym, ap, ◌∙◌, arith}
 use Rattle.wm_codec.specs.Reading.{record_of}
-use Rattle.wm_codec.proofs.Exact.{some_is}
 use Rattle.wm_codec.proofs.ExactRecords.{record_takes, record_again}
 use Rattle.wm_codec.proofs.read.decode.Goals as goal
 

@@ -1,36 +1,29 @@
-use Rattle.std.proofs.Common.{subst, ◌∙◌}
-use Rattle.wm_graph.specs.Parts.{parts_of}
+use Rattle.wm_graph.specs.Parts.{parts_of, space_of}
 use Rattle.wm_spec.specs.Records.{record_at}
+use Rattle.wm_spec.specs.declared.record.Record.TheVariants as records
 use Rattle.wm_state.proofs.Apart.{ruled}
+use Rattle.wm_state.specs.Batches.{put}
+use Rattle.wm_state.specs.Writes.{put_all}
+use Rattle.wm_draft.proofs.Appended.{found_there}
 use Rattle.wm_draft.proofs.Placed.{counters_at, space_at}
-use Rattle.wm_draft.proofs.Written.{MadeAll, counted_as, written_is}
-use Rattle.wm_draft.specs.Redraw.{IsRedrawn}
+use Rattle.wm_draft.proofs.Putting.{put_behind}
 use Rattle.wm_draft.proofs.append.written.Goals as goal
-
-made : (c : goal.After-drop-drawn-2) → MadeAll c.args.space.now c.args.entries.items c.in_ok-drawn.drawn.drawn.items c.len-count.result c.in_ok-longer.longer c.in_ok-made.made.rows.items c.in_ok-pieces.pieces.items c.in_ok-made.made.hists.items
-made c = record {
-  count_is = counted_as c.args.entries c.len-count.result c.len-count.ensures;
-  space_is = c.in_ok-longer.ensures;
-  rows_are = c.in_ok-made.ensures.rows;
-  pieces_are = c.in_ok-pieces.ensures;
-  hists_are = c.in_ok-made.ensures.hists;
-}
 
 pub returns : goal.returns
 returns c =
     let r = ruled (parts_of c.args.image.now) c.requires.rules in
+    let was = found_there (space_of (parts_of c.args.image.now).spaces c.args.space.number) c.requires.there in
     record {
       counters_id = c.id_of_counters.result;
       old = r.counters;
       one = r.one;
       counters_at = counters_at r.counters (parts_of c.args.image.now).counters (record_at c.args.image.now c.id_of_counters.result) r.one c.id_of_counters.ensures.there;
       space_id = c.unwrap-space_id.result;
-      space_at = space_at c.args.image.now c.args.space.now.number c.id_of_space.result c.unwrap-space_id.result c.args.space.now c.unwrap-space_id.ensures c.id_of_space.ensures.there c.requires.there;
+      was = was.0;
+      found = was.1;
+      space_at = space_at c.args.image.now c.args.space.number c.id_of_space.result c.unwrap-space_id.result was.0 c.unwrap-space_id.ensures c.id_of_space.ensures.there was.1;
       sorted = c.id_of_counters.ensures.ascend;
-      dropped = c.in_ok-drawn.drawn.dropped.items;
-      drawn = c.in_ok-drawn.drawn.drawn.items;
-      redrawn = subst (λ news. IsRedrawn c.args.image.now news c.in_ok-drawn.drawn.dropped.items c.in_ok-drawn.drawn.drawn.items) c.in_ok-made.ensures.pieces c.in_ok-drawn.ensures;
-      are = c.in_ok-changes.ensures
-          ∙ written_is c.args.front c.args.counters c.args.space.now c.args.entries.items c.in_ok-drawn.drawn.drawn.items c.len-count.result c.in_ok-longer.longer c.in_ok-made.made.rows.items c.in_ok-pieces.pieces.items c.in_ok-made.made.hists.items
-          c.id_of_counters.result c.unwrap-space_id.result c.args.id c.as_slice-4.result.now c.in_ok-drawn.drawn.dropped.items (made c) c.as_slice-4.ensures.value;
+      are = put_behind c.args.front c.push.new.self c.push-2.new.self c.drop_all.new.changes c.put_all.new.changes (put_all c.args.id c.args.made.news.items) c.put.result c.put-2.result
+          (put c.id_of_counters.result (records.Counters c.args.counters)) (put c.unwrap-space_id.result (records.Space c.args.space)) c.as_slice.result.now c.args.made.dropped.items c.in_ok-push.ensures.ok c.put.ensures c.in_ok-push-2.ensures.ok
+          c.put-2.ensures c.in_ok-drop_all.ensures c.as_slice.ensures.value c.in_ok-put_all.ensures;
     }

@@ -10,10 +10,10 @@ use Rattle.wm_state.specs.declared.edit.Edit.TheVariants as edits
 use Rattle.wm_draft.proofs.Placed.{counters_at}
 use Rattle.wm_draft.proofs.tables.create.Goals as goal
 
-pub returns : goal.returns
-returns c =
+pub returns-clause-drafts : goal.returns-clause-drafts
+returns-clause-drafts c =
     subst (DraftsBy c.args.work c.args.image.now c.args.moment (edits.Create c.args.table ∷ []))
-    (sym (c.in_ok-changes.ensures ∙ ap (λ (k : Counters). create_batch c.id_of_counters.result k c.in-Some.id c.args.table) c.moved-counters.ensures))
-    (drafts_created c.args.image.now c.args.moment c.args.work c.args.table c.counters.result c.id_of_counters.result c.in-Some.id c.requires.rules c.requires.work c.requires.can c.counters.ensures
+    (sym (c.in_ok-changes.ensures ∙ ap (λ (k : Counters). create_batch c.id_of_counters.result k c.in_ok-id.id c.args.table) c.moved-counters.ensures))
+    (drafts_created c.args.image.now c.args.moment c.args.work c.args.table c.counters.result c.id_of_counters.result c.in_ok-id.id c.requires.rules c.requires.work c.requires.can c.counters.ensures
     (counters_at c.counters.result (parts_of c.args.image.now).counters (record_at c.args.image.now c.id_of_counters.result) c.counters.ensures c.id_of_counters.ensures.there) c.id_of_counters.ensures.ascend
-    (under_next c.in-Some.id c.args.image.now c.in-Some.ensures.above))
+    (under_next c.in_ok-id.id c.args.image.now c.in_ok-id.ensures.above))

@@ -1,4 +1,5 @@
 use Rattle.std.proofs.Common.{List, refl, sym, subst, ap, ◌∙◌}
+use Rattle.wm_model.proofs.Lawful.Step.{lawful_step}
 use Rattle.wm_model.specs.Planning.{StandsAt, seated}
 use Rattle.wm_model.specs.Step.{step}
 use Rattle.wm_print.specs.Texts.{Answer}
@@ -24,13 +25,13 @@ pub returns-in_err-image-clause-any_moment : goal.returns-in_err-image-clause-an
 returns-in_err-image-clause-any_moment g c = λ told s stands.
     kept_stands c.args.image c.as_slice.result.now c.args.moment c.in_ok-planned.field-0.planned.edits.items c.in_ok-planned.field-0.planned.edits.items (seating_view c.in_ok-planned.field-0.planned.seating) c.in_ok-planned.field-0.moment
     (answer_view c.in_ok-planned.field-0.planned.answer) (λ t. step t c.args.line.now) (g.P.Station.history c.args.station.now) (g.P.Station.history c.keep.new.station) s c.in_ok-planned.ensures.does
-    refl (subst (λ (xs : List Session). StandsAt c.args.image xs c.args.moment s) (sym c.as_slice.ensures.value) stands) (c.in_err-image.ensures.any_moment told)
+    (λ t. lawful_step t c.args.line.now) refl (subst (λ (xs : List Session). StandsAt c.args.image xs c.args.moment s) (sym c.as_slice.ensures.value) stands) (c.in_err-image.ensures.any_moment told)
 
 pub returns-clause-any_moment : goal.returns-clause-any_moment
 returns-clause-any_moment g c = λ told s stands.
     kept_stands c.args.image c.as_slice.result.now c.args.moment c.in_ok-planned.field-0.planned.edits.items c.in_ok-planned.field-0.planned.edits.items (seating_view c.in_ok-planned.field-0.planned.seating) c.in_ok-planned.field-0.moment
     (answer_view c.in_ok-planned.field-0.planned.answer) (λ t. step t c.args.line.now) (g.P.Station.history c.args.station.now) (g.P.Station.history c.keep.new.station) s c.in_ok-planned.ensures.does
-    refl (subst (λ (xs : List Session). StandsAt c.args.image xs c.args.moment s) (sym c.as_slice.ensures.value) stands) (c.in_ok-image.ensures.any_moment told)
+    (λ t. lawful_step t c.args.line.now) refl (subst (λ (xs : List Session). StandsAt c.args.image xs c.args.moment s) (sym c.as_slice.ensures.value) stands) (c.in_ok-image.ensures.any_moment told)
 
 pub returns-clause-few : goal.returns-clause-few
 returns-clause-few g c = λ fork.
@@ -61,7 +62,7 @@ returns-clause-unwritten g c = λ told s stands idle.
 pub returns-clause-answered : goal.returns-clause-answered
 returns-clause-answered g c = λ s stands.
     kept_does c.args.image c.in_ok-image.image c.as_slice.result.now c.keep.new.sessions.items c.args.moment c.in_ok-planned.field-0.moment c.in_ok-planned.field-0.planned.edits.items c.in_ok-planned.field-0.planned.edits.items
-    (seating_view c.in_ok-planned.field-0.planned.seating) (answer_view c.in_ok-planned.field-0.planned.answer) (λ t. step t c.args.line.now) c.in_ok-reply.reply.bytes c.in_ok-planned.ensures.does refl
+    (seating_view c.in_ok-planned.field-0.planned.seating) (answer_view c.in_ok-planned.field-0.planned.answer) (λ t. step t c.args.line.now) c.in_ok-reply.reply.bytes c.in_ok-planned.ensures.does (λ t. lawful_step t c.args.line.now) refl
     c.in_ok-image.ensures.image
     (c.in_ok-image.ensures.sessions
     ∙ ap (λ (xs : List Session). seated xs (seating_view c.in_ok-planned.field-0.planned.seating)) (sym c.as_slice.ensures.value))

@@ -14,7 +14,7 @@ use Rattle.wm_plan.specs.Views.{answer_view, seating_view}
 use Rattle.wm_space.proofs.bearing.bear_in.Goals as goal
 
 pub returns-then-is_some-clause-does : goal.returns-then-is_some-clause-does
-returns-then-is_some-clause-does c = λ xs.
+returns-then-is_some-clause-does c = λ xs among.
     let found : List ℕ → Option Savepoint = λ n. find (λ (x : Savepoint). bytes_eq n x.name) (saved_in (parts_of c.args.image.now) c.args.space.now.number) in
     let there = some_of (found (implicit_of c.args.space.now)) (is_there c.savepoint_named.result (found (implicit_of c.args.space.now)) (c.savepoint_named.ensures ∙ ap found (c.as_bytes.ensures ∙ c.in_ok-implicit.ensures)) c.if-is_some.ensures) in
     told c.args.image.now xs c.args.moment c.answered.result [] Stay (savepoint_there (implicit_of c.args.space.now)) (create_workspace c.args.session.now c.args.name) c.answered.ensures.edits (ap seating_view c.answered.ensures.seating)
@@ -23,7 +23,7 @@ returns-then-is_some-clause-does c = λ xs.
 
 pub returns-then-space_count-ge-SPACE_LIMIT-clause-does :
     goal.returns-then-space_count-ge-SPACE_LIMIT-clause-does
-returns-then-space_count-ge-SPACE_LIMIT-clause-does c = λ xs.
+returns-then-space_count-ge-SPACE_LIMIT-clause-does c = λ xs among.
     let found : List ℕ → Option Savepoint = λ n. find (λ (x : Savepoint). bytes_eq n x.name) (saved_in (parts_of c.args.image.now) c.args.space.now.number) in
     told c.args.image.now xs c.args.moment c.answered-then-space_count-ge-SPACE_LIMIT.result [] Stay most_workspaces (create_workspace c.args.session.now c.args.name) c.answered-then-space_count-ge-SPACE_LIMIT.ensures.edits
     (ap seating_view c.answered-then-space_count-ge-SPACE_LIMIT.ensures.seating) (ap answer_view c.answered-then-space_count-ge-SPACE_LIMIT.ensures.answer ∙ c.most_workspaces.ensures)
@@ -33,7 +33,7 @@ returns-then-space_count-ge-SPACE_LIMIT-clause-does c = λ xs.
 
 pub returns-then-savepoint_count-ge-SAVEPOINT_LIMIT-clause-does :
     goal.returns-then-savepoint_count-ge-SAVEPOINT_LIMIT-clause-does
-returns-then-savepoint_count-ge-SAVEPOINT_LIMIT-clause-does c = λ xs.
+returns-then-savepoint_count-ge-SAVEPOINT_LIMIT-clause-does c = λ xs among.
     let found : List ℕ → Option Savepoint = λ n. find (λ (x : Savepoint). bytes_eq n x.name) (saved_in (parts_of c.args.image.now) c.args.space.now.number) in
     let count = count_by (λ (x : Savepoint). x.space == c.args.space.now.number) (parts_of c.args.image.now).savepoints in
     told c.args.image.now xs c.args.moment c.answered-then-savepoint_count-ge-SAVEPOINT_LIMIT.result [] Stay most_savepoints (create_workspace c.args.session.now c.args.name)

@@ -1,6 +1,6 @@
 use Rattle.std.proofs.Common.{nat_lt, [], sym, ap, ◌∙◌, codes}
 use Rattle.wm_graph.specs.Parts.{parts_of}
-use Rattle.wm_model.proofs.BearingLine.{bear_placeless, bear_nameless, bear_numberless, bear_nowhere}
+use Rattle.wm_model.proofs.BearingLine.{bear_placeless, bear_nameless, bear_numberless, does_standless}
 use Rattle.wm_model.specs.Planning.{Stay}
 use Rattle.wm_model.specs.Step.{create_workspace, at_its_end, not_built, number_limit}
 use Rattle.wm_state.specs.Editing.{stand_of}
@@ -12,14 +12,14 @@ use Rattle.wm_plan.specs.Views.{answer_view, seating_view}
 use Rattle.wm_space.proofs.bearing.bear_where.Goals as goal
 
 pub returns-then-is_placeless-clause-does : goal.returns-then-is_placeless-clause-does
-returns-then-is_placeless-clause-does c = λ xs.
+returns-then-is_placeless-clause-does c = λ xs among.
     told c.args.image.now xs c.args.moment c.answered.result [] Stay (at_its_end (codes "PLACE")) (create_workspace c.args.session.now c.args.name) c.answered.ensures.edits (ap seating_view c.answered.ensures.seating)
     (ap answer_view c.answered.ensures.answer ∙ c.in_ok-at_its_end.ensures)
     (bear_placeless c.args.image.now xs c.args.moment c.args.session.now c.args.name c.args.space.now c.requires.roomy
     (ap (λ x. nat_lt number_limit (next_place_at c.args.space.now x)) (sym (c.place_of-at.ensures ∙ c.stand.ensures)) ∙ sym c.if-is_placeless.ensures))
 
 pub returns-then-is_last-clause-does : goal.returns-then-is_last-clause-does
-returns-then-is_last-clause-does c = λ xs.
+returns-then-is_last-clause-does c = λ xs among.
     let stands = c.place_of-at.ensures ∙ c.stand.ensures in
     told c.args.image.now xs c.args.moment c.answered-then-is_last.result [] Stay (at_its_end (codes "ICP")) (create_workspace c.args.session.now c.args.name) c.answered-then-is_last.ensures.edits
     (ap seating_view c.answered-then-is_last.ensures.seating) (ap answer_view c.answered-then-is_last.ensures.answer ∙ c.in_ok-at_its_end-2.ensures)
@@ -27,7 +27,7 @@ returns-then-is_last-clause-does c = λ xs.
     (ap (λ x. nat_lt number_limit (next_place_at c.args.space.now x)) (sym stands) ∙ sym c.if-is_placeless.ensures) (sym c.if-is_last.ensures))
 
 pub returns-then-next_space-from-clause-does : goal.returns-then-next_space-from-clause-does
-returns-then-next_space-from-clause-does c = λ xs.
+returns-then-next_space-from-clause-does c = λ xs among.
     let stands = c.place_of-at.ensures ∙ c.stand.ensures in
     told c.args.image.now xs c.args.moment c.answered-then-next_space-from.result [] Stay (at_its_end (codes "WORKSPACE")) (create_workspace c.args.session.now c.args.name) c.answered-then-next_space-from.ensures.edits
     (ap seating_view c.answered-then-next_space-from.ensures.seating) (ap answer_view c.answered-then-next_space-from.ensures.answer ∙ c.in_ok-at_its_end-3.ensures)
@@ -36,14 +36,11 @@ returns-then-next_space-from-clause-does c = λ xs.
     (number_end (space_after (parts_of c.args.image.now).spaces) c.next_space.result c.from.result c.next_space.ensures c.from.ensures c.if-next_space-from.true))
 
 pub returns-then-not-is_there-clause-does : goal.returns-then-not-is_there-clause-does
-returns-then-not-is_there-clause-does c = λ xs.
+returns-then-not-is_there-clause-does c = λ xs among.
     let stands = c.place_of-at.ensures ∙ c.stand.ensures in
     told c.args.image.now xs c.args.moment c.answered-then-not-is_there.result [] Stay not_built (create_workspace c.args.session.now c.args.name) c.answered-then-not-is_there.ensures.edits
     (ap seating_view c.answered-then-not-is_there.ensures.seating) (ap answer_view c.answered-then-not-is_there.ensures.answer ∙ c.not_built.ensures)
-    (bear_nowhere c.args.image.now xs c.args.moment c.args.session.now c.args.name c.args.space.now
-    (may_bear_in c.args.image.now c.args.session.now c.args.name c.args.space.now (stand_of c.place_of-at.result) c.requires.roomy stands (sym c.if-is_placeless.ensures)
-    (sym c.if-is_last.ensures)
-    (number_left (space_after (parts_of c.args.image.now).spaces) c.next_space.result c.from.result c.next_space.ensures c.from.ensures c.if-next_space-from.false))
+    (does_standless c.args.image.now xs c.args.moment c.args.session.now c.args.space.now not_built (create_workspace c.args.session.now c.args.name) among c.requires.roomy.bears.found
     (ap (point_at (parts_of c.args.image.now) c.args.space.now c.args.moment) (sym stands)
     ∙ none_of (point_at (parts_of c.args.image.now) c.args.space.now c.args.moment (stand_of c.place_of-at.result)) (sym (c.if-not-is_there.ensures c.args.moment))))
 

@@ -1,23 +1,23 @@
 use Rattle.std.proofs.Common.{ℕ, List, [], false, None, Some, sym, ap, subst, ◌∙◌}
 use Rattle.wm_base.specs.declared.tree.query.Src.{Src as SrcNode}
 use Rattle.wm_base.specs.Views.{filter_view, query_view, srcs_view}
-use Rattle.wm_graph.specs.Parts.{parts_of, space_of}
-use Rattle.wm_model.proofs.Selecting.{select_lost, select_off, select_faulty, select_homeless, select_empty, selects}
+use Rattle.wm_graph.specs.Parts.{parts_of}
+use Rattle.wm_model.proofs.Selecting.{select_lost, select_off, select_faulty, select_empty, selects}
 use Rattle.wm_model.specs.Planning.{Stay, tables_in}
 use Rattle.wm_model.specs.Sources.{AreListed}
-use Rattle.wm_model.specs.Step.{answer_rows, columns_in, empty_period, lost_source, no_table, not_built, select, table_off, tables_of, versioning, within}
+use Rattle.wm_model.specs.Step.{answer_rows, columns_in, empty_period, lost_source, no_table, select, table_off, tables_of, versioning, within}
 use Rattle.wm_print.specs.Texts.{Refused}
 use Rattle.wm_select.specs.Query.{answer_of, is_kept}
 use Rattle.wm_chosen.proofs.ChosenRows.{where_typed}
 use Rattle.wm_views.proofs.Narrowing.{answers_whole, columns_listed_for, rows_listed_for}
-use Rattle.wm_plan.proofs.Planning.{told}
+use Rattle.wm_plan.proofs.Planning.{does_at_home, told}
 use Rattle.wm_views.proofs.Querying.{are_ready, fault_is}
 use Rattle.wm_views.specs.Narrowed.{AreListedFor}
 use Rattle.wm_plan.specs.Views.{answer_view, seating_view}
 use Rattle.wm_views.proofs.select.select.Goals as goal
 
 pub returns-in-Some-clause-does : goal.returns-in-Some-clause-does
-returns-in-Some-clause-does c = λ xs.
+returns-in-Some-clause-does c = λ xs among.
     let image = c.args.image.now in
     let query = c.args.query.now in
     told image xs c.args.moment c.answered.result [] Stay (no_table c.in-Some.name.now) (select c.args.session.now (query_view query) c.args.empty) c.answered.ensures.edits (ap seating_view c.answered.ensures.seating)
@@ -26,7 +26,7 @@ returns-in-Some-clause-does c = λ xs.
     (ap (λ (ss : List SrcNode). lost_source (tables_in image) (srcs_view ss)) (sym c.as_slice-sources.ensures.value) ∙ sym c.in-Some.ensures))
 
 pub returns-in-Some-table_off-clause-does : goal.returns-in-Some-table_off-clause-does
-returns-in-Some-table_off-clause-does c = λ xs.
+returns-in-Some-table_off-clause-does c = λ xs among.
     let image = c.args.image.now in
     let query = c.args.query.now in
     told image xs c.args.moment c.answered-in-Some-table_off.result [] Stay (versioning c.in-Some-table_off.name.now false) (select c.args.session.now (query_view query) c.args.empty) c.answered-in-Some-table_off.ensures.edits
@@ -37,7 +37,7 @@ returns-in-Some-table_off-clause-does c = λ xs.
     (ap (λ (ss : List SrcNode). table_off (tables_of (tables_in image) (srcs_view ss))) (sym c.as_slice-sources.ensures.value) ∙ sym c.in-Some-table_off.ensures))
 
 pub returns-in-Some-2-clause-does : goal.returns-in-Some-2-clause-does
-returns-in-Some-2-clause-does c = λ xs.
+returns-in-Some-2-clause-does c = λ xs among.
     let image = c.args.image.now in
     let query = c.args.query.now in
     let sources = c.as_slice-sources.result.now in
@@ -47,26 +47,16 @@ returns-in-Some-2-clause-does c = λ xs.
     (select_faulty image xs c.args.moment c.args.session.now (query_view query) c.args.empty c.in-Some-2.refusal (are_ready image query sources all c.requires.rules (sym c.in_default.ensures) (sym c.in_default-table_off.ensures))
     (fault_is image query sources c.in_ok-columns.columns (Some c.in-Some-2.refusal) all c.in_ok-columns.ensures (sym c.in_ok-refusal.ensures.exact ∙ c.in-Some-2.is)))
 
-pub returns-in_default-space-clause-does : goal.returns-in_default-space-clause-does
-returns-in_default-space-clause-does c = λ xs.
-    let image = c.args.image.now in
-    let query = c.args.query.now in
-    let sources = c.as_slice-sources.result.now in
-    let all = c.as_slice-sources.ensures.value in
-    told image xs c.args.moment c.answered-in_default-space.result [] Stay not_built (select c.args.session.now (query_view query) c.args.empty) c.answered-in_default-space.ensures.edits (ap seating_view c.answered-in_default-space.ensures.seating)
-    (ap answer_view c.answered-in_default-space.ensures.answer ∙ c.not_built.ensures)
-    (select_homeless image xs c.args.moment c.args.session.now (query_view query) c.args.empty (record { ready = are_ready image query sources all c.requires.rules (sym c.in_default.ensures) (sym c.in_default-table_off.ensures); good = fault_is image query sources c.in_ok-columns.columns None all c.in_ok-columns.ensures (sym c.in_ok-refusal.ensures.exact ∙ c.in_default-2.is) })
-    (ap (space_of (parts_of image).spaces) (sym c.space.ensures) ∙ sym c.in_default-space.ensures))
-
 pub returns-then-empty-clause-does : goal.returns-then-empty-clause-does
-returns-then-empty-clause-does c = λ xs.
+returns-then-empty-clause-does c = λ xs among.
     let image = c.args.image.now in
     let query = c.args.query.now in
     let sources = c.as_slice-sources.result.now in
     let all = c.as_slice-sources.ensures.value in
     told image xs c.args.moment c.answered-then-empty.result [] Stay empty_period (select c.args.session.now (query_view query) c.args.empty) c.answered-then-empty.ensures.edits (ap seating_view c.answered-then-empty.ensures.seating)
     (ap answer_view c.answered-then-empty.ensures.answer ∙ c.empty_period.ensures)
-    (select_empty image xs c.args.moment c.args.session.now (query_view query) c.args.empty c.in-Some-space.field-0.now (record { ready = are_ready image query sources all c.requires.rules (sym c.in_default.ensures) (sym c.in_default-table_off.ensures); good = fault_is image query sources c.in_ok-columns.columns None all c.in_ok-columns.ensures (sym c.in_ok-refusal.ensures.exact ∙ c.in_default-2.is) }) (ap (space_of (parts_of image).spaces) (sym c.space.ensures) ∙ sym c.in-Some-space.ensures) c.if-empty.true)
+    (does_at_home image xs c.args.moment c.args.session.now Stay empty_period (select c.args.session.now (query_view query) c.args.empty) among (λ r there.
+    select_empty image xs c.args.moment c.args.session.now (query_view query) c.args.empty r (record { ready = are_ready image query sources all c.requires.rules (sym c.in_default.ensures) (sym c.in_default-table_off.ensures); good = fault_is image query sources c.in_ok-columns.columns None all c.in_ok-columns.ensures (sym c.in_ok-refusal.ensures.exact ∙ c.in_default-2.is) }) there c.if-empty.true))
 
 pub answer-requires-clause-typed : goal.answer-requires-clause-typed
 answer-requires-clause-typed c = where_typed (filter_view c.args.query.now.filter) c.in_ok-columns.columns (c.in_ok-refusal.ensures.typed c.in_default-2.is)
@@ -89,7 +79,7 @@ pub sources_in-requires-clause-columns : goal.sources_in-requires-clause-columns
 sources_in-requires-clause-columns c = c.as_slice.ensures ∙ c.in_ok-columns.ensures
 
 pub returns-clause-does : goal.returns-clause-does
-returns-clause-does c = λ xs.
+returns-clause-does c = λ xs among.
     let image = c.args.image.now in
     let query = c.args.query.now in
     let sources = c.as_slice-sources.result.now in
@@ -100,7 +90,8 @@ returns-clause-does c = λ xs.
     c.in_ok-listings.ensures) in
     told image xs c.args.moment c.answered-2.result [] Stay (answer_rows (answer_of (query_view query) whole.alls)) (select c.args.session.now (query_view query) c.args.empty) c.answered-2.ensures.edits
     (ap seating_view c.answered-2.ensures.seating) (ap answer_view c.answered-2.ensures.answer ∙ c.in_ok-found.ensures ∙ ap answer_rows whole.same)
-    (selects image xs c.args.moment c.args.session.now (query_view query) c.args.empty c.in-Some-space.field-0.now whole.alls
+    (does_at_home image xs c.args.moment c.args.session.now Stay (answer_rows (answer_of (query_view query) whole.alls)) (select c.args.session.now (query_view query) c.args.empty) among (λ r there.
+    selects image xs c.args.moment c.args.session.now (query_view query) c.args.empty r whole.alls
     (record { ready = are_ready image query sources all c.requires.rules (sym c.in_default.ensures) (sym c.in_default-table_off.ensures); good = fault_is image query sources c.in_ok-columns.columns None all c.in_ok-columns.ensures (sym c.in_ok-refusal.ensures.exact ∙ c.in_default-2.is) })
-    (ap (space_of (parts_of image).spaces) (sym c.space.ensures) ∙ sym c.in-Some-space.ensures) c.if-empty.false
-    (subst (λ (v : ℕ). AreListed (parts_of image) v (λ t. within c.args.moment c.args.session.now t) (tables_in image) (srcs_view query.sources.items) whole.alls) c.version_of-version.ensures whole.listed))
+    there c.if-empty.false
+    (subst (λ (v : ℕ). AreListed (parts_of image) v (λ t. within c.args.moment c.args.session.now t) (tables_in image) (srcs_view query.sources.items) whole.alls) c.version_of-version.ensures whole.listed)))

@@ -18,11 +18,11 @@ returns-in_default-clause-any_moment g c = λ told s for.
 
 -- the engine's records, its sessions and its moment stand for what it stands for
 stands_at : (e : Engaged) (rs : List Stored) (s : State) → e.records ≡ rs → StandsFor e s → StandsAt rs e.sessions e.moment s
-stands_at e rs s same for = record { stands = subst (λ (xs : List Stored). Stands (parts_of xs) s.durable) same for.stands; sessions_are = for.sessions; moment_is = for.moment }
+stands_at e rs s same for = record { stands = subst (λ (xs : List Stored). Stands (parts_of xs) s.durable) same for.stands; lawful = for.lawful; sessions_are = for.sessions; moment_is = for.moment }
 
 pub returns-clause-answered : goal.returns-clause-answered
 returns-clause-answered g c = λ s for.
-    let d = c.in_ok-kept.ensures.answered s (stands_at _ c.in-Some.image s (ap (λ (o : Option (List Stored)). unwrap_or o []) (sym c.in-Some.ensures.value)) (subst (λ (e : Engaged). StandsFor e s) (sym c.self.view_is) for)) in (record { stands = d.0.stands; sessions = d.0.sessions_are; moment = d.0.moment_is }, d.1)
+    let d = c.in_ok-kept.ensures.answered s (stands_at _ c.in-Some.image s (ap (λ (o : Option (List Stored)). unwrap_or o []) (sym c.in-Some.ensures.value)) (subst (λ (e : Engaged). StandsFor e s) (sym c.self.view_is) for)) in (record { stands = d.0.stands; lawful = d.0.lawful; sessions = d.0.sessions_are; moment = d.0.moment_is }, d.1)
 
 pub returns-clause-few : goal.returns-clause-few
 returns-clause-few g c = λ fork.

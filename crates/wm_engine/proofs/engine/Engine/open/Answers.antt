@@ -1,7 +1,7 @@
 use Rattle.std.proofs.Common.{ℕ, ◌<◌, max, sym, ap, subst, ◌∙◌}
 use Rattle.wm_base.specs.declared.instant.TheConstants.{END}
 use Rattle.wm_station.specs.History.{now}
-use Rattle.wm_engine.proofs.Opening.{breaks, begins_before, opens_stand, opens_at, opens_none}
+use Rattle.wm_engine.proofs.Opening.{breaks, begins_before, opens_stand, opens_lawful, opens_at, opens_none}
 use Rattle.wm_engine.proofs.engine.Engine.open.Goals as goal
 
 pub returns-in-Err-Graph-clause-fault : goal.returns-in-Err-Graph-clause-fault
@@ -18,6 +18,7 @@ invariant_of-result g c = (
 pub returns-clause-begins : goal.returns-clause-begins
 returns-clause-begins g c = λ told s stands. record {
   stands = opens_stand (now (g.P.Station.history c.args.station.now)) c.in_ok-store.records c.in-Ok.image c.args.moment s (c.in_ok-store.ensures.records told) c.in-Ok.ensures.image stands;
+  lawful = opens_lawful c.args.moment s stands.lawful;
   sessions = c.new.ensures.items ∙ opens_none c.args.moment s;
   moment =
       c.max-moment.ensures ∙ ap (λ (n : ℕ). max n c.counters.result.last_moment) c.seconds.ensures.value

@@ -4,7 +4,7 @@ use Rattle.wm_grammar.specs.declared.procedure.Procedure.TheVariants as procedur
 use Rattle.wm_model.specs.Step.{call, not_built}
 use Rattle.wm_plan.proofs.Planning.{refused}
 use Rattle.wm_engine.proofs.Calling.{other_call}
-use Rattle.wm_plan.proofs.Planning.{does_here, for_moment, for_one, for_these, forks_none}
+use Rattle.wm_plan.proofs.Planning.{does_here, for_moment, for_one, for_open_one, for_these, forks_none, is_open_here}
 use Rattle.wm_plan.specs.Views.{answer_view}
 use Rattle.wm_engine.proofs.plan.call.call_of.Goals as goal
 
@@ -15,8 +15,8 @@ returns-in-EnableVersioning-clause-does c =
 
 pub returns-in-CreateWorkspace-clause-does : goal.returns-in-CreateWorkspace-clause-does
 returns-in-CreateWorkspace-clause-does c =
-    does_here c.args.image.now c.args.sessions.now c.args.moment c.workspace_call.result (call c.args.session.now (Some procedures.CreateWorkspace) c.args.given.args.now) (call c.args.session.now (Some c.args.procedure) c.args.given.args.now)
-    (λ s. ap (λ (p : Procedure). call c.args.session.now (Some p) c.args.given.args.now s) c.in-CreateWorkspace.is) c.workspace_call.ensures.does
+    is_open_here c.args.image.now c.args.sessions.now c.args.moment c.workspace_call.result c.args.session.now (call c.args.session.now (Some procedures.CreateWorkspace) c.args.given.args.now) (call c.args.session.now (Some c.args.procedure) c.args.given.args.now)
+    c.requires.open (λ s. ap (λ (p : Procedure). call c.args.session.now (Some p) c.args.given.args.now s) c.in-CreateWorkspace.is) c.workspace_call.ensures.does
 
 pub returns-in-CreateSavepoint-clause-does : goal.returns-in-CreateSavepoint-clause-does
 returns-in-CreateSavepoint-clause-does c =
@@ -30,8 +30,8 @@ returns-in-GotoWorkspace-clause-does c =
 
 pub returns-in-GotoSavepoint-clause-does : goal.returns-in-GotoSavepoint-clause-does
 returns-in-GotoSavepoint-clause-does c =
-    for_one c.args.image.now c.args.sessions.now c.args.moment c.goto_savepoint_call.result (call c.args.session.now (Some procedures.GotoSavepoint) c.args.given.args.now) (call c.args.session.now (Some c.args.procedure) c.args.given.args.now)
-    (λ s. ap (λ (p : Procedure). call c.args.session.now (Some p) c.args.given.args.now s) c.in-GotoSavepoint.is) c.goto_savepoint_call.ensures.does
+    for_open_one c.args.image.now c.args.sessions.now c.args.moment c.goto_savepoint_call.result c.args.session.now (call c.args.session.now (Some procedures.GotoSavepoint) c.args.given.args.now) (call c.args.session.now (Some c.args.procedure) c.args.given.args.now)
+    c.requires.open (λ s. ap (λ (p : Procedure). call c.args.session.now (Some p) c.args.given.args.now s) c.in-GotoSavepoint.is) c.goto_savepoint_call.ensures.does
 
 pub returns-in-SetValidTime-clause-does : goal.returns-in-SetValidTime-clause-does
 returns-in-SetValidTime-clause-does c =

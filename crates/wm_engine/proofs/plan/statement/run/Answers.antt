@@ -31,3 +31,6 @@ returns-in_default-clause-does c =
 pub returns-clause-does : goal.returns-clause-does
 returns-clause-does c =
     runs_for c.args.image.now c.args.sessions.now c.args.moment c.args.name.now c.in-Some.session.now (statement_view c.args.statement.now) c.run_statement.result (sym c.in-Some.ensures) c.run_statement.ensures.does
+
+pub run_statement-requires-clause-open : goal.run_statement-requires-clause-open
+run_statement-requires-clause-open c = record { name = c.args.name.now; found = sym c.in-Some.ensures }

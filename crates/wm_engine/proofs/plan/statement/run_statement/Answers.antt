@@ -6,7 +6,7 @@ use Rattle.wm_model.specs.Step.{run_statement, create, insert, update, delete, s
 use Rattle.wm_calls.proofs.Lasting.{insert_lasts, update_lasts}
 use Rattle.wm_calls.specs.Empty.{has_empty_period}
 use Rattle.wm_engine.proofs.Lasting.{select_lasts}
-use Rattle.wm_plan.proofs.Planning.{does_here, for_these}
+use Rattle.wm_plan.proofs.Planning.{does_here, for_open, for_these}
 use Rattle.wm_engine.proofs.plan.statement.run_statement.Goals as goal
 
 pub returns-in-Create-clause-does : goal.returns-in-Create-clause-does
@@ -18,13 +18,13 @@ pub returns-in-Insert-clause-does : goal.returns-in-Insert-clause-does
 returns-in-Insert-clause-does c =
     let done = rw c.as_slice.ensures.value at c.insert.ensures.does in
     rw c.in-Insert.is
-    (for_these c.args.image.now c.args.sessions.now c.args.moment c.insert.result (insert c.args.session.now c.in-Insert.table c.in-Insert.names (exprs_view c.in-Insert.values.items) c.has_empty_period-empty.result)
-    (run_statement c.args.session.now (statement_view (Insert c.in-Insert.table c.in-Insert.names c.in-Insert.values))) (λ s. ap (λ b. insert c.args.session.now c.in-Insert.table c.in-Insert.names (exprs_view c.in-Insert.values.items) b s) (ap has_empty_period (ap statement_view (sym c.in-Insert.is)) ∙ sym c.has_empty_period-empty.ensures)) done)
+    (for_open c.args.image.now c.args.sessions.now c.args.moment c.insert.result c.args.session.now (insert c.args.session.now c.in-Insert.table c.in-Insert.names (exprs_view c.in-Insert.values.items) c.has_empty_period-empty.result)
+    (run_statement c.args.session.now (statement_view (Insert c.in-Insert.table c.in-Insert.names c.in-Insert.values))) c.requires.open (λ s. ap (λ b. insert c.args.session.now c.in-Insert.table c.in-Insert.names (exprs_view c.in-Insert.values.items) b s) (ap has_empty_period (ap statement_view (sym c.in-Insert.is)) ∙ sym c.has_empty_period-empty.ensures)) done)
 
 pub returns-in-Select-clause-does : goal.returns-in-Select-clause-does
 returns-in-Select-clause-does c =
     rw c.in-Select.is
-    (for_these c.args.image.now c.args.sessions.now c.args.moment c.select.result (select c.args.session.now (query_view c.in-Select.query) c.has_empty_period-empty.result) (run_statement c.args.session.now (statement_view (Select c.in-Select.query))) (λ s. ap (λ b. select c.args.session.now (query_view c.in-Select.query) b s) (ap has_empty_period (ap statement_view (sym c.in-Select.is)) ∙ sym c.has_empty_period-empty.ensures)) c.select.ensures.does)
+    (for_open c.args.image.now c.args.sessions.now c.args.moment c.select.result c.args.session.now (select c.args.session.now (query_view c.in-Select.query) c.has_empty_period-empty.result) (run_statement c.args.session.now (statement_view (Select c.in-Select.query))) c.requires.open (λ s. ap (λ b. select c.args.session.now (query_view c.in-Select.query) b s) (ap has_empty_period (ap statement_view (sym c.in-Select.is)) ∙ sym c.has_empty_period-empty.ensures)) c.select.ensures.does)
 
 pub returns-in-Call-clause-does : goal.returns-in-Call-clause-does
 returns-in-Call-clause-does c =
@@ -37,14 +37,14 @@ pub returns-in-Update-clause-does : goal.returns-in-Update-clause-does
 returns-in-Update-clause-does c =
     let done = rw c.as_slice-in-Update.ensures.value at c.update.ensures.does in
     rw c.in-Update.is
-    (for_these c.args.image.now c.args.sessions.now c.args.moment c.update.result (update c.args.session.now c.in-Update.table (sets_view c.in-Update.sets.items) (filter_view c.in-Update.filter) c.has_empty_period-empty.result)
-    (run_statement c.args.session.now (statement_view (Update c.in-Update.table c.in-Update.sets c.in-Update.filter))) (λ s. ap (λ b. update c.args.session.now c.in-Update.table (sets_view c.in-Update.sets.items) (filter_view c.in-Update.filter) b s) (ap has_empty_period (ap statement_view (sym c.in-Update.is)) ∙ sym c.has_empty_period-empty.ensures)) done)
+    (for_open c.args.image.now c.args.sessions.now c.args.moment c.update.result c.args.session.now (update c.args.session.now c.in-Update.table (sets_view c.in-Update.sets.items) (filter_view c.in-Update.filter) c.has_empty_period-empty.result)
+    (run_statement c.args.session.now (statement_view (Update c.in-Update.table c.in-Update.sets c.in-Update.filter))) c.requires.open (λ s. ap (λ b. update c.args.session.now c.in-Update.table (sets_view c.in-Update.sets.items) (filter_view c.in-Update.filter) b s) (ap has_empty_period (ap statement_view (sym c.in-Update.is)) ∙ sym c.has_empty_period-empty.ensures)) done)
 
 pub returns-in-Delete-clause-does : goal.returns-in-Delete-clause-does
 returns-in-Delete-clause-does c =
     rw c.in-Delete.is
-    (for_these c.args.image.now c.args.sessions.now c.args.moment c.delete.result (delete c.args.session.now c.in-Delete.table (filter_view c.in-Delete.filter) c.has_empty_period-empty.result)
-    (run_statement c.args.session.now (statement_view (Delete c.in-Delete.table c.in-Delete.filter))) (λ s. ap (λ b. delete c.args.session.now c.in-Delete.table (filter_view c.in-Delete.filter) b s) (ap has_empty_period (ap statement_view (sym c.in-Delete.is)) ∙ sym c.has_empty_period-empty.ensures)) c.delete.ensures.does)
+    (for_open c.args.image.now c.args.sessions.now c.args.moment c.delete.result c.args.session.now (delete c.args.session.now c.in-Delete.table (filter_view c.in-Delete.filter) c.has_empty_period-empty.result)
+    (run_statement c.args.session.now (statement_view (Delete c.in-Delete.table c.in-Delete.filter))) c.requires.open (λ s. ap (λ b. delete c.args.session.now c.in-Delete.table (filter_view c.in-Delete.filter) b s) (ap has_empty_period (ap statement_view (sym c.in-Delete.is)) ∙ sym c.has_empty_period-empty.ensures)) c.delete.ensures.does)
 
 pub insert-requires-clause-lasting : goal.insert-requires-clause-lasting
 insert-requires-clause-lasting c = λ none.

@@ -1,19 +1,18 @@
-use Rattle.std.proofs.Common.{Some, sym, ap, ◌∙◌}
+use Rattle.std.proofs.Common.{ℕ, List, [], Option, Some, unwrap_or, sym, ap, ◌∙◌}
 use Rattle.wm_calls.specs.Faults.{argument_fault}
 use Rattle.wm_grammar.specs.declared.procedure.Procedure.TheVariants as procedures
-use Rattle.wm_model.specs.Step.{call, enable}
+use Rattle.wm_model.specs.Step.{call, enable, mistyped}
 use Rattle.wm_reader.specs.Reading.{folded}
 use Rattle.wm_plan.proofs.Planning.{refused}
 use Rattle.wm_space.proofs.Calling.{enable_lacks, enable_given}
 use Rattle.wm_plan.proofs.Planning.{for_sessions}
-use Rattle.wm_plan.specs.Lacking.{lacks}
 use Rattle.wm_space.specs.Readying.{readiness_view}
 use Rattle.wm_space.proofs.calls.enable.enable_call.Goals as goal
 
 pub returns-in_default-clause-does : goal.returns-in_default-clause-does
 returns-in_default-clause-does c = λ xs.
-    refused c.args.image.now xs c.args.moment c.lacking.result (lacks (argument_fault procedures.EnableVersioning c.args.args.now)) (call c.args.session.now (Some procedures.EnableVersioning) c.args.args.now)
-    c.lacking.ensures.edits c.lacking.ensures.seating (c.lacking.ensures.answer ∙ ap lacks c.in_ok-fault.ensures) c.requires.rules (λ s. enable_lacks c.args.session.now c.args.args.now s (sym c.in_default.ensures))
+    refused c.args.image.now xs c.args.moment c.lacking.result (mistyped (unwrap_or (argument_fault procedures.EnableVersioning c.args.args.now) [])) (call c.args.session.now (Some procedures.EnableVersioning) c.args.args.now)
+    c.lacking.ensures.edits c.lacking.ensures.seating (c.lacking.ensures.answer ∙ ap (λ (fault : Option (List ℕ)). mistyped (unwrap_or fault [])) c.in_ok-fault.ensures) c.requires.rules (λ s. enable_lacks c.args.session.now c.args.args.now s (sym c.in_default.ensures))
 
 pub returns-clause-does : goal.returns-clause-does
 returns-clause-does c =

@@ -1,4 +1,4 @@
-use Rattle.std.proofs.Common.{◌≡◌, Some, sym, ap, ◌∙◌}
+use Rattle.std.proofs.Common.{◌≡◌, ℕ, List, [], Option, Some, unwrap_or, sym, ap, ◌∙◌}
 use Rattle.wm_calls.specs.Arguments.{text_given}
 use Rattle.wm_calls.specs.Faults.{argument_fault}
 use Rattle.wm_grammar.specs.declared.procedure.Parameter.TheVariants as parameters
@@ -7,14 +7,13 @@ use Rattle.wm_model.specs.Step.{call, create_savepoint, is_name, names_no_savepo
 use Rattle.wm_plan.proofs.Planning.{refused}
 use Rattle.wm_space.proofs.Calling.{savepoint_lacks, savepoint_bad, savepoint_taken, savepoint_mistyped, savepoint_done}
 use Rattle.wm_plan.proofs.Planning.{for_these, forks_none}
-use Rattle.wm_plan.specs.Lacking.{lacks}
 use Rattle.wm_plan.specs.Views.{answer_view}
 use Rattle.wm_space.proofs.calls.savepoint.savepoint_call.Goals as goal
 
 pub returns-in_default-clause-does : goal.returns-in_default-clause-does
 returns-in_default-clause-does c =
-    refused c.args.image.now c.args.sessions.now c.args.moment c.lacking.result (lacks (argument_fault procedures.CreateSavepoint c.args.args.now)) (call c.args.session.now (Some procedures.CreateSavepoint) c.args.args.now)
-    c.lacking.ensures.edits c.lacking.ensures.seating (c.lacking.ensures.answer ∙ ap lacks c.in_ok-fault.ensures) c.requires.rules (λ s. savepoint_lacks c.args.session.now c.args.args.now s (sym c.in_default.ensures))
+    refused c.args.image.now c.args.sessions.now c.args.moment c.lacking.result (mistyped (unwrap_or (argument_fault procedures.CreateSavepoint c.args.args.now) [])) (call c.args.session.now (Some procedures.CreateSavepoint) c.args.args.now)
+    c.lacking.ensures.edits c.lacking.ensures.seating (c.lacking.ensures.answer ∙ ap (λ (fault : Option (List ℕ)). mistyped (unwrap_or fault [])) c.in_ok-fault.ensures) c.requires.rules (λ s. savepoint_lacks c.args.session.now c.args.args.now s (sym c.in_default.ensures))
 
 pub returns-in_default-clause-few : goal.returns-in_default-clause-few
 returns-in_default-clause-few c = forks_none c.lacking.result c.lacking.ensures.edits

@@ -1,4 +1,4 @@
-use Rattle.std.proofs.Common.{◌≡◌, Some, sym, ap, ◌∙◌}
+use Rattle.std.proofs.Common.{◌≡◌, ℕ, List, [], Option, Some, unwrap_or, sym, ap, ◌∙◌}
 use Rattle.wm_calls.specs.Arguments.{text_given}
 use Rattle.wm_calls.specs.Faults.{argument_fault}
 use Rattle.wm_grammar.specs.declared.procedure.Parameter.TheVariants as parameters
@@ -6,35 +6,34 @@ use Rattle.wm_grammar.specs.declared.procedure.Procedure.TheVariants as procedur
 use Rattle.wm_model.specs.Step.{call, create_workspace, is_name, names_no_workspace, bad_name, reserved_name, mistyped}
 use Rattle.wm_plan.proofs.Planning.{refused}
 use Rattle.wm_space.proofs.Calling.{workspace_lacks, workspace_bad, workspace_taken, workspace_mistyped, workspace_done}
-use Rattle.wm_plan.proofs.Planning.{for_these, forks_none}
-use Rattle.wm_plan.specs.Lacking.{lacks}
+use Rattle.wm_plan.proofs.Planning.{where_open, forks_none}
 use Rattle.wm_plan.specs.Views.{answer_view}
 use Rattle.wm_space.proofs.calls.workspace.workspace_call.Goals as goal
 
 pub returns-in_default-clause-does : goal.returns-in_default-clause-does
-returns-in_default-clause-does c =
-    refused c.args.image.now c.args.sessions.now c.args.moment c.lacking.result (lacks (argument_fault procedures.CreateWorkspace c.args.args.now)) (call c.args.session.now (Some procedures.CreateWorkspace) c.args.args.now)
-    c.lacking.ensures.edits c.lacking.ensures.seating (c.lacking.ensures.answer ∙ ap lacks c.in_ok-fault.ensures) c.requires.rules (λ s. workspace_lacks c.args.session.now c.args.args.now s (sym c.in_default.ensures))
+returns-in_default-clause-does c = λ among.
+    refused c.args.image.now c.args.sessions.now c.args.moment c.lacking.result (mistyped (unwrap_or (argument_fault procedures.CreateWorkspace c.args.args.now) [])) (call c.args.session.now (Some procedures.CreateWorkspace) c.args.args.now)
+    c.lacking.ensures.edits c.lacking.ensures.seating (c.lacking.ensures.answer ∙ ap (λ (fault : Option (List ℕ)). mistyped (unwrap_or fault [])) c.in_ok-fault.ensures) c.requires.rules (λ s. workspace_lacks c.args.session.now c.args.args.now s (sym c.in_default.ensures))
 
 pub returns-in_default-clause-few : goal.returns-in_default-clause-few
 returns-in_default-clause-few c = forks_none c.lacking.result c.lacking.ensures.edits
 
 pub returns-then-not-is_name-clause-does : goal.returns-then-not-is_name-clause-does
-returns-then-not-is_name-clause-does c =
+returns-then-not-is_name-clause-does c = λ among.
     let some : text_given procedures.CreateWorkspace c.args.args.now parameters.Workspace ≡ Some c.in_ok-name.name = sym c.in-Some.ensures ∙ ap Some (sym c.in_ok-name.ensures) in
     refused c.args.image.now c.args.sessions.now c.args.moment c.answered.result bad_name (call c.args.session.now (Some procedures.CreateWorkspace) c.args.args.now) c.answered.ensures.edits c.answered.ensures.seating
     (ap answer_view c.answered.ensures.answer ∙ c.bad_name.ensures) c.requires.rules
     (λ s. workspace_bad c.args.session.now c.args.args.now s c.in_ok-name.name some (ap is_name (sym c.as_bytes.ensures) ∙ sym c.if-not-is_name.ensures))
 
 pub returns-then-names_no_workspace-clause-does : goal.returns-then-names_no_workspace-clause-does
-returns-then-names_no_workspace-clause-does c =
+returns-then-names_no_workspace-clause-does c = λ among.
     let some : text_given procedures.CreateWorkspace c.args.args.now parameters.Workspace ≡ Some c.in_ok-name.name = sym c.in-Some.ensures ∙ ap Some (sym c.in_ok-name.ensures) in
     refused c.args.image.now c.args.sessions.now c.args.moment c.answered-then-names_no_workspace.result (reserved_name c.in_ok-name.name) (call c.args.session.now (Some procedures.CreateWorkspace) c.args.args.now) c.answered-then-names_no_workspace.ensures.edits
     c.answered-then-names_no_workspace.ensures.seating (ap answer_view c.answered-then-names_no_workspace.ensures.answer ∙ c.reserved_name.ensures) c.requires.rules
     (λ s. workspace_taken c.args.session.now c.args.args.now s c.in_ok-name.name some (ap is_name (sym c.as_bytes.ensures) ∙ sym c.if-not-is_name.ensures) (ap names_no_workspace (sym c.as_bytes-2.ensures) ∙ sym c.if-names_no_workspace.ensures))
 
 pub returns-in-Some-fault-clause-does : goal.returns-in-Some-fault-clause-does
-returns-in-Some-fault-clause-does c =
+returns-in-Some-fault-clause-does c = λ among.
     let some : text_given procedures.CreateWorkspace c.args.args.now parameters.Workspace ≡ Some c.in_ok-name.name = sym c.in-Some.ensures ∙ ap Some (sym c.in_ok-name.ensures) in
     refused c.args.image.now c.args.sessions.now c.args.moment c.answered-in-Some-fault.result (mistyped c.in-Some-fault.parameter) (call c.args.session.now (Some procedures.CreateWorkspace) c.args.args.now) c.answered-in-Some-fault.ensures.edits
     c.answered-in-Some-fault.ensures.seating (ap answer_view c.answered-in-Some-fault.ensures.answer ∙ c.mistyped.ensures) c.requires.rules
@@ -44,7 +43,7 @@ returns-in-Some-fault-clause-does c =
 pub returns-clause-does : goal.returns-clause-does
 returns-clause-does c =
     let some : text_given procedures.CreateWorkspace c.args.args.now parameters.Workspace ≡ Some c.in_ok-name.name = sym c.in-Some.ensures ∙ ap Some (sym c.in_ok-name.ensures) in
-    for_these c.args.image.now c.args.sessions.now c.args.moment c.create_workspace.result (create_workspace c.args.session.now c.in_ok-name.name) (call c.args.session.now (Some procedures.CreateWorkspace) c.args.args.now)
+    where_open c.args.image.now c.args.sessions.now c.args.moment c.create_workspace.result c.args.session.now (create_workspace c.args.session.now c.in_ok-name.name) (call c.args.session.now (Some procedures.CreateWorkspace) c.args.args.now)
     (λ s. workspace_done c.args.session.now c.args.args.now s c.in_ok-name.name some (ap is_name (sym c.as_bytes.ensures) ∙ sym c.if-not-is_name.ensures) (ap names_no_workspace (sym c.as_bytes-2.ensures) ∙ sym c.if-names_no_workspace.ensures)
     (sym c.in_ok-fault.ensures ∙ c.in_default-fault.is))
     c.create_workspace.ensures.does

@@ -1,0 +1,59 @@
+-- Records that are collected by their kind, one by one.
+use Rattle.std.proofs.Common.{◌≡◌, ℕ, ◌+◌, ◌<◌, ◌≤◌, List, [], ◌∷◌, ◌++◌, length, map, sym, ap, ◌∙◌, take, get_or}
+use Rattle.std.proofs.lemmas.List.{take_more, map-append, append-nil, take_all}
+use Rattle.std.proofs.lemmas.List.Elements.{filter_map-append}
+use Rattle.wm_cells.specs.Lookups.{added}
+use Rattle.wm_graph.specs.Parts.{Parts, parts_in, parts_of, as_counters, as_table, as_space, as_version, as_savepoint, as_row, as_piece, as_touch, as_lock, as_hist, as_mark, as_turn}
+use Rattle.wm_spec.specs.declared.record.Record.{Record}
+use Rattle.wm_spec.specs.declared.record.Record.TheVariants as records
+use Rattle.wm_spec.specs.declared.record.stored.Stored.{Stored}
+
+-- each kind of the one before that of the other
+abbrev joined : Parts → Parts → Parts
+joined p q = record {
+  counters = p.counters ++ q.counters;
+  tables = p.tables ++ q.tables;
+  spaces = p.spaces ++ q.spaces;
+  versions = p.versions ++ q.versions;
+  savepoints = p.savepoints ++ q.savepoints;
+  rows = p.rows ++ q.rows;
+  pieces = p.pieces ++ q.pieces;
+  touches = p.touches ++ q.touches;
+  locks = p.locks ++ q.locks;
+  hists = p.hists ++ q.hists;
+  marks = p.marks ++ q.marks;
+  turns = p.turns ++ q.turns;
+}
+
+-- one more record, kind by kind
+parts_last : (xs : List Record) (x : Record) → parts_in (xs ++ x ∷ []) ≡ added (parts_in xs) x
+parts_last xs x =
+    simp (filter_map-append as_counters xs (x ∷ []), filter_map-append as_table xs (x ∷ []), filter_map-append as_space xs (x ∷ []), filter_map-append as_version xs (x ∷ []), filter_map-append as_savepoint xs (x ∷ []), filter_map-append as_row xs (x ∷ []), filter_map-append as_piece xs (x ∷ []), filter_map-append as_touch xs (x ∷ []), filter_map-append as_lock xs (x ∷ []), filter_map-append as_hist xs (x ∷ []), filter_map-append as_mark xs (x ∷ []), filter_map-append as_turn xs (x ∷ []))
+    (of x)
+  where
+    of : (y : Record) → joined (parts_in xs) (parts_in (y ∷ [])) ≡ added (parts_in xs) y
+    of (records.Counters r) = simp append-nil
+    of (records.Table r) = simp append-nil
+    of (records.Space r) = simp append-nil
+    of (records.Version r) = simp append-nil
+    of (records.Savepoint r) = simp append-nil
+    of (records.Row r) = simp append-nil
+    of (records.Piece r) = simp append-nil
+    of (records.Touch r) = simp append-nil
+    of (records.Lock r) = simp append-nil
+    of (records.Hist r) = simp append-nil
+    of (records.Mark r) = simp append-nil
+    of (records.Turn r) = simp append-nil
+
+-- a turn of the loop over the records
+pub collected_more : (stored : List Stored) (i : ℕ) (x : Stored) (old new : Parts) → i < length stored → x ≡ get_or stored i x → old ≡ parts_in (map (λ (s : Stored). s.record) (take i stored)) → new ≡ added old x.record → new ≡ parts_in (map (λ (s : Stored). s.record) (take (i + 1) stored))
+collected_more stored i x old new within at was becomes =
+    becomes
+    ∙ ap (λ p. added p x.record) was
+    ∙ sym (parts_last (map (λ (s : Stored). s.record) (take i stored)) x.record)
+    ∙ ap parts_in (sym (map-append (λ (s : Stored). s.record) (take i stored) (x ∷ [])) ∙ ap (map (λ (s : Stored). s.record)) (ap (λ (s : Stored). take i stored ++ s ∷ []) at ∙ sym (take_more stored i x within)))
+
+-- the end of that loop
+pub collected_all : (stored : List Stored) (i : ℕ) (all : Parts) → length stored ≤ i → all ≡ parts_in (map (λ (s : Stored). s.record) (take i stored)) → all ≡ parts_of stored
+unfolding parts_of
+collected_all stored i all end was = rw (take_all i stored end) at was

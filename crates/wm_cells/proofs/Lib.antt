@@ -1,0 +1,11 @@
+pub mod Referring
+pub mod Finding
+pub mod Collecting
+pub mod Pairing
+pub mod Weighing
+pub mod Neighbours
+pub mod Permuted
+pub mod Rising
+pub mod Apart
+pub mod Ties
+pub mod Counting

@@ -1,0 +1,17 @@
+use Rattle.std.proofs.Common.{rules, ap, ◌∙◌}
+use Rattle.std.proofs.lemmas.Fn.{always_returns_same}
+use Rattle.std.specs.List.Sorted.{IsPermutation, IsSortedBy}
+use Rattle.wm_cells.proofs.Rising.{stands_before, stands_before_ranks}
+use Rattle.wm_cells.proofs.Ties.{sorted_differ}
+use Rattle.wm_cells.specs.Lookups.{referred}
+use Rattle.wm_cells.specs.Order.{alike, neighbours_differ}
+use Rattle.wm_cells.proofs.distinct.are_distinct.Goals as goal
+
+pub returns : goal.returns
+returns g c =
+    let order = g.T.Ordered.order_of in
+    let total = g.T.Ordered.total in
+    let moved : IsPermutation c.args.items.now c.sort_by.new.self.items = rw (← c.in_ok-sorted.ensures.items) c.in_ok-sort_by.ensures.permutation in
+    let up : IsSortedBy (stands_before order) c.sort_by.new.self.items =
+    c.in_ok-sort_by.ensures.sorted (stands_before order) (stands_before_ranks order total) (always_returns_same _ _ _ (λ a r f k. search rules)) in
+    c.neighbours_differ-distinct.ensures ∙ ap (λ l. neighbours_differ (alike order) (referred l)) c.as_slice.ensures.value ∙ sorted_differ order total c.args.items.now c.sort_by.new.self.items moved up

@@ -1,0 +1,10 @@
+-- Each state that lines lead to is lawful.
+pub mod Lists
+pub mod Saving
+pub mod Spaces
+pub mod Entries
+pub mod Rows
+pub mod Leaves
+pub mod Step
+pub mod Runs
+pub mod Places

@@ -1,0 +1,209 @@
+-- What a line does step by step leaves a lawful state: one law for each way in which Step puts it together, and one for each change.
+use Rattle.std.proofs.Common.{◌≡◌, ℕ, ◌+◌, Bool, true, false, not, nat_lt, if◌then◌else◌, List, [], ◌∷◌, ◌++◌, Option, Some, None, is_some, refl, ◌∙◌, arith}
+use Rattle.std.specs.List.{filter}
+use Rattle.std.specs.Str.{bytes_eq}
+use Rattle.wm_base.specs.declared.refusal.Refusal.{Refusal}
+use Rattle.wm_base.specs.Period.{Span}
+use Rattle.wm_print.specs.Texts.{Answer}
+use Rattle.wm_spec.specs.Lists.{Entry}
+use Rattle.wm_spec.specs.declared.record.table.Table.{Table}
+use Rattle.wm_state.specs.State as state
+use Rattle.wm_state.specs.State.{Durable, Savepoint, Session, State, Workspace, Latest, next_space, table_named, with_entries, with_savepoint, with_space, workspace_named, workspace_of}
+use Rattle.wm_state.proofs.Changing.{differ-changed}
+use Rattle.wm_model.specs.Lawful.{Each, IsPlace, IsSound, Lawful, LawfulState, Seats}
+use Rattle.wm_model.specs.Step.{Setting, altered, at_latest, born, child_of, counter_limit, durably, given, is_name, line_work, newly_named, no_table, no_workspace, place_behind, saved, saved_at, unless, unless_empty_period, unless_mistyped, with_named, with_setting, with_table, written_all}
+use Rattle.wm_model.specs.Step.Sessions as settings
+use Rattle.wm_model.proofs.Lawful.Entries.{Written, all_more, all_saved, entries_more, mark_holds}
+use Rattle.wm_model.proofs.Lawful.Saving.{child_lawful, fits, space_appended, space_saved}
+use Rattle.wm_model.proofs.Lawful.Spaces.{at_its_number, changed, child_based, goes_appended, goes_saved, none_at, numbered, seats_kept, seats_more, spaces_kept, spaces_more, under}
+
+-- what a line or a part of it leaves is lawful
+pub record Leaves (r : State × Answer) : Type 0 where
+  pub lawful : LawfulState r.0
+
+-- ---- combinators
+
+pub stays : (s : State) (answer : Answer) → LawfulState s → Leaves (s, answer)
+stays s answer l = record { lawful = l }
+
+pub leaves_if : (b : Bool) (x y : State × Answer) → Leaves x → Leaves y → Leaves (if b then x else y)
+leaves_if true x y one two = one
+leaves_if false x y one two = two
+
+pub leaves_unless : (fault : Option Refusal) (s : State) (done : State × Answer) → LawfulState s → Leaves done → Leaves (unless fault s done)
+leaves_unless None s done l d = d
+leaves_unless (Some refusal) s done l d = record { lawful = l }
+
+pub leaves_unless_mistyped : (fault : Option (List ℕ)) (s : State) (done : State × Answer) → LawfulState s → Leaves done → Leaves (unless_mistyped fault s done)
+leaves_unless_mistyped None s done l d = d
+leaves_unless_mistyped (Some parameter) s done l d = record { lawful = l }
+
+pub leaves_durably : (s : State) (log : ℕ) (done : State × Answer) → LawfulState s → Leaves done → Leaves (durably s log done)
+leaves_durably s log done l d =
+    leaves_if (nat_lt counter_limit log) _ _ (stays s _ l)
+    (leaves_if (nat_lt counter_limit (s.durable.work + line_work)) _ _ (stays s _ l)
+    (record { lawful = record { durable = record { spaces = d.lawful.durable.spaces; entries = d.lawful.durable.entries }; seats = d.lawful.seats } }))
+
+pub leaves_with_table : (s : State) (name : List ℕ) (act : Table → State × Answer) → LawfulState s → ((t : Table) → Leaves (act t)) → Leaves (with_table s name act)
+leaves_with_table s name act l a = by_table (table_named name s.durable.tables)
+  where
+    by_table : (o : Option Table) → Leaves (elim o as (λ _. State × Answer) [ None ↦ (s, no_table name) | Some t ↦ act t ])
+    by_table None = stays s _ l
+    by_table (Some t) = a t
+
+-- the workspace is found by its number
+pub leaves_with_named : (s : State) (name : List ℕ) (act : Workspace → State × Answer) → LawfulState s → ((w : Workspace) → workspace_of s.durable.spaces w.number ≡ Some w → Leaves (act w)) → Leaves (with_named s name act)
+leaves_with_named s name act l a = by_space (workspace_named name s.durable.spaces) refl
+  where
+    by_space : (o : Option Workspace) → workspace_named name s.durable.spaces ≡ o → Leaves (elim o as (λ _. State × Answer) [ None ↦ (s, no_workspace name) | Some w ↦ act w ])
+    by_space None is = stays s _ l
+    by_space (Some w) is = a w (numbered s.durable.spaces name w l.durable.spaces is)
+
+pub leaves_at_latest : (s : State) (stand : state.Stand) (done : State × Answer) → LawfulState s → Leaves done → Leaves (at_latest s stand done)
+leaves_at_latest s Latest done l d = d
+leaves_at_latest s (state.At making) done l d = stays s _ l
+
+pub leaves_unless_empty_period : (empty : Bool) (s : State) (done : State × Answer) → LawfulState s → Leaves done → Leaves (unless_empty_period empty s done)
+leaves_unless_empty_period empty s done l d = leaves_if empty _ _ (stays s _ l) d
+
+pub leaves_given : (text fault : Option (List ℕ)) (s : State) (act : List ℕ → State × Answer) → LawfulState s → ((name : List ℕ) → Leaves (act name)) → Leaves (given text fault s act)
+leaves_given None fault s act l a = stays s _ l
+leaves_given (Some name) fault s act l a = a name
+
+pub leaves_newly_named : (name : List ℕ) (taken : Bool) (fault : Option (List ℕ)) (s : State) (done : State × Answer) → LawfulState s → Leaves done → Leaves (newly_named name taken fault s done)
+leaves_newly_named name taken fault s done l d = leaves_if (not (is_name name)) _ _ (stays s _ l) (leaves_if taken _ _ (stays s _ l) (leaves_unless_mistyped fault s done l d))
+
+-- one rule for each combinator
+pub ruleset leaving = (stays, leaves_if, leaves_unless, leaves_unless_mistyped, leaves_durably, leaves_with_table, leaves_with_named, leaves_at_latest, leaves_unless_empty_period, leaves_given, leaves_newly_named, at_its_number)
+
+-- ---- changes of what is kept
+
+-- entries more in a workspace
+lawful_written : (n : ℕ) (w : Workspace) (es : List Entry) (d : Durable) → Lawful d → workspace_of d.spaces n ≡ Some w → Written d.next_stamp es → Lawful (written_all n es d)
+lawful_written n w es d l found num =
+    let k = changed d.spaces n (with_entries es) w (λ _. refl) found (goes_appended es w) in
+    record {
+      spaces = spaces_kept d.spaces (with_space n (with_entries es) d.spaces) n w (with_entries es w) l.spaces k (differ-changed n (with_entries es) (λ _. refl) d.spaces ∙ l.spaces.once) (space_appended w es (l.spaces.each n w found));
+      entries = entries_more d.spaces (with_space n (with_entries es) d.spaces) n d.next_stamp w es l.entries k num;
+    }
+
+-- what is saved where one stands is sound
+mark_of : (m : ℕ) (w : Workspace) (stand : state.Stand) (name : List ℕ) (implicit : Bool) (k : Savepoint) (d : Durable) (l : Lawful d) → workspace_of d.spaces w.number ≡ Some w → saved_at m d.spaces w stand name implicit ≡ Some k
+    → Each (IsSound l.entries.tells d.next_stamp) k.base × Each (IsSound l.entries.tells d.next_stamp) k.own
+mark_of m w stand name implicit k d l found is = mark_holds (IsSound l.entries.tells d.next_stamp) m d.spaces w stand name implicit k (l.entries.each w.number w found) is
+
+-- a savepoint more in a workspace
+lawful_saved : (m : ℕ) (w : Workspace) (stand : state.Stand) (name : List ℕ) (implicit : Bool) (icp : ℕ) (k : Savepoint) (d : Durable) → Lawful d → workspace_of d.spaces w.number ≡ Some w → saved_at m d.spaces w stand name implicit ≡ Some k
+    → Lawful (saved w.number (place_behind w stand) icp k d)
+lawful_saved m w stand name implicit icp k d l found is =
+    let lawful = l.spaces.each w.number w found in
+    let act = with_savepoint (place_behind w stand) icp k in
+    let c = changed d.spaces w.number act w (λ _. refl) found (goes_saved (place_behind w stand) icp k w) in
+    record {
+      spaces = spaces_kept d.spaces (with_space w.number act d.spaces) w.number w (act w) l.spaces c (differ-changed w.number act (λ _. refl) d.spaces ∙ l.spaces.once)
+          (space_saved w (place_behind w stand) icp k lawful (fits m d.spaces w stand name implicit icp k lawful is));
+      entries = record {
+        tells = l.entries.tells;
+        each = all_saved (IsSound l.entries.tells d.next_stamp) d.spaces (with_space w.number act d.spaces) w.number (place_behind w stand) icp w k l.entries.each c (mark_of m w stand name implicit k d l found is);
+      };
+    }
+
+-- a workspace more
+lawful_born : (m : ℕ) (w : Workspace) (stand : state.Stand) (name implicit_name : List ℕ) (k : Savepoint) (d : Durable) → Lawful d → workspace_of d.spaces w.number ≡ Some w → saved_at m d.spaces w stand implicit_name true ≡ Some k
+    → Lawful (born m w stand name k d)
+lawful_born m w stand name implicit_name k d l found is =
+    let lawful = l.spaces.each w.number w found in
+    let act = with_savepoint (place_behind w stand) (w.next_implicit + 1) k in
+    let c = changed d.spaces w.number act w (λ _. refl) found (goes_saved (place_behind w stand) (w.next_implicit + 1) k w) in
+    let t = lawful_saved m w stand implicit_name true (w.next_implicit + 1) k d l found is in
+    let mark = mark_of m w stand implicit_name true k d l found is in
+    let P = IsSound l.entries.tells d.next_stamp in
+    let all = all_saved P d.spaces (with_space w.number act d.spaces) w.number (place_behind w stand) (w.next_implicit + 1) w k l.entries.each c mark in
+    let child = child_of m d.spaces w k name in
+    let older = under d.spaces w.number w found in
+    let fit = fits m d.spaces w stand implicit_name true (w.next_implicit + 1) k lawful is in
+    record {
+      spaces = spaces_more (with_space w.number act d.spaces) child t.spaces (c.others (next_space d.spaces) (λ e. absurd (omega (arith, older, e))) ∙ none_at d.spaces) (child_lawful m d.spaces w k name older)
+          (child_based m d.spaces (with_space w.number act d.spaces) w (act w) k name c.there older fit.mark);
+      entries = record { tells = l.entries.tells; each = all_more P m d.spaces (with_space w.number act d.spaces) w k name all mark };
+    }
+
+-- ---- and of the state with it
+
+pub leaves_written : (w : Workspace) (es : List Entry) (s : State) (answer : Answer) → LawfulState s → workspace_of s.durable.spaces w.number ≡ Some w → Written s.durable.next_stamp es
+    → Leaves (record s { durable = written_all w.number es s.durable }, answer)
+leaves_written w es s answer l found num = record {
+  lawful = record {
+    durable = lawful_written w.number w es s.durable l.durable found num;
+    seats = seats_kept s.durable.spaces (with_space w.number (with_entries es) s.durable.spaces) w.number w (with_entries es w) s.sessions
+        (changed s.durable.spaces w.number (with_entries es) w (λ _. refl) found (goes_appended es w)) l.seats;
+  };
+}
+
+seats_saved : (place icp : ℕ) (w : Workspace) (k : Savepoint) (s : State) → LawfulState s → workspace_of s.durable.spaces w.number ≡ Some w → Seats (with_space w.number (with_savepoint place icp k) s.durable.spaces) s.sessions
+seats_saved place icp w k s l found =
+    let act = with_savepoint place icp k in
+    seats_kept s.durable.spaces (with_space w.number act s.durable.spaces) w.number w (act w) s.sessions (changed s.durable.spaces w.number act w (λ _. refl) found (goes_saved place icp k w)) l.seats
+
+pub leaves_saved : (w : Workspace) (name : List ℕ) (implicit : Bool) (icp : ℕ) (k : Savepoint) (s : State) (answer : Answer) → LawfulState s → workspace_of s.durable.spaces w.number ≡ Some w
+    → saved_at s.moment s.durable.spaces w Latest name implicit ≡ Some k → Leaves (record s { durable = saved w.number (w.next_place + 1) icp k s.durable }, answer)
+leaves_saved w name implicit icp k s answer l found is = record {
+  lawful = record { durable = lawful_saved s.moment w Latest name implicit icp k s.durable l.durable found is; seats = seats_saved (w.next_place + 1) icp w k s l found };
+}
+
+pub leaves_born : (w : Workspace) (stand : state.Stand) (name implicit_name : List ℕ) (k : Savepoint) (s : State) (answer : Answer) → LawfulState s → workspace_of s.durable.spaces w.number ≡ Some w
+    → saved_at s.moment s.durable.spaces w stand implicit_name true ≡ Some k → Leaves (record s { durable = born s.moment w stand name k s.durable }, answer)
+leaves_born w stand name implicit_name k s answer l found is = record {
+  lawful = record {
+    durable = lawful_born s.moment w stand name implicit_name k s.durable l.durable found is;
+    seats = seats_more (with_space w.number (with_savepoint (place_behind w stand) (w.next_implicit + 1) k) s.durable.spaces) (child_of s.moment s.durable.spaces w k name) s.sessions
+        (seats_saved (place_behind w stand) (w.next_implicit + 1) w k s l found);
+  };
+}
+
+-- tables are in no law
+pub leaves_tables : (s : State) (tables : List Table) (answer : Answer) → LawfulState s → Leaves (record s { durable = record s.durable { tables = tables } }, answer)
+leaves_tables s tables answer l = record { lawful = record { durable = record { spaces = l.durable.spaces; entries = l.durable.entries }; seats = l.seats } }
+
+-- ---- sessions
+
+pub leaves_seated : (s : State) (sessions : List Session) (answer : Answer) → LawfulState s → Seats s.durable.spaces sessions → Leaves (record s { sessions = sessions }, answer)
+leaves_seated s sessions answer l seats = record { lawful = record { durable = l.durable; seats = seats } }
+
+pub seats_push : (ws : List Workspace) (xs : List Session) (x : Session) → Seats ws xs → IsPlace ws x.space x.stand → Seats ws (xs ++ x ∷ [])
+seats_push ws [] x s p = (p, tt)
+seats_push ws (y ∷ ys) x s p = (s.0, seats_push ws ys x s.1 p)
+
+-- LIVE is there
+pub live_place : (ws : List Workspace) → is_some (workspace_of ws 0) ≡ true → IsPlace ws 0 Latest
+live_place ws live = by_space (workspace_of ws 0) refl live
+  where
+    by_space : (o : Option Workspace) → workspace_of ws 0 ≡ o → is_some o ≡ true → IsPlace ws 0 Latest
+    by_space None is there = absurd (cc)
+    by_space (Some w) is there = record { space = w; is = is; stands = tt }
+
+pub seats_filter : (ws : List Workspace) (P : Session → Bool) (xs : List Session) → Seats ws xs → Seats ws (filter P xs)
+seats_filter ws P [] s = tt
+seats_filter ws P (x ∷ xs) s = by_test (P x) (seats_filter ws P xs s.1)
+  where
+    by_test : (b : Bool) → Seats ws (filter P xs) → Seats ws (if b then x ∷ filter P xs else filter P xs)
+    by_test true rest = (s.0, rest)
+    by_test false rest = rest
+
+-- sessions of which something is set stand where that says, or where they did
+pub seats_altered : (ws : List Workspace) (name : List ℕ) (setting : Setting) (xs : List Session) → ((x : Session) → IsPlace ws x.space x.stand → IsPlace ws (with_setting setting x).space (with_setting setting x).stand) → Seats ws xs
+    → Seats ws (altered name setting xs)
+seats_altered ws name setting [] to s = tt
+seats_altered ws name setting (x ∷ xs) to s = (by_name (bytes_eq name x.name), seats_altered ws name setting xs to s.1)
+  where
+    by_name : (b : Bool) → IsPlace ws (if b then with_setting setting x else x).space (if b then with_setting setting x else x).stand
+    by_name true = to x s.0
+    by_name false = s.0
+
+-- a session goes to a place
+pub leaves_gone : (name : List ℕ) (n : ℕ) (stand : state.Stand) (s : State) (answer : Answer) → LawfulState s → IsPlace s.durable.spaces n stand → Leaves (record s { sessions = altered name (settings.Stand n stand) s.sessions }, answer)
+leaves_gone name n stand s answer l p = leaves_seated s _ answer l (seats_altered s.durable.spaces name (settings.Stand n stand) s.sessions (λ x old. p) l.seats)
+
+-- a period is set, and nobody goes
+pub leaves_period : (name : List ℕ) (period : Option Span) (s : State) (answer : Answer) → LawfulState s → Leaves (record s { sessions = altered name (settings.Period period) s.sessions }, answer)
+leaves_period name period s answer l = leaves_seated s _ answer l (seats_altered s.durable.spaces name (settings.Period period) s.sessions (λ x old. old) l.seats)

@@ -1,0 +1,14 @@
+mod Samples
+pub mod Alikes
+pub mod Conflicting
+pub mod Firsting
+pub mod Grouping
+pub mod Listing
+pub mod Merging
+pub mod Netting
+pub mod Onces
+pub mod Owing
+pub mod Placing
+pub mod RowsListed
+pub mod Stretching
+pub mod Unique

@@ -1,0 +1,76 @@
+-- Cells in conflict, and the stretches of them.
+use Rattle.std.specs.Prelude.{ℕ, max, ◌&&◌, ◌==◌, Bool, true, false, nat_lt, List, [], ◌++◌, map, Option, None, Some}
+use Rattle.std.specs.Bool.{then_some}
+use Rattle.std.specs.Option.{option_and_then}
+use Rattle.wm_base.specs.declared.kind.Kind.TheVariants.{Insert}
+use Rattle.wm_base.specs.declared.value.Value.{Value}
+use Rattle.wm_spec.specs.Lists.{Entry, Cell, Told, told, touched, standing_stamp, reach}
+use Rattle.wm_net.specs.Groups.{Group}
+use Rattle.wm_net.specs.Listed.{Stretch, listing}
+
+-- the stamps of the rows that three lists hold at a cell, or none where a list holds no row there
+pub record Stamps : Type 0 where
+  pub base : Option ℕ
+  pub parent : Option ℕ
+  pub child : Option ℕ
+
+abbrev pub same_stamp : Option ℕ → Option ℕ → Bool
+same_stamp None None = true
+same_stamp (Some a) (Some b) = a == b
+same_stamp None (Some b) = false
+same_stamp (Some a) None = false
+
+abbrev pub same_stamps : Stamps → Stamps → Bool
+same_stamps x y = same_stamp x.base y.base && (same_stamp x.parent y.parent && same_stamp x.child y.child)
+
+-- cells that a resolve has settled: changes of the parent below the position are in conflict there no more
+pub record Settled : Type 0 where
+  pub table : ℕ
+  pub key : List Value
+  pub from : ℕ
+  pub till : ℕ
+  pub position : ℕ
+
+-- an entry with the cells of a mark, and its position for a stamp
+abbrev pub as_entry : Settled → Entry
+as_entry m = record { table = m.table; key = m.key; from = m.from; till = m.till; row = None; stamp = m.position; kind = Insert; moment = 0; user = [] }
+
+-- a workspace beside its parent: its copy of the parent's content, what the parent holds now, its own changes, the parent's log, the position from which on
+-- the copy has not the log, and its marks, of which the later lie over the earlier
+pub record Sides : Type 0 where
+  pub base : List Entry
+  pub parent : List Entry
+  pub own : List Entry
+  pub log : List Entry
+  pub from : ℕ
+  pub settled : List Settled
+
+-- the position of a mark, and 0 where there is none
+abbrev pub mark_of : Option Told → ℕ
+mark_of None = 0
+mark_of (Some m) = m.stamp
+
+abbrev pub marks : Sides → List Entry
+marks s = map as_entry s.settled
+
+-- own changes cover the cell, and the parent's log does at a position that is at least `from` and at least the mark of the cell
+abbrev pub in_conflict : Sides → Cell → Bool
+in_conflict s c = touched s.own c && nat_lt (max s.from (mark_of (told (marks s) c))) (reach s.log c)
+
+abbrev pub stamps : Option Told → Option Told → Option Told → Stamps
+stamps b p w = record { base = option_and_then standing_stamp b; parent = option_and_then standing_stamp p; child = option_and_then standing_stamp w }
+
+-- the stamps on the three sides of a cell in conflict
+abbrev pub conflict_at : Sides → Cell → Option Stamps
+conflict_at s c = then_some (in_conflict s c) (stamps (told s.base c) (told s.parent c) (told (s.base ++ s.own) c))
+
+-- all entries that end where a conflict may
+abbrev pub all_sides : Sides → List Entry
+all_sides s = s.base ++ (s.parent ++ (s.own ++ (s.log ++ marks s)))
+
+abbrev pub grouped : {A : Type 0} → Group → Stretch A → Group × Stretch A
+grouped g s = (g, s)
+
+-- the maximal periods of one key of cells in conflict on which each side holds one stamp or no row, by table, key and from
+abbrev pub conflicts : Sides → List (Group × Stretch Stamps)
+conflicts s = listing same_stamps grouped (all_sides s) (conflict_at s)

@@ -1,0 +1,6 @@
+pub mod Groups
+pub mod Listed
+pub mod Nets
+pub mod Places
+pub mod Conflicts
+pub mod Firsts

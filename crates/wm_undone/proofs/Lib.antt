@@ -1,0 +1,15 @@
+pub mod RestoringLists
+pub mod RestoringTouches
+pub mod RestoringFields
+pub mod RestoringNamed
+pub mod RestoringStands
+pub mod RestoringRules
+pub mod RestoringKept
+pub mod RestoringBatch
+pub mod RemovingSeen
+pub mod RemovingRecords
+pub mod RemovingFields
+pub mod RemovingNamed
+pub mod RemovingStands
+pub mod RemovingKept
+pub mod RemovingBatch
