@@ -2,8 +2,8 @@
 use Rattle.std.proofs.Common.{◌≡◌, ℕ, ◌+◌, true, List, [], ◌∷◌, ◌++◌, Option, Some, None, refl, sym, ap, ◌∙◌, arith}
 use Rattle.std.specs.Option.{option_and_then, option_map, unwrap_or}
 use Rattle.wm_spec.specs.declared.record.table.Table.{Table}
-use Rattle.wm_state.specs.Editing.{all_edited, bear_in, born, drafted_by, edited, enable_named, implicit_name, save_in, saved_at, stand_of}
-use Rattle.wm_state.specs.State.{Readiness, Savepoint, Stand, Durable, Workspace, table_named, workspace_of}
+use Rattle.wm_state.specs.Editing.{all_edited, bear_in, born, drafted_by, edited, enable_named, implicit_name, restored_in, save_in, saved_at, stand_of}
+use Rattle.wm_state.specs.State.{Readiness, Savepoint, Stand, Durable, Workspace, savepoint_made, savepoints_of, table_named, workspace_of}
 use Rattle.wm_state.specs.declared.edit.Edit.{Edit}
 use Rattle.wm_state.specs.declared.edit.Edit.TheVariants as edits
 
@@ -36,6 +36,12 @@ bear_timed m stand name moment work s (Some w) = by_savepoint (saved_at m s.spac
     by_savepoint None = refl
     by_savepoint (Some k) = refl
 
+-- a workspace goes back to a savepoint in it, or none does
+restore_timed : (n : ℕ) (moment work : ℕ) (s : Durable) (o : Option Savepoint)
+    → unwrap_or (option_map (restored_in n (timed moment work s)) o) (timed moment work s) ≡ timed moment work (unwrap_or (option_map (restored_in n s) o) s)
+restore_timed n moment work s None = refl
+restore_timed n moment work s (Some k) = refl
+
 -- an edit makes of it what it makes of the state, moved so
 edited_timed : (m : ℕ) (e : Edit) (moment work : ℕ) (s : Durable) → edited m e (timed moment work s) ≡ timed moment work (edited m e s)
 edited_timed m (edits.Create t) moment work s = refl
@@ -43,6 +49,8 @@ edited_timed m (edits.Enable name valid history) moment work s = enable_timed (r
 edited_timed m (edits.Append n entries) moment work s = refl
 edited_timed m (edits.Save n name) moment work s = save_timed m name moment work s (workspace_of s.spaces n)
 edited_timed m (edits.Bear n at name) moment work s = bear_timed m (stand_of at) name moment work s (workspace_of s.spaces n)
+edited_timed m (edits.Restore n making) moment work s = restore_timed n moment work s (savepoint_made making (savepoints_of s.spaces n))
+edited_timed m (edits.Remove n) moment work s = refl
 
 -- so do edits
 all_edited_timed : (m : ℕ) (es : List Edit) (moment work : ℕ) (s : Durable) → all_edited m es (timed moment work s) ≡ timed moment work (all_edited m es s)

@@ -1,5 +1,5 @@
 -- What is asked of records before edits, and what changes of records are to make of them.
-use Rattle.std.specs.Prelude.{ℕ, ◌≡◌, ◌≤◌, ◌+◌, ◌*◌, ◌==◌, ◌&&◌, not, nat_le, nat_lt, Bool, true, false, List, [], ◌∷◌, ◌++◌, map, length, Option, Some, None}
+use Rattle.std.specs.Prelude.{ℕ, ◌≡◌, ◌≤◌, ◌<◌, ◌+◌, ◌*◌, ◌==◌, ◌&&◌, not, nat_le, nat_lt, Bool, true, false, List, [], ◌∷◌, ◌++◌, map, length, Option, Some, None, is_some}
 use Rattle.std.specs.List.{filter, find, list_all, list_any}
 use Rattle.std.specs.Option.{option_map_or}
 use Rattle.std.specs.Str.{bytes_eq}
@@ -17,16 +17,17 @@ use Rattle.wm_spec.specs.declared.record.Record.TheVariants as records
 use Rattle.wm_spec.specs.declared.record.batch.Change.{Change}
 use Rattle.wm_spec.specs.declared.record.counters.Counters.{Counters}
 use Rattle.wm_spec.specs.declared.record.row.RowRecord.{RowRecord}
+use Rattle.wm_spec.specs.declared.record.savepoint.Savepoint.{Savepoint}
 use Rattle.wm_spec.specs.declared.record.space.Space.{Space}
 use Rattle.wm_spec.specs.declared.record.stored.Stored.{Stored}
 use Rattle.wm_spec.specs.declared.record.table.Table.{Table}
 use Rattle.wm_state.specs.ById.{applied}
 use Rattle.wm_state.specs.Drawing.{are_sorted}
 use Rattle.wm_state.specs.Effects.{IsFree, IsLeaf}
-use Rattle.wm_state.specs.Editing.{counter_limit, drafted_by, entry_of, line_work, number_limit, stand_of}
+use Rattle.wm_state.specs.Editing.{counter_limit, drafted_by, entry_of, is_other, line_work, number_limit, stand_of}
 use Rattle.wm_state.specs.Entries.{AreStamped, entry_keys, is_well}
 use Rattle.wm_state.specs.Points.{HasRoom, Point, implicit_of, next_place_at, point_at}
-use Rattle.wm_state.specs.Standing.{FieldsStand, Stands, by_number, latest, newest_first, space_after}
+use Rattle.wm_state.specs.Standing.{FieldsStand, Stands, by_number, latest, newest_first, saved_as, space_after}
 use Rattle.wm_state.specs.State.{Durable, table_named}
 use Rattle.wm_state.specs.declared.edit.Edit.{Edit}
 use Rattle.wm_state.specs.declared.edit.NewEntry.{NewEntry}
@@ -123,6 +124,21 @@ pub record CanBear (p : Parts) (m n : ℕ) (at : Option ℕ) (name : List ℕ) :
   pub implicits : nat_lt number_limit (space.next_implicit + 1) ≡ false
   pub numbers : nat_lt number_limit (space_after p.spaces) ≡ false
 
+-- the workspace is there and has the savepoint of the making, since which it was not rebased
+pub record CanRestore (p : Parts) (n making : ℕ) : Type 0 where
+  pub space : Space
+  pub there : space_of p.spaces n ≡ Some space
+  pub savepoint : Savepoint
+  pub saved : saved_as p n making ≡ Some savepoint
+  pub based : savepoint.rebases ≡ space.rebases
+
+-- the workspace is there and is not LIVE, and no record of a workspace has it as its parent, that of LIVE among them, of whose parent no
+-- rule speaks
+pub record CanRemove (p : Parts) (n : ℕ) : Type 0 where
+  pub some : 0 < n
+  pub there : is_some (space_of p.spaces n) ≡ true
+  pub childless : list_all (λ (r : Space). is_other n r.parent) p.spaces ≡ true
+
 -- what is asked before an edit at a moment
 abbrev pub CanEdit : Parts → ℕ → Edit → Type 0
 CanEdit p m (edits.Create t) = CanCreate p t
@@ -130,6 +146,8 @@ CanEdit p m (edits.Enable name valid history) = CanEnable p name
 CanEdit p m (edits.Append n entries) = CanAppend p n (map entry_of entries.items)
 CanEdit p m (edits.Save n name) = CanSave p n name
 CanEdit p m (edits.Bear n at name) = CanBear p m n at name
+CanEdit p m (edits.Restore n making) = CanRestore p n making
+CanEdit p m (edits.Remove n) = CanRemove p n
 
 -- ---- what is made of them
 

@@ -1,5 +1,6 @@
 -- What edits make of the state.
-use Rattle.std.specs.Prelude.{ℕ, ◌+◌, ◌^◌, Bool, true, false, List, [], ◌∷◌, ◌++◌, map, length, Option, Some, None, unwrap_or, codes}
+use Rattle.std.specs.Prelude.{ℕ, ◌+◌, ◌^◌, ◌==◌, ◌&&◌, nat_le, not, Bool, true, false, List, [], ◌∷◌, ◌++◌, map, length, take, Option, Some, None, unwrap_or, codes}
+use Rattle.std.specs.List.{filter}
 use Rattle.std.specs.Fmt.{decimal}
 use Rattle.std.specs.Option.{option_map, option_and_then}
 use Rattle.wm_base.specs.declared.row.Row.{Row}
@@ -10,7 +11,7 @@ use Rattle.wm_spec.specs.declared.record.table.Table.{Table}
 use Rattle.wm_state.specs.declared.edit.Edit.{Edit}
 use Rattle.wm_state.specs.declared.edit.Edit.TheVariants as edits
 use Rattle.wm_state.specs.declared.edit.NewEntry.{NewEntry}
-use Rattle.wm_state.specs.State.{Durable, Workspace, Savepoint, Turn, Stand, Latest, At, Readiness, kept, enabled, with_space, with_entries, with_savepoint, workspace_of, savepoint_made, table_named, next_making, next_space}
+use Rattle.wm_state.specs.State.{Durable, Workspace, Savepoint, Turn, Stand, Latest, At, Readiness, kept, enabled, with_space, with_entries, with_savepoint, workspace_of, savepoints_of, savepoint_made, table_named, next_making, next_space}
 
 -- ---- what is counted
 
@@ -126,6 +127,33 @@ born m w stand name k s =
 abbrev pub bear_in : ℕ → Stand → List ℕ → Durable → Workspace → Option Durable
 bear_in m stand name s w = option_map (λ (k : Savepoint). born m w stand name k s) (saved_at m s.spaces w stand (implicit_name w) true)
 
+-- ---- what is undone
+
+-- a savepoint that stays where one goes back to another: it is no later, and had no more of the log (in what lines lead to each alone
+-- says so)
+abbrev pub stays_at : Savepoint → Savepoint → Bool
+stays_at k j = nat_le j.place k.place && nat_le j.log_length k.log_length
+
+-- a workspace as it was at a savepoint; its turns, its rebases and the places that it gave stay
+abbrev pub restored : Savepoint → Workspace → Workspace
+restored k w = record w {
+  lists = record w.lists { base = k.base; own = k.own; log = take k.log_length w.lists.log };
+  from = k.from;
+  savepoints = filter (stays_at k) w.savepoints;
+}
+
+-- the workspace of this number is as it was at a savepoint
+abbrev pub restored_in : ℕ → Durable → Savepoint → Durable
+restored_in n s k = record s { spaces = with_space n (restored k) s.spaces }
+
+-- a workspace of this number is another one than the one that goes
+abbrev pub is_other : ℕ → ℕ → Bool
+is_other n number = not (number == n)
+
+-- the workspaces without one
+abbrev pub without : ℕ → List Workspace → List Workspace
+without n = filter (λ (w : Workspace). is_other n w.number)
+
 -- ---- edits
 
 -- at what is newest, or at the savepoint of a making
@@ -145,6 +173,8 @@ edited m (edits.Enable name valid history) s = unwrap_or (option_map (enable_nam
 edited m (edits.Append n entries) s = written_all n (map entry_of entries.items) s
 edited m (edits.Save n name) s = unwrap_or (option_and_then (save_in m name s) (workspace_of s.spaces n)) s
 edited m (edits.Bear n at name) s = unwrap_or (option_and_then (bear_in m (stand_of at) name s) (workspace_of s.spaces n)) s
+edited m (edits.Restore n making) s = unwrap_or (option_map (restored_in n s) (savepoint_made making (savepoints_of s.spaces n))) s
+edited m (edits.Remove n) s = record s { spaces = without n s.spaces }
 
 -- and what edits make of it in their order
 abbrev pub all_edited : ℕ → List Edit → Durable → Durable

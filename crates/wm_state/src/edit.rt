@@ -49,4 +49,13 @@ pub enum Edit {
         at: Option<u64>,
         name: Name,
     },
+    /// A workspace is again as it was at the savepoint of a making: what was written behind it goes, and so do later savepoints.
+    Restore {
+        space: u32,
+        making: u64,
+    },
+    /// A workspace goes, with all that is its own.
+    Remove {
+        space: u32,
+    },
 }

@@ -26,7 +26,7 @@ use Rattle.wm_state.proofs.ByKind.{stored}
 use Rattle.wm_state.proofs.Planned.{counted}
 use Rattle.wm_state.proofs.Planning.{recounted}
 use Rattle.wm_written.proofs.Dropping.{dropped, dropped-set}
-use Rattle.wm_undone.specs.Removing.{MayGo, Thinned, is_other, is_others, keeps_without, parts_without, remove_batch, without}
+use Rattle.wm_undone.specs.Removing.{CanRemove, Thinned, is_other, is_others, keeps_without, parts_without, remove_batch, without}
 use Rattle.wm_undone.proofs.RemovingKept.{CountsOn, keep-thinned}
 use Rattle.wm_undone.proofs.RemovingRecords.{thinned}
 use Rattle.wm_undone.proofs.RemovingStands.{FieldsStand-removed, Stands-removed}
@@ -135,7 +135,7 @@ changes-removed counters_id new ids apart = ap (λ xs. ids_differ (counters_id �
 
 -- ---- the rules, and what the records stand for
 
-module _ (ss : List Stored) (n counters_id : ℕ) (old new : Counters) (ids : List ℕ) (goes : GoesFrom ss n counters_id old ids) (may : MayGo (parts_of ss) n) where
+module _ (ss : List Stored) (n counters_id : ℕ) (old new : Counters) (ids : List ℕ) (goes : GoesFrom ss n counters_id old ids) (may : CanRemove (parts_of ss) n) where
   its : parts_of (applied (remove_batch counters_id new ids) ss) ≡ thinned (parts_of ss) n (new ∷ [])
   its = parts-removed ss n counters_id old new ids goes
 

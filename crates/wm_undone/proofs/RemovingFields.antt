@@ -15,7 +15,7 @@ use Rattle.wm_state.proofs.Apart.{found-passes, ruled}
 use Rattle.wm_state.proofs.Frames.{savepoints_of-none}
 use Rattle.wm_state.proofs.Mapped.{all-found}
 use Rattle.wm_state.proofs.Tests.{both, differ_filter}
-use Rattle.wm_undone.specs.Removing.{MayGo, is_other, without}
+use Rattle.wm_undone.specs.Removing.{CanRemove, is_other, without}
 use Rattle.wm_undone.proofs.RemovingRecords.{filter_other, filter_own, find_other, find_own, one_less, space_away, space_none, thinned}
 
 some_map : {A B : Type 0} (f : A → B) (o : Option A) → is_some (option_map f o) ≡ is_some o
@@ -28,7 +28,7 @@ numbers_apart p rules =
     let g = both (nat_le (length p.spaces) 1024 && is_some (space_of p.spaces 0)) _ (ruled p rules).spaces in
     (both (differ (λ (x y : Space). x.number == y.number) p.spaces) (differ (λ (x y : Space). bytes_eq x.name y.name) p.spaces && list_all (is_space (space_of p.spaces)) p.spaces) g.1).0
 
-module _ (p : Parts) (s t : Durable) (n : ℕ) (counters : List Counters) (may : MayGo p n) (rules : keep_rules p ≡ true) (spaces : t.spaces ≡ without n s.spaces) where
+module _ (p : Parts) (s t : Durable) (n : ℕ) (counters : List Counters) (may : CanRemove p n) (rules : keep_rules p ≡ true) (spaces : t.spaces ≡ without n s.spaces) where
   -- ---- workspaces
 
   pub found_none : workspace_of t.spaces n ≡ None
@@ -103,7 +103,7 @@ module _ (p : Parts) (s t : Durable) (n : ℕ) (counters : List Counters) (may :
 -- ---- what is asked, told by the state
 
 -- a workspace other than LIVE that is there, and is the parent of none, may go
-pub may_go : (p : Parts) (s : Durable) (n : ℕ) → keep_rules p ≡ true → SpacesStand p s → 0 < n → is_some (workspace_of s.spaces n) ≡ true → list_all (λ (w : Workspace). is_other n w.parent) s.spaces ≡ true → MayGo p n
+pub may_go : (p : Parts) (s : Durable) (n : ℕ) → keep_rules p ≡ true → SpacesStand p s → 0 < n → is_some (workspace_of s.spaces n) ≡ true → list_all (λ (w : Workspace). is_other n w.parent) s.spaces ≡ true → CanRemove p n
 may_go p s n rules stand some there childless = record {
   some = some;
   there = sym (some_map fields_of (space_of p.spaces n)) ∙ ap is_some (stand.same n) ∙ some_map fields_in (workspace_of s.spaces n) ∙ there;

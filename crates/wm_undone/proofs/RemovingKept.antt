@@ -24,7 +24,7 @@ use Rattle.wm_state.proofs.Making.{same_making}
 use Rattle.wm_state.proofs.Mapped.{find-else, find-filter, find-passes}
 use Rattle.wm_state.proofs.Named.{ruled_savepoints, space_number}
 use Rattle.wm_state.proofs.Tests.{and_true, bool_apart, both, differ_filter}
-use Rattle.wm_undone.specs.Removing.{MayGo, Thinned, is_other, is_others}
+use Rattle.wm_undone.specs.Removing.{CanRemove, Thinned, is_other, is_others}
 use Rattle.wm_undone.proofs.RemovingRecords.{filter_other, not_other, one_less, other_of, parent_other, space_away, thinned}
 use Rattle.wm_undone.proofs.RemovingStands.{are_thinned}
 use Rattle.wm_undone.proofs.RestoringLists.{all_left, fewer}
@@ -70,7 +70,7 @@ either_if false b false d f g is = g is
 
 -- ---- the rules
 
-module _ (p : Parts) (n : ℕ) (may : MayGo p n) (rules : keep_rules p ≡ true) (counters : List Counters) where
+module _ (p : Parts) (n : ℕ) (may : CanRemove p n) (rules : keep_rules p ≡ true) (counters : List Counters) where
   r : Ruled p
   r = ruled p rules
 
@@ -320,7 +320,7 @@ pub record CountsOn (p : Parts) (old new : Counters) : Type 0 where
   pub versions : new.next_version ≡ old.next_version
   pub work : old.work ≤ new.work
 
-pub keep-thinned : (p : Parts) (n : ℕ) (old new : Counters) → MayGo p n → CountsOn p old new → keep_rules p ≡ true → keep_rules (thinned p n (new ∷ [])) ≡ true
+pub keep-thinned : (p : Parts) (n : ℕ) (old new : Counters) → CanRemove p n → CountsOn p old new → keep_rules p ≡ true → keep_rules (thinned p n (new ∷ [])) ≡ true
 keep-thinned p n old new may on rules =
     keeps_all q new refl on.counters r.tables (spaces_keep p n may rules (new ∷ []) r.spaces)
     (ap (are_versions q) on.versions ∙ versions_keep p n may rules (new ∷ []) old.next_version (ap (λ (c : Counters). are_versions p c.next_version) (sym same) ∙ r.versions))

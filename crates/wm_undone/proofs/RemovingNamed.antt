@@ -16,12 +16,12 @@ use Rattle.wm_state.proofs.Climbing.{recorded_of}
 use Rattle.wm_state.proofs.FirstIn.{IsOf, first-of}
 use Rattle.wm_state.proofs.Naming.{Named-as, Owned-as, named_of}
 use Rattle.wm_state.proofs.Tests.{all_filter, all_if}
-use Rattle.wm_undone.specs.Removing.{MayGo, is_others, without}
+use Rattle.wm_undone.specs.Removing.{CanRemove, is_others, without}
 use Rattle.wm_undone.proofs.RemovingFields.{found_away, found_before}
 use Rattle.wm_undone.proofs.RemovingRecords.{down, nodes-thin, none_apart, outside_of, parent_other, saved_away, space_away, stored_out, thinned}
 use Rattle.wm_undone.proofs.RemovingSeen.{IsOutside, above-thin, first-thin, own-thin, seen-thin}
 
-module _ (p : Parts) (s t : Durable) (n : ℕ) (counters : List Counters) (may : MayGo p n) (rules : keep_rules p ≡ true) (stand : SpacesStand p s) (spaces : t.spaces ≡ without n s.spaces) where
+module _ (p : Parts) (s t : Durable) (n : ℕ) (counters : List Counters) (may : CanRemove p n) (rules : keep_rules p ≡ true) (stand : SpacesStand p s) (spaces : t.spaces ≡ without n s.spaces) where
   thin : newest_first (thinned p n counters).versions ≡ filter (is_outside n) (newest_first p.versions)
   thin = nodes-thin p n may.childless rules counters
 

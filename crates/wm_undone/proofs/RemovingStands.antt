@@ -21,7 +21,7 @@ use Rattle.wm_state.proofs.Logging.{HaveRows, log_of-none, log_of-same, rows-kep
 use Rattle.wm_state.proofs.Ready.{KeepReady, KeepReady-same}
 use Rattle.wm_state.proofs.Staying.{AreReal-same, EntriesStand-kept, entries_real, turns_of-none}
 use Rattle.wm_state.proofs.Tests.{both}
-use Rattle.wm_undone.specs.Removing.{MayGo, Thinned, is_other, without}
+use Rattle.wm_undone.specs.Removing.{CanRemove, Thinned, is_other, without}
 use Rattle.wm_undone.specs.Restoring.{stays_touched}
 use Rattle.wm_undone.proofs.RemovingFields.{FieldsStand-thinned, found_away, found_before, found_none}
 use Rattle.wm_undone.proofs.RemovingNamed.{NamedStand-thinned, OwnsStand-thinned}
@@ -44,7 +44,7 @@ tells_others n m below log xs away tell =
 abbrev logged_in : List Table → Option Entry → Option Logged
 logged_in tables o = option_and_then (λ (e : Entry). then_some (has_history tables e.table) (logged_as e)) o
 
-module _ (p : Parts) (s t : Durable) (n : ℕ) (counters : List Counters) (may : MayGo p n) (rules : keep_rules p ≡ true) (spaces : t.spaces ≡ without n s.spaces) (tables : t.tables ≡ s.tables) where
+module _ (p : Parts) (s t : Durable) (n : ℕ) (counters : List Counters) (may : CanRemove p n) (rules : keep_rules p ≡ true) (spaces : t.spaces ≡ without n s.spaces) (tables : t.tables ≡ s.tables) where
   was : (m : ℕ) (w : Workspace) → workspace_of t.spaces m ≡ Some w → (m ≢ n) × (workspace_of s.spaces m ≡ Some w)
   was = found_before p s t n counters may rules spaces
 

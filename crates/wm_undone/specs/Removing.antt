@@ -16,17 +16,8 @@ use Rattle.wm_spec.specs.declared.record.trace.Trace.{Trace}
 use Rattle.wm_spec.specs.declared.record.turn.Turn.{Turn}
 use Rattle.wm_spec.specs.declared.record.version.Version.{Version}
 use Rattle.wm_state.specs.Batches.{drop_one, put}
-use Rattle.wm_state.specs.State.{Workspace}
-
--- a workspace of this number is another one than the one that goes
-abbrev pub is_other : ℕ → ℕ → Bool
-is_other n number = not (number == n)
-
--- ---- the state
-
--- the workspaces without one
-abbrev pub without : ℕ → List Workspace → List Workspace
-without n = filter (λ (w : Workspace). is_other n w.number)
+pub use Rattle.wm_state.specs.Drafts.{CanRemove}
+pub use Rattle.wm_state.specs.Editing.{is_other, without}
 
 -- ---- the records
 
@@ -49,16 +40,9 @@ parts_without n p = record p {
   turns = filter (λ (x : Turn). is_other n x.space) p.turns;
 }
 
--- what is asked of a workspace that goes: it is there, it is not LIVE, and no record of a workspace has it as its parent, that of LIVE among
--- them, of whose parent no rule speaks
-pub record MayGo (p : Parts) (n : ℕ) : Type 0 where
-  pub some : 0 < n
-  pub there : is_some (space_of p.spaces n) ≡ true
-  pub childless : list_all (λ (r : Space). is_other n r.parent) p.spaces ≡ true
-
 -- a workspace is gone; but for counters the records are those of the others
 pub record Thinned (p q : Parts) (n : ℕ) : Type 0 where
-  pub may : MayGo p n
+  pub may : CanRemove p n
   pub rest : record q { counters = p.counters } ≡ parts_without n p
 
 -- ---- the batch

@@ -17,20 +17,9 @@ use Rattle.wm_state.specs.Batches.{drop_one, put}
 use Rattle.wm_state.specs.Standing.{newest_first, saved_as, stored_at}
 use Rattle.wm_state.specs.State.{Durable, Savepoint, Workspace, savepoint_made, workspace_of}
 
+pub use Rattle.wm_state.specs.Editing.{restored, stays_at}
+
 -- ---- the state
-
--- a savepoint that stays where one goes back to another: it is no later, and had no more of the log (in what lines lead to each alone
--- says so)
-abbrev pub stays_at : Savepoint → Savepoint → Bool
-stays_at k j = nat_le j.place k.place && nat_le j.log_length k.log_length
-
--- a workspace as it was at a savepoint; its turns, its rebases and the places that it gave stay
-abbrev pub restored : Savepoint → Workspace → Workspace
-restored k w = record w {
-  lists = record w.lists { base = k.base; own = k.own; log = take k.log_length w.lists.log };
-  from = k.from;
-  savepoints = filter (stays_at k) w.savepoints;
-}
 
 -- what is asked of going back: the savepoint of this making is there, and the workspace was not rebased since
 pub record GoesBack (p : Parts) (d : Durable) (n making : ℕ) (w : Workspace) (k : Savepoint) (x : Record) : Type 0 where
