@@ -1,5 +1,6 @@
 pub mod State
 pub mod Editing
+pub mod Firsts
 pub mod ById
 pub mod Standing
 pub mod Points
