@@ -16,7 +16,6 @@ use Rattle.wm_tree.specs.Versions.{AllBelow}
 use Rattle.wm_state.specs.Batches.{drop_one, put}
 use Rattle.wm_state.specs.Standing.{newest_first, saved_as, stored_at}
 use Rattle.wm_state.specs.State.{Durable, Savepoint, Workspace, savepoint_made, workspace_of}
-
 pub use Rattle.wm_state.specs.Editing.{restored, stays_at}
 
 -- ---- the state
