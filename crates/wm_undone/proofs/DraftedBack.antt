@@ -1,5 +1,5 @@
 -- What the batch of a workspace that goes back to a savepoint makes of the records.
-use Rattle.std.proofs.Common.{◌≡◌, ℕ, ◌+◌, ◌==◌, nat_lt, true, List, [], ◌∷◌, ◌++◌, map, Some, is_some, refl, sym, ap, subst, ◌∙◌}
+use Rattle.std.proofs.Common.{◌≡◌, ℕ, ◌+◌, nat_lt, true, List, [], ◌∷◌, ◌++◌, map, Some, is_some, refl, sym, ap, subst, ◌∙◌}
 use Rattle.std.proofs.lemmas.Bool.{ne_eqb}
 use Rattle.std.specs.List.{list_all}
 use Rattle.std.specs.Option.{option_map, unwrap_or}
@@ -21,7 +21,7 @@ use Rattle.wm_state.specs.Drafts.{CanWork, DraftsBy}
 use Rattle.wm_state.specs.Editing.{edited, restored_in}
 use Rattle.wm_state.specs.Points.{versioned}
 use Rattle.wm_state.specs.Standing.{SavepointFields, SpaceFields, FieldsStand, SavepointsStand, SpacesStand, Stands, saved_as}
-use Rattle.wm_state.specs.State.{Durable, Savepoint, Workspace, savepoint_made, with_space, workspace_of}
+use Rattle.wm_state.specs.State.{Durable, Savepoint, Workspace, savepoint_made, with_space}
 use Rattle.wm_state.specs.declared.edit.Edit.TheVariants as edits
 use Rattle.wm_state.specs.declared.edit.NewEntry.{NewEntry}
 use Rattle.wm_state.proofs.Counting.{counts_as, counts_in, version_well, work_grows}
