@@ -104,4 +104,4 @@ def written_to(kind, room):
         file.write(b"\xff" * PAGE)
     kind.expect("INSERT behind the other's writing", answer(first, b"A: INSERT INTO T VALUES (2)\n"), b"")
     kind.expect("the open run", finished(first), ended(11))
-    kind.expect("a run over what is left", room.play(path, RUN)[0], 6)
+    kind.expect("a run over what is left", room.play(path, RUN)[0], 7)
