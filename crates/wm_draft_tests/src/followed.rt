@@ -2,7 +2,7 @@
 use std::alloc::Global;
 use std::test::Fail;
 use wm_base::Memory;
-use wm_draft::copies::change_copies;
+use wm_changes::copies::change_copies;
 use wm_draft::followed::followed_by;
 use wm_spec::record::{Change, Changes, Record, Version};
 
