@@ -54,7 +54,7 @@ class Writer:
             workspace, point = self.random.choice(self.points)
             return f"{session}: EXECUTE DBMS_WM.RollbackToSP('{workspace}', '{point}')"
         if pick < 0.97:
-            return f"{session}: EXECUTE DBMS_WM.RemoveWorkspace('{self.random.choice(self.workspaces)}')"
+            return f"{session}: EXECUTE DBMS_WM.RemoveWorkspace('{self.random.choice(self.workspaces[1:] or self.workspaces)}')"
         if pick < 0.985 and self.points:
             return f"{session}: EXECUTE DBMS_WM.GotoSavepoint('{self.random.choice(self.points)[1]}')"
         self.day = min(self.day + 1, 28)
