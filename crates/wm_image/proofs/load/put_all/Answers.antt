@@ -1,5 +1,5 @@
-use Rattle.std.proofs.Common.{[], Some, sym, ap, ◌∙◌}
-use Rattle.wm_image.proofs.Loading.{entered-push, entered_all}
+use Rattle.std.proofs.Common.{◌≡◌, [], Some, sym, ap, ◌∙◌, rules}
+use Rattle.wm_image.proofs.Loading.{entered, entered-push, entered_all}
 use Rattle.wm_state.specs.ById.{set_at}
 use Rattle.wm_image.proofs.load.put_all.Goals as goal
 
@@ -12,4 +12,6 @@ loop-one-preserved c = record {
 }
 
 pub returns-clause-listed : goal.returns-clause-listed
-returns-clause-listed c = ?
+returns-clause-listed c =
+    let all : c.loop-one.yielded ≡ c.args.records = search rules in
+    c.loop-one.invariant.are ∙ ap (λ ts. entered ts []) all ∙ entered_all c.args.records c.requires.ascend
