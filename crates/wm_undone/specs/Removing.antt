@@ -1,7 +1,7 @@
 -- A workspace that is the parent of none goes: what becomes of the state, and of the records.
-use Rattle.std.specs.Prelude.{ℕ, ◌≡◌, ◌<◌, Bool, true, not, ◌==◌, List, ◌∷◌, map, is_some}
-use Rattle.std.specs.List.{filter, list_all}
-use Rattle.wm_graph.specs.Parts.{Parts, space_of, version_of}
+use Rattle.std.specs.Prelude.{ℕ, ◌≡◌, Bool, true, not, List, ◌∷◌, map}
+use Rattle.std.specs.List.{filter}
+use Rattle.wm_graph.specs.Parts.{Parts, version_of}
 use Rattle.wm_graph.specs.Rules.{is_version_of}
 use Rattle.wm_spec.specs.declared.record.Record.{Record as Any}
 use Rattle.wm_spec.specs.declared.record.Record.TheVariants as records
