@@ -14,6 +14,9 @@ use Rattle.wm_spec.specs.declared.record.stored.Stored.{Stored}
 use Rattle.wm_spec.specs.declared.record.version.Version.{Version}
 use Rattle.wm_state.specs.Batches.{AreDropped, drop_one, is_dropped, put}
 use Rattle.wm_state.specs.ById.{Ascend}
+use Rattle.wm_state.specs.Drafts.{CanRemove, CanWork, DraftsBy}
+use Rattle.wm_state.specs.Points.{moved}
+use Rattle.wm_state.specs.declared.edit.Edit.TheVariants as edits
 use Rattle.wm_state.proofs.Apart.{ruled, ruled_versions}
 use Rattle.wm_state.proofs.Newest.{numbers_differ}
 use Rattle.wm_state.proofs.Tests.{and_true, bool_apart}
@@ -22,6 +25,7 @@ use Rattle.wm_changes.proofs.DroppingAll.{there-with, there_all}
 use Rattle.wm_image.proofs.Finding.{Tests, all_of}
 use Rattle.wm_image.proofs.Leaves.{any-kind}
 use Rattle.wm_image.specs.Sought.{OwnedBy, PiecesIn, ids_with, is_sought}
+use Rattle.wm_undone.proofs.DraftedRemoved.{drafts_removed}
 use Rattle.wm_undone.specs.Removing.{keeps_without, remove_batch}
 use Rattle.wm_lifecycle.proofs.GoneLists.{all_flat, any_either, any_flat, any_with, differ_flat}
 use Rattle.wm_lifecycle.proofs.GoneVersions.{apart_versions, version_told}
@@ -213,3 +217,11 @@ gone_there ss n sorted = all_flat (λ id. is_some (record_at ss id)) (with_piece
 pub removing_is : (counters_id : ℕ) (counted counters : Counters) (dropped ids : List ℕ) (none one two : List Change) (p : Change) → counted ≡ counters → ids ≡ dropped → none ≡ [] → p ≡ put counters_id (records.Counters counted) → one ≡ none ++ p ∷ []
     → two ≡ one ++ map drop_one ids → two ≡ remove_batch counters_id counters dropped
 removing_is counters_id counted counters dropped ids none one two p count are empty first pushed dropping = rw (dropping, pushed, first, empty, count, are) refl
+
+-- so it is what the removal makes of each state
+pub drafts_gone : (rs : List Stored) (m work n : ℕ) (c : Counters) (counters_id : ℕ) (ids : List ℕ) (changes : List Change) → keep_rules (parts_of rs) ≡ true → CanWork (parts_of rs) m work → (parts_of rs).counters ≡ c ∷ [] → CanRemove (parts_of rs) n
+    → record_at rs counters_id ≡ Some (records.Counters c) → Ascend rs → ids ≡ flat_map (with_pieces rs) (ids_with (is_sought (OwnedBy n)) rs) → changes ≡ remove_batch counters_id (moved c m work) ids → DraftsBy work rs m (edits.Remove n ∷ []) changes
+drafts_gone rs m work n c counters_id ids changes rules can_work one can there sorted are is =
+    subst (DraftsBy work rs m (edits.Remove n ∷ [])) (sym is)
+    (drafts_removed rs m work n c counters_id ids rules can_work one can there sorted (subst (λ ds. AreDropped (keeps_without (parts_of rs).versions n) ds rs) (sym are) (gone_dropped rs n sorted rules)) (ap ids_differ are ∙ gone_differ rs n sorted rules)
+    (ap (list_all (λ d. is_some (record_at rs d))) are ∙ gone_there rs n sorted))

@@ -68,7 +68,8 @@ fn dropped_back(alloc: Global, image: &Image, savepoint: &Savepoint) -> Result<V
     ensures { IfOk result (λ dropped. dropped.items ≡ ids_with (λ r. not (keeps_back savepoint.now r)) image.now) }
 {
     let ids = image.records_of(savepoint.space);
-    going_back(alloc, image, savepoint, ids)
+    let dropped = going_back(alloc, image, savepoint, ids)?;
+    Ok(dropped)
 }
 
 /// The workspace as it was at a savepoint.
