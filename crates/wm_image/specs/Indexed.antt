@@ -1,6 +1,7 @@
 -- An index of records: the ids of whatever may be sought; and the catalog of the tables.
 use Rattle.std.specs.Prelude.{ℕ, ◌≡◌, true, if◌then◌else◌, List, map}
 use Rattle.std.specs.BTreeMap.{BTreeMap, IsOrdered}
+use Rattle.std.specs.List.Sorted.{IsStrictlySortedBy}
 use Rattle.std.specs.Ordering.{nat_cmp}
 use Rattle.wm_catalog.specs.Catalog.{same_name}
 use Rattle.wm_graph.specs.Parts.{parts_of}
@@ -32,6 +33,10 @@ ids_at x (PiecesAt table key) = piece_ids x.pieces.entries table key
 ids_at x (TouchesAt table key) = piece_ids x.touches.entries table key
 ids_at x (PiecesIn version) = ids_in nat_cmp x.pieces_in.entries version
 ids_at x (OwnedBy space) = ids_in nat_cmp x.owned.entries space
+
+-- the ids of whatever is sought ascend
+abbrev pub IdsAscend : Index → Type 0
+IdsAscend x = (q : Sought) → IsStrictlySortedBy nat_cmp (ids_at x q)
 
 -- the index has an id more, of a record
 abbrev pub Adds : Index → Index → ℕ → Record → Type 0

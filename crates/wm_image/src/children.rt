@@ -10,7 +10,7 @@ ghost use Rattle.wm_image.specs.Shown as shown;
 
 use crate::kinds::{savepoint_of, space_of};
 use crate::records::{Kept, at};
-use wm_spec::record::{Record, Space};
+use wm_spec::record::{Record, Savepoint, Space};
 
 /// A place of a workspace, and so much of its log.
 #[derive(Clone, Copy)]
@@ -20,14 +20,21 @@ pub struct Behind {
     pub log_length: u64,
 }
 
-/// A record that is a child of the workspace, born at the place or behind it, or with so much of its log.
+/// Whether a workspace is a child of the one, born at the place or behind it, or with so much of its log.
+fn is_child(space: &Space, behind: Behind) -> bool
+    ensures { result ≡ is_child_from behind.space behind.place behind.log_length space.now }
+{
+    space.parent == behind.space
+        && (space.number != behind.space
+            && (behind.place <= u64::from(space.birth_place) || behind.log_length <= space.from))
+}
+
+/// A record that is such a child.
 fn child_at(found: Option<&Record>, behind: Behind) -> Option<&Space>
     ensures { option_copied result ≡ passing (is_child_from behind.space behind.place behind.log_length) (option_and_then as_space (option_copied found.entry)) }
 {
     let space = space_of(found)?;
-    let is_child = space.parent == behind.space && space.number != behind.space;
-    if is_child && (behind.place <= u64::from(space.birth_place) || behind.log_length <= space.from)
-    {
+    if is_child(space, behind) {
         Some(space)
     } else {
         None
@@ -63,16 +70,21 @@ pub fn least_child<'a>(kept: &'a Kept, ids: &[u64], behind: Behind) -> Option<&'
     least
 }
 
-/// Whether a record is a savepoint of the workspace at a later place than this one, or with more of the log.
-fn is_behind(found: Option<&Record>, behind: Behind) -> bool
+/// Whether a savepoint is one of the workspace at a later place than this one, or had more of the log.
+fn is_behind(savepoint: &Savepoint, behind: Behind) -> bool
+    ensures { result ≡ is_saved_behind behind.space behind.place behind.log_length savepoint.now }
+{
+    savepoint.space == behind.space
+        && !(u64::from(savepoint.place) <= behind.place
+            && savepoint.log_length <= behind.log_length)
+}
+
+/// Whether a record is such a savepoint.
+fn is_behind_at(found: Option<&Record>, behind: Behind) -> bool
     ensures { result ≡ option_map_or (is_saved_behind behind.space behind.place behind.log_length) (option_and_then as_savepoint (option_copied found.entry)) false }
 {
     match savepoint_of(found) {
-        Some(savepoint) => {
-            savepoint.space == behind.space
-                && (u64::from(savepoint.place) > behind.place
-                    || savepoint.log_length > behind.log_length)
-        }
+        Some(savepoint) => is_behind(savepoint, behind),
         None => false,
     }
 }
@@ -82,7 +94,7 @@ pub fn any_behind(kept: &Kept, ids: &[u64], behind: Behind) -> bool
     ensures { result ≡ list_any (is_saved_behind behind.space behind.place behind.log_length) (kind_at as_savepoint (listed kept.now.entries) ids.now) }
 {
     for id in ids {
-        if is_behind(at(kept, *id), behind) {
+        if is_behind_at(at(kept, *id), behind) {
             return true;
         }
     }

@@ -1,7 +1,7 @@
 //! The ids of the records, by what is sought.
 
 ghost use Rattle.std.specs.Prelude.{◌≡◌, [], OnOk};
-ghost use Rattle.wm_image.specs.Indexed.{Adds, Drops, ids_at};
+ghost use Rattle.wm_image.specs.Indexed.{Adds, Drops, IdsAscend, ids_at};
 ghost use Rattle.wm_image.specs.Sought.{Sought};
 ghost use Rattle.wm_spec.specs.declared.record.Record.TheVariants as records;
 
@@ -68,6 +68,7 @@ impl Index {
 
     /// Adds the id of a record.
     pub fn add_record(&mut self, alloc: Global, id: u64, added: &Record) -> Result<(), Memory>
+        requires { IdsAscend self.old }
         ensures { OnOk result (Adds self.old self.new id added.now) }
     {
         match added {
@@ -88,6 +89,7 @@ impl Index {
 
     /// Adds the id of a workspace.
     fn add_space(&mut self, alloc: Global, id: u64, space: &Space) -> Result<(), Memory>
+        requires { IdsAscend self.old }
         ensures { OnOk result (Adds self.old self.new id (records.Space space.now)) }
     {
         add_id(&mut self.all_spaces, id)?;
@@ -102,6 +104,7 @@ impl Index {
 
     /// Adds the id of a version.
     fn add_version(&mut self, alloc: Global, id: u64, version: &Version) -> Result<(), Memory>
+        requires { IdsAscend self.old }
         ensures { OnOk result (Adds self.old self.new id (records.Version version.now)) }
     {
         add_to(alloc, &mut self.owned, version.space, id)?;
@@ -112,6 +115,7 @@ impl Index {
 
     /// Adds the id of a savepoint.
     fn add_savepoint(&mut self, alloc: Global, id: u64, savepoint: &Savepoint) -> Result<(), Memory>
+        requires { IdsAscend self.old }
         ensures { OnOk result (Adds self.old self.new id (records.Savepoint savepoint.now)) }
     {
         add_to(alloc, &mut self.owned, savepoint.space, id)?;
@@ -126,6 +130,7 @@ impl Index {
 
     /// Adds the id of a piece.
     fn add_piece(&mut self, alloc: Global, id: u64, piece: &PieceRecord) -> Result<(), Memory>
+        requires { IdsAscend self.old }
         ensures { OnOk result (Adds self.old self.new id (records.Piece piece.now)) }
     {
         add_to(alloc, &mut self.pieces_in, piece.version, id)?;
@@ -135,6 +140,7 @@ impl Index {
 
     /// Adds the id of a touch.
     fn add_touch(&mut self, alloc: Global, id: u64, touch: &Trace) -> Result<(), Memory>
+        requires { IdsAscend self.old }
         ensures { OnOk result (Adds self.old self.new id (records.Touch touch.now)) }
     {
         add_to(alloc, &mut self.owned, touch.space, id)?;
@@ -144,6 +150,7 @@ impl Index {
 
     /// Drops the id of a record.
     pub fn drop_record(&mut self, alloc: Global, id: u64, dropped: &Record) -> Result<(), Memory>
+        requires { IdsAscend self.old }
         ensures { OnOk result (Drops self.old self.new id dropped.now) }
     {
         match dropped {
@@ -170,6 +177,7 @@ impl Index {
 
     /// Drops the id of a workspace.
     fn drop_space(&mut self, id: u64, space: &Space) -> Result<(), Memory>
+        requires { IdsAscend self.old }
         ensures { OnOk result (Drops self.old self.new id (records.Space space.now)) }
     {
         drop_id(&mut self.all_spaces, id);
@@ -184,6 +192,7 @@ impl Index {
 
     /// Drops the id of a version.
     fn drop_version(&mut self, id: u64, version: &Version) -> Result<(), Memory>
+        requires { IdsAscend self.old }
         ensures { OnOk result (Drops self.old self.new id (records.Version version.now)) }
     {
         drop_from(&mut self.owned, version.space, id)?;
@@ -194,6 +203,7 @@ impl Index {
 
     /// Drops the id of a savepoint.
     fn drop_savepoint(&mut self, id: u64, savepoint: &Savepoint) -> Result<(), Memory>
+        requires { IdsAscend self.old }
         ensures { OnOk result (Drops self.old self.new id (records.Savepoint savepoint.now)) }
     {
         drop_from(&mut self.owned, savepoint.space, id)?;
@@ -208,6 +218,7 @@ impl Index {
 
     /// Drops the id of a piece.
     fn drop_piece(&mut self, alloc: Global, id: u64, piece: &PieceRecord) -> Result<(), Memory>
+        requires { IdsAscend self.old }
         ensures { OnOk result (Drops self.old self.new id (records.Piece piece.now)) }
     {
         drop_from(&mut self.pieces_in, piece.version, id)?;
@@ -217,6 +228,7 @@ impl Index {
 
     /// Drops the id of a touch.
     fn drop_touch(&mut self, alloc: Global, id: u64, touch: &Trace) -> Result<(), Memory>
+        requires { IdsAscend self.old }
         ensures { OnOk result (Drops self.old self.new id (records.Touch touch.now)) }
     {
         drop_from(&mut self.owned, touch.space, id)?;
