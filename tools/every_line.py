@@ -26,6 +26,18 @@ B: EXECUTE DBMS_WM.GotoSavepoint('S')
 B: INSERT INTO BUD VALUES (4, 40, 'late')
 B: SELECT ID, AMT FROM BUD
 B: EXECUTE DBMS_WM.GotoSavepoint()
+B: EXECUTE DBMS_WM.CreateSavepoint('W', 'T')
+B: UPDATE BUD SET AMT = 0
+A: EXECUTE DBMS_WM.RollbackToSP('LIVE', 'LATEST')
+A: EXECUTE DBMS_WM.RollbackToSP('W', 'S')
+A: EXECUTE DBMS_WM.RollbackToSP('W', 'S')
+A: EXECUTE DBMS_WM.RollbackToSP('W', 'T')
+A: EXECUTE DBMS_WM.CreateWorkspace('V')
+B: EXECUTE DBMS_WM.GotoWorkspace('V')
+B: INSERT INTO BUD VALUES (5, 50, 'for nothing')
+A: EXECUTE DBMS_WM.RemoveWorkspace('V')
+B: EXECUTE DBMS_WM.GotoWorkspace('W')
+A: EXECUTE DBMS_WM.RemoveWorkspace('V')
 A: EXECUTE DBMS_WM.SetValidTime(DATE '2020-01-01', DATE '2030-01-01')
 A: INSERT INTO EMP VALUES ('Ada', 30)
 A: INSERT INTO EMP VALUES ('Bob', 20)
@@ -53,6 +65,10 @@ Z: SELECT * FROM EMP
 Z: EXECUTE DBMS_WM.GotoSavepoint('S')
 Z: SELECT * FROM BUD
 Z: SELECT * FROM EMP
+Z: EXECUTE DBMS_WM.GotoSavepoint('T')
+Z: SELECT * FROM BUD
+Z: EXECUTE DBMS_WM.GotoWorkspace('V')
+Z: SELECT * FROM BUD
 """
 
 # What was made is refused.

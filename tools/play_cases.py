@@ -16,6 +16,7 @@ start, so most cases begin with 'init'. A line of a case is
     @ same NAME         the file is the one that was saved as NAME
     @ count TAG N       there are N records of the tag
     @ is TAG N HEX      the N-th record of a tag, in order of ids from 1, has these bytes (given with blanks between them)
+    @ has HEX | lacks HEX    some record has these bytes, or none has
     @ set TAG N AT HEX  bytes of such a record, from AT on, become these
     @ add HEX           a record of these bytes is added (given with blanks between them)
 
@@ -169,6 +170,9 @@ def otherwise(store, words):
     if words[0] == "count":
         count = sum(1 for at, _ in slots(file).values() if file[at] == int(words[1]))
         return None if count == int(words[2]) else f"there are {count}"
+    if words[0] in ("has", "lacks"):
+        is_there = bytes.fromhex("".join(words[1:])) in records(file).values()
+        return None if is_there == (words[0] == "has") else "it is there" if is_there else "there is none"
     at, size = placed(file, words[1], words[2])
     return None if file[at:at + size] == bytes.fromhex("".join(words[3:])) else f"the record is {file[at:at + size].hex(' ')}"
 
@@ -200,7 +204,7 @@ def play(program, path):
     with tempfile.TemporaryDirectory() as folder:
         store = Path(folder) / "s.store"
         for step in read_case(path):
-            if isinstance(step, list) and step[0] in ("few", "same", "count", "is"):
+            if isinstance(step, list) and step[0] in ("few", "same", "count", "is", "has", "lacks"):
                 why = otherwise(store, step)
                 if why is not None:
                     return f"{path}: @ {' '.join(step)}: {why}"

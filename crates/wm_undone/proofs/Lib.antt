@@ -16,3 +16,4 @@ pub mod RemovingBatch
 pub mod Dropped
 pub mod DraftedBack
 pub mod DraftedRemoved
+pub mod FirstChild
