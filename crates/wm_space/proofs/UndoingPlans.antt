@@ -1,21 +1,17 @@
 -- What is told of the plans by which a workspace goes back to a savepoint, and by which it goes.
-use Rattle.std.proofs.Common.{arith, ◌≡◌, ℕ, ◌+◌, ◌≤◌, ◌^◌, ◌==◌, nat_lt, nat_le, Bool, true, false, not, ◌&&◌, ◌||◌, List, [], ◌∷◌, Option, Some, None, Result, Ok, Err, IfOk, refl, sym, ap, ◌∙◌}
-use Rattle.std.specs.List.{find}
-use Rattle.std.specs.Option.{option_map_or}
+use Rattle.std.proofs.Common.{arith, ◌≡◌, ℕ, ◌≤◌, ◌^◌, ◌==◌, nat_le, true, ◌&&◌, List, [], ◌∷◌, Some, None, Result, Ok, Err, IfOk, ap}
 use Rattle.wm_base.specs.declared.memory.Memory.{Memory}
 use Rattle.wm_graph.specs.Parts.{Parts, parts_of, space_of}
 use Rattle.wm_graph.specs.Rules.{is_placed, is_short, is_space, keep_rules}
 use Rattle.wm_model.specs.Planning.{Does, Stay}
-use Rattle.wm_model.specs.Step.{dependent_child, has_child, rebased_since, remove_workspace, rollback_to, session_inside}
-use Rattle.wm_model.specs.Step.Refusing.{refusal_of}
-use Rattle.wm_model.specs.Undone.{NamesSpace, RollsIn, removing_refusal, rolling_refusal, sits_behind}
+use Rattle.wm_model.specs.Step.{remove_workspace, rollback_to}
+use Rattle.wm_model.specs.Undone.{NamesSpace, RollsIn, removing_refusal, rolling_refusal}
 use Rattle.wm_print.specs.Texts.{Answer, Fine}
 use Rattle.wm_spec.specs.declared.record.savepoint.Savepoint.{Savepoint}
 use Rattle.wm_spec.specs.declared.record.space.Space.{Space}
 use Rattle.wm_spec.specs.declared.record.stored.Stored.{Stored}
-use Rattle.wm_state.specs.Firsts.{first_recorded, is_behind, is_child_from}
 use Rattle.wm_state.specs.Standing.{saved_as}
-use Rattle.wm_state.specs.State.{Session, Latest, At, State}
+use Rattle.wm_state.specs.State.{Session, State}
 use Rattle.wm_state.specs.declared.edit.Edit.{Edit}
 use Rattle.wm_state.proofs.Apart.{found-passes}
 use Rattle.wm_state.proofs.Named.{saved_there}
@@ -28,30 +24,7 @@ use Rattle.wm_plan.specs.declared.answer.Answer.TheVariants as answers
 use Rattle.wm_plan.specs.declared.planned.Planned.{Planned}
 use Rattle.wm_plan.specs.declared.seating.Seating.TheVariants as seatings
 
--- ---- where a session stands
-
-pub sits_newest : (p : Parts) (n : ℕ) (x : Savepoint) (session : Session) → session.stand ≡ Latest → sits_behind p n x session ≡ false
-sits_newest p n x session stands = rw stands (neither (session.space == n))
-  where
-    neither : (b : Bool) → (b && false) ≡ false
-    neither true = refl
-    neither false = refl
-
-pub sits_elsewhere : (p : Parts) (n : ℕ) (x : Savepoint) (session : Session) → (session.space == n) ≡ false → sits_behind p n x session ≡ false
-sits_elsewhere p n x session away = rw away refl
-
-pub sits_at : (p : Parts) (n making : ℕ) (x : Savepoint) (session : Session) (o : Option Savepoint) → session.stand ≡ At making → (session.space == n) ≡ true → saved_as p n making ≡ o
-    → sits_behind p n x session ≡ option_map_or (is_behind x.place x.log_length) o false
-sits_at p n making x session o stands here found = rw (stands, here) (ap (λ q. option_map_or (is_behind x.place x.log_length) q false) found)
-
--- one is behind another where its place or its log is
-pub behind_either : (x y : Savepoint) → (nat_lt x.place y.place || nat_lt x.log_length y.log_length) ≡ is_behind x.place x.log_length y
-behind_either x y = by_tests x.place y.place x.log_length y.log_length
-  where
-    by_tests : (a b c d : ℕ) → (nat_lt a b || nat_lt c d) ≡ not (nat_le b a && nat_le d c)
-    by_tests a b c d = grind arith
-
--- ---- what going back is refused for
+-- ---- logs
 
 -- the log of a savepoint has an end
 pub log_bounded : (p : Parts) (n making : ℕ) (x : Savepoint) → keep_rules p ≡ true → saved_as p n making ≡ Some x → x.log_length ≤ 2 ^ 62
@@ -65,33 +38,6 @@ log_bounded p n making x rules saved =
   where
     under : (a b c : ℕ) → nat_le a b ≡ true → nat_le b c ≡ true → a ≤ c
     under a b c le also = grind (arith, le, also)
-
-pub rolling_inside : (p : Parts) (xs : List Session) (a : Space) (x : Savepoint) (session : Session) → find (sits_behind p a.number x) xs ≡ Some session → refusal_of (session_inside a.name session.name) ≡ rolling_refusal p xs a x
-rolling_inside p xs a x session some = rw some refl
-
-pub rolling_child : (p : Parts) (xs : List Session) (a child : Space) (x : Savepoint) → find (sits_behind p a.number x) xs ≡ None → first_recorded (is_child_from a.number (x.place + 1) (x.log_length + 1)) p.spaces ≡ Some child
-    → refusal_of (dependent_child child.name) ≡ rolling_refusal p xs a x
-rolling_child p xs a child x none some = rw (none, some) refl
-
-pub rolling_rebased : (p : Parts) (xs : List Session) (a : Space) (x : Savepoint) → find (sits_behind p a.number x) xs ≡ None → first_recorded (is_child_from a.number (x.place + 1) (x.log_length + 1)) p.spaces ≡ None
-    → (x.rebases == a.rebases) ≡ false → refusal_of (rebased_since x.name) ≡ rolling_refusal p xs a x
-rolling_rebased p xs a x none childless since = rw (none, childless, since) refl
-
-pub rolling_clear : (p : Parts) (xs : List Session) (a : Space) (x : Savepoint) → find (sits_behind p a.number x) xs ≡ None → first_recorded (is_child_from a.number (x.place + 1) (x.log_length + 1)) p.spaces ≡ None
-    → (x.rebases == a.rebases) ≡ true → None ≡ rolling_refusal p xs a x
-rolling_clear p xs a x none childless same = rw (none, childless, same) refl
-
--- ---- what removal is refused for
-
-pub removing_inside : (p : Parts) (xs : List Session) (a : Space) (session : Session) → find (λ (x : Session). x.space == a.number) xs ≡ Some session → refusal_of (session_inside a.name session.name) ≡ removing_refusal p xs a
-removing_inside p xs a session some = rw some refl
-
-pub removing_child : (p : Parts) (xs : List Session) (a child : Space) → find (λ (x : Session). x.space == a.number) xs ≡ None → first_recorded (is_child_from a.number 0 0) p.spaces ≡ Some child
-    → refusal_of (has_child a.name child.name) ≡ removing_refusal p xs a
-removing_child p xs a child none some = rw (none, some) refl
-
-pub removing_clear : (p : Parts) (xs : List Session) (a : Space) → find (λ (x : Session). x.space == a.number) xs ≡ None → first_recorded (is_child_from a.number 0 0) p.spaces ≡ None → None ≡ removing_refusal p xs a
-removing_clear p xs a none childless = rw (none, childless) refl
 
 -- ---- the plans
 
