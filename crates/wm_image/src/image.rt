@@ -264,7 +264,11 @@ impl Image {
             place: u64::from(place),
             log_length,
         };
-        any_behind(&self.kept, ids_of(&self.index.savepoints_of, &space), behind)
+        any_behind(
+            &self.kept,
+            ids_of(&self.index.savepoints_of, &space),
+            behind,
+        )
     }
 
     /// The making after the greatest of a savepoint, 1 where there is none.

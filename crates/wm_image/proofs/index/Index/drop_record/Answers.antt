@@ -8,16 +8,16 @@ pub drop_id-requires-in-Table : goal.drop_id-requires-in-Table
 drop_id-requires-in-Table c = c.requires Tables
 
 pub drop_from-requires : goal.drop_from-requires
-drop_from-requires c = c.requires (RowAt c.in-Row.row.now.stamp)
+drop_from-requires c = c.requires (RowAt c.in-Row.row.stamp)
 
 pub drop_from-requires-in-Lock : goal.drop_from-requires-in-Lock
-drop_from-requires-in-Lock c = c.requires (OwnedBy c.in-Lock.lock.now.space)
+drop_from-requires-in-Lock c = c.requires (OwnedBy c.in-Lock.lock.space)
 
 pub drop_from-requires-in-Hist : goal.drop_from-requires-in-Hist
-drop_from-requires-in-Hist c = c.requires (OwnedBy c.in-Hist.hist.now.space)
+drop_from-requires-in-Hist c = c.requires (OwnedBy c.in-Hist.hist.space)
 
 pub drop_from-requires-in-Mark : goal.drop_from-requires-in-Mark
-drop_from-requires-in-Mark c = c.requires (OwnedBy c.in-Mark.mark.now.space)
+drop_from-requires-in-Mark c = c.requires (OwnedBy c.in-Mark.mark.space)
 
 pub drop_from-requires-in-Turn : goal.drop_from-requires-in-Turn
-drop_from-requires-in-Turn c = c.requires (OwnedBy c.in-Turn.turn.now.space)
+drop_from-requires-in-Turn c = c.requires (OwnedBy c.in-Turn.turn.space)
