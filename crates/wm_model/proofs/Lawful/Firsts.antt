@@ -87,7 +87,7 @@ no_faults (Some refusal ∷ others) none = absurd (cc)
 -- nothing was found that is refused for
 pub none_refused : {A : Type 0} (tells : A → Answer) → ((x : A) → is_some (refusal_of (tells x)) ≡ true) → (o : Option A) → refused_for tells o ≡ None → o ≡ None
 none_refused tells refuses None e = refl
-none_refused tells refuses (Some x) e = absurd (let there : is_some (refusal_of (tells x)) ≡ true = refuses x in cc)
+none_refused tells refuses (Some x) e = absurd (let refused : is_some (refusal_of (tells x)) ≡ true = refuses x in cc)
 
 pub not_refused : (test : Bool) (answer : Answer) → is_some (refusal_of answer) ≡ true → refused_if test answer ≡ None → test ≡ false
 not_refused true answer refuses e = absurd (cc)

@@ -127,7 +127,7 @@ lawful_born m w stand name implicit_name k d l found is =
     let fit = fits m d.spaces w stand implicit_name true (w.next_implicit + 1) k lawful is in
     record {
       spaces = spaces_more (with_space w.number act d.spaces) child t.spaces (c.swap.others (next_space d.spaces) (λ e. absurd (omega (arith, older, e))) ∙ none_at d.spaces) (child_lawful m d.spaces w k name older)
-          (child_based m d.spaces (with_space w.number act d.spaces) w (act w) k name c.swap.there older fit.mark);
+          (child_based m d.spaces (with_space w.number act d.spaces) w (act w) k name c.swap.now older fit.mark);
       entries = record { tells = l.entries.tells; each = all_more P m d.spaces (with_space w.number act d.spaces) w k name all mark };
     }
 

@@ -80,13 +80,13 @@ goes_saved place implicit k w = record {
 -- of one number another workspace is found than before, and of each other one the same
 pub record Swapped (ws vs : List Workspace) (n : ℕ) (w v : Workspace) : Type 0 where
   pub was : workspace_of ws n ≡ Some w
-  pub there : workspace_of vs n ≡ Some v
+  pub now : workspace_of vs n ≡ Some v
   pub others : (m : ℕ) → m ≢ n → workspace_of vs m ≡ workspace_of ws m
 
 pub swapped : (ws : List Workspace) (n : ℕ) (act : Workspace → Workspace) (w : Workspace) → ((x : Workspace) → (act x).number ≡ x.number) → workspace_of ws n ≡ Some w → Swapped ws (with_space n act ws) n w (act w)
 swapped ws n act w same found = record {
   was = found;
-  there = workspace_of-changed n act same ws n ∙ rw (eq-eqb n n refl, found) refl;
+  now = workspace_of-changed n act same ws n ∙ rw (eq-eqb n n refl, found) refl;
   others = λ m other. workspace_of-changed n act same ws m ∙ rw (ne_eqb m n other) refl;
 }
 
@@ -94,7 +94,7 @@ pub found_swapped : (ws vs : List Workspace) (n : ℕ) (w v : Workspace) → Swa
 found_swapped ws vs n w v k m x found = by_number (cases_eq m n)
   where
     by_number : (m ≡ n) ⊎ (m ≢ n) → ((m ≡ n) × (x ≡ v)) ⊎ ((m ≢ n) × (workspace_of ws m ≡ Some x))
-    by_number (inl here) = inl (here, one_some x v (sym found ∙ ap (workspace_of vs) here ∙ k.there))
+    by_number (inl here) = inl (here, one_some x v (sym found ∙ ap (workspace_of vs) here ∙ k.now))
     by_number (inr other) = inr (other, sym (k.others m other) ∙ found)
 
 -- a workspace becomes one that stands on its parent as it did: what its children took of it is in the log of both, and they are alike at
@@ -134,7 +134,7 @@ based_become ws vs n w v x y k child number parent from turns b = by_parent (cas
         let within : x.from ≤ length v.lists.log = child here in
         record {
           parent = v;
-          is = rw (parent, here) k.swap.there;
+          is = rw (parent, here) k.swap.now;
           older = older;
           within = rw from within;
           before = λ i t found. rw (from, k.rebases, ← (ap (λ (u : Workspace). u.rebases) same)) (b.before i t (turn i t found));
@@ -153,7 +153,7 @@ spaces_become ws vs n w v l k once lawful = record {
 }
   where
     live : (0 ≡ n) ⊎ (0 ≢ n) → is_some (workspace_of vs 0) ≡ true
-    live (inl here) = rw (here, k.swap.there) refl
+    live (inl here) = rw (here, k.swap.now) refl
     live (inr other) = rw (k.swap.others 0 other) l.live
 
     each : (m : ℕ) (x : Workspace) → ((m ≡ n) × (x ≡ v)) ⊎ ((m ≢ n) × (workspace_of ws m ≡ Some x)) → LawfulSpace x
@@ -192,21 +192,24 @@ kept_becomes ws vs n w v l k = record {
 pub spaces_kept : (ws vs : List Workspace) (n : ℕ) (w v : Workspace) → LawfulSpaces ws → Kept ws vs n w v → differ one_number vs ≡ true → LawfulSpace v → LawfulSpaces vs
 spaces_kept ws vs n w v l k once lawful = spaces_become ws vs n w v l (kept_becomes ws vs n w v l k) once lawful
 
--- where sessions stand stays there
+-- where one stands stays, where it does in the workspace that is another now
+pub place_swapped : (ws vs : List Workspace) (n : ℕ) (w v : Workspace) (m : ℕ) (stand : Stand) → Swapped ws vs n w v → (m ≡ n → IsAt w stand → IsAt v stand) → IsPlace ws m stand → IsPlace vs m stand
+place_swapped ws vs n w v m stand swap at p = by_number (cases_eq m n)
+  where
+    by_number : (m ≡ n) ⊎ (m ≢ n) → IsPlace vs m stand
+    by_number (inl here) = record {
+      space = v;
+      is = rw here swap.now;
+      stands = at here (subst (λ (x : Workspace). IsAt x stand) (one_some p.space w (sym p.is ∙ ap (workspace_of ws) here ∙ swap.was)) p.stands);
+    }
+    by_number (inr other) = record { space = p.space; is = swap.others m other ∙ p.is; stands = p.stands }
+
 place_kept : (ws vs : List Workspace) (n : ℕ) (w v : Workspace) (m : ℕ) (stand : Stand) → Kept ws vs n w v → IsPlace ws m stand → IsPlace vs m stand
-place_kept ws vs n w v m stand k p = by_number (cases_eq m n)
+place_kept ws vs n w v m stand k p = place_swapped ws vs n w v m stand k.swap (λ here. at stand) p
   where
     at : (stand : Stand) → IsAt w stand → IsAt v stand
     at Latest there = tt
     at (At making) there = k.goes.marks making there
-
-    by_number : (m ≡ n) ⊎ (m ≢ n) → IsPlace vs m stand
-    by_number (inl here) = record {
-      space = v;
-      is = rw here k.swap.there;
-      stands = at stand (subst (λ (x : Workspace). IsAt x stand) (one_some p.space w (sym p.is ∙ ap (workspace_of ws) here ∙ k.swap.was)) p.stands);
-    }
-    by_number (inr other) = record { space = p.space; is = k.swap.others m other ∙ p.is; stands = p.stands }
 
 pub seats_kept : (ws vs : List Workspace) (n : ℕ) (w v : Workspace) (xs : List Session) → Kept ws vs n w v → Seats ws xs → Seats vs xs
 seats_kept ws vs n w v [] k s = tt

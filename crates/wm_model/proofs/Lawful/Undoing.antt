@@ -1,5 +1,5 @@
 -- A workspace that goes back to one of its savepoints, and workspaces of which one goes, leave a lawful state.
-use Rattle.std.proofs.Common.{◌≡◌, ◌≢◌, ℕ, zero, suc, ◌<◌, ◌≤◌, ◌==◌, Bool, true, false, not, ◌&&◌, nat_le, nat_lt, if◌then◌else◌, List, [], ◌∷◌, ◌++◌, length, take, drop, Option, Some, None, is_some, refl, sym, ap, ◌∙◌, subst, append_assoc, arith, ◌⊎◌, inl, inr}
+use Rattle.std.proofs.Common.{◌≡◌, ◌≢◌, ℕ, zero, suc, ◌<◌, ◌≤◌, ◌==◌, Bool, true, false, not, ◌&&◌, nat_le, nat_lt, if◌then◌else◌, List, [], ◌∷◌, ◌++◌, length, take, drop, Option, Some, None, is_some, refl, sym, ap, ◌∙◌, append_assoc, arith, ◌⊎◌, inl, inr}
 use Rattle.std.proofs.lemmas.Bool.{cases_eq, eq-eqb, eqb-true, leb-true, ne_eqb}
 use Rattle.std.proofs.lemmas.Bool.Decides.{nat_tests}
 use Rattle.std.proofs.lemmas.List.{append_cancel_right, drop-append-le, length-take-le, take-append-drop}
@@ -20,8 +20,8 @@ use Rattle.wm_model.specs.Step.{Answer, State, dependent_child, depends, first_f
 use Rattle.wm_model.proofs.Lawful.Entries.{all_swapped}
 use Rattle.wm_model.proofs.Lawful.Firsts.{no_faults, none_inside, none_named, none_refused, not_refused}
 use Rattle.wm_model.proofs.Lawful.Leaves.{Leaves, leaves_durably, leaves_if, leaves_with_named, stays}
-use Rattle.wm_model.proofs.Lawful.Lists.{found_both, one_some}
-use Rattle.wm_model.proofs.Lawful.Spaces.{Becomes, Swapped, number_is, spaces_become, swapped}
+use Rattle.wm_model.proofs.Lawful.Lists.{found_both}
+use Rattle.wm_model.proofs.Lawful.Spaces.{Becomes, Swapped, number_is, place_swapped, spaces_become, swapped}
 
 -- ---- sessions that pass no test
 
@@ -36,7 +36,7 @@ not_false false e = absurd (bool_apart e)
 not_less : (a b : ℕ) → nat_lt a b ≡ false → b ≤ a
 not_less a b e = grind (arith, nat_tests, e)
 
--- where each session stands is there still, where it is for each that fails a test, and all fail
+-- where each session stands stays, where it does for each that fails a test, and all fail
 seats_unless : (ws vs : List Workspace) (test : Session → Bool) → ((x : Session) → test x ≡ false → IsPlace ws x.space x.stand → IsPlace vs x.space x.stand) → (xs : List Session) → list_any test xs ≡ false → Seats ws xs → Seats vs xs
 seats_unless ws vs test to [] none s = tt
 seats_unless ws vs test to (x ∷ xs) none s = let h = either_false (test x) (list_any test xs) none in (to x h.0 s.0, seats_unless ws vs test to xs h.1 s.1)
@@ -111,11 +111,11 @@ took_less w x k here other none =
 
 becomes_restored : (w : Workspace) (P : Savepoint → Bool) (k : Savepoint) (d : Durable) → Lawful d → workspace_of d.spaces w.number ≡ Some w → find P w.savepoints ≡ Some k → k.rebases ≡ w.rebases → NoneDepends d w k
     → Becomes d.spaces (with_space w.number (restored k) d.spaces) w.number w (restored k w)
-becomes_restored w P k d l there found same none =
-    let m = (l.spaces.each w.number w there).marks P k found in
+becomes_restored w P k d l known found same none =
+    let m = (l.spaces.each w.number w known).marks P k found in
     let cut : length (take k.log_length w.lists.log) ≡ k.log_length = length-take-le k.log_length w.lists.log m.within in
     record {
-      swap = swapped d.spaces w.number (restored k) w (λ _. refl) there;
+      swap = swapped d.spaces w.number (restored k) w (λ _. refl) known;
       number = refl;
       parent = refl;
       from = (m.base same).1;
@@ -129,47 +129,40 @@ becomes_restored w P k d l there found same none =
 
 lawful_restored : (w : Workspace) (P : Savepoint → Bool) (k : Savepoint) (d : Durable) → Lawful d → workspace_of d.spaces w.number ≡ Some w → find P w.savepoints ≡ Some k → k.rebases ≡ w.rebases → NoneDepends d w k
     → Lawful (restored_in w.number d k)
-lawful_restored w P k d l there found same none =
+lawful_restored w P k d l known found same none =
     let vs = with_space w.number (restored k) d.spaces in
-    let b = becomes_restored w P k d l there found same none in
+    let b = becomes_restored w P k d l known found same none in
     record {
-      spaces = spaces_become d.spaces vs w.number w (restored k w) l.spaces b (differ-changed w.number (restored k) (λ _. refl) d.spaces ∙ l.spaces.once) (space_restored w P k (l.spaces.each w.number w there) found same);
+      spaces = spaces_become d.spaces vs w.number w (restored k w) l.spaces b (differ-changed w.number (restored k) (λ _. refl) d.spaces ∙ l.spaces.once) (space_restored w P k (l.spaces.each w.number w known) found same);
       entries = record {
         tells = l.entries.tells;
-        each = all_swapped (IsSound l.entries.tells d.next_stamp) d.spaces vs w.number w (restored k w) l.entries.each b.swap (holds_restored (IsSound l.entries.tells d.next_stamp) P w k (l.entries.each w.number w there) found);
+        each = all_swapped (IsSound l.entries.tells d.next_stamp) d.spaces vs w.number w (restored k w) l.entries.each b.swap (holds_restored (IsSound l.entries.tells d.next_stamp) P w k (l.entries.each w.number w known) found);
       };
     }
 
 -- one stands so still, where a rollback leaves what one stands at
 stands_restored : (w : Workspace) (k : Savepoint) (stand : Stand) → would_go w k stand ≡ false → IsAt w stand → IsAt (restored k w) stand
-stands_restored w k Latest none there = tt
-stands_restored w k (At making) none there = by_savepoint (savepoint_made making w.savepoints) refl none there
+stands_restored w k Latest none stood = tt
+stands_restored w k (At making) none stood = by_savepoint (savepoint_made making w.savepoints) refl none stood
   where
     by_savepoint : (o : Option Savepoint) → savepoint_made making w.savepoints ≡ o → option_map_or (λ (j : Savepoint). not (stays_at k j)) o false ≡ false → is_some o ≡ true → is_some (savepoint_made making (restored k w).savepoints) ≡ true
-    by_savepoint None is none there = absurd (cc)
-    by_savepoint (Some j) is none there =
+    by_savepoint None is none stood = absurd (cc)
+    by_savepoint (Some j) is none stood =
         let P = λ (y : Savepoint). y.making == making in
         ap (λ (o : Option Savepoint). is_some o) (find-filter (stays_at k) P w.savepoints ∙ found_both (stays_at k) P w.savepoints j is (not_false (stays_at k j) none))
 
 place_restored : (ws vs : List Workspace) (w : Workspace) (k : Savepoint) (x : Session) → Swapped ws vs w.number w (restored k w) → stands_behind w k x ≡ false → IsPlace ws x.space x.stand → IsPlace vs x.space x.stand
-place_restored ws vs w k x swap none p = by_number (cases_eq x.space w.number)
-  where
-    by_number : (x.space ≡ w.number) ⊎ (x.space ≢ w.number) → IsPlace vs x.space x.stand
-    by_number (inl here) = record {
-      space = restored k w;
-      is = rw here swap.there;
-      stands = stands_restored w k x.stand (both_false (x.space == w.number) (would_go w k x.stand) none (eq-eqb x.space w.number here))
-          (subst (λ (v : Workspace). IsAt v x.stand) (one_some p.space w (sym p.is ∙ ap (workspace_of ws) here ∙ swap.was)) p.stands);
-    }
-    by_number (inr other) = record { space = p.space; is = swap.others x.space other ∙ p.is; stands = p.stands }
+place_restored ws vs w k x swap none p =
+    place_swapped ws vs w.number w (restored k w) x.space x.stand swap
+    (λ here. stands_restored w k x.stand (both_false (x.space == w.number) (would_go w k x.stand) none (eq-eqb x.space w.number here))) p
 
 leaves_restored : (w : Workspace) (P : Savepoint → Bool) (k : Savepoint) (s : State) (answer : Answer) → LawfulState s → workspace_of s.durable.spaces w.number ≡ Some w → find P w.savepoints ≡ Some k → k.rebases ≡ w.rebases → NoneDepends s.durable w k
     → list_any (stands_behind w k) s.sessions ≡ false → Leaves (record s { durable = restored_in w.number s.durable k }, answer)
-leaves_restored w P k s answer l there found same none away = record {
+leaves_restored w P k s answer l known found same none away = record {
   lawful = record {
-    durable = lawful_restored w P k s.durable l.durable there found same none;
+    durable = lawful_restored w P k s.durable l.durable known found same none;
     seats = seats_unless s.durable.spaces (with_space w.number (restored k) s.durable.spaces) (stands_behind w k)
-        (λ x out. place_restored s.durable.spaces (with_space w.number (restored k) s.durable.spaces) w k x (swapped s.durable.spaces w.number (restored k) w (λ _. refl) there) out)
+        (λ x out. place_restored s.durable.spaces (with_space w.number (restored k) s.durable.spaces) w k x (swapped s.durable.spaces w.number (restored k) w (λ _. refl) known) out)
         s.sessions away l.seats;
   };
 }
@@ -252,22 +245,22 @@ leaves_faultless None s done l d = d refl
 leaves_faultless (Some refusal) s done l d = stays s _ l
 
 leaves_roll_back : (w : Workspace) (P : Savepoint → Bool) (k : Savepoint) (s : State) → LawfulState s → workspace_of s.durable.spaces w.number ≡ Some w → find P w.savepoints ≡ Some k → first_fault (rolling_faults s w k) ≡ None → Leaves (roll_back w k s)
-leaves_roll_back w P k s l there found none =
+leaves_roll_back w P k s l known found none =
     let h = no_faults (rolling_faults s w k) none in
     let inside = none_refused (session_inside w.name) (λ _. refl) _ h.0 in
     let dependent = none_refused dependent_child (λ _. refl) _ h.1.0 in
     let rebased = not_refused (not (k.rebases == w.rebases)) (rebased_since k.name) refl h.1.1.0 in
     leaves_if (is_still w k) _ _ (stays s _ l)
     (leaves_durably s 0 _ l
-    (leaves_restored w P k s Fine l there found (eqb-true k.rebases w.rebases (not_false (k.rebases == w.rebases) rebased)) (none_named (depends w k) s dependent) (none_inside (stands_behind w k) s.sessions inside)))
+    (leaves_restored w P k s Fine l known found (eqb-true k.rebases w.rebases (not_false (k.rebases == w.rebases) rebased)) (none_named (depends w k) s dependent) (none_inside (stands_behind w k) s.sessions inside)))
 
 pub leaves_rollback_to : (workspace name : List ℕ) (s : State) → LawfulState s → Leaves (rollback_to workspace name s)
-leaves_rollback_to workspace name s l = leaves_with_named s workspace _ l (λ w there. by_savepoint w there (savepoint_named name w.savepoints) refl)
+leaves_rollback_to workspace name s l = leaves_with_named s workspace _ l (λ w known. by_savepoint w known (savepoint_named name w.savepoints) refl)
   where
     by_savepoint : (w : Workspace) → workspace_of s.durable.spaces w.number ≡ Some w → (o : Option Savepoint) → savepoint_named name w.savepoints ≡ o
         → Leaves (elim o as (λ _. State × Answer) [ None ↦ (s, no_savepoint name) | Some k ↦ unless (first_fault (rolling_faults s w k)) s (roll_back w k s) ])
-    by_savepoint w there None is = stays s _ l
-    by_savepoint w there (Some k) is = leaves_faultless (first_fault (rolling_faults s w k)) s _ l (leaves_roll_back w (λ (x : Savepoint). bytes_eq name x.name) k s l there is)
+    by_savepoint w known None is = stays s _ l
+    by_savepoint w known (Some k) is = leaves_faultless (first_fault (rolling_faults s w k)) s _ l (leaves_roll_back w (λ (x : Savepoint). bytes_eq name x.name) k s l known is)
 
 leaves_remove : (w : Workspace) (s : State) → LawfulState s → 0 < w.number → first_fault (removing_faults s w) ≡ None → Leaves (remove w s)
 leaves_remove w s l above none =
@@ -277,7 +270,7 @@ leaves_remove w s l above none =
     leaves_durably s 0 _ l (leaves_left w s Fine l above (none_named (is_child w) s child) (none_inside (stands_in w) s.sessions inside))
 
 pub leaves_remove_workspace : (name : List ℕ) (s : State) → LawfulState s → Leaves (remove_workspace name s)
-leaves_remove_workspace name s l = leaves_with_named s name _ l (λ w there. by_number w (cases_eq w.number 0))
+leaves_remove_workspace name s l = leaves_with_named s name _ l (λ w known. by_number w (cases_eq w.number 0))
   where
     by_number : (w : Workspace) → (w.number ≡ 0) ⊎ (w.number ≢ 0) → Leaves (if w.number == 0 then (s, no_parent name) else unless (first_fault (removing_faults s w)) s (remove w s))
     by_number w (inl live) = rw (eq-eqb w.number 0 live) (stays s _ l)
