@@ -36,9 +36,7 @@ fn sits_behind(image: &Image, space: u32, savepoint: &Savepoint, session: &Sessi
         return false;
     }
     match image.savepoint(space, making) {
-        Some(other) => {
-            other.place > savepoint.place || other.log_length > savepoint.log_length
-        }
+        Some(other) => { other.place > savepoint.place || other.log_length > savepoint.log_length }
         None => false,
     }
 }
