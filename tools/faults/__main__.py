@@ -57,7 +57,7 @@ def powers(moments, every):
 def try_run(told, room, fresh, every):
     lines = lines_of(SCRIPT)
     lines = [*lines[:-1], *WIDE, *lines[-1:]]
-    run = RunTries(room, fresh, Expected(room, fresh, lines), TAKEN)
+    run = RunTries(room, fresh, Expected(room, told.pool, fresh, lines), TAKEN)
     missing = {"open", "lock", "size", "seek", "read", "write", "sync", "take", "say"} - {call.kind for call in run.whole.calls}
     if missing or run.whole.status:
         raise SystemExit(f"the run ended with status {run.whole.status}, and the shim saw no call of {sorted(missing)}")

@@ -6,13 +6,12 @@ use Rattle.std.specs.Option.{option_map}
 use Rattle.std.specs.Str.{bytes_eq}
 use Rattle.wm_base.specs.declared.instant.TheConstants.{END}
 use Rattle.wm_base.specs.declared.refusal.Refusal.{Refusal as Fault}
-use Rattle.wm_graph.specs.Parts.{Parts, parts_of, space_of}
+use Rattle.wm_graph.specs.Parts.{parts_of, space_of}
 use Rattle.wm_graph.specs.Rules.{keep_rules}
-use Rattle.wm_print.specs.Texts.{Answer, Fine, Refused}
+use Rattle.wm_print.specs.Texts.{Fine, Refused}
 use Rattle.wm_spec.specs.declared.record.counters.Counters.{Counters}
 use Rattle.wm_spec.specs.declared.record.space.Space.{Space}
 use Rattle.wm_spec.specs.declared.record.stored.Stored.{Stored}
-use Rattle.wm_state.specs.Drafts.{CanRemove}
 use Rattle.wm_state.specs.Editing.{is_other, without}
 use Rattle.wm_state.specs.Firsts.{first_recorded, is_child_from}
 use Rattle.wm_state.specs.Standing.{SpaceFields}
@@ -22,15 +21,15 @@ use Rattle.wm_state.proofs.Apart.{found-passes}
 use Rattle.wm_state.proofs.Climbing.{parent_apart}
 use Rattle.wm_state.proofs.Mapped.{all-found}
 use Rattle.wm_state.proofs.Named.{space_number}
-use Rattle.wm_state.proofs.Spaces.{IsSpace, NamedSpace, named_no_space, ruled_spaces}
+use Rattle.wm_state.proofs.Spaces.{IsSpace, named_no_space, ruled_spaces}
 use Rattle.wm_state.proofs.Tests.{bool_apart, not_true}
 use Rattle.wm_model.specs.Planning.{StandsAt, Does, Stay}
-use Rattle.wm_model.specs.Step.{at_its_end, counter_limit, durably, first_fault, first_session, has_child, line_work, no_parent, no_workspace, refused_for, remove_workspace, session_inside, unless}
+use Rattle.wm_model.specs.Step.{at_its_end, counter_limit, first_fault, first_session, has_child, line_work, no_parent, no_workspace, refused_for, remove_workspace, session_inside, unless}
 use Rattle.wm_model.specs.Step.Undoing.{first_name, is_child, remove, removing_faults, stands_in}
 use Rattle.wm_model.specs.Undone.{NamesSpace, first_child, removing_refusal}
 use Rattle.wm_model.proofs.Doing.{does_edit, does_nothing, not_spent_at, spent_at}
 use Rattle.wm_model.proofs.FirstChild.{first_same, none_first}
-use Rattle.wm_model.proofs.RollingLine.{fields_stand, find_alike, home, named_numbered, pair}
+use Rattle.wm_model.proofs.RollingLine.{fields_stand, home, named_numbered, pair}
 
 -- ---- refusals by names
 
@@ -42,7 +41,7 @@ remove_homeless rs xs m workspace rules none =
 -- the line, by whether the workspace is LIVE
 by_number : (rs : List Stored) (xs : List Session) (m : ℕ) (workspace : List ℕ) (a : Space) (s : State) (names : NamesSpace rs workspace a) (st : StandsAt rs xs m s) (b : Bool) → (a.number == 0) ≡ b
     → let w : Workspace = (home rs xs m workspace a s names st).workspace in
-      remove_workspace workspace s ≡ cond b (s, no_parent workspace) (unless (first_fault (removing_faults s w)) s (remove w s))
+    remove_workspace workspace s ≡ cond b (s, no_parent workspace) (unless (first_fault (removing_faults s w)) s (remove w s))
 by_number rs xs m workspace a s names st b is =
     let h = home rs xs m workspace a s names st in
     rw (h.named) (ap (λ c. cond c (s, no_parent workspace) (unless (first_fault (removing_faults s h.workspace)) s (remove h.workspace s))) (ap (λ n. n == 0) h.is.number ∙ is))

@@ -1,22 +1,22 @@
 -- What RollbackToSP does to each state that the records stand for.
-use Rattle.std.proofs.Common.{arith, ◌≡◌, ℕ, ◌+◌, ◌==◌, nat_lt, nat_le, Bool, true, false, not, ◌&&◌, ◌||◌, cond, List, [], ◌∷◌, length, Option, Some, None, unwrap_or, refl, sym, ap, ◌∙◌, codes}
+use Rattle.std.proofs.Common.{arith, ◌≡◌, ℕ, ◌+◌, ◌==◌, nat_lt, nat_le, Bool, true, false, not, ◌&&◌, ◌||◌, cond, List, [], ◌∷◌, Option, Some, None, unwrap_or, refl, sym, ap, ◌∙◌, codes}
 use Rattle.std.proofs.lemmas.Bool.{eq-eqb, eqb-true}
-use Rattle.std.specs.List.{find, list_all, list_any}
+use Rattle.std.specs.List.{find, list_all}
 use Rattle.std.specs.Option.{option_map, option_map_or}
 use Rattle.std.specs.Str.{bytes_eq}
 use Rattle.wm_base.specs.declared.instant.TheConstants.{END}
 use Rattle.wm_base.specs.declared.refusal.Refusal.{Refusal as Fault}
 use Rattle.wm_graph.specs.Parts.{Parts, parts_of, space_of}
 use Rattle.wm_graph.specs.Rules.{differ, keep_rules}
-use Rattle.wm_print.specs.Texts.{Answer, Fine, Refused}
+use Rattle.wm_print.specs.Texts.{Fine, Refused}
 use Rattle.wm_spec.specs.declared.record.counters.Counters.{Counters}
 use Rattle.wm_spec.specs.declared.record.savepoint.Savepoint.{Savepoint as Record}
 use Rattle.wm_spec.specs.declared.record.space.Space.{Space}
 use Rattle.wm_spec.specs.declared.record.stored.Stored.{Stored}
 use Rattle.wm_state.specs.Editing.{restored_in, stays_at}
-use Rattle.wm_state.specs.Firsts.{is_behind, is_child_from, is_saved_behind}
+use Rattle.wm_state.specs.Firsts.{is_behind, is_child_from}
 use Rattle.wm_state.specs.Standing.{FieldsStand, SavepointFields, SpaceFields, Stands, fields_in, fields_of, fields_saved, saved_as, saved_fields, saved_in}
-use Rattle.wm_state.specs.State.{Durable, Savepoint, Session, Stand, State, Latest, At, Workspace, savepoint_made, savepoint_named, savepoints_of, workspace_of}
+use Rattle.wm_state.specs.State.{Durable, Savepoint, Session, Stand, State, Latest, At, Workspace, savepoint_made, savepoints_of, workspace_of}
 use Rattle.wm_state.specs.declared.edit.Edit.TheVariants as edits
 use Rattle.wm_state.proofs.Apart.{ruled}
 use Rattle.wm_state.proofs.Frames.{savepoints_of-found}

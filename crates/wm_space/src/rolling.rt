@@ -1,5 +1,5 @@
 //! RollbackToSP.
-ghost use Rattle.std.specs.Prelude.{◌≡◌, ◌<◌, ◌&&◌, ℕ, List, true, false, Some, None, IfOk};
+ghost use Rattle.std.specs.Prelude.{◌≡◌, ◌<◌, ℕ, List, true, Some, None, IfOk};
 ghost use Rattle.std.specs.Option.{option_copied};
 ghost use Rattle.std.specs.List.{find};
 ghost use Rattle.wm_base.specs.declared.instant.TheConstants.{END};
@@ -36,9 +36,7 @@ fn sits_behind(image: &Image, space: u32, savepoint: &Savepoint, session: &Sessi
         return false;
     }
     match image.savepoint(space, making) {
-        Some(other) => {
-            other.place > savepoint.place || other.log_length > savepoint.log_length
-        }
+        Some(other) => { other.place > savepoint.place || other.log_length > savepoint.log_length }
         None => false,
     }
 }

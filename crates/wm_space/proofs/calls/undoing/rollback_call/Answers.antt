@@ -1,8 +1,7 @@
-use Rattle.std.proofs.Common.{◌≡◌, ℕ, List, [], Option, Some, unwrap_or, sym, ap, ◌∙◌}
-use Rattle.std.specs.Str.{bytes_eq}
+use Rattle.std.proofs.Common.{ℕ, List, [], Option, Some, unwrap_or, sym, ap, ◌∙◌}
 use Rattle.wm_calls.specs.Faults.{argument_fault}
 use Rattle.wm_grammar.specs.declared.procedure.Procedure.TheVariants as procedures
-use Rattle.wm_model.specs.Step.{call, latest, mistyped, reserved_name, rollback_to}
+use Rattle.wm_model.specs.Step.{call, mistyped, reserved_name, rollback_to}
 use Rattle.wm_plan.proofs.Planning.{does_here, refused}
 use Rattle.wm_plan.specs.Views.{answer_view}
 use Rattle.wm_space.proofs.Calling.{rollback_lacks, rollback_newest, rollback_mistyped, rollback_done}
