@@ -47,7 +47,7 @@ has_one q ss sorted o is = by_record (record_at ss o) refl
     by_record (Some r) some = record { one = r; found = some; passes = sym (told-with q ss sorted o r some) ∙ is }
 
 -- a record is a piece that stands in another, which is a version
-takes : Option Record → Record → Bool
+abbrev takes : Option Record → Record → Bool
 takes (Some (records.Version v)) r = is_sought (PiecesIn v.number) r
 takes _ r = false
 
