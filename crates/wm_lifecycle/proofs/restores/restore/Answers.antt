@@ -5,18 +5,18 @@ use Rattle.wm_state.specs.Standing.{saved_as}
 use Rattle.wm_undone.specs.Restoring.{restored_to}
 use Rattle.wm_changes.proofs.Placed.{looked_up, places_of, version_fits}
 use Rattle.wm_lifecycle.proofs.GoneBack.{drafts_back, restoring_is}
-use Rattle.wm_lifecycle.proofs.restores.restore.Goals.{In_ok-push}
+use Rattle.wm_lifecycle.proofs.restores.restore.Goals.{After-drop-dropped-2}
 use Rattle.wm_lifecycle.proofs.restores.restore.Goals as goal
 
 pub versioned-counted-requires-clause-versions : goal.versioned-counted-requires-clause-versions
 versioned-counted-requires-clause-versions c = version_fits (parts_of c.args.image.now) c.counters-counters.result c.requires.rules c.counters-counters.ensures
 
 -- the workspace is that of the number
-found : (c : In_ok-push) → space_of (parts_of c.args.image.now).spaces c.args.space ≡ Some c.unwrap-old.result.now
+found : (c : After-drop-dropped-2) → space_of (parts_of c.args.image.now).spaces c.args.space ≡ Some c.unwrap-old.result.now
 found c = looked_up c.space.result c.unwrap-old.result (space_of (parts_of c.args.image.now).spaces c.args.space) c.unwrap-old.ensures c.space.ensures
 
 -- and the savepoint that of the making
-saved : (c : In_ok-push) → saved_as (parts_of c.args.image.now) c.args.space c.args.making ≡ Some c.unwrap-savepoint.result.now
+saved : (c : After-drop-dropped-2) → saved_as (parts_of c.args.image.now) c.args.space c.args.making ≡ Some c.unwrap-savepoint.result.now
 saved c = looked_up c.savepoint.result c.unwrap-savepoint.result (saved_as (parts_of c.args.image.now) c.args.space c.args.making) c.unwrap-savepoint.ensures c.savepoint.ensures
 
 pub returns-clause-drafts : goal.returns-clause-drafts
