@@ -5,3 +5,5 @@ pub mod RebasingGrown
 pub mod RebasingFields
 pub mod RebasingNamed
 pub mod RebasingStands
+pub mod RebasingRules
+pub mod RebasingKept

@@ -1,18 +1,26 @@
 -- A workspace is rebased on its parent as that is now: what becomes of the state, and of the records, told by what is looked up in them.
-use Rattle.std.specs.Prelude.{ℕ, zero, suc, ◌≡◌, ◌≢◌, ◌+◌, ◌<◌, Bool, true, false, ◌==◌, if◌then◌else◌, List, [], ◌∷◌, ◌++◌, length, Option, Some, None}
+use Rattle.std.specs.Prelude.{ℕ, zero, suc, ◌≡◌, ◌≢◌, ◌+◌, ◌<◌, Bool, true, false, ◌&&◌, ◌||◌, ◌==◌, nat_lt, if◌then◌else◌, List, [], ◌∷◌, ◌++◌, map, length, Option, Some, None}
 use Rattle.std.specs.List.{All, list_all}
-use Rattle.wm_graph.specs.Parts.{Parts, space_of}
+use Rattle.std.specs.Option.{option_map_or}
+use Rattle.wm_graph.specs.Parts.{Parts, row_of, space_of, table_of}
+use Rattle.wm_graph.specs.Rules.{are_cells, is_row_at}
 use Rattle.wm_period.specs.Pieces.{Held}
 use Rattle.wm_spec.specs.Lists.{Cell}
+use Rattle.wm_spec.specs.declared.record.Record.TheVariants as records
+use Rattle.wm_spec.specs.declared.record.batch.Change.{Change}
 use Rattle.wm_spec.specs.declared.record.cell_range.CellRange.{CellRange}
+use Rattle.wm_spec.specs.declared.record.counters.Counters.{Counters}
 use Rattle.wm_spec.specs.declared.record.piece.PieceRecord.{PieceRecord}
 use Rattle.wm_spec.specs.declared.record.space.Space.{Space}
 use Rattle.wm_spec.specs.declared.record.turn.Turn.{Turn as TurnRecord}
+use Rattle.wm_spec.specs.declared.record.version.Version.{Version}
 use Rattle.wm_tree.specs.Versions.{AllBelow}
 use Rattle.wm_tree.specs.declared.version.Version.{Version as Node}
+use Rattle.wm_state.specs.Batches.{put}
 use Rattle.wm_state.specs.Effects.{IsLeaf}
 use Rattle.wm_state.specs.Standing.{latest, newest_first, owned, stored_at}
 use Rattle.wm_state.specs.State.{Durable, Turn, Workspace, content, workspace_of}
+use Rattle.wm_state.specs.Writes.{put_all}
 
 -- ---- the state
 
@@ -87,3 +95,19 @@ pub record RebasedTo (p q : Parts) (n number : ℕ) (emptied : Bool) (a b : Spac
   pub elsewhere : (m : ℕ) → (m == n) ≡ false → space_of q.spaces m ≡ space_of p.spaces m
   pub turns : q.turns ≡ p.turns ++ turn_record n a b ∷ []
   pub rest : record q { counters = p.counters; spaces = p.spaces; versions = p.versions; pieces = p.pieces; turns = p.turns } ≡ p
+
+-- a piece of the version that comes, on cells of a table, with a stamp that was given; where it is not gone its row is there
+abbrev pub is_copied : Parts → ℕ → ℕ → PieceRecord → Bool
+is_copied p version next x =
+    (x.version == version)
+    && (are_cells (table_of p.tables) x.cells
+    && (nat_lt x.stamp next && (x.gone || option_map_or (is_row_at (table_of p.tables) x.cells) (row_of p.rows x.stamp) false)))
+
+-- ---- the batch
+
+-- the workspace's record is on its parent as that is now, and a version, a turn and the pieces of the version come
+abbrev pub rebase_batch : ℕ → Counters → ℕ → Space → ℕ → Version → TurnRecord → List PieceRecord → List Change
+rebase_batch counters_id counters space_id space id version turn pieces =
+    put counters_id (records.Counters counters)
+    ∷ put space_id (records.Space space)
+    ∷ put_all id (records.Version version ∷ records.Turn turn ∷ map records.Piece pieces)
