@@ -7,3 +7,4 @@ pub mod RebasingNamed
 pub mod RebasingStands
 pub mod RebasingRules
 pub mod RebasingKept
+pub mod RebasingBatch
