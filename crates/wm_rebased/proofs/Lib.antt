@@ -1,0 +1,10 @@
+pub mod RebasingOwn
+pub mod RebasingEnds
+pub mod RebasingJoined
+pub mod RebasingGrown
+pub mod RebasingFields
+pub mod RebasingNamed
+pub mod RebasingStands
+pub mod RebasingRules
+pub mod RebasingKept
+pub mod RebasingBatch
