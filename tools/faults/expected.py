@@ -1,4 +1,4 @@
-"""What a script is answered, what the store holds behind each of its lines, and what is wrong with a run that did not come to its end."""
+"""What a script is answered, what the store holds behind each of its lines, and what is wrong with a run."""
 from room import COMPLAINTS, RUN
 
 
@@ -12,7 +12,7 @@ class Expected:
         self.whole = runs[-1].said
         for number, ran in enumerate(runs, 1):
             if ran.status or not self.whole.startswith(ran.said) or self.states[number][0]:
-                raise SystemExit(f"line {number} ended with status {ran.status}, {ran.complaint!r}, and left {self.states[number]}")
+                raise SystemExit(f"line {number} ended with {ran.status}, {ran.complaint!r}, {self.states[number]}")
 
     def allowed(self, said):
         """The states in which a store may be where this was said."""
@@ -45,7 +45,8 @@ class Expected:
         for image in images:
             found = self.room.look(image)
             if found not in allowed:
-                return f"behind the answers {said[-40:]!r} a file of {len(image)} bytes is opened with status {found[0]}, and says {found[1]!r}"
+                opened = f"a file of {len(image)} bytes is opened with status {found[0]}, and says {found[1]!r}"
+                return f"behind the answers {said[-40:]!r} {opened}"
         return None
 
 
