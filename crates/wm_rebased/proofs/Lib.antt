@@ -2,6 +2,7 @@ pub mod RebasingOwn
 pub mod RebasingEnds
 pub mod RebasingJoined
 pub mod RebasingGrown
+pub mod Copying
 pub mod RebasingFields
 pub mod RebasingNamed
 pub mod RebasingStands
