@@ -3,6 +3,7 @@ pub mod RebasingEnds
 pub mod RebasingJoined
 pub mod RebasingGrown
 pub mod Copying
+pub mod CopiedThere
 pub mod RebasingFields
 pub mod RebasingNamed
 pub mod RebasingStands
