@@ -10,3 +10,4 @@ pub mod RebasingStands
 pub mod RebasingRules
 pub mod RebasingKept
 pub mod RebasingBatch
+pub mod DraftedRebased
