@@ -56,7 +56,7 @@ change_is_end es cells (suc t) changes = by_end (is_end es cells (suc t)) refl
     by_end false e = absurd (changes (ap (option_map held_of) (same_told es cells t e)))
 
 -- what holds the same changes where it does
-Changes-same : (f g : ℕ → Option Held) → ((t : ℕ) → f t ≡ g t) → (t : ℕ) → Changes f t → Changes g t
+pub Changes-same : (f g : ℕ → Option Held) → ((t : ℕ) → f t ≡ g t) → (t : ℕ) → Changes f t → Changes g t
 Changes-same f g same zero changes = λ e. changes (same 0 ∙ e)
 Changes-same f g same (suc t) changes = λ e. changes (same t ∙ e ∙ sym (same (suc t)))
 

@@ -1,18 +1,23 @@
 -- A workspace was rebased: what is looked up then, and the fields of the records. RebasingNamed and RebasingStands have the clauses on
 -- what is held.
-use Rattle.std.proofs.Common.{◌≡◌, ◌≢◌, ℕ, zero, suc, ◌+◌, ◌<◌, ◌≤◌, ◌==◌, Bool, false, cond, List, [], ◌∷◌, ◌++◌, length, Option, Some, None, refl, sym, ap, ◌∙◌, ◌⊎◌, inl, inr, arith}
+use Rattle.std.proofs.Common.{◌≡◌, ◌≢◌, ℕ, zero, suc, ◌+◌, ◌<◌, ◌≤◌, ◌==◌, Bool, false, ◌&&◌, cond, List, [], ◌∷◌, ◌++◌, length, Option, Some, None, refl, sym, ap, ◌∙◌, ◌⊎◌, inl, inr, arith}
 use Rattle.std.proofs.lemmas.Bool.{cases_eq, eq-eqb, ne_eqb}
-use Rattle.std.specs.List.{slice_get}
+use Rattle.std.proofs.lemmas.Option.{slice_get_past}
+use Rattle.std.specs.List.{list_any, slice_get}
 use Rattle.std.specs.Option.{option_map, option_or}
 use Rattle.wm_graph.specs.Parts.{Parts, space_of}
 use Rattle.wm_spec.specs.declared.record.piece.PieceRecord.{PieceRecord}
 use Rattle.wm_spec.specs.declared.record.space.Space.{Space}
+use Rattle.wm_spec.specs.declared.record.turn.Turn.{Turn as TurnRecord}
 use Rattle.wm_state.specs.State.{Durable, Workspace, savepoints_of, turn_of, with_space, workspace_of}
-use Rattle.wm_state.specs.Standing.{CountersStand, FieldsStand, SpaceFields, SpacesStand, TurnsStand, by_number, fields_in, fields_of, latest}
+use Rattle.wm_state.specs.Standing.{CountersStand, FieldsStand, SpaceFields, SpacesStand, TurnsStand, by_number, fields_in, fields_of, latest, turn_at, turned, turned_in}
 use Rattle.wm_state.proofs.Changing.{workspace_of-changed}
 use Rattle.wm_state.proofs.Climbing.{recorded_of}
 use Rattle.wm_state.proofs.Frames.{OnceStand-changed, SavepointsStand-same, savepoints_of-found, savepoints_of-none}
+use Rattle.wm_state.proofs.Mapped.{none-found}
 use Rattle.wm_state.proofs.Named.{one_space}
+use Rattle.wm_state.proofs.Spaces.{SpaceIs, space_there}
+use Rattle.wm_state.proofs.Staying.{turns_of-found}
 use Rattle.wm_forked.proofs.Saving.{WasChanged, was_changed}
 use Rattle.wm_rebased.specs.Rebasing.{IsRebase, RebasedTo, rebased, rebased_on, turn_on}
 
@@ -219,3 +224,41 @@ FieldsStand-rebased p q s t n number emptied a b news w pw v g st spaces tables 
   once = OnceStand-changed p q s t n (rebased emptied pw) (λ o. refl) spaces v.count st.once;
   savepoints = SavepointsStand-same p q s t (ap (λ (z : Parts). z.savepoints) v.rest) (points_same p q s t n number emptied a b news w pw v g st.spaces spaces) st.savepoints;
 }
+
+-- ---- what is asked, told by records
+
+-- where the records of a workspace and of its parent are there, both are there in each state with which the records agree
+pub record Based (d : Durable) (n : ℕ) : Type 0 where
+  pub workspace : Workspace
+  pub parent : Workspace
+  pub is : IsRebase d n workspace parent
+
+pub based_there : (p : Parts) (s : Durable) (n : ℕ) (a b : Space) → SpacesStand p s → space_of p.spaces n ≡ Some a → space_of p.spaces a.parent ≡ Some b → Based s n
+based_there p s n a b there old parent =
+    let w = space_there p s n a there old in
+    let u = space_there p s a.parent b there parent in
+    record {
+      workspace = w.workspace;
+      parent = u.workspace;
+      is = record { found = w.is.found; parent = ap (workspace_of s.spaces) (ap (λ (f : SpaceFields). f.parent) (sym w.is.fields)) ∙ u.is.found };
+    }
+
+-- a workspace has no record of a turn that it did not take
+pub turn_free : (p : Parts) (s : Durable) (n : ℕ) (a : Space) → 0 < n → SpacesStand p s → TurnsStand p s → space_of p.spaces n ≡ Some a → list_any (λ (x : TurnRecord). (x.space == n) && (x.rebase == a.rebases + 1)) p.turns ≡ false
+turn_free p s n a child there turns old =
+    none-found (λ (x : TurnRecord). (x.space == n) && (x.rebase == a.rebases + 1)) p.turns
+    (nothing (turn_at p.turns n (a.rebases + 1))
+    (turns.same n (a.rebases + 1)
+    ∙ ap (λ ts. option_map turned_in (slice_get ts (a.rebases + 1))) (turns_of-found s.spaces n w.workspace w.is.found)
+    ∙ ap (option_map turned_in) (slice_get_past w.workspace.turns (a.rebases + 1)
+    (at_most (length w.workspace.turns) w.workspace.rebases a.rebases (turns.counted n w.workspace child w.is.found) (ap (λ (f : SpaceFields). f.rebases) w.is.fields)))))
+  where
+    w : SpaceIs p s n a
+    w = space_there p s n a there old
+
+    nothing : (o : Option TurnRecord) → option_map turned o ≡ None → o ≡ None
+    nothing None e = refl
+    nothing (Some x) e = cc
+
+    at_most : (l k r : ℕ) → l ≡ k + 1 → r ≡ k → l ≤ r + 1
+    at_most l k r e f = omega (arith, e, f)

@@ -1,7 +1,7 @@
 -- The records with a workspace on its parent as that is now keep every rule, and stand for the state in which it was rebased.
-use Rattle.std.proofs.Common.{◌≡◌, ◌≢◌, ℕ, ◌+◌, ◌<◌, ◌≤◌, ◌^◌, ◌==◌, nat_le, nat_lt, Bool, true, false, not, ◌&&◌, ◌||◌, if◌then◌else◌, List, [], ◌∷◌, ◌++◌, length, length-append, Option, Some, None, is_some, refl, sym, ap, subst, ◌∙◌, arith}
-use Rattle.std.proofs.lemmas.Bool.{eq-eqb, eqb-true, ne_eqb}
-use Rattle.std.proofs.lemmas.List.Folds.{list_all-append, list_any-append}
+use Rattle.std.proofs.Common.{◌≡◌, ◌≢◌, ℕ, ◌+◌, ◌<◌, ◌≤◌, ◌==◌, nat_le, nat_lt, Bool, true, false, not, ◌&&◌, ◌||◌, if◌then◌else◌, List, [], ◌∷◌, ◌++◌, length, length-append, Some, None, is_some, refl, sym, ap, subst, ◌∙◌, arith}
+use Rattle.std.proofs.lemmas.Bool.{eq-eqb, eqb-true}
+use Rattle.std.proofs.lemmas.List.Folds.{list_all-append}
 use Rattle.std.specs.List.{All, list_all, list_any}
 use Rattle.std.specs.Option.{option_map_or}
 use Rattle.std.specs.Str.{bytes_eq}
@@ -21,12 +21,13 @@ use Rattle.wm_state.proofs.Keeping.{KeepRows-same, KeepSpaces, KeepSpaces-swap, 
 use Rattle.wm_state.proofs.KeepingTurns.{are_locks-kept, are_marks-kept, are_touches-kept, are_turns-kept, turned-swap}
 use Rattle.wm_state.proofs.Named.{ruled_savepoints, version_there}
 use Rattle.wm_state.proofs.Respaced.{space_elsewhere, space_here, versions_replaced}
-use Rattle.wm_state.proofs.Tests.{all_if, all_middle, all_push, all_swap, and_true, bool_apart, both, differ_push, differ_swap, none_if, not_true, some_swap}
+use Rattle.wm_state.proofs.Tests.{all_if, all_middle, all_push, all_swap, and_true, bool_apart, both, differ_push, differ_swap, none_if, some_swap}
 use Rattle.wm_forked.proofs.KeepBorn.{version_numbered}
-use Rattle.wm_forked.proofs.KeptSpaces.{has_push, has_versions-kept, is_space-kept, is_version-kept}
+use Rattle.wm_forked.proofs.KeptSpaces.{has_push, has_versions-kept, is_version-kept}
 use Rattle.wm_forked.proofs.Sprouting.{newest-behind}
 use Rattle.wm_written.proofs.Leaves.{leaf_new}
 use Rattle.wm_rebased.specs.Rebasing.{Ends, Grafted, IsRebase, RebasedTo, is_copied, rebased, rebased_on, turn_record}
+use Rattle.wm_rebased.proofs.Copying.{differ_both}
 use Rattle.wm_rebased.proofs.RebasingFields.{FieldsStand-rebased}
 use Rattle.wm_rebased.proofs.RebasingRules.{hists_counted, is_turn, locks_counted, marks_counted, saves_counted, touches_counted, turns_rebased}
 use Rattle.wm_rebased.proofs.RebasingStands.{Stands-rebased}
@@ -92,19 +93,6 @@ spaces_based front back a version from rebases e =
   where
     still : (s : Space) → is_space (space_of (front ++ a ∷ back)) s ≡ true → is_space (space_of (front ++ record a { base_version = version; from = from; rebases = rebases } ∷ back)) s ≡ true
     still s is = rw (some_swap (λ (z : Space). z.number == s.parent) a (record a { base_version = version; from = from; rebases = rebases }) refl front back) is
-
--- two lists in each of which no two are the same, where none of the first is one of the second
-differ_both : {A : Type 0} (same : A → A → Bool) (xs ys : List A) → differ same xs ≡ true → differ same ys ≡ true → list_all (λ x. not (list_any (same x) ys)) xs ≡ true → differ same (xs ++ ys) ≡ true
-differ_both same [] ys e f none = f
-differ_both same (x ∷ xs) ys e f none =
-    let h = both (not (list_any (same x) xs)) (differ same xs) e in
-    let g = both (not (list_any (same x) ys)) (list_all (λ z. not (list_any (same z) ys)) xs) none in
-    and_true (not (list_any (same x) (xs ++ ys))) (differ same (xs ++ ys))
-    (ap not (list_any-append (same x) xs ys ∙ neither (list_any (same x) xs) (list_any (same x) ys) (not_true (list_any (same x) xs) h.0) (not_true (list_any (same x) ys) g.0)))
-    (differ_both same xs ys h.1 f g.1)
-  where
-    neither : (b c : Bool) → b ≡ false → c ≡ false → (b || c) ≡ false
-    neither b c is are = rw (is, are) refl
 
 module _ (p : Parts) (old new : Counters) (front : List Space) (a : Space) (back : List Space) (b : Space) (emptied : Bool) (y : Version) (news : List PieceRecord) (may : MayRebase p old new front a back b emptied y news) (rules : keep_rules p ≡ true) where
   abbrev mid : Parts

@@ -1,1 +1,2 @@
 pub mod Rebasing
+pub mod Copied

@@ -1,7 +1,7 @@
 -- A workspace is rebased on its parent as that is now: what becomes of the state, and of the records, told by what is looked up in them.
 use Rattle.std.specs.Prelude.{ℕ, zero, suc, ◌≡◌, ◌≢◌, ◌+◌, ◌<◌, Bool, true, false, ◌&&◌, ◌||◌, ◌==◌, nat_lt, if◌then◌else◌, List, [], ◌∷◌, ◌++◌, map, length, Option, Some, None}
 use Rattle.std.specs.List.{All, list_all}
-use Rattle.std.specs.Option.{option_map_or}
+use Rattle.std.specs.Option.{option_and_then, option_map, option_map_or, unwrap_or}
 use Rattle.wm_graph.specs.Parts.{Parts, row_of, space_of, table_of}
 use Rattle.wm_graph.specs.Rules.{are_cells, is_row_at}
 use Rattle.wm_period.specs.Pieces.{Held}
@@ -19,7 +19,7 @@ use Rattle.wm_tree.specs.declared.version.Version.{Version as Node}
 use Rattle.wm_state.specs.Batches.{put}
 use Rattle.wm_state.specs.Effects.{IsLeaf}
 use Rattle.wm_state.specs.Standing.{latest, newest_first, owned, stored_at}
-use Rattle.wm_state.specs.State.{Durable, Turn, Workspace, content, workspace_of}
+use Rattle.wm_state.specs.State.{Durable, Turn, Workspace, content, with_space, workspace_of}
 use Rattle.wm_state.specs.Writes.{put_all}
 
 -- ---- the state
@@ -36,6 +36,18 @@ rebased emptied p w = record w {
   rebases = w.rebases + 1;
   turns = w.turns ++ turn_on p ∷ [];
 }
+
+-- the workspace of this number on a parent
+abbrev pub rebased_in : ℕ → Bool → Durable → Workspace → Durable
+rebased_in n emptied s p = record s { spaces = with_space n (rebased emptied p) s.spaces }
+
+-- the parent of the workspace of this number
+abbrev pub parent_of : List Workspace → ℕ → Option Workspace
+parent_of spaces n = option_and_then (λ (w : Workspace). workspace_of spaces w.parent) (workspace_of spaces n)
+
+-- what a rebase of this workspace makes of a state; where the workspace or its parent is not there, nothing
+abbrev pub rebased_so : ℕ → Bool → Durable → Durable
+rebased_so n emptied s = unwrap_or (option_map (rebased_in n emptied s) (parent_of s.spaces n)) s
 
 -- a workspace and its parent, as a rebase finds them
 pub record IsRebase (d : Durable) (n : ℕ) (w p : Workspace) : Type 0 where
