@@ -1,8 +1,9 @@
 #!/usr/bin/env python3
 """python3 tools/wrong.py [RT [CRATE..]]
 
-Tries wrong bodies that the gate leaves out, since the proof of their crates is dear: those of crates/*/wrong, which are written as
-those of must-fail/ are. Each must be refused. Crates that 'rt check' proved on this machine are not proved again for it.
+Tries wrong bodies that the gate leaves out, since the proof of their crates is dear: those of crates/*/wrong, which are
+written as those of must-fail/ are. Each must be refused. Crates that 'rt check' proved on this machine are not proved
+again for it.
 """
 import shutil
 import subprocess

@@ -1,12 +1,13 @@
 #!/usr/bin/env python3
 """faults PROGRAM [--every N]
 
-Plays a script through the program again and again. Each time one other call on the store, the script or the answers goes wrong: it
-fails, does half or nothing, is to be made again, or the program is killed before, in or behind it. Looked at are the status, the
-answers and standard error; and each file that the power may leave where it goes then: with all that was written since the last sync,
-with none of it, and with parts. It must be opened, and hold all lines that were answered, or one more, and none in part. The same is
-done with the power alone at each moment of the whole run, and again while what that left is repaired; and with init.
-A C compiler (cc) builds the shim that stands before the C library. With --every N each Nth try alone is made.
+Plays a script through the program again and again. Each time one other call on the store, the script or the answers
+goes wrong: it fails, does half or nothing, is to be made again, or the program is killed before, in or behind it.
+Looked at are the status, the answers and standard error; and each file that the power may leave where it goes then:
+with all that was written since the last sync, with none of it, and with parts. It must be opened, and hold all lines
+that were answered, or one more, and none in part. The same is done with the power alone at each moment of the whole
+run, and again while what that left is repaired; and with init. A C compiler (cc) builds the shim that stands before
+the C library. With --every N each Nth try alone is made.
 """
 import argparse
 import os
@@ -15,6 +16,7 @@ import tempfile
 from concurrent.futures import ThreadPoolExecutor
 
 from expected import Expected
+from recording import KINDS
 from room import INIT, Room
 from trying import FATES, AgainTries, InitTries, RunTries
 
@@ -57,10 +59,10 @@ def powers(moments, every):
 def try_run(told, room, fresh, every):
     lines = lines_of(SCRIPT)
     lines = [*lines[:-1], *WIDE, *lines[-1:]]
-    run = RunTries(room, fresh, Expected(room, fresh, lines), TAKEN)
-    missing = {"open", "lock", "size", "seek", "read", "write", "sync", "take", "say"} - {call.kind for call in run.whole.calls}
+    run = RunTries(room, fresh, Expected(room, told.pool, fresh, lines), TAKEN)
+    missing = set(KINDS) - {call.kind for call in run.whole.calls}
     if missing or run.whole.status:
-        raise SystemExit(f"the run ended with status {run.whole.status}, and the shim saw no call of {sorted(missing)}")
+        raise SystemExit(f"a run ended with status {run.whole.status}; no calls were seen of {sorted(missing)}")
     for fate, (name, _, _) in FATES.items():
         told.kind(name, run.fault, [(*call, fate) for call in run.calls(fate, every)])
     left = powers(run.moments(), every)
@@ -82,7 +84,8 @@ def try_init(told, room, fresh, every):
         told.kind(f"init over {name}", init.fault, tries)
         told.kind(f"init over {name}, and the power goes", init.fault_of_power, powers(init.moments(), every))
     again = AgainTries(room, fresh)
-    told.kind("init over a store", again.fault, [(*call, fate) for fate in FATES for call in again.calls(fate, every)])
+    tries = [(*call, fate) for fate in FATES for call in again.calls(fate, every)]
+    told.kind("init over a store", again.fault, tries)
 
 
 def main():

@@ -1,22 +1,18 @@
-"""What a script is answered, what the store holds behind each of its lines, and what is wrong with a run that did not come to its end."""
+"""What a script is answered, what the store holds behind each of its lines, and what is wrong with a run."""
 from room import COMPLAINTS, RUN
 
 
 class Expected:
-    def __init__(self, room, store, lines):
+    def __init__(self, room, pool, store, lines):
         self.room, self.lines = room, lines
-        self.answers, self.states = [], [room.look(store)]
-        whole = b""
-        for count in range(1, len(lines) + 1):
-            ran = room.play(store, RUN, b"".join(lines[:count]))
-            if ran.status or not ran.said.startswith(whole):
-                raise SystemExit(f"line {count} ended with status {ran.status}: {ran.complaint!r}")
-            self.answers.append(ran.said[len(whole):])
-            self.states.append(room.look(ran.file))
-            whole = ran.said
-        self.whole = whole
-        if any(state[0] for state in self.states):
-            raise SystemExit("what a line left cannot be read")
+        fronts = [b"".join(lines[:count]) for count in range(1, len(lines) + 1)]
+        runs = list(pool.map(lambda script: room.play(store, RUN, script), fronts))
+        self.answers = [ran.said[len(before):] for ran, before in zip(runs, [b"", *[ran.said for ran in runs]])]
+        self.states = list(pool.map(room.look, [store, *[ran.file for ran in runs]]))
+        self.whole = runs[-1].said
+        for number, ran in enumerate(runs, 1):
+            if ran.status or not self.whole.startswith(ran.said) or self.states[number][0]:
+                raise SystemExit(f"line {number} ended with {ran.status}, {ran.complaint!r}, {self.states[number]}")
 
     def allowed(self, said):
         """The states in which a store may be where this was said."""
@@ -49,7 +45,8 @@ class Expected:
         for image in images:
             found = self.room.look(image)
             if found not in allowed:
-                return f"behind the answers {said[-40:]!r} a file of {len(image)} bytes is opened with status {found[0]}, and says {found[1]!r}"
+                opened = f"a file of {len(image)} bytes is opened with status {found[0]}, and says {found[1]!r}"
+                return f"behind the answers {said[-40:]!r} {opened}"
         return None
 
 

@@ -1,4 +1,4 @@
-"""What a run did to its store and said, as the shim wrote it down, and the files that the power leaves where it goes."""
+"""What a run did to its store and said, as the shim wrote it down, and the files that the power may leave."""
 import struct
 from typing import NamedTuple
 
@@ -53,7 +53,7 @@ def filled(data):
 
 
 def tears(count):
-    """Lists of what becomes of so many writes. All reach the file, none does, the last alone or all but it do; in part, mixed."""
+    """Lists of what becomes of so many writes: all reach the file, none does, the last alone or all but it; mixed."""
     firsts = count - 1
     yield [whole] * count
     if count:

@@ -14,11 +14,11 @@ from every_line import NOW, READING, lines_of
 from recording import calls_of
 from storefile.pages import Damaged, NotAStore, Pages
 
-SECONDS = 60
+SECONDS = 300
 INIT = "init", "--limit", "1000"
 RUN = "run", "--now", NOW
 ASKING = b"".join(lines_of(READING))
-COMPLAINTS = {0: b"", 3: b"wm: source fault\n", 4: b"wm: say fault\n", 5: b"wm: disk fault\n", 6: b"wm: not a store\n", 8: b"wm: store exists\n"}
+COMPLAINTS = {3: b"wm: source fault\n", 4: b"wm: say fault\n", 5: b"wm: disk fault\n", 8: b"wm: store exists\n"}
 
 
 class Ran(NamedTuple):
@@ -63,7 +63,8 @@ class Room:
         more = {"LD_PRELOAD": self.shim, "FAULTS_STORE": store, "FAULTS_LOG": record, "FAULTS_TAKE": str(taken)}
         more |= {"FAULTS_CALL": call} if call else {}
         with open(source, "rb") as given:
-            ran = subprocess.run([self.program, store, *words], stdin=given, capture_output=True, timeout=SECONDS, env={**os.environ, **more})
+            how = {"stdin": given, "capture_output": True, "timeout": SECONDS, "env": {**os.environ, **more}}
+            ran = subprocess.run([self.program, store, *words], **how)
         calls = calls_of(Path(record).read_bytes())
         left = Path(store).read_bytes() if os.path.exists(store) else b""
         for each in store, record, source:

@@ -1,6 +1,6 @@
 """The tries: calls that go wrong in a run and in an init, and the power that goes at each moment of these."""
 from expected import fault_of_end
-from recording import KINDS, Disk, calls_of, moments
+from recording import KINDS, Disk, moments
 from room import INIT, RUN
 
 STATUS = dict.fromkeys(KINDS, 5) | {"take": 3, "say": 4}

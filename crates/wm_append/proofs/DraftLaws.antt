@@ -18,7 +18,7 @@ use Rattle.wm_state.specs.ById.{Ascend}
 use Rattle.wm_state.specs.Drawing.{left_by}
 use Rattle.wm_image.specs.Shown.{kind_at}
 use Rattle.wm_image.specs.Sought.{Sought, ids_with, is_sought}
-use Rattle.wm_append.proofs.Dropping.{filter-with}
+use Rattle.wm_changes.proofs.Dropping.{filter-with}
 use Rattle.wm_append.specs.Layers.{sought_in, view_of}
 use Rattle.wm_append.specs.Redraw.{IsDraft, IsRedrawn, met, unmet}
 use Rattle.wm_append.specs.Views.{IsPlaced, View, has_version, ids_of_key, keeps_in}

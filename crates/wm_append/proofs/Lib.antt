@@ -1,5 +1,3 @@
-mod Dropping
-mod DroppingAll
 mod Redrawing
 mod Following
 mod DraftLaws

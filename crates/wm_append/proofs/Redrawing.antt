@@ -27,27 +27,14 @@ use Rattle.wm_written.proofs.DrawingTouched.{drawn-keys, drawn-touched, is_met_b
 use Rattle.wm_state.proofs.Laying.{key_itself, key_same}
 use Rattle.wm_state.proofs.Tests.{both, bool_apart, and_true, all_if, all_push, not_true}
 use Rattle.wm_written.proofs.Touched.{clear-append, met-place, touched-passes}
-use Rattle.wm_append.proofs.Dropping.{told-with, differ-with, filter-with}
-use Rattle.wm_append.proofs.DroppingAll.{differ-append, dropped-append, there-with}
+use Rattle.wm_changes.proofs.Dropping.{told-with, differ-with, filter-with}
+use Rattle.wm_changes.proofs.DroppingAll.{differ-append, dropped-append, there-with, there_all}
 use Rattle.wm_image.proofs.Finding.{all_of, filter-kind}
 use Rattle.wm_image.proofs.Lists.{record_at-here, record_at-away, taken-with}
 use Rattle.wm_append.specs.Redraw.{IsRedrawn, IsAtKey, IsDraft, are_ascending, hand_cells, is_at_hand, is_left, is_of_version, is_touched, met, spot, spot_order, unmet}
 use Rattle.wm_append.specs.Views.{View, drawn_in, ids_of_key, keeps_in}
 use Rattle.wm_image.specs.Shown.{kind_at}
 use Rattle.wm_image.specs.Sought.{ids_with}
-
--- ids of records are there
-there_all : (p : Record → Bool) (ss : List Stored) → list_all (λ id. is_some (record_at ss id)) (ids_with p ss) ≡ true
-there_all p [] = refl
-there_all p (s ∷ ss) = by_test (p s.record) (all_if (λ id. is_some (record_at ss id)) (λ id. is_some (record_at (s ∷ ss) id)) (λ id is. by_id id (cases_eq s.id id) is) (ids_with p ss) (there_all p ss))
-  where
-    by_id : (id : ℕ) → (s.id ≡ id) ⊎ (s.id ≢ id) → is_some (record_at ss id) ≡ true → is_some (record_at (s ∷ ss) id) ≡ true
-    by_id id (inl same) is = ap is_some (record_at-here s ss id same)
-    by_id id (inr away) is = ap is_some (record_at-away s ss id away) ∙ is
-
-    by_test : (b : Bool) → list_all (λ id. is_some (record_at (s ∷ ss) id)) (ids_with p ss) ≡ true → list_all (λ id. is_some (record_at (s ∷ ss) id)) (cond b (s.id ∷ ids_with p ss) (ids_with p ss)) ≡ true
-    by_test true rest = and_true (is_some (record_at (s ∷ ss) s.id)) (list_all (λ id. is_some (record_at (s ∷ ss) id)) (ids_with p ss)) (ap is_some (record_at-here s ss s.id refl)) rest
-    by_test false rest = rest
 
 -- ---- tables and keys in order
 

@@ -1,2 +1,4 @@
 pub mod Placed
 pub mod Putting
+pub mod Dropping
+pub mod DroppingAll

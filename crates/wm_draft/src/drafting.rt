@@ -13,6 +13,8 @@ use wm_changes::DraftFault;
 use wm_changes::copies::change_copies;
 use wm_image::Image;
 use wm_lifecycle::births::bear;
+use wm_lifecycle::removals::remove;
+use wm_lifecycle::restores::restore;
 use wm_lifecycle::saves::save;
 use wm_lifecycle::tables::{create, enable};
 use wm_spec::record::{Batch, Changes};
@@ -42,7 +44,8 @@ fn draft_one(
         Edit::Append { space, entries } => append(alloc, image, moment, work, space, entries),
         Edit::Save { space, name } => save(alloc, image, moment, work, space, name),
         Edit::Bear { parent, at, name } => bear(alloc, image, moment, work, parent, at, name),
-        Edit::Restore { .. } | Edit::Remove { .. } => Err(DraftFault::Memory),
+        Edit::Restore { space, making } => restore(alloc, image, moment, work, space, making),
+        Edit::Remove { space } => Ok(remove(alloc, image, moment, work, space)?),
     }
 }
 

@@ -13,6 +13,7 @@ use Rattle.wm_spec.specs.declared.record.stored.Stored.{Stored}
 use Rattle.wm_spec.specs.declared.record.table.Table.{Table}
 use Rattle.wm_spec.specs.declared.record.version.Version.{Version}
 use Rattle.wm_state.specs.Standing.{held_by}
+pub use Rattle.wm_state.specs.Firsts.{is_child_from, is_saved_behind}
 
 -- those of a kind among the records of some ids
 abbrev pub kind_at : {A : Type 0} → (Record → Option A) → List Stored → List ℕ → List A
@@ -69,14 +70,6 @@ names version r = not (r.number == 0) && ((r.birth_version == version) || (r.bas
 abbrev pub after : ℕ → Option ℕ → ℕ
 after none None = none
 after none (Some n) = n + 1
-
--- the workspace is a child of another, and was born at a place of it from this one on, or its copy of it has so much of its log
-abbrev pub is_child_from : ℕ → ℕ → ℕ → Space → Bool
-is_child_from parent place log_length r = (r.parent == parent) && (not (r.number == parent) && (nat_le place r.birth_place || nat_le log_length r.from))
-
--- a savepoint of a workspace is at a later place, or had more of the log
-abbrev pub is_saved_behind : ℕ → ℕ → ℕ → Savepoint → Bool
-is_saved_behind space place log_length x = (x.space == space) && not (nat_le x.place place && nat_le x.log_length log_length)
 
 -- that of two workspaces with the lesser number, where there are both
 abbrev pub lesser : Option Space → Option Space → Option Space

@@ -1,1 +1,5 @@
 mod Born
+mod GoneBack
+mod GoneLists
+mod GoneVersions
+mod GoneWith

@@ -25,6 +25,22 @@ pub fn table_changes(
     Ok(changes)
 }
 
+/// What is put first where the record of a workspace changes.
+pub fn space_changes(
+    alloc: Global,
+    counters_id: u64,
+    counters: Counters,
+    space_id: u64,
+    space: Space,
+) -> Result<Changes, Memory>
+    ensures { IfOk result (λ changes. changes ≡ put counters_id (records.Counters counters) ∷ put space_id (records.Space space) ∷ []) }
+{
+    let mut changes = Changes::new(alloc);
+    changes.push(put(counters_id, Record::Counters(counters)))?;
+    changes.push(put(space_id, Record::Space(space)))?;
+    Ok(changes)
+}
+
 /// What is put for a savepoint of a workspace.
 pub fn savepoint_changes(
     alloc: Global,

@@ -1,8 +1,10 @@
-//! Tables, savepoints and workspaces come and change: the edits that draw nothing.
+//! Tables, savepoints and workspaces come, change and go: the edits that draw nothing.
 #![tactic(auto)]
 
 mod batches;
 pub mod births;
 mod points;
+pub mod removals;
+pub mod restores;
 pub mod saves;
 pub mod tables;

@@ -1,11 +1,11 @@
 //! RollbackToSP.
-ghost use Rattle.std.specs.Prelude.{◌≡◌, ◌<◌, ◌&&◌, ◌==◌, nat_lt, ℕ, List, true, false, Some, None, IfOk, option_map};
-ghost use Rattle.std.specs.Option.{option_copied, option_map_or};
+ghost use Rattle.std.specs.Prelude.{◌≡◌, ◌<◌, ℕ, List, true, Some, None, IfOk};
+ghost use Rattle.std.specs.Option.{option_copied};
 ghost use Rattle.std.specs.List.{find};
 ghost use Rattle.wm_base.specs.declared.instant.TheConstants.{END};
-ghost use Rattle.wm_graph.specs.Parts.{parts_of, space_of};
+ghost use Rattle.wm_graph.specs.Parts.{parts_of};
 ghost use Rattle.wm_graph.specs.Rules.{keep_rules};
-ghost use Rattle.wm_model.specs.Step.{first_session, rollback_to};
+ghost use Rattle.wm_model.specs.Step.{rollback_to};
 ghost use Rattle.wm_model.specs.Undone.{RollsIn, is_still_at, rolling_refusal, sits_behind};
 ghost use Rattle.wm_plan.specs.Idle.{Idles};
 ghost use Rattle.wm_plan.specs.Planning.{DoesIt};
@@ -36,9 +36,7 @@ fn sits_behind(image: &Image, space: u32, savepoint: &Savepoint, session: &Sessi
         return false;
     }
     match image.savepoint(space, making) {
-        Some(other) => {
-            other.place > savepoint.place || other.log_length > savepoint.log_length
-        }
+        Some(other) => { other.place > savepoint.place || other.log_length > savepoint.log_length }
         None => false,
     }
 }

@@ -1,38 +1,21 @@
-//! The table BUD (ID NUMBER PRIMARY KEY, AMT NUMBER) with the rows 1|10 and 2|20.
+//! The columns ID and AMT of BUD, both of numbers, and the rows 1|10 and 2|20.
 use std::alloc::Global;
-use wm_base::{Memory, Name, Row, Value, Values};
-use wm_spec::record::{ColumnKind, KeyColumns, Table, TableColumn, TableColumns};
+use wm_base::columns::NUMBER;
+use wm_base::{Column, Columns, Memory, Name, Row, Value, Values};
 
-fn column(alloc: Global, name: &[u8]) -> Result<TableColumn, Memory> {
-    Ok(TableColumn {
+fn column(alloc: Global, name: &[u8]) -> Result<Column, Memory> {
+    Ok(Column {
+        source: Name::copy_of(alloc, b"BUD")?,
         name: Name::copy_of(alloc, name)?,
-        kind: ColumnKind::Number,
-        size: 0,
-        not_null: true,
+        kind: NUMBER,
     })
 }
 
-fn columns(alloc: Global) -> Result<TableColumns, Memory> {
-    let mut columns = TableColumns::new(alloc);
-    columns.push(column(alloc, b"ID")?)?;
-    columns.push(column(alloc, b"AMT")?)?;
-    Ok(columns)
-}
-
-pub fn table(alloc: Global) -> Result<Table, Memory> {
-    let name = Name::copy_of(alloc, b"BUD")?;
-    let columns = columns(alloc)?;
-    let mut key_columns = KeyColumns::new(alloc);
-    key_columns.push(0)?;
-    Ok(Table {
-        number: 1,
-        name,
-        versioned: true,
-        valid: false,
-        history: false,
-        key_columns,
-        columns,
-    })
+pub fn columns(alloc: Global) -> Result<Columns, Memory> {
+    let mut list = Vec::new(alloc);
+    list.push(column(alloc, b"ID")?)?;
+    list.push(column(alloc, b"AMT")?)?;
+    Ok(Columns::from_vec(list))
 }
 
 fn row(alloc: Global, id: i64, amount: i64) -> Result<Row, Memory> {
@@ -49,20 +32,10 @@ pub fn rows(alloc: Global) -> Result<Vec<Row>, Memory> {
     Ok(rows)
 }
 
-fn number_in(value: &Value) -> Option<i64> {
-    match value {
-        Value::Num(number) => Some(*number),
-        _ => None,
+/// Whether there is one row, and it is 1|10.
+pub fn are_first(rows: &[Row]) -> bool {
+    match rows {
+        [row] => matches!(row.values.as_slice(), [Value::Num(1), Value::Num(10)]),
+        _ => false,
     }
-}
-
-/// The numbers of the rows, one row after another.
-pub fn numbers_of(alloc: Global, rows: &[Row]) -> Result<Vec<Option<i64>>, Memory> {
-    let mut numbers = Vec::new(alloc);
-    for row in rows {
-        for value in row.values.as_slice() {
-            numbers.push(number_in(value))?;
-        }
-    }
-    Ok(numbers)
 }

@@ -16,4 +16,3 @@ pub mod RemovingBatch
 pub mod Dropped
 pub mod DraftedBack
 pub mod DraftedRemoved
-pub mod FirstChild

@@ -37,8 +37,7 @@ pub fn rollback_call(
     ensures idle { IfOk result Idles }
 {
     let fault = fault_of(alloc, Procedure::RollbackToSp, args)?;
-    let Some(savepoint) = text_given(Procedure::RollbackToSp, args, Parameter::SavepointName)
-    else {
+    let Some(savepoint) = text_given(Procedure::RollbackToSp, args, Parameter::SavepointName) else {
         return Ok(lacking(alloc, fault));
     };
     let name = savepoint.as_bytes();

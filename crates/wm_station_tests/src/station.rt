@@ -1,4 +1,4 @@
-//! The device at each call: in memory, over a fuse, and over a file of the system.
+//! The device at each call: in memory, and over a file of the system.
 use std::alloc::Global;
 use std::fs;
 use std::test::Fail;
@@ -36,34 +36,6 @@ fn a_failed_write_tears_and_a_failed_sync_keeps_nothing(rt: HostRuntime) -> Resu
         let file = done.crash_image(calls, &[tear])?;
         assert_eq!(rt; file.as_slice(), left, "after {calls} calls");
     }
-    Ok(())
-}
-
-#[test]
-fn a_say_takes_what_it_may(rt: HostRuntime) -> Result<(), Fail> {
-    let alloc = rt.alloc();
-    let mut faults = Faults::none(alloc);
-    faults.says = some(alloc, 1)?;
-    faults.say_limit = 1;
-    let mut station = MemoryStation::new(alloc, Vec::new(alloc), faults)?;
-    assert_eq!(rt; station.say(b"OK"), Ok(1));
-    assert_eq!(rt; station.say(b"K"), Err(SayFailed::Failed));
-    let mut quiet = QuietStation::new(alloc, Vec::new(alloc))?;
-    assert_eq!(rt; quiet.say(b"OK"), Ok(2));
-    assert_eq!(rt; quiet.recording().said()?.as_slice(), b"OK".as_slice());
-    Ok(())
-}
-
-#[test]
-fn a_fuse_passes_so_many_calls(rt: HostRuntime) -> Result<(), Fail> {
-    let alloc = rt.alloc();
-    let mut station = FuseStation::new(QuietStation::new(alloc, Vec::new(alloc))?, 3);
-    assert_eq!(rt; station.write_at(0, b"ab"), Ok(()));
-    assert_eq!(rt; station.sync(), Ok(()));
-    assert_eq!(rt; station.say(b"OK"), Ok(2));
-    assert_eq!(rt; station.say(b"OK"), Err(SayFailed::Failed));
-    assert_eq!(rt; station.len(), Err(DiskFailed::Failed));
-    assert_eq!(rt; station.into_inner().recording().image(), b"ab".as_slice());
     Ok(())
 }
 

@@ -1,12 +1,13 @@
 -- Ids that go, one list behind another.
-use Rattle.std.proofs.Common.{◌≡◌, ℕ, ◌==◌, Bool, true, false, ◌||◌, cond, if◌then◌else◌, List, [], ◌∷◌, ◌++◌, None, refl, sym, ap, ◌∙◌, ◌⊎◌, inl, inr, ◌≢◌, arith}
+use Rattle.std.proofs.Common.{◌≡◌, ℕ, ◌==◌, Bool, true, false, ◌||◌, cond, if◌then◌else◌, List, [], ◌∷◌, ◌++◌, None, is_some, refl, sym, ap, ◌∙◌, ◌⊎◌, inl, inr, ◌≢◌, arith}
 use Rattle.std.proofs.lemmas.Bool.{cases_eq, ne_eqb}
+use Rattle.std.specs.List.{list_all}
 use Rattle.wm_spec.specs.Records.{record_at, ids_differ}
 use Rattle.wm_spec.specs.declared.record.Record.{Record}
 use Rattle.wm_spec.specs.declared.record.stored.Stored.{Stored}
 use Rattle.wm_state.specs.Batches.{is_dropped}
-use Rattle.wm_state.proofs.Tests.{bool_apart}
-use Rattle.wm_append.proofs.Dropping.{none_some}
+use Rattle.wm_state.proofs.Tests.{all_if, and_true, bool_apart}
+use Rattle.wm_changes.proofs.Dropping.{none_some}
 use Rattle.wm_image.proofs.Lists.{record_at-here, record_at-away}
 use Rattle.wm_image.specs.Sought.{ids_with}
 
@@ -35,7 +36,20 @@ there-with p (s ∷ ss) id none = by_id (cases_eq s.id id) (there-with p ss id)
     by_id (inl same) rest = absurd (none_some (record_at (s ∷ ss) id) s.record none (record_at-here s ss id same))
     by_id (inr other) rest = away (ne_eqb s.id id other) (p s.record) (rest (sym (record_at-away s ss id other) ∙ none))
 
-split_if : (a b : Bool) → (if a then false else b) ≡ true → (a ≡ false) × (b ≡ true)
+-- ids of records are there
+pub there_all : (p : Record → Bool) (ss : List Stored) → list_all (λ id. is_some (record_at ss id)) (ids_with p ss) ≡ true
+there_all p [] = refl
+there_all p (s ∷ ss) = by_test (p s.record) (all_if (λ id. is_some (record_at ss id)) (λ id. is_some (record_at (s ∷ ss) id)) (λ id is. by_id id (cases_eq s.id id) is) (ids_with p ss) (there_all p ss))
+  where
+    by_id : (id : ℕ) → (s.id ≡ id) ⊎ (s.id ≢ id) → is_some (record_at ss id) ≡ true → is_some (record_at (s ∷ ss) id) ≡ true
+    by_id id (inl same) is = ap is_some (record_at-here s ss id same)
+    by_id id (inr away) is = ap is_some (record_at-away s ss id away) ∙ is
+
+    by_test : (b : Bool) → list_all (λ id. is_some (record_at (s ∷ ss) id)) (ids_with p ss) ≡ true → list_all (λ id. is_some (record_at (s ∷ ss) id)) (cond b (s.id ∷ ids_with p ss) (ids_with p ss)) ≡ true
+    by_test true rest = and_true (is_some (record_at (s ∷ ss) s.id)) (list_all (λ id. is_some (record_at (s ∷ ss) id)) (ids_with p ss)) (ap is_some (record_at-here s ss s.id refl)) rest
+    by_test false rest = rest
+
+pub split_if : (a b : Bool) → (if a then false else b) ≡ true → (a ≡ false) × (b ≡ true)
 split_if true b e = absurd (bool_apart (sym e))
 split_if false b e = (refl, e)
 

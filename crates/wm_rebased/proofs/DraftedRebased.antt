@@ -1,0 +1,169 @@
+-- What the batch of a workspace that is rebased makes of the records. The edit is any that makes of each state what a rebase makes, is no
+-- fork and brings no entries.
+use Rattle.std.proofs.Common.{◌≡◌, ℕ, ◌+◌, ◌<◌, Bool, true, false, if◌then◌else◌, List, [], ◌∷◌, ◌++◌, map, Some, None, refl, sym, ap, subst, ◌∙◌}
+use Rattle.std.proofs.lemmas.List.{map-append}
+use Rattle.std.proofs.lemmas.List.Folds.{list_all-append}
+use Rattle.std.specs.List.{list_all, list_any}
+use Rattle.std.specs.Option.{option_and_then, option_map, unwrap_or}
+use Rattle.std.specs.declared.alloc.Global.{Global}
+use Rattle.std.specs.declared.vec.Vec.{Vec}
+use Rattle.wm_base.specs.declared.value.Value.{Value}
+use Rattle.wm_graph.specs.Parts.{Parts, parts_of, space_of}
+use Rattle.wm_graph.specs.Rules.{are_pieces, keep_rules}
+use Rattle.wm_period.specs.declared.piece.Piece.{Piece}
+use Rattle.wm_spec.specs.Records.{AreChanges}
+use Rattle.wm_spec.specs.declared.record.Record.{Record}
+use Rattle.wm_spec.specs.declared.record.Record.TheVariants as records
+use Rattle.wm_spec.specs.declared.record.batch.Change.{Change}
+use Rattle.wm_spec.specs.declared.record.counters.Counters.{Counters}
+use Rattle.wm_spec.specs.declared.record.piece.PieceRecord.{PieceRecord}
+use Rattle.wm_spec.specs.declared.record.space.Space.{Space}
+use Rattle.wm_spec.specs.declared.record.stored.Stored.{Stored}
+use Rattle.wm_spec.specs.declared.record.version.Version.{Version}
+use Rattle.wm_state.specs.ById.{applied}
+use Rattle.wm_state.specs.Drafts.{CanWork, DraftsBy, can_keep, is_fork, is_kept, is_kept_change}
+use Rattle.wm_state.specs.Editing.{edited}
+use Rattle.wm_state.specs.Points.{versioned}
+use Rattle.wm_state.specs.Standing.{FieldsStand, Stands, latest, owned}
+use Rattle.wm_state.specs.State.{Durable, Workspace, workspace_of}
+use Rattle.wm_state.specs.Writes.{put_all}
+use Rattle.wm_state.specs.declared.edit.Edit.{Edit}
+use Rattle.wm_state.specs.declared.edit.Edit.TheVariants as edits
+use Rattle.wm_state.specs.declared.edit.NewEntry.{NewEntry}
+use Rattle.wm_state.proofs.Apart.{ruled}
+use Rattle.wm_state.proofs.ByKind.{under_found}
+use Rattle.wm_state.proofs.Counting.{counts_as, counts_in, version_well, work_grows}
+use Rattle.wm_state.proofs.Drafted.{some_edit}
+use Rattle.wm_state.proofs.Growing.{same_counters}
+use Rattle.wm_state.proofs.RowsStay.{away_put, row_apart, rows_stay}
+use Rattle.wm_state.proofs.Settled.{Places, places_apart}
+use Rattle.wm_state.proofs.Tests.{and_true, bool_apart, both}
+use Rattle.wm_state.proofs.WorkedOn.{counted_put, first_change}
+use Rattle.wm_rebased.specs.Copied.{AreCopied, KeyPieces, piece_for, pieces_for}
+use Rattle.wm_rebased.specs.Rebasing.{rebase_batch, rebased_in, rebased_on, rebased_so, turn_record}
+use Rattle.wm_rebased.proofs.CopiedThere.{own_there}
+use Rattle.wm_rebased.proofs.Copying.{differ_copied, ends_copied, stored_copied}
+use Rattle.wm_rebased.proofs.RebasingBatch.{agree_rebased, changes-put_on, keep_plan_rebased, plan_rebased}
+use Rattle.wm_rebased.proofs.RebasingFields.{Based, based_there}
+use Rattle.wm_rebased.proofs.RebasingKept.{MayRebase}
+use Rattle.wm_rebased.proofs.RebasingRules.{is_turn}
+
+-- ---- what comes can be kept
+
+kept_put : (id : ℕ) (rs : List Record) → list_all is_kept rs ≡ true → list_all is_kept_change (put_all id rs) ≡ true
+kept_put id [] all = refl
+kept_put id (r ∷ rs) all = let h = both (is_kept r) (list_all is_kept rs) all in and_true (is_kept r) _ h.0 (kept_put (id + 1) rs h.1)
+
+-- the records of pieces of a key
+kept_key : (version table : ℕ) (key : List Value) (xs : List Piece) → list_all can_keep key ≡ true → list_all is_kept (map records.Piece (map (piece_for version table key) xs)) ≡ true
+kept_key version table key [] keeps = refl
+kept_key version table key (x ∷ xs) keeps = and_true (list_all can_keep key) (list_all is_kept (map records.Piece (map (piece_for version table key) xs))) keeps (kept_key version table key xs keeps)
+
+kept_keys : (version : ℕ) (ks : List KeyPieces) → list_all (λ (k : KeyPieces). list_all can_keep k.key) ks ≡ true → list_all is_kept (map records.Piece (pieces_for version ks)) ≡ true
+kept_keys version [] keeps = refl
+kept_keys version (k ∷ ks) keeps =
+    let h = both (list_all can_keep k.key) (list_all (λ (l : KeyPieces). list_all can_keep l.key) ks) keeps in
+    ap (list_all is_kept) (map-append records.Piece (map (piece_for version k.table k.key) k.pieces) (pieces_for version ks))
+    ∙ list_all-append is_kept (map records.Piece (map (piece_for version k.table k.key) k.pieces)) (map records.Piece (pieces_for version ks))
+    ∙ and_true (list_all is_kept (map records.Piece (map (piece_for version k.table k.key) k.pieces))) (list_all is_kept (map records.Piece (pieces_for version ks)))
+    (kept_key version k.table k.key k.pieces h.0) (kept_keys version ks h.1)
+
+-- ---- the edit
+
+-- where the workspace and its parent are there, a rebase makes of the state the one with the workspace on the parent
+rebased_there : (s : Durable) (n : ℕ) (emptied : Bool) (h : Based s n) → rebased_so n emptied s ≡ rebased_in n emptied s h.parent
+rebased_there s n emptied h =
+    ap (λ o. unwrap_or (option_map (rebased_in n emptied s) (option_and_then (λ (w : Workspace). workspace_of s.spaces w.parent) o)) s) h.is.found
+    ∙ ap (λ o. unwrap_or (option_map (rebased_in n emptied s) o) s) h.is.parent
+
+-- an edit makes of each state what a rebase of the workspace makes, is no fork and brings no entries
+pub record Rebases (m n : ℕ) (emptied : Bool) (e : Edit) : Type 0 where
+  pub does : (s : Durable) → edited m e s ≡ rebased_so n emptied s
+  pub forks : is_fork e ≡ false
+  pub brings : (i : ℕ) (entries : Vec NewEntry Global) → e ∷ [] ≡ edits.Append i entries ∷ [] → ⊥
+
+-- ---- the batch
+
+-- the version, and the batch with the pieces of these keys
+abbrev pub version_on : Parts → Counters → Space → Version
+version_on p c a = record { number = c.next_version; space = a.number; parent = latest p a.parent }
+
+abbrev pub rebase_to : Parts → ℕ → ℕ → ℕ → Counters → ℕ → Space → Space → ℕ → List KeyPieces → List Change
+rebase_to p m work counters_id c space_id a b id ks =
+    rebase_batch counters_id (versioned c m work) space_id (rebased_on (latest p a.parent) b.log_length a) id (version_on p c a) (turn_record a.number a b) (pieces_for c.next_version ks)
+
+-- it makes of the records what the rebase makes of each state
+pub drafts_rebased : (rs : List Stored) (m work : ℕ) (emptied : Bool) (e : Edit) (c : Counters) (a b : Space) (counters_id space_id id : ℕ) (ks : List KeyPieces) → Rebases m a.number emptied e → keep_rules (parts_of rs) ≡ true
+    → CanWork (parts_of rs) m work → 0 < a.number → space_of (parts_of rs).spaces a.number ≡ Some a → space_of (parts_of rs).spaces a.parent ≡ Some b → list_any (is_turn a.number (a.rebases + 1)) (parts_of rs).turns ≡ false
+    → Places rs counters_id space_id id c a → AreCopied (λ k. if emptied then None else owned (parts_of rs) a.base_version a.number k) ks → list_all (λ (k : KeyPieces). list_all can_keep k.key) ks ≡ true
+    → DraftsBy work rs m (e ∷ []) (rebase_to (parts_of rs) m work counters_id c space_id a b id ks)
+drafts_rebased rs m work emptied e c a b counters_id space_id id ks edit rules can_work child there parent free at copied kept = record {
+  keeps = keeps;
+  once = once;
+  stands = λ s st.
+      let h = based_there (parts_of rs) s a.number a b st.spaces there parent in
+      let counts = counts_as (parts_of rs) s c st at.one in
+      subst (λ (u : Durable). Stands (parts_of (applied batch rs)) (record u { last_moment = m; work = s.work + work })) (sym (edit.does s ∙ rebased_there s a.number emptied h))
+      (plan_rebased rs counters_id space_id id c d a b emptied y news at may h.workspace h.parent s _ st h.is refl refl
+      (record { counters = d; one = refl; next_stamp = counts.next_stamp; last_moment = refl; limit = counts.limit; work = ap (λ w. w + work) counts.work }));
+  fields = λ s st.
+      let h = based_there (parts_of rs) s a.number a b st.spaces there parent in
+      let counts = counts_in (parts_of rs) s c st.counters at.one in
+      subst (λ (u : Durable). FieldsStand (parts_of (applied batch rs)) (record u { last_moment = m; work = s.work + work })) (sym (edit.does s ∙ rebased_there s a.number emptied h))
+      (agree_rebased rs counters_id space_id id c d a b emptied y news at may h.workspace h.parent s _ rules st h.is refl refl
+      (record { counters = d; one = refl; next_stamp = counts.next_stamp; last_moment = refl; limit = counts.limit; work = ap (λ w. w + work) counts.work }));
+  rows = rows_stay rs batch
+      (λ k r found. (
+        row_apart rs counters_id k (records.Counters c) r at.counters refl found,
+        (row_apart rs space_id k (records.Space a) r at.space refl found, away_put k id behind (under_found id rs k (records.Row r) at.under found)),
+      ));
+  kept = kept_put id behind (kept_keys c.next_version ks kept);
+  counted = λ some_edits. counted_put rs work counters_id c d batch at.sorted at.one once (first_change counters_id _ _) keeps refl;
+  nothing = some_edit e [] batch;
+  few = λ forks. absurd (bool_apart (sym (both (is_fork e) true forks).0 ∙ edit.forks));
+  spared = λ i entries one_append. absurd (edit.brings i entries one_append);
+}
+  where
+    d : Counters
+    d = versioned c m work
+
+    y : Version
+    y = version_on (parts_of rs) c a
+
+    news : List PieceRecord
+    news = pieces_for c.next_version ks
+
+    behind : List Record
+    behind = records.Version y ∷ records.Turn (turn_record a.number a b) ∷ map records.Piece news
+
+    batch : List Change
+    batch = rebase_to (parts_of rs) m work counters_id c space_id a b id ks
+
+    rule : are_pieces (parts_of rs) c.next_stamp ≡ true
+    rule = let r = ruled (parts_of rs) rules in ap (λ (k : Counters). are_pieces (parts_of rs) k.next_stamp) (sym (same_counters (parts_of rs) c r.counters at.one r.one)) ∙ r.pieces
+
+    may : (front back : List Space) → (parts_of rs).spaces ≡ front ++ a ∷ back → MayRebase (parts_of rs) c d front a back b emptied y news
+    may front back spaces = record {
+      one = at.one;
+      counters = version_well (parts_of rs) m work c rules can_work at.one;
+      stamps = refl;
+      next = refl;
+      work = work_grows c.work work;
+      spaces = spaces;
+      child = child;
+      parent = parent;
+      number = refl;
+      its = refl;
+      under = refl;
+      unturned = free;
+      copied = own_there (parts_of rs) c.next_stamp c.next_version a.base_version a.number emptied ks rule copied;
+      apart = differ_copied c.next_version _ ks copied;
+      held = stored_copied c.next_version _ ks copied;
+      ends = ends_copied c.next_version _ ks copied;
+    }
+
+    keeps : keep_rules (parts_of (applied batch rs)) ≡ true
+    keeps = keep_plan_rebased rs counters_id space_id id c d a b emptied y news at may rules
+
+    once : AreChanges batch
+    once = changes-put_on counters_id d space_id (rebased_on (latest (parts_of rs) a.parent) b.log_length a) id y (turn_record a.number a b) news (places_apart rs counters_id space_id id c a at)

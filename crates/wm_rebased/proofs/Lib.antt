@@ -1,0 +1,13 @@
+pub mod RebasingOwn
+pub mod RebasingEnds
+pub mod RebasingJoined
+pub mod RebasingGrown
+pub mod Copying
+pub mod CopiedThere
+pub mod RebasingFields
+pub mod RebasingNamed
+pub mod RebasingStands
+pub mod RebasingRules
+pub mod RebasingKept
+pub mod RebasingBatch
+pub mod DraftedRebased
