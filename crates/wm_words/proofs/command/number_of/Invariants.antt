@@ -1,6 +1,6 @@
 use Rattle.std.proofs.Common.{◌≡◌, ◌<◌, ◌^◌, drop}
-use Rattle.wm_host.specs.Words.{number_behind}
-use Rattle.wm_host.proofs.words.number_of.Given as goal
+use Rattle.wm_words.specs.Values.{number_behind}
+use Rattle.wm_words.proofs.command.number_of.Given as goal
 
 abbrev pub invariant-loop-digit : goal.invariant-loop-digit
 invariant-loop-digit l = record {

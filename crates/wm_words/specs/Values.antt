@@ -1,13 +1,12 @@
--- The words of the command line.
-use Rattle.std.specs.Prelude.{ℕ, ◌+◌, ◌-◌, ◌*◌, ◌≤◌, ◌<◌, Bool, ◌&&◌, nat_eq, nat_le, nat_lt, if◌then◌else◌, List, [], ◌∷◌, length, drop, Option, None, Some, Result, Ok, Err, codes}
-use Rattle.std.specs.List.{list_all, starts_with}
+-- The commands that the values of options make.
+use Rattle.std.specs.Prelude.{ℕ, ◌+◌, ◌-◌, ◌*◌, ◌≤◌, ◌<◌, Bool, ◌&&◌, nat_le, nat_lt, if◌then◌else◌, List, [], ◌∷◌, length, Option, None, Some, Result, Ok, Err}
+use Rattle.std.specs.List.{list_all}
 use Rattle.std.specs.Char.{is_ascii_digit}
-use Rattle.std.specs.Str.{bytes_eq}
 use Rattle.wm_base.specs.declared.instant.TheConstants.{END}
 use Rattle.wm_instants.specs.Instants.{instant_of}
 use Rattle.wm_instants.specs.declared.refusal.InstantRefusal.{InstantRefusal}
-use Rattle.wm_host.specs.declared.words.Command.{Command}
-use Rattle.wm_host.specs.declared.words.Command.TheVariants.{Init, Run}
+use Rattle.wm_words.specs.declared.command.Command.{Command}
+use Rattle.wm_words.specs.declared.command.Command.TheVariants.{Init, Run, Check}
 
 -- the number that these digits write behind a number
 abbrev pub number_behind : ℕ → List ℕ → ℕ
@@ -26,6 +25,7 @@ is_limit number = nat_le 1 number && nat_le number 1048576
 abbrev pub IsInBounds : Command → Type 0
 IsInBounds (Init limit) = (1 ≤ limit) × (limit ≤ 1048576)
 IsInBounds (Run moment) = moment < END
+IsInBounds Check = Unit {0}
 
 -- the command `init` of this limit
 abbrev pub init_of : List ℕ → Option Command
@@ -39,21 +39,3 @@ run_at (Err refusal) = None
 -- the command `run` of the moment that this text means
 abbrev pub run_of : List ℕ → Option Command
 run_of text = run_at (instant_of text)
-
--- the command of a word for it, an option and its value
-abbrev pub spaced : List ℕ → List ℕ → List ℕ → Option Command
-spaced command option value =
-    if bytes_eq command (codes "init") && bytes_eq option (codes "--limit") then init_of value else
-    (if bytes_eq command (codes "run") && bytes_eq option (codes "--now") then run_of value else None)
-
--- the command of a word for it and an option joined to its value
-abbrev pub joined : List ℕ → List ℕ → Option Command
-joined command option =
-    if bytes_eq command (codes "init") && starts_with nat_eq option (codes "--limit=") then init_of (drop 8 option) else
-    (if bytes_eq command (codes "run") && starts_with nat_eq option (codes "--now=") then run_of (drop 6 option) else None)
-
--- init --limit N, init --limit=N, run --now T, run --now=T
-abbrev pub command_of : List (List ℕ) → Option Command
-command_of (command ∷ option ∷ []) = joined command option
-command_of (command ∷ option ∷ value ∷ []) = spaced command option value
-command_of words = None
