@@ -52,14 +52,14 @@ pub crash_checked : (old begun new : History) (piece : List ℕ) → piece ≡ o
 crash_checked old begun new piece is quiet opening says =
     weaken old new (λ file after. OpensAs old file after ⊎ CrashSays begun piece file after) (CrashChecks old) (λ file after. ⊎_elim (checks_none old file after) (checks_some file after))
     (followed old begun new (OpensAs old) (CrashSays begun piece) opening says) where
-  checks_some : (file after : List ℕ) → CrashSays begun piece file after → CrashChecks old file after
-  checks_some file after some = record {
-    kept = (opening.each file (said begun) (leaves_since begun (moment old) file opening.later some.leaves)).0;
-    front = some.front;
-    said_is = some.said_is ∙ ap (λ (b : List ℕ). b ++ some.front) quiet;
-    rest = some.rest;
-    is = sym is ∙ some.is;
-  }
+      checks_some : (file after : List ℕ) → CrashSays begun piece file after → CrashChecks old file after
+      checks_some file after some = record {
+        kept = (opening.each file (said begun) (leaves_since begun (moment old) file opening.later some.leaves)).0;
+        front = some.front;
+        said_is = some.said_is ∙ ap (λ (b : List ℕ). b ++ some.front) quiet;
+        rest = some.rest;
+        is = sym is ∙ some.is;
+      }
 
 -- ---- statuses
 

@@ -78,7 +78,11 @@ pub(crate) fn init<P: Station>(alloc: Global, station: &mut P, limit: u32) -> En
 }
 
 /// Opens a store for a run that begins at a moment.
-pub(crate) fn open_host<P: Station>(alloc: Global, station: &mut P, moment: Instant) -> Result<Host, Stop>
+pub(crate) fn open_host<P: Station>(
+    alloc: Global,
+    station: &mut P,
+    moment: Instant,
+) -> Result<Host, Stop>
     requires { moment < END }
     ensures begins { IfOk result (λ host. Begins P.tells (P.history station.old) (P.history station.new) host moment) }
     ensures crash { P.tells → (s : State) → FileStands (now (P.history station.old)) s → During (P.history station.old) (P.history station.new) (CrashOpens (P.history station.old) s) }

@@ -1,24 +1,22 @@
 -- clap's walk over the words of a command of named options, for any list of names: it finds what the grammar finds.
-use Rattle.std.proofs.Common.{◌≡◌, ◌==◌, ◌&&◌, ◌||◌, ◌<◌, Bool, true, false, not, cond, ℕ, List, [], ◌∷◌, ◌++◌, length, map, Option, Some, None, is_some, option_map, fold, find, refl, ap, sym, ◌∙◌, true≢false, bytes_eq, arith, subst, nat_lt}
+use Rattle.std.proofs.Common.{◌≡◌, ◌==◌, ◌&&◌, ◌||◌, Bool, true, false, not, cond, ℕ, List, [], ◌∷◌, ◌++◌, length, map, Option, Some, None, option_map, fold, refl, ap, sym, ◌∙◌, true≢false, bytes_eq, arith, nat_lt}
 use Rattle.std.specs.List.{list_any, list_all}
 use Rattle.std.proofs.lemmas.Slice.Eq.{bytes_eq-Decides}
 use Rattle.std.proofs.lemmas.Bool.Decides.{nat_tests}
 use Rattle.std.proofs.lemmas.List.{map-append}
 use Rattle.clap.specs.Lexer.{long_of, short_of}
-use Rattle.clap.specs.Walk.{Held, Names, Row, Rule, Step, Waiting, Walk, after_step, arg_by_id, arg_by_long, arg_by_index, finished, has_row, idle, long_or_other, nothing_held, option, pending_count, positional, rows_after, settled, settled_rows, used, walk_from, walked, with_default, with_values, without}
+use Rattle.clap.specs.Walk.{Held, Row, Rule, Step, Waiting, Walk, after_step, arg_by_id, arg_by_long, arg_by_index, finished, has_row, idle, long_or_other, nothing_held, option, pending_count, positional, rows_after, settled, settled_rows, used, walked, with_default, with_values, without}
 use Rattle.clap.specs.Simple.{Shape, new_rule, new_shape}
 use Rattle.clap.specs.Takes.{is_given as is_found}
 use Rattle.clap.specs.Kinds.{Kinds, or_else}
 use Rattle.clap.specs.Faults.{check_fault, defaults_fault, flag_word_fault, level_fault, long_fault, settle_fault, step_fault, turn_fault, use_fault, walk_fault}
 use Rattle.clap.specs.Values.{reading_of}
 use Rattle.clap.specs.declared.builder.action.ArgAction.TheVariants.{Set}
-use Rattle.clap.specs.declared.builder.range.ValueRange.{ValueRange}
 use Rattle.clap.specs.declared.builder.value_parser.ValueParser.TheVariants as vp
 use Rattle.clap.specs.declared.error.kind.ErrorKind.TheVariants as kind
 use Rattle.clap.specs.declared.parser.matches.ValueSource.TheVariants.{CommandLine}
 use Rattle.clap.proofs.WalkLemmas.{list_any-map}
-use Rattle.wm_words.specs.Words.{Text, Given, is_given, has_name, is_dashed, valued, named, options}
-use Rattle.wm_words.specs.Parse.{is_barred}
+use Rattle.wm_words.specs.Words.{Text, Given, is_given, has_name, named, options}
 use Rattle.wm_words.proofs.Looks.{Clean, Look, long, plain, look}
 
 -- ---- faults, and what is found where there is none
@@ -73,17 +71,19 @@ text_is a = (bytes_eq-Decides a a).1 refl
 
 by_long : (names : List Text) (name : Text) → arg_by_long (map ruled names) name ≡ cond (has_name names name) (Some (ruled name)) None
 by_long [] name = refl
-by_long (n ∷ ns) name = go (bytes_eq n name) refl where
-  go : (b : Bool) → bytes_eq n name ≡ b → arg_by_long (map ruled (n ∷ ns)) name ≡ cond (has_name (n ∷ ns) name) (Some (ruled name)) None
-  go true is = rw is (ap (λ (m : Text). Some (ruled m)) (same_text n name is))
-  go false is = rw is (by_long ns name)
+by_long (n ∷ ns) name = go (bytes_eq n name) refl (by_long ns name) where
+  go : (b : Bool) → bytes_eq n name ≡ b → arg_by_long (map ruled ns) name ≡ cond (has_name ns name) (Some (ruled name)) None
+      → arg_by_long (map ruled (n ∷ ns)) name ≡ cond (has_name (n ∷ ns) name) (Some (ruled name)) None
+  go true is rest = rw is (ap (λ (m : Text). Some (ruled m)) (same_text n name is))
+  go false is rest = rw is rest
 
 by_id : (names : List Text) (name : Text) → arg_by_id (map ruled names) name ≡ cond (has_name names name) (Some (ruled name)) None
 by_id [] name = refl
-by_id (n ∷ ns) name = go (bytes_eq n name) refl where
-  go : (b : Bool) → bytes_eq n name ≡ b → arg_by_id (map ruled (n ∷ ns)) name ≡ cond (has_name (n ∷ ns) name) (Some (ruled name)) None
-  go true is = rw is (ap (λ (m : Text). Some (ruled m)) (same_text n name is))
-  go false is = rw is (by_id ns name)
+by_id (n ∷ ns) name = go (bytes_eq n name) refl (by_id ns name) where
+  go : (b : Bool) → bytes_eq n name ≡ b → arg_by_id (map ruled ns) name ≡ cond (has_name ns name) (Some (ruled name)) None
+      → arg_by_id (map ruled (n ∷ ns)) name ≡ cond (has_name (n ∷ ns) name) (Some (ruled name)) None
+  go true is rest = rw is (ap (λ (m : Text). Some (ruled m)) (same_text n name is))
+  go false is rest = rw is rest
 
 by_index : (names : List Text) (i : ℕ) → arg_by_index (map ruled names) i ≡ None
 by_index [] i = refl
@@ -96,25 +96,27 @@ row_given given name = sym (list_any-map (λ (r : Row). bytes_eq r.id name) row 
 
 found_given : (given : List Given) (name : Text) → is_found name (map row given) ≡ is_given given name
 found_given [] name = refl
-found_given (p ∷ ps) name = go (bytes_eq p.0 name) refl where
-  go : (b : Bool) → bytes_eq p.0 name ≡ b → is_found name (map row (p ∷ ps)) ≡ is_given (p ∷ ps) name
-  go true is = rw is refl
-  go false is = rw is (found_given ps name)
+found_given (p ∷ ps) name = go (bytes_eq p.0 name) refl (found_given ps name) where
+  go : (b : Bool) → bytes_eq p.0 name ≡ b → is_found name (map row ps) ≡ is_given ps name → is_found name (map row (p ∷ ps)) ≡ is_given (p ∷ ps) name
+  go true is rest = rw is refl
+  go false is rest = rw is rest
 
 -- a first use puts its row behind the others
 no_row_left : (name : Text) (rows : List Row) → has_row name rows ≡ false → without name rows ≡ rows
 no_row_left name [] none = refl
-no_row_left name (r ∷ rs) none = go (bytes_eq r.id name) refl none where
-  go : (b : Bool) → bytes_eq r.id name ≡ b → (b || has_row name rs) ≡ false → without name (r ∷ rs) ≡ r ∷ rs
-  go true is e = absurd (true≢false e)
-  go false is e = rw is (ap (λ (l : List Row). r ∷ l) (no_row_left name rs e))
+no_row_left name (r ∷ rs) none = go (bytes_eq r.id name) refl none (no_row_left name rs) where
+  go : (b : Bool) → bytes_eq r.id name ≡ b → (b || has_row name rs) ≡ false → (has_row name rs ≡ false → without name rs ≡ rs) → without name (r ∷ rs) ≡ r ∷ rs
+  go true is e rest = absurd (true≢false e)
+  go false is e rest = rw is (ap (λ (l : List Row). r ∷ l) (rest e))
 
 row_added : (name v : Text) (rows : List Row) → has_row name rows ≡ false → with_values name (reading_of vp.String) CommandLine (v ∷ []) rows ≡ rows ++ row (name, v) ∷ []
 row_added name v [] none = refl
-row_added name v (r ∷ rs) none = go (bytes_eq r.id name) refl none where
-  go : (b : Bool) → bytes_eq r.id name ≡ b → (b || has_row name rs) ≡ false → with_values name (reading_of vp.String) CommandLine (v ∷ []) (r ∷ rs) ≡ r ∷ rs ++ row (name, v) ∷ []
-  go true is e = absurd (true≢false e)
-  go false is e = rw is (ap (λ (l : List Row). r ∷ l) (row_added name v rs e))
+row_added name v (r ∷ rs) none = go (bytes_eq r.id name) refl none (row_added name v rs) where
+  go : (b : Bool) → bytes_eq r.id name ≡ b → (b || has_row name rs) ≡ false
+      → (has_row name rs ≡ false → with_values name (reading_of vp.String) CommandLine (v ∷ []) rs ≡ rs ++ row (name, v) ∷ [])
+      → with_values name (reading_of vp.String) CommandLine (v ∷ []) (r ∷ rs) ≡ r ∷ rs ++ row (name, v) ∷ []
+  go true is e rest = absurd (true≢false e)
+  go false is e rest = rw is (ap (λ (l : List Row). r ∷ l) (rest e))
 
 used_once : (name v : Text) (given : List Given) → is_given given name ≡ false → used (ruled name) (v ∷ []) (map row given) ≡ map row (given ++ (name, v) ∷ [])
 used_once name v given new =
@@ -145,25 +147,29 @@ use_again name (v ∷ w ∷ vs) rows some =
 defaults_none : (rows : List Row) (names : List Text) → defaults_fault rows (map ruled names) ≡ []
 unfolding defaults_fault
 defaults_none rows [] = refl
-defaults_none rows (n ∷ ns) = go (has_row n rows) refl where
-  go : (b : Bool) → has_row n rows ≡ b → defaults_fault rows (map ruled (n ∷ ns)) ≡ []
-  go true is = rw is (defaults_none rows ns)
-  go false is = rw is (defaults_none rows ns)
+defaults_none rows (n ∷ ns) = go (has_row n rows) refl (defaults_none rows ns) where
+  go : (b : Bool) → has_row n rows ≡ b → defaults_fault rows (map ruled ns) ≡ [] → defaults_fault rows (map ruled (n ∷ ns)) ≡ []
+  go true is rest = rw is rest
+  go false is rest = rw is rest
+
+default_kept : (rows : List Row) (name : Text) → with_default rows (ruled name) ≡ rows
+default_kept rows name = go (has_row name rows) refl where
+  go : (b : Bool) → has_row name rows ≡ b → with_default rows (ruled name) ≡ rows
+  go true is = rw is refl
+  go false is = rw is refl
 
 defaults_kept : (rows : List Row) (names : List Text) → fold with_default rows (map ruled names) ≡ rows
 defaults_kept rows [] = refl
-defaults_kept rows (n ∷ ns) = go (has_row n rows) refl where
-  go : (b : Bool) → has_row n rows ≡ b → fold with_default rows (map ruled (n ∷ ns)) ≡ rows
-  go true is = rw is (defaults_kept rows ns)
-  go false is = rw is (defaults_kept rows ns)
+defaults_kept rows (n ∷ ns) = ap (λ (r : List Row). fold with_default r (map ruled ns)) (default_kept rows n) ∙ defaults_kept rows ns
 
 left_out : (given : List Given) (names : List Text) → list_any (λ (a : Rule). a.required && not (is_found a.id (map row given))) (map ruled names) ≡ not (list_all (is_given given) names)
 left_out given [] = refl
-left_out given (n ∷ ns) = go (is_given given n) refl where
+left_out given (n ∷ ns) = go (is_given given n) refl (left_out given ns) where
   go : (b : Bool) → is_given given n ≡ b
+      → list_any (λ (a : Rule). a.required && not (is_found a.id (map row given))) (map ruled ns) ≡ not (list_all (is_given given) ns)
       → list_any (λ (a : Rule). a.required && not (is_found a.id (map row given))) (map ruled (n ∷ ns)) ≡ not (list_all (is_given given) (n ∷ ns))
-  go true is = rw (found_given given n, is) (left_out given ns)
-  go false is = rw (found_given given n, is) refl
+  go true is rest = rw (found_given given n, is) rest
+  go false is rest = rw (found_given given n, is) refl
 
 -- ---- the walk
 
@@ -280,7 +286,7 @@ module _ (label : Text) (names : List Text) where
       ∙ next rows m (values ++ word ∷ []) (nat_lt (pending_count (ruled m) (Some (m, values ++ word ∷ []))) 1) known some
 
   doomed : (words : List Text) → Clean words → Dooms words
-  doomed [] clean rows m values waits known some = end_bad (hold rows (Some (m, values))) (cond waits (option m) idle) (pending_again m values rows known some)
+  doomed [] clean = λ rows m values waits known some. end_bad (hold rows (Some (m, values))) (cond waits (option m) idle) (pending_again m values rows known some)
   doomed (word ∷ words) clean = doomed_word word words (look word clean.0) (doomed words clean.1)
 
   -- ---- what is pending settles, and then these were given
@@ -310,9 +316,9 @@ module _ (label : Text) (names : List Text) where
   unfolding walk_fault
   idle_end rows pending given s =
       rw (s.fault, s.same, defaults_none (map row given) names, defaults_kept (map row given) names, left_out given names) (go (list_all (is_given given) names)) where
-    go : (b : Bool) → passes_with (cond (not b) (kind.MissingRequiredArgument ∷ []) []) (map row given) ≡ option_map (map row) (cond b (Some given) None)
-    go true = refl
-    go false = refl
+        go : (b : Bool) → passes_with (cond (not b) (kind.MissingRequiredArgument ∷ []) []) (map row given) ≡ option_map (map row) (cond b (Some given) None)
+        go true = refl
+        go false = refl
 
   wait_end : Waits []
   wait_end m given known new = end_bad (hold (map row given) (Some (m, []))) (option m) (bare_pending m (map row given) known)

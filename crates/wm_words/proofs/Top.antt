@@ -1,5 +1,5 @@
 -- clap's parse of the words of the program gives the command that the grammar gives.
-use Rattle.std.proofs.Common.{◌≡◌, ◌⊎◌, inl, inr, is_some, Bool, true, false, cond, ℕ, List, [], ◌∷◌, map, Option, Some, None, option_map, option_and_then, find, fold, refl, ap, ap₂, sym, ◌∙◌, true≢false, bytes_eq, codes, subst}
+use Rattle.std.proofs.Common.{◌≡◌, inl, inr, is_some, Bool, true, false, cond, List, [], ◌∷◌, map, Option, Some, None, option_map, option_and_then, find, fold, refl, ap, ap₂, sym, ◌∙◌, bytes_eq, codes, subst}
 use Rattle.std.specs.Option.{option_map_or}
 use Rattle.std.specs.List.{list_any}
 use Rattle.std.specs.Prelude.{slice_get}
@@ -15,7 +15,7 @@ use Rattle.clap.proofs.OnLiterals.{clap_on_literals}
 use Rattle.clap.proofs.WalkLemmas.{walk_stopped}
 use Rattle.clap.proofs.FaultLemmas.{stopped_fault}
 use Rattle.wm_words.specs.Parse.{command_by, is_barred, wm_app}
-use Rattle.wm_words.specs.Words.{Given, Text, command_of, command_with, names_of, options, value_in}
+use Rattle.wm_words.specs.Words.{Given, Text, command_of, command_with, options, value_in}
 use Rattle.wm_words.specs.declared.command.Command.{Command}
 use Rattle.wm_words.proofs.Looks.{Clean, Look, clean_of, long, plain, look}
 use Rattle.wm_words.proofs.Leaf.{first_bad, is_nil, leaf, leaf_is, none_pass, passes_with, row, ruled}
@@ -44,13 +44,13 @@ leaf_asks : (name : Text) (names words : List Text) → Clean words
     → judged_leaf name names words ≡ option_and_then (λ (given : List Given). command_with name (λ id. value_in id given)) (options names words None [])
 leaf_asks name names words clean =
     ap (λ (o : Option (List Row)). option_and_then command_by (option_map (λ (rows : List Row). Some (name, rows)) o)) (leaf_is name names words clean) ∙ go (options names words None []) where
-  valued : (given : List Given) → command_with name (λ id. first_of id (map row given)) ≡ command_with name (λ id. value_in id given)
-  valued given = λ i. command_with name (λ id. first_given given id i)
+      valued : (given : List Given) → command_with name (λ id. first_of id (map row given)) ≡ command_with name (λ id. value_in id given)
+      valued given = λ i. command_with name (λ id. first_given given id i)
 
-  go : (o : Option (List Given))
-      → option_and_then command_by (option_map (λ (rows : List Row). Some (name, rows)) (option_map (map row) o)) ≡ option_and_then (λ (given : List Given). command_with name (λ id. value_in id given)) o
-  go None = refl
-  go (Some given) = valued given
+      go : (o : Option (List Given))
+          → option_and_then command_by (option_map (λ (rows : List Row). Some (name, rows)) (option_map (map row) o)) ≡ option_and_then (λ (given : List Given). command_with name (λ id. value_in id given)) o
+      go None = refl
+      go (Some given) = valued given
 
 -- ---- the name of a command
 
@@ -175,19 +175,7 @@ refused a words e is clear has memory =
     sym (judged_asks words (clean_of words clear))
     ∙ ap (λ (b : App). option_and_then command_by (passes_with (fault_of b words) (subcommand_of wm_app words))) (sym is)
     ∙ ap (option_and_then command_by) (none_pass (fault_of a words) (subcommand_of wm_app words) (some_kind (fault_of a words) has)) where
-  some_kind : (kinds : Kinds) → HasKind kinds e → is_nil kinds ≡ false
-  some_kind [] (inl m) = absurd (memory m)
-  some_kind [] (inr no_kind) = absurd no_kind
-  some_kind (k ∷ ks) any = refl
-
--- what a subcommand is found with
-pub found_is : (o : Option (Text × List Row)) (name : Text) (rows : List Row) → Some name ≡ option_map (λ p. p.0) o → Some rows ≡ option_map (λ p. p.1) o → o ≡ Some (name, rows)
-found_is None name rows is rows_are = cc
-found_is (Some p) name rows is rows_are =
-    let same_name : name ≡ p.0 = cc in
-    let same_rows : rows ≡ p.1 = cc in
-    λ i. Some (sym same_name i, sym same_rows i)
-
-pub none_found : (o : Option (Text × List Row)) → None ≡ option_map (λ p. p.0) o → o ≡ None
-none_found None is = refl
-none_found (Some p) is = cc
+      some_kind : (kinds : Kinds) → HasKind kinds e → is_nil kinds ≡ false
+      some_kind [] (inl m) = absurd (memory m)
+      some_kind [] (inr no_kind) = absurd no_kind
+      some_kind (k ∷ ks) any = refl

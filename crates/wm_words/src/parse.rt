@@ -20,7 +20,7 @@ pub fn command_of(alloc: Global, words: &[String]) -> Result<Option<Command>, Me
     ensures bounds { IfOk result (λ r. IfSome r IsInBounds) }
 {
     // clap takes a word `--` and leaves it out, and takes `-` as a value.
-    if words.iter().any(|word| is_barred_word(word.as_bytes())) {
+    if has_barred_word(words) {
         return Ok(None);
     }
     let grammar = grammar(alloc)?;
@@ -33,12 +33,17 @@ pub fn command_of(alloc: Global, words: &[String]) -> Result<Option<Command>, Me
     }
 }
 
+fn has_barred_word(words: &[String]) -> bool
+    ensures { result ≡ list_any (λ word. is_barred (string_bytes word)) words.now }
+{
+    words.iter().any(|word| is_barred_word(word.as_bytes()))
+}
+
 /// The word begins with a hyphen and is no option of the form `--name`.
 fn is_barred_word(word: &[u8]) -> bool
     ensures { result ≡ is_barred word.now }
 {
-    word.starts_with(b"-".as_slice())
-        && !(word.starts_with(b"--".as_slice()) && 2 < word.len())
+    word.starts_with(b"-".as_slice()) && !(word.starts_with(b"--".as_slice()) && 2 < word.len())
 }
 
 // An option that is wanted and takes one text.
