@@ -126,10 +126,11 @@ pub fn run<S: Source, P: Station>(
     ensures say_later { P.say_faults station.old ≤ P.say_faults station.new }
     ensures disk_later { P.disk_faults station.old ≤ P.disk_faults station.new }
 {
-    let command = match command_of(alloc, words) {
-        Ok(Some(command)) => command,
-        Ok(None) => return Ended::usage(),
-        Err(_) => return Ended::unread(),
+    let Ok(read) = command_of(alloc, words) else {
+        return Ended::unread();
+    };
+    let Some(command) = read else {
+        return Ended::usage();
     };
     match command {
         Command::Init { limit } => init(alloc, station, limit),
