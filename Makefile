@@ -8,6 +8,8 @@
 #   make install puts the program, its manual page and the tools below PREFIX
 #   make against compares the program with a second reading of the language, in Python, on random scripts
 #   make refuse  refuses each allocation of a run in turn, and looks at the status, the answers and the store
+#   make faults  lets each call on the store, the script and the answers go wrong in turn, and the power go at each moment
+#   make wrong   tries wrong bodies that the gate leaves out, since the proof of their crates is dear: each must be refused
 #   make edge    tries two runs at once, closed and full streams, full disks, and paths and words that are none
 #   make bench   times 10,000 INSERT lines, a SELECT of them, SELECT and UPDATE lines by key, and a join of two tables of 1,000 rows
 
@@ -18,7 +20,7 @@ PREFIX ?= /usr/local
 LIMIT := 1048576
 SOURCES := crates.txt $(shell find crates -path '*/out' -prune -o -type f -print)
 
-.PHONY: try demo test wm install cases against refuse edge bench clean
+.PHONY: try demo test wm install cases against refuse faults wrong edge bench clean
 
 wm: build/wm
 
@@ -55,12 +57,20 @@ cases: demo
 	then $(PYTHON) tools/play_cases.py build/wm cases \
 	&& $(PYTHON) tools/play_documents.py README.md docs/*.md && $(PYTHON) tools/tests; \
 	else echo "cases: skipped, for there is no $(PYTHON)"; fi
+	@if command -v $(PYTHON) > /dev/null && command -v $(CC) > /dev/null; then $(PYTHON) tools/faults build/wm --every 25; \
+	else echo "faults: skipped, for there is no $(PYTHON) or no C compiler"; fi
 
 against: build/wm
 	$(PYTHON) tools/against build/wm --scripts 300
 
 refuse: build/wm
 	$(PYTHON) tools/refuse build/wm
+
+faults: build/wm
+	$(PYTHON) tools/faults build/wm
+
+wrong:
+	$(PYTHON) tools/wrong.py $(RT)
 
 edge: build/wm
 	$(PYTHON) tools/edge build/wm

@@ -16,7 +16,9 @@ start, so most cases begin with 'init'. A line of a case is
     @ same NAME         the file is the one that was saved as NAME
     @ count TAG N       there are N records of the tag
     @ is TAG N HEX      the N-th record of a tag, in order of ids from 1, has these bytes (given with blanks between them)
+    @ has HEX | lacks HEX    some record has these bytes, or none has
     @ set TAG N AT HEX  bytes of such a record, from AT on, become these
+    @ add HEX           a record of these bytes is added (given with blanks between them)
 
 and a comment begins with '#'. The output of a command is its '>' lines and nothing beside.
 """
@@ -126,6 +128,8 @@ def change(store, words):
         at, new = placed(old, rest[0], rest[1])[0] + int(rest[2]), bytes.fromhex(rest[3])
         old[at:at + len(new)] = new
         store.write_bytes(old)
+    elif kind == "add":
+        store.write_bytes(with_record(bytearray(store.read_bytes()), bytes.fromhex("".join(rest))))
     elif kind in ("save", "load"):
         kept = store.with_name("kept-" + rest[0])
         shutil.copyfile(*((store, kept) if kind == "save" else (kept, store)))
@@ -166,8 +170,23 @@ def otherwise(store, words):
     if words[0] == "count":
         count = sum(1 for at, _ in slots(file).values() if file[at] == int(words[1]))
         return None if count == int(words[2]) else f"there are {count}"
+    if words[0] in ("has", "lacks"):
+        is_there = bytes.fromhex("".join(words[1:])) in records(file).values()
+        return None if is_there == (words[0] == "has") else "it is there" if is_there else "there is none"
     at, size = placed(file, words[1], words[2])
     return None if file[at:at + size] == bytes.fromhex("".join(words[3:])) else f"the record is {file[at:at + size].hex(' ')}"
+
+
+def with_record(file, record):
+    """The file with a record more, under the next id, behind the last slot of the last page."""
+    found = slots(file)
+    at, size = max(found.values())
+    start = at // 4096 * 4096
+    file[start:start + 2] = (int.from_bytes(file[start:start + 2], "big") + 1).to_bytes(2, "big")
+    name = int.from_bytes(max(found), "big") + 1
+    slot = name.to_bytes(8, "big") + len(record).to_bytes(2, "big") + record
+    file[at + size:at + size + len(slot)] = slot
+    return file
 
 
 def too_many(store, words):
@@ -185,7 +204,7 @@ def play(program, path):
     with tempfile.TemporaryDirectory() as folder:
         store = Path(folder) / "s.store"
         for step in read_case(path):
-            if isinstance(step, list) and step[0] in ("few", "same", "count", "is"):
+            if isinstance(step, list) and step[0] in ("few", "same", "count", "is", "has", "lacks"):
                 why = otherwise(store, step)
                 if why is not None:
                     return f"{path}: @ {' '.join(step)}: {why}"

@@ -48,14 +48,48 @@ class Session:
 
 
 @dataclass
+class Entry:
+    """What a change wrote: a row over a period, or that none is there."""
+    table: str
+    key: object
+    period: Period
+    row: tuple | None
+
+
+@dataclass
+class Savepoint:
+    place: int
+    content: dict
+    log_length: int
+
+
+@dataclass
 class Workspace:
-    content: dict  # table to the rows of each key, each a period and its values, in order of time
-    savepoints: dict = field(default_factory=dict)  # name to content
-    implicit: int = 0
+    number: int
+    parent: int | None
+    birth_place: int  # in the parent
+    log_from: int  # how long the parent's log was
+    first: dict  # table to the rows of each key, each a period and its values, in order of time: what it was born with
+    content: dict  # what it has now
+    log: list = field(default_factory=list)  # of all its changes
+    savepoints: dict = field(default_factory=dict)  # by name
+    place: int = 0  # the last one given; none is given again
+    implicit: int = 0  # how many implicit savepoints were ever made
+
+    def append(self, entry):
+        self.log.append(entry)
+        write(self.content, entry)
 
 
 def copied(content):
     return {table: {key: list(pieces) for key, pieces in rows.items()} for table, rows in content.items()}
+
+
+def write(content, entry):
+    rows = content.setdefault(entry.table, {})
+    rows[entry.key] = written(rows.get(entry.key, []), entry.period, entry.row)
+    if not rows[entry.key]:
+        del rows[entry.key]
 
 
 def written(pieces, period, row):
@@ -226,7 +260,7 @@ class Reference:
 
     def __init__(self, limit):
         self.limit, self.stamps, self.last_moment, self.moment = limit, 0, Instant(0), Instant(0)
-        self.tables, self.workspaces, self.sessions = {}, {b"LIVE": Workspace({})}, {}
+        self.tables, self.workspaces, self.sessions = {}, {b"LIVE": Workspace(0, None, 0, 0, {}, {})}, {}
 
     def begin(self, now):
         self.sessions = {}
@@ -301,7 +335,7 @@ class Reference:
 
     def content(self, session):
         workspace = self.workspaces[session.workspace]
-        return workspace.content if session.savepoint is None else workspace.savepoints[session.savepoint]
+        return workspace.content if session.savepoint is None else workspace.savepoints[session.savepoint].content
 
     def window(self, session, table):
         """The period in which the session sees and changes rows of the table."""
@@ -319,10 +353,7 @@ class Reference:
         return [values + (period,) * table.has_periods for period, values in self.pieces(session, table)]
 
     def write(self, session, table, key, period, row):
-        rows = self.content(session).setdefault(table.name, {})
-        rows[key] = written(rows.get(key, []), period, row)
-        if not rows[key]:
-            del rows[key]
+        self.workspaces[session.workspace].append(Entry(table.name, key, period, row))
 
     def used(self, names):
         """The tables of these names, which are all there and version-enabled."""
@@ -622,7 +653,8 @@ class Reference:
         given = {parameter: constant.value for parameter, constant in tree.given.items()}
         return {"ENABLEVERSIONING": self.enable_versioning, "CREATEWORKSPACE": self.create_workspace,
                 "CREATESAVEPOINT": self.create_savepoint, "GOTOWORKSPACE": self.goto_workspace,
-                "GOTOSAVEPOINT": self.goto_savepoint, "SETVALIDTIME": self.set_valid_time}[tree.procedure](session, tree, given)
+                "GOTOSAVEPOINT": self.goto_savepoint, "SETVALIDTIME": self.set_valid_time, "ROLLBACKTOSP": self.rollback_to_savepoint,
+                "REMOVEWORKSPACE": self.remove_workspace}[tree.procedure](session, tree, given)
 
     def test_arguments(self, tree, needed, **kinds):
         """Refuses the first argument that does not fit; 'kinds' tells for each parameter its kind, or the values it takes."""
@@ -671,11 +703,22 @@ class Reference:
         parent = self.workspaces[session.workspace]
         if len(parent.savepoints) == self.MOST_SAVEPOINTS:
             refuse("WM-072 savepoints", self.MOST_SAVEPOINTS)
+        if session.savepoint is None:
+            point = self.kept(parent)
+        else:
+            stands = parent.savepoints[session.savepoint]
+            point = Savepoint(stands.place, copied(stands.content), stands.log_length)
         parent.implicit += 1
-        parent.savepoints[b"ICP-%d" % parent.implicit] = copied(self.content(session))
-        self.workspaces[name] = Workspace(copied(self.content(session)))
+        parent.savepoints[b"ICP-%d" % parent.implicit] = point
+        number = 1 + max(workspace.number for workspace in self.workspaces.values())
+        self.workspaces[name] = Workspace(number, parent.number, point.place, point.log_length, copied(point.content), copied(point.content))
         self.changed()
         return [], "OK"
+
+    def kept(self, workspace):
+        """A savepoint of what is newest, at a new place."""
+        workspace.place += 1
+        return Savepoint(workspace.place, copied(workspace.content), len(workspace.log))
 
     def test_new_name(self, name):
         if isinstance(name, bytes) and not (1 <= len(name) <= 30 and all(0x20 <= byte <= 0x7E for byte in name)):
@@ -692,7 +735,7 @@ class Reference:
             refuse("WM-023 savepoint exists", printed(name))
         if len(workspace.savepoints) == self.MOST_SAVEPOINTS:
             refuse("WM-072 savepoints", self.MOST_SAVEPOINTS)
-        workspace.savepoints[name] = copied(workspace.content)
+        workspace.savepoints[name] = self.kept(workspace)
         self.changed()
         return [], "OK"
 
@@ -715,6 +758,48 @@ class Reference:
         session.savepoint = None if name == b"LATEST" else name
         return [], "OK"
 
+    def rollback_to_savepoint(self, session, tree, given):
+        name = given.get("SAVEPOINT_NAME")
+        if name == b"LATEST":
+            refuse("WM-024 reserved", printed(name))
+        self.test_arguments(tree, ["WORKSPACE", "SAVEPOINT_NAME"], WORKSPACE="text", SAVEPOINT_NAME="text")
+        workspace = self.workspace(given["WORKSPACE"])
+        if name not in workspace.savepoints:
+            refuse("WM-022 no savepoint", printed(name))
+        point = workspace.savepoints[name]
+        later = {other for other, it in workspace.savepoints.items() if it.place > point.place}
+        self.test_inside(given["WORKSPACE"], lambda savepoint: savepoint in later)
+        self.test_child("WM-045 dependent child", workspace,
+                        lambda child: child.birth_place > point.place or child.log_from > point.log_length)
+        if later or len(workspace.log) > point.log_length:
+            workspace.content, workspace.log = copied(point.content), workspace.log[:point.log_length]
+            workspace.savepoints = {other: it for other, it in workspace.savepoints.items() if other not in later}
+            self.changed()
+        return [], "OK"
+
+    def remove_workspace(self, session, tree, given):
+        self.test_arguments(tree, ["WORKSPACE"], WORKSPACE="text")
+        name = given["WORKSPACE"]
+        workspace = self.workspace(name)
+        if workspace.parent is None:
+            refuse("WM-025 no parent", printed(name))
+        self.test_inside(name, lambda savepoint: True)
+        self.test_child(f"WM-044 has child {printed(name).decode()}", workspace, lambda child: True)
+        del self.workspaces[name]
+        self.changed()
+        return [], "OK"
+
+    def test_inside(self, name, is_in_the_way):
+        """Refuses the first session, by CONNECT, that stands in a workspace where it is in the way."""
+        for session, other in self.sessions.items():
+            if other.workspace == name and is_in_the_way(other.savepoint):
+                refuse("WM-043 session inside", printed(name), session)
+
+    def test_child(self, text, workspace, is_in_the_way):
+        """Refuses the child of the least number that is in the way."""
+        children = {child.number: name for name, child in self.workspaces.items() if child.parent == workspace.number and is_in_the_way(child)}
+        if children:
+            refuse(text, printed(children[min(children)]))
 
     def set_valid_time(self, session, tree, given):
         self.test_arguments(tree, ["VALIDFROM"] if tree.given else [], VALIDFROM="time", VALIDTILL="time")

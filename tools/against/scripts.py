@@ -91,6 +91,7 @@ class Writer:
         self.limit = self.random.choice([1000] * 12 + [1_048_576, 12, 25])
         self.reference = Reference(self.limit)
         self.noise = 0.0  # how likely each choice within the line is a bad one
+        self.branching = self.random.choice([1, 1, 1, 3])  # how often lines on workspaces and savepoints come
 
     def chance(self, likely):
         return self.random.random() < likely
@@ -117,6 +118,8 @@ class Writer:
             lines += [self.played(self.line()) for _ in range(length // 2 if part else length)]
             runs.append((now, lines))
             now = self.one(["2020-01-01", "2019-01-01", "2021-06-01"])
+        if self.chance(0.5):
+            lines += [self.played(line.encode()) for line in self.closing()]
         return runs
 
     def played(self, line):
@@ -141,6 +144,8 @@ class Writer:
         if self.chance(0.4):
             yield b"A: EXEC DBMS_WM.CreateWorkspace('W')"
             yield b"B: EXEC DBMS_WM.GotoWorkspace('W')"
+            if self.chance(0.2 * self.branching):
+                yield from self.branched()
         if self.chance(0.4):
             yield self.spaced(self.set_valid_time().split(" "))
         if not part and self.chance(0.02):
@@ -149,6 +154,28 @@ class Writer:
             for number in range(self.one([46, 47])):
                 yield b"A: INSERT INTO WIDE VALUES (%d)" % number
 
+    def branched(self):
+        """W gets savepoints, at one of which a session may stay, and a child."""
+        for point in self.random.sample(SAVEPOINTS, self.one([1, 2, 3])):
+            yield f"B: EXEC DBMS_WM.CreateSavepoint('W', '{point}')".encode()
+            yield self.spaced(self.one([self.insert, self.update, self.delete])().split(" "))
+        yield self.one([f"B: EXEC DBMS_WM.GotoSavepoint('{point}')", "B: EXEC DBMS_WM.GotoWorkspace('LIVE')"]).encode()
+        if self.chance(0.5):
+            yield b"A: EXEC DBMS_WM.GotoWorkspace('W')"
+            yield b"A: EXEC DBMS_WM.CreateWorkspace('V')"
+            yield f"A: EXEC DBMS_WM.GotoWorkspace('{self.one(['LIVE', 'V'])}')".encode()
+
+    def closing(self):
+        """Lines that list what stands in each workspace, and some of what stands at each savepoint."""
+        ready = [name for name, table in self.reference.tables.items() if table.is_versioned]
+        yield from ["CONNECT Z ZED", "Z: EXEC DBMS_WM.SetValidTime(DATE '0001-01-01')"]
+        for workspace, its in self.reference.workspaces.items():
+            yield f"Z: EXEC DBMS_WM.GotoWorkspace({printed(workspace).decode()})"
+            yield from (f"Z: SELECT * FROM {table}" for table in ready)
+            for savepoint in its.savepoints if ready else []:
+                yield f"Z: EXEC DBMS_WM.GotoSavepoint({printed(savepoint).decode()})"
+                yield f"Z: SELECT * FROM {self.one(ready)}"
+
     # Lines and their bytes
 
     def line(self):
@@ -156,9 +183,11 @@ class Writer:
         if self.chance(0.04):
             return self.one(ODD_LINES)
         words = self.weighted({
-            self.insert: 26, self.update: 13, self.move: 11, self.delete: 5, self.select: 32, self.create: 3, self.enable: 3, self.create_workspace: 5,
-            self.create_savepoint: 4, self.goto_workspace: 8, self.goto_savepoint: 6, self.connect: 3, self.disconnect: 1, self.later: 1,
-            self.set_valid_time: 10, self.at: 4, self.on_periods: 4, self.deep: 1, self.wide: 0.3, self.long: 0.3})().split(" ")
+            self.insert: 26, self.update: 13, self.move: 11, self.delete: 5, self.select: 32, self.create: 3, self.enable: 3,
+            self.create_workspace: 6 * self.branching, self.create_savepoint: 6 * self.branching, self.goto_workspace: 8 * self.branching,
+            self.goto_savepoint: 7 * self.branching, self.rollback: 7 * self.branching, self.remove: 4 * self.branching,
+            self.connect: 3, self.disconnect: 1, self.not_built: 1, self.set_valid_time: 10, self.at: 4, self.on_periods: 4, self.deep: 1,
+            self.wide: 0.3, self.long: 0.3})().split(" ")
         if self.chance(0.12):
             words = self.damaged(words)
         return self.spaced(words)
@@ -525,7 +554,7 @@ class Writer:
     def disconnect(self):
         return f"DISCONNECT {self.one(['B', 'C', 'D', 'Z'])}"
 
-    def later(self):
+    def not_built(self):
         """What the language has, and the program has not yet."""
         return self.said(self.one(LATER))
 
@@ -663,3 +692,43 @@ class Writer:
         if self.is_bad(0.08):
             name = self.one(["'NOPE'", "'latest'", "5", "'S'", "'ICP-9'"])
         return self.call("GotoSavepoint", [self.named("savepoint_name", name)] if name else [], ["savepoint_name => 'S'", "TRUE"])
+
+    def rollback(self):
+        """To a savepoint, mostly of a workspace that has one, and most of the time one behind which there is something."""
+        found = [(workspace, name) for workspace, its in self.reference.workspaces.items() for name in its.savepoints]
+        undoing = {pair: self.likely(*pair) + 5 * (pair[0] != b"LIVE") for pair in found if self.undoes(*pair)}
+        if not found or self.is_bad(0.06):
+            workspace = self.workspace_name()
+            name = self.one(["'LATEST'", "'LATEST'", "'latest'", "'NOPE'", "'ICP-9'", "''", "NULL", "5", "'S'", "'R'", f"'{LONG_NAME}'", "'\u00e9'"])
+        else:
+            workspace, name = (printed(text).decode() for text in (self.weighted(undoing) if undoing and self.chance(0.85) else self.one(found)))
+        arguments = [workspace, self.named("savepoint_name", name)]
+        if self.chance(0.06):
+            arguments = self.one([[f"savepoint_name => {name}", f"workspace => {workspace}"], [f"savepoint_name => {name}"], [workspace]])
+        return self.call("RollbackToSP", arguments, ["5", "workspace => 'LIVE'", "savepoint_name => 'LATEST'", "description => 'x'"])
+
+    def later(self, workspace, name):
+        """The savepoints of a workspace behind one of them."""
+        points = self.reference.workspaces[workspace].savepoints
+        return [other for other, it in points.items() if it.place > points[name].place]
+
+    def undoes(self, workspace, name):
+        its = self.reference.workspaces[workspace]
+        return self.later(workspace, name) or len(its.log) > its.savepoints[name].log_length
+
+    def likely(self, workspace, name):
+        """How likely a rollback is tried: most likely one that neither a session nor a child bars, and least one that a child bars."""
+        its, later = self.reference.workspaces[workspace], self.later(workspace, name)
+        if any(session.workspace == workspace and session.savepoint in later for session in self.reference.sessions.values()):
+            return 10
+        children = [child for child in self.reference.workspaces.values() if child.parent == its.number]
+        return 1 if any(child.birth_place > its.savepoints[name].place for child in children) else 10
+
+    def remove(self):
+        """A workspace that nothing keeps, or one that has children or sessions."""
+        spaces, sessions = self.reference.workspaces, self.reference.sessions.values()
+        parents = {its.parent for its in spaces.values()}
+        likely = {name: 1 if any(session.workspace == name for session in sessions) else 4 if its.number in parents else 3
+                  for name, its in spaces.items() if its.parent is not None}
+        name = printed(self.weighted(likely)).decode() if likely and not self.is_bad(0.1) else self.workspace_name()
+        return self.call("RemoveWorkspace", [self.named("workspace", name)], ["workspace => 'LIVE'", "5", "'W' , 'V'", "savepoint_name => 'S'"])

@@ -29,6 +29,7 @@ def main():
             "two runs from the start": lambda kind: runs.race(kind, room, given.times),
             "two inits from the start": lambda kind: runs.race_to_make(kind, room, given.times),
             "a run after one that was killed": lambda kind: runs.killed(kind, room),
+            "a store that another program writes to": lambda kind: runs.written_to(kind, room),
             "standard streams closed": lambda kind: streams.closed(kind, room),
             "standard streams that fail": lambda kind: streams.failing(kind, room),
             "answers that are not taken": lambda kind: streams.not_taken(kind, room),

@@ -17,6 +17,7 @@ COMPLAINTS = {
     6: b"wm: not a store\n",
     8: b"wm: store exists\n",
     9: b"wm: input limit\n",
+    11: b"wm: store changed\n",
 }
 
 TABLE = b"""CONNECT A ANN

@@ -1,8 +1,12 @@
-"""Two runs of one store at once."""
+"""Two runs of one store at once, and a store that another program writes to."""
 import os
 import subprocess
 
 from room import INIT, RUN, ended, inserting, read
+
+PAGE = 4096
+# The first page that has records, the counters among them, which each change rewrites.
+FIRST_RECORDS = 2
 
 
 def answer(run, line):
@@ -87,3 +91,17 @@ def killed(kind, room):
     kind.expect("the rows after it was killed", room.rows(path), [1])
     script, answers = inserting([2])
     kind.expect("a run after it was killed", room.play(path, RUN, script), ended(0, answers))
+
+
+def written_to(kind, room):
+    """Another program, which asks for no lock, writes over a page that the run has read."""
+    path = room.store()
+    first = room.begin(path)
+    kind.expect("CONNECT of the open run", answer(first, b"CONNECT A ANN\n"), b"OK\n")
+    kind.expect("INSERT of the open run", answer(first, b"A: INSERT INTO T VALUES (1)\n"), b"DONE 1\n")
+    with open(path, "r+b") as file:
+        file.seek(FIRST_RECORDS * PAGE)
+        file.write(b"\xff" * PAGE)
+    kind.expect("INSERT behind the other's writing", answer(first, b"A: INSERT INTO T VALUES (2)\n"), b"")
+    kind.expect("the open run", finished(first), ended(11))
+    kind.expect("a run over what is left", room.play(path, RUN)[0], 7)

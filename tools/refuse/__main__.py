@@ -15,66 +15,8 @@ import tempfile
 from concurrent.futures import ThreadPoolExecutor
 from pathlib import Path
 
-NOW = "2024-06-01"
-
-# One line of each kind that the program runs, and some that it refuses.
-SCRIPT = """
--- who is there
-CONNECT A ANN
-CONNECT B BEN
-A: CREATE TABLE BUD (ID NUMBER PRIMARY KEY, AMT NUMBER, NOTE VARCHAR2(20))
-A: CREATE TABLE EMP (NAME VARCHAR2(20) PRIMARY KEY, SAL NUMBER NOT NULL)
-A: EXECUTE DBMS_WM.EnableVersioning('BUD', 'VIEW_WO_OVERWRITE')
-A: EXECUTE DBMS_WM.EnableVersioning('EMP', 'NONE', FALSE, TRUE)
-A: INSERT INTO BUD VALUES (1, 10, 'ten')
-A: INSERT INTO BUD (ID, AMT) VALUES (2, 2 * (30 - 5))
-A: INSERT INTO BUD VALUES (1, 11, NULL)
-AT DATE '2024-06-02'
-A: EXECUTE DBMS_WM.CreateWorkspace('W')
-B: EXECUTE DBMS_WM.GotoWorkspace('W')
-B: UPDATE BUD SET AMT = AMT + 1, NOTE = 'more' WHERE AMT > 5 OR NOTE IS NULL
-B: EXECUTE DBMS_WM.CreateSavepoint('W', 'S')
-B: DELETE FROM BUD WHERE ID = 2
-A: UPDATE BUD SET AMT = 12 WHERE ID = 1
-B: INSERT INTO BUD VALUES (3, 30, 'it''s new')
-B: EXECUTE DBMS_WM.GotoSavepoint('S')
-B: INSERT INTO BUD VALUES (4, 40, 'late')
-B: SELECT ID, AMT FROM BUD
-B: EXECUTE DBMS_WM.GotoSavepoint()
-A: EXECUTE DBMS_WM.SetValidTime(DATE '2020-01-01', DATE '2030-01-01')
-A: INSERT INTO EMP VALUES ('Ada', 30)
-A: INSERT INTO EMP VALUES ('Bob', 20)
-A: EXECUTE DBMS_WM.SetValidTime(DATE '2022-01-01', DATE '2023-01-01')
-A: UPDATE EMP SET SAL = SAL + 5 WHERE WM_OVERLAPS(WM_VALID, WM_PERIOD(DATE '2021-01-01', DATE '2022-06-01')) = 1
-A: DELETE FROM EMP WHERE NAME = 'Bob'
-A: UPDATE EMP SET WM_VALID = WM_PERIOD(DATE '2031-01-01', DATE '2032-01-01') WHERE SAL = 35
-A: SELECT E.NAME, E.SAL, B.AMT FROM EMP E JOIN BUD B ON B.ID = 1 WHERE E.SAL > 0 ORDER BY E.NAME DESC
-A: SELECT AMT, COUNT(*), SUM(ID) FROM BUD GROUP BY AMT ORDER BY 2 DESC
-A: SELECT DISTINCT NOTE FROM BUD WHERE ID IN (1, 2, 3) AND NOT (AMT BETWEEN 100 AND 200)
-A: SELECT NOPE FROM BUD
-A: MERGE
-DISCONNECT B
-"""
-
-# What of the state a script can see: each workspace and savepoint is gone to, and all rows of both tables are listed.
-LISTING = """
-CONNECT Z ZOE
-Z: EXECUTE DBMS_WM.SetValidTime(DATE '0001-01-01')
-Z: SELECT * FROM BUD
-Z: SELECT * FROM EMP
-Z: EXECUTE DBMS_WM.GotoWorkspace('W')
-Z: SELECT * FROM BUD
-Z: SELECT * FROM EMP
-Z: EXECUTE DBMS_WM.GotoSavepoint('S')
-Z: SELECT * FROM BUD
-Z: SELECT * FROM EMP
-Z: EXECUTE DBMS_WM.CreateSavepoint('LIVE', 'S')
-Z: EXECUTE DBMS_WM.CreateWorkspace('W')
-"""
-
-
-def lines_of(text):
-    return [line.encode() + b"\n" for line in text.strip().split("\n")]
+sys.path.insert(0, str(Path(__file__).resolve().parents[1]))
+from every_line import MAKING, NOW, READING, SCRIPT, lines_of
 
 
 def play(program, store, lines, **more):
@@ -93,7 +35,7 @@ def copied(room, store, name):
 def listing_of(program, room, store, name):
     """Returns what the store says, which is left as it is."""
     copy = copied(room, store, f"{name}-listed")
-    status, said, complaint = play(program, copy, lines_of(LISTING))
+    status, said, complaint = play(program, copy, lines_of(READING, MAKING))
     os.remove(copy)
     if status:
         raise SystemExit(f"the listing ended with status {status}: {complaint!r}")

@@ -13,7 +13,8 @@ def in_order(store, number=LIVE):
 
 
 def births(store):
-    """The savepoint that was made for each workspace but LIVE. Of several at one place, in order of their making."""
+    """The savepoint that was made for each workspace but LIVE. Of several at one place, in order of their making; one of a workspace that
+    was removed since may be among them."""
     found = {}
     for space in store.spaces.values():
         points = [point for point in store.savepoints_of(space) if point.is_implicit]

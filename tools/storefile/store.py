@@ -153,9 +153,10 @@ class Store:
         return max(0, self.spaces[space.parent].log_length - space.parent_log_length)
 
     def last_stamps(self, table):
-        """The stamp of the last change of each key of a table, in any workspace."""
+        """The stamp of the last change of each key of a table, in any workspace. A version that a rollback left is on no path."""
         found = {}
-        for piece in (piece for pieces in self.pieces.values() for piece in pieces if piece.cells.table == table.number):
+        versions = {version for newest in self.newest.values() for version in self.path(newest)}
+        for piece in (piece for version in versions for piece in self.pieces[version] if piece.cells.table == table.number):
             found[piece.cells.key] = max(piece.stamp, found.get(piece.cells.key, 0))
         return found
 

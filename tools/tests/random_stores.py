@@ -1,4 +1,4 @@
-"""Random scripts that make workspaces, savepoints and rows over periods, and nearly always are accepted."""
+"""Random scripts that make workspaces, savepoints and rows over periods, go back and remove, and are mostly accepted."""
 import random
 
 # Whether a table has valid time, and its history.
@@ -12,7 +12,7 @@ class Writer:
 
     def __init__(self, seed):
         self.random = random.Random(seed)
-        self.workspaces, self.points, self.day = ["LIVE"], [], 1
+        self.workspaces, self.points, self.day = ["LIVE"], [], 1  # each savepoint with its workspace
         self.lines = ["CONNECT A ANN", "CONNECT B BEN"]
         for table, (is_valid, history) in TABLES.items():
             self.lines.append(f"A: CREATE TABLE {table} (ID NUMBER PRIMARY KEY, X NUMBER, NOTE VARCHAR2(20))")
@@ -40,18 +40,23 @@ class Writer:
         return self.other_line(pick, session)
 
     def other_line(self, pick, session):
-        if pick < 0.78:
+        if pick < 0.76:
             return f"{session}: EXECUTE DBMS_WM.SetValidTime({self.period()})"
-        if pick < 0.83:
+        if pick < 0.81:
             self.workspaces.append(f"W{len(self.workspaces)}")
             return f"{session}: EXECUTE DBMS_WM.CreateWorkspace('{self.workspaces[-1]}')"
-        if pick < 0.92:
+        if pick < 0.88:
             return f"{session}: EXECUTE DBMS_WM.GotoWorkspace('{self.random.choice(self.workspaces)}')"
-        if pick < 0.96:
-            self.points.append(f"P{len(self.points)}")
-            return f"{session}: EXECUTE DBMS_WM.CreateSavepoint('{self.random.choice(self.workspaces)}', '{self.points[-1]}')"
-        if pick < 0.98 and self.points:
-            return f"{session}: EXECUTE DBMS_WM.GotoSavepoint('{self.random.choice(self.points)}')"
+        if pick < 0.92:
+            self.points.append((self.random.choice(self.workspaces), f"P{len(self.points)}"))
+            return f"{session}: EXECUTE DBMS_WM.CreateSavepoint('{self.points[-1][0]}', '{self.points[-1][1]}')"
+        if pick < 0.96 and self.points:
+            workspace, point = self.random.choice(self.points)
+            return f"{session}: EXECUTE DBMS_WM.RollbackToSP('{workspace}', '{point}')"
+        if pick < 0.97:
+            return f"{session}: EXECUTE DBMS_WM.RemoveWorkspace('{self.random.choice(self.workspaces[1:] or self.workspaces)}')"
+        if pick < 0.985 and self.points:
+            return f"{session}: EXECUTE DBMS_WM.GotoSavepoint('{self.random.choice(self.points)[1]}')"
         self.day = min(self.day + 1, 28)
         return f"AT DATE '2024-02-{self.day:02}'"
 

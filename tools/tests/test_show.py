@@ -116,10 +116,28 @@ class Contents(WithFolder):
                 self.turns(found)
                 self.conflicts(found)
 
+    def test_undone(self):
+        """What a rollback leaves is shown nowhere, and a removed workspace neither."""
+        lines = ["CREATE TABLE T (ID NUMBER PRIMARY KEY)", "EXECUTE DBMS_WM.EnableVersioning('T', 'VIEW_WO_OVERWRITE')",
+                 "EXECUTE DBMS_WM.CreateSavepoint('LIVE', 'S')", "INSERT INTO T VALUES (1)", "EXECUTE DBMS_WM.CreateWorkspace('W')",
+                 "EXECUTE DBMS_WM.CreateWorkspace('V')", "EXECUTE DBMS_WM.RemoveWorkspace('W')"]
+        undone = [*lines, "EXECUTE DBMS_WM.RemoveWorkspace('V')", "EXECUTE DBMS_WM.RollbackToSP('LIVE', 'S')"]
+        for played, numbers, points, keys in ((lines, [LIVE, 2], 3, {1}), (undone, [LIVE], 1, set())):
+            self.store.unlink(missing_ok=True)
+            script = "CONNECT A ANN\n" + "".join(f"A: {line}\n" for line in played)
+            done = run(made(self.store), "2024-01-01", script.encode())
+            self.assertNotIn(b"WM-", done.stdout)
+            found = self.compare(self.store)
+            self.assertEqual((list(found.spaces), len(found.savepoints)), (numbers, points))
+            self.assertEqual(set(found.last_stamps(found.tables[0])), keys)
+            text, page = shown(self.store, found, 20, 40)
+            self.assertEqual("nobody anything" in text, not keys)
+            self.assertEqual("There are no rows yet." in page, not keys)
+
     def histories(self, found):
-        """Each change took a stamp and a position in its workspace's log. Of a table with history each is kept, and of another
-        none."""
-        self.assertEqual(sum(space.log_length for space in found.spaces.values()), found.counters.next_stamp - 1)
+        """Each change took a stamp, and has a position in its workspace's log unless it was undone or the workspace is gone. Of a
+        table with history each is kept, and of another none."""
+        self.assertLessEqual(sum(space.log_length for space in found.spaces.values()), found.counters.next_stamp - 1)
         self.assertTrue(all(found.tables[entry.cells.table].has_history for entry in found.history))
         self.assertEqual(len({entry.stamp for entry in found.history}), len(found.history))
         for space in found.spaces.values():

@@ -15,6 +15,8 @@ is_later_procedure procedures.CreateSavepoint = false
 is_later_procedure procedures.GotoWorkspace = false
 is_later_procedure procedures.GotoSavepoint = false
 is_later_procedure procedures.SetValidTime = false
+is_later_procedure procedures.RollbackToSp = false
+is_later_procedure procedures.RemoveWorkspace = false
 is_later_procedure _ = true
 
 abbrev pub is_later_name : Option Procedure → Bool

@@ -18,7 +18,9 @@ fn is_later_procedure(procedure: Procedure) -> bool
         | Procedure::CreateSavepoint
         | Procedure::GotoWorkspace
         | Procedure::GotoSavepoint
-        | Procedure::SetValidTime => false,
+        | Procedure::SetValidTime
+        | Procedure::RollbackToSp
+        | Procedure::RemoveWorkspace => false,
         _ => true,
     }
 }

@@ -1,15 +1,1 @@
-mod Dropping
-mod DroppingAll
-mod Redrawing
-mod Following
-mod DraftLaws
-mod TwoLayers
-mod Putting
-mod Entering
-mod News
-mod Placed
-mod Written
-mod Born
-mod Spare
-mod Appended
 mod Sequenced

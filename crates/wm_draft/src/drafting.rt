@@ -1,42 +1,22 @@
 //! What becomes of the records where a line makes its edits.
 ghost use Rattle.std.specs.Prelude.{◌≡◌, ◌≤◌, ◌∷◌, [], length, true, IfOk, IfErr, OnOk};
-ghost use Rattle.wm_draft.specs.Drafting.{HasGreatId};
-ghost use Rattle.wm_draft.specs.declared.drafting.DraftFault.TheVariants.{Memory as NoMemory};
+ghost use Rattle.wm_changes.specs.Ids.{HasGreatId};
 ghost use Rattle.wm_graph.specs.Parts.{parts_of};
 ghost use Rattle.wm_graph.specs.Rules.{keep_rules};
 ghost use Rattle.wm_state.specs.ById.{Ascend, applied};
 ghost use Rattle.wm_state.specs.Drafts.{CanDraft, CanEdit, CanWork, Drafts, DraftsBy};
 
-use crate::append::append;
-use crate::births::bear;
-use crate::copies::change_copies;
 use crate::followed::followed_by;
-use crate::saves::save;
-use crate::tables::{create, enable};
 use std::alloc::Global;
-use thiserror::Error;
-use wm_base::Memory;
+use wm_append::append::append;
+use wm_changes::DraftFault;
+use wm_changes::copies::change_copies;
 use wm_image::Image;
+use wm_lifecycle::births::bear;
+use wm_lifecycle::saves::save;
+use wm_lifecycle::tables::{create, enable};
 use wm_spec::record::{Batch, Changes};
 use wm_state::edit::{Edit, LINE_WORK};
-
-/// Why the edits of a line are not drafted.
-#[derive(Clone, Copy, Debug, PartialEq, Eq, Error)]
-pub enum DraftFault {
-    #[error("out of memory")]
-    Memory,
-    /// Too few ids are left for the records that they add.
-    #[error("out of ids")]
-    Ids,
-}
-
-impl From<Memory> for DraftFault {
-    ghost from_gives = { λ _ e. e ≡ NoMemory };
-
-    fn from(_error: Memory) -> DraftFault {
-        DraftFault::Memory
-    }
-}
 
 /// What an edit at a moment makes of the records, with so much work.
 fn draft_one(
@@ -62,6 +42,7 @@ fn draft_one(
         Edit::Append { space, entries } => append(alloc, image, moment, work, space, entries),
         Edit::Save { space, name } => save(alloc, image, moment, work, space, name),
         Edit::Bear { parent, at, name } => bear(alloc, image, moment, work, parent, at, name),
+        Edit::Restore { .. } | Edit::Remove { .. } => Err(DraftFault::Memory),
     }
 }
 

@@ -30,7 +30,7 @@ spaces_under : (rs : List Space) (n : ℕ) → list_all (λ (r : Space). nat_lt 
 spaces_under [] n all = omega arith
 spaces_under (r ∷ rs) n all = let h = both (nat_lt r.number n) (list_all (λ (r : Space). nat_lt r.number n) rs) all in max_under r.number (space_after rs) n h.0 (spaces_under rs n h.1)
 
-spaces_over : (rs : List Space) (n : ℕ) → is_some (space_of rs n) ≡ true → n + 1 ≤ space_after rs
+pub spaces_over : (rs : List Space) (n : ℕ) → is_some (space_of rs n) ≡ true → n + 1 ≤ space_after rs
 spaces_over [] n some = absurd (bool_apart (sym some))
 spaces_over (r ∷ rs) n some = by_test (r.number == n) refl some (spaces_over rs n)
   where

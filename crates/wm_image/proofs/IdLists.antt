@@ -1,49 +1,62 @@
--- Lists of ids.
-use Rattle.std.proofs.Common.{◌≡◌, ◌≢◌, ℕ, zero, suc, ◌<◌, ◌≤◌, cond, List, [], ◌∷◌, length, get_or, take, insert, remove, refl, sym, ap, ◌∙◌, arith}
-use Rattle.std.proofs.lemmas.Bool.{lt-ltb, le-ltb, eq-eqb, ne_eqb}
+-- Lists of ids that ascend.
+use Rattle.std.proofs.Common.{◌≡◌, ◌≢◌, ℕ, zero, suc, ◌<◌, ◌≤◌, cond, List, [], ◌∷◌, length, get_or, insert, remove, Result, MatchResult, refl, sym, ap, ◌∙◌, ◌⊎◌, inl, inr, arith}
+use Rattle.std.proofs.lemmas.Bool.{cases_lt, lt-ltb, le-ltb, eq-eqb, ne_eqb}
+use Rattle.std.proofs.lemmas.List.Sorted.{searched}
+use Rattle.std.proofs.lemmas.Map.Keys.{below_from_sorted}
+use Rattle.std.proofs.lemmas.Result.{MatchResult-weaker}
+use Rattle.std.specs.List.Sorted.{IsBinarySearchResult, IsStrictlySortedBy}
+use Rattle.std.specs.Ordering.{nat_cmp}
 use Rattle.wm_image.specs.Sought.{placed, without}
 
--- all ids of a front are smaller
-abbrev pub Smaller : ℕ → List ℕ → Type 0
-Smaller id [] = Unit {0}
-Smaller id (x ∷ xs) = (x < id) × Smaller id xs
+-- an id put behind smaller ones, before one that is not smaller or at the end
+placed_at : (id : ℕ) (xs : List ℕ) (i : ℕ) → i ≤ length xs → ((k : ℕ) → k < i → get_or xs k 0 < id) → (i < length xs → id ≤ get_or xs i 0) → insert xs i id ≡ placed id xs
+placed_at id [] zero within below more = refl
+placed_at id [] (suc i) within below more = absurd (omega (arith, within))
+placed_at id (y ∷ ys) zero within below more = ap (λ b. cond b (y ∷ placed id ys) (id ∷ y ∷ ys)) (sym (le-ltb _ _ (more (omega arith))))
+placed_at id (y ∷ ys) (suc i) within below more =
+    ap (λ l. y ∷ l) (placed_at id ys i (omega (arith, within)) (λ k less. below (suc k) (omega (arith, less))) (λ less. more (omega (arith, less))))
+    ∙ ap (λ b. cond b (y ∷ placed id ys) (id ∷ y ∷ ys)) (sym (lt-ltb _ _ (below zero (omega arith))))
 
-pub Smaller-more : (id : ℕ) (xs : List ℕ) (i : ℕ) (x : ℕ) → Smaller id (take i xs) → i < length xs → x ≡ get_or xs i 0 → x < id → Smaller id (take (suc i) xs)
-Smaller-more id [] i x front within read less = absurd (omega arith)
-Smaller-more id (y ∷ ys) zero x front within read less = (let same : x ≡ y = read in omega (arith, less, same), tt)
-Smaller-more id (y ∷ ys) (suc i) x front within read less = (front.0, Smaller-more id ys i x front.1 (omega (arith, within)) read less)
+-- an id taken out behind smaller ones
+removed_at : (id : ℕ) (xs : List ℕ) (i : ℕ) → i < length xs → get_or xs i 0 ≡ id → ((k : ℕ) → k < i → get_or xs k 0 < id) → remove xs i ≡ without id xs
+removed_at id [] i within is below = absurd (omega (arith, within))
+removed_at id (y ∷ ys) zero within is below = ap (λ b. cond b ys (y ∷ without id ys)) (sym (eq-eqb _ _ is))
+removed_at id (y ∷ ys) (suc i) within is below =
+    ap (λ l. y ∷ l) (removed_at id ys i (omega (arith, within)) is (λ k less. below (suc k) (omega (arith, less))))
+    ∙ ap (λ b. cond b ys (y ∷ without id ys)) (sym (ne_eqb _ _ (λ e. absurd (let lt : y < id = below zero (omega arith) in omega (arith, lt, e)))))
 
--- an id put behind a front of smaller ones, before one that is not smaller or at the end
-pub insert_before : (id : ℕ) (xs : List ℕ) (i : ℕ) → Smaller id (take i xs) → i < length xs → id ≤ get_or xs i 0 → insert xs i id ≡ placed id xs
-insert_before id [] i front within more = absurd (omega arith)
-insert_before id (y ∷ ys) zero front within more = ap (λ b. cond b (y ∷ placed id ys) (id ∷ y ∷ ys)) (sym (le-ltb _ _ more))
-insert_before id (y ∷ ys) (suc i) front within more =
-    ap (λ l. y ∷ l) (insert_before id ys i front.1 (omega (arith, within)) more)
-    ∙ ap (λ b. cond b (y ∷ placed id ys) (id ∷ y ∷ ys)) (sym (lt-ltb _ _ front.0))
+-- an id that is not among others
+without_away : (id : ℕ) (xs : List ℕ) → ((k : ℕ) → k < length xs → get_or xs k 0 ≢ id) → without id xs ≡ xs
+without_away id [] away = refl
+without_away id (y ∷ ys) away =
+    ap (λ b. cond b ys (y ∷ without id ys)) (ne_eqb _ _ (away zero (omega arith))) ∙ ap (λ l. y ∷ l) (without_away id ys (λ k less. away (suc k) (omega (arith, less))))
 
-pub insert_end : (id : ℕ) (xs : List ℕ) → Smaller id xs → insert xs (length xs) id ≡ placed id xs
-insert_end id [] front = refl
-insert_end id (y ∷ ys) front =
-    ap (λ l. y ∷ l) (insert_end id ys front.1)
-    ∙ ap (λ b. cond b (y ∷ placed id ys) (id ∷ y ∷ ys)) (sym (lt-ltb _ _ front.0))
+rises : (xs : List ℕ) → IsStrictlySortedBy nat_cmp xs → (i j : ℕ) → i ≤ j → j < length xs → get_or xs i 0 ≤ get_or xs j 0
+rises xs sorted i j le within = by_place (cases_lt i j)
+  where
+    by_place : (i < j) ⊎ (j ≤ i) → get_or xs i 0 ≤ get_or xs j 0
+    by_place (inl lt) = let less = below_from_sorted xs i j 0 sorted lt within in omega (arith, less)
+    by_place (inr ge) = same i j (omega (arith, le, ge))
+      where
+        same : (m n : ℕ) → m ≡ n → get_or xs m 0 ≤ get_or xs n 0
+        same m n e = rw e (omega arith)
 
--- an id is not among others
-abbrev pub Apart : ℕ → List ℕ → Type 0
-Apart id [] = Unit {0}
-Apart id (x ∷ xs) = (x ≢ id) × Apart id xs
+-- a search finds the place where an id is to stand
+pub place_searched : (id : ℕ) (xs : List ℕ) (r : Result ℕ ℕ) → IsStrictlySortedBy nat_cmp xs → IsBinarySearchResult (λ y. nat_cmp y id) xs r
+    → MatchResult r (λ i. (i ≤ length xs) × (insert xs i id ≡ placed id xs)) (λ i. (i ≤ length xs) × (insert xs i id ≡ placed id xs))
+place_searched id xs r sorted found =
+    MatchResult-weaker r (searched xs id r found (rises xs sorted))
+    (λ i h. (omega (arith, h.0), placed_at id xs i (omega (arith, h.0)) (λ k less. (let lt = below_from_sorted xs k i 0 sorted less h.0 in omega (arith, lt, h.1))) (λ less. omega (arith, h.1))))
+    (λ i h. (h.0, placed_at id xs i h.0 h.1 (λ less. (let lt = h.2 i (omega arith) less in omega (arith, lt)))))
 
-pub Apart-more : (id : ℕ) (xs : List ℕ) (i : ℕ) (x : ℕ) → Apart id (take i xs) → i < length xs → x ≡ get_or xs i 0 → x ≢ id → Apart id (take (suc i) xs)
-Apart-more id [] i x front within read other = absurd (omega arith)
-Apart-more id (y ∷ ys) zero x front within read other = ((λ e. other (read ∙ e)), tt)
-Apart-more id (y ∷ ys) (suc i) x front within read other = (front.0, Apart-more id ys i x front.1 (omega (arith, within)) read other)
-
-pub remove_found : (id : ℕ) (xs : List ℕ) (i : ℕ) → Apart id (take i xs) → i < length xs → get_or xs i 0 ≡ id → remove xs i ≡ without id xs
-remove_found id [] i front within is = absurd (omega arith)
-remove_found id (y ∷ ys) zero front within is = ap (λ b. cond b ys (y ∷ without id ys)) (sym (eq-eqb _ _ is))
-remove_found id (y ∷ ys) (suc i) front within is =
-    ap (λ l. y ∷ l) (remove_found id ys i front.1 (omega (arith, within)) is)
-    ∙ ap (λ b. cond b ys (y ∷ without id ys)) (sym (ne_eqb _ _ front.0))
-
-pub without-apart : (id : ℕ) (xs : List ℕ) → Apart id xs → without id xs ≡ xs
-without-apart id [] apart = refl
-without-apart id (y ∷ ys) apart = ap (λ b. cond b ys (y ∷ without id ys)) (ne_eqb _ _ apart.0) ∙ ap (λ l. y ∷ l) (without-apart id ys apart.1)
+-- and where it stands, if it is there
+pub found_searched : (id : ℕ) (xs : List ℕ) (r : Result ℕ ℕ) → IsStrictlySortedBy nat_cmp xs → IsBinarySearchResult (λ y. nat_cmp y id) xs r
+    → MatchResult r (λ i. (i < length xs) × (remove xs i ≡ without id xs)) (λ i. without id xs ≡ xs)
+found_searched id xs r sorted found =
+    MatchResult-weaker r (searched xs id r found (rises xs sorted))
+    (λ i h. (h.0, removed_at id xs i h.0 h.1 (λ k less. (let lt = below_from_sorted xs k i 0 sorted less h.0 in omega (arith, lt, h.1)))))
+    (λ i h. without_away id xs (λ k less e. by_place i k (cases_lt k i) h.1 h.2 less e))
+  where
+    by_place : (i k : ℕ) → (k < i) ⊎ (i ≤ k) → ((k : ℕ) → k < i → get_or xs k 0 < id) → ((k : ℕ) → i ≤ k → k < length xs → id < get_or xs k 0) → k < length xs → get_or xs k 0 ≡ id → ⊥
+    by_place i k (inl less) below above within e = let lt = below k less in omega (arith, lt, e)
+    by_place i k (inr more) below above within e = let lt = above k more within in omega (arith, lt, e)

@@ -20,3 +20,5 @@ pub mod Lasts
 pub mod Saved
 pub mod Spaced
 pub mod Coming
+pub mod Ascending
+pub mod Least

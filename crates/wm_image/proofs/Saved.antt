@@ -22,7 +22,7 @@ use Rattle.wm_image.proofs.Finding.{Tests}
 use Rattle.wm_image.proofs.Firsts.{sought_kind, any_sought, count_sought, find-filter}
 use Rattle.wm_image.proofs.Lasts.{LastOf, has_ids, last-same, last_told}
 use Rattle.wm_image.specs.Indexed.{IsIndexed, ids_at, listed}
-use Rattle.wm_image.specs.Shown.{after, kind_at, rests_on}
+use Rattle.wm_image.specs.Shown.{after, is_saved_behind, kind_at, rests_on}
 use Rattle.wm_image.specs.Sought.{SavepointAt, SavepointsOf, KeptAs, KeptUnder, is_sought, last_used}
 use Rattle.wm_image.specs.declared.index.Index.{Index}
 
@@ -154,6 +154,23 @@ saved_told kept x is n making =
 pub count_told : (kept : BTreeMap ℕ Record) (x : Index) → IsIndexed kept x → (n : ℕ) → length (ids_at x (SavepointsOf n)) ≡ count_by (λ (y : Savepoint). y.space == n) (parts_of (listed kept.entries)).savepoints
 unfolding parts_of
 count_told kept x is n = count_sought as_savepoint (λ (y : Savepoint). y.space == n) (SavepointsOf n) (of_test n) kept x is
+
+any-filter : {A : Type 0} (q p : A → Bool) (xs : List A) → list_any (λ x. q x && p x) (filter q xs) ≡ list_any (λ x. q x && p x) xs
+any-filter q p [] = refl
+any-filter {A} q p (x ∷ xs) = by_test (q x) refl (any-filter q p xs)
+  where
+    by_test : (b : Bool) → q x ≡ b → list_any (λ y. q y && p y) (filter q xs) ≡ list_any (λ y. q y && p y) xs
+        → list_any (λ y. q y && p y) (cond b (x ∷ filter q xs) (filter q xs)) ≡ ((b && p x) || list_any (λ y. q y && p y) xs)
+    by_test true e rest = rw (e, rest) refl
+    by_test false e rest = rest
+
+-- a savepoint of a workspace stands behind a place
+pub behind_told : (kept : BTreeMap ℕ Record) (x : Index) → IsIndexed kept x → (n place log_length : ℕ)
+    → list_any (is_saved_behind n place log_length) (kind_at as_savepoint (listed kept.entries) (ids_at x (SavepointsOf n))) ≡ list_any (is_saved_behind n place log_length) (parts_of (listed kept.entries)).savepoints
+unfolding parts_of
+behind_told kept x is n place log_length =
+    ap (list_any (is_saved_behind n place log_length)) (sought_kind as_savepoint (λ (y : Savepoint). y.space == n) (SavepointsOf n) (of_test n) kept x is)
+    ∙ any-filter (λ (y : Savepoint). y.space == n) (λ (y : Savepoint). not (nat_le y.place place && nat_le y.log_length log_length)) (parts_of (listed kept.entries)).savepoints
 
 -- ---- the last making
 

@@ -1,6 +1,7 @@
 -- An index of records: the ids of whatever may be sought; and the catalog of the tables.
 use Rattle.std.specs.Prelude.{ℕ, ◌≡◌, true, if◌then◌else◌, List, map}
 use Rattle.std.specs.BTreeMap.{BTreeMap, IsOrdered}
+use Rattle.std.specs.List.Sorted.{IsStrictlySortedBy}
 use Rattle.std.specs.Ordering.{nat_cmp}
 use Rattle.wm_catalog.specs.Catalog.{same_name}
 use Rattle.wm_graph.specs.Parts.{parts_of}
@@ -9,7 +10,7 @@ use Rattle.wm_spec.specs.declared.record.Record.{Record}
 use Rattle.wm_spec.specs.declared.record.stored.Stored.{Stored}
 use Rattle.wm_spec.specs.declared.record.table.Table.{Table}
 use Rattle.wm_state.specs.Standing.{by_number}
-use Rattle.wm_image.specs.Sought.{Sought, TheCounters, Tables, Spaces, SpaceAt, VersionAt, VersionsOf, VersionsUnder, SavepointsOf, SavepointAt, KeptAs, KeptUnder, BornAs, SeenUnder, RowAt, PiecesAt, TouchesAt, is_sought, ids_with, placed, without, ids_in, piece_ids}
+use Rattle.wm_image.specs.Sought.{Sought, TheCounters, Tables, Spaces, SpaceAt, VersionAt, VersionsOf, VersionsUnder, SavepointsOf, SavepointAt, KeptAs, KeptUnder, BornAs, SeenUnder, RowAt, PiecesAt, TouchesAt, PiecesIn, OwnedBy, is_sought, ids_with, placed, without, ids_in, piece_ids}
 use Rattle.wm_image.specs.declared.index.Index.{Index}
 
 -- the ids that an index has of what is sought
@@ -30,6 +31,12 @@ ids_at x (SeenUnder version) = ids_in nat_cmp x.seen_under.entries version
 ids_at x (RowAt stamp) = ids_in nat_cmp x.rows.entries stamp
 ids_at x (PiecesAt table key) = piece_ids x.pieces.entries table key
 ids_at x (TouchesAt table key) = piece_ids x.touches.entries table key
+ids_at x (PiecesIn version) = ids_in nat_cmp x.pieces_in.entries version
+ids_at x (OwnedBy space) = ids_in nat_cmp x.owned.entries space
+
+-- the ids of whatever is sought ascend
+abbrev pub IdsAscend : Index → Type 0
+IdsAscend x = (q : Sought) → IsStrictlySortedBy nat_cmp (ids_at x q)
 
 -- the index has an id more, of a record
 abbrev pub Adds : Index → Index → ℕ → Record → Type 0

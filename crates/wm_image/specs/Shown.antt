@@ -1,5 +1,5 @@
 -- What is read of the records of some ids.
-use Rattle.std.specs.Prelude.{ℕ, ◌+◌, Bool, not, ◌&&◌, ◌||◌, ◌==◌, nat_le, nat_lt, max, List, [], ◌∷◌, Option, Some, None}
+use Rattle.std.specs.Prelude.{ℕ, ◌+◌, Bool, not, ◌&&◌, ◌||◌, ◌==◌, nat_le, nat_lt, max, if◌then◌else◌, List, [], ◌∷◌, Option, Some, None}
 use Rattle.std.specs.Bool.{then_some}
 use Rattle.std.specs.List.{filter_map}
 use Rattle.std.specs.Option.{option_or}
@@ -13,6 +13,7 @@ use Rattle.wm_spec.specs.declared.record.stored.Stored.{Stored}
 use Rattle.wm_spec.specs.declared.record.table.Table.{Table}
 use Rattle.wm_spec.specs.declared.record.version.Version.{Version}
 use Rattle.wm_state.specs.Standing.{held_by}
+pub use Rattle.wm_state.specs.Firsts.{is_child_from, is_saved_behind}
 
 -- those of a kind among the records of some ids
 abbrev pub kind_at : {A : Type 0} → (Record → Option A) → List Stored → List ℕ → List A
@@ -69,3 +70,14 @@ names version r = not (r.number == 0) && ((r.birth_version == version) || (r.bas
 abbrev pub after : ℕ → Option ℕ → ℕ
 after none None = none
 after none (Some n) = n + 1
+
+-- that of two workspaces with the lesser number, where there are both
+abbrev pub lesser : Option Space → Option Space → Option Space
+lesser None other = other
+lesser (Some r) None = Some r
+lesser (Some r) (Some q) = if nat_le r.number q.number then Some r else Some q
+
+-- the workspace of the least number that passes a test
+abbrev pub least : (Space → Bool) → List Space → Option Space
+least p [] = None
+least p (r ∷ rs) = lesser (then_some (p r) r) (least p rs)

@@ -18,7 +18,8 @@ use Rattle.wm_spec.specs.Records.{record_at}
 -- counters; tables; workspaces; a workspace or a version by its number; the versions of a workspace, or those under a version;
 -- the savepoints of a workspace, one by its making, those that keep a version, or those of workspaces with a number above 0 that see
 -- a version under their workspace's own; workspaces with a number above 0 that were born from a version, or see it under their own; a
--- row by its stamp; the pieces on a table and a key, or the touches
+-- row by its stamp; the pieces on a table and a key, or the touches; the pieces of a version; whatever is a workspace's own: itself, its
+-- versions, savepoints, touches, locks, entries of its log, marks and turns
 pub data Sought : Type 0 where
   TheCounters : Sought
   Tables : Sought
@@ -36,6 +37,8 @@ pub data Sought : Type 0 where
   RowAt : ℕ → Sought
   PiecesAt : ℕ → List Value → Sought
   TouchesAt : ℕ → List Value → Sought
+  PiecesIn : ℕ → Sought
+  OwnedBy : ℕ → Sought
 
 -- the record is what is sought
 abbrev pub is_sought : Sought → Record → Bool
@@ -55,6 +58,15 @@ is_sought (SeenUnder version) (records.Space r) = not (r.number == 0) && (r.base
 is_sought (RowAt stamp) (records.Row r) = r.stamp == stamp
 is_sought (PiecesAt table key) (records.Piece r) = (r.cells.table == table) && is_eq (key_order r.cells.key key)
 is_sought (TouchesAt table key) (records.Touch r) = (r.cells.table == table) && is_eq (key_order r.cells.key key)
+is_sought (PiecesIn version) (records.Piece r) = r.version == version
+is_sought (OwnedBy space) (records.Space r) = r.number == space
+is_sought (OwnedBy space) (records.Version r) = r.space == space
+is_sought (OwnedBy space) (records.Savepoint r) = r.space == space
+is_sought (OwnedBy space) (records.Touch r) = r.space == space
+is_sought (OwnedBy space) (records.Lock r) = r.space == space
+is_sought (OwnedBy space) (records.Hist r) = r.space == space
+is_sought (OwnedBy space) (records.Mark r) = r.space == space
+is_sought (OwnedBy space) (records.Turn r) = r.space == space
 is_sought _ _ = false
 
 -- the ids of the records that pass a test

@@ -1,12 +1,15 @@
 //! Ids in ascending order.
 
 ghost use Rattle.std.specs.Prelude.{◌≡◌, ◌<◌, ◌≤◌, ◌==◌, ◌&&◌, length, insert, remove, OnOk, IfNone, IfSome};
+ghost use Rattle.std.specs.List.Sorted.{IsStrictlySortedBy};
+ghost use Rattle.std.specs.Ordering.{nat_cmp};
 ghost use Rattle.wm_image.specs.Sought.{head_of, placed, without};
 
 use wm_base::Memory;
 
-/// Puts an id among the others.
+/// Puts an id among others that ascend.
 pub fn add_id(ids: &mut Vec<u64>, id: u64) -> Result<(), Memory>
+    requires { IsStrictlySortedBy nat_cmp ids.old.items }
     ensures { OnOk result (ids.new.items ≡ placed id ids.old.items) }
 {
     let place = place_of(ids.as_slice(), id);
@@ -14,21 +17,21 @@ pub fn add_id(ids: &mut Vec<u64>, id: u64) -> Result<(), Memory>
     Ok(())
 }
 
-/// The place of an id: before the first that is not smaller.
+/// The place of an id among others that ascend: before the first that is not smaller.
 fn place_of(ids: &[u64], id: u64) -> usize
+    requires { IsStrictlySortedBy nat_cmp ids.now }
     ensures within { result ≤ length ids.now }
     ensures there { insert ids.now result id ≡ placed id ids.now }
 {
-    for (place, other) in ids.iter().enumerate() {
-        if id <= *other {
-            return place;
-        }
+    match ids.binary_search(&id) {
+        Ok(place) => place,
+        Err(place) => place,
     }
-    ids.len()
 }
 
-/// Takes an id out, where it is there.
+/// Takes an id out of those that ascend, where it is there.
 pub fn drop_id(ids: &mut Vec<u64>, id: u64)
+    requires { IsStrictlySortedBy nat_cmp ids.old.items }
     ensures { ids.new.items ≡ without id ids.old.items }
 {
     if let Some(place) = find_place(ids.as_slice(), id) {
@@ -36,18 +39,17 @@ pub fn drop_id(ids: &mut Vec<u64>, id: u64)
     }
 }
 
-/// Where an id stands, or None where it is not there.
+/// Where an id stands among those that ascend, or None where it is not there.
 fn find_place(ids: &[u64], id: u64) -> Option<usize>
+    requires { IsStrictlySortedBy nat_cmp ids.now }
     ensures none { IfNone result (without id ids.now ≡ ids.now) }
     ensures within { IfSome result (λ place. place < length ids.now) }
     ensures there { IfSome result (λ place. remove ids.now place ≡ without id ids.now) }
 {
-    for (place, other) in ids.iter().enumerate() {
-        if *other == id {
-            return Some(place);
-        }
+    match ids.binary_search(&id) {
+        Ok(place) => Some(place),
+        Err(_) => None,
     }
-    None
 }
 
 /// The first id, where there is one.

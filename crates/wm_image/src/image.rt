@@ -15,17 +15,19 @@ ghost use Rattle.wm_period.specs.Pieces.{held_at};
 ghost use Rattle.wm_graph.specs.Parts.{as_counters, as_space, as_table, parts_of, row_of, space_of, table_of, version_of};
 ghost use Rattle.wm_graph.specs.Rules.{keep_rules};
 ghost use Rattle.wm_spec.specs.Records.{AreRecords, record_at};
-ghost use Rattle.wm_image.specs.Sought.{PiecesAt, TouchesAt, ids_with, is_sought};
+ghost use Rattle.wm_image.specs.Sought.{OwnedBy, PiecesAt, PiecesIn, TouchesAt, ids_with, is_sought};
 ghost use Rattle.wm_state.specs.ById.{Ascend, applied, by_id};
 ghost use Rattle.wm_image.specs.Listing.{AreSpans, IsFirstShared, IsKeyShowing};
-ghost use Rattle.wm_image.specs.Shown.{names, rests_on};
+ghost use Rattle.wm_image.specs.Shown.{is_child_from, is_saved_behind, names, rests_on};
 ghost use Rattle.wm_spec.specs.declared.record.savepoint.Savepoint.{Savepoint as OneSavepoint};
 ghost use Rattle.wm_spec.specs.declared.record.space.Space.{Space as OneSpace};
 ghost use Rattle.wm_state.specs.Effects.{IsFree};
+ghost use Rattle.wm_state.specs.Firsts.{first_recorded};
 ghost use Rattle.wm_state.specs.Listing.{IsShowing};
 ghost use Rattle.wm_state.specs.Standing.{by_number, latest, saved_as, saved_in, seen, space_after};
 ghost use Rattle.wm_state.specs.State.{next_table};
 
+use crate::children::{Behind, any_behind, least_child};
 use crate::ids::{are_empty, first_id};
 use crate::index::Index;
 use crate::keyed::{ids_of, ids_on, keys_on, last_key};
@@ -217,6 +219,20 @@ impl Image {
         number_after(last_key(&self.index.spaces))
     }
 
+    /// Of the children of a workspace that were born at a place of it from this one on, or whose copy of it has so much of
+    /// its log: the one of the least number.
+    pub fn child_from(&self, parent: u32, place: u64, log_length: u64) -> Option<&Space>
+        requires { keep_rules (parts_of self.now) ≡ true }
+        ensures { option_copied result ≡ first_recorded (is_child_from parent place log_length) (parts_of self.now).spaces }
+    {
+        let behind = Behind {
+            space: parent,
+            place,
+            log_length,
+        };
+        least_child(&self.kept, self.index.all_spaces.as_slice(), behind)
+    }
+
     /// The savepoint of a workspace and a name.
     pub fn savepoint_named(&self, space: u32, name: &[u8]) -> Option<&Savepoint>
         requires { keep_rules (parts_of self.now) ≡ true }
@@ -237,6 +253,22 @@ impl Image {
         ensures { result ≡ count_by (λ (x : OneSavepoint). x.space == space) (parts_of self.now).savepoints }
     {
         ids_of(&self.index.savepoints_of, &space).len()
+    }
+
+    /// Whether a workspace has a savepoint at a later place than this one, or one that had more of the log.
+    pub fn has_savepoint_behind(&self, space: u32, place: u32, log_length: u64) -> bool
+        ensures { result ≡ list_any (is_saved_behind space place log_length) (parts_of self.now).savepoints }
+    {
+        let behind = Behind {
+            space,
+            place: u64::from(place),
+            log_length,
+        };
+        any_behind(
+            &self.kept,
+            ids_of(&self.index.savepoints_of, &space),
+            behind,
+        )
     }
 
     /// The making after the greatest of a savepoint, 1 where there is none.
@@ -312,6 +344,21 @@ impl Image {
         ensures { result.now ≡ ids_with (is_sought (TouchesAt table key.now)) self.now }
     {
         ids_on(&self.index.touches, table, key)
+    }
+
+    /// The ids of the pieces of a version, in order.
+    pub fn pieces_in(&self, version: u64) -> &[u64]
+        ensures { result.now ≡ ids_with (is_sought (PiecesIn version)) self.now }
+    {
+        ids_of(&self.index.pieces_in, &version)
+    }
+
+    /// The ids of the records of a workspace, in order: itself, its versions, savepoints, touches, locks, entries of its
+    /// log, marks and turns.
+    pub fn records_of(&self, space: u32) -> &[u64]
+        ensures { result.now ≡ ids_with (is_sought (OwnedBy space)) self.now }
+    {
+        ids_of(&self.index.owned, &space)
     }
 
     /// Each key for which a table has pieces, of any version, once and in order.

@@ -5,7 +5,7 @@ ghost use Rattle.std.specs.BTreeMap.{IsOrdered};
 ghost use Rattle.std.specs.List.Sorted.{IsStrictlySortedBy};
 ghost use Rattle.std.specs.Map.{keys_of};
 ghost use Rattle.std.specs.Option.{option_copied};
-ghost use Rattle.std.specs.Ordering.{is_eq};
+ghost use Rattle.std.specs.Ordering.{is_eq, nat_cmp};
 ghost use Rattle.wm_base.specs.Key.{key_order};
 ghost use Rattle.wm_base.specs.declared.value.Value.{Value};
 ghost use Rattle.wm_image.specs.Sought.{placed, without, ids_in, keyed_at, last_used, piece_ids, used};
@@ -29,8 +29,9 @@ pub fn ids_of<'a, K: Ord>(map: &'a Ids<K>, key: &K) -> &'a [u64]
     }
 }
 
-/// Puts an id under a key.
+/// Puts an id under a key, where those there ascend.
 pub fn add_to<K: Ord + Drop>(alloc: Global, map: &mut Ids<K>, key: K, id: u64) -> Result<(), Memory>
+    requires { IsStrictlySortedBy nat_cmp (ids_in K.cmp map.old.entries key) }
     ensures { OnOk result ((q : K) → ids_in K.cmp map.new.entries q ≡ (if is_eq (K.cmp key q) then placed id (ids_in K.cmp map.old.entries key) else ids_in K.cmp map.old.entries q)) }
 {
     let mut ids = map.remove(&key).unwrap_or(Vec::new(alloc));
@@ -39,8 +40,9 @@ pub fn add_to<K: Ord + Drop>(alloc: Global, map: &mut Ids<K>, key: K, id: u64) -
     Ok(())
 }
 
-/// Takes an id from under a key. A key that has none left goes.
+/// Takes an id from under a key, where those there ascend. A key that has none left goes.
 pub fn drop_from<K: Ord + Drop>(map: &mut Ids<K>, key: K, id: u64) -> Result<(), Memory>
+    requires { IsStrictlySortedBy nat_cmp (ids_in K.cmp map.old.entries key) }
     ensures { OnOk result ((q : K) → ids_in K.cmp map.new.entries q ≡ (if is_eq (K.cmp key q) then without id (ids_in K.cmp map.old.entries key) else ids_in K.cmp map.old.entries q)) }
 {
     let Some(mut ids) = map.remove(&key) else {
@@ -77,7 +79,7 @@ pub fn ids_on<'a>(tables: &'a TableIds, table: u16, key: &Key) -> &'a [u64]
     }
 }
 
-/// Puts an id under a table and a key.
+/// Puts an id under a table and a key, where those there ascend.
 pub fn add_on(
     alloc: Global,
     tables: &mut TableIds,
@@ -85,6 +87,7 @@ pub fn add_on(
     key: &Key,
     id: u64,
 ) -> Result<(), Memory>
+    requires { IsStrictlySortedBy nat_cmp (piece_ids tables.old.entries table key.now) }
     ensures { OnOk result ((t : ℕ) (k : List Value) → piece_ids tables.new.entries t k ≡ (if (table == t) && is_eq (key_order key.now k) then placed id (piece_ids tables.old.entries t k) else piece_ids tables.old.entries t k)) }
 {
     let key = key.copy(alloc)?;
@@ -94,7 +97,7 @@ pub fn add_on(
     Ok(())
 }
 
-/// Takes an id from under a table and a key.
+/// Takes an id from under a table and a key, where those there ascend.
 pub fn drop_on(
     alloc: Global,
     tables: &mut TableIds,
@@ -102,6 +105,7 @@ pub fn drop_on(
     key: &Key,
     id: u64,
 ) -> Result<(), Memory>
+    requires { IsStrictlySortedBy nat_cmp (piece_ids tables.old.entries table key.now) }
     ensures { OnOk result ((t : ℕ) (k : List Value) → piece_ids tables.new.entries t k ≡ (if (table == t) && is_eq (key_order key.now k) then without id (piece_ids tables.old.entries t k) else piece_ids tables.old.entries t k)) }
 {
     let key = key.copy(alloc)?;

@@ -1,6 +1,7 @@
 //! All records of a store in memory, found by what they are, and changed as a batch changes the store.
 #![tactic(auto)]
 
+pub mod children;
 pub mod copies;
 mod ids;
 pub mod image;

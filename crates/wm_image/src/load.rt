@@ -87,7 +87,8 @@ fn list_of(alloc: Global, kept: Kept) -> Result<Records, Memory>
     Ok(Records::from_vec(list))
 }
 
-/// Puts records that stand by id under their ids, with an index of them.
+/// Puts records that stand by id under their ids, with an index of them: from the first on, so that each comes last among
+/// those in the index.
 pub fn put_all(
     alloc: Global,
     kept: &mut Kept,
@@ -100,8 +101,7 @@ pub fn put_all(
     ensures listed { OnOk result (listed kept.new.entries ≡ records) }
     ensures indexed { OnOk result (IsIndexed kept.new index.new) }
 {
-    let mut list = records.into_vec();
-    while let Some(one) = list.pop() {
+    for one in records.into_vec() {
         change(alloc, kept, index, one.id, Some(one.record))?;
     }
     Ok(())

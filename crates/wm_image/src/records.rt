@@ -7,7 +7,7 @@ ghost use Rattle.std.specs.Ordering.{nat_cmp};
 ghost use Rattle.wm_graph.specs.Parts.{as_table, parts_of};
 ghost use Rattle.wm_spec.specs.Records.{record_at};
 ghost use Rattle.wm_state.specs.ById.{applied, set_at};
-ghost use Rattle.wm_image.specs.Indexed.{ids_at, listed, IsCatalog, IsIndexed};
+ghost use Rattle.wm_image.specs.Indexed.{ids_at, listed, IdsAscend, IsCatalog, IsIndexed};
 ghost use Rattle.wm_image.specs.Sought.{Sought, is_sought, ids_less, ids_more, first_of};
 
 use crate::index::Index;
@@ -69,6 +69,7 @@ pub fn set(kept: &mut Kept, id: u64, becomes: Option<Record>) -> Result<(), Memo
 
 /// Drops the id of a record that goes, and tells whether that is a table.
 fn drop_old(alloc: Global, kept: &Kept, index: &mut Index, id: u64) -> Result<bool, Memory>
+    requires { IdsAscend index.old }
     ensures dropped { OnOk result ((q : Sought) → ids_at index.new q ≡ ids_less (is_sought q) id (record_at (listed kept.now.entries) id) (ids_at index.old q)) }
     ensures table { IfOk result (λ was. was ≡ is_some (option_and_then as_table (record_at (listed kept.now.entries) id))) }
 {
@@ -86,6 +87,7 @@ fn add_new(
     id: u64,
     becomes: &Option<Record>,
 ) -> Result<bool, Memory>
+    requires { IdsAscend index.old }
     ensures added { OnOk result ((q : Sought) → ids_at index.new q ≡ ids_more (is_sought q) id becomes.now (ids_at index.old q)) }
     ensures table { IfOk result (λ is. is ≡ is_some (option_and_then as_table becomes.now)) }
 {

@@ -5,6 +5,8 @@ pub mod Spaces
 pub mod Entries
 pub mod Rows
 pub mod Leaves
+pub mod Firsts
+pub mod Undoing
 pub mod Step
 pub mod Runs
 pub mod Places

@@ -18,3 +18,6 @@ pub mod Timing
 pub mod Lawful
 pub mod Telling
 pub mod Given
+pub mod FirstChild
+pub mod RollingLine
+pub mod RemovingLine

@@ -2,6 +2,7 @@ pub mod Lines
 pub mod Step
 pub mod Planning
 pub mod Saving
+pub mod Undone
 pub mod Running
 pub mod Sources
 pub mod Changes

@@ -9,6 +9,7 @@ pub mod Querying
 pub mod Rows
 pub mod Savepoints
 pub mod Workspaces
+pub mod Undoing
 pub mod Calling
 use Rattle.std.specs.Prelude.{ℕ, List, not, if◌then◌else◌, Option, None, Some, Result, Ok, Err}
 use Rattle.std.specs.Str.{is_utf8}
@@ -27,7 +28,7 @@ use Rattle.wm_state.specs.State.{Session}
 pub use Rattle.wm_state.specs.Editing.{counter_limit, number_limit, line_work, implicit_front, implicit_name, saved_at, place_behind, saved, save_in, child_of, born, bear_in, written_all}
 pub use Rattle.wm_print.specs.Texts.{Answer, answer_text}
 use Rattle.wm_print.specs.Texts.{Nothing}
-pub use Rattle.wm_model.specs.Step.Refusing.{not_built, too_long_line, no_text, syntax, bad_literal, no_session, session_there, bad_name, long_name, mistyped, reserved_name, no_table, table_there, versioning, no_key, no_workspace, workspace_there, no_savepoint, savepoint_there, not_latest, moment_back, key_there, empty_period, change_limit, most_workspaces, most_savepoints, most_tables, most_rows, most_sessions, out_of_range, at_its_end, refusal_of, refused_if, first_fault, unless, unless_mistyped, unless_empty_period}
+pub use Rattle.wm_model.specs.Step.Refusing.{not_built, too_long_line, no_text, syntax, bad_literal, no_session, session_there, bad_name, long_name, mistyped, reserved_name, no_parent, session_inside, has_child, dependent_child, rebased_since, no_table, table_there, versioning, no_key, no_workspace, workspace_there, no_savepoint, savepoint_there, not_latest, moment_back, key_there, empty_period, change_limit, most_workspaces, most_savepoints, most_tables, most_rows, most_sessions, out_of_range, at_its_end, refusal_of, refused_if, refused_for, first_fault, unless, unless_mistyped, unless_empty_period}
 pub use Rattle.wm_model.specs.Step.Counting.{durably}
 pub use Rattle.wm_model.specs.Step.Naming.{is_name, names_no_workspace, latest, names_no_savepoint, session_of, with_table, with_named, home_of, at_home}
 pub use Rattle.wm_model.specs.Step.Sessions.{closed, Setting, with_setting, altered, connect, disconnect, set_moment}
@@ -37,7 +38,8 @@ pub use Rattle.wm_model.specs.Step.Querying.{rows_in, lost_source, tables_of, ta
 pub use Rattle.wm_model.specs.Step.Rows.{at_latest, at_newest, write_all, new_period, taken, told_period, add_to, add_found, insert, write_ascending, with_rows, clash_at, first_clash, move_all, change_all, replace_all, update, delete}
 pub use Rattle.wm_model.specs.Step.Savepoints.{save, saving_faults, create_savepoint, goto_savepoint}
 pub use Rattle.wm_model.specs.Step.Workspaces.{bear, counting_faults, bearing_faults, create_workspace, goto_workspace}
-pub use Rattle.wm_model.specs.Step.Calling.{given, newly_named, keeps_history, readiness_given, call}
+pub use Rattle.wm_model.specs.Step.Undoing.{first_session, first_name, is_child, would_go, stands_behind, depends, rolling_faults, is_still, roll_back, rollback_to, stands_in, removing_faults, remove, remove_workspace}
+pub use Rattle.wm_model.specs.Step.Calling.{given, newly_named, unless_latest, keeps_history, readiness_given, call}
 
 -- whether a period in it is empty is told to each statement that may be refused for it
 abbrev pub run_statement : Session → Statement → State → State × Answer

@@ -1,7 +1,7 @@
 //! The refusals of lines.
 ghost use Rattle.std.specs.Prelude.{◌≡◌, IfOk};
 ghost use Rattle.wm_plan.specs.Views.{answer_view};
-ghost use Rattle.wm_model.specs.Step.{at_its_end, bad_literal, bad_name, change_limit, empty_period, key_there, long_name, mistyped, moment_back, most_rows, most_savepoints, most_sessions, most_tables, most_workspaces, no_key, no_savepoint, no_session, no_table, no_workspace, no_text, not_built, not_latest, out_of_range, reserved_name, savepoint_there, session_there, syntax, table_there, too_long_line, versioning, workspace_there};
+ghost use Rattle.wm_model.specs.Step.{at_its_end, bad_literal, bad_name, change_limit, dependent_child, empty_period, has_child, key_there, long_name, mistyped, moment_back, most_rows, most_savepoints, most_sessions, most_tables, most_workspaces, no_key, no_parent, no_savepoint, no_session, no_table, no_workspace, no_text, not_built, not_latest, out_of_range, rebased_since, reserved_name, savepoint_there, session_inside, session_there, syntax, table_there, too_long_line, versioning, workspace_there};
 
 use crate::answer::Answer;
 use std::alloc::Global;
@@ -155,6 +155,41 @@ pub fn reserved_name(name: Name) -> Answer
     ensures { answer_view result ≡ reserved_name name }
 {
     Answer::Refused(Refusal::Space(SpaceRefusal::Wm024(name)))
+}
+
+/// That the workspace, which is LIVE, has no parent.
+pub fn no_parent(name: Name) -> Answer
+    ensures { answer_view result ≡ no_parent name }
+{
+    Answer::Refused(Refusal::Space(SpaceRefusal::Wm025(name)))
+}
+
+/// That a session stands where what it sees would go: in the workspace, or at a savepoint of it.
+pub fn session_inside(workspace: Name, session: Name) -> Answer
+    ensures { answer_view result ≡ session_inside workspace session }
+{
+    Answer::Refused(Refusal::Space(SpaceRefusal::Wm043(workspace, session)))
+}
+
+/// That the workspace has a child.
+pub fn has_child(workspace: Name, child: Name) -> Answer
+    ensures { answer_view result ≡ has_child workspace child }
+{
+    Answer::Refused(Refusal::Space(SpaceRefusal::Wm044(workspace, child)))
+}
+
+/// That a child took of its parent what would go.
+pub fn dependent_child(child: Name) -> Answer
+    ensures { answer_view result ≡ dependent_child child }
+{
+    Answer::Refused(Refusal::Space(SpaceRefusal::Wm045(child)))
+}
+
+/// That the workspace was rebased behind a savepoint.
+pub fn rebased_since(savepoint: Name) -> Answer
+    ensures { answer_view result ≡ rebased_since savepoint }
+{
+    Answer::Refused(Refusal::Space(SpaceRefusal::Wm046(savepoint)))
 }
 
 /// That the session does not stand at what is newest.

@@ -2,13 +2,9 @@
 use std::alloc::Global;
 use std::process::Abort;
 use std::test::Fail;
-use wm_base::{Instant, Kind, Memory, Period, Stamp, StoreFault};
-use wm_lexer::{TokenKind, lex};
+use wm_base::{Instant, Kind, Memory, Period, Stamp};
 use wm_period::{Piece, Pieces};
-use wm_spec::record::Record;
-use wm_station::{FuseStation, QuietStation};
-use wm_store::Store;
-use wm_temporal::{split, uncovered};
+use wm_temporal::split;
 use wm_tree::Tree;
 
 fn period(from: u64, till: u64) -> Option<Period> {
@@ -64,17 +60,6 @@ fn a_piece_is_split(rt: HostRuntime) -> Result<(), Fail> {
     Ok(())
 }
 
-#[test]
-fn old_periods_are_uncovered(rt: HostRuntime) -> Result<(), Fail> {
-    let alloc = rt.alloc();
-    let olds = [period(10, 20).ok_or("a period")?];
-    let news = [period(12, 15).ok_or("a period")?];
-    let left = uncovered(alloc, olds.as_slice(), news.as_slice())?;
-    assert_eq!(rt; left.first().copied(), period(10, 12));
-    assert_eq!(rt; left.last().copied(), period(15, 20));
-    Ok(())
-}
-
 /// Adds a version to a tree that has those under it.
 fn grow(
     rt: &impl Abort,
@@ -103,33 +88,5 @@ fn versions_stand_under_others(rt: HostRuntime) -> Result<(), Fail> {
         [tree.latest(0), tree.base_of(7), tree.common(2, 3)],
         [2, 1, 1]
     );
-    Ok(())
-}
-
-#[test]
-fn a_line_has_tokens(rt: HostRuntime) -> Result<(), Fail> {
-    let tokens = lex(rt.alloc(), b"a$1<='it''s'")?;
-    let last = tokens.as_slice().last().ok_or("a token")?;
-    assert_eq!(rt; tokens.as_slice().len(), 3);
-    assert_eq!(rt; last.kind, TokenKind::Text);
-    assert_eq!(rt; [last.from, last.till], [5, 12]);
-    Ok(())
-}
-
-#[test]
-fn a_record_is_fetched(rt: HostRuntime) -> Result<(), Fail> {
-    let alloc = rt.alloc();
-    let mut station = QuietStation::new(alloc, Vec::new(alloc))?;
-    let store = Store::make(alloc, &mut station, 1000)?;
-    let limit = match store.fetch(alloc, &mut station, 1)? {
-        Some(Record::Counters(counters)) => counters.limit,
-        _ => 0,
-    };
-    assert_eq!(rt; limit, 1000);
-    assert!(rt; store.fetch(alloc, &mut station, 4)?.is_none());
-    // The size of the file is told, and then the reading of the page fails.
-    let mut failing = FuseStation::new(station, 1);
-    let failed = store.fetch(alloc, &mut failing, 1).err();
-    assert_eq!(rt; failed, Some(StoreFault::Disk));
     Ok(())
 }

@@ -1,12 +1,13 @@
 -- What calls do, by the texts that are given and by what is wrong with their arguments.
-use Rattle.std.proofs.Common.{◌≡◌, ℕ, Bool, true, false, List, [], Option, Some, None, unwrap_or, refl, sym, ap, ◌∙◌}
+use Rattle.std.proofs.Common.{◌≡◌, ℕ, Bool, true, false, List, [], if◌then◌else◌, Option, Some, None, unwrap_or, refl, sym, ap, ◌∙◌}
+use Rattle.std.specs.Str.{bytes_eq}
 use Rattle.wm_base.specs.declared.tree.statement.Arg.{Arg}
 use Rattle.wm_base.specs.declared.instant.TheConstants.{END}
 use Rattle.wm_calls.specs.Arguments.{moment_given, text_given}
 use Rattle.wm_calls.specs.Faults.{argument_fault}
 use Rattle.wm_grammar.specs.declared.procedure.Parameter.TheVariants as parameters
 use Rattle.wm_grammar.specs.declared.procedure.Procedure.TheVariants as procedures
-use Rattle.wm_model.specs.Step.{call, given, newly_named, unless_mistyped, readiness_given, enable, set_valid_time, create_workspace, create_savepoint, goto_workspace, goto_savepoint, is_name, names_no_workspace, names_no_savepoint, bad_name, reserved_name, mistyped, latest}
+use Rattle.wm_model.specs.Step.{call, given, newly_named, unless_mistyped, readiness_given, enable, set_valid_time, create_workspace, create_savepoint, goto_workspace, goto_savepoint, is_name, names_no_workspace, names_no_savepoint, bad_name, reserved_name, mistyped, latest, rollback_to, remove_workspace}
 use Rattle.wm_print.specs.Texts.{Answer}
 use Rattle.wm_reader.specs.Reading.{folded}
 use Rattle.wm_state.specs.State.{State, Session, Readiness}
@@ -154,3 +155,45 @@ to_savepoint_mistyped session args s parameter wrong = unless_some (argument_fau
 pub to_savepoint_done : (session : Session) (args : List Arg) (s : State) (savepoint : List ℕ) → argument_fault procedures.GotoSavepoint args ≡ None → savepoint ≡ unwrap_or (text_given procedures.GotoSavepoint args parameters.SavepointName) latest
     → call session (Some procedures.GotoSavepoint) args s ≡ goto_savepoint session savepoint s
 to_savepoint_done session args s savepoint right is = unless_none (argument_fault procedures.GotoSavepoint args) s _ right ∙ ap (λ w. goto_savepoint session w s) (sym is)
+
+-- ---- RollbackToSP
+
+-- the workspace that is given
+abbrev rolled_in : List Arg → List ℕ
+rolled_in args = unwrap_or (text_given procedures.RollbackToSp args parameters.Workspace) []
+
+pub rollback_lacks : (session : Session) (args : List Arg) (s : State) → text_given procedures.RollbackToSp args parameters.SavepointName ≡ None
+    → call session (Some procedures.RollbackToSp) args s ≡ (s, mistyped (unwrap_or (argument_fault procedures.RollbackToSp args) []))
+rollback_lacks session args s none = given_none (text_given procedures.RollbackToSp args parameters.SavepointName) (argument_fault procedures.RollbackToSp args) s _ none
+
+rollback_given : (session : Session) (args : List Arg) (s : State) (name : List ℕ) (b : Bool) → text_given procedures.RollbackToSp args parameters.SavepointName ≡ Some name → bytes_eq name latest ≡ b
+    → call session (Some procedures.RollbackToSp) args s ≡ (if b then (s, reserved_name name) else unless_mistyped (argument_fault procedures.RollbackToSp args) s (rollback_to (rolled_in args) name s))
+rollback_given session args s name b some is =
+    given_some (text_given procedures.RollbackToSp args parameters.SavepointName) (argument_fault procedures.RollbackToSp args) name s _ some
+    ∙ ap (λ c. if c then (s, reserved_name name) else unless_mistyped (argument_fault procedures.RollbackToSp args) s (rollback_to (rolled_in args) name s)) is
+
+pub rollback_newest : (session : Session) (args : List Arg) (s : State) (name : List ℕ) → text_given procedures.RollbackToSp args parameters.SavepointName ≡ Some name → bytes_eq name latest ≡ true
+    → call session (Some procedures.RollbackToSp) args s ≡ (s, reserved_name name)
+rollback_newest session args s name some is = rollback_given session args s name true some is
+
+pub rollback_mistyped : (session : Session) (args : List Arg) (s : State) (name parameter : List ℕ) → text_given procedures.RollbackToSp args parameters.SavepointName ≡ Some name → bytes_eq name latest ≡ false
+    → argument_fault procedures.RollbackToSp args ≡ Some parameter → call session (Some procedures.RollbackToSp) args s ≡ (s, mistyped parameter)
+rollback_mistyped session args s name parameter some other wrong =
+    rollback_given session args s name false some other ∙ unless_some (argument_fault procedures.RollbackToSp args) parameter s (rollback_to (rolled_in args) name s) wrong
+
+pub rollback_done : (session : Session) (args : List Arg) (s : State) (workspace name : List ℕ) → text_given procedures.RollbackToSp args parameters.SavepointName ≡ Some name → bytes_eq name latest ≡ false
+    → argument_fault procedures.RollbackToSp args ≡ None → workspace ≡ unwrap_or (text_given procedures.RollbackToSp args parameters.Workspace) [] → call session (Some procedures.RollbackToSp) args s ≡ rollback_to workspace name s
+rollback_done session args s workspace name some other right is =
+    rollback_given session args s name false some other
+    ∙ unless_none (argument_fault procedures.RollbackToSp args) s (rollback_to (rolled_in args) name s) right
+    ∙ ap (λ w. rollback_to w name s) (sym is)
+
+-- ---- RemoveWorkspace
+
+pub remove_mistyped : (session : Session) (args : List Arg) (s : State) (parameter : List ℕ) → argument_fault procedures.RemoveWorkspace args ≡ Some parameter
+    → call session (Some procedures.RemoveWorkspace) args s ≡ (s, mistyped parameter)
+remove_mistyped session args s parameter wrong = unless_some (argument_fault procedures.RemoveWorkspace args) parameter s _ wrong
+
+pub remove_done : (session : Session) (args : List Arg) (s : State) (workspace : List ℕ) → argument_fault procedures.RemoveWorkspace args ≡ None → workspace ≡ unwrap_or (text_given procedures.RemoveWorkspace args parameters.Workspace) []
+    → call session (Some procedures.RemoveWorkspace) args s ≡ remove_workspace workspace s
+remove_done session args s workspace right is = unless_none (argument_fault procedures.RemoveWorkspace args) s _ right ∙ ap (λ w. remove_workspace w s) (sym is)

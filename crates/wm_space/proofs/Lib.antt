@@ -3,3 +3,4 @@ pub mod Calling
 pub mod Creating
 pub mod Lengths
 pub mod SavepointPlans
+pub mod UndoingPlans

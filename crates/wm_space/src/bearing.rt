@@ -17,7 +17,7 @@ ghost use Rattle.wm_state.specs.State.{Session as SessionState};
 use crate::saving::{SAVEPOINT_LIMIT, is_last};
 use std::alloc::Global;
 use wm_base::{Memory, Name};
-use wm_draft::implicit_name;
+use wm_changes::names::implicit_name;
 use wm_image::Image;
 use wm_plan::answer::Answer;
 use wm_plan::planned::Planned;

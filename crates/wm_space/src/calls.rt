@@ -3,5 +3,6 @@
 pub mod enable;
 pub mod going;
 pub mod savepoint;
+pub mod undoing;
 pub mod valid_time;
 pub mod workspace;

@@ -9,5 +9,7 @@ pub mod connect;
 pub mod create;
 mod enable;
 mod going;
+mod removing;
+mod rolling;
 mod saving;
 mod valid_time;

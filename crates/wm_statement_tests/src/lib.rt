@@ -6,8 +6,6 @@ mod choosing;
 #[cfg(test)]
 mod counting;
 #[cfg(test)]
-mod refusals;
-#[cfg(test)]
 mod selecting;
 #[cfg(test)]
 mod tables;

@@ -13,3 +13,6 @@ pub mod RemovingNamed
 pub mod RemovingStands
 pub mod RemovingKept
 pub mod RemovingBatch
+pub mod Dropped
+pub mod DraftedBack
+pub mod DraftedRemoved

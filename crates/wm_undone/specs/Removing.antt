@@ -1,9 +1,9 @@
 -- A workspace that is the parent of none goes: what becomes of the state, and of the records.
-use Rattle.std.specs.Prelude.{ℕ, ◌≡◌, ◌<◌, Bool, true, not, ◌==◌, List, ◌∷◌, map, is_some}
-use Rattle.std.specs.List.{filter, list_all}
-use Rattle.wm_graph.specs.Parts.{Parts, space_of, version_of}
+use Rattle.std.specs.Prelude.{ℕ, ◌≡◌, Bool, true, not, List, ◌∷◌, map}
+use Rattle.std.specs.List.{filter}
+use Rattle.wm_graph.specs.Parts.{Parts, version_of}
 use Rattle.wm_graph.specs.Rules.{is_version_of}
-use Rattle.wm_spec.specs.declared.record.Record.{Record as Any}
+use Rattle.wm_spec.specs.declared.record.Record.{Record as OneRecord}
 use Rattle.wm_spec.specs.declared.record.Record.TheVariants as records
 use Rattle.wm_spec.specs.declared.record.batch.Change.{Change}
 use Rattle.wm_spec.specs.declared.record.counters.Counters.{Counters}
@@ -48,7 +48,7 @@ pub record Thinned (p q : Parts) (n : ℕ) : Type 0 where
 -- ---- the batch
 
 -- a record that stays where a workspace goes, whose versions are among these
-abbrev pub keeps_without : List Version → ℕ → Any → Bool
+abbrev pub keeps_without : List Version → ℕ → OneRecord → Bool
 keeps_without versions n (records.Space r) = is_other n r.number
 keeps_without versions n (records.Version v) = is_other n v.space
 keeps_without versions n (records.Savepoint x) = is_other n x.space

@@ -1,9 +1,9 @@
 -- A workspace goes back to one of its savepoints: what becomes of the state, and of the records, told by what is looked up in them.
-use Rattle.std.specs.Prelude.{ℕ, ◌≡◌, ◌<◌, Bool, true, false, not, ◌&&◌, ◌||◌, ◌==◌, nat_le, nat_lt, List, [], ◌∷◌, ◌++◌, map, length, take, Some, None}
+use Rattle.std.specs.Prelude.{ℕ, ◌≡◌, ◌<◌, Bool, true, false, not, ◌&&◌, ◌||◌, ◌==◌, nat_le, nat_lt, List, [], ◌∷◌, ◌++◌, map, length, Some, None}
 use Rattle.std.specs.List.{filter}
 use Rattle.wm_graph.specs.Parts.{Parts, space_of}
 use Rattle.wm_spec.specs.Lists.{Cell}
-use Rattle.wm_spec.specs.declared.record.Record.{Record as Any}
+use Rattle.wm_spec.specs.declared.record.Record.{Record as OneRecord}
 use Rattle.wm_spec.specs.declared.record.Record.TheVariants as records
 use Rattle.wm_spec.specs.declared.record.batch.Change.{Change}
 use Rattle.wm_spec.specs.declared.record.counters.Counters.{Counters}
@@ -64,7 +64,7 @@ pub record RestoredTo (p q : Parts) (n number : ℕ) (a : Space) (x : Record) : 
 -- ---- the batch
 
 -- a record that stays where the workspace goes back to a savepoint
-abbrev pub keeps_back : Record → Any → Bool
+abbrev pub keeps_back : Record → OneRecord → Bool
 keeps_back x (records.Savepoint y) = stays_saved x y
 keeps_back x (records.Touch y) = stays_touched x.space x.place x.log_length y
 keeps_back x (records.Hist y) = stays_logged x.space x.log_length y

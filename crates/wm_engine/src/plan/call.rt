@@ -22,6 +22,7 @@ use wm_plan::session::Session;
 use wm_space::calls::enable::enable_call;
 use wm_space::calls::going::{goto_savepoint_call, goto_workspace_call};
 use wm_space::calls::savepoint::savepoint_call;
+use wm_space::calls::undoing::{remove_call, rollback_call};
 use wm_space::calls::valid_time::valid_time_call;
 use wm_space::calls::workspace::workspace_call;
 
@@ -55,6 +56,12 @@ fn call_of(
         ),
         Procedure::GotoSavepoint => goto_savepoint_call(alloc, image, session, given.args),
         Procedure::SetValidTime => valid_time_call(alloc, image, session, given.args),
+        Procedure::RollbackToSp => rollback_call(
+            alloc, image, sessions, moment, session, given.args,
+        ),
+        Procedure::RemoveWorkspace => remove_call(
+            alloc, image, sessions, moment, session, given.args,
+        ),
         _ => Ok(Planned::answered(alloc, not_built())),
     }
 }

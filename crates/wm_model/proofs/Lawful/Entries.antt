@@ -1,15 +1,15 @@
 -- What is so of every entry of every list, also where it lies under others: any property; and that entries are sound.
 use Rattle.std.proofs.Common.{◌≡◌, ◌≢◌, ℕ, ◌+◌, ◌<◌, ◌≤◌, ◌==◌, Bool, true, if◌then◌else◌, List, [], ◌∷◌, ◌++◌, length, Option, Some, None, option_map, refl, sym, ap, ◌∙◌, subst, arith, ◌⊎◌, inl, inr}
-use Rattle.std.proofs.lemmas.Bool.{cases_eq, eq-eqb, ne_eqb}
+use Rattle.std.proofs.lemmas.Bool.{eq-eqb, ne_eqb}
 use Rattle.std.specs.List.{find}
 use Rattle.std.specs.Option.{option_map_or}
 use Rattle.wm_spec.specs.Lists.{Entry, Told, told_of}
 use Rattle.wm_state.specs.Editing.{child_of, saved_at, turn_at_birth}
 use Rattle.wm_state.specs.State.{Savepoint, Stand, Latest, At, Turn, Workspace, next_making, savepoint_made, with_entries, with_savepoint, workspace_of}
 use Rattle.wm_model.specs.Lawful.{Each, Holds, IsSound, LawfulEntries, is_full_row}
-use Rattle.wm_model.proofs.Lawful.Lists.{found_either, one_some, one_turn}
+use Rattle.wm_model.proofs.Lawful.Lists.{found_either, one_turn}
 use Rattle.wm_model.proofs.Lawful.Saving.{again, newest}
-use Rattle.wm_model.proofs.Lawful.Spaces.{Kept}
+use Rattle.wm_model.proofs.Lawful.Spaces.{Kept, Swapped, found_swapped}
 
 -- ---- any property
 
@@ -58,22 +58,22 @@ mark_holds P m spaces w (At making) name implicit k h e = by_found (savepoint_ma
         subst (λ (y : Savepoint). Each P y.base × Each P y.own) same (h.marks (λ (y : Savepoint). y.making == making) x is)
 
 -- one of the workspaces becomes another
-pub all_changed : (P : Entry → Type 0) (ws vs : List Workspace) (n : ℕ) (w v : Workspace) → AllHold P ws → Kept ws vs n w v → Holds P v → AllHold P vs
-all_changed P ws vs n w v all k here m x found = by_number (cases_eq m n)
+pub all_swapped : (P : Entry → Type 0) (ws vs : List Workspace) (n : ℕ) (w v : Workspace) → AllHold P ws → Swapped ws vs n w v → Holds P v → AllHold P vs
+all_swapped P ws vs n w v all k here m x found = by_number (found_swapped ws vs n w v k m x found)
   where
-    by_number : (m ≡ n) ⊎ (m ≢ n) → Holds P x
-    by_number (inl same) = subst (Holds P) (one_some v x (sym k.there ∙ ap (workspace_of vs) (sym same) ∙ found)) here
-    by_number (inr other) = all m x (sym (k.others m other) ∙ found)
+    by_number : ((m ≡ n) × (x ≡ v)) ⊎ ((m ≢ n) × (workspace_of ws m ≡ Some x)) → Holds P x
+    by_number (inl same) = subst (Holds P) (sym same.1) here
+    by_number (inr other) = all m x other.1
 
 pub all_saved : (P : Entry → Type 0) (ws vs : List Workspace) (n place implicit : ℕ) (w : Workspace) (k : Savepoint) → AllHold P ws → Kept ws vs n w (with_savepoint place implicit k w) → Each P k.base × Each P k.own → AllHold P vs
-all_saved P ws vs n place implicit w k all kept mark = all_changed P ws vs n w (with_savepoint place implicit k w) all kept here
+all_saved P ws vs n place implicit w k all kept mark = all_swapped P ws vs n w (with_savepoint place implicit k w) all kept.swap here
   where
     by_savepoint : (Q : Savepoint → Bool) (x : Savepoint) → (find Q w.savepoints ≡ Some x) ⊎ (x ≡ k) → Each P x.base × Each P x.own
-    by_savepoint Q x (inl found) = (all n w kept.was).marks Q x found
+    by_savepoint Q x (inl found) = (all n w kept.swap.was).marks Q x found
     by_savepoint Q x (inr new) = subst (λ (y : Savepoint). Each P y.base × Each P y.own) (sym new) mark
 
     here : Holds P (with_savepoint place implicit k w)
-    here = let h = all n w kept.was in record {
+    here = let h = all n w kept.swap.was in record {
       at_birth = h.at_birth;
       base = h.base;
       own = h.own;
@@ -138,5 +138,5 @@ entries_more ws vs n next w es l k num =
     let all : AllHold P ws = λ m x found. holds_if (IsSound l.tells next) P (sound_older l.tells next es) x (l.each m x found) in
     record {
       tells = tells_more l.tells next es;
-      each = all_changed P ws vs n w (with_entries es w) all k (holds_appended P es w (all n w k.was) (sound_new (tells_more l.tells next es) l.tells next (next + length es) es (λ m h. refl) (omega arith) num));
+      each = all_swapped P ws vs n w (with_entries es w) all k.swap (holds_appended P es w (all n w k.swap.was) (sound_new (tells_more l.tells next es) l.tells next (next + length es) es (λ m h. refl) (omega arith) num));
     }

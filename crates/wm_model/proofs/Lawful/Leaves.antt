@@ -11,7 +11,7 @@ use Rattle.wm_state.specs.State as state
 use Rattle.wm_state.specs.State.{Durable, Savepoint, Session, State, Workspace, Latest, next_space, table_named, with_entries, with_savepoint, with_space, workspace_named, workspace_of}
 use Rattle.wm_state.proofs.Changing.{differ-changed}
 use Rattle.wm_model.specs.Lawful.{Each, IsPlace, IsSound, Lawful, LawfulState, Seats}
-use Rattle.wm_model.specs.Step.{Setting, altered, at_latest, born, child_of, counter_limit, durably, given, is_name, line_work, newly_named, no_table, no_workspace, place_behind, saved, saved_at, unless, unless_empty_period, unless_mistyped, with_named, with_setting, with_table, written_all}
+use Rattle.wm_model.specs.Step.{Setting, altered, at_latest, born, child_of, counter_limit, durably, given, is_name, latest, line_work, newly_named, no_table, no_workspace, place_behind, saved, saved_at, unless, unless_empty_period, unless_latest, unless_mistyped, with_named, with_setting, with_table, written_all}
 use Rattle.wm_model.specs.Step.Sessions as settings
 use Rattle.wm_model.proofs.Lawful.Entries.{Written, all_more, all_saved, entries_more, mark_holds}
 use Rattle.wm_model.proofs.Lawful.Saving.{child_lawful, fits, space_appended, space_saved}
@@ -73,8 +73,11 @@ leaves_given (Some name) fault s act l a = a name
 pub leaves_newly_named : (name : List ℕ) (taken : Bool) (fault : Option (List ℕ)) (s : State) (done : State × Answer) → LawfulState s → Leaves done → Leaves (newly_named name taken fault s done)
 leaves_newly_named name taken fault s done l d = leaves_if (not (is_name name)) _ _ (stays s _ l) (leaves_if taken _ _ (stays s _ l) (leaves_unless_mistyped fault s done l d))
 
+pub leaves_unless_latest : (name : List ℕ) (s : State) (done : State × Answer) → LawfulState s → Leaves done → Leaves (unless_latest name s done)
+leaves_unless_latest name s done l d = leaves_if (bytes_eq name latest) _ _ (stays s _ l) d
+
 -- one rule for each combinator
-pub ruleset leaving = (stays, leaves_if, leaves_unless, leaves_unless_mistyped, leaves_durably, leaves_with_table, leaves_with_named, leaves_at_latest, leaves_unless_empty_period, leaves_given, leaves_newly_named, at_its_number)
+pub ruleset leaving = (stays, leaves_if, leaves_unless, leaves_unless_mistyped, leaves_durably, leaves_with_table, leaves_with_named, leaves_at_latest, leaves_unless_empty_period, leaves_given, leaves_newly_named, leaves_unless_latest, at_its_number)
 
 -- ---- changes of what is kept
 
@@ -123,8 +126,8 @@ lawful_born m w stand name implicit_name k d l found is =
     let older = under d.spaces w.number w found in
     let fit = fits m d.spaces w stand implicit_name true (w.next_implicit + 1) k lawful is in
     record {
-      spaces = spaces_more (with_space w.number act d.spaces) child t.spaces (c.others (next_space d.spaces) (λ e. absurd (omega (arith, older, e))) ∙ none_at d.spaces) (child_lawful m d.spaces w k name older)
-          (child_based m d.spaces (with_space w.number act d.spaces) w (act w) k name c.there older fit.mark);
+      spaces = spaces_more (with_space w.number act d.spaces) child t.spaces (c.swap.others (next_space d.spaces) (λ e. absurd (omega (arith, older, e))) ∙ none_at d.spaces) (child_lawful m d.spaces w k name older)
+          (child_based m d.spaces (with_space w.number act d.spaces) w (act w) k name c.swap.now older fit.mark);
       entries = record { tells = l.entries.tells; each = all_more P m d.spaces (with_space w.number act d.spaces) w k name all mark };
     }
 

@@ -1,7 +1,8 @@
 -- What is found in a list with one more.
-use Rattle.std.proofs.Common.{◌≡◌, ℕ, zero, suc, Bool, true, false, cond, List, [], ◌∷◌, ◌++◌, slice_get, Some, None, sym, ◌⊎◌, inl, inr}
+use Rattle.std.proofs.Common.{◌≡◌, ℕ, zero, suc, Bool, true, false, ◌&&◌, cond, if◌then◌else◌, List, [], ◌∷◌, ◌++◌, slice_get, Some, None, refl, sym, ap, ◌∙◌, ◌⊎◌, inl, inr}
 use Rattle.std.specs.List.{find}
 use Rattle.wm_state.specs.State.{Turn}
+use Rattle.wm_state.proofs.Tests.{bool_apart}
 
 pub one_some : {A : Type 0} (x y : A) → Some x ≡ Some y → x ≡ y
 one_some x y h = cc
@@ -18,6 +19,17 @@ found_either P (y ∷ ys) k x found = by_test (P y) found (found_either P ys k x
     by_test : (b : Bool) → cond b (Some y) (find P (ys ++ k ∷ [])) ≡ Some x → (find P (ys ++ k ∷ []) ≡ Some x → (find P ys ≡ Some x) ⊎ (x ≡ k)) → (cond b (Some y) (find P ys) ≡ Some x) ⊎ (x ≡ k)
     by_test true h rest = inl h
     by_test false h rest = rest h
+
+-- what is found by one test and passes another is the first that passes both
+pub found_both : {A : Type 0} (Q P : A → Bool) (xs : List A) (x : A) → find P xs ≡ Some x → Q x ≡ true → find (λ y. Q y && P y) xs ≡ Some x
+found_both Q P [] x found passes = absurd (cc)
+found_both {A = A} Q P (y ∷ ys) x found passes = by_tests (Q y) (P y) refl found (found_both Q P ys x)
+  where
+    by_tests : (b c : Bool) → Q y ≡ b → (if c then Some y else find P ys) ≡ Some x → (find P ys ≡ Some x → Q x ≡ true → find (λ z. Q z && P z) ys ≡ Some x) → (if b && c then Some y else find (λ z. Q z && P z) ys) ≡ Some x
+    by_tests true true is h rest = h
+    by_tests true false is h rest = rest h passes
+    by_tests false true is h rest = absurd (bool_apart (sym passes ∙ ap Q (sym (one_some y x h)) ∙ is))
+    by_tests false false is h rest = rest h passes
 
 -- the one turn of a workspace that is born
 pub one_turn : (t u : Turn) (number : ℕ) → slice_get (t ∷ []) number ≡ Some u → u ≡ t

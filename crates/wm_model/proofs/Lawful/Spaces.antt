@@ -77,24 +77,41 @@ goes_saved place implicit k w = record {
     stays P None is there = absurd (cc)
     stays P (Some x) is there = ap (λ (o : Option Savepoint). is_some o) (find_push P w.savepoints k x is)
 
--- what is found by a number before is found after, but for the one that goes on
-pub record Kept (ws vs : List Workspace) (n : ℕ) (w v : Workspace) : Type 0 where
+-- of one number another workspace is found than before, and of each other one the same
+pub record Swapped (ws vs : List Workspace) (n : ℕ) (w v : Workspace) : Type 0 where
   pub was : workspace_of ws n ≡ Some w
-  pub there : workspace_of vs n ≡ Some v
+  pub now : workspace_of vs n ≡ Some v
   pub others : (m : ℕ) → m ≢ n → workspace_of vs m ≡ workspace_of ws m
-  pub goes : Goes w v
 
-pub changed : (ws : List Workspace) (n : ℕ) (act : Workspace → Workspace) (w : Workspace) → ((x : Workspace) → (act x).number ≡ x.number) → workspace_of ws n ≡ Some w → Goes w (act w) → Kept ws (with_space n act ws) n w (act w)
-changed ws n act w same found goes = record {
+pub swapped : (ws : List Workspace) (n : ℕ) (act : Workspace → Workspace) (w : Workspace) → ((x : Workspace) → (act x).number ≡ x.number) → workspace_of ws n ≡ Some w → Swapped ws (with_space n act ws) n w (act w)
+swapped ws n act w same found = record {
   was = found;
-  there = workspace_of-changed n act same ws n ∙ rw (eq-eqb n n refl, found) refl;
+  now = workspace_of-changed n act same ws n ∙ rw (eq-eqb n n refl, found) refl;
   others = λ m other. workspace_of-changed n act same ws m ∙ rw (ne_eqb m n other) refl;
-  goes = goes;
 }
 
+pub found_swapped : (ws vs : List Workspace) (n : ℕ) (w v : Workspace) → Swapped ws vs n w v → (m : ℕ) (x : Workspace) → workspace_of vs m ≡ Some x → ((m ≡ n) × (x ≡ v)) ⊎ ((m ≢ n) × (workspace_of ws m ≡ Some x))
+found_swapped ws vs n w v k m x found = by_number (cases_eq m n)
+  where
+    by_number : (m ≡ n) ⊎ (m ≢ n) → ((m ≡ n) × (x ≡ v)) ⊎ ((m ≢ n) × (workspace_of ws m ≡ Some x))
+    by_number (inl here) = inl (here, one_some x v (sym found ∙ ap (workspace_of vs) here ∙ k.now))
+    by_number (inr other) = inr (other, sym (k.others m other) ∙ found)
+
+-- a workspace becomes one that stands on its parent as it did: what its children took of it is in the log of both, and they are alike at
+-- each length that both logs have
+pub record Becomes (ws vs : List Workspace) (n : ℕ) (w v : Workspace) : Type 0 where
+  pub swap : Swapped ws vs n w v
+  pub number : v.number ≡ w.number
+  pub parent : v.parent ≡ w.parent
+  pub from : v.from ≡ w.from
+  pub rebases : v.rebases ≡ w.rebases
+  pub turns : v.turns ≡ w.turns
+  pub children : (m : ℕ) (x : Workspace) → 0 < m → workspace_of ws m ≡ Some x → x.parent ≡ n → x.from ≤ length v.lists.log
+  pub points : (i : ℕ) → i ≤ length w.lists.log → i ≤ length v.lists.log → point v i ≡ point w i
+
 -- what stands on its parent before stands on it after
-based_kept : (ws vs : List Workspace) (n : ℕ) (w v x y : Workspace) → Kept ws vs n w v → y.number ≡ x.number → y.parent ≡ x.parent → y.from ≡ x.from → y.turns ≡ x.turns → Based ws x → Based vs y
-based_kept ws vs n w v x y k number parent from turns b = by_parent (cases_eq x.parent n)
+based_become : (ws vs : List Workspace) (n : ℕ) (w v x y : Workspace) → Becomes ws vs n w v → (x.parent ≡ n → x.from ≤ length v.lists.log) → y.number ≡ x.number → y.parent ≡ x.parent → y.from ≡ x.from → y.turns ≡ x.turns → Based ws x → Based vs y
+based_become ws vs n w v x y k child number parent from turns b = by_parent (cases_eq x.parent n)
   where
     turn : (i : ℕ) (t : Turn) → turn_of y i ≡ Some t → turn_of x i ≡ Some t
     turn i t found = ap (λ (ts : List Turn). slice_get ts i) (sym turns) ∙ found
@@ -105,69 +122,94 @@ based_kept ws vs n w v x y k number parent from turns b = by_parent (cases_eq x.
     by_parent : (x.parent ≡ n) ⊎ (x.parent ≢ n) → Based vs y
     by_parent (inr other) = record {
       parent = b.parent;
-      is = rw parent (k.others x.parent other ∙ b.is);
+      is = rw parent (k.swap.others x.parent other ∙ b.is);
       older = older;
       within = rw from b.within;
       before = λ i t found. rw from (b.before i t (turn i t found));
       alike = λ i t found. b.alike i t (turn i t found);
     }
     by_parent (inl here) =
-        let same : b.parent ≡ w = one_some b.parent w (sym b.is ∙ ap (workspace_of ws) here ∙ k.was) in
+        let same : b.parent ≡ w = one_some b.parent w (sym b.is ∙ ap (workspace_of ws) here ∙ k.swap.was) in
         let log : length b.parent.lists.log ≡ length w.lists.log = ap (λ (u : Workspace). length u.lists.log) same in
-        let longer : length w.lists.log ≤ length v.lists.log = omega (arith, ap (λ (l : List Entry). length l) k.goes.log, length-append w.lists.log k.goes.more) in
-        let within : x.from ≤ length w.lists.log = omega (arith, log, b.within) in
+        let within : x.from ≤ length v.lists.log = child here in
         record {
           parent = v;
-          is = rw (parent, here) k.there;
+          is = rw (parent, here) k.swap.now;
           older = older;
-          within = rw from (omega (arith, within, longer));
-          before = λ i t found. rw (from, k.goes.rebases, ← (ap (λ (u : Workspace). u.rebases) same)) (b.before i t (turn i t found));
+          within = rw from within;
+          before = λ i t found. rw (from, k.rebases, ← (ap (λ (u : Workspace). u.rebases) same)) (b.before i t (turn i t found));
           alike = λ i t found.
               let old = b.alike i t (turn i t found) in
-              let upto : t.log_length ≤ length w.lists.log = omega (arith, (b.before i t (turn i t found)).0, within) in
-              subst (Alike t.content) (ap (λ (u : Workspace). point u t.log_length) same ∙ sym (grown t.log_length upto)) old;
+              let upto : t.log_length ≤ x.from = (b.before i t (turn i t found)).0 in
+              subst (Alike t.content) (ap (λ (u : Workspace). point u t.log_length) same ∙ sym (k.points t.log_length (omega (arith, upto, log, b.within)) (omega (arith, upto, within)))) old;
         }
-      where
-        grown : (i : ℕ) → i ≤ length w.lists.log → point v i ≡ point w i
-        grown i le = rw (k.goes.first, k.goes.log) (point_longer w.lists.at_birth w.lists.log k.goes.more i le)
 
-pub spaces_kept : (ws vs : List Workspace) (n : ℕ) (w v : Workspace) → LawfulSpaces ws → Kept ws vs n w v → differ one_number vs ≡ true → LawfulSpace v → LawfulSpaces vs
-spaces_kept ws vs n w v l k once lawful = record {
+pub spaces_become : (ws vs : List Workspace) (n : ℕ) (w v : Workspace) → LawfulSpaces ws → Becomes ws vs n w v → differ one_number vs ≡ true → LawfulSpace v → LawfulSpaces vs
+spaces_become ws vs n w v l k once lawful = record {
   live = live (cases_eq 0 n);
   once = once;
-  each = λ m x found. each m x found (cases_eq m n);
-  bases = λ m x above found. bases m x above found (cases_eq m n);
+  each = λ m x found. each m x (found_swapped ws vs n w v k.swap m x found);
+  bases = λ m x above found. bases m x above (found_swapped ws vs n w v k.swap m x found);
 }
   where
     live : (0 ≡ n) ⊎ (0 ≢ n) → is_some (workspace_of vs 0) ≡ true
-    live (inl here) = rw (here, k.there) refl
-    live (inr other) = rw (k.others 0 other) l.live
+    live (inl here) = rw (here, k.swap.now) refl
+    live (inr other) = rw (k.swap.others 0 other) l.live
 
-    each : (m : ℕ) (x : Workspace) → workspace_of vs m ≡ Some x → (m ≡ n) ⊎ (m ≢ n) → LawfulSpace x
-    each m x found (inl here) = subst LawfulSpace (one_some v x (sym k.there ∙ ap (workspace_of vs) (sym here) ∙ found)) lawful
-    each m x found (inr other) = l.each m x (sym (k.others m other) ∙ found)
+    each : (m : ℕ) (x : Workspace) → ((m ≡ n) × (x ≡ v)) ⊎ ((m ≢ n) × (workspace_of ws m ≡ Some x)) → LawfulSpace x
+    each m x (inl here) = subst LawfulSpace (sym here.1) lawful
+    each m x (inr other) = l.each m x other.1
 
-    bases : (m : ℕ) (x : Workspace) → 0 < m → workspace_of vs m ≡ Some x → (m ≡ n) ⊎ (m ≢ n) → Based vs x
-    bases m x above found (inl here) =
-        subst (Based vs) (one_some v x (sym k.there ∙ ap (workspace_of vs) (sym here) ∙ found))
-        (based_kept ws vs n w v w v k k.goes.number k.goes.parent k.goes.from k.goes.turns (l.bases m w above (ap (workspace_of ws) here ∙ k.was)))
-    bases m x above found (inr other) = based_kept ws vs n w v x x k refl refl refl refl (l.bases m x above (sym (k.others m other) ∙ found))
+    bases : (m : ℕ) (x : Workspace) → 0 < m → ((m ≡ n) × (x ≡ v)) ⊎ ((m ≢ n) × (workspace_of ws m ≡ Some x)) → Based vs x
+    bases m x above (inl here) =
+        let was : workspace_of ws m ≡ Some w = ap (workspace_of ws) here.0 ∙ k.swap.was in
+        subst (Based vs) (sym here.1) (based_become ws vs n w v w v k (k.children m w above was) k.number k.parent k.from k.turns (l.bases m w above was))
+    bases m x above (inr other) = based_become ws vs n w v x x k (k.children m x above other.1) refl refl refl refl (l.bases m x above other.1)
 
--- where sessions stand stays there
+-- what is found by a number before is found after, but for the one that goes on
+pub record Kept (ws vs : List Workspace) (n : ℕ) (w v : Workspace) : Type 0 where
+  pub swap : Swapped ws vs n w v
+  pub goes : Goes w v
+
+pub changed : (ws : List Workspace) (n : ℕ) (act : Workspace → Workspace) (w : Workspace) → ((x : Workspace) → (act x).number ≡ x.number) → workspace_of ws n ≡ Some w → Goes w (act w) → Kept ws (with_space n act ws) n w (act w)
+changed ws n act w same found goes = record { swap = swapped ws n act w same found; goes = goes }
+
+kept_becomes : (ws vs : List Workspace) (n : ℕ) (w v : Workspace) → LawfulSpaces ws → Kept ws vs n w v → Becomes ws vs n w v
+kept_becomes ws vs n w v l k = record {
+  swap = k.swap;
+  number = k.goes.number;
+  parent = k.goes.parent;
+  from = k.goes.from;
+  rebases = k.goes.rebases;
+  turns = k.goes.turns;
+  children = λ m x above found here.
+      let b = l.bases m x above found in
+      let log : length b.parent.lists.log ≡ length w.lists.log = ap (λ (u : Workspace). length u.lists.log) (one_some b.parent w (sym b.is ∙ ap (workspace_of ws) here ∙ k.swap.was)) in
+      omega (arith, log, b.within, ap (λ (l : List Entry). length l) k.goes.log, length-append w.lists.log k.goes.more);
+  points = λ i le under. rw (k.goes.first, k.goes.log) (point_longer w.lists.at_birth w.lists.log k.goes.more i le);
+}
+
+pub spaces_kept : (ws vs : List Workspace) (n : ℕ) (w v : Workspace) → LawfulSpaces ws → Kept ws vs n w v → differ one_number vs ≡ true → LawfulSpace v → LawfulSpaces vs
+spaces_kept ws vs n w v l k once lawful = spaces_become ws vs n w v l (kept_becomes ws vs n w v l k) once lawful
+
+-- where one stands stays, where it does in the workspace that is another now
+pub place_swapped : (ws vs : List Workspace) (n : ℕ) (w v : Workspace) (m : ℕ) (stand : Stand) → Swapped ws vs n w v → (m ≡ n → IsAt w stand → IsAt v stand) → IsPlace ws m stand → IsPlace vs m stand
+place_swapped ws vs n w v m stand swap at p = by_number (cases_eq m n)
+  where
+    by_number : (m ≡ n) ⊎ (m ≢ n) → IsPlace vs m stand
+    by_number (inl here) = record {
+      space = v;
+      is = rw here swap.now;
+      stands = at here (subst (λ (x : Workspace). IsAt x stand) (one_some p.space w (sym p.is ∙ ap (workspace_of ws) here ∙ swap.was)) p.stands);
+    }
+    by_number (inr other) = record { space = p.space; is = swap.others m other ∙ p.is; stands = p.stands }
+
 place_kept : (ws vs : List Workspace) (n : ℕ) (w v : Workspace) (m : ℕ) (stand : Stand) → Kept ws vs n w v → IsPlace ws m stand → IsPlace vs m stand
-place_kept ws vs n w v m stand k p = by_number (cases_eq m n)
+place_kept ws vs n w v m stand k p = place_swapped ws vs n w v m stand k.swap (λ here. at stand) p
   where
     at : (stand : Stand) → IsAt w stand → IsAt v stand
     at Latest there = tt
     at (At making) there = k.goes.marks making there
-
-    by_number : (m ≡ n) ⊎ (m ≢ n) → IsPlace vs m stand
-    by_number (inl here) = record {
-      space = v;
-      is = rw here k.there;
-      stands = at stand (subst (λ (x : Workspace). IsAt x stand) (one_some p.space w (sym p.is ∙ ap (workspace_of ws) here ∙ k.was)) p.stands);
-    }
-    by_number (inr other) = record { space = p.space; is = k.others m other ∙ p.is; stands = p.stands }
 
 pub seats_kept : (ws vs : List Workspace) (n : ℕ) (w v : Workspace) (xs : List Session) → Kept ws vs n w v → Seats ws xs → Seats vs xs
 seats_kept ws vs n w v [] k s = tt

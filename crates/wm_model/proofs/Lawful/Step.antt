@@ -33,6 +33,7 @@ use Rattle.wm_model.proofs.Lawful.Leaves.{Leaves, leaves_born, leaves_durably, l
 use Rattle.wm_model.proofs.Lawful.Places.{home_found, place_of}
 use Rattle.wm_model.proofs.Lawful.Rows.{are_full, chosen_full, content_full, entries_written, gone_full, moving_full, replacing_full, rows_full, updated_full}
 use Rattle.wm_model.proofs.Lawful.Lists.{one_some}
+use Rattle.wm_model.proofs.Lawful.Undoing.{leaves_remove_workspace, leaves_rollback_to}
 use Rattle.wm_print.specs.Texts.{Done, Fine, Nothing}
 use Rattle.wm_reader.specs.Reading.{is_remark}
 use Rattle.wm_spec.specs.declared.record.table.Table.{Table}
@@ -223,6 +224,8 @@ leaves_call session (Some procedures.CreateSavepoint) args s l p = search (leavi
 leaves_call session (Some procedures.GotoWorkspace) args s l p = search (leaving, leaves_goto_workspace) depth 12
 leaves_call session (Some procedures.GotoSavepoint) args s l p = search (leaving, leaves_goto_savepoint) depth 12
 leaves_call session (Some procedures.SetValidTime) args s l p = search (leaving, leaves_valid_time) depth 12
+leaves_call session (Some procedures.RollbackToSp) args s l p = search (leaving, leaves_rollback_to) depth 12
+leaves_call session (Some procedures.RemoveWorkspace) args s l p = search (leaving, leaves_remove_workspace) depth 12
 leaves_call session _ args s l p = stays s _ l
 
 leaves_statement : (session : Session) (statement : Statement) (s : State) → LawfulState s → IsHere s session → Leaves (run_statement session statement s)

@@ -18,6 +18,7 @@ use Rattle.wm_model.specs.Step.Periods.{set_valid_time}
 use Rattle.wm_model.specs.Step.Rows.{taken}
 use Rattle.wm_model.specs.Step.Savepoints.{create_savepoint, goto_savepoint}
 use Rattle.wm_model.specs.Step.Workspaces.{create_workspace, goto_workspace}
+use Rattle.wm_model.specs.Step.Undoing.{remove_workspace, rollback_to}
 
 -- what is done with a text that is given for a parameter that the call requires; where it is not, something is wrong with the arguments
 abbrev pub given : Option (List ℕ) → Option (List ℕ) → State → (List ℕ → State × Answer) → State × Answer
@@ -27,6 +28,10 @@ given (Some text) fault s act = act text
 -- a name that is made is tested, then that it is no reserved one, and then the other arguments
 abbrev pub newly_named : List ℕ → Bool → Option (List ℕ) → State → State × Answer → State × Answer
 newly_named name taken fault s done = if not (is_name name) then (s, bad_name) else (if taken then (s, reserved_name name) else unless_mistyped fault s done)
+
+-- what is newest is no savepoint that one goes back to
+abbrev pub unless_latest : List ℕ → State → State × Answer → State × Answer
+unless_latest name s done = if bytes_eq name latest then (s, reserved_name name) else done
 
 -- the word with which a table keeps its history
 abbrev pub keeps_history : Option (List ℕ) → Bool
@@ -64,4 +69,11 @@ call session (Some procedures.SetValidTime) args s =
     let fault = argument_fault procedures.SetValidTime args in
     unless_mistyped fault s
     (set_valid_time session (moment_given procedures.SetValidTime args parameters.ValidFrom) (unwrap_or (moment_given procedures.SetValidTime args parameters.ValidTill) END) s)
+call session (Some procedures.RollbackToSp) args s =
+    let fault = argument_fault procedures.RollbackToSp args in
+    given (text_given procedures.RollbackToSp args parameters.SavepointName) fault s
+    (λ name. unless_latest name s (unless_mistyped fault s (rollback_to (unwrap_or (text_given procedures.RollbackToSp args parameters.Workspace) []) name s)))
+call session (Some procedures.RemoveWorkspace) args s =
+    let fault = argument_fault procedures.RemoveWorkspace args in
+    unless_mistyped fault s (remove_workspace (unwrap_or (text_given procedures.RemoveWorkspace args parameters.Workspace) []) s)
 call session _ args s = (s, not_built)

@@ -5,7 +5,7 @@ use Rattle.wm_base.specs.declared.value.Value.{Value}
 use Rattle.wm_base.specs.declared.refusal.Refusal.TheVariants.{Form, Limit}
 use Rattle.wm_base.specs.declared.refusal.Refusal.TheVariants as refusals
 use Rattle.wm_base.specs.declared.refusal.FormRefusal.TheVariants.{Wm001, Wm002, Wm003, Wm004, Wm005, Wm010, Wm011, Wm013, Wm015, Wm016, Wm019}
-use Rattle.wm_base.specs.declared.refusal.SpaceRefusal.TheVariants.{Wm020, Wm021, Wm022, Wm023, Wm024, Wm030, Wm031, Wm033}
+use Rattle.wm_base.specs.declared.refusal.SpaceRefusal.TheVariants.{Wm020, Wm021, Wm022, Wm023, Wm024, Wm025, Wm030, Wm031, Wm033, Wm043, Wm044, Wm045, Wm046}
 use Rattle.wm_base.specs.declared.refusal.CellRefusal.TheVariants.{Wm060, Wm064, Wm065}
 use Rattle.wm_base.specs.declared.refusal.LimitRefusal.TheVariants.{Wm070, Wm071, Wm072, Wm073, Wm074, Wm075, Wm076, Wm099}
 use Rattle.wm_base.specs.declared.refusal.Refusal.{Refusal}
@@ -76,6 +76,25 @@ no_savepoint name = Refused (refusals.Space (Wm022 name))
 abbrev pub savepoint_there : List ℕ → Answer
 savepoint_there name = Refused (refusals.Space (Wm023 name))
 
+-- LIVE has no parent
+abbrev pub no_parent : List ℕ → Answer
+no_parent name = Refused (refusals.Space (Wm025 name))
+
+-- a session stands where what it sees would go
+abbrev pub session_inside : List ℕ → List ℕ → Answer
+session_inside workspace session = Refused (refusals.Space (Wm043 workspace session))
+
+abbrev pub has_child : List ℕ → List ℕ → Answer
+has_child workspace child = Refused (refusals.Space (Wm044 workspace child))
+
+-- a child took of its parent what would go
+abbrev pub dependent_child : List ℕ → Answer
+dependent_child child = Refused (refusals.Space (Wm045 child))
+
+-- the workspace was rebased behind a savepoint
+abbrev pub rebased_since : List ℕ → Answer
+rebased_since name = Refused (refusals.Space (Wm046 name))
+
 abbrev pub not_latest : Answer
 not_latest = Refused (refusals.Space Wm030)
 
@@ -128,6 +147,11 @@ refusal_of (Refused refusal) = Some refusal
 -- this refusal where the test holds
 abbrev pub refused_if : Bool → Answer → Option Refusal
 refused_if test answer = if test then refusal_of answer else None
+
+-- the refusal for what was found, if anything was
+abbrev pub refused_for : {A : Type 0} → (A → Answer) → Option A → Option Refusal
+refused_for tells None = None
+refused_for tells (Some x) = refusal_of (tells x)
 
 -- the first of what a line is refused for, in the order in which it is told
 abbrev pub first_fault : List (Option Refusal) → Option Refusal

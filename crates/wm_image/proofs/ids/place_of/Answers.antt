@@ -1,15 +1,9 @@
-use Rattle.std.proofs.Common.{get_or, refl, add-one, subst, arith}
-use Rattle.std.proofs.lemmas.List.{take_all}
-use Rattle.wm_image.proofs.IdLists.{Smaller, Smaller-more, insert_before, insert_end}
+use Rattle.std.proofs.Common.{Ok, Err}
+use Rattle.wm_image.proofs.IdLists.{place_searched}
 use Rattle.wm_image.proofs.ids.place_of.Goals as goal
 
-pub returns-then-id-other-clause-there : goal.returns-then-id-other-clause-there
-returns-then-id-other-clause-there c = insert_before c.args.id c.args.ids.now c.loop-place.place c.loop-place.invariant (omega (arith, c.loop-place-test.true)) c.if-id-other.true
+pub returns-in-Ok-clause-there : goal.returns-in-Ok-clause-there
+returns-in-Ok-clause-there c = (place_searched c.args.id c.args.ids.now (Ok c.in-Ok.place) c.requires c.in-Ok.ensures.position).1
 
-pub loop-place-preserved : goal.loop-place-preserved
-loop-place-preserved c =
-    rw add-one (Smaller-more c.args.id c.args.ids.now c.loop-place.place (get_or c.args.ids.now c.loop-place.place 0) c.loop-place.invariant (omega (arith, c.loop-place-test.true)) refl c.if-id-other.false)
-
-pub returns-clause-there : goal.returns-clause-there
-returns-clause-there c =
-    insert_end c.args.id c.args.ids.now (subst (Smaller c.args.id) (take_all c.loop-place.place c.args.ids.now (omega (arith, c.loop-place-test.false))) c.loop-place.invariant)
+pub returns-in-Err-clause-there : goal.returns-in-Err-clause-there
+returns-in-Err-clause-there c = (place_searched c.args.id c.args.ids.now (Err c.in-Err.place) c.requires c.in-Err.ensures.position).1

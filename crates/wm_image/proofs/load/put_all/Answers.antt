@@ -1,27 +1,22 @@
-use Rattle.std.proofs.Common.{[], arith}
-use Rattle.wm_image.proofs.Listed.{Ascend-listed}
-use Rattle.wm_image.proofs.Lists.{record_at-none}
-use Rattle.wm_image.proofs.Loading.{left_all, left_none, left_less, set-more, put}
-use Rattle.wm_image.specs.Indexed.{listed}
-use Rattle.wm_spec.specs.Records.{record_at}
+use Rattle.std.proofs.Common.{[], Some, sym, ap, ◌∙◌}
+use Rattle.std.proofs.lemmas.Iterator.Adapters.{YieldsList-from_vec}
+use Rattle.std.proofs.lemmas.Iterator.Consumers.{YieldsList-end}
+use Rattle.std.proofs.lemmas.List.{map-id}
+use Rattle.wm_image.proofs.Loading.{entered, entered-push, entered_all}
+use Rattle.wm_state.specs.ById.{set_at}
 use Rattle.wm_image.proofs.load.put_all.Goals as goal
 
-pub loop-one-init : goal.loop-one-init
-loop-one-init c = (
-  c.requires.indexed,
-  rw (c.into_vec-list.ensures, c.requires.empty) (left_all c.args.records (record_at []) (λ id. record_at-none id)),
-)
-
 pub loop-one-preserved : goal.loop-one-preserved
-loop-one-preserved c = (
-  c.in_ok-change.ensures.indexed,
-  left_less c.args.records c.loop-one.list.items c.pop.new.self.items c.in-Some.one (record_at (listed c.loop-one.kept.entries)) (record_at (listed c.change.new.kept.entries)) c.in-Some.ensures.items
-      (set-more (listed c.loop-one.kept.entries) (listed c.change.new.kept.entries) c.in-Some.one.id c.in-Some.one.record (Ascend-listed c.loop-one.kept.entries c.loop-one.invariant.0.ordered)
-      c.in_ok-change.ensures.listed)
-      c.loop-one.invariant.1,
-)
+loop-one-preserved c = record {
+  indexed = c.in_ok-change.ensures.indexed;
+  are = c.in_ok-change.ensures.listed
+      ∙ ap (set_at c.in-Some.one.id (Some c.in-Some.one.record)) c.loop-one.invariant.are
+      ∙ sym (entered-push c.loop-one.yielded c.in-Some.one []);
+}
 
 pub returns-clause-listed : goal.returns-clause-listed
 returns-clause-listed c =
-    put c.args.records (listed c.loop-one.kept.entries) c.requires.ascend (Ascend-listed c.loop-one.kept.entries c.loop-one.invariant.0.ordered)
-    (left_none c.args.records c.loop-one.list.items (record_at (listed c.loop-one.kept.entries)) (omega (arith, c.in_default.ensures.cases.0)) c.loop-one.invariant.1)
+    let items = c.into_vec-one-items.result.items in
+    let all = YieldsList-end (YieldsList-from_vec {s = c.into_iter-one-iterator.result} items c.into_iter-one-iterator.ensures.into_iter_gives.0 (c.into_iter-one-iterator.ensures.into_iter_gives.1 ∙ c.into_vec-one-items.result.ok.0)) c.loop-one.yielded c.loop-one.one-iterator c.loop-one.yielded_by c.next.result c.next.new.self c.in-None.is
+    c.next.ensures.steps in
+    c.loop-one.invariant.are ∙ ap (λ ts. entered ts []) (sym (map-id c.loop-one.yielded) ∙ all.0 ∙ c.into_vec-one-items.ensures) ∙ entered_all c.args.records c.requires.ascend

@@ -1,4 +1,5 @@
 use Rattle.std.proofs.Common.{sym, ap, ◌∙◌}
+use Rattle.wm_image.proofs.Ascending.{ids_ascend, ids_ascend_less}
 use Rattle.wm_image.proofs.Cataloguing.{tables_kept}
 use Rattle.wm_image.proofs.Listed.{Ascend-listed}
 use Rattle.wm_image.proofs.Lists.{ids_with-set}
@@ -6,6 +7,12 @@ use Rattle.wm_image.specs.Indexed.{listed}
 use Rattle.wm_image.specs.Sought.{is_sought, ids_with, ids_less, ids_more}
 use Rattle.wm_spec.specs.Records.{record_at}
 use Rattle.wm_image.proofs.records.change.Goals as goal
+
+pub drop_old-requires : goal.drop_old-requires
+drop_old-requires c = ids_ascend c.args.kept.now c.args.index.now c.requires
+
+pub add_new-requires : goal.add_new-requires
+add_new-requires c = ids_ascend_less c.args.kept.now c.args.index.now c.drop_old.new.index c.args.id c.requires c.in_ok-stood.ensures.dropped
 
 pub returns-clause-indexed : goal.returns-clause-indexed
 returns-clause-indexed c = record {

@@ -38,12 +38,23 @@ returns-in-SetValidTime-clause-does c =
     for_one c.args.image.now c.args.sessions.now c.args.moment c.valid_time_call.result (call c.args.session.now (Some procedures.SetValidTime) c.args.given.args.now) (call c.args.session.now (Some c.args.procedure) c.args.given.args.now)
     (λ s. ap (λ (p : Procedure). call c.args.session.now (Some p) c.args.given.args.now s) c.in-SetValidTime.is) c.valid_time_call.ensures.does
 
+pub returns-in-RollbackToSp-clause-does : goal.returns-in-RollbackToSp-clause-does
+returns-in-RollbackToSp-clause-does c =
+    does_here c.args.image.now c.args.sessions.now c.args.moment c.rollback_call.result (call c.args.session.now (Some procedures.RollbackToSp) c.args.given.args.now) (call c.args.session.now (Some c.args.procedure) c.args.given.args.now)
+    (λ s. ap (λ (p : Procedure). call c.args.session.now (Some p) c.args.given.args.now s) c.in-RollbackToSp.is) c.rollback_call.ensures.does
+
+pub returns-in-RemoveWorkspace-clause-does : goal.returns-in-RemoveWorkspace-clause-does
+returns-in-RemoveWorkspace-clause-does c =
+    does_here c.args.image.now c.args.sessions.now c.args.moment c.remove_call.result (call c.args.session.now (Some procedures.RemoveWorkspace) c.args.given.args.now) (call c.args.session.now (Some c.args.procedure) c.args.given.args.now)
+    (λ s. ap (λ (p : Procedure). call c.args.session.now (Some p) c.args.given.args.now s) c.in-RemoveWorkspace.is) c.remove_call.ensures.does
+
 pub returns-in_default : goal.returns-in_default
 returns-in_default c = record {
   does =
       refused c.args.image.now c.args.sessions.now c.args.moment c.answered.result not_built (call c.args.session.now (Some c.args.procedure) c.args.given.args.now) c.answered.ensures.edits c.answered.ensures.seating
       (ap answer_view c.answered.ensures.answer ∙ c.not_built.ensures) c.requires.rules
-      (λ s. other_call c.args.session.now c.args.procedure c.args.given.args.now s c.in_default.not-EnableVersioning c.in_default.not-CreateWorkspace c.in_default.not-CreateSavepoint c.in_default.not-GotoWorkspace c.in_default.not-GotoSavepoint c.in_default.not-SetValidTime);
+      (λ s. other_call c.args.session.now c.args.procedure c.args.given.args.now s c.in_default.not-EnableVersioning c.in_default.not-CreateWorkspace c.in_default.not-CreateSavepoint c.in_default.not-GotoWorkspace c.in_default.not-GotoSavepoint c.in_default.not-SetValidTime
+      c.in_default.not-RollbackToSp c.in_default.not-RemoveWorkspace);
   idle = λ idle. (c.answered.ensures.edits, c.answered.ensures.seating);
   few = λ forks. forks_none c.answered.result c.answered.ensures.edits;
 }

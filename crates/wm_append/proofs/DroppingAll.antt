@@ -1,0 +1,58 @@
+-- Ids that go, one list behind another.
+use Rattle.std.proofs.Common.{◌≡◌, ℕ, ◌==◌, Bool, true, false, ◌||◌, cond, if◌then◌else◌, List, [], ◌∷◌, ◌++◌, None, refl, sym, ap, ◌∙◌, ◌⊎◌, inl, inr, ◌≢◌, arith}
+use Rattle.std.proofs.lemmas.Bool.{cases_eq, ne_eqb}
+use Rattle.wm_spec.specs.Records.{record_at, ids_differ}
+use Rattle.wm_spec.specs.declared.record.Record.{Record}
+use Rattle.wm_spec.specs.declared.record.stored.Stored.{Stored}
+use Rattle.wm_state.specs.Batches.{is_dropped}
+use Rattle.wm_state.proofs.Tests.{bool_apart}
+use Rattle.wm_append.proofs.Dropping.{none_some}
+use Rattle.wm_image.proofs.Lists.{record_at-here, record_at-away}
+use Rattle.wm_image.specs.Sought.{ids_with}
+
+-- ---- which ids they are
+
+pub dropped-append : (xs ys : List ℕ) (id : ℕ) → is_dropped (xs ++ ys) id ≡ (is_dropped xs id || is_dropped ys id)
+dropped-append [] ys id = refl
+dropped-append (x ∷ xs) ys id = ap (λ b. (x == id) || b) (dropped-append xs ys id) ∙ or_assoc (x == id) (is_dropped xs id) (is_dropped ys id)
+  where
+    or_assoc : (a b c : Bool) → (a || (b || c)) ≡ ((a || b) || c)
+    or_assoc true b c = refl
+    or_assoc false b c = refl
+
+-- ---- no id is there twice
+
+-- an id is among those of a test only where it has a record
+pub there-with : (p : Record → Bool) (ss : List Stored) (id : ℕ) → record_at ss id ≡ None → is_dropped (ids_with p ss) id ≡ false
+there-with p [] id none = refl
+there-with p (s ∷ ss) id none = by_id (cases_eq s.id id) (there-with p ss id)
+  where
+    away : (s.id == id) ≡ false → (b : Bool) → is_dropped (ids_with p ss) id ≡ false → is_dropped (cond b (s.id ∷ ids_with p ss) (ids_with p ss)) id ≡ false
+    away apart true rest = ap (λ b. b || is_dropped (ids_with p ss) id) apart ∙ rest
+    away apart false rest = rest
+
+    by_id : (s.id ≡ id) ⊎ (s.id ≢ id) → (record_at ss id ≡ None → is_dropped (ids_with p ss) id ≡ false) → is_dropped (ids_with p (s ∷ ss)) id ≡ false
+    by_id (inl same) rest = absurd (none_some (record_at (s ∷ ss) id) s.record none (record_at-here s ss id same))
+    by_id (inr other) rest = away (ne_eqb s.id id other) (p s.record) (rest (sym (record_at-away s ss id other) ∙ none))
+
+split_if : (a b : Bool) → (if a then false else b) ≡ true → (a ≡ false) × (b ≡ true)
+split_if true b e = absurd (bool_apart (sym e))
+split_if false b e = (refl, e)
+
+pub differ-append : (xs ys : List ℕ) → ids_differ xs ≡ true → ids_differ ys ≡ true → ((id : ℕ) → is_dropped xs id ≡ true → is_dropped ys id ≡ false) → ids_differ (xs ++ ys) ≡ true
+unfolding ids_differ
+differ-append [] ys differ_xs differ_ys apart = differ_ys
+differ-append (x ∷ xs) ys differ_xs differ_ys apart =
+    let h = split_if (is_dropped xs x) (ids_differ xs) differ_xs in
+    rw (dropped-append xs ys x ∙ or_false (is_dropped xs x) (is_dropped ys x) h.0 (apart x (ap (λ b. b || is_dropped xs x) (itself x))))
+    (differ-append xs ys h.1 differ_ys (λ id is. apart id (or_true (x == id) (is_dropped xs id) is)))
+  where
+    or_false : (a b : Bool) → a ≡ false → b ≡ false → (a || b) ≡ false
+    or_false a b e f = rw (e, f) refl
+
+    or_true : (a b : Bool) → b ≡ true → (a || b) ≡ true
+    or_true true b e = refl
+    or_true false b e = e
+
+    itself : (n : ℕ) → (n == n) ≡ true
+    itself n = grind arith

@@ -1,0 +1,11 @@
+mod Dropping
+mod DroppingAll
+mod Redrawing
+mod Following
+mod DraftLaws
+mod TwoLayers
+mod Entering
+mod News
+mod Written
+mod Spare
+mod Appended

@@ -1,0 +1,24 @@
+-- The records that are drawn: pieces, or the touches of a workspace.
+use Rattle.std.specs.Prelude.{ℕ, List, None}
+use Rattle.wm_base.specs.declared.value.Value.{Value}
+use Rattle.wm_graph.specs.Parts.{as_piece}
+use Rattle.wm_spec.specs.declared.record.Record.TheVariants as records
+use Rattle.wm_state.specs.Touching.{drawn_as}
+use Rattle.wm_image.specs.Sought.{Sought, PiecesAt, TouchesAt}
+use Rattle.wm_append.specs.Views.{View}
+use Rattle.wm_append.specs.declared.redraw.layer.Layer.{Layer}
+use Rattle.wm_append.specs.declared.redraw.layer.Layer.TheVariants as layers
+
+-- a touch as a piece, where it is of the workspace
+abbrev pub touch_in : ℕ → View
+touch_in n (records.Touch x) = drawn_as n x
+touch_in n _ = None
+
+abbrev pub view_of : Layer → View
+view_of layers.Pieces = as_piece
+view_of (layers.Touches n) = touch_in n
+
+-- as what they are found for a key
+abbrev pub sought_in : Layer → ℕ → List Value → Sought
+sought_in layers.Pieces table key = PiecesAt table key
+sought_in (layers.Touches n) table key = TouchesAt table key

@@ -1,0 +1,4 @@
+pub mod Views
+pub mod Layers
+pub mod Redraw
+pub mod Appending

@@ -1,8 +1,0 @@
--- those that were taken are behind the others
-use Rattle.std.proofs.Common.{◌≡◌, ◌++◌, map}
-use Rattle.wm_spec.specs.declared.record.Record.TheVariants as records
-use Rattle.wm_state.specs.Touching.{trace_at}
-use Rattle.wm_draft.proofs.append.made.push_touches.Given as goal
-
-abbrev pub invariant-loop-piece : goal.invariant-loop-piece
-invariant-loop-piece l = l.news.items ≡ l.initial.news.items ++ map records.Touch (map (trace_at l.space l.place) l.yielded)

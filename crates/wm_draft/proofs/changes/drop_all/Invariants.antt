@@ -1,7 +1,0 @@
--- those that were gone through are dropped
-use Rattle.std.proofs.Common.{◌≡◌, ◌++◌, map, take}
-use Rattle.wm_state.specs.Batches.{drop_one}
-use Rattle.wm_draft.proofs.changes.drop_all.Given as goal
-
-abbrev pub invariant-loop-id : goal.invariant-loop-id
-invariant-loop-id l = l.changes ≡ l.initial.changes ++ map drop_one (take l.id-index l.ids)

@@ -1,5 +1,0 @@
-pub mod Views
-pub mod Layers
-pub mod Redraw
-pub mod Points
-pub mod Drafting

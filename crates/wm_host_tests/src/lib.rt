@@ -1,5 +1,0 @@
-//! Tests of crates below, which would be proved a second time if their tests stood in them.
-#![tactic(auto)]
-
-#[cfg(test)]
-mod host;

@@ -1,0 +1,84 @@
+-- RollbackToSP and RemoveWorkspace.
+use Rattle.std.specs.Prelude.{ℕ, List, [], ◌∷◌, Bool, false, not, ◌&&◌, ◌||◌, ◌==◌, nat_le, nat_lt, if◌then◌else◌, length, Option, None, Some, option_map}
+use Rattle.std.specs.List.{find, list_all}
+use Rattle.std.specs.Option.{option_map_or}
+use Rattle.wm_base.specs.declared.refusal.Refusal.{Refusal}
+use Rattle.wm_state.specs.State.{State, Workspace, Savepoint, Session, Stand, Latest, At, savepoint_made, savepoint_named}
+use Rattle.wm_state.specs.Editing.{restored_in, stays_at, without}
+use Rattle.wm_state.specs.Firsts.{first_space}
+use Rattle.wm_print.specs.Texts.{Answer, Fine}
+use Rattle.wm_model.specs.Step.Refusing.{dependent_child, has_child, no_parent, no_savepoint, rebased_since, session_inside, refused_for, refused_if, first_fault, unless}
+use Rattle.wm_model.specs.Step.Counting.{durably}
+use Rattle.wm_model.specs.Step.Naming.{with_named}
+
+-- the first session that passes a test, in the order of CONNECT: its name
+abbrev pub first_session : (Session → Bool) → List Session → Option (List ℕ)
+first_session test sessions = option_map (λ (x : Session). x.name) (find test sessions)
+
+-- the workspace of the least number that passes a test: its name
+abbrev pub first_name : (Workspace → Bool) → State → Option (List ℕ)
+first_name test s = option_map (λ (c : Workspace). c.name) (first_space test s.durable.spaces)
+
+-- a workspace is another one's child
+abbrev pub is_child : Workspace → Workspace → Bool
+is_child w c = (c.parent == w.number) && not (c.number == w.number)
+
+-- ---- back to a savepoint
+
+-- one stands where a rollback to a savepoint would leave nothing
+abbrev pub would_go : Workspace → Savepoint → Stand → Bool
+would_go w k Latest = false
+would_go w k (At making) = option_map_or (λ (j : Savepoint). not (stays_at k j)) (savepoint_made making w.savepoints) false
+
+-- a session stands so in the workspace
+abbrev pub stands_behind : Workspace → Savepoint → Session → Bool
+stands_behind w k x = (x.space == w.number) && would_go w k x.stand
+
+-- a child took of the workspace what came behind the savepoint
+abbrev pub depends : Workspace → Savepoint → Workspace → Bool
+depends w k c = is_child w c && (nat_lt k.place c.birth_place || nat_lt k.log_length c.from)
+
+-- what RollbackToSP is refused for in the workspace; whether it is frozen comes before
+abbrev pub rolling_faults : State → Workspace → Savepoint → List (Option Refusal)
+rolling_faults s w k =
+    refused_for (session_inside w.name) (first_session (stands_behind w k) s.sessions)
+    ∷ refused_for dependent_child (first_name (depends w k) s)
+    ∷ refused_if (not (k.rebases == w.rebases)) (rebased_since k.name)
+    ∷ []
+
+-- nothing came behind the savepoint: no change and no savepoint
+abbrev pub is_still : Workspace → Savepoint → Bool
+is_still w k = nat_le (length w.lists.log) k.log_length && list_all (stays_at k) w.savepoints
+
+-- the workspace is as it was at the savepoint
+abbrev pub roll_back : Workspace → Savepoint → State → State × Answer
+roll_back w k s = if is_still w k then (s, Fine) else durably s 0 (record s { durable = restored_in w.number s.durable k }, Fine)
+
+-- RollbackToSP takes a workspace back to one of its savepoints
+abbrev pub rollback_to : List ℕ → List ℕ → State → State × Answer
+rollback_to workspace name s = with_named s workspace (λ w. to w (savepoint_named name w.savepoints))
+  where
+    to : Workspace → Option Savepoint → State × Answer
+    to w None = (s, no_savepoint name)
+    to w (Some k) = unless (first_fault (rolling_faults s w k)) s (roll_back w k s)
+
+-- ---- gone
+
+-- a session stands in the workspace
+abbrev pub stands_in : Workspace → Session → Bool
+stands_in w x = x.space == w.number
+
+-- what RemoveWorkspace is refused for; whether it is frozen comes before
+abbrev pub removing_faults : State → Workspace → List (Option Refusal)
+removing_faults s w =
+    refused_for (session_inside w.name) (first_session (stands_in w) s.sessions)
+    ∷ refused_for (has_child w.name) (first_name (is_child w) s)
+    ∷ []
+
+-- the workspace is gone, with all that is its own
+abbrev pub remove : Workspace → State → State × Answer
+remove w s = durably s 0 (record s { durable = record s.durable { spaces = without w.number s.durable.spaces } }, Fine)
+
+-- RemoveWorkspace ends a workspace, which is not LIVE
+abbrev pub remove_workspace : List ℕ → State → State × Answer
+remove_workspace name s = with_named s name (λ w. if w.number == 0 then (s, no_parent name) else unless (first_fault (removing_faults s w)) s (remove w s))

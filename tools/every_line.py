@@ -1,0 +1,83 @@
+"""A script with a line of each kind that the program runs, and lines that ask for all that a script can see of the store."""
+
+NOW = "2024-06-01"
+
+# One line of each kind that the program runs, and some that it refuses.
+SCRIPT = """
+-- who is there
+CONNECT A ANN
+CONNECT B BEN
+A: CREATE TABLE BUD (ID NUMBER PRIMARY KEY, AMT NUMBER, NOTE VARCHAR2(20))
+A: CREATE TABLE EMP (NAME VARCHAR2(20) PRIMARY KEY, SAL NUMBER NOT NULL)
+A: EXECUTE DBMS_WM.EnableVersioning('BUD', 'VIEW_WO_OVERWRITE')
+A: EXECUTE DBMS_WM.EnableVersioning('EMP', 'NONE', FALSE, TRUE)
+A: INSERT INTO BUD VALUES (1, 10, 'ten')
+A: INSERT INTO BUD (ID, AMT) VALUES (2, 2 * (30 - 5))
+A: INSERT INTO BUD VALUES (1, 11, NULL)
+AT DATE '2024-06-02'
+A: EXECUTE DBMS_WM.CreateWorkspace('W')
+B: EXECUTE DBMS_WM.GotoWorkspace('W')
+B: UPDATE BUD SET AMT = AMT + 1, NOTE = 'more' WHERE AMT > 5 OR NOTE IS NULL
+B: EXECUTE DBMS_WM.CreateSavepoint('W', 'S')
+B: DELETE FROM BUD WHERE ID = 2
+A: UPDATE BUD SET AMT = 12 WHERE ID = 1
+B: INSERT INTO BUD VALUES (3, 30, 'it''s new')
+B: EXECUTE DBMS_WM.GotoSavepoint('S')
+B: INSERT INTO BUD VALUES (4, 40, 'late')
+B: SELECT ID, AMT FROM BUD
+B: EXECUTE DBMS_WM.GotoSavepoint()
+B: EXECUTE DBMS_WM.CreateSavepoint('W', 'T')
+B: UPDATE BUD SET AMT = 0
+A: EXECUTE DBMS_WM.RollbackToSP('LIVE', 'LATEST')
+A: EXECUTE DBMS_WM.RollbackToSP('W', 'S')
+A: EXECUTE DBMS_WM.RollbackToSP('W', 'S')
+A: EXECUTE DBMS_WM.RollbackToSP('W', 'T')
+A: EXECUTE DBMS_WM.CreateWorkspace('V')
+B: EXECUTE DBMS_WM.GotoWorkspace('V')
+B: INSERT INTO BUD VALUES (5, 50, 'for nothing')
+A: EXECUTE DBMS_WM.RemoveWorkspace('V')
+B: EXECUTE DBMS_WM.GotoWorkspace('W')
+A: EXECUTE DBMS_WM.RemoveWorkspace('V')
+A: EXECUTE DBMS_WM.SetValidTime(DATE '2020-01-01', DATE '2030-01-01')
+A: INSERT INTO EMP VALUES ('Ada', 30)
+A: INSERT INTO EMP VALUES ('Bob', 20)
+A: EXECUTE DBMS_WM.SetValidTime(DATE '2022-01-01', DATE '2023-01-01')
+A: UPDATE EMP SET SAL = SAL + 5 WHERE WM_OVERLAPS(WM_VALID, WM_PERIOD(DATE '2021-01-01', DATE '2022-06-01')) = 1
+A: DELETE FROM EMP WHERE NAME = 'Bob'
+A: UPDATE EMP SET WM_VALID = WM_PERIOD(DATE '2031-01-01', DATE '2032-01-01') WHERE SAL = 35
+A: SELECT E.NAME, E.SAL, B.AMT FROM EMP E JOIN BUD B ON B.ID = 1 WHERE E.SAL > 0 ORDER BY E.NAME DESC
+A: SELECT AMT, COUNT(*), SUM(ID) FROM BUD GROUP BY AMT ORDER BY 2 DESC
+A: SELECT DISTINCT NOTE FROM BUD WHERE ID IN (1, 2, 3) AND NOT (AMT BETWEEN 100 AND 200)
+A: SELECT NOPE FROM BUD
+A: MERGE
+DISCONNECT B
+"""
+
+# Each workspace and savepoint is gone to, and all rows of both tables are listed. Nothing is changed.
+READING = """
+CONNECT Z ZOE
+Z: EXECUTE DBMS_WM.SetValidTime(DATE '0001-01-01')
+Z: SELECT * FROM BUD
+Z: SELECT * FROM EMP
+Z: EXECUTE DBMS_WM.GotoWorkspace('W')
+Z: SELECT * FROM BUD
+Z: SELECT * FROM EMP
+Z: EXECUTE DBMS_WM.GotoSavepoint('S')
+Z: SELECT * FROM BUD
+Z: SELECT * FROM EMP
+Z: EXECUTE DBMS_WM.GotoSavepoint('T')
+Z: SELECT * FROM BUD
+Z: EXECUTE DBMS_WM.GotoWorkspace('V')
+Z: SELECT * FROM BUD
+"""
+
+# What was made is refused.
+MAKING = """
+Z: EXECUTE DBMS_WM.CreateSavepoint('LIVE', 'S')
+Z: EXECUTE DBMS_WM.CreateWorkspace('W')
+"""
+
+
+def lines_of(*texts):
+    """The lines of the texts, each with its LF."""
+    return [line.encode() + b"\n" for text in texts for line in text.strip().split("\n")]

@@ -1,0 +1,103 @@
+#!/usr/bin/env python3
+"""faults PROGRAM [--every N]
+
+Plays a script through the program again and again. Each time one other call on the store, the script or the answers goes wrong: it
+fails, does half or nothing, is to be made again, or the program is killed before, in or behind it. Looked at are the status, the
+answers and standard error; and each file that the power may leave where it goes then: with all that was written since the last sync,
+with none of it, and with parts. It must be opened, and hold all lines that were answered, or one more, and none in part. The same is
+done with the power alone at each moment of the whole run, and again while what that left is repaired; and with init.
+A C compiler (cc) builds the shim that stands before the C library. With --every N each Nth try alone is made.
+"""
+import argparse
+import os
+import sys
+import tempfile
+from concurrent.futures import ThreadPoolExecutor
+
+from expected import Expected
+from room import INIT, Room
+from trying import FATES, AgainTries, InitTries, RunTries
+
+from every_line import SCRIPT, lines_of
+
+# Rows that fill pages, so that a line changes several.
+WIDE = [
+    b"A: CREATE TABLE WIDE (ID NUMBER PRIMARY KEY, NOTE VARCHAR2(1900))\n",
+    b"A: EXECUTE DBMS_WM.EnableVersioning('WIDE')\n",
+    *[b"A: INSERT INTO WIDE VALUES (%d, '%s')\n" % (number, b"%d" % number * 1800) for number in range(1, 6)],
+    b"A: UPDATE WIDE SET NOTE = NULL WHERE ID < 3\n",
+    b"A: DELETE FROM WIDE\n",
+]
+
+# How many bytes of the script the program is given at a time, so that it takes it in pieces.
+TAKEN = 64
+
+
+class Told:
+    """The faults that were found, each kind of try with its line."""
+
+    def __init__(self, pool):
+        self.pool, self.found = pool, 0
+
+    def kind(self, name, attempt, tries):
+        tries = list(tries)
+        faults = [it for it in self.pool.map(lambda given: attempt(*given), tries) if it]
+        self.found += len(faults)
+        print(f"{name}: {len(tries)} tried, {len(faults)} ended wrongly", flush=True)
+        for fault in faults[:5]:
+            print(f"  {fault}")
+
+
+def powers(moments, every):
+    """The files that the power may leave, each once with what was said at most before."""
+    found = dict.fromkeys((said, image) for said, images in moments for image in sorted(images))
+    return list(found)[::every]
+
+
+def try_run(told, room, fresh, every):
+    lines = lines_of(SCRIPT)
+    lines = [*lines[:-1], *WIDE, *lines[-1:]]
+    run = RunTries(room, fresh, Expected(room, fresh, lines), TAKEN)
+    missing = {"open", "lock", "size", "seek", "read", "write", "sync", "take", "say"} - {call.kind for call in run.whole.calls}
+    if missing or run.whole.status:
+        raise SystemExit(f"the run ended with status {run.whole.status}, and the shim saw no call of {sorted(missing)}")
+    for fate, (name, _, _) in FATES.items():
+        told.kind(name, run.fault, [(*call, fate) for call in run.calls(fate, every)])
+    left = powers(run.moments(), every)
+    told.kind("the power goes", run.fault_of_power, left)
+    told.kind("the power goes twice", run.fault_of_repair, [it for it in left if is_open(it[1])])
+
+
+def is_open(file):
+    """Whether the journal's gate is open, so that opening repairs the file."""
+    return file[8:9] == b"\x47"
+
+
+def try_init(told, room, fresh, every):
+    made = room.look(fresh)
+    starts = {"no file": None, "a text": b"no store\n" * 3000}
+    for name, start in starts.items():
+        init = InitTries(room, start, made)
+        tries = [(*call, fate) for fate in FATES for call in init.calls(fate, every)]
+        told.kind(f"init over {name}", init.fault, tries)
+        told.kind(f"init over {name}, and the power goes", init.fault_of_power, powers(init.moments(), every))
+    again = AgainTries(room, fresh)
+    told.kind("init over a store", again.fault, [(*call, fate) for fate in FATES for call in again.calls(fate, every)])
+
+
+def main():
+    words = argparse.ArgumentParser(description=__doc__, formatter_class=argparse.RawDescriptionHelpFormatter)
+    words.add_argument("program")
+    words.add_argument("--every", type=int, default=1, help="make each Nth try only")
+    given = words.parse_args()
+    disk = "/dev/shm" if os.path.isdir("/dev/shm") else None
+    with tempfile.TemporaryDirectory(prefix="wm-faults-", dir=disk) as folder, ThreadPoolExecutor(os.cpu_count()) as pool:
+        room, told = Room(folder, os.path.abspath(given.program)), Told(pool)
+        fresh = room.play(None, INIT).file
+        try_run(told, room, fresh, given.every)
+        try_init(told, room, fresh, given.every)
+    return 1 if told.found else 0
+
+
+if __name__ == "__main__":
+    sys.exit(main())
