@@ -2,7 +2,6 @@
 use Rattle.std.proofs.Common.{ℕ, ◌≡◌, ◌==◌, true, List, Option, Some, None, refl, inl}
 use Rattle.std.specs.List.{list_any}
 use Rattle.wm_engine.specs.Working.{FileStands, IsSound}
-use Rattle.wm_journal.specs.Store.{Keeps}
 use Rattle.wm_model.specs.Running.{transcript}
 use Rattle.wm_state.specs.State.{State, begin}
 use Rattle.wm_station.specs.History.{History, now, said}
@@ -47,3 +46,7 @@ crash_unread_run h s moment ls = crash_opened h h s moment ls (during_begun h (C
 
 pub front_unread : (h : History) (s : State) (ls : List (List ℕ)) → HasSaidFront h h (transcript s ls)
 front_unread h s ls = front_of_answers h h s ls 0 (counted_unopened h h s ls refl)
+
+-- a file holds what it holds
+pub holds_itself : (file : List ℕ) → HoldsAs file file
+holds_itself file = record { pages = record { made = refl; damage = refl; size = refl; pages = λ p first within. refl }; says = record { made = refl; opens = refl } }
