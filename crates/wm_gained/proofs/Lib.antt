@@ -1,0 +1,4 @@
+pub mod Gained
+pub mod GainingNamed
+pub mod GainingLogs
+pub mod GainingStands
