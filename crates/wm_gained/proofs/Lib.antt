@@ -2,3 +2,9 @@ pub mod Gained
 pub mod GainingNamed
 pub mod GainingLogs
 pub mod GainingStands
+pub mod OldEntries
+pub mod KeepLogged
+pub mod LoggedOld
+pub mod GainingBatch
+pub mod GainingKept
+pub mod DraftedGained
