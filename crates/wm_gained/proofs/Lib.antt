@@ -8,3 +8,8 @@ pub mod LoggedOld
 pub mod GainingBatch
 pub mod GainingKept
 pub mod DraftedGained
+pub mod ReplayingStands
+pub mod ReplayingOld
+pub mod ReplayingParts
+pub mod ReplayingBatch
+pub mod DraftedReplayed

@@ -1,2 +1,3 @@
 pub mod Drafting
 pub mod Gaining
+pub mod Replaying
