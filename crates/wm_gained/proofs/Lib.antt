@@ -13,3 +13,4 @@ pub mod ReplayingOld
 pub mod ReplayingParts
 pub mod ReplayingBatch
 pub mod DraftedReplayed
+pub mod DraftedKept

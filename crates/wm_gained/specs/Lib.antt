@@ -1,3 +1,4 @@
 pub mod Drafting
 pub mod Gaining
 pub mod Replaying
+pub mod Keeping
