@@ -1,8 +1,7 @@
 -- The records keep the rules and stand for the state after the batch of a log that gains entries.
-use Rattle.std.proofs.Common.{◌≡◌, ℕ, true, cond, List, [], ◌∷◌, ◌++◌, map, length, append-nil, refl, sym, ap, subst, ◌∙◌}
+use Rattle.std.proofs.Common.{◌≡◌, ℕ, true, List, [], ◌∷◌, ◌++◌, map, length, append-nil, refl, sym, ap, subst, ◌∙◌}
 use Rattle.std.specs.List.{filter, slice_index_or}
 use Rattle.std.specs.Option.{option_map}
-use Rattle.wm_base.specs.declared.row.Row.{Row}
 use Rattle.wm_graph.specs.Parts.{Parts, parts_of}
 use Rattle.wm_graph.specs.Rules.{are_pieces, keep_rules}
 use Rattle.wm_spec.specs.Lists.{Entry}
@@ -14,7 +13,7 @@ use Rattle.wm_spec.specs.declared.record.space.Space.{Space}
 use Rattle.wm_spec.specs.declared.record.stored.Stored.{Stored}
 use Rattle.wm_state.specs.ById.{applied}
 use Rattle.wm_state.specs.Entries.{hists_kept}
-use Rattle.wm_state.specs.Standing.{CountersStand, FieldsStand, HasRow, Stands, has_history}
+use Rattle.wm_state.specs.Standing.{CountersStand, FieldsStand, HasRow, Stands}
 use Rattle.wm_state.specs.State.{Durable, with_space}
 use Rattle.wm_state.specs.Touching.{is_unmet, marks_of, trace_of}
 use Rattle.wm_state.proofs.Apart.{ruled}

@@ -1,10 +1,9 @@
 -- What the batch of a log that gains entries puts can be kept, and the ids that it has.
-use Rattle.std.proofs.Common.{◌≡◌, ℕ, ◌+◌, ◌<◌, ◌==◌, nat_lt, true, List, [], ◌∷◌, ◌++◌, map, length, Some, is_some, refl, sym}
+use Rattle.std.proofs.Common.{◌≡◌, ℕ, nat_lt, true, List, ◌∷◌, ◌++◌, map, refl, sym}
 use Rattle.std.proofs.lemmas.Bool.{ne_eqb}
 use Rattle.std.specs.List.{list_all}
 use Rattle.wm_graph.specs.Parts.{parts_of}
 use Rattle.wm_spec.specs.Lists.{Entry}
-use Rattle.wm_spec.specs.Records.{ids_differ, record_at}
 use Rattle.wm_spec.specs.declared.record.Record.{Record}
 use Rattle.wm_spec.specs.declared.record.Record.TheVariants as records
 use Rattle.wm_spec.specs.declared.record.counters.Counters.{Counters}
@@ -12,8 +11,7 @@ use Rattle.wm_spec.specs.declared.record.piece.PieceRecord.{PieceRecord}
 use Rattle.wm_spec.specs.declared.record.space.Space.{Space}
 use Rattle.wm_spec.specs.declared.record.stored.Stored.{Stored}
 use Rattle.wm_spec.specs.declared.record.table.Table.{Table}
-use Rattle.wm_spec.specs.declared.record.trace.Trace.{Trace}
-use Rattle.wm_state.specs.Batches.{drop_one, is_dropped, put}
+use Rattle.wm_state.specs.Batches.{drop_one, put}
 use Rattle.wm_state.specs.Drafts.{can_keep_entry, is_kept, is_kept_change}
 use Rattle.wm_state.specs.Entries.{hists_kept}
 use Rattle.wm_state.specs.Touching.{drawn_all, marks_of, trace_of}

@@ -7,13 +7,12 @@ use Rattle.std.specs.List.{All, slice_get}
 use Rattle.std.specs.Option.{option_map, option_map_or, option_and_then}
 use Rattle.wm_graph.specs.Parts.{Parts}
 use Rattle.wm_spec.specs.Lists.{Entry}
-use Rattle.wm_spec.specs.declared.record.space.Space.{Space}
 use Rattle.wm_spec.specs.declared.record.table.Table.{Table}
 use Rattle.wm_state.specs.State.{Durable, Workspace, workspace_of, with_space, log_of}
 use Rattle.wm_state.specs.Entries.{hists_kept}
 use Rattle.wm_state.specs.Standing.{EntriesStand, HasRow, HistsStand, IsReal, RowsStand, SpaceFields, Stands, TouchesStand, TouchesTell, fields_in, fields_of, has_history, hist_at, logged}
 use Rattle.wm_state.specs.Touching.{Touched}
-use Rattle.wm_state.proofs.Frames.{KeepRows, row-kept}
+use Rattle.wm_state.proofs.Frames.{KeepRows}
 use Rattle.wm_state.proofs.Keeping.{KeepRows-same}
 use Rattle.wm_state.proofs.Logging.{HaveRows, log_of-found, log_of-same, rows-kept}
 use Rattle.wm_state.proofs.Ready.{KeepReady, KeepReady-same, KeepReady-stands, all_real-kept, tables_found}

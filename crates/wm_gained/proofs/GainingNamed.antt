@@ -1,10 +1,9 @@
 -- What records name after a log gained entries tells what it told, and what is own covers what it did: no version and no piece changes.
-use Rattle.std.proofs.Common.{◌≡◌, ◌≢◌, ℕ, true, List, Some, is_some, refl, sym, ap, ◌∙◌, ◌⊎◌, inl, inr, ⊎_elim}
+use Rattle.std.proofs.Common.{◌≡◌, ℕ, true, List, Some, is_some, refl, ap, ◌∙◌, inl, ⊎_elim}
 use Rattle.wm_graph.specs.Parts.{Parts}
 use Rattle.wm_graph.specs.Rules.{keep_rules}
 use Rattle.wm_spec.specs.Lists.{Entry, Cell}
 use Rattle.wm_spec.specs.declared.record.space.Space.{Space}
-use Rattle.wm_spec.specs.declared.record.version.Version.{Version}
 use Rattle.wm_state.specs.State.{Durable, Workspace, content, with_space, workspace_of}
 use Rattle.wm_state.specs.Standing.{Covers, NamedStand, Newest, Own, Owns, OwnsStand, SpacesStand, have_ends, latest, seen, seen_above}
 use Rattle.wm_state.proofs.Keeping.{KeepRows-same}

@@ -1,5 +1,5 @@
 -- The rules hold of the records with more entries of a log that were made before: no stamp is given and no row comes.
-use Rattle.std.proofs.Common.{◌≡◌, ℕ, ◌+◌, ◌^◌, ◌≤◌, ◌==◌, nat_le, true, ◌&&◌, List, [], ◌∷◌, ◌++◌, length, refl, sym, ap, ◌∙◌, arith}
+use Rattle.std.proofs.Common.{◌≡◌, ℕ, ◌+◌, ◌^◌, ◌≤◌, ◌==◌, nat_le, true, ◌&&◌, List, [], ◌∷◌, ◌++◌, refl, sym, ap, ◌∙◌, arith}
 use Rattle.std.specs.List.{list_all}
 use Rattle.wm_graph.specs.Parts.{Parts, row_of, space_of, table_of}
 use Rattle.wm_graph.specs.Rules.{are_counters, are_hists, are_locks, are_pieces, are_rows, are_savepoints, are_spaces, are_versions, differ, has_few, is_hist, is_touch, keep_rules, meet, same_position}

@@ -1,5 +1,5 @@
 -- What comes into a log of entries that were made before: they may come, and their cells are touched.
-use Rattle.std.proofs.Common.{◌≡◌, ℕ, ◌+◌, ◌^◌, ◌≤◌, ◌==◌, nat_lt, nat_le, true, false, ◌&&◌, List, [], ◌∷◌, ◌++◌, map, Some, length, length-append, refl, sym, ap, ◌∙◌, arith}
+use Rattle.std.proofs.Common.{◌≡◌, ℕ, ◌+◌, ◌^◌, ◌≤◌, ◌==◌, nat_lt, nat_le, true, false, List, [], ◌∷◌, ◌++◌, map, Some, length, length-append, refl, sym, ap, ◌∙◌, arith}
 use Rattle.std.specs.List.{All, filter, list_all}
 use Rattle.wm_graph.specs.Parts.{Parts, space_of, table_of}
 use Rattle.wm_graph.specs.Rules.{are_counters, are_pieces, are_spaces, differ, is_touch, keep_rules, meet}
@@ -23,7 +23,7 @@ use Rattle.wm_written.proofs.PlannedWritten.{all_behind}
 use Rattle.wm_written.proofs.TouchesKept.{marked_apart, marked_longer}
 use Rattle.wm_written.proofs.Touching.{touched_so}
 use Rattle.wm_gained.specs.Gaining.{AreOld, IsCopied}
-use Rattle.wm_gained.proofs.KeepLogged.{Coming, MayCome, all_logged}
+use Rattle.wm_gained.proofs.KeepLogged.{Coming, MayCome}
 use Rattle.wm_gained.proofs.OldEntries.{hists_old, on_old}
 
 -- what is asked of entries that come into the log of a workspace

@@ -1,13 +1,12 @@
 -- The rows and the pieces of entries that were made before.
-use Rattle.std.proofs.Common.{◌≡◌, ℕ, nat_lt, Bool, true, false, List, [], ◌∷◌, Option, Some, None, is_some, refl, sym, ap, ◌∙◌}
+use Rattle.std.proofs.Common.{◌≡◌, ℕ, Bool, true, false, List, [], ◌∷◌, Option, Some, None, is_some, refl, sym, ap, ◌∙◌}
 use Rattle.std.proofs.lemmas.List.Elements.{All-head, All-tail}
 use Rattle.std.specs.Bool.{then_some}
 use Rattle.std.specs.List.{All, list_all}
 use Rattle.std.specs.Option.{option_map, option_or}
-use Rattle.wm_base.specs.declared.row.Row.{Row}
 use Rattle.wm_graph.specs.Parts.{Parts, row_of, table_of, version_of}
 use Rattle.wm_graph.specs.Rules.{is_piece}
-use Rattle.wm_spec.specs.Lists.{Cell, Entry, Told, covers, told, told_of}
+use Rattle.wm_spec.specs.Lists.{Entry, Told, covers, told, told_of}
 use Rattle.wm_spec.specs.declared.record.counters.Counters.{Counters}
 use Rattle.wm_spec.specs.declared.record.row.RowRecord.{RowRecord}
 use Rattle.wm_state.specs.Entries.{piece_of, pieces_of}
@@ -15,7 +14,7 @@ use Rattle.wm_state.specs.Standing.{HasRow, HasRows}
 use Rattle.wm_state.proofs.Tests.{and_true}
 use Rattle.wm_written.proofs.EntryRecords.{cells_well, well_of}
 use Rattle.wm_gained.specs.Gaining.{AreOld, IsCopied}
-use Rattle.wm_gained.proofs.OldEntries.{IsOld, old_first, old_rest, stamped_so}
+use Rattle.wm_gained.proofs.OldEntries.{old_first, old_rest, stamped_so}
 
 -- where the row of each entry is there, so is the row of what they tell at a cell
 pub rows_told : (p : Parts) (es : List Entry) → All (HasRow p) es → HasRows p es

@@ -1,15 +1,15 @@
 -- What entries that were made before make of the records in a version more: the rules, and the effect.
-use Rattle.std.proofs.Common.{◌≡◌, ℕ, ◌+◌, ◌^◌, ◌≤◌, nat_le, nat_lt, Bool, true, false, not, ◌==◌, List, [], ◌∷◌, ◌++◌, map, Some, is_some, length, append-nil, refl, sym, ap, subst, ◌∙◌, arith}
+use Rattle.std.proofs.Common.{◌≡◌, ℕ, ◌+◌, ◌^◌, ◌≤◌, nat_le, nat_lt, Bool, true, not, List, [], ◌∷◌, ◌++◌, is_some, length, append-nil, refl, sym, ap, subst, ◌∙◌, arith}
 use Rattle.std.proofs.lemmas.Bool.{eq-eqb}
 use Rattle.std.specs.List.{All, filter, list_all, slice_index_or}
-use Rattle.wm_graph.specs.Parts.{Parts, row_of, space_of, table_of, version_of}
+use Rattle.wm_graph.specs.Parts.{Parts, row_of, table_of, version_of}
 use Rattle.wm_graph.specs.Rules.{are_pieces, collide, differ, is_piece, keep_rules}
 use Rattle.wm_spec.specs.Lists.{Entry}
 use Rattle.wm_spec.specs.declared.record.counters.Counters.{Counters}
 use Rattle.wm_spec.specs.declared.record.piece.PieceRecord.{PieceRecord}
 use Rattle.wm_spec.specs.declared.record.space.Space.{Space}
 use Rattle.wm_spec.specs.declared.record.version.Version.{Version}
-use Rattle.wm_state.specs.Drawing.{end_with, is_clear, touched as met_by}
+use Rattle.wm_state.specs.Drawing.{end_with, is_clear}
 use Rattle.wm_state.specs.Effects.{IsFree, IsLeaf}
 use Rattle.wm_state.specs.Entries.{pieces_of}
 use Rattle.wm_state.specs.Standing.{HasRow, latest, newest_first}

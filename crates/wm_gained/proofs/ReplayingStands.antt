@@ -1,10 +1,9 @@
 -- The records stand for the state in which a workspace has entries that were made before: the laws of a version more and of entries that
 -- are written, one behind the other.
-use Rattle.std.proofs.Common.{◌≡◌, ℕ, true, [], ◌∷◌, List, refl}
+use Rattle.std.proofs.Common.{◌≡◌, ℕ, true, List, refl}
 use Rattle.wm_graph.specs.Parts.{Parts}
 use Rattle.wm_graph.specs.Rules.{keep_rules}
 use Rattle.wm_spec.specs.Lists.{Entry}
-use Rattle.wm_spec.specs.declared.record.counters.Counters.{Counters}
 use Rattle.wm_state.specs.State.{Durable, with_entries, with_space}
 use Rattle.wm_state.specs.Standing.{CountersStand, FieldsStand, Stands}
 use Rattle.wm_state.proofs.Apart.{Ruled, ruled}

@@ -1,6 +1,6 @@
 -- A log gains entries that another workspace has, with the stamps that they have: what becomes of the state, and of the records, told by
 -- what is looked up in them.
-use Rattle.std.specs.Prelude.{ℕ, ◌≡◌, ◌+◌, ◌==◌, Bool, true, false, nat_lt, List, [], ◌∷◌, ◌++◌, map, length, Some, is_some}
+use Rattle.std.specs.Prelude.{ℕ, ◌≡◌, ◌+◌, ◌==◌, true, false, nat_lt, List, [], ◌∷◌, ◌++◌, map, length, Some, is_some}
 use Rattle.std.specs.List.{All, list_all}
 use Rattle.wm_base.specs.declared.row.Row.{Row}
 use Rattle.wm_graph.specs.Parts.{Parts, parts_of, row_of, space_of, table_of}
@@ -10,7 +10,6 @@ use Rattle.wm_spec.specs.Records.{ids_differ, record_at}
 use Rattle.wm_spec.specs.declared.record.batch.Change.{Change}
 use Rattle.wm_spec.specs.declared.record.counters.Counters.{Counters}
 use Rattle.wm_spec.specs.declared.record.piece.PieceRecord.{PieceRecord}
-use Rattle.wm_spec.specs.declared.record.row.RowRecord.{RowRecord}
 use Rattle.wm_spec.specs.declared.record.space.Space.{Space}
 use Rattle.wm_spec.specs.declared.record.stored.Stored.{Stored}
 use Rattle.wm_spec.specs.declared.record.table.Table.{Table}
