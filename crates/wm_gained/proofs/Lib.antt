@@ -14,3 +14,7 @@ pub mod ReplayingParts
 pub mod ReplayingBatch
 pub mod DraftedReplayed
 pub mod DraftedKept
+pub mod RowsBehind
+pub mod AskedBehind
+pub mod LeavesLogs
+pub mod DraftedOne

@@ -2,3 +2,4 @@ pub mod Drafting
 pub mod Gaining
 pub mod Replaying
 pub mod Keeping
+pub mod Behind
