@@ -1,7 +1,7 @@
 -- What is asked of entries that were made before is asked still behind an act that leaves tables, stamps and the log: some state agrees with
 -- the records before, so the state that the act makes of it agrees with those after, which tells what is looked up in them; and rows stay.
-use Rattle.std.proofs.Common.{◌≡◌, ℕ, ◌+◌, ◌≤◌, nat_lt, true, false, List, [], ◌∷◌, length, Some, refl, sym, ap, ◌∙◌, arith}
-use Rattle.std.specs.List.{list_all, slice_index_or}
+use Rattle.std.proofs.Common.{◌≡◌, ℕ, ◌+◌, ◌≤◌, nat_lt, true, false, List, [], ◌∷◌, length, Some, sym, ap, ◌∙◌, arith}
+use Rattle.std.specs.List.{slice_index_or}
 use Rattle.std.specs.Option.{option_map_or}
 use Rattle.wm_graph.specs.Parts.{Parts, parts_of, space_of, table_of}
 use Rattle.wm_graph.specs.Rules.{keep_rules}
@@ -19,7 +19,7 @@ use Rattle.wm_state.specs.State.{Durable}
 use Rattle.wm_state.proofs.Counting.{counts_in}
 use Rattle.wm_state.proofs.FieldsThere.{fields_there}
 use Rattle.wm_state.proofs.Ready.{KeepReady, all_real-kept, tables_found}
-use Rattle.wm_state.proofs.Spaces.{RecordIs, SpaceIs, record_there, space_there}
+use Rattle.wm_state.proofs.Spaces.{SpaceIs, record_there, space_there}
 use Rattle.wm_state.proofs.Tests.{all_if}
 use Rattle.wm_gained.specs.Behind.{LeavesLog, LeftLog}
 use Rattle.wm_gained.specs.Drafting.{MakesOf, acted}
@@ -105,6 +105,7 @@ module _ (rs : List Stored) (m work : ℕ) (act : Durable → Durable) (cs : Lis
         some = can.some;
         old = old_next can.counters can.one can.old;
         kept = can.kept;
+        sorted = can.sorted;
         copied = λ k d lt history. copied_next (slice_index_or es k d) (can.copied k d lt (ap (λ o. option_map_or (λ (t : Table). t.history) o false) (sym (tables_still (slice_index_or es k d).table)) ∙ history));
         short = ap (λ i. nat_lt counter_limit (i + length es)) y.log ∙ can.short;
       }
@@ -120,6 +121,8 @@ module _ (rs : List Stored) (m work : ℕ) (act : Durable → Durable) (cs : Lis
         some = can.some;
         old = old_next can.counters can.one can.old;
         kept = can.kept;
+        sorted = can.sorted;
+        apart = can.apart;
         copied = λ k d lt. copied_next (slice_index_or es k d) (can.copied k d lt);
         short = ap (λ i. nat_lt counter_limit (i + length es)) y.log ∙ can.short;
       }

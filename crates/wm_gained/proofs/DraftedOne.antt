@@ -1,6 +1,5 @@
 -- Changes that make of records what one edit makes of each state are a draft of this edit alone.
-use Rattle.std.proofs.Common.{◌≡◌, ℕ, ◌*◌, ◌≤◌, true, List, [], ◌∷◌, length, refl, sym, ap, ◌∙◌}
-use Rattle.std.specs.List.{list_all}
+use Rattle.std.proofs.Common.{◌≡◌, ℕ, true, List, [], ◌∷◌}
 use Rattle.std.specs.declared.alloc.Global.{Global}
 use Rattle.std.specs.declared.vec.Vec.{Vec}
 use Rattle.wm_spec.specs.declared.record.batch.Change.{Change}
@@ -32,3 +31,18 @@ drafts_one work rs m e cs makes few no_append = record {
   where
     first_edit : (a b : Edit) → a ∷ [] ≡ b ∷ [] → a ≡ b
     first_edit a b h = cc
+
+-- and so the other way
+pub one_makes : (work : ℕ) (rs : List Stored) (m : ℕ) (e : Edit) (cs : List Change) → DraftsBy work rs m (e ∷ []) cs → MakesOf work rs m (edited m e) cs
+one_makes work rs m e cs drafts = record {
+  keeps = drafts.keeps;
+  once = drafts.once;
+  stands = drafts.stands;
+  fields = drafts.fields;
+  rows = drafts.rows;
+  kept = drafts.kept;
+  counted = drafts.counted (λ none. some_none e none);
+}
+  where
+    some_none : (a : Edit) → a ∷ [] ≡ [] → ⊥
+    some_none a h = cc

@@ -23,7 +23,7 @@ use Rattle.wm_state.specs.Touching.{drawn_all, marks_of, trace_of}
 use Rattle.wm_state.specs.Writes.{Redrawn}
 use Rattle.wm_state.proofs.Appending.{all_append}
 use Rattle.wm_state.proofs.Counting.{counts_as, counts_in, in_room, version_well, work_grows}
-use Rattle.wm_state.proofs.Growing.{same_counters}
+use Rattle.wm_state.proofs.Growing.{forked_of, same_counters}
 use Rattle.wm_state.proofs.Named.{one_space}
 use Rattle.wm_state.proofs.RowsStay.{below_apart, new_apart, rows_stay}
 use Rattle.wm_state.proofs.Settled.{Places, PlacesApart, places_apart}
@@ -32,10 +32,11 @@ use Rattle.wm_written.proofs.DraftedWritten.{Apart, apart_so, rows_apart}
 use Rattle.wm_written.proofs.WrittenIds.{changes-write_new}
 use Rattle.wm_written.proofs.WrittenKept.{drawn_kept, kept_dropped, kept_hists, kept_pieces, kept_put, kept_touches, marks_kept, news_kept}
 use Rattle.wm_gained.specs.Drafting.{MakesOf, acted}
-use Rattle.wm_gained.specs.Gaining.{AreOld}
+use Rattle.wm_gained.specs.Gaining.{AreOld, Retraced}
 use Rattle.wm_gained.specs.Replaying.{CanReplay, replay_batch, replayed_in}
 use Rattle.wm_gained.proofs.DraftedGained.{counts_moved}
 use Rattle.wm_gained.proofs.ReplayingBatch.{ReplaysIn, agree_replayed, keep_plan_replayed, plan_replayed}
+use Rattle.wm_gained.proofs.ReplayingNew.{apart_anywhere, redrawn_new}
 use Rattle.wm_gained.proofs.ReplayingParts.{MayReplay}
 
 -- what comes but for the version
@@ -118,3 +119,13 @@ drafts_replayed rs m work es a c counters_id space_id id ids drawn traced rules 
 
     next : (n : ℕ) → n ≤ n + 1
     next n = omega arith
+
+-- so does the batch that puts the pieces of the entries as they are, for which touches alone go
+pub drafts_replayed_new : (rs : List Stored) (m work : ℕ) (es : List Entry) (a : Space) (c : Counters) (counters_id space_id id : ℕ) (ids : List ℕ) (traced : List PieceRecord) → keep_rules (parts_of rs) ≡ true → CanWork (parts_of rs) m work
+    → CanReplay (parts_of rs) a.number es → space_of (parts_of rs).spaces a.number ≡ Some a → Places rs counters_id space_id id c a → Retraced rs a es ids traced
+    → MakesOf work rs m (replayed_in a.number es) (replay_batch (parts_of rs).tables counters_id (versioned c m work) space_id a ids id (next_version (parts_of rs) a.number c) es (pieces_of c.next_version es) traced)
+drafts_replayed_new rs m work es a c counters_id space_id id ids traced rules can_work can there at r =
+    drafts_replayed rs m work es a c counters_id space_id id ids (pieces_of c.next_version es) traced rules can_work can there at
+    (redrawn_new rs c.next_version a es ids traced rules
+    (forked_of (parts_of rs) c (versioned c m work) a a.number (next_version (parts_of rs) a.number c) (may_replay (parts_of rs) m work a c es rules can_work can there at.one).fork rules).below
+    (apart_anywhere c.next_version es can.apart) r)

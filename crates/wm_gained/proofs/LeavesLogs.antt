@@ -1,5 +1,5 @@
 -- What an implicit savepoint leaves of each log, and entries that come into one workspace of the log of another.
-use Rattle.std.proofs.Common.{◌≡◌, ◌≢◌, ℕ, ◌+◌, ◌≤◌, ◌==◌, Bool, true, false, cond, List, length, Option, Some, None, unwrap_or, refl, sym, ap, ◌∙◌, arith}
+use Rattle.std.proofs.Common.{◌≡◌, ℕ, ◌≤◌, ◌==◌, Bool, true, false, cond, List, length, Option, Some, None, unwrap_or, refl, ap, ◌∙◌, arith}
 use Rattle.std.specs.Option.{option_and_then, option_map}
 use Rattle.wm_spec.specs.Lists.{Entry}
 use Rattle.wm_state.specs.State.{Durable, Workspace, with_entries, with_space, workspace_of}

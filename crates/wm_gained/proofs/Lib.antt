@@ -11,6 +11,7 @@ pub mod DraftedGained
 pub mod ReplayingStands
 pub mod ReplayingOld
 pub mod ReplayingParts
+pub mod ReplayingNew
 pub mod ReplayingBatch
 pub mod DraftedReplayed
 pub mod DraftedKept
@@ -18,3 +19,4 @@ pub mod RowsBehind
 pub mod AskedBehind
 pub mod LeavesLogs
 pub mod DraftedOne
+pub mod AskedInTurn

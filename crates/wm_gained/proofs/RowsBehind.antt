@@ -1,9 +1,9 @@
 -- Rows that stay under their ids are found by their stamps still.
-use Rattle.std.proofs.Common.{◌≡◌, ◌≢◌, ℕ, ◌==◌, Bool, true, false, not, cond, List, [], ◌∷◌, ◌++◌, Option, Some, None, refl, sym, ap, subst, ◌∙◌, ◌⊎◌, inl, inr}
-use Rattle.std.proofs.lemmas.Bool.{cases_eq, eq-eqb, eqb-true}
-use Rattle.std.specs.List.{find, list_any}
+use Rattle.std.proofs.Common.{◌≡◌, ℕ, ◌==◌, Bool, true, false, not, cond, List, [], ◌∷◌, ◌++◌, Option, Some, None, refl, sym, ap, ◌∙◌}
+use Rattle.std.proofs.lemmas.Bool.{eq-eqb, eqb-true}
+use Rattle.std.specs.List.{list_any}
 use Rattle.wm_graph.specs.Parts.{as_row, parts_of, row_of}
-use Rattle.wm_graph.specs.Rules.{differ, is_row, keep_rules}
+use Rattle.wm_graph.specs.Rules.{differ, keep_rules}
 use Rattle.wm_spec.specs.Records.{record_at}
 use Rattle.wm_spec.specs.declared.record.Record.{Record}
 use Rattle.wm_spec.specs.declared.record.Record.TheVariants as records
@@ -14,7 +14,7 @@ use Rattle.wm_state.proofs.Apart.{ruled}
 use Rattle.wm_state.proofs.ById.{record_at-away, record_at-below, record_at-here}
 use Rattle.wm_state.proofs.ByKind.{Split, kinds, kinds-one, split_of, stored}
 use Rattle.wm_state.proofs.Mapped.{find-passes}
-use Rattle.wm_state.proofs.Tests.{bool_apart, both, either_false, not_true}
+use Rattle.wm_state.proofs.Tests.{both, either_false, not_true}
 
 -- ---- a row that is found by its stamp has an id
 

@@ -1,7 +1,10 @@
 -- A log gains entries that another workspace has, with the stamps that they have: what becomes of the state, and of the records, told by
 -- what is looked up in them.
-use Rattle.std.specs.Prelude.{ℕ, ◌≡◌, ◌+◌, ◌==◌, true, false, nat_lt, List, [], ◌∷◌, ◌++◌, map, length, Some, is_some}
+use Rattle.std.specs.Prelude.{ℕ, ◌≡◌, ◌+◌, ◌==◌, ◌&&◌, Bool, true, false, not, nat_lt, List, [], ◌∷◌, ◌++◌, map, length, Some, is_some}
 use Rattle.std.specs.List.{All, list_all}
+use Rattle.std.specs.Ordering.{is_gt, nat_cmp, ordering_then}
+use Rattle.std.specs.declared.cmp.Ordering.{Ordering}
+use Rattle.wm_base.specs.Key.{key_order}
 use Rattle.wm_base.specs.declared.row.Row.{Row}
 use Rattle.wm_graph.specs.Parts.{Parts, parts_of, row_of, space_of, table_of}
 use Rattle.wm_graph.specs.Rules.{is_short}
@@ -64,8 +67,18 @@ pub record AreOld (p : Parts) (c : Counters) (es : List Entry) : Type 0 where
   pub well : list_all (is_well (table_of p.tables)) es ≡ true
   pub users : list_all (λ (e : Entry). is_short e.user) es ≡ true
 
--- the workspace is there, and its log has room; there are entries, made before, whose values can be kept, and the rows of those of tables
--- with history are there
+-- entries by table, and in one table by key
+abbrev pub entry_order : Entry → Entry → Ordering
+entry_order e f = ordering_then (nat_cmp e.table f.table) (key_order e.key f.key)
+
+-- none is of a table and key above those of the next, so those of one table and key stand together
+abbrev pub are_in_order : List Entry → Bool
+are_in_order [] = true
+are_in_order (e ∷ []) = true
+are_in_order (e ∷ f ∷ fs) = not (is_gt (entry_order e f)) && are_in_order (f ∷ fs)
+
+-- the workspace is there, and its log has room; there are entries, made before and in order, whose values can be kept, and the rows of
+-- those of tables with history are there
 pub record CanGain (p : Parts) (n : ℕ) (es : List Entry) : Type 0 where
   pub space : Space
   pub there : space_of p.spaces n ≡ Some space
@@ -74,6 +87,7 @@ pub record CanGain (p : Parts) (n : ℕ) (es : List Entry) : Type 0 where
   pub some : nat_lt 0 (length es) ≡ true
   pub old : AreOld p counters es
   pub kept : list_all can_keep_entry es ≡ true
+  pub sorted : are_in_order es ≡ true
   pub copied : All (λ (e : Entry). has_history p.tables e.table ≡ true → IsCopied p e) es
   pub short : nat_lt counter_limit (space.log_length + length es) ≡ false
 

@@ -3,7 +3,7 @@
 use Rattle.std.specs.Prelude.{ℕ, ◌≡◌, ◌+◌, true, false, nat_lt, List, [], ◌∷◌, map, length, Some}
 use Rattle.std.specs.List.{All, list_all}
 use Rattle.wm_graph.specs.Parts.{Parts, space_of}
-use Rattle.wm_graph.specs.Rules.{keep_rules}
+use Rattle.wm_graph.specs.Rules.{collide, differ, keep_rules}
 use Rattle.wm_spec.specs.Lists.{Entry}
 use Rattle.wm_spec.specs.declared.record.batch.Change.{Change}
 use Rattle.wm_spec.specs.declared.record.counters.Counters.{Counters}
@@ -14,11 +14,11 @@ use Rattle.wm_spec.specs.declared.record.version.Version.{Version}
 use Rattle.wm_state.specs.Drafts.{can_keep_entry}
 use Rattle.wm_state.specs.Editing.{counter_limit}
 use Rattle.wm_state.specs.Effects.{Forked}
-use Rattle.wm_state.specs.Entries.{hists_kept}
+use Rattle.wm_state.specs.Entries.{hists_kept, pieces_of}
 use Rattle.wm_state.specs.State.{Durable, with_entries, with_space}
 use Rattle.wm_state.specs.Touching.{trace_of}
 use Rattle.wm_state.specs.Writes.{WroteAll, write_new_batch}
-use Rattle.wm_gained.specs.Gaining.{AreOld, IsCopied}
+use Rattle.wm_gained.specs.Gaining.{AreOld, IsCopied, are_in_order}
 
 -- ---- the state
 
@@ -37,7 +37,8 @@ pub record Replayed (p q : Parts) (n number : ℕ) (es : List Entry) : Type 0 wh
 
 -- ---- what is asked
 
--- the workspace is there, and its log has room; there are entries, made before, whose values can be kept and whose rows are there
+-- the workspace is there, and its log has room; there are entries, made before and in order, no two of which share a cell, whose values can
+-- be kept and whose rows are there
 pub record CanReplay (p : Parts) (n : ℕ) (es : List Entry) : Type 0 where
   pub space : Space
   pub there : space_of p.spaces n ≡ Some space
@@ -46,6 +47,8 @@ pub record CanReplay (p : Parts) (n : ℕ) (es : List Entry) : Type 0 where
   pub some : nat_lt 0 (length es) ≡ true
   pub old : AreOld p counters es
   pub kept : list_all can_keep_entry es ≡ true
+  pub sorted : are_in_order es ≡ true
+  pub apart : differ collide (pieces_of 0 es) ≡ true
   pub copied : All (IsCopied p) es
   pub short : nat_lt counter_limit (space.log_length + length es) ≡ false
 
