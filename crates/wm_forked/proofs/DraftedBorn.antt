@@ -47,7 +47,7 @@ use Rattle.wm_state.proofs.WorkedOn.{counted_put, first_change}
 -- ---- the savepoint
 
 -- the name of an implicit savepoint is short
-implicit_short : (n : ℕ) → nat_lt number_limit (n + 1) ≡ false → is_short (implicit_front ++ decimal n) ≡ true
+pub implicit_short : (n : ℕ) → nat_lt number_limit (n + 1) ≡ false → is_short (implicit_front ++ decimal n) ≡ true
 implicit_short n few = ap (λ k. nat_le k 30) (length-append implicit_front (decimal n)) ∙ four_more (length (decimal n)) (length-decimal-le 10 n (omega arith) (ten n few) (word n few))
   where
     ten : (n : ℕ) → nat_lt number_limit (n + 1) ≡ false → n < 10 ^ 10
@@ -86,7 +86,7 @@ born_so m n at name s w k found made =
     ap (λ o. unwrap_or (option_and_then (bear_in m (stand_of at) name s) o) s) found ∙ ap (λ o. unwrap_or (option_map (λ (j : Savepoint). born m w (stand_of at) name j s) o) s) made
 
 -- the name of the savepoint is that of the record
-implicit_same : (p : Parts) (s : Durable) (a : Space) (w : Workspace) → IsSpace p s a.number a w → implicit_name w ≡ implicit_of a
+pub implicit_same : (p : Parts) (s : Durable) (a : Space) (w : Workspace) → IsSpace p s a.number a w → implicit_name w ≡ implicit_of a
 implicit_same p s a w is = ap (λ (f : SpaceFields). implicit_front ++ decimal f.next_implicit) (sym is.fields)
 
 -- the child in the state has the fields of its record
@@ -129,7 +129,7 @@ child_same p s a m w stand name pt st is k = record {
     fields log_length rebases = record { log_length = log_length; rebases = rebases }
 
 -- the workspaces with the savepoint are those that its record tells
-same_spaces : (p : Parts) (s : Durable) (a : Space) (w : Workspace) (stand : Stand) (k : Savepoint) → IsSpace p s a.number a w
+pub same_spaces : (p : Parts) (s : Durable) (a : Space) (w : Workspace) (stand : Stand) (k : Savepoint) → IsSpace p s a.number a w
     → with_space w.number (with_savepoint (place_behind w stand) (w.next_implicit + 1) k) s.spaces ≡ with_space a.number (with_savepoint (next_place_at a stand) (a.next_implicit + 1) k) s.spaces
 same_spaces p s a w stand k is =
     ap (λ n. with_space n (with_savepoint (place_behind w stand) (w.next_implicit + 1) k) s.spaces) is.number

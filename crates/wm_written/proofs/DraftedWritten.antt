@@ -93,16 +93,16 @@ counts_on s m work n c d entries counts stamp moment limit more q one = record {
 -- ---- the ids
 
 -- ids that differ, with two before them
-two_before : (counters_id space_id : ℕ) (ids : List ℕ) → (space_id == counters_id) ≡ false → is_dropped ids counters_id ≡ false → is_dropped ids space_id ≡ false → ids_differ ids ≡ true → ids_differ (counters_id ∷ space_id ∷ ids) ≡ true
+pub two_before : (counters_id space_id : ℕ) (ids : List ℕ) → (space_id == counters_id) ≡ false → is_dropped ids counters_id ≡ false → is_dropped ids space_id ≡ false → ids_differ ids ≡ true → ids_differ (counters_id ∷ space_id ∷ ids) ≡ true
 unfolding ids_differ
 two_before counters_id space_id ids apart one two differ = rw (apart, one, two) differ
 
 -- as a test
-lt_test : (k id : ℕ) → k < id → nat_lt k id ≡ true
+pub lt_test : (k id : ℕ) → k < id → nat_lt k id ≡ true
 lt_test k id lt = grind (arith, lt)
 
 -- what is there is below the new ids
-all_below : (rs : List Stored) (id : ℕ) (ids : List ℕ) → AllUnder id rs → list_all (λ k. is_some (record_at rs k)) ids ≡ true → are_under id ids ≡ true
+pub all_below : (rs : List Stored) (id : ℕ) (ids : List ℕ) → AllUnder id rs → list_all (λ k. is_some (record_at rs k)) ids ≡ true → are_under id ids ≡ true
 all_below rs id [] under all = refl
 all_below rs id (k ∷ ks) under all =
     let h = both (is_some (record_at rs k)) (list_all (λ k. is_some (record_at rs k)) ks) all in and_true (nat_lt k id) (are_under id ks) (by_record (record_at rs k) refl h.0) (all_below rs id ks under h.1)

@@ -22,7 +22,7 @@ use Rattle.wm_state.proofs.Apart.{found-passes}
 use Rattle.wm_state.proofs.Tests.{bool_apart, both, and_true, none_if}
 
 -- the row of an entry
-abbrev row_with : Entry → Row → RowRecord
+abbrev pub row_with : Entry → Row → RowRecord
 row_with e row = record { stamp = e.stamp; table = e.table; values = row.values }
 
 -- an entry's row and the others
@@ -39,13 +39,13 @@ rows_are e es = by_row e.row refl
 
 -- ---- what an entry's table says of it
 
-record Well (tables : ℕ → Option Table) (e : Entry) : Type 0 where
+pub record Well (tables : ℕ → Option Table) (e : Entry) : Type 0 where
   pub table : Table
   pub is : tables e.table ≡ Some table
   pub key : is_key_of e.key table ≡ true
   pub row : (row : Row) → e.row ≡ Some row → is_keyed table e.key row ≡ true
 
-well_of : (tables : ℕ → Option Table) (e : Entry) → is_well tables e ≡ true → Well tables e
+pub well_of : (tables : ℕ → Option Table) (e : Entry) → is_well tables e ≡ true → Well tables e
 well_of tables e well = by_table (tables e.table) refl well
   where
     by_table : (o : Option Table) → tables e.table ≡ o → option_map_or (fits_table e.key e.row) o false ≡ true → Well tables e
@@ -155,7 +155,7 @@ told_row table stamp (e ∷ es) stamped c t row found is = by_told (told es c) r
 -- ---- pieces
 
 -- the cells of an entry are those of its table, its stamp was given, and its row is there
-cells_well : (tables : ℕ → Option Table) (rows : ℕ → Option RowRecord) (table stamp next : ℕ) (e : Entry) (cells : CellRange) → cells ≡ record { table = e.table; key = e.key; from = e.from; till = e.till } → IsStamped table stamp e
+pub cells_well : (tables : ℕ → Option Table) (rows : ℕ → Option RowRecord) (table stamp next : ℕ) (e : Entry) (cells : CellRange) → cells ≡ record { table = e.table; key = e.key; from = e.from; till = e.till } → IsStamped table stamp e
     → Well tables e → nat_lt e.stamp next ≡ true → ((row : Row) → e.row ≡ Some row → rows e.stamp ≡ Some (row_with e row))
     → (are_cells tables cells && (nat_lt e.stamp next && (is_none e.row || option_map_or (is_row_at tables cells) (rows e.stamp) false))) ≡ true
 cells_well tables rows table stamp next e cells is_so w well below found =

@@ -111,7 +111,7 @@ KeepRows-append p q rows more stamp r found = ap (λ rs. row_of rs stamp) more �
 
 -- ---- pieces
 
-pieces_kept : (p q : Parts) (next more : ℕ) (rows : List RowRecord) (keep : PieceRecord → Bool) (pieces : List PieceRecord) → nat_le next more ≡ true → q.tables ≡ p.tables → q.versions ≡ p.versions
+pub pieces_kept : (p q : Parts) (next more : ℕ) (rows : List RowRecord) (keep : PieceRecord → Bool) (pieces : List PieceRecord) → nat_le next more ≡ true → q.tables ≡ p.tables → q.versions ≡ p.versions
     → q.rows ≡ p.rows ++ rows → q.pieces ≡ filter keep p.pieces ++ pieces
     → list_all (is_piece (table_of p.tables) (version_of p.versions) (row_of (p.rows ++ rows)) more) pieces ≡ true → differ collide pieces ≡ true
     → AreApart (filter keep p.pieces) pieces → are_pieces p next ≡ true → are_pieces q more ≡ true
@@ -148,7 +148,7 @@ positions_apart p next a hists there new x is =
     by_space y h true e = position_below x.position y.position a.log_length
         (sym (ap (λ o. option_map_or within o false) (ap (space_of p.spaces) (eqb-true x.space y.space e ∙ eqb-true y.space a.number h.0) ∙ there)) ∙ inside) h.1
 
-hists_kept : (p q : Parts) (next more : ℕ) (a : Space) (hists : List Hist) → nat_le next more ≡ true → KeepTables p q → KeepSpaces p q → KeepRows p q → q.hists ≡ p.hists ++ hists → space_of p.spaces a.number ≡ Some a
+pub hists_kept : (p q : Parts) (next more : ℕ) (a : Space) (hists : List Hist) → nat_le next more ≡ true → KeepTables p q → KeepSpaces p q → KeepRows p q → q.hists ≡ p.hists ++ hists → space_of p.spaces a.number ≡ Some a
     → list_all (is_hist (table_of q.tables) (space_of q.spaces) (row_of q.rows) more) hists ≡ true → differ same_position hists ≡ true → list_all (λ (x : Hist). (x.space == a.number) && nat_le a.log_length x.position) hists ≡ true
     → are_hists p next ≡ true → are_hists q more ≡ true
 hists_kept p q next more a hists le tables spaces rows are there well apart new e =

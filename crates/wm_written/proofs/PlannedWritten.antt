@@ -56,7 +56,7 @@ pub record Put (ss : List Stored) (cs : List Change) (new : Counters) (a : Space
   pub old : (parts_of ss).spaces ≡ front ++ a ∷ back
   pub is : parts_of (applied cs ss) ≡ all_written (parts_of ss) new front a back k e
 
-parts-written : (ss : List Stored) (counters_id space_id id : ℕ) (old new : Counters) (a : Space) (k : ℕ) (e : Entering) (ids : List ℕ) → Places ss counters_id space_id id old a → AreDropped (keeps_both e.keep e.stay) ids ss
+pub parts-written : (ss : List Stored) (counters_id space_id id : ℕ) (old new : Counters) (a : Space) (k : ℕ) (e : Entering) (ids : List ℕ) → Places ss counters_id space_id id old a → AreDropped (keeps_both e.keep e.stay) ids ss
     → Put ss (write_batch counters_id new space_id a k ids id e.rows e.pieces e.touches e.hists) new a k e
 parts-written ss counters_id space_id id old new a k e ids at are = by_split (split_of first space_id (records.Space a) space_still)
   where
@@ -184,7 +184,7 @@ before p old rules one = record {
     parts = both (differ collide p.pieces) (list_all (is_piece (table_of p.tables) (version_of p.versions) (row_of p.rows) old.next_stamp) p.pieces) (ap (λ (c : Counters). are_pieces p c.next_stamp) same_counters ∙ rule.pieces)
 
 -- the touches of a workspace are at positions that its log has
-all_behind : (p : Parts) (n : ℕ) (a : Space) (xs : List Trace) → space_of p.spaces n ≡ Some a → list_all (is_touch (table_of p.tables) (space_of p.spaces)) xs ≡ true → list_all (is_behind n a.log_length) xs ≡ true
+pub all_behind : (p : Parts) (n : ℕ) (a : Space) (xs : List Trace) → space_of p.spaces n ≡ Some a → list_all (is_touch (table_of p.tables) (space_of p.spaces)) xs ≡ true → list_all (is_behind n a.log_length) xs ≡ true
 all_behind p n a xs found = all_if (is_touch (table_of p.tables) (space_of p.spaces)) (is_behind n a.log_length) (λ x e. by_space x (x.space == n) refl (both (is_trace (table_of p.tables) (space_of p.spaces) x) _ e).1) xs
   where
     by_space : (x : Trace) (b : Bool) → (x.space == n) ≡ b → option_map_or (λ (s : Space). nat_lt x.position s.log_length) (space_of p.spaces x.space) false ≡ true → is_behind n a.log_length x ≡ true

@@ -25,11 +25,11 @@ use Rattle.wm_written.proofs.TouchesKept.{tells_kept, tells_more, tells_other}
 use Rattle.wm_written.proofs.Wrote.{Was, appended-at, appended_all, was}
 
 -- a savepoint of a workspace has a record of its place and of how long the log was
-record Marked (p : Parts) (n : ℕ) (k : Savepoint) (a : Space) : Type 0 where
-  place : nat_lt k.place a.next_place ≡ true
-  log : nat_le k.log_length a.log_length ≡ true
+pub record Marked (p : Parts) (n : ℕ) (k : Savepoint) (a : Space) : Type 0 where
+  pub place : nat_lt k.place a.next_place ≡ true
+  pub log : nat_le k.log_length a.log_length ≡ true
 
-marked_by : (p : Parts) (s : Durable) (n making : ℕ) (o : Workspace) (k : Savepoint) (a : Space) → Stands p s → workspace_of s.spaces n ≡ Some o → savepoint_made making o.savepoints ≡ Some k → space_of p.spaces n ≡ Some a
+pub marked_by : (p : Parts) (s : Durable) (n making : ℕ) (o : Workspace) (k : Savepoint) (a : Space) → Stands p s → workspace_of s.spaces n ≡ Some o → savepoint_made making o.savepoints ≡ Some k → space_of p.spaces n ≡ Some a
     → Marked p n k a
 marked_by p s n making o k a st is made recorded = by_record (saved_as p n making) refl
   where

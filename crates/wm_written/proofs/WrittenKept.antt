@@ -28,12 +28,12 @@ use Rattle.wm_written.proofs.Touched.{met-same, touched-all}
 -- ---- changes
 
 -- what is put
-kept_put : (id : ℕ) (rs : List Record) → list_all is_kept rs ≡ true → list_all is_kept_change (put_all id rs) ≡ true
+pub kept_put : (id : ℕ) (rs : List Record) → list_all is_kept rs ≡ true → list_all is_kept_change (put_all id rs) ≡ true
 kept_put id [] all = refl
 kept_put id (r ∷ rs) all = let h = both (is_kept r) (list_all is_kept rs) all in and_true (is_kept r) _ h.0 (kept_put (id + 1) rs h.1)
 
 -- what goes, before other changes
-kept_dropped : (ids : List ℕ) (cs : List Change) → list_all is_kept_change cs ≡ true → list_all is_kept_change (map drop_one ids ++ cs) ≡ true
+pub kept_dropped : (ids : List ℕ) (cs : List Change) → list_all is_kept_change cs ≡ true → list_all is_kept_change (map drop_one ids ++ cs) ≡ true
 kept_dropped [] cs rest = rest
 kept_dropped (id ∷ ids) cs rest = kept_dropped ids cs rest
 
@@ -50,7 +50,7 @@ kept_rows (e ∷ es) all = let h = both (can_keep_entry e) (list_all can_keep_en
     by_row (Some row) is one rest = rw is (and_true (list_all can_keep row.values) _ (sym (ap (λ o. option_map_or (λ (r : Row). list_all can_keep r.values) o true) is) ∙ one) rest)
 
 -- the entries of a log
-kept_hists : (tables : List Table) (n position : ℕ) (es : List Entry) → list_all can_keep_entry es ≡ true → list_all is_kept (map records.Hist (hists_kept tables n position es)) ≡ true
+pub kept_hists : (tables : List Table) (n position : ℕ) (es : List Entry) → list_all can_keep_entry es ≡ true → list_all is_kept (map records.Hist (hists_kept tables n position es)) ≡ true
 kept_hists tables n position [] all = refl
 kept_hists tables n position (e ∷ es) all =
     let h = both (can_keep_entry e) (list_all can_keep_entry es) all in by_test (has_history tables e.table) (both (list_all can_keep e.key) _ h.0).0 (kept_hists tables n (position + 1) es h.1)
@@ -61,35 +61,35 @@ kept_hists tables n position (e ∷ es) all =
     by_test false key rest = rest
 
 -- the key of a piece can be kept
-abbrev keeps_key : PieceRecord → Bool
+abbrev pub keeps_key : PieceRecord → Bool
 keeps_key x = list_all can_keep x.cells.key
 
 -- pieces of such keys
-kept_pieces : (xs : List PieceRecord) → list_all keeps_key xs ≡ true → list_all is_kept (map records.Piece xs) ≡ true
+pub kept_pieces : (xs : List PieceRecord) → list_all keeps_key xs ≡ true → list_all is_kept (map records.Piece xs) ≡ true
 kept_pieces [] all = refl
 kept_pieces (x ∷ xs) all = let h = both (keeps_key x) (list_all keeps_key xs) all in and_true (keeps_key x) _ h.0 (kept_pieces xs h.1)
 
 -- and what is touched there
-kept_touches : (n : ℕ) (xs : List PieceRecord) → list_all keeps_key xs ≡ true → list_all is_kept (map records.Touch (map (trace_of n) xs)) ≡ true
+pub kept_touches : (n : ℕ) (xs : List PieceRecord) → list_all keeps_key xs ≡ true → list_all is_kept (map records.Touch (map (trace_of n) xs)) ≡ true
 kept_touches n [] all = refl
 kept_touches n (x ∷ xs) all = let h = both (keeps_key x) (list_all keeps_key xs) all in and_true (keeps_key x) _ h.0 (kept_touches n xs h.1)
 
 -- ---- pieces that are drawn
 
 -- the pieces of entries
-news_kept : (version : ℕ) (es : List Entry) → list_all can_keep_entry es ≡ true → list_all keeps_key (pieces_of version es) ≡ true
+pub news_kept : (version : ℕ) (es : List Entry) → list_all can_keep_entry es ≡ true → list_all keeps_key (pieces_of version es) ≡ true
 news_kept version [] all = refl
 news_kept version (e ∷ es) all =
     let h = both (can_keep_entry e) (list_all can_keep_entry es) all in and_true (list_all can_keep e.key) _ (both (list_all can_keep e.key) _ h.0).0 (news_kept version es h.1)
 
 -- what entries touch
-marks_kept : (place start : ℕ) (es : List Entry) → list_all can_keep_entry es ≡ true → list_all keeps_key (marks_of place start es) ≡ true
+pub marks_kept : (place start : ℕ) (es : List Entry) → list_all can_keep_entry es ≡ true → list_all keeps_key (marks_of place start es) ≡ true
 marks_kept place start [] all = refl
 marks_kept place start (e ∷ es) all =
     let h = both (can_keep_entry e) (list_all can_keep_entry es) all in and_true (list_all can_keep e.key) _ (both (list_all can_keep e.key) _ h.0).0 (marks_kept place (start + 1) es h.1)
 
 -- those that new pieces meet are of their keys, and so are all that are drawn for them
-drawn_kept : (news old drawn : List PieceRecord) → list_all keeps_key news ≡ true → AreDrawn news (touched news old) drawn → list_all keeps_key drawn ≡ true
+pub drawn_kept : (news old drawn : List PieceRecord) → list_all keeps_key news ≡ true → AreDrawn news (touched news old) drawn → list_all keeps_key drawn ≡ true
 drawn_kept news old drawn all draws =
     draws.pass keeps_key (λ x from till e le lt ends. e) (touched-all keeps_key (λ n y hit own. ap (list_all can_keep) (sym (met-same n y hit).1.1) ∙ own) news all old) all
 
