@@ -11,6 +11,7 @@ ghost use Rattle.wm_call_lines.specs.Gathering.{gathered_view, first_at, Gathers
 
 use crate::parameters::{next_place, open_parameter};
 use std::alloc::Global;
+use std::mem::replace;
 use wm_base::tree::cond::Cond;
 use wm_base::tree::constant::Const;
 use wm_base::tree::statement::{Arg, ArgValue, Args, Statement};
@@ -65,6 +66,7 @@ fn condition_in(alloc: Global, bytes: &[u8]) -> Result<Cond, ParseError>
     if cursor.is_at_end() {
         return Ok(found);
     }
+    drop(found);
     Err(cursor.fault())
 }
 
@@ -242,7 +244,9 @@ fn keep_first(kept: &mut Option<Cond>, other: Option<Cond>)
     ensures { filter_view kept.new ≡ first_some (filter_view kept.old) (filter_view other) }
 {
     if kept.is_none() {
-        *kept = other;
+        drop(replace(kept, other));
+    } else {
+        drop(other);
     }
 }
 
@@ -255,8 +259,13 @@ fn first_argument(
 {
     let (first, condition) = arg(cursor, alloc, procedure, &[])?;
     let mut list = Vec::new(alloc);
-    list.push(first)?;
-    Ok(Gathered { list, condition })
+    match list.push(first) {
+        Ok(()) => Ok(Gathered { list, condition }),
+        Err(failed) => {
+            drop(condition);
+            Err(ParseError::from(failed))
+        }
+    }
 }
 
 /// One more argument, behind a comma.
@@ -269,9 +278,16 @@ fn gather(
     ensures { Gathers result procedure (gathered_view gathered.old) (gathered_view gathered.new) cursor.old cursor.new }
 {
     let (next, other) = next_arg(cursor, alloc, procedure, gathered.list.as_slice())?;
-    gathered.list.push(next)?;
-    keep_first(&mut gathered.condition, other);
-    Ok(())
+    match gathered.list.push(next) {
+        Ok(()) => {
+            keep_first(&mut gathered.condition, other);
+            Ok(())
+        }
+        Err(failed) => {
+            drop(other);
+            Err(ParseError::from(failed))
+        }
+    }
 }
 
 /// Arguments, at least one.
@@ -285,7 +301,13 @@ fn arguments(
 {
     let mut gathered = first_argument(cursor, alloc, procedure)?;
     'items: while cursor.is(Sort::Comma) {
-        gather(cursor, alloc, procedure, &mut gathered)?;
+        match gather(cursor, alloc, procedure, &mut gathered) {
+            Ok(()) => {}
+            Err(fault) => {
+                drop(gathered);
+                return Err(fault);
+            }
+        }
     }
     Ok(gathered)
 }
@@ -304,8 +326,13 @@ fn parenthesis(
         return Ok(none_gathered(alloc));
     }
     let gathered = arguments(cursor, alloc, procedure)?;
-    cursor.mark(Sort::Close)?;
-    Ok(gathered)
+    match cursor.mark(Sort::Close) {
+        Ok(()) => Ok(gathered),
+        Err(fault) => {
+            drop(gathered);
+            Err(fault)
+        }
+    }
 }
 
 #[tactic(auto, unfolding(wm_grammar::specs::CallReaders::arguments_of_at))]

@@ -76,7 +76,10 @@ fn boxed(alloc: Global, test: Cond) -> Result<Box<Cond>, ParseError>
 {
     match Box::new(alloc, test) {
         Ok(made) => Ok(made),
-        Err(_) => Err(ParseError::Memory),
+        Err(failed) => {
+            drop(failed);
+            Err(ParseError::Memory)
+        }
     }
 }
 

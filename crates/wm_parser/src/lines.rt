@@ -135,11 +135,12 @@ fn discard_query(query: Query) {
     let Query {
         projection: _projection,
         sources: _sources,
-        filter: _filter,
+        filter,
         groups: _groups,
         orders: _orders,
         ..
     } = query;
+    drop(filter);
 }
 
 /// Lets a statement go, part by part.
@@ -157,18 +158,18 @@ fn discard_statement(statement: Statement) {
         Statement::Update {
             table: _table,
             sets: _sets,
-            filter: _filter,
-        } => {}
+            filter,
+        } => drop(filter),
         Statement::Delete {
             table: _table,
-            filter: _filter,
-        } => {}
+            filter,
+        } => drop(filter),
         Statement::Select(query) => discard_query(query),
         Statement::Call {
             procedure: _procedure,
             args: _args,
-            condition: _condition,
-        } => {}
+            condition,
+        } => drop(condition),
     }
 }
 

@@ -1,14 +1,17 @@
 ghost use Rattle.std.specs.Prelude.{◌≡◌, List};
-ghost use Rattle.wm_base.specs.Views.{item_view, out_view, outs_view, projection_view, src_view, srcs_view, query_view};
+ghost use Rattle.wm_base.specs.Views.{expr_view, item_view, out_view, outs_view, projection_view, src_view, srcs_view, query_view};
 ghost use Rattle.wm_grammar.specs.OperandReaders.{column_at};
 ghost use Rattle.wm_grammar.specs.Queries.{is_alone, room};
 ghost use Rattle.wm_grammar.specs.QueryReaders.{next_at, list_of_at, other_aggregate_at, counted_at, query_item_at, out_at, projection_at, source_at, joined_at, next_source_at, separators, source_list_at, grouping_at, direction_at, order_key_at, order_at, ordering_at, query_at};
 ghost use Rattle.wm_grammar.specs.Symbols.{next_in};
+ghost use Rattle.wm_query.specs.Parts.{closed_at, alias_at};
 ghost use Rattle.wm_terms.specs.Telling.{Told};
 
 use std::alloc::Global;
 use wm_arithmetic::expr;
+use wm_base::Name;
 use wm_base::tree::column::{Col, Cols};
+use wm_base::tree::expr::Expr;
 use wm_base::tree::query::{
     Agg, Item, Order, OrderBy, Orders, Out, Outs, Projection, Query, Src, Srcs,
 };
@@ -34,6 +37,19 @@ fn other_aggregate(cursor: &mut Cursor) -> Result<Agg, ParseError>
     Ok(Agg::Max)
 }
 
+/// The aggregate of an expression, behind which its parenthesis is closed.
+fn closed(cursor: &mut Cursor, agg: Agg, of: Expr) -> Result<Item, ParseError>
+    ensures { Told item_view result cursor.new (closed_at agg (expr_view of) cursor.old) }
+{
+    match cursor.mark(Sort::Close) {
+        Ok(()) => Ok(Item::Agg { agg, of }),
+        Err(fault) => {
+            drop(of);
+            Err(fault)
+        }
+    }
+}
+
 /// What follows COUNT and its parenthesis.
 #[tactic(auto, unfolding(wm_grammar::specs::QueryReaders::counted_at))]
 fn counted(cursor: &mut Cursor, alloc: Global) -> Result<Item, ParseError>
@@ -45,11 +61,7 @@ fn counted(cursor: &mut Cursor, alloc: Global) -> Result<Item, ParseError>
         return Ok(Item::CountAll);
     }
     let of = expr(cursor, alloc)?;
-    cursor.mark(Sort::Close)?;
-    Ok(Item::Agg {
-        agg: Agg::Count,
-        of,
-    })
+    closed(cursor, Agg::Count, of)
 }
 
 /// An expression or an aggregate.
@@ -66,11 +78,22 @@ fn query_item(cursor: &mut Cursor, alloc: Global) -> Result<Item, ParseError>
         let agg = other_aggregate(cursor)?;
         cursor.mark(Sort::Open)?;
         let of = expr(cursor, alloc)?;
-        cursor.mark(Sort::Close)?;
-        return Ok(Item::Agg { agg, of });
+        return closed(cursor, agg, of);
     }
     let plain = expr(cursor, alloc)?;
     Ok(Item::Expr(plain))
+}
+
+/// The name that AS gives an item, if it stands there.
+fn alias(cursor: &mut Cursor, alloc: Global) -> Result<Option<Name>, ParseError>
+    ensures { Told (λ n. n) result cursor.new (alias_at cursor.old) }
+{
+    if cursor.is(Sort::As) {
+        cursor.mark(Sort::As)?;
+        let name = cursor.name(alloc, Sort::Id)?;
+        return Ok(Some(name));
+    }
+    Ok(None)
 }
 
 /// An item, and the name that AS gives it.
@@ -79,12 +102,13 @@ fn out(cursor: &mut Cursor, alloc: Global) -> Result<Out, ParseError>
     ensures { Told out_view result cursor.new (out_at 64 cursor.old) }
 {
     let item = query_item(cursor, alloc)?;
-    let mut alias = None;
-    if cursor.is(Sort::As) {
-        cursor.mark(Sort::As)?;
-        alias = Some(cursor.name(alloc, Sort::Id)?);
+    match alias(cursor, alloc) {
+        Ok(alias) => Ok(Out { item, alias }),
+        Err(fault) => {
+            drop(item);
+            Err(fault)
+        }
     }
-    Ok(Out { item, alias })
 }
 
 fn next_out(cursor: &mut Cursor, alloc: Global) -> Result<Out, ParseError>
@@ -140,7 +164,8 @@ fn joined(cursor: &mut Cursor, alloc: Global) -> Result<Src, ParseError>
     ensures { Told src_view result cursor.new (joined_at 64 cursor.old) }
 {
     cursor.mark(Sort::Join)?;
-    let Src { table, alias, .. } = source(cursor, alloc)?;
+    let Src { table, alias, on: none } = source(cursor, alloc)?;
+    drop(none);
     cursor.mark(Sort::On)?;
     let on = condition(cursor, alloc)?;
     Ok(Src {
@@ -333,14 +358,25 @@ pub fn query(cursor: &mut Cursor, alloc: Global) -> Result<Query, ParseError>
     cursor.mark(Sort::From)?;
     let sources = source_list(cursor, alloc, projection.has_aggregate())?;
     let filter = filter(cursor, alloc)?;
-    let groups = grouping(cursor, alloc, is_alone(sources.as_slice()))?;
-    let orders = ordering(cursor, alloc)?;
-    Ok(Query {
-        distinct,
-        projection,
-        sources,
-        filter,
-        groups,
-        orders,
-    })
+    let groups = match grouping(cursor, alloc, is_alone(sources.as_slice())) {
+        Ok(groups) => groups,
+        Err(fault) => {
+            drop(filter);
+            return Err(fault);
+        }
+    };
+    match ordering(cursor, alloc) {
+        Ok(orders) => Ok(Query {
+            distinct,
+            projection,
+            sources,
+            filter,
+            groups,
+            orders,
+        }),
+        Err(fault) => {
+            drop(filter);
+            Err(fault)
+        }
+    }
 }
