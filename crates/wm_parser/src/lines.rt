@@ -130,7 +130,7 @@ fn line(cursor: &mut Cursor, alloc: Global) -> Result<Line, ParseError>
     session(cursor, alloc)
 }
 
-/// Lets a query go, part by part.
+/// Lets a query go, part by part; its condition by `drop`, since where a scope ends the proof takes one apart anew.
 fn discard_query(query: Query) {
     let Query {
         projection: _projection,

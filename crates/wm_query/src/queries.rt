@@ -164,7 +164,11 @@ fn joined(cursor: &mut Cursor, alloc: Global) -> Result<Src, ParseError>
     ensures { Told src_view result cursor.new (joined_at 64 cursor.old) }
 {
     cursor.mark(Sort::Join)?;
-    let Src { table, alias, on: none } = source(cursor, alloc)?;
+    let Src {
+        table,
+        alias,
+        on: none,
+    } = source(cursor, alloc)?;
     drop(none);
     cursor.mark(Sort::On)?;
     let on = condition(cursor, alloc)?;
