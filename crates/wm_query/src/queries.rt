@@ -38,13 +38,13 @@ fn other_aggregate(cursor: &mut Cursor) -> Result<Agg, ParseError>
 }
 
 /// The aggregate of an expression, behind which its parenthesis is closed.
-fn closed(cursor: &mut Cursor, agg: Agg, of: Expr) -> Result<Item, ParseError>
-    ensures { Told item_view result cursor.new (closed_at agg (expr_view of) cursor.old) }
+fn closed(cursor: &mut Cursor, agg: Agg, argument: Expr) -> Result<Item, ParseError>
+    ensures { Told item_view result cursor.new (closed_at agg (expr_view argument) cursor.old) }
 {
     match cursor.mark(Sort::Close) {
-        Ok(()) => Ok(Item::Agg { agg, of }),
+        Ok(()) => Ok(Item::Agg { agg, of: argument }),
         Err(fault) => {
-            drop(of);
+            drop(argument);
             Err(fault)
         }
     }
