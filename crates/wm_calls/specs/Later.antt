@@ -17,6 +17,8 @@ is_later_procedure procedures.GotoSavepoint = false
 is_later_procedure procedures.SetValidTime = false
 is_later_procedure procedures.RollbackToSp = false
 is_later_procedure procedures.RemoveWorkspace = false
+is_later_procedure procedures.RefreshWorkspace = false
+is_later_procedure procedures.MergeWorkspace = false
 is_later_procedure _ = true
 
 abbrev pub is_later_name : Option Procedure → Bool

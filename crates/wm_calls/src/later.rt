@@ -20,7 +20,9 @@ fn is_later_procedure(procedure: Procedure) -> bool
         | Procedure::GotoSavepoint
         | Procedure::SetValidTime
         | Procedure::RollbackToSp
-        | Procedure::RemoveWorkspace => false,
+        | Procedure::RemoveWorkspace
+        | Procedure::RefreshWorkspace
+        | Procedure::MergeWorkspace => false,
         _ => true,
     }
 }

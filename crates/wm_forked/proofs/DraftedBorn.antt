@@ -225,6 +225,7 @@ drafts_born rs m work n at name a pt c counters_id space_id id rules can_work ca
   nothing = some_edit (edits.Bear n at name) [] (birth_batch counters_id (versioned c m work) space_id (marked place implicit a) id x r v u);
   few = λ forks. few_birth rs counters_id space_id c (versioned c m work) a place implicit id x a r v u birth;
   spared = λ i entries one_append. absurd (no_append i entries one_append);
+  turned = λ left. absurd (bool_apart (sym left));
 }
   where
     no_append : (i : ℕ) (entries : Vec NewEntry Global) → edits.Bear n at name ∷ [] ≡ edits.Append i entries ∷ [] → ⊥

@@ -113,6 +113,7 @@ drafts_saved rs m work n name a c counters_id space_id id rules can_work can the
   nothing = some_edit (edits.Save n name) [] (savepoint_batch counters_id (moved c m work) space_id (marked (a.next_place + 1) a.next_implicit a) id x);
   few = λ forks. few_saved rs counters_id space_id c (moved c m work) a (a.next_place + 1) a.next_implicit id x at;
   spared = λ i entries one_append. absurd (no_append i entries one_append);
+  turned = λ left. absurd (bool_apart (sym left));
 }
   where
     no_append : (i : ℕ) (entries : Vec NewEntry Global) → edits.Save n name ∷ [] ≡ edits.Append i entries ∷ [] → ⊥

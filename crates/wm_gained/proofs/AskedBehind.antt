@@ -23,9 +23,8 @@ use Rattle.wm_state.proofs.Spaces.{SpaceIs, record_there, space_there}
 use Rattle.wm_state.proofs.Tests.{all_if}
 use Rattle.wm_gained.specs.Behind.{LeavesLog, LeftLog}
 use Rattle.wm_gained.specs.Drafting.{MakesOf, acted}
-use Rattle.wm_gained.specs.Gaining.{AreOld, CanGain, IsCopied}
-use Rattle.wm_gained.specs.Replaying.{CanReplay}
 use Rattle.wm_gained.proofs.RowsBehind.{rows_found_next}
+use Rattle.wm_state.specs.Drafts.{AreOld, CanGain, CanReplay, IsCopied}
 
 module _ (rs : List Stored) (m work : ℕ) (act : Durable → Durable) (cs : List Change) (n : ℕ) (es : List Entry) (sorted : Ascend rs) (rules : keep_rules (parts_of rs) ≡ true) (makes : MakesOf work rs m act cs) (leaves : LeavesLog act n) where
   abbrev p : Parts

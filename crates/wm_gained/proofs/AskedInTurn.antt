@@ -9,11 +9,10 @@ use Rattle.wm_spec.specs.declared.record.stored.Stored.{Stored}
 use Rattle.wm_state.specs.ById.{Ascend, applied}
 use Rattle.wm_state.proofs.Batches.{Ascend-applied}
 use Rattle.wm_gained.specs.Drafting.{MakesOf}
-use Rattle.wm_gained.specs.Gaining.{CanGain}
-use Rattle.wm_gained.specs.Keeping.{kept_in}
-use Rattle.wm_gained.specs.Replaying.{CanReplay, replayed_in}
 use Rattle.wm_gained.proofs.AskedBehind.{can_gain_next, can_replay_next}
 use Rattle.wm_gained.proofs.LeavesLogs.{leaves_kept, leaves_replayed}
+use Rattle.wm_state.specs.Drafts.{CanGain, CanReplay}
+use Rattle.wm_state.specs.Editing.{kept_in, replayed_in}
 
 pub asked_in_turn : (rs : List Stored) (m n child : ℕ) (es gained : List Entry) → Ascend rs → keep_rules (parts_of rs) ≡ true → (child == n) ≡ false → CanReplay (parts_of rs) n es → CanGain (parts_of rs) child gained
     → (work : ℕ) (cs : List Change) → MakesOf work rs m (kept_in m n) cs

@@ -11,8 +11,8 @@ use Rattle.wm_spec.specs.declared.record.piece.PieceRecord.{PieceRecord}
 use Rattle.wm_spec.specs.declared.record.space.Space.{Space}
 use Rattle.wm_spec.specs.declared.record.stored.Stored.{Stored}
 use Rattle.wm_state.specs.ById.{applied}
-use Rattle.wm_state.specs.Drafts.{CanWork}
-use Rattle.wm_state.specs.Editing.{counter_limit}
+use Rattle.wm_state.specs.Drafts.{AreOld, CanGain, CanWork}
+use Rattle.wm_state.specs.Editing.{counter_limit, gained_in}
 use Rattle.wm_state.specs.Entries.{hists_kept}
 use Rattle.wm_state.specs.Points.{moved}
 use Rattle.wm_state.specs.Standing.{CountersStand}
@@ -27,7 +27,7 @@ use Rattle.wm_state.proofs.WorkedOn.{counted_put, first_change}
 use Rattle.wm_written.proofs.DraftedWritten.{Apart}
 use Rattle.wm_written.proofs.WrittenIds.{changes-write}
 use Rattle.wm_gained.specs.Drafting.{MakesOf, acted}
-use Rattle.wm_gained.specs.Gaining.{AreOld, CanGain, Retraced, gain_batch, gained_in}
+use Rattle.wm_gained.specs.Gaining.{Retraced, gain_batch}
 use Rattle.wm_gained.proofs.GainingBatch.{GainsIn, agree_gained, keep_plan_gained, plan_gained}
 use Rattle.wm_gained.proofs.GainingKept.{apart_gained, kept_gain, rows_away}
 use Rattle.wm_gained.proofs.LoggedOld.{MayLog}

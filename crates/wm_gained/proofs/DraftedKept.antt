@@ -12,8 +12,8 @@ use Rattle.wm_spec.specs.declared.record.savepoint.Savepoint.{Savepoint as Recor
 use Rattle.wm_spec.specs.declared.record.space.Space.{Space}
 use Rattle.wm_spec.specs.declared.record.stored.Stored.{Stored}
 use Rattle.wm_state.specs.ById.{applied}
-use Rattle.wm_state.specs.Drafts.{CanWork, FewChanges}
-use Rattle.wm_state.specs.Editing.{implicit_name, number_limit, saved, saved_at}
+use Rattle.wm_state.specs.Drafts.{CanKeep, CanWork, FewChanges}
+use Rattle.wm_state.specs.Editing.{implicit_name, keep_in, kept_in, number_limit, saved, saved_at}
 use Rattle.wm_state.specs.Effects.{marked}
 use Rattle.wm_state.specs.Points.{HasRoom, implicit_of, moved, newest_point}
 use Rattle.wm_state.specs.Standing.{FieldsStand, Stands}
@@ -30,7 +30,7 @@ use Rattle.wm_forked.proofs.KeepSaved.{MaySave}
 use Rattle.wm_forked.proofs.PlannedSaved.{agree_saved, changes-saved, keep_plan_saved, plan_saved}
 use Rattle.wm_forked.proofs.Points.{MakesAt, made_as, made_there, may_save}
 use Rattle.wm_gained.specs.Drafting.{MakesOf}
-use Rattle.wm_gained.specs.Keeping.{CanKeep, keep_batch, keep_in, kept_in, kept_record}
+use Rattle.wm_gained.specs.Keeping.{keep_batch, kept_record}
 
 -- the savepoint is made in the state
 kept_so : (m n : ℕ) (s : Durable) (w : Workspace) (k : Savepoint) → workspace_of s.spaces n ≡ Some w → saved_at m s.spaces w Latest (implicit_name w) true ≡ Some k

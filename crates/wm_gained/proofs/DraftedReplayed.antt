@@ -15,8 +15,8 @@ use Rattle.wm_spec.specs.declared.record.stored.Stored.{Stored}
 use Rattle.wm_spec.specs.declared.record.table.Table.{Table}
 use Rattle.wm_spec.specs.declared.record.version.Version.{Version}
 use Rattle.wm_state.specs.ById.{applied}
-use Rattle.wm_state.specs.Drafts.{CanWork, can_keep_entry, is_kept, is_kept_change}
-use Rattle.wm_state.specs.Editing.{counter_limit}
+use Rattle.wm_state.specs.Drafts.{can_keep_entry, is_kept, is_kept_change, AreOld, CanReplay, CanWork}
+use Rattle.wm_state.specs.Editing.{counter_limit, replayed_in}
 use Rattle.wm_state.specs.Entries.{hists_kept, pieces_of}
 use Rattle.wm_state.specs.Points.{next_version, versioned}
 use Rattle.wm_state.specs.Touching.{drawn_all, marks_of, trace_of}
@@ -32,8 +32,8 @@ use Rattle.wm_written.proofs.DraftedWritten.{Apart, apart_so, rows_apart}
 use Rattle.wm_written.proofs.WrittenIds.{changes-write_new}
 use Rattle.wm_written.proofs.WrittenKept.{drawn_kept, kept_dropped, kept_hists, kept_pieces, kept_put, kept_touches, marks_kept, news_kept}
 use Rattle.wm_gained.specs.Drafting.{MakesOf, acted}
-use Rattle.wm_gained.specs.Gaining.{AreOld, Retraced}
-use Rattle.wm_gained.specs.Replaying.{CanReplay, replay_batch, replayed_in}
+use Rattle.wm_gained.specs.Gaining.{Retraced}
+use Rattle.wm_gained.specs.Replaying.{replay_batch}
 use Rattle.wm_gained.proofs.DraftedGained.{counts_moved}
 use Rattle.wm_gained.proofs.ReplayingBatch.{ReplaysIn, agree_replayed, keep_plan_replayed, plan_replayed}
 use Rattle.wm_gained.proofs.ReplayingNew.{apart_anywhere, redrawn_new}

@@ -5,13 +5,13 @@ use Rattle.std.specs.Option.{option_map}
 use Rattle.wm_graph.specs.Parts.{Parts, space_of}
 use Rattle.wm_spec.specs.Lists.{Entry}
 use Rattle.wm_spec.specs.declared.record.space.Space.{Space}
-use Rattle.wm_state.specs.State.{Durable, Workspace, savepoints_of, workspace_of, with_space}
+use Rattle.wm_state.specs.State.{savepoints_of, with_gained, with_space, workspace_of, Durable, Workspace}
 use Rattle.wm_state.specs.Standing.{CountersStand, FieldsStand, SpaceFields, SpacesStand, by_number, fields_in, fields_of}
 use Rattle.wm_state.specs.Writes.{longer_by}
 use Rattle.wm_state.proofs.Changing.{workspace_of-changed}
 use Rattle.wm_state.proofs.Frames.{OnceStand-changed, SavepointsStand-same, savepoints_of-found, savepoints_of-none}
 use Rattle.wm_forked.proofs.Saving.{WasChanged, was_changed}
-use Rattle.wm_gained.specs.Gaining.{Gained, with_gained}
+use Rattle.wm_gained.specs.Gaining.{Gained}
 
 -- ---- a workspace whose log is longer
 

@@ -14,18 +14,19 @@ use Rattle.wm_spec.specs.declared.record.stored.Stored.{Stored}
 use Rattle.wm_state.specs.ById.{applied}
 use Rattle.wm_state.specs.Entries.{hists_kept}
 use Rattle.wm_state.specs.Standing.{CountersStand, FieldsStand, HasRow, Stands}
-use Rattle.wm_state.specs.State.{Durable, with_space}
+use Rattle.wm_state.specs.State.{with_gained, with_space, Durable}
 use Rattle.wm_state.specs.Touching.{is_unmet, marks_of, trace_of}
 use Rattle.wm_state.proofs.Apart.{ruled}
 use Rattle.wm_state.proofs.Growing.{same_counters}
 use Rattle.wm_state.proofs.Settled.{Places}
 use Rattle.wm_written.proofs.KeepWritten.{Entering, all_written}
 use Rattle.wm_written.proofs.PlannedWritten.{Put, parts-written}
-use Rattle.wm_gained.specs.Gaining.{Gained, IsCopied, Retraced, gain_batch, with_gained}
+use Rattle.wm_gained.specs.Gaining.{Gained, Retraced, gain_batch}
 use Rattle.wm_gained.proofs.Gained.{FieldsStand-gained}
 use Rattle.wm_gained.proofs.GainingStands.{Stands-gained}
 use Rattle.wm_gained.proofs.KeepLogged.{all_logged, keep-logged}
 use Rattle.wm_gained.proofs.LoggedOld.{AreTraced, MayLog, coming, may_come, space_longer, space_still, spaces_count, touched_then}
+use Rattle.wm_state.specs.Drafts.{IsCopied}
 
 -- ---- what the batch makes of the records
 

@@ -8,7 +8,7 @@ use Rattle.std.specs.Option.{option_map, option_map_or, option_and_then}
 use Rattle.wm_graph.specs.Parts.{Parts}
 use Rattle.wm_spec.specs.Lists.{Entry}
 use Rattle.wm_spec.specs.declared.record.table.Table.{Table}
-use Rattle.wm_state.specs.State.{Durable, Workspace, workspace_of, with_space, log_of}
+use Rattle.wm_state.specs.State.{log_of, with_gained, with_space, workspace_of, Durable, Workspace}
 use Rattle.wm_state.specs.Entries.{hists_kept}
 use Rattle.wm_state.specs.Standing.{EntriesStand, HasRow, HistsStand, IsReal, RowsStand, SpaceFields, Stands, TouchesStand, TouchesTell, fields_in, fields_of, has_history, hist_at, logged}
 use Rattle.wm_state.specs.Touching.{Touched}
@@ -20,7 +20,7 @@ use Rattle.wm_state.proofs.Staying.{AreReal, AreReal-same, AreTold, EntriesStand
 use Rattle.wm_written.proofs.Logged.{hists_kept-alike, logged-away, logged-here, logged_in}
 use Rattle.wm_written.proofs.TouchesKept.{tells_kept, tells_more, tells_other}
 use Rattle.wm_written.proofs.WritingLogs.{marked_by}
-use Rattle.wm_gained.specs.Gaining.{Gained, with_gained}
+use Rattle.wm_gained.specs.Gaining.{Gained}
 use Rattle.wm_gained.proofs.Gained.{WasGained, gained-at, was_gained}
 
 module _ (p q : Parts) (s t : Durable) (n : ℕ) (es : List Entry) (g : Gained p q n es) (spaces : t.spaces ≡ with_space n (with_gained es) s.spaces) (st : Stands p s) (tables : t.tables ≡ s.tables) where

@@ -4,11 +4,11 @@ use Rattle.wm_graph.specs.Parts.{Parts}
 use Rattle.wm_graph.specs.Rules.{keep_rules}
 use Rattle.wm_spec.specs.Lists.{Entry, Cell}
 use Rattle.wm_spec.specs.declared.record.space.Space.{Space}
-use Rattle.wm_state.specs.State.{Durable, Workspace, content, with_space, workspace_of}
+use Rattle.wm_state.specs.State.{content, with_gained, with_space, workspace_of, Durable, Workspace}
 use Rattle.wm_state.specs.Standing.{Covers, NamedStand, Newest, Own, Owns, OwnsStand, SpacesStand, have_ends, latest, seen, seen_above}
 use Rattle.wm_state.proofs.Keeping.{KeepRows-same}
 use Rattle.wm_state.proofs.Naming.{Carries, Framed, IsKeptOwn, IsMarked, IsNewest, IsNewestOwn, Named-as, NamedStand-kept, Owned-as, OwnsStand-kept, Still, StillNames, WasNamed, carries-same, named_framed, owns_framed, past_framed, stays-changed}
-use Rattle.wm_gained.specs.Gaining.{Gained, with_gained}
+use Rattle.wm_gained.specs.Gaining.{Gained}
 use Rattle.wm_gained.proofs.Gained.{HadGained, WasGained, had_gained, part_gained, was_gained}
 
 module _ (p q : Parts) (s t : Durable) (n : ℕ) (es : List Entry) (g : Gained p q n es) (spaces : t.spaces ≡ with_space n (with_gained es) s.spaces) where

@@ -3,11 +3,11 @@ use Rattle.std.proofs.Common.{◌≡◌, ℕ, true, List, refl, ap}
 use Rattle.wm_graph.specs.Parts.{Parts}
 use Rattle.wm_graph.specs.Rules.{keep_rules}
 use Rattle.wm_spec.specs.Lists.{Entry}
-use Rattle.wm_state.specs.State.{Durable, with_space}
+use Rattle.wm_state.specs.State.{with_gained, with_space, Durable}
 use Rattle.wm_state.specs.Standing.{CountersStand, FieldsStand, Stands}
 use Rattle.wm_state.proofs.Frames.{fields_stand}
 use Rattle.wm_state.proofs.Staying.{LaterStand-same, TurnsStand-alike, part-changed, turns_in}
-use Rattle.wm_gained.specs.Gaining.{Gained, with_gained}
+use Rattle.wm_gained.specs.Gaining.{Gained}
 use Rattle.wm_gained.proofs.Gained.{FieldsStand-gained}
 use Rattle.wm_gained.proofs.GainingLogs.{EntriesStand-gained, HistsStand-gained, RowsStand-gained, TouchesStand-gained}
 use Rattle.wm_gained.proofs.GainingNamed.{NamedStand-gained, OwnsStand-gained}

@@ -2,12 +2,10 @@
 use Rattle.std.proofs.Common.{◌≡◌, ℕ, ◌≤◌, ◌==◌, Bool, true, false, cond, List, length, Option, Some, None, unwrap_or, refl, ap, ◌∙◌, arith}
 use Rattle.std.specs.Option.{option_and_then, option_map}
 use Rattle.wm_spec.specs.Lists.{Entry}
-use Rattle.wm_state.specs.State.{Durable, Workspace, with_entries, with_space, workspace_of}
+use Rattle.wm_state.specs.State.{with_entries, with_gained, with_space, workspace_of, Durable, Workspace}
 use Rattle.wm_state.proofs.Changing.{workspace_of-changed}
 use Rattle.wm_gained.specs.Behind.{LeavesLog, LeftLog}
-use Rattle.wm_gained.specs.Gaining.{gained_in, with_gained}
-use Rattle.wm_gained.specs.Keeping.{keep_in, kept_in}
-use Rattle.wm_gained.specs.Replaying.{replayed_in}
+use Rattle.wm_state.specs.Editing.{gained_in, keep_in, kept_in, replayed_in}
 
 -- a workspace that is not the one that changes has its log
 left_other : (k n : ℕ) (act : Workspace → Workspace) → ((w : Workspace) → (act w).number ≡ w.number) → (n == k) ≡ false → (ws : List Workspace) (w : Workspace) → workspace_of ws n ≡ Some w → LeftLog (with_space k act ws) n w

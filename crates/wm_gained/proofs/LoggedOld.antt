@@ -22,9 +22,9 @@ use Rattle.wm_written.proofs.KeepWritten.{spaces_longer}
 use Rattle.wm_written.proofs.PlannedWritten.{all_behind}
 use Rattle.wm_written.proofs.TouchesKept.{marked_apart, marked_longer}
 use Rattle.wm_written.proofs.Touching.{touched_so}
-use Rattle.wm_gained.specs.Gaining.{AreOld, IsCopied}
 use Rattle.wm_gained.proofs.KeepLogged.{Coming, MayCome}
 use Rattle.wm_gained.proofs.OldEntries.{hists_old, on_old}
+use Rattle.wm_state.specs.Drafts.{AreOld, IsCopied}
 
 -- what is asked of entries that come into the log of a workspace
 pub record MayLog (p : Parts) (old new : Counters) (a : Space) (es : List Entry) : Type 0 where

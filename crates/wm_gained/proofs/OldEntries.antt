@@ -15,7 +15,7 @@ use Rattle.wm_state.specs.Standing.{IsReal, has_history}
 use Rattle.wm_state.proofs.Tests.{and_true, both}
 use Rattle.wm_written.proofs.EntryRecords.{cells_well, well_of}
 use Rattle.wm_written.proofs.TouchesKept.{is_on, on_tables}
-use Rattle.wm_gained.specs.Gaining.{AreOld, IsCopied}
+use Rattle.wm_state.specs.Drafts.{AreOld, IsCopied}
 
 -- ---- one of them
 

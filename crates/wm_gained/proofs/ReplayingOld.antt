@@ -13,8 +13,8 @@ use Rattle.wm_state.specs.Entries.{piece_of, pieces_of}
 use Rattle.wm_state.specs.Standing.{HasRow, HasRows}
 use Rattle.wm_state.proofs.Tests.{and_true}
 use Rattle.wm_written.proofs.EntryRecords.{cells_well, well_of}
-use Rattle.wm_gained.specs.Gaining.{AreOld, IsCopied}
 use Rattle.wm_gained.proofs.OldEntries.{old_first, old_rest, stamped_so}
+use Rattle.wm_state.specs.Drafts.{AreOld, IsCopied}
 
 -- where the row of each entry is there, so is the row of what they tell at a cell
 pub rows_told : (p : Parts) (es : List Entry) → All (HasRow p) es → HasRows p es

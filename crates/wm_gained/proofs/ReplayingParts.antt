@@ -25,12 +25,12 @@ use Rattle.wm_written.proofs.KeepWritten.{pieces_kept}
 use Rattle.wm_written.proofs.LayingAll.{laid-drawn}
 use Rattle.wm_written.proofs.Leaves.{free_new, leaf_new}
 use Rattle.wm_written.proofs.PlannedWritten.{AreBoth}
-use Rattle.wm_gained.specs.Gaining.{AreOld, IsCopied}
 use Rattle.wm_gained.specs.Replaying.{Replayed}
 use Rattle.wm_gained.proofs.GainingBatch.{copied_row}
 use Rattle.wm_gained.proofs.KeepLogged.{all_logged, keep-logged}
 use Rattle.wm_gained.proofs.LoggedOld.{AreTraced, MayLog, coming, may_come, space_longer, space_still, spaces_count, touched_then}
 use Rattle.wm_gained.proofs.ReplayingOld.{pieces_old, rows_told}
+use Rattle.wm_state.specs.Drafts.{AreOld, IsCopied}
 
 -- what is asked of the entries and of the version
 pub record MayReplay (p : Parts) (old new : Counters) (a : Space) (v : Version) (es : List Entry) : Type 0 where

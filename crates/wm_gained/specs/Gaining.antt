@@ -26,16 +26,6 @@ use Rattle.wm_state.specs.State.{Durable, Workspace, with_space}
 use Rattle.wm_state.specs.Touching.{Touched, drawn_all, is_unmet, marks_of, trace_of}
 use Rattle.wm_state.specs.Writes.{keeps_both, longer_by, write_batch}
 
--- ---- the state
-
--- a workspace with more entries in its log alone
-abbrev pub with_gained : List Entry → Workspace → Workspace
-with_gained es w = record w { lists = record w.lists { log = w.lists.log ++ es } }
-
--- the workspace of this number has them; no stamp is given
-abbrev pub gained_in : ℕ → List Entry → Durable → Durable
-gained_in n es s = record s { spaces = with_space n (with_gained es) s.spaces }
-
 -- ---- the records
 
 -- the log of a workspace gained entries, all of them real, and of a table with history with their rows; their cells were touched at the
@@ -53,43 +43,6 @@ pub record Gained (p q : Parts) (n : ℕ) (es : List Entry) : Type 0 where
   pub touches : Touched n place old.log_length es p.touches q.touches
   pub hists : q.hists ≡ p.hists ++ hists_kept p.tables n old.log_length es
   pub rest : record q { counters = p.counters; spaces = p.spaces; touches = p.touches; hists = p.hists } ≡ p
-
--- ---- what is asked
-
--- the row of an entry, where it has one, is the one of its stamp
-abbrev pub IsCopied : Parts → Entry → Type 0
-IsCopied p e = (row : Row) → e.row ≡ Some row → row_of p.rows e.stamp ≡ Some (record { stamp = e.stamp; table = e.table; values = row.values })
-
--- entries that were made before: their stamps were given, and they are real and fit their tables
-pub record AreOld (p : Parts) (c : Counters) (es : List Entry) : Type 0 where
-  pub stamps : list_all (λ (e : Entry). nat_lt e.stamp c.next_stamp) es ≡ true
-  pub real : All (IsReal p.tables) es
-  pub well : list_all (is_well (table_of p.tables)) es ≡ true
-  pub users : list_all (λ (e : Entry). is_short e.user) es ≡ true
-
--- entries by table, and in one table by key
-abbrev pub entry_order : Entry → Entry → Ordering
-entry_order e f = ordering_then (nat_cmp e.table f.table) (key_order e.key f.key)
-
--- none is of a table and key above those of the next, so those of one table and key stand together
-abbrev pub are_in_order : List Entry → Bool
-are_in_order [] = true
-are_in_order (e ∷ []) = true
-are_in_order (e ∷ f ∷ fs) = not (is_gt (entry_order e f)) && are_in_order (f ∷ fs)
-
--- the workspace is there, and its log has room; there are entries, made before and in order, whose values can be kept, and the rows of
--- those of tables with history are there
-pub record CanGain (p : Parts) (n : ℕ) (es : List Entry) : Type 0 where
-  pub space : Space
-  pub there : space_of p.spaces n ≡ Some space
-  pub counters : Counters
-  pub one : p.counters ≡ counters ∷ []
-  pub some : nat_lt 0 (length es) ≡ true
-  pub old : AreOld p counters es
-  pub kept : list_all can_keep_entry es ≡ true
-  pub sorted : are_in_order es ≡ true
-  pub copied : All (λ (e : Entry). has_history p.tables e.table ≡ true → IsCopied p e) es
-  pub short : nat_lt counter_limit (space.log_length + length es) ≡ false
 
 -- ---- what goes and what comes
 

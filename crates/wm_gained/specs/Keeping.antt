@@ -12,26 +12,6 @@ use Rattle.wm_state.specs.Effects.{marked}
 use Rattle.wm_state.specs.Points.{HasRoom, birth_record, implicit_of, newest_point}
 use Rattle.wm_state.specs.State.{Durable, Latest, Savepoint, Workspace, workspace_of}
 
--- ---- the state
-
--- what is newest in a workspace is kept under the next name of an implicit savepoint
-abbrev pub keep_in : ℕ → Durable → Workspace → Option Durable
-keep_in m s w = option_map (λ (k : Savepoint). saved w.number (w.next_place + 1) (w.next_implicit + 1) k s) (saved_at m s.spaces w Latest (implicit_name w) true)
-
--- in the workspace of this number, at a moment
-abbrev pub kept_in : ℕ → ℕ → Durable → Durable
-kept_in m n s = unwrap_or (option_and_then (keep_in m s) (workspace_of s.spaces n)) s
-
--- ---- what is asked
-
--- the workspace is there and may have an implicit savepoint more
-pub record CanKeep (p : Parts) (n : ℕ) : Type 0 where
-  pub space : Space
-  pub there : space_of p.spaces n ≡ Some space
-  pub room : HasRoom p space (implicit_of space)
-  pub places : nat_lt number_limit (space.next_place + 1) ≡ false
-  pub implicits : nat_lt number_limit (space.next_implicit + 1) ≡ false
-
 -- ---- the batch
 
 -- the record of the savepoint, as where a workspace is born

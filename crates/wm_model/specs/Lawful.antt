@@ -86,11 +86,12 @@ pub record Holds (P : Entry → Type 0) (w : Workspace) : Type 0 where
 abbrev pub is_full_row : Row → Bool
 is_full_row r = list_all is_filled r.values
 
--- an entry in order: its stamp was given and tells its row and kind, and no text of its row is empty
+-- an entry in order: its stamp was given and tells its row and kind, and no text of its row or of its key is empty
 pub record IsSound (tells : ℕ → Told) (next : ℕ) (e : Entry) : Type 0 where
   pub given : e.stamp < next
   pub told : told_of e ≡ tells e.stamp
   pub filled : option_map_or is_full_row e.row true ≡ true
+  pub keyed : list_all is_filled e.key ≡ true
 
 -- so is each entry of each list, also those that lie under others
 pub record LawfulEntries (next : ℕ) (spaces : List Workspace) : Type 0 where

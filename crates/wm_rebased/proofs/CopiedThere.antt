@@ -23,9 +23,9 @@ use Rattle.wm_tree.specs.declared.version.Version.{Version as Node}
 use Rattle.wm_state.specs.Standing.{covers_at, held_by, latest, newest_first, owned, seen, seen_at, stored_at}
 use Rattle.wm_state.proofs.Laying.{key_same}
 use Rattle.wm_state.proofs.Tests.{and_true, both}
-use Rattle.wm_rebased.specs.Copied.{AreCopied, HoldsKey, KeyPieces, key_cell, piece_for, pieces_for}
+use Rattle.wm_state.specs.Copied.{AreCopied, HoldsKey, KeyPieces, key_cell, piece_for, pieces_for}
 use Rattle.wm_rebased.specs.Rebasing.{is_copied}
-use Rattle.wm_rebased.proofs.RebasingOwn.{own-seen}
+use Rattle.wm_state.proofs.Owning.{own-seen}
 
 -- ---- a piece that says what is seen
 

@@ -22,7 +22,7 @@ use Rattle.wm_state.specs.Standing.{held_by, stored_at}
 use Rattle.wm_state.proofs.Laying.{key_itself, key_same, stored-append}
 use Rattle.wm_state.proofs.Mapped.{any-if}
 use Rattle.wm_state.proofs.Tests.{and_true, both, either_false, not_true}
-use Rattle.wm_rebased.specs.Copied.{AreCopied, HoldsKey, KeyPieces, is_at, key_cell, piece_for, pieces_for, same_key}
+use Rattle.wm_state.specs.Copied.{AreCopied, HoldsKey, KeyPieces, is_at, key_cell, piece_for, pieces_for, same_key}
 use Rattle.wm_rebased.specs.Rebasing.{Changes, Ends}
 use Rattle.wm_rebased.proofs.RebasingEnds.{Changes-same}
 use Rattle.wm_rebased.proofs.RebasingJoined.{AllChange, joined_change}

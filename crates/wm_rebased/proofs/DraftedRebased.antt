@@ -21,8 +21,8 @@ use Rattle.wm_spec.specs.declared.record.space.Space.{Space}
 use Rattle.wm_spec.specs.declared.record.stored.Stored.{Stored}
 use Rattle.wm_spec.specs.declared.record.version.Version.{Version}
 use Rattle.wm_state.specs.ById.{applied}
-use Rattle.wm_state.specs.Drafts.{CanWork, DraftsBy, can_keep, is_fork, is_kept, is_kept_change}
-use Rattle.wm_state.specs.Editing.{edited}
+use Rattle.wm_state.specs.Drafts.{can_keep, is_fork, is_kept, is_kept_change, is_turn, CanWork, DraftsBy}
+use Rattle.wm_state.specs.Editing.{edited, rebased_in, rebased_so}
 use Rattle.wm_state.specs.Points.{versioned}
 use Rattle.wm_state.specs.Standing.{FieldsStand, Stands, latest, owned}
 use Rattle.wm_state.specs.State.{Durable, Workspace, workspace_of}
@@ -39,14 +39,13 @@ use Rattle.wm_state.proofs.RowsStay.{away_put, row_apart, rows_stay}
 use Rattle.wm_state.proofs.Settled.{Places, places_apart}
 use Rattle.wm_state.proofs.Tests.{and_true, bool_apart, both}
 use Rattle.wm_state.proofs.WorkedOn.{counted_put, first_change}
-use Rattle.wm_rebased.specs.Copied.{AreCopied, KeyPieces, piece_for, pieces_for}
-use Rattle.wm_rebased.specs.Rebasing.{rebase_batch, rebased_in, rebased_on, rebased_so, turn_record}
+use Rattle.wm_state.specs.Copied.{AreCopied, KeyPieces, piece_for, pieces_for}
+use Rattle.wm_rebased.specs.Rebasing.{rebase_batch, rebased_on, turn_record}
 use Rattle.wm_rebased.proofs.CopiedThere.{own_there}
 use Rattle.wm_rebased.proofs.Copying.{differ_copied, ends_copied, stored_copied}
 use Rattle.wm_rebased.proofs.RebasingBatch.{agree_rebased, changes-put_on, keep_plan_rebased, plan_rebased}
 use Rattle.wm_rebased.proofs.RebasingFields.{Based, based_there}
 use Rattle.wm_rebased.proofs.RebasingKept.{MayRebase}
-use Rattle.wm_rebased.proofs.RebasingRules.{is_turn}
 
 -- ---- what comes can be kept
 

@@ -1,4 +1,3 @@
-pub mod RebasingOwn
 pub mod RebasingEnds
 pub mod RebasingJoined
 pub mod RebasingGrown

@@ -27,8 +27,9 @@ use Rattle.wm_state.proofs.Tests.{and_true}
 use Rattle.wm_forked.proofs.PlannedSaved.{AllUnder-more, more_turn, more_version}
 use Rattle.wm_written.proofs.Behind.{parts-entered}
 use Rattle.wm_written.proofs.Ids.{are_under, are_under-push, ids_differ-push}
-use Rattle.wm_rebased.specs.Rebasing.{IsRebase, rebase_batch, rebased, rebased_on, turn_record}
+use Rattle.wm_rebased.specs.Rebasing.{IsRebase, rebase_batch, rebased_on, turn_record}
 use Rattle.wm_rebased.proofs.RebasingKept.{FieldsStand-put_on, MayRebase, Stands-put_on, keep-rebased, put_on}
+use Rattle.wm_state.specs.Editing.{rebased}
 
 -- ---- what the batch makes of the records
 

@@ -19,7 +19,8 @@ use Rattle.wm_state.proofs.Named.{one_space}
 use Rattle.wm_state.proofs.Spaces.{SpaceIs, space_there}
 use Rattle.wm_state.proofs.Staying.{turns_of-found}
 use Rattle.wm_forked.proofs.Saving.{WasChanged, was_changed}
-use Rattle.wm_rebased.specs.Rebasing.{IsRebase, RebasedTo, rebased, rebased_on, turn_on}
+use Rattle.wm_rebased.specs.Rebasing.{IsRebase, RebasedTo, rebased_on}
+use Rattle.wm_state.specs.Editing.{rebased, turn_on}
 
 -- ---- one more behind a list
 

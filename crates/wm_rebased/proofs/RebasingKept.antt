@@ -26,11 +26,13 @@ use Rattle.wm_forked.proofs.KeepBorn.{version_numbered}
 use Rattle.wm_forked.proofs.KeptSpaces.{has_push, has_versions-kept, is_version-kept}
 use Rattle.wm_forked.proofs.Sprouting.{newest-behind}
 use Rattle.wm_written.proofs.Leaves.{leaf_new}
-use Rattle.wm_rebased.specs.Rebasing.{Ends, Grafted, IsRebase, RebasedTo, is_copied, rebased, rebased_on, turn_record}
+use Rattle.wm_rebased.specs.Rebasing.{Ends, Grafted, IsRebase, RebasedTo, is_copied, rebased_on, turn_record}
 use Rattle.wm_rebased.proofs.Copying.{differ_both}
 use Rattle.wm_rebased.proofs.RebasingFields.{FieldsStand-rebased}
-use Rattle.wm_rebased.proofs.RebasingRules.{hists_counted, is_turn, locks_counted, marks_counted, saves_counted, touches_counted, turns_rebased}
+use Rattle.wm_rebased.proofs.RebasingRules.{hists_counted, locks_counted, marks_counted, saves_counted, touches_counted, turns_rebased}
 use Rattle.wm_rebased.proofs.RebasingStands.{Stands-rebased}
+use Rattle.wm_state.specs.Editing.{rebased}
+use Rattle.wm_state.specs.Drafts.{is_turn}
 
 -- the records with a workspace's record on a version of its parent, that version's child with these pieces, a turn more and other counters
 abbrev pub put_on : Parts → Counters → List Space → Space → List Space → Space → Version → List PieceRecord → Parts

@@ -21,11 +21,12 @@ use Rattle.wm_state.proofs.Frames.{KeepRows, HasRows-kept}
 use Rattle.wm_state.proofs.Keeping.{KeepRows-same}
 use Rattle.wm_state.proofs.Named.{version_below}
 use Rattle.wm_state.proofs.Naming.{Carries, Covers-as, Named-as, NamedStand-kept, Owned-as, OwnsStand-kept, Stays, Tells-as, WasNamed, carries-more, climbs_kept, named_of, own_there, there_of}
-use Rattle.wm_rebased.specs.Rebasing.{IsRebase, RebasedTo, node_on, rebased, turn_on}
+use Rattle.wm_rebased.specs.Rebasing.{IsRebase, RebasedTo, node_on}
 use Rattle.wm_rebased.proofs.RebasingEnds.{ends_own}
 use Rattle.wm_rebased.proofs.RebasingFields.{WasRebased, WasSpace, base_away, base_here, before, found_away, found_here, new_here, old_here, same_parent, slice_get-front, space_before, turn_before, turn_new}
 use Rattle.wm_rebased.proofs.RebasingGrown.{covers-graft, covers-old, newest-graft, newest-old, seen-graft, seen-old}
-use Rattle.wm_rebased.proofs.RebasingOwn.{own_is}
+use Rattle.wm_state.proofs.Owning.{own_is}
+use Rattle.wm_state.specs.Editing.{rebased, turn_on}
 
 -- what a workspace has of its own once it is rebased
 abbrev pub own_left : Bool → Workspace → List Entry

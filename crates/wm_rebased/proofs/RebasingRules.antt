@@ -111,10 +111,6 @@ module _ (p : Parts) (front back : List Space) (a : Space) (rebases : ℕ) (piec
 
 -- ---- one rebase more, and its turn
 
--- a turn of a workspace and a number
-abbrev pub is_turn : ℕ → ℕ → Turn → Bool
-is_turn n number x = (x.space == n) && (x.rebase == number)
-
 module _ (p : Parts) (front back : List Space) (a : Space) (pieces : List PieceRecord) (u : Turn) (old : p.spaces ≡ front ++ a ∷ back) (child : 0 < a.number) (before : are_spaces p.spaces ≡ true)
     (after : are_spaces (front ++ record a { rebases = a.rebases + 1 } ∷ back) ≡ true) (its : u.space ≡ a.number) (number : u.rebase ≡ a.rebases + 1) (unturned : list_any (is_turn a.number (a.rebases + 1)) p.turns ≡ false) where
   abbrev c : Space

@@ -19,9 +19,10 @@ use Rattle.wm_state.proofs.Mapped.{find-skip}
 use Rattle.wm_state.proofs.Ready.{KeepReady, KeepReady-same, all_real-kept}
 use Rattle.wm_state.proofs.Staying.{AreReal, EntriesStand-kept, LaterStand-same, TouchesStand-kept, entries_real, turns_in, turns_of-alike, turns_of-found}
 use Rattle.wm_forked.proofs.Birth.{find_more}
-use Rattle.wm_rebased.specs.Rebasing.{IsRebase, RebasedTo, rebased, turn_on, turn_record}
+use Rattle.wm_rebased.specs.Rebasing.{IsRebase, RebasedTo, turn_record}
 use Rattle.wm_rebased.proofs.RebasingFields.{FieldsStand-rebased, WasRebased, before, found_away, found_here, new_here, recorded_here, recorded_parent, slice_get-push, turns_many}
 use Rattle.wm_rebased.proofs.RebasingNamed.{NamedStand-rebased, OwnsStand-rebased, own_left}
+use Rattle.wm_state.specs.Editing.{rebased, turn_on}
 
 map-more : {A B : Type 0} (f : A → B) (o : Option A) (c : Bool) (x : A) → option_map f (option_or o (cond c (Some x) None)) ≡ option_or (option_map f o) (cond c (Some (f x)) None)
 map-more f None true x = refl

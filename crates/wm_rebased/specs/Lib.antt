@@ -1,2 +1,1 @@
 pub mod Rebasing
-pub mod Copied

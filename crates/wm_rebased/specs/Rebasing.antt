@@ -24,31 +24,6 @@ use Rattle.wm_state.specs.Writes.{put_all}
 
 -- ---- the state
 
--- the turn that a workspace takes of its parent as that is now
-abbrev pub turn_on : Workspace → Turn
-turn_on p = record { log_length = length p.lists.log; rebases = p.rebases; content = content p }
-
--- a workspace on its parent as that is now; what it has of its own stays, or goes where it was merged
-abbrev pub rebased : Bool → Workspace → Workspace → Workspace
-rebased emptied p w = record w {
-  lists = record w.lists { base = content p; own = if emptied then [] else w.lists.own };
-  from = length p.lists.log;
-  rebases = w.rebases + 1;
-  turns = w.turns ++ turn_on p ∷ [];
-}
-
--- the workspace of this number on a parent
-abbrev pub rebased_in : ℕ → Bool → Durable → Workspace → Durable
-rebased_in n emptied s p = record s { spaces = with_space n (rebased emptied p) s.spaces }
-
--- the parent of the workspace of this number
-abbrev pub parent_of : List Workspace → ℕ → Option Workspace
-parent_of spaces n = option_and_then (λ (w : Workspace). workspace_of spaces w.parent) (workspace_of spaces n)
-
--- what a rebase of this workspace makes of a state; where the workspace or its parent is not there, nothing
-abbrev pub rebased_so : ℕ → Bool → Durable → Durable
-rebased_so n emptied s = unwrap_or (option_map (rebased_in n emptied s) (parent_of s.spaces n)) s
-
 -- a workspace and its parent, as a rebase finds them
 pub record IsRebase (d : Durable) (n : ℕ) (w p : Workspace) : Type 0 where
   pub found : workspace_of d.spaces n ≡ Some w

@@ -56,6 +56,7 @@ drafts_none work rs m rules = record {
   nothing = λ none. refl;
   few = λ forks. record { count = omega arith; rest = refl };
   spared = λ n entries some. absurd (no_edit _ [] some);
+  turned = λ left. refl;
 }
 
 -- nor in a line
@@ -103,6 +104,7 @@ drafts_created rs m work t c counters_id id rules can_work can one there sorted 
   nothing = some_edit (edits.Create t) [] (create_batch counters_id (moved c m work) id t);
   few = λ forks. absurd (bool_apart (sym forks));
   spared = λ n entries one_append. absurd (no_append n entries one_append);
+  turned = λ left. absurd (bool_apart (sym left));
 }
   where
     no_append : (n : ℕ) (entries : Vec NewEntry Global) → edits.Create t ∷ [] ≡ edits.Append n entries ∷ [] → ⊥
@@ -151,6 +153,7 @@ drafts_enabled rs m work name valid history t c counters_id id rules can_work na
   nothing = some_edit (edits.Enable name valid history) [] (enable_batch counters_id (moved c m work) id how t);
   few = λ forks. absurd (bool_apart (sym forks));
   spared = λ n entries one_append. absurd (no_append n entries one_append);
+  turned = λ left. absurd (bool_apart (sym left));
 }
   where
     no_append : (n : ℕ) (entries : Vec NewEntry Global) → edits.Enable name valid history ∷ [] ≡ edits.Append n entries ∷ [] → ⊥

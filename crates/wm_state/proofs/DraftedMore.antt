@@ -9,7 +9,7 @@ use Rattle.wm_spec.specs.declared.record.batch.Change.{Change}
 use Rattle.wm_spec.specs.declared.record.counters.Counters.{Counters}
 use Rattle.wm_spec.specs.declared.record.stored.Stored.{Stored}
 use Rattle.wm_state.specs.ById.{Ascend, applied}
-use Rattle.wm_state.specs.Drafts.{CanWork, DraftsBy, FewChanges, ForksAlone, WorksOn, followed_by, is_fork, is_kept_change}
+use Rattle.wm_state.specs.Drafts.{CanWork, DraftsBy, FewChanges, ForksAlone, WorksOn, followed_by, is_fork, is_kept_change, leaves_turns}
 use Rattle.wm_state.specs.Editing.{counter_limit, drafted_by}
 use Rattle.wm_state.specs.Standing.{FieldsStand, Stands}
 use Rattle.wm_state.specs.State.{Durable}
@@ -89,6 +89,9 @@ drafts_followed rs k l m e (f ∷ fs) es cs ds sorted one some two = record {
       let h = both (list_all is_fork (f ∷ fs)) (list_all is_fork (e ∷ es)) (sym (list_all-append is_fork (f ∷ fs) (e ∷ es)) ∙ forks) in
       few_each rs cs ds (f ∷ fs) (e ∷ es) sorted (one.few h.0) (two.few h.1);
   spared = λ n entries alone. absurd (two_edits (edits.Append n entries) fs alone);
+  turned = λ left.
+      let h = both (list_all leaves_turns (f ∷ fs)) (list_all leaves_turns (e ∷ es)) (sym (list_all-append leaves_turns (f ∷ fs) (e ∷ es)) ∙ left) in
+      ap (λ (ss : List Stored). (parts_of ss).turns) same ∙ two.turned h.1 ∙ one.turned h.0;
 }
   where
     two_edits : (g : Edit) (gs : List Edit) → f ∷ gs ++ e ∷ es ≡ g ∷ [] → ⊥

@@ -1,8 +1,8 @@
 -- Edits behind others, and what they make of a state whose moment and work have moved.
-use Rattle.std.proofs.Common.{◌≡◌, ℕ, ◌+◌, true, List, [], ◌∷◌, ◌++◌, Option, Some, None, refl, sym, ap, ◌∙◌, arith}
+use Rattle.std.proofs.Common.{◌≡◌, ℕ, ◌+◌, Bool, true, List, [], ◌∷◌, ◌++◌, Option, Some, None, refl, sym, ap, ◌∙◌, arith}
 use Rattle.std.specs.Option.{option_and_then, option_map, unwrap_or}
 use Rattle.wm_spec.specs.declared.record.table.Table.{Table}
-use Rattle.wm_state.specs.Editing.{all_edited, bear_in, born, drafted_by, edited, enable_named, implicit_name, restored_in, save_in, saved_at, stand_of}
+use Rattle.wm_state.specs.Editing.{all_edited, bear_in, born, drafted_by, edited, enable_named, implicit_name, keep_in, parent_of, rebased_in, restored_in, save_in, saved_at, stand_of}
 use Rattle.wm_state.specs.State.{Readiness, Savepoint, Stand, Durable, Workspace, savepoint_made, savepoints_of, table_named, workspace_of}
 use Rattle.wm_state.specs.declared.edit.Edit.{Edit}
 use Rattle.wm_state.specs.declared.edit.Edit.TheVariants as edits
@@ -42,6 +42,18 @@ restore_timed : (n : ℕ) (moment work : ℕ) (s : Durable) (o : Option Savepoin
 restore_timed n moment work s None = refl
 restore_timed n moment work s (Some k) = refl
 
+-- what is newest in one is kept in it, or in none
+keep_timed : (m : ℕ) (moment work : ℕ) (s : Durable) (o : Option Workspace)
+    → unwrap_or (option_and_then (keep_in m (timed moment work s)) o) (timed moment work s) ≡ timed moment work (unwrap_or (option_and_then (keep_in m s) o) s)
+keep_timed m moment work s None = refl
+keep_timed m moment work s (Some w) = refl
+
+-- a workspace stands on its parent in it, or none does
+rebase_timed : (n : ℕ) (emptied : Bool) (moment work : ℕ) (s : Durable) (o : Option Workspace)
+    → unwrap_or (option_map (rebased_in n emptied (timed moment work s)) o) (timed moment work s) ≡ timed moment work (unwrap_or (option_map (rebased_in n emptied s) o) s)
+rebase_timed n emptied moment work s None = refl
+rebase_timed n emptied moment work s (Some p) = refl
+
 -- an edit makes of it what it makes of the state, moved so
 edited_timed : (m : ℕ) (e : Edit) (moment work : ℕ) (s : Durable) → edited m e (timed moment work s) ≡ timed moment work (edited m e s)
 edited_timed m (edits.Create t) moment work s = refl
@@ -51,6 +63,10 @@ edited_timed m (edits.Save n name) moment work s = save_timed m name moment work
 edited_timed m (edits.Bear n at name) moment work s = bear_timed m (stand_of at) name moment work s (workspace_of s.spaces n)
 edited_timed m (edits.Restore n making) moment work s = restore_timed n moment work s (savepoint_made making (savepoints_of s.spaces n))
 edited_timed m (edits.Remove n) moment work s = refl
+edited_timed m (edits.Keep n) moment work s = keep_timed m moment work s (workspace_of s.spaces n)
+edited_timed m (edits.Replay n entries) moment work s = refl
+edited_timed m (edits.Gain n entries) moment work s = refl
+edited_timed m (edits.Rebase n emptied) moment work s = rebase_timed n emptied moment work s (parent_of s.spaces n)
 
 -- so do edits
 all_edited_timed : (m : ℕ) (es : List Edit) (moment work : ℕ) (s : Durable) → all_edited m es (timed moment work s) ≡ timed moment work (all_edited m es s)

@@ -24,6 +24,7 @@ pub mod Showing
 pub mod FirstIn
 pub mod Climbing
 pub mod Naming
+pub mod Owning
 pub mod Forking
 pub mod Growing
 pub mod Mapped

@@ -1,16 +1,20 @@
 -- What is asked of records before edits, and what changes of records are to make of them.
 use Rattle.std.specs.Prelude.{ℕ, ◌≡◌, ◌≤◌, ◌<◌, ◌+◌, ◌*◌, ◌==◌, ◌&&◌, not, nat_le, nat_lt, Bool, true, false, List, [], ◌∷◌, ◌++◌, map, length, Option, Some, None, is_some}
-use Rattle.std.specs.List.{filter, find, list_all, list_any}
+use Rattle.std.specs.List.{All, filter, find, list_all, list_any}
 use Rattle.std.specs.Option.{option_map_or}
+use Rattle.std.specs.Ordering.{is_gt, nat_cmp, ordering_then}
 use Rattle.std.specs.Str.{bytes_eq}
 use Rattle.std.specs.declared.alloc.Global.{Global}
+use Rattle.std.specs.declared.cmp.Ordering.{Ordering}
 use Rattle.std.specs.declared.vec.Vec.{Vec}
+use Rattle.wm_base.specs.Key.{key_order}
 use Rattle.wm_base.specs.declared.instant.TheConstants.{END}
+use Rattle.wm_base.specs.declared.row.Row.{Row}
 use Rattle.wm_base.specs.declared.value.Value.{Value}
 use Rattle.wm_base.specs.declared.value.Value.TheVariants as values
-use Rattle.wm_graph.specs.Parts.{Parts, parts_of, space_of, table_of}
-use Rattle.wm_graph.specs.Rules.{has_key, is_short, is_table, keep_rules}
-use Rattle.wm_spec.specs.Lists.{Entry}
+use Rattle.wm_graph.specs.Parts.{Parts, parts_of, row_of, space_of, table_of}
+use Rattle.wm_graph.specs.Rules.{collide, differ, has_key, is_short, is_table, keep_rules}
+use Rattle.wm_spec.specs.Lists.{Cell, Entry}
 use Rattle.wm_spec.specs.Records.{AreChanges, record_at}
 use Rattle.wm_spec.specs.declared.record.Record.{Record}
 use Rattle.wm_spec.specs.declared.record.Record.TheVariants as records
@@ -21,13 +25,14 @@ use Rattle.wm_spec.specs.declared.record.savepoint.Savepoint.{Savepoint}
 use Rattle.wm_spec.specs.declared.record.space.Space.{Space}
 use Rattle.wm_spec.specs.declared.record.stored.Stored.{Stored}
 use Rattle.wm_spec.specs.declared.record.table.Table.{Table}
+use Rattle.wm_spec.specs.declared.record.turn.Turn.{Turn}
 use Rattle.wm_state.specs.ById.{applied}
 use Rattle.wm_state.specs.Drawing.{are_sorted}
 use Rattle.wm_state.specs.Effects.{IsFree, IsLeaf}
 use Rattle.wm_state.specs.Editing.{counter_limit, drafted_by, entry_of, is_other, line_work, number_limit, stand_of}
-use Rattle.wm_state.specs.Entries.{AreStamped, entry_keys, is_well}
+use Rattle.wm_state.specs.Entries.{AreStamped, entry_keys, is_well, pieces_of}
 use Rattle.wm_state.specs.Points.{HasRoom, Point, implicit_of, next_place_at, point_at}
-use Rattle.wm_state.specs.Standing.{FieldsStand, Stands, by_number, latest, newest_first, saved_as, space_after}
+use Rattle.wm_state.specs.Standing.{FieldsStand, IsReal, Stands, by_number, has_history, latest, newest_first, owned, saved_as, space_after}
 use Rattle.wm_state.specs.State.{Durable, table_named}
 use Rattle.wm_state.specs.declared.edit.Edit.{Edit}
 use Rattle.wm_state.specs.declared.edit.NewEntry.{NewEntry}
@@ -57,6 +62,29 @@ is_kept r = true
 -- so is what comes by a change
 abbrev pub is_kept_change : Change → Bool
 is_kept_change c = option_map_or is_kept c.becomes true
+
+-- ---- entries that were made before
+
+-- the row of an entry, where it has one, is the one of its stamp
+abbrev pub IsCopied : Parts → Entry → Type 0
+IsCopied p e = (row : Row) → e.row ≡ Some row → row_of p.rows e.stamp ≡ Some (record { stamp = e.stamp; table = e.table; values = row.values })
+
+-- their stamps were given, and they are real and fit their tables
+pub record AreOld (p : Parts) (c : Counters) (es : List Entry) : Type 0 where
+  pub stamps : list_all (λ (e : Entry). nat_lt e.stamp c.next_stamp) es ≡ true
+  pub real : All (IsReal p.tables) es
+  pub well : list_all (is_well (table_of p.tables)) es ≡ true
+  pub users : list_all (λ (e : Entry). is_short e.user) es ≡ true
+
+-- entries by table, and in one table by key
+abbrev pub entry_order : Entry → Entry → Ordering
+entry_order e f = ordering_then (nat_cmp e.table f.table) (key_order e.key f.key)
+
+-- none is of a table and key above those of the next, so those of one table and key stand together
+abbrev pub are_in_order : List Entry → Bool
+are_in_order [] = true
+are_in_order (e ∷ []) = true
+are_in_order (e ∷ f ∷ fs) = not (is_gt (entry_order e f)) && are_in_order (f ∷ fs)
 
 -- ---- what is asked of the records
 
@@ -139,6 +167,57 @@ pub record CanRemove (p : Parts) (n : ℕ) : Type 0 where
   pub there : is_some (space_of p.spaces n) ≡ true
   pub childless : list_all (λ (r : Space). is_other n r.parent) p.spaces ≡ true
 
+-- the workspace is there and may have an implicit savepoint more
+pub record CanKeep (p : Parts) (n : ℕ) : Type 0 where
+  pub space : Space
+  pub there : space_of p.spaces n ≡ Some space
+  pub room : HasRoom p space (implicit_of space)
+  pub places : nat_lt number_limit (space.next_place + 1) ≡ false
+  pub implicits : nat_lt number_limit (space.next_implicit + 1) ≡ false
+
+-- the workspace is there, and its log has room; there are entries, made before and in order, no two of which share a cell, whose values can
+-- be kept and whose rows are there
+pub record CanReplay (p : Parts) (n : ℕ) (es : List Entry) : Type 0 where
+  pub space : Space
+  pub there : space_of p.spaces n ≡ Some space
+  pub counters : Counters
+  pub one : p.counters ≡ counters ∷ []
+  pub some : nat_lt 0 (length es) ≡ true
+  pub old : AreOld p counters es
+  pub kept : list_all can_keep_entry es ≡ true
+  pub sorted : are_in_order es ≡ true
+  pub apart : differ collide (pieces_of 0 es) ≡ true
+  pub copied : All (IsCopied p) es
+  pub short : nat_lt counter_limit (space.log_length + length es) ≡ false
+
+-- the workspace is there, and its log has room; there are entries, made before and in order, whose values can be kept, and the rows of
+-- those of tables with history are there
+pub record CanGain (p : Parts) (n : ℕ) (es : List Entry) : Type 0 where
+  pub space : Space
+  pub there : space_of p.spaces n ≡ Some space
+  pub counters : Counters
+  pub one : p.counters ≡ counters ∷ []
+  pub some : nat_lt 0 (length es) ≡ true
+  pub old : AreOld p counters es
+  pub kept : list_all can_keep_entry es ≡ true
+  pub sorted : are_in_order es ≡ true
+  pub copied : All (λ (e : Entry). has_history p.tables e.table ≡ true → IsCopied p e) es
+  pub short : nat_lt counter_limit (space.log_length + length es) ≡ false
+
+-- the record is the turn of a workspace that has this number
+abbrev pub is_turn : ℕ → ℕ → Turn → Bool
+is_turn n number x = (x.space == n) && (x.rebase == number)
+
+-- the workspace is there, is not LIVE, may be rebased once more and has no such turn yet; where what it has of its own stays, each key of
+-- that can be kept
+pub record CanRebase (p : Parts) (n : ℕ) (emptied : Bool) : Type 0 where
+  pub some : 0 < n
+  pub space : Space
+  pub there : space_of p.spaces n ≡ Some space
+  pub rebases : nat_lt number_limit (space.rebases + 1) ≡ false
+  pub unturned : list_any (is_turn n (space.rebases + 1)) p.turns ≡ false
+  pub kept : emptied ≡ false → (c : Cell) → is_some (owned p space.base_version n c) ≡ true → list_all can_keep c.key ≡ true
+
 -- what is asked before an edit at a moment
 abbrev pub CanEdit : Parts → ℕ → Edit → Type 0
 CanEdit p m (edits.Create t) = CanCreate p t
@@ -148,6 +227,10 @@ CanEdit p m (edits.Save n name) = CanSave p n name
 CanEdit p m (edits.Bear n at name) = CanBear p m n at name
 CanEdit p m (edits.Restore n making) = CanRestore p n making
 CanEdit p m (edits.Remove n) = CanRemove p n
+CanEdit p m (edits.Keep n) = CanKeep p n
+CanEdit p m (edits.Replay n entries) = CanReplay p n (map entry_of entries.items)
+CanEdit p m (edits.Gain n entries) = CanGain p n (map entry_of entries.items)
+CanEdit p m (edits.Rebase n emptied) = CanRebase p n emptied
 
 -- ---- what is made of them
 
@@ -156,6 +239,13 @@ abbrev pub is_fork : Edit → Bool
 is_fork (edits.Save n name) = true
 is_fork (edits.Bear n at name) = true
 is_fork e = false
+
+-- the edit leaves the turns of all workspaces
+abbrev pub leaves_turns : Edit → Bool
+leaves_turns (edits.Keep n) = true
+leaves_turns (edits.Replay n entries) = true
+leaves_turns (edits.Gain n entries) = true
+leaves_turns e = false
 
 -- but for counters, workspaces, versions, savepoints and turns the records are what they were
 abbrev pub ForksAlone : Parts → Parts → Type 0
@@ -188,7 +278,8 @@ IsSpare p n = IsLeaf (latest p n) (newest_first p.versions) × IsFree p (latest 
 -- changes make of records what edits make of each state that they stand for, and of each state with which they agree in counters,
 -- tables, workspaces and savepoints, with so much work: the rules stay kept, no id changes twice, each row stays under its id, each value
 -- that comes can be kept, without edits there are no changes, where all edits make savepoints or workspaces, there are six changes at
--- most for each, and entries that come into a workspace whose newest version is spare make no version
+-- most for each, entries that come into a workspace whose newest version is spare make no version, and edits that leave turns leave their
+-- records
 pub record DraftsBy (work : ℕ) (rs : List Stored) (m : ℕ) (es : List Edit) (changes : List Change) : Type 0 where
   pub keeps : keep_rules (parts_of (applied changes rs)) ≡ true
   pub once : AreChanges changes
@@ -200,6 +291,7 @@ pub record DraftsBy (work : ℕ) (rs : List Stored) (m : ℕ) (es : List Edit) (
   pub nothing : es ≡ [] → changes ≡ []
   pub few : list_all is_fork es ≡ true → FewChanges rs (6 * length es) changes
   pub spared : (n : ℕ) (entries : Vec NewEntry Global) → es ≡ edits.Append n entries ∷ [] → IsSpare (parts_of rs) n → (parts_of (applied changes rs)).versions ≡ (parts_of rs).versions
+  pub turned : list_all leaves_turns es ≡ true → (parts_of (applied changes rs)).turns ≡ (parts_of rs).turns
 
 -- and with the work of a line
 abbrev pub Drafts : List Stored → ℕ → List Edit → List Change → Type 0

@@ -1,5 +1,5 @@
 -- What edits make of the state.
-use Rattle.std.specs.Prelude.{ℕ, ◌+◌, ◌^◌, ◌==◌, ◌&&◌, nat_le, not, Bool, true, false, List, [], ◌∷◌, ◌++◌, map, length, take, Option, Some, None, unwrap_or, codes}
+use Rattle.std.specs.Prelude.{ℕ, ◌+◌, ◌^◌, ◌==◌, ◌&&◌, nat_le, not, Bool, true, false, if◌then◌else◌, List, [], ◌∷◌, ◌++◌, map, length, take, Option, Some, None, unwrap_or, codes}
 use Rattle.std.specs.List.{filter}
 use Rattle.std.specs.Fmt.{decimal}
 use Rattle.std.specs.Option.{option_map, option_and_then}
@@ -11,7 +11,7 @@ use Rattle.wm_spec.specs.declared.record.table.Table.{Table}
 use Rattle.wm_state.specs.declared.edit.Edit.{Edit}
 use Rattle.wm_state.specs.declared.edit.Edit.TheVariants as edits
 use Rattle.wm_state.specs.declared.edit.NewEntry.{NewEntry}
-use Rattle.wm_state.specs.State.{Durable, Workspace, Savepoint, Turn, Stand, Latest, At, Readiness, kept, enabled, with_space, with_entries, with_savepoint, workspace_of, savepoints_of, savepoint_made, table_named, next_making, next_space}
+use Rattle.wm_state.specs.State.{Durable, Workspace, Savepoint, Turn, Stand, Latest, At, Readiness, content, kept, enabled, with_space, with_entries, with_gained, with_savepoint, workspace_of, savepoints_of, savepoint_made, table_named, next_making, next_space}
 
 -- ---- what is counted
 
@@ -154,6 +154,49 @@ is_other n number = not (number == n)
 abbrev pub without : ℕ → List Workspace → List Workspace
 without n = filter (λ (w : Workspace). is_other n w.number)
 
+-- ---- what is merged
+
+-- what is newest in a workspace is kept under the next name of an implicit savepoint
+abbrev pub keep_in : ℕ → Durable → Workspace → Option Durable
+keep_in m s w = option_map (λ (k : Savepoint). saved w.number (w.next_place + 1) (w.next_implicit + 1) k s) (saved_at m s.spaces w Latest (implicit_name w) true)
+
+-- in the workspace of this number, at a moment
+abbrev pub kept_in : ℕ → ℕ → Durable → Durable
+kept_in m n s = unwrap_or (option_and_then (keep_in m s) (workspace_of s.spaces n)) s
+
+-- the workspace of this number has entries that were made before; no stamp is given
+abbrev pub replayed_in : ℕ → List Entry → Durable → Durable
+replayed_in n es s = record s { spaces = with_space n (with_entries es) s.spaces }
+
+-- its log alone has them
+abbrev pub gained_in : ℕ → List Entry → Durable → Durable
+gained_in n es s = record s { spaces = with_space n (with_gained es) s.spaces }
+
+-- the turn that a workspace takes of its parent as that is now
+abbrev pub turn_on : Workspace → Turn
+turn_on p = record { log_length = length p.lists.log; rebases = p.rebases; content = content p }
+
+-- a workspace on its parent as that is now; what it has of its own stays, or goes where it was merged
+abbrev pub rebased : Bool → Workspace → Workspace → Workspace
+rebased emptied p w = record w {
+  lists = record w.lists { base = content p; own = if emptied then [] else w.lists.own };
+  from = length p.lists.log;
+  rebases = w.rebases + 1;
+  turns = w.turns ++ turn_on p ∷ [];
+}
+
+-- the workspace of this number on a parent
+abbrev pub rebased_in : ℕ → Bool → Durable → Workspace → Durable
+rebased_in n emptied s p = record s { spaces = with_space n (rebased emptied p) s.spaces }
+
+-- the parent of the workspace of this number
+abbrev pub parent_of : List Workspace → ℕ → Option Workspace
+parent_of spaces n = option_and_then (λ (w : Workspace). workspace_of spaces w.parent) (workspace_of spaces n)
+
+-- what a rebase of this workspace makes of a state; where the workspace or its parent is not there, nothing
+abbrev pub rebased_so : ℕ → Bool → Durable → Durable
+rebased_so n emptied s = unwrap_or (option_map (rebased_in n emptied s) (parent_of s.spaces n)) s
+
 -- ---- edits
 
 -- at what is newest, or at the savepoint of a making
@@ -175,6 +218,10 @@ edited m (edits.Save n name) s = unwrap_or (option_and_then (save_in m name s) (
 edited m (edits.Bear n at name) s = unwrap_or (option_and_then (bear_in m (stand_of at) name s) (workspace_of s.spaces n)) s
 edited m (edits.Restore n making) s = unwrap_or (option_map (restored_in n s) (savepoint_made making (savepoints_of s.spaces n))) s
 edited m (edits.Remove n) s = record s { spaces = without n s.spaces }
+edited m (edits.Keep n) s = kept_in m n s
+edited m (edits.Replay n entries) s = replayed_in n (map entry_of entries.items) s
+edited m (edits.Gain n entries) s = gained_in n (map entry_of entries.items) s
+edited m (edits.Rebase n emptied) s = rebased_so n emptied s
 
 -- and what edits make of it in their order
 abbrev pub all_edited : ℕ → List Edit → Durable → Durable

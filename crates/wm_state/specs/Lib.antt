@@ -9,6 +9,7 @@ pub mod Batches
 pub mod Listing
 pub mod Entries
 pub mod Drawing
+pub mod Copied
 pub mod Touching
 pub mod Writes
 pub mod Drafts

@@ -192,6 +192,10 @@ log_length spaces number = of (workspace_of spaces number)
 abbrev pub with_entries : List Entry → Workspace → Workspace
 with_entries es w = record w { lists = record w.lists { own = w.lists.own ++ es; log = w.lists.log ++ es } }
 
+-- a workspace with more entries in its log alone
+abbrev pub with_gained : List Entry → Workspace → Workspace
+with_gained es w = record w { lists = record w.lists { log = w.lists.log ++ es } }
+
 -- a workspace with a savepoint more, the next place and the next number of an implicit savepoint being these
 abbrev pub with_savepoint : ℕ → ℕ → Savepoint → Workspace → Workspace
 with_savepoint place implicit k w = record w { next_place = place; next_implicit = implicit; savepoints = w.savepoints ++ k ∷ [] }

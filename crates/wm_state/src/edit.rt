@@ -58,4 +58,24 @@ pub enum Edit {
     Remove {
         space: u32,
     },
+    /// What is newest in a workspace is kept in an implicit savepoint.
+    Keep {
+        space: u32,
+    },
+    /// Entries that were made before come into a workspace, with the stamps that they have: by table and key, no two on
+    /// one cell.
+    Replay {
+        space: u32,
+        entries: Vec<NewEntry>,
+    },
+    /// Entries that were made before come into the log of a workspace alone.
+    Gain {
+        space: u32,
+        entries: Vec<NewEntry>,
+    },
+    /// A workspace stands on its parent as that is now; what it has of its own stays, or goes where it was merged.
+    Rebase {
+        space: u32,
+        emptied: bool,
+    },
 }

@@ -108,6 +108,7 @@ drafts_restored rs m work n making c a x counters_id space_id id ids rules can_w
   nothing = some_edit (edits.Restore n making) [] batch;
   few = λ forks. absurd (bool_apart (sym forks));
   spared = λ i entries one_append. absurd (no_append i entries one_append);
+  turned = λ left. absurd (bool_apart (sym left));
 }
   where
     no_append : (i : ℕ) (entries : Vec NewEntry Global) → edits.Restore n making ∷ [] ≡ edits.Append i entries ∷ [] → ⊥

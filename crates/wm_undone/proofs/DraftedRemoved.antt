@@ -48,6 +48,7 @@ drafts_removed rs m work n c counters_id ids rules can_work one can there sorted
   nothing = some_edit (edits.Remove n) [] batch;
   few = λ forks. absurd (bool_apart (sym forks));
   spared = λ i entries one_append. absurd (no_append i entries one_append);
+  turned = λ left. absurd (bool_apart (sym left));
 }
   where
     no_append : (i : ℕ) (entries : Vec NewEntry Global) → edits.Remove n ∷ [] ≡ edits.Append i entries ∷ [] → ⊥

@@ -193,6 +193,7 @@ drafts_written rs m work table entries a c counters_id space_id id ids drawn tra
   nothing = some_edit (edits.Append a.number entries) [] batch;
   few = λ forks. absurd (bool_apart (sym forks));
   spared = λ n more same spare. versions_planned rs counters_id space_id id c d a table es ids drawn traced writing;
+  turned = λ left. absurd (bool_apart (sym left));
 }
   where
     es : List Entry

@@ -93,6 +93,7 @@ drafts_written_new rs m work table entries a c counters_id space_id id ids drawn
   nothing = some_edit (edits.Append a.number entries) [] batch;
   few = λ forks. absurd (bool_apart (sym forks));
   spared = λ n more same spare. absurd (used (subst (λ k. IsSpare (parts_of rs) k) (one_number n more same) spare));
+  turned = λ left. absurd (bool_apart (sym left));
 }
   where
     es : List Entry

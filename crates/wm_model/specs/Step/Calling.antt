@@ -19,6 +19,7 @@ use Rattle.wm_model.specs.Step.Rows.{taken}
 use Rattle.wm_model.specs.Step.Savepoints.{create_savepoint, goto_savepoint}
 use Rattle.wm_model.specs.Step.Workspaces.{create_workspace, goto_workspace}
 use Rattle.wm_model.specs.Step.Undoing.{remove_workspace, rollback_to}
+use Rattle.wm_model.specs.Step.Merging.{Asked, merge_workspace, refresh_workspace}
 
 -- what is done with a text that is given for a parameter that the call requires; where it is not, something is wrong with the arguments
 abbrev pub given : Option (List ℕ) → Option (List ℕ) → State → (List ℕ → State × Answer) → State × Answer
@@ -43,6 +44,13 @@ abbrev pub readiness_given : List Arg → Readiness
 readiness_given args = record {
   valid = is_true_given procedures.EnableVersioning args parameters.ValidTime;
   history = keeps_history (text_given procedures.EnableVersioning args parameters.Hist);
+}
+
+-- what the arguments of a merge ask for besides
+abbrev pub merge_asked : List Arg → Asked
+merge_asked args = record {
+  keeps = is_true_given procedures.MergeWorkspace args parameters.CreateSavepoint;
+  removes = is_true_given procedures.MergeWorkspace args parameters.RemoveWorkspace;
 }
 
 -- a call, by the arguments for its parameters and what is wrong with them
@@ -76,4 +84,10 @@ call session (Some procedures.RollbackToSp) args s =
 call session (Some procedures.RemoveWorkspace) args s =
     let fault = argument_fault procedures.RemoveWorkspace args in
     unless_mistyped fault s (remove_workspace (unwrap_or (text_given procedures.RemoveWorkspace args parameters.Workspace) []) s)
+call session (Some procedures.RefreshWorkspace) args s =
+    let fault = argument_fault procedures.RefreshWorkspace args in
+    unless_mistyped fault s (refresh_workspace session (unwrap_or (text_given procedures.RefreshWorkspace args parameters.Workspace) []) s)
+call session (Some procedures.MergeWorkspace) args s =
+    let fault = argument_fault procedures.MergeWorkspace args in
+    unless_mistyped fault s (merge_workspace session (merge_asked args) (unwrap_or (text_given procedures.MergeWorkspace args parameters.Workspace) []) s)
 call session _ args s = (s, not_built)

@@ -6,7 +6,7 @@ use Rattle.wm_base.specs.declared.refusal.Refusal.TheVariants.{Form, Limit}
 use Rattle.wm_base.specs.declared.refusal.Refusal.TheVariants as refusals
 use Rattle.wm_base.specs.declared.refusal.FormRefusal.TheVariants.{Wm001, Wm002, Wm003, Wm004, Wm005, Wm010, Wm011, Wm013, Wm015, Wm016, Wm019}
 use Rattle.wm_base.specs.declared.refusal.SpaceRefusal.TheVariants.{Wm020, Wm021, Wm022, Wm023, Wm024, Wm025, Wm030, Wm031, Wm033, Wm043, Wm044, Wm045, Wm046}
-use Rattle.wm_base.specs.declared.refusal.CellRefusal.TheVariants.{Wm060, Wm064, Wm065}
+use Rattle.wm_base.specs.declared.refusal.CellRefusal.TheVariants.{Wm051, Wm060, Wm064, Wm065}
 use Rattle.wm_base.specs.declared.refusal.LimitRefusal.TheVariants.{Wm070, Wm071, Wm072, Wm073, Wm074, Wm075, Wm076, Wm099}
 use Rattle.wm_base.specs.declared.refusal.Refusal.{Refusal}
 use Rattle.wm_state.specs.State.{State}
@@ -105,6 +105,10 @@ moment_back moment = Refused (refusals.Space (Wm031 moment))
 -- a row of the key stands, in a table with valid time in this period
 abbrev pub key_there : List Value → Option Span → Answer
 key_there key period = Refused (refusals.Cell (Wm060 key period))
+
+-- a workspace and its parent both changed a key of a table, in a table with valid time in this period
+abbrev pub in_conflict : List ℕ → List Value → Option Span → Answer
+in_conflict table key period = Refused (refusals.Cell (Wm051 table key period))
 
 -- a period has no moment
 abbrev pub empty_period : Answer
