@@ -12,8 +12,8 @@ ghost use Rattle.wm_state.specs.Effects.{IsFree, IsLeaf};
 ghost use Rattle.wm_state.specs.Standing.{latest, newest_first};
 ghost use Rattle.wm_state.specs.declared.edit.Edit.TheVariants as edits;
 
-mod entered;
-mod made;
+pub mod entered;
+pub mod made;
 
 use crate::append::made::{Made, draw_entries};
 use std::alloc::Global;
@@ -27,7 +27,7 @@ use wm_state::edit::NewEntry;
 
 /// What is put for counters, for a workspace whose record is there, and for records that come in the place of others,
 /// behind other changes; new ids begin with this one.
-fn written(
+pub fn written(
     image: &Image,
     front: Changes,
     counters: Counters,
@@ -79,7 +79,7 @@ fn append_here(
 }
 
 /// What is put first where entries come into a version more.
-fn version_changes(alloc: Global, id: u64, version: Version) -> Result<Changes, Memory>
+pub fn version_changes(alloc: Global, id: u64, version: Version) -> Result<Changes, Memory>
     ensures { IfOk result (λ changes. changes ≡ put id (records.Version version) ∷ []) }
 {
     let mut changes = Changes::new(alloc);

@@ -15,8 +15,11 @@ use wm_image::Image;
 use wm_lifecycle::births::bear;
 use wm_lifecycle::removals::remove;
 use wm_lifecycle::restores::restore;
-use wm_lifecycle::saves::save;
+use wm_lifecycle::saves::{keep, save};
 use wm_lifecycle::tables::{create, enable};
+use wm_replay::gains::gain;
+use wm_replay::rebases::rebase;
+use wm_replay::replays::replay;
 use wm_spec::record::{Batch, Changes};
 use wm_state::edit::{Edit, LINE_WORK};
 
@@ -46,6 +49,10 @@ fn draft_one(
         Edit::Bear { parent, at, name } => bear(alloc, image, moment, work, parent, at, name),
         Edit::Restore { space, making } => restore(alloc, image, moment, work, space, making),
         Edit::Remove { space } => Ok(remove(alloc, image, moment, work, space)?),
+        Edit::Keep { space } => keep(alloc, image, moment, work, space),
+        Edit::Replay { space, entries } => replay(alloc, image, moment, work, space, entries),
+        Edit::Gain { space, entries } => gain(alloc, image, moment, work, space, entries),
+        Edit::Rebase { space, emptied } => rebase(alloc, image, moment, work, space, emptied),
     }
 }
 

@@ -3,6 +3,7 @@ pub mod Step
 pub mod Planning
 pub mod Saving
 pub mod Undone
+pub mod Merged
 pub mod Running
 pub mod Sources
 pub mod Changes

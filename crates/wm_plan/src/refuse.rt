@@ -1,7 +1,7 @@
 //! The refusals of lines.
 ghost use Rattle.std.specs.Prelude.{◌≡◌, IfOk};
 ghost use Rattle.wm_plan.specs.Views.{answer_view};
-ghost use Rattle.wm_model.specs.Step.{at_its_end, bad_literal, bad_name, change_limit, dependent_child, empty_period, has_child, key_there, long_name, mistyped, moment_back, most_rows, most_savepoints, most_sessions, most_tables, most_workspaces, no_key, no_parent, no_savepoint, no_session, no_table, no_workspace, no_text, not_built, not_latest, out_of_range, rebased_since, reserved_name, savepoint_there, session_inside, session_there, syntax, table_there, too_long_line, versioning, workspace_there};
+ghost use Rattle.wm_model.specs.Step.{at_its_end, bad_literal, bad_name, change_limit, dependent_child, empty_period, has_child, in_conflict, key_there, long_name, mistyped, moment_back, most_rows, most_savepoints, most_sessions, most_tables, most_workspaces, no_key, no_parent, no_savepoint, no_session, no_table, no_workspace, no_text, not_built, not_latest, out_of_range, rebased_since, reserved_name, savepoint_there, session_inside, session_there, syntax, table_there, too_long_line, versioning, workspace_there};
 
 use crate::answer::Answer;
 use std::alloc::Global;
@@ -211,6 +211,13 @@ pub fn key_there(key: Key, period: Option<Period>) -> Answer
     ensures { answer_view result ≡ key_there key period }
 {
     Answer::Refused(Refusal::Cell(CellRefusal::Wm060(key, period)))
+}
+
+/// That a workspace and its parent both changed a key of a table, in a table with valid time in this period.
+pub fn in_conflict(table: Name, key: Key, period: Option<Period>) -> Answer
+    ensures { answer_view result ≡ in_conflict table key period }
+{
+    Answer::Refused(Refusal::Cell(CellRefusal::Wm051(table, key, period)))
 }
 
 /// That a period has no moment.

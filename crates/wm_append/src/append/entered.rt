@@ -33,7 +33,7 @@ pub struct Entered {
 }
 
 /// The cells of a key of a table over a period.
-fn cells_of(table: u16, key: Key, period: Period) -> CellRange
+pub fn cells_of(table: u16, key: Key, period: Period) -> CellRange
     ensures { result ≡ record { table = table; key = key; from = period.from; till = period.till } }
 {
     CellRange {
@@ -71,7 +71,7 @@ fn push_hist(
 }
 
 /// Adds the records of an entry, which has a position in the log of a workspace.
-fn add_entry(
+pub fn add_entry(
     alloc: Global,
     entered: &mut Entered,
     target: Target,

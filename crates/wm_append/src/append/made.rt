@@ -26,7 +26,7 @@ pub struct Made {
 }
 
 /// Whether the table of a number keeps its history.
-fn has_history(image: &Image, table: u16) -> bool
+pub fn has_history(image: &Image, table: u16) -> bool
     ensures { result ≡ has_history (parts_of image.now).tables table }
 {
     match image.table_numbered(table) {
@@ -36,7 +36,7 @@ fn has_history(image: &Image, table: u16) -> bool
 }
 
 /// Puts pieces behind other records.
-fn push_pieces(news: &mut Vec<Record>, pieces: Vec<PieceRecord>) -> Result<(), Memory>
+pub fn push_pieces(news: &mut Vec<Record>, pieces: Vec<PieceRecord>) -> Result<(), Memory>
     ensures { OnOk result (news.new.items ≡ news.old.items ++ map records.Piece pieces.items) }
 {
     for piece in pieces {
@@ -46,7 +46,7 @@ fn push_pieces(news: &mut Vec<Record>, pieces: Vec<PieceRecord>) -> Result<(), M
 }
 
 /// Puts pieces as touches of a workspace at a place behind other records.
-fn push_touches(
+pub fn push_touches(
     news: &mut Vec<Record>,
     space: u32,
     place: u32,
@@ -66,7 +66,7 @@ fn push_touches(
 }
 
 /// Puts records behind others.
-fn push_all(news: &mut Vec<Record>, more: Vec<Record>) -> Result<(), Memory>
+pub fn push_all(news: &mut Vec<Record>, more: Vec<Record>) -> Result<(), Memory>
     ensures { OnOk result (news.new.items ≡ news.old.items ++ more.items) }
 {
     for one in more {

@@ -15,6 +15,7 @@ use std::alloc::Global;
 use wm_base::{Memory, Name};
 use wm_grammar::{Procedure, procedure_of};
 use wm_image::Image;
+use wm_merge::calls::{merge_call, refresh_call};
 use wm_plan::given::Given;
 use wm_plan::planned::Planned;
 use wm_plan::refuse::not_built;
@@ -60,6 +61,12 @@ fn call_of(
             alloc, image, sessions, moment, session, given.args,
         ),
         Procedure::RemoveWorkspace => remove_call(
+            alloc, image, sessions, moment, session, given.args,
+        ),
+        Procedure::RefreshWorkspace => refresh_call(
+            alloc, image, sessions, moment, session, given.args,
+        ),
+        Procedure::MergeWorkspace => merge_call(
             alloc, image, sessions, moment, session, given.args,
         ),
         _ => Ok(Planned::answered(alloc, not_built())),

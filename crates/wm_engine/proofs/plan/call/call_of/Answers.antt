@@ -48,13 +48,23 @@ returns-in-RemoveWorkspace-clause-does c =
     does_here c.args.image.now c.args.sessions.now c.args.moment c.remove_call.result (call c.args.session.now (Some procedures.RemoveWorkspace) c.args.given.args.now) (call c.args.session.now (Some c.args.procedure) c.args.given.args.now)
     (λ s. ap (λ (p : Procedure). call c.args.session.now (Some p) c.args.given.args.now s) c.in-RemoveWorkspace.is) c.remove_call.ensures.does
 
+pub returns-in-RefreshWorkspace-clause-does : goal.returns-in-RefreshWorkspace-clause-does
+returns-in-RefreshWorkspace-clause-does c =
+    does_here c.args.image.now c.args.sessions.now c.args.moment c.refresh_call.result (call c.args.session.now (Some procedures.RefreshWorkspace) c.args.given.args.now) (call c.args.session.now (Some c.args.procedure) c.args.given.args.now)
+    (λ s. ap (λ (p : Procedure). call c.args.session.now (Some p) c.args.given.args.now s) c.in-RefreshWorkspace.is) c.refresh_call.ensures.does
+
+pub returns-in-MergeWorkspace-clause-does : goal.returns-in-MergeWorkspace-clause-does
+returns-in-MergeWorkspace-clause-does c =
+    does_here c.args.image.now c.args.sessions.now c.args.moment c.merge_call.result (call c.args.session.now (Some procedures.MergeWorkspace) c.args.given.args.now) (call c.args.session.now (Some c.args.procedure) c.args.given.args.now)
+    (λ s. ap (λ (p : Procedure). call c.args.session.now (Some p) c.args.given.args.now s) c.in-MergeWorkspace.is) c.merge_call.ensures.does
+
 pub returns-in_default : goal.returns-in_default
 returns-in_default c = record {
   does =
       refused c.args.image.now c.args.sessions.now c.args.moment c.answered.result not_built (call c.args.session.now (Some c.args.procedure) c.args.given.args.now) c.answered.ensures.edits c.answered.ensures.seating
       (ap answer_view c.answered.ensures.answer ∙ c.not_built.ensures) c.requires.rules
       (λ s. other_call c.args.session.now c.args.procedure c.args.given.args.now s c.in_default.not-EnableVersioning c.in_default.not-CreateWorkspace c.in_default.not-CreateSavepoint c.in_default.not-GotoWorkspace c.in_default.not-GotoSavepoint c.in_default.not-SetValidTime
-      c.in_default.not-RollbackToSp c.in_default.not-RemoveWorkspace);
+      c.in_default.not-RollbackToSp c.in_default.not-RemoveWorkspace c.in_default.not-RefreshWorkspace c.in_default.not-MergeWorkspace);
   idle = λ idle. (c.answered.ensures.edits, c.answered.ensures.seating);
   few = λ forks. forks_none c.answered.result c.answered.ensures.edits;
 }

@@ -1,0 +1,258 @@
+//! MergeWorkspace.
+
+ghost use Rattle.std.specs.Prelude.{◌≡◌, ◌<◌, ◌++◌, ℕ, List, map, true, false, None, Some, IfOk, OnOk};
+ghost use Rattle.std.specs.Option.{option_map};
+ghost use Rattle.wm_base.specs.declared.instant.TheConstants.{END};
+ghost use Rattle.wm_graph.specs.Parts.{parts_of};
+ghost use Rattle.wm_graph.specs.Rules.{keep_rules};
+ghost use Rattle.wm_merge.specs.Views.{asked_view, clashed};
+ghost use Rattle.wm_model.specs.Merged.{Merges, NamesFamily, after_edits, is_even_at, merge_edits, merging_refusal};
+ghost use Rattle.wm_model.specs.Step.{merge_workspace};
+ghost use Rattle.wm_plan.specs.Idle.{Idles};
+ghost use Rattle.wm_plan.specs.Planning.{DoesIt};
+ghost use Rattle.wm_state.specs.Editing.{entry_of};
+ghost use Rattle.wm_state.specs.State.{Session as SessionState};
+
+use crate::conflict::{clash_refusal, rebase_refusal};
+use crate::leaving::{keeping_refusal, leaving_refusal, naming_refusal};
+use crate::ready::{are_ready, has_turn, is_long};
+use crate::refreshing::{is_quiet, push_gain};
+use std::alloc::Global;
+use wm_base::{Memory, Name, Refusal};
+use wm_image::Image;
+use wm_pending::clash::{Clash, first_clash};
+use wm_pending::gained::gained;
+use wm_pending::net::net_own;
+use wm_pending::own::own_pieces;
+use wm_plan::answer::Answer;
+use wm_plan::planned::Planned;
+use wm_plan::refuse::{at_its_end, no_parent, no_workspace, not_built};
+use wm_plan::seating::Seating;
+use wm_plan::session::Session;
+use wm_plan::work::is_spent;
+use wm_spec::record::Space;
+use wm_state::edit::{Edit, NewEntry};
+
+/// What a merge is asked to do besides: to keep the parent in an implicit savepoint first, and to remove the workspace
+/// behind it.
+#[derive(Clone, Copy)]
+pub struct Asked {
+    pub keeps: bool,
+    pub removes: bool,
+}
+
+/// A workspace and its parent.
+#[derive(Clone, Copy)]
+struct Family<'a> {
+    space: &'a Space,
+    parent: &'a Space,
+}
+
+/// The entries of a merge: what comes into the parent, and what the log of the workspace gains.
+#[derive(Drop)]
+struct Brought {
+    own: Vec<NewEntry>,
+    gained: Vec<NewEntry>,
+}
+
+/// Whether nothing is to be merged, and nothing is pending.
+fn is_even(family: Family<'_>, own: &[NewEntry]) -> bool
+    ensures { result ≡ is_even_at family.entry.space.now family.entry.parent.now (map entry_of own.now) }
+{
+    own.is_empty() && is_quiet(family.space, family.parent)
+}
+
+/// What a merge is refused for.
+fn merging_refusal(
+    alloc: Global,
+    image: &Image,
+    sessions: &[Session],
+    family: Family<'_>,
+    asked: Asked,
+    found: Option<Clash>,
+    own: &[NewEntry],
+) -> Result<Option<Refusal>, Memory>
+    requires rules { keep_rules (parts_of image.now) ≡ true }
+    ensures { IfOk result (λ fault. fault ≡ merging_refusal (asked_view asked) (parts_of image.now) sessions.now family.entry.space.now family.entry.parent.now (option_map clashed found) (map entry_of own.now)) }
+{
+    if let Some(refusal) = naming_refusal(alloc, image, family.parent, asked.keeps)? {
+        return Ok(Some(refusal));
+    }
+    if let Some(refusal) = leaving_refusal(alloc, image, sessions, family.space, asked.removes)? {
+        return Ok(Some(refusal));
+    }
+    if let Some(refusal) = clash_refusal(alloc, image, found)? {
+        return Ok(Some(refusal));
+    }
+    if let Some(refusal) = keeping_refusal(alloc, image, family.parent, asked.keeps)? {
+        return Ok(Some(refusal));
+    }
+    if is_even(family, own) {
+        return Ok(None);
+    }
+    rebase_refusal(alloc, family.space)
+}
+
+/// Puts the edits by which a workspace goes, or stands on its parent, behind others.
+fn push_after(
+    edits: &mut Vec<Edit>,
+    space: u32,
+    removes: bool,
+    even: bool,
+    gained: Vec<NewEntry>,
+) -> Result<(), Memory>
+    ensures { OnOk result (edits.new.items ≡ edits.old.items ++ after_edits removes even space gained) }
+{
+    if removes {
+        edits.push(Edit::Remove { space })?;
+        return Ok(());
+    }
+    if even {
+        return Ok(());
+    }
+    edits.push(Edit::Rebase {
+        space,
+        emptied: true,
+    })?;
+    push_gain(edits, space, gained)
+}
+
+/// The edits of a merge.
+fn merge_edits(
+    alloc: Global,
+    family: Family<'_>,
+    asked: Asked,
+    even: bool,
+    brought: Brought,
+) -> Result<Vec<Edit>, Memory>
+    ensures { IfOk result (λ edits. edits.items ≡ merge_edits (asked_view asked) even family.entry.space.now.number family.entry.parent.now.number brought.own brought.gained) }
+{
+    let mut edits = Vec::new(alloc);
+    if asked.keeps {
+        edits.push(Edit::Keep {
+            space: family.parent.number,
+        })?;
+    }
+    if !brought.own.is_empty() {
+        edits.push(Edit::Replay {
+            space: family.parent.number,
+            entries: brought.own,
+        })?;
+    }
+    push_after(
+        &mut edits,
+        family.space.number,
+        asked.removes,
+        even,
+        brought.gained,
+    )?;
+    Ok(edits)
+}
+
+/// A workspace for which nothing refuses it is merged, unless a counter is at its end.
+fn merge_with(
+    alloc: Global,
+    image: &Image,
+    moment: u64,
+    family: Family<'_>,
+    asked: Asked,
+    brought: Brought,
+) -> Result<Planned, Memory>
+    requires rules { keep_rules (parts_of image.now) ≡ true }
+    requires moment { moment < END }
+    ensures does { IfOk result (λ p. (xs : List SessionState) (session : SessionState) (workspace : List ℕ) → Merges image.now moment xs session (asked_view asked) workspace family.entry.space.now family.entry.parent.now (map entry_of brought.own.items) (map entry_of brought.gained.items) → DoesIt image.now xs moment p (merge_workspace session (asked_view asked) workspace)) }
+    ensures idle { IfOk result Idles }
+{
+    let even = is_even(family, brought.own.as_slice());
+    if even && !(asked.keeps || asked.removes) {
+        return Ok(Planned::answered(alloc, Answer::Fine));
+    }
+    let space = family.space;
+    if is_long(family.parent.log_length, brought.own.len())
+        || is_long(space.log_length, brought.gained.len())
+    {
+        return Ok(Planned::answered(alloc, at_its_end(alloc, b"LOG")?));
+    }
+    if is_spent(&image.counters()) {
+        return Ok(Planned::answered(alloc, at_its_end(alloc, b"WORK")?));
+    }
+    let turn = u64::from(space.rebases) + 1;
+    let ready = are_ready(image, brought.own.as_slice())
+        && are_ready(image, brought.gained.as_slice());
+    if !ready || has_turn(image, space.number, turn) {
+        return Ok(Planned::answered(alloc, not_built()));
+    }
+    Ok(Planned {
+        edits: merge_edits(alloc, family, asked, even, brought)?,
+        seating: Seating::Stay,
+        answer: Answer::Fine,
+    })
+}
+
+/// A workspace that is not LIVE is merged into its parent.
+fn merge_into(
+    alloc: Global,
+    image: &Image,
+    sessions: &[Session],
+    moment: u64,
+    session: &Session,
+    family: Family<'_>,
+    asked: Asked,
+) -> Result<Planned, Memory>
+    requires rules { keep_rules (parts_of image.now) ≡ true }
+    requires moment { moment < END }
+    ensures does { IfOk result (λ p. (workspace : List ℕ) → NamesFamily image.now workspace family.entry.space.now family.entry.parent.now → DoesIt image.now sessions.now moment p (merge_workspace session.now (asked_view asked) workspace)) }
+    ensures idle { IfOk result Idles }
+{
+    let Family { space, parent } = family;
+    let user = session.user();
+    let pieces = own_pieces(alloc, image, space)?;
+    let found = first_clash(alloc, image, space, parent, pieces.as_slice())?;
+    let own = net_own(alloc, image, space, pieces.as_slice(), moment, user)?;
+    if let Some(refusal) = merging_refusal(
+        alloc,
+        image,
+        sessions,
+        family,
+        asked,
+        found,
+        own.as_slice(),
+    )? {
+        return Ok(Planned::answered(alloc, Answer::Refused(refusal)));
+    }
+    let gained = gained(alloc, image, space, parent, pieces.as_slice(), moment, user)?;
+    merge_with(alloc, image, moment, family, asked, Brought { own, gained })
+}
+
+/// MergeWorkspace brings what a workspace, which is not LIVE, has of its own into its parent.
+pub fn merge_workspace(
+    alloc: Global,
+    image: &Image,
+    sessions: &[Session],
+    moment: u64,
+    session: &Session,
+    asked: Asked,
+    name: &[u8],
+) -> Result<Planned, Memory>
+    requires rules { keep_rules (parts_of image.now) ≡ true }
+    requires moment { moment < END }
+    ensures does { IfOk result (λ p. DoesIt image.now sessions.now moment p (merge_workspace session.now (asked_view asked) name.now)) }
+    ensures idle { IfOk result Idles }
+{
+    let Some(space) = image.space_named(name) else {
+        return Ok(Planned::answered(alloc, no_workspace(Name::copy_of(alloc, name)?)));
+    };
+    if space.number == 0 {
+        return Ok(Planned::answered(alloc, no_parent(Name::copy_of(alloc, name)?)));
+    }
+    let parent = image.space(space.parent).unwrap();
+    merge_into(
+        alloc,
+        image,
+        sessions,
+        moment,
+        session,
+        Family { space, parent },
+        asked,
+    )
+}
