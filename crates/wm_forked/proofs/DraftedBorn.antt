@@ -42,6 +42,7 @@ use Rattle.wm_forked.proofs.Points.{MadeAt, MakesAt, is_point, made_as, made_the
 use Rattle.wm_state.proofs.RowsStay.{AwayFrom, below_apart, row_apart, rows_stay}
 use Rattle.wm_state.proofs.Settled.{Places, PlacesApart, places_apart}
 use Rattle.wm_state.proofs.Spaces.{IsSpace, next_space_same, next_space_there, numbers_under}
+use Rattle.wm_state.proofs.Tests.{bool_apart}
 use Rattle.wm_state.proofs.WorkedOn.{counted_put, first_change}
 
 -- ---- the savepoint

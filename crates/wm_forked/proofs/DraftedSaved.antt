@@ -32,6 +32,7 @@ use Rattle.wm_forked.proofs.Points.{MakesAt, made_as, made_there, may_save}
 use Rattle.wm_state.proofs.RowsStay.{new_apart, row_apart, rows_stay}
 use Rattle.wm_state.proofs.Settled.{Places, PlacesApart, places_apart}
 use Rattle.wm_state.proofs.Spaces.{IsSpace, space_there}
+use Rattle.wm_state.proofs.Tests.{bool_apart}
 use Rattle.wm_state.proofs.WorkedOn.{counted_put, first_change}
 
 -- ---- the workspace
