@@ -14,21 +14,58 @@ use wm_terms::depth::DEPTH;
 use wm_terms::error::ParseError;
 use wm_terms::operands::plain_operand;
 
+/// An expression in a box.
+fn boxed(alloc: Global, inner: Expr) -> Result<Box<Expr>, ParseError>
+    ensures ok { IfOk result (λ b. b.value ≡ inner) }
+    ensures err { IfErr result (λ e. e ≡ Memory) }
+{
+    match Box::new(alloc, inner) {
+        Ok(made) => Ok(made),
+        Err(failed) => {
+            drop(failed);
+            Err(ParseError::Memory)
+        }
+    }
+}
+
+/// Two operands, each in a box.
+fn both_boxed(alloc: Global, left: Expr, right: Expr) -> Result<(Box<Expr>, Box<Expr>), ParseError>
+    ensures left { IfOk result (λ p. p.0.value ≡ left) }
+    ensures right { IfOk result (λ p. p.1.value ≡ right) }
+    ensures err { IfErr result (λ e. e ≡ Memory) }
+{
+    match boxed(alloc, left) {
+        Ok(one) => match boxed(alloc, right) {
+            Ok(other) => Ok((one, other)),
+            Err(fault) => {
+                drop(one);
+                Err(fault)
+            }
+        },
+        Err(fault) => {
+            drop(right);
+            Err(fault)
+        }
+    }
+}
+
 fn product_of(alloc: Global, left: Expr, right: Expr) -> Result<Expr, ParseError>
     ensures ok { IfOk result (λ x. expr_view x ≡ Mul (expr_view left) (expr_view right)) }
     ensures err { IfErr result (λ e. e ≡ Memory) }
 {
-    Ok(Expr::Mul(Box::new(alloc, left)?, Box::new(alloc, right)?))
+    let (one, other) = both_boxed(alloc, left, right)?;
+    Ok(Expr::Mul(one, other))
 }
 
 fn sum_of(alloc: Global, minus: bool, left: Expr, right: Expr) -> Result<Expr, ParseError>
     ensures ok { IfOk result (λ x. expr_view x ≡ signed minus (expr_view left) (expr_view right)) }
     ensures err { IfErr result (λ e. e ≡ Memory) }
 {
+    let (one, other) = both_boxed(alloc, left, right)?;
     if minus {
-        return Ok(Expr::Sub(Box::new(alloc, left)?, Box::new(alloc, right)?));
+        return Ok(Expr::Sub(one, other));
     }
-    Ok(Expr::Add(Box::new(alloc, left)?, Box::new(alloc, right)?))
+    Ok(Expr::Add(one, other))
 }
 
 /// A factor, in which at most `depth` parentheses and signs are open.

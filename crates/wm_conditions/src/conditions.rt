@@ -3,6 +3,7 @@ ghost use Rattle.wm_base.specs.Trees.{And, Or, Not, Compare, IsNull, OneOf, Betw
 ghost use Rattle.wm_base.specs.Views.{cond_view, filter_view};
 ghost use Rattle.wm_grammar.specs.ExpressionReaders.{comparison_at, next_constant_at, constant_list_at, chosen_at, test_of_at, test_at, and_at, conj_at, or_at, cond_of_at, negation_at, condition_at};
 ghost use Rattle.wm_grammar.specs.QueryReaders.{filter_at};
+ghost use Rattle.wm_conditions.specs.Parts.{null_at, listed_at, high_at, bounds_at, compared_at};
 ghost use Rattle.wm_terms.specs.Telling.{Told};
 ghost use Rattle.wm_terms.specs.declared.error.ParseError.TheVariants.{Memory};
 
@@ -163,6 +164,45 @@ fn or_of(alloc: Global, left: Box<Cond>, right: Box<Cond>) -> Result<Box<Cond>, 
     boxed(alloc, Cond::Or(left, right))
 }
 
+/// The list behind IN.
+fn listed(cursor: &mut Cursor, alloc: Global) -> Result<Consts, ParseError>
+    ensures { Told (λ ks. ks) result cursor.new (listed_at cursor.old) }
+{
+    cursor.mark(Sort::In)?;
+    cursor.mark(Sort::Open)?;
+    let list = constant_list(cursor, alloc)?;
+    match cursor.mark(Sort::Close) {
+        Ok(()) => Ok(list),
+        Err(fault) => {
+            drop(list);
+            Err(fault)
+        }
+    }
+}
+
+/// The upper bound, behind AND.
+fn high(cursor: &mut Cursor, alloc: Global) -> Result<Operand, ParseError>
+    ensures { Told (λ x. x) result cursor.new (high_at cursor.old) }
+{
+    cursor.mark(Sort::And)?;
+    operand(cursor, alloc)
+}
+
+/// The bounds behind BETWEEN.
+fn bounds(cursor: &mut Cursor, alloc: Global) -> Result<(Operand, Operand), ParseError>
+    ensures { Told (λ p. p) result cursor.new (bounds_at cursor.old) }
+{
+    cursor.mark(Sort::Between)?;
+    let low = operand(cursor, alloc)?;
+    match high(cursor, alloc) {
+        Ok(high) => Ok((low, high)),
+        Err(fault) => {
+            drop(low);
+            Err(fault)
+        }
+    }
+}
+
 /// What follows an operand and perhaps NOT: IN or BETWEEN.
 #[tactic(auto, unfolding(wm_grammar::specs::ExpressionReaders::chosen_at))]
 fn chosen(
@@ -174,19 +214,43 @@ fn chosen(
     ensures { Told (λ b. cond_view b.value) result cursor.new (chosen_at what negated cursor.old) }
 {
     if cursor.is(Sort::In) {
-        cursor.mark(Sort::In)?;
-        cursor.mark(Sort::Open)?;
-        let list = constant_list(cursor, alloc)?;
-        cursor.mark(Sort::Close)?;
-        let found = one_of(alloc, what, negated, list)?;
-        return Ok(found);
+        return match listed(cursor, alloc) {
+            Ok(list) => one_of(alloc, what, negated, list),
+            Err(fault) => {
+                drop(what);
+                Err(fault)
+            }
+        };
     }
-    cursor.mark(Sort::Between)?;
-    let low = operand(cursor, alloc)?;
-    cursor.mark(Sort::And)?;
-    let high = operand(cursor, alloc)?;
-    let found = between(alloc, what, negated, low, high)?;
-    Ok(found)
+    match bounds(cursor, alloc) {
+        Ok((low, high)) => between(alloc, what, negated, low, high),
+        Err(fault) => {
+            drop(what);
+            Err(fault)
+        }
+    }
+}
+
+/// IS NULL, and whether it is negated.
+fn null_mark(cursor: &mut Cursor) -> Result<bool, ParseError>
+    ensures { Told (λ b. b) result cursor.new (null_at cursor.old) }
+{
+    cursor.mark(Sort::Is)?;
+    let negated = cursor.is(Sort::Not);
+    if negated {
+        cursor.mark(Sort::Not)?;
+    }
+    cursor.mark(Sort::Null)?;
+    Ok(negated)
+}
+
+/// A mark that compares, and the operand behind it.
+fn compared(cursor: &mut Cursor, alloc: Global) -> Result<(Cmp, Operand), ParseError>
+    ensures { Told (λ p. p) result cursor.new (compared_at cursor.old) }
+{
+    let cmp = comparison(cursor)?;
+    let right = operand(cursor, alloc)?;
+    Ok((cmp, right))
 }
 
 /// What makes a test of an operand.
@@ -195,18 +259,22 @@ fn test_of(cursor: &mut Cursor, alloc: Global, what: Operand) -> Result<Box<Cond
     ensures { Told (λ b. cond_view b.value) result cursor.new (test_of_at what cursor.old) }
 {
     if cursor.is(Sort::Is) {
-        cursor.mark(Sort::Is)?;
-        let negated = cursor.is(Sort::Not);
-        if negated {
-            cursor.mark(Sort::Not)?;
-        }
-        cursor.mark(Sort::Null)?;
-        let found = null_test(alloc, what, negated)?;
-        return Ok(found);
+        return match null_mark(cursor) {
+            Ok(negated) => null_test(alloc, what, negated),
+            Err(fault) => {
+                drop(what);
+                Err(fault)
+            }
+        };
     }
     if cursor.is(Sort::Not) {
-        cursor.mark(Sort::Not)?;
-        return chosen(cursor, alloc, what, true);
+        return match cursor.mark(Sort::Not) {
+            Ok(()) => chosen(cursor, alloc, what, true),
+            Err(fault) => {
+                drop(what);
+                Err(fault)
+            }
+        };
     }
     if cursor.is_any(&[
         Sort::Eq,
@@ -217,10 +285,13 @@ fn test_of(cursor: &mut Cursor, alloc: Global, what: Operand) -> Result<Box<Cond
         Sort::Gt,
         Sort::Ge,
     ]) {
-        let cmp = comparison(cursor)?;
-        let right = operand(cursor, alloc)?;
-        let found = comparison_of(alloc, what, cmp, right)?;
-        return Ok(found);
+        return match compared(cursor, alloc) {
+            Ok((cmp, right)) => comparison_of(alloc, what, cmp, right),
+            Err(fault) => {
+                drop(what);
+                Err(fault)
+            }
+        };
     }
     chosen(cursor, alloc, what, false)
 }
