@@ -16,8 +16,8 @@ use Rattle.wm_graph.specs.Rules.{as_drawn}
 use Rattle.wm_state.specs.Batches.{is_out}
 use Rattle.wm_state.specs.ById.{Ascend}
 use Rattle.wm_state.specs.Drawing.{left_by}
-use Rattle.wm_image.specs.Shown.{kind_at}
-use Rattle.wm_image.specs.Sought.{Sought, ids_with, is_sought}
+use Rattle.wm_index.specs.Kinds.{kind_at}
+use Rattle.wm_index.specs.Sought.{Sought, ids_with, is_sought}
 use Rattle.wm_changes.proofs.Dropping.{filter-with}
 use Rattle.wm_append.specs.Layers.{sought_in, view_of}
 use Rattle.wm_append.specs.Redraw.{IsDraft, IsRedrawn, met, unmet}

@@ -29,12 +29,13 @@ use Rattle.wm_state.proofs.Tests.{both, bool_apart, and_true, all_if, all_push, 
 use Rattle.wm_written.proofs.Touched.{clear-append, met-place, touched-passes}
 use Rattle.wm_changes.proofs.Dropping.{told-with, differ-with, filter-with}
 use Rattle.wm_changes.proofs.DroppingAll.{differ-append, dropped-append, there-with, there_all}
-use Rattle.wm_image.proofs.Finding.{all_of, filter-kind}
-use Rattle.wm_image.proofs.Lists.{record_at-here, record_at-away, taken-with}
+use Rattle.wm_index.proofs.Finding.{all_of, filter-kind}
+use Rattle.wm_image.proofs.Lists.{taken-with}
+use Rattle.wm_index.proofs.Lists.{record_at-here, record_at-away}
 use Rattle.wm_append.specs.Redraw.{IsRedrawn, IsAtKey, IsDraft, are_ascending, hand_cells, is_at_hand, is_left, is_of_version, is_touched, met, spot, spot_order, unmet}
 use Rattle.wm_append.specs.Views.{View, drawn_in, ids_of_key, keeps_in}
-use Rattle.wm_image.specs.Shown.{kind_at}
-use Rattle.wm_image.specs.Sought.{ids_with}
+use Rattle.wm_index.specs.Kinds.{kind_at}
+use Rattle.wm_index.specs.Sought.{ids_with}
 
 -- ---- tables and keys in order
 

@@ -16,7 +16,7 @@ use Rattle.wm_state.specs.Drawing.{is_clear}
 use Rattle.wm_state.specs.Touching.{drawn_all, drawn_as, is_unmet}
 use Rattle.wm_state.specs.Writes.{keeps_both}
 use Rattle.wm_written.proofs.Touching.{view-apart}
-use Rattle.wm_image.proofs.Finding.{all_of}
+use Rattle.wm_index.proofs.Finding.{all_of}
 use Rattle.wm_changes.proofs.DroppingAll.{differ-append, dropped-append}
 use Rattle.wm_append.proofs.Redrawing.{dropped_there}
 use Rattle.wm_append.specs.Layers.{touch_in}

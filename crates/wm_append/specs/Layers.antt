@@ -4,7 +4,7 @@ use Rattle.wm_base.specs.declared.value.Value.{Value}
 use Rattle.wm_graph.specs.Parts.{as_piece}
 use Rattle.wm_spec.specs.declared.record.Record.TheVariants as records
 use Rattle.wm_state.specs.Touching.{drawn_as}
-use Rattle.wm_image.specs.Sought.{Sought, PiecesAt, TouchesAt}
+use Rattle.wm_index.specs.Sought.{Sought, PiecesAt, TouchesAt}
 use Rattle.wm_append.specs.Views.{View}
 use Rattle.wm_append.specs.declared.redraw.layer.Layer.{Layer}
 use Rattle.wm_append.specs.declared.redraw.layer.Layer.TheVariants as layers

@@ -14,7 +14,7 @@ use Rattle.wm_spec.specs.declared.record.piece.PieceRecord.{PieceRecord}
 use Rattle.wm_spec.specs.declared.record.stored.Stored.{Stored}
 use Rattle.wm_state.specs.Batches.{AreDropped, is_in}
 use Rattle.wm_state.specs.Drawing.{AreDrawn, has_moments, is_clear, touched}
-use Rattle.wm_image.specs.Sought.{ids_with}
+use Rattle.wm_index.specs.Sought.{ids_with}
 use Rattle.wm_append.specs.Views.{View, drawn_in, keeps_in}
 
 -- ---- what is asked of new pieces

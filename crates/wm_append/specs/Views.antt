@@ -9,7 +9,7 @@ use Rattle.wm_spec.specs.declared.record.Record.{Record}
 use Rattle.wm_spec.specs.declared.record.piece.PieceRecord.{PieceRecord}
 use Rattle.wm_spec.specs.declared.record.stored.Stored.{Stored}
 use Rattle.wm_state.specs.Batches.{is_out}
-use Rattle.wm_image.specs.Sought.{Sought, ids_with, is_sought}
+use Rattle.wm_index.specs.Sought.{Sought, ids_with, is_sought}
 
 -- records as pieces, those of a kind
 abbrev pub View : Type 0

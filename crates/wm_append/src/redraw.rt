@@ -7,7 +7,7 @@ ghost use Rattle.wm_graph.specs.Rules.{collide, differ};
 ghost use Rattle.wm_append.specs.Layers.{view_of};
 ghost use Rattle.wm_append.specs.Redraw.{AreNewsOf, IsDraft, IsRedrawn, are_ascending, hand_cells, is_at_hand, is_of_version, met, unmet};
 ghost use Rattle.wm_append.specs.Views.{drawn_in, has_version, ids_of_key};
-ghost use Rattle.wm_image.specs.Shown.{kind_at};
+ghost use Rattle.wm_index.specs.Kinds.{kind_at};
 ghost use Rattle.wm_spec.specs.Records.{record_at};
 ghost use Rattle.wm_spec.specs.declared.record.piece.PieceRecord.{PieceRecord as OnePiece};
 ghost use Rattle.wm_state.specs.ById.{Ascend};

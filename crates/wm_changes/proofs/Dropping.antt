@@ -7,8 +7,8 @@ use Rattle.wm_spec.specs.declared.record.Record.{Record}
 use Rattle.wm_spec.specs.declared.record.stored.Stored.{Stored}
 use Rattle.wm_state.specs.Batches.{is_dropped}
 use Rattle.wm_state.specs.ById.{AllAbove, Ascend}
-use Rattle.wm_image.proofs.Lists.{record_at-none, record_at-here, record_at-away}
-use Rattle.wm_image.specs.Sought.{ids_with}
+use Rattle.wm_index.proofs.Lists.{record_at-none, record_at-here, record_at-away}
+use Rattle.wm_index.specs.Sought.{ids_with}
 
 pub none_some : (o : Option Record) (r : Record) → o ≡ None → o ≡ Some r → ⊥
 none_some o r none some = cc

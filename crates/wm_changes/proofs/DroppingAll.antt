@@ -8,8 +8,8 @@ use Rattle.wm_spec.specs.declared.record.stored.Stored.{Stored}
 use Rattle.wm_state.specs.Batches.{is_dropped}
 use Rattle.wm_state.proofs.Tests.{all_if, and_true, bool_apart}
 use Rattle.wm_changes.proofs.Dropping.{none_some}
-use Rattle.wm_image.proofs.Lists.{record_at-here, record_at-away}
-use Rattle.wm_image.specs.Sought.{ids_with}
+use Rattle.wm_index.proofs.Lists.{record_at-here, record_at-away}
+use Rattle.wm_index.specs.Sought.{ids_with}
 
 -- ---- which ids they are
 

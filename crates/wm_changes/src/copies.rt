@@ -3,7 +3,7 @@ ghost use Rattle.std.specs.Prelude.{◌≡◌, IfOk};
 
 use std::alloc::Global;
 use wm_base::Memory;
-use wm_image::copies::table_copy;
+use wm_index::copies::table_copy;
 use wm_spec::record::{
     CellRange, Change, Changes, Hist, Lock, PieceRecord, Record, RowRecord, Savepoint, Space, Trace,
 };

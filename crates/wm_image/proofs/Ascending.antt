@@ -1,24 +1,21 @@
 -- The ids that an index has ascend.
-use Rattle.std.proofs.Common.{◌≡◌, ℕ, ◌<◌, Bool, true, false, cond, eqb, List, [], ◌∷◌, None, sym, ap, ◌∙◌, subst}
-use Rattle.std.proofs.lemmas.Bool.{lt-ltb}
+use Rattle.std.proofs.Common.{◌≡◌, ℕ, Bool, true, false, cond, List, [], ◌∷◌, None, sym, ap, ◌∙◌, subst}
 use Rattle.std.specs.BTreeMap.{BTreeMap}
 use Rattle.std.specs.List.{AllByRecursion}
 use Rattle.std.specs.List.Sorted.{IsStrictlySortedBy}
 use Rattle.std.specs.Ordering.{nat_cmp}
-use Rattle.std.specs.declared.cmp.Ordering.TheVariants.{Less, Equal, Greater}
+use Rattle.std.specs.declared.cmp.Ordering.TheVariants.{Less}
 use Rattle.wm_spec.specs.Records.{record_at}
 use Rattle.wm_spec.specs.declared.record.Record.{Record}
 use Rattle.wm_spec.specs.declared.record.stored.Stored.{Stored}
 use Rattle.wm_state.specs.ById.{AllAbove, Ascend, set_at}
 use Rattle.wm_state.proofs.ById.{Ascend-set}
+use Rattle.wm_index.proofs.IdLists.{less_is}
 use Rattle.wm_image.proofs.Listed.{Ascend-listed}
 use Rattle.wm_image.proofs.Lists.{ids_with-set}
-use Rattle.wm_image.specs.Indexed.{IdsAscend, IsIndexed, ids_at, listed}
-use Rattle.wm_image.specs.Sought.{Sought, is_sought, ids_less, ids_with}
-use Rattle.wm_image.specs.declared.index.Index.{Index}
-
-less_is : (m n : ℕ) → m < n → nat_cmp m n ≡ Less
-less_is m n lt = ap (λ b. cond b Less (cond (eqb m n) Equal Greater)) (lt-ltb m n lt)
+use Rattle.wm_index.specs.Indexed.{IdsAscend, IsIndexed, ids_at, listed}
+use Rattle.wm_index.specs.Sought.{Sought, is_sought, ids_less, ids_with}
+use Rattle.wm_index.specs.declared.index.Index.{Index}
 
 above-with : (p : Record → Bool) (id : ℕ) (ss : List Stored) → AllAbove id ss → AllByRecursion (λ k. nat_cmp id k ≡ Less) (ids_with p ss)
 above-with p id [] above = tt

@@ -15,8 +15,9 @@ use Rattle.wm_spec.specs.declared.record.table.Table.{Table}
 use Rattle.wm_state.specs.ById.{perhaps_before, set_at}
 use Rattle.wm_state.specs.Standing.{by_number, place_table}
 use Rattle.wm_state.proofs.Tests.{bool_apart, both, and_true, either_false, not_true}
-use Rattle.wm_image.proofs.Lists.{record_at-here, record_at-away}
-use Rattle.wm_image.specs.Indexed.{IsCatalog, listed}
+use Rattle.wm_index.proofs.Lists.{record_at-here, record_at-away}
+use Rattle.wm_index.specs.Indexed.{listed}
+use Rattle.wm_image.specs.Cataloged.{IsCatalog}
 
 -- ---- a table among others
 

@@ -37,7 +37,7 @@ use Rattle.wm_image.proofs.Spans.{maximal, value}
 use Rattle.wm_image.proofs.Spanning.{stretches_are, shown_keyed}
 use Rattle.wm_image.specs.Listing.{AddsRows, IsKeyShowing, shown_on}
 use Rattle.wm_image.specs.Standing.{stretches_on}
-use Rattle.wm_image.specs.Sought.{PiecesAt, is_sought}
+use Rattle.wm_index.specs.Sought.{PiecesAt, is_sought}
 
 -- ---- nothing is held from the end of time on
 

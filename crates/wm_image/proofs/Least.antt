@@ -14,7 +14,8 @@ use Rattle.wm_state.specs.Standing.{space_after}
 use Rattle.wm_state.proofs.Apart.{ruled}
 use Rattle.wm_state.proofs.Tests.{bool_apart, both, found_fails, not_true}
 use Rattle.wm_image.proofs.Coming.{spaces_over}
-use Rattle.wm_image.specs.Shown.{kind_at, least, lesser, passing}
+use Rattle.wm_index.specs.Kinds.{kind_at, passing}
+use Rattle.wm_image.specs.Shown.{least, lesser}
 
 -- ---- the lesser of two
 

@@ -1,31 +1,21 @@
--- Records of a map, as a list by id.
-use Rattle.std.proofs.Common.{◌≡◌, ◌≢◌, ℕ, ◌<◌, ◌≤◌, ◌+◌, ◌^◌, ◌==◌, nat_lt, Bool, true, false, cond, List, [], ◌∷◌, ◌++◌, map, length, Option, Some, None, is_some, refl, sym, ap, subst, ◌∙◌, ◌⊎◌, inl, inr, ⊎_elim, arith}
-use Rattle.std.proofs.lemmas.Bool.{cases_eq, cases_lt, eq-eqb, ne_eqb, lt-ltb}
+-- Records of a map, as a list by id, changed at one id and by batches.
+use Rattle.std.proofs.Common.{◌≡◌, ℕ, ◌==◌, cond, List, [], ◌∷◌, ◌++◌, Option, refl, sym, ap, ◌∙◌}
 use Rattle.std.proofs.lemmas.Map.Keys.{sorted_head, sorted_tail}
-use Rattle.std.specs.BTreeMap.{BTreeMap, is_at}
+use Rattle.std.specs.BTreeMap.{is_at}
 use Rattle.std.specs.List.{AllByRecursion}
 use Rattle.std.specs.List.Sorted.{IsStrictlySortedBy}
 use Rattle.std.specs.Map.{lookup, keys_of}
-use Rattle.std.specs.Option.{IsSome, IfSome, IfNone, SomeIff}
-use Rattle.std.specs.Ordering.{nat_cmp, is_lt}
-use Rattle.std.specs.declared.cmp.Ordering.TheVariants.{Less, Equal, Greater}
-use Rattle.wm_spec.specs.Records.{record_at}
+use Rattle.std.specs.Ordering.{nat_cmp}
+use Rattle.std.specs.declared.cmp.Ordering.TheVariants.{Less}
 use Rattle.wm_spec.specs.declared.record.Record.{Record}
 use Rattle.wm_spec.specs.declared.record.batch.Change.{Change}
 use Rattle.wm_spec.specs.declared.record.stored.Stored.{Stored}
 use Rattle.wm_state.specs.ById.{AllAbove, Ascend, set_at, applied}
 use Rattle.wm_state.proofs.ById.{one_order, Ascend-set, record_at-set}
-use Rattle.wm_image.proofs.Lists.{record_at-none}
-use Rattle.wm_image.proofs.TableLists.{is_at-number}
-use Rattle.wm_image.specs.Indexed.{listed}
-
-less_than : (m n : ℕ) → nat_cmp m n ≡ Less → m < n
-less_than m n e = by_test (nat_lt m n) (m == n) refl e
-  where
-    by_test : (a b : Bool) → nat_lt m n ≡ a → cond a Less (cond b Equal Greater) ≡ Less → m < n
-    by_test true b lt h = grind (arith, lt)
-    by_test false true lt h = cc
-    by_test false false lt h = cc
+use Rattle.wm_index.proofs.IdLists.{less_than}
+use Rattle.wm_index.proofs.Listed.{record_at-listed, same_test}
+use Rattle.wm_index.proofs.TableLists.{is_at-number}
+use Rattle.wm_index.specs.Indexed.{listed}
 
 AllAbove-listed : (id : ℕ) (es : List (ℕ × Record)) → AllByRecursion (λ k. nat_cmp id k ≡ Less) (keys_of es) → AllAbove id (listed es)
 AllAbove-listed id [] above = tt
@@ -35,20 +25,6 @@ pub Ascend-listed : (es : List (ℕ × Record)) → IsStrictlySortedBy nat_cmp (
 Ascend-listed [] sorted = tt
 Ascend-listed (e ∷ es) sorted =
     (AllAbove-listed e.0 es (sorted_head nat_cmp e.0 (keys_of es) sorted), Ascend-listed es (sorted_tail nat_cmp e.0 (keys_of es) sorted))
-
-pub same_test : (m n : ℕ) → (m == n) ≡ (n == m)
-same_test m n = by_number (cases_eq m n)
-  where
-    by_number : (m ≡ n) ⊎ (m ≢ n) → (m == n) ≡ (n == m)
-    by_number (inl same) = eq-eqb m n same ∙ sym (eq-eqb n m (sym same))
-    by_number (inr apart) = ne_eqb m n apart ∙ sym (ne_eqb n m (λ e. apart (sym e)))
-
-pub record_at-listed : (es : List (ℕ × Record)) (id : ℕ) → record_at (listed es) id ≡ lookup (is_at (nat_cmp id)) es
-unfolding record_at
-record_at-listed [] id = refl
-record_at-listed (e ∷ es) id =
-    ap (λ o. cond (e.0 == id) (Some e.1) o) (record_at-listed es id)
-    ∙ ap (λ b. cond b (Some e.1) (lookup (is_at (nat_cmp id)) es)) (same_test e.0 id ∙ sym (is_at-number id e.0))
 
 -- a map that was changed at one id
 pub listed-set : (old new : List (ℕ × Record)) (id : ℕ) (becomes : Option Record)
@@ -67,51 +43,3 @@ listed-set old new id becomes sorted_old sorted_new updates =
 pub applied-push : (cs : List Change) (c : Change) (ss : List Stored) → applied (cs ++ c ∷ []) ss ≡ set_at c.id c.becomes (applied cs ss)
 applied-push [] c ss = refl
 applied-push (d ∷ ds) c ss = applied-push ds c (set_at d.id d.becomes ss)
-
-map_same : (es : List (ℕ × Record)) → map (λ (p : ℕ × Record). p) es ≡ es
-map_same [] = refl
-map_same (e ∷ es) = ap (λ l. e ∷ l) (map_same es)
-
-pub listed-same : (es fs : List (ℕ × Record)) → map (λ (p : ℕ × Record). p) es ≡ fs → listed es ≡ listed fs
-listed-same es fs e = ap listed (sym (map_same es) ∙ e)
-
--- above the greatest key there is nothing
-pub above_last : (m : BTreeMap ℕ Record) (k : ℕ) → ((q : ℕ) → IsSome (lookup (is_at (nat_cmp q)) m.entries) → is_lt (nat_cmp k q) ≡ false) → (id : ℕ) → k < id → record_at (listed m.entries) id ≡ None
-above_last m k bound id less = record_at-listed m.entries id ∙ by_found (lookup (is_at (nat_cmp id)) m.entries) (bound id)
-  where
-    true_false : true ≡ false → ⊥
-    true_false h = cc
-
-    below : is_lt (nat_cmp k id) ≡ true
-    below = ap (λ b. is_lt (cond b Less (cond (k == id) Equal Greater))) (lt-ltb k id less)
-
-    by_found : (o : Option Record) → (IsSome o → is_lt (nat_cmp k id) ≡ false) → o ≡ None
-    by_found None b = refl
-    by_found (Some r) b = absurd (true_false (sym below ∙ b refl))
-
--- the id behind the greatest key, where there is one
-pub next_above : (m : BTreeMap ℕ Record) (k : ℕ) (next : Option ℕ) → ((id : ℕ) → k < id → record_at (listed m.entries) id ≡ None) → SomeIff next (k + 1 < 2 ^ 64) (k + 1)
-    → IfSome next (λ n. (id : ℕ) → n ≤ id → record_at (listed m.entries) id ≡ None)
-next_above m k None above h = tt
-next_above m k (Some n) above h = λ id le. above id (let is = h.1 in omega arith)
-
-pub next_full : (m : BTreeMap ℕ Record) (k : ℕ) (next : Option ℕ) (r : Record) → lookup (is_at (nat_cmp k)) m.entries ≡ Some r → SomeIff next (k + 1 < 2 ^ 64) (k + 1)
-    → IfNone next ((id : ℕ) × (2 ^ 64 ≤ id + 1) × IsSome (record_at (listed m.entries) id))
-next_full m k None r is h = (k, ⊎_elim (λ less. absurd (h less)) (λ more. more) (cases_lt (k + 1) (2 ^ 64)), ap is_some (record_at-listed m.entries k ∙ is))
-next_full m k (Some n) r is h = tt
-
--- the id before it has a record
-pub next_lowest : (m : BTreeMap ℕ Record) (k : ℕ) (next : Option ℕ) (r : Record) → lookup (is_at (nat_cmp k)) m.entries ≡ Some r → SomeIff next (k + 1 < 2 ^ 64) (k + 1)
-    → IfSome next (λ n. (id : ℕ) → n ≡ id + 1 → 0 < id → IsSome (record_at (listed m.entries) id))
-next_lowest m k None r is h = tt
-next_lowest m k (Some n) r is h = λ id e up. subst (λ i. IsSome (record_at (listed m.entries) i)) (same id e h.1) (ap is_some (record_at-listed m.entries k ∙ is))
-  where
-    same : (id : ℕ) → n ≡ id + 1 → n ≡ k + 1 → k ≡ id
-    same id e f = omega (arith, e, f)
-
-pub none_there : (m : BTreeMap ℕ Record) → ((0 < length m.entries) → ⊥) → (id : ℕ) → record_at (listed m.entries) id ≡ None
-none_there m none id = by_list m.entries none
-  where
-    by_list : (es : List (ℕ × Record)) → ((0 < length es) → ⊥) → record_at (listed es) id ≡ None
-    by_list [] h = record_at-none id
-    by_list (e ∷ es) h = absurd (h (omega arith))

@@ -1,26 +1,18 @@
--- Records in the order of their ids, and the ids of some of them.
+-- The ids of records that stand by id: of those that pass a test, after a change, and in order.
 use Rattle.std.proofs.Common.{◌≡◌, ◌≢◌, ℕ, ◌<◌, ◌≤◌, Bool, true, false, cond, List, [], ◌∷◌, map, Option, Some, None, refl, sym, ap, ◌∙◌, subst, ◌⊎◌, inl, inr, arith}
 use Rattle.std.proofs.lemmas.Bool.{cases_eq, cases_lt, eq-eqb, ne_eqb, lt-ltb, le-ltb}
-use Rattle.std.specs.List.{filter, filter_map, find}
+use Rattle.std.specs.List.{AllByRecursion, filter, filter_map}
+use Rattle.std.specs.List.Sorted.{IsStrictlySortedBy}
+use Rattle.std.specs.Ordering.{nat_cmp}
+use Rattle.std.specs.declared.cmp.Ordering.TheVariants.{Less}
 use Rattle.wm_spec.specs.Records.{record_at}
 use Rattle.wm_spec.specs.declared.record.Record.{Record}
 use Rattle.wm_spec.specs.declared.record.stored.Stored.{Stored}
 use Rattle.wm_state.specs.ById.{AllAbove, Ascend, perhaps_before, set_at}
-use Rattle.wm_image.specs.Sought.{ids_with, placed, without, ids_less, ids_more, first_of}
-
--- ---- what is found
-
-pub record_at-none : (id : ℕ) → record_at [] id ≡ None
-unfolding record_at
-record_at-none id = refl
-
-pub record_at-here : (s : Stored) (ss : List Stored) (id : ℕ) → s.id ≡ id → record_at (s ∷ ss) id ≡ Some s.record
-unfolding record_at
-record_at-here s ss id e = rw (eq-eqb _ _ e) refl
-
-pub record_at-away : (s : Stored) (ss : List Stored) (id : ℕ) → s.id ≢ id → record_at (s ∷ ss) id ≡ record_at ss id
-unfolding record_at
-record_at-away s ss id e = rw (ne_eqb _ _ e) refl
+use Rattle.wm_index.proofs.IdLists.{less_is}
+use Rattle.wm_index.proofs.Lists.{ids_of, record_at-none, record_at-here, record_at-away}
+use Rattle.wm_index.proofs.Lists as index
+use Rattle.wm_index.specs.Sought.{ids_with, placed, without, ids_less, ids_more}
 
 pub record_at-above : (id : ℕ) (ss : List Stored) → AllAbove id ss → record_at ss id ≡ None
 record_at-above id [] above = record_at-none id
@@ -129,41 +121,15 @@ ids_with-set p id becomes (s ∷ ss) sorted = by_place (cases_eq s.id id) (cases
 
 -- ---- the records of ids
 
--- the ids of later records are not that of the first
-taken-away : (s : Stored) (ss : List Stored) (p : Record → Bool) (ts : List Stored) → AllAbove s.id ts → filter_map (record_at (s ∷ ss)) (ids_with p ts) ≡ filter_map (record_at ss) (ids_with p ts)
-taken-away s ss p [] above = refl
-taken-away s ss p (t ∷ ts) above = by_test (p t.record) (taken-away s ss p ts above.1)
-  where
-    by_test : (b : Bool) → filter_map (record_at (s ∷ ss)) (ids_with p ts) ≡ filter_map (record_at ss) (ids_with p ts)
-        → filter_map (record_at (s ∷ ss)) (cond b (t.id ∷ ids_with p ts) (ids_with p ts)) ≡ filter_map (record_at ss) (cond b (t.id ∷ ids_with p ts) (ids_with p ts))
-    by_test true rest = rw (record_at-away s ss t.id (λ e. absurd (let lt = above.0 in omega arith)), rest) refl
-    by_test false rest = rest
+above-ids : (id : ℕ) (ss : List Stored) → AllAbove id ss → AllByRecursion (λ k. nat_cmp id k ≡ Less) (ids_of ss)
+above-ids id [] above = tt
+above-ids id (s ∷ ss) above = (less_is id s.id above.0, above-ids id ss above.1)
+
+ids-sorted : (ss : List Stored) → Ascend ss → IsStrictlySortedBy nat_cmp (ids_of ss)
+unfolding IsStrictlySortedBy
+ids-sorted [] sorted = tt
+ids-sorted (s ∷ ss) sorted = (above-ids s.id ss sorted.0, ids-sorted ss sorted.1)
 
 -- the records of the ids that pass a test are those that pass it
 pub taken-with : (p : Record → Bool) (ss : List Stored) → Ascend ss → filter_map (record_at ss) (ids_with p ss) ≡ filter p (map (λ (s : Stored). s.record) ss)
-taken-with p [] sorted = refl
-taken-with p (s ∷ ss) sorted = by_test (p s.record) (taken-away s ss p ss sorted.0 ∙ taken-with p ss sorted.1)
-  where
-    by_test : (b : Bool) → filter_map (record_at (s ∷ ss)) (ids_with p ss) ≡ filter p (map (λ (k : Stored). k.record) ss)
-        → filter_map (record_at (s ∷ ss)) (cond b (s.id ∷ ids_with p ss) (ids_with p ss)) ≡ cond b (s.record ∷ filter p (map (λ (k : Stored). k.record) ss)) (filter p (map (λ (k : Stored). k.record) ss))
-    by_test true rest = rw (record_at-here s ss s.id refl, rest) refl
-    by_test false rest = rest
-
-first-away : (s : Stored) (ss : List Stored) (p : Record → Bool) (ts : List Stored) → AllAbove s.id ts → first_of (s ∷ ss) (ids_with p ts) ≡ first_of ss (ids_with p ts)
-first-away s ss p [] above = refl
-first-away s ss p (t ∷ ts) above = by_test (p t.record) (first-away s ss p ts above.1)
-  where
-    by_test : (b : Bool) → first_of (s ∷ ss) (ids_with p ts) ≡ first_of ss (ids_with p ts)
-        → first_of (s ∷ ss) (cond b (t.id ∷ ids_with p ts) (ids_with p ts)) ≡ first_of ss (cond b (t.id ∷ ids_with p ts) (ids_with p ts))
-    by_test true rest = record_at-away s ss t.id (λ e. absurd (let lt = above.0 in omega arith))
-    by_test false rest = rest
-
--- the record of the first id that passes a test is the first that passes it
-pub first-with : (p : Record → Bool) (ss : List Stored) → Ascend ss → first_of ss (ids_with p ss) ≡ find p (map (λ (s : Stored). s.record) ss)
-first-with p [] sorted = refl
-first-with p (s ∷ ss) sorted = by_test (p s.record) (first-away s ss p ss sorted.0 ∙ first-with p ss sorted.1)
-  where
-    by_test : (b : Bool) → first_of (s ∷ ss) (ids_with p ss) ≡ find p (map (λ (k : Stored). k.record) ss)
-        → first_of (s ∷ ss) (cond b (s.id ∷ ids_with p ss) (ids_with p ss)) ≡ cond b (Some s.record) (find p (map (λ (k : Stored). k.record) ss))
-    by_test true rest = record_at-here s ss s.id refl
-    by_test false rest = rest
+taken-with p ss sorted = index.taken-with p ss (ids-sorted ss sorted)

@@ -12,9 +12,10 @@ use Rattle.wm_spec.specs.declared.record.Record.{Record}
 use Rattle.wm_spec.specs.declared.record.stored.Stored.{Stored}
 use Rattle.wm_state.specs.ById.{AllAbove, Ascend, by_id, set_at}
 use Rattle.wm_state.proofs.ById.{one_order, Ascend-by_id, record_at-by_id, record_at-set}
-use Rattle.wm_image.proofs.Listed.{Ascend-listed, record_at-listed, same_test}
-use Rattle.wm_image.proofs.Lists.{record_at-none}
-use Rattle.wm_image.specs.Indexed.{listed}
+use Rattle.wm_index.proofs.Listed.{record_at-listed, same_test}
+use Rattle.wm_image.proofs.Listed.{Ascend-listed}
+use Rattle.wm_index.proofs.Lists.{record_at-none}
+use Rattle.wm_index.specs.Indexed.{listed}
 
 -- what is left of the records, and what was found so far
 abbrev pub Left : List Stored → List Stored → (ℕ → Option Record) → Type 0

@@ -12,14 +12,14 @@ use Rattle.wm_spec.specs.declared.record.Record.{Record}
 use Rattle.wm_spec.specs.declared.record.Record.TheVariants as records
 use Rattle.wm_spec.specs.declared.record.table.Table.{Table}
 use Rattle.wm_state.specs.Standing.{by_number, place_table}
-use Rattle.wm_image.proofs.Finding.{Tests}
-use Rattle.wm_image.proofs.Firsts.{sought_kind, filter_all}
+use Rattle.wm_index.proofs.Finding.{Tests}
+use Rattle.wm_index.proofs.Firsts.{sought_kind, filter_all}
 use Rattle.wm_state.proofs.Apart.{ruled}
 use Rattle.wm_state.proofs.Tests.{both, either_false, not_true}
-use Rattle.wm_image.specs.Indexed.{IsIndexed, ids_at, listed}
-use Rattle.wm_image.specs.Shown.{kind_at}
-use Rattle.wm_image.specs.Sought.{Tables, is_sought}
-use Rattle.wm_image.specs.declared.index.Index.{Index}
+use Rattle.wm_index.specs.Indexed.{IsIndexed, ids_at, listed}
+use Rattle.wm_index.specs.Kinds.{kind_at}
+use Rattle.wm_index.specs.Sought.{Tables, is_sought}
+use Rattle.wm_index.specs.declared.index.Index.{Index}
 
 -- ---- loops over ids
 

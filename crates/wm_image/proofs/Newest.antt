@@ -11,7 +11,7 @@ use Rattle.wm_tree.specs.Versions.{version_in, latest_in, grow, AllBelow, IsTree
 use Rattle.wm_tree.specs.declared.version.Version.{Version as Node}
 use Rattle.wm_tree.proofs.Growing.{grow-front, grow-later, version_in-grow, AllBelow-grow}
 use Rattle.wm_tree.proofs.Paths.{version_in-away, AllBelow-more}
-use Rattle.wm_image.specs.Shown.{greatest}
+use Rattle.wm_index.specs.Kinds.{greatest}
 
 -- ---- the newest of a space
 

@@ -18,13 +18,14 @@ use Rattle.wm_spec.specs.declared.record.stored.Stored.{Stored}
 use Rattle.wm_state.specs.Standing.{by_making, place_making, saved_as, saved_in}
 use Rattle.wm_state.proofs.Apart.{ruled}
 use Rattle.wm_state.proofs.Tests.{both, either_false, not_true}
-use Rattle.wm_image.proofs.Finding.{Tests}
-use Rattle.wm_image.proofs.Firsts.{sought_kind, any_sought, count_sought, find-filter}
-use Rattle.wm_image.proofs.Lasts.{LastOf, has_ids, last-same, last_told}
-use Rattle.wm_image.specs.Indexed.{IsIndexed, ids_at, listed}
-use Rattle.wm_image.specs.Shown.{after, is_saved_behind, kind_at, rests_on}
-use Rattle.wm_image.specs.Sought.{SavepointAt, SavepointsOf, KeptAs, KeptUnder, is_sought, last_used}
-use Rattle.wm_image.specs.declared.index.Index.{Index}
+use Rattle.wm_index.proofs.Finding.{Tests}
+use Rattle.wm_index.proofs.Firsts.{sought_kind, any_sought, count_sought, find-filter}
+use Rattle.wm_index.proofs.Lasts.{LastOf, has_ids, last-same, last_told}
+use Rattle.wm_index.specs.Indexed.{IsIndexed, ids_at, listed}
+use Rattle.wm_index.specs.Kinds.{after, kind_at}
+use Rattle.wm_image.specs.Shown.{is_saved_behind, rests_on}
+use Rattle.wm_index.specs.Sought.{SavepointAt, SavepointsOf, KeptAs, KeptUnder, is_sought, last_used}
+use Rattle.wm_index.specs.declared.index.Index.{Index}
 
 -- ---- the tests
 

@@ -10,10 +10,10 @@ use Rattle.wm_spec.specs.declared.record.table.Table.{Table}
 use Rattle.wm_state.specs.Standing.{by_number, place_table}
 use Rattle.wm_state.specs.State.{next_table}
 use Rattle.wm_image.proofs.Naming.{tables_told}
-use Rattle.wm_image.specs.Indexed.{IsIndexed, ids_at, listed}
-use Rattle.wm_image.specs.Shown.{kind_at}
-use Rattle.wm_image.specs.Sought.{Tables, is_sought, ids_with}
-use Rattle.wm_image.specs.declared.index.Index.{Index}
+use Rattle.wm_index.specs.Indexed.{IsIndexed, ids_at, listed}
+use Rattle.wm_index.specs.Kinds.{kind_at}
+use Rattle.wm_index.specs.Sought.{Tables, is_sought, ids_with}
+use Rattle.wm_index.specs.declared.index.Index.{Index}
 
 -- there are as many ids of tables as tables
 pub tables_counted : (ss : List Stored) → length (ids_with (is_sought Tables) ss) ≡ length (filter_map as_table (map (λ (s : Stored). s.record) ss))

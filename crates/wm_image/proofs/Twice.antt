@@ -4,7 +4,7 @@ use Rattle.std.specs.List.{list_any}
 use Rattle.wm_spec.specs.Records.{ids_differ, AreRecords}
 use Rattle.wm_spec.specs.declared.record.Record.{Record}
 use Rattle.wm_spec.specs.declared.record.stored.Stored.{Stored}
-use Rattle.wm_image.proofs.Listed.{same_test}
+use Rattle.wm_index.proofs.Listed.{same_test}
 
 abbrev pub ids_of : List Stored → List ℕ
 ids_of ss = map (λ (s : Stored). s.id) ss

@@ -24,12 +24,13 @@ use Rattle.wm_state.proofs.Apart.{ruled_versions, ruled as all_ruled}
 use Rattle.wm_tree.specs.Versions.{version_in, path_in, IsTree}
 use Rattle.wm_tree.specs.declared.version.Version.{Version as Node}
 use Rattle.wm_tree.proofs.Paths.{found, path_in-there, path_in-none}
-use Rattle.wm_image.proofs.Finding.{all_of, all_sought, filter-kind, versions_test}
+use Rattle.wm_index.proofs.Finding.{all_of, all_sought, filter-kind, versions_test}
 use Rattle.wm_image.proofs.Newest.{both, Stands, AllStand, AllStand-grow, tree_of, Descends-newest, version_in-newest, latest_in-greatest}
-use Rattle.wm_image.specs.Indexed.{IsIndexed, ids_at, listed}
-use Rattle.wm_image.specs.Shown.{kind_at, greatest, has_at, held_here, first_held, along}
-use Rattle.wm_image.specs.Sought.{VersionsOf, PiecesAt, is_sought}
-use Rattle.wm_image.specs.declared.index.Index.{Index}
+use Rattle.wm_index.specs.Indexed.{IsIndexed, ids_at, listed}
+use Rattle.wm_index.specs.Kinds.{kind_at, greatest}
+use Rattle.wm_image.specs.Shown.{has_at, held_here, first_held, along}
+use Rattle.wm_index.specs.Sought.{VersionsOf, PiecesAt, is_sought}
+use Rattle.wm_index.specs.declared.index.Index.{Index}
 
 -- ---- the tree of the rules
 

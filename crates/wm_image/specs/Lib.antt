@@ -1,5 +1,4 @@
-pub mod Sought
-pub mod Indexed
+pub mod Cataloged
 pub mod Shown
 pub mod Listing
 pub mod Standing

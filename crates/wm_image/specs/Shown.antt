@@ -1,33 +1,14 @@
 -- What is read of the records of some ids.
 use Rattle.std.specs.Prelude.{ℕ, ◌+◌, Bool, not, ◌&&◌, ◌||◌, ◌==◌, nat_le, nat_lt, max, if◌then◌else◌, List, [], ◌∷◌, Option, Some, None}
 use Rattle.std.specs.Bool.{then_some}
-use Rattle.std.specs.List.{filter_map}
 use Rattle.std.specs.Option.{option_or}
 use Rattle.wm_period.specs.Pieces.{Held}
-use Rattle.wm_spec.specs.Records.{record_at}
-use Rattle.wm_spec.specs.declared.record.Record.{Record}
 use Rattle.wm_spec.specs.declared.record.piece.PieceRecord.{PieceRecord}
 use Rattle.wm_spec.specs.declared.record.savepoint.Savepoint.{Savepoint}
 use Rattle.wm_spec.specs.declared.record.space.Space.{Space}
-use Rattle.wm_spec.specs.declared.record.stored.Stored.{Stored}
 use Rattle.wm_spec.specs.declared.record.table.Table.{Table}
-use Rattle.wm_spec.specs.declared.record.version.Version.{Version}
 use Rattle.wm_state.specs.Standing.{held_by}
 pub use Rattle.wm_state.specs.Firsts.{is_child_from, is_saved_behind}
-
--- those of a kind among the records of some ids
-abbrev pub kind_at : {A : Type 0} → (Record → Option A) → List Stored → List ℕ → List A
-kind_at kind ss ids = filter_map kind (filter_map (record_at ss) ids)
-
--- the greatest number of versions, 0 where there is none
-abbrev pub greatest : List Version → ℕ
-greatest [] = 0
-greatest (v ∷ vs) = max v.number (greatest vs)
-
--- the greater of a number and that of a version, where there is one
-abbrev pub newer : ℕ → Option Version → ℕ
-newer n None = n
-newer n (Some v) = max n v.number
 
 -- the piece is the version's own and covers the moment
 abbrev pub has_at : PieceRecord → ℕ → ℕ → Bool
@@ -53,11 +34,6 @@ abbrev pub along : (ℕ → Option Held) → List ℕ → Option Held
 along f [] = None
 along f (v ∷ vs) = option_or (f v) (along f vs)
 
--- a value, where it passes a test
-abbrev pub passing : {A : Type 0} → (A → Bool) → Option A → Option A
-passing p None = None
-passing p (Some x) = then_some (p x) x
-
 -- a savepoint of a workspace with a parent sees the version under its workspace's own
 abbrev pub rests_on : ℕ → Savepoint → Bool
 rests_on version x = not (x.space == 0) && (x.base_version == version)
@@ -65,11 +41,6 @@ rests_on version x = not (x.space == 0) && (x.base_version == version)
 -- a workspace with a parent was born from the version or sees it under its own
 abbrev pub names : ℕ → Space → Bool
 names version r = not (r.number == 0) && ((r.birth_version == version) || (r.base_version == version))
-
--- the number after the last, and another where there is none
-abbrev pub after : ℕ → Option ℕ → ℕ
-after none None = none
-after none (Some n) = n + 1
 
 -- that of two workspaces with the lesser number, where there are both
 abbrev pub lesser : Option Space → Option Space → Option Space

@@ -4,12 +4,13 @@ ghost use Rattle.std.specs.Prelude.{◌≡◌, false};
 ghost use Rattle.std.specs.List.{list_any};
 ghost use Rattle.std.specs.Option.{option_copied, option_and_then, option_map_or};
 ghost use Rattle.wm_graph.specs.Parts.{as_savepoint, as_space};
-ghost use Rattle.wm_image.specs.Indexed.{listed};
-ghost use Rattle.wm_image.specs.Shown.{is_child_from, is_saved_behind, kind_at, least, passing};
+ghost use Rattle.wm_index.specs.Indexed.{listed};
+ghost use Rattle.wm_index.specs.Kinds.{kind_at, passing};
+ghost use Rattle.wm_image.specs.Shown.{is_child_from, is_saved_behind, least};
 ghost use Rattle.wm_image.specs.Shown as shown;
 
-use crate::kinds::{savepoint_of, space_of};
-use crate::records::{Kept, at};
+use wm_index::kinds::{savepoint_of, space_of};
+use wm_index::records::{Kept, at};
 use wm_spec::record::{Record, Savepoint, Space};
 
 /// A place of a workspace, and so much of its log.

@@ -15,7 +15,7 @@ ghost use Rattle.wm_period.specs.Pieces.{held_at};
 ghost use Rattle.wm_graph.specs.Parts.{as_counters, as_space, as_table, parts_of, row_of, space_of, table_of, version_of};
 ghost use Rattle.wm_graph.specs.Rules.{keep_rules};
 ghost use Rattle.wm_spec.specs.Records.{AreRecords, record_at};
-ghost use Rattle.wm_image.specs.Sought.{OwnedBy, PiecesAt, PiecesIn, TouchesAt, ids_with, is_sought};
+ghost use Rattle.wm_index.specs.Sought.{OwnedBy, PiecesAt, PiecesIn, TouchesAt, ids_with, is_sought};
 ghost use Rattle.wm_state.specs.ById.{Ascend, applied, by_id};
 ghost use Rattle.wm_image.specs.Listing.{AreSpans, IsFirstShared, IsKeyShowing};
 ghost use Rattle.wm_image.specs.Shown.{is_child_from, is_saved_behind, names, rests_on};
@@ -28,24 +28,27 @@ ghost use Rattle.wm_state.specs.Standing.{by_number, latest, saved_as, saved_in,
 ghost use Rattle.wm_state.specs.State.{next_table};
 
 use crate::children::{Behind, any_behind, least_child};
-use crate::ids::{are_empty, first_id};
-use crate::index::Index;
-use crate::keyed::{ids_of, ids_on, keys_on, last_key};
-use crate::kinds;
 use crate::laying::lay_path;
 use crate::listing::{Asked, list_key, list_rows};
 use crate::load::{ImageFault, put_all, sorted};
 use crate::overlap::{find_shared, find_spans};
-use crate::records::{Kept, apply_all, at, first, next_id};
-use crate::savepoints::{making_after, savepoint_in, savepoint_of_name};
-use crate::shown::{latest_of, version_at};
-use crate::spaces::{number_after, space_of_name};
-use crate::tables::{after_last, catalog_of, id_named, table_of_number};
+use crate::records::apply_all;
+use crate::shown::latest_of;
+use crate::tables::{after_last, catalog_of};
 use std::alloc::Global;
 use std::collections::BTreeMap;
 use std::marker::Model;
 use wm_base::{Key, Memory, Period, RowList};
 use wm_catalog::Catalog;
+use wm_index::ids::{are_empty, first_id};
+use wm_index::index::Index;
+use wm_index::keyed::{ids_of, ids_on, keys_on, last_key};
+use wm_index::kinds;
+use wm_index::records::{Kept, at, first, next_id};
+use wm_index::savepoints::{making_after, savepoint_in, savepoint_of_name};
+use wm_index::spaces::{number_after, space_of_name};
+use wm_index::tables::{id_named, table_of_number};
+use wm_index::versions::version_at;
 use wm_period::Pieces;
 use wm_rules::keeps_rules;
 use wm_spec::record::{
@@ -62,7 +65,8 @@ pub struct Image {
 
 impl Model for Image {
     ghost use Rattle.std.specs.Prelude.{List};
-    ghost use Rattle.wm_image.specs.Indexed.{listed, IsCatalog, IsIndexed};
+    ghost use Rattle.wm_index.specs.Indexed.{listed, IsIndexed};
+    ghost use Rattle.wm_image.specs.Cataloged.{IsCatalog};
     ghost use Rattle.wm_spec.specs.declared.record.stored.Stored.{Stored};
 
     ghost Value = { List Stored };

@@ -6,18 +6,19 @@ ghost use Rattle.wm_base.specs.Period.{covers};
 ghost use Rattle.wm_base.specs.declared.instant.TheConstants.{END};
 ghost use Rattle.wm_graph.specs.Parts.{parts_of, as_piece};
 ghost use Rattle.wm_graph.specs.Rules.{keep_rules};
-ghost use Rattle.wm_image.specs.Indexed.{IsIndexed, listed};
-ghost use Rattle.wm_image.specs.Shown.{along, first_held, held_here, kind_at};
+ghost use Rattle.wm_index.specs.Indexed.{IsIndexed, listed};
+ghost use Rattle.wm_index.specs.Kinds.{kind_at};
+ghost use Rattle.wm_image.specs.Shown.{along, first_held, held_here};
 ghost use Rattle.wm_period.specs.Pieces.{held_at};
 ghost use Rattle.wm_state.specs.Standing.{newest_first};
 ghost use Rattle.wm_tree.specs.Versions.{path_in};
 
-use crate::index::Index;
-use crate::kinds::piece_of;
-use crate::records::{Kept, at};
-use crate::shown::version_at;
 use std::alloc::Global;
 use wm_base::{END, Instant, Memory, Period, Stamp};
+use wm_index::index::Index;
+use wm_index::kinds::piece_of;
+use wm_index::records::{Kept, at};
+use wm_index::versions::version_at;
 use wm_period::{Piece, Pieces};
 use wm_spec::record::{CellRange, Record};
 

@@ -2,20 +2,13 @@
 #![tactic(auto)]
 
 pub mod children;
-pub mod copies;
-mod ids;
 pub mod image;
-pub mod index;
-mod keyed;
-pub mod kinds;
 pub mod laying;
 pub mod listing;
 pub mod load;
 mod overlap;
 pub mod records;
-pub mod savepoints;
 pub mod shown;
-pub mod spaces;
 mod standing;
 pub mod tables;
 

@@ -2,17 +2,18 @@
 ghost use Rattle.std.specs.Prelude.{◌≡◌, [], map, true, false, Some, None, is_some, IfOk, IfErr, OnOk};
 ghost use Rattle.std.specs.BTreeMap.{IsOrdered};
 ghost use Rattle.std.specs.Ordering.{nat_cmp};
-ghost use Rattle.wm_image.specs.Indexed.{IsIndexed, listed};
+ghost use Rattle.wm_index.specs.Indexed.{IsIndexed, listed};
 ghost use Rattle.wm_image.specs.declared.load.ImageFault.TheVariants.{Memory as OutOfMemory};
 ghost use Rattle.wm_spec.specs.Records.{AreRecords, ids_differ, record_at};
 ghost use Rattle.wm_spec.specs.declared.record.stored.Stored.{Stored as OneStored};
 ghost use Rattle.wm_state.specs.ById.{Ascend, by_id, set_at};
 
-use crate::index::Index;
-use crate::records::{Kept, at, change, set};
+use crate::records::{change, set};
 use std::alloc::Global;
 use std::collections::BTreeMap;
 use wm_base::Memory;
+use wm_index::index::Index;
+use wm_index::records::{Kept, at};
 use wm_spec::record::{Records, Stored};
 
 /// Why records make no image.

@@ -21,7 +21,7 @@ use Rattle.wm_state.specs.declared.edit.Edit.TheVariants as edits
 use Rattle.wm_state.proofs.Settled.{Places}
 use Rattle.wm_changes.proofs.Dropping.{differ-with, filter-with, told-with}
 use Rattle.wm_changes.proofs.DroppingAll.{there_all}
-use Rattle.wm_image.specs.Sought.{OwnedBy, ids_with, is_sought}
+use Rattle.wm_index.specs.Sought.{OwnedBy, ids_with, is_sought}
 use Rattle.wm_undone.proofs.DraftedBack.{drafts_restored}
 use Rattle.wm_undone.specs.Restoring.{keeps_back, restore_batch, restored_to}
 use Rattle.wm_lifecycle.specs.Gone.{goes_back}

@@ -13,8 +13,8 @@ use Rattle.wm_spec.specs.declared.record.version.Version.{Version}
 use Rattle.wm_state.proofs.Newest.{numbers_differ}
 use Rattle.wm_state.proofs.Tests.{bool_apart, both, either_false, not_true}
 use Rattle.wm_changes.proofs.Dropping.{none_some}
-use Rattle.wm_image.proofs.Finding.{all_of}
-use Rattle.wm_image.proofs.Lists.{record_at-none, record_at-here, record_at-away}
+use Rattle.wm_index.proofs.Finding.{all_of}
+use Rattle.wm_index.proofs.Lists.{record_at-none, record_at-here, record_at-away}
 
 one_version : (r : Record) (w : Version) (o : Option Record) → o ≡ Some r → o ≡ Some (records.Version w) → r ≡ records.Version w
 one_version r w o is version = cc

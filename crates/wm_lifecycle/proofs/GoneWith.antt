@@ -22,9 +22,9 @@ use Rattle.wm_state.proofs.Newest.{numbers_differ}
 use Rattle.wm_state.proofs.Tests.{and_true, bool_apart}
 use Rattle.wm_changes.proofs.Dropping.{differ-with, none_some, told-with}
 use Rattle.wm_changes.proofs.DroppingAll.{there-with, there_all}
-use Rattle.wm_image.proofs.Finding.{Tests, all_of}
-use Rattle.wm_image.proofs.Leaves.{any-kind}
-use Rattle.wm_image.specs.Sought.{OwnedBy, PiecesIn, ids_with, is_sought}
+use Rattle.wm_index.proofs.Finding.{Tests, all_of}
+use Rattle.wm_index.proofs.Leaves.{any-kind}
+use Rattle.wm_index.specs.Sought.{OwnedBy, PiecesIn, ids_with, is_sought}
 use Rattle.wm_undone.proofs.DraftedRemoved.{drafts_removed}
 use Rattle.wm_undone.specs.Removing.{keeps_without, remove_batch}
 use Rattle.wm_lifecycle.proofs.GoneLists.{all_flat, any_either, any_flat, any_with, differ_flat}

@@ -6,7 +6,7 @@ use Rattle.wm_spec.specs.declared.record.Record.{Record}
 use Rattle.wm_spec.specs.declared.record.Record.TheVariants as records
 use Rattle.wm_spec.specs.declared.record.savepoint.Savepoint.{Savepoint}
 use Rattle.wm_spec.specs.declared.record.stored.Stored.{Stored}
-use Rattle.wm_image.specs.Sought.{PiecesIn, ids_with, is_sought}
+use Rattle.wm_index.specs.Sought.{PiecesIn, ids_with, is_sought}
 use Rattle.wm_undone.specs.Restoring.{keeps_back}
 
 -- the record goes where its workspace goes back to a savepoint

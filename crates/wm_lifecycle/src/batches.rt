@@ -6,7 +6,7 @@ ghost use Rattle.wm_state.specs.Batches.{put, create_batch, ready, savepoint_bat
 use std::alloc::Global;
 use wm_base::Memory;
 use wm_changes::changes::put;
-use wm_image::copies::table_copy;
+use wm_index::copies::table_copy;
 use wm_spec::record::{Changes, Counters, Record, Savepoint, Space, Table, Turn, Version};
 
 /// What becomes of the counters and of a table.

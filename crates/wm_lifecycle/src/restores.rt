@@ -5,7 +5,7 @@ ghost use Rattle.std.specs.Option.{option_copied};
 ghost use Rattle.wm_changes.specs.Ids.{HasGreatId};
 ghost use Rattle.wm_graph.specs.Parts.{parts_of};
 ghost use Rattle.wm_graph.specs.Rules.{keep_rules};
-ghost use Rattle.wm_image.specs.Sought.{ids_with};
+ghost use Rattle.wm_index.specs.Sought.{ids_with};
 ghost use Rattle.wm_lifecycle.specs.Gone.{goes_back};
 ghost use Rattle.wm_spec.specs.Records.{record_at};
 ghost use Rattle.wm_state.specs.ById.{Ascend};

@@ -5,7 +5,7 @@ ghost use Rattle.std.specs.Option.{option_and_then, option_copied};
 ghost use Rattle.wm_append.specs.Layers.{sought_in, view_of};
 ghost use Rattle.wm_append.specs.Redraw.{is_touched};
 ghost use Rattle.wm_append.specs.Views.{has_version};
-ghost use Rattle.wm_image.specs.Sought.{ids_with, is_sought};
+ghost use Rattle.wm_index.specs.Sought.{ids_with, is_sought};
 
 use crate::redraw::over::{collide, copy_part, meets};
 use std::alloc::Global;

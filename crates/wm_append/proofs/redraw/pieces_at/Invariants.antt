@@ -1,6 +1,6 @@
 use Rattle.std.proofs.Common.{◌≡◌, ◌++◌, drop}
 use Rattle.wm_append.specs.Layers.{view_of}
-use Rattle.wm_image.specs.Shown.{kind_at}
+use Rattle.wm_index.specs.Kinds.{kind_at}
 use Rattle.wm_append.proofs.redraw.pieces_at.Given as goal
 
 abbrev pub invariant-loop-id : goal.invariant-loop-id

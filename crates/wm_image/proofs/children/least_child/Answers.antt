@@ -3,8 +3,9 @@ use Rattle.std.proofs.lemmas.List.{drop_all, drop_more}
 use Rattle.std.specs.Option.{option_and_then, option_copied}
 use Rattle.wm_graph.specs.Parts.{as_space}
 use Rattle.wm_image.proofs.Least.{least-next, lesser-none}
-use Rattle.wm_image.specs.Indexed.{listed}
-use Rattle.wm_image.specs.Shown.{is_child_from, kind_at, least, lesser, passing}
+use Rattle.wm_index.specs.Indexed.{listed}
+use Rattle.wm_index.specs.Kinds.{kind_at, passing}
+use Rattle.wm_image.specs.Shown.{is_child_from, least, lesser}
 use Rattle.wm_spec.specs.declared.record.Record.{Record}
 use Rattle.wm_spec.specs.declared.record.space.Space.{Space}
 use Rattle.wm_image.proofs.children.least_child.Goals as goal

@@ -1,8 +1,9 @@
 use Rattle.std.proofs.Common.{◌≡◌, drop}
 use Rattle.std.specs.Option.{option_copied}
 use Rattle.wm_graph.specs.Parts.{as_space}
-use Rattle.wm_image.specs.Indexed.{listed}
-use Rattle.wm_image.specs.Shown.{is_child_from, kind_at, least, lesser}
+use Rattle.wm_index.specs.Indexed.{listed}
+use Rattle.wm_index.specs.Kinds.{kind_at}
+use Rattle.wm_image.specs.Shown.{is_child_from, least, lesser}
 use Rattle.wm_image.proofs.children.least_child.Given as goal
 
 abbrev pub invariant-loop-id : goal.invariant-loop-id

@@ -1,8 +1,9 @@
 use Rattle.std.proofs.Common.{ℕ, Option, sym, ◌∙◌}
 use Rattle.wm_graph.specs.Parts.{parts_of, as_piece}
 use Rattle.wm_image.proofs.Walking.{ruled, path_goes_on, path_ends, lay_on, lay_end}
-use Rattle.wm_image.specs.Indexed.{listed}
-use Rattle.wm_image.specs.Shown.{first_held, kind_at}
+use Rattle.wm_index.specs.Indexed.{listed}
+use Rattle.wm_index.specs.Kinds.{kind_at}
+use Rattle.wm_image.specs.Shown.{first_held}
 use Rattle.wm_period.specs.Pieces.{Held, held_at}
 use Rattle.wm_state.specs.Standing.{newest_first}
 use Rattle.wm_tree.specs.Versions.{path_in}

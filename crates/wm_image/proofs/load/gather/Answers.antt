@@ -1,10 +1,10 @@
 use Rattle.std.proofs.Common.{◌≡◌, ℕ, [], cond, eqb, Some, ◌∙◌, arith}
 use Rattle.std.proofs.lemmas.Result.{err_from_is_err_and}
 use Rattle.wm_image.proofs.Listed.{Ascend-listed}
-use Rattle.wm_image.proofs.Lists.{record_at-none}
+use Rattle.wm_index.proofs.Lists.{record_at-none}
 use Rattle.wm_image.proofs.Loading.{left_all, left_none, left_less, set-more, put}
 use Rattle.wm_image.proofs.Twice.{freed_all, freed_none, freed_less, freed_twice}
-use Rattle.wm_image.specs.Indexed.{listed}
+use Rattle.wm_index.specs.Indexed.{listed}
 use Rattle.wm_spec.specs.Records.{record_at, AreRecords}
 use Rattle.wm_state.specs.ById.{by_id}
 use Rattle.wm_state.proofs.ById.{Ascend-by_id, record_at-by_id}

@@ -3,7 +3,7 @@ use Rattle.std.specs.BTreeMap.{IsOrdered}
 use Rattle.std.specs.Ordering.{nat_cmp}
 use Rattle.wm_image.proofs.Loading.{Left}
 use Rattle.wm_image.proofs.Twice.{Freed}
-use Rattle.wm_image.specs.Indexed.{listed}
+use Rattle.wm_index.specs.Indexed.{listed}
 use Rattle.wm_spec.specs.Records.{record_at}
 use Rattle.wm_image.proofs.load.gather.Given as goal
 

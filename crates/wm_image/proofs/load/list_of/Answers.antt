@@ -1,6 +1,6 @@
 use Rattle.std.proofs.Common.{◌≡◌, ℕ, map, ◌∙◌}
 use Rattle.std.proofs.lemmas.Map.Iter.{iter_end}
-use Rattle.wm_image.proofs.Listed.{listed-same}
+use Rattle.wm_index.proofs.Listed.{listed-same}
 use Rattle.wm_spec.specs.declared.record.Record.{Record}
 use Rattle.wm_image.proofs.load.list_of.Goals as goal
 

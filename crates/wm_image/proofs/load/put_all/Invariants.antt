@@ -1,6 +1,6 @@
 use Rattle.std.proofs.Common.{◌≡◌, []}
 use Rattle.wm_image.proofs.Loading.{entered}
-use Rattle.wm_image.specs.Indexed.{IsIndexed, listed}
+use Rattle.wm_index.specs.Indexed.{IsIndexed, listed}
 use Rattle.wm_image.proofs.load.put_all.Given as goal
 
 abbrev pub invariant-loop-one : goal.invariant-loop-one

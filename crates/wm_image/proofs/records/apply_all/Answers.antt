@@ -1,5 +1,5 @@
 use Rattle.wm_image.proofs.Cataloguing.{catalog_still}
-use Rattle.wm_image.specs.Indexed.{listed}
+use Rattle.wm_index.specs.Indexed.{listed}
 use Rattle.wm_image.proofs.records.apply_all.Goals as goal
 
 pub returns-else-touched-clause-tables : goal.returns-else-touched-clause-tables

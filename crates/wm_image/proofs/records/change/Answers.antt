@@ -3,8 +3,8 @@ use Rattle.wm_image.proofs.Ascending.{ids_ascend, ids_ascend_less}
 use Rattle.wm_image.proofs.Cataloguing.{tables_kept}
 use Rattle.wm_image.proofs.Listed.{Ascend-listed}
 use Rattle.wm_image.proofs.Lists.{ids_with-set}
-use Rattle.wm_image.specs.Indexed.{listed}
-use Rattle.wm_image.specs.Sought.{is_sought, ids_with, ids_less, ids_more}
+use Rattle.wm_index.specs.Indexed.{listed}
+use Rattle.wm_index.specs.Sought.{is_sought, ids_with, ids_less, ids_more}
 use Rattle.wm_spec.specs.Records.{record_at}
 use Rattle.wm_image.proofs.records.change.Goals as goal
 

@@ -1,7 +1,7 @@
 use Rattle.std.proofs.Common.{sym, ap, ◌∙◌}
 use Rattle.wm_state.proofs.Tests.{either_false}
 use Rattle.wm_image.proofs.Listed.{applied-push}
-use Rattle.wm_image.specs.Indexed.{listed}
+use Rattle.wm_index.specs.Indexed.{listed}
 use Rattle.wm_state.specs.ById.{set_at}
 use Rattle.wm_image.proofs.records.change_all.Goals as goal
 

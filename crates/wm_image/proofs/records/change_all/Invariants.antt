@@ -1,6 +1,6 @@
 use Rattle.std.proofs.Common.{◌≡◌, false}
 use Rattle.wm_graph.specs.Parts.{parts_of}
-use Rattle.wm_image.specs.Indexed.{IsIndexed, listed}
+use Rattle.wm_index.specs.Indexed.{IsIndexed, listed}
 use Rattle.wm_state.specs.ById.{applied}
 use Rattle.wm_image.proofs.records.change_all.Given as goal
 

@@ -1,8 +1,8 @@
 use Rattle.std.proofs.Common.{ℕ, List, ap, ◌∙◌}
 use Rattle.wm_graph.specs.Parts.{as_version}
 use Rattle.wm_image.proofs.Walking.{latest_told}
-use Rattle.wm_image.specs.Indexed.{listed}
-use Rattle.wm_image.specs.Shown.{greatest, kind_at}
+use Rattle.wm_index.specs.Indexed.{listed}
+use Rattle.wm_index.specs.Kinds.{greatest, kind_at}
 use Rattle.wm_image.proofs.shown.latest_of.Goals as goal
 
 pub returns : goal.returns

@@ -1,7 +1,7 @@
 use Rattle.std.proofs.Common.{◌≡◌, max, drop}
 use Rattle.wm_graph.specs.Parts.{as_table}
-use Rattle.wm_image.specs.Indexed.{listed}
-use Rattle.wm_image.specs.Shown.{kind_at}
+use Rattle.wm_index.specs.Indexed.{listed}
+use Rattle.wm_index.specs.Kinds.{kind_at}
 use Rattle.wm_state.specs.State.{next_table}
 use Rattle.wm_image.proofs.tables.after_last.Given as goal
 

@@ -4,8 +4,8 @@ use Rattle.wm_graph.specs.Parts.{parts_of, as_table}
 use Rattle.wm_graph.specs.Rules.{differ}
 use Rattle.wm_image.proofs.Cataloguing.{differ_sorted}
 use Rattle.wm_image.proofs.Naming.{tables_told}
-use Rattle.wm_image.specs.Indexed.{listed}
-use Rattle.wm_image.specs.Shown.{kind_at}
+use Rattle.wm_index.specs.Indexed.{listed}
+use Rattle.wm_index.specs.Kinds.{kind_at}
 use Rattle.wm_spec.specs.declared.record.table.Table.{Table}
 use Rattle.wm_state.specs.Standing.{by_number}
 use Rattle.wm_image.proofs.tables.catalog_of.Goals as goal

@@ -2,8 +2,9 @@ use Rattle.std.proofs.Common.{ℕ, List, ap, ◌∙◌}
 use Rattle.wm_graph.specs.Parts.{parts_of, as_space}
 use Rattle.wm_image.proofs.Least.{least_told}
 use Rattle.wm_image.proofs.Spaced.{spaces_told}
-use Rattle.wm_image.specs.Indexed.{listed}
-use Rattle.wm_image.specs.Shown.{is_child_from, kind_at, least}
+use Rattle.wm_index.specs.Indexed.{listed}
+use Rattle.wm_index.specs.Kinds.{kind_at}
+use Rattle.wm_image.specs.Shown.{is_child_from, least}
 use Rattle.wm_spec.specs.declared.record.stored.Stored.{Stored}
 use Rattle.wm_image.proofs.image.Image.child_from.Goals as goal
 

@@ -1,9 +1,9 @@
 use Rattle.std.proofs.Common.{ap, ◌∙◌}
 use Rattle.std.specs.Option.{option_copied}
 use Rattle.wm_graph.specs.Parts.{parts_of}
-use Rattle.wm_image.proofs.Finding.{counters_told, one_counters}
-use Rattle.wm_image.specs.Indexed.{listed}
-use Rattle.wm_image.specs.Sought.{first_of}
+use Rattle.wm_index.proofs.Finding.{counters_told, one_counters}
+use Rattle.wm_index.specs.Indexed.{listed}
+use Rattle.wm_index.specs.Sought.{first_of}
 use Rattle.wm_image.proofs.image.Image.counters.Goals as goal
 
 pub unwrap-requires : goal.unwrap-requires

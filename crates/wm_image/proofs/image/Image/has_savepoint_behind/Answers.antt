@@ -2,8 +2,9 @@ use Rattle.std.proofs.Common.{ℕ, List, ap, ◌∙◌}
 use Rattle.std.specs.List.{list_any}
 use Rattle.wm_graph.specs.Parts.{parts_of, as_savepoint}
 use Rattle.wm_image.proofs.Saved.{behind_told}
-use Rattle.wm_image.specs.Indexed.{listed}
-use Rattle.wm_image.specs.Shown.{is_saved_behind, kind_at}
+use Rattle.wm_index.specs.Indexed.{listed}
+use Rattle.wm_index.specs.Kinds.{kind_at}
+use Rattle.wm_image.specs.Shown.{is_saved_behind}
 use Rattle.wm_spec.specs.declared.record.stored.Stored.{Stored}
 use Rattle.wm_image.proofs.image.Image.has_savepoint_behind.Goals as goal
 

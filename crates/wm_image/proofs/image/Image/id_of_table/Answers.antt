@@ -4,8 +4,8 @@ use Rattle.std.specs.Option.{option_and_then}
 use Rattle.wm_graph.specs.Parts.{parts_of, as_table}
 use Rattle.wm_graph.specs.Rules.{keep_rules}
 use Rattle.wm_image.proofs.Naming.{has_name, named_told}
-use Rattle.wm_image.specs.Indexed.{listed}
-use Rattle.wm_image.specs.Shown.{kind_at}
+use Rattle.wm_index.specs.Indexed.{listed}
+use Rattle.wm_index.specs.Kinds.{kind_at}
 use Rattle.wm_spec.specs.Records.{record_at}
 use Rattle.wm_spec.specs.declared.record.stored.Stored.{Stored}
 use Rattle.wm_spec.specs.declared.record.table.Table.{Table}

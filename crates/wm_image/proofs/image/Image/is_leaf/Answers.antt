@@ -1,5 +1,5 @@
 use Rattle.std.proofs.Common.{ℕ, List, eqb, length, ap, ◌∙◌}
-use Rattle.wm_image.proofs.Leaves.{leaf_told}
+use Rattle.wm_index.proofs.Leaves.{leaf_told}
 use Rattle.wm_image.proofs.image.Image.is_leaf.Goals as goal
 
 pub returns : goal.returns

@@ -4,9 +4,9 @@ use Rattle.std.specs.List.Sorted.{IsStrictlySortedBy}
 use Rattle.std.specs.Ordering.{is_eq}
 use Rattle.wm_base.specs.Key.{key_order}
 use Rattle.wm_base.specs.declared.value.Value.{Value}
-use Rattle.wm_image.proofs.Finding.{all_of}
-use Rattle.wm_image.proofs.Using.{keys_told, used_sorted}
-use Rattle.wm_image.specs.Sought.{PiecesAt, is_sought, keyed_at}
+use Rattle.wm_index.proofs.Finding.{all_of}
+use Rattle.wm_index.proofs.Using.{keys_told, used_sorted}
+use Rattle.wm_index.specs.Sought.{PiecesAt, is_sought, keyed_at}
 use Rattle.wm_spec.specs.declared.record.stored.Stored.{Stored}
 use Rattle.wm_image.proofs.image.Image.keys.Goals as goal
 

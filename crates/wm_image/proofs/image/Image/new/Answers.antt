@@ -1,6 +1,6 @@
 use Rattle.std.proofs.Common.{rules}
 use Rattle.wm_image.proofs.Cataloguing.{no_catalog}
-use Rattle.wm_image.specs.Indexed.{IsIndexed}
+use Rattle.wm_index.specs.Indexed.{IsIndexed}
 use Rattle.wm_image.proofs.image.Image.new.Goals as goal
 
 pub invariant_of-result : goal.invariant_of-result

@@ -1,9 +1,9 @@
 use Rattle.std.proofs.Common.{List, ap, ◌∙◌}
 use Rattle.std.specs.Option.{option_and_then}
 use Rattle.wm_graph.specs.Parts.{parts_of, as_row, row_of}
-use Rattle.wm_image.proofs.Finding.{row_found}
-use Rattle.wm_image.specs.Indexed.{listed}
-use Rattle.wm_image.specs.Sought.{first_of}
+use Rattle.wm_index.proofs.Finding.{row_found}
+use Rattle.wm_index.specs.Indexed.{listed}
+use Rattle.wm_index.specs.Sought.{first_of}
 use Rattle.wm_spec.specs.declared.record.stored.Stored.{Stored}
 use Rattle.wm_image.proofs.image.Image.row.Goals as goal
 

@@ -2,8 +2,8 @@ use Rattle.std.proofs.Common.{ℕ, List, ◌==◌, ap, ◌∙◌}
 use Rattle.std.specs.List.{find}
 use Rattle.wm_graph.specs.Parts.{parts_of, as_savepoint}
 use Rattle.wm_image.proofs.Saved.{saved_told}
-use Rattle.wm_image.specs.Indexed.{listed}
-use Rattle.wm_image.specs.Shown.{kind_at}
+use Rattle.wm_index.specs.Indexed.{listed}
+use Rattle.wm_index.specs.Kinds.{kind_at}
 use Rattle.wm_spec.specs.declared.record.savepoint.Savepoint.{Savepoint}
 use Rattle.wm_spec.specs.declared.record.stored.Stored.{Stored}
 use Rattle.wm_state.specs.Standing.{saved_as}

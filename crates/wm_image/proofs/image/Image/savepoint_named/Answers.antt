@@ -3,8 +3,8 @@ use Rattle.std.specs.List.{find}
 use Rattle.wm_graph.specs.Parts.{parts_of, as_savepoint}
 use Rattle.wm_graph.specs.Rules.{keep_rules}
 use Rattle.wm_image.proofs.Saved.{has_name, named_told}
-use Rattle.wm_image.specs.Indexed.{listed}
-use Rattle.wm_image.specs.Shown.{kind_at}
+use Rattle.wm_index.specs.Indexed.{listed}
+use Rattle.wm_index.specs.Kinds.{kind_at}
 use Rattle.wm_spec.specs.declared.record.stored.Stored.{Stored}
 use Rattle.wm_state.specs.Standing.{saved_in}
 use Rattle.wm_image.proofs.image.Image.savepoint_named.Goals as goal

@@ -3,7 +3,7 @@ use Rattle.std.specs.List.{find}
 use Rattle.wm_graph.specs.Parts.{parts_of}
 use Rattle.wm_graph.specs.Rules.{keep_rules}
 use Rattle.wm_image.proofs.Naming.{has_name, names_differ}
-use Rattle.wm_image.specs.Indexed.{listed}
+use Rattle.wm_index.specs.Indexed.{listed}
 use Rattle.wm_spec.specs.declared.record.stored.Stored.{Stored}
 use Rattle.wm_state.specs.Standing.{by_number}
 use Rattle.wm_image.proofs.image.Image.table.Goals as goal

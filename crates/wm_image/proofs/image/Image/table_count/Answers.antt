@@ -3,8 +3,8 @@ use Rattle.std.specs.declared.alloc.Global.{Global}
 use Rattle.std.specs.declared.vec.Vec.{Vec}
 use Rattle.wm_graph.specs.Parts.{parts_of}
 use Rattle.wm_image.proofs.Tabled.{tables_counted}
-use Rattle.wm_image.specs.Indexed.{listed}
-use Rattle.wm_image.specs.Sought.{Tables}
+use Rattle.wm_index.specs.Indexed.{listed}
+use Rattle.wm_index.specs.Sought.{Tables}
 use Rattle.wm_spec.specs.declared.record.stored.Stored.{Stored}
 use Rattle.wm_image.proofs.image.Image.table_count.Goals as goal
 

@@ -2,8 +2,8 @@ use Rattle.std.proofs.Common.{ℕ, ◌==◌, List, ap, ◌∙◌}
 use Rattle.std.specs.List.{find}
 use Rattle.wm_graph.specs.Parts.{as_table, parts_of, table_of}
 use Rattle.wm_image.proofs.Naming.{tables_told}
-use Rattle.wm_image.specs.Indexed.{listed}
-use Rattle.wm_image.specs.Shown.{kind_at}
+use Rattle.wm_index.specs.Indexed.{listed}
+use Rattle.wm_index.specs.Kinds.{kind_at}
 use Rattle.wm_spec.specs.declared.record.stored.Stored.{Stored}
 use Rattle.wm_spec.specs.declared.record.table.Table.{Table}
 use Rattle.wm_image.proofs.image.Image.table_numbered.Goals as goal

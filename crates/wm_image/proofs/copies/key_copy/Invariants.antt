@@ -1,6 +1,0 @@
--- those that were gone through are copied
-use Rattle.std.proofs.Common.{◌≡◌, take}
-use Rattle.wm_image.proofs.copies.key_copy.Given as goal
-
-abbrev pub invariant-loop-place : goal.invariant-loop-place
-invariant-loop-place l = l.copies ≡ take l.place-index l.place-items

@@ -1,6 +1,0 @@
-use Rattle.std.proofs.Common.{sym, ◌∙◌}
-use Rattle.wm_image.proofs.Listed.{record_at-listed}
-use Rattle.wm_image.proofs.records.at.Goals as goal
-
-pub returns : goal.returns
-returns c = c.get.ensures.value ∙ sym (record_at-listed c.args.kept.now.entries c.args.id)

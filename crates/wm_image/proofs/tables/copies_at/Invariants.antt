@@ -1,8 +1,0 @@
-use Rattle.std.proofs.Common.{◌≡◌, ◌++◌, drop}
-use Rattle.wm_graph.specs.Parts.{as_table}
-use Rattle.wm_image.specs.Indexed.{listed}
-use Rattle.wm_image.specs.Shown.{kind_at}
-use Rattle.wm_image.proofs.tables.copies_at.Given as goal
-
-abbrev pub invariant-loop-id : goal.invariant-loop-id
-invariant-loop-id l = l.tables.items ++ kind_at as_table (listed l.kept.entries) (drop l.id-index l.ids) ≡ kind_at as_table (listed l.kept.entries) l.ids

@@ -1,0 +1,9 @@
+pub mod IdLists
+pub mod TableLists
+pub mod Lists
+pub mod Listed
+pub mod Finding
+pub mod Using
+pub mod Leaves
+pub mod Firsts
+pub mod Lasts

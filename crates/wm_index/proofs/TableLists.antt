@@ -1,0 +1,67 @@
+-- Ids under tables and keys.
+use Rattle.std.proofs.Common.{◌≡◌, ℕ, Bool, true, false, cond, ◌&&◌, eqb, List, [], Option, Some, None, refl, sym, ap, ◌∙◌, ◌⊎◌, inl, inr}
+use Rattle.std.proofs.lemmas.Bool.{cases_Bool, cases_eq, eq-eqb, ne_eqb}
+use Rattle.std.proofs.lemmas.Cmp.{nat_cmp_total, tied_itself}
+use Rattle.std.proofs.lemmas.Map.Lookups.{exact_unsigned}
+use Rattle.std.specs.BTreeMap.{is_at}
+use Rattle.std.specs.Cmp.{Equal-is}
+use Rattle.std.specs.Map.{lookup}
+use Rattle.std.specs.Option.{option_map, unwrap_or}
+use Rattle.std.specs.Ordering.{nat_cmp, is_eq}
+use Rattle.std.specs.declared.alloc.Global.{Global}
+use Rattle.std.specs.declared.vec.Vec.{Vec}
+use Rattle.wm_base.specs.Key.{key_order}
+use Rattle.wm_base.specs.Orders.{key_order-equal}
+use Rattle.wm_base.specs.declared.value.Value.{Value}
+use Rattle.wm_index.specs.Sought.{Keyed, keyed_at, ids_in, piece_ids}
+
+-- a test for `Equal` is a test for the same number
+pub is_at-number : (m n : ℕ) → is_at (nat_cmp m) n ≡ eqb m n
+is_at-number m n = by_number (cases_eq m n)
+  where
+    by_number : (m ≡ n) ⊎ (m ≡ n → ⊥) → is_at (nat_cmp m) n ≡ eqb m n
+    by_number (inl same) = rw same (ap is_eq (tied_itself nat_cmp_total n) ∙ sym (eq-eqb n n refl))
+    by_number (inr apart) = no_tie (cases_Bool (is_at (nat_cmp m) n)) ∙ sym (ne_eqb m n apart)
+      where
+        no_tie : (is_at (nat_cmp m) n ≡ true) ⊎ (is_at (nat_cmp m) n ≡ false) → is_at (nat_cmp m) n ≡ false
+        no_tie (inl tie) = absurd (apart (exact_unsigned m n ((Equal-is (nat_cmp m n)).0 tie)))
+        no_tie (inr e) = e
+
+-- what a look-up of a table found
+abbrev pub keys_found : Option Keyed → List (List Value × Vec ℕ Global)
+keys_found found = unwrap_or (option_map (λ m. m.entries) found) []
+
+-- where keys are tied they are one
+same_key : (key k : List Value) (change : List ℕ → List ℕ) (f : List Value → List ℕ) (b : Bool) → is_eq (key_order key k) ≡ b → cond b (change (f key)) (f k) ≡ cond b (change (f k)) (f k)
+same_key key k change f true tie = ap (λ j. change (f j)) (key_order-equal key k ((Equal-is (key_order key k)).0 tie))
+same_key key k change f false tie = refl
+
+-- the ids of one table taken out, changed under a key, and put back
+pub changed_on : (change : List ℕ → List ℕ) (old mid next : List (ℕ × Keyed)) (table : ℕ) (key : List Value) (was : List (List Value × Vec ℕ Global)) (m : Keyed)
+    → keyed_at old table ≡ was
+    → ((n : ℕ) → lookup (is_at (nat_cmp n)) mid ≡ cond (is_at (nat_cmp table) n) None (lookup (is_at (nat_cmp n)) old))
+    → ((n : ℕ) → lookup (is_at (nat_cmp n)) next ≡ cond (is_at (nat_cmp table) n) (Some m) (lookup (is_at (nat_cmp n)) mid))
+    → ((q : List Value) → ids_in key_order m.entries q ≡ cond (is_eq (key_order key q)) (change (ids_in key_order was key)) (ids_in key_order was q))
+    → (t : ℕ) (k : List Value) → piece_ids next t k ≡ cond (eqb table t && is_eq (key_order key k)) (change (piece_ids old t k)) (piece_ids old t k)
+changed_on change old mid next table key was m is taken put wrote t k = by_number (cases_eq table t)
+  where
+    by_number : (table ≡ t) ⊎ (table ≡ t → ⊥) → piece_ids next t k ≡ cond (eqb table t && is_eq (key_order key k)) (change (piece_ids old t k)) (piece_ids old t k)
+    by_number (inl here) =
+        let test : is_at (nat_cmp table) t ≡ true = is_at-number table t ∙ eq-eqb table t here in
+        let there : keyed_at next t ≡ m.entries = ap keys_found (put t ∙ ap (λ b. cond b (Some m) (lookup (is_at (nat_cmp t)) mid)) test) in
+        let before : was ≡ keyed_at old t = sym is ∙ ap (keyed_at old) here in
+        ap (λ es. ids_in key_order es k) there
+        ∙ wrote k
+        ∙ same_key key k change (ids_in key_order was) (is_eq (key_order key k)) refl
+        ∙ ap (λ es. cond (is_eq (key_order key k)) (change (ids_in key_order es k)) (ids_in key_order es k)) before
+        ∙ ap (λ b. cond (b && is_eq (key_order key k)) (change (piece_ids old t k)) (piece_ids old t k)) (sym (eq-eqb table t here))
+    by_number (inr away) =
+        let test : is_at (nat_cmp table) t ≡ false = is_at-number table t ∙ ne_eqb table t away in
+        ap (λ o. ids_in key_order (keys_found o) k)
+        (put t ∙ ap (λ b. cond b (Some m) (lookup (is_at (nat_cmp t)) mid)) test
+        ∙ taken t ∙ ap (λ b. cond b (let nothing : Option Keyed = None in nothing) (lookup (is_at (nat_cmp t)) old)) test)
+        ∙ ap (λ b. cond (b && is_eq (key_order key k)) (change (piece_ids old t k)) (piece_ids old t k)) (sym (ne_eqb table t away))
+
+pub keys_or : (found : Option Keyed) (none : Keyed) → none.entries ≡ [] → keys_found found ≡ (unwrap_or found none).entries
+keys_or None none empty = sym empty
+keys_or (Some m) none empty = refl

@@ -1,0 +1,23 @@
+use Rattle.wm_index.specs.Sought.{TheCounters, Tables, RowAt, OwnedBy}
+use Rattle.wm_index.proofs.index.Index.add_record.Goals as goal
+
+pub add_id-requires : goal.add_id-requires
+add_id-requires c = c.requires TheCounters
+
+pub add_id-requires-in-Table : goal.add_id-requires-in-Table
+add_id-requires-in-Table c = c.requires Tables
+
+pub add_to-requires : goal.add_to-requires
+add_to-requires c = c.requires (RowAt c.in-Row.row.stamp)
+
+pub add_to-requires-in-Lock : goal.add_to-requires-in-Lock
+add_to-requires-in-Lock c = c.requires (OwnedBy c.in-Lock.lock.space)
+
+pub add_to-requires-in-Hist : goal.add_to-requires-in-Hist
+add_to-requires-in-Hist c = c.requires (OwnedBy c.in-Hist.hist.space)
+
+pub add_to-requires-in-Mark : goal.add_to-requires-in-Mark
+add_to-requires-in-Mark c = c.requires (OwnedBy c.in-Mark.mark.space)
+
+pub add_to-requires-in-Turn : goal.add_to-requires-in-Turn
+add_to-requires-in-Turn c = c.requires (OwnedBy c.in-Turn.turn.space)

@@ -1,0 +1,23 @@
+use Rattle.wm_index.specs.Sought.{TheCounters, Tables, RowAt, OwnedBy}
+use Rattle.wm_index.proofs.index.Index.drop_record.Goals as goal
+
+pub drop_id-requires : goal.drop_id-requires
+drop_id-requires c = c.requires TheCounters
+
+pub drop_id-requires-in-Table : goal.drop_id-requires-in-Table
+drop_id-requires-in-Table c = c.requires Tables
+
+pub drop_from-requires : goal.drop_from-requires
+drop_from-requires c = c.requires (RowAt c.in-Row.row.stamp)
+
+pub drop_from-requires-in-Lock : goal.drop_from-requires-in-Lock
+drop_from-requires-in-Lock c = c.requires (OwnedBy c.in-Lock.lock.space)
+
+pub drop_from-requires-in-Hist : goal.drop_from-requires-in-Hist
+drop_from-requires-in-Hist c = c.requires (OwnedBy c.in-Hist.hist.space)
+
+pub drop_from-requires-in-Mark : goal.drop_from-requires-in-Mark
+drop_from-requires-in-Mark c = c.requires (OwnedBy c.in-Mark.mark.space)
+
+pub drop_from-requires-in-Turn : goal.drop_from-requires-in-Turn
+drop_from-requires-in-Turn c = c.requires (OwnedBy c.in-Turn.turn.space)

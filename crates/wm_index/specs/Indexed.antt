@@ -1,0 +1,51 @@
+-- An index of records: the ids of whatever may be sought.
+use Rattle.std.specs.Prelude.{ℕ, ◌≡◌, if◌then◌else◌, List, map}
+use Rattle.std.specs.BTreeMap.{BTreeMap, IsOrdered}
+use Rattle.std.specs.List.Sorted.{IsStrictlySortedBy}
+use Rattle.std.specs.Ordering.{nat_cmp}
+use Rattle.wm_spec.specs.declared.record.Record.{Record}
+use Rattle.wm_spec.specs.declared.record.stored.Stored.{Stored}
+use Rattle.wm_index.specs.Sought.{Sought, TheCounters, Tables, Spaces, SpaceAt, VersionAt, VersionsOf, VersionsUnder, SavepointsOf, SavepointAt, KeptAs, KeptUnder, BornAs, SeenUnder, RowAt, PiecesAt, TouchesAt, PiecesIn, OwnedBy, is_sought, ids_with, placed, without, ids_in, piece_ids}
+use Rattle.wm_index.specs.declared.index.Index.{Index}
+
+-- the ids that an index has of what is sought
+abbrev pub ids_at : Index → Sought → List ℕ
+ids_at x TheCounters = x.counters.items
+ids_at x Tables = x.tables.items
+ids_at x Spaces = x.all_spaces.items
+ids_at x (SpaceAt number) = ids_in nat_cmp x.spaces.entries number
+ids_at x (VersionAt number) = ids_in nat_cmp x.versions.entries number
+ids_at x (VersionsOf space) = ids_in nat_cmp x.versions_of.entries space
+ids_at x (VersionsUnder parent) = ids_in nat_cmp x.versions_under.entries parent
+ids_at x (SavepointsOf space) = ids_in nat_cmp x.savepoints_of.entries space
+ids_at x (SavepointAt making) = ids_in nat_cmp x.savepoints.entries making
+ids_at x (KeptAs version) = ids_in nat_cmp x.kept_as.entries version
+ids_at x (KeptUnder version) = ids_in nat_cmp x.kept_under.entries version
+ids_at x (BornAs version) = ids_in nat_cmp x.born_as.entries version
+ids_at x (SeenUnder version) = ids_in nat_cmp x.seen_under.entries version
+ids_at x (RowAt stamp) = ids_in nat_cmp x.rows.entries stamp
+ids_at x (PiecesAt table key) = piece_ids x.pieces.entries table key
+ids_at x (TouchesAt table key) = piece_ids x.touches.entries table key
+ids_at x (PiecesIn version) = ids_in nat_cmp x.pieces_in.entries version
+ids_at x (OwnedBy space) = ids_in nat_cmp x.owned.entries space
+
+-- the ids of whatever is sought ascend
+abbrev pub IdsAscend : Index → Type 0
+IdsAscend x = (q : Sought) → IsStrictlySortedBy nat_cmp (ids_at x q)
+
+-- the index has an id more, of a record
+abbrev pub Adds : Index → Index → ℕ → Record → Type 0
+Adds old new id r = (q : Sought) → ids_at new q ≡ (if is_sought q r then placed id (ids_at old q) else ids_at old q)
+
+-- the index has the id of a record no more
+abbrev pub Drops : Index → Index → ℕ → Record → Type 0
+Drops old new id r = (q : Sought) → ids_at new q ≡ (if is_sought q r then without id (ids_at old q) else ids_at old q)
+
+-- the records of a map, by their ids
+abbrev pub listed : List (ℕ × Record) → List Stored
+listed entries = map (λ (e : ℕ × Record). let s : Stored = record { id = e.0; «record» = e.1 } in s) entries
+
+-- the records stand by their ids, and the index has the ids of whatever is sought among them
+pub record IsIndexed (kept : BTreeMap ℕ Record) (x : Index) : Type 0 where
+  pub ordered : IsOrdered nat_cmp kept
+  pub told : (q : Sought) → ids_at x q ≡ ids_with (is_sought q) (listed kept.entries)

@@ -1,0 +1,3 @@
+pub mod Sought
+pub mod Indexed
+pub mod Kinds

@@ -1,0 +1,238 @@
+//! The ids of the records, by what is sought.
+
+ghost use Rattle.std.specs.Prelude.{◌≡◌, [], OnOk};
+ghost use Rattle.wm_index.specs.Indexed.{Adds, Drops, IdsAscend, ids_at};
+ghost use Rattle.wm_index.specs.Sought.{Sought};
+ghost use Rattle.wm_spec.specs.declared.record.Record.TheVariants as records;
+
+use crate::ids::{add_id, drop_id};
+use crate::keyed::{Ids, TableIds, add_on, add_to, drop_from, drop_on};
+use std::alloc::Global;
+use std::collections::BTreeMap;
+use wm_base::Memory;
+use wm_spec::record::{PieceRecord, Record, Savepoint, Space, Trace, Version};
+
+/// Ids in ascending order: of the counters, the tables and the workspaces; of workspaces and versions by number;
+/// of the versions of a workspace, and of those under a version; of the savepoints of a workspace, by making, of
+/// those that keep a version, and of those of workspaces with a parent that see a version under their workspace's
+/// own; of the workspaces with a parent that were born from a version, or see it under their own; of rows by stamp;
+/// of pieces and of touches by table and key; of the pieces of a version; of the records that are a workspace's own.
+#[derive(Drop)]
+pub struct Index {
+    pub counters: Vec<u64>,
+    pub tables: Vec<u64>,
+    pub all_spaces: Vec<u64>,
+    pub spaces: Ids<u32>,
+    pub versions: Ids<u64>,
+    pub versions_of: Ids<u32>,
+    pub versions_under: Ids<u64>,
+    pub savepoints_of: Ids<u32>,
+    pub savepoints: Ids<u64>,
+    pub kept_as: Ids<u64>,
+    pub kept_under: Ids<u64>,
+    pub born_as: Ids<u64>,
+    pub seen_under: Ids<u64>,
+    pub rows: Ids<u64>,
+    pub pieces: TableIds,
+    pub touches: TableIds,
+    pub pieces_in: Ids<u64>,
+    pub owned: Ids<u32>,
+}
+
+impl Index {
+    /// The index of no records.
+    pub fn new(alloc: Global) -> Index
+        ensures { (q : Sought) → ids_at result q ≡ [] }
+    {
+        Index {
+            counters: Vec::new(alloc),
+            tables: Vec::new(alloc),
+            all_spaces: Vec::new(alloc),
+            spaces: BTreeMap::new(alloc),
+            versions: BTreeMap::new(alloc),
+            versions_of: BTreeMap::new(alloc),
+            versions_under: BTreeMap::new(alloc),
+            savepoints_of: BTreeMap::new(alloc),
+            savepoints: BTreeMap::new(alloc),
+            kept_as: BTreeMap::new(alloc),
+            kept_under: BTreeMap::new(alloc),
+            born_as: BTreeMap::new(alloc),
+            seen_under: BTreeMap::new(alloc),
+            rows: BTreeMap::new(alloc),
+            pieces: BTreeMap::new(alloc),
+            touches: BTreeMap::new(alloc),
+            pieces_in: BTreeMap::new(alloc),
+            owned: BTreeMap::new(alloc),
+        }
+    }
+
+    /// Adds the id of a record.
+    pub fn add_record(&mut self, alloc: Global, id: u64, added: &Record) -> Result<(), Memory>
+        requires { IdsAscend self.old }
+        ensures { OnOk result (Adds self.old self.new id added.now) }
+    {
+        match added {
+            Record::Counters(_) => add_id(&mut self.counters, id),
+            Record::Table(_) => add_id(&mut self.tables, id),
+            Record::Space(space) => self.add_space(alloc, id, space),
+            Record::Version(version) => self.add_version(alloc, id, version),
+            Record::Savepoint(savepoint) => self.add_savepoint(alloc, id, savepoint),
+            Record::Row(row) => add_to(alloc, &mut self.rows, row.stamp, id),
+            Record::Piece(piece) => self.add_piece(alloc, id, piece),
+            Record::Touch(touch) => self.add_touch(alloc, id, touch),
+            Record::Lock(lock) => add_to(alloc, &mut self.owned, lock.space, id),
+            Record::Hist(hist) => add_to(alloc, &mut self.owned, hist.space, id),
+            Record::Mark(mark) => add_to(alloc, &mut self.owned, mark.space, id),
+            Record::Turn(turn) => add_to(alloc, &mut self.owned, turn.space, id),
+        }
+    }
+
+    /// Adds the id of a workspace.
+    fn add_space(&mut self, alloc: Global, id: u64, space: &Space) -> Result<(), Memory>
+        requires { IdsAscend self.old }
+        ensures { OnOk result (Adds self.old self.new id (records.Space space.now)) }
+    {
+        add_id(&mut self.all_spaces, id)?;
+        add_to(alloc, &mut self.owned, space.number, id)?;
+        add_to(alloc, &mut self.spaces, space.number, id)?;
+        if space.number == 0 {
+            return Ok(());
+        }
+        add_to(alloc, &mut self.born_as, space.birth_version, id)?;
+        add_to(alloc, &mut self.seen_under, space.base_version, id)
+    }
+
+    /// Adds the id of a version.
+    fn add_version(&mut self, alloc: Global, id: u64, version: &Version) -> Result<(), Memory>
+        requires { IdsAscend self.old }
+        ensures { OnOk result (Adds self.old self.new id (records.Version version.now)) }
+    {
+        add_to(alloc, &mut self.owned, version.space, id)?;
+        add_to(alloc, &mut self.versions, version.number, id)?;
+        add_to(alloc, &mut self.versions_of, version.space, id)?;
+        add_to(alloc, &mut self.versions_under, version.parent, id)
+    }
+
+    /// Adds the id of a savepoint.
+    fn add_savepoint(&mut self, alloc: Global, id: u64, savepoint: &Savepoint) -> Result<(), Memory>
+        requires { IdsAscend self.old }
+        ensures { OnOk result (Adds self.old self.new id (records.Savepoint savepoint.now)) }
+    {
+        add_to(alloc, &mut self.owned, savepoint.space, id)?;
+        add_to(alloc, &mut self.savepoints_of, savepoint.space, id)?;
+        add_to(alloc, &mut self.savepoints, savepoint.making, id)?;
+        add_to(alloc, &mut self.kept_as, savepoint.version, id)?;
+        if savepoint.space == 0 {
+            return Ok(());
+        }
+        add_to(alloc, &mut self.kept_under, savepoint.base_version, id)
+    }
+
+    /// Adds the id of a piece.
+    fn add_piece(&mut self, alloc: Global, id: u64, piece: &PieceRecord) -> Result<(), Memory>
+        requires { IdsAscend self.old }
+        ensures { OnOk result (Adds self.old self.new id (records.Piece piece.now)) }
+    {
+        add_to(alloc, &mut self.pieces_in, piece.version, id)?;
+        let cells = &piece.cells;
+        add_on(alloc, &mut self.pieces, cells.table, &cells.key, id)
+    }
+
+    /// Adds the id of a touch.
+    fn add_touch(&mut self, alloc: Global, id: u64, touch: &Trace) -> Result<(), Memory>
+        requires { IdsAscend self.old }
+        ensures { OnOk result (Adds self.old self.new id (records.Touch touch.now)) }
+    {
+        add_to(alloc, &mut self.owned, touch.space, id)?;
+        let cells = &touch.cells;
+        add_on(alloc, &mut self.touches, cells.table, &cells.key, id)
+    }
+
+    /// Drops the id of a record.
+    pub fn drop_record(&mut self, alloc: Global, id: u64, dropped: &Record) -> Result<(), Memory>
+        requires { IdsAscend self.old }
+        ensures { OnOk result (Drops self.old self.new id dropped.now) }
+    {
+        match dropped {
+            Record::Counters(_) => {
+                drop_id(&mut self.counters, id);
+                Ok(())
+            }
+            Record::Table(_) => {
+                drop_id(&mut self.tables, id);
+                Ok(())
+            }
+            Record::Space(space) => self.drop_space(id, space),
+            Record::Version(version) => self.drop_version(id, version),
+            Record::Savepoint(savepoint) => self.drop_savepoint(id, savepoint),
+            Record::Row(row) => drop_from(&mut self.rows, row.stamp, id),
+            Record::Piece(piece) => self.drop_piece(alloc, id, piece),
+            Record::Touch(touch) => self.drop_touch(alloc, id, touch),
+            Record::Lock(lock) => drop_from(&mut self.owned, lock.space, id),
+            Record::Hist(hist) => drop_from(&mut self.owned, hist.space, id),
+            Record::Mark(mark) => drop_from(&mut self.owned, mark.space, id),
+            Record::Turn(turn) => drop_from(&mut self.owned, turn.space, id),
+        }
+    }
+
+    /// Drops the id of a workspace.
+    fn drop_space(&mut self, id: u64, space: &Space) -> Result<(), Memory>
+        requires { IdsAscend self.old }
+        ensures { OnOk result (Drops self.old self.new id (records.Space space.now)) }
+    {
+        drop_id(&mut self.all_spaces, id);
+        drop_from(&mut self.owned, space.number, id)?;
+        drop_from(&mut self.spaces, space.number, id)?;
+        if space.number == 0 {
+            return Ok(());
+        }
+        drop_from(&mut self.born_as, space.birth_version, id)?;
+        drop_from(&mut self.seen_under, space.base_version, id)
+    }
+
+    /// Drops the id of a version.
+    fn drop_version(&mut self, id: u64, version: &Version) -> Result<(), Memory>
+        requires { IdsAscend self.old }
+        ensures { OnOk result (Drops self.old self.new id (records.Version version.now)) }
+    {
+        drop_from(&mut self.owned, version.space, id)?;
+        drop_from(&mut self.versions, version.number, id)?;
+        drop_from(&mut self.versions_of, version.space, id)?;
+        drop_from(&mut self.versions_under, version.parent, id)
+    }
+
+    /// Drops the id of a savepoint.
+    fn drop_savepoint(&mut self, id: u64, savepoint: &Savepoint) -> Result<(), Memory>
+        requires { IdsAscend self.old }
+        ensures { OnOk result (Drops self.old self.new id (records.Savepoint savepoint.now)) }
+    {
+        drop_from(&mut self.owned, savepoint.space, id)?;
+        drop_from(&mut self.savepoints_of, savepoint.space, id)?;
+        drop_from(&mut self.savepoints, savepoint.making, id)?;
+        drop_from(&mut self.kept_as, savepoint.version, id)?;
+        if savepoint.space == 0 {
+            return Ok(());
+        }
+        drop_from(&mut self.kept_under, savepoint.base_version, id)
+    }
+
+    /// Drops the id of a piece.
+    fn drop_piece(&mut self, alloc: Global, id: u64, piece: &PieceRecord) -> Result<(), Memory>
+        requires { IdsAscend self.old }
+        ensures { OnOk result (Drops self.old self.new id (records.Piece piece.now)) }
+    {
+        drop_from(&mut self.pieces_in, piece.version, id)?;
+        let cells = &piece.cells;
+        drop_on(alloc, &mut self.pieces, cells.table, &cells.key, id)
+    }
+
+    /// Drops the id of a touch.
+    fn drop_touch(&mut self, alloc: Global, id: u64, touch: &Trace) -> Result<(), Memory>
+        requires { IdsAscend self.old }
+        ensures { OnOk result (Drops self.old self.new id (records.Touch touch.now)) }
+    {
+        drop_from(&mut self.owned, touch.space, id)?;
+        let cells = &touch.cells;
+        drop_on(alloc, &mut self.touches, cells.table, &cells.key, id)
+    }
+}

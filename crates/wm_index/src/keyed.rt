@@ -1,0 +1,152 @@
+//! Ids under keys.
+
+ghost use Rattle.std.specs.Prelude.{◌≡◌, ℕ, ◌==◌, ◌&&◌, List, [], ◌∷◌, ◌++◌, if◌then◌else◌, IfOk, OnOk};
+ghost use Rattle.std.specs.BTreeMap.{IsOrdered};
+ghost use Rattle.std.specs.List.Sorted.{IsStrictlySortedBy};
+ghost use Rattle.std.specs.Map.{keys_of};
+ghost use Rattle.std.specs.Option.{option_copied};
+ghost use Rattle.std.specs.Ordering.{is_eq, nat_cmp};
+ghost use Rattle.wm_base.specs.Key.{key_order};
+ghost use Rattle.wm_base.specs.declared.value.Value.{Value};
+ghost use Rattle.wm_index.specs.Sought.{placed, without, ids_in, keyed_at, last_used, piece_ids, used};
+
+use crate::ids::{add_id, drop_id};
+use std::alloc::Global;
+use std::collections::BTreeMap;
+use wm_base::{Key, Memory};
+
+pub type Ids<K> = BTreeMap<K, Vec<u64>>;
+
+pub type TableIds = BTreeMap<u16, Ids<Key>>;
+
+/// The ids under a key.
+pub fn ids_of<'a, K: Ord>(map: &'a Ids<K>, key: &K) -> &'a [u64]
+    ensures { result.now ≡ ids_in K.cmp map.now.entries key.now }
+{
+    match map.get(key) {
+        Some(ids) => ids.as_slice(),
+        None => &[],
+    }
+}
+
+/// Puts an id under a key, where those there ascend.
+pub fn add_to<K: Ord + Drop>(alloc: Global, map: &mut Ids<K>, key: K, id: u64) -> Result<(), Memory>
+    requires { IsStrictlySortedBy nat_cmp (ids_in K.cmp map.old.entries key) }
+    ensures { OnOk result ((q : K) → ids_in K.cmp map.new.entries q ≡ (if is_eq (K.cmp key q) then placed id (ids_in K.cmp map.old.entries key) else ids_in K.cmp map.old.entries q)) }
+{
+    let mut ids = map.remove(&key).unwrap_or(Vec::new(alloc));
+    add_id(&mut ids, id)?;
+    map.insert(key, ids)?;
+    Ok(())
+}
+
+/// Takes an id from under a key, where those there ascend. A key that has none left goes.
+pub fn drop_from<K: Ord + Drop>(map: &mut Ids<K>, key: K, id: u64) -> Result<(), Memory>
+    requires { IsStrictlySortedBy nat_cmp (ids_in K.cmp map.old.entries key) }
+    ensures { OnOk result ((q : K) → ids_in K.cmp map.new.entries q ≡ (if is_eq (K.cmp key q) then without id (ids_in K.cmp map.old.entries key) else ids_in K.cmp map.old.entries q)) }
+{
+    let Some(mut ids) = map.remove(&key) else {
+        return Ok(());
+    };
+    drop_id(&mut ids, id);
+    if !ids.is_empty() {
+        map.insert(key, ids)?;
+    }
+    Ok(())
+}
+
+/// The last key that has ids. A key that has none is not kept, so the very last is looked at alone.
+pub fn last_key<K: Ord>(map: &Ids<K>) -> Option<&K>
+    ensures last { option_copied result ≡ last_used map.now.entries }
+    ensures ordered { IsOrdered K.cmp map.now }
+{
+    let mut entries = map.iter();
+    while let Some((key, ids)) = entries.next_back() {
+        if !ids.is_empty() {
+            return Some(key);
+        }
+    }
+    None
+}
+
+/// The ids under a table and a key.
+pub fn ids_on<'a>(tables: &'a TableIds, table: u16, key: &Key) -> &'a [u64]
+    ensures { result.now ≡ piece_ids tables.now.entries table key.now }
+{
+    match tables.get(&table) {
+        Some(keys) => ids_of(keys, key),
+        None => &[],
+    }
+}
+
+/// Puts an id under a table and a key, where those there ascend.
+pub fn add_on(
+    alloc: Global,
+    tables: &mut TableIds,
+    table: u16,
+    key: &Key,
+    id: u64,
+) -> Result<(), Memory>
+    requires { IsStrictlySortedBy nat_cmp (piece_ids tables.old.entries table key.now) }
+    ensures { OnOk result ((t : ℕ) (k : List Value) → piece_ids tables.new.entries t k ≡ (if (table == t) && is_eq (key_order key.now k) then placed id (piece_ids tables.old.entries t k) else piece_ids tables.old.entries t k)) }
+{
+    let key = key.copy(alloc)?;
+    let mut keys = tables.remove(&table).unwrap_or(BTreeMap::new(alloc));
+    add_to(alloc, &mut keys, key, id)?;
+    tables.insert(table, keys)?;
+    Ok(())
+}
+
+/// Takes an id from under a table and a key, where those there ascend.
+pub fn drop_on(
+    alloc: Global,
+    tables: &mut TableIds,
+    table: u16,
+    key: &Key,
+    id: u64,
+) -> Result<(), Memory>
+    requires { IsStrictlySortedBy nat_cmp (piece_ids tables.old.entries table key.now) }
+    ensures { OnOk result ((t : ℕ) (k : List Value) → piece_ids tables.new.entries t k ≡ (if (table == t) && is_eq (key_order key.now k) then without id (piece_ids tables.old.entries t k) else piece_ids tables.old.entries t k)) }
+{
+    let key = key.copy(alloc)?;
+    let Some(mut keys) = tables.remove(&table) else {
+        return Ok(());
+    };
+    drop_from(&mut keys, key, id)?;
+    tables.insert(table, keys)?;
+    Ok(())
+}
+
+/// Puts a copy of a key that has ids behind others.
+fn push_used(alloc: Global, keys: &mut Vec<Key>, key: &Key, ids: &Vec<u64>) -> Result<(), Memory>
+    ensures { OnOk result (keys.new.items ≡ keys.old.items ++ used ((key.now, ids.now) ∷ [])) }
+{
+    if ids.is_empty() {
+        return Ok(());
+    }
+    keys.push(key.copy(alloc)?)?;
+    Ok(())
+}
+
+/// A copy of each key that has ids, in order.
+fn used_keys(alloc: Global, map: &Ids<Key>) -> Result<Vec<Key>, Memory>
+    ensures keys { IfOk result (λ keys. keys.items ≡ used map.now.entries) }
+    ensures ordered { OnOk result (IsStrictlySortedBy key_order (keys_of map.now.entries)) }
+{
+    let mut keys = Vec::new(alloc);
+    for (key, ids) in map {
+        push_used(alloc, &mut keys, key, ids)?;
+    }
+    Ok(keys)
+}
+
+/// A copy of each key of a table that has ids, in order.
+pub fn keys_on(alloc: Global, tables: &TableIds, table: u16) -> Result<Vec<Key>, Memory>
+    ensures keys { IfOk result (λ keys. keys.items ≡ used (keyed_at tables.now.entries table)) }
+    ensures ordered { OnOk result (IsStrictlySortedBy key_order (keys_of (keyed_at tables.now.entries table))) }
+{
+    match tables.get(&table) {
+        Some(keys) => used_keys(alloc, keys),
+        None => Ok(Vec::new(alloc)),
+    }
+}
