@@ -13,6 +13,7 @@ use wm_image::Image;
 use wm_pending::clash::Clash;
 use wm_plan::answer::Answer;
 use wm_plan::refuse::{at_its_end, in_conflict};
+use wm_space::saving::is_last;
 use wm_spec::record::Space;
 
 /// That a workspace and its parent both changed a key of a table, in a table with valid time in this period.
@@ -49,7 +50,7 @@ pub fn clash_refusal(
 pub fn rebase_refusal(alloc: Global, space: &Space) -> Result<Option<Refusal>, Memory>
     ensures { IfOk result (λ fault. fault ≡ rebase_fault space.now) }
 {
-    if space.rebases == u32::MAX {
+    if is_last(space.rebases) {
         return Ok(at_its_end(alloc, b"REBASE")?.into_refusal());
     }
     Ok(None)

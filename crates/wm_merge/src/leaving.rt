@@ -1,39 +1,21 @@
 //! What a merge is refused for that is to remove its workspace, or to keep the parent in a savepoint first.
 
-ghost use Rattle.std.specs.Prelude.{◌≡◌, ℕ, true, IfOk};
-ghost use Rattle.std.specs.List.{find};
-ghost use Rattle.std.specs.Option.{option_copied};
+ghost use Rattle.std.specs.Prelude.{◌≡◌, true, IfOk};
 ghost use Rattle.wm_graph.specs.Parts.{parts_of};
 ghost use Rattle.wm_graph.specs.Rules.{keep_rules};
 ghost use Rattle.wm_model.specs.Merged.{keeping_refusal, leaving_refusal, naming_refusal};
-ghost use Rattle.wm_state.specs.State.{Session as SessionState};
 
 use std::alloc::Global;
 use wm_base::{Memory, Refusal};
 use wm_changes::names::implicit_name;
 use wm_image::Image;
-use wm_plan::refuse::{
-    at_its_end, has_child, most_savepoints, savepoint_there, session_inside,
-};
+use wm_plan::refuse::{at_its_end, most_savepoints, savepoint_there};
 use wm_plan::session::Session;
+use wm_space::removing::removing_refusal;
+use wm_space::saving::{SAVEPOINT_LIMIT, is_last};
 use wm_spec::record::Space;
 
-/// The most savepoints of a workspace.
-const SAVEPOINT_LIMIT: usize = 4_096;
-
-/// The first session, in the order of CONNECT, that stands in a workspace.
-fn first_inside(sessions: &[Session], space: u32) -> Option<&Session>
-    ensures { option_copied result ≡ find (λ (x : SessionState). x.space == space) sessions.now }
-{
-    for session in sessions {
-        if session.space() == space {
-            return Some(session);
-        }
-    }
-    None
-}
-
-/// What a merge that removes its workspace is refused for: a session stands in it, or it has a child.
+/// What a merge that removes its workspace is refused for, as the removal alone would be.
 pub fn leaving_refusal(
     alloc: Global,
     image: &Image,
@@ -47,15 +29,7 @@ pub fn leaving_refusal(
     if !removes {
         return Ok(None);
     }
-    if let Some(session) = first_inside(sessions, space.number) {
-        let inside = session_inside(space.name.copy(alloc)?, session.name().copy(alloc)?);
-        return Ok(inside.into_refusal());
-    }
-    if let Some(child) = image.child_from(space.number, 0, 0) {
-        let child = has_child(space.name.copy(alloc)?, child.name.copy(alloc)?);
-        return Ok(child.into_refusal());
-    }
-    Ok(None)
+    removing_refusal(alloc, image, sessions, space)
 }
 
 /// What a merge that keeps the parent first is refused for: the name of the savepoint stands there.
@@ -97,10 +71,10 @@ pub fn keeping_refusal(
     if image.savepoint_count(parent.number) >= SAVEPOINT_LIMIT {
         return Ok(most_savepoints().into_refusal());
     }
-    if parent.next_place == u32::MAX {
+    if is_last(parent.next_place) {
         return Ok(at_its_end(alloc, b"PLACE")?.into_refusal());
     }
-    if parent.next_implicit == u32::MAX {
+    if is_last(parent.next_implicit) {
         return Ok(at_its_end(alloc, b"ICP")?.into_refusal());
     }
     Ok(None)

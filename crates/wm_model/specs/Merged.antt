@@ -23,8 +23,8 @@ use Rattle.wm_state.specs.declared.edit.Edit.TheVariants as edits
 use Rattle.wm_state.specs.declared.edit.NewEntry.{NewEntry}
 use Rattle.wm_telling.specs.Telling.{AreFamily, AreOwn, IsFirstClash, IsHeldListing, clash_held, gained_held, own_held}
 use Rattle.wm_print.specs.Texts.{Answer}
-use Rattle.wm_model.specs.Step.{Asked, at_its_end, counter_limit, first_fault, first_session, has_child, in_conflict, most_savepoints, number_limit, refused_for, refused_if, savepoint_there, session_inside, told_period}
-use Rattle.wm_model.specs.Undone.{NamesSpace, first_child}
+use Rattle.wm_model.specs.Step.{Asked, at_its_end, counter_limit, first_fault, in_conflict, most_savepoints, number_limit, refused_for, refused_if, savepoint_there, told_period}
+use Rattle.wm_model.specs.Undone.{NamesSpace, removing_refusal}
 
 -- ---- conflicts
 
@@ -102,12 +102,7 @@ refresh_edits n entries = edits.Rebase n false ∷ gain_edits n entries
 
 -- what a merge with removal is refused for
 abbrev pub leaving_refusal : Bool → Parts → List Session → Space → Option Refusal
-leaving_refusal false p xs a = None
-leaving_refusal true p xs a =
-    first_fault
-    (refused_for (session_inside a.name) (first_session (λ (x : Session). x.space == a.number) xs)
-    ∷ refused_for (has_child a.name) (first_child p a.number 0 0)
-    ∷ [])
+leaving_refusal removes p xs a = if removes then removing_refusal p xs a else None
 
 -- a merge that keeps the parent first is refused for the name of its savepoint
 abbrev pub naming_refusal : Bool → Parts → Space → Option Refusal

@@ -1,5 +1,5 @@
-//! What lines do and answer that make tables, workspaces and savepoints, and that say who is connected, where a session stands, in which
-//! period it sees rows, and what the moment is.
+//! What lines do and answer that make tables, workspaces and savepoints, that go back to a savepoint or remove a
+//! workspace, and that say who is connected, where a session stands, in which period it sees rows, and what the moment is.
 #![tactic(auto)]
 
 pub mod at;
@@ -9,7 +9,7 @@ pub mod connect;
 pub mod create;
 mod enable;
 mod going;
-mod removing;
+pub mod removing;
 mod rolling;
-mod saving;
+pub mod saving;
 mod valid_time;

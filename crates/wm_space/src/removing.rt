@@ -35,7 +35,7 @@ fn first_inside(sessions: &[Session], space: u32) -> Option<&Session>
 }
 
 /// What the removal of a workspace is refused for: a session stands in it, or it has a child.
-fn removing_refusal(
+pub fn removing_refusal(
     alloc: Global,
     image: &Image,
     sessions: &[Session],
