@@ -8,6 +8,7 @@ use Rattle.wm_base.specs.Period.{Span}
 use Rattle.wm_base.specs.declared.refusal.Refusal.{Refusal}
 use Rattle.wm_base.specs.declared.value.Value.{Value}
 use Rattle.wm_graph.specs.Parts.{Parts, parts_of, space_of, table_of}
+use Rattle.wm_graph.specs.Rules.{is_short}
 use Rattle.wm_spec.specs.Lists.{Cell, Entry}
 use Rattle.wm_spec.specs.declared.record.savepoint.Savepoint.{Savepoint}
 use Rattle.wm_spec.specs.declared.record.space.Space.{Space}
@@ -77,6 +78,7 @@ refreshing_refusal p a found = first_fault (clash_fault p found ∷ rebase_fault
 
 -- something is pending that the workspace may gain, and nothing refuses it
 pub record Refreshes (rs : List Stored) (m : ℕ) (session : Session) (workspace : List ℕ) (a b : Space) (es : List Entry) : Type 0 where
+  pub user : is_short session.user ≡ true
   pub family : NamesFamily rs workspace a b
   pub pending : is_quiet_at a b ≡ false
   pub found : Option Clashed
@@ -134,6 +136,7 @@ merging_refusal asked p xs a b found own =
 
 -- what is merged, and what is gained in turn, and nothing refuses it
 pub record Merges (rs : List Stored) (m : ℕ) (xs : List Session) (session : Session) (asked : Asked) (workspace : List ℕ) (a b : Space) (own es : List Entry) : Type 0 where
+  pub user : is_short session.user ≡ true
   pub family : NamesFamily rs workspace a b
   pub found : Option Clashed
   pub clash : IsClash (parts_of rs) a b found
