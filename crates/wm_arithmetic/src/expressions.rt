@@ -81,13 +81,19 @@ fn factor(cursor: &mut Cursor, alloc: Global, depth: u8) -> Result<Expr, ParseEr
     if cursor.is(Sort::Minus) {
         cursor.mark(Sort::Minus)?;
         let negated = factor(cursor, alloc, depth - 1)?;
-        return Ok(Expr::Neg(Box::new(alloc, negated)?));
+        let inner = boxed(alloc, negated)?;
+        return Ok(Expr::Neg(inner));
     }
     if cursor.is(Sort::Open) {
         cursor.mark(Sort::Open)?;
         let inner = expr_within(cursor, alloc, depth - 1)?;
-        cursor.mark(Sort::Close)?;
-        return Ok(inner);
+        return match cursor.mark(Sort::Close) {
+            Ok(()) => Ok(inner),
+            Err(fault) => {
+                drop(inner);
+                Err(fault)
+            }
+        };
     }
     let operand = plain_operand(cursor, alloc)?;
     Ok(Expr::Operand(operand))

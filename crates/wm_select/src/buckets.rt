@@ -4,6 +4,7 @@ ghost use Rattle.wm_base.specs.declared.row.Row.{Row as RowOf};
 ghost use Rattle.wm_select.specs.Joining.{mix_bytes, mix_of, bucket_of, AreDealt};
 
 use crate::agree::cell;
+use crate::copied::push_copy;
 use std::alloc::Global;
 use wm_base::{Memory, Row, RowList, Value};
 
@@ -63,7 +64,7 @@ pub fn deal(alloc: Global, rows: &[Row], place: usize) -> Result<Vec<RowList>, M
     let mut buckets = empty_buckets(alloc, count)?;
     for row in rows {
         let bucket = bucket_of(count, cell(row, place));
-        buckets[bucket].push(row.copy(alloc)?)?;
+        push_copy(alloc, &mut buckets[bucket], row)?;
     }
     Ok(buckets)
 }

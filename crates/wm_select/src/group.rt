@@ -5,6 +5,7 @@ ghost use Rattle.wm_base.specs.Views.{query_view};
 ghost use Rattle.wm_select.specs.Query.{group_values, in_groups, groups_of};
 ghost use Rattle.wm_select.specs.Keys.{keyed_by_group, cut};
 
+use crate::copied::push_copy;
 use crate::keyed::Keyed;
 use crate::order::{has_keys_of, sort_ascending};
 use std::alloc::Global;
@@ -66,13 +67,13 @@ fn cut(alloc: Global, rows: &[Keyed]) -> Result<Vec<RowList>, Memory>
     };
     let mut first = first;
     let mut group = RowList::new(alloc);
-    group.push(first.row.copy(alloc)?)?;
+    push_copy(alloc, &mut group, &first.row)?;
     for row in others {
         if !has_keys_of(first, row) {
             groups.push(mem::replace(&mut group, RowList::new(alloc)))?;
             first = row;
         }
-        group.push(row.row.copy(alloc)?)?;
+        push_copy(alloc, &mut group, &row.row)?;
     }
     groups.push(group)?;
     Ok(groups)
@@ -106,7 +107,7 @@ fn alone(alloc: Global, rows: &[Row]) -> Result<Vec<RowList>, Memory>
     let mut groups = Vec::with_capacity(alloc, rows.len())?;
     for row in rows {
         let mut group = RowList::new(alloc);
-        group.push(row.copy(alloc)?)?;
+        push_copy(alloc, &mut group, row)?;
         groups.push(group)?;
     }
     Ok(groups)

@@ -8,6 +8,7 @@ mod asked;
 mod beside;
 mod buckets;
 mod condition;
+mod copied;
 mod counted;
 mod distinct;
 mod equalities;

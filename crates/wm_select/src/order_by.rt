@@ -11,6 +11,7 @@ ghost use Rattle.wm_select.specs.Sorting.{sorted};
 ghost use Rattle.wm_select.specs.Query.{has_name, named_item, shown_value, value_at_name, place_of, order_value, directions_of, goes_before};
 ghost use Rattle.wm_select.specs.Keys.{keyed_by_order};
 
+use crate::copied::push_copy;
 use crate::keyed::Keyed;
 use crate::order::sort_directed;
 use crate::shown::Shown;
@@ -183,7 +184,7 @@ fn rows_of(alloc: Global, keyed: &[Keyed]) -> Result<RowList, Memory>
 {
     let mut rows = RowList::new(alloc);
     for one in keyed {
-        rows.push(one.row.copy(alloc)?)?;
+        push_copy(alloc, &mut rows, &one.row)?;
     }
     Ok(rows)
 }

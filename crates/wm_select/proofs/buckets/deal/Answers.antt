@@ -15,7 +15,7 @@ loop-row-preserved c =
     let is_bucket : bucket ≡ bucket_of count (cell row c.args.place) = cc (c.bucket_of-bucket.ensures, c.cell.ensures) in
     let below : bucket < count = omega arith in
     let was : old ≡ get_or c.loop-row.buckets.items bucket old = c.index_mut.ensures.value in
-    let put : c.push.new.self ≡ old ++ row ∷ [] = cc (c.in_ok-push.ensures.ok, c.in_ok-copy.ensures) in
+    let put : c.push_copy.new.rows ≡ old ++ row ∷ [] = c.in_ok-push_copy.ensures in
     record {
       count = length-set _ _ _ ∙ c.loop-row.invariant.count;
       each = λ k d less.
