@@ -45,6 +45,8 @@ demo: build/wm
 	cmp build/budget.answers examples/budget.answers
 	build/wm build/demo.store run --now 2024-07-01 < examples/survey.wm | tee build/survey.answers
 	cmp build/survey.answers examples/survey.answers
+	build/wm build/demo.store run --now 2024-08-01 < examples/plans.wm | tee build/plans.answers
+	cmp build/plans.answers examples/plans.answers
 
 # The gate leaves the program that it proved in the crate's out/: it is taken from there, and not proved a second time.
 test:

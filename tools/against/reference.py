@@ -1,7 +1,8 @@
 """The state, and what each line answers, by the rules of the language alone."""
 import itertools
-from dataclasses import dataclass, field
+from dataclasses import dataclass, field, replace
 
+from lists import copied, entries_of, Entry, first_conflict, net, outside, over, put, rows_of
 from parser import BadToken, Parser, VIEWS
 from trees import (
     Aggregate, Arithmetic, At, Both, Call, Column, Comparison, Connect, Constant, Create, Delete, Disconnect, Either, Insert,
@@ -48,19 +49,12 @@ class Session:
 
 
 @dataclass
-class Entry:
-    """What a change wrote: a row over a period, or that none is there."""
-    table: str
-    key: object
-    period: Period
-    row: tuple | None
-
-
-@dataclass
 class Savepoint:
     place: int
     content: dict
+    own: list
     log_length: int
+    rebases: int
 
 
 @dataclass
@@ -68,37 +62,30 @@ class Workspace:
     number: int
     parent: int | None
     birth_place: int  # in the parent
-    log_from: int  # how long the parent's log was
-    first: dict  # table to the rows of each key, each a period and its values, in order of time: what it was born with
-    content: dict  # what it has now
+    log_from: int  # how long the parent's log was when 'base' was taken of it
+    first: dict  # what it was born with
+    base: dict  # its copy of what the parent has
+    content: dict  # what it has now: the base, and over it what is its own
+    own: list = field(default_factory=list)  # its changes that are not merged
     log: list = field(default_factory=list)  # of all its changes
+    turns: list = field(default_factory=list)  # of the parent, at birth and at each rebase: the length of its log, and its rebases
     savepoints: dict = field(default_factory=dict)  # by name
     place: int = 0  # the last one given; none is given again
     implicit: int = 0  # how many implicit savepoints were ever made
 
-    def append(self, entry):
-        self.log.append(entry)
-        write(self.content, entry)
+    @property
+    def rebases(self):
+        return max(len(self.turns) - 1, 0)
 
+    def append(self, entries):
+        self.own, self.log = self.own + entries, self.log + entries
+        for entry in entries:
+            put(self.content, entry)
 
-def copied(content):
-    return {table: {key: list(pieces) for key, pieces in rows.items()} for table, rows in content.items()}
-
-
-def write(content, entry):
-    rows = content.setdefault(entry.table, {})
-    rows[entry.key] = written(rows.get(entry.key, []), entry.period, entry.row)
-    if not rows[entry.key]:
-        del rows[entry.key]
-
-
-def written(pieces, period, row):
-    """The rows of a key after an entry with a row, or with None where it is gone. What the entry leaves of a row has neighbours of other
-    stamps alone, so no two parts ever meet again and would be one row."""
-    found = [] if row is None else [(period, row)]
-    for old, values in pieces:
-        found += [(part, values) for part in (old.outside(period) if old.overlaps(period) else [old])]
-    return sorted(found, key=lambda piece: piece[0])
+    def rebase(self, parent):
+        self.base, self.log_from = copied(parent.content), len(parent.log)
+        self.turns.append((len(parent.log), parent.rebases))
+        self.content = over(self.base, self.own)
 
 
 class Scope:
@@ -260,7 +247,7 @@ class Reference:
 
     def __init__(self, limit):
         self.limit, self.stamps, self.last_moment, self.moment = limit, 0, Instant(0), Instant(0)
-        self.tables, self.workspaces, self.sessions = {}, {b"LIVE": Workspace(0, None, 0, 0, {}, {})}, {}
+        self.tables, self.workspaces, self.sessions = {}, {b"LIVE": Workspace(0, None, 0, 0, {}, {}, {})}, {}
 
     def begin(self, now):
         self.sessions = {}
@@ -345,15 +332,23 @@ class Reference:
 
     def pieces(self, session, table):
         """The rows that a session is shown, by key and from, each with its whole period."""
-        found, window = self.content(session).get(table.name, {}), self.window(session, table)
-        return [piece for key in sorted(found) for piece in found[key] if piece[0].overlaps(window)]
+        keys, window = self.content(session).get(table.name, {}), self.window(session, table)
+        return [piece for key in sorted(keys) for piece in rows_of(keys[key]) if piece[0].overlaps(window)]
 
     def rows(self, session, table):
         """The same as rows of the columns that '*' gives."""
         return [values + (period,) * table.has_periods for period, values in self.pieces(session, table)]
 
-    def write(self, session, table, key, period, row):
-        self.workspaces[session.workspace].append(Entry(table.name, key, period, row))
+    def write(self, session, table, changes):
+        """Entries of changes, each a key, a period, a row or None, and a kind; each has the next stamp."""
+        if self.stamps + len(changes) > self.limit:
+            refuse("WM-070 change limit", self.limit)
+        entries = [Entry(table.name, key, period, row, self.stamps + count, kind, self.moment, session.user)
+                   for count, (key, period, row, kind) in enumerate(changes, 1)]
+        self.workspaces[session.workspace].append(entries)
+        self.stamps += len(changes)
+        if changes:
+            self.changed()
 
     def used(self, names):
         """The tables of these names, which are all there and version-enabled."""
@@ -436,11 +431,10 @@ class Reference:
         row = tuple(given.get(name) for name in declared)
         self.test_rows(table, [row])
         key, period = row[table.key], given.get("WM_VALID") or table.has_periods and session.period or ALWAYS
-        for old, _ in self.content(session).get(table.name, {}).get(key, []):
+        for old, _ in rows_of(entries_of(self.content(session), table.name, key)):
             if old.overlaps(period):
                 refuse("WM-060 key there", printed(key), *[printed(old.shared(period))] * table.has_periods)
-        self.give_stamps(1)
-        self.write(session, table, key, period, row)
+        self.write(session, table, [(key, period, row, "I")])
         return [], "DONE 1"
 
     def test_rows(self, table, rows):
@@ -454,13 +448,6 @@ class Reference:
                     refuse("WM-063 too heavy", column.name)
             if sum(map(weight, row)) > 2000:
                 refuse("WM-063 too heavy", "ROW")
-
-    def give_stamps(self, count):
-        if self.stamps + count > self.limit:
-            refuse("WM-070 change limit", self.limit)
-        self.stamps += count
-        if count:
-            self.changed()
 
     def update(self, session, tree):
         [table] = self.used([tree.table])
@@ -493,10 +480,8 @@ class Reference:
         if "WM_VALID" in names:
             entries = self.moved(session, table, changes)
         else:
-            entries = [(row[table.key], period, row) for _, period, row in changes]
-        self.give_stamps(len(entries))
-        for key, period, row in entries:
-            self.write(session, table, key, period, row)
+            entries = [(row[table.key], period, row, "U") for _, period, row in changes]
+        self.write(session, table, entries)
         return [], f"DONE {len(changes)}"
 
     def moved(self, session, table, changes):
@@ -505,11 +490,11 @@ class Reference:
         for key in sorted({row[table.key] for _, _, row in changes}):
             mine = [change for change in changes if change[2][table.key] == key]
             old, new = [change[0] for change in mine], [change[1] for change in mine]
-            stays = [period for period, _ in self.content(session)[table.name][key] if period not in old]
+            stays = [period for period, _ in rows_of(entries_of(self.content(session), table.name, key)) if period not in old]
             shared = [one.shared(other) for place, one in enumerate(new) for other in stays + new[:place] if one.overlaps(other)]
             if shared:
                 refuse("WM-060 key there", printed(key), printed(min(shared)))
-            found = [(key, period, row) for _, period, row in mine] + [(key, period, None) for one in old for period in one.beside(new)]
+            found = [(key, period, row, "U") for _, period, row in mine] + [(key, period, None, "D") for one in old for period in one.beside(new)]
             entries += sorted(found, key=lambda entry: entry[1])
         return entries
 
@@ -523,11 +508,9 @@ class Reference:
         self.test_lacking(scope, [tree.condition])
         self.at_latest(session)
         self.test_periods()
-        gone = [(period.shared(self.window(session, table)), row[table.key])
+        gone = [(row[table.key], period.shared(self.window(session, table)), None, "D")
                 for (period, _), row in zip(self.pieces(session, table), self.rows(session, table)) if scope.truth(tree.condition, row) is True]
-        self.give_stamps(len(gone))
-        for period, key in gone:
-            self.write(session, table, key, period, None)
+        self.write(session, table, gone)
         return [], f"DONE {len(gone)}"
 
     # SELECT
@@ -654,7 +637,8 @@ class Reference:
         return {"ENABLEVERSIONING": self.enable_versioning, "CREATEWORKSPACE": self.create_workspace,
                 "CREATESAVEPOINT": self.create_savepoint, "GOTOWORKSPACE": self.goto_workspace,
                 "GOTOSAVEPOINT": self.goto_savepoint, "SETVALIDTIME": self.set_valid_time, "ROLLBACKTOSP": self.rollback_to_savepoint,
-                "REMOVEWORKSPACE": self.remove_workspace}[tree.procedure](session, tree, given)
+                "REMOVEWORKSPACE": self.remove_workspace, "REFRESHWORKSPACE": self.refresh_workspace,
+                "MERGEWORKSPACE": self.merge_workspace}[tree.procedure](session, tree, given)
 
     def test_arguments(self, tree, needed, **kinds):
         """Refuses the first argument that does not fit; 'kinds' tells for each parameter its kind, or the values it takes."""
@@ -701,24 +685,27 @@ class Reference:
         if len(self.workspaces) == self.MOST_WORKSPACES:
             refuse("WM-071 workspaces", self.MOST_WORKSPACES)
         parent = self.workspaces[session.workspace]
-        if len(parent.savepoints) == self.MOST_SAVEPOINTS:
-            refuse("WM-072 savepoints", self.MOST_SAVEPOINTS)
-        if session.savepoint is None:
-            point = self.kept(parent)
-        else:
-            stands = parent.savepoints[session.savepoint]
-            point = Savepoint(stands.place, copied(stands.content), stands.log_length)
-        parent.implicit += 1
-        parent.savepoints[b"ICP-%d" % parent.implicit] = point
+        self.test_room(parent)
+        point = self.kept(parent) if session.savepoint is None else replace(parent.savepoints[session.savepoint])
+        self.keep_implicitly(parent, point)
         number = 1 + max(workspace.number for workspace in self.workspaces.values())
-        self.workspaces[name] = Workspace(number, parent.number, point.place, point.log_length, copied(point.content), copied(point.content))
+        self.workspaces[name] = Workspace(number, parent.number, point.place, point.log_length, point.content, point.content, copied(point.content),
+                                          turns=[(point.log_length, point.rebases)])
         self.changed()
         return [], "OK"
+
+    def test_room(self, workspace):
+        if len(workspace.savepoints) == self.MOST_SAVEPOINTS:
+            refuse("WM-072 savepoints", self.MOST_SAVEPOINTS)
 
     def kept(self, workspace):
         """A savepoint of what is newest, at a new place."""
         workspace.place += 1
-        return Savepoint(workspace.place, copied(workspace.content), len(workspace.log))
+        return Savepoint(workspace.place, copied(workspace.content), workspace.own, len(workspace.log), workspace.rebases)
+
+    def keep_implicitly(self, workspace, point):
+        workspace.implicit += 1
+        workspace.savepoints[b"ICP-%d" % workspace.implicit] = point
 
     def test_new_name(self, name):
         if isinstance(name, bytes) and not (1 <= len(name) <= 30 and all(0x20 <= byte <= 0x7E for byte in name)):
@@ -733,8 +720,7 @@ class Reference:
         workspace = self.workspace(given["WORKSPACE"])
         if name in workspace.savepoints:
             refuse("WM-023 savepoint exists", printed(name))
-        if len(workspace.savepoints) == self.MOST_SAVEPOINTS:
-            refuse("WM-072 savepoints", self.MOST_SAVEPOINTS)
+        self.test_room(workspace)
         workspace.savepoints[name] = self.kept(workspace)
         self.changed()
         return [], "OK"
@@ -771,8 +757,11 @@ class Reference:
         self.test_inside(given["WORKSPACE"], lambda savepoint: savepoint in later)
         self.test_child("WM-045 dependent child", workspace,
                         lambda child: child.birth_place > point.place or child.log_from > point.log_length)
+        if workspace.rebases > point.rebases:
+            refuse("WM-046 rebased since", printed(name))
         if later or len(workspace.log) > point.log_length:
-            workspace.content, workspace.log = copied(point.content), workspace.log[:point.log_length]
+            workspace.own, workspace.log = point.own, workspace.log[:point.log_length]
+            workspace.content = over(workspace.base, workspace.own)
             workspace.savepoints = {other: it for other, it in workspace.savepoints.items() if other not in later}
             self.changed()
         return [], "OK"
@@ -780,13 +769,76 @@ class Reference:
     def remove_workspace(self, session, tree, given):
         self.test_arguments(tree, ["WORKSPACE"], WORKSPACE="text")
         name = given["WORKSPACE"]
+        self.child(name)
+        self.test_removal(name)
+        del self.workspaces[name]
+        self.changed()
+        return [], "OK"
+
+    def child(self, name):
+        """The workspace of a name, which has a parent."""
         workspace = self.workspace(name)
         if workspace.parent is None:
             refuse("WM-025 no parent", printed(name))
+        return workspace
+
+    def test_removal(self, name):
         self.test_inside(name, lambda savepoint: True)
-        self.test_child(f"WM-044 has child {printed(name).decode()}", workspace, lambda child: True)
-        del self.workspaces[name]
-        self.changed()
+        self.test_child(f"WM-044 has child {printed(name).decode()}", self.workspaces[name], lambda child: True)
+
+    # Refresh and merge
+
+    def parent_of(self, workspace):
+        return next(other for other in self.workspaces.values() if other.number == workspace.parent)
+
+    def replayed(self, entries, session):
+        """Entries keep their rows, stamps and kinds, and take the moment and the user of the line."""
+        return [replace(entry, moment=self.moment, user=session.user) for entry in entries]
+
+    def gained(self, workspace, session):
+        """What a rebase brings: what was changed in the parent since, where the workspace changed nothing."""
+        pending = self.parent_of(workspace).log[workspace.log_from:]
+        return self.replayed(outside(net(pending, self.tables), workspace.own), session)
+
+    def test_conflict(self, workspace):
+        parent = self.parent_of(workspace)
+        conflict = first_conflict(workspace.own, parent.log[workspace.log_from:], [workspace.base, parent.content, workspace.content], self.tables)
+        if conflict is not None:
+            table, key, period = conflict
+            refuse("WM-051 conflict", table, printed(key), *[printed(period)] * self.tables[table].has_periods)
+
+    def refresh_workspace(self, session, tree, given):
+        self.test_arguments(tree, ["WORKSPACE"], WORKSPACE="text")
+        workspace = self.child(given["WORKSPACE"])
+        self.test_conflict(workspace)
+        parent = self.parent_of(workspace)
+        if len(parent.log) > workspace.log_from:
+            workspace.log = workspace.log + self.gained(workspace, session)
+            workspace.rebase(parent)
+            self.changed()
+        return [], "OK"
+
+    def merge_workspace(self, session, tree, given):
+        self.test_arguments(tree, ["WORKSPACE"], WORKSPACE="text", CREATE_SAVEPOINT="boolean", REMOVE_WORKSPACE="boolean")
+        name = given["WORKSPACE"]
+        workspace, keeps, removes = self.child(name), given.get("CREATE_SAVEPOINT"), given.get("REMOVE_WORKSPACE")
+        if removes:
+            self.test_removal(name)
+        self.test_conflict(workspace)
+        parent = self.parent_of(workspace)
+        if keeps:
+            self.test_room(parent)
+            self.keep_implicitly(parent, self.kept(parent))
+        is_rebased = workspace.own or len(parent.log) > workspace.log_from
+        if is_rebased:
+            gained = self.gained(workspace, session)
+            parent.append(self.replayed(net(workspace.own, self.tables), session))
+            workspace.log, workspace.own = workspace.log + gained, []
+            workspace.rebase(parent)
+        if removes:
+            del self.workspaces[name]
+        if keeps or removes or is_rebased:
+            self.changed()
         return [], "OK"
 
     def test_inside(self, name, is_in_the_way):

@@ -1,6 +1,7 @@
 """Random scripts, in which most lines are in order and the others miss it narrowly."""
 import random
 
+from lists import first_conflict, rows_by_key
 from parser import Parser
 from reference import ended, Reference, Session
 from tokens import OPERATORS
@@ -49,7 +50,7 @@ ODD_LINES = [
     *(b"A: INSERT INTO BUD VALUES (1, '" + b"y" * size + b"')" for size in (1999, 16351, 16352, 16353))]
 LATER = [
     "SELECT * FROM BUD_CONF", "SELECT * FROM NOPE_HIST X , BUD",
-    "EXEC DBMS_WM . MergeWorkspace ( 'W' , create_savepoint => TRUE )", "EXEC DBMS_WM . RefreshWorkspace", "SELECT 1 FROM X_LOCK , Y_DIFF",
+    "SELECT 1 FROM X_LOCK , Y_DIFF", "EXEC DBMS_WM . BeginResolve ( 'W' )", "EXEC DBMS_WM . CommitResolve",
     "EXEC DBMS_WM . LockRows ( 'W' , 'BUD' , 'ID = 1' , 'E' )", "EXEC DBMS_WM . LockRows ( 'W' , 'BUD' , 'ID = ' , 'E' )",
     "EXEC DBMS_WM . UnlockRows ( 'W' , 'BUD' , 'ID IN (9223372036854775808)' )", "EXEC DBMS_WM . UnlockRows ( 'W' , 'BUD' , '' )",
     "EXEC DBMS_WM . ResolveConflicts ( where_clause => '  ' , keep => 'CHILD' )", "EXEC DBMS_WM . SetDiffVersions ( 'A' , 'B' , 'C' , 'D' )",
@@ -146,6 +147,8 @@ class Writer:
             yield b"B: EXEC DBMS_WM.GotoWorkspace('W')"
             if self.chance(0.2 * self.branching):
                 yield from self.branched()
+        elif self.chance(0.5):
+            yield from self.levels()
         if self.chance(0.4):
             yield self.spaced(self.set_valid_time().split(" "))
         if not part and self.chance(0.02):
@@ -164,6 +167,20 @@ class Writer:
             yield b"A: EXEC DBMS_WM.GotoWorkspace('W')"
             yield b"A: EXEC DBMS_WM.CreateWorkspace('V')"
             yield f"A: EXEC DBMS_WM.GotoWorkspace('{self.one(['LIVE', 'V'])}')".encode()
+
+    def levels(self):
+        """A workspace below another, and at times one below that; in each something may be changed, and then one is merged or refreshed."""
+        names = [b"W", b"V", b"w"][:self.one([2, 2, 3])]
+        for name in names:
+            yield b"A: EXEC DBMS_WM.CreateWorkspace('%s')" % name
+            yield b"A: EXEC DBMS_WM.GotoWorkspace('%s')" % name
+        yield b"B: EXEC DBMS_WM.GotoWorkspace('W')"
+        for _ in range(self.one([1, 2, 4])):
+            if self.chance(0.4):
+                yield f"{self.one('AB')}: EXEC DBMS_WM.GotoWorkspace('{self.one(['LIVE', 'W', 'V'])}')".encode()
+            yield self.spaced(self.one([self.insert, self.insert, self.update, self.move, self.delete])().split(" "))
+        for _ in range(self.one([1, 2])):
+            yield self.spaced(self.one([self.merge, self.refresh])().split(" "))
 
     def closing(self):
         """Lines that list what stands in each workspace, and some of what stands at each savepoint."""
@@ -186,6 +203,7 @@ class Writer:
             self.insert: 26, self.update: 13, self.move: 11, self.delete: 5, self.select: 32, self.create: 3, self.enable: 3,
             self.create_workspace: 6 * self.branching, self.create_savepoint: 6 * self.branching, self.goto_workspace: 8 * self.branching,
             self.goto_savepoint: 7 * self.branching, self.rollback: 7 * self.branching, self.remove: 4 * self.branching,
+            self.merge: 8 * self.branching, self.refresh: 5 * self.branching, self.clash: 9 * self.branching,
             self.connect: 3, self.disconnect: 1, self.not_built: 1, self.set_valid_time: 10, self.at: 4, self.on_periods: 4, self.deep: 1,
             self.wide: 0.3, self.long: 0.3})().split(" ")
         if self.chance(0.12):
@@ -406,7 +424,7 @@ class Writer:
 
     def new_key(self, name, kind):
         """A constant that is most likely no key of a row that is there."""
-        used = {key for workspace in self.reference.workspaces.values() for key in workspace.content.get(name, {})}
+        used = {key for workspace in self.reference.workspaces.values() for key in rows_by_key(workspace.content, name)}
         most = 13
         if self.reference.tables[name].has_periods:
             used, most = set(), self.one([3, 3, 5])
@@ -453,7 +471,7 @@ class Writer:
     def one_row(self, name, session):
         """A key, the period of one of its rows and those of all its rows, most likely of several and a row that the session is shown."""
         table, session = self.reference.tables.get(name), self.reference.sessions.get(session)
-        rows = self.reference.content(session).get(name) if session and table and table.has_periods else None
+        rows = rows_by_key(self.reference.content(session), name) if session and table and table.has_periods else None
         if not rows:
             return None, ALWAYS, [ALWAYS]
         window = self.reference.window(session, table) if self.chance(0.8) else ALWAYS
@@ -467,7 +485,7 @@ class Writer:
             return self.where(names)
         first = f"WM_VALID . VALIDFROM = {self.time(mine.start)}"
         some = f"WM_OVERLAPS ( WM_VALID , {self.near(mine, periods)} ) = 1"
-        column = self.reference.tables[name].columns[self.reference.tables[name].key]
+        column = self.key_of(name)
         of_key = f"{column.name} = {self.time(key) if column.kind == 'time' else printed(key).decode()}"
         return " WHERE " + self.weighted({f"{of_key} AND {first}": 6, of_key: 4 * len(periods), first: 1, some: 2, f"{of_key} AND {some}": 3,
                                           f"{some} AND NOT {of_key}": 1})
@@ -620,7 +638,7 @@ class Writer:
         return self.said(f"SELECT {self.one(['', 'DISTINCT '])}{self.one(['1', '*', '2 * 3'])} FROM {self.listed(sources)}")
 
     def rows_in(self, name):
-        return max(sum(map(len, workspace.content.get(name, {}).values())) for workspace in self.reference.workspaces.values())
+        return max(sum(map(len, rows_by_key(workspace.content, name).values())) for workspace in self.reference.workspaces.values())
 
     # Calls
 
@@ -717,12 +735,15 @@ class Writer:
         return self.later(workspace, name) or len(its.log) > its.savepoints[name].log_length
 
     def likely(self, workspace, name):
-        """How likely a rollback is tried: most likely one that neither a session nor a child bars, and least one that a child bars."""
+        """How likely a rollback is tried: most likely one that neither a session, a child nor a rebase bars, and least one that a child bars."""
         its, later = self.reference.workspaces[workspace], self.later(workspace, name)
+        point = its.savepoints[name]
         if any(session.workspace == workspace and session.savepoint in later for session in self.reference.sessions.values()):
             return 10
         children = [child for child in self.reference.workspaces.values() if child.parent == its.number]
-        return 1 if any(child.birth_place > its.savepoints[name].place for child in children) else 10
+        if any(child.birth_place > point.place for child in children):
+            return 1
+        return 4 if its.rebases > point.rebases or any(child.log_from > point.log_length for child in children) else 10
 
     def remove(self):
         """A workspace that nothing keeps, or one that has children or sessions."""
@@ -732,3 +753,59 @@ class Writer:
                   for name, its in spaces.items() if its.parent is not None}
         name = printed(self.weighted(likely)).decode() if likely and not self.is_bad(0.1) else self.workspace_name()
         return self.call("RemoveWorkspace", [self.named("workspace", name)], ["workspace => 'LIVE'", "5", "'W' , 'V'", "savepoint_name => 'S'"])
+
+    def clash(self):
+        """A change of a key that was changed in the workspace above or in one below since they last met."""
+        spaces, found = self.reference.workspaces, []
+        for session, its in self.reference.sessions.items():
+            here = spaces[its.workspace]
+            entries = [entry for child in spaces.values() if child.parent == here.number for entry in child.own]
+            if here.parent is not None:
+                entries += self.reference.parent_of(here).log[here.log_from:]
+            if its.savepoint is None and entries:
+                found.append((session, self.one(entries)))
+        if not found:
+            return self.update()
+        session, entry = self.one(found)
+        column, names = self.key_of(entry.table), self.namer([(entry.table, self.shown_of(entry.table))])
+        where = f" WHERE {column.name} = {self.time(entry.key) if column.kind == 'time' else printed(entry.key).decode()}"
+        others = [other for other in self.columns_of(entry.table) if other is not column]
+        if not others or self.chance(0.3):
+            return self.said(f"DELETE FROM {entry.table}{where}", session)
+        other = self.one(others)
+        return self.said(f"UPDATE {entry.table} SET {other.name} = {self.expression(other.kind, names)}{where}", session)
+
+    def key_of(self, name):
+        table = self.reference.tables[name]
+        return table.columns[table.key]
+
+    def child(self, of_own, of_pending, of_none):
+        """A workspace below another, by what there is to merge and to bring, or one that is in conflict with its parent."""
+        likely = {}
+        for name, its in self.reference.workspaces.items():
+            if its.parent is None:
+                continue
+            parent = self.reference.parent_of(its)
+            pending = parent.log[its.log_from:]
+            weight = of_own * bool(its.own) + of_pending * bool(pending) or of_none
+            if its.own and pending and first_conflict(its.own, pending, [], self.reference.tables):
+                weight = 8
+            likely[name] = weight
+        return printed(self.weighted(likely)).decode() if likely and not self.is_bad(0.05) else self.workspace_name()
+
+    def merge(self):
+        if len(self.reference.workspaces) == 1 and not self.is_bad(0.05):
+            return self.create_workspace()
+        arguments = [self.named("workspace", self.child(8, 2, 1))]
+        if self.chance(0.4):
+            arguments.append(self.one([
+                "TRUE", "FALSE", "create_savepoint => TRUE", "TRUE , TRUE", "FALSE , TRUE", "remove_workspace => TRUE", "remove_workspace => TRUE",
+                "NULL , TRUE", "'' , NULL", "create_savepoint => TRUE , remove_workspace => TRUE",
+                "remove_workspace => TRUE , create_savepoint => FALSE"]))
+        return self.call("MergeWorkspace", arguments, ["'x'", "5", "create_savepoint => 5", "remove_workspace => 'TRUE'", "TRUE",
+                                                       "workspace => 'LIVE'"])
+
+    def refresh(self):
+        if len(self.reference.workspaces) == 1 and not self.is_bad(0.05):
+            return self.create_workspace()
+        return self.call("RefreshWorkspace", [self.named("workspace", self.child(1, 8, 1))], ["workspace => 'LIVE'", "5", "'W' , 'V'", "TRUE"])

@@ -8,7 +8,8 @@ FOLDER = str(TOP / "tools" / "against")
 SEEDS, LINES = range(1, 41), 60
 # Its modules have names that others have too, so they are found first while these are read.
 sys.path.insert(0, FOLDER)
-from reference import Reference, copied, ended, write
+from lists import copied, joined, put
+from reference import Reference, ended
 from scripts import Writer
 from values import TIMESTAMP_FORMS, instant
 sys.path.remove(FOLDER)
@@ -47,8 +48,20 @@ def difference(path):
     return None
 
 
-def rows_in(content):
-    return {table: rows for table, rows in content.items() if rows}
+def alike(held):
+    """What two lists have in common that hold the same at each moment: the entries, joined, without when and by whom."""
+    return {(table, key): [(entry.period, entry.row, entry.stamp, entry.kind) for entry in joined(entries)]
+            for table, keys in held.items() for key, entries in keys.items()}
+
+
+def lengths_of(workspace):
+    """What stood in a workspace at each length of its log, by what it was born with and that log alone."""
+    content = copied(workspace.first)
+    lengths = [alike(content)]
+    for entry in workspace.log:
+        put(content, entry)
+        lengths.append(alike(content))
+    return lengths
 
 
 class Reading(unittest.TestCase):
@@ -73,18 +86,18 @@ class Reading(unittest.TestCase):
         by_number = {workspace.number: workspace for workspace in reference.workspaces.values()}
         self.assertEqual(len(by_number), len(reference.workspaces))
         for workspace in by_number.values():
-            content, lengths = copied(workspace.first), {0: rows_in(copied(workspace.first))}
-            for length, entry in enumerate(workspace.log, 1):
-                write(content, entry)
-                lengths[length] = rows_in(copied(content))
-            self.assertEqual(lengths[len(workspace.log)], rows_in(workspace.content))
+            lengths = lengths_of(workspace)
+            self.assertEqual(lengths[-1], alike(workspace.content))
             for point in workspace.savepoints.values():
-                self.assertEqual(lengths[point.log_length], rows_in(point.content))
+                self.assertEqual(lengths[point.log_length], alike(point.content))
                 self.assertLessEqual(point.place, workspace.place)
+                self.assertLessEqual(point.rebases, workspace.rebases)
             places = sorted((point.place, point.log_length) for point in workspace.savepoints.values())
             self.assertEqual(places, sorted(places, key=lambda place: (place[1], place[0])))
             if workspace.parent is not None:
                 self.assertIn(workspace.birth_place, [point.place for point in by_number[workspace.parent].savepoints.values()])
-                self.assertLessEqual(workspace.log_from, len(by_number[workspace.parent].log))
+                self.assertEqual(workspace.log_from, workspace.turns[-1][0])
+                # What a workspace saw of its parent is what stood in it at that length of its log.
+                self.assertEqual(lengths_of(by_number[workspace.parent])[workspace.log_from], alike(workspace.base))
         for session in reference.sessions.values():
             self.assertIn(session.savepoint, [None, *reference.workspaces[session.workspace].savepoints])

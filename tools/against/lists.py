@@ -1,0 +1,115 @@
+"""Lists of entries: what they hold at each moment of a key, what of them a merge and a refresh replay, and where two are in conflict.
+
+What a list holds is a dictionary of tables and keys with the last entry at each moment: entries cut to where they are last, in order of
+time, those that are gone among them."""
+from dataclasses import dataclass, replace
+
+from values import Instant, Period
+
+
+@dataclass(frozen=True)
+class Entry:
+    """What a change wrote over a period: a row, or None where it is gone."""
+    table: str
+    key: object
+    period: Period
+    row: tuple | None
+    stamp: int
+    kind: str  # I, U or D
+    moment: Instant
+    user: str
+
+
+def copied(held):
+    return {table: dict(keys) for table, keys in held.items()}
+
+
+def entries_of(held, table, key):
+    return held.get(table, {}).get(key, [])
+
+
+def beside(entries, periods):
+    """What of the entries lies outside all the periods."""
+    return [entry if part == entry.period else replace(entry, period=part) for entry in entries for part in entry.period.beside(periods)]
+
+
+def put(held, entry):
+    """Lays an entry over what is held."""
+    left = beside(entries_of(held, entry.table, entry.key), [entry.period])
+    held.setdefault(entry.table, {})[entry.key] = sorted([*left, entry], key=lambda one: one.period)
+
+
+def over(held, entries):
+    """What is held with the entries behind it."""
+    held = copied(held)
+    for entry in entries:
+        put(held, entry)
+    return held
+
+
+def joined(entries):
+    """Neighbours of one stamp become one."""
+    pieces = []
+    for entry in entries:
+        last = pieces[-1] if pieces else None
+        if last and last.stamp == entry.stamp and last.period.till == entry.period.start:
+            pieces[-1] = replace(last, period=Period(last.period.start, entry.period.till))
+        else:
+            pieces.append(entry)
+    return pieces
+
+
+def rows_of(entries):
+    """The rows that the entries of a key hold, each a period and its values."""
+    return [(entry.period, entry.row) for entry in joined(entries) if entry.row is not None]
+
+
+def rows_by_key(held, table):
+    return {key: rows for key, entries in held.get(table, {}).items() if (rows := rows_of(entries))}
+
+
+def net(entries, tables):
+    """What a list comes to: each entry where it is last, by table, key and time, neighbours of one stamp joined."""
+    held = over({}, entries)
+    return [entry for table in tables for key in sorted(held.get(table, {})) for entry in joined(held[table][key])]
+
+
+def outside(entries, others):
+    """What of the entries lies where the others touch nothing."""
+    touched = over({}, others)
+    return [part for entry in entries for part in beside([entry], [other.period for other in entries_of(touched, entry.table, entry.key)])]
+
+
+def entry_at(entries, moment):
+    return next((entry for entry in entries if entry.period.start <= moment < entry.period.till), None)
+
+
+def stamp_at(entries, moment):
+    """The stamp of the row at a moment, or None where there is none."""
+    entry = entry_at(entries, moment)
+    return entry.stamp if entry and entry.row is not None else None
+
+
+def first_stretch(changes, contents):
+    """Of one key: the first period at each moment of which all the lists of changes have an entry, and each content has one row or none."""
+    ends = sorted({end for entries in [*changes, *contents] for entry in entries for end in entry.period})
+    begun, stamps, last = None, None, None
+    for start, till in zip(ends, ends[1:]):
+        here = [stamp_at(entries, start) for entries in contents] if all(entry_at(entries, start) for entries in changes) else None
+        if begun is not None and here != stamps:
+            return Period(begun, last)
+        if begun is None and here is not None:
+            begun, stamps = start, here
+        last = till
+    return None if begun is None else Period(begun, last)
+
+
+def first_conflict(own, pending, contents, tables):
+    """The first stretch that both sides changed, as its table, its key and its period; or None."""
+    changes = [over({}, own), over({}, pending)]
+    for table in tables:
+        for key in sorted(changes[0].get(table, {})):
+            stretch = first_stretch([entries_of(held, table, key) for held in changes], [entries_of(held, table, key) for held in contents])
+            if stretch is not None:
+                return table, key, stretch
+    return None
