@@ -1,9 +1,9 @@
-mod Redrawing
-mod Following
-mod DraftLaws
-mod TwoLayers
-mod Entering
-mod News
-mod Written
-mod Spare
-mod Appended
+pub mod Redrawing
+pub mod Following
+pub mod DraftLaws
+pub mod TwoLayers
+pub mod Entering
+pub mod News
+pub mod Written
+pub mod Spare
+pub mod Appended
