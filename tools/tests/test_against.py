@@ -1,6 +1,7 @@
 """The second reading of the language by itself: it answers what the cases say, and its copies and its logs say the same."""
 import sys
 import unittest
+from copy import deepcopy
 
 from around import TOP
 
@@ -16,7 +17,7 @@ sys.path.remove(FOLDER)
 
 from play_cases import fits, read_case
 
-CHANGES = {"cut", "poke", "new", "set", "load"}
+CHANGES = {"cut", "poke", "set", "add"}
 
 
 def begun(reference, now):
@@ -25,11 +26,15 @@ def begun(reference, now):
 
 def difference(path):
     """The first line of a case that the reading answers otherwise, up to where the case changes the file by hand."""
-    reference = None
+    reference, kept = None, {}
     for step in read_case(path):
         if isinstance(step, list):
             if step[0] in CHANGES:
                 return None
+            if step[0] == "save":
+                kept[step[1]] = deepcopy(reference)
+            elif step[0] == "load":
+                reference = deepcopy(kept[step[1]])
             continue
         if step.status or step.words[:2] not in (["init", "--limit"], ["run", "--now"]):
             return None
