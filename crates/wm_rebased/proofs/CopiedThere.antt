@@ -75,7 +75,7 @@ seen_says test xs (x ∷ older) v c h all is =
 -- ---- the pieces of a key
 
 -- each has a moment, ends by an instant, and is what is held where it begins
-abbrev AllBegin : (ℕ → Option Held) → ℕ → List Piece → Type 0
+abbrev pub AllBegin : (ℕ → Option Held) → ℕ → List Piece → Type 0
 AllBegin f high [] = Unit {0}
 AllBegin f high (x ∷ xs) = (f x.period.from ≡ Some (held x)) × (x.period.from < x.period.till) × (x.period.till ≤ high) × AllBegin f high xs
 
@@ -86,7 +86,7 @@ ends_by (x ∷ xs) low high lie = through low x.period.from x.period.till high l
     through : (i from till j : ℕ) → i ≤ from → from < till → till ≤ j → i ≤ j
     through i from till j le lt more = omega (arith, le, lt, more)
 
-all_begin : (f : ℕ → Option Held) (xs : List Piece) (low high : ℕ) → Between low xs high → ((t : ℕ) → low ≤ t → f t ≡ held_at xs t) → AllBegin f high xs
+pub all_begin : (f : ℕ → Option Held) (xs : List Piece) (low high : ℕ) → Between low xs high → ((t : ℕ) → low ≤ t → f t ≡ held_at xs t) → AllBegin f high xs
 all_begin f [] low high lie same = tt
 all_begin f (x ∷ xs) low high lie same = (
   same x.period.from lie.0 ∙ rw (first x.period.from x.period.till lie.1) refl,

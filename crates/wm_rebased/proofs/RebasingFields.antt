@@ -1,23 +1,27 @@
 -- A workspace was rebased: what is looked up then, and the fields of the records. RebasingNamed and RebasingStands have the clauses on
 -- what is held.
-use Rattle.std.proofs.Common.{◌≡◌, ◌≢◌, ℕ, zero, suc, ◌+◌, ◌<◌, ◌≤◌, ◌==◌, Bool, false, ◌&&◌, cond, List, [], ◌∷◌, ◌++◌, length, Option, Some, None, refl, sym, ap, ◌∙◌, ◌⊎◌, inl, inr, arith}
+use Rattle.std.proofs.Common.{◌≡◌, ◌≢◌, ℕ, zero, suc, ◌+◌, ◌<◌, ◌≤◌, ◌==◌, nat_lt, Bool, true, false, ◌&&◌, cond, if◌then◌else◌, List, [], ◌∷◌, ◌++◌, length, Option, Some, None, is_some, refl, sym, ap, ◌∙◌, ◌⊎◌, inl, inr, arith}
 use Rattle.std.proofs.lemmas.Bool.{cases_eq, eq-eqb, ne_eqb}
 use Rattle.std.proofs.lemmas.Option.{slice_get_past}
 use Rattle.std.specs.List.{list_any, slice_get}
 use Rattle.std.specs.Option.{option_map, option_or}
+use Rattle.std.specs.Str.{bytes_eq}
 use Rattle.wm_graph.specs.Parts.{Parts, space_of}
+use Rattle.wm_graph.specs.Rules.{is_placed, is_short, is_space, keep_rules, live}
 use Rattle.wm_spec.specs.declared.record.piece.PieceRecord.{PieceRecord}
 use Rattle.wm_spec.specs.declared.record.space.Space.{Space}
 use Rattle.wm_spec.specs.declared.record.turn.Turn.{Turn as TurnRecord}
 use Rattle.wm_state.specs.State.{Durable, Workspace, savepoints_of, turn_of, with_space, workspace_of}
 use Rattle.wm_state.specs.Standing.{CountersStand, FieldsStand, SpaceFields, SpacesStand, TurnsStand, by_number, fields_in, fields_of, latest, turn_at, turned, turned_in}
+use Rattle.wm_state.proofs.Apart.{found-passes}
 use Rattle.wm_state.proofs.Changing.{workspace_of-changed}
 use Rattle.wm_state.proofs.Climbing.{recorded_of}
 use Rattle.wm_state.proofs.Frames.{OnceStand-changed, SavepointsStand-same, savepoints_of-found, savepoints_of-none}
 use Rattle.wm_state.proofs.Mapped.{none-found}
-use Rattle.wm_state.proofs.Named.{one_space}
-use Rattle.wm_state.proofs.Spaces.{SpaceIs, space_there}
+use Rattle.wm_state.proofs.Named.{one_space, space_number}
+use Rattle.wm_state.proofs.Spaces.{SpaceIs, ruled_spaces, space_there}
 use Rattle.wm_state.proofs.Staying.{turns_of-found}
+use Rattle.wm_state.proofs.Tests.{bool_apart, both}
 use Rattle.wm_forked.proofs.Saving.{WasChanged, was_changed}
 use Rattle.wm_rebased.specs.Rebasing.{IsRebase, RebasedTo, rebased_on}
 use Rattle.wm_state.specs.Editing.{rebased, turn_on}
@@ -263,3 +267,19 @@ turn_free p s n a child there turns old =
 
     at_most : (l k r : ℕ) → l ≡ k + 1 → r ≡ k → l ≤ r + 1
     at_most l k r e f = omega (arith, e, f)
+
+-- the parent of a workspace other than LIVE has a record
+pub parent_recorded : (p : Parts) → keep_rules p ≡ true → (n : ℕ) (a : Space) → 0 < n → space_of p.spaces n ≡ Some a → is_some (space_of p.spaces a.parent) ≡ true
+parent_recorded p rules n a child found = by_live (a.number == 0) (ap (λ k. k == 0) (space_number p n a found) ∙ not_live n child) placed
+  where
+    not_live : (k : ℕ) → 0 < k → (k == 0) ≡ false
+    not_live k lt = grind (arith, lt)
+
+    placed : is_placed (space_of p.spaces) a ≡ true
+    placed =
+        let w = found-passes (λ (x : Space). x.number == n) (is_space (space_of p.spaces)) p.spaces a found (ruled_spaces p rules).each in
+        (both (is_placed (space_of p.spaces) a) (is_short a.name && is_short a.writer) (both (is_placed (space_of p.spaces) a && (is_short a.name && is_short a.writer)) _ w.1).0).0
+
+    by_live : (b : Bool) → b ≡ false → (if b then bytes_eq a.name live else nat_lt a.parent a.number && is_some (space_of p.spaces a.parent)) ≡ true → is_some (space_of p.spaces a.parent) ≡ true
+    by_live true is_live is = absurd (bool_apart is_live)
+    by_live false is_live is = (both (nat_lt a.parent a.number) (is_some (space_of p.spaces a.parent)) is).1

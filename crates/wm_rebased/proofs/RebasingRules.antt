@@ -15,6 +15,7 @@ use Rattle.wm_spec.specs.declared.record.savepoint.Savepoint.{Savepoint}
 use Rattle.wm_spec.specs.declared.record.space.Space.{Space}
 use Rattle.wm_spec.specs.declared.record.trace.Trace.{Trace}
 use Rattle.wm_spec.specs.declared.record.turn.Turn.{Turn}
+use Rattle.wm_state.specs.Drafts.{is_turn}
 use Rattle.wm_state.proofs.Apart.{found-passes}
 use Rattle.wm_state.proofs.Keeping.{asked, le_itself}
 use Rattle.wm_state.proofs.KeepingTurns.{RuledTurns, ruled_turns}
