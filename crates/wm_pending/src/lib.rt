@@ -2,8 +2,11 @@
 #![tactic(auto)]
 
 pub mod clash;
+pub mod entries;
 pub mod gained;
+pub mod keys;
 pub mod net;
 pub mod own;
+pub mod path;
 
 pub use crate::own::OwnKey;

@@ -1,0 +1,4 @@
+pub mod Above
+pub mod Blocks
+pub mod Keyed
+pub mod Stored
