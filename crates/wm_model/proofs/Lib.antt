@@ -15,6 +15,7 @@ pub mod SavingLine
 pub mod BearingLine
 pub mod Seating
 pub mod Timing
+pub mod Filled
 pub mod Lawful
 pub mod Telling
 pub mod Given
