@@ -120,5 +120,6 @@ pub fn own_of_key(
         number = version.parent;
     }
     own.join_same_stamp();
+    let _order = own.list();
     Ok(own)
 }
