@@ -14,7 +14,7 @@ use Rattle.wm_graph.specs.Rules.{are_cells, collide, differ, is_key_of, is_piece
 use Rattle.wm_image.proofs.Finding.{Tests, all_of, filter-kind}
 use Rattle.wm_image.proofs.Lists.{taken-with}
 use Rattle.wm_image.specs.Shown.{first_held, has_at, kind_at}
-use Rattle.wm_image.specs.Sought.{PiecesAt, PiecesIn, ids_with, is_sought}
+use Rattle.wm_index.specs.Sought.{PiecesAt, PiecesIn, ids_with, is_sought}
 use Rattle.wm_period.specs.Pieces.{Held}
 use Rattle.wm_spec.specs.Lists.{Cell}
 use Rattle.wm_spec.specs.declared.record.Record.{Record}
