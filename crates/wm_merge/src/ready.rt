@@ -1,8 +1,9 @@
 //! Whether entries can be written again, and what is own copied. In every state that lines lead to they can.
 
-ghost use Rattle.std.specs.Prelude.{◌≡◌, ◌+◌, nat_lt, map};
+ghost use Rattle.std.specs.Prelude.{◌≡◌, ◌+◌, ◌&&◌, not, nat_lt, false, map};
 ghost use Rattle.std.specs.List.{list_all, list_any};
-ghost use Rattle.wm_graph.specs.Parts.{parts_of};
+ghost use Rattle.std.specs.Option.{option_and_then, option_copied, option_map_or};
+ghost use Rattle.wm_graph.specs.Parts.{as_turn, parts_of};
 ghost use Rattle.wm_model.specs.Merged.{are_keys_kept, is_ready_entry};
 ghost use Rattle.wm_model.specs.Step.{counter_limit};
 ghost use Rattle.wm_pending.specs.Owned.{key_pieces};
@@ -12,7 +13,7 @@ ghost use Rattle.wm_state.specs.Editing.{entry_of};
 use wm_base::Value;
 use wm_image::Image;
 use wm_pending::OwnKey;
-use wm_spec::record::Record;
+use wm_spec::record::{Record, Space};
 use wm_state::edit::NewEntry;
 
 /// The greatest length of a log.
@@ -22,7 +23,7 @@ const LOG_LIMIT: u64 = 1 << 62;
 pub fn is_long(log_length: u64, more: usize) -> bool
     ensures { result ≡ nat_lt counter_limit (log_length + more) }
 {
-    log_length > LOG_LIMIT - more as u64
+    log_length.saturating_add(more as u64) > LOG_LIMIT
 }
 
 /// Whether a record can keep a value.
@@ -63,7 +64,7 @@ fn is_ready_entry(image: &Image, entry: &NewEntry) -> bool
 }
 
 /// Whether all of some entries can.
-pub fn are_ready(image: &Image, entries: &[NewEntry]) -> bool
+fn are_ready(image: &Image, entries: &[NewEntry]) -> bool
     ensures { result ≡ list_all (is_ready_entry (parts_of image.now)) (map entry_of entries.now) }
 {
     for entry in entries {
@@ -75,7 +76,7 @@ pub fn are_ready(image: &Image, entries: &[NewEntry]) -> bool
 }
 
 /// Whether records can keep the keys of what is own, of those that have pieces.
-pub fn are_keys_kept(own: &[OwnKey]) -> bool
+fn are_keys_kept(own: &[OwnKey]) -> bool
     ensures { result ≡ are_keys_kept (map key_pieces own.now) }
 {
     for key in own {
@@ -87,7 +88,9 @@ pub fn are_keys_kept(own: &[OwnKey]) -> bool
 }
 
 /// Whether a record is a turn of a workspace that has this number.
-fn is_turn(found: Option<&Record>, space: u32, number: u64) -> bool {
+fn is_turn(found: Option<&Record>, space: u32, number: u64) -> bool
+    ensures { result ≡ option_map_or (is_turn space number) (option_and_then as_turn (option_copied found.entry)) false }
+{
     match found {
         Some(Record::Turn(turn)) => turn.space == space && u64::from(turn.rebase) == number,
         _ => false,
@@ -95,13 +98,35 @@ fn is_turn(found: Option<&Record>, space: u32, number: u64) -> bool {
 }
 
 /// Whether a workspace has a turn of this number.
-pub fn has_turn(image: &Image, space: u32, number: u64) -> bool
+fn has_turn(image: &Image, space: u32, number: u64) -> bool
     ensures { result ≡ list_any (is_turn space number) (parts_of image.now).turns }
 {
+    image.law_of_order();
     for id in image.records_of(space) {
         if is_turn(image.record(*id), space, number) {
             return true;
         }
     }
     false
+}
+
+/// Whether a workspace has the turn that its next rebase makes.
+fn has_next_turn(image: &Image, space: &Space) -> bool
+    ensures { result ≡ list_any (is_turn space.now.number (space.now.rebases + 1)) (parts_of image.now).turns }
+{
+    has_turn(image, space.number, u64::from(space.rebases) + 1)
+}
+
+/// Whether a workspace can be refreshed with entries, and what is its own be copied.
+pub fn can_refresh(image: &Image, space: &Space, own: &[OwnKey], entries: &[NewEntry]) -> bool
+    ensures { result ≡ ((are_keys_kept (map key_pieces own.now) && list_all (is_ready_entry (parts_of image.now)) (map entry_of entries.now)) && not (list_any (is_turn space.now.number (space.now.rebases + 1)) (parts_of image.now).turns)) }
+{
+    (are_keys_kept(own) && are_ready(image, entries)) && !has_next_turn(image, space)
+}
+
+/// Whether entries of a workspace can come into its parent, and others into its own log.
+pub fn can_merge(image: &Image, space: &Space, own: &[NewEntry], gained: &[NewEntry]) -> bool
+    ensures { result ≡ ((list_all (is_ready_entry (parts_of image.now)) (map entry_of own.now) && list_all (is_ready_entry (parts_of image.now)) (map entry_of gained.now)) && not (list_any (is_turn space.now.number (space.now.rebases + 1)) (parts_of image.now).turns)) }
+{
+    (are_ready(image, own) && are_ready(image, gained)) && !has_next_turn(image, space)
 }

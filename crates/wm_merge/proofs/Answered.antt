@@ -1,0 +1,50 @@
+-- What is told of plans that only answer, and of the tests that lead to them.
+use Rattle.std.proofs.Common.{◌≡◌, ◌⊎◌, inl, inr, ℕ, ◌+◌, nat_lt, Bool, true, false, not, ◌&&◌, List, [], map, length, IfSome, IfNone, Option, Some, None, refl, sym, ap, ◌∙◌}
+use Rattle.std.proofs.lemmas.List.{length-map}
+use Rattle.std.specs.Option.{option_map}
+use Rattle.wm_graph.specs.Parts.{Parts}
+use Rattle.wm_print.specs.Texts.{Answer}
+use Rattle.wm_spec.specs.Lists.{Cell}
+use Rattle.wm_spec.specs.declared.record.space.Space.{Space}
+use Rattle.wm_spec.specs.declared.record.stored.Stored.{Stored}
+use Rattle.wm_state.specs.Editing.{counter_limit, entry_of}
+use Rattle.wm_state.specs.State.{Session, State}
+use Rattle.wm_state.specs.declared.edit.NewEntry.{NewEntry}
+use Rattle.wm_state.proofs.Tests.{bool_apart}
+use Rattle.wm_telling.specs.Telling.{IsFirstClash, clash_held}
+use Rattle.wm_pending.specs.declared.clash.Clash.{Clash}
+use Rattle.wm_model.specs.Merged.{IsClash}
+use Rattle.wm_model.specs.Planning.{Does, Stay}
+use Rattle.wm_plan.proofs.Planning.{told}
+use Rattle.wm_plan.specs.Planning.{DoesIt}
+use Rattle.wm_plan.specs.Views.{answer_view, seating_view}
+use Rattle.wm_plan.specs.declared.planned.Planned.{Planned}
+use Rattle.wm_plan.specs.declared.seating.Seating.TheVariants as seatings
+use Rattle.wm_merge.specs.Views.{clashed}
+
+-- a plan that changes nothing
+pub told_nothing : (rs : List Stored) (xs : List Session) (m : ℕ) (p : Planned) (answer : Answer) (act : State → State × Answer) → p.edits.items ≡ [] → p.seating ≡ seatings.Stay → answer_view p.answer ≡ answer
+    → Does rs xs m [] Stay answer act → DoesIt rs xs m p act
+told_nothing rs xs m p answer act none stays says does = told rs xs m p [] Stay answer act none (ap seating_view stays) says does
+
+-- the first conflict that is found, or that there is none
+pub clash_found : (p : Parts) (a b : Space) (found : Option Clash) → IfSome found (λ clash. IsFirstClash p a b clash.table clash.key clash.period.from clash.period.till)
+    → IfNone found ((c : Cell) → clash_held p a b c ≡ None) → IsClash p a b (option_map clashed found)
+clash_found p a b (Some x) some none = some
+clash_found p a b None some none = none
+
+-- the length of a log with so many entries more
+pub log_test : (log_length n : ℕ) (es : List NewEntry) (b : Bool) → n ≡ length es → b ≡ nat_lt counter_limit (log_length + n) → nat_lt counter_limit (log_length + length (map entry_of es)) ≡ b
+log_test log_length n es b is test = ap (λ k. nat_lt counter_limit (log_length + k)) (length-map es entry_of ∙ sym is) ∙ sym test
+
+-- ---- tests of two parts
+
+pub both_hold : (a b : Bool) → true ≡ (a && not b) → (a ≡ true) × (b ≡ false)
+both_hold true false e = (refl, refl)
+both_hold true true e = absurd (bool_apart e)
+both_hold false b e = absurd (bool_apart e)
+
+pub one_fails : (a b : Bool) → false ≡ (a && not b) → (a ≡ false) ⊎ (b ≡ true)
+one_fails true true e = inr refl
+one_fails true false e = absurd (bool_apart (sym e))
+one_fails false b e = inl refl

@@ -1,0 +1,11 @@
+pub mod Answered
+pub mod Asked
+pub mod AskedMerge
+pub mod Calling
+pub mod Clear
+pub mod Kept
+pub mod MergePlans
+pub mod RefreshPlans
+pub mod StubMerging
+pub mod StubRefreshing
+pub mod Turns
