@@ -1,5 +1,5 @@
 -- What a workspace has of its own as entries, key by key.
-use Rattle.std.proofs.Common.{◌≡◌, ℕ, ◌+◌, ◌<◌, ◌≤◌, List, [], ◌∷◌, ◌++◌, length, take, get_or, map, Option, refl, sym, ap, ◌∙◌, subst}
+use Rattle.std.proofs.Common.{◌≡◌, ℕ, ◌+◌, ◌<◌, ◌≤◌, List, [], ◌∷◌, ◌++◌, length, take, get_or, map, Option, sym, ap, ◌∙◌, subst}
 use Rattle.std.proofs.lemmas.List.{get_or-map, length-map, map-append, take_all, take_more}
 use Rattle.std.specs.List.{All}
 use Rattle.wm_graph.specs.Parts.{Parts}
@@ -7,7 +7,7 @@ use Rattle.wm_net.specs.Groups.{Group}
 use Rattle.wm_net.specs.Listed.{ListsGroups}
 use Rattle.wm_period.specs.Pieces.{Held}
 use Rattle.wm_spec.specs.Lists.{Cell, Entry}
-use Rattle.wm_state.specs.Copied.{HoldsKey, KeyPieces}
+use Rattle.wm_state.specs.Copied.{HoldsKey}
 use Rattle.wm_telling.specs.Telling.{group_at, replayed_by, same_held}
 use Rattle.wm_pending.proofs.Blocks.{lists_key}
 use Rattle.wm_pending.specs.Owned.{key_pieces}
