@@ -33,16 +33,20 @@ pub clash_found : (p : Parts) (a b : Space) (found : Option Clash) → IfSome fo
 clash_found p a b (Some x) some none = some
 clash_found p a b None some none = none
 
--- the length of a log with so many entries more
-pub log_test : (log_length n : ℕ) (es : List NewEntry) (b : Bool) → n ≡ length es → b ≡ nat_lt counter_limit (log_length + n) → nat_lt counter_limit (log_length + length (map entry_of es)) ≡ b
-log_test log_length n es b is test = ap (λ k. nat_lt counter_limit (log_length + k)) (length-map es entry_of ∙ sym is) ∙ sym test
+-- a log with entries more
+pub log_test : (log_length : ℕ) (given es : List NewEntry) (b : Bool) → given ≡ es → b ≡ nat_lt counter_limit (log_length + length given) → nat_lt counter_limit (log_length + length es) ≡ b
+log_test log_length given es b is test = ap (λ (l : List NewEntry). nat_lt counter_limit (log_length + length l)) (sym is) ∙ sym test
+
+-- so it is as they are listed
+pub listed_test : (log_length : ℕ) (es : List NewEntry) (b : Bool) → nat_lt counter_limit (log_length + length es) ≡ b → nat_lt counter_limit (log_length + length (map entry_of es)) ≡ b
+listed_test log_length es b test = ap (λ k. nat_lt counter_limit (log_length + k)) (length-map es entry_of) ∙ test
 
 -- ---- tests of two parts
 
-pub both_hold : (a b : Bool) → true ≡ (a && not b) → (a ≡ true) × (b ≡ false)
-both_hold true false e = (refl, refl)
-both_hold true true e = absurd (bool_apart e)
-both_hold false b e = absurd (bool_apart e)
+pub first_holds : (a b : Bool) → true ≡ (a && not b) → (a ≡ true) × (b ≡ false)
+first_holds true false e = (refl, refl)
+first_holds true true e = absurd (bool_apart e)
+first_holds false b e = absurd (bool_apart e)
 
 pub one_fails : (a b : Bool) → false ≡ (a && not b) → (a ≡ false) ⊎ (b ≡ true)
 one_fails true true e = inr refl

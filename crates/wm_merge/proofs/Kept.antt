@@ -28,7 +28,7 @@ second false b first some = some
 
 kept_at : (f : Cell → Option Held) (c : Cell) → is_some (f c) ≡ true → (ks : List KeyPieces) → All (HoldsKey f) ks → are_keys_kept ks ≡ true → list_any (is_at c) ks ≡ true → list_all can_keep c.key ≡ true
 kept_at f c some [] each kept at = absurd (bool_apart (sym at))
-kept_at f c some (k ∷ ks) each kept at = by_key (is_at c k) refl at
+kept_at f c some (k ∷ ks) each kept at = by_key (is_at c k) refl at (kept_at f c some ks (All-tail (HoldsKey f) k ks each) two.1)
   where
     two : (((length k.pieces == 0) || list_all can_keep k.key) ≡ true) × (are_keys_kept ks ≡ true)
     two = both ((length k.pieces == 0) || list_all can_keep k.key) (are_keys_kept ks) kept
@@ -42,9 +42,9 @@ kept_at f c some (k ∷ ks) each kept at = by_key (is_at c k) refl at
         let held : held_at k.pieces c.time ≡ f c = (All-head (HoldsKey f) k ks each).holds c.time ∙ ap f cell in
         ap (list_all can_keep) (sym key) ∙ second (length k.pieces == 0) (list_all can_keep k.key) (some_pieces k.pieces c.time (ap is_some held ∙ some)) two.0
 
-    by_key : (b : Bool) → is_at c k ≡ b → (b || list_any (is_at c) ks) ≡ true → list_all can_keep c.key ≡ true
-    by_key true is e = here is
-    by_key false is e = kept_at f c some ks (All-tail (HoldsKey f) k ks each) two.1 e
+    by_key : (b : Bool) → is_at c k ≡ b → (b || list_any (is_at c) ks) ≡ true → (list_any (is_at c) ks ≡ true → list_all can_keep c.key ≡ true) → list_all can_keep c.key ≡ true
+    by_key true is e rest = here is
+    by_key false is e rest = rest e
 
 pub keys_kept : (p : Parts) (a : Space) (ks : List KeyPieces) → AreOwn p a ks → are_keys_kept ks ≡ true → (c : Cell) → is_some (own_held p a c) ≡ true → list_all can_keep c.key ≡ true
 keys_kept p a ks own kept c some = by_any (list_any (is_at c) ks) refl

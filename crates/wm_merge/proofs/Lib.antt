@@ -5,6 +5,7 @@ pub mod Calling
 pub mod Clear
 pub mod Kept
 pub mod MergePlans
+pub mod Parents
 pub mod RefreshPlans
 pub mod StubMerging
 pub mod StubRefreshing

@@ -1,14 +1,43 @@
 -- What is told of the plans of a refresh.
-use Rattle.std.proofs.Common.{ℕ, List, Result, Ok, Err, IfOk}
+use Rattle.std.proofs.Common.{◌≡◌, ◌⊎◌, ℕ, ◌+◌, ◌&&◌, not, Bool, true, false, List, map, Result, Ok, Err, IfOk, ap, ◌∙◌}
+use Rattle.std.specs.List.{list_all, list_any}
 use Rattle.wm_base.specs.declared.memory.Memory.{Memory}
-use Rattle.wm_model.specs.Merged.{NamesFamily, Refreshes}
+use Rattle.wm_graph.specs.Parts.{parts_of}
+use Rattle.wm_model.specs.Merged.{CanRefresh, NamesFamily, Refreshes, are_keys_kept, is_ready_entry}
 use Rattle.wm_model.specs.Step.{refresh_workspace}
 use Rattle.wm_plan.specs.Planning.{DoesIt}
 use Rattle.wm_plan.specs.declared.planned.Planned.{Planned}
 use Rattle.wm_spec.specs.Lists.{Entry}
 use Rattle.wm_spec.specs.declared.record.space.Space.{Space}
 use Rattle.wm_spec.specs.declared.record.stored.Stored.{Stored}
+use Rattle.wm_state.specs.Copied.{KeyPieces}
+use Rattle.wm_state.specs.Drafts.{is_turn}
+use Rattle.wm_state.specs.Editing.{entry_of}
 use Rattle.wm_state.specs.State.{Session}
+use Rattle.wm_state.specs.declared.edit.NewEntry.{NewEntry}
+use Rattle.wm_state.proofs.Tests.{both}
+use Rattle.wm_telling.specs.Telling.{AreOwn}
+use Rattle.wm_merge.proofs.Answered.{first_holds, one_fails}
+
+-- ---- whether its edits can be made
+
+module _ (rs : List Stored) (a : Space) (ks : List KeyPieces) (given es : List NewEntry) (is : given ≡ es) where
+  abbrev can_write : List NewEntry → Bool
+  can_write xs = are_keys_kept ks && list_all (is_ready_entry (parts_of rs)) (map entry_of xs)
+
+  abbrev has_turn : Bool
+  has_turn = list_any (is_turn a.number (a.rebases + 1)) (parts_of rs).turns
+
+  pub may_refresh : AreOwn (parts_of rs) a ks → true ≡ (can_write given && not has_turn) → CanRefresh rs a ks (map entry_of es)
+  may_refresh own test =
+      let two = first_holds (can_write es) has_turn (test ∙ ap (λ xs. can_write xs && not has_turn) is) in
+      let ready = both (are_keys_kept ks) (list_all (is_ready_entry (parts_of rs)) (map entry_of es)) two.0 in
+      record { own = own; keys = ready.0; ready = ready.1; unturned = two.1 }
+
+  pub lacks_refresh : false ≡ (can_write given && not has_turn) → (can_write es ≡ false) ⊎ (has_turn ≡ true)
+  lacks_refresh test = one_fails (can_write es) has_turn (test ∙ ap (λ xs. can_write xs && not has_turn) is)
+
+-- ---- the plans
 
 -- a plan for whatever may be gained is one for this
 pub refreshes_as : (rs : List Stored) (m : ℕ) (r : Result Planned Memory) (session : Session) (a b : Space) (es : List Entry)

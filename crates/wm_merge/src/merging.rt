@@ -73,8 +73,8 @@ fn is_idle(even: bool, asked: Asked) -> bool
 fn are_long(family: Family<'_>, brought: &Brought) -> bool
     ensures { result ≡ nat_lt counter_limit (longer_log_at family.entry.space.now family.entry.parent.now (map entry_of brought.now.own.items) (map entry_of brought.now.gained.items)) }
 {
-    is_long(family.parent.log_length, brought.own.len())
-        || is_long(family.space.log_length, brought.gained.len())
+    is_long(family.parent.log_length, brought.own.as_slice())
+        || is_long(family.space.log_length, brought.gained.as_slice())
 }
 
 /// What a merge is refused for.
@@ -142,25 +142,19 @@ fn merge_edits(
 ) -> Result<Vec<Edit>, Memory>
     ensures { IfOk result (λ edits. edits.items ≡ merge_edits (asked_view asked) even family.entry.space.now.number family.entry.parent.now.number brought.own brought.gained) }
 {
+    let Brought { own, gained } = brought;
+    let parent = family.parent.number;
     let mut edits = Vec::new(alloc);
     if asked.keeps {
-        edits.push(Edit::Keep {
-            space: family.parent.number,
-        })?;
+        edits.push(Edit::Keep { space: parent })?;
     }
-    if !brought.own.is_empty() {
+    if !own.is_empty() {
         edits.push(Edit::Replay {
-            space: family.parent.number,
-            entries: brought.own,
+            space: parent,
+            entries: own,
         })?;
     }
-    push_after(
-        &mut edits,
-        family.space.number,
-        asked.removes,
-        even,
-        brought.gained,
-    )?;
+    push_after(&mut edits, family.space.number, asked.removes, even, gained)?;
     Ok(edits)
 }
 

@@ -1,9 +1,10 @@
 //! Whether entries can be written again, and what is own copied. In every state that lines lead to they can.
 
-ghost use Rattle.std.specs.Prelude.{◌≡◌, ◌+◌, ◌&&◌, not, nat_lt, false, map};
+ghost use Rattle.std.specs.Prelude.{◌≡◌, ◌+◌, ◌&&◌, not, nat_lt, false, length, map};
 ghost use Rattle.std.specs.List.{list_all, list_any};
 ghost use Rattle.std.specs.Option.{option_and_then, option_copied, option_map_or};
 ghost use Rattle.wm_graph.specs.Parts.{as_turn, parts_of};
+ghost use Rattle.wm_index.specs.Kinds.{kind_at};
 ghost use Rattle.wm_model.specs.Merged.{are_keys_kept, is_ready_entry};
 ghost use Rattle.wm_model.specs.Step.{counter_limit};
 ghost use Rattle.wm_pending.specs.Owned.{key_pieces};
@@ -19,11 +20,11 @@ use wm_state::edit::NewEntry;
 /// The greatest length of a log.
 const LOG_LIMIT: u64 = 1 << 62;
 
-/// Whether a log would be longer than a log may be, with so many entries more.
-pub fn is_long(log_length: u64, more: usize) -> bool
-    ensures { result ≡ nat_lt counter_limit (log_length + more) }
+/// Whether a log would be longer than a log may be, with entries more.
+pub fn is_long(log_length: u64, entries: &[NewEntry]) -> bool
+    ensures { result ≡ nat_lt counter_limit (log_length + length entries.now) }
 {
-    log_length.saturating_add(more as u64) > LOG_LIMIT
+    log_length.saturating_add(entries.len() as u64) > LOG_LIMIT
 }
 
 /// Whether a record can keep a value.
@@ -60,7 +61,7 @@ fn is_ready_entry(image: &Image, entry: &NewEntry) -> bool
         Some(values) => are_kept(values.as_slice()),
         None => true,
     };
-    versioned && (are_kept(entry.key.as_slice()) && kept)
+    versioned && (are_kept(entry.key.values()) && kept)
 }
 
 /// Whether all of some entries can.
@@ -80,7 +81,7 @@ fn are_keys_kept(own: &[OwnKey]) -> bool
     ensures { result ≡ are_keys_kept (map key_pieces own.now) }
 {
     for key in own {
-        if !key.pieces.is_empty() && !are_kept(key.key.as_slice()) {
+        if !key.pieces.is_empty() && !are_kept(key.key.values()) {
             return false;
         }
     }
@@ -97,17 +98,24 @@ fn is_turn(found: Option<&Record>, space: u32, number: u64) -> bool
     }
 }
 
-/// Whether a workspace has a turn of this number.
-fn has_turn(image: &Image, space: u32, number: u64) -> bool
-    ensures { result ≡ list_any (is_turn space number) (parts_of image.now).turns }
+/// Whether one of the records of some ids is.
+fn any_turn(image: &Image, ids: &[u64], space: u32, number: u64) -> bool
+    ensures { result ≡ list_any (is_turn space number) (kind_at as_turn image.now ids.now) }
 {
-    image.law_of_order();
-    for id in image.records_of(space) {
+    for id in ids {
         if is_turn(image.record(*id), space, number) {
             return true;
         }
     }
     false
+}
+
+/// Whether a workspace has a turn of this number.
+fn has_turn(image: &Image, space: u32, number: u64) -> bool
+    ensures { result ≡ list_any (is_turn space number) (parts_of image.now).turns }
+{
+    image.law_of_order();
+    any_turn(image, image.records_of(space), space, number)
 }
 
 /// Whether a workspace has the turn that its next rebase makes.

@@ -117,7 +117,7 @@ fn refresh_with(
     ensures does { IfOk result (λ p. (xs : List SessionState) (session : SessionState) (workspace : List ℕ) (parent : SpaceRecord) → Refreshes image.now moment session workspace space.now parent (map entry_of entries.items) → DoesIt image.now xs moment p (refresh_workspace session workspace)) }
     ensures idle { IfOk result Idles }
 {
-    if is_long(space.log_length, entries.len()) {
+    if is_long(space.log_length, entries.as_slice()) {
         return Ok(Planned::answered(alloc, at_its_end(alloc, b"LOG")?));
     }
     if is_spent(&image.counters()) {
