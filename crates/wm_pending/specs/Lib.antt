@@ -1,1 +1,4 @@
 pub mod Owned
+pub mod Touched
+pub mod Sides
+pub mod Lookups

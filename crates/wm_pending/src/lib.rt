@@ -2,8 +2,12 @@
 #![tactic(auto)]
 
 pub mod clash;
+mod erasing;
 pub mod gained;
 pub mod net;
 pub mod own;
+mod sides;
+pub mod table_key;
+pub mod touched;
 
 pub use crate::own::OwnKey;
