@@ -1,4 +1,6 @@
-pub mod Owned
-pub mod Touched
-pub mod Sides
+pub mod Keys
 pub mod Lookups
+pub mod Owned
+pub mod Replayed
+pub mod Sides
+pub mod Touched
