@@ -1,11 +1,10 @@
 -- Touches found by their ids, and what they tell of a cell.
-use Rattle.std.proofs.Common.{◌≡◌, ◌≢◌, ℕ, ◌+◌, ◌<◌, ◌≤◌, Bool, true, false, cond, not, ◌&&◌, ◌||◌, ◌==◌, nat_lt, nat_le, max, List, [], ◌∷◌, map, Option, Some, None, is_some, refl, sym, ap, ◌∙◌, arith}
+use Rattle.std.proofs.Common.{◌≡◌, ◌≢◌, ℕ, ◌+◌, ◌<◌, ◌≤◌, Bool, true, false, cond, not, ◌&&◌, ◌||◌, ◌==◌, nat_lt, nat_le, max, List, [], ◌∷◌, ◌++◌, map, Option, Some, None, is_some, refl, sym, ap, ◌∙◌, arith}
 use Rattle.std.proofs.lemmas.Bool.Decides.{nat_tests}
+use Rattle.std.specs.Bool.{then_some}
 use Rattle.std.specs.List.{filter, filter_map, list_any}
-use Rattle.std.specs.Option.{option_and_then, option_map_or}
-use Rattle.std.specs.Ordering.{is_eq, nat_cmp}
-use Rattle.std.specs.declared.cmp.Ordering.{Ordering}
-use Rattle.std.specs.declared.cmp.Ordering.TheVariants.{Less, Equal, Greater}
+use Rattle.std.specs.Option.{option_and_then, option_map_or, option_to_list}
+use Rattle.std.specs.Ordering.{is_eq}
 use Rattle.wm_base.specs.Key.{key_order}
 use Rattle.wm_base.specs.declared.value.Value.{Value}
 use Rattle.wm_graph.specs.Parts.{as_touch, parts_of}
@@ -13,7 +12,6 @@ use Rattle.wm_image.proofs.Finding.{Tests, all_of, filter-kind}
 use Rattle.wm_image.proofs.Lists.{record_at-none, record_at-here, record_at-away, taken-with}
 use Rattle.wm_image.specs.Shown.{kind_at, passing}
 use Rattle.wm_image.specs.Sought.{OwnedBy, TouchesAt, ids_with, is_sought}
-use Rattle.wm_net.specs.Groups.{Group, group_order, same_group}
 use Rattle.wm_spec.specs.Lists.{Cell}
 use Rattle.wm_spec.specs.Records.{record_at}
 use Rattle.wm_spec.specs.declared.record.Record.{Record}
@@ -22,7 +20,8 @@ use Rattle.wm_spec.specs.declared.record.stored.Stored.{Stored}
 use Rattle.wm_spec.specs.declared.record.trace.Trace.{Trace}
 use Rattle.wm_state.specs.ById.{AllAbove, Ascend}
 use Rattle.wm_state.specs.Standing.{in_cells, reached}
-use Rattle.wm_pending.specs.Touched.{add_group, covers_since, group_in_cells, has_touched, is_since, is_touch_since, is_touched}
+use Rattle.wm_pending.specs.Keys.{Place}
+use Rattle.wm_pending.specs.Touched.{covers_since, has_touched, is_since, is_touch_of, is_touch_since, is_touched}
 use Rattle.wm_pending.specs.declared.touched.Since.{Since}
 
 -- ---- ids of ids
@@ -78,7 +77,7 @@ pub since_found : (s : Since) (o : Option Record) → is_some (passing (is_since
 since_found s None = refl
 since_found s (Some (records.Touch x)) = by_test (is_since s x)
   where
-    by_test : (b : Bool) → is_some (cond b (Some x) None) ≡ b
+    by_test : (b : Bool) → is_some (then_some b x) ≡ b
     by_test true = refl
     by_test false = refl
 since_found s (Some _) = refl
@@ -115,6 +114,24 @@ any_at-next P ss id ids = by_record (record_at ss id) refl
         by_kind None e = rw e refl
         by_kind (Some x) e = rw e refl
 
+or_assoc : (a b c : Bool) → ((a || b) || c) ≡ (a || (b || c))
+or_assoc true b c = refl
+or_assoc false b c = refl
+
+-- one more at their end
+pub any_at-push : (P : Trace → Bool) (ss : List Stored) (ids : List ℕ) (id : ℕ)
+    → any_at P ss (ids ++ id ∷ []) ≡ (any_at P ss ids || list_any P (option_to_list (option_and_then as_touch (record_at ss id))))
+any_at-push P ss [] id = any_at-next P ss id [] ∙ by_touch (option_and_then as_touch (record_at ss id))
+  where
+    by_touch : (o : Option Trace) → (option_map_or P o false || false) ≡ list_any P (option_to_list o)
+    by_touch None = refl
+    by_touch (Some x) = refl
+any_at-push P ss (x ∷ ids) id =
+    any_at-next P ss x (ids ++ id ∷ [])
+    ∙ ap (λ b. option_map_or P (option_and_then as_touch (record_at ss x)) false || b) (any_at-push P ss ids id)
+    ∙ sym (or_assoc (option_map_or P (option_and_then as_touch (record_at ss x)) false) (any_at P ss ids) (list_any P (option_to_list (option_and_then as_touch (record_at ss id)))))
+    ∙ ap (λ b. b || list_any P (option_to_list (option_and_then as_touch (record_at ss id)))) (sym (any_at-next P ss x ids))
+
 -- some touch that one test finds by its id passes another
 any_at-with : (P p : Trace → Bool) (q : Record → Bool) (ss : List Stored) → Ascend ss → Tests as_touch p q
     → any_at P ss (ids_with q ss) ≡ list_any (λ x. p x && P x) (parts_of ss).touches
@@ -133,9 +150,8 @@ key_test table key (records.Touch x) = refl
 key_test table key _ = refl
 
 -- the keys of the touches that are meant
-pub keys_touched : (s : Since) (g : Group) (ss : List Stored) → Ascend ss
-    → any_at (λ x. same_group (group_in_cells x.cells) g) ss (ids_with (is_touch_since s) ss) ≡ has_touched (parts_of ss).touches s g
-keys_touched s g ss sorted = any_at-with (λ x. same_group (group_in_cells x.cells) g) (is_since s) (is_touch_since s) ss sorted (since_test s)
+pub keys_touched : (s : Since) (q : Place) (ss : List Stored) → Ascend ss → any_at (is_touch_of q) ss (ids_with (is_touch_since s) ss) ≡ has_touched (parts_of ss).touches s q
+keys_touched s q ss sorted = any_at-with (is_touch_of q) (is_since s) (is_touch_since s) ss sorted (since_test s)
 
 -- a touch that is meant covers the moment
 abbrev pub covers_at : Since → ℕ → Trace → Bool
@@ -162,39 +178,7 @@ cells_touched s table key t ss sorted =
     swap false true c = refl
     swap false false c = refl
 
--- ---- one more of the keys, and of the periods
-
-pub same_order : (g h : Group) → is_eq (group_order g h) ≡ same_group g h
-same_order g h = by_table (nat_cmp g.table h.table) (g.table == h.table) (number (nat_cmp g.table h.table) refl)
-  where
-    number : (o : Ordering) → nat_cmp g.table h.table ≡ o → (g.table == h.table) ≡ is_eq o
-    number o e = rw (← e) (grind (arith, nat_tests))
-
-    by_table : (o : Ordering) (b : Bool) → b ≡ is_eq o → is_eq (Rattle.std.specs.Ordering.ordering_then o (key_order g.key h.key)) ≡ (b && is_eq (key_order g.key h.key))
-    by_table Less true e = cc
-    by_table Less false e = refl
-    by_table Equal true e = refl
-    by_table Equal false e = cc
-    by_table Greater true e = cc
-    by_table Greater false e = refl
-
-pub added : (o : Option Trace) (g : Group) (among rest : Bool)
-    → (add_group o g among || rest) ≡ (among || (option_map_or (λ (x : Trace). same_group (group_in_cells x.cells) g) o false || rest))
-added None g among rest = refl
-added (Some x) g among rest = swap (same_group (group_in_cells x.cells) g) among
-  where
-    swap : (a b : Bool) → ((a || b) || rest) ≡ (b || (a || rest))
-    swap true true = refl
-    swap true false = refl
-    swap false true = refl
-    swap false false = refl
-
-pub inserted : (x : Trace) (g : Group) (among new : Bool) → new ≡ cond (is_eq (group_order (group_in_cells x.cells) g)) true among → new ≡ add_group (Some x) g among
-inserted x g among new e = e ∙ ap (λ b. cond b true among) (same_order (group_in_cells x.cells) g) ∙ by_test (same_group (group_in_cells x.cells) g)
-  where
-    by_test : (b : Bool) → cond b true among ≡ (b || among)
-    by_test true = refl
-    by_test false = refl
+-- ---- one more of the periods
 
 pub erased : (quiet covered rest : Bool) → ((quiet && not covered) && not rest) ≡ (quiet && not (covered || rest))
 erased true true rest = refl

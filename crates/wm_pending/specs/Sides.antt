@@ -10,6 +10,7 @@ use Rattle.wm_period.specs.Pieces.{held_at}
 use Rattle.wm_state.specs.Standing.{seen}
 use Rattle.wm_telling.specs.Telling.{standing}
 use Rattle.wm_base.specs.Period.{Span}
+use Rattle.wm_pending.specs.Lookups.{group_own}
 use Rattle.wm_pending.specs.Touched.{is_touched}
 use Rattle.wm_pending.specs.declared.own.OwnKey.{OwnKey}
 use Rattle.wm_pending.specs.declared.sides.Sides.{Sides}
@@ -35,10 +36,6 @@ goes_on s from t = is_some (held_at s.contested t) && same_stamps (stamps_at s f
 -- the period is the first over which a function of the moment gives what it gives at the beginning
 abbrev pub IsFirstPeriod : (ℕ → Option Stamps) → (ℕ → Stamps) → Span → Type 0
 IsFirstPeriod f value s = IsFirst f 0 (record { from = s.from; till = s.till; value = value s.from })
-
--- the key of own pieces
-abbrev pub group_own : OwnKey → Group
-group_own k = record { table = k.table; key = k.key }
 
 -- the stamps of the rows that versions hold at a moment of a key
 abbrev pub asked_stamps : Parts → Asked → Group → ℕ → Stamps

@@ -1,15 +1,14 @@
 -- Touches of a workspace since a position of its log, as the code asks for them.
-use Rattle.std.specs.Prelude.{ℕ, Bool, true, false, ◌&&◌, ◌||◌, ◌==◌, nat_le, nat_lt, List, Option, Some, None}
+use Rattle.std.specs.Prelude.{ℕ, Bool, false, ◌&&◌, ◌==◌, nat_le, nat_lt, List, Option, Some, None}
 use Rattle.std.specs.List.{list_any}
 use Rattle.std.specs.Ordering.{is_eq}
-use Rattle.wm_net.specs.Groups.{Group, group_order, same_group}
 use Rattle.wm_spec.specs.Lists.{Cell}
 use Rattle.wm_spec.specs.declared.record.Record.{Record}
 use Rattle.wm_spec.specs.declared.record.Record.TheVariants as records
-use Rattle.wm_spec.specs.declared.record.cell_range.CellRange.{CellRange}
 use Rattle.wm_spec.specs.declared.record.space.Space.{Space}
 use Rattle.wm_spec.specs.declared.record.trace.Trace.{Trace}
 use Rattle.wm_state.specs.Standing.{in_cells}
+use Rattle.wm_pending.specs.Keys.{Place, place_order}
 use Rattle.wm_pending.specs.declared.touched.Since.{Since}
 
 -- those of the parent of a workspace since the workspace took its log
@@ -25,22 +24,21 @@ abbrev pub is_touch_since : Since → Record → Bool
 is_touch_since s (records.Touch x) = is_since s x
 is_touch_since s _ = false
 
--- the key of cells
-abbrev pub group_in_cells : CellRange → Group
-group_in_cells r = record { table = r.table; key = r.key }
+-- the touch is of the table and the key
+abbrev pub is_touch_of : Place → Trace → Bool
+is_touch_of q x = is_eq (place_order (x.cells.table, x.cells.key) q)
 
--- such a touch is of the key
-abbrev pub has_touched : List Trace → Since → Group → Bool
-has_touched xs s g = list_any (λ (x : Trace). is_since s x && same_group (group_in_cells x.cells) g) xs
+-- so is one of them
+abbrev pub has_touch_of : Place → List Trace → Bool
+has_touch_of q xs = list_any (is_touch_of q) xs
+
+-- so is one that is meant
+abbrev pub has_touched : List Trace → Since → Place → Bool
+has_touched xs s q = list_any (λ (x : Trace). is_since s x && is_touch_of q x) xs
 
 -- such a touch covers the cell
 abbrev pub is_touched : List Trace → Since → Cell → Bool
 is_touched xs s c = list_any (λ (x : Trace). is_since s x && in_cells x.cells c) xs
-
--- keys with that of a touch, where there is one
-abbrev pub add_group : Option Trace → Group → Bool → Bool
-add_group None g among = among
-add_group (Some x) g among = same_group (group_in_cells x.cells) g || among
 
 -- where there is such a touch, it covers the moment
 abbrev pub covers_since : Since → Option Trace → ℕ → Bool

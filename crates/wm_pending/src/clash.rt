@@ -4,8 +4,9 @@ ghost use Rattle.std.specs.Prelude.{◌≡◌, ℕ, ◌<◌, map, true, is_some,
 ghost use Rattle.wm_base.specs.declared.instant.TheConstants.{END};
 ghost use Rattle.wm_graph.specs.Parts.{parts_of};
 ghost use Rattle.wm_graph.specs.Rules.{keep_rules};
+ghost use Rattle.wm_pending.specs.Lookups.{group_own};
 ghost use Rattle.wm_pending.specs.Owned.{key_pieces};
-ghost use Rattle.wm_pending.specs.Sides.{IsFirstPeriod, are_contested, asked_clash, asked_stamps, group_own};
+ghost use Rattle.wm_pending.specs.Sides.{IsFirstPeriod, are_contested, asked_clash, asked_stamps};
 ghost use Rattle.wm_period.specs.Pieces.{Between, held_at};
 ghost use Rattle.wm_spec.specs.Lists.{Cell};
 ghost use Rattle.wm_telling.specs.Telling.{AreFamily, AreOwn, IsFirstClash, clash_held};

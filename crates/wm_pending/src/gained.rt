@@ -4,54 +4,52 @@ ghost use Rattle.std.specs.Prelude.{◌≡◌, ℕ, ◌<◌, map, true, false, i
 ghost use Rattle.wm_base.specs.declared.instant.TheConstants.{END};
 ghost use Rattle.wm_graph.specs.Parts.{parts_of};
 ghost use Rattle.wm_graph.specs.Rules.{keep_rules};
-ghost use Rattle.wm_net.specs.Groups.{GroupsAscend, cell, group_order, has_group};
+ghost use Rattle.wm_net.specs.Groups.{GroupsAscend, group_order, has_group};
 ghost use Rattle.wm_pending.specs.Owned.{key_pieces};
-ghost use Rattle.wm_pending.specs.Lookups.{StandsAt, pieces_on};
+ghost use Rattle.wm_pending.specs.Lookups.{StandsAt, group_own, pieces_on};
 ghost use Rattle.wm_pending.specs.Touched.{is_touched};
 ghost use Rattle.wm_period.specs.Pieces.{IsJoined, held_at};
 ghost use Rattle.wm_state.specs.Editing.{entry_of};
 ghost use Rattle.wm_state.specs.Standing.{seen};
-ghost use Rattle.wm_telling.specs.Telling.{AreFamily, AreOwn, IsHeldListing, gained_held, group_at};
+ghost use Rattle.wm_telling.specs.Telling.{AreFamily, AreOwn, IsHeldListing, gained_held};
 
+use crate::entries::push_entries;
 use crate::erasing::erase_all;
 use crate::own::OwnKey;
-use crate::table_key::TableKey;
 use crate::touched::{Since, touched_keys, untouched};
 use std::alloc::Global;
 use std::cmp::Ordering;
-use wm_base::{Memory, Name};
+use wm_base::{Key, Memory, Name};
 use wm_image::Image;
 use wm_period::{Piece, Pieces};
 use wm_spec::record::Space;
 use wm_state::edit::NewEntry;
 
 /// The order of a key of own pieces and another key.
-fn order_of(own: &OwnKey, key: &TableKey) -> Ordering
-    ensures { result ≡ group_order (group_at (key_pieces own.now)) key.now }
+fn order_of(own: &OwnKey, table: u16, key: &Key) -> Ordering
+    ensures { result ≡ group_order (group_own own.now) (record { table = table; key = key.now }) }
 {
-    own.table
-        .cmp(&key.table())
-        .then(own.key.compare(key.key()))
+    own.table.cmp(&table).then(own.key.compare(key))
 }
 
 /// Where a key stands among own keys that ascend.
-fn place_of(own: &[OwnKey], key: &TableKey) -> Option<usize>
-    requires { GroupsAscend (map group_at (map key_pieces own.now)) }
-    ensures there { IfSome result (StandsAt (map key_pieces own.now) key.now) }
-    ensures none { IfNone result (has_group key.now (map group_at (map key_pieces own.now)) ≡ false) }
+fn place_of(own: &[OwnKey], table: u16, key: &Key) -> Option<usize>
+    requires { GroupsAscend (map group_own own.now) }
+    ensures there { IfSome result (StandsAt own.now (record { table = table; key = key.now })) }
+    ensures none { IfNone result (has_group (record { table = table; key = key.now }) (map group_own own.now) ≡ false) }
 {
-    match own.binary_search_by(|k| order_of(k, key)) {
+    match own.binary_search_by(|k| order_of(k, table, key)) {
         Ok(place) => Some(place),
         Err(_) => None,
     }
 }
 
 /// The own pieces of a key, of own pieces whose keys ascend.
-fn own_on<'a>(own: &'a [OwnKey], key: &TableKey) -> &'a [Piece]
-    requires { GroupsAscend (map group_at (map key_pieces own.now)) }
-    ensures { result.now ≡ pieces_on key.now (map key_pieces own.now) }
+fn own_on<'a>(own: &'a [OwnKey], table: u16, key: &Key) -> &'a [Piece]
+    requires { GroupsAscend (map group_own own.now) }
+    ensures { result.now ≡ pieces_on (record { table = table; key = key.now }) own.now }
 {
-    match place_of(own, key) {
+    match place_of(own, table, key) {
         Some(place) => own[place].pieces.list(),
         None => &[],
     }
@@ -63,15 +61,16 @@ fn gained_pieces(
     image: &Image,
     since: Since,
     version: u64,
-    key: &TableKey,
+    table: u16,
+    key: &Key,
     own: &[Piece],
 ) -> Result<Pieces, Memory>
     requires { keep_rules (parts_of image.now) ≡ true }
     ensures joined { IfOk result (λ pieces. IsJoined pieces) }
-    ensures holds { IfOk result (λ pieces. (t : ℕ) → t < END → held_at pieces t ≡ (if is_some (held_at own.now t) then None else (if is_touched (parts_of image.now).touches since (cell key.now t) then seen (parts_of image.now) version (cell key.now t) else None))) }
+    ensures holds { IfOk result (λ pieces. (t : ℕ) → t < END → held_at pieces t ≡ (if is_some (held_at own.now t) then None else (if is_touched (parts_of image.now).touches since (record { table = table; key = key.now; time = t }) then seen (parts_of image.now) version (record { table = table; key = key.now; time = t }) else None))) }
 {
-    let quiet = untouched(alloc, image, since, key.table(), key.key())?;
-    let mut pieces = image.shown(alloc, version, key.table(), key.key())?;
+    let quiet = untouched(alloc, image, since, table, key)?;
+    let mut pieces = image.shown(alloc, version, table, key)?;
     erase_all(alloc, &mut pieces, quiet.list())?;
     erase_all(alloc, &mut pieces, own)?;
     pieces.join_same_stamp();
@@ -97,11 +96,12 @@ pub fn gained(
 {
     let since = Since::of(space, parent);
     let version = image.latest(parent.number);
-    let keys = touched_keys(alloc, image, since)?;
     let mut entries = Vec::new(alloc);
-    for key in &keys {
-        let pieces = gained_pieces(alloc, image, since, version, key, own_on(own, key))?;
-        entries.push(NewEntry { table: 0, key: key.key().copy(alloc)?, period: wm_base::Period::always(), row: None, stamp: 0, kind: wm_base::Kind::Insert, moment, user: user.copy(alloc)? })?;
+    for (table, key) in touched_keys(alloc, image, since)? {
+        let others = own_on(own, table, &key);
+        let pieces = gained_pieces(alloc, image, since, version, table, &key, others)?;
+        let gain = OwnKey { table, key, pieces };
+        push_entries(alloc, image, &mut entries, &gain, moment, user)?;
     }
     Ok(entries)
 }

@@ -1,21 +1,22 @@
 //! What a workspace touched since a position of its log.
 
-ghost use Rattle.std.specs.Prelude.{◌≡◌, ℕ, ◌<◌, ◌&&◌, min, not, false, is_some, IfOk, OnOk};
+ghost use Rattle.std.specs.Prelude.{◌≡◌, ℕ, ◌<◌, ◌&&◌, ◌||◌, not, false, is_some, IfOk, OnOk};
 ghost use Rattle.std.specs.BTreeSet.{contains};
-ghost use Rattle.std.specs.Option.{option_and_then, option_copied, option_map_or};
+ghost use Rattle.std.specs.Option.{option_and_then, option_copied, option_map_or, option_to_list};
 ghost use Rattle.wm_base.specs.Period.{covers};
 ghost use Rattle.wm_base.specs.declared.instant.TheConstants.{END};
 ghost use Rattle.wm_graph.specs.Parts.{as_touch, parts_of};
-ghost use Rattle.wm_image.specs.Shown.{passing};
+ghost use Rattle.wm_image.specs.Shown.{kind_at, passing};
 ghost use Rattle.wm_image.specs.Sought.{ids_with};
-ghost use Rattle.wm_net.specs.Groups.{Group, group_order};
-ghost use Rattle.wm_pending.specs.Touched.{add_group, covers_since, has_touched, is_since, is_touch_since, is_touched, since_of};
+ghost use Rattle.wm_pending.specs.Keys.{Place, place_order};
+ghost use Rattle.wm_pending.specs.Touched.{covers_since, has_touch_of, has_touched, is_since, is_touch_since, is_touched, since_of};
 ghost use Rattle.wm_period.specs.Pieces.{held_at};
 
-use crate::table_key::TableKey;
+use crate::keys::TableKeys;
+use crate::path::period_of;
 use std::alloc::Global;
 use std::collections::BTreeSet;
-use wm_base::{Instant, Key, Kind, Memory, Period, Stamp};
+use wm_base::{Key, Kind, Memory, Period, Stamp};
 use wm_image::Image;
 use wm_period::{Piece, Pieces};
 use wm_spec::record::{Record, Space, Trace};
@@ -69,6 +70,7 @@ fn touch_since(found: Option<&Record>, since: Since) -> Option<&Trace>
 fn touched_since(alloc: Global, image: &Image, since: Since) -> Result<Vec<u64>, Memory>
     ensures { IfOk result (λ ids. ids.items ≡ ids_with (is_touch_since since) image.now) }
 {
+    image.law_of_order();
     let mut ids = Vec::new(alloc);
     for id in image.records_of(since.space) {
         if touch_since(image.record(*id), since).is_some() {
@@ -78,45 +80,34 @@ fn touched_since(alloc: Global, image: &Image, since: Since) -> Result<Vec<u64>,
     Ok(ids)
 }
 
-/// Puts the key of a record among others, where it is a touch.
-fn add_key(
-    alloc: Global,
-    keys: &mut BTreeSet<TableKey>,
-    found: Option<&Record>,
-) -> Result<(), Memory>
-    ensures { OnOk result ((g : Group) → contains group_order keys.new g ≡ add_group (option_and_then as_touch (option_copied found.entry)) g (contains group_order keys.old g)) }
+/// Adds the key of a record, where that is a touch.
+fn add_key(alloc: Global, keys: &mut TableKeys, found: Option<&Record>) -> Result<(), Memory>
+    ensures { OnOk result ((q : Place) → contains place_order keys.new q ≡ (contains place_order keys.old q || has_touch_of q (option_to_list (option_and_then as_touch (option_copied found.entry))))) }
 {
     if let Some(Record::Touch(touch)) = found {
-        let key = touch.cells.key.copy(alloc)?;
-        keys.insert(TableKey::new(touch.cells.table, key))?;
+        keys.insert((touch.cells.table, touch.cells.key.copy(alloc)?))?;
     }
     Ok(())
 }
 
-/// The keys of the touches that are meant.
-pub fn touched_keys(
-    alloc: Global,
-    image: &Image,
-    since: Since,
-) -> Result<BTreeSet<TableKey>, Memory>
-    ensures { IfOk result (λ keys. (g : Group) → contains group_order keys g ≡ has_touched (parts_of image.now).touches since g) }
+/// The keys of the touches among the records of some ids.
+fn keys_of(alloc: Global, image: &Image, ids: &[u64]) -> Result<TableKeys, Memory>
+    ensures { IfOk result (λ keys. (q : Place) → contains place_order keys q ≡ has_touch_of q (kind_at as_touch image.now ids.now)) }
 {
-    let ids = touched_since(alloc, image, since)?;
     let mut keys = BTreeSet::new(alloc);
-    for id in &ids {
+    for id in ids {
         add_key(alloc, &mut keys, image.record(*id))?;
     }
     Ok(keys)
 }
 
-/// The instant of so many seconds, the end of time where they are more.
-fn instant_of(seconds: u64) -> Instant
-    ensures { result ≡ min seconds END }
+/// The keys of the touches that are meant.
+pub fn touched_keys(alloc: Global, image: &Image, since: Since) -> Result<TableKeys, Memory>
+    ensures { IfOk result (λ keys. (q : Place) → contains place_order keys q ≡ has_touched (parts_of image.now).touches since q) }
 {
-    match Instant::new(seconds) {
-        Some(instant) => instant,
-        None => Instant::end(),
-    }
+    image.law_of_order();
+    let ids = touched_since(alloc, image, since)?;
+    keys_of(alloc, image, ids.as_slice())
 }
 
 /// The period of a record, where it is a touch that is meant and has a moment.
@@ -124,10 +115,7 @@ fn period_since(found: Option<&Record>, since: Since) -> Option<Period>
     ensures { (t : ℕ) → t < END → option_map_or (λ p. covers p t) result false ≡ covers_since since (option_and_then as_touch (option_copied found.entry)) t }
 {
     let touch = touch_since(found, since)?;
-    Period::new(
-        instant_of(touch.cells.from),
-        instant_of(touch.cells.till),
-    )
+    period_of(&touch.cells)
 }
 
 /// Takes the period of a record out of others, where it is a touch that is meant.
@@ -155,6 +143,7 @@ pub fn untouched(
 ) -> Result<Pieces, Memory>
     ensures { IfOk result (λ quiet. (t : ℕ) → t < END → is_some (held_at quiet t) ≡ not (is_touched (parts_of image.now).touches since (record { table = table; key = key.now; time = t }))) }
 {
+    image.law_of_order();
     let mut quiet = Pieces::new(alloc);
     let all = Piece {
         period: Period::always(),
