@@ -1,8 +1,9 @@
 -- The pieces of a key as a block of a listing.
-use Rattle.std.proofs.Common.{◌≡◌, ℕ, ◌<◌, ◌≤◌, ◌⊎◌, inl, inr, ◌&&◌, ◌==◌, Bool, true, false, cond, not, List, [], ◌∷◌, ◌++◌, map, Option, None, Some, refl, sym, ap, ◌∙◌, arith, eqb-true}
+use Rattle.std.proofs.Common.{◌≡◌, ℕ, ◌<◌, ◌≤◌, ◌⊎◌, inl, inr, ◌&&◌, ◌==◌, Bool, true, false, cond, not, List, [], ◌∷◌, ◌++◌, map, Option, refl, sym, ap, ◌∙◌, eqb-true}
 use Rattle.std.proofs.lemmas.Bool.{and_parts}
 use Rattle.std.specs.Bool.{then_some}
 use Rattle.std.specs.Option.{option_or}
+use Rattle.wm_base.proofs.Plain.{option_or-none}
 use Rattle.wm_base.specs.Period.{covers}
 use Rattle.wm_base.specs.declared.instant.TheConstants.{END}
 use Rattle.wm_base.specs.declared.kind.Kind.{Kind}
@@ -11,9 +12,8 @@ use Rattle.wm_base.specs.declared.stamp.Stamp.{Stamp}
 use Rattle.wm_graph.specs.Parts.{Parts}
 use Rattle.wm_net.proofs.Owing.{lists_more, lists_all}
 use Rattle.wm_net.proofs.Stretching.{le_or_lt, within_not_after, value_before}
-use Rattle.wm_net.proofs.Grouping.{same_group-sym}
 use Rattle.wm_net.specs.Groups.{Group, has_group, GroupsAscend}
-use Rattle.wm_net.specs.Listed.{Stretch, value_at, Ordered, IsApart, IsJoined, IsBlock, ListsGroups}
+use Rattle.wm_net.specs.Listed.{value_at, Ordered, IsApart, IsJoined, IsBlock, ListsGroups}
 use Rattle.wm_period.proofs.Order.{held_at-early}
 use Rattle.wm_period.specs.Pieces.{Between, Held, held, held_at}
 use Rattle.wm_period.specs.Pieces as pieces
@@ -72,20 +72,16 @@ joined : (xs : List Piece) → pieces.IsJoined xs → IsJoined same_held (as_str
 joined [] j = tt
 joined (x ∷ xs) j = (apart x xs j.0, joined xs j.1)
 
-or_none : (o : Option Held) → option_or o None ≡ o
-or_none None = refl
-or_none (Some h) = refl
-
 -- the first that covers is the last that does
 value : (low high : ℕ) (xs : List Piece) (t : ℕ) → Between low xs high → value_at (as_stretches xs) t ≡ held_at xs t
 value low high [] t b = refl
 value low high (x ∷ xs) t b = by_place (le_or_lt x.period.till t) (value x.period.till high xs t b.2)
   where
     by_place : (x.period.till ≤ t) ⊎ (t < x.period.till) → value_at (as_stretches xs) t ≡ held_at xs t → value_at (as_stretches (x ∷ xs)) t ≡ held_at (x ∷ xs) t
-    by_place (inl late) rest = rw (within_not_after x.period.from x.period.till t late) (or_none (value_at (as_stretches xs) t) ∙ rest)
+    by_place (inl late) rest = rw (within_not_after x.period.from x.period.till t late) (option_or-none (value_at (as_stretches xs) t) ∙ rest)
     by_place (inr early) rest =
         ap (λ o. option_or o (then_some (covers x.period t) (held x))) (value_before x.period.till (as_stretches xs) t (ordered x.period.till high xs b.2) early)
-        ∙ sym (ap (option_or (then_some (covers x.period t) (held x))) (held_at-early x.period.till xs high t b.2 early) ∙ or_none (then_some (covers x.period t) (held x)))
+        ∙ sym (ap (option_or (then_some (covers x.period t) (held x))) (held_at-early x.period.till xs high t b.2 early) ∙ option_or-none (then_some (covers x.period t) (held x)))
 
 -- ---- blocks
 

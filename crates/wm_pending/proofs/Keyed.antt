@@ -1,5 +1,5 @@
 -- What a workspace has of its own, gathered key by key.
-use Rattle.std.proofs.Common.{◌≡◌, ℕ, Bool, true, false, ◌&&◌, ◌||◌, ◌==◌, not, List, [], ◌∷◌, ◌++◌, map, Option, None, refl, sym, ap, ◌∙◌, subst}
+use Rattle.std.proofs.Common.{◌≡◌, true, false, ◌&&◌, ◌||◌, ◌==◌, List, [], ◌∷◌, ◌++◌, map, None, refl, sym, ap, ◌∙◌, subst}
 use Rattle.std.proofs.lemmas.List.{map-append}
 use Rattle.std.proofs.lemmas.List.Elements.{All-push}
 use Rattle.std.specs.BTreeMap as tree
@@ -12,10 +12,9 @@ use Rattle.wm_graph.specs.Parts.{Parts}
 use Rattle.wm_graph.specs.Rules.{differ}
 use Rattle.wm_net.proofs.Grouping.{less_other, same_group-sym}
 use Rattle.wm_net.specs.Groups.{Group, GroupsAscend, Precedes, has_group}
-use Rattle.wm_period.specs.Pieces.{Held}
 use Rattle.wm_spec.specs.Lists.{Cell}
 use Rattle.wm_spec.specs.declared.record.space.Space.{Space}
-use Rattle.wm_state.specs.Copied.{HoldsKey, KeyPieces, is_at, same_key}
+use Rattle.wm_state.specs.Copied.{HoldsKey, KeyPieces, same_key}
 use Rattle.wm_telling.specs.Telling.{AreOwn, group_at, own_held}
 use Rattle.wm_pending.proofs.Blocks.{at_group}
 use Rattle.wm_pending.proofs.Stored.{tied}

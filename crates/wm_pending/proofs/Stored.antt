@@ -1,14 +1,13 @@
 -- What a version itself has, told by the records of ids.
-use Rattle.std.proofs.Common.{◌≡◌, ◌<◌, ◌≤◌, ℕ, Bool, true, false, cond, ◌&&◌, ◌||◌, ◌==◌, nat_lt, nat_le, List, [], ◌∷◌, map, Option, Some, None, refl, sym, ap, ◌∙◌, is_some, arith}
+use Rattle.std.proofs.Common.{◌≡◌, ◌≤◌, ℕ, Bool, true, false, cond, ◌&&◌, ◌||◌, ◌==◌, nat_lt, nat_le, List, [], ◌∷◌, Option, None, refl, sym, ap, ◌∙◌, is_some, arith}
 use Rattle.std.proofs.lemmas.Bool.Decides.{nat_tests}
 use Rattle.std.specs.Bool.{then_some}
-use Rattle.std.specs.List.{filter, filter_map, list_all, list_any}
+use Rattle.std.specs.List.{filter, filter_map, list_all}
 use Rattle.std.specs.Option.{option_map_or, option_or}
 use Rattle.std.specs.Ordering.{is_eq, nat_cmp, ordering_then}
 use Rattle.std.specs.declared.cmp.Ordering.{Ordering}
 use Rattle.wm_base.specs.Key.{key_order}
 use Rattle.wm_base.specs.declared.instant.TheConstants.{END}
-use Rattle.wm_base.specs.declared.value.Value.{Value}
 use Rattle.wm_graph.specs.Parts.{Parts, parts_of, as_piece, row_of, table_of, version_of}
 use Rattle.wm_graph.specs.Rules.{are_cells, collide, differ, is_key_of, is_piece, is_row_at, keep_rules}
 use Rattle.wm_image.proofs.Finding.{Tests, all_of, filter-kind}
@@ -28,7 +27,7 @@ use Rattle.wm_state.proofs.Apart.{ruled}
 use Rattle.wm_state.proofs.Tests.{both, either_false}
 use Rattle.wm_state.specs.ById.{Ascend}
 use Rattle.wm_state.specs.Standing.{held_by, stored_at}
-use Rattle.wm_pending.specs.Keys.{has_piece_of, is_piece_of, place_order}
+use Rattle.wm_pending.specs.Keys.{has_piece_of, is_piece_of}
 
 -- ---- the pieces of a key
 

@@ -60,14 +60,14 @@ pub fn push_entries(
     alloc: Global,
     image: &Image,
     entries: &mut Vec<NewEntry>,
-    replay: &OwnKey,
+    key: &OwnKey,
     moment: u64,
     user: &Name,
 ) -> Result<(), Memory>
-    ensures { OnOk result (map entry_of entries.new.items ≡ map entry_of entries.old.items ++ map (replayed_by (parts_of image.now) moment user.now (group_at (key_pieces replay.now))) (as_stretches replay.now.pieces)) }
+    ensures { OnOk result (map entry_of entries.new.items ≡ map entry_of entries.old.items ++ map (replayed_by (parts_of image.now) moment user.now (group_at (key_pieces key.now))) (as_stretches key.now.pieces)) }
 {
-    for piece in replay.pieces.list() {
-        entries.push(replayed(alloc, image, replay.table, &replay.key, piece, moment, user)?)?;
+    for piece in key.pieces.list() {
+        entries.push(replayed(alloc, image, key.table, &key.key, piece, moment, user)?)?;
     }
     Ok(())
 }

@@ -40,8 +40,8 @@ fn add_keys(alloc: Global, image: &Image, keys: &mut TableKeys, ids: &[u64]) -> 
     Ok(())
 }
 
-/// The keys of the pieces of a workspace's versions above the one that it sees under its own. It has nothing of its own for
-/// any other.
+/// The keys of the pieces of a workspace's versions above the one that it sees under its own. It has nothing of its own
+/// for any other.
 pub fn own_keys(alloc: Global, image: &Image, space: &Space) -> Result<TableKeys, Memory>
     requires { keep_rules (parts_of image.now) ≡ true }
     ensures { IfOk result (λ keys. (c : Cell) → contains place_order keys (c.table, c.key) ≡ false → own_held (parts_of image.now) space.now c ≡ None) }

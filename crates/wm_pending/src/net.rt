@@ -15,8 +15,8 @@ use wm_image::Image;
 use wm_spec::record::Space;
 use wm_state::edit::NewEntry;
 
-/// What a workspace has of its own, by table, key and from: each entry keeps its row, its stamp and its kind, and takes the
-/// moment and the user of the line.
+/// What a workspace has of its own, by table, key and from: each entry keeps its row, its stamp and its kind, and takes
+/// the moment and the user of the line.
 pub fn net_own(
     alloc: Global,
     image: &Image,

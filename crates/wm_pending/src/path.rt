@@ -99,8 +99,8 @@ fn lay_version(
     Ok(laid)
 }
 
-/// What a workspace has of its own for a key of a table, joined where it meets and says the same. Only the pieces of that
-/// key are looked at.
+/// What a workspace has of its own for a key of a table, joined where it meets and says the same. Only the pieces of
+/// that key are looked at.
 pub fn own_of_key(
     alloc: Global,
     image: &Image,
@@ -120,5 +120,6 @@ pub fn own_of_key(
         number = version.parent;
     }
     own.join_same_stamp();
+    let _order = own.list();
     Ok(own)
 }

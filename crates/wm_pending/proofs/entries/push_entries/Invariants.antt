@@ -8,4 +8,4 @@ use Rattle.wm_pending.proofs.entries.push_entries.Given as goal
 
 abbrev pub invariant-loop-piece : goal.invariant-loop-piece
 invariant-loop-piece l = map entry_of l.entries.items
-    ≡ map entry_of l.fn.entries.items ++ map (replayed_by (parts_of l.image) l.moment l.user (group_at (key_pieces l.replay))) (as_stretches (take l.piece-index l.piece-items))
+    ≡ map entry_of l.fn.entries.items ++ map (replayed_by (parts_of l.image) l.moment l.user (group_at (key_pieces l.key))) (as_stretches (take l.piece-index l.piece-items))
