@@ -31,7 +31,7 @@ precedes_at g [] i d before within = absurd (omega (arith, within))
 precedes_at g (k ∷ ks) zero d before within = before.0
 precedes_at g (k ∷ ks) (suc i) d before within = precedes_at g ks i d before.1 (omega (arith, within))
 
-ascend_at : (ks : List OwnKey) (i j : ℕ) (d : OwnKey) → GroupsAscend (map group_own ks) → i < j → j < length ks → group_order (group_own (get_or ks i d)) (group_own (get_or ks j d)) ≡ Less
+pub ascend_at : (ks : List OwnKey) (i j : ℕ) (d : OwnKey) → GroupsAscend (map group_own ks) → i < j → j < length ks → group_order (group_own (get_or ks i d)) (group_own (get_or ks j d)) ≡ Less
 ascend_at [] i j d up lt within = absurd (omega (arith, within))
 ascend_at (k ∷ ks) i zero d up lt within = absurd (omega (arith, lt))
 ascend_at (k ∷ ks) zero (suc j) d up lt within = precedes_at (group_own k) ks j d up.0 (omega (arith, within))

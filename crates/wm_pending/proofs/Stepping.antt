@@ -1,19 +1,18 @@
 -- Up to where pieces in order say what they say at an instant, and where a contest goes on.
-use Rattle.std.proofs.Common.{◌≡◌, ℕ, ◌<◌, ◌≤◌, Bool, true, false, ◌&&◌, List, [], ◌∷◌, Option, Some, None, is_some, refl, sym, ap, ◌∙◌, arith, ◌⊎◌, inl, inr}
+use Rattle.std.proofs.Common.{◌≡◌, ℕ, ◌<◌, ◌≤◌, Bool, true, false, ◌&&◌, List, [], ◌∷◌, length, get_or, Option, Some, None, is_some, sym, ap, ◌∙◌, subst, arith, refl}
 use Rattle.std.proofs.lemmas.Bool.{and_parts}
 use Rattle.std.proofs.lemmas.Bool.Decides.{nat_tests}
 use Rattle.std.specs.Bool.{then_some}
 use Rattle.std.specs.Option.{option_or}
+use Rattle.std.specs.Ordering.{is_lt, nat_cmp}
 use Rattle.wm_base.specs.Period.{Span, covers}
 use Rattle.wm_base.specs.declared.instant.TheConstants.{END}
 use Rattle.wm_net.proofs.Conflicting.{same_stamps-is, same_stamps-itself}
-use Rattle.wm_net.proofs.Stretching.{le_or_lt}
 use Rattle.wm_net.specs.Conflicts.{Stamps, same_stamps}
-use Rattle.wm_net.specs.Firsts.{IsFirst}
-use Rattle.wm_period.proofs.Order.{Between-lower, held_at-early, held_at-past}
+use Rattle.wm_period.proofs.Order.{Between-ends, Between-lower, held_at-early, held_at-past}
 use Rattle.wm_period.specs.Pieces.{Between, Held, held, held_at}
 use Rattle.wm_period.specs.declared.piece.Piece.{Piece}
-use Rattle.wm_pending.specs.Sides.{IsFirstPeriod, contest_at, goes_on, stamps_at}
+use Rattle.wm_pending.specs.Sides.{BeginsAt, IsFirstPeriod, contest_at, goes_on, stamps_at}
 use Rattle.wm_pending.specs.declared.sides.Sides.{Sides}
 
 -- ---- pieces in order
@@ -67,7 +66,8 @@ contest_on s from t there on =
 pub contest_off : (s : Sides) (from t : ℕ) → goes_on s from t ≡ false → contest_at s t ≡ Some (stamps_at s from) → ⊥
 contest_off s from t off e =
     let two = contest_some s t (stamps_at s from) e in
-    let on : goes_on s from t ≡ true = rw (two.0, two.1) (same_stamps-itself (stamps_at s from)) in
+    let on : goes_on s from t ≡ true =
+    ap (λ b. b && same_stamps (stamps_at s from) (stamps_at s t)) two.0 ∙ ap (λ v. same_stamps (stamps_at s from) v) two.1 ∙ same_stamps-itself (stamps_at s from) in
     absurd (let it : true ≡ false = sym on ∙ off in cc)
 
 -- nor at the end of time
@@ -78,13 +78,32 @@ contest_ended s from t order late e =
     absurd (let it : true ≡ false = sym two.0 ∙ ap (λ (o : Option Held). is_some o) none in cc)
 
 -- the period of a contest that begins with the first instant of one, over which it goes on, and that ends where it does not, is the first
-pub first_is : (s : Sides) (from till : ℕ) (period : Span) → period ≡ record { from = from; till = till } → ((t : ℕ) → t < from → held_at s.contested t ≡ None)
-    → is_some (held_at s.contested from) ≡ true → from < till → ((t : ℕ) → from ≤ t → t < till → contest_at s t ≡ contest_at s from) → (contest_at s till ≡ Some (stamps_at s from) → ⊥)
-    → IsFirstPeriod (contest_at s) (stamps_at s) period
-first_is s from till period is before there real over ends = rw is (record {
+pub first_is : (s : Sides) (from till : ℕ) (period : Span) → period ≡ record { from = from; till = till } → BeginsAt s.contested from → from < till
+    → ((t : ℕ) → from ≤ t → t < till → contest_at s t ≡ contest_at s from) → (contest_at s till ≡ Some (stamps_at s from) → ⊥) → IsFirstPeriod (contest_at s) (stamps_at s) period
+first_is s from till period is begins real over ends = subst (IsFirstPeriod (contest_at s) (stamps_at s)) (sym is) (record {
   begins = omega arith;
-  before = λ t low lt. ap (λ (o : Option Held). then_some (is_some o) (stamps_at s t)) (before t lt);
+  before = λ t low lt. ap (λ (o : Option Held). then_some (is_some o) (stamps_at s t)) (begins.before t lt);
   real = real;
-  over = λ t le lt. over t le lt ∙ contest_there s from there;
+  over = λ t le lt. over t le lt ∙ contest_there s from begins.there;
   ends = ends;
 })
+
+-- ---- where pieces begin
+
+pub begins_with : (p : Piece) (ps : List Piece) → Between 0 (p ∷ ps) END → BeginsAt (p ∷ ps) p.period.from
+begins_with p ps order = record {
+  order = order;
+  before = λ t lt. held_at-early p.period.from (p ∷ ps) END t (omega arith, order.1, order.2) lt;
+  there = ap (λ (o : Option Held). is_some o) (held_at-first p ps p.period.from (omega arith) order.1);
+  moment = let last = Between-ends p.period.till ps END order.2 in omega (arith, order.1);
+}
+
+-- the first of them
+pub begins_first : (ps : List Piece) (p : Piece) → 1 ≤ length ps → p ≡ get_or ps 0 p → Between 0 ps END → BeginsAt ps p.period.from
+begins_first [] p some is order = absurd (omega arith)
+begins_first (q ∷ qs) p some is order = subst (λ (x : Piece). BeginsAt (q ∷ qs) x.period.from) (sym is) (begins_with q qs order)
+
+-- ---- tests
+
+pub not_less : (m n : ℕ) → is_lt (nat_cmp m n) ≡ false → n ≤ m
+not_less m n e = grind (arith, nat_tests)

@@ -1,21 +1,30 @@
 -- Where pieces are in conflict, as the code walks over them.
-use Rattle.std.specs.Prelude.{ℕ, Bool, ◌&&◌, Option, is_some}
+use Rattle.std.specs.Prelude.{ℕ, ◌≡◌, ◌<◌, Bool, true, ◌&&◌, List, Option, None, is_some}
 use Rattle.std.specs.Bool.{then_some}
 use Rattle.std.specs.Option.{option_and_then}
+use Rattle.wm_base.specs.Period.{Span}
+use Rattle.wm_base.specs.declared.instant.TheConstants.{END}
 use Rattle.wm_graph.specs.Parts.{Parts}
 use Rattle.wm_net.specs.Conflicts.{Stamps, same_stamps}
 use Rattle.wm_net.specs.Firsts.{IsFirst}
 use Rattle.wm_net.specs.Groups.{Group, cell}
-use Rattle.wm_period.specs.Pieces.{held_at}
+use Rattle.wm_period.specs.Pieces.{Between, held_at}
+use Rattle.wm_period.specs.declared.piece.Piece.{Piece}
 use Rattle.wm_state.specs.Standing.{seen}
 use Rattle.wm_telling.specs.Telling.{standing}
-use Rattle.wm_base.specs.Period.{Span}
 use Rattle.wm_pending.specs.Lookups.{group_own}
 use Rattle.wm_pending.specs.Touched.{is_touched}
 use Rattle.wm_pending.specs.declared.own.OwnKey.{OwnKey}
 use Rattle.wm_pending.specs.declared.sides.Sides.{Sides}
 use Rattle.wm_pending.specs.declared.clash.Asked.{Asked}
 use Rattle.wm_pending.specs.declared.touched.Since.{Since}
+
+-- pieces in order hold something at a moment, and nothing before it
+pub record BeginsAt (ps : List Piece) (from : ℕ) : Type 0 where
+  pub order : Between 0 ps END
+  pub before : (t : ℕ) → t < from → held_at ps t ≡ None
+  pub there : is_some (held_at ps from) ≡ true
+  pub moment : from < END
 
 -- the stamps of the rows that stand at a moment
 abbrev pub stamps_at : Sides → ℕ → Stamps

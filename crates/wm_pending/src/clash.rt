@@ -6,14 +6,14 @@ ghost use Rattle.wm_graph.specs.Parts.{parts_of};
 ghost use Rattle.wm_graph.specs.Rules.{keep_rules};
 ghost use Rattle.wm_pending.specs.Lookups.{group_own};
 ghost use Rattle.wm_pending.specs.Owned.{key_pieces};
-ghost use Rattle.wm_pending.specs.Sides.{IsFirstPeriod, are_contested, asked_clash, asked_stamps};
+ghost use Rattle.wm_pending.specs.Sides.{IsFirstPeriod, are_contested, asked_clash, asked_stamps, stamps_at};
 ghost use Rattle.wm_period.specs.Pieces.{Between, held_at};
 ghost use Rattle.wm_spec.specs.Lists.{Cell};
 ghost use Rattle.wm_telling.specs.Telling.{AreFamily, AreOwn, IsFirstClash, clash_held};
 
 use crate::erasing::erase_all;
 use crate::own::OwnKey;
-use crate::sides::{Sides, first_stretch};
+use crate::sides::{Sides, first_held, first_stretch};
 use crate::touched::{Since, untouched};
 use std::alloc::Global;
 use wm_base::{Key, Memory, Period};
@@ -54,6 +54,29 @@ fn contested(
     Ok(pieces)
 }
 
+/// What stands on all sides of a key of own pieces.
+fn sides_of(
+    alloc: Global,
+    image: &Image,
+    asked: Asked,
+    own: &OwnKey,
+    contested: Pieces,
+) -> Result<Sides, Memory>
+    requires { keep_rules (parts_of image.now) ≡ true }
+    ensures contested { IfOk result (λ sides. sides.contested ≡ contested) }
+    ensures rows { IfOk result (λ sides. (t : ℕ) → t < END → stamps_at sides t ≡ asked_stamps (parts_of image.now) asked (group_own own.now) t) }
+{
+    let base = image.shown(alloc, asked.base, own.table, &own.key)?;
+    let parent = image.shown(alloc, asked.parent, own.table, &own.key)?;
+    let child = image.shown(alloc, asked.child, own.table, &own.key)?;
+    Ok(Sides {
+        contested,
+        base,
+        parent,
+        child,
+    })
+}
+
 /// The first stretch of conflict of a key of own pieces.
 fn first_of_key(
     alloc: Global,
@@ -67,16 +90,10 @@ fn first_of_key(
     ensures none { IfOk result (λ found. IfNone found ((t : ℕ) → asked_clash (parts_of image.now) asked own.now t ≡ None)) }
 {
     let contested = contested(alloc, image, asked.since, own)?;
-    let [first, ..] = contested.list() else {
+    let Some(from) = first_held(&contested) else {
         return Ok(None);
     };
-    let from = first.period.from();
-    let sides = Sides {
-        contested,
-        base: image.shown(alloc, asked.base, own.table, &own.key)?,
-        parent: image.shown(alloc, asked.parent, own.table, &own.key)?,
-        child: image.shown(alloc, asked.child, own.table, &own.key)?,
-    };
+    let sides = sides_of(alloc, image, asked, own, contested)?;
     Ok(Some(first_stretch(&sides, from)))
 }
 

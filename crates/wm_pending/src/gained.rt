@@ -8,7 +8,7 @@ ghost use Rattle.wm_net.specs.Groups.{GroupsAscend, group_order, has_group};
 ghost use Rattle.wm_pending.specs.Owned.{key_pieces};
 ghost use Rattle.wm_pending.specs.Lookups.{StandsAt, group_own, pieces_on};
 ghost use Rattle.wm_pending.specs.Touched.{is_touched};
-ghost use Rattle.wm_period.specs.Pieces.{IsJoined, held_at};
+ghost use Rattle.wm_period.specs.Pieces.{Between, IsJoined, held_at};
 ghost use Rattle.wm_state.specs.Editing.{entry_of};
 ghost use Rattle.wm_state.specs.Standing.{seen};
 ghost use Rattle.wm_telling.specs.Telling.{AreFamily, AreOwn, IsHeldListing, gained_held};
@@ -66,6 +66,7 @@ fn gained_pieces(
     own: &[Piece],
 ) -> Result<Pieces, Memory>
     requires { keep_rules (parts_of image.now) ≡ true }
+    ensures lie { IfOk result (λ pieces. Between 0 pieces END) }
     ensures joined { IfOk result (λ pieces. IsJoined pieces) }
     ensures holds { IfOk result (λ pieces. (t : ℕ) → t < END → held_at pieces t ≡ (if is_some (held_at own.now t) then None else (if is_touched (parts_of image.now).touches since (record { table = table; key = key.now; time = t }) then seen (parts_of image.now) version (record { table = table; key = key.now; time = t }) else None))) }
 {
@@ -74,6 +75,7 @@ fn gained_pieces(
     erase_all(alloc, &mut pieces, quiet.list())?;
     erase_all(alloc, &mut pieces, own)?;
     pieces.join_same_stamp();
+    let _order = pieces.list();
     Ok(pieces)
 }
 

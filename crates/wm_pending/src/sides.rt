@@ -1,11 +1,11 @@
 //! The first stretch on which pieces of a workspace and its parent are in conflict.
 
-ghost use Rattle.std.specs.Prelude.{◌≡◌, ℕ, ◌<◌, ◌≤◌, ◌&&◌, None, is_some, IsTrue};
+ghost use Rattle.std.specs.Prelude.{◌≡◌, ℕ, ◌<◌, ◌≤◌, None, IfNone, IfSome};
 ghost use Rattle.std.specs.Option.{option_and_then};
 ghost use Rattle.wm_base.specs.declared.instant.TheConstants.{END};
 ghost use Rattle.wm_net.specs.Conflicts.{same_stamp};
-ghost use Rattle.wm_pending.specs.Sides.{IsFirstPeriod, contest_at, goes_on, stamps_at};
-ghost use Rattle.wm_period.specs.Pieces.{Between, held_at};
+ghost use Rattle.wm_pending.specs.Sides.{BeginsAt, IsFirstPeriod, contest_at, goes_on, stamps_at};
+ghost use Rattle.wm_period.specs.Pieces.{held_at};
 ghost use Rattle.wm_telling.specs.Telling.{standing};
 
 use wm_base::{Instant, Period};
@@ -18,6 +18,17 @@ pub struct Sides {
     pub base: Pieces,
     pub parent: Pieces,
     pub child: Pieces,
+}
+
+/// The first instant at which pieces hold something.
+pub fn first_held(pieces: &Pieces) -> Option<Instant>
+    ensures some { IfSome result (BeginsAt pieces.now) }
+    ensures none { IfNone result ((t : ℕ) → held_at pieces.now t ≡ None) }
+{
+    match pieces.list() {
+        [] => None,
+        [first, ..] => Some(first.period.from()),
+    }
 }
 
 /// The stamp of the row that stands at an instant.
@@ -84,10 +95,7 @@ fn goes_on(sides: &Sides, from: Instant, at: Instant) -> bool
 
 /// The stretch that begins with the first instant that is contested.
 pub fn first_stretch(sides: &Sides, from: Instant) -> Period
-    requires order { Between 0 sides.now.contested END }
-    requires before { (t : ℕ) → t < from → held_at sides.now.contested t ≡ None }
-    requires there { IsTrue (is_some (held_at sides.now.contested from)) }
-    requires moment { from < END }
+    requires { BeginsAt sides.now.contested from }
     ensures { IsFirstPeriod (contest_at sides.now) (stamps_at sides.now) result }
 {
     let mut till = all_steady_till(sides, from);
