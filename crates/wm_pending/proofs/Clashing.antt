@@ -72,11 +72,17 @@ first_alike f h from till v w same is first = record {
 
 -- the first stretch of the sides is that of the key
 pub first_asked : (p : Parts) (q : Asked) (k : OwnKey) (s : Sides) (period : Span) → Between 0 k.pieces END → Between 0 s.contested END → ((t : ℕ) → t < END → is_some (held_at s.contested t) ≡ are_contested p q.since k t)
-    → ((t : ℕ) → t < END → stamps_at s t ≡ asked_stamps p q (group_own k) t) → period.from < END → IsFirstPeriod (contest_at s) (stamps_at s) period
-    → IsFirstPeriod (asked_clash p q k) (asked_stamps p q (group_own k)) period
-first_asked p q k s period order within told rows moment first =
+    → ((t : ℕ) → t < END → stamps_at s t ≡ asked_stamps p q (group_own k) t) → IsFirstPeriod (contest_at s) (stamps_at s) period → IsFirstPeriod (asked_clash p q k) (asked_stamps p q (group_own k)) period
+first_asked p q k s period order within told rows first =
     first_alike (contest_at s) (asked_clash p q k) period.from period.till (stamps_at s period.from) (asked_stamps p q (group_own k) period.from)
-    (sides_tell p q k s order within told rows) (rows period.from moment) first
+    (sides_tell p q k s order within told rows) (rows period.from (by_place (le_or_lt END period.from))) first
+  where
+    by_place : (END ≤ period.from) ⊎ (period.from < END) → period.from < END
+    by_place (inl late) =
+        let none : contest_at s period.from ≡ None = ap (λ (o : Option Held). then_some (is_some o) (stamps_at s period.from)) (held_at-past 0 s.contested END period.from within late) in
+        let some : contest_at s period.from ≡ Some (stamps_at s period.from) = first.over period.from (omega arith) first.real in
+        absurd (cc)
+    by_place (inr early) = early
 
 -- ---- all keys
 
