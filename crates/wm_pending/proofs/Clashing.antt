@@ -1,10 +1,9 @@
 -- Where a workspace and its parent both changed something, key by key.
-use Rattle.std.proofs.Common.{◌≡◌, ℕ, zero, suc, ◌+◌, ◌<◌, ◌≤◌, ◌⊎◌, inl, inr, Bool, true, false, ◌&&◌, ◌||◌, List, [], ◌∷◌, map, length, take, get_or, Option, None, Some, is_some, refl, sym, ap, ◌∙◌, subst, arith}
+use Rattle.std.proofs.Common.{◌≡◌, ℕ, zero, suc, ◌<◌, ◌≤◌, ◌⊎◌, inl, inr, Bool, true, false, ◌&&◌, ◌||◌, List, [], ◌∷◌, map, length, take, get_or, Option, None, Some, is_some, refl, sym, ap, ◌∙◌, subst, arith}
 use Rattle.std.proofs.lemmas.List.{get_or-take, length-take-le, take_all}
 use Rattle.std.specs.Bool.{then_some}
 use Rattle.std.specs.List.{All}
-use Rattle.std.specs.declared.cmp.Ordering.{Ordering}
-use Rattle.std.specs.declared.cmp.Ordering.TheVariants.{Less, Equal}
+use Rattle.std.specs.declared.cmp.Ordering.TheVariants.{Less}
 use Rattle.wm_base.specs.Period.{Span}
 use Rattle.wm_base.specs.declared.instant.TheConstants.{END}
 use Rattle.wm_base.specs.declared.value.Value.{Value}
@@ -20,7 +19,7 @@ use Rattle.wm_period.specs.declared.piece.Piece.{Piece}
 use Rattle.wm_spec.specs.Lists.{Cell}
 use Rattle.wm_spec.specs.declared.record.space.Space.{Space}
 use Rattle.wm_state.specs.Copied.{HoldsKey}
-use Rattle.wm_state.specs.Standing.{latest, seen}
+use Rattle.wm_state.specs.Standing.{latest}
 use Rattle.wm_telling.specs.Telling.{AreOwn, IsFirstClash, clash_held, is_pending, own_held, stamps_of}
 use Rattle.wm_pending.proofs.Blocks.{at_group}
 use Rattle.wm_pending.proofs.Looking.{ascend_at, groups_own}

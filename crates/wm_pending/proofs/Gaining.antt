@@ -1,6 +1,5 @@
 -- What a workspace gains, key by key.
-use Rattle.std.proofs.Common.{◌≡◌, ℕ, ◌<◌, ◌≤◌, ◌⊎◌, inl, inr, Bool, true, false, cond, ◌&&◌, ◌||◌, ◌==◌, nat_lt, nat_le, List, [], ◌∷◌, ◌++◌, map, Option, None, is_some, refl, sym, ap, ◌∙◌, subst, arith}
-use Rattle.std.proofs.lemmas.Bool.Decides.{nat_tests}
+use Rattle.std.proofs.Common.{◌≡◌, ℕ, ◌<◌, ◌≤◌, ◌⊎◌, inl, inr, Bool, true, false, cond, ◌&&◌, ◌==◌, nat_lt, nat_le, List, [], ◌∷◌, ◌++◌, map, Option, None, is_some, refl, sym, ap, ◌∙◌, subst, arith}
 use Rattle.std.proofs.lemmas.List.{map-append}
 use Rattle.std.specs.BTreeMap as tree
 use Rattle.std.specs.List.{list_all, list_any}
@@ -13,11 +12,10 @@ use Rattle.wm_graph.specs.Parts.{Parts, space_of, table_of}
 use Rattle.wm_graph.specs.Rules.{are_cells, differ, is_given, is_key_of, is_touch, is_trace, keep_rules, meet}
 use Rattle.wm_net.proofs.Owing.{lists_all}
 use Rattle.wm_net.proofs.Stretching.{le_or_lt}
-use Rattle.wm_net.specs.Groups.{Group, GroupsAscend, cell, has_group}
+use Rattle.wm_net.specs.Groups.{Group, cell, has_group}
 use Rattle.wm_net.specs.Listed.{ListsGroups}
 use Rattle.wm_period.proofs.Order.{held_at-past}
 use Rattle.wm_period.specs.Pieces.{Between, Held, IsJoined, held_at}
-use Rattle.wm_period.specs.declared.piece.Piece.{Piece}
 use Rattle.wm_spec.specs.Lists.{Cell, Entry}
 use Rattle.wm_spec.specs.declared.record.space.Space.{Space}
 use Rattle.wm_spec.specs.declared.record.table.Table.{Table}
@@ -25,8 +23,8 @@ use Rattle.wm_spec.specs.declared.record.trace.Trace.{Trace}
 use Rattle.wm_state.proofs.Apart.{ruled}
 use Rattle.wm_state.proofs.Tests.{both, either_false}
 use Rattle.wm_state.specs.Copied.{HoldsKey}
-use Rattle.wm_state.specs.Standing.{in_cells, latest, seen}
-use Rattle.wm_telling.specs.Telling.{AreOwn, IsHeldListing, gained_held, group_at, is_pending, own_held, replayed_by, same_held}
+use Rattle.wm_state.specs.Standing.{latest, seen}
+use Rattle.wm_telling.specs.Telling.{AreOwn, IsHeldListing, gained_held, group_at, own_held, replayed_by, same_held}
 use Rattle.wm_pending.proofs.Blocks.{at_group, lists_key}
 use Rattle.wm_pending.proofs.Keyed.{ascend, contained, group_in}
 use Rattle.wm_pending.proofs.Looking.{groups_own, pieces_hold}

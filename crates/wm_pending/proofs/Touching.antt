@@ -1,5 +1,5 @@
 -- Touches found by their ids, and what they tell of a cell.
-use Rattle.std.proofs.Common.{◌≡◌, ◌≢◌, ℕ, ◌+◌, ◌<◌, ◌≤◌, Bool, true, false, cond, not, ◌&&◌, ◌||◌, ◌==◌, nat_lt, nat_le, max, List, [], ◌∷◌, ◌++◌, map, Option, Some, None, is_some, refl, sym, ap, ◌∙◌, arith}
+use Rattle.std.proofs.Common.{◌≡◌, ℕ, ◌+◌, Bool, true, false, cond, not, ◌&&◌, ◌||◌, ◌==◌, nat_lt, nat_le, max, List, [], ◌∷◌, ◌++◌, Option, Some, None, is_some, refl, sym, ap, ◌∙◌, arith}
 use Rattle.std.proofs.lemmas.Bool.Decides.{nat_tests}
 use Rattle.std.specs.Bool.{then_some}
 use Rattle.std.specs.List.{filter, filter_map, list_any}
@@ -9,7 +9,7 @@ use Rattle.wm_base.specs.Key.{key_order}
 use Rattle.wm_base.specs.declared.value.Value.{Value}
 use Rattle.wm_graph.specs.Parts.{as_touch, parts_of}
 use Rattle.wm_image.proofs.Finding.{Tests, all_of, filter-kind}
-use Rattle.wm_image.proofs.Lists.{record_at-none, record_at-here, record_at-away, taken-with}
+use Rattle.wm_image.proofs.Lists.{record_at-here, record_at-away, taken-with}
 use Rattle.wm_image.specs.Shown.{kind_at, passing}
 use Rattle.wm_image.specs.Sought.{OwnedBy, TouchesAt, ids_with, is_sought}
 use Rattle.wm_spec.specs.Lists.{Cell}

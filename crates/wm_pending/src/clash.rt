@@ -21,7 +21,8 @@ use wm_image::Image;
 use wm_period::Pieces;
 use wm_spec::record::Space;
 
-/// A stretch of conflict: a key of a table, and the period over which base, parent and workspace each hold one row or none.
+/// A stretch of conflict: a key of a table, and the period over which base, parent and workspace each hold one row or
+/// none.
 #[derive(Drop)]
 pub struct Clash {
     pub table: u16,
@@ -29,23 +30,18 @@ pub struct Clash {
     pub period: Period,
 }
 
-/// What is looked at: the touches of a parent since a workspace took its log, and the versions that stand for the base of
-/// the workspace, for its parent and for itself.
+/// What is looked at: the touches of a parent since a workspace took its log, and the versions that stand for the base
+/// of the workspace, for its parent and for itself.
 #[derive(Clone, Copy)]
-pub struct Asked {
-    pub since: Since,
-    pub base: u64,
-    pub parent: u64,
-    pub child: u64,
+struct Asked {
+    since: Since,
+    base: u64,
+    parent: u64,
+    child: u64,
 }
 
 /// What own pieces of a key have where a touch that is meant covers it.
-fn contested(
-    alloc: Global,
-    image: &Image,
-    since: Since,
-    own: &OwnKey,
-) -> Result<Pieces, Memory>
+fn contested(alloc: Global, image: &Image, since: Since, own: &OwnKey) -> Result<Pieces, Memory>
     ensures { IfOk result (λ pieces. (t : ℕ) → t < END → is_some (held_at pieces t) ≡ are_contested (parts_of image.now) since own.now t) }
 {
     let quiet = untouched(alloc, image, since, own.table, &own.key)?;
@@ -97,8 +93,8 @@ fn first_of_key(
     Ok(Some(first_stretch(&sides, from)))
 }
 
-/// The first stretch, by table, key and from, on which a workspace and its parent are in conflict, where there is one. Only
-/// the keys of which the workspace has something of its own are looked at.
+/// The first stretch, by table, key and from, on which a workspace and its parent are in conflict, where there is one.
+/// Only the keys of which the workspace has something of its own are looked at.
 pub fn first_clash(
     alloc: Global,
     image: &Image,

@@ -10,6 +10,6 @@ pub mod net;
 pub mod own;
 pub mod path;
 mod sides;
-pub mod touched;
+mod touched;
 
 pub use crate::own::OwnKey;

@@ -21,8 +21,8 @@ use wm_image::Image;
 use wm_period::{Piece, Pieces};
 use wm_spec::record::{Record, Space, Trace};
 
-/// Which touches are meant: those of a workspace that were made at a place below one, and whose last entry stands in its
-/// log at a position or behind it.
+/// Which touches are meant: those of a workspace that were made at a place below one, and whose last entry stands in
+/// its log at a position or behind it.
 #[derive(Clone, Copy)]
 pub struct Since {
     pub space: u32,

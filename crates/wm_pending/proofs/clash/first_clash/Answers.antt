@@ -1,4 +1,4 @@
-use Rattle.std.proofs.Common.{◌≡◌, ℕ, Option, None, subst, arith}
+use Rattle.std.proofs.Common.{◌≡◌, ℕ, Option, None, subst}
 use Rattle.std.proofs.lemmas.List.Elements.{All-more}
 use Rattle.std.specs.Option.{IfNone, IfSome}
 use Rattle.wm_base.specs.Period.{Span}

@@ -1,4 +1,4 @@
-use Rattle.std.proofs.Common.{◌≡◌, ℕ, ◌<◌, ◌≤◌, ◌⊎◌, inl, inr, Option, Some, sym, ◌∙◌, subst, arith}
+use Rattle.std.proofs.Common.{◌≡◌, inl, inr, Option, Some, sym, ◌∙◌, subst, arith}
 use Rattle.std.specs.Option.{IfSome}
 use Rattle.wm_base.specs.Period.{Span}
 use Rattle.wm_base.specs.declared.instant.TheConstants.{END}
@@ -20,7 +20,7 @@ loop-till-preserved c =
       bound = c.all_steady_till-till-in-loop-till.ensures.bound;
       over = λ t le lt.
           elim (le_or_lt till t) [
-            inl late ↦ c.all_steady_till-till-in-loop-till.ensures.steady t late lt ∙ on
+            | inl late ↦ c.all_steady_till-till-in-loop-till.ensures.steady t late lt ∙ on
             | inr early ↦ c.loop-till.invariant.over t le early
           ];
     }
@@ -34,11 +34,11 @@ returns c =
     subst (λ (o : Option Span). IfSome o (λ p. p ≡ record { from = from; till = till })) c.unwrap.ensures c.new.ensures.value in
     let ends : contest_at s till ≡ Some (stamps_at s from) → ⊥ =
     elim c.loop-till-test.branch [
-      then-loop-till-test+else-goes_on w ↦ contest_off s from till (sym w.goes_on.ensures ∙ w.if-goes_on.false)
+      | then-loop-till-test+else-goes_on w ↦ contest_off s from till (sym w.goes_on.ensures ∙ w.if-goes_on.false)
       | else-loop-till-test w ↦
-      elim (le_or_lt END till) [
-        inl late ↦ contest_ended s from till c.requires.order late
-        | inr early ↦ absurd (let no = w.loop-till-test.false in let yes = c.is_moment.ensures.1 early in cc)
-      ]
+          elim (le_or_lt END till) [
+            | inl late ↦ contest_ended s from till c.requires.order late
+            | inr early ↦ absurd (let no = w.loop-till-test.false in let yes = c.is_moment.ensures.1 early in cc)
+          ]
     ] in
     first_is s from till c.unwrap.result is c.requires c.loop-till.invariant.real c.loop-till.invariant.over ends
