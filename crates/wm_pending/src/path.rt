@@ -38,7 +38,7 @@ fn instant_of(seconds: u64) -> Instant
 }
 
 /// The period of cells, or None where they have no moment.
-fn period_of(cells: &CellRange) -> Option<Period>
+pub fn period_of(cells: &CellRange) -> Option<Period>
     ensures { (t : ℕ) → t < END → option_map_or (λ p. covers p t) result false ≡ (nat_le cells.now.from t && nat_lt t cells.now.till) }
 {
     Period::new(instant_of(cells.from), instant_of(cells.till))
