@@ -8,10 +8,11 @@ use Rattle.std.specs.Ordering.{is_eq}
 use Rattle.wm_base.specs.Key.{key_order}
 use Rattle.wm_base.specs.declared.value.Value.{Value}
 use Rattle.wm_graph.specs.Parts.{as_touch, parts_of}
-use Rattle.wm_image.proofs.Finding.{Tests, all_of, filter-kind}
-use Rattle.wm_image.proofs.Lists.{record_at-here, record_at-away, taken-with}
+use Rattle.wm_index.proofs.Finding.{Tests, all_of, filter-kind}
+use Rattle.wm_image.proofs.Lists.{taken-with}
+use Rattle.wm_index.proofs.Lists.{record_at-here, record_at-away}
 use Rattle.wm_image.specs.Shown.{kind_at, passing}
-use Rattle.wm_image.specs.Sought.{OwnedBy, TouchesAt, ids_with, is_sought}
+use Rattle.wm_index.specs.Sought.{OwnedBy, TouchesAt, ids_with, is_sought}
 use Rattle.wm_spec.specs.Lists.{Cell}
 use Rattle.wm_spec.specs.Records.{record_at}
 use Rattle.wm_spec.specs.declared.record.Record.{Record}

@@ -7,7 +7,7 @@ ghost use Rattle.wm_base.specs.Period.{covers};
 ghost use Rattle.wm_base.specs.declared.instant.TheConstants.{END};
 ghost use Rattle.wm_graph.specs.Parts.{as_touch, parts_of};
 ghost use Rattle.wm_image.specs.Shown.{kind_at, passing};
-ghost use Rattle.wm_image.specs.Sought.{ids_with};
+ghost use Rattle.wm_index.specs.Sought.{ids_with};
 ghost use Rattle.wm_pending.specs.Keys.{Place, place_order};
 ghost use Rattle.wm_pending.specs.Touched.{covers_since, has_touch_of, has_touched, is_since, is_touch_since, is_touched, since_of};
 ghost use Rattle.wm_period.specs.Pieces.{held_at};

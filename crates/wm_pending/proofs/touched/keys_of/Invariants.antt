@@ -1,7 +1,7 @@
 use Rattle.std.proofs.Common.{◌≡◌, take}
 use Rattle.std.specs.BTreeSet.{contains}
 use Rattle.wm_graph.specs.Parts.{as_touch}
-use Rattle.wm_image.specs.Shown.{kind_at}
+use Rattle.wm_index.specs.Kinds.{kind_at}
 use Rattle.wm_pending.specs.Keys.{Place, place_order}
 use Rattle.wm_pending.specs.Touched.{has_touch_of}
 use Rattle.wm_pending.proofs.touched.keys_of.Given as goal

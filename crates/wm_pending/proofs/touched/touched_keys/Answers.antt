@@ -2,7 +2,7 @@ use Rattle.std.proofs.Common.{◌≡◌, ℕ, List, ap, ◌∙◌}
 use Rattle.std.proofs.lemmas.Result.{IfOk-weaker}
 use Rattle.std.specs.BTreeSet.{contains}
 use Rattle.wm_graph.specs.Parts.{as_touch, parts_of}
-use Rattle.wm_image.specs.Shown.{kind_at}
+use Rattle.wm_index.specs.Kinds.{kind_at}
 use Rattle.wm_pending.proofs.Touching.{any_at, keys_touched}
 use Rattle.wm_pending.specs.Keys.{Place, place_order}
 use Rattle.wm_pending.specs.Touched.{has_touch_of, has_touched, is_touch_of}

@@ -1,7 +1,7 @@
 use Rattle.std.proofs.Common.{ℕ, List, ◌++◌, sym, ap, ◌∙◌, arith}
 use Rattle.std.proofs.lemmas.List.{append-nil, drop_all}
 use Rattle.std.specs.List.{filter}
-use Rattle.wm_image.specs.Sought.{OwnedBy, is_sought}
+use Rattle.wm_index.specs.Sought.{OwnedBy, is_sought}
 use Rattle.wm_pending.proofs.Touching.{filtered-with, passes_at, since_owned}
 use Rattle.wm_pending.specs.Touched.{is_touch_since}
 use Rattle.wm_pending.proofs.touched.touched_since.Goals as goal
