@@ -22,3 +22,7 @@ pub mod Given
 pub mod FirstChild
 pub mod RollingLine
 pub mod RemovingLine
+pub mod Families
+pub mod MergedEdits
+pub mod Unready
+pub mod RefreshingLine

@@ -1,5 +1,5 @@
 -- What is looked up in the records where a workspace is refreshed or merged.
-use Rattle.std.specs.Prelude.{ℕ, ◌≡◌, ◌+◌, ◌<◌, Bool, true, false, not, ◌&&◌, ◌||◌, ◌==◌, nat_le, nat_lt, if◌then◌else◌, List, [], ◌∷◌, ◌++◌, length, max, Option, Some, None, is_some, codes}
+use Rattle.std.specs.Prelude.{ℕ, ◌≡◌, ◌+◌, ◌<◌, Bool, true, false, ◌&&◌, ◌||◌, ◌==◌, nat_le, nat_lt, if◌then◌else◌, List, [], ◌∷◌, ◌++◌, length, max, Option, Some, None, is_some, codes}
 use Rattle.std.specs.List.{count_by, find, list_all, list_any}
 use Rattle.std.specs.Str.{bytes_eq}
 use Rattle.std.specs.declared.alloc.Global.{Global}
@@ -22,9 +22,9 @@ use Rattle.wm_state.specs.State.{Session}
 use Rattle.wm_state.specs.declared.edit.Edit.{Edit}
 use Rattle.wm_state.specs.declared.edit.Edit.TheVariants as edits
 use Rattle.wm_state.specs.declared.edit.NewEntry.{NewEntry}
-use Rattle.wm_telling.specs.Telling.{AreFamily, AreOwn, IsFirstClash, IsHeldListing, clash_held, gained_held, own_held}
+use Rattle.wm_telling.specs.Telling.{AreOwn, IsFirstClash, IsHeldListing, clash_held, gained_held, own_held}
 use Rattle.wm_print.specs.Texts.{Answer}
-use Rattle.wm_model.specs.Step.{Asked, at_its_end, counter_limit, first_fault, in_conflict, most_savepoints, number_limit, refused_for, refused_if, savepoint_there, told_period}
+use Rattle.wm_model.specs.Step.{Asked, at_its_end, first_fault, in_conflict, most_savepoints, number_limit, refused_for, refused_if, savepoint_there, told_period}
 use Rattle.wm_model.specs.Undone.{NamesSpace, removing_refusal}
 
 -- ---- conflicts

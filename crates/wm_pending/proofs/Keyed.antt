@@ -43,7 +43,7 @@ gathered_more p a qs ks k so holds = record {
 
 -- ---- keys that ascend
 
-ascend : (qs : List Place) → IsStrictlySortedBy place_order qs → GroupsAscend (map group_in qs)
+pub ascend : (qs : List Place) → IsStrictlySortedBy place_order qs → GroupsAscend (map group_in qs)
 unfolding IsStrictlySortedBy
 ascend [] sorted = tt
 ascend (q ∷ qs) sorted = (first qs sorted.0, ascend qs sorted.1)
@@ -62,7 +62,7 @@ apart (k ∷ ks) up = rw (none ks up.0, apart ks up.1) refl
 
 -- ---- all of them
 
-contained : (q : Place) (qs : List Place) → list_any (tree.is_at (place_order q)) qs ≡ has_group (group_in q) (map group_in qs)
+pub contained : (q : Place) (qs : List Place) → list_any (tree.is_at (place_order q)) qs ≡ has_group (group_in q) (map group_in qs)
 contained q [] = refl
 contained q (r ∷ qs) =
     ap (λ b. b || list_any (tree.is_at (place_order q)) qs) (tied q.0 r.0 (key_order q.1 r.1) ∙ same_group-sym (group_in q) (group_in r))

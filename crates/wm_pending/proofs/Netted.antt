@@ -23,7 +23,7 @@ groups_more ks i k within is =
     ∙ ap (map group_at) (map-append key_pieces (take i ks) (k ∷ []))
     ∙ map-append group_at (map key_pieces (take i ks)) (key_pieces k ∷ [])
 
-held_of : (f : Cell → Option Held) (ks : List OwnKey) (i : ℕ) (k : OwnKey) → i < length ks → k ≡ get_or ks i k → All (HoldsKey f) (map key_pieces ks) → HoldsKey f (key_pieces k)
+pub held_of : (f : Cell → Option Held) (ks : List OwnKey) (i : ℕ) (k : OwnKey) → i < length ks → k ≡ get_or ks i k → All (HoldsKey f) (map key_pieces ks) → HoldsKey f (key_pieces k)
 held_of f ks i k within is all =
     let at : i < length (map key_pieces ks) = subst (λ n. i < n) (sym (length-map ks key_pieces)) within in
     subst (HoldsKey f) (get_or-map key_pieces ks i k (key_pieces k) within ∙ ap key_pieces (sym is)) (all i (key_pieces k) at)

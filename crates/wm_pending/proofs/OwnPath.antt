@@ -11,7 +11,8 @@ use Rattle.wm_base.specs.declared.instant.TheConstants.{END}
 use Rattle.wm_base.specs.declared.value.Value.{Value}
 use Rattle.wm_graph.specs.Parts.{parts_of, as_piece, version_of}
 use Rattle.wm_graph.specs.Rules.{keep_rules}
-use Rattle.wm_image.specs.Shown.{first_held, kind_at}
+use Rattle.wm_image.specs.Shown.{first_held}
+use Rattle.wm_index.specs.Kinds.{kind_at}
 use Rattle.wm_index.specs.Sought.{PiecesAt, PiecesIn, ids_with, is_sought}
 use Rattle.wm_period.proofs.Order.{held_at-past}
 use Rattle.wm_period.specs.Pieces.{Between, Held, IsJoined, held_at}

@@ -10,9 +10,10 @@ use Rattle.wm_base.specs.Key.{key_order}
 use Rattle.wm_base.specs.declared.instant.TheConstants.{END}
 use Rattle.wm_graph.specs.Parts.{Parts, parts_of, as_piece, row_of, table_of, version_of}
 use Rattle.wm_graph.specs.Rules.{are_cells, collide, differ, is_key_of, is_piece, is_row_at, keep_rules}
-use Rattle.wm_image.proofs.Finding.{Tests, all_of, filter-kind}
+use Rattle.wm_index.proofs.Finding.{Tests, all_of, filter-kind}
 use Rattle.wm_image.proofs.Lists.{taken-with}
-use Rattle.wm_image.specs.Shown.{first_held, has_at, kind_at}
+use Rattle.wm_image.specs.Shown.{first_held, has_at}
+use Rattle.wm_index.specs.Kinds.{kind_at}
 use Rattle.wm_index.specs.Sought.{PiecesAt, PiecesIn, ids_with, is_sought}
 use Rattle.wm_period.specs.Pieces.{Held}
 use Rattle.wm_spec.specs.Lists.{Cell}

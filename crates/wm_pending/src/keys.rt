@@ -5,7 +5,7 @@ ghost use Rattle.std.specs.BTreeSet.{contains};
 ghost use Rattle.std.specs.Option.{option_and_then, option_copied, option_to_list};
 ghost use Rattle.wm_graph.specs.Parts.{as_piece, parts_of};
 ghost use Rattle.wm_graph.specs.Rules.{keep_rules};
-ghost use Rattle.wm_image.specs.Shown.{kind_at};
+ghost use Rattle.wm_index.specs.Kinds.{kind_at};
 ghost use Rattle.wm_pending.specs.Keys.{Place, has_piece_of, place_order};
 ghost use Rattle.wm_spec.specs.Lists.{Cell};
 ghost use Rattle.wm_telling.specs.Telling.{own_held};

@@ -3,10 +3,13 @@
 
 pub mod clash;
 pub mod entries;
+mod erasing;
 pub mod gained;
 pub mod keys;
 pub mod net;
 pub mod own;
 pub mod path;
+mod sides;
+mod touched;
 
 pub use crate::own::OwnKey;

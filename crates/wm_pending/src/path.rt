@@ -6,7 +6,8 @@ ghost use Rattle.wm_base.specs.Period.{covers};
 ghost use Rattle.wm_base.specs.declared.instant.TheConstants.{END};
 ghost use Rattle.wm_graph.specs.Parts.{parts_of, as_piece, version_of};
 ghost use Rattle.wm_graph.specs.Rules.{keep_rules};
-ghost use Rattle.wm_image.specs.Shown.{first_held, held_here, kind_at};
+ghost use Rattle.wm_image.specs.Shown.{first_held, held_here};
+ghost use Rattle.wm_index.specs.Kinds.{kind_at};
 ghost use Rattle.wm_period.specs.Pieces.{held_at};
 ghost use Rattle.wm_state.specs.Copied.{HoldsKey};
 ghost use Rattle.wm_telling.specs.Telling.{own_held};
@@ -38,7 +39,7 @@ fn instant_of(seconds: u64) -> Instant
 }
 
 /// The period of cells, or None where they have no moment.
-fn period_of(cells: &CellRange) -> Option<Period>
+pub fn period_of(cells: &CellRange) -> Option<Period>
     ensures { (t : ℕ) → t < END → option_map_or (λ p. covers p t) result false ≡ (nat_le cells.now.from t && nat_lt t cells.now.till) }
 {
     Period::new(instant_of(cells.from), instant_of(cells.till))

@@ -1,7 +1,7 @@
 use Rattle.std.proofs.Common.{◌≡◌, ◌||◌, take}
 use Rattle.std.specs.BTreeSet.{contains}
 use Rattle.wm_graph.specs.Parts.{as_piece}
-use Rattle.wm_image.specs.Shown.{kind_at}
+use Rattle.wm_index.specs.Kinds.{kind_at}
 use Rattle.wm_pending.specs.Keys.{Place, has_piece_of, place_order}
 use Rattle.wm_pending.proofs.keys.add_keys.Given as goal
 

@@ -2,7 +2,8 @@ use Rattle.std.proofs.Common.{◌≡◌, ℕ, ◌<◌, drop}
 use Rattle.std.specs.Option.{option_or}
 use Rattle.wm_base.specs.declared.instant.TheConstants.{END}
 use Rattle.wm_graph.specs.Parts.{as_piece}
-use Rattle.wm_image.specs.Shown.{first_held, kind_at}
+use Rattle.wm_image.specs.Shown.{first_held}
+use Rattle.wm_index.specs.Kinds.{kind_at}
 use Rattle.wm_period.specs.Pieces.{held_at}
 use Rattle.wm_pending.proofs.path.lay_version.Given as goal
 
