@@ -64,6 +64,7 @@ changed_other n k act ws w keeps other found =
 
 -- ---- edits that are made only where there is something to do
 
+-- no entries leave a workspace as it is
 append_none : (es : List Entry) (w : Workspace) → es ≡ [] → with_gained es w ≡ w
 append_none es w none = ap (λ (xs : List Entry). with_gained xs w) none ∙ ap (λ (xs : List Entry). record w { lists = record w.lists { log = xs } }) (append-nil w.lists.log)
 
@@ -73,6 +74,7 @@ append_none_own es w none =
     ∙ ap (λ (xs : List Entry). record w { lists = record w.lists { own = xs; log = w.lists.log ++ [] } }) (append-nil w.lists.own)
     ∙ ap (λ (xs : List Entry). record w { lists = record w.lists { log = xs } }) (append-nil w.lists.log)
 
+-- a list without elements
 pub nothing_listed : {A : Type 0} (xs : List A) → (length xs == 0) ≡ true → xs ≡ []
 nothing_listed [] none = refl
 nothing_listed (x ∷ xs) none = absurd (apart (length xs) none)
