@@ -2,6 +2,8 @@
 -- the numbers of one that is made for a birth.
 use Rattle.std.proofs.Common.{◌≡◌, ℕ, ◌+◌, ◌≤◌, nat_lt, true, List, [], ◌∷◌, ◌++◌, Some, refl, sym, ap, subst, ◌∙◌, arith}
 use Rattle.std.specs.Option.{option_and_then, option_map, unwrap_or}
+use Rattle.std.specs.declared.alloc.Global.{Global}
+use Rattle.std.specs.declared.vec.Vec.{Vec}
 use Rattle.wm_graph.specs.Parts.{Parts, parts_of, space_of}
 use Rattle.wm_graph.specs.Rules.{keep_rules}
 use Rattle.wm_spec.specs.Records.{AreChanges}
@@ -12,24 +14,26 @@ use Rattle.wm_spec.specs.declared.record.savepoint.Savepoint.{Savepoint as Recor
 use Rattle.wm_spec.specs.declared.record.space.Space.{Space}
 use Rattle.wm_spec.specs.declared.record.stored.Stored.{Stored}
 use Rattle.wm_state.specs.ById.{applied}
-use Rattle.wm_state.specs.Drafts.{CanKeep, CanWork, FewChanges}
+use Rattle.wm_state.specs.Drafts.{CanKeep, CanWork, DraftsBy}
 use Rattle.wm_state.specs.Editing.{implicit_name, keep_in, kept_in, number_limit, saved, saved_at}
 use Rattle.wm_state.specs.Effects.{marked}
 use Rattle.wm_state.specs.Points.{HasRoom, implicit_of, moved, newest_point}
 use Rattle.wm_state.specs.Standing.{FieldsStand, Stands}
 use Rattle.wm_state.specs.State.{Durable, Latest, Savepoint, Workspace, workspace_of}
+use Rattle.wm_state.specs.declared.edit.Edit.TheVariants as edits
+use Rattle.wm_state.specs.declared.edit.NewEntry.{NewEntry}
 use Rattle.wm_state.proofs.Counting.{counts_as, counts_in, work_room}
+use Rattle.wm_state.proofs.Drafted.{some_edit}
 use Rattle.wm_state.proofs.Named.{one_space}
 use Rattle.wm_state.proofs.RowsStay.{new_apart, row_apart, rows_stay}
 use Rattle.wm_state.proofs.Settled.{Places, PlacesApart, places_apart}
+use Rattle.wm_state.proofs.Tests.{bool_apart}
 use Rattle.wm_state.proofs.WorkedOn.{counted_put, first_change}
 use Rattle.wm_forked.proofs.DraftedBorn.{implicit_same, implicit_short, same_spaces}
 use Rattle.wm_forked.proofs.DraftedSaved.{home_of, home_there}
-use Rattle.wm_forked.proofs.FewChanged.{few_saved}
 use Rattle.wm_forked.proofs.KeepSaved.{MaySave}
-use Rattle.wm_forked.proofs.PlannedSaved.{agree_saved, changes-saved, keep_plan_saved, plan_saved}
+use Rattle.wm_forked.proofs.PlannedSaved.{agree_saved, changes-saved, keep_plan_saved, parts-saved, plan_saved}
 use Rattle.wm_forked.proofs.Points.{MakesAt, made_as, made_there, may_save}
-use Rattle.wm_gained.specs.Drafting.{MakesOf}
 use Rattle.wm_gained.specs.Keeping.{keep_batch, kept_record}
 
 -- the savepoint is made in the state
@@ -56,58 +60,63 @@ keeps_so p m work n a c rules can_work can there one = record {
     same : can.space ≡ a
     same = one_space can.space a (sym can.there ∙ there)
 
-module _ (rs : List Stored) (m work n : ℕ) (a : Space) (c : Counters) (counters_id space_id id : ℕ) (at : Places rs counters_id space_id id c a) where
-  abbrev x : Record
-  x = kept_record (parts_of rs) a m
+-- the batch makes of the records what the savepoint makes of each state
+pub drafts_keep : (rs : List Stored) (m work n : ℕ) (a : Space) (c : Counters) (counters_id space_id id : ℕ) → keep_rules (parts_of rs) ≡ true → CanWork (parts_of rs) m work → CanKeep (parts_of rs) n
+    → space_of (parts_of rs).spaces n ≡ Some a → Places rs counters_id space_id id c a
+    → DraftsBy work rs m (edits.Keep n ∷ []) (keep_batch counters_id (moved c m work) space_id a id (kept_record (parts_of rs) a m))
+drafts_keep rs m work n a c counters_id space_id id rules can_work can there at = record {
+  keeps = keeps;
+  once = once;
+  stands = λ s st.
+      let h = home_of (parts_of rs) s n a st.spaces there in
+      let k = made_there (parts_of rs) s a h.workspace m Latest (newest_point (parts_of rs) a m) (implicit_of a) true st h.is refl in
+      let counts = counts_as (parts_of rs) s c st at.one in
+      subst (λ (u : Durable). Stands (parts_of (applied batch rs)) (record u { last_moment = m; work = s.work + work }))
+      (sym (kept_so m n s h.workspace k.savepoint h.found (ap (λ i. saved_at m s.spaces h.workspace Latest i true) (implicit_same (parts_of rs) s a h.workspace h.is) ∙ k.is)))
+      (plan_saved rs counters_id space_id c (moved c m work) a (a.next_place + 1) (a.next_implicit + 1) id x h.workspace k.savepoint s _ st at.sorted at.counters at.one at.space at.under may_keep
+      h.is.found k.kept (same_spaces (parts_of rs) s a h.workspace Latest k.savepoint h.is) refl
+      (record { counters = moved c m work; one = refl; next_stamp = counts.next_stamp; last_moment = refl; limit = counts.limit; work = ap (λ w. w + work) counts.work }));
+  fields = λ s st.
+      let h = home_of (parts_of rs) s n a st.spaces there in
+      let k = made_as (parts_of rs) s a h.workspace m Latest (newest_point (parts_of rs) a m) (implicit_of a) true rules st h.is refl in
+      let counts = counts_in (parts_of rs) s c st.counters at.one in
+      subst (λ (u : Durable). FieldsStand (parts_of (applied batch rs)) (record u { last_moment = m; work = s.work + work }))
+      (sym (kept_so m n s h.workspace k.savepoint h.found (ap (λ i. saved_at m s.spaces h.workspace Latest i true) (implicit_same (parts_of rs) s a h.workspace h.is) ∙ k.is)))
+      (agree_saved rs counters_id space_id c (moved c m work) a (a.next_place + 1) (a.next_implicit + 1) id x h.workspace k.savepoint s _ rules st at.sorted at.counters at.one at.space at.under may_keep
+      h.is.found k.fields (same_spaces (parts_of rs) s a h.workspace Latest k.savepoint h.is) refl
+      (record { counters = moved c m work; one = refl; next_stamp = counts.next_stamp; last_moment = refl; limit = counts.limit; work = ap (λ w. w + work) counts.work }));
+  rows = rows_stay rs batch
+      (λ k r found. (row_apart rs counters_id k (records.Counters c) r at.counters refl found, (row_apart rs space_id k (records.Space a) r at.space refl found, (new_apart rs id k r at.under found, tt))));
+  kept = refl;
+  counted = λ some. counted_put rs work counters_id c (moved c m work) batch at.sorted at.one once (first_change counters_id _ _) keeps refl;
+  nothing = some_edit (edits.Keep n) [] batch;
+  few = λ forks. absurd (bool_apart (sym forks));
+  spared = λ i entries one_append. absurd (no_append i entries one_append);
+  turned = λ left.
+      ap (λ (q : Parts). q.turns) (parts-saved rs counters_id space_id c (moved c m work) a (a.next_place + 1) (a.next_implicit + 1) id x at.sorted at.counters at.one at.space at.under).is;
+}
+  where
+    no_append : (i : ℕ) (entries : Vec NewEntry Global) → edits.Keep n ∷ [] ≡ edits.Append i entries ∷ [] → ⊥
+    no_append i entries e = cc
 
-  abbrev batch : List Change
-  batch = keep_batch counters_id (moved c m work) space_id a id x
+    x : Record
+    x = kept_record (parts_of rs) a m
 
-  -- there are six changes at most, and but for what forks change the records are what they were
-  pub few_kept : FewChanges rs 6 batch
-  few_kept = few_saved rs counters_id space_id c (moved c m work) a (a.next_place + 1) (a.next_implicit + 1) id x at
+    batch : List Change
+    batch = keep_batch counters_id (moved c m work) space_id a id x
 
-  -- the batch makes of the records what the savepoint makes of each state
-  pub drafts_kept : keep_rules (parts_of rs) ≡ true → CanWork (parts_of rs) m work → CanKeep (parts_of rs) n → space_of (parts_of rs).spaces n ≡ Some a → MakesOf work rs m (kept_in m n) batch
-  drafts_kept rules can_work can there = record {
-    keeps = keeps;
-    once = once;
-    stands = λ s st.
-        let h = home_of (parts_of rs) s n a st.spaces there in
-        let k = made_there (parts_of rs) s a h.workspace m Latest (newest_point (parts_of rs) a m) (implicit_of a) true st h.is refl in
-        let counts = counts_as (parts_of rs) s c st at.one in
-        subst (λ (u : Durable). Stands (parts_of (applied batch rs)) (record u { last_moment = m; work = s.work + work }))
-        (sym (kept_so m n s h.workspace k.savepoint h.found (ap (λ i. saved_at m s.spaces h.workspace Latest i true) (implicit_same (parts_of rs) s a h.workspace h.is) ∙ k.is)))
-        (plan_saved rs counters_id space_id c (moved c m work) a (a.next_place + 1) (a.next_implicit + 1) id x h.workspace k.savepoint s _ st at.sorted at.counters at.one at.space at.under may_keep
-        h.is.found k.kept (same_spaces (parts_of rs) s a h.workspace Latest k.savepoint h.is) refl
-        (record { counters = moved c m work; one = refl; next_stamp = counts.next_stamp; last_moment = refl; limit = counts.limit; work = ap (λ w. w + work) counts.work }));
-    fields = λ s st.
-        let h = home_of (parts_of rs) s n a st.spaces there in
-        let k = made_as (parts_of rs) s a h.workspace m Latest (newest_point (parts_of rs) a m) (implicit_of a) true rules st h.is refl in
-        let counts = counts_in (parts_of rs) s c st.counters at.one in
-        subst (λ (u : Durable). FieldsStand (parts_of (applied batch rs)) (record u { last_moment = m; work = s.work + work }))
-        (sym (kept_so m n s h.workspace k.savepoint h.found (ap (λ i. saved_at m s.spaces h.workspace Latest i true) (implicit_same (parts_of rs) s a h.workspace h.is) ∙ k.is)))
-        (agree_saved rs counters_id space_id c (moved c m work) a (a.next_place + 1) (a.next_implicit + 1) id x h.workspace k.savepoint s _ rules st at.sorted at.counters at.one at.space at.under may_keep
-        h.is.found k.fields (same_spaces (parts_of rs) s a h.workspace Latest k.savepoint h.is) refl
-        (record { counters = moved c m work; one = refl; next_stamp = counts.next_stamp; last_moment = refl; limit = counts.limit; work = ap (λ w. w + work) counts.work }));
-    rows = rows_stay rs batch
-        (λ k r found. (row_apart rs counters_id k (records.Counters c) r at.counters refl found, (row_apart rs space_id k (records.Space a) r at.space refl found, (new_apart rs id k r at.under found, tt))));
-    kept = refl;
-    counted = counted_put rs work counters_id c (moved c m work) batch at.sorted at.one once (first_change counters_id _ _) keeps refl;
-  }
-    where
-      apart : PlacesApart counters_id space_id id
-      apart = places_apart rs counters_id space_id id c a at
+    apart : PlacesApart counters_id space_id id
+    apart = places_apart rs counters_id space_id id c a at
 
-      one_more : (k : ℕ) → k ≤ k + 1
-      one_more k = omega arith
+    one_more : (k : ℕ) → k ≤ k + 1
+    one_more k = omega arith
 
-      may_keep : (front back : List Space) → (parts_of rs).spaces ≡ front ++ a ∷ back → MaySave (parts_of rs) c (moved c m work) front a back (a.next_place + 1) (a.next_implicit + 1) x
-      may_keep front back spaces =
-          may_save (parts_of rs) a c m work Latest (newest_point (parts_of rs) a m) (implicit_of a) true (a.next_implicit + 1) (keeps_so (parts_of rs) m work n a c rules can_work can there at.one) (one_more a.next_implicit) front back spaces
+    may_keep : (front back : List Space) → (parts_of rs).spaces ≡ front ++ a ∷ back → MaySave (parts_of rs) c (moved c m work) front a back (a.next_place + 1) (a.next_implicit + 1) x
+    may_keep front back spaces =
+        may_save (parts_of rs) a c m work Latest (newest_point (parts_of rs) a m) (implicit_of a) true (a.next_implicit + 1) (keeps_so (parts_of rs) m work n a c rules can_work can there at.one) (one_more a.next_implicit) front back spaces
 
-      keeps : keep_rules (parts_of (applied batch rs)) ≡ true
-      keeps = keep_plan_saved rs counters_id space_id c (moved c m work) a (a.next_place + 1) (a.next_implicit + 1) id x rules at.sorted at.counters at.one at.space at.under may_keep
+    keeps : keep_rules (parts_of (applied batch rs)) ≡ true
+    keeps = keep_plan_saved rs counters_id space_id c (moved c m work) a (a.next_place + 1) (a.next_implicit + 1) id x rules at.sorted at.counters at.one at.space at.under may_keep
 
-      once : AreChanges batch
-      once = changes-saved counters_id (moved c m work) space_id (marked (a.next_place + 1) (a.next_implicit + 1) a) id x apart.apart apart.counters apart.space
+    once : AreChanges batch
+    once = changes-saved counters_id (moved c m work) space_id (marked (a.next_place + 1) (a.next_implicit + 1) a) id x apart.apart apart.counters apart.space

@@ -16,7 +16,6 @@ pub mod ReplayingBatch
 pub mod DraftedReplayed
 pub mod DraftedKept
 pub mod RowsBehind
+pub mod LeftBehind
 pub mod AskedBehind
-pub mod LeavesLogs
-pub mod DraftedOne
-pub mod AskedInTurn
+pub mod Merging

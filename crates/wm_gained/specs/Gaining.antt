@@ -1,13 +1,8 @@
 -- A log gains entries that another workspace has, with the stamps that they have: what becomes of the state, and of the records, told by
 -- what is looked up in them.
-use Rattle.std.specs.Prelude.{ℕ, ◌≡◌, ◌+◌, ◌==◌, ◌&&◌, Bool, true, false, not, nat_lt, List, [], ◌∷◌, ◌++◌, map, length, Some, is_some}
+use Rattle.std.specs.Prelude.{ℕ, ◌≡◌, ◌+◌, ◌==◌, true, false, List, [], ◌++◌, map, length, Some, is_some}
 use Rattle.std.specs.List.{All, list_all}
-use Rattle.std.specs.Ordering.{is_gt, nat_cmp, ordering_then}
-use Rattle.std.specs.declared.cmp.Ordering.{Ordering}
-use Rattle.wm_base.specs.Key.{key_order}
-use Rattle.wm_base.specs.declared.row.Row.{Row}
-use Rattle.wm_graph.specs.Parts.{Parts, parts_of, row_of, space_of, table_of}
-use Rattle.wm_graph.specs.Rules.{is_short}
+use Rattle.wm_graph.specs.Parts.{Parts, parts_of, space_of}
 use Rattle.wm_spec.specs.Lists.{Entry}
 use Rattle.wm_spec.specs.Records.{ids_differ, record_at}
 use Rattle.wm_spec.specs.declared.record.batch.Change.{Change}
@@ -17,12 +12,9 @@ use Rattle.wm_spec.specs.declared.record.space.Space.{Space}
 use Rattle.wm_spec.specs.declared.record.stored.Stored.{Stored}
 use Rattle.wm_spec.specs.declared.record.table.Table.{Table}
 use Rattle.wm_state.specs.Batches.{AreDropped}
-use Rattle.wm_state.specs.Drafts.{can_keep_entry}
 use Rattle.wm_state.specs.Drawing.{AreDrawn, touched as met_by}
-use Rattle.wm_state.specs.Editing.{counter_limit}
-use Rattle.wm_state.specs.Entries.{hists_kept, is_well}
+use Rattle.wm_state.specs.Entries.{hists_kept}
 use Rattle.wm_state.specs.Standing.{HasRow, IsReal, has_history}
-use Rattle.wm_state.specs.State.{Durable, Workspace, with_space}
 use Rattle.wm_state.specs.Touching.{Touched, drawn_all, is_unmet, marks_of, trace_of}
 use Rattle.wm_state.specs.Writes.{keeps_both, longer_by, write_batch}
 

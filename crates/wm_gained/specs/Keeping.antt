@@ -1,18 +1,13 @@
--- What is newest in a workspace is kept in an implicit savepoint alone, before it changes: what becomes of the state, and of the records.
-use Rattle.std.specs.Prelude.{ℕ, ◌≡◌, ◌+◌, true, false, nat_lt, List, Option, Some, unwrap_or}
-use Rattle.std.specs.Option.{option_and_then, option_map}
-use Rattle.wm_graph.specs.Parts.{Parts, space_of}
+-- What is newest in a workspace is kept in an implicit savepoint alone, before it changes: what becomes of the records.
+use Rattle.std.specs.Prelude.{ℕ, ◌+◌, List}
+use Rattle.wm_graph.specs.Parts.{Parts}
 use Rattle.wm_spec.specs.declared.record.batch.Change.{Change}
 use Rattle.wm_spec.specs.declared.record.counters.Counters.{Counters}
 use Rattle.wm_spec.specs.declared.record.savepoint.Savepoint.{Savepoint as Record}
 use Rattle.wm_spec.specs.declared.record.space.Space.{Space}
 use Rattle.wm_state.specs.Batches.{savepoint_batch}
-use Rattle.wm_state.specs.Editing.{implicit_name, number_limit, saved, saved_at}
 use Rattle.wm_state.specs.Effects.{marked}
-use Rattle.wm_state.specs.Points.{HasRoom, birth_record, implicit_of, newest_point}
-use Rattle.wm_state.specs.State.{Durable, Latest, Savepoint, Workspace, workspace_of}
-
--- ---- the batch
+use Rattle.wm_state.specs.Points.{birth_record, newest_point}
 
 -- the record of the savepoint, as where a workspace is born
 abbrev pub kept_record : Parts → Space → ℕ → Record

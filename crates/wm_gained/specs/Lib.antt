@@ -1,5 +1,5 @@
-pub mod Drafting
 pub mod Gaining
 pub mod Replaying
 pub mod Keeping
 pub mod Behind
+pub mod Merging

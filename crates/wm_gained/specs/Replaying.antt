@@ -1,9 +1,8 @@
 -- A workspace has entries that another one has, with the stamps that they have, in a version more: what becomes of the state, and of the
 -- records.
-use Rattle.std.specs.Prelude.{ℕ, ◌≡◌, ◌+◌, true, false, nat_lt, List, [], ◌∷◌, map, length, Some}
-use Rattle.std.specs.List.{All, list_all}
-use Rattle.wm_graph.specs.Parts.{Parts, space_of}
-use Rattle.wm_graph.specs.Rules.{collide, differ, keep_rules}
+use Rattle.std.specs.Prelude.{ℕ, ◌≡◌, true, List, [], map, length}
+use Rattle.wm_graph.specs.Parts.{Parts}
+use Rattle.wm_graph.specs.Rules.{keep_rules}
 use Rattle.wm_spec.specs.Lists.{Entry}
 use Rattle.wm_spec.specs.declared.record.batch.Change.{Change}
 use Rattle.wm_spec.specs.declared.record.counters.Counters.{Counters}
@@ -11,11 +10,8 @@ use Rattle.wm_spec.specs.declared.record.piece.PieceRecord.{PieceRecord}
 use Rattle.wm_spec.specs.declared.record.space.Space.{Space}
 use Rattle.wm_spec.specs.declared.record.table.Table.{Table}
 use Rattle.wm_spec.specs.declared.record.version.Version.{Version}
-use Rattle.wm_state.specs.Drafts.{are_in_order, can_keep_entry, AreOld, IsCopied}
-use Rattle.wm_state.specs.Editing.{counter_limit}
 use Rattle.wm_state.specs.Effects.{Forked}
-use Rattle.wm_state.specs.Entries.{hists_kept, pieces_of}
-use Rattle.wm_state.specs.State.{Durable, with_entries, with_space}
+use Rattle.wm_state.specs.Entries.{hists_kept}
 use Rattle.wm_state.specs.Touching.{trace_of}
 use Rattle.wm_state.specs.Writes.{WroteAll, write_new_batch}
 
