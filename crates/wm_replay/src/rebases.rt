@@ -94,6 +94,16 @@ fn kept_own(
     own_pieces(alloc, image, space)
 }
 
+/// The records of the version and of the turn that a workspace has of its parent.
+fn first_news(alloc: Global, version: Version, turn: Turn) -> Result<Vec<Record>, Memory>
+    ensures { IfOk result (λ news. news.items ≡ records.Version version ∷ records.Turn turn ∷ []) }
+{
+    let mut news = Vec::new(alloc);
+    news.push(Record::Version(version))?;
+    news.push(Record::Turn(turn))?;
+    Ok(news)
+}
+
 /// A workspace stands on the newest version of its parent; what it keeps of its own comes into a version more.
 pub fn rebase(
     alloc: Global,
@@ -116,18 +126,18 @@ pub fn rebase(
     let before = image.counters();
     let base_version = image.latest(old.parent);
     let own = kept_own(alloc, image, old, emptied)?;
-    let mut news = Vec::new(alloc);
-    news.push(Record::Version(Version {
+    let version = Version {
         number: before.next_version,
         space,
         parent: base_version,
-    }))?;
-    news.push(Record::Turn(Turn {
+    };
+    let turn = Turn {
         space,
         rebase: old.rebases + 1,
         log_length: parent.log_length,
         rebases: parent.rebases,
-    }))?;
+    };
+    let mut news = first_news(alloc, version, turn)?;
     push_keys(alloc, &mut news, before.next_version, own.as_slice())?;
     let new = rebased_on(alloc, base_version, parent.log_length, old)?;
     let id = ids_from(image, news.len() as u64)?;
