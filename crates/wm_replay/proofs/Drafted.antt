@@ -46,19 +46,19 @@ pub record Comes (rs : List Stored) (n place : ℕ) (a : Space) (es : List Entry
   pub touches : List Record
   pub first : touches ≡ front ++ map records.Touch (map (trace_at n place) drawn)
   pub kept : hists ≡ map records.Hist (hists_kept (parts_of rs).tables a.number a.log_length es)
-  pub then : news ≡ touches ++ hists
+  pub behind : news ≡ touches ++ hists
 
 comes_so : (rs : List Stored) (place : ℕ) (a : Space) (es : List Entry) (ids : List ℕ) (drawn : List PieceRecord) (hists front news : List Record) → Comes rs a.number place a es drawn hists front news
     → IsRedrawn (touch_in a.number) rs (marks_of place a.log_length es) ids drawn
     → news ≡ front ++ (map records.Touch (map (trace_of a.number) drawn) ++ map records.Hist (hists_kept (parts_of rs).tables a.number a.log_length es))
 comes_so rs place a es ids drawn hists front news comes redrawn =
-    in_order [] front (map records.Touch (map (trace_at a.number place) drawn)) hists front comes.touches news refl comes.first comes.then
+    in_order [] front (map records.Touch (map (trace_at a.number place) drawn)) hists front comes.touches news refl comes.first comes.behind
     ∙ ap (λ (ts : List Trace). front ++ (map records.Touch ts ++ hists)) (traces_back rs a place es ids drawn redrawn)
     ∙ ap (λ (xs : List Record). front ++ (map records.Touch (map (trace_of a.number) drawn) ++ xs)) comes.kept
 
 -- ---- the batch
 
-batch_so : (changes front first : List Change) (counters d : Counters) (counters_id space_id id from : ℕ) (longer space : Space) (dropped : List ℕ) (news all : List Record)
+pub batch_so : (changes front first : List Change) (counters d : Counters) (counters_id space_id id from : ℕ) (longer space : Space) (dropped : List ℕ) (news all : List Record)
     → changes ≡ front ++ (put counters_id (records.Counters counters) ∷ put space_id (records.Space longer) ∷ (map drop_one dropped ++ put_all id news)) → front ≡ first → counters ≡ d → longer ≡ space → id ≡ from → news ≡ all
     → changes ≡ first ++ (put counters_id (records.Counters d) ∷ put space_id (records.Space space) ∷ (map drop_one dropped ++ put_all from all))
 batch_so changes front first counters d counters_id space_id id from longer space dropped news all are begins count long starts come = rw (are, begins, count, long, starts, come) refl
