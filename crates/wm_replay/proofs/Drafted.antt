@@ -89,10 +89,10 @@ pub drafts_gaining : (rs : List Stored) (m work n place id count : ℕ) (entries
 drafts_gaining rs m work n place id count entries a longer c counters front changes drawn dropped hists news rules can_work can found one above last counts many longer_is none redrawn comes w =
     subst
     (λ k. CanGain (parts_of rs) k (entries_in entries) → IsRedrawn (touch_in k) rs (marks_of place a.log_length (entries_in entries)) dropped drawn → Comes rs k place a (entries_in entries) drawn hists [] news
-        → DraftsBy work rs m (edits.Gain k entries ∷ []) changes)
+    → DraftsBy work rs m (edits.Gain k entries ∷ []) changes)
     (space_number (parts_of rs) n a found)
     (λ own drawn_so comes_in.
-        gains_own rs m work place id count entries a longer c counters front changes drawn dropped hists news rules can_work own (home_there (parts_of rs) n a found) one above last counts many longer_is none drawn_so comes_in w)
+    gains_own rs m work place id count entries a longer c counters front changes drawn dropped hists news rules can_work own (home_there (parts_of rs) n a found) one above last counts many longer_is none drawn_so comes_in w)
     can redrawn comes
 
 -- ---- entries come into a workspace
@@ -128,9 +128,9 @@ pub drafts_replaying : (rs : List Stored) (m work n place id next parent count :
 drafts_replaying rs m work n place id next parent count entries a longer c counters front changes drawn pieces dropped hists first news rules can_work can found one above after last counts many longer_is begins newest pieces_are first_is redrawn comes w =
     subst
     (λ k. CanReplay (parts_of rs) k (entries_in entries) → front ≡ put id (records.Version (record { number = c.next_version; space = k; parent = parent })) ∷ [] → parent ≡ latest (parts_of rs) k
-        → IsRedrawn (touch_in k) rs (marks_of place a.log_length (entries_in entries)) dropped drawn → Comes rs k place a (entries_in entries) drawn hists first news → DraftsBy work rs m (edits.Replay k entries ∷ []) changes)
+    → IsRedrawn (touch_in k) rs (marks_of place a.log_length (entries_in entries)) dropped drawn → Comes rs k place a (entries_in entries) drawn hists first news → DraftsBy work rs m (edits.Replay k entries ∷ []) changes)
     (space_number (parts_of rs) n a found)
     (λ own begins_in newest_in drawn_so comes_in.
-        replays_own rs m work place id next parent count entries a longer c counters front changes drawn pieces dropped hists first news rules can_work own (home_there (parts_of rs) n a found) one above after last counts many longer_is
-        begins_in newest_in pieces_are first_is drawn_so comes_in w)
+    replays_own rs m work place id next parent count entries a longer c counters front changes drawn pieces dropped hists first news rules can_work own (home_there (parts_of rs) n a found) one above after last counts many longer_is
+    begins_in newest_in pieces_are first_is drawn_so comes_in w)
     can begins newest redrawn comes
