@@ -1,21 +1,18 @@
 -- What a workspace keeps of its own, as records, and the draft of a workspace that stands on its parent as that is now.
-use Rattle.std.proofs.Common.{◌≡◌, ℕ, ◌+◌, ◌<◌, ◌≤◌, ◌^◌, nat_lt, Bool, true, false, if◌then◌else◌, List, [], ◌∷◌, ◌++◌, append_assoc, append-nil, get_or, take, length, map, Option, Some, None, Bor, is_some, refl, sym, ap, subst, ◌∙◌, arith}
+use Rattle.std.proofs.Common.{◌≡◌, ℕ, ◌+◌, ◌<◌, ◌≤◌, Bool, true, if◌then◌else◌, List, [], ◌∷◌, ◌++◌, append_assoc, append-nil, get_or, take, length, map, Option, Some, None, Bor, is_some, refl, sym, ap, subst, ◌∙◌}
 use Rattle.std.proofs.lemmas.List.{map-append, take_more}
 use Rattle.std.specs.Option.{IsSome, option_copied}
 use Rattle.wm_append.proofs.Appended.{written_places}
 use Rattle.wm_append.specs.Appending.{AreWritten}
-use Rattle.wm_changes.proofs.Placed.{looked_up}
 use Rattle.wm_forked.proofs.DraftedSaved.{home_there}
-use Rattle.wm_graph.specs.Parts.{Parts, parts_of, space_of}
+use Rattle.wm_graph.specs.Parts.{parts_of, space_of}
 use Rattle.wm_graph.specs.Rules.{keep_rules}
 use Rattle.wm_pending.specs.Owned.{key_pieces}
 use Rattle.wm_pending.specs.declared.own.OwnKey.{OwnKey}
-use Rattle.wm_period.specs.Pieces.{Held}
 use Rattle.wm_rebased.proofs.DraftedRebased.{drafts_rebase}
 use Rattle.wm_rebased.proofs.RebasingFields.{parent_recorded}
 use Rattle.wm_rebased.specs.Rebasing.{rebased_on, turn_record}
 use Rattle.wm_replay.proofs.Drafted.{batch_so}
-use Rattle.wm_spec.specs.Lists.{Cell}
 use Rattle.wm_spec.specs.Records.{record_at}
 use Rattle.wm_spec.specs.declared.record.Record.{Record}
 use Rattle.wm_spec.specs.declared.record.Record.TheVariants as records
@@ -24,12 +21,11 @@ use Rattle.wm_spec.specs.declared.record.counters.Counters.{Counters}
 use Rattle.wm_spec.specs.declared.record.piece.PieceRecord.{PieceRecord}
 use Rattle.wm_spec.specs.declared.record.space.Space.{Space}
 use Rattle.wm_spec.specs.declared.record.stored.Stored.{Stored}
-use Rattle.wm_state.proofs.Named.{one_space, space_number}
+use Rattle.wm_state.proofs.Named.{space_number}
 use Rattle.wm_state.proofs.Tests.{bool_apart}
 use Rattle.wm_state.specs.Batches.{drop_one, put}
 use Rattle.wm_state.specs.Copied.{AreCopied, KeyPieces, piece_for, pieces_for}
 use Rattle.wm_state.specs.Drafts.{CanRebase, CanWork, DraftsBy}
-use Rattle.wm_state.specs.Editing.{number_limit}
 use Rattle.wm_state.specs.Points.{versioned}
 use Rattle.wm_state.specs.Standing.{latest, owned}
 use Rattle.wm_state.specs.Writes.{put_all}

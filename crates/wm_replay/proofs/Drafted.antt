@@ -10,8 +10,6 @@ use Rattle.wm_append.specs.Redraw.{IsRedrawn}
 use Rattle.wm_forked.proofs.DraftedSaved.{home_there}
 use Rattle.wm_gained.proofs.DraftedGained.{drafts_gain}
 use Rattle.wm_gained.proofs.DraftedReplayed.{drafts_replay}
-use Rattle.wm_gained.specs.Gaining.{gain_batch}
-use Rattle.wm_gained.specs.Replaying.{replay_batch}
 use Rattle.wm_graph.specs.Parts.{parts_of, space_of}
 use Rattle.wm_graph.specs.Rules.{keep_rules}
 use Rattle.wm_replay.proofs.Marked.{retraced_so, traces_back}
@@ -24,9 +22,7 @@ use Rattle.wm_spec.specs.declared.record.counters.Counters.{Counters}
 use Rattle.wm_spec.specs.declared.record.piece.PieceRecord.{PieceRecord}
 use Rattle.wm_spec.specs.declared.record.space.Space.{Space}
 use Rattle.wm_spec.specs.declared.record.stored.Stored.{Stored}
-use Rattle.wm_spec.specs.declared.record.table.Table.{Table}
 use Rattle.wm_spec.specs.declared.record.trace.Trace.{Trace}
-use Rattle.wm_spec.specs.declared.record.version.Version.{Version}
 use Rattle.wm_state.proofs.Named.{space_number}
 use Rattle.wm_state.specs.Batches.{drop_one, put}
 use Rattle.wm_state.specs.Drafts.{CanGain, CanReplay, CanWork, DraftsBy}

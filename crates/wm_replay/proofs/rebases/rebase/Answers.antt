@@ -1,4 +1,4 @@
-use Rattle.std.proofs.Common.{◌++◌, List, map, sym, ap, ◌∙◌}
+use Rattle.std.proofs.Common.{◌++◌, List, map, ap, ◌∙◌}
 use Rattle.wm_changes.proofs.Placed.{looked_up, version_fits}
 use Rattle.wm_forked.proofs.DraftedSaved.{home_there}
 use Rattle.wm_graph.specs.Parts.{parts_of, space_of}
@@ -6,7 +6,6 @@ use Rattle.wm_pending.specs.Owned.{key_pieces}
 use Rattle.wm_pending.specs.declared.own.OwnKey.{OwnKey}
 use Rattle.wm_replay.proofs.Copied.{drafts_rebasing, parent_there, there_rebased}
 use Rattle.wm_replay.proofs.Standing.{known}
-use Rattle.wm_spec.specs.declared.record.Record.{Record}
 use Rattle.wm_spec.specs.declared.record.Record.TheVariants as records
 use Rattle.wm_state.specs.Copied.{pieces_for}
 use Rattle.wm_replay.proofs.rebases.rebase.Goals as goal
