@@ -1,21 +1,18 @@
 -- What a workspace keeps of its own, as records, and the draft of a workspace that stands on its parent as that is now.
-use Rattle.std.proofs.Common.{◌≡◌, ℕ, ◌+◌, ◌<◌, ◌≤◌, ◌^◌, nat_lt, Bool, true, false, if◌then◌else◌, List, [], ◌∷◌, ◌++◌, append_assoc, append-nil, get_or, take, length, map, Option, Some, None, Bor, is_some, refl, sym, ap, subst, ◌∙◌, arith}
+use Rattle.std.proofs.Common.{◌≡◌, ℕ, ◌+◌, ◌<◌, ◌≤◌, Bool, true, if◌then◌else◌, List, [], ◌∷◌, ◌++◌, append_assoc, append-nil, get_or, take, length, map, Option, Some, None, Bor, is_some, refl, sym, ap, subst, ◌∙◌}
 use Rattle.std.proofs.lemmas.List.{map-append, take_more}
-use Rattle.std.specs.Option.{option_copied}
+use Rattle.std.specs.Option.{IsSome, option_copied}
 use Rattle.wm_append.proofs.Appended.{written_places}
 use Rattle.wm_append.specs.Appending.{AreWritten}
-use Rattle.wm_changes.proofs.Placed.{looked_up}
 use Rattle.wm_forked.proofs.DraftedSaved.{home_there}
-use Rattle.wm_graph.specs.Parts.{Parts, parts_of, space_of}
+use Rattle.wm_graph.specs.Parts.{parts_of, space_of}
 use Rattle.wm_graph.specs.Rules.{keep_rules}
 use Rattle.wm_pending.specs.Owned.{key_pieces}
 use Rattle.wm_pending.specs.declared.own.OwnKey.{OwnKey}
-use Rattle.wm_period.specs.Pieces.{Held}
 use Rattle.wm_rebased.proofs.DraftedRebased.{drafts_rebase}
 use Rattle.wm_rebased.proofs.RebasingFields.{parent_recorded}
 use Rattle.wm_rebased.specs.Rebasing.{rebased_on, turn_record}
 use Rattle.wm_replay.proofs.Drafted.{batch_so}
-use Rattle.wm_spec.specs.Lists.{Cell}
 use Rattle.wm_spec.specs.Records.{record_at}
 use Rattle.wm_spec.specs.declared.record.Record.{Record}
 use Rattle.wm_spec.specs.declared.record.Record.TheVariants as records
@@ -24,11 +21,11 @@ use Rattle.wm_spec.specs.declared.record.counters.Counters.{Counters}
 use Rattle.wm_spec.specs.declared.record.piece.PieceRecord.{PieceRecord}
 use Rattle.wm_spec.specs.declared.record.space.Space.{Space}
 use Rattle.wm_spec.specs.declared.record.stored.Stored.{Stored}
-use Rattle.wm_state.proofs.Named.{one_space, space_number}
+use Rattle.wm_state.proofs.Named.{space_number}
+use Rattle.wm_state.proofs.Tests.{bool_apart}
 use Rattle.wm_state.specs.Batches.{drop_one, put}
 use Rattle.wm_state.specs.Copied.{AreCopied, KeyPieces, piece_for, pieces_for}
 use Rattle.wm_state.specs.Drafts.{CanRebase, CanWork, DraftsBy}
-use Rattle.wm_state.specs.Editing.{number_limit}
 use Rattle.wm_state.specs.Points.{versioned}
 use Rattle.wm_state.specs.Standing.{latest, owned}
 use Rattle.wm_state.specs.Writes.{put_all}
@@ -59,12 +56,6 @@ key_behind version keys i own front before after within at is pushed =
 
     its : List PieceRecord
     its = map (piece_for version own.table own.key) own.pieces
-
--- ---- what is kept
-
--- nothing is, where it was merged
-pub none_copied : (emptied : Bool) (held : Cell → Option Held) (ks : List KeyPieces) → emptied ≡ true → ks ≡ [] → AreCopied (λ c. if emptied then None else held c) ks
-none_copied emptied held ks is none = rw (is, none) (record { apart = refl; each = tt; elsewhere = λ c nowhere. refl })
 
 -- ---- the draft
 
@@ -105,18 +96,19 @@ drafts_rebasing rs m work n base id emptied a b new c counters front changes ks 
     (λ k. CanRebase (parts_of rs) k emptied → first ≡ records.Version (record { number = c.next_version; space = k; parent = base }) ∷ records.Turn (turn_record k a b) ∷ [] → DraftsBy work rs m (edits.Rebase k emptied ∷ []) changes)
     (space_number (parts_of rs) n a found)
     (λ own begins_in.
-        rebases_own rs m work base id emptied a b new c counters front changes ks dropped first news rules can_work own (home_there (parts_of rs) n a found) parent one above copied newest begins_in behind counts rebased none nothing w)
+    rebases_own rs m work base id emptied a b new c counters front changes ks dropped first news rules can_work own (home_there (parts_of rs) n a found) parent one above copied newest begins_in behind counts rebased none nothing w)
     can begins
 
 -- ---- what is looked up
 
 -- the parent is there
-pub parent_there : (rs : List Stored) (n : ℕ) (r : Option (Bor Space)) (b : Bor Space) → keep_rules (parts_of rs) ≡ true → 0 < n → r ≡ Some b → option_copied r ≡ space_of (parts_of rs).spaces n → is_some (space_of (parts_of rs).spaces b.now.parent) ≡ true
-parent_there rs n r b rules some is same = parent_recorded (parts_of rs) rules n b.now some (looked_up r b (space_of (parts_of rs).spaces n) is same)
-
--- it may be rebased once more
-pub may_rebase : (p : Parts) (n : ℕ) (emptied : Bool) (a : Space) → CanRebase p n emptied → space_of p.spaces n ≡ Some a → a.rebases + 1 < 2 ^ 32
-may_rebase p n emptied a can found = fits (a.rebases + 1) (ap (λ (r : Space). nat_lt number_limit (r.rebases + 1)) (one_space a can.space (sym found ∙ can.there)) ∙ can.rebases)
+pub parent_there : (rs : List Stored) (n : ℕ) (a : Space) (r : Option (Bor Space)) → keep_rules (parts_of rs) ≡ true → 0 < n → space_of (parts_of rs).spaces n ≡ Some a → option_copied r ≡ space_of (parts_of rs).spaces a.parent → IsSome r
+parent_there rs n a r rules some found same = by_result r (ap is_some same ∙ parent_recorded (parts_of rs) rules n a some found)
   where
-    fits : (k : ℕ) → nat_lt number_limit k ≡ false → k < 2 ^ 32
-    fits k few = grind (arith, few)
+    by_result : (o : Option (Bor Space)) → is_some (option_copied o) ≡ true → IsSome o
+    by_result None none = absurd (bool_apart (sym none))
+    by_result (Some b) there = refl
+
+-- the workspace is there, as it stands on its parent
+pub there_rebased : (rs : List Stored) (n version from : ℕ) (a new : Space) → space_of (parts_of rs).spaces n ≡ Some a → new ≡ rebased_on version from a → is_some (space_of (parts_of rs).spaces new.number) ≡ true
+there_rebased rs n version from a new found is = ap (λ (b : Space). is_some (space_of (parts_of rs).spaces b.number)) is ∙ ap is_some (home_there (parts_of rs) n a found)

@@ -10,8 +10,6 @@ use Rattle.wm_append.specs.Redraw.{IsRedrawn}
 use Rattle.wm_forked.proofs.DraftedSaved.{home_there}
 use Rattle.wm_gained.proofs.DraftedGained.{drafts_gain}
 use Rattle.wm_gained.proofs.DraftedReplayed.{drafts_replay}
-use Rattle.wm_gained.specs.Gaining.{gain_batch}
-use Rattle.wm_gained.specs.Replaying.{replay_batch}
 use Rattle.wm_graph.specs.Parts.{parts_of, space_of}
 use Rattle.wm_graph.specs.Rules.{keep_rules}
 use Rattle.wm_replay.proofs.Marked.{retraced_so, traces_back}
@@ -24,9 +22,7 @@ use Rattle.wm_spec.specs.declared.record.counters.Counters.{Counters}
 use Rattle.wm_spec.specs.declared.record.piece.PieceRecord.{PieceRecord}
 use Rattle.wm_spec.specs.declared.record.space.Space.{Space}
 use Rattle.wm_spec.specs.declared.record.stored.Stored.{Stored}
-use Rattle.wm_spec.specs.declared.record.table.Table.{Table}
 use Rattle.wm_spec.specs.declared.record.trace.Trace.{Trace}
-use Rattle.wm_spec.specs.declared.record.version.Version.{Version}
 use Rattle.wm_state.proofs.Named.{space_number}
 use Rattle.wm_state.specs.Batches.{drop_one, put}
 use Rattle.wm_state.specs.Drafts.{CanGain, CanReplay, CanWork, DraftsBy}
@@ -89,10 +85,10 @@ pub drafts_gaining : (rs : List Stored) (m work n place id count : ℕ) (entries
 drafts_gaining rs m work n place id count entries a longer c counters front changes drawn dropped hists news rules can_work can found one above last counts many longer_is none redrawn comes w =
     subst
     (λ k. CanGain (parts_of rs) k (entries_in entries) → IsRedrawn (touch_in k) rs (marks_of place a.log_length (entries_in entries)) dropped drawn → Comes rs k place a (entries_in entries) drawn hists [] news
-        → DraftsBy work rs m (edits.Gain k entries ∷ []) changes)
+    → DraftsBy work rs m (edits.Gain k entries ∷ []) changes)
     (space_number (parts_of rs) n a found)
     (λ own drawn_so comes_in.
-        gains_own rs m work place id count entries a longer c counters front changes drawn dropped hists news rules can_work own (home_there (parts_of rs) n a found) one above last counts many longer_is none drawn_so comes_in w)
+    gains_own rs m work place id count entries a longer c counters front changes drawn dropped hists news rules can_work own (home_there (parts_of rs) n a found) one above last counts many longer_is none drawn_so comes_in w)
     can redrawn comes
 
 -- ---- entries come into a workspace
@@ -128,9 +124,9 @@ pub drafts_replaying : (rs : List Stored) (m work n place id next parent count :
 drafts_replaying rs m work n place id next parent count entries a longer c counters front changes drawn pieces dropped hists first news rules can_work can found one above after last counts many longer_is begins newest pieces_are first_is redrawn comes w =
     subst
     (λ k. CanReplay (parts_of rs) k (entries_in entries) → front ≡ put id (records.Version (record { number = c.next_version; space = k; parent = parent })) ∷ [] → parent ≡ latest (parts_of rs) k
-        → IsRedrawn (touch_in k) rs (marks_of place a.log_length (entries_in entries)) dropped drawn → Comes rs k place a (entries_in entries) drawn hists first news → DraftsBy work rs m (edits.Replay k entries ∷ []) changes)
+    → IsRedrawn (touch_in k) rs (marks_of place a.log_length (entries_in entries)) dropped drawn → Comes rs k place a (entries_in entries) drawn hists first news → DraftsBy work rs m (edits.Replay k entries ∷ []) changes)
     (space_number (parts_of rs) n a found)
     (λ own begins_in newest_in drawn_so comes_in.
-        replays_own rs m work place id next parent count entries a longer c counters front changes drawn pieces dropped hists first news rules can_work own (home_there (parts_of rs) n a found) one above after last counts many longer_is
-        begins_in newest_in pieces_are first_is drawn_so comes_in w)
+    replays_own rs m work place id next parent count entries a longer c counters front changes drawn pieces dropped hists first news rules can_work own (home_there (parts_of rs) n a found) one above after last counts many longer_is
+    begins_in newest_in pieces_are first_is drawn_so comes_in w)
     can begins newest redrawn comes

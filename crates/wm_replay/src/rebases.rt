@@ -37,12 +37,7 @@ fn rebased_on(alloc: Global, version: u64, from: u64, space: &Space) -> Result<S
 }
 
 /// Puts the pieces of a key in a version behind other records.
-fn push_key(
-    alloc: Global,
-    news: &mut Vec<Record>,
-    version: u64,
-    own: &OwnKey,
-) -> Result<(), Memory>
+fn push_key(alloc: Global, news: &mut Vec<Record>, version: u64, own: &OwnKey) -> Result<(), Memory>
     ensures { OnOk result (news.new.items ≡ news.old.items ++ map records.Piece (map (piece_for version own.now.table own.now.key) own.now.pieces)) }
 {
     for piece in own.pieces.list() {

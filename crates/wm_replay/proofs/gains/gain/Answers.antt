@@ -1,4 +1,4 @@
-use Rattle.std.proofs.Common.{◌≡◌, ◌-◌, ◌++◌, ℕ, List, map, subst, sym, ap, ◌∙◌}
+use Rattle.std.proofs.Common.{◌-◌, ◌++◌, List, map, subst, sym, ap, ◌∙◌}
 use Rattle.wm_append.proofs.TwoLayers.{touches_apart}
 use Rattle.wm_append.proofs.Written.{counted_as}
 use Rattle.wm_append.specs.Layers.{touch_in}

@@ -1,4 +1,4 @@
-use Rattle.std.proofs.Common.{◌≡◌, ◌+◌, ◌-◌, ◌++◌, List, map, refl, subst, sym, ap, ◌∙◌}
+use Rattle.std.proofs.Common.{◌+◌, ◌-◌, ◌++◌, List, map, refl, subst, sym, ap, ◌∙◌}
 use Rattle.wm_append.proofs.TwoLayers.{touches_apart}
 use Rattle.wm_append.proofs.Written.{counted_as}
 use Rattle.wm_append.specs.Layers.{touch_in}
@@ -12,7 +12,6 @@ use Rattle.wm_spec.specs.declared.record.Record.{Record}
 use Rattle.wm_spec.specs.declared.record.Record.TheVariants as records
 use Rattle.wm_spec.specs.declared.record.piece.PieceRecord.{PieceRecord}
 use Rattle.wm_state.specs.Editing.{entry_of}
-use Rattle.wm_state.specs.Touching.{trace_at}
 use Rattle.wm_replay.proofs.replays.replay.Goals as goal
 
 pub versioned-counters-requires-clause-versions : goal.versioned-counters-requires-clause-versions
