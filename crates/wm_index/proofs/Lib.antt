@@ -7,3 +7,4 @@ pub mod Using
 pub mod Leaves
 pub mod Firsts
 pub mod Lasts
+pub mod Pairs
