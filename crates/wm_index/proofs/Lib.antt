@@ -8,3 +8,4 @@ pub mod Leaves
 pub mod Firsts
 pub mod Lasts
 pub mod Pairs
+pub mod Since
