@@ -9,3 +9,4 @@ pub mod Firsts
 pub mod Lasts
 pub mod Pairs
 pub mod Since
+pub mod Touched
