@@ -1,16 +1,18 @@
 -- What is told of plans that only answer, and of the tests that lead to them.
-use Rattle.std.proofs.Common.{◌≡◌, ◌⊎◌, inl, inr, ℕ, ◌+◌, nat_lt, Bool, true, false, not, ◌&&◌, List, [], map, length, IfSome, IfNone, Option, Some, None, refl, sym, ap, ◌∙◌}
+use Rattle.std.proofs.Common.{◌≡◌, ◌⊎◌, ⊎_elim, inl, inr, ℕ, ◌+◌, nat_lt, Bool, true, false, not, ◌&&◌, List, [], map, length, IfSome, IfNone, Option, Some, None, refl, sym, ap, ◌∙◌}
 use Rattle.std.proofs.lemmas.List.{length-map}
+use Rattle.std.specs.List.{list_any}
 use Rattle.std.specs.Option.{option_map}
 use Rattle.wm_graph.specs.Parts.{Parts}
 use Rattle.wm_print.specs.Texts.{Answer}
 use Rattle.wm_spec.specs.Lists.{Cell}
 use Rattle.wm_spec.specs.declared.record.space.Space.{Space}
 use Rattle.wm_spec.specs.declared.record.stored.Stored.{Stored}
-use Rattle.wm_state.specs.Editing.{counter_limit, entry_of}
+use Rattle.wm_state.specs.Drafts.{is_turn}
+use Rattle.wm_state.specs.Editing.{counter_limit, entry_of, number_limit}
 use Rattle.wm_state.specs.State.{Session, State}
 use Rattle.wm_state.specs.declared.edit.NewEntry.{NewEntry}
-use Rattle.wm_state.proofs.Tests.{bool_apart}
+use Rattle.wm_state.proofs.Tests.{bool_apart, both}
 use Rattle.wm_telling.specs.Telling.{IsFirstClash, clash_held}
 use Rattle.wm_pending.specs.declared.clash.Clash.{Clash}
 use Rattle.wm_model.specs.Merged.{IsClash}
@@ -20,7 +22,7 @@ use Rattle.wm_plan.specs.Planning.{DoesIt}
 use Rattle.wm_plan.specs.Views.{answer_view, seating_view}
 use Rattle.wm_plan.specs.declared.planned.Planned.{Planned}
 use Rattle.wm_plan.specs.declared.seating.Seating.TheVariants as seatings
-use Rattle.wm_merge.specs.Views.{clashed}
+use Rattle.wm_merge.specs.Views.{clashed, has_next_turn}
 
 -- a plan that changes nothing
 pub told_nothing : (rs : List Stored) (xs : List Session) (m : ℕ) (p : Planned) (answer : Answer) (act : State → State × Answer) → p.edits.items ≡ [] → p.seating ≡ seatings.Stay → answer_view p.answer ≡ answer
@@ -48,7 +50,19 @@ first_holds true false e = (refl, refl)
 first_holds true true e = absurd (bool_apart e)
 first_holds false b e = absurd (bool_apart e)
 
-pub one_fails : (a b : Bool) → false ≡ (a && not b) → (a ≡ false) ⊎ (b ≡ true)
+one_fails : (a b : Bool) → false ≡ (a && not b) → (a ≡ false) ⊎ (b ≡ true)
 one_fails true true e = inr refl
 one_fails true false e = absurd (bool_apart (sym e))
 one_fails false b e = inl refl
+
+-- ---- the turn of the next rebase
+
+abbrev turn_there : Parts → Space → Bool
+turn_there p a = list_any (is_turn a.number (a.rebases + 1)) p.turns
+
+-- where the workspace may be rebased
+pub turn_free : (p : Parts) (a : Space) → nat_lt number_limit (a.rebases + 1) ≡ false → has_next_turn p a ≡ false → list_any (is_turn a.number (a.rebases + 1)) p.turns ≡ false
+turn_free p a left free = sym (ap (λ b. not b && turn_there p a) left) ∙ free
+
+pub lacks_or_turned : (b : Bool) (p : Parts) (a : Space) → false ≡ (b && not (has_next_turn p a)) → (b ≡ false) ⊎ (list_any (is_turn a.number (a.rebases + 1)) p.turns ≡ true)
+lacks_or_turned b p a test = ⊎_elim (λ e. inl e) (λ e. inr (both (not (nat_lt number_limit (a.rebases + 1))) (turn_there p a) e).1) (one_fails b (has_next_turn p a) test)

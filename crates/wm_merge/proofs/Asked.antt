@@ -35,11 +35,13 @@ use Rattle.wm_telling.proofs.Sorting.{listed_apart, listed_sorted}
 use Rattle.wm_telling.proofs.Storing.{Stores, stores_gained, stores_own}
 use Rattle.wm_model.proofs.RemovingLine.{childless}
 use Rattle.wm_model.proofs.RollingLine.{named_numbered}
-use Rattle.wm_model.specs.Merged.{CanMerge, CanRefresh, Merges, NamesFamily, Refreshes, after_edits, gain_edits, is_even_at, is_ready_entry, keep_edits, leaving_refusal, longer_log_at, merge_edits, refresh_edits, replay_edits}
+use Rattle.wm_model.specs.Merged.{Merges, NamesFamily, Refreshes, after_edits, gain_edits, is_even_at, is_ready_entry, keep_edits, leaving_refusal, longer_log_at, merge_edits, refresh_edits, replay_edits}
 use Rattle.wm_model.specs.Step.{Asked}
 use Rattle.wm_model.specs.Undone.{removing_refusal}
 use Rattle.wm_merge.proofs.Clear.{MergeClear, can_keep, merge_clear, merge_left, refresh_left}
 use Rattle.wm_merge.proofs.Kept.{keys_kept}
+use Rattle.wm_merge.proofs.Answered.{turn_free}
+use Rattle.wm_merge.proofs.RefreshPlans.{MayRefresh}
 
 -- ---- the workspace and its parent
 
@@ -124,19 +126,21 @@ few_gains n entries = by_none (length entries.items == 0)
 -- ---- a refresh
 
 -- the workspace may be rebased with what is its own
-can_rebase : (rs : List Stored) (m : ℕ) (session : Session) (workspace : List ℕ) (a b : Space) (ks : List KeyPieces) (es : List Entry) → Refreshes rs m session workspace a b es → CanRefresh rs a ks es
+can_rebase : (rs : List Stored) (m : ℕ) (session : Session) (workspace : List ℕ) (a b : Space) (ks : List KeyPieces) (es : List Entry) → Refreshes rs m session workspace a b es → MayRefresh rs a ks es
     → CanRebase (parts_of rs) a.number false
-can_rebase rs m session workspace a b ks es refreshes may = record {
-  some = refreshes.family.child;
-  space = a;
-  there = named_numbered rs workspace a refreshes.family.space;
-  rebases = refresh_left (parts_of rs) a refreshes.found refreshes.clear;
-  unturned = may.unturned;
-  kept = λ stays. keys_kept (parts_of rs) a ks may.own may.keys;
-}
+can_rebase rs m session workspace a b ks es refreshes may =
+    let left = refresh_left (parts_of rs) a refreshes.found refreshes.clear in
+    record {
+      some = refreshes.family.child;
+      space = a;
+      there = named_numbered rs workspace a refreshes.family.space;
+      rebases = left;
+      unturned = turn_free (parts_of rs) a left may.unturned;
+      kept = λ stays. keys_kept (parts_of rs) a ks may.own may.keys;
+    }
 
 pub drafts_refresh : (rs : List Stored) (m : ℕ) (session : Session) (workspace : List ℕ) (a b : Space) (ks : List KeyPieces) (c : Counters) (entries : Vec NewEntry Global) → Ascend rs
-    → Refreshes rs m session workspace a b (map entry_of entries.items) → CanRefresh rs a ks (map entry_of entries.items) → nat_lt counter_limit (a.log_length + length entries.items) ≡ false
+    → Refreshes rs m session workspace a b (map entry_of entries.items) → MayRefresh rs a ks (map entry_of entries.items) → nat_lt counter_limit (a.log_length + length entries.items) ≡ false
     → (parts_of rs).counters ≡ c ∷ [] → nat_lt counter_limit (c.work + line_work) ≡ false → nat_lt m END ≡ true → CanDraft rs m (refresh_edits a.number entries)
 drafts_refresh rs m session workspace a b ks c entries sorted refreshes may room one spare early =
     can_draft rs m (refresh_edits a.number entries) (can_work (parts_of rs) m c one spare early) (omega (arith, few_gains a.number entries)) (by_none (length entries.items == 0) refl)

@@ -25,10 +25,12 @@ use Rattle.wm_telling.specs.Telling.{gained_held, own_held}
 use Rattle.wm_telling.proofs.Storing.{stores_gained, stores_own}
 use Rattle.wm_model.proofs.RemovingLine.{childless}
 use Rattle.wm_model.proofs.RollingLine.{named_numbered}
-use Rattle.wm_model.specs.Merged.{CanMerge, Merges, after_edits, gain_edits, is_even_at, keep_edits, leaving_refusal, longer_log_at, merge_edits, replay_edits}
+use Rattle.wm_model.specs.Merged.{Merges, after_edits, gain_edits, is_even_at, keep_edits, leaving_refusal, longer_log_at, merge_edits, replay_edits}
 use Rattle.wm_model.specs.Step.{Asked}
 use Rattle.wm_model.specs.Undone.{removing_refusal}
 use Rattle.wm_merge.proofs.Asked.{can_draft, can_gain, can_replay, can_work, few_gains, other_number, parent_there, room_left, some_entries}
+use Rattle.wm_merge.proofs.Answered.{turn_free}
+use Rattle.wm_merge.proofs.MergePlans.{MayMerge}
 use Rattle.wm_merge.proofs.Clear.{MergeClear, can_keep, merge_clear, merge_left}
 
 -- ---- the edits, as what becomes of the parent and of the workspace
@@ -96,12 +98,8 @@ is_present : (none : Bool) (given entries : Vec NewEntry Global) → present non
 is_present true given entries is = absurd (cc)
 is_present false given entries is = (refl, cc)
 
--- both logs have room where the longer one has
-room_of : (limit k l : ℕ) → nat_lt limit (max k l) ≡ false → (nat_lt limit k ≡ false) × (nat_lt limit l ≡ false)
-room_of limit k l room = (grind (arith, nat_tests, room), grind (arith, nat_tests, room))
-
 module _ (rs : List Stored) (m : ℕ) (xs : List Session) (session : Session) (asked : Asked) (workspace : List ℕ) (a b : Space) (c : Counters) (own entries : Vec NewEntry Global)
-    (merges : Merges rs m xs session asked workspace a b (map entry_of own.items) (map entry_of entries.items)) (may : CanMerge rs a (map entry_of own.items) (map entry_of entries.items))
+    (merges : Merges rs m xs session asked workspace a b (map entry_of own.items) (map entry_of entries.items)) (may : MayMerge rs a (map entry_of own.items) (map entry_of entries.items))
     (one : (parts_of rs).counters ≡ c ∷ []) (own_room : nat_lt counter_limit (b.log_length + length own.items) ≡ false) (room : nat_lt counter_limit (a.log_length + length entries.items) ≡ false) where
   abbrev even : Bool
   even = is_even_at a b (map entry_of own.items)
@@ -138,14 +136,16 @@ module _ (rs : List Stored) (m : ℕ) (xs : List Session) (session : Session) (a
   odd_of false is = refl
 
   rebases : not even ≡ true → CanRebase (parts_of rs) a.number true
-  rebases odd = record {
-    some = merges.family.child;
-    space = a;
-    there = named_numbered rs workspace a merges.family.space;
-    rebases = merge_left a b (map entry_of own.items) clear.rebasing (odd_of even odd);
-    unturned = may.unturned;
-    kept = λ stays. absurd (bool_apart stays);
-  }
+  rebases odd =
+      let left = merge_left a b (map entry_of own.items) clear.rebasing (odd_of even odd) in
+      record {
+        some = merges.family.child;
+        space = a;
+        there = named_numbered rs workspace a merges.family.space;
+        rebases = left;
+        unturned = turn_free (parts_of rs) a left may.unturned;
+        kept = λ stays. absurd (bool_apart stays);
+      }
 
   gains : (given : Vec NewEntry Global) → present (length entries.items == 0) entries ≡ Some given → CanGain (parts_of rs) a.number (map entry_of given.items)
   gains given is =

@@ -8,5 +8,3 @@ pub mod MergePlans
 pub mod Parents
 pub mod RefreshPlans
 pub mod StubMerging
-pub mod StubRefreshing
-pub mod Turns

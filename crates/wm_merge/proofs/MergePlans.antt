@@ -4,7 +4,7 @@ use Rattle.std.proofs.lemmas.Bool.Decides.{nat_tests}
 use Rattle.std.specs.List.{list_all, list_any}
 use Rattle.wm_base.specs.declared.memory.Memory.{Memory}
 use Rattle.wm_graph.specs.Parts.{parts_of}
-use Rattle.wm_model.specs.Merged.{CanMerge, Merges, NamesFamily, is_even_at, is_ready_entry, longer_log_at}
+use Rattle.wm_model.specs.Merged.{Merges, NamesFamily, is_ready_entry}
 use Rattle.wm_model.specs.Step.{Asked, merge_workspace}
 use Rattle.wm_plan.specs.Planning.{DoesIt}
 use Rattle.wm_plan.specs.declared.planned.Planned.{Planned}
@@ -16,28 +16,32 @@ use Rattle.wm_state.specs.Editing.{counter_limit, entry_of}
 use Rattle.wm_state.specs.State.{Session}
 use Rattle.wm_state.specs.declared.edit.NewEntry.{NewEntry}
 use Rattle.wm_state.proofs.Tests.{both}
-use Rattle.wm_merge.proofs.Answered.{first_holds, one_fails}
+use Rattle.wm_merge.specs.Views.{has_next_turn}
+use Rattle.wm_merge.proofs.Answered.{first_holds, lacks_or_turned}
 
 -- ---- whether its edits can be made
+
+-- what is tested of its entries and of the workspace
+pub record MayMerge (rs : List Stored) (a : Space) (own es : List Entry) : Type 0 where
+  pub own_ready : list_all (is_ready_entry (parts_of rs)) own ≡ true
+  pub ready : list_all (is_ready_entry (parts_of rs)) es ≡ true
+  pub unturned : has_next_turn (parts_of rs) a ≡ false
 
 module _ (rs : List Stored) (a : Space) (given_own own given es : List NewEntry) (own_is : given_own ≡ own) (is : given ≡ es) where
   abbrev can_write : List NewEntry → List NewEntry → Bool
   can_write xs ys = list_all (is_ready_entry (parts_of rs)) (map entry_of xs) && list_all (is_ready_entry (parts_of rs)) (map entry_of ys)
 
-  abbrev has_turn : Bool
-  has_turn = list_any (is_turn a.number (a.rebases + 1)) (parts_of rs).turns
+  same_test : (can_write given_own given && not (has_next_turn (parts_of rs) a)) ≡ (can_write own es && not (has_next_turn (parts_of rs) a))
+  same_test = ap (λ xs. can_write xs given && not (has_next_turn (parts_of rs) a)) own_is ∙ ap (λ ys. can_write own ys && not (has_next_turn (parts_of rs) a)) is
 
-  same_test : (can_write given_own given && not has_turn) ≡ (can_write own es && not has_turn)
-  same_test = ap (λ xs. can_write xs given && not has_turn) own_is ∙ ap (λ ys. can_write own ys && not has_turn) is
-
-  pub may_merge : true ≡ (can_write given_own given && not has_turn) → CanMerge rs a (map entry_of own) (map entry_of es)
+  pub may_merge : true ≡ (can_write given_own given && not (has_next_turn (parts_of rs) a)) → MayMerge rs a (map entry_of own) (map entry_of es)
   may_merge test =
-      let two = first_holds (can_write own es) has_turn (test ∙ same_test) in
+      let two = first_holds (can_write own es) (has_next_turn (parts_of rs) a) (test ∙ same_test) in
       let ready = both (list_all (is_ready_entry (parts_of rs)) (map entry_of own)) (list_all (is_ready_entry (parts_of rs)) (map entry_of es)) two.0 in
       record { own_ready = ready.0; ready = ready.1; unturned = two.1 }
 
-  pub lacks_merge : false ≡ (can_write given_own given && not has_turn) → (can_write own es ≡ false) ⊎ (has_turn ≡ true)
-  lacks_merge test = one_fails (can_write own es) has_turn (test ∙ same_test)
+  pub lacks_merge : false ≡ (can_write given_own given && not (has_next_turn (parts_of rs) a)) → (can_write own es ≡ false) ⊎ (list_any (is_turn a.number (a.rebases + 1)) (parts_of rs).turns ≡ true)
+  lacks_merge test = lacks_or_turned (can_write own es) (parts_of rs) a (test ∙ same_test)
 
 -- both logs have room where the longer one has
 pub room_of : (limit k l : ℕ) → nat_lt limit (max k l) ≡ false → (nat_lt limit k ≡ false) × (nat_lt limit l ≡ false)

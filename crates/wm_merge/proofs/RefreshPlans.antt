@@ -3,7 +3,7 @@ use Rattle.std.proofs.Common.{◌≡◌, ◌⊎◌, ℕ, ◌+◌, ◌&&◌, not,
 use Rattle.std.specs.List.{list_all, list_any}
 use Rattle.wm_base.specs.declared.memory.Memory.{Memory}
 use Rattle.wm_graph.specs.Parts.{parts_of}
-use Rattle.wm_model.specs.Merged.{CanRefresh, NamesFamily, Refreshes, are_keys_kept, is_ready_entry}
+use Rattle.wm_model.specs.Merged.{NamesFamily, Refreshes, are_keys_kept, is_ready_entry}
 use Rattle.wm_model.specs.Step.{refresh_workspace}
 use Rattle.wm_plan.specs.Planning.{DoesIt}
 use Rattle.wm_plan.specs.declared.planned.Planned.{Planned}
@@ -17,25 +17,30 @@ use Rattle.wm_state.specs.State.{Session}
 use Rattle.wm_state.specs.declared.edit.NewEntry.{NewEntry}
 use Rattle.wm_state.proofs.Tests.{both}
 use Rattle.wm_telling.specs.Telling.{AreOwn}
-use Rattle.wm_merge.proofs.Answered.{first_holds, one_fails}
+use Rattle.wm_merge.specs.Views.{has_next_turn}
+use Rattle.wm_merge.proofs.Answered.{first_holds, lacks_or_turned}
 
 -- ---- whether its edits can be made
+
+-- what is tested of its entries and of the workspace
+pub record MayRefresh (rs : List Stored) (a : Space) (ks : List KeyPieces) (es : List Entry) : Type 0 where
+  pub own : AreOwn (parts_of rs) a ks
+  pub keys : are_keys_kept ks ≡ true
+  pub ready : list_all (is_ready_entry (parts_of rs)) es ≡ true
+  pub unturned : has_next_turn (parts_of rs) a ≡ false
 
 module _ (rs : List Stored) (a : Space) (ks : List KeyPieces) (given es : List NewEntry) (is : given ≡ es) where
   abbrev can_write : List NewEntry → Bool
   can_write xs = are_keys_kept ks && list_all (is_ready_entry (parts_of rs)) (map entry_of xs)
 
-  abbrev has_turn : Bool
-  has_turn = list_any (is_turn a.number (a.rebases + 1)) (parts_of rs).turns
-
-  pub may_refresh : AreOwn (parts_of rs) a ks → true ≡ (can_write given && not has_turn) → CanRefresh rs a ks (map entry_of es)
+  pub may_refresh : AreOwn (parts_of rs) a ks → true ≡ (can_write given && not (has_next_turn (parts_of rs) a)) → MayRefresh rs a ks (map entry_of es)
   may_refresh own test =
-      let two = first_holds (can_write es) has_turn (test ∙ ap (λ xs. can_write xs && not has_turn) is) in
+      let two = first_holds (can_write es) (has_next_turn (parts_of rs) a) (test ∙ ap (λ xs. can_write xs && not (has_next_turn (parts_of rs) a)) is) in
       let ready = both (are_keys_kept ks) (list_all (is_ready_entry (parts_of rs)) (map entry_of es)) two.0 in
       record { own = own; keys = ready.0; ready = ready.1; unturned = two.1 }
 
-  pub lacks_refresh : false ≡ (can_write given && not has_turn) → (can_write es ≡ false) ⊎ (has_turn ≡ true)
-  lacks_refresh test = one_fails (can_write es) has_turn (test ∙ ap (λ xs. can_write xs && not has_turn) is)
+  pub lacks_refresh : false ≡ (can_write given && not (has_next_turn (parts_of rs) a)) → (can_write es ≡ false) ⊎ (list_any (is_turn a.number (a.rebases + 1)) (parts_of rs).turns ≡ true)
+  lacks_refresh test = lacks_or_turned (can_write es) (parts_of rs) a (test ∙ ap (λ xs. can_write xs && not (has_next_turn (parts_of rs) a)) is)
 
 -- ---- the plans
 

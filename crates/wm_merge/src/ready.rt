@@ -1,20 +1,20 @@
 //! Whether entries can be written again, and what is own copied. In every state that lines lead to they can.
 
-ghost use Rattle.std.specs.Prelude.{◌≡◌, ◌+◌, ◌&&◌, not, nat_lt, false, length, map};
-ghost use Rattle.std.specs.List.{list_all, list_any};
-ghost use Rattle.std.specs.Option.{option_and_then, option_copied, option_map_or};
-ghost use Rattle.wm_graph.specs.Parts.{as_turn, parts_of};
-ghost use Rattle.wm_index.specs.Kinds.{kind_at};
+ghost use Rattle.std.specs.Prelude.{◌≡◌, ◌+◌, ◌&&◌, not, nat_lt, length, map};
+ghost use Rattle.std.specs.List.{list_all};
+ghost use Rattle.wm_graph.specs.Parts.{parts_of};
+ghost use Rattle.wm_merge.specs.Views.{has_next_turn};
 ghost use Rattle.wm_model.specs.Merged.{are_keys_kept, is_ready_entry};
 ghost use Rattle.wm_model.specs.Step.{counter_limit};
 ghost use Rattle.wm_pending.specs.Owned.{key_pieces};
-ghost use Rattle.wm_state.specs.Drafts.{can_keep, is_turn};
+ghost use Rattle.wm_state.specs.Drafts.{can_keep};
 ghost use Rattle.wm_state.specs.Editing.{entry_of};
 
 use wm_base::Value;
 use wm_image::Image;
 use wm_pending::OwnKey;
-use wm_spec::record::{Record, Space};
+use wm_space::saving::is_last;
+use wm_spec::record::Space;
 use wm_state::edit::NewEntry;
 
 /// The greatest length of a log.
@@ -88,53 +88,23 @@ fn are_keys_kept(own: &[OwnKey]) -> bool
     true
 }
 
-/// Whether a record is a turn of a workspace that has this number.
-fn is_turn(found: Option<&Record>, space: u32, number: u64) -> bool
-    ensures { result ≡ option_map_or (is_turn space number) (option_and_then as_turn (option_copied found.entry)) false }
-{
-    match found {
-        Some(Record::Turn(turn)) => turn.space == space && u64::from(turn.rebase) == number,
-        _ => false,
-    }
-}
-
-/// Whether one of the records of some ids is.
-fn any_turn(image: &Image, ids: &[u64], space: u32, number: u64) -> bool
-    ensures { result ≡ list_any (is_turn space number) (kind_at as_turn image.now ids.now) }
-{
-    for id in ids {
-        if is_turn(image.record(*id), space, number) {
-            return true;
-        }
-    }
-    false
-}
-
-/// Whether a workspace has a turn of this number.
-fn has_turn(image: &Image, space: u32, number: u64) -> bool
-    ensures { result ≡ list_any (is_turn space number) (parts_of image.now).turns }
-{
-    image.law_of_order();
-    any_turn(image, image.records_of(space), space, number)
-}
-
-/// Whether a workspace has the turn that its next rebase makes.
+/// Whether a workspace, where it may be rebased once more, has the turn already that this makes.
 fn has_next_turn(image: &Image, space: &Space) -> bool
-    ensures { result ≡ list_any (is_turn space.now.number (space.now.rebases + 1)) (parts_of image.now).turns }
+    ensures { result ≡ has_next_turn (parts_of image.now) space.now }
 {
-    has_turn(image, space.number, u64::from(space.rebases) + 1)
+    !is_last(space.rebases) && image.has_turn(space.number, space.rebases + 1)
 }
 
 /// Whether a workspace can be refreshed with entries, and what is its own be copied.
 pub fn can_refresh(image: &Image, space: &Space, own: &[OwnKey], entries: &[NewEntry]) -> bool
-    ensures { result ≡ ((are_keys_kept (map key_pieces own.now) && list_all (is_ready_entry (parts_of image.now)) (map entry_of entries.now)) && not (list_any (is_turn space.now.number (space.now.rebases + 1)) (parts_of image.now).turns)) }
+    ensures { result ≡ ((are_keys_kept (map key_pieces own.now) && list_all (is_ready_entry (parts_of image.now)) (map entry_of entries.now)) && not (has_next_turn (parts_of image.now) space.now)) }
 {
     (are_keys_kept(own) && are_ready(image, entries)) && !has_next_turn(image, space)
 }
 
 /// Whether entries of a workspace can come into its parent, and others into its own log.
 pub fn can_merge(image: &Image, space: &Space, own: &[NewEntry], gained: &[NewEntry]) -> bool
-    ensures { result ≡ ((list_all (is_ready_entry (parts_of image.now)) (map entry_of own.now) && list_all (is_ready_entry (parts_of image.now)) (map entry_of gained.now)) && not (list_any (is_turn space.now.number (space.now.rebases + 1)) (parts_of image.now).turns)) }
+    ensures { result ≡ ((list_all (is_ready_entry (parts_of image.now)) (map entry_of own.now) && list_all (is_ready_entry (parts_of image.now)) (map entry_of gained.now)) && not (has_next_turn (parts_of image.now) space.now)) }
 {
     (are_ready(image, own) && are_ready(image, gained)) && !has_next_turn(image, space)
 }

@@ -9,7 +9,7 @@ use Rattle.wm_telling.specs.Telling.{IsHeldListing, gained_held}
 use Rattle.wm_merge.specs.Views.{clashed}
 use Rattle.wm_merge.proofs.Answered.{clash_found, told_nothing}
 use Rattle.wm_merge.proofs.RefreshPlans.{refreshes_as}
-use Rattle.wm_merge.proofs.StubRefreshing.{refresh_refused}
+use Rattle.wm_model.proofs.RefreshingLine.{refresh_refused}
 use Rattle.wm_merge.proofs.refreshing.refresh_pending.Goals as goal
 
 pub own_pieces-requires-clause-there : goal.own_pieces-requires-clause-there

@@ -10,7 +10,7 @@ use Rattle.wm_state.specs.Editing.{entry_of}
 use Rattle.wm_merge.proofs.Answered.{listed_test, log_test, told_nothing}
 use Rattle.wm_merge.proofs.Asked.{drafts_refresh}
 use Rattle.wm_merge.proofs.RefreshPlans.{lacks_refresh, may_refresh}
-use Rattle.wm_merge.proofs.StubRefreshing.{does_refresh, refresh_long, refresh_spent, refresh_unready}
+use Rattle.wm_model.proofs.RefreshingLine.{does_refresh, refresh_long, refresh_spent, refresh_unready}
 use Rattle.wm_merge.proofs.refreshing.refresh_with.Goals as goal
 
 pub returns-then-is_long-clause-does : goal.returns-then-is_long-clause-does

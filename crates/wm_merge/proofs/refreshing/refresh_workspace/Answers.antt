@@ -8,7 +8,7 @@ use Rattle.wm_merge.proofs.Answered.{told_nothing}
 use Rattle.wm_merge.proofs.Parents.{family_named, parent_found}
 use Rattle.wm_merge.proofs.RefreshPlans.{refreshes_named}
 use Rattle.wm_merge.proofs.Asked.{family_of}
-use Rattle.wm_merge.proofs.StubRefreshing.{refresh_homeless, refresh_liveless, refresh_quiet}
+use Rattle.wm_model.proofs.RefreshingLine.{refresh_homeless, refresh_liveless, refresh_quiet}
 use Rattle.wm_merge.proofs.refreshing.refresh_workspace.Goals as goal
 
 pub returns-in_default-clause-does : goal.returns-in_default-clause-does
