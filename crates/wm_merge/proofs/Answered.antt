@@ -1,11 +1,12 @@
 -- What is told of plans that only answer, and of the tests that lead to them.
-use Rattle.std.proofs.Common.{◌≡◌, ◌⊎◌, ⊎_elim, inl, inr, ℕ, ◌+◌, nat_lt, Bool, true, false, not, ◌&&◌, List, [], map, length, IfSome, IfNone, Option, Some, None, refl, sym, ap, ◌∙◌}
+use Rattle.std.proofs.Common.{◌≡◌, ◌⊎◌, ⊎_elim, inl, inr, ℕ, ◌+◌, nat_lt, Bool, true, false, not, ◌&&◌, List, [], map, length, IfSome, IfNone, Option, Some, None, refl, sym, ap, ◌∙◌, subst}
 use Rattle.std.proofs.lemmas.List.{length-map}
 use Rattle.std.specs.List.{list_any}
 use Rattle.std.specs.Option.{option_map}
 use Rattle.wm_graph.specs.Parts.{Parts}
 use Rattle.wm_print.specs.Texts.{Answer}
-use Rattle.wm_spec.specs.Lists.{Cell}
+use Rattle.wm_period.specs.Pieces.{Held}
+use Rattle.wm_spec.specs.Lists.{Cell, Entry}
 use Rattle.wm_spec.specs.declared.record.space.Space.{Space}
 use Rattle.wm_spec.specs.declared.record.stored.Stored.{Stored}
 use Rattle.wm_state.specs.Drafts.{is_turn}
@@ -13,7 +14,7 @@ use Rattle.wm_state.specs.Editing.{counter_limit, entry_of, number_limit}
 use Rattle.wm_state.specs.State.{Session, State}
 use Rattle.wm_state.specs.declared.edit.NewEntry.{NewEntry}
 use Rattle.wm_state.proofs.Tests.{bool_apart, both}
-use Rattle.wm_telling.specs.Telling.{IsFirstClash, clash_held}
+use Rattle.wm_telling.specs.Telling.{IsFirstClash, IsHeldListing, clash_held}
 use Rattle.wm_pending.specs.declared.clash.Clash.{Clash}
 use Rattle.wm_model.specs.Merged.{IsClash}
 use Rattle.wm_model.specs.Planning.{Does, Stay}
@@ -34,6 +35,10 @@ pub clash_found : (p : Parts) (a b : Space) (found : Option Clash) → IfSome fo
     → IfNone found ((c : Cell) → clash_held p a b c ≡ None) → IsClash p a b (option_map clashed found)
 clash_found p a b (Some x) some none = some
 clash_found p a b None some none = none
+
+-- entries that are listed for a user
+pub listed_for : (p : Parts) (m : ℕ) (given user : List ℕ) (f : Cell → Option Held) (es : List Entry) → given ≡ user → IsHeldListing p m given f es → IsHeldListing p m user f es
+listed_for p m given user f es is listed = subst (λ u. IsHeldListing p m u f es) is listed
 
 -- a log with entries more
 pub log_test : (log_length : ℕ) (given es : List NewEntry) (b : Bool) → given ≡ es → b ≡ nat_lt counter_limit (log_length + length given) → nat_lt counter_limit (log_length + length es) ≡ b

@@ -66,7 +66,7 @@ pub some_entries : (es : List NewEntry) → (length es == 0) ≡ false → nat_l
 some_entries es some = grind (arith, nat_tests, length-map es entry_of, some)
 
 -- the log has room for them
-pub room_left : (log_length : ℕ) (es : List NewEntry) → nat_lt counter_limit (log_length + length es) ≡ false → nat_lt counter_limit (log_length + length (map entry_of es)) ≡ false
+room_left : (log_length : ℕ) (es : List NewEntry) → nat_lt counter_limit (log_length + length es) ≡ false → nat_lt counter_limit (log_length + length (map entry_of es)) ≡ false
 room_left log_length es room = ap (λ n. nat_lt counter_limit (log_length + n)) (length-map es entry_of) ∙ room
 
 module _ (p : Parts) (m : ℕ) (user : List ℕ) (c : Counters) (rules : keep_rules p ≡ true) (one : p.counters ≡ c ∷ []) (short : is_short user ≡ true) (f : Cell → Option Held) (stores : Stores p f) (es : List Entry)

@@ -28,7 +28,7 @@ use Rattle.wm_model.proofs.RollingLine.{named_numbered}
 use Rattle.wm_model.specs.Merged.{Merges, after_edits, gain_edits, is_even_at, keep_edits, leaving_refusal, longer_log_at, merge_edits, replay_edits}
 use Rattle.wm_model.specs.Step.{Asked}
 use Rattle.wm_model.specs.Undone.{removing_refusal}
-use Rattle.wm_merge.proofs.Asked.{can_draft, can_gain, can_replay, can_work, few_gains, other_number, parent_there, room_left, some_entries}
+use Rattle.wm_merge.proofs.Asked.{can_draft, can_gain, can_replay, can_work, few_gains, other_number, parent_there, some_entries}
 use Rattle.wm_merge.proofs.Answered.{turn_free}
 use Rattle.wm_merge.proofs.MergePlans.{MayMerge}
 use Rattle.wm_merge.proofs.Clear.{MergeClear, can_keep, merge_clear, merge_left}
@@ -100,7 +100,7 @@ is_present false given entries is = (refl, cc)
 
 module _ (rs : List Stored) (m : ℕ) (xs : List Session) (session : Session) (asked : Asked) (workspace : List ℕ) (a b : Space) (c : Counters) (own entries : Vec NewEntry Global)
     (merges : Merges rs m xs session asked workspace a b (map entry_of own.items) (map entry_of entries.items)) (may : MayMerge rs a (map entry_of own.items) (map entry_of entries.items))
-    (one : (parts_of rs).counters ≡ c ∷ []) (own_room : nat_lt counter_limit (b.log_length + length own.items) ≡ false) (room : nat_lt counter_limit (a.log_length + length entries.items) ≡ false) where
+    (one : (parts_of rs).counters ≡ c ∷ []) (own_room : nat_lt counter_limit (b.log_length + length (map entry_of own.items)) ≡ false) (room : nat_lt counter_limit (a.log_length + length (map entry_of entries.items)) ≡ false) where
   abbrev even : Bool
   even = is_even_at a b (map entry_of own.items)
 
@@ -116,7 +116,7 @@ module _ (rs : List Stored) (m : ℕ) (xs : List Session) (session : Session) (a
       let two = is_present (length own.items == 0) own given is in
       subst (λ (x : Vec NewEntry Global). CanReplay (parts_of rs) b.number (map entry_of x.items)) two.1
       (can_replay (parts_of rs) m session.user c rules one merges.user (own_held (parts_of rs) a) (stores_own (parts_of rs) a) (map entry_of own.items) merges.own_listed may.own_ready (some_entries own.items two.0) b.number b
-      (parent_there rs workspace a b merges.family) (room_left b.log_length own.items own_room))
+      (parent_there rs workspace a b merges.family) own_room)
 
   -- of the workspace
   removes : asked.removes ≡ true → CanRemove (parts_of rs) a.number
@@ -152,7 +152,7 @@ module _ (rs : List Stored) (m : ℕ) (xs : List Session) (session : Session) (a
       let two = is_present (length entries.items == 0) entries given is in
       subst (λ (x : Vec NewEntry Global). CanGain (parts_of rs) a.number (map entry_of x.items)) two.1
       (can_gain (parts_of rs) m session.user c rules one merges.user (gained_held (parts_of rs) a b) (stores_gained (parts_of rs) a b) (map entry_of entries.items) merges.gained_listed may.ready (some_entries entries.items two.0)
-      a.number a (named_numbered rs workspace a merges.family.space) (room_left a.log_length entries.items room))
+      a.number a (named_numbered rs workspace a merges.family.space) room)
 
   can : edited.CanMerge (parts_of rs) b.number a.number (merging asked even own entries)
   can = record {

@@ -7,4 +7,3 @@ pub mod Kept
 pub mod MergePlans
 pub mod Parents
 pub mod RefreshPlans
-pub mod StubMerging

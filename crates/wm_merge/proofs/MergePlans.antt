@@ -1,10 +1,11 @@
 -- What is told of the plans of a merge.
-use Rattle.std.proofs.Common.{◌≡◌, ◌⊎◌, ℕ, ◌+◌, ◌&&◌, ◌||◌, not, nat_lt, max, Bool, true, false, List, map, length, Result, Ok, Err, IfOk, sym, ap, ◌∙◌, arith}
+use Rattle.std.proofs.Common.{◌≡◌, ◌⊎◌, ℕ, ◌+◌, ◌&&◌, ◌||◌, not, nat_lt, max, Bool, true, false, List, map, length, Option, Result, Ok, Err, IfOk, sym, ap, ◌∙◌, arith}
 use Rattle.std.proofs.lemmas.Bool.Decides.{nat_tests}
 use Rattle.std.specs.List.{list_all, list_any}
 use Rattle.wm_base.specs.declared.memory.Memory.{Memory}
-use Rattle.wm_graph.specs.Parts.{parts_of}
-use Rattle.wm_model.specs.Merged.{Merges, NamesFamily, is_ready_entry}
+use Rattle.wm_base.specs.declared.refusal.Refusal.{Refusal}
+use Rattle.wm_graph.specs.Parts.{Parts, parts_of}
+use Rattle.wm_model.specs.Merged.{Clashed, Merges, NamesFamily, is_even_at, is_ready_entry, merging_refusal}
 use Rattle.wm_model.specs.Step.{Asked, merge_workspace}
 use Rattle.wm_plan.specs.Planning.{DoesIt}
 use Rattle.wm_plan.specs.declared.planned.Planned.{Planned}
@@ -12,7 +13,7 @@ use Rattle.wm_spec.specs.Lists.{Entry}
 use Rattle.wm_spec.specs.declared.record.space.Space.{Space}
 use Rattle.wm_spec.specs.declared.record.stored.Stored.{Stored}
 use Rattle.wm_state.specs.Drafts.{is_turn}
-use Rattle.wm_state.specs.Editing.{counter_limit, entry_of}
+use Rattle.wm_state.specs.Editing.{entry_of}
 use Rattle.wm_state.specs.State.{Session}
 use Rattle.wm_state.specs.declared.edit.NewEntry.{NewEntry}
 use Rattle.wm_state.proofs.Tests.{both}
@@ -42,6 +43,15 @@ module _ (rs : List Stored) (a : Space) (given_own own given es : List NewEntry)
 
   pub lacks_merge : false ≡ (can_write given_own given && not (has_next_turn (parts_of rs) a)) → (can_write own es ≡ false) ⊎ (list_any (is_turn a.number (a.rebases + 1)) (parts_of rs).turns ≡ true)
   lacks_merge test = lacks_or_turned (can_write own es) (parts_of rs) a (test ∙ same_test)
+
+-- whether nothing is to be merged and nothing is pending
+pub even_told : (a b : Space) (given own : List NewEntry) (even : Bool) → given ≡ own → even ≡ is_even_at a b (map entry_of given) → even ≡ is_even_at a b (map entry_of own)
+even_told a b given own even is test = test ∙ ap (λ xs. is_even_at a b (map entry_of xs)) is
+
+-- what a merge is refused for
+pub refusal_told : (asked : Asked) (p : Parts) (xs : List Session) (a b : Space) (found : Option Clashed) (given own : List NewEntry) (told is : Option Refusal) → given ≡ own → told ≡ merging_refusal asked p xs a b found (map entry_of given)
+    → told ≡ is → merging_refusal asked p xs a b found (map entry_of own) ≡ is
+refusal_told asked p xs a b found given own told is same test says = ap (λ ys. merging_refusal asked p xs a b found (map entry_of ys)) (sym same) ∙ sym test ∙ says
 
 -- both logs have room where the longer one has
 pub room_of : (limit k l : ℕ) → nat_lt limit (max k l) ≡ false → (nat_lt limit k ≡ false) × (nat_lt limit l ≡ false)

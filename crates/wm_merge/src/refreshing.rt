@@ -44,11 +44,7 @@ pub fn is_quiet(space: &Space, parent: &Space) -> bool
 }
 
 /// Puts the edit by which the log of a workspace gains entries behind others, where there are any.
-pub fn push_gain(
-    edits: &mut Vec<Edit>,
-    space: u32,
-    entries: Vec<NewEntry>,
-) -> Result<(), Memory>
+pub fn push_gain(edits: &mut Vec<Edit>, space: u32, entries: Vec<NewEntry>) -> Result<(), Memory>
     ensures { OnOk result (edits.new.items ≡ edits.old.items ++ gain_edits space entries) }
 {
     if !entries.is_empty() {
@@ -86,11 +82,7 @@ fn refreshing_refusal(
 }
 
 /// The edits of a refresh.
-fn refresh_edits(
-    alloc: Global,
-    space: &Space,
-    entries: Vec<NewEntry>,
-) -> Result<Vec<Edit>, Memory>
+fn refresh_edits(alloc: Global, space: &Space, entries: Vec<NewEntry>) -> Result<Vec<Edit>, Memory>
     ensures { IfOk result (λ edits. edits.items ≡ refresh_edits space.now.number entries) }
 {
     let mut edits = Vec::new(alloc);

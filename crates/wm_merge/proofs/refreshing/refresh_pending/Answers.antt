@@ -1,13 +1,13 @@
-use Rattle.std.proofs.Common.{ℕ, List, map, sym, ap, ◌∙◌, subst}
+use Rattle.std.proofs.Common.{map, sym, ap, ◌∙◌}
 use Rattle.std.specs.Option.{option_map}
 use Rattle.wm_graph.specs.Parts.{parts_of}
 use Rattle.wm_model.specs.Step.{refresh_workspace}
 use Rattle.wm_plan.specs.Views.{answer_view}
 use Rattle.wm_print.specs.Texts.{Refused}
 use Rattle.wm_state.specs.Editing.{entry_of}
-use Rattle.wm_telling.specs.Telling.{IsHeldListing, gained_held}
+use Rattle.wm_telling.specs.Telling.{gained_held}
 use Rattle.wm_merge.specs.Views.{clashed}
-use Rattle.wm_merge.proofs.Answered.{clash_found, told_nothing}
+use Rattle.wm_merge.proofs.Answered.{clash_found, listed_for, told_nothing}
 use Rattle.wm_merge.proofs.RefreshPlans.{refreshes_as}
 use Rattle.wm_model.proofs.RefreshingLine.{refresh_refused}
 use Rattle.wm_merge.proofs.refreshing.refresh_pending.Goals as goal
@@ -33,7 +33,7 @@ returns-clause-does c =
       clash = clash_found (parts_of c.args.image.now) c.args.space.now c.args.parent.now c.in_ok-found.found c.in_ok-found.ensures.some c.in_ok-found.ensures.none;
       clear = sym c.in_ok-refusal.ensures ∙ c.in_default.is;
       listed =
-          subst (λ (user : List ℕ). IsHeldListing (parts_of c.args.image.now) c.args.moment user (gained_held (parts_of c.args.image.now) c.args.space.now c.args.parent.now) (map entry_of c.in_ok-entries.entries.items))
+          listed_for (parts_of c.args.image.now) c.args.moment c.user-user.result.now c.args.session.now.user (gained_held (parts_of c.args.image.now) c.args.space.now c.args.parent.now) (map entry_of c.in_ok-entries.entries.items)
           c.user-user.ensures.user c.in_ok-entries.ensures;
     })
     c.refresh_with.ensures.does

@@ -30,7 +30,7 @@ unwrap-parent-requires c =
 pub returns-then-is_quiet-clause-does : goal.returns-then-is_quiet-clause-does
 returns-then-is_quiet-clause-does c = λ xs.
     let family = family_named c.args.image.now c.args.name.now c.in-Some.space.now c.space.result c.unwrap-parent.result.now (record { rules = c.requires.rules; found = sym c.in-Some.ensures }) (omega (arith, c.if-space-eq0.false))
-        c.space.ensures (ap option_copied c.unwrap-parent.ensures) in
+    c.space.ensures (ap option_copied c.unwrap-parent.ensures) in
     told_nothing c.args.image.now xs c.args.moment c.answered-then-is_quiet.result Fine (refresh_workspace c.args.session.now c.args.name.now) c.answered-then-is_quiet.ensures.edits c.answered-then-is_quiet.ensures.seating
     (ap answer_view c.answered-then-is_quiet.ensures.answer)
     (refresh_quiet c.args.image.now xs c.args.moment c.args.session.now c.args.name.now c.in-Some.space.now c.unwrap-parent.result.now family (sym c.if-is_quiet.ensures))
