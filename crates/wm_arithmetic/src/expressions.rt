@@ -113,7 +113,13 @@ fn term(cursor: &mut Cursor, alloc: Global, depth: u8) -> Result<Expr, ParseErro
 {
     let mut all = factor(cursor, alloc, depth)?;
     'items: while cursor.is(Sort::Star) {
-        let next = times(cursor, alloc, depth)?;
+        let next = match times(cursor, alloc, depth) {
+            Ok(next) => next,
+            Err(fault) => {
+                drop(all);
+                return Err(fault);
+            }
+        };
         let made = product_of(alloc, all, next)?;
         all = made;
     }
@@ -141,7 +147,13 @@ fn expr_within(cursor: &mut Cursor, alloc: Global, depth: u8) -> Result<Expr, Pa
 {
     let mut all = term(cursor, alloc, depth)?;
     'items: while cursor.is_any(&[Sort::Plus, Sort::Minus]) {
-        let (minus, next) = signed_term(cursor, alloc, depth)?;
+        let (minus, next) = match signed_term(cursor, alloc, depth) {
+            Ok(read) => read,
+            Err(fault) => {
+                drop(all);
+                return Err(fault);
+            }
+        };
         let made = sum_of(alloc, minus, all, next)?;
         all = made;
     }

@@ -1,57 +1,21 @@
 -- No text is empty in what is written of rows in which none is.
-use Rattle.std.proofs.Common.{◌≡◌, ℕ, zero, suc, ◌&&◌, Bool, true, false, if◌then◌else◌, List, [], ◌∷◌, take, length, map, refl, Option, Some, None, unwrap_or, slice_get}
+use Rattle.std.proofs.Common.{◌≡◌, ◌&&◌, Bool, true, List, [], ◌∷◌, map, refl}
 use Rattle.std.specs.List.{list_all}
 use Rattle.wm_base.specs.Period.{Span}
 use Rattle.wm_base.specs.declared.row.Row.{Row}
 use Rattle.wm_base.specs.declared.value.Value.{Value}
 use Rattle.wm_dml.specs.Changing.{added, declared_values, gone, replaced, replacing, row_key}
 use Rattle.wm_dml.specs.Standing.{all_stand, is_shown, stands_in}
-use Rattle.wm_graph.specs.Rules.{has_key, is_key_of, is_row_of, values_at}
+use Rattle.wm_graph.specs.Rules.{is_key_of, is_row_of}
 use Rattle.wm_making.specs.Rows.{is_filled}
 use Rattle.wm_spec.specs.declared.record.table.Table.{Table}
 use Rattle.wm_state.proofs.Tests.{both, and_true}
 use Rattle.wm_change.specs.Changing.{is_filled_change}
 use Rattle.wm_chosen.specs.Chosen.{are_keyed, is_keyed_row, is_keyed_shown}
-use Rattle.std.specs.Option.{option_and_then, option_map, option_map_or}
-
-filled_at : (vs : List Value) (i : ℕ) → list_all is_filled vs ≡ true → option_map_or is_filled (slice_get vs i) true ≡ true
-filled_at [] i all = refl
-filled_at (v ∷ vs) zero all = (both (is_filled v) (list_all is_filled vs) all).0
-filled_at (v ∷ vs) (suc i) all = filled_at vs i (both (is_filled v) (list_all is_filled vs) all).1
-
-filled_values : (places : List ℕ) (row : List Value) → list_all is_filled row ≡ true → list_all is_filled (unwrap_or (values_at places row) []) ≡ true
-filled_values [] row filled = refl
-filled_values (place ∷ places) row filled = by_value (slice_get row place) (values_at places row) (filled_at row place filled) (filled_values places row filled)
-  where
-    by_value : (o : Option Value) (rest : Option (List Value)) → option_map_or is_filled o true ≡ true → list_all is_filled (unwrap_or rest []) ≡ true
-        → list_all is_filled (unwrap_or (option_and_then (λ v. option_map (λ ws. v ∷ ws) rest) o) []) ≡ true
-    by_value None rest one all = refl
-    by_value (Some v) None one all = refl
-    by_value (Some v) (Some ws) one all = and_true (is_filled v) (list_all is_filled ws) one all
-
--- the key of a row in which no text is empty is no empty text
-pub filled_key : (t : Table) (row : List Value) → list_all is_filled row ≡ true → list_all is_filled (row_key t row) ≡ true
-filled_key t row filled = by_key (has_key t)
-  where
-    by_key : (b : Bool) → list_all is_filled (unwrap_or (if b then values_at t.key_columns row else None) []) ≡ true
-    by_key true = filled_values t.key_columns row filled
-    by_key false = refl
+use Rattle.wm_model.proofs.Filled.{declared_filled, filled_key}
 
 abbrev pub are_filled : List Row → Bool
 are_filled rows = list_all (λ (r : Row). list_all is_filled r.values) rows
-
-take_filled : (n : ℕ) (vs : List Value) → list_all is_filled vs ≡ true → list_all is_filled (take n vs) ≡ true
-take_filled zero vs all = refl
-take_filled (suc n) [] all = refl
-take_filled (suc n) (v ∷ vs) all = let h = both (is_filled v) (list_all is_filled vs) all in and_true (is_filled v) (list_all is_filled (take n vs)) h.0 (take_filled n vs h.1)
-
--- nor in its declared values
-declared_filled : (t : Table) (vs : List Value) → list_all is_filled vs ≡ true → list_all is_filled (declared_values t vs) ≡ true
-declared_filled t vs all = by_valid t.valid
-  where
-    by_valid : (b : Bool) → list_all is_filled (if b then take (length t.columns) vs else vs) ≡ true
-    by_valid true = take_filled (length t.columns) vs all
-    by_valid false = all
 
 -- in a row that goes
 pub gone_filled : (t : Table) (within : Span) (rows : List Row) → are_filled rows ≡ true → list_all is_filled_change (map (gone t within) rows) ≡ true

@@ -29,10 +29,10 @@ use Rattle.wm_state.specs.Listing.{span_on}
 use Rattle.wm_state.specs.Standing.{Newest, latest}
 use Rattle.wm_state.specs.State.{State, Session, Workspace, content}
 use Rattle.wm_model.proofs.Changing.{moves_new, moves_there}
+use Rattle.wm_model.proofs.Filled.{filled_key}
 use Rattle.wm_model.specs.Planning.{StandsAt, Stay}
 use Rattle.wm_model.specs.Step.{clash_at, first_clash, key_there, move_all, write_ascending}
 use Rattle.wm_change.proofs.Acting.{does_answer, does_known}
-use Rattle.wm_change.proofs.Filled.{filled_key}
 use Rattle.wm_change.specs.Acting.{DoesAs, IsHome}
 use Rattle.wm_change.specs.Changing.{is_filled_change}
 use Rattle.wm_change.specs.Moved.{AreShifts, Finds, NoneAt}

@@ -1,5 +1,5 @@
--- Readers of parts of a test: what stands behind its first operand.
-use Rattle.std.specs.Prelude.{Bool, is_some, List, [], ◌∷◌}
+-- Readers of parts of a test.
+use Rattle.std.specs.Prelude.{ℕ, Bool, is_some, List, [], ◌∷◌}
 use Rattle.wm_base.specs.declared.tree.cond.Cmp.{Cmp}
 use Rattle.wm_base.specs.declared.tree.constant.Const.{Const}
 use Rattle.wm_base.specs.declared.tree.operand.Operand.{Operand}
@@ -7,6 +7,10 @@ use Rattle.wm_grammar.specs.Sorts as sorts
 use Rattle.wm_grammar.specs.Reading.{Reader, gives_at, mark_at, ◌>>=◌, ◌>>◌, optional_at}
 use Rattle.wm_grammar.specs.OperandReaders.{operand_at}
 use Rattle.wm_grammar.specs.ExpressionReaders.{comparison_at, constant_list_at}
+
+-- a mark that compares so
+abbrev pub compares_at : ℕ → Cmp → Reader Cmp
+compares_at sort cmp = do mark_at sort; gives_at cmp
 
 -- whether IS NULL is negated
 abbrev pub null_at : Reader Bool

@@ -1,9 +1,10 @@
-ghost use Rattle.std.specs.Prelude.{◌≡◌, List, IfOk, IfErr};
+ghost use Rattle.std.specs.Prelude.{◌≡◌, ◌≢◌, List, IfOk, IfErr};
 ghost use Rattle.wm_base.specs.Trees.{And, Or, Not, Compare, IsNull, OneOf, Between};
 ghost use Rattle.wm_base.specs.Views.{cond_view, filter_view};
 ghost use Rattle.wm_grammar.specs.ExpressionReaders.{comparison_at, next_constant_at, constant_list_at, chosen_at, test_of_at, test_at, and_at, conj_at, or_at, cond_of_at, negation_at, condition_at};
 ghost use Rattle.wm_grammar.specs.QueryReaders.{filter_at};
-ghost use Rattle.wm_conditions.specs.Parts.{null_at, listed_at, high_at, bounds_at, compared_at};
+ghost use Rattle.wm_grammar.specs.Sorts.{code_of};
+ghost use Rattle.wm_conditions.specs.Parts.{compares_at, null_at, listed_at, high_at, bounds_at, compared_at};
 ghost use Rattle.wm_terms.specs.Telling.{Told};
 ghost use Rattle.wm_terms.specs.declared.error.ParseError.TheVariants.{Memory};
 
@@ -17,36 +18,38 @@ use wm_terms::depth::DEPTH;
 use wm_terms::error::ParseError;
 use wm_terms::operands::{constant, operand};
 
+/// The mark of that sort, which compares so.
+fn marked(cursor: &mut Cursor, sort: Sort, cmp: Cmp) -> Result<Cmp, ParseError>
+    requires { code_of sort ≢ 77 }
+    ensures { Told (λ c. c) result cursor.new (compares_at (code_of sort) cmp cursor.old) }
+{
+    cursor.mark(sort)?;
+    Ok(cmp)
+}
+
 #[tactic(auto, unfolding(wm_grammar::specs::ExpressionReaders::comparison_at))]
 fn comparison(cursor: &mut Cursor) -> Result<Cmp, ParseError>
     ensures { Told (λ c. c) result cursor.new (comparison_at cursor.old) }
 {
     if cursor.is(Sort::Eq) {
-        cursor.mark(Sort::Eq)?;
-        return Ok(Cmp::Eq);
+        return marked(cursor, Sort::Eq, Cmp::Eq);
     }
     if cursor.is(Sort::NotEq) {
-        cursor.mark(Sort::NotEq)?;
-        return Ok(Cmp::NotEq);
+        return marked(cursor, Sort::NotEq, Cmp::NotEq);
     }
     if cursor.is(Sort::BangEq) {
-        cursor.mark(Sort::BangEq)?;
-        return Ok(Cmp::BangEq);
+        return marked(cursor, Sort::BangEq, Cmp::BangEq);
     }
     if cursor.is(Sort::Lt) {
-        cursor.mark(Sort::Lt)?;
-        return Ok(Cmp::Lt);
+        return marked(cursor, Sort::Lt, Cmp::Lt);
     }
     if cursor.is(Sort::Le) {
-        cursor.mark(Sort::Le)?;
-        return Ok(Cmp::Le);
+        return marked(cursor, Sort::Le, Cmp::Le);
     }
     if cursor.is(Sort::Gt) {
-        cursor.mark(Sort::Gt)?;
-        return Ok(Cmp::Gt);
+        return marked(cursor, Sort::Gt, Cmp::Gt);
     }
-    cursor.mark(Sort::Ge)?;
-    Ok(Cmp::Ge)
+    marked(cursor, Sort::Ge, Cmp::Ge)
 }
 
 fn next_constant(cursor: &mut Cursor, alloc: Global) -> Result<Const, ParseError>

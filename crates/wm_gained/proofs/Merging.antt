@@ -20,22 +20,17 @@ use Rattle.wm_gained.proofs.LeftBehind.{keep_leaves_parents, keep_leaves_space, 
 
 -- ---- a rebase, and what the log gains behind it
 
-rebases_then : (rs : List Stored) (m n : ℕ) (emptied : Bool) (gained : Option (Vec NewEntry Global)) → Ascend rs → keep_rules (parts_of rs) ≡ true → CanRebase (parts_of rs) n emptied
-    → ((entries : Vec NewEntry Global) → gained ≡ Some entries → CanGain (parts_of rs) n (map entry_of entries.items)) → CanEditAll rs m (edits.Rebase n emptied ∷ bringing (edits.Gain n) gained [])
-rebases_then rs m n emptied None sorted rules rebase gain = (rebase, λ work cs drafts. tt)
-rebases_then rs m n emptied (Some entries) sorted rules rebase gain = (
+gains_behind : (rs : List Stored) (m n : ℕ) (emptied : Bool) (entries : Vec NewEntry Global) → Ascend rs → keep_rules (parts_of rs) ≡ true → CanRebase (parts_of rs) n emptied → CanGain (parts_of rs) n (map entry_of entries.items)
+    → CanEditAll rs m (edits.Rebase n emptied ∷ edits.Gain n entries ∷ [])
+gains_behind rs m n emptied entries sorted rules rebase gain = (
   rebase,
-  λ work cs drafts. (can_gain_next rs m work (edits.Rebase n emptied) cs rules drafts n (map entry_of entries.items) sorted (leaves_rebase m n n emptied) (gain entries refl), λ more ds then. tt),
+  λ work cs drafts. (can_gain_next rs m work (edits.Rebase n emptied) cs rules drafts n (map entry_of entries.items) sorted (leaves_rebase m n n emptied) gain, λ more ds then. tt),
 )
 
--- ---- a refresh
-
+-- so it is of a refresh
 pub can_refresh : (rs : List Stored) (m n : ℕ) (entries : Vec NewEntry Global) → Ascend rs → keep_rules (parts_of rs) ≡ true → CanRebase (parts_of rs) n false → CanGain (parts_of rs) n (map entry_of entries.items)
     → CanEditAll rs m (edits.Rebase n false ∷ edits.Gain n entries ∷ [])
-can_refresh rs m n entries sorted rules rebase gain = (
-  rebase,
-  λ work cs drafts. (can_gain_next rs m work (edits.Rebase n false) cs rules drafts n (map entry_of entries.items) sorted (leaves_rebase m n n false) gain, λ more ds then. tt),
-)
+can_refresh rs m n entries = gains_behind rs m n false entries
 
 -- ---- a merge
 
@@ -45,7 +40,11 @@ can_leave rs m n l sorted rules can = by_parts l.removes l.rebases refl refl
   where
     by_parts : (removes rebases : Bool) → l.removes ≡ removes → l.rebases ≡ rebases → CanEditAll rs m (leave_edits n (record l { removes = removes; rebases = rebases }))
     by_parts true rebases goes rebased = (can.remove goes, λ work cs drafts. tt)
-    by_parts false true goes rebased = rebases_then rs m n true l.gained sorted rules (can.rebase goes rebased) (can.gain goes rebased)
+    by_parts false true goes rebased = by_gained l.gained refl
+      where
+        by_gained : (gained : Option (Vec NewEntry Global)) → l.gained ≡ gained → CanEditAll rs m (edits.Rebase n true ∷ bringing (edits.Gain n) gained [])
+        by_gained None none = (can.rebase goes rebased, λ work cs drafts. tt)
+        by_gained (Some entries) some = gains_behind rs m n true entries sorted rules (can.rebase goes rebased) (can.gain goes rebased entries some)
     by_parts false false goes rebased = tt
 
 -- is asked still behind an edit of another one

@@ -74,12 +74,12 @@ pub fn are_ready(image: &Image, entries: &[NewEntry]) -> bool
     true
 }
 
-/// Whether records can keep the keys of what is own.
+/// Whether records can keep the keys of what is own, of those that have pieces.
 pub fn are_keys_kept(own: &[OwnKey]) -> bool
     ensures { result ≡ are_keys_kept (map key_pieces own.now) }
 {
     for key in own {
-        if !are_kept(key.key.as_slice()) {
+        if !key.pieces.is_empty() && !are_kept(key.key.as_slice()) {
             return false;
         }
     }

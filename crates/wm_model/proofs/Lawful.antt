@@ -7,6 +7,9 @@ pub mod Rows
 pub mod Leaves
 pub mod Firsts
 pub mod Undoing
+pub mod Nets
+pub mod Rebasing
+pub mod Merging
 pub mod Step
 pub mod Runs
 pub mod Places

@@ -15,9 +15,16 @@ pub mod SavingLine
 pub mod BearingLine
 pub mod Seating
 pub mod Timing
+pub mod Filled
 pub mod Lawful
 pub mod Telling
 pub mod Given
 pub mod FirstChild
 pub mod RollingLine
 pub mod RemovingLine
+pub mod Families
+pub mod MergedEdits
+pub mod Unready
+pub mod RefreshingLine
+pub mod MergingFaults
+pub mod MergingLine

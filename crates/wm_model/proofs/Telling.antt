@@ -75,6 +75,14 @@ tells_base p d n w q r c st l above found parent recorded =
     tells_alike p d r.base_version w.parent t.turn.rebases t.turn.content (point q t.turn.log_length) c st (Base w r t.turn above found recorded t.is) (took d n w.rebases w q t.turn l above found parent t.is)
     ∙ ap (λ k. option_map held_of (told (point q k) c)) last.1
 
+-- and that is the base that it took there
+pub holds_base : (p : Parts) (d : Durable) (n : ℕ) (w : Workspace) (r : Space) (c : Cell) → Stands p d → Lawful d → 0 < n → workspace_of d.spaces n ≡ Some w → space_of p.spaces n ≡ Some r
+    → seen p r.base_version c ≡ option_map held_of (told w.lists.base c)
+holds_base p d n w r c st l above found recorded =
+    let t = turn_there n w.rebases w d l above found (omega arith) in
+    (st.named.tells r.base_version w.parent t.turn.rebases t.turn.content (Base w r t.turn above found recorded t.is)).holds c
+    ∙ ap (λ (es : List Entry). option_map held_of (told es c)) ((l.spaces.each n w found).last t.turn t.is).0
+
 -- and the one that it saw so at a savepoint
 pub tells_kept_base : (p : Parts) (d : Durable) (n making : ℕ) (w q : Workspace) (k : Savepoint) (x : Record) (c : Cell) → Stands p d → Lawful d → 0 < n → workspace_of d.spaces n ≡ Some w → workspace_of d.spaces w.parent ≡ Some q
     → savepoint_made making w.savepoints ≡ Some k → saved_as p n making ≡ Some x → seen p x.base_version c ≡ option_map held_of (told (point q k.from) c)

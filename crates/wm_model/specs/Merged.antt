@@ -1,5 +1,5 @@
 -- What is looked up in the records where a workspace is refreshed or merged.
-use Rattle.std.specs.Prelude.{ℕ, ◌≡◌, ◌+◌, ◌<◌, Bool, true, false, not, ◌&&◌, ◌==◌, nat_le, nat_lt, if◌then◌else◌, List, [], ◌∷◌, ◌++◌, length, max, Option, Some, None, is_some, codes}
+use Rattle.std.specs.Prelude.{ℕ, ◌≡◌, ◌+◌, ◌<◌, Bool, true, false, ◌&&◌, ◌||◌, ◌==◌, nat_le, nat_lt, if◌then◌else◌, List, [], ◌∷◌, ◌++◌, length, max, Option, Some, None, is_some, codes}
 use Rattle.std.specs.List.{count_by, find, list_all, list_any}
 use Rattle.std.specs.Str.{bytes_eq}
 use Rattle.std.specs.declared.alloc.Global.{Global}
@@ -22,9 +22,9 @@ use Rattle.wm_state.specs.State.{Session}
 use Rattle.wm_state.specs.declared.edit.Edit.{Edit}
 use Rattle.wm_state.specs.declared.edit.Edit.TheVariants as edits
 use Rattle.wm_state.specs.declared.edit.NewEntry.{NewEntry}
-use Rattle.wm_telling.specs.Telling.{AreFamily, AreOwn, IsFirstClash, IsHeldListing, clash_held, gained_held, own_held}
+use Rattle.wm_telling.specs.Telling.{AreOwn, IsFirstClash, IsHeldListing, clash_held, gained_held, own_held}
 use Rattle.wm_print.specs.Texts.{Answer}
-use Rattle.wm_model.specs.Step.{Asked, at_its_end, counter_limit, first_fault, in_conflict, most_savepoints, number_limit, refused_for, refused_if, savepoint_there, told_period}
+use Rattle.wm_model.specs.Step.{Asked, at_its_end, first_fault, in_conflict, most_savepoints, number_limit, refused_for, refused_if, savepoint_there, told_period}
 use Rattle.wm_model.specs.Undone.{NamesSpace, removing_refusal}
 
 -- ---- conflicts
@@ -64,8 +64,9 @@ is_quiet_at a b = nat_le b.log_length a.from
 abbrev pub is_ready_entry : Parts → Entry → Bool
 is_ready_entry p e = is_ready p.tables e.table && can_keep_entry e
 
+-- and it can keep each key that has pieces
 abbrev pub are_keys_kept : List KeyPieces → Bool
-are_keys_kept ks = list_all (λ (k : KeyPieces). list_all can_keep k.key) ks
+are_keys_kept ks = list_all (λ (k : KeyPieces). (length k.pieces == 0) || list_all can_keep k.key) ks
 
 -- ---- a refresh
 

@@ -2,8 +2,14 @@
 #![tactic(auto)]
 
 pub mod clash;
+pub mod entries;
+mod erasing;
 pub mod gained;
+pub mod keys;
 pub mod net;
 pub mod own;
+pub mod path;
+mod sides;
+mod touched;
 
 pub use crate::own::OwnKey;

@@ -6,6 +6,8 @@ ghost use Rattle.wm_graph.specs.Rules.{keep_rules};
 ghost use Rattle.wm_pending.specs.Owned.{key_pieces};
 ghost use Rattle.wm_telling.specs.Telling.{AreOwn};
 
+use crate::keys::own_keys;
+use crate::path::own_of_key;
 use std::alloc::Global;
 use wm_base::{Key, Memory};
 use wm_image::Image;
@@ -27,5 +29,10 @@ pub fn own_pieces(alloc: Global, image: &Image, space: &Space) -> Result<Vec<Own
     requires there { space_of (parts_of image.now).spaces space.now.number ≡ Some space.now }
     ensures { IfOk result (λ own. AreOwn (parts_of image.now) space.now (map key_pieces own.items)) }
 {
-    Err(Memory)
+    let mut own = Vec::new(alloc);
+    for (table, key) in own_keys(alloc, image, space)? {
+        let pieces = own_of_key(alloc, image, space, table, &key)?;
+        own.push(OwnKey { table, key, pieces })?;
+    }
+    Ok(own)
 }

@@ -1,5 +1,5 @@
 -- What the batch of a workspace that is rebased makes of the records.
-use Rattle.std.proofs.Common.{◌≡◌, ℕ, ◌+◌, ◌==◌, nat_lt, Bool, true, false, if◌then◌else◌, List, [], ◌∷◌, ◌++◌, map, Option, Some, None, is_some, refl, sym, ap, subst, ◌∙◌}
+use Rattle.std.proofs.Common.{◌≡◌, ℕ, ◌+◌, Bool, true, false, if◌then◌else◌, List, [], ◌∷◌, ◌++◌, map, Option, Some, None, is_some, refl, sym, ap, subst, ◌∙◌}
 use Rattle.std.proofs.lemmas.List.Elements.{All-head, All-tail}
 use Rattle.std.proofs.lemmas.List.Folds.{list_all-append}
 use Rattle.std.specs.List.{All, list_all, list_any}
@@ -23,7 +23,7 @@ use Rattle.wm_spec.specs.declared.record.stored.Stored.{Stored}
 use Rattle.wm_spec.specs.declared.record.version.Version.{Version}
 use Rattle.wm_state.specs.ById.{applied}
 use Rattle.wm_state.specs.Copied.{AreCopied, HoldsKey, KeyPieces, key_cell, piece_for, pieces_for}
-use Rattle.wm_state.specs.Drafts.{CanRebase, CanWork, DraftsBy, can_keep, is_kept, is_turn}
+use Rattle.wm_state.specs.Drafts.{CanRebase, CanWork, DraftsBy, can_keep, is_turn}
 use Rattle.wm_state.specs.Editing.{rebased_in, rebased_so}
 use Rattle.wm_state.specs.Points.{versioned}
 use Rattle.wm_state.specs.Standing.{FieldsStand, Stands, latest, owned}

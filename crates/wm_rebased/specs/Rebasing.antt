@@ -1,7 +1,7 @@
 -- A workspace is rebased on its parent as that is now: what becomes of the state, and of the records, told by what is looked up in them.
 use Rattle.std.specs.Prelude.{ℕ, zero, suc, ◌≡◌, ◌≢◌, ◌+◌, ◌<◌, Bool, true, false, ◌&&◌, ◌||◌, ◌==◌, nat_lt, if◌then◌else◌, List, [], ◌∷◌, ◌++◌, map, length, Option, Some, None}
 use Rattle.std.specs.List.{All, list_all}
-use Rattle.std.specs.Option.{option_and_then, option_map, option_map_or, unwrap_or}
+use Rattle.std.specs.Option.{option_map_or}
 use Rattle.wm_graph.specs.Parts.{Parts, row_of, space_of, table_of}
 use Rattle.wm_graph.specs.Rules.{are_cells, is_row_at}
 use Rattle.wm_period.specs.Pieces.{Held}
@@ -19,7 +19,7 @@ use Rattle.wm_tree.specs.declared.version.Version.{Version as Node}
 use Rattle.wm_state.specs.Batches.{put}
 use Rattle.wm_state.specs.Effects.{IsLeaf}
 use Rattle.wm_state.specs.Standing.{latest, newest_first, owned, stored_at}
-use Rattle.wm_state.specs.State.{Durable, Turn, Workspace, content, with_space, workspace_of}
+use Rattle.wm_state.specs.State.{Durable, Workspace, workspace_of}
 use Rattle.wm_state.specs.Writes.{put_all}
 
 -- ---- the state

@@ -19,6 +19,9 @@ use Rattle.wm_state.proofs.Mapped.{find-passes}
 use Rattle.wm_state.proofs.Owning.{own_is}
 use Rattle.wm_telling.specs.Telling.{AreFamily, gained_held, is_pending, own_held, pending_held, told_by}
 
+pub some_same : {A : Type 0} (x y : A) → Some x ≡ Some y → x ≡ y
+some_same x y e = cc
+
 -- ---- what is told by what is held
 
 row_told : (o : Option RowRecord) (row : Row) → option_map (λ (r : RowRecord). r.values) o ≡ Some row.values → option_map (λ (r : RowRecord). row_value r.values) o ≡ Some row
@@ -46,11 +49,8 @@ told_again p (Some t) has = ap (λ (x : Told). Some x) (told_same p t (has t ref
 
 -- ---- fields of records
 
-some_fields : (f g : SpaceFields) → Some f ≡ Some g → f ≡ g
-some_fields f g h = cc
-
 pub fields_are : (p : Parts) (d : Durable) (n : ℕ) (a : Space) (w : Workspace) → Stands p d → workspace_of d.spaces n ≡ Some w → space_of p.spaces n ≡ Some a → fields_of a ≡ fields_in w
-fields_are p d n a w st is recorded = some_fields (fields_of a) (fields_in w) (sym (ap (option_map fields_of) recorded) ∙ st.spaces.same n ∙ ap (option_map fields_in) is)
+fields_are p d n a w st is recorded = some_same (fields_of a) (fields_in w) (sym (ap (option_map fields_of) recorded) ∙ st.spaces.same n ∙ ap (option_map fields_in) is)
 
 pub number_of : (p : Parts) (n : ℕ) (a : Space) → space_of p.spaces n ≡ Some a → a.number ≡ n
 number_of p n a recorded = eqb-true a.number n (find-passes (λ (s : Space). s.number == n) p.spaces a recorded)

@@ -24,7 +24,7 @@ use Rattle.wm_state.specs.State.{Durable, Workspace, workspace_of}
 use Rattle.wm_state.proofs.Laying.{key_itself}
 use Rattle.wm_state.proofs.Tests.{and_true, bool_apart}
 use Rattle.wm_telling.specs.Telling.{IsHeldListing, gained_held, own_held, replayed_by, same_held, same_kind, told_by}
-use Rattle.wm_telling.proofs.Beside.{Beside, gained_is_held, gained_tells, own_is_held, own_tells}
+use Rattle.wm_telling.proofs.Beside.{Beside, gained_is_held, gained_tells, own_is_held, own_tells, some_same}
 
 -- ---- the test of what is held
 
@@ -77,21 +77,17 @@ listing_retested same test entry f xs itself right l = record {
 
 -- ---- what is held of what stamps tell
 
-one_number : Held → Held → Bool
+abbrev one_number : Held → Held → Bool
 one_number h k = h.stamp.number == k.stamp.number
-
-some_held : (h k : Held) → Some h ≡ Some k → h ≡ k
-some_held h k e = cc
 
 stamped_held : (tells : ℕ → Told) (o : Option Told) (x : Held) → ((t : Told) → o ≡ Some t → t ≡ tells t.stamp) → option_map held_of o ≡ Some x → x ≡ held_of (tells x.stamp.number)
 stamped_held tells None x stamped e = absurd (cc)
 stamped_held tells (Some t) x stamped e =
-    let same : held_of t ≡ x = some_held (held_of t) x e in
+    let same : held_of t ≡ x = some_same (held_of t) x e in
     sym same ∙ ap held_of (stamped t refl) ∙ ap (λ (h : Held). held_of (tells h.stamp.number)) same
 
 right_held : (tells : ℕ → Told) (f : Cell → Option Held) (h : Cell → Option Told) → ((c : Cell) → f c ≡ option_map held_of (h c)) → ((c : Cell) (x : Told) → h c ≡ Some x → x ≡ tells x.stamp)
     → (g : Group) → Right one_number (λ t. f (cell g t))
-unfolding one_number
 right_held tells f h is stamped g = record {
   right = λ t u x y e k same.
       stamped_held tells (h (cell g t)) x (stamped (cell g t)) (sym (is (cell g t)) ∙ e)
@@ -102,7 +98,6 @@ right_held tells f h is stamped g = record {
 -- a listing of what is held of what stamps tell is one of what they tell
 told_listed : (p : Parts) (moment : ℕ) (user : List ℕ) (tells : ℕ → Told) (f : Cell → Option Held) (h : Cell → Option Told) (es : List Entry) → ((c : Cell) → f c ≡ option_map held_of (h c))
     → ((c : Cell) → option_map (told_by p) (f c) ≡ h c) → ((c : Cell) (x : Told) → h c ≡ Some x → x ≡ tells x.stamp) → IsHeldListing p moment user f es → IsToldListing moment user h es
-unfolding one_number
 told_listed p moment user tells f h es is told_is stamped l =
     listing_alike one_stamp (replayed moment user) (λ c. option_map (told_by p) (f c)) h es told_is
     (listing_through (told_by p) one_number one_stamp (replayed_by p moment user) (replayed moment user) f es (λ x y. refl) (λ g s. refl)
@@ -155,7 +150,7 @@ own_empty p d n w a moment user tells es st is recorded l stamped empty = net_li
 
 -- ---- what is gained
 
-given_pending : (o pending : Option Told) (x : Told) → outside o pending ≡ Some x → pending ≡ Some x
+pub given_pending : (o pending : Option Told) (x : Told) → outside o pending ≡ Some x → pending ≡ Some x
 given_pending (Some t) pending x e = absurd (cc)
 given_pending None pending x e = e
 

@@ -1,8 +1,9 @@
 -- What is so of every entry of every list, also where it lies under others: any property; and that entries are sound.
 use Rattle.std.proofs.Common.{◌≡◌, ◌≢◌, ℕ, ◌+◌, ◌<◌, ◌≤◌, ◌==◌, Bool, true, if◌then◌else◌, List, [], ◌∷◌, ◌++◌, length, Option, Some, None, option_map, refl, sym, ap, ◌∙◌, subst, arith, ◌⊎◌, inl, inr}
 use Rattle.std.proofs.lemmas.Bool.{eq-eqb, ne_eqb}
-use Rattle.std.specs.List.{find}
+use Rattle.std.specs.List.{find, list_all}
 use Rattle.std.specs.Option.{option_map_or}
+use Rattle.wm_making.specs.Rows.{is_filled}
 use Rattle.wm_spec.specs.Lists.{Entry, Told, told_of}
 use Rattle.wm_state.specs.Editing.{child_of, saved_at, turn_at_birth}
 use Rattle.wm_state.specs.State.{Savepoint, Stand, Latest, At, Turn, Workspace, next_making, savepoint_made, with_entries, with_savepoint, workspace_of}
@@ -31,7 +32,7 @@ holds_if P Q f w h = record {
   turns = λ i t found. each_if P Q f t.content (h.turns i t found);
 }
 
-holds_appended : (P : Entry → Type 0) (es : List Entry) (w : Workspace) → Holds P w → Each P es → Holds P (with_entries es w)
+pub holds_appended : (P : Entry → Type 0) (es : List Entry) (w : Workspace) → Holds P w → Each P es → Holds P (with_entries es w)
 holds_appended P es w h each = record {
   at_birth = h.at_birth;
   base = h.base;
@@ -108,7 +109,7 @@ all_more P m spaces ws w k name all mark n x found = by_found (found_either (λ 
 -- stamps follow one another from this one on, and no text is empty
 abbrev pub Written : ℕ → List Entry → Type 0
 Written next [] = Unit {0}
-Written next (e ∷ es) = (e.stamp ≡ next) × (option_map_or is_full_row e.row true ≡ true) × Written (next + 1) es
+Written next (e ∷ es) = (e.stamp ≡ next) × (option_map_or is_full_row e.row true ≡ true) × (list_all is_filled e.key ≡ true) × Written (next + 1) es
 
 -- what stamps tell with these entries more
 tells_more : (ℕ → Told) → ℕ → List Entry → ℕ → Told
@@ -121,14 +122,24 @@ older tells next [] m h = refl
 older tells next (e ∷ es) m h = rw (ne_eqb m next (λ i. absurd (omega (arith, h, i)))) (older tells (next + 1) es m (omega (arith, h)))
 
 sound_older : (tells : ℕ → Told) (next : ℕ) (es : List Entry) (e : Entry) → IsSound tells next e → IsSound (tells_more tells next es) (next + length es) e
-sound_older tells next es e s = record { given = (let h = s.given in omega (arith, h)); told = s.told ∙ sym (older tells next es e.stamp s.given); filled = s.filled }
+sound_older tells next es e s = record {
+  given = (let h = s.given in omega (arith, h));
+  told = s.told ∙ sym (older tells next es e.stamp s.given);
+  filled = s.filled;
+  keyed = s.keyed;
+}
 
 sound_new : (f tells : ℕ → Told) (next top : ℕ) (es : List Entry) → ((m : ℕ) → next ≤ m → f m ≡ tells_more tells next es m) → next + length es ≤ top → Written next es → Each (IsSound f top) es
 unfolding tells_more
 sound_new f tells next top [] same under n = tt
 sound_new f tells next top (e ∷ es) same under n = (
-  record { given = (let i = n.0 in omega (arith, under, i)); told = sym (ap f n.0 ∙ same next (omega arith) ∙ rw (eq-eqb next next refl) refl); filled = n.1 },
-  sound_new f tells (next + 1) top es (λ m h. same m (omega (arith, h)) ∙ rw (ne_eqb m next (λ i. absurd (omega (arith, h, i)))) refl) (omega (arith, under)) n.2,
+  record {
+    given = (let i = n.0 in omega (arith, under, i));
+    told = sym (ap f n.0 ∙ same next (omega arith) ∙ rw (eq-eqb next next refl) refl);
+    filled = n.1;
+    keyed = n.2;
+  },
+  sound_new f tells (next + 1) top es (λ m h. same m (omega (arith, h)) ∙ rw (ne_eqb m next (λ i. absurd (omega (arith, h, i)))) refl) (omega (arith, under)) n.3,
 )
 
 -- entries more in a workspace

@@ -1,5 +1,5 @@
 -- No text of a row that a lawful state shows is empty, and none of a row that a line writes.
-use Rattle.std.proofs.Common.{◌≡◌, ℕ, ◌+◌, Bool, true, false, cond, List, [], ◌∷◌, map, Option, Some, None, option_map, refl, sym, ap, ◌∙◌}
+use Rattle.std.proofs.Common.{◌≡◌, ℕ, ◌+◌, ◌&&◌, Bool, true, false, cond, List, [], ◌∷◌, map, Option, Some, None, option_map, refl, sym, ap, ◌∙◌}
 use Rattle.std.specs.List.{list_all, filter_map, cons_option}
 use Rattle.std.specs.Bool.{then_some}
 use Rattle.std.specs.Option.{option_map_or, option_or, option_and_then}
@@ -8,8 +8,8 @@ use Rattle.wm_base.specs.Trees.{Cond, Set}
 use Rattle.wm_base.specs.declared.row.Row.{Row}
 use Rattle.wm_base.specs.declared.value.Value.{Value}
 use Rattle.wm_base.specs.declared.value.Value.TheVariants as values
-use Rattle.wm_dml.specs.Changing.{chosen, gone, meets, own_columns, replacing, row_before, updated_row, updated_rows}
-use Rattle.wm_dml.specs.Moving.{moved_row, moves_of, moving}
+use Rattle.wm_dml.specs.Changing.{chosen, declared_values, gone, meets, own_columns, replaced, replacing, row_before, row_key, updated_row, updated_rows}
+use Rattle.wm_dml.specs.Moving.{move_of, moved_row, moves_of, moving}
 use Rattle.wm_dml.specs.Standing.{writes_filled}
 use Rattle.wm_dml.specs.declared.change.RowChange.{RowChange}
 use Rattle.wm_dml.specs.declared.moving.Move.{Move}
@@ -26,6 +26,7 @@ use Rattle.wm_state.proofs.Tests.{all_filter, all_push, and_true, both}
 use Rattle.wm_model.specs.Entered.{entries_from}
 use Rattle.wm_model.specs.Lawful.{Each, IsSound, Lawful, is_full_row}
 use Rattle.wm_model.specs.Step.{rows_in}
+use Rattle.wm_model.proofs.Filled.{declared_filled, filled_key}
 use Rattle.wm_model.proofs.Lawful.Entries.{Written, each_append, each_if}
 use Rattle.wm_model.proofs.Lawful.Lists.{one_some}
 
@@ -91,6 +92,10 @@ chosen_full table condition rows h = all_filter is_full_row (meets condition (ow
 
 -- ---- rows that are written
 
+-- no text is empty, neither of the key nor of the row, where there is one
+abbrev pub is_full_change : RowChange → Bool
+is_full_change x = list_all is_filled x.key && writes_filled x
+
 abbrev pub are_full : List (List Value) → Bool
 are_full rows = list_all (list_all is_filled) rows
 
@@ -107,32 +112,44 @@ updated_full table sets (r ∷ rs) new full made =
         ap are_full (sym (one_some (w ∷ ws) new e))
         ∙ and_true (list_all is_filled w) (are_full ws) (new_filled (own_columns table) sets r table.columns r.values w h.0 one) (rest ws h.1 others)
 
-pub replacing_full : (table : Table) (period : Span) (rows : List Row) (new : List (List Value)) → are_full new ≡ true → list_all writes_filled (replacing table period rows new) ≡ true
+-- a row under its key
+pub keyed_row : (table : Table) (row : List Value) → list_all is_filled row ≡ true → (list_all is_filled (row_key table row) && list_all is_filled row) ≡ true
+keyed_row table row full = and_true (list_all is_filled (row_key table row)) (list_all is_filled row) (filled_key table row full) full
+
+pub replacing_full : (table : Table) (period : Span) (rows : List Row) (new : List (List Value)) → are_full new ≡ true → list_all is_full_change (replacing table period rows new) ≡ true
 replacing_full table period [] new full = refl
 replacing_full table period (r ∷ rs) [] full = refl
 replacing_full table period (r ∷ rs) (v ∷ vs) full =
     let h = both (list_all is_filled v) (are_full vs) full in
-    and_true (list_all is_filled v) (list_all writes_filled (replacing table period rs vs)) h.0 (replacing_full table period rs vs h.1)
+    and_true (is_full_change (replaced table period r v)) (list_all is_full_change (replacing table period rs vs)) (keyed_row table v h.0) (replacing_full table period rs vs h.1)
 
-moves_full : (table : Table) (sets : List Set) (rows : List Row) (new : List (List Value)) → are_full new ≡ true → list_all (λ (m : Move). writes_filled (moved_row m)) (moves_of table sets rows new) ≡ true
+moves_full : (table : Table) (sets : List Set) (rows : List Row) (new : List (List Value)) → are_full new ≡ true → list_all (λ (m : Move). is_full_change (moved_row m)) (moves_of table sets rows new) ≡ true
 moves_full table sets [] new full = refl
 moves_full table sets (r ∷ rs) [] full = refl
 moves_full table sets (r ∷ rs) (v ∷ vs) full =
     let h = both (list_all is_filled v) (are_full vs) full in
-    and_true (list_all is_filled v) (list_all (λ (m : Move). writes_filled (moved_row m)) (moves_of table sets rs vs)) h.0 (moves_full table sets rs vs h.1)
+    and_true (is_full_change (moved_row (move_of table sets r v))) (list_all (λ (m : Move). is_full_change (moved_row m)) (moves_of table sets rs vs)) (keyed_row table v h.0) (moves_full table sets rs vs h.1)
 
-pub moving_full : (table : Table) (sets : List Set) (rows : List Row) (new : List (List Value)) → are_full new ≡ true → list_all writes_filled (moving (moves_of table sets rows new)) ≡ true
-moving_full table sets rows new full = written_pass writes_filled (moves_of table sets rows new) (moves_full table sets rows new full) (λ m part e. refl)
+pub moving_full : (table : Table) (sets : List Set) (rows : List Row) (new : List (List Value)) → are_full new ≡ true → list_all is_full_change (moving (moves_of table sets rows new)) ≡ true
+moving_full table sets rows new full =
+    written_pass is_full_change (moves_of table sets rows new) (moves_full table sets rows new full)
+    (λ m part e. and_true (list_all is_filled m.key) true (both (list_all is_filled m.key) (list_all is_filled m.row) e).0 refl)
 
-pub gone_full : (table : Table) (period : Span) (rows : List Row) → list_all writes_filled (map (gone table period) rows) ≡ true
-gone_full table period [] = refl
-gone_full table period (r ∷ rs) = gone_full table period rs
+pub gone_full : (table : Table) (period : Span) (rows : List Row) → list_all is_full_row rows ≡ true → list_all is_full_change (map (gone table period) rows) ≡ true
+gone_full table period [] full = refl
+gone_full table period (r ∷ rs) full =
+    let h = both (is_full_row r) (list_all is_full_row rs) full in
+    let key = filled_key table (declared_values table r.values) (declared_filled table r.values h.0) in
+    and_true (is_full_change (gone table period r)) (list_all is_full_change (map (gone table period) rs)) (and_true (list_all is_filled (row_key table (declared_values table r.values))) true key refl)
+    (gone_full table period rs h.1)
 
 -- changes in which no text is empty, as entries
-pub entries_written : (next moment : ℕ) (user : List ℕ) (table : Table) (changes : List RowChange) → list_all writes_filled changes ≡ true → Written next (entries_from next moment user table changes)
+pub entries_written : (next moment : ℕ) (user : List ℕ) (table : Table) (changes : List RowChange) → list_all is_full_change changes ≡ true → Written next (entries_from next moment user table changes)
 entries_written next moment user table [] full = tt
 entries_written next moment user table (x ∷ xs) full =
-    let h = both (writes_filled x) (list_all writes_filled xs) full in (refl, by_row x.row h.0, entries_written (next + 1) moment user table xs h.1)
+    let h = both (is_full_change x) (list_all is_full_change xs) full in
+    let one = both (list_all is_filled x.key) (writes_filled x) h.0 in
+    (refl, by_row x.row one.1, one.0, entries_written (next + 1) moment user table xs h.1)
   where
     by_row : (o : Option (List Value)) → option_map_or (list_all is_filled) o true ≡ true → option_map_or is_full_row (option_map row_value o) true ≡ true
     by_row None h = refl

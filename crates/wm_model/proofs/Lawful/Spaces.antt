@@ -97,15 +97,11 @@ found_swapped ws vs n w v k m x found = by_number (cases_eq m n)
     by_number (inl here) = inl (here, one_some x v (sym found ∙ ap (workspace_of vs) here ∙ k.now))
     by_number (inr other) = inr (other, sym (k.others m other) ∙ found)
 
--- a workspace becomes one that stands on its parent as it did: what its children took of it is in the log of both, and they are alike at
--- each length that both logs have
+-- a workspace becomes another one of its number: what its children took of it is in the log of both, they are alike at each length that
+-- both logs have, and it was rebased no less often
 pub record Becomes (ws vs : List Workspace) (n : ℕ) (w v : Workspace) : Type 0 where
   pub swap : Swapped ws vs n w v
-  pub number : v.number ≡ w.number
-  pub parent : v.parent ≡ w.parent
-  pub from : v.from ≡ w.from
-  pub rebases : v.rebases ≡ w.rebases
-  pub turns : v.turns ≡ w.turns
+  pub rebases : w.rebases ≤ v.rebases
   pub children : (m : ℕ) (x : Workspace) → 0 < m → workspace_of ws m ≡ Some x → x.parent ≡ n → x.from ≤ length v.lists.log
   pub points : (i : ℕ) → i ≤ length w.lists.log → i ≤ length v.lists.log → point v i ≡ point w i
 
@@ -137,15 +133,21 @@ based_become ws vs n w v x y k child number parent from turns b = by_parent (cas
           is = rw (parent, here) k.swap.now;
           older = older;
           within = rw from within;
-          before = λ i t found. rw (from, k.rebases, ← (ap (λ (u : Workspace). u.rebases) same)) (b.before i t (turn i t found));
+          before = λ i t found.
+              let old = b.before i t (turn i t found) in
+              (rw from old.0, omega (arith, old.1, k.rebases, ap (λ (u : Workspace). u.rebases) same));
           alike = λ i t found.
               let old = b.alike i t (turn i t found) in
               let upto : t.log_length ≤ x.from = (b.before i t (turn i t found)).0 in
               subst (Alike t.content) (ap (λ (u : Workspace). point u t.log_length) same ∙ sym (k.points t.log_length (omega (arith, upto, log, b.within)) (omega (arith, upto, within)))) old;
         }
 
-pub spaces_become : (ws vs : List Workspace) (n : ℕ) (w v : Workspace) → LawfulSpaces ws → Becomes ws vs n w v → differ one_number vs ≡ true → LawfulSpace v → LawfulSpaces vs
-spaces_become ws vs n w v l k once lawful = record {
+-- the one that becomes another, where it stands on its parent as it did
+pub based_as_before : (ws vs : List Workspace) (n : ℕ) (w v : Workspace) → LawfulSpaces ws → Becomes ws vs n w v → v.number ≡ w.number → v.parent ≡ w.parent → v.from ≡ w.from → v.turns ≡ w.turns → 0 < n → Based vs v
+based_as_before ws vs n w v l k number parent from turns above = based_become ws vs n w v w v k (k.children n w above k.swap.was) number parent from turns (l.bases n w above k.swap.was)
+
+pub spaces_become : (ws vs : List Workspace) (n : ℕ) (w v : Workspace) → LawfulSpaces ws → Becomes ws vs n w v → differ one_number vs ≡ true → LawfulSpace v → (0 < n → Based vs v) → LawfulSpaces vs
+spaces_become ws vs n w v l k once lawful based = record {
   live = live (cases_eq 0 n);
   once = once;
   each = λ m x found. each m x (found_swapped ws vs n w v k.swap m x found);
@@ -161,9 +163,7 @@ spaces_become ws vs n w v l k once lawful = record {
     each m x (inr other) = l.each m x other.1
 
     bases : (m : ℕ) (x : Workspace) → 0 < m → ((m ≡ n) × (x ≡ v)) ⊎ ((m ≢ n) × (workspace_of ws m ≡ Some x)) → Based vs x
-    bases m x above (inl here) =
-        let was : workspace_of ws m ≡ Some w = ap (workspace_of ws) here.0 ∙ k.swap.was in
-        subst (Based vs) (sym here.1) (based_become ws vs n w v w v k (k.children m w above was) k.number k.parent k.from k.turns (l.bases m w above was))
+    bases m x above (inl here) = subst (Based vs) (sym here.1) (based (omega (arith, above, here.0)))
     bases m x above (inr other) = based_become ws vs n w v x x k (k.children m x above other.1) refl refl refl refl (l.bases m x above other.1)
 
 -- what is found by a number before is found after, but for the one that goes on
@@ -177,11 +177,7 @@ changed ws n act w same found goes = record { swap = swapped ws n act w same fou
 kept_becomes : (ws vs : List Workspace) (n : ℕ) (w v : Workspace) → LawfulSpaces ws → Kept ws vs n w v → Becomes ws vs n w v
 kept_becomes ws vs n w v l k = record {
   swap = k.swap;
-  number = k.goes.number;
-  parent = k.goes.parent;
-  from = k.goes.from;
-  rebases = k.goes.rebases;
-  turns = k.goes.turns;
+  rebases = omega (arith, k.goes.rebases);
   children = λ m x above found here.
       let b = l.bases m x above found in
       let log : length b.parent.lists.log ≡ length w.lists.log = ap (λ (u : Workspace). length u.lists.log) (one_some b.parent w (sym b.is ∙ ap (workspace_of ws) here ∙ k.swap.was)) in
@@ -190,7 +186,9 @@ kept_becomes ws vs n w v l k = record {
 }
 
 pub spaces_kept : (ws vs : List Workspace) (n : ℕ) (w v : Workspace) → LawfulSpaces ws → Kept ws vs n w v → differ one_number vs ≡ true → LawfulSpace v → LawfulSpaces vs
-spaces_kept ws vs n w v l k once lawful = spaces_become ws vs n w v l (kept_becomes ws vs n w v l k) once lawful
+spaces_kept ws vs n w v l k once lawful =
+    let b = kept_becomes ws vs n w v l k in
+    spaces_become ws vs n w v l b once lawful (based_as_before ws vs n w v l b k.goes.number k.goes.parent k.goes.from k.goes.turns)
 
 -- where one stands stays, where it does in the workspace that is another now
 pub place_swapped : (ws vs : List Workspace) (n : ℕ) (w v : Workspace) (m : ℕ) (stand : Stand) → Swapped ws vs n w v → (m ≡ n → IsAt w stand → IsAt v stand) → IsPlace ws m stand → IsPlace vs m stand
@@ -204,16 +202,17 @@ place_swapped ws vs n w v m stand swap at p = by_number (cases_eq m n)
     }
     by_number (inr other) = record { space = p.space; is = swap.others m other ∙ p.is; stands = p.stands }
 
-place_kept : (ws vs : List Workspace) (n : ℕ) (w v : Workspace) (m : ℕ) (stand : Stand) → Kept ws vs n w v → IsPlace ws m stand → IsPlace vs m stand
-place_kept ws vs n w v m stand k p = place_swapped ws vs n w v m stand k.swap (λ here. at stand) p
-  where
-    at : (stand : Stand) → IsAt w stand → IsAt v stand
-    at Latest there = tt
-    at (At making) there = k.goes.marks making there
+-- where each session stands stays
+pub seats_swapped : (ws vs : List Workspace) (n : ℕ) (w v : Workspace) → Swapped ws vs n w v → ((stand : Stand) → IsAt w stand → IsAt v stand) → (xs : List Session) → Seats ws xs → Seats vs xs
+seats_swapped ws vs n w v swap at [] s = tt
+seats_swapped ws vs n w v swap at (x ∷ xs) s = (place_swapped ws vs n w v x.space x.stand swap (λ here. at x.stand) s.0, seats_swapped ws vs n w v swap at xs s.1)
 
 pub seats_kept : (ws vs : List Workspace) (n : ℕ) (w v : Workspace) (xs : List Session) → Kept ws vs n w v → Seats ws xs → Seats vs xs
-seats_kept ws vs n w v [] k s = tt
-seats_kept ws vs n w v (x ∷ xs) k s = (place_kept ws vs n w v x.space x.stand k s.0, seats_kept ws vs n w v xs k s.1)
+seats_kept ws vs n w v xs k s = seats_swapped ws vs n w v k.swap at xs s
+  where
+    at : (stand : Stand) → IsAt w stand → IsAt v stand
+    at Latest stood = tt
+    at (At making) stood = k.goes.marks making stood
 
 -- ---- a workspace more
 

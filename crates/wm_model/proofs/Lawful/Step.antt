@@ -13,7 +13,7 @@ use Rattle.wm_base.specs.declared.value.Value.{Value}
 use Rattle.wm_calls.specs.Later.{is_later}
 use Rattle.wm_dml.specs.Changing.{added, chosen, gone, replacing, row_key, rows_fault, sets_period, updated_rows}
 use Rattle.wm_dml.specs.Moving.{moves_of, moving}
-use Rattle.wm_dml.specs.Standing.{change_keys, writes_filled}
+use Rattle.wm_dml.specs.Standing.{change_keys}
 use Rattle.wm_dml.specs.declared.change.RowChange.{RowChange}
 use Rattle.wm_dml.specs.declared.moving.Move.{Move}
 use Rattle.wm_grammar.specs.Calls.{procedure_of}
@@ -31,8 +31,9 @@ use Rattle.wm_model.specs.Step.Sessions as settings
 use Rattle.wm_model.specs.Step.{Answer, State, add_found, add_to, altered, at_newest, bear, born, call, connect, create, create_savepoint, create_workspace, delete, disconnect, durably, enable, first_clash, goto_savepoint, home_of, goto_workspace, implicit_name, insert, key_there, latest, lost_source, move_all, new_period, no_savepoint, no_table, no_text, replace_all, rows_in, run_for, run_line, run_parsed, run_statement, save, saved_at, select, select_from, select_ready, session_of, set_moment, set_valid_time, step, table_off, tables_of, taken, timed_line, told_period, too_long_line, update, versioning, with_rows, within, write_all, write_ascending}
 use Rattle.wm_model.proofs.Lawful.Leaves.{Leaves, leaves_born, leaves_durably, leaves_gone, leaves_if, leaves_period, leaves_saved, leaves_seated, leaves_tables, leaves_unless, leaves_with_named, leaves_written, leaving, live_place, seats_filter, seats_push, stays}
 use Rattle.wm_model.proofs.Lawful.Places.{home_found, place_of}
-use Rattle.wm_model.proofs.Lawful.Rows.{are_full, chosen_full, content_full, entries_written, gone_full, moving_full, replacing_full, rows_full, updated_full}
+use Rattle.wm_model.proofs.Lawful.Rows.{are_full, chosen_full, content_full, entries_written, gone_full, is_full_change, keyed_row, moving_full, replacing_full, rows_full, updated_full}
 use Rattle.wm_model.proofs.Lawful.Lists.{one_some}
+use Rattle.wm_model.proofs.Lawful.Merging.{leaves_merge_workspace, leaves_refresh_workspace}
 use Rattle.wm_model.proofs.Lawful.Undoing.{leaves_remove_workspace, leaves_rollback_to}
 use Rattle.wm_print.specs.Texts.{Done, Fine, Nothing}
 use Rattle.wm_reader.specs.Reading.{is_remark}
@@ -95,14 +96,14 @@ leaves_at_newest : (session : Session) (name : List ℕ) (fault : Table → Opti
 leaves_at_newest session name fault empty act s l p a =
     let found : workspace_of s.durable.spaces session.space ≡ Some (home_of s session) = home_found s session p in search leaving depth 14
 
-writes_all : (user : List ℕ) (table : Table) (count : ℕ) (changes : List RowChange) → list_all writes_filled changes ≡ true → Writes (write_all user table count changes)
+writes_all : (user : List ℕ) (table : Table) (count : ℕ) (changes : List RowChange) → list_all is_full_change changes ≡ true → Writes (write_all user table count changes)
 writes_all user table count [] full s w l found = stays s _ l
 writes_all user table count (x ∷ xs) full s w l found =
     leaves_if (not (nat_le (s.durable.next_stamp + length (x ∷ xs)) (s.durable.limit + 1))) _ _ (stays s _ l)
     (leaves_durably s (length w.lists.log + length (x ∷ xs)) _ l
     (leaves_written w (entries_of s user table (x ∷ xs)) s (Done count) l found (entries_written s.durable.next_stamp s.moment user table (x ∷ xs) full)))
 
-writes_add : (user : List ℕ) (table : Table) (period : Span) (row : List Value) → list_all writes_filled (added table period row ∷ []) ≡ true → Writes (add_to user table period row)
+writes_add : (user : List ℕ) (table : Table) (period : Span) (row : List Value) → list_all is_full_change (added table period row ∷ []) ≡ true → Writes (add_to user table period row)
 writes_add user table period row full s w l found = by_shared (taken (content w) table (row_key table row) period)
   where
     by_shared : (o : Option Span) → Leaves (elim o as (λ _. State × Answer) [ None ↦ write_all user table 1 (added table period row ∷ []) s w | Some shared ↦ (s, key_there (row_key table row) (told_period table shared)) ])
@@ -114,17 +115,17 @@ writes_found user table period names values s w l found = by_row (row_of table n
   where
     by_row : (o : Option (List Value)) → row_of table names values ≡ o → Leaves (add_found user table period o s w)
     by_row None is = stays s _ l
-    by_row (Some row) is = leaves_unless (row_fault table row) s _ l (writes_add user table period row (and_true _ true (row_filled table names values row is) refl) s w l found)
+    by_row (Some row) is = leaves_unless (row_fault table row) s _ l (writes_add user table period row (and_true _ true (keyed_row table row (row_filled table names values row is)) refl) s w l found)
 
 leaves_insert : (session : Session) (name : List ℕ) (names : Option (List (List ℕ))) (values : List Expr) (empty : Bool) (s : State) → LawfulState s → IsHere s session → Leaves (insert session name names values empty s)
 leaves_insert session name names values empty s l p =
     leaves_at_newest session name (λ table. insert_fault table names values) empty (λ table. add_found session.user table (new_period session table names values) (row_of table names values)) s l p
     (λ table. writes_found session.user table (new_period session table names values) names values)
 
-writes_ascending : (user : List ℕ) (table : Table) (count : ℕ) (changes : List RowChange) → list_all writes_filled changes ≡ true → Writes (write_ascending user table count changes)
+writes_ascending : (user : List ℕ) (table : Table) (count : ℕ) (changes : List RowChange) → list_all is_full_change changes ≡ true → Writes (write_ascending user table count changes)
 writes_ascending user table count changes full s w l found = leaves_if (are_sorted (change_keys changes)) _ _ (writes_all user table count changes full s w l found) (stays s _ l)
 
-writes_move : (user : List ℕ) (table : Table) (moves : List Move) → list_all writes_filled (moving moves) ≡ true → Writes (move_all user table moves)
+writes_move : (user : List ℕ) (table : Table) (moves : List Move) → list_all is_full_change (moving moves) ≡ true → Writes (move_all user table moves)
 writes_move user table moves full s w l found = by_clash (first_clash (content w) table moves moves)
   where
     by_clash : (o : Option (List Value × Span)) → Leaves (elim o as (λ _. State × Answer) [ None ↦ write_ascending user table (length moves) (moving moves) s w | Some clash ↦ (s, key_there clash.0 (Some clash.1)) ])
@@ -167,7 +168,7 @@ leaves_delete : (session : Session) (name : List ℕ) (condition : Option Cond) 
 leaves_delete session name condition empty s l p =
     leaves_at_newest session name (λ table. delete_fault table condition) empty (with_rows session (λ table period rows. deletes session table period (chosen table condition rows))) s l p
     (λ table. writes_kept session condition (deletes session) table
-    (λ period rows full. writes_ascending session.user table (length rows) (map (gone table period) rows) (gone_full table period rows)))
+    (λ period rows full. writes_ascending session.user table (length rows) (map (gone table period) rows) (gone_full table period rows full)))
 
 -- ---- savepoints and workspaces
 
@@ -226,6 +227,8 @@ leaves_call session (Some procedures.GotoSavepoint) args s l p = search (leaving
 leaves_call session (Some procedures.SetValidTime) args s l p = search (leaving, leaves_valid_time) depth 12
 leaves_call session (Some procedures.RollbackToSp) args s l p = search (leaving, leaves_rollback_to) depth 12
 leaves_call session (Some procedures.RemoveWorkspace) args s l p = search (leaving, leaves_remove_workspace) depth 12
+leaves_call session (Some procedures.RefreshWorkspace) args s l p = search (leaving, leaves_refresh_workspace) depth 12
+leaves_call session (Some procedures.MergeWorkspace) args s l p = search (leaving, leaves_merge_workspace) depth 12
 leaves_call session _ args s l p = stays s _ l
 
 leaves_statement : (session : Session) (statement : Statement) (s : State) → LawfulState s → IsHere s session → Leaves (run_statement session statement s)

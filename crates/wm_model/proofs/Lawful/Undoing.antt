@@ -1,5 +1,5 @@
 -- A workspace that goes back to one of its savepoints, and workspaces of which one goes, leave a lawful state.
-use Rattle.std.proofs.Common.{◌≡◌, ◌≢◌, ℕ, zero, suc, ◌<◌, ◌≤◌, ◌==◌, Bool, true, false, not, ◌&&◌, nat_le, nat_lt, if◌then◌else◌, List, [], ◌∷◌, ◌++◌, length, take, drop, Option, Some, None, is_some, refl, sym, ap, ◌∙◌, append_assoc, arith, ◌⊎◌, inl, inr}
+use Rattle.std.proofs.Common.{◌≡◌, ◌≢◌, ℕ, zero, suc, ◌<◌, ◌≤◌, ◌==◌, Bool, true, false, not, ◌&&◌, nat_le, nat_lt, if◌then◌else◌, List, [], ◌∷◌, ◌++◌, length, take, drop, Option, Some, None, is_some, refl, sym, ap, ◌∙◌, append_assoc, arith, ◌⊎◌, inl, inr, le_refl}
 use Rattle.std.proofs.lemmas.Bool.{cases_eq, eq-eqb, eqb-true, leb-true, ne_eqb}
 use Rattle.std.proofs.lemmas.Bool.Decides.{nat_tests}
 use Rattle.std.proofs.lemmas.List.{append_cancel_right, drop-append-le, length-take-le, take-append-drop}
@@ -21,7 +21,7 @@ use Rattle.wm_model.proofs.Lawful.Entries.{all_swapped}
 use Rattle.wm_model.proofs.Lawful.Firsts.{no_faults, none_inside, none_named, none_refused, not_refused}
 use Rattle.wm_model.proofs.Lawful.Leaves.{Leaves, leaves_durably, leaves_if, leaves_with_named, stays}
 use Rattle.wm_model.proofs.Lawful.Lists.{found_both}
-use Rattle.wm_model.proofs.Lawful.Spaces.{Becomes, Swapped, number_is, place_swapped, spaces_become, swapped}
+use Rattle.wm_model.proofs.Lawful.Spaces.{Becomes, Swapped, based_as_before, number_is, place_swapped, spaces_become, swapped}
 
 -- ---- sessions that pass no test
 
@@ -116,11 +116,7 @@ becomes_restored w P k d l known found same none =
     let cut : length (take k.log_length w.lists.log) ≡ k.log_length = length-take-le k.log_length w.lists.log m.within in
     record {
       swap = swapped d.spaces w.number (restored k) w (λ _. refl) known;
-      number = refl;
-      parent = refl;
-      from = (m.base same).1;
-      rebases = refl;
-      turns = refl;
+      rebases = le_refl w.rebases;
       children = λ n x above is here.
           let older = (l.spaces.bases n x above is).older in
           rw cut (took_less w x k here (λ (e : x.number ≡ w.number). absurd (omega (arith, older, here, e))) (none n x is));
@@ -132,8 +128,10 @@ lawful_restored : (w : Workspace) (P : Savepoint → Bool) (k : Savepoint) (d : 
 lawful_restored w P k d l known found same none =
     let vs = with_space w.number (restored k) d.spaces in
     let b = becomes_restored w P k d l known found same none in
+    let space = l.spaces.each w.number w known in
     record {
-      spaces = spaces_become d.spaces vs w.number w (restored k w) l.spaces b (differ-changed w.number (restored k) (λ _. refl) d.spaces ∙ l.spaces.once) (space_restored w P k (l.spaces.each w.number w known) found same);
+      spaces = spaces_become d.spaces vs w.number w (restored k w) l.spaces b (differ-changed w.number (restored k) (λ _. refl) d.spaces ∙ l.spaces.once) (space_restored w P k space found same)
+          (based_as_before d.spaces vs w.number w (restored k w) l.spaces b refl refl ((space.marks P k found).base same).1 refl);
       entries = record {
         tells = l.entries.tells;
         each = all_swapped (IsSound l.entries.tells d.next_stamp) d.spaces vs w.number w (restored k w) l.entries.each b.swap (holds_restored (IsSound l.entries.tells d.next_stamp) P w k (l.entries.each w.number w known) found);
@@ -191,7 +189,7 @@ was_found n m ws x found = (away, sym (found_other n m away ws) ∙ found)
         bool_apart (sym (eq-eqb x.number n (eqb-true x.number m h.1 ∙ same)) ∙ not_true (x.number == n) h.0)
 
 -- no workspace is a child of the one that goes
-abbrev NoChild : List Workspace → Workspace → Type 0
+abbrev pub NoChild : List Workspace → Workspace → Type 0
 NoChild ws w = (n : ℕ) (x : Workspace) → workspace_of ws n ≡ Some x → is_child w x ≡ false
 
 based_left : (ws : List Workspace) (w x : Workspace) → x.number ≢ w.number → is_child w x ≡ false → Based ws x → Based (without w.number ws) x
@@ -225,7 +223,7 @@ place_left ws w x none p = record {
   stands = p.stands;
 }
 
-leaves_left : (w : Workspace) (s : State) (answer : Answer) → LawfulState s → 0 < w.number → NoChild s.durable.spaces w → list_any (stands_in w) s.sessions ≡ false
+pub leaves_left : (w : Workspace) (s : State) (answer : Answer) → LawfulState s → 0 < w.number → NoChild s.durable.spaces w → list_any (stands_in w) s.sessions ≡ false
     → Leaves (record s { durable = record s.durable { spaces = without w.number s.durable.spaces } }, answer)
 leaves_left w s answer l above none away = record {
   lawful = record {
@@ -240,7 +238,7 @@ leaves_left w s answer l above none away = record {
 -- ---- calls
 
 -- what is done where nothing is wrong
-leaves_faultless : (fault : Option Refusal) (s : State) (done : State × Answer) → LawfulState s → (fault ≡ None → Leaves done) → Leaves (unless fault s done)
+pub leaves_faultless : (fault : Option Refusal) (s : State) (done : State × Answer) → LawfulState s → (fault ≡ None → Leaves done) → Leaves (unless fault s done)
 leaves_faultless None s done l d = d refl
 leaves_faultless (Some refusal) s done l d = stays s _ l
 

@@ -1,5 +1,5 @@
 -- RefreshWorkspace and MergeWorkspace.
-use Rattle.std.specs.Prelude.{ℕ, ◌+◌, ◌×◌, List, [], ◌∷◌, Bool, false, not, ◌&&◌, ◌||◌, ◌==◌, nat_le, nat_lt, if◌then◌else◌, length, drop, max, slice_get, is_some, unwrap_or, Option, None, Some, codes}
+use Rattle.std.specs.Prelude.{ℕ, ◌+◌, List, [], ◌∷◌, Bool, true, false, not, ◌&&◌, ◌||◌, ◌==◌, nat_le, nat_lt, if◌then◌else◌, length, drop, max, slice_get, is_some, unwrap_or, Option, None, Some, codes}
 use Rattle.wm_base.specs.declared.refusal.Refusal.{Refusal}
 use Rattle.wm_graph.specs.Parts.{table_of}
 use Rattle.wm_net.specs.Conflicts.{Sides, Stamps, conflicts}

@@ -1,0 +1,11 @@
+pub mod Above
+pub mod Blocks
+pub mod Clashing
+pub mod Gaining
+pub mod Keyed
+pub mod Looking
+pub mod Netted
+pub mod OwnPath
+pub mod Stepping
+pub mod Stored
+pub mod Touching

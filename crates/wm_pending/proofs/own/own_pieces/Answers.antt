@@ -1,0 +1,21 @@
+use Rattle.std.proofs.Common.{List, [], ◌∷◌, ◌++◌, subst, sym, ◌∙◌}
+use Rattle.std.proofs.lemmas.List.{map-id}
+use Rattle.std.proofs.lemmas.Map.Iter.{iter_end}
+use Rattle.wm_graph.specs.Parts.{parts_of}
+use Rattle.wm_pending.proofs.Keyed.{Gathered, are_own, gathered_more}
+use Rattle.wm_pending.specs.Keys.{Place}
+use Rattle.wm_pending.proofs.own.own_pieces.Goals as goal
+
+pub loop-table-preserved : goal.loop-table-preserved
+loop-table-preserved c =
+    subst (Gathered (parts_of c.args.image.now) c.args.space.now (c.loop-table.yielded ++ (c.in-Some.table, c.in-Some.key) ∷ [])) (sym c.in_ok-push.ensures.items)
+    (gathered_more (parts_of c.args.image.now) c.args.space.now c.loop-table.yielded c.loop-table.own.items (record { table = c.in-Some.table; key = c.in-Some.key; pieces = c.in_ok-pieces.pieces })
+    c.loop-table.invariant c.in_ok-pieces.ensures)
+
+pub returns : goal.returns
+returns c =
+    let gives = c.into_iter-table-iterator.ensures.into_iter_gives in
+    let all = iter_end (λ (q : Place). q) c.in_ok-items.items.keys c.loop-table.yielded c.into_iter-table-iterator.result c.loop-table.table-iterator c.next.new.self c.next.result gives.0
+    c.loop-table.yielded_by c.in-None.is c.next.ensures.steps in
+    are_own (parts_of c.args.image.now) c.args.space.now c.in_ok-items.items.keys c.loop-table.own.items gives.4 c.in_ok-items.ensures
+    (subst (λ (qs : List Place). Gathered (parts_of c.args.image.now) c.args.space.now qs c.loop-table.own.items) (sym (map-id c.loop-table.yielded) ∙ all.0) c.loop-table.invariant)

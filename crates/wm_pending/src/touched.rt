@@ -1,0 +1,159 @@
+//! What a workspace touched since a position of its log.
+
+ghost use Rattle.std.specs.Prelude.{◌≡◌, ℕ, ◌<◌, ◌&&◌, ◌||◌, not, false, is_some, IfOk, OnOk};
+ghost use Rattle.std.specs.BTreeSet.{contains};
+ghost use Rattle.std.specs.Option.{option_and_then, option_copied, option_map_or, option_to_list};
+ghost use Rattle.wm_base.specs.Period.{covers};
+ghost use Rattle.wm_base.specs.declared.instant.TheConstants.{END};
+ghost use Rattle.wm_graph.specs.Parts.{as_touch, parts_of};
+ghost use Rattle.wm_image.specs.Shown.{kind_at, passing};
+ghost use Rattle.wm_index.specs.Sought.{ids_with};
+ghost use Rattle.wm_pending.specs.Keys.{Place, place_order};
+ghost use Rattle.wm_pending.specs.Touched.{covers_since, has_touch_of, has_touched, is_since, is_touch_since, is_touched, since_of};
+ghost use Rattle.wm_period.specs.Pieces.{held_at};
+
+use crate::keys::TableKeys;
+use crate::path::period_of;
+use std::alloc::Global;
+use std::collections::BTreeSet;
+use wm_base::{Key, Kind, Memory, Period, Stamp};
+use wm_image::Image;
+use wm_period::{Piece, Pieces};
+use wm_spec::record::{Record, Space, Trace};
+
+/// Which touches are meant: those of a workspace that were made at a place below one, and whose last entry stands in
+/// its log at a position or behind it.
+#[derive(Clone, Copy)]
+pub struct Since {
+    pub space: u32,
+    pub below: u32,
+    pub from: u64,
+}
+
+impl Since {
+    /// The touches of the parent of a workspace since the workspace took its log.
+    pub fn of(space: &Space, parent: &Space) -> Since
+        ensures { result ≡ since_of space.now parent.now }
+    {
+        Since {
+            space: parent.number,
+            below: parent.next_place,
+            from: space.from,
+        }
+    }
+}
+
+/// Whether a touch is meant.
+fn is_since(touch: &Trace, since: Since) -> bool
+    ensures { result ≡ is_since since touch.now }
+{
+    touch.space == since.space && (touch.place < since.below && since.from <= touch.position)
+}
+
+/// A record that is a touch that is meant.
+fn touch_since(found: Option<&Record>, since: Since) -> Option<&Trace>
+    ensures { option_copied result ≡ passing (is_since since) (option_and_then as_touch (option_copied found.entry)) }
+{
+    match found {
+        Some(Record::Touch(touch)) => {
+            if is_since(touch, since) {
+                Some(touch)
+            } else {
+                None
+            }
+        }
+        _ => None,
+    }
+}
+
+/// The ids of the touches that are meant, in order.
+fn touched_since(alloc: Global, image: &Image, since: Since) -> Result<Vec<u64>, Memory>
+    ensures { IfOk result (λ ids. ids.items ≡ ids_with (is_touch_since since) image.now) }
+{
+    image.law_of_order();
+    let mut ids = Vec::new(alloc);
+    for id in image.records_of(since.space) {
+        if touch_since(image.record(*id), since).is_some() {
+            ids.push(*id)?;
+        }
+    }
+    Ok(ids)
+}
+
+/// Adds the key of a record, where that is a touch.
+fn add_key(alloc: Global, keys: &mut TableKeys, found: Option<&Record>) -> Result<(), Memory>
+    ensures { OnOk result ((q : Place) → contains place_order keys.new q ≡ (contains place_order keys.old q || has_touch_of q (option_to_list (option_and_then as_touch (option_copied found.entry))))) }
+{
+    if let Some(Record::Touch(touch)) = found {
+        keys.insert((touch.cells.table, touch.cells.key.copy(alloc)?))?;
+    }
+    Ok(())
+}
+
+/// The keys of the touches among the records of some ids.
+fn keys_of(alloc: Global, image: &Image, ids: &[u64]) -> Result<TableKeys, Memory>
+    ensures { IfOk result (λ keys. (q : Place) → contains place_order keys q ≡ has_touch_of q (kind_at as_touch image.now ids.now)) }
+{
+    let mut keys = BTreeSet::new(alloc);
+    for id in ids {
+        add_key(alloc, &mut keys, image.record(*id))?;
+    }
+    Ok(keys)
+}
+
+/// The keys of the touches that are meant.
+pub fn touched_keys(alloc: Global, image: &Image, since: Since) -> Result<TableKeys, Memory>
+    ensures { IfOk result (λ keys. (q : Place) → contains place_order keys q ≡ has_touched (parts_of image.now).touches since q) }
+{
+    image.law_of_order();
+    let ids = touched_since(alloc, image, since)?;
+    keys_of(alloc, image, ids.as_slice())
+}
+
+/// The period of a record, where it is a touch that is meant and has a moment.
+fn period_since(found: Option<&Record>, since: Since) -> Option<Period>
+    ensures { (t : ℕ) → t < END → option_map_or (λ p. covers p t) result false ≡ covers_since since (option_and_then as_touch (option_copied found.entry)) t }
+{
+    let touch = touch_since(found, since)?;
+    period_of(&touch.cells)
+}
+
+/// Takes the period of a record out of others, where it is a touch that is meant.
+fn erase_since(
+    alloc: Global,
+    quiet: &mut Pieces,
+    found: Option<&Record>,
+    since: Since,
+) -> Result<(), Memory>
+    ensures { OnOk result ((t : ℕ) → t < END → is_some (held_at quiet.new t) ≡ (is_some (held_at quiet.old t) && not (covers_since since (option_and_then as_touch (option_copied found.entry)) t))) }
+{
+    if let Some(period) = period_since(found, since) {
+        quiet.erase(alloc, &period)?;
+    }
+    Ok(())
+}
+
+/// The periods of a key that no touch that is meant covers. What its pieces say means nothing.
+pub fn untouched(
+    alloc: Global,
+    image: &Image,
+    since: Since,
+    table: u16,
+    key: &Key,
+) -> Result<Pieces, Memory>
+    ensures { IfOk result (λ quiet. (t : ℕ) → t < END → is_some (held_at quiet t) ≡ not (is_touched (parts_of image.now).touches since (record { table = table; key = key.now; time = t }))) }
+{
+    image.law_of_order();
+    let mut quiet = Pieces::new(alloc);
+    let all = Piece {
+        period: Period::always(),
+        stamp: Stamp { number: 0 },
+        kind: Kind::Insert,
+        gone: false,
+    };
+    quiet.put(alloc, all)?;
+    for id in image.touches_of(table, key) {
+        erase_since(alloc, &mut quiet, image.record(*id), since)?;
+    }
+    Ok(quiet)
+}
