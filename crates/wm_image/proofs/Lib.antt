@@ -15,3 +15,4 @@ pub mod Spaced
 pub mod Coming
 pub mod Ascending
 pub mod Least
+pub mod Turned
