@@ -245,8 +245,8 @@ fn finish(draft: Draft) -> Result<Redrawn, Memory>
 }
 
 /// What goes of the records, and what comes, where new pieces come over those that a version has. Only what is drawn for
-/// their keys is looked at, and only what shares a moment with a new one goes. No more pieces come than two for each new
-/// one and one for each that goes.
+/// their keys is looked at, and only what shares a moment with a new one goes. No more pieces come than two for each
+/// new one and one for each that goes.
 pub fn redraw(
     alloc: Global,
     image: &Image,
