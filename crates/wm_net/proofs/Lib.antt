@@ -1,6 +1,8 @@
 mod Samples
 pub mod Alikes
 pub mod Conflicting
+pub mod Counting
+pub mod Cutting
 pub mod Firsting
 pub mod Grouping
 pub mod Listing
@@ -10,5 +12,6 @@ pub mod Onces
 pub mod Owing
 pub mod Placing
 pub mod RowsListed
+pub mod Sharing
 pub mod Stretching
 pub mod Unique
