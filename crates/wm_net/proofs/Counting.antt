@@ -1,20 +1,16 @@
 -- Into how many stretches cells fall: the count by the first moments between cuts, and that it grows with the test and with what is cut.
-use Rattle.std.proofs.Common.{◌≡◌, ℕ, ◌+◌, ◌<◌, ◌≤◌, ◌⊎◌, inl, inr, List, [], ◌∷◌, ◌++◌, map, length, Option, None, Some, is_some, Bool, true, false, cond, if◌then◌else◌, ◌&&◌, ◌||◌, ◌==◌, nat_le, nat_lt, refl, sym, ap, ◌∙◌, arith, length-append, subst}
-use Rattle.std.proofs.lemmas.Bool.Decides.{nat_tests}
+use Rattle.std.proofs.Common.{◌≡◌, ℕ, ◌+◌, ◌≤◌, List, [], ◌∷◌, ◌++◌, map, length, Option, None, Some, is_some, Bool, true, false, cond, if◌then◌else◌, ◌&&◌, ◌||◌, ◌==◌, refl, sym, ap, ◌∙◌, arith, length-append}
 use Rattle.std.proofs.lemmas.List.{length-map}
 use Rattle.std.proofs.lemmas.List.Elements.{filter-append}
 use Rattle.std.proofs.lemmas.List.Sums.{sum_by-cons, sum_by-append, length-filter}
 use Rattle.std.specs.Bool.{then_some}
 use Rattle.std.specs.List.{count_by, filter}
-use Rattle.wm_spec.proofs.Stretches.{Up, Off, by_test, Off-below, Up-cuts}
-use Rattle.wm_spec.specs.Lists.{Entry, Cell, is_of}
-use Rattle.wm_spec.specs.Stretches.{cut_in, cuts}
+use Rattle.wm_spec.proofs.Stretches.{by_test}
+use Rattle.wm_spec.specs.Lists.{Entry, Cell}
+use Rattle.wm_spec.specs.Stretches.{cuts}
 use Rattle.wm_net.specs.Counts.{never, first_cell, first_cells, cut_count}
-use Rattle.wm_net.specs.Groups.{Group, group_of, cell, same_group, groups, has_group, GroupsAscend}
+use Rattle.wm_net.specs.Groups.{Group, cell, groups}
 use Rattle.wm_net.specs.Listed.{Stretch, joined, onto, stretches, listed, stretches_of, listing}
-use Rattle.wm_net.proofs.Grouping.{groups-ascend, has-group_in, cuts_none}
-use Rattle.wm_net.proofs.Listing.{SameGroups, listed_same}
-use Rattle.wm_net.proofs.Stretching.{Cut}
 
 -- ---- counts in a list
 
@@ -23,6 +19,10 @@ count-cons p x xs = sum_by-cons (λ y. cond (p y) 1 0) x xs
 
 pub count-append : {X : Type 0} (p : X → Bool) (xs ys : List X) → count_by p (xs ++ ys) ≡ count_by p xs + count_by p ys
 count-append p xs ys = sum_by-append (λ y. cond (p y) 1 0) xs ys
+
+-- what an element adds to a count
+abbrev pub weight : Bool → ℕ
+weight b = cond b 1 0
 
 -- what passes more counts more
 count-more : {X : Type 0} (p q : X → Bool) (xs : List X) → ((x : X) → p x ≡ true → q x ≡ true) → count_by p xs ≤ count_by q xs

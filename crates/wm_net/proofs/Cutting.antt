@@ -1,22 +1,19 @@
 -- What is cut more counts no less, and what ends where entries end changes at cuts alone.
-use Rattle.std.proofs.Common.{◌≡◌, ℕ, ◌+◌, ◌<◌, ◌≤◌, ◌⊎◌, inl, inr, List, [], ◌∷◌, ◌++◌, map, length, Option, None, Some, is_some, Bool, true, false, cond, if◌then◌else◌, ◌&&◌, ◌||◌, ◌==◌, nat_le, nat_lt, refl, sym, ap, ◌∙◌, arith, eqb-true, eq-eqb, ⊎_elim, subst}
+use Rattle.std.proofs.Common.{◌≡◌, ℕ, ◌≤◌, ◌⊎◌, inl, inr, List, [], ◌∷◌, ◌++◌, map, length, Option, is_some, Bool, true, false, cond, ◌&&◌, ◌||◌, ◌==◌, nat_le, nat_lt, refl, sym, ap, ◌∙◌, arith, eqb-true, eq-eqb, ⊎_elim, subst}
 use Rattle.std.proofs.lemmas.Bool.{and_parts}
-use Rattle.std.proofs.lemmas.Bool.Decides.{nat_tests}
 use Rattle.std.proofs.lemmas.List.Folds.{list_any-append}
 use Rattle.std.proofs.lemmas.List.Sums.{length-filter}
 use Rattle.std.specs.Bool.{then_some}
-use Rattle.std.specs.List.{count_by, list_any}
-use Rattle.std.specs.Ordering.{is_eq}
-use Rattle.wm_base.specs.Key.{key_order}
+use Rattle.std.specs.List.{count_by}
 use Rattle.wm_base.specs.declared.value.Value.{Value}
 use Rattle.wm_spec.proofs.Stretches.{Up, Off, Steady, by_test, Off-below, Up-cuts, Steady-period}
 use Rattle.wm_spec.specs.Lists.{Entry, Cell, told, touched, is_of}
 use Rattle.wm_spec.specs.Stretches.{cut_in, cuts}
 use Rattle.wm_spec.specs.declared.record.cell_range.CellRange.{CellRange}
-use Rattle.wm_net.specs.Counts.{never, first_cell, first_cells, cut_count, SteadyTest, IsSteady, is_end, has_ends, has_cuts, has_cell}
+use Rattle.wm_net.specs.Counts.{never, first_cell, cut_count, SteadyTest, IsSteady, is_end, has_ends, has_cuts, has_cell}
 use Rattle.wm_net.specs.Groups.{Group, group_of, cell, same_group, groups, has_group, GroupsAscend}
-use Rattle.wm_net.specs.Listed.{Stretch, within, stretches, listed, stretches_of}
-use Rattle.wm_net.proofs.Counting.{count-cons, count-append, firsts, all_firsts, first_cells-listed}
+use Rattle.wm_net.specs.Listed.{Stretch, within, stretches, stretches_of}
+use Rattle.wm_net.proofs.Counting.{count-cons, count-append, weight, firsts, all_firsts, first_cells-listed}
 use Rattle.wm_net.proofs.Grouping.{same_group-is, same_group-itself, groups-ascend, has-group_in, cuts_none}
 use Rattle.wm_net.proofs.Listing.{SameGroups, listed_same}
 use Rattle.wm_net.proofs.Stretching.{Cut, Cut-cuts, Steady-told}
@@ -60,17 +57,17 @@ more_cuts f g low high (a ∷ cs) (d ∷ ds) le up off all =
     let more = count-cons f (cell g low) (map (cell g) (firsts d ds)) in
     ⊎_elim
     (λ same. ⊎_elim
-      (λ before. absurd (omega (arith, le, up.0, before)))
-      (λ past.
-        let one : high ≡ low = omega (arith, le, same) in
-        let fewer = count-cons f (cell g high) (map (cell g) (firsts a cs)) in
-        let rest = more_cuts f g d a cs ds past up.1 all.0.1 (AllOff-tail cs low d ds all.1) in
-        let first : cond (f (cell g high)) 1 0 ≡ cond (f (cell g low)) 1 0 = ap (λ (n : ℕ). (let m : ℕ = cond (f (cell g n)) 1 0 in m)) one in
-        omega (arith, fewer, more, rest, first))
-      all.0.0)
+    (λ before. absurd (omega (arith, le, up.0, before)))
     (λ past.
-      let rest = more_cuts f g d high (a ∷ cs) ds past up off.1 (AllOff-tail (a ∷ cs) low d ds all) in
-      omega (arith, more, rest))
+    let one : high ≡ low = omega (arith, le, same) in
+    let fewer = count-cons f (cell g high) (map (cell g) (firsts a cs)) in
+    let rest = more_cuts f g d a cs ds past up.1 all.0.1 (AllOff-tail cs low d ds all.1) in
+    let first : cond (f (cell g high)) 1 0 ≡ cond (f (cell g low)) 1 0 = ap (λ (n : ℕ). weight (f (cell g n))) one in
+    omega (arith, fewer, more, rest, first))
+    all.0.0)
+    (λ past.
+    let rest = more_cuts f g d high (a ∷ cs) ds past up off.1 (AllOff-tail (a ∷ cs) low d ds all) in
+    omega (arith, more, rest))
     off.0
 
 -- ---- more cuts of all groups
@@ -126,8 +123,10 @@ count_cut : (es fs : List Entry) (f : Cell → Bool) → ((g : Group) → Cut g 
 count_cut es fs f cut =
     let gs = groups (es ++ fs) in
     let up = groups-ascend (es ++ fs) in
-    rw (counted_over es f gs up (λ g e. has-group_append g es fs ∙ or_left (has_group g (groups es)) (has_group g (groups fs)) e),
-    counted_over fs f gs up (λ g e. has-group_append g es fs ∙ or_right (has_group g (groups es)) (has_group g (groups fs)) e))
+    rw (
+      counted_over es f gs up (λ g e. has-group_append g es fs ∙ or_left (has_group g (groups es)) (has_group g (groups fs)) e),
+      counted_over fs f gs up (λ g e. has-group_append g es fs ∙ or_right (has_group g (groups es)) (has_group g (groups fs)) e),
+    )
     (more_firsts es fs f gs cut)
 
 -- ---- ends of entries
@@ -151,7 +150,7 @@ Cut-has g fs (e ∷ es) h =
     let two = and_parts (is_end fs e.table e.key e.from && is_end fs e.table e.key e.till) (has_cuts fs es) h in
     let ends = and_parts (is_end fs e.table e.key e.from) (is_end fs e.table e.key e.till) two.0 in
     let off : (n : ℕ) → is_of g.table g.key e ≡ true → is_end fs e.table e.key n ≡ true → Off n 0 (cuts fs g.table g.key) =
-        λ n same end. Off-end g fs n (cuts fs g.table g.key) (Cut-cuts g fs) (ap (λ (k : Group). is_end fs k.table k.key n) (sym (same_group-is (group_of e) g same)) ∙ end) in
+    λ n same end. Off-end g fs n (cuts fs g.table g.key) (Cut-cuts g fs) (ap (λ (k : Group). is_end fs k.table k.key n) (sym (same_group-is (group_of e) g same)) ∙ end) in
     ((λ same. (off e.from same ends.0, off e.till same ends.1)), Cut-has g fs es two.1)
 
 -- where the ends of some entries are ends of others, these count no less
@@ -250,7 +249,7 @@ IsSteady-cells es r h = record { steady = λ g. by_group g (same_group (its r) g
         let cs = cuts es g.table g.key in
         let ends = and_parts (is_end es r.table r.key r.from) (is_end es r.table r.key r.till) h in
         let off : (n : ℕ) → is_end es r.table r.key n ≡ true → Off n 0 cs =
-            λ n end. Off-end g es n cs (Cut-cuts g es) (ap (λ (k : Group). is_end es k.table k.key n) (sym (same_group-is (its r) g e)) ∙ end) in
+        λ n end. Off-end g es n cs (Cut-cuts g es) (ap (λ (k : Group). is_end es k.table k.key n) (sym (same_group-is (its r) g e)) ∙ end) in
         SteadyTest-alike (λ t. is_some (then_some (within r.from r.till t) true)) (λ t. true && within r.from r.till t) 0 cs (λ t. some_then (within r.from r.till t))
         (SteadyTest-some (λ t. then_some (within r.from r.till t) true) 0 cs
         (Steady-period true r.from r.till 0 cs (Up-cuts es g.table g.key) (off r.from ends.0) (off r.till ends.1))))

@@ -6,6 +6,7 @@ pub mod Cutting
 pub mod Firsting
 pub mod Grouping
 pub mod Listing
+pub mod Measuring
 pub mod Merging
 pub mod Netting
 pub mod Onces

@@ -1,5 +1,5 @@
 -- Things that share no cell, each with a cell that passes a test, are no more than the stretches into which what passes it is cut.
-use Rattle.std.proofs.Common.{◌≡◌, ℕ, ◌+◌, ◌<◌, ◌≤◌, ◌⊎◌, inl, inr, List, [], ◌∷◌, ◌++◌, map, length, Bool, true, false, cond, ◌&&◌, ◌||◌, refl, sym, ap, ◌∙◌, arith, subst, ⊎_elim}
+use Rattle.std.proofs.Common.{◌≡◌, ℕ, ◌+◌, ◌≤◌, List, [], ◌∷◌, map, length, Bool, true, false, not, cond, ◌&&◌, ◌||◌, refl, sym, ap, ◌∙◌, arith, subst, ⊎_elim}
 use Rattle.std.proofs.lemmas.List.Elements.{All-head, All-tail, filter-append}
 use Rattle.std.proofs.lemmas.List.Folds.{list_any-append}
 use Rattle.std.proofs.lemmas.List.Sums.{sum_by-cons, sum_by-le}
@@ -7,10 +7,11 @@ use Rattle.std.specs.List.{All, count_by, filter, list_any, sum_by}
 use Rattle.wm_spec.specs.Lists.{Entry, Cell, covers, touched}
 use Rattle.wm_spec.specs.Stretches.{cuts}
 use Rattle.wm_spec.specs.declared.record.cell_range.CellRange.{CellRange}
-use Rattle.wm_net.specs.Counts.{first_cells, cut_count, SteadyTest, IsSteady, has_ends, has_cuts, has_cell, Meet, AreApart}
+use Rattle.wm_net.specs.Counts.{first_cells, cut_count, SteadyTest, IsSteady, has_ends, has_cuts, has_cell, Meet, AreApart, no_two}
 use Rattle.wm_net.specs.Groups.{Group, cell, of_cell, same_group, groups, has_group}
 use Rattle.wm_net.specs.Places.{Once}
-use Rattle.wm_net.proofs.Counting.{count-cons, firsts, all_firsts, first_cells-are}
+use Rattle.wm_net.proofs.Alikes.{touched-cons}
+use Rattle.wm_net.proofs.Counting.{count-cons, weight, firsts, all_firsts, first_cells-are}
 use Rattle.wm_net.proofs.Cutting.{or_left, or_right, IsSteady-touched, IsSteady-cells}
 use Rattle.wm_net.proofs.Grouping.{same_group-is, cuts_none}
 use Rattle.wm_net.proofs.Stretching.{le_or_lt}
@@ -72,9 +73,9 @@ covered-group f h g t low (a ∷ cs) s r le one two =
     ⊎_elim
     (λ past. any-behind h (f (cell g low)) (cell g low) (filter f (map (cell g) (firsts a cs))) (covered-group f h g t a cs s.1 r.1 past one two))
     (λ before.
-      let first : f (cell g low) ≡ true = sym (s.0 t le before) ∙ one in
-      let covered : h (cell g low) ≡ true = sym (r.0 t le before) ∙ two in
-      rw first (or_left (h (cell g low)) (list_any h (filter f (map (cell g) (firsts a cs)))) covered))
+    let first : f (cell g low) ≡ true = sym (s.0 t le before) ∙ one in
+    let covered : h (cell g low) ≡ true = sym (r.0 t le before) ∙ two in
+    rw first (or_left (h (cell g low)) (list_any h (filter f (map (cell g) (firsts a cs)))) covered))
     (le_or_lt a t)
 
 covered-groups : (es : List Entry) (f h : Cell → Bool) (c : Cell) (gs : List Group) → IsSteady es f → IsSteady es h → f c ≡ true → h c ≡ true
@@ -105,7 +106,7 @@ steady-group es f c s e = by_test (has_group (of_cell c) (groups es)) refl
     by_test true h = refl
     by_test false h =
         let steady : SteadyTest (λ t. f (cell (of_cell c) t)) 0 [] =
-            subst (λ (cs : List ℕ). SteadyTest (λ t. f (cell (of_cell c) t)) 0 cs) (cuts_none es (of_cell c) h) (s.steady (of_cell c)) in
+        subst (λ (cs : List ℕ). SteadyTest (λ t. f (cell (of_cell c) t)) 0 cs) (cuts_none es (of_cell c) h) (s.steady (of_cell c)) in
         let none : f c ≡ false = steady c.time (omega arith) in
         absurd (cc)
 
@@ -123,8 +124,68 @@ apart_count es f covers xs s steady meet apart =
     partners covers xs (first_cells es f) (λ k d lt. covered es f (covers _) s (steady k d lt) (meet k d lt)) (λ c. apart.once c)
 
 -- cells that end where entries do
-pub cells_count : {X : Type 0} (es own : List Entry) (cells : X → CellRange) (xs : List X) → has_cuts es own ≡ true
+pub cells_count : {X : Type 0} (es : List Entry) (f : Cell → Bool) (cells : X → CellRange) (xs : List X) → IsSteady es f
+    → All (λ x. has_ends es (cells x) ≡ true) xs → All (λ x. Meet (has_cell (cells x)) f) xs → AreApart (λ x. has_cell (cells x)) xs → length xs ≤ cut_count es f
+cells_count es f cells xs s ends meet apart =
+    apart_count es f (λ x. has_cell (cells x)) xs s (λ k d lt. IsSteady-cells es (cells _) (ends k d lt)) meet apart
+
+-- such cells, each with one that entries touch
+pub touches_count : {X : Type 0} (es own : List Entry) (cells : X → CellRange) (xs : List X) → has_cuts es own ≡ true
     → All (λ x. has_ends es (cells x) ≡ true) xs → All (λ x. Meet (has_cell (cells x)) (touched own)) xs → AreApart (λ x. has_cell (cells x)) xs
     → length xs ≤ cut_count es (touched own)
-cells_count es own cells xs cut ends meet apart =
-    apart_count es (touched own) (λ x. has_cell (cells x)) xs (IsSteady-touched es own cut) (λ k d lt. IsSteady-cells es (cells _) (ends k d lt)) meet apart
+touches_count es own cells xs cut = cells_count es (touched own) cells xs (IsSteady-touched es own cut)
+
+-- ---- what is apart
+
+-- where all that passes the one test passes the other, which nothing passes, nothing is counted
+none-counted : {X : Type 0} (p q : X → Bool) (xs : List X) → ((x : X) → p x ≡ true → q x ≡ true) → list_any q xs ≡ false → count_by p xs ≡ 0
+none-counted p q [] more e = refl
+none-counted p q (x ∷ xs) more e = by_test (p x) (q x) (more x) e (count-cons p x xs) (none-counted p q xs more)
+  where
+    by_test : (a b : Bool) → (a ≡ true → b ≡ true) → (b || list_any q xs) ≡ false → count_by p (x ∷ xs) ≡ cond a 1 0 + count_by p xs
+        → (list_any q xs ≡ false → count_by p xs ≡ 0) → count_by p (x ∷ xs) ≡ 0
+    by_test true true h out c rest = absurd (cc)
+    by_test true false h out c rest = absurd (let it : false ≡ true = h refl in cc)
+    by_test false true h out c rest = absurd (cc)
+    by_test false false h out c rest = omega (arith, c, rest out)
+
+one-more : {X : Type 0} (p : X → Bool) (x : X) (xs : List X) → (p x ≡ true → count_by p xs ≡ 0) → count_by p xs ≤ 1 → count_by p (x ∷ xs) ≤ 1
+one-more p x xs none rest = by_test (p x) none (count-cons p x xs)
+  where
+    by_test : (b : Bool) → (b ≡ true → count_by p xs ≡ 0) → count_by p (x ∷ xs) ≡ cond b 1 0 + count_by p xs → count_by p (x ∷ xs) ≤ 1
+    by_test true h c = omega (arith, c, h refl)
+    by_test false h c = omega (arith, c, rest)
+
+not-true : (a b : Bool) → (not a && b) ≡ true → (a ≡ false) × (b ≡ true)
+not-true true b e = absurd (cc)
+not-true false b e = (refl, e)
+
+-- no cell is in two things where no two that share one are in the list
+pub AreApart-no_two : {X : Type 0} (covers : X → Cell → Bool) (related : X → X → Bool) (xs : List X)
+    → ((x y : X) (c : Cell) → covers x c ≡ true → covers y c ≡ true → related x y ≡ true) → no_two related xs ≡ true → AreApart covers xs
+AreApart-no_two {X = X} covers related xs share e = record { once = λ c. walk c xs e }
+  where
+    walk : (c : Cell) (ys : List X) → no_two related ys ≡ true → count_by (λ x. covers x c) ys ≤ 1
+    walk c [] h = omega arith
+    walk c (y ∷ ys) h =
+        let two = not-true (list_any (related y) ys) (no_two related ys) h in
+        one-more (λ x. covers x c) y ys (λ k. none-counted (λ x. covers x c) (related y) ys (λ z l. share y z c k l) two.0) (walk c ys two.1)
+
+-- nor in two entries of a list that covers each cell once
+pub AreApart-once : (es : List Entry) → Once es → AreApart covers es
+AreApart-once es once = record { once = λ c. walk c es once }
+  where
+    either : (a b : Bool) → (a || b) ≡ false → (a ≡ false) × (b ≡ false)
+    either true b e = absurd (cc)
+    either false b e = (refl, e)
+
+    none : (c : Cell) (xs : List Entry) → touched xs c ≡ false → count_by (λ x. covers x c) xs ≡ 0
+    none c [] h = refl
+    none c (x ∷ xs) h =
+        let two = either (touched xs c) (covers x c) (sym (touched-cons x xs c) ∙ h) in
+        let first : cond (covers x c) 1 0 ≡ 0 = ap weight two.1 in
+        omega (arith, count-cons (λ y. covers y c) x xs, first, none c xs two.0)
+
+    walk : (c : Cell) (xs : List Entry) → Once xs → count_by (λ x. covers x c) xs ≤ 1
+    walk c [] o = omega arith
+    walk c (x ∷ xs) o = one-more (λ y. covers y c) x xs (λ k. none c xs (o.0 c k)) (walk c xs o.1)
