@@ -193,6 +193,14 @@ has_cuts-itself (e ∷ es) =
     by_test true h = h
     by_test false h = h
 
+-- and among those of two lists, of which theirs is one
+pub has_cuts-first : (xs ys : List Entry) → has_cuts (xs ++ ys) xs ≡ true
+has_cuts-first xs ys = has_cuts-behind xs ys xs (has_cuts-itself xs)
+
+pub has_cuts-second : (xs ys : List Entry) → has_cuts (xs ++ ys) ys ≡ true
+has_cuts-second xs ys = has_cuts-before xs ys ys (has_cuts-itself ys)
+
+-- two lists end where entries do if each does
 pub has_cuts-append : (fs xs ys : List Entry) → has_cuts fs xs ≡ true → has_cuts fs ys ≡ true → has_cuts fs (xs ++ ys) ≡ true
 has_cuts-append fs [] ys one two = two
 has_cuts-append fs (x ∷ xs) ys one two =

@@ -60,3 +60,8 @@ both_count moment user es own pending one two =
 pub IsSteady-alone : (es own pending : List Entry) → has_cuts es own ≡ true → has_cuts es pending ≡ true → IsSteady es (touched_alone own pending)
 IsSteady-alone es own pending one two =
     IsSteady-two (λ a b. a && not b) es (touched pending) (touched own) refl (IsSteady-touched es pending two) (IsSteady-touched es own one)
+
+-- and so is what either does
+pub IsSteady-either : (es own pending : List Entry) → has_cuts es own ≡ true → has_cuts es pending ≡ true → IsSteady es (λ c. touched own c || touched pending c)
+IsSteady-either es own pending one two =
+    IsSteady-two (λ a b. a || b) es (touched own) (touched pending) refl (IsSteady-touched es own one) (IsSteady-touched es pending two)

@@ -7,7 +7,7 @@ use Rattle.std.specs.List.{All, count_by, filter, list_any, sum_by}
 use Rattle.wm_spec.specs.Lists.{Entry, Cell, covers, touched}
 use Rattle.wm_spec.specs.Stretches.{cuts}
 use Rattle.wm_spec.specs.declared.record.cell_range.CellRange.{CellRange}
-use Rattle.wm_net.specs.Counts.{first_cells, cut_count, SteadyTest, IsSteady, has_ends, has_cuts, has_cell, Meet, AreApart, no_two}
+use Rattle.wm_net.specs.Counts.{first_cells, cut_count, SteadyTest, IsSteady, has_ends, has_cuts, has_cell, Meet, AreApart}
 use Rattle.wm_net.specs.Groups.{Group, cell, of_cell, same_group, groups, has_group}
 use Rattle.wm_net.specs.Places.{Once}
 use Rattle.wm_net.proofs.Alikes.{touched-cons}
@@ -136,6 +136,11 @@ pub touches_count : {X : Type 0} (es own : List Entry) (cells : X → CellRange)
 touches_count es own cells xs cut = cells_count es (touched own) cells xs (IsSteady-touched es own cut)
 
 -- ---- what is apart
+
+-- no element and a later one are related
+abbrev pub no_two : {X : Type 0} → (X → X → Bool) → List X → Bool
+no_two related [] = true
+no_two related (x ∷ xs) = not (list_any (related x) xs) && no_two related xs
 
 -- where all that passes the one test passes the other, which nothing passes, nothing is counted
 none-counted : {X : Type 0} (p q : X → Bool) (xs : List X) → ((x : X) → p x ≡ true → q x ≡ true) → list_any q xs ≡ false → count_by p xs ≡ 0

@@ -1,6 +1,6 @@
 -- How many stretches the cells that pass a test fall into where they are cut at every end of some entries: what the length of a list of
 -- stretches is measured by.
-use Rattle.std.specs.Prelude.{ℕ, ◌≡◌, ◌<◌, ◌≤◌, Bool, true, false, not, ◌&&◌, ◌||◌, ◌==◌, nat_le, nat_lt, List, [], ◌∷◌, length}
+use Rattle.std.specs.Prelude.{ℕ, ◌≡◌, ◌<◌, ◌≤◌, Bool, true, false, ◌&&◌, ◌||◌, ◌==◌, nat_le, nat_lt, List, [], ◌∷◌, length}
 use Rattle.std.specs.Bool.{then_some}
 use Rattle.std.specs.List.{count_by, list_all, list_any}
 use Rattle.std.specs.Ordering.{is_eq}
@@ -66,11 +66,6 @@ pub record Meet (f g : Cell → Bool) : Type 0 where
 -- no cell is covered by two of the list
 pub record AreApart {X : Type 0} (covers : X → Cell → Bool) (xs : List X) : Type 0 where
   pub once : (c : Cell) → count_by (λ x. covers x c) xs ≤ 1
-
--- no element and a later one are related
-abbrev pub no_two : {X : Type 0} → (X → X → Bool) → List X → Bool
-no_two related [] = true
-no_two related (x ∷ xs) = not (list_any (related x) xs) && no_two related xs
 
 -- the cells have this one
 abbrev pub has_cell : CellRange → Cell → Bool
