@@ -1,5 +1,5 @@
 -- Touches found by their ids, and what they tell of a cell.
-use Rattle.std.proofs.Common.{◌≡◌, ℕ, ◌+◌, Bool, true, false, cond, not, ◌&&◌, ◌||◌, ◌==◌, nat_lt, nat_le, max, List, [], ◌∷◌, ◌++◌, Option, Some, None, refl, sym, ap, subst, ◌∙◌, arith}
+use Rattle.std.proofs.Common.{◌≡◌, ℕ, ◌+◌, Bool, true, false, cond, ◌&&◌, ◌||◌, ◌==◌, nat_lt, nat_le, max, List, [], ◌∷◌, ◌++◌, Option, Some, None, refl, sym, ap, subst, ◌∙◌, arith}
 use Rattle.std.proofs.lemmas.Bool.{eq-eqb, eqb-true, ne_eqb}
 use Rattle.std.proofs.lemmas.Bool.Decides.{nat_tests}
 use Rattle.std.proofs.lemmas.Map.Views.{any-filter_same}
@@ -24,7 +24,7 @@ use Rattle.wm_spec.specs.declared.record.trace.Trace.{Trace}
 use Rattle.wm_state.specs.ById.{AllAbove, Ascend}
 use Rattle.wm_state.specs.Standing.{in_cells, reached}
 use Rattle.wm_pending.specs.Keys.{Place}
-use Rattle.wm_pending.specs.Touched.{covers_since, has_touched, is_meant, is_since, is_touch_of, is_touched, passes_at}
+use Rattle.wm_pending.specs.Touched.{has_touched, is_meant, is_since, is_touch_of, is_touched, passes_at}
 use Rattle.wm_pending.specs.declared.touched.Since.{Since}
 
 -- ---- ids, in any order
@@ -203,10 +203,6 @@ keys_touched s q ss ids sorted told =
 abbrev pub covers_at : Since → ℕ → Trace → Bool
 covers_at s t x = is_since s x && (nat_le x.cells.from t && nat_lt t x.cells.till)
 
-pub covers_since-is : (s : Since) (o : Option Trace) (t : ℕ) → covers_since s o t ≡ option_map_or (covers_at s t) o false
-covers_since-is s None t = refl
-covers_since-is s (Some x) t = refl
-
 -- the cells of a key that the touches that are meant cover
 pub cells_touched : (s : Since) (table : ℕ) (key : List Value) (t : ℕ) (ss : List Stored) → Ascend ss
     → any_at (covers_at s t) ss (ids_with (is_sought (TouchesAt table key)) ss) ≡ is_touched (parts_of ss).touches s (record { table = table; key = key; time = t })
@@ -223,13 +219,6 @@ cells_touched s table key t ss sorted =
     swap true false c = refl
     swap false true c = refl
     swap false false c = refl
-
--- ---- one more of the periods
-
-pub erased : (quiet covered rest : Bool) → ((quiet && not covered) && not rest) ≡ (quiet && not (covered || rest))
-erased true true rest = refl
-erased true false rest = refl
-erased false covered rest = refl
 
 -- ---- touches that are meant, and how far a cell was touched
 
