@@ -18,20 +18,21 @@ ghost use Rattle.wm_spec.specs.Records.{AreRecords, record_at};
 ghost use Rattle.wm_index.specs.Sought.{OwnedBy, PiecesAt, PiecesIn, TouchesAt, ids_with, is_sought};
 ghost use Rattle.wm_state.specs.ById.{Ascend, applied, by_id};
 ghost use Rattle.wm_image.specs.Listing.{AreSpans, IsFirstShared, IsKeyShowing};
-ghost use Rattle.wm_image.specs.Shown.{is_child_from, is_saved_behind, names, rests_on};
+ghost use Rattle.wm_image.specs.Shown.{Falls, along, is_child_from, is_saved_behind, names, rests_on};
 ghost use Rattle.wm_spec.specs.declared.record.savepoint.Savepoint.{Savepoint as OneSavepoint};
 ghost use Rattle.wm_spec.specs.declared.record.space.Space.{Space as OneSpace};
 ghost use Rattle.wm_state.specs.Effects.{IsFree};
 ghost use Rattle.wm_state.specs.Firsts.{first_recorded};
 ghost use Rattle.wm_state.specs.Listing.{IsShowing};
-ghost use Rattle.wm_state.specs.Standing.{by_number, latest, saved_as, saved_in, seen, space_after};
+ghost use Rattle.wm_state.specs.Standing.{by_number, latest, saved_as, saved_in, seen, space_after, stored_at};
 ghost use Rattle.wm_state.specs.State.{next_table};
 
 use crate::children::{Behind, any_behind, least_child};
-use crate::laying::lay_path;
+use crate::laying::lay_key;
 use crate::listing::{Asked, list_key, list_rows};
 use crate::load::{ImageFault, put_all, sorted};
 use crate::overlap::{find_shared, find_spans};
+use crate::path::path_of;
 use crate::records::apply_all;
 use crate::shown::latest_of;
 use crate::tables::{after_last, catalog_of};
@@ -331,8 +332,24 @@ impl Image {
         requires { keep_rules (parts_of self.now) ≡ true }
         ensures { IfOk result (λ pieces. (t : ℕ) → t < END → held_at pieces t ≡ seen (parts_of self.now) version (record { table = table; key = key.now; time = t })) }
     {
+        let path = path_of(alloc, self, version)?;
+        let pieces = self.shown_along(alloc, path.as_slice(), table, key)?;
+        Ok(pieces)
+    }
+
+    /// What the first version on a path that has anything for a key of a table has there.
+    pub(crate) fn shown_along(
+        &self,
+        alloc: Global,
+        path: &[u64],
+        table: u16,
+        key: &Key,
+    ) -> Result<Pieces, Memory>
+        requires { Falls path.now }
+        ensures { IfOk result (λ pieces. (t : ℕ) → t < END → held_at pieces t ≡ along (λ v. stored_at (parts_of self.now).pieces v (record { table = table; key = key.now; time = t })) path.now) }
+    {
         let ids = ids_on(&self.index.pieces, table, key);
-        let pieces = lay_path(alloc, &self.kept, &self.index, ids, version)?;
+        let pieces = lay_key(alloc, &self.kept, ids, path)?;
         Ok(pieces)
     }
 
