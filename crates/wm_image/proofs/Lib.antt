@@ -17,3 +17,4 @@ pub mod Spaced
 pub mod Coming
 pub mod Ascending
 pub mod Least
+pub mod Turned

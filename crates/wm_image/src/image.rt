@@ -6,7 +6,7 @@ ghost use Rattle.std.specs.Ordering.{is_eq};
 ghost use Rattle.wm_base.specs.Key.{key_order};
 ghost use Rattle.wm_base.specs.declared.value.Value.{Value as OneValue};
 ghost use Rattle.wm_spec.specs.declared.record.stored.Stored.{Stored};
-ghost use Rattle.std.specs.Option.{option_and_then, option_copied, option_to_list};
+ghost use Rattle.std.specs.Option.{option_and_then, option_copied, option_map_or, option_to_list};
 ghost use Rattle.std.specs.Str.{bytes_eq};
 ghost use Rattle.wm_spec.specs.declared.record.table.Table.{Table as OneTable};
 ghost use Rattle.wm_spec.specs.declared.record.version.Version.{Version as OneVersion};
@@ -15,12 +15,13 @@ ghost use Rattle.wm_period.specs.Pieces.{held_at};
 ghost use Rattle.wm_graph.specs.Parts.{as_counters, as_space, as_table, parts_of, row_of, space_of, table_of, version_of};
 ghost use Rattle.wm_graph.specs.Rules.{keep_rules};
 ghost use Rattle.wm_spec.specs.Records.{AreRecords, record_at};
-ghost use Rattle.wm_index.specs.Sought.{OwnedBy, PiecesAt, PiecesIn, TouchesAt, ids_with, is_sought};
+ghost use Rattle.wm_index.specs.Sought.{OwnedBy, PiecesAt, PiecesIn, TouchesAt, ids_with, is_sought, is_touch_since};
 ghost use Rattle.wm_state.specs.ById.{Ascend, applied, by_id};
 ghost use Rattle.wm_image.specs.Listing.{AreSpans, IsFirstShared, IsKeyShowing};
 ghost use Rattle.wm_image.specs.Shown.{Falls, along, is_child_from, is_saved_behind, names, rests_on};
 ghost use Rattle.wm_spec.specs.declared.record.savepoint.Savepoint.{Savepoint as OneSavepoint};
 ghost use Rattle.wm_spec.specs.declared.record.space.Space.{Space as OneSpace};
+ghost use Rattle.wm_state.specs.Drafts.{is_turn};
 ghost use Rattle.wm_state.specs.Effects.{IsFree};
 ghost use Rattle.wm_state.specs.Firsts.{first_recorded};
 ghost use Rattle.wm_state.specs.Listing.{IsShowing};
@@ -43,7 +44,7 @@ use wm_base::{Key, Memory, Period, RowList};
 use wm_catalog::Catalog;
 use wm_index::ids::{are_empty, first_id};
 use wm_index::index::Index;
-use wm_index::keyed::{ids_of, ids_on, keys_on, last_key};
+use wm_index::keyed::{ids_of, ids_on, ids_since, keys_on, last_key};
 use wm_index::kinds;
 use wm_index::records::{Kept, at, first, next_id};
 use wm_index::savepoints::{making_after, savepoint_in, savepoint_of_name};
@@ -382,6 +383,21 @@ impl Image {
         ids_of(&self.index.owned, &space)
     }
 
+    /// The ids of the touches of a workspace whose last entry stands in its log at a position or behind it.
+    pub fn touches_since(&self, alloc: Global, space: u32, from: u64) -> Result<Vec<u64>, Memory>
+        ensures { IfOk result (λ ids. (id : ℕ) → list_any (λ k. k == id) ids.items ≡ option_map_or (is_touch_since space from) (record_at self.now id) false) }
+    {
+        let ids = ids_since(alloc, &self.index.touched_at, space, from)?;
+        Ok(ids)
+    }
+
+    /// Whether a workspace has a turn of a number.
+    pub fn has_turn(&self, space: u32, number: u32) -> bool
+        ensures { result ≡ list_any (is_turn space number) (parts_of self.now).turns }
+    {
+        !ids_of(&self.index.turns_at, &(space, number)).is_empty()
+    }
+
     /// Each key for which a table has pieces, of any version, once and in order.
     pub fn keys(&self, alloc: Global, table: u16) -> Result<Vec<Key>, Memory>
         ensures each { IfOk result (λ keys. (k : List OneValue) → list_any (λ q. is_eq (key_order k q)) keys.items ≡ list_any (is_sought (PiecesAt table k)) (map (λ (s : Stored). s.record) self.now)) }
@@ -410,12 +426,7 @@ impl Image {
         requires { keep_rules (parts_of self.now) ≡ true }
         ensures { IfOk result (λ rows. IsShowing (parts_of self.now) version table.now.number table.now.valid within.now rows) }
     {
-        let asked = Asked {
-            version,
-            table: table.number,
-            valid: table.valid,
-            within: *within,
-        };
+        let asked = Asked::of(version, table, within);
         list_rows(alloc, self, &asked)
     }
 
@@ -431,12 +442,7 @@ impl Image {
         requires { keep_rules (parts_of self.now) ≡ true }
         ensures { IfOk result (λ rows. IsKeyShowing (parts_of self.now) version table.now.number table.now.valid within.now key.now rows) }
     {
-        let asked = Asked {
-            version,
-            table: table.number,
-            valid: table.valid,
-            within: *within,
-        };
+        let asked = Asked::of(version, table, within);
         list_key(alloc, self, &asked, key)
     }
 

@@ -19,7 +19,7 @@ use crate::standing::{ending, first_from, from_behind};
 use std::alloc::Global;
 use wm_base::{Instant, Key, Memory, Period, Row, RowList, Value};
 use wm_period::Piece;
-use wm_spec::record::RowRecord;
+use wm_spec::record::{RowRecord, Table};
 
 /// Which rows are asked for: those of a table in a version. Where they have valid time, those that overlap a period
 /// are, and each is shown with its own.
@@ -29,6 +29,20 @@ pub struct Asked {
     pub table: u16,
     pub valid: bool,
     pub within: Period,
+}
+
+impl Asked {
+    /// The rows of a table in a version; where they have valid time, those that overlap a period.
+    pub fn of(version: u64, table: &Table, within: &Period) -> Asked
+        ensures { result ≡ (record { version = version; table = table.now.number; valid = table.now.valid; within = within.now }) }
+    {
+        Asked {
+            version,
+            table: table.number,
+            valid: table.valid,
+            within: *within,
+        }
+    }
 }
 
 /// Whether a row that stands on a period is shown.
