@@ -166,3 +166,37 @@ pub fn list_rows(alloc: Global, image: &Image, asked: &Asked) -> Result<RowList,
     }
     Ok(rows)
 }
+
+impl Image {
+    /// What is shown of the rows of a table that a version holds, by key and from: the rows; where the table has valid
+    /// time, those that overlap a period, each with its own behind its values.
+    pub fn showing(
+        &self,
+        alloc: Global,
+        version: u64,
+        table: &Table,
+        within: &Period,
+    ) -> Result<RowList, Memory>
+        requires { keep_rules (parts_of self.now) ≡ true }
+        ensures { IfOk result (λ rows. IsShowing (parts_of self.now) version table.now.number table.now.valid within.now rows) }
+    {
+        let asked = Asked::of(version, table, within);
+        list_rows(alloc, self, &asked)
+    }
+
+    /// What is shown of the rows of a key of a table that a version holds, by from. The rest of the table is not looked at.
+    pub fn showing_of_key(
+        &self,
+        alloc: Global,
+        version: u64,
+        table: &Table,
+        within: &Period,
+        key: &Key,
+    ) -> Result<RowList, Memory>
+        requires { keep_rules (parts_of self.now) ≡ true }
+        ensures { IfOk result (λ rows. IsKeyShowing (parts_of self.now) version table.now.number table.now.valid within.now key.now rows) }
+    {
+        let asked = Asked::of(version, table, within);
+        list_key(alloc, self, &asked, key)
+    }
+}
