@@ -4,6 +4,8 @@ pub mod Loading
 pub mod Twice
 pub mod Newest
 pub mod Walking
+pub mod Falling
+pub mod Along
 pub mod Naming
 pub mod Cataloguing
 pub mod Tabled

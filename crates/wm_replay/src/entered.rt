@@ -15,8 +15,8 @@ use wm_image::Image;
 use wm_spec::record::Space;
 use wm_state::edit::NewEntry;
 
-/// The records of entries that come into a version of a workspace, at the last place that was given there and behind its
-/// log. Their rows are there already.
+/// The records of entries that come into a version of a workspace, at the last place that was given there and behind
+/// its log. Their rows are there already.
 pub fn enter(
     alloc: Global,
     image: &Image,

@@ -45,7 +45,7 @@ returns-clause-drafts c =
     drafts_gaining c.args.image.now c.args.moment c.args.work c.args.space place c.in_ok-id.id c.len.result c.args.entries c.unwrap-old.result.now c.in_ok-longer.longer c.counters.result c.moved-counters.result c.new.result c.in_ok-changes.changes drawn dropped
     c.in_ok-entered.entered.hists.items c.push_all.new.news.items c.requires.rules c.requires.work c.requires.can k.found c.counters.ensures c.in_ok-id.ensures.above k.last c.moved-counters.ensures (counted_as c.args.entries c.len.result c.len.ensures)
     c.in_ok-longer.ensures c.new.ensures
-    (subst (λ (marks : List PieceRecord). IsRedrawn (touch_in c.args.space) c.args.image.now marks dropped drawn) (c.in_ok-entered.ensures.marks place k.last) c.in_ok-touches.ensures)
+    (subst (λ (marks : List PieceRecord). IsRedrawn (touch_in c.args.space) c.args.image.now marks dropped drawn) (c.in_ok-entered.ensures.marks place k.last) c.in_ok-touches.ensures.redrawn)
     (record {
       touches = c.push_touches.new.news.items;
       first = c.in_ok-push_touches.ensures ∙ ap (λ (rs : List Record). rs ++ map records.Touch (map (trace_at c.args.space place) drawn)) c.new-news.ensures.items;

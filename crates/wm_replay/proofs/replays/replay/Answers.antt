@@ -50,7 +50,7 @@ returns-clause-drafts c =
     c.versioned-counters.result c.in_ok-front.front c.in_ok-changes.changes drawn pieces dropped c.in_ok-entered.entered.hists.items c.push_pieces.new.news.items c.push_all.new.news.items c.requires.rules c.requires.work c.requires.can k.found
     c.counters-before.ensures c.in_ok-id.ensures.above refl k.last c.versioned-counters.ensures (counted_as c.args.entries c.len.result c.len.ensures) c.in_ok-longer.ensures c.in_ok-front.ensures c.latest.ensures c.in_ok-entered.ensures.pieces
     (c.in_ok-push_pieces.ensures ∙ ap (λ (rs : List Record). rs ++ map records.Piece pieces) c.new-news.ensures.items)
-    (subst (λ (marks : List PieceRecord). IsRedrawn (touch_in c.args.space) c.args.image.now marks dropped drawn) (c.in_ok-entered.ensures.marks place k.last) c.in_ok-touches.ensures)
+    (subst (λ (marks : List PieceRecord). IsRedrawn (touch_in c.args.space) c.args.image.now marks dropped drawn) (c.in_ok-entered.ensures.marks place k.last) c.in_ok-touches.ensures.redrawn)
     (record {
       touches = c.push_touches.new.news.items;
       first = c.in_ok-push_touches.ensures;
