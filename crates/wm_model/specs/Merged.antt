@@ -87,13 +87,6 @@ pub record Refreshes (rs : List Stored) (m : ℕ) (session : Session) (workspace
   pub clear : refreshing_refusal (parts_of rs) a found ≡ None
   pub listed : IsHeldListing (parts_of rs) m session.user (gained_held (parts_of rs) a b) es
 
--- the entries can be written, what is own can be copied, and the next turn is not there
-pub record CanRefresh (rs : List Stored) (a : Space) (ks : List KeyPieces) (es : List Entry) : Type 0 where
-  pub own : AreOwn (parts_of rs) a ks
-  pub keys : are_keys_kept ks ≡ true
-  pub ready : list_all (is_ready_entry (parts_of rs)) es ≡ true
-  pub unturned : list_any (is_turn a.number (a.rebases + 1)) (parts_of rs).turns ≡ false
-
 -- entries that a log gains, where there are some
 abbrev pub gain_edits : ℕ → Vec NewEntry Global → List Edit
 gain_edits n entries = if length entries.items == 0 then [] else edits.Gain n entries ∷ []
@@ -144,12 +137,6 @@ pub record Merges (rs : List Stored) (m : ℕ) (xs : List Session) (session : Se
   pub clear : merging_refusal asked (parts_of rs) xs a b found own ≡ None
   pub own_listed : IsHeldListing (parts_of rs) m session.user (own_held (parts_of rs) a) own
   pub gained_listed : IsHeldListing (parts_of rs) m session.user (gained_held (parts_of rs) a b) es
-
--- the entries can be written, and the next turn is not there
-pub record CanMerge (rs : List Stored) (a : Space) (own es : List Entry) : Type 0 where
-  pub own_ready : list_all (is_ready_entry (parts_of rs)) own ≡ true
-  pub ready : list_all (is_ready_entry (parts_of rs)) es ≡ true
-  pub unturned : list_any (is_turn a.number (a.rebases + 1)) (parts_of rs).turns ≡ false
 
 -- the longer of both logs
 abbrev pub longer_log_at : Space → Space → List Entry → List Entry → ℕ
