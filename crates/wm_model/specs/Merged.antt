@@ -1,6 +1,6 @@
 -- What is looked up in the records where a workspace is refreshed or merged.
 use Rattle.std.specs.Prelude.{ℕ, ◌≡◌, ◌+◌, ◌<◌, Bool, true, false, ◌&&◌, ◌||◌, ◌==◌, nat_le, nat_lt, if◌then◌else◌, List, [], ◌∷◌, ◌++◌, length, max, Option, Some, None, is_some, codes}
-use Rattle.std.specs.List.{count_by, find, list_all, list_any}
+use Rattle.std.specs.List.{count_by, find, list_all}
 use Rattle.std.specs.Str.{bytes_eq}
 use Rattle.std.specs.declared.alloc.Global.{Global}
 use Rattle.std.specs.declared.vec.Vec.{Vec}
@@ -15,14 +15,14 @@ use Rattle.wm_spec.specs.declared.record.space.Space.{Space}
 use Rattle.wm_spec.specs.declared.record.stored.Stored.{Stored}
 use Rattle.wm_spec.specs.declared.record.table.Table.{Table}
 use Rattle.wm_state.specs.Copied.{KeyPieces}
-use Rattle.wm_state.specs.Drafts.{can_keep, can_keep_entry, is_turn}
+use Rattle.wm_state.specs.Drafts.{can_keep, can_keep_entry}
 use Rattle.wm_state.specs.Points.{implicit_of}
 use Rattle.wm_state.specs.Standing.{is_ready, saved_in}
 use Rattle.wm_state.specs.State.{Session}
 use Rattle.wm_state.specs.declared.edit.Edit.{Edit}
 use Rattle.wm_state.specs.declared.edit.Edit.TheVariants as edits
 use Rattle.wm_state.specs.declared.edit.NewEntry.{NewEntry}
-use Rattle.wm_telling.specs.Telling.{AreOwn, IsFirstClash, IsHeldListing, clash_held, gained_held, own_held}
+use Rattle.wm_telling.specs.Telling.{IsFirstClash, IsHeldListing, clash_held, gained_held, own_held}
 use Rattle.wm_print.specs.Texts.{Answer}
 use Rattle.wm_model.specs.Step.{Asked, at_its_end, first_fault, in_conflict, most_savepoints, number_limit, refused_for, refused_if, savepoint_there, told_period}
 use Rattle.wm_model.specs.Undone.{NamesSpace, removing_refusal}
