@@ -11,7 +11,8 @@
 #   make faults  lets each call on the store, the script and the answers go wrong in turn, and the power go at each moment
 #   make wrong   tries wrong bodies that the gate leaves out, since the proof of their crates is dear: each must be refused
 #   make edge    tries two runs at once, closed and full streams, full disks, and paths and words that are none
-#   make bench   times 10,000 INSERT lines, a SELECT of them, SELECT and UPDATE lines by key, and a join of two tables of 1,000 rows
+#   make bench   times 10,000 INSERT lines, a SELECT of them, SELECT and UPDATE lines by key, and a join of two tables of 1,000 rows;
+#                and how much longer a SELECT and INSERT lines take behind 1,000 merges than behind one
 
 RT ?= rt
 PYTHON ?= python3
@@ -79,6 +80,7 @@ edge: build/wm
 
 bench: build/wm
 	$(PYTHON) bench/statements.py build/wm
+	$(PYTHON) bench/merges.py build/wm
 
 install: build/wm
 	install -D -m 755 build/wm "$(DESTDIR)$(PREFIX)/bin/wm"

@@ -38,6 +38,20 @@ B: INSERT INTO BUD VALUES (5, 50, 'for nothing')
 A: EXECUTE DBMS_WM.RemoveWorkspace('V')
 B: EXECUTE DBMS_WM.GotoWorkspace('W')
 A: EXECUTE DBMS_WM.RemoveWorkspace('V')
+A: EXECUTE DBMS_WM.RefreshWorkspace('W')
+A: EXECUTE DBMS_WM.CreateWorkspace('U')
+B: EXECUTE DBMS_WM.GotoWorkspace('U')
+B: DELETE FROM BUD WHERE ID = 2
+A: UPDATE BUD SET NOTE = 'news' WHERE ID = 1
+A: EXECUTE DBMS_WM.RefreshWorkspace('U')
+A: EXECUTE DBMS_WM.RefreshWorkspace('U')
+A: INSERT INTO BUD VALUES (7, 70, 'more news')
+A: EXECUTE DBMS_WM.MergeWorkspace('U', create_savepoint => TRUE)
+A: EXECUTE DBMS_WM.MergeWorkspace('U')
+B: INSERT INTO BUD VALUES (6, 60, 'merged')
+A: EXECUTE DBMS_WM.MergeWorkspace('U', remove_workspace => TRUE)
+B: EXECUTE DBMS_WM.GotoWorkspace('LIVE')
+A: EXECUTE DBMS_WM.MergeWorkspace('U', FALSE, TRUE)
 A: EXECUTE DBMS_WM.SetValidTime(DATE '2020-01-01', DATE '2030-01-01')
 A: INSERT INTO EMP VALUES ('Ada', 30)
 A: INSERT INTO EMP VALUES ('Bob', 20)
@@ -59,6 +73,8 @@ CONNECT Z ZOE
 Z: EXECUTE DBMS_WM.SetValidTime(DATE '0001-01-01')
 Z: SELECT * FROM BUD
 Z: SELECT * FROM EMP
+Z: EXECUTE DBMS_WM.GotoSavepoint('ICP-4')
+Z: SELECT * FROM BUD
 Z: EXECUTE DBMS_WM.GotoWorkspace('W')
 Z: SELECT * FROM BUD
 Z: SELECT * FROM EMP
@@ -69,6 +85,9 @@ Z: EXECUTE DBMS_WM.GotoSavepoint('T')
 Z: SELECT * FROM BUD
 Z: EXECUTE DBMS_WM.GotoWorkspace('V')
 Z: SELECT * FROM BUD
+Z: EXECUTE DBMS_WM.GotoWorkspace('U')
+Z: SELECT * FROM BUD
+Z: SELECT * FROM EMP
 """
 
 # What was made is refused.

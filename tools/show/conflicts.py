@@ -36,9 +36,10 @@ def conflict_card(store, space, found):
 def conflicts_section(store, found):
     """What the section says, and its cards."""
     if not found:
-        return ["None: no workspace and its parent have changed the same key since the one was made of the other."]
-    told = ("What a workspace and its parent both changed since the one was made of the other: as it was then, and as each "
-            "of them has it now. Marked is what is no more as it was. It counts also where both wrote the same.")
+        return ["None: no workspace and its parent have changed the same key since they last met."]
+    told = ("What a workspace and its parent both changed since they last met, as the one was made of the other, refreshed or merged: "
+            "as it was then, and as each of them has it now. Marked is what is no more as it was. It counts also where both wrote the "
+            "same.")
     if len(found) > MOST:
         told += f" The first {MOST} of {len(found)} are here."
     return [told, *(conflict_card(store, space, conflict) for space, conflict in found[:MOST])]

@@ -14,7 +14,7 @@ def in_order(store, number=LIVE):
 
 def births(store):
     """The savepoint that was made for each workspace but LIVE. Of several at one place, in order of their making; one of a workspace that
-    was removed since may be among them."""
+    was removed since, or of a merge, may be among them."""
     found = {}
     for space in store.spaces.values():
         points = [point for point in store.savepoints_of(space) if point.is_implicit]
@@ -111,7 +111,7 @@ class Graph:
     def node(self, point, level, colour):
         x = self.column[point.making]
         if point.is_implicit:
-            told = title(f"{point.name}, {point.moment}: made for a workspace")
+            told = title(f"{point.name}, {point.moment}: made for a workspace or a merge")
             return element("circle", told, cx=x, cy=level, r=4.5, class_="implicit", style=f"stroke:{colour}")
         mark = element("path", title(f"{point.name}, {point.moment}"), d=f"M{x - 7:.1f} {level} l7 -7 l7 7 l-7 7 z",
                        class_="savepoint", style=f"fill:{colour}")

@@ -71,6 +71,6 @@ def keys_section(store, found, most):
         return ["There are no rows yet."]
     told = ("Of a table with valid time, each key over time: a bar is a row and the period for which it holds, and equal "
             "colours are the work of one change. Workspaces that hold the same share a lane; hatched is what is in conflict. "
-            "Of other tables, each key in each workspace; marked is what the workspace changed, and pale is what its parent "
+            "Of other tables, each key in each workspace; marked is what is its own, and pale is what its parent "
             "has otherwise by now.")
     return [told, *(table_card(store, table, found, most) for table in tables)]

@@ -49,13 +49,19 @@ def changed_keys(store, space):
     return {(cells.table, cells.key) for cells in store.own_cells(space)}
 
 
+def own_told(store, space):
+    """What is still a workspace's own: what was merged from it is not."""
+    keys = changed_keys(store, space)
+    return f"changes of its own on {counted(len(keys), 'key')}" if keys else "nothing of its own"
+
+
 def facts(store, space):
     """What a workspace's line says behind its name."""
     found = [counted(space.log_length, "change")]
     if space.number != LIVE:
-        keys, conflicts = changed_keys(store, space), store.conflicts(space)
-        found = [f"made {space.born}", f"{counted(space.log_length, 'change')} on {counted(len(keys), 'key')}",
-                 f"{counted(store.changes_since(space), 'change')} in {store.spaces[space.parent].name} since",
+        conflicts = store.conflicts(space)
+        found = [f"made {space.born}", own_told(store, space),
+                 f"{counted(store.changes_since(space), 'new change')} in {store.spaces[space.parent].name}",
                  counted(len(conflicts), "conflict") if conflicts else "no conflict"]
     return found + ([f"frozen {FREEZES[space.freeze]}"] if space.freeze else [])
 
@@ -69,7 +75,7 @@ def branch(store, space, indent=""):
         is_last = place == len(below) - 1
         mark, further = ("└─ ", "   ") if is_last else ("├─ ", "│  ")
         if kind == "savepoint":
-            made = " (made for a workspace)" if item.is_implicit else ""
+            made = " (made for a workspace or a merge)" if item.is_implicit else ""
             lines.append(f"{indent}{mark}{printed(item.name)} {item.moment}{made}")
         else:
             lines.append(f"{indent}{mark}{item.name}: {', '.join(facts(store, item))}")

@@ -73,14 +73,15 @@ def table_row(store, table):
 def tables_section(store):
     heads = "".join(f'<th class="number">{escape(space.name)}</th>' for space in store.spaces.values())
     rows = "".join(table_row(store, table) for table in store.tables.values())
-    told = "How many rows each workspace sees. Marked is what it changed itself, by keys." if rows else "No table has been made yet."
+    told = "How many rows each workspace sees. Marked is what it changed itself and did not merge, by keys." if rows else "No table has been made yet."
     head = f"<thead><tr><th>Table</th><th>Columns</th>{heads}</tr></thead>"
     return section("tables", told, card(f"<table>{head}<tbody>{rows}</tbody></table>") if rows else "")
 
 
 def workspaces_section(store):
-    told = ("A lane for each workspace, from where it was born. A number in a lane is how many changes were made there; a "
-            "diamond is a savepoint, and a ring is one that was made for a workspace. What is newest stands to the right.")
+    told = ("A lane for each workspace, from where it was born. A number in a lane is how many changes were made there or "
+            "were brought there by a refresh or a merge; a diamond is a savepoint, and a ring is one that was made for a workspace or "
+            "a merge. What is newest stands to the right.")
     return section("workspaces", told, card(Graph(store).picture()))
 
 

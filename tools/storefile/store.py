@@ -140,7 +140,7 @@ class Store:
         return [touch for touch in self.touches if touch.space == space.number]
 
     def own_cells(self, space):
-        """The cells that the workspace changed and did not merge."""
+        """The cells that the workspace changed, or that were merged into it, and that it did not merge."""
         return [piece.cells for version in self.own_path(space) for piece in self.pieces[version]]
 
     def pending(self, space):
@@ -149,7 +149,7 @@ class Store:
         return [touch.cells for touch in touches if touch.position >= space.parent_log_length]
 
     def changes_since(self, space):
-        """How many changes the parent made since then."""
+        """How many entries the parent's log has got since then."""
         return max(0, self.spaces[space.parent].log_length - space.parent_log_length)
 
     def last_stamps(self, table):
@@ -163,8 +163,7 @@ class Store:
     # What will conflict
 
     def conflicts(self, space):
-        """The longest periods that the workspace and its parent both changed since the one was made of the other, by
-        table and key."""
+        """The longest periods that the workspace and its parent both changed since they last met, by table and key."""
         if space.number not in self.found:
             self.found[space.number] = self.find_conflicts(space) if space.number != LIVE else []
         return self.found[space.number]

@@ -1,10 +1,12 @@
-"""Random scripts that make workspaces, savepoints and rows over periods, go back and remove, and are mostly accepted."""
+"""Random scripts that make workspaces, savepoints and rows over periods, refresh, merge, go back and remove, and are mostly accepted."""
 import random
 
 # Whether a table has valid time, and its history.
 TABLES = {"PLOT": (True, "VIEW_WO_OVERWRITE"), "TAX": (False, "NONE"), "DEED": (True, "NONE")}
 ENDS = ["DATE '2020-01-01'", "DATE '2020-03-01'", "TIMESTAMP '2020-05-01 12:00:00'", "DATE '2020-09-01'", "DATE '2021-01-01'",
         "DBMS_WM.UNTIL_CHANGED"]
+# What a merge is asked for besides: a savepoint before it, and the removal of the workspace behind it.
+BESIDES = ["", "", "", ", TRUE", ", FALSE, TRUE", ", TRUE, TRUE"]
 
 
 class Writer:
@@ -28,37 +30,47 @@ class Writer:
     def line(self):
         pick, session = self.random.random(), self.random.choice("AB")
         table, number = self.random.choice(list(TABLES)), self.random.randrange(6)
-        if pick < 0.30:
+        if pick < 0.26:
             note = self.random.choice(["NULL", f"'it is {session}'"])
             return f"{session}: INSERT INTO {table} VALUES ({number}, {self.random.randrange(10)}, {note})"
-        if pick < 0.52:
+        if pick < 0.46:
             return f"{session}: UPDATE {table} SET X = {self.random.randrange(10)}, NOTE = NULL{self.condition()}"
-        if pick < 0.60:
+        if pick < 0.52:
             return f"{session}: UPDATE PLOT SET WM_VALID = WM_PERIOD({self.period()}) WHERE ID = {number}"
-        if pick < 0.68:
+        if pick < 0.58:
             return f"{session}: DELETE FROM {table}{self.condition()}"
-        return self.other_line(pick, session)
+        if pick < 0.78:
+            return self.standing_line(pick, session)
+        return self.workspace_line(pick, session)
 
-    def other_line(self, pick, session):
-        if pick < 0.76:
+    def standing_line(self, pick, session):
+        """A line on the period of the session, on where it stands, or on the moment."""
+        if pick < 0.66:
             return f"{session}: EXECUTE DBMS_WM.SetValidTime({self.period()})"
-        if pick < 0.81:
-            self.workspaces.append(f"W{len(self.workspaces)}")
-            return f"{session}: EXECUTE DBMS_WM.CreateWorkspace('{self.workspaces[-1]}')"
-        if pick < 0.88:
+        if pick < 0.74:
             return f"{session}: EXECUTE DBMS_WM.GotoWorkspace('{self.random.choice(self.workspaces)}')"
-        if pick < 0.92:
-            self.points.append((self.random.choice(self.workspaces), f"P{len(self.points)}"))
-            return f"{session}: EXECUTE DBMS_WM.CreateSavepoint('{self.points[-1][0]}', '{self.points[-1][1]}')"
-        if pick < 0.96 and self.points:
-            workspace, point = self.random.choice(self.points)
-            return f"{session}: EXECUTE DBMS_WM.RollbackToSP('{workspace}', '{point}')"
-        if pick < 0.97:
-            return f"{session}: EXECUTE DBMS_WM.RemoveWorkspace('{self.random.choice(self.workspaces[1:] or self.workspaces)}')"
-        if pick < 0.985 and self.points:
+        if pick < 0.76 and self.points:
             return f"{session}: EXECUTE DBMS_WM.GotoSavepoint('{self.random.choice(self.points)[1]}')"
         self.day = min(self.day + 1, 28)
         return f"AT DATE '2024-02-{self.day:02}'"
+
+    def workspace_line(self, pick, session):
+        """A line on a workspace as a whole."""
+        workspace = self.random.choice(self.workspaces[1:] or self.workspaces)
+        if pick < 0.83:
+            self.workspaces.append(f"W{len(self.workspaces)}")
+            return f"{session}: EXECUTE DBMS_WM.CreateWorkspace('{self.workspaces[-1]}')"
+        if pick < 0.87:
+            self.points.append((self.random.choice(self.workspaces), f"P{len(self.points)}"))
+            return f"{session}: EXECUTE DBMS_WM.CreateSavepoint('{self.points[-1][0]}', '{self.points[-1][1]}')"
+        if pick < 0.90 and self.points:
+            workspace, point = self.random.choice(self.points)
+            return f"{session}: EXECUTE DBMS_WM.RollbackToSP('{workspace}', '{point}')"
+        if pick < 0.91:
+            return f"{session}: EXECUTE DBMS_WM.RemoveWorkspace('{workspace}')"
+        if pick < 0.95:
+            return f"{session}: EXECUTE DBMS_WM.RefreshWorkspace('{workspace}')"
+        return f"{session}: EXECUTE DBMS_WM.MergeWorkspace('{workspace}'{self.random.choice(BESIDES)})"
 
     def script(self, length):
         self.lines += [self.line() for _ in range(length)]

@@ -39,8 +39,8 @@ def selections(found, version):
 
 
 def cells_in_conflict(found, space):
-    """What both have touched, by key. No merge and no refresh is built yet, so what a workspace changed and did not merge
-    is all that it touched."""
+    """What both have touched, by key. Of a workspace that was never refreshed or merged this is all that is in conflict; of
+    others it may be more, for touches stay of what was brought."""
     inside = {}
     for ours in found.touches_of(space):
         for theirs in found.pending(space):
@@ -48,6 +48,21 @@ def cells_in_conflict(found, space):
             if ours.cells[:2] == theirs[:2] and shared:
                 inside.setdefault(ours.cells[:2], []).append(shared)
     return inside
+
+
+def asked_conflict(found, space):
+    """What the program is to answer to a refresh: the first conflict, if there is one."""
+    conflict = next(iter(found.conflicts(space)), None)
+    if conflict is None:
+        return "OK"
+    period = f" {conflict.period}" if conflict.table.is_valid else ""
+    return f"WM-051 conflict {conflict.table.name} {printed(conflict.key)}{period}"
+
+
+def lies_within(inner, outer):
+    """Whether longest periods by key lie within others."""
+    return all(any(begin <= first and last <= till for begin, till in outer.get(key, []))
+               for key, periods in inner.items() for first, last in periods)
 
 
 def by_key(cells):
@@ -115,6 +130,7 @@ class Contents(WithFolder):
                 self.touches(found)
                 self.turns(found)
                 self.conflicts(found)
+                self.refreshes(found)
 
     def test_undone(self):
         """What a rollback leaves is shown nowhere, and a removed workspace neither."""
@@ -134,19 +150,32 @@ class Contents(WithFolder):
             self.assertEqual("nobody anything" in text, not keys)
             self.assertEqual("There are no rows yet." in page, not keys)
 
+    def test_merged(self):
+        """What was merged is not told as a workspace's own any more, and what its parent changed since is told anew."""
+        lines = ["CREATE TABLE T (ID NUMBER PRIMARY KEY)", "EXECUTE DBMS_WM.EnableVersioning('T')", "EXECUTE DBMS_WM.CreateWorkspace('W')",
+                 "EXECUTE DBMS_WM.GotoWorkspace('W')", "INSERT INTO T VALUES (1)", "DELETE FROM T", "INSERT INTO T VALUES (2)",
+                 "EXECUTE DBMS_WM.MergeWorkspace('W', TRUE)", "EXECUTE DBMS_WM.GotoWorkspace('LIVE')", "INSERT INTO T VALUES (3)"]
+        for count, told in ((7, "changes of its own on 2 keys, 0 new changes"), (8, "nothing of its own, 0 new changes"),
+                            (10, "nothing of its own, 1 new change")):
+            self.store.unlink(missing_ok=True)
+            script = "CONNECT A ANN\n" + "".join(f"A: {line}\n" for line in lines[:count])
+            self.assertNotIn(b"WM-", run(made(self.store), "2024-01-01", script.encode()).stdout)
+            said = tool("show", self.store).stdout
+            self.assertIn(f"W: made 2024-01-01 00:00:00, {told} in LIVE, no conflict", said)
+        self.assertIn("'ICP-2' 2024-01-01 00:00:00 (made for a workspace or a merge)", said)
+
     def histories(self, found):
-        """Each change took a stamp, and has a position in its workspace's log unless it was undone or the workspace is gone. Of a
-        table with history each is kept, and of another none."""
-        self.assertLessEqual(sum(space.log_length for space in found.spaces.values()), found.counters.next_stamp - 1)
+        """Each entry of a log has a stamp that was given, and a position in it: of a table with history each is kept, and of
+        another none. What was brought by a refresh or a merge has the stamp that it had."""
+        self.assertTrue(all(0 < entry.stamp < found.counters.next_stamp for entry in found.history))
         self.assertTrue(all(found.tables[entry.cells.table].has_history for entry in found.history))
-        self.assertEqual(len({entry.stamp for entry in found.history}), len(found.history))
         for space in found.spaces.values():
             positions = [entry.position for entry in found.history_of(space)]
             self.assertEqual(positions, sorted(set(positions) & set(range(space.log_length))))
 
     def touches(self, found):
         """In tables with history touches reach as far as its entries do, also at each savepoint; in each table they are over
-        what the workspace changed, and none of one place is over another."""
+        what is the workspace's own, and none of one place is over another."""
         for space in found.spaces.values():
             touches = found.touches_of(space)
             self.reach(found, touches, found.history_of(space))
@@ -154,18 +183,31 @@ class Contents(WithFolder):
                 self.reach(found, [touch for touch in touches if touch.place < point.place],
                            [entry for entry in found.history_of(space) if entry.position < point.log_length])
             if space.number != LIVE:
-                self.assertEqual(by_key(touch.cells for touch in touches), by_key(found.own_cells(space)))
+                self.own(space, by_key(found.own_cells(space)), by_key(touch.cells for touch in touches))
             for one, other in combinations(touches, 2):
                 if (one.place, *one.cells[:2]) == (other.place, *other.cells[:2]):
                     self.assertIsNone(one.cells.period.overlap(other.cells.period))
+
+    def own(self, space, own, touched):
+        """Until it is refreshed or merged all that a workspace touched is its own."""
+        if space.rebases:
+            self.assertTrue(lies_within(own, touched))
+        else:
+            self.assertEqual(own, touched)
 
     def reach(self, found, touches, entries):
         self.assertEqual(reaches(touch for touch in touches if found.tables[touch.cells.table].has_history), reaches(entries))
 
     def turns(self, found):
-        """No workspace was rebased yet: each but LIVE has the turn of its birth, which says where it began."""
-        born = [(space.number, 0, space.parent_log_length, 0) for space in found.spaces.values() if space.number != LIVE]
-        self.assertEqual(found.turns, born)
+        """Each workspace but LIVE has a turn for its birth and one for each rebase, and the last one says how far it has seen its
+        parent."""
+        numbers = [(space.number, rebase) for space in found.spaces.values() if space.number != LIVE
+                   for rebase in range(space.rebases + 1)]
+        self.assertEqual([turn[:2] for turn in found.turns], numbers)
+        last = {turn.space: turn.log_length for turn in found.turns}
+        self.assertEqual(last, {space.number: space.parent_log_length for space in found.spaces.values() if space.number != LIVE})
+        for one, other in zip(found.turns, found.turns[1:]):
+            self.assertTrue(one.space != other.space or (one.log_length, one.rebases) <= (other.log_length, other.rebases))
 
     def conflicts(self, found):
         for space in found.spaces.values():
@@ -174,9 +216,24 @@ class Contents(WithFolder):
             told = {}
             for conflict in found.conflicts(space):
                 told.setdefault((conflict.table.number, conflict.key), []).append(tuple(conflict.period))
-            wanted = cells_in_conflict(found, space)
-            self.assertEqual({cell: covered(periods) for cell, periods in told.items()},
-                             {cell: covered(periods) for cell, periods in wanted.items()})
+            told = {cell: covered(periods) for cell, periods in told.items()}
+            wanted = {cell: covered(periods) for cell, periods in cells_in_conflict(found, space).items()}
+            if space.rebases:
+                self.assertTrue(lies_within(told, wanted))
+            else:
+                self.assertEqual(told, wanted)
+
+    def refreshes(self, found):
+        """The program tells the first conflict of each workspace, or refreshes it. Children are asked before their parents, whose
+        logs a refresh makes longer."""
+        spaces = [space for number, space in sorted(found.spaces.items(), reverse=True) if number != LIVE]
+        lines = ["CONNECT Z ZOE", *(f"Z: EXECUTE DBMS_WM.RefreshWorkspace({text(space.name)})" for space in spaces)]
+        done = run(self.store, "0001-01-01", "".join(line + "\n" for line in lines).encode())
+        self.assertEqual(done.stdout.decode().splitlines(), ["OK", *(asked_conflict(found, space) for space in spaces)])
+        after = opened(self.store)
+        for space in spaces:
+            if not found.conflicts(space):
+                self.assertEqual(after.spaces[space.number].parent_log_length, found.spaces[space.parent].log_length)
 
 
 class Files(WithFolder):

@@ -90,7 +90,7 @@ found_there (Some a) some = (a, refl)
 -- ---- what is written
 
 -- where the records stand
-written_places : (rs : List Stored) (front : List Change) (counters c : Counters) (a longer : Space) (id next : ℕ) (dropped : List ℕ) (news : List Record) (changes : List Change) → (parts_of rs).counters ≡ c ∷ []
+pub written_places : (rs : List Stored) (front : List Change) (counters c : Counters) (a longer : Space) (id next : ℕ) (dropped : List ℕ) (news : List Record) (changes : List Change) → (parts_of rs).counters ≡ c ∷ []
     → space_of (parts_of rs).spaces a.number ≡ Some a → longer.number ≡ a.number → ((i : ℕ) → id ≤ i → record_at rs i ≡ None) → (w : AreWritten rs front counters longer next dropped news changes) → Places rs w.counters_id w.space_id id c a
 written_places rs front counters c a longer id next dropped news changes one there same above w = record {
   sorted = w.sorted;
@@ -113,7 +113,7 @@ batch_is rs front counters a longer version next es dropped news changes longer_
     ∙ ap (λ (xs : List Record). front ++ (put w.counters_id (records.Counters counters) ∷ put w.space_id (records.Space (longer_by (length es) a)) ∷ (map drop_one dropped ++ put_all next xs))) made.are
 
 -- so many as are told
-counted_so : (entries : List NewEntry) (count : ℕ) → count ≡ length entries → count ≡ length (map entry_of entries)
+pub counted_so : (entries : List NewEntry) (count : ℕ) → count ≡ length entries → count ≡ length (map entry_of entries)
 counted_so entries count is = is ∙ sym (length-map entries entry_of)
 
 -- entries come into the newest version

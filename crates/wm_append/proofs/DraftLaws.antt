@@ -1,5 +1,5 @@
 -- What drafts come to, told of results.
-use Rattle.std.proofs.Common.{◌≡◌, ℕ, ◌==◌, ◌&&◌, Bool, true, false, not, List, [], ◌∷◌, ◌++◌, Option, None, Some, Result, Ok, Err, IfOk, refl, sym, ap, subst, ◌∙◌}
+use Rattle.std.proofs.Common.{◌≡◌, ℕ, ◌==◌, ◌&&◌, Bool, true, false, not, List, [], ◌∷◌, ◌++◌, append-nil, Option, None, Some, Result, Ok, Err, IfOk, refl, sym, ap, subst, ◌∙◌}
 use Rattle.std.specs.List.{filter, flat_map}
 use Rattle.std.specs.Bool.{then_some}
 use Rattle.std.specs.Option.{option_map_or}
@@ -19,8 +19,9 @@ use Rattle.wm_state.specs.Drawing.{left_by}
 use Rattle.wm_index.specs.Kinds.{kind_at}
 use Rattle.wm_index.specs.Sought.{Sought, ids_with, is_sought}
 use Rattle.wm_changes.proofs.Dropping.{filter-with}
+use Rattle.wm_append.proofs.Few.{few_more}
 use Rattle.wm_append.specs.Layers.{sought_in, view_of}
-use Rattle.wm_append.specs.Redraw.{IsDraft, IsRedrawn, met, unmet}
+use Rattle.wm_append.specs.Redraw.{AreFew, IsDraft, IsRedrawn, met, unmet}
 use Rattle.wm_append.specs.Views.{IsPlaced, View, has_version, ids_of_key, keeps_in}
 use Rattle.wm_append.specs.declared.redraw.Draft.{Draft}
 use Rattle.wm_append.specs.declared.redraw.Redrawn.{Redrawn}
@@ -104,6 +105,33 @@ draft_laid view ss version old mid new (Ok d) step dropped left finished hand = 
     over = new ∷ flat_map (left_by new) (mid.hand.items ++ kind_at view ss (met view ss new mid.left.items))
 draft_laid view ss version old mid new (Err e) step dropped left finished hand = tt
 
+-- and where the draft is of few pieces this one is so too
+pub draft_few : (view : View) (ss : List Stored) (version : ℕ) (old mid : Draft) (new : PieceRecord) (r : Result Draft Memory)
+    → ((news : List PieceRecord) → Draws view ss version news old
+    → IsDraft view ss version (news ++ new ∷ []) (mid.dropped.items ++ met view ss new mid.left.items) (unmet view ss new mid.left.items) mid.finished.items
+    (new ∷ flat_map (left_by new) (mid.hand.items ++ kind_at view ss (met view ss new mid.left.items))))
+    → ((news : List PieceRecord) → AreFew news old.dropped.items (old.finished.items ++ old.hand.items) → AreFew news mid.dropped.items (mid.finished.items ++ mid.hand.items))
+    → IfOk r (λ laid. laid.dropped.items ≡ mid.dropped.items ++ met view ss new mid.left.items) → IfOk r (λ laid. laid.finished.items ≡ mid.finished.items)
+    → IfOk r (λ laid. laid.hand.items ≡ new ∷ flat_map (left_by new) (mid.hand.items ++ kind_at view ss (met view ss new mid.left.items)))
+    → IfOk r (λ drawn. (news : List PieceRecord) → Draws view ss version news old → AreFew news old.dropped.items (old.finished.items ++ old.hand.items) → AreFew (news ++ new ∷ []) drawn.dropped.items (drawn.finished.items ++ drawn.hand.items))
+draft_few view ss version old mid new (Ok d) step begun dropped finished hand = λ news so few.
+    subst (λ (xs : List PieceRecord). AreFew (news ++ new ∷ []) d.dropped.items (d.finished.items ++ xs)) (sym hand)
+    (subst (λ (xs : List PieceRecord). AreFew (news ++ new ∷ []) d.dropped.items (xs ++ over)) (sym finished)
+    (subst (λ (ids : List ℕ). AreFew (news ++ new ∷ []) ids (mid.finished.items ++ over)) (sym dropped)
+    (few_more view ss news mid.dropped.items (met view ss new mid.left.items) mid.finished.items mid.hand.items new (step news so).drawn.are.differ (begun news few))))
+  where
+    over : List PieceRecord
+    over = new ∷ flat_map (left_by new) (mid.hand.items ++ kind_at view ss (met view ss new mid.left.items))
+draft_few view ss version old mid new (Err e) step begun dropped finished hand = tt
+
+-- a key that is begun has none at hand
+pub begun_few : (old mid : Draft) → mid.dropped.items ≡ old.dropped.items → mid.finished.items ≡ old.finished.items ++ old.hand.items → mid.hand.items ≡ [] → (news : List PieceRecord)
+    → AreFew news old.dropped.items (old.finished.items ++ old.hand.items) → AreFew news mid.dropped.items (mid.finished.items ++ mid.hand.items)
+begun_few old mid dropped finished hand news few =
+    subst (λ (xs : List PieceRecord). AreFew news mid.dropped.items (mid.finished.items ++ xs)) (sym hand)
+    (subst (λ (xs : List PieceRecord). AreFew news mid.dropped.items xs) (sym (append-nil mid.finished.items))
+    (subst (λ (xs : List PieceRecord). AreFew news mid.dropped.items xs) (sym finished) (subst (λ (ids : List ℕ). AreFew news ids (old.finished.items ++ old.hand.items)) (sym dropped) few)))
+
 -- a draft of all is what is redrawn
 pub draft_ended : (view : View) (ss : List Stored) (news : List PieceRecord) (old : Draft) (r : Result Redrawn Memory) → IsRedrawn view ss news old.dropped.items (old.finished.items ++ old.hand.items)
     → IfOk r (λ redrawn. redrawn.dropped.items ≡ old.dropped.items) → IfOk r (λ redrawn. redrawn.drawn.items ≡ old.finished.items ++ old.hand.items)
@@ -111,3 +139,10 @@ pub draft_ended : (view : View) (ss : List Stored) (news : List PieceRecord) (ol
 draft_ended view ss news old (Ok d) so dropped drawn =
     subst (λ (xs : List PieceRecord). IsRedrawn view ss news d.dropped.items xs) (sym drawn) (subst (λ (ids : List ℕ). IsRedrawn view ss news ids (old.finished.items ++ old.hand.items)) (sym dropped) so)
 draft_ended view ss news old (Err e) so dropped drawn = tt
+
+-- and where the draft is of few pieces it is so too
+pub few_ended : (news : List PieceRecord) (old : Draft) (r : Result Redrawn Memory) → AreFew news old.dropped.items (old.finished.items ++ old.hand.items) → IfOk r (λ redrawn. redrawn.dropped.items ≡ old.dropped.items)
+    → IfOk r (λ redrawn. redrawn.drawn.items ≡ old.finished.items ++ old.hand.items) → IfOk r (λ redrawn. AreFew news redrawn.dropped.items redrawn.drawn.items)
+few_ended news old (Ok d) few dropped drawn =
+    subst (λ (xs : List PieceRecord). AreFew news d.dropped.items xs) (sym drawn) (subst (λ (ids : List ℕ). AreFew news ids (old.finished.items ++ old.hand.items)) (sym dropped) few)
+few_ended news old (Err e) few dropped drawn = tt

@@ -1,5 +1,6 @@
 pub mod Redrawing
 pub mod Following
+pub mod Few
 pub mod DraftLaws
 pub mod TwoLayers
 pub mod Entering

@@ -54,7 +54,7 @@ marks_cells : (place start : ℕ) (es : List Entry) → piece_cells (marks_of pl
 marks_cells place start [] = refl
 marks_cells place start (e ∷ es) = ap (λ (cs : List CellRange). record { table = e.table; key = e.key; from = e.from; till = e.till } ∷ cs) (marks_cells place (start + 1) es)
 
-marks_here : (place start : ℕ) (es : List Entry) → list_all (is_of_version place) (marks_of place start es) ≡ true
+pub marks_here : (place start : ℕ) (es : List Entry) → list_all (is_of_version place) (marks_of place start es) ≡ true
 marks_here place start [] = refl
 marks_here place start (e ∷ es) = and_true (place == place) (list_all (is_of_version place) (marks_of place (start + 1) es)) (same place) (marks_here place (start + 1) es)
   where

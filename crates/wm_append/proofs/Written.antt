@@ -67,7 +67,7 @@ back_so rs a version place es ids drawn traced r is =
     ∙ sym (traced-at a.number r.place traced (drawn-at r.place (marks_of r.place a.log_length es) (drawn_all a.number (parts_of rs).touches) traced (marks-at r.place a.log_length es) r.marks))
 
 -- records behind others, one list after the other
-in_order : (rows pieces touches hists one two three : List Record) → one ≡ rows ++ pieces → two ≡ one ++ touches → three ≡ two ++ hists → three ≡ rows ++ (pieces ++ (touches ++ hists))
+pub in_order : (rows pieces touches hists one two three : List Record) → one ≡ rows ++ pieces → two ≡ one ++ touches → three ≡ two ++ hists → three ≡ rows ++ (pieces ++ (touches ++ hists))
 in_order rows pieces touches hists one two three first second third =
     third
     ∙ ap (λ (xs : List Record). xs ++ hists) (second ∙ ap (λ (xs : List Record). xs ++ touches) first)

@@ -1,5 +1,5 @@
 -- What becomes of pieces where new ones come over them, one table and key after another.
-use Rattle.std.specs.Prelude.{ℕ, ◌≡◌, ◌==◌, Bool, true, false, not, ◌&&◌, List, [], ◌∷◌, ◌++◌, map, Option, is_some}
+use Rattle.std.specs.Prelude.{ℕ, ◌+◌, ◌*◌, ◌≤◌, ◌≡◌, ◌==◌, Bool, true, false, not, ◌&&◌, List, [], ◌∷◌, ◌++◌, length, map, Option, is_some}
 use Rattle.std.specs.List.{filter, list_all}
 use Rattle.std.specs.Option.{option_and_then, option_map_or}
 use Rattle.std.specs.Ordering.{is_eq, is_gt, is_lt, nat_cmp, ordering_then}
@@ -54,6 +54,10 @@ pub record IsRedrawn (view : View) (ss : List Stored) (news : List PieceRecord) 
   pub gone : AreDropped (keeps_in view (is_clear news)) dropped ss
   pub once : ids_differ dropped ≡ true
   pub there : list_all (λ id. is_some (record_at ss id)) dropped ≡ true
+
+-- no more pieces are drawn than two for each new one and one for each that goes
+abbrev pub AreFew : List PieceRecord → List ℕ → List PieceRecord → Type 0
+AreFew news dropped drawn = length drawn ≤ 2 * length news + length dropped
 
 -- ---- on the way
 

@@ -1,11 +1,11 @@
 //! What becomes of pieces, or of touches as pieces, where new ones come over them.
 
-ghost use Rattle.std.specs.Prelude.{◌≡◌, ◌∷◌, [], ◌++◌, true, List, IfOk, OnOk};
+ghost use Rattle.std.specs.Prelude.{◌≡◌, ◌≤◌, ◌+◌, ◌*◌, ◌∷◌, [], ◌++◌, length, true, List, IfOk, OnOk};
 ghost use Rattle.std.specs.List.{filter, flat_map};
 ghost use Rattle.std.specs.Option.{option_and_then, option_copied, option_to_list};
 ghost use Rattle.wm_graph.specs.Rules.{collide, differ};
 ghost use Rattle.wm_append.specs.Layers.{view_of};
-ghost use Rattle.wm_append.specs.Redraw.{AreNewsOf, IsDraft, IsRedrawn, are_ascending, hand_cells, is_at_hand, is_of_version, met, unmet};
+ghost use Rattle.wm_append.specs.Redraw.{AreFew, AreNewsOf, IsDraft, IsRedrawn, are_ascending, hand_cells, is_at_hand, is_of_version, met, unmet};
 ghost use Rattle.wm_append.specs.Views.{drawn_in, has_version, ids_of_key};
 ghost use Rattle.wm_index.specs.Kinds.{kind_at};
 ghost use Rattle.wm_spec.specs.Records.{record_at};
@@ -219,6 +219,7 @@ fn draw_one(
     requires keys { are_ascending (hand_cells draft.hand.items ++ new.cells ∷ []) ≡ true }
     ensures hand { IfOk result (λ drawn. hand_cells drawn.hand.items ≡ new.cells ∷ []) }
     ensures draft { IfOk result (λ drawn. (news : List OnePiece) → IsDraft (view_of layer) image.now version news draft.dropped.items draft.left.items draft.finished.items draft.hand.items → IsDraft (view_of layer) image.now version (news ++ new ∷ []) drawn.dropped.items drawn.left.items drawn.finished.items drawn.hand.items) }
+    ensures few { IfOk result (λ drawn. (news : List OnePiece) → IsDraft (view_of layer) image.now version news draft.dropped.items draft.left.items draft.finished.items draft.hand.items → AreFew news draft.dropped.items (draft.finished.items ++ draft.hand.items) → AreFew (news ++ new ∷ []) drawn.dropped.items (drawn.finished.items ++ drawn.hand.items)) }
 {
     if is_at_hand(draft.hand.as_slice(), &new.cells) {
         return lay(alloc, image, layer, draft, new);
@@ -244,7 +245,8 @@ fn finish(draft: Draft) -> Result<Redrawn, Memory>
 }
 
 /// What goes of the records, and what comes, where new pieces come over those that a version has. Only what is drawn for
-/// their keys is looked at, and only what shares a moment with a new one goes.
+/// their keys is looked at, and only what shares a moment with a new one goes. No more pieces come than two for each
+/// new one and one for each that goes.
 pub fn redraw(
     alloc: Global,
     image: &Image,
@@ -254,7 +256,8 @@ pub fn redraw(
 ) -> Result<Redrawn, Memory>
     requires apart { differ collide (drawn_in (view_of layer) image.now) ≡ true }
     requires news { AreNewsOf version news.items }
-    ensures { IfOk result (λ redrawn. IsRedrawn (view_of layer) image.now news.items redrawn.dropped.items redrawn.drawn.items) }
+    ensures redrawn { IfOk result (λ redrawn. IsRedrawn (view_of layer) image.now news.items redrawn.dropped.items redrawn.drawn.items) }
+    ensures few { IfOk result (λ redrawn. length redrawn.drawn.items ≤ 2 * length news.items + length redrawn.dropped.items) }
 {
     image.law_of_order();
     let mut draft = Draft {

@@ -4,6 +4,8 @@ pub mod Loading
 pub mod Twice
 pub mod Newest
 pub mod Walking
+pub mod Falling
+pub mod Along
 pub mod Naming
 pub mod Cataloguing
 pub mod Tabled
@@ -15,3 +17,4 @@ pub mod Spaced
 pub mod Coming
 pub mod Ascending
 pub mod Least
+pub mod Turned

@@ -144,9 +144,9 @@ stored_at-sought c v (records.Piece x ∷ rs) =
     pushed false = refl
 stored_at-sought c v (_ ∷ rs) = stored_at-sought c v rs
 
--- ---- loops over ids
+-- ---- one id more
 
-held-cons : (ss : List Stored) (id : ℕ) (ids : List ℕ) (v t : ℕ)
+pub held-cons : (ss : List Stored) (id : ℕ) (ids : List ℕ) (v t : ℕ)
     → first_held (kind_at as_piece ss (id ∷ ids)) v t ≡ option_or (held_here (option_and_then as_piece (record_at ss id)) v t) (first_held (kind_at as_piece ss ids) v t)
 held-cons ss id ids v t = by_record (record_at ss id)
   where
@@ -158,24 +158,6 @@ held-cons ss id ids v t = by_record (record_at ss id)
     by_record None = refl
     by_record (Some r) = by_kind (as_piece r)
 
-held-at : (ss : List Stored) (ids : List ℕ) (i v t : ℕ) → i < length ids
-    → first_held (kind_at as_piece ss (drop i ids)) v t ≡ option_or (held_here (option_and_then as_piece (record_at ss (get_or ids i 0))) v t) (first_held (kind_at as_piece ss (drop (i + 1) ids)) v t)
-held-at ss ids i v t within = ap (λ l. first_held (kind_at as_piece ss l) v t) (drop_more ids i 0 within) ∙ held-cons ss (get_or ids i 0) (drop (i + 1) ids) v t
-
-or_some : (x y : Option Held) → is_some x ≡ true → option_or x y ≡ x
-or_some None y e = cc
-or_some (Some h) y e = refl
-
-or_none : (x y : Option Held) → is_some x ≡ false → option_or x y ≡ y
-or_none None y e = refl
-or_none (Some h) y e = cc
-
--- a piece that was found is the first that covers
-pub piece_found : (ss : List Stored) (ids : List ℕ) (i v t : ℕ) (x : Option Held) → i < length ids → x ≡ held_here (option_and_then as_piece (record_at ss (get_or ids i 0))) v t → is_some x ≡ true
-    → x ≡ first_held (kind_at as_piece ss (drop i ids)) v t
-piece_found ss ids i v t x within is some =
-    sym (or_some x (first_held (kind_at as_piece ss (drop (i + 1) ids)) v t) some) ∙ ap (λ o. option_or o (first_held (kind_at as_piece ss (drop (i + 1) ids)) v t)) is ∙ sym (held-at ss ids i v t within)
-
 -- ---- what an index tells
 
 -- the newest version of a workspace
@@ -186,35 +168,18 @@ latest_told kept x is s =
     ∙ ap greatest (filter-kind as_version (λ (v : Version). v.space == s) (is_sought (VersionsOf s)) (versions_test s) (all_of (listed kept.entries)))
     ∙ sym (latest_in-greatest (filter_map as_version (all_of (listed kept.entries))) s)
 
--- what a version holds at a cell
-pub seen_told : (kept : BTreeMap ℕ Record) (x : Index) → IsIndexed kept x → (version : ℕ) (c : Cell)
-    → along (λ v. first_held (kind_at as_piece (listed kept.entries) (ids_at x (PiecesAt c.table c.key))) v c.time) (path_in (newest_first (parts_of (listed kept.entries)).versions) version)
-    ≡ seen (parts_of (listed kept.entries)) version c
+-- what versions have of pieces at a cell, by the ids of its table and key alone
+pub along_told : (kept : BTreeMap ℕ Record) (x : Index) → IsIndexed kept x → (path : List ℕ) (c : Cell) (ids : List ℕ) (time : ℕ) → ids ≡ ids_at x (PiecesAt c.table c.key) → time ≡ c.time
+    → along (λ v. first_held (kind_at as_piece (listed kept.entries) ids) v time) path ≡ along (λ v. stored_at (parts_of (listed kept.entries)).pieces v c) path
 unfolding parts_of
-seen_told kept x is version c =
-    along-same _ (λ v. stored_at (filter_map as_piece (all_of (listed kept.entries))) v c)
+along_told kept x is path c ids time same moment =
+    along-same (λ v. first_held (kind_at as_piece (listed kept.entries) ids) v time) (λ v. stored_at (filter_map as_piece (all_of (listed kept.entries))) v c)
     (λ v.
-    ap (λ rs. first_held (filter_map as_piece rs) v c.time) (all_sought kept x is (PiecesAt c.table c.key))
-    ∙ sym (stored_at-sought c v (all_of (listed kept.entries))))
-    (path_in (newest_first (filter_map as_version (all_of (listed kept.entries)))) version)
-    ∙ sym (seen_at-along (filter_map as_piece (all_of (listed kept.entries))) c (newest_first (filter_map as_version (all_of (listed kept.entries)))) version)
+    rw (same, moment)
+    (ap (λ rs. first_held (filter_map as_piece rs) v c.time) (all_sought kept x is (PiecesAt c.table c.key))
+    ∙ sym (stored_at-sought c v (all_of (listed kept.entries)))))
+    path
 
--- the same, as a walk finds it
-pub seen_by : (kept : BTreeMap ℕ Record) (x : Index) → IsIndexed kept x → (version : ℕ) (c : Cell) (ids : List ℕ) (time : ℕ) → ids ≡ ids_at x (PiecesAt c.table c.key) → time ≡ c.time
-    → along (λ v. first_held (kind_at as_piece (listed kept.entries) ids) v time) (path_in (newest_first (parts_of (listed kept.entries)).versions) version) ≡ seen (parts_of (listed kept.entries)) version c
-seen_by kept x is version c ids time same moment = rw (same, moment) (seen_told kept x is version c)
-
--- what a version has laid under what was laid before
-pub lay_on : (f : ℕ → Option Held) (path rest : List ℕ) (n : ℕ) (old new : Option Held) → path ≡ n ∷ rest → new ≡ option_or old (f n) → option_or new (along f rest) ≡ option_or old (along f path)
-lay_on f path rest n old new is laid = ap (λ o. option_or o (along f rest)) laid ∙ or_assoc old (f n) (along f rest) ∙ ap (λ l. option_or old (along f l)) (sym is)
-  where
-    or_assoc : (a b d : Option Held) → option_or (option_or a b) d ≡ option_or a (option_or b d)
-    or_assoc None b d = refl
-    or_assoc (Some a) b d = refl
-
-pub lay_end : (f : ℕ → Option Held) (path : List ℕ) (x : Option Held) → path ≡ [] → x ≡ option_or x (along f path)
-lay_end f path x is = by_held x ∙ ap (λ l. option_or x (along f l)) (sym is)
-  where
-    by_held : (o : Option Held) → o ≡ option_or o (along f [])
-    by_held None = refl
-    by_held (Some h) = refl
+-- what a version holds at a cell, by its path
+pub seen_along : (p : Parts) (version : ℕ) (c : Cell) (path : List ℕ) → path ≡ path_in (newest_first p.versions) version → along (λ v. stored_at p.pieces v c) path ≡ seen p version c
+seen_along p version c path is = ap (along (λ v. stored_at p.pieces v c)) is ∙ sym (seen_at-along p.pieces c (newest_first p.versions) version)

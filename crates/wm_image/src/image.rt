@@ -6,7 +6,7 @@ ghost use Rattle.std.specs.Ordering.{is_eq};
 ghost use Rattle.wm_base.specs.Key.{key_order};
 ghost use Rattle.wm_base.specs.declared.value.Value.{Value as OneValue};
 ghost use Rattle.wm_spec.specs.declared.record.stored.Stored.{Stored};
-ghost use Rattle.std.specs.Option.{option_and_then, option_copied, option_to_list};
+ghost use Rattle.std.specs.Option.{option_and_then, option_copied, option_map_or, option_to_list};
 ghost use Rattle.std.specs.Str.{bytes_eq};
 ghost use Rattle.wm_spec.specs.declared.record.table.Table.{Table as OneTable};
 ghost use Rattle.wm_spec.specs.declared.record.version.Version.{Version as OneVersion};
@@ -15,34 +15,32 @@ ghost use Rattle.wm_period.specs.Pieces.{held_at};
 ghost use Rattle.wm_graph.specs.Parts.{as_counters, as_space, as_table, parts_of, row_of, space_of, table_of, version_of};
 ghost use Rattle.wm_graph.specs.Rules.{keep_rules};
 ghost use Rattle.wm_spec.specs.Records.{AreRecords, record_at};
-ghost use Rattle.wm_index.specs.Sought.{OwnedBy, PiecesAt, PiecesIn, TouchesAt, ids_with, is_sought};
+ghost use Rattle.wm_index.specs.Sought.{OwnedBy, PiecesAt, PiecesIn, TouchesAt, ids_with, is_sought, is_touch_since};
 ghost use Rattle.wm_state.specs.ById.{Ascend, applied, by_id};
-ghost use Rattle.wm_image.specs.Listing.{AreSpans, IsFirstShared, IsKeyShowing};
-ghost use Rattle.wm_image.specs.Shown.{is_child_from, is_saved_behind, names, rests_on};
+ghost use Rattle.wm_image.specs.Shown.{Falls, along, is_child_from, is_saved_behind, names, rests_on};
 ghost use Rattle.wm_spec.specs.declared.record.savepoint.Savepoint.{Savepoint as OneSavepoint};
 ghost use Rattle.wm_spec.specs.declared.record.space.Space.{Space as OneSpace};
+ghost use Rattle.wm_state.specs.Drafts.{is_turn};
 ghost use Rattle.wm_state.specs.Effects.{IsFree};
 ghost use Rattle.wm_state.specs.Firsts.{first_recorded};
-ghost use Rattle.wm_state.specs.Listing.{IsShowing};
-ghost use Rattle.wm_state.specs.Standing.{by_number, latest, saved_as, saved_in, seen, space_after};
+ghost use Rattle.wm_state.specs.Standing.{by_number, latest, saved_as, saved_in, seen, space_after, stored_at};
 ghost use Rattle.wm_state.specs.State.{next_table};
 
 use crate::children::{Behind, any_behind, least_child};
-use crate::laying::lay_path;
-use crate::listing::{Asked, list_key, list_rows};
+use crate::laying::lay_key;
 use crate::load::{ImageFault, put_all, sorted};
-use crate::overlap::{find_shared, find_spans};
+use crate::path::path_of;
 use crate::records::apply_all;
 use crate::shown::latest_of;
 use crate::tables::{after_last, catalog_of};
 use std::alloc::Global;
 use std::collections::BTreeMap;
 use std::marker::Model;
-use wm_base::{Key, Memory, Period, RowList};
+use wm_base::{Key, Memory};
 use wm_catalog::Catalog;
 use wm_index::ids::{are_empty, first_id};
 use wm_index::index::Index;
-use wm_index::keyed::{ids_of, ids_on, keys_on, last_key};
+use wm_index::keyed::{ids_of, ids_on, ids_since, keys_on, last_key};
 use wm_index::kinds;
 use wm_index::records::{Kept, at, first, next_id};
 use wm_index::savepoints::{making_after, savepoint_in, savepoint_of_name};
@@ -331,8 +329,24 @@ impl Image {
         requires { keep_rules (parts_of self.now) ≡ true }
         ensures { IfOk result (λ pieces. (t : ℕ) → t < END → held_at pieces t ≡ seen (parts_of self.now) version (record { table = table; key = key.now; time = t })) }
     {
+        let path = path_of(alloc, self, version)?;
+        let pieces = self.shown_along(alloc, path.as_slice(), table, key)?;
+        Ok(pieces)
+    }
+
+    /// What the first version on a path that has anything for a key of a table has there.
+    pub(crate) fn shown_along(
+        &self,
+        alloc: Global,
+        path: &[u64],
+        table: u16,
+        key: &Key,
+    ) -> Result<Pieces, Memory>
+        requires { Falls path.now }
+        ensures { IfOk result (λ pieces. (t : ℕ) → t < END → held_at pieces t ≡ along (λ v. stored_at (parts_of self.now).pieces v (record { table = table; key = key.now; time = t })) path.now) }
+    {
         let ids = ids_on(&self.index.pieces, table, key);
-        let pieces = lay_path(alloc, &self.kept, &self.index, ids, version)?;
+        let pieces = lay_key(alloc, &self.kept, ids, path)?;
         Ok(pieces)
     }
 
@@ -365,6 +379,21 @@ impl Image {
         ids_of(&self.index.owned, &space)
     }
 
+    /// The ids of the touches of a workspace whose last entry stands in its log at a position or behind it.
+    pub fn touches_since(&self, alloc: Global, space: u32, from: u64) -> Result<Vec<u64>, Memory>
+        ensures { IfOk result (λ ids. (id : ℕ) → list_any (λ k. k == id) ids.items ≡ option_map_or (is_touch_since space from) (record_at self.now id) false) }
+    {
+        let ids = ids_since(alloc, &self.index.touched_at, space, from)?;
+        Ok(ids)
+    }
+
+    /// Whether a workspace has a turn of a number.
+    pub fn has_turn(&self, space: u32, number: u32) -> bool
+        ensures { result ≡ list_any (is_turn space number) (parts_of self.now).turns }
+    {
+        !ids_of(&self.index.turns_at, &(space, number)).is_empty()
+    }
+
     /// Each key for which a table has pieces, of any version, once and in order.
     pub fn keys(&self, alloc: Global, table: u16) -> Result<Vec<Key>, Memory>
         ensures each { IfOk result (λ keys. (k : List OneValue) → list_any (λ q. is_eq (key_order k q)) keys.items ≡ list_any (is_sought (PiecesAt table k)) (map (λ (s : Stored). s.record) self.now)) }
@@ -379,79 +408,6 @@ impl Image {
         ensures { option_copied result ≡ row_of (parts_of self.now).rows stamp }
     {
         kinds::row_of(first(&self.kept, ids_of(&self.index.rows, &stamp)))
-    }
-
-    /// What is shown of the rows of a table that a version holds, by key and from: the rows; where the table has valid
-    /// time, those that overlap a period, each with its own behind its values.
-    pub fn showing(
-        &self,
-        alloc: Global,
-        version: u64,
-        table: &Table,
-        within: &Period,
-    ) -> Result<RowList, Memory>
-        requires { keep_rules (parts_of self.now) ≡ true }
-        ensures { IfOk result (λ rows. IsShowing (parts_of self.now) version table.now.number table.now.valid within.now rows) }
-    {
-        let asked = Asked {
-            version,
-            table: table.number,
-            valid: table.valid,
-            within: *within,
-        };
-        list_rows(alloc, self, &asked)
-    }
-
-    /// What is shown of the rows of a key of a table that a version holds, by from. The rest of the table is not looked at.
-    pub fn showing_of_key(
-        &self,
-        alloc: Global,
-        version: u64,
-        table: &Table,
-        within: &Period,
-        key: &Key,
-    ) -> Result<RowList, Memory>
-        requires { keep_rules (parts_of self.now) ≡ true }
-        ensures { IfOk result (λ rows. IsKeyShowing (parts_of self.now) version table.now.number table.now.valid within.now key.now rows) }
-    {
-        let asked = Asked {
-            version,
-            table: table.number,
-            valid: table.valid,
-            within: *within,
-        };
-        list_key(alloc, self, &asked, key)
-    }
-
-    /// What a period shares with the first row of a key that it overlaps, of those that a version holds; None exactly
-    /// where it overlaps none. The rest of the table is not looked at.
-    pub fn overlap(
-        &self,
-        alloc: Global,
-        version: u64,
-        table: u16,
-        key: &Key,
-        period: &Period,
-    ) -> Result<Option<Period>, Memory>
-        requires { keep_rules (parts_of self.now) ≡ true }
-        ensures { IfOk result (λ found. IsFirstShared (parts_of self.now) version table key.now period.now found) }
-    {
-        find_shared(alloc, self, version, table, key, period)
-    }
-
-    /// The periods over which the rows of a key of a table stand, of those that a version holds, by from. The rest of the
-    /// table is not looked at.
-    pub fn spans_of_key(
-        &self,
-        alloc: Global,
-        version: u64,
-        table: u16,
-        key: &Key,
-    ) -> Result<Vec<Period>, Memory>
-        requires { keep_rules (parts_of self.now) ≡ true }
-        ensures { IfOk result (λ spans. AreSpans (parts_of self.now) version table key.now spans.items) }
-    {
-        find_spans(alloc, self, version, table, key)
     }
 
     /// The record of an id.

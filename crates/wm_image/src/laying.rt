@@ -1,24 +1,24 @@
 //! All that the versions of a workspace hold for one key, laid over one another.
 
-ghost use Rattle.std.specs.Prelude.{◌≡◌, ◌<◌, ◌&&◌, ℕ, true, false, min, nat_le, nat_lt, IfOk};
+ghost use Rattle.std.specs.Prelude.{◌≡◌, ◌<◌, ◌&&◌, ℕ, true, false, min, nat_le, nat_lt, IfOk, OnOk};
+ghost use Rattle.std.specs.List.Sorted.{IsStrictlySortedBy};
+ghost use Rattle.std.specs.Map.{keys_of};
 ghost use Rattle.std.specs.Option.{option_copied, option_and_then, option_map_or, option_or, option_to_list};
+ghost use Rattle.std.specs.Ordering.{nat_cmp};
 ghost use Rattle.wm_base.specs.Period.{covers};
 ghost use Rattle.wm_base.specs.declared.instant.TheConstants.{END};
-ghost use Rattle.wm_graph.specs.Parts.{parts_of, as_piece};
-ghost use Rattle.wm_graph.specs.Rules.{keep_rules};
-ghost use Rattle.wm_index.specs.Indexed.{IsIndexed, listed};
+ghost use Rattle.wm_graph.specs.Parts.{as_piece};
+ghost use Rattle.wm_index.specs.Indexed.{listed};
 ghost use Rattle.wm_index.specs.Kinds.{kind_at};
-ghost use Rattle.wm_image.specs.Shown.{along, first_held, held_here};
+ghost use Rattle.wm_image.specs.Shown.{Falls, along, first_held, held_here, last_held};
 ghost use Rattle.wm_period.specs.Pieces.{held_at};
-ghost use Rattle.wm_state.specs.Standing.{newest_first};
-ghost use Rattle.wm_tree.specs.Versions.{path_in};
 
+use crate::path::pieces_on;
 use std::alloc::Global;
 use wm_base::{END, Instant, Memory, Period, Stamp};
-use wm_index::index::Index;
+use wm_index::keyed::Ids;
 use wm_index::kinds::piece_of;
 use wm_index::records::{Kept, at};
-use wm_index::versions::version_at;
 use wm_period::{Piece, Pieces};
 use wm_spec::record::{CellRange, Record};
 
@@ -92,23 +92,26 @@ fn lay_version(
     Ok(laid)
 }
 
-/// Lays the pieces of the versions on a path over one another, of some pieces of one table and key.
-pub fn lay_path(
-    alloc: Global,
-    kept: &Kept,
-    index: &Index,
-    ids: &[u64],
-    version: u64,
-) -> Result<Pieces, Memory>
-    requires indexed { IsIndexed kept.now index.now }
-    requires rules { keep_rules (parts_of (listed kept.now.entries)) ≡ true }
-    ensures { IfOk result (λ laid. (t : ℕ) → t < END → held_at laid t ≡ along (λ v. first_held (kind_at as_piece (listed kept.now.entries) ids.now) v t) (path_in (newest_first (parts_of (listed kept.now.entries)).versions) version)) }
+/// Lays the pieces under versions over one another, those of the newest uppermost.
+fn lay_found(alloc: Global, kept: &Kept, found: &Ids<u64>) -> Result<Pieces, Memory>
+    ensures ordered { OnOk result (IsStrictlySortedBy nat_cmp (keys_of found.now.entries)) }
+    ensures held { IfOk result (λ laid. (t : ℕ) → t < END → held_at laid t ≡ last_held (listed kept.now.entries) found.now.entries t) }
 {
     let mut laid = Pieces::new(alloc);
-    let mut number = version;
-    while let Some(node) = version_at(kept, index, number) {
-        laid = lay_version(alloc, kept, ids, number, laid)?;
-        number = node.parent;
+    let mut entries = found.iter();
+    while let Some((version, ids)) = entries.next_back() {
+        laid = lay_version(alloc, kept, ids.as_slice(), *version, laid)?;
     }
+    Ok(laid)
+}
+
+/// Lays the pieces of the versions on a path over one another, of some pieces of one table and key. A version on the
+/// path that has none of them is not looked at.
+pub fn lay_key(alloc: Global, kept: &Kept, ids: &[u64], path: &[u64]) -> Result<Pieces, Memory>
+    requires { Falls path.now }
+    ensures { IfOk result (λ laid. (t : ℕ) → t < END → held_at laid t ≡ along (λ v. first_held (kind_at as_piece (listed kept.now.entries) ids.now) v t) path.now) }
+{
+    let found = pieces_on(alloc, kept, ids, path)?;
+    let laid = lay_found(alloc, kept, &found)?;
     Ok(laid)
 }

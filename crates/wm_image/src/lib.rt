@@ -7,6 +7,7 @@ pub mod laying;
 pub mod listing;
 pub mod load;
 mod overlap;
+pub mod path;
 pub mod records;
 pub mod shown;
 mod standing;

@@ -7,15 +7,19 @@ ghost use Rattle.wm_base.specs.declared.value.Value.TheVariants as values;
 ghost use Rattle.wm_graph.specs.Parts.{parts_of};
 ghost use Rattle.wm_graph.specs.Rules.{keep_rules};
 ghost use Rattle.wm_image.specs.Listing.{AddsRows, IsKeyShowing, row_under, shown_on};
+ghost use Rattle.wm_image.specs.Shown.{Falls};
 ghost use Rattle.wm_image.specs.Standing.{IsBegun, stretch_ending, stretch_of, stretches_on};
 ghost use Rattle.wm_state.specs.Listing.{IsShowing, seen_row};
+ghost use Rattle.wm_state.specs.Standing.{newest_first};
+ghost use Rattle.wm_tree.specs.Versions.{path_in};
 
 use crate::image::Image;
+use crate::path::path_of;
 use crate::standing::{ending, first_from, from_behind};
 use std::alloc::Global;
 use wm_base::{Instant, Key, Memory, Period, Row, RowList, Value};
 use wm_period::Piece;
-use wm_spec::record::RowRecord;
+use wm_spec::record::{RowRecord, Table};
 
 /// Which rows are asked for: those of a table in a version. Where they have valid time, those that overlap a period
 /// are, and each is shown with its own.
@@ -25,6 +29,20 @@ pub struct Asked {
     pub table: u16,
     pub valid: bool,
     pub within: Period,
+}
+
+impl Asked {
+    /// The rows of a table in a version; where they have valid time, those that overlap a period.
+    pub fn of(version: u64, table: &Table, within: &Period) -> Asked
+        ensures { result ≡ (record { version = version; table = table.now.number; valid = table.now.valid; within = within.now }) }
+    {
+        Asked {
+            version,
+            table: table.number,
+            valid: table.valid,
+            within: *within,
+        }
+    }
 }
 
 /// Whether a row that stands on a period is shown.
@@ -105,18 +123,21 @@ fn push_rows(
     Ok(())
 }
 
-/// Puts what is shown of the rows of a key behind others.
+/// Puts what is shown of the rows of a key behind others, where the path of the version is given.
 fn push_key(
     alloc: Global,
     image: &Image,
     rows: &mut RowList,
     asked: &Asked,
+    path: &[u64],
     key: &Key,
 ) -> Result<(), Memory>
-    requires { keep_rules (parts_of image.now) ≡ true }
+    requires rules { keep_rules (parts_of image.now) ≡ true }
+    requires path { path.now ≡ path_in (newest_first (parts_of image.now).versions) asked.now.version }
+    requires falls { Falls path.now }
     ensures { OnOk result (AddsRows (parts_of image.now) asked.now.version asked.now.table asked.now.valid asked.now.within key.now rows.old rows.new) }
 {
-    let pieces = image.shown(alloc, asked.version, asked.table, key)?;
+    let pieces = image.shown_along(alloc, path, asked.table, key)?;
     push_rows(alloc, image, rows, asked, pieces.list())?;
     Ok(())
 }
@@ -126,20 +147,56 @@ pub fn list_key(alloc: Global, image: &Image, asked: &Asked, key: &Key) -> Resul
     requires { keep_rules (parts_of image.now) ≡ true }
     ensures { IfOk result (λ rows. IsKeyShowing (parts_of image.now) asked.now.version asked.now.table asked.now.valid asked.now.within key.now rows) }
 {
+    let path = path_of(alloc, image, asked.version)?;
     let mut rows = RowList::new(alloc);
-    push_key(alloc, image, &mut rows, asked, key)?;
+    push_key(alloc, image, &mut rows, asked, path.as_slice(), key)?;
     Ok(rows)
 }
 
-/// What is shown of the rows of a table, by key and from.
+/// What is shown of the rows of a table, by key and from. The path of the version is gone along once for all keys.
 pub fn list_rows(alloc: Global, image: &Image, asked: &Asked) -> Result<RowList, Memory>
     requires { keep_rules (parts_of image.now) ≡ true }
     ensures { IfOk result (λ rows. IsShowing (parts_of image.now) asked.now.version asked.now.table asked.now.valid asked.now.within rows) }
 {
+    let path = path_of(alloc, image, asked.version)?;
     let keys = image.keys(alloc, asked.table)?;
     let mut rows = RowList::new(alloc);
     for key in &keys {
-        push_key(alloc, image, &mut rows, asked, key)?;
+        push_key(alloc, image, &mut rows, asked, path.as_slice(), key)?;
     }
     Ok(rows)
+}
+
+impl Image {
+    /// What is shown of the rows of a table that a version holds, by key and from: the rows; where the table has valid
+    /// time, those that overlap a period, each with its own behind its values.
+    pub fn showing(
+        &self,
+        alloc: Global,
+        version: u64,
+        table: &Table,
+        within: &Period,
+    ) -> Result<RowList, Memory>
+        requires { keep_rules (parts_of self.now) ≡ true }
+        ensures { IfOk result (λ rows. IsShowing (parts_of self.now) version table.now.number table.now.valid within.now rows) }
+    {
+        let asked = Asked::of(version, table, within);
+        list_rows(alloc, self, &asked)
+    }
+
+    /// What is shown of the rows of a key of a table that a version holds, by from. The rest of the table is not looked at.
+    pub fn showing_of_key(
+        &self,
+        alloc: Global,
+        version: u64,
+        table: &Table,
+        within: &Period,
+        key: &Key,
+    ) -> Result<RowList, Memory>
+        requires { keep_rules (parts_of self.now) ≡ true }
+        ensures { IfOk result (λ rows. IsKeyShowing (parts_of self.now) version table.now.number table.now.valid within.now key.now rows) }
+    {
+        let asked = Asked::of(version, table, within);
+        list_key(alloc, self, &asked, key)
+    }
 }

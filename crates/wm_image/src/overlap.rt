@@ -104,3 +104,36 @@ pub fn find_spans(
     push_spans(&mut spans, pieces.list())?;
     Ok(spans)
 }
+
+impl Image {
+    /// What a period shares with the first row of a key that it overlaps, of those that a version holds; None exactly
+    /// where it overlaps none. The rest of the table is not looked at.
+    pub fn overlap(
+        &self,
+        alloc: Global,
+        version: u64,
+        table: u16,
+        key: &Key,
+        period: &Period,
+    ) -> Result<Option<Period>, Memory>
+        requires { keep_rules (parts_of self.now) ≡ true }
+        ensures { IfOk result (λ found. IsFirstShared (parts_of self.now) version table key.now period.now found) }
+    {
+        find_shared(alloc, self, version, table, key, period)
+    }
+
+    /// The periods over which the rows of a key of a table stand, of those that a version holds, by from. The rest of the
+    /// table is not looked at.
+    pub fn spans_of_key(
+        &self,
+        alloc: Global,
+        version: u64,
+        table: u16,
+        key: &Key,
+    ) -> Result<Vec<Period>, Memory>
+        requires { keep_rules (parts_of self.now) ≡ true }
+        ensures { IfOk result (λ spans. AreSpans (parts_of self.now) version table key.now spans.items) }
+    {
+        find_spans(alloc, self, version, table, key)
+    }
+}

@@ -7,3 +7,6 @@ pub mod Using
 pub mod Leaves
 pub mod Firsts
 pub mod Lasts
+pub mod Pairs
+pub mod Since
+pub mod Touched

@@ -1,10 +1,11 @@
 -- What records are sought as, and the ids of those that are it.
-use Rattle.std.specs.Prelude.{ℕ, Bool, true, false, not, ◌&&◌, ◌==◌, nat_lt, if◌then◌else◌, List, [], ◌∷◌, Option, Some, None, option_map, unwrap_or}
+use Rattle.std.specs.Prelude.{ℕ, Bool, true, false, not, ◌&&◌, ◌==◌, nat_lt, nat_le, if◌then◌else◌, List, [], ◌∷◌, Option, Some, None, option_map, unwrap_or}
 use Rattle.std.specs.BTreeMap.{BTreeMap, is_at}
 use Rattle.std.specs.Bool.{then_some}
+use Rattle.std.specs.List.{list_any}
 use Rattle.std.specs.Map.{lookup}
 use Rattle.std.specs.Option.{option_or}
-use Rattle.std.specs.Ordering.{nat_cmp, is_eq}
+use Rattle.std.specs.Ordering.{nat_cmp, is_eq, ordering_then}
 use Rattle.std.specs.declared.alloc.Global.{Global}
 use Rattle.std.specs.declared.cmp.Ordering.{Ordering}
 use Rattle.std.specs.declared.vec.Vec.{Vec}
@@ -19,7 +20,8 @@ use Rattle.wm_spec.specs.Records.{record_at}
 -- the savepoints of a workspace, one by its making, those that keep a version, or those of workspaces with a number above 0 that see
 -- a version under their workspace's own; workspaces with a number above 0 that were born from a version, or see it under their own; a
 -- row by its stamp; the pieces on a table and a key, or the touches; the pieces of a version; whatever is a workspace's own: itself, its
--- versions, savepoints, touches, locks, entries of its log, marks and turns
+-- versions, savepoints, touches, locks, entries of its log, marks and turns; the touches of a workspace at a position of its log, or its
+-- turns of a number
 pub data Sought : Type 0 where
   TheCounters : Sought
   Tables : Sought
@@ -39,6 +41,8 @@ pub data Sought : Type 0 where
   TouchesAt : ℕ → List Value → Sought
   PiecesIn : ℕ → Sought
   OwnedBy : ℕ → Sought
+  TouchAt : ℕ → ℕ → Sought
+  TurnAt : ℕ → ℕ → Sought
 
 -- the record is what is sought
 abbrev pub is_sought : Sought → Record → Bool
@@ -67,7 +71,14 @@ is_sought (OwnedBy space) (records.Lock r) = r.space == space
 is_sought (OwnedBy space) (records.Hist r) = r.space == space
 is_sought (OwnedBy space) (records.Mark r) = r.space == space
 is_sought (OwnedBy space) (records.Turn r) = r.space == space
+is_sought (TouchAt space position) (records.Touch r) = (r.space == space) && (r.position == position)
+is_sought (TurnAt space number) (records.Turn r) = (r.space == space) && (r.rebase == number)
 is_sought _ _ = false
+
+-- the record is a touch of a workspace at a position of its log or behind it
+abbrev pub is_touch_since : ℕ → ℕ → Record → Bool
+is_touch_since space from (records.Touch r) = (r.space == space) && nat_le from r.position
+is_touch_since space from _ = false
 
 -- the ids of the records that pass a test
 abbrev pub ids_with : (Record → Bool) → List Stored → List ℕ
@@ -91,6 +102,14 @@ ids_found found = unwrap_or (option_map (λ v. v.items) found) []
 -- the ids under a key
 abbrev pub ids_in : {K : Type 0} → (K → K → Ordering) → List (K × Vec ℕ Global) → K → List ℕ
 ids_in cmp entries key = ids_found (lookup (is_at (cmp key)) entries)
+
+-- by a workspace, and in it by a position or a number
+abbrev pub pair_order : ℕ × ℕ → ℕ × ℕ → Ordering
+pair_order a b = ordering_then (nat_cmp a.0 b.0) (nat_cmp a.1 b.1)
+
+-- an entry of ids by workspace and position has an id, of the workspace at a position or behind it
+abbrev pub has_since : ℕ → ℕ → ℕ → (ℕ × ℕ) × Vec ℕ Global → Bool
+has_since space from id e = (e.0.0 == space) && (nat_le from e.0.1 && list_any (λ k. k == id) e.1.items)
 
 -- the ids by key of a table
 abbrev pub Keyed : Type 0

@@ -10,13 +10,14 @@ use crate::keyed::{Ids, TableIds, add_on, add_to, drop_from, drop_on};
 use std::alloc::Global;
 use std::collections::BTreeMap;
 use wm_base::Memory;
-use wm_spec::record::{PieceRecord, Record, Savepoint, Space, Trace, Version};
+use wm_spec::record::{PieceRecord, Record, Savepoint, Space, Trace, Turn, Version};
 
 /// Ids in ascending order: of the counters, the tables and the workspaces; of workspaces and versions by number;
 /// of the versions of a workspace, and of those under a version; of the savepoints of a workspace, by making, of
 /// those that keep a version, and of those of workspaces with a parent that see a version under their workspace's
 /// own; of the workspaces with a parent that were born from a version, or see it under their own; of rows by stamp;
-/// of pieces and of touches by table and key; of the pieces of a version; of the records that are a workspace's own.
+/// of pieces and of touches by table and key; of the pieces of a version; of the records that are a workspace's own;
+/// of touches by workspace and position, and of turns by workspace and number.
 #[derive(Drop)]
 pub struct Index {
     pub counters: Vec<u64>,
@@ -37,6 +38,8 @@ pub struct Index {
     pub touches: TableIds,
     pub pieces_in: Ids<u64>,
     pub owned: Ids<u32>,
+    pub touched_at: Ids<(u32, u64)>,
+    pub turns_at: Ids<(u32, u32)>,
 }
 
 impl Index {
@@ -63,6 +66,8 @@ impl Index {
             touches: BTreeMap::new(alloc),
             pieces_in: BTreeMap::new(alloc),
             owned: BTreeMap::new(alloc),
+            touched_at: BTreeMap::new(alloc),
+            turns_at: BTreeMap::new(alloc),
         }
     }
 
@@ -83,7 +88,7 @@ impl Index {
             Record::Lock(lock) => add_to(alloc, &mut self.owned, lock.space, id),
             Record::Hist(hist) => add_to(alloc, &mut self.owned, hist.space, id),
             Record::Mark(mark) => add_to(alloc, &mut self.owned, mark.space, id),
-            Record::Turn(turn) => add_to(alloc, &mut self.owned, turn.space, id),
+            Record::Turn(turn) => self.add_turn(alloc, id, turn),
         }
     }
 
@@ -144,8 +149,20 @@ impl Index {
         ensures { OnOk result (Adds self.old self.new id (records.Touch touch.now)) }
     {
         add_to(alloc, &mut self.owned, touch.space, id)?;
+        let place = (touch.space, touch.position);
+        add_to(alloc, &mut self.touched_at, place, id)?;
         let cells = &touch.cells;
         add_on(alloc, &mut self.touches, cells.table, &cells.key, id)
+    }
+
+    /// Adds the id of a turn.
+    fn add_turn(&mut self, alloc: Global, id: u64, turn: &Turn) -> Result<(), Memory>
+        requires { IdsAscend self.old }
+        ensures { OnOk result (Adds self.old self.new id (records.Turn turn.now)) }
+    {
+        add_to(alloc, &mut self.owned, turn.space, id)?;
+        let number = (turn.space, turn.rebase);
+        add_to(alloc, &mut self.turns_at, number, id)
     }
 
     /// Drops the id of a record.
@@ -171,7 +188,7 @@ impl Index {
             Record::Lock(lock) => drop_from(&mut self.owned, lock.space, id),
             Record::Hist(hist) => drop_from(&mut self.owned, hist.space, id),
             Record::Mark(mark) => drop_from(&mut self.owned, mark.space, id),
-            Record::Turn(turn) => drop_from(&mut self.owned, turn.space, id),
+            Record::Turn(turn) => self.drop_turn(id, turn),
         }
     }
 
@@ -232,7 +249,19 @@ impl Index {
         ensures { OnOk result (Drops self.old self.new id (records.Touch touch.now)) }
     {
         drop_from(&mut self.owned, touch.space, id)?;
+        let place = (touch.space, touch.position);
+        drop_from(&mut self.touched_at, place, id)?;
         let cells = &touch.cells;
         drop_on(alloc, &mut self.touches, cells.table, &cells.key, id)
+    }
+
+    /// Drops the id of a turn.
+    fn drop_turn(&mut self, id: u64, turn: &Turn) -> Result<(), Memory>
+        requires { IdsAscend self.old }
+        ensures { OnOk result (Drops self.old self.new id (records.Turn turn.now)) }
+    {
+        drop_from(&mut self.owned, turn.space, id)?;
+        let number = (turn.space, turn.rebase);
+        drop_from(&mut self.turns_at, number, id)
     }
 }

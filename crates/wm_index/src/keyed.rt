@@ -1,6 +1,7 @@
 //! Ids under keys.
 
 ghost use Rattle.std.specs.Prelude.{◌≡◌, ℕ, ◌==◌, ◌&&◌, List, [], ◌∷◌, ◌++◌, if◌then◌else◌, IfOk, OnOk};
+ghost use Rattle.std.specs.List.{list_any};
 ghost use Rattle.std.specs.BTreeMap.{IsOrdered};
 ghost use Rattle.std.specs.List.Sorted.{IsStrictlySortedBy};
 ghost use Rattle.std.specs.Map.{keys_of};
@@ -8,7 +9,7 @@ ghost use Rattle.std.specs.Option.{option_copied};
 ghost use Rattle.std.specs.Ordering.{is_eq, nat_cmp};
 ghost use Rattle.wm_base.specs.Key.{key_order};
 ghost use Rattle.wm_base.specs.declared.value.Value.{Value};
-ghost use Rattle.wm_index.specs.Sought.{placed, without, ids_in, keyed_at, last_used, piece_ids, used};
+ghost use Rattle.wm_index.specs.Sought.{placed, without, has_since, ids_in, keyed_at, last_used, pair_order, piece_ids, used};
 
 use crate::ids::{add_id, drop_id};
 use std::alloc::Global;
@@ -67,6 +68,26 @@ pub fn last_key<K: Ord>(map: &Ids<K>) -> Option<&K>
         }
     }
     None
+}
+
+/// The ids under the positions of a workspace from one on. The keys of a workspace stand together.
+pub fn ids_since(
+    alloc: Global,
+    map: &Ids<(u32, u64)>,
+    space: u32,
+    from: u64,
+) -> Result<Vec<u64>, Memory>
+    ensures since { IfOk result (λ ids. (id : ℕ) → list_any (λ k. k == id) ids.items ≡ list_any (has_since space from id) map.now.entries) }
+    ensures ordered { OnOk result (IsOrdered pair_order map.now) }
+{
+    let mut since = Vec::new(alloc);
+    for (key, ids) in map.range((space, from)..) {
+        if key.0 != space {
+            return Ok(since);
+        }
+        since.extend_from_slice(ids.as_slice())?;
+    }
+    Ok(since)
 }
 
 /// The ids under a table and a key.

@@ -1,5 +1,6 @@
 -- What is put for a savepoint, and for a workspace that is born at one.
 use Rattle.std.proofs.Common.{◌≡◌, ℕ, ◌+◌, true, false, List, [], ◌∷◌, ◌++◌, refl}
+use Rattle.wm_gained.specs.Keeping.{keep_batch, kept_record}
 use Rattle.wm_graph.specs.Parts.{parts_of}
 use Rattle.wm_spec.specs.declared.record.Record.TheVariants as records
 use Rattle.wm_spec.specs.declared.record.batch.Change.{Change}
@@ -20,6 +21,12 @@ pub saving_is : (rs : List Stored) (a : Space) (c : Counters) (m work : ℕ) (na
     → savepoint_batch counters_id counters space_id space id x
     ≡ savepoint_batch counters_id (moved c m work) space_id (marked (a.next_place + 1) a.next_implicit a) id (saved_record (parts_of rs) a m name)
 saving_is rs a c m work name counters_id space_id id pt counters space x count mark saved point = rw (count, mark, saved, point) refl
+
+-- or an implicit one, for its own sake
+pub keeping_is : (rs : List Stored) (a : Space) (c : Counters) (m work : ℕ) (given : List ℕ) (counters_id space_id id : ℕ) (pt : Point) (counters : Counters) (space : Space) (x : Savepoint) → counters ≡ moved c m work
+    → space ≡ marked (a.next_place + 1) (a.next_implicit + 1) a → x ≡ made_at (parts_of rs) a given true pt → given ≡ implicit_of a → pt ≡ newest_point (parts_of rs) a m
+    → savepoint_batch counters_id counters space_id space id x ≡ keep_batch counters_id (moved c m work) space_id a id (kept_record (parts_of rs) a m)
+keeping_is rs a c m work given counters_id space_id id pt counters space x count mark made named point = rw (count, mark, made, named, point) refl
 
 -- a workspace that is born at a point
 pub bearing_is : (rs : List Stored) (a : Space) (c : Counters) (m work : ℕ) (name given : List ℕ) (stand : Stand) (pt : Point) (place counters_id space_id id : ℕ) (counters : Counters) (space child : Space) (version : Version) (turn : Turn) (x : Savepoint) (saved all : List Change)

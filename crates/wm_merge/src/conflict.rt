@@ -22,7 +22,11 @@ fn conflict_answer(alloc: Global, image: &Image, clash: Clash) -> Result<Answer,
 {
     match image.table_numbered(clash.table) {
         Some(table) => {
-            let period = if table.valid { Some(clash.period) } else { None };
+            let period = if table.valid {
+                Some(clash.period)
+            } else {
+                None
+            };
             Ok(in_conflict(table.name.copy(alloc)?, clash.key, period))
         }
         None => {

@@ -1,22 +1,23 @@
 //! MergeWorkspace.
 
-ghost use Rattle.std.specs.Prelude.{◌≡◌, ◌<◌, ◌++◌, ℕ, List, map, true, false, None, Some, IfOk, OnOk};
+ghost use Rattle.std.specs.Prelude.{◌≡◌, ◌<◌, ◌++◌, ◌&&◌, ◌||◌, not, nat_lt, ℕ, List, map, true, IfOk, OnOk};
 ghost use Rattle.std.specs.Option.{option_map};
 ghost use Rattle.wm_base.specs.declared.instant.TheConstants.{END};
 ghost use Rattle.wm_graph.specs.Parts.{parts_of};
 ghost use Rattle.wm_graph.specs.Rules.{keep_rules};
 ghost use Rattle.wm_merge.specs.Views.{asked_view, clashed};
-ghost use Rattle.wm_model.specs.Merged.{Merges, NamesFamily, after_edits, is_even_at, merge_edits, merging_refusal};
-ghost use Rattle.wm_model.specs.Step.{merge_workspace};
+ghost use Rattle.wm_model.specs.Merged.{Merges, NamesFamily, after_edits, is_even_at, longer_log_at, merge_edits, merging_refusal};
+ghost use Rattle.wm_model.specs.Step.{counter_limit, merge_workspace};
 ghost use Rattle.wm_plan.specs.Idle.{Idles};
 ghost use Rattle.wm_plan.specs.Planning.{DoesIt};
 ghost use Rattle.wm_state.specs.Editing.{entry_of};
 ghost use Rattle.wm_state.specs.State.{Session as SessionState};
+ghost use Rattle.wm_telling.specs.Telling.{AreFamily};
 
 use crate::conflict::{clash_refusal, rebase_refusal};
 use crate::leaving::{keeping_refusal, leaving_refusal, naming_refusal};
-use crate::ready::{are_ready, has_turn, is_long};
-use crate::refreshing::{is_quiet, push_gain};
+use crate::ready::{can_merge, is_long};
+use crate::refreshing::{done, is_quiet, push_gain};
 use std::alloc::Global;
 use wm_base::{Memory, Name, Refusal};
 use wm_image::Image;
@@ -27,7 +28,6 @@ use wm_pending::own::own_pieces;
 use wm_plan::answer::Answer;
 use wm_plan::planned::Planned;
 use wm_plan::refuse::{at_its_end, no_parent, no_workspace, not_built};
-use wm_plan::seating::Seating;
 use wm_plan::session::Session;
 use wm_plan::work::is_spent;
 use wm_spec::record::Space;
@@ -60,6 +60,21 @@ fn is_even(family: Family<'_>, own: &[NewEntry]) -> bool
     ensures { result ≡ is_even_at family.entry.space.now family.entry.parent.now (map entry_of own.now) }
 {
     own.is_empty() && is_quiet(family.space, family.parent)
+}
+
+/// Whether there is nothing to do.
+fn is_idle(even: bool, asked: Asked) -> bool
+    ensures { result ≡ (even && not (asked.keeps || asked.removes)) }
+{
+    even && !(asked.keeps || asked.removes)
+}
+
+/// Whether the log of the parent or that of the workspace would be longer than a log may be.
+fn are_long(family: Family<'_>, brought: &Brought) -> bool
+    ensures { result ≡ nat_lt counter_limit (longer_log_at family.entry.space.now family.entry.parent.now (map entry_of brought.now.own.items) (map entry_of brought.now.gained.items)) }
+{
+    is_long(family.parent.log_length, brought.own.as_slice())
+        || is_long(family.space.log_length, brought.gained.as_slice())
 }
 
 /// What a merge is refused for.
@@ -127,25 +142,19 @@ fn merge_edits(
 ) -> Result<Vec<Edit>, Memory>
     ensures { IfOk result (λ edits. edits.items ≡ merge_edits (asked_view asked) even family.entry.space.now.number family.entry.parent.now.number brought.own brought.gained) }
 {
+    let Brought { own, gained } = brought;
+    let parent = family.parent.number;
     let mut edits = Vec::new(alloc);
     if asked.keeps {
-        edits.push(Edit::Keep {
-            space: family.parent.number,
-        })?;
+        edits.push(Edit::Keep { space: parent })?;
     }
-    if !brought.own.is_empty() {
+    if !own.is_empty() {
         edits.push(Edit::Replay {
-            space: family.parent.number,
-            entries: brought.own,
+            space: parent,
+            entries: own,
         })?;
     }
-    push_after(
-        &mut edits,
-        family.space.number,
-        asked.removes,
-        even,
-        brought.gained,
-    )?;
+    push_after(&mut edits, family.space.number, asked.removes, even, gained)?;
     Ok(edits)
 }
 
@@ -164,29 +173,21 @@ fn merge_with(
     ensures idle { IfOk result Idles }
 {
     let even = is_even(family, brought.own.as_slice());
-    if even && !(asked.keeps || asked.removes) {
+    if is_idle(even, asked) {
         return Ok(Planned::answered(alloc, Answer::Fine));
     }
-    let space = family.space;
-    if is_long(family.parent.log_length, brought.own.len())
-        || is_long(space.log_length, brought.gained.len())
-    {
+    if are_long(family, &brought) {
         return Ok(Planned::answered(alloc, at_its_end(alloc, b"LOG")?));
     }
     if is_spent(&image.counters()) {
         return Ok(Planned::answered(alloc, at_its_end(alloc, b"WORK")?));
     }
-    let turn = u64::from(space.rebases) + 1;
-    let ready = are_ready(image, brought.own.as_slice())
-        && are_ready(image, brought.gained.as_slice());
-    if !ready || has_turn(image, space.number, turn) {
+    let (own, gained) = (brought.own.as_slice(), brought.gained.as_slice());
+    if !can_merge(image, family.space, own, gained) {
         return Ok(Planned::answered(alloc, not_built()));
     }
-    Ok(Planned {
-        edits: merge_edits(alloc, family, asked, even, brought)?,
-        seating: Seating::Stay,
-        answer: Answer::Fine,
-    })
+    image.law_of_order();
+    Ok(done(merge_edits(alloc, family, asked, even, brought)?))
 }
 
 /// A workspace that is not LIVE is merged into its parent.
@@ -201,6 +202,7 @@ fn merge_into(
 ) -> Result<Planned, Memory>
     requires rules { keep_rules (parts_of image.now) ≡ true }
     requires moment { moment < END }
+    requires family { AreFamily (parts_of image.now) family.space.now family.parent.now }
     ensures does { IfOk result (λ p. (workspace : List ℕ) → NamesFamily image.now workspace family.entry.space.now family.entry.parent.now → DoesIt image.now sessions.now moment p (merge_workspace session.now (asked_view asked) workspace)) }
     ensures idle { IfOk result Idles }
 {

@@ -1,28 +1,30 @@
 //! Whether entries can be written again, and what is own copied. In every state that lines lead to they can.
 
-ghost use Rattle.std.specs.Prelude.{◌≡◌, ◌+◌, nat_lt, map};
-ghost use Rattle.std.specs.List.{list_all, list_any};
+ghost use Rattle.std.specs.Prelude.{◌≡◌, ◌+◌, ◌&&◌, not, nat_lt, length, map};
+ghost use Rattle.std.specs.List.{list_all};
 ghost use Rattle.wm_graph.specs.Parts.{parts_of};
+ghost use Rattle.wm_merge.specs.Views.{has_next_turn};
 ghost use Rattle.wm_model.specs.Merged.{are_keys_kept, is_ready_entry};
 ghost use Rattle.wm_model.specs.Step.{counter_limit};
 ghost use Rattle.wm_pending.specs.Owned.{key_pieces};
-ghost use Rattle.wm_state.specs.Drafts.{can_keep, is_turn};
+ghost use Rattle.wm_state.specs.Drafts.{can_keep};
 ghost use Rattle.wm_state.specs.Editing.{entry_of};
 
 use wm_base::Value;
 use wm_image::Image;
 use wm_pending::OwnKey;
-use wm_spec::record::Record;
+use wm_space::saving::is_last;
+use wm_spec::record::Space;
 use wm_state::edit::NewEntry;
 
 /// The greatest length of a log.
 const LOG_LIMIT: u64 = 1 << 62;
 
-/// Whether a log would be longer than a log may be, with so many entries more.
-pub fn is_long(log_length: u64, more: usize) -> bool
-    ensures { result ≡ nat_lt counter_limit (log_length + more) }
+/// Whether a log would be longer than a log may be, with entries more.
+pub fn is_long(log_length: u64, entries: &[NewEntry]) -> bool
+    ensures { result ≡ nat_lt counter_limit (log_length + length entries.now) }
 {
-    log_length > LOG_LIMIT - more as u64
+    log_length.saturating_add(entries.len() as u64) > LOG_LIMIT
 }
 
 /// Whether a record can keep a value.
@@ -59,11 +61,11 @@ fn is_ready_entry(image: &Image, entry: &NewEntry) -> bool
         Some(values) => are_kept(values.as_slice()),
         None => true,
     };
-    versioned && (are_kept(entry.key.as_slice()) && kept)
+    versioned && (are_kept(entry.key.values()) && kept)
 }
 
 /// Whether all of some entries can.
-pub fn are_ready(image: &Image, entries: &[NewEntry]) -> bool
+fn are_ready(image: &Image, entries: &[NewEntry]) -> bool
     ensures { result ≡ list_all (is_ready_entry (parts_of image.now)) (map entry_of entries.now) }
 {
     for entry in entries {
@@ -75,33 +77,34 @@ pub fn are_ready(image: &Image, entries: &[NewEntry]) -> bool
 }
 
 /// Whether records can keep the keys of what is own, of those that have pieces.
-pub fn are_keys_kept(own: &[OwnKey]) -> bool
+fn are_keys_kept(own: &[OwnKey]) -> bool
     ensures { result ≡ are_keys_kept (map key_pieces own.now) }
 {
     for key in own {
-        if !key.pieces.is_empty() && !are_kept(key.key.as_slice()) {
+        if !key.pieces.is_empty() && !are_kept(key.key.values()) {
             return false;
         }
     }
     true
 }
 
-/// Whether a record is a turn of a workspace that has this number.
-fn is_turn(found: Option<&Record>, space: u32, number: u64) -> bool {
-    match found {
-        Some(Record::Turn(turn)) => turn.space == space && u64::from(turn.rebase) == number,
-        _ => false,
-    }
+/// Whether a workspace, where it may be rebased once more, has the turn already that this makes.
+fn has_next_turn(image: &Image, space: &Space) -> bool
+    ensures { result ≡ has_next_turn (parts_of image.now) space.now }
+{
+    !is_last(space.rebases) && image.has_turn(space.number, space.rebases + 1)
 }
 
-/// Whether a workspace has a turn of this number.
-pub fn has_turn(image: &Image, space: u32, number: u64) -> bool
-    ensures { result ≡ list_any (is_turn space number) (parts_of image.now).turns }
+/// Whether a workspace can be refreshed with entries, and what is its own be copied.
+pub fn can_refresh(image: &Image, space: &Space, own: &[OwnKey], entries: &[NewEntry]) -> bool
+    ensures { result ≡ ((are_keys_kept (map key_pieces own.now) && list_all (is_ready_entry (parts_of image.now)) (map entry_of entries.now)) && not (has_next_turn (parts_of image.now) space.now)) }
 {
-    for id in image.records_of(space) {
-        if is_turn(image.record(*id), space, number) {
-            return true;
-        }
-    }
-    false
+    (are_keys_kept(own) && are_ready(image, entries)) && !has_next_turn(image, space)
+}
+
+/// Whether entries of a workspace can come into its parent, and others into its own log.
+pub fn can_merge(image: &Image, space: &Space, own: &[NewEntry], gained: &[NewEntry]) -> bool
+    ensures { result ≡ ((list_all (is_ready_entry (parts_of image.now)) (map entry_of own.now) && list_all (is_ready_entry (parts_of image.now)) (map entry_of gained.now)) && not (has_next_turn (parts_of image.now) space.now)) }
+{
+    (are_ready(image, own) && are_ready(image, gained)) && !has_next_turn(image, space)
 }

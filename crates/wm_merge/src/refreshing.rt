@@ -1,23 +1,25 @@
 //! RefreshWorkspace.
 
-ghost use Rattle.std.specs.Prelude.{◌≡◌, ◌<◌, ℕ, List, map, true, false, None, Some, IfOk, OnOk};
+ghost use Rattle.std.specs.Prelude.{◌≡◌, ◌<◌, ◌++◌, ℕ, List, map, true, false, IfOk, OnOk};
 ghost use Rattle.std.specs.Option.{option_map};
 ghost use Rattle.wm_base.specs.declared.instant.TheConstants.{END};
 ghost use Rattle.wm_graph.specs.Parts.{parts_of};
 ghost use Rattle.wm_graph.specs.Rules.{keep_rules};
 ghost use Rattle.wm_merge.specs.Views.{clashed};
-ghost use Rattle.wm_model.specs.Merged.{NamesFamily, Refreshes, gain_edits, is_quiet_at, refreshing_refusal};
+ghost use Rattle.wm_model.specs.Merged.{NamesFamily, Refreshes, gain_edits, is_quiet_at, refresh_edits, refreshing_refusal};
 ghost use Rattle.wm_model.specs.Step.{refresh_workspace};
 ghost use Rattle.wm_pending.specs.Owned.{key_pieces};
 ghost use Rattle.wm_plan.specs.Idle.{Idles};
 ghost use Rattle.wm_plan.specs.Planning.{DoesIt};
+ghost use Rattle.wm_plan.specs.declared.answer.Answer.TheVariants as answers;
+ghost use Rattle.wm_plan.specs.declared.seating.Seating.TheVariants as seatings;
+ghost use Rattle.wm_spec.specs.declared.record.space.Space.{Space as SpaceRecord};
 ghost use Rattle.wm_state.specs.Editing.{entry_of};
 ghost use Rattle.wm_state.specs.State.{Session as SessionState};
-ghost use Rattle.wm_telling.specs.Telling.{AreOwn};
-ghost use Rattle.std.specs.Prelude.{◌++◌};
+ghost use Rattle.wm_telling.specs.Telling.{AreFamily, AreOwn};
 
 use crate::conflict::{clash_refusal, rebase_refusal};
-use crate::ready::{are_keys_kept, are_ready, has_turn, is_long};
+use crate::ready::{can_refresh, is_long};
 use std::alloc::Global;
 use wm_base::{Memory, Name, Refusal};
 use wm_image::Image;
@@ -42,17 +44,26 @@ pub fn is_quiet(space: &Space, parent: &Space) -> bool
 }
 
 /// Puts the edit by which the log of a workspace gains entries behind others, where there are any.
-pub fn push_gain(
-    edits: &mut Vec<Edit>,
-    space: u32,
-    entries: Vec<NewEntry>,
-) -> Result<(), Memory>
+pub fn push_gain(edits: &mut Vec<Edit>, space: u32, entries: Vec<NewEntry>) -> Result<(), Memory>
     ensures { OnOk result (edits.new.items ≡ edits.old.items ++ gain_edits space entries) }
 {
     if !entries.is_empty() {
         edits.push(Edit::Gain { space, entries })?;
     }
     Ok(())
+}
+
+/// A plan of edits, answered that they are made.
+pub fn done(edits: Vec<Edit>) -> Planned
+    ensures edits { result.edits.items ≡ edits.items }
+    ensures seating { result.seating ≡ seatings.Stay }
+    ensures answer { result.answer ≡ answers.Fine }
+{
+    Planned {
+        edits,
+        seating: Seating::Stay,
+        answer: Answer::Fine,
+    }
 }
 
 /// What a refresh is refused for: a conflict, or that the workspace was rebased as often as may be.
@@ -70,6 +81,19 @@ fn refreshing_refusal(
     rebase_refusal(alloc, space)
 }
 
+/// The edits of a refresh.
+fn refresh_edits(alloc: Global, space: &Space, entries: Vec<NewEntry>) -> Result<Vec<Edit>, Memory>
+    ensures { IfOk result (λ edits. edits.items ≡ refresh_edits space.now.number entries) }
+{
+    let mut edits = Vec::new(alloc);
+    edits.push(Edit::Rebase {
+        space: space.number,
+        emptied: false,
+    })?;
+    push_gain(&mut edits, space.number, entries)?;
+    Ok(edits)
+}
+
 /// A workspace for which nothing refuses it gains entries and stands on its parent, unless a counter is at its end.
 fn refresh_with(
     alloc: Global,
@@ -82,31 +106,20 @@ fn refresh_with(
     requires rules { keep_rules (parts_of image.now) ≡ true }
     requires moment { moment < END }
     requires own { AreOwn (parts_of image.now) space.now (map key_pieces own.now) }
-    ensures does { IfOk result (λ p. (xs : List SessionState) (session : SessionState) (workspace : List ℕ) (parent : Space) → Refreshes image.now moment session workspace space.now parent (map entry_of entries.items) → DoesIt image.now xs moment p (refresh_workspace session workspace)) }
+    ensures does { IfOk result (λ p. (xs : List SessionState) (session : SessionState) (workspace : List ℕ) (parent : SpaceRecord) → Refreshes image.now moment session workspace space.now parent (map entry_of entries.items) → DoesIt image.now xs moment p (refresh_workspace session workspace)) }
     ensures idle { IfOk result Idles }
 {
-    if is_long(space.log_length, entries.len()) {
+    if is_long(space.log_length, entries.as_slice()) {
         return Ok(Planned::answered(alloc, at_its_end(alloc, b"LOG")?));
     }
     if is_spent(&image.counters()) {
         return Ok(Planned::answered(alloc, at_its_end(alloc, b"WORK")?));
     }
-    let turn = u64::from(space.rebases) + 1;
-    let ready = are_keys_kept(own) && are_ready(image, entries.as_slice());
-    if !ready || has_turn(image, space.number, turn) {
+    if !can_refresh(image, space, own, entries.as_slice()) {
         return Ok(Planned::answered(alloc, not_built()));
     }
-    let mut edits = Vec::new(alloc);
-    edits.push(Edit::Rebase {
-        space: space.number,
-        emptied: false,
-    })?;
-    push_gain(&mut edits, space.number, entries)?;
-    Ok(Planned {
-        edits,
-        seating: Seating::Stay,
-        answer: Answer::Fine,
-    })
+    image.law_of_order();
+    Ok(done(refresh_edits(alloc, space, entries)?))
 }
 
 /// A workspace whose parent changed something since is refreshed.
@@ -120,6 +133,7 @@ fn refresh_pending(
 ) -> Result<Planned, Memory>
     requires rules { keep_rules (parts_of image.now) ≡ true }
     requires moment { moment < END }
+    requires family { AreFamily (parts_of image.now) space.now parent.now }
     requires pending { is_quiet_at space.now parent.now ≡ false }
     ensures does { IfOk result (λ p. (xs : List SessionState) (workspace : List ℕ) → NamesFamily image.now workspace space.now parent.now → DoesIt image.now xs moment p (refresh_workspace session.now workspace)) }
     ensures idle { IfOk result Idles }

@@ -25,12 +25,12 @@ use Rattle.wm_telling.specs.Telling.{IsHeldListing, gained_held, own_held}
 use Rattle.wm_telling.proofs.Beside.{Beside}
 use Rattle.wm_telling.proofs.Clashing.{clash_listed, clash_none}
 use Rattle.wm_telling.proofs.Relisting.{gained_listed, net_listed}
-use Rattle.wm_model.specs.Lawful.{Each, IsSound}
 use Rattle.wm_model.specs.Merged.{Clashed, IsClash, NamesFamily, clash_answer, clash_fault, is_quiet_at}
 use Rattle.wm_model.specs.Planning.{StandsAt, Does, Stay}
 use Rattle.wm_model.specs.Step.{conflict_fault, conflict_told, gained_of, is_quiet, no_parent, no_workspace, parent_in, refusal_of, refused_for, with_named}
 use Rattle.wm_model.specs.Undone.{NamesSpace}
 use Rattle.wm_model.proofs.Doing.{does_nothing}
+use Rattle.wm_model.proofs.Lawful.Nets.{sound_stamped}
 use Rattle.wm_model.proofs.RollingLine.{home}
 use Rattle.wm_model.proofs.Telling.{holds_base}
 
@@ -61,7 +61,8 @@ does_liveless rs xs m workspace a to names live =
 
 -- ---- what a state has of both
 
--- the workspace and its parent, which is older; what the workspace sees under its own is its base; and one stamp tells one row in what is own and in the parent's log
+-- the workspace and its parent, which is older; what the workspace sees under its own is its base; and one stamp tells one row in what
+-- is own and in the parent's log
 pub record Family (rs : List Stored) (workspace : List ℕ) (a b : Space) (s : State) : Type 0 where
   pub w : Workspace
   pub q : Workspace
@@ -76,10 +77,6 @@ pub record Family (rs : List Stored) (workspace : List ℕ) (a b : Space) (s : S
   pub tells : ℕ → Told
   pub own : Stamped tells w.lists.own
   pub log : Stamped tells q.lists.log
-
-stamped : (tells : ℕ → Told) (next : ℕ) (es : List Entry) → Each (IsSound tells next) es → Stamped tells es
-stamped tells next [] each = tt
-stamped tells next (e ∷ es) each = (each.0.told, stamped tells next es each.1)
 
 pub family : (rs : List Stored) (xs : List Session) (m : ℕ) (workspace : List ℕ) (a b : Space) (s : State) → NamesFamily rs workspace a b → StandsAt rs xs m s → Family rs workspace a b s
 family rs xs m workspace a b s names st =
@@ -109,8 +106,8 @@ family rs xs m workspace a b s names st =
       parent = parent ∙ sym u.is.number;
       older = let older = (l.spaces.bases a.number h.workspace names.child h.is.found).older in omega (arith, older, parent, u.is.number);
       tells = l.entries.tells;
-      own = stamped l.entries.tells s.durable.next_stamp h.workspace.lists.own (l.entries.each a.number h.workspace h.is.found).own;
-      log = stamped l.entries.tells s.durable.next_stamp u.workspace.lists.log (l.entries.each a.parent u.workspace u.is.found).log;
+      own = sound_stamped l.entries.tells s.durable.next_stamp h.workspace.lists.own (l.entries.each a.number h.workspace h.is.found).own;
+      log = sound_stamped l.entries.tells s.durable.next_stamp u.workspace.lists.log (l.entries.each a.parent u.workspace u.is.found).log;
     }
   where
     above : (n : ℕ) → 0 < n → (n == 0) ≡ false

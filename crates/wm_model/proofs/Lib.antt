@@ -26,3 +26,5 @@ pub mod Families
 pub mod MergedEdits
 pub mod Unready
 pub mod RefreshingLine
+pub mod MergingFaults
+pub mod MergingLine

@@ -1,17 +1,19 @@
 -- What the edits of a refresh and of a merge make of a state.
-use Rattle.std.proofs.Common.{arith, ◌≡◌, ◌≢◌, ℕ, suc, not, ◌==◌, length, Bool, true, false, cond, List, [], ◌∷◌, ◌++◌, append-nil, map, Option, Some, unwrap_or, refl, sym, ap, ◌∙◌}
+use Rattle.std.proofs.Common.{arith, ◌≡◌, ◌≢◌, ℕ, suc, not, ◌==◌, length, Bool, true, false, cond, if◌then◌else◌, ◌+◌, ◌&&◌, ◌||◌, List, [], ◌∷◌, ◌++◌, append-nil, map, Option, Some, unwrap_or, refl, sym, ap, subst, ◌∙◌}
 use Rattle.std.proofs.lemmas.Bool.{eq-eqb, ne_eqb}
 use Rattle.std.specs.Option.{option_and_then, option_map}
 use Rattle.std.specs.declared.alloc.Global.{Global}
 use Rattle.std.specs.declared.vec.Vec.{Vec}
 use Rattle.wm_spec.specs.Lists.{Entry}
-use Rattle.wm_state.specs.Editing.{all_edited, entry_of, gained_in, parent_of, rebased, rebased_in, rebased_so, replayed_in, without}
-use Rattle.wm_state.specs.State.{Durable, Workspace, with_entries, with_gained, with_space, workspace_of}
+use Rattle.wm_state.specs.Editing.{all_edited, entry_of, gained_in, implicit_name, keep_in, kept_in, parent_of, rebased, rebased_in, rebased_so, replayed_in, without}
+use Rattle.wm_state.specs.State.{Durable, Savepoint, Workspace, next_making, with_entries, with_gained, with_savepoint, with_space, workspace_of}
+use Rattle.wm_state.specs.declared.edit.Edit.{Edit}
 use Rattle.wm_state.specs.declared.edit.Edit.TheVariants as edits
 use Rattle.wm_state.specs.declared.edit.NewEntry.{NewEntry}
 use Rattle.wm_state.proofs.Changing.{workspace_of-changed}
-use Rattle.wm_model.specs.Merged.{gain_edits, refresh_edits, replay_edits}
-use Rattle.wm_model.specs.Step.{refreshed}
+use Rattle.wm_state.proofs.EditedLater.{all_edited_append}
+use Rattle.wm_model.specs.Merged.{after_edits, gain_edits, keep_edits, merge_edits, refresh_edits, replay_edits}
+use Rattle.wm_model.specs.Step.{Asked, merged, refreshed}
 
 -- ---- a workspace among others
 
@@ -62,6 +64,7 @@ changed_other n k act ws w keeps other found =
 
 -- ---- edits that are made only where there is something to do
 
+-- no entries leave a workspace as it is
 append_none : (es : List Entry) (w : Workspace) → es ≡ [] → with_gained es w ≡ w
 append_none es w none = ap (λ (xs : List Entry). with_gained xs w) none ∙ ap (λ (xs : List Entry). record w { lists = record w.lists { log = xs } }) (append-nil w.lists.log)
 
@@ -71,12 +74,16 @@ append_none_own es w none =
     ∙ ap (λ (xs : List Entry). record w { lists = record w.lists { own = xs; log = w.lists.log ++ [] } }) (append-nil w.lists.own)
     ∙ ap (λ (xs : List Entry). record w { lists = record w.lists { log = xs } }) (append-nil w.lists.log)
 
-none_mapped : (xs : List NewEntry) → (length xs == 0) ≡ true → map entry_of xs ≡ []
-none_mapped [] none = refl
-none_mapped (x ∷ xs) none = absurd (apart (length xs) none)
+-- a list without elements
+pub nothing_listed : {A : Type 0} (xs : List A) → (length xs == 0) ≡ true → xs ≡ []
+nothing_listed [] none = refl
+nothing_listed (x ∷ xs) none = absurd (apart (length xs) none)
   where
     apart : (n : ℕ) → (suc n == 0) ≡ true → ⊥
     apart n e = grind (arith, e)
+
+none_mapped : (xs : List NewEntry) → (length xs == 0) ≡ true → map entry_of xs ≡ []
+none_mapped xs none = ap (map entry_of) (nothing_listed xs none)
 
 -- entries that a log gains
 pub all_gained : (m n : ℕ) (entries : Vec NewEntry Global) (d : Durable) → all_edited m (gain_edits n entries) d ≡ gained_in n (map entry_of entries.items) d
@@ -126,3 +133,98 @@ rebased_gained m n emptied q entries d has =
 pub all_refreshed : (m : ℕ) (w q : Workspace) (entries : Vec NewEntry Global) (d : Durable) → workspace_of d.spaces w.number ≡ Some w → workspace_of d.spaces w.parent ≡ Some q
     → all_edited m (refresh_edits w.number entries) d ≡ record d { spaces = with_space w.number (refreshed (map entry_of entries.items) q) d.spaces }
 all_refreshed m w q entries d found above = rebased_gained m w.number false q entries d (has_parent d.spaces w.number w q found above)
+
+-- ---- a merge
+
+-- where a savepoint of the parent is kept first, if it is, and what is merged stands in the parent then
+abbrev kept_first : Bool → ℕ → Workspace → Durable → Durable
+kept_first keeps m q d = if keeps then kept_in m q.number d else d
+
+-- what becomes of a state by a merge, whether anything is pending or merged being told
+abbrev pub merged_by : Asked → Bool → ℕ → List Entry → List Entry → Workspace → Workspace → Durable → Durable
+merged_by asked even m own es q w d =
+    let e = (if even then kept_first asked.keeps m q d else merged own es q w (kept_first asked.keeps m q d)) in
+    if asked.removes then record e { spaces = without w.number e.spaces } else e
+
+module _ (m : ℕ) (w q : Workspace) (d : Durable) (found : workspace_of d.spaces w.number ≡ Some w) (above : workspace_of d.spaces q.number ≡ Some q) (parent : w.parent ≡ q.number) (apart : w.number ≢ q.number) where
+  -- the workspace and its parent, which may have a savepoint more
+  record Kept (ws : List Workspace) : Type 0 where
+    kept : Workspace
+    child : workspace_of ws w.number ≡ Some w
+    is : workspace_of ws q.number ≡ Some kept
+    same : (own : List Entry) (emptied : Bool) (v : Workspace) → rebased emptied (with_entries own kept) v ≡ rebased emptied (with_entries own q) v
+
+  kept : (keeps : Bool) → Kept (kept_first keeps m q d).spaces
+  kept false = record { kept = q; child = found; is = above; same = λ own emptied v. refl }
+  kept true = subst Kept (ap (λ (o : Option Workspace). (unwrap_or (option_and_then (keep_in m d) o) d).spaces) (sym above)) (record {
+    kept = with_savepoint (q.next_place + 1) (q.next_implicit + 1) k q;
+    child = changed_other q.number w.number (with_savepoint (q.next_place + 1) (q.next_implicit + 1) k) d.spaces w (λ v. refl) apart found;
+    is = changed_here q.number (with_savepoint (q.next_place + 1) (q.next_implicit + 1) k) d.spaces q (λ v. refl) above;
+    same = λ own emptied v. refl;
+  })
+    where
+      k : Savepoint
+      k = record {
+        making = next_making d.spaces;
+        name = implicit_name q;
+        implicit = true;
+        place = q.next_place;
+        moment = m;
+        base = q.lists.base;
+        own = q.lists.own;
+        from = q.from;
+        log_length = length q.lists.log;
+        rebases = q.rebases;
+      }
+
+  -- what is merged stands in the parent, and the workspace on it
+  has_merged : (own : List Entry) (e : Durable) → Kept e.spaces → HasParent (replayed_in q.number own e).spaces w.number (with_entries own q)
+  has_merged own e k = record {
+    parent = with_entries own k.kept;
+    is =
+        ap (option_and_then (λ (v : Workspace). workspace_of (replayed_in q.number own e).spaces v.parent)) (changed_other q.number w.number (with_entries own) e.spaces w (λ v. refl) apart k.child)
+        ∙ ap (workspace_of (replayed_in q.number own e).spaces) parent
+        ∙ changed_here q.number (with_entries own) e.spaces k.kept (λ v. refl) k.is;
+    same = k.same own;
+  }
+
+  all_kept : (keeps : Bool) (fs : List Edit) → all_edited m (keep_edits keeps q.number ++ fs) d ≡ all_edited m fs (kept_first keeps m q d)
+  all_kept true fs = refl
+  all_kept false fs = refl
+
+  -- where nothing is merged, nothing comes into the parent
+  replayed_none : (own : List Entry) (e : Durable) → own ≡ [] → replayed_in q.number own e ≡ e
+  replayed_none own e none = ap (λ (ws : List Workspace). record e { spaces = ws }) (with_space-same q.number (with_entries own) (λ v. append_none_own own v none) e.spaces)
+
+  -- what comes behind
+  all_after : (removes even : Bool) (own : List Entry) (entries : Vec NewEntry Global) (e : Durable) → Kept e.spaces → (even ≡ true → own ≡ []) → let es : List Entry = map entry_of entries.items in
+      all_edited m (after_edits removes even w.number entries) (replayed_in q.number own e)
+      ≡ (let f = (if even then e else merged own es q w e) in if removes then record f { spaces = without w.number f.spaces } else f)
+  all_after true true own entries e k none = ap (λ (f : Durable). record f { spaces = without w.number f.spaces }) (replayed_none own e (none refl))
+  all_after true false own entries e k none =
+      ap (λ (ws : List Workspace). record e { spaces = ws })
+      (sym (without-changed w.number (λ v. rebased true (with_entries own q) (with_gained (map entry_of entries.items) v)) (λ v. refl) (with_space q.number (with_entries own) e.spaces)))
+  all_after false true own entries e k none = replayed_none own e (none refl)
+  all_after false false own entries e k none = rebased_gained m w.number true (with_entries own q) entries (replayed_in q.number own e) (has_merged own e k)
+
+  pub all_merged : (asked : Asked) (even : Bool) (own entries : Vec NewEntry Global) → (even ≡ true → map entry_of own.items ≡ [])
+      → all_edited m (merge_edits asked even w.number q.number own entries) d ≡ merged_by asked even m (map entry_of own.items) (map entry_of entries.items) q w d
+  all_merged asked even own entries none =
+      all_kept asked.keeps (replay_edits q.number own ++ after_edits asked.removes even w.number entries)
+      ∙ all_edited_append m (replay_edits q.number own) (after_edits asked.removes even w.number entries) (kept_first asked.keeps m q d)
+      ∙ ap (all_edited m (after_edits asked.removes even w.number entries)) (all_replayed m q.number own (kept_first asked.keeps m q d))
+      ∙ all_after asked.removes even (map entry_of own.items) entries (kept_first asked.keeps m q d) (kept asked.keeps) none
+
+-- a merge that does anything makes an edit
+pub merge_some : (asked : Asked) (even : Bool) (n k : ℕ) (own entries : Vec NewEntry Global) → (even && not (asked.keeps || asked.removes)) ≡ false → merge_edits asked even n k own entries ≡ [] → ⊥
+merge_some asked even n k own entries some none = by_asked asked.keeps asked.removes even some (replay_edits k own) none
+  where
+    behind : (front : List Edit) (e : Edit) (back : List Edit) → front ++ e ∷ back ≡ [] → ⊥
+    behind [] e back h = absurd (cc)
+    behind (f ∷ front) e back h = absurd (cc)
+
+    by_asked : (keeps removes b : Bool) → (b && not (keeps || removes)) ≡ false → (front : List Edit) → keep_edits keeps k ++ (front ++ after_edits removes b n entries) ≡ [] → ⊥
+    by_asked true removes b h front e = absurd (cc)
+    by_asked false true b h front e = behind front (edits.Remove n) [] e
+    by_asked false false true h front e = absurd (cc)
+    by_asked false false false h front e = behind front (edits.Rebase n true) (gain_edits n entries) e

@@ -62,6 +62,7 @@ module _ (rs : List Stored) (workspace : List ℕ) (a b : Space) (s : State) (f 
 
 -- ---- a parent that changed nothing
 
+-- a log reaches no further than it is long
 reach_within : (es : List Entry) (c : Cell) → reach es c ≤ length es
 reach_within [] c = none_less
   where

@@ -112,7 +112,7 @@ remove_spent rs xs m workspace a c names some clear one much =
     (λ s st. by_refusal rs xs m workspace a s names st None some clear ∙ spent_at rs xs m s 0 c (gone_from s (home rs xs m workspace a s names st).workspace.number, Fine) st one refl much)
 
 -- where nothing refuses it, no workspace stands under it
-childless : (rs : List Stored) (xs : List Session) (workspace : List ℕ) (a : Space) → NamesSpace rs workspace a → 0 < a.number → removing_refusal (parts_of rs) xs a ≡ None
+pub childless : (rs : List Stored) (xs : List Session) (workspace : List ℕ) (a : Space) → NamesSpace rs workspace a → 0 < a.number → removing_refusal (parts_of rs) xs a ≡ None
     → list_all (λ (r : Space). is_other a.number r.parent) (parts_of rs).spaces ≡ true
 childless rs xs workspace a names some clear =
     all-found (λ (r : Space). r.number) (λ (r : Space). is_other a.number r.parent) (parts_of rs).spaces (ruled_spaces (parts_of rs) names.rules).numbers

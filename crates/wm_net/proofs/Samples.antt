@@ -1,8 +1,10 @@
 -- The definitions at some lists: made up ones first, then stories of two sides that are merged.
-use Rattle.std.proofs.Common.{◌≡◌, ℕ, List, [], ◌∷◌, ◌++◌, drop, refl, pos, Option, Some, None}
+use Rattle.std.proofs.Common.{◌≡◌, ℕ, ◌+◌, true, false, not, ◌&&◌, ◌||◌, List, [], ◌∷◌, ◌++◌, length, drop, refl, pos, Option, Some, None}
 use Rattle.wm_base.specs.declared.kind.Kind.TheVariants.{Insert, Delete}
 use Rattle.wm_base.specs.declared.value.Value.TheVariants.{Num}
-use Rattle.wm_spec.specs.Lists.{Entry}
+use Rattle.wm_spec.specs.Lists.{Entry, Cell, touched}
+use Rattle.wm_spec.specs.declared.record.cell_range.CellRange.{CellRange}
+use Rattle.wm_net.specs.Counts.{first_cells, cut_count, has_ends, has_cuts}
 use Rattle.wm_net.specs.Groups.{Group}
 use Rattle.wm_net.specs.Listed.{Stretch}
 use Rattle.wm_net.specs.Nets.{net, gained}
@@ -79,6 +81,56 @@ settled_sample = refl
 -- a later mark lies over an earlier one
 resettled_sample : conflicts (sides (settled_up_to 0 8 2 ∷ settled_up_to 6 8 1 ∷ [])) ≡ stretch 6 8 None (Some 2) (Some 3) ∷ []
 resettled_sample = refl
+
+-- ---- stretches that are counted
+
+-- own over [3, 5) of the first key; pending over [0, 10) and [10, 12) there, and over [0, 4) of the second
+abbrev some_own : List Entry
+some_own = one 1 1 3 5 9 ∷ []
+
+abbrev some_pending : List Entry
+some_pending = one 1 1 0 10 6 ∷ one 1 2 0 4 7 ∷ one 1 1 10 12 6 ∷ []
+
+abbrev first_of : ℕ → ℕ → Cell
+first_of key time = record { table = 1; key = Num (pos key) ∷ []; time = time }
+
+-- every end cuts, also where one entry goes on
+firsts_sample : first_cells (some_own ++ some_pending) (touched some_pending) ≡ first_of 1 0 ∷ first_of 1 3 ∷ first_of 1 5 ∷ first_of 1 10 ∷ first_of 2 0 ∷ []
+firsts_sample = refl
+
+count_sample : cut_count (some_own ++ some_pending) (λ c. touched some_own c || touched some_pending c) ≡ 5
+count_sample = refl
+
+-- fewer cuts and fewer cells count less
+uncut_sample : cut_count some_pending (touched some_pending) ≡ 3
+uncut_sample = refl
+
+own_sample : cut_count (some_own ++ some_pending) (touched some_own) ≡ 1
+own_sample = refl
+
+outside_sample : cut_count (some_own ++ some_pending) (λ c. touched some_pending c && not (touched some_own c)) ≡ 4
+outside_sample = refl
+
+-- what is listed is no longer than that: of the four, two are joined
+length_sample : length (net 0 [] some_own) + length (gained 0 [] some_own some_pending) ≡ 4
+length_sample = refl
+
+-- the ends of both are cut, in whichever order they stand, and those of the one are not all ends of the other
+cuts_sample : has_cuts (some_pending ++ some_own) (some_own ++ some_pending) ≡ true
+cuts_sample = refl
+
+uncuts_sample : has_cuts some_own some_pending ≡ false
+uncuts_sample = refl
+
+-- a range of cells that ends where entries do, and one that does not
+abbrev range : ℕ → ℕ → CellRange
+range from till = record { table = 1; key = Num (pos 1) ∷ []; from = from; till = till }
+
+ends_sample : has_ends (some_own ++ some_pending) (range 3 12) ≡ true
+ends_sample = refl
+
+no_ends_sample : has_ends (some_own ++ some_pending) (range 3 11) ≡ false
+no_ends_sample = refl
 
 -- ---- stories of two rows, made with stamps 1 and 2, of which a workspace is born
 

@@ -1,9 +1,12 @@
-//! Laws of net lists, of what is gained, of conflicts and of last positions. Each is the contract of a function that
-//! does nothing.
-ghost use Rattle.std.specs.Prelude.{◌≡◌, ◌+◌, ℕ, List, [], ◌∷◌, ◌++◌, map, length, take, drop, true, nat_lt, if◌then◌else◌, None};
+//! Laws of net lists, of what is gained, of conflicts, of last positions and of counts. Each is the contract of a
+//! function that does nothing.
+ghost use Rattle.std.specs.Prelude.{◌≡◌, ◌≤◌, ◌+◌, ℕ, List, [], ◌∷◌, ◌++◌, map, length, take, drop, Bool, true, false, not, ◌&&◌, ◌||◌, nat_lt, if◌then◌else◌, None};
+ghost use Rattle.std.specs.List.{All};
 ghost use Rattle.wm_base.specs.declared.value.Value.{Value};
 ghost use Rattle.wm_spec.specs.Lists.{Entry, Cell, Told, told, touched, covers, reach, stamp_at, Alike};
 ghost use Rattle.wm_spec.specs.Stretches.{cuts, rows_of_key};
+ghost use Rattle.wm_spec.specs.declared.record.cell_range.CellRange.{CellRange};
+ghost use Rattle.wm_net.specs.Counts.{cut_count, IsSteady, has_ends, has_cuts, Meet, AreApart, has_cell};
 ghost use Rattle.wm_net.specs.Groups.{Group};
 ghost use Rattle.wm_net.specs.Listed.{Stretch, IsListing, stretches, with_stamp, same_number};
 ghost use Rattle.wm_net.specs.Nets.{net, gained, gained_at, IsGained, IsToldListing, Stamped};
@@ -68,4 +71,39 @@ pub fn a_merge_keeps_lists_alike()
     ensures { (first base own log p_first p_base p_own p_log : List Entry) (from : ℕ) (net gained : List Entry)
         → Alike (base ++ own) (first ++ log) → Alike (p_base ++ p_own) (p_first ++ p_log) → Alike base (p_first ++ take from p_log)
         → Alike net own → IsGained own (drop from p_log) gained → Alike ((p_base ++ (p_own ++ net)) ++ []) (first ++ (log ++ gained)) }
+{}
+
+/// The stretches into which cells fall grow in number with the cells and with what is cut, and those of cells apart from
+/// others come on top of those of the others.
+pub fn counts_grow_with_cells_and_cuts()
+    ensures cuts { (es fs : List Entry) (f : Cell → Bool) → has_cuts fs es ≡ true → cut_count es f ≤ cut_count fs f }
+    ensures cells { (es : List Entry) (f g : Cell → Bool) → ((c : Cell) → f c ≡ true → g c ≡ true)
+        → cut_count es f ≤ cut_count es g }
+    ensures apart { (es : List Entry) (f g : Cell → Bool) → ((c : Cell) → f c ≡ true → g c ≡ false)
+        → cut_count es f + cut_count es g ≤ cut_count es (λ c. f c || g c) }
+{}
+
+/// A net list is no longer than the stretches of the cells of its list, and what is gained than those of the cells that
+/// are pending and not own; both together are no longer than the stretches of all cells of the two lists.
+pub fn lists_are_no_longer_than_their_cells_are_cut()
+    ensures net { (moment : ℕ) (user : List ℕ) (es own : List Entry) → has_cuts es own ≡ true
+        → length (net moment user own) ≤ cut_count es (touched own) }
+    ensures gained { (moment : ℕ) (user : List ℕ) (es own pending : List Entry)
+        → has_cuts es own ≡ true → has_cuts es pending ≡ true
+        → length (gained moment user own pending) ≤ cut_count es (λ c. touched pending c && not (touched own c)) }
+    ensures both { (moment : ℕ) (user : List ℕ) (es own pending : List Entry)
+        → has_cuts es own ≡ true → has_cuts es pending ≡ true
+        → length (net moment user own) + length (gained moment user own pending)
+        ≤ cut_count es (λ c. touched own c || touched pending c) }
+{}
+
+/// Things that share no cell and change at cuts alone, each with one of some cells, are no more than the stretches of
+/// these cells: things that are told by number, and ranges of cells that end where entries do.
+pub fn things_apart_are_no_more_than_stretches()
+    ensures things { (es : List Entry) (f : Cell → Bool) (covered : ℕ → Cell → Bool) (xs : List ℕ) → IsSteady es f
+        → All (λ x. IsSteady es (covered x)) xs → All (λ x. Meet (covered x) f) xs → AreApart covered xs
+        → length xs ≤ cut_count es f }
+    ensures ranges { (es own : List Entry) (xs : List CellRange) → has_cuts es own ≡ true
+        → All (λ r. has_ends es r ≡ true) xs → All (λ r. Meet (has_cell r) (touched own)) xs → AreApart has_cell xs
+        → length xs ≤ cut_count es (touched own) }
 {}

@@ -1,18 +1,20 @@
 -- Touches found by their ids, and what they tell of a cell.
-use Rattle.std.proofs.Common.{◌≡◌, ℕ, ◌+◌, Bool, true, false, cond, not, ◌&&◌, ◌||◌, ◌==◌, nat_lt, nat_le, max, List, [], ◌∷◌, ◌++◌, Option, Some, None, is_some, refl, sym, ap, ◌∙◌, arith}
+use Rattle.std.proofs.Common.{◌≡◌, ℕ, ◌+◌, Bool, true, false, cond, ◌&&◌, ◌||◌, ◌==◌, nat_lt, nat_le, max, List, [], ◌∷◌, ◌++◌, Option, Some, None, refl, sym, ap, subst, ◌∙◌, arith}
+use Rattle.std.proofs.lemmas.Bool.{eq-eqb, eqb-true, ne_eqb}
 use Rattle.std.proofs.lemmas.Bool.Decides.{nat_tests}
-use Rattle.std.specs.Bool.{then_some}
+use Rattle.std.proofs.lemmas.Map.Views.{any-filter_same}
+use Rattle.std.specs.Cmp.{both_ways}
 use Rattle.std.specs.List.{filter, filter_map, list_any}
 use Rattle.std.specs.Option.{option_and_then, option_map_or, option_to_list}
 use Rattle.std.specs.Ordering.{is_eq}
 use Rattle.wm_base.specs.Key.{key_order}
 use Rattle.wm_base.specs.declared.value.Value.{Value}
 use Rattle.wm_graph.specs.Parts.{as_touch, parts_of}
-use Rattle.wm_index.proofs.Finding.{Tests, all_of, filter-kind}
 use Rattle.wm_image.proofs.Lists.{taken-with}
-use Rattle.wm_index.proofs.Lists.{record_at-here, record_at-away}
-use Rattle.wm_image.specs.Shown.{kind_at, passing}
-use Rattle.wm_index.specs.Sought.{OwnedBy, TouchesAt, ids_with, is_sought}
+use Rattle.wm_index.proofs.Finding.{Tests, all_of, filter-kind}
+use Rattle.wm_index.proofs.Lists.{record_at-none, record_at-here, record_at-away}
+use Rattle.wm_index.specs.Kinds.{kind_at}
+use Rattle.wm_index.specs.Sought.{TouchesAt, ids_with, is_sought, is_touch_since}
 use Rattle.wm_spec.specs.Lists.{Cell}
 use Rattle.wm_spec.specs.Records.{record_at}
 use Rattle.wm_spec.specs.declared.record.Record.{Record}
@@ -22,66 +24,95 @@ use Rattle.wm_spec.specs.declared.record.trace.Trace.{Trace}
 use Rattle.wm_state.specs.ById.{AllAbove, Ascend}
 use Rattle.wm_state.specs.Standing.{in_cells, reached}
 use Rattle.wm_pending.specs.Keys.{Place}
-use Rattle.wm_pending.specs.Touched.{covers_since, has_touched, is_since, is_touch_of, is_touch_since, is_touched}
+use Rattle.wm_pending.specs.Touched.{has_touched, is_meant, is_since, is_touch_of, is_touched, passes_at}
 use Rattle.wm_pending.specs.declared.touched.Since.{Since}
 
--- ---- ids of ids
+-- ---- ids, in any order
 
--- the record of an id passes a test
-abbrev pub passes_at : (Record → Bool) → List Stored → ℕ → Bool
-passes_at p ss id = option_map_or p (record_at ss id) false
+or_true : (a b : Bool) → b ≡ true → (a || b) ≡ true
+or_true true b is = refl
+or_true false b is = is
 
--- the ids of later records are not that of the first
-filtered-away : (p q : Record → Bool) (s : Stored) (ss ts : List Stored) → AllAbove s.id ts → filter (passes_at p (s ∷ ss)) (ids_with q ts) ≡ filter (passes_at p ss) (ids_with q ts)
-filtered-away p q s ss [] above = refl
-filtered-away p q s ss (t ∷ ts) above = by_test (q t.record) (filtered-away p q s ss ts above.1)
+-- an id that is one of some settles a test of them
+any_found : (R : ℕ → Bool) (id : ℕ) (ids : List ℕ) → R id ≡ true → list_any (λ k. k == id) ids ≡ true → list_any R ids ≡ true
+any_found R id [] is found = found
+any_found R id (x ∷ ids) is found = by_id (x == id) refl found (any_found R id ids is)
   where
-    by_test : (b : Bool) → filter (passes_at p (s ∷ ss)) (ids_with q ts) ≡ filter (passes_at p ss) (ids_with q ts)
-        → filter (passes_at p (s ∷ ss)) (cond b (t.id ∷ ids_with q ts) (ids_with q ts)) ≡ filter (passes_at p ss) (cond b (t.id ∷ ids_with q ts) (ids_with q ts))
-    by_test true rest = rw (record_at-away s ss t.id (λ e. absurd (let lt = above.0 in omega arith)), rest) refl
+    by_id : (b : Bool) → (x == id) ≡ b → (b || list_any (λ k. k == id) ids) ≡ true → (list_any (λ k. k == id) ids ≡ true → list_any R ids ≡ true)
+        → (R x || list_any R ids) ≡ true
+    by_id true same found rest = ap (λ k. R k || list_any R ids) (eqb-true x id same) ∙ ap (λ b. b || list_any R ids) is
+    by_id false apart found rest = or_true (R x) (list_any R ids) (rest found)
+
+-- what some of them pass, some of all that are among others do
+any_among : (R : ℕ → Bool) (ids jds : List ℕ) → ((id : ℕ) → list_any (λ k. k == id) ids ≡ true → list_any (λ k. k == id) jds ≡ true) → list_any R ids ≡ true → list_any R jds ≡ true
+any_among R [] jds within is = absurd (cc)
+any_among R (x ∷ ids) jds within is =
+    by_test (R x) refl is (any_among R ids jds (λ id found. within id (or_true (x == id) (list_any (λ k. k == id) ids) found)))
+  where
+    by_test : (b : Bool) → R x ≡ b → (b || list_any R ids) ≡ true → (list_any R ids ≡ true → list_any R jds ≡ true) → list_any R jds ≡ true
+    by_test true holds is rest = any_found R x jds holds (within x (ap (λ b. b || list_any (λ k. k == x) ids) (eq-eqb x x refl)))
+    by_test false fails is rest = rest is
+
+-- a test of ids asks for no more than which they are
+any_same : (R : ℕ → Bool) (ids jds : List ℕ) → ((id : ℕ) → list_any (λ k. k == id) ids ≡ list_any (λ k. k == id) jds) → list_any R ids ≡ list_any R jds
+any_same R ids jds same =
+    both_ways (list_any R ids) (list_any R jds)
+    (any_among R ids jds (λ id found. sym (same id) ∙ found))
+    (any_among R jds ids (λ id found. same id ∙ found))
+
+-- an id is not one of those of later records
+none_above : (p : Record → Bool) (id : ℕ) (ss : List Stored) → AllAbove id ss → list_any (λ k. k == id) (ids_with p ss) ≡ false
+none_above p id [] above = refl
+none_above p id (s ∷ ss) above = by_test (p s.record) (none_above p id ss above.1)
+  where
+    by_test : (b : Bool) → list_any (λ k. k == id) (ids_with p ss) ≡ false → list_any (λ k. k == id) (cond b (s.id ∷ ids_with p ss) (ids_with p ss)) ≡ false
+    by_test true rest = ap (λ b. b || list_any (λ k. k == id) (ids_with p ss)) (ne_eqb s.id id (λ same. let lt = above.0 in omega (arith, lt, same))) ∙ rest
     by_test false rest = rest
 
--- of the ids of the records that pass a test, those whose records pass a narrower one are the ids of all that pass it
-pub filtered-with : (p q : Record → Bool) (ss : List Stored) → Ascend ss → ((r : Record) → p r ≡ true → q r ≡ true) → filter (passes_at p ss) (ids_with q ss) ≡ ids_with p ss
-filtered-with p q [] sorted narrower = refl
-filtered-with p q (s ∷ ss) sorted narrower =
-    by_tests (q s.record) (p s.record) refl (narrower s.record) (filtered-away p q s ss ss sorted.0 ∙ filtered-with p q ss sorted.1 narrower)
+-- the ids of the records that pass a test are those whose record passes it
+among_with : (p : Record → Bool) (id : ℕ) (ss : List Stored) → Ascend ss → list_any (λ k. k == id) (ids_with p ss) ≡ passes_at p ss id
+among_with p id [] sorted = ap (λ o. option_map_or p o false) (sym (record_at-none id))
+among_with p id (s ∷ ss) sorted = by_id (s.id == id) refl (among_with p id ss sorted.1)
   where
-    by_tests : (b a : Bool) → p s.record ≡ a → (p s.record ≡ true → b ≡ true) → filter (passes_at p (s ∷ ss)) (ids_with q ss) ≡ ids_with p ss
-        → filter (passes_at p (s ∷ ss)) (cond b (s.id ∷ ids_with q ss) (ids_with q ss)) ≡ cond a (s.id ∷ ids_with p ss) (ids_with p ss)
-    by_tests true true e narrow rest = rw (record_at-here s ss s.id refl, e, rest) refl
-    by_tests true false e narrow rest = rw (record_at-here s ss s.id refl, e) rest
-    by_tests false true e narrow rest = absurd (let no = narrow e in cc)
-    by_tests false false e narrow rest = rest
+    here : (b : Bool) → p s.record ≡ b → s.id ≡ id → list_any (λ k. k == id) (cond b (s.id ∷ ids_with p ss) (ids_with p ss)) ≡ b
+    here true is same = ap (λ b. b || list_any (λ k. k == id) (ids_with p ss)) (eq-eqb s.id id same)
+    here false is same = none_above p id ss (subst (λ k. AllAbove k ss) same sorted.0)
 
--- a touch that is meant is the workspace's own
-pub since_owned : (s : Since) (r : Record) → is_touch_since s r ≡ true → is_sought (OwnedBy s.space) r ≡ true
-since_owned s (records.Touch x) e = by_test (x.space == s.space) (nat_lt x.place s.below && nat_le s.from x.position) e
-  where
-    by_test : (a b : Bool) → (a && b) ≡ true → a ≡ true
-    by_test true b e = refl
-    by_test false b e = e
-since_owned s (records.Counters r) e = cc
-since_owned s (records.Table r) e = cc
-since_owned s (records.Space r) e = cc
-since_owned s (records.Version r) e = cc
-since_owned s (records.Savepoint r) e = cc
-since_owned s (records.Row r) e = cc
-since_owned s (records.Piece r) e = cc
-since_owned s (records.Lock r) e = cc
-since_owned s (records.Hist r) e = cc
-since_owned s (records.Mark r) e = cc
-since_owned s (records.Turn r) e = cc
+    away : (b : Bool) → (s.id == id) ≡ false → list_any (λ k. k == id) (cond b (s.id ∷ ids_with p ss) (ids_with p ss)) ≡ list_any (λ k. k == id) (ids_with p ss)
+    away true apart = ap (λ b. b || list_any (λ k. k == id) (ids_with p ss)) apart
+    away false apart = refl
 
--- a record is a touch that is meant, as the code asks
-pub since_found : (s : Since) (o : Option Record) → is_some (passing (is_since s) (option_and_then as_touch o)) ≡ option_map_or (is_touch_since s) o false
-since_found s None = refl
-since_found s (Some (records.Touch x)) = by_test (is_since s x)
+    by_id : (t : Bool) → (s.id == id) ≡ t → list_any (λ k. k == id) (ids_with p ss) ≡ passes_at p ss id
+        → list_any (λ k. k == id) (cond (p s.record) (s.id ∷ ids_with p ss) (ids_with p ss)) ≡ passes_at p (s ∷ ss) id
+    by_id true same rest =
+        let e = eqb-true s.id id same in
+        here (p s.record) refl e ∙ ap (λ o. option_map_or p o false) (sym (record_at-here s ss id e))
+    by_id false apart rest =
+        away (p s.record) apart
+        ∙ rest
+        ∙ ap (λ o. option_map_or p o false) (sym (record_at-away s ss id (λ e. absurd (let same = eq-eqb s.id id e in cc))))
+
+-- a touch that is meant is one of the workspace from the position on
+meant_since : (s : Since) (o : Option Record) → (option_map_or (is_meant s) o false && option_map_or (is_touch_since s.space s.from) o false) ≡ option_map_or (is_meant s) o false
+meant_since s None = refl
+meant_since s (Some (records.Touch x)) = by_tests (x.space == s.space) (nat_lt x.place s.below) (nat_le s.from x.position)
   where
-    by_test : (b : Bool) → is_some (then_some b x) ≡ b
-    by_test true = refl
-    by_test false = refl
-since_found s (Some _) = refl
+    by_tests : (a b c : Bool) → ((a && (b && c)) && (a && c)) ≡ (a && (b && c))
+    by_tests true true true = refl
+    by_tests true true false = refl
+    by_tests true false c = refl
+    by_tests false b c = refl
+meant_since s (Some _) = refl
+
+-- those whose touch is meant, of the ids of the workspace's touches from the position on, are the ids of all that are meant
+pub meant_kept : (s : Since) (ss : List Stored) (found kept : List ℕ)
+    → ((id : ℕ) → list_any (λ k. k == id) found ≡ passes_at (is_touch_since s.space s.from) ss id) → kept ≡ filter (passes_at (is_meant s) ss) found
+    → (id : ℕ) → list_any (λ k. k == id) kept ≡ passes_at (is_meant s) ss id
+meant_kept s ss found kept told are id =
+    ap (λ (l : List ℕ). list_any (λ k. k == id) l) are
+    ∙ any-filter_same (λ k. k == id) (passes_at (is_meant s) ss) (passes_at (is_meant s) ss id) (λ k same. ap (λ j. passes_at (is_meant s) ss j) (eqb-true k id same)) found
+    ∙ ap (λ b. passes_at (is_meant s) ss id && b) (told id)
+    ∙ meant_since s (record_at ss id)
 
 -- ---- some touch
 
@@ -142,7 +173,7 @@ any_at-with P p q ss sorted tests =
     ∙ ap (λ xs. list_any P xs) (filter-kind as_touch p q tests (all_of ss))
     ∙ any-filter P p (filter_map as_touch (all_of ss))
 
-since_test : (s : Since) → Tests as_touch (is_since s) (is_touch_since s)
+since_test : (s : Since) → Tests as_touch (is_since s) (is_meant s)
 since_test s (records.Touch x) = refl
 since_test s _ = refl
 
@@ -150,17 +181,27 @@ key_test : (table : ℕ) (key : List Value) → Tests as_touch (λ (x : Trace). 
 key_test table key (records.Touch x) = refl
 key_test table key _ = refl
 
--- the keys of the touches that are meant
-pub keys_touched : (s : Since) (q : Place) (ss : List Stored) → Ascend ss → any_at (is_touch_of q) ss (ids_with (is_touch_since s) ss) ≡ has_touched (parts_of ss).touches s q
-keys_touched s q ss sorted = any_at-with (is_touch_of q) (is_since s) (is_touch_since s) ss sorted (since_test s)
+-- some touch of some ids passes a test, by each id
+any_at-each : (P : Trace → Bool) (ss : List Stored) (ids : List ℕ) → any_at P ss ids ≡ list_any (λ id. option_map_or P (option_and_then as_touch (record_at ss id)) false) ids
+any_at-each P ss [] = refl
+any_at-each P ss (id ∷ ids) = any_at-next P ss id ids ∙ ap (λ b. option_map_or P (option_and_then as_touch (record_at ss id)) false || b) (any_at-each P ss ids)
+
+-- the keys of the touches that are meant, whose ids these are
+pub keys_touched : (s : Since) (q : Place) (ss : List Stored) (ids : List ℕ) → Ascend ss → ((id : ℕ) → list_any (λ k. k == id) ids ≡ passes_at (is_meant s) ss id)
+    → any_at (is_touch_of q) ss ids ≡ has_touched (parts_of ss).touches s q
+keys_touched s q ss ids sorted told =
+    any_at-each (is_touch_of q) ss ids
+    ∙ any_same
+    (λ id. option_map_or (is_touch_of q) (option_and_then as_touch (record_at ss id)) false)
+    ids
+    (ids_with (is_meant s) ss)
+    (λ id. told id ∙ sym (among_with (is_meant s) id ss sorted))
+    ∙ sym (any_at-each (is_touch_of q) ss (ids_with (is_meant s) ss))
+    ∙ any_at-with (is_touch_of q) (is_since s) (is_meant s) ss sorted (since_test s)
 
 -- a touch that is meant covers the moment
 abbrev pub covers_at : Since → ℕ → Trace → Bool
 covers_at s t x = is_since s x && (nat_le x.cells.from t && nat_lt t x.cells.till)
-
-pub covers_since-is : (s : Since) (o : Option Trace) (t : ℕ) → covers_since s o t ≡ option_map_or (covers_at s t) o false
-covers_since-is s None t = refl
-covers_since-is s (Some x) t = refl
 
 -- the cells of a key that the touches that are meant cover
 pub cells_touched : (s : Since) (table : ℕ) (key : List Value) (t : ℕ) (ss : List Stored) → Ascend ss
@@ -178,13 +219,6 @@ cells_touched s table key t ss sorted =
     swap true false c = refl
     swap false true c = refl
     swap false false c = refl
-
--- ---- one more of the periods
-
-pub erased : (quiet covered rest : Bool) → ((quiet && not covered) && not rest) ≡ (quiet && not (covered || rest))
-erased true true rest = refl
-erased true false rest = refl
-erased false covered rest = refl
 
 -- ---- touches that are meant, and how far a cell was touched
 

@@ -1,11 +1,14 @@
 -- Touches of a workspace since a position of its log, as the code asks for them.
 use Rattle.std.specs.Prelude.{ℕ, Bool, false, ◌&&◌, ◌==◌, nat_le, nat_lt, List, Option, Some, None}
 use Rattle.std.specs.List.{list_any}
+use Rattle.std.specs.Option.{option_map_or}
 use Rattle.std.specs.Ordering.{is_eq}
 use Rattle.wm_spec.specs.Lists.{Cell}
+use Rattle.wm_spec.specs.Records.{record_at}
 use Rattle.wm_spec.specs.declared.record.Record.{Record}
 use Rattle.wm_spec.specs.declared.record.Record.TheVariants as records
 use Rattle.wm_spec.specs.declared.record.space.Space.{Space}
+use Rattle.wm_spec.specs.declared.record.stored.Stored.{Stored}
 use Rattle.wm_spec.specs.declared.record.trace.Trace.{Trace}
 use Rattle.wm_state.specs.Standing.{in_cells}
 use Rattle.wm_pending.specs.Keys.{Place, place_order}
@@ -20,9 +23,13 @@ abbrev pub is_since : Since → Trace → Bool
 is_since s x = (x.space == s.space) && (nat_lt x.place s.below && nat_le s.from x.position)
 
 -- the record is such a touch
-abbrev pub is_touch_since : Since → Record → Bool
-is_touch_since s (records.Touch x) = is_since s x
-is_touch_since s _ = false
+abbrev pub is_meant : Since → Record → Bool
+is_meant s (records.Touch x) = is_since s x
+is_meant s _ = false
+
+-- the record of an id passes a test
+abbrev pub passes_at : (Record → Bool) → List Stored → ℕ → Bool
+passes_at p ss id = option_map_or p (record_at ss id) false
 
 -- the touch is of the table and the key
 abbrev pub is_touch_of : Place → Trace → Bool

@@ -1,15 +1,15 @@
 //! What a workspace touched since a position of its log.
 
-ghost use Rattle.std.specs.Prelude.{◌≡◌, ℕ, ◌<◌, ◌&&◌, ◌||◌, not, false, is_some, IfOk, OnOk};
+ghost use Rattle.std.specs.Prelude.{◌≡◌, ℕ, ◌<◌, ◌&&◌, ◌||◌, ◌==◌, not, false, is_some, IfOk, OnOk};
 ghost use Rattle.std.specs.BTreeSet.{contains};
+ghost use Rattle.std.specs.List.{list_any};
 ghost use Rattle.std.specs.Option.{option_and_then, option_copied, option_map_or, option_to_list};
 ghost use Rattle.wm_base.specs.Period.{covers};
 ghost use Rattle.wm_base.specs.declared.instant.TheConstants.{END};
 ghost use Rattle.wm_graph.specs.Parts.{as_touch, parts_of};
-ghost use Rattle.wm_image.specs.Shown.{kind_at, passing};
-ghost use Rattle.wm_index.specs.Sought.{ids_with};
+ghost use Rattle.wm_index.specs.Kinds.{kind_at, passing};
 ghost use Rattle.wm_pending.specs.Keys.{Place, place_order};
-ghost use Rattle.wm_pending.specs.Touched.{covers_since, has_touch_of, has_touched, is_since, is_touch_since, is_touched, since_of};
+ghost use Rattle.wm_pending.specs.Touched.{covers_since, has_touch_of, has_touched, is_meant, is_since, is_touched, passes_at, since_of};
 ghost use Rattle.wm_period.specs.Pieces.{held_at};
 
 use crate::keys::TableKeys;
@@ -66,17 +66,12 @@ fn touch_since(found: Option<&Record>, since: Since) -> Option<&Trace>
     }
 }
 
-/// The ids of the touches that are meant, in order.
+/// The ids of the touches that are meant. Of the workspace's other records none is looked at.
 fn touched_since(alloc: Global, image: &Image, since: Since) -> Result<Vec<u64>, Memory>
-    ensures { IfOk result (λ ids. ids.items ≡ ids_with (is_touch_since since) image.now) }
+    ensures { IfOk result (λ ids. (id : ℕ) → list_any (λ k. k == id) ids.items ≡ passes_at (is_meant since) image.now id) }
 {
-    image.law_of_order();
-    let mut ids = Vec::new(alloc);
-    for id in image.records_of(since.space) {
-        if touch_since(image.record(*id), since).is_some() {
-            ids.push(*id)?;
-        }
-    }
+    let mut ids = image.touches_since(alloc, since.space, since.from)?;
+    ids.retain(|id| touch_since(image.record(*id), since).is_some());
     Ok(ids)
 }
 

@@ -1,1 +1,5 @@
 mod Entering
+mod Marked
+mod Drafted
+mod Standing
+mod Copied

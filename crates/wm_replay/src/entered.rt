@@ -1,6 +1,6 @@
 //! Entries of several tables as records.
 
-ghost use Rattle.std.specs.Prelude.{◌≡◌, ◌+◌, ◌<◌, ◌^◌, length, map, IfOk};
+ghost use Rattle.std.specs.Prelude.{ℕ, ◌≡◌, ◌+◌, ◌<◌, ◌^◌, length, map, IfOk};
 ghost use Rattle.wm_graph.specs.Parts.{parts_of};
 ghost use Rattle.wm_spec.specs.declared.record.Record.TheVariants as records;
 ghost use Rattle.wm_state.specs.Editing.{entry_of};
@@ -15,8 +15,8 @@ use wm_image::Image;
 use wm_spec::record::Space;
 use wm_state::edit::NewEntry;
 
-/// The records of entries that come into a version of a workspace, at the last place that was given there and behind its
-/// log. Their rows are there already.
+/// The records of entries that come into a version of a workspace, at the last place that was given there and behind
+/// its log. Their rows are there already.
 pub fn enter(
     alloc: Global,
     image: &Image,

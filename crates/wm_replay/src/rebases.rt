@@ -13,10 +13,10 @@ ghost use Rattle.wm_state.specs.Standing.{owned};
 ghost use Rattle.wm_state.specs.declared.edit.Edit.TheVariants as edits;
 
 use std::alloc::Global;
-use wm_append::append::made::push_pieces;
+use wm_append::append::made::Made;
+use wm_append::append::written;
 use wm_base::Memory;
 use wm_changes::DraftFault;
-use wm_changes::changes::{put, put_all};
 use wm_changes::copies::space_copy;
 use wm_changes::counts::{ids_from, versioned};
 use wm_image::Image;
@@ -37,12 +37,7 @@ fn rebased_on(alloc: Global, version: u64, from: u64, space: &Space) -> Result<S
 }
 
 /// Puts the pieces of a key in a version behind other records.
-fn push_key(
-    alloc: Global,
-    news: &mut Vec<Record>,
-    version: u64,
-    own: &OwnKey,
-) -> Result<(), Memory>
+fn push_key(alloc: Global, news: &mut Vec<Record>, version: u64, own: &OwnKey) -> Result<(), Memory>
     ensures { OnOk result (news.new.items ≡ news.old.items ++ map records.Piece (map (piece_for version own.now.table own.now.key) own.now.pieces)) }
 {
     for piece in own.pieces.list() {
@@ -94,6 +89,16 @@ fn kept_own(
     own_pieces(alloc, image, space)
 }
 
+/// The records of the version and of the turn that a workspace has of its parent.
+fn first_news(alloc: Global, version: Version, turn: Turn) -> Result<Vec<Record>, Memory>
+    ensures { IfOk result (λ news. news.items ≡ records.Version version ∷ records.Turn turn ∷ []) }
+{
+    let mut news = Vec::new(alloc);
+    news.push(Record::Version(version))?;
+    news.push(Record::Turn(turn))?;
+    Ok(news)
+}
+
 /// A workspace stands on the newest version of its parent; what it keeps of its own comes into a version more.
 pub fn rebase(
     alloc: Global,
@@ -111,30 +116,29 @@ pub fn rebase(
 {
     let old = image.space(space).unwrap();
     let parent = image.space(old.parent).unwrap();
-    let space_id = image.id_of_space(space).unwrap();
-    let counters_id = image.id_of_counters();
     let before = image.counters();
     let base_version = image.latest(old.parent);
     let own = kept_own(alloc, image, old, emptied)?;
-    let mut news = Vec::new(alloc);
-    news.push(Record::Version(Version {
+    let version = Version {
         number: before.next_version,
         space,
         parent: base_version,
-    }))?;
-    news.push(Record::Turn(Turn {
+    };
+    let turn = Turn {
         space,
         rebase: old.rebases + 1,
         log_length: parent.log_length,
         rebases: parent.rebases,
-    }))?;
+    };
+    let mut news = first_news(alloc, version, turn)?;
     push_keys(alloc, &mut news, before.next_version, own.as_slice())?;
+    let counters = versioned(before, moment, work);
     let new = rebased_on(alloc, base_version, parent.log_length, old)?;
     let id = ids_from(image, news.len() as u64)?;
-    let counters = versioned(before, moment, work);
-    let mut changes = Changes::new(alloc);
-    changes.push(put(counters_id, Record::Counters(counters)))?;
-    changes.push(put(space_id, Record::Space(new)))?;
-    put_all(&mut changes, id, news)?;
+    let made = Made {
+        dropped: Vec::new(alloc),
+        news,
+    };
+    let changes = written(image, Changes::new(alloc), counters, new, id, made)?;
     Ok(changes)
 }

@@ -10,7 +10,7 @@ use Rattle.wm_replay.proofs.entered.enter.Given as goal
 abbrev pub invariant-loop-entry : goal.invariant-loop-entry
 invariant-loop-entry l = record {
   pieces : l.entered.pieces.items ≡ pieces_of l.fn.version (map entry_of l.yielded);
-  marks : l.entered.marks.items ≡ marks_of (l.fn.space.now.next_place - 1) l.fn.space.now.log_length (map entry_of l.yielded);
-  hists : l.entered.hists.items ≡ map records.Hist (hists_kept (parts_of l.fn.image.now).tables l.fn.space.now.number l.fn.space.now.log_length (map entry_of l.yielded));
-  position : l.position ≡ l.fn.space.now.log_length + length l.yielded;
+  marks : l.entered.marks.items ≡ marks_of (l.fn.space.next_place - 1) l.fn.space.log_length (map entry_of l.yielded);
+  hists : l.entered.hists.items ≡ map records.Hist (hists_kept (parts_of l.fn.image).tables l.fn.space.number l.fn.space.log_length (map entry_of l.yielded));
+  position : l.position ≡ l.fn.space.log_length + length l.yielded;
 }

@@ -40,7 +40,7 @@ returns c =
     c.in_ok-touches.touches.dropped.items c.extend_from_slice.new.self.items c.in_ok-pieces.pieces.drawn.items c.in_ok-touches.touches.drawn.items c.in_ok-entered.entered.rows.items c.in_ok-entered.entered.hists.items c.push_pieces.new.news.items
     c.push_touches.new.news.items c.push_all.new.news.items (last_place c.args.space.now.next_place (c.args.space.now.next_place - 1) (some_place p c.args.space.now.number c.args.space.now c.requires.rules c.requires.there) refl) asked.stamped
     (sym c.has_history.ensures)
-    (subst (λ (news : List PieceRecord). IsRedrawn as_piece c.args.image.now news c.in_ok-pieces.pieces.dropped.items c.in_ok-pieces.pieces.drawn.items) c.in_ok-entered.ensures.pieces c.in_ok-pieces.ensures)
-    (subst (λ (news : List PieceRecord). IsRedrawn (touch_in c.args.space.now.number) c.args.image.now news c.in_ok-touches.touches.dropped.items c.in_ok-touches.touches.drawn.items) c.in_ok-entered.ensures.marks c.in_ok-touches.ensures)
+    (subst (λ (news : List PieceRecord). IsRedrawn as_piece c.args.image.now news c.in_ok-pieces.pieces.dropped.items c.in_ok-pieces.pieces.drawn.items) c.in_ok-entered.ensures.pieces c.in_ok-pieces.ensures.redrawn)
+    (subst (λ (news : List PieceRecord). IsRedrawn (touch_in c.args.space.now.number) c.args.image.now news c.in_ok-touches.touches.dropped.items c.in_ok-touches.touches.drawn.items) c.in_ok-entered.ensures.marks c.in_ok-touches.ensures.redrawn)
     (c.in_ok-extend_from_slice.ensures.items ∙ ap (λ (ids : List ℕ). c.in_ok-pieces.pieces.dropped.items ++ ids) c.as_slice.ensures.value) c.in_ok-entered.ensures.rows c.in_ok-entered.ensures.hists c.in_ok-push_pieces.ensures
     c.in_ok-push_touches.ensures c.in_ok-push_all.ensures

@@ -18,6 +18,3 @@ add_to-requires-in-Hist c = c.requires (OwnedBy c.in-Hist.hist.space)
 
 pub add_to-requires-in-Mark : goal.add_to-requires-in-Mark
 add_to-requires-in-Mark c = c.requires (OwnedBy c.in-Mark.mark.space)
-
-pub add_to-requires-in-Turn : goal.add_to-requires-in-Turn
-add_to-requires-in-Turn c = c.requires (OwnedBy c.in-Turn.turn.space)

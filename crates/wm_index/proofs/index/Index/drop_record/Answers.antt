@@ -18,6 +18,3 @@ drop_from-requires-in-Hist c = c.requires (OwnedBy c.in-Hist.hist.space)
 
 pub drop_from-requires-in-Mark : goal.drop_from-requires-in-Mark
 drop_from-requires-in-Mark c = c.requires (OwnedBy c.in-Mark.mark.space)
-
-pub drop_from-requires-in-Turn : goal.drop_from-requires-in-Turn
-drop_from-requires-in-Turn c = c.requires (OwnedBy c.in-Turn.turn.space)

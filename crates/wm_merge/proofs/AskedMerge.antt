@@ -1,0 +1,168 @@
+-- What is asked before the edits of a merge, where nothing refuses it and its entries can be written again.
+use Rattle.std.proofs.Common.{◌≡◌, ℕ, ◌+◌, ◌≤◌, ◌==◌, nat_lt, Bool, true, false, not, ◌&&◌, if◌then◌else◌, List, [], ◌∷◌, ◌++◌, map, length, max, Option, Some, None, is_some, refl, sym, ap, ◌∙◌, subst, arith}
+use Rattle.std.proofs.lemmas.Bool.Decides.{nat_tests}
+use Rattle.std.proofs.lemmas.List.{length-append}
+use Rattle.std.specs.declared.alloc.Global.{Global}
+use Rattle.std.specs.declared.vec.Vec.{Vec}
+use Rattle.wm_base.specs.declared.instant.TheConstants.{END}
+use Rattle.wm_graph.specs.Parts.{Parts, parts_of}
+use Rattle.wm_graph.specs.Rules.{keep_rules}
+use Rattle.wm_spec.specs.Lists.{Entry}
+use Rattle.wm_spec.specs.declared.record.counters.Counters.{Counters}
+use Rattle.wm_spec.specs.declared.record.space.Space.{Space}
+use Rattle.wm_spec.specs.declared.record.stored.Stored.{Stored}
+use Rattle.wm_state.specs.ById.{Ascend}
+use Rattle.wm_state.specs.Drafts.{CanDraft, CanEditAll, CanGain, CanRebase, CanRemove, CanReplay}
+use Rattle.wm_state.specs.Editing.{counter_limit, entry_of, line_work}
+use Rattle.wm_state.specs.State.{Session}
+use Rattle.wm_state.specs.declared.edit.Edit.{Edit}
+use Rattle.wm_state.specs.declared.edit.Edit.TheVariants as edits
+use Rattle.wm_state.specs.declared.edit.NewEntry.{NewEntry}
+use Rattle.wm_state.proofs.Tests.{bool_apart}
+use Rattle.wm_gained.specs.Merging as edited
+use Rattle.wm_gained.proofs.Merging.{can_merge}
+use Rattle.wm_telling.specs.Telling.{gained_held, own_held}
+use Rattle.wm_telling.proofs.Storing.{stores_gained, stores_own}
+use Rattle.wm_model.proofs.RemovingLine.{childless}
+use Rattle.wm_model.proofs.RollingLine.{named_numbered}
+use Rattle.wm_model.specs.Merged.{Merges, after_edits, gain_edits, is_even_at, keep_edits, leaving_refusal, longer_log_at, merge_edits, replay_edits}
+use Rattle.wm_model.specs.Step.{Asked}
+use Rattle.wm_model.specs.Undone.{removing_refusal}
+use Rattle.wm_merge.proofs.Asked.{can_draft, can_gain, can_replay, can_work, few_gains, other_number, parent_there, some_entries}
+use Rattle.wm_merge.proofs.Answered.{turn_free}
+use Rattle.wm_merge.proofs.MergePlans.{MayMerge}
+use Rattle.wm_merge.proofs.Clear.{MergeClear, can_keep, merge_clear, merge_left}
+
+-- ---- the edits, as what becomes of the parent and of the workspace
+
+-- entries, where there are some
+abbrev present : Bool → Vec NewEntry Global → Option (Vec NewEntry Global)
+present none entries = if none then None else Some entries
+
+abbrev leaving : Bool → Bool → Vec NewEntry Global → edited.Leaving
+leaving removes even entries = record { removes = removes; rebases = not even; gained = present (length entries.items == 0) entries }
+
+abbrev merging : Asked → Bool → Vec NewEntry Global → Vec NewEntry Global → edited.Merge
+merging asked even own entries = record { keeps = asked.keeps; own = present (length own.items == 0) own; leaving = leaving asked.removes even entries }
+
+gain_is : (none : Bool) (n : ℕ) (entries : Vec NewEntry Global) → (if none then [] else edits.Gain n entries ∷ []) ≡ edited.bringing (edits.Gain n) (present none entries) []
+gain_is true n entries = refl
+gain_is false n entries = refl
+
+leave_is : (removes even : Bool) (n : ℕ) (entries : Vec NewEntry Global) → after_edits removes even n entries ≡ edited.leave_edits n (leaving removes even entries)
+leave_is true even n entries = refl
+leave_is false true n entries = refl
+leave_is false false n entries = ap (λ (es : List Edit). edits.Rebase n true ∷ es) (gain_is (length entries.items == 0) n entries)
+
+replay_is : (none : Bool) (n : ℕ) (own : Vec NewEntry Global) (es : List Edit) → (if none then [] else edits.Replay n own ∷ []) ++ es ≡ edited.bringing (edits.Replay n) (present none own) es
+replay_is true n own es = refl
+replay_is false n own es = refl
+
+keep_is : (keeps : Bool) (n : ℕ) (es : List Edit) → keep_edits keeps n ++ es ≡ (if keeps then edits.Keep n ∷ es else es)
+keep_is true n es = refl
+keep_is false n es = refl
+
+merge_is : (asked : Asked) (even : Bool) (n parent : ℕ) (own entries : Vec NewEntry Global) → merge_edits asked even n parent own entries ≡ edited.merge_edits parent n (merging asked even own entries)
+merge_is asked even n parent own entries =
+    ap (λ (es : List Edit). keep_edits asked.keeps parent ++ (replay_edits parent own ++ es)) (leave_is asked.removes even n entries)
+    ∙ ap (λ (es : List Edit). keep_edits asked.keeps parent ++ es) (replay_is (length own.items == 0) parent own (edited.leave_edits n (leaving asked.removes even entries)))
+    ∙ keep_is asked.keeps parent (edited.bringing (edits.Replay parent) (present (length own.items == 0) own) (edited.leave_edits n (leaving asked.removes even entries)))
+
+-- ---- how many they are
+
+few_keeps : (keeps : Bool) (n : ℕ) → length (keep_edits keeps n) ≤ 1
+few_keeps true n = omega arith
+few_keeps false n = omega arith
+
+few_replays : (none : Bool) (n : ℕ) (own : Vec NewEntry Global) → length (if none then [] else edits.Replay n own ∷ []) ≤ 1
+few_replays true n own = omega arith
+few_replays false n own = omega arith
+
+few_after : (removes even : Bool) (n : ℕ) (entries : Vec NewEntry Global) → length (after_edits removes even n entries) ≤ 2
+few_after true even n entries = omega arith
+few_after false true n entries = omega arith
+few_after false false n entries = omega (arith, few_gains n entries)
+
+few_merges : (asked : Asked) (even : Bool) (n parent : ℕ) (own entries : Vec NewEntry Global) → length (merge_edits asked even n parent own entries) ≤ 2048
+few_merges asked even n parent own entries =
+    few (length (keep_edits asked.keeps parent)) (length (replay_edits parent own)) (length (after_edits asked.removes even n entries)) (length (replay_edits parent own ++ after_edits asked.removes even n entries))
+    (length (merge_edits asked even n parent own entries)) (length-append (keep_edits asked.keeps parent) (replay_edits parent own ++ after_edits asked.removes even n entries))
+    (length-append (replay_edits parent own) (after_edits asked.removes even n entries)) (few_keeps asked.keeps parent) (few_replays (length own.items == 0) parent own) (few_after asked.removes even n entries)
+  where
+    few : (k r l rest all : ℕ) → all ≡ k + rest → rest ≡ r + l → k ≤ 1 → r ≤ 1 → l ≤ 2 → all ≤ 2048
+    few k r l rest all e f a b c = omega (arith, e, f, a, b, c)
+
+-- ---- what is asked
+
+is_present : (none : Bool) (given entries : Vec NewEntry Global) → present none given ≡ Some entries → (none ≡ false) × (given ≡ entries)
+is_present true given entries is = absurd (cc)
+is_present false given entries is = (refl, cc)
+
+module _ (rs : List Stored) (m : ℕ) (xs : List Session) (session : Session) (asked : Asked) (workspace : List ℕ) (a b : Space) (c : Counters) (own entries : Vec NewEntry Global)
+    (merges : Merges rs m xs session asked workspace a b (map entry_of own.items) (map entry_of entries.items)) (may : MayMerge rs a (map entry_of own.items) (map entry_of entries.items))
+    (one : (parts_of rs).counters ≡ c ∷ []) (own_room : nat_lt counter_limit (b.log_length + length (map entry_of own.items)) ≡ false) (room : nat_lt counter_limit (a.log_length + length (map entry_of entries.items)) ≡ false) where
+  abbrev even : Bool
+  even = is_even_at a b (map entry_of own.items)
+
+  rules : keep_rules (parts_of rs) ≡ true
+  rules = merges.family.space.rules
+
+  clear : MergeClear asked (parts_of rs) xs a b (map entry_of own.items)
+  clear = merge_clear asked (parts_of rs) xs a b merges.found (map entry_of own.items) merges.clear
+
+  -- of the parent
+  replays : (given : Vec NewEntry Global) → present (length own.items == 0) own ≡ Some given → CanReplay (parts_of rs) b.number (map entry_of given.items)
+  replays given is =
+      let two = is_present (length own.items == 0) own given is in
+      subst (λ (x : Vec NewEntry Global). CanReplay (parts_of rs) b.number (map entry_of x.items)) two.1
+      (can_replay (parts_of rs) m session.user c rules one merges.user (own_held (parts_of rs) a) (stores_own (parts_of rs) a) (map entry_of own.items) merges.own_listed may.own_ready (some_entries own.items two.0) b.number b
+      (parent_there rs workspace a b merges.family) own_room)
+
+  -- of the workspace
+  removes : asked.removes ≡ true → CanRemove (parts_of rs) a.number
+  removes goes =
+      let free : removing_refusal (parts_of rs) xs a ≡ None = sym (ap (λ (r : Bool). leaving_refusal r (parts_of rs) xs a) goes) ∙ clear.leaving in
+      record {
+        some = merges.family.child;
+        there = some_space (named_numbered rs workspace a merges.family.space);
+        childless = childless rs xs workspace a merges.family.space merges.family.child free;
+      }
+    where
+      some_space : {o : Option Space} → o ≡ Some a → is_some o ≡ true
+      some_space e = ap is_some e
+
+  odd_of : (e : Bool) → not e ≡ true → e ≡ false
+  odd_of true is = absurd (bool_apart (sym is))
+  odd_of false is = refl
+
+  rebases : not even ≡ true → CanRebase (parts_of rs) a.number true
+  rebases odd =
+      let left = merge_left a b (map entry_of own.items) clear.rebasing (odd_of even odd) in
+      record {
+        some = merges.family.child;
+        space = a;
+        there = named_numbered rs workspace a merges.family.space;
+        rebases = left;
+        unturned = turn_free (parts_of rs) a left may.unturned;
+        kept = λ stays. absurd (bool_apart stays);
+      }
+
+  gains : (given : Vec NewEntry Global) → present (length entries.items == 0) entries ≡ Some given → CanGain (parts_of rs) a.number (map entry_of given.items)
+  gains given is =
+      let two = is_present (length entries.items == 0) entries given is in
+      subst (λ (x : Vec NewEntry Global). CanGain (parts_of rs) a.number (map entry_of x.items)) two.1
+      (can_gain (parts_of rs) m session.user c rules one merges.user (gained_held (parts_of rs) a b) (stores_gained (parts_of rs) a b) (map entry_of entries.items) merges.gained_listed may.ready (some_entries entries.items two.0)
+      a.number a (named_numbered rs workspace a merges.family.space) room)
+
+  can : edited.CanMerge (parts_of rs) b.number a.number (merging asked even own entries)
+  can = record {
+    other = other_number rs workspace a b merges.family;
+    keep = can_keep asked.keeps (parts_of rs) b (parent_there rs workspace a b merges.family) clear.naming clear.keeping;
+    replay = replays;
+    leave = record { remove = removes; rebase = λ stays. rebases; gain = λ stays odd. gains };
+  }
+
+  pub drafts_merge : Ascend rs → nat_lt counter_limit (c.work + line_work) ≡ false → nat_lt m END ≡ true → CanDraft rs m (merge_edits asked even a.number b.number own entries)
+  drafts_merge sorted spare early =
+      can_draft rs m (merge_edits asked even a.number b.number own entries) (can_work (parts_of rs) m c one spare early) (few_merges asked even a.number b.number own entries)
+      (subst (CanEditAll rs m) (sym (merge_is asked even a.number b.number own entries)) (can_merge rs m b.number a.number (merging asked even own entries) sorted rules can))

@@ -1,0 +1,67 @@
+use Rattle.std.proofs.Common.{◌≡◌, ◌&&◌, ◌||◌, not, Bool, List, map, sym, ap, ◌∙◌, codes}
+use Rattle.wm_model.proofs.MergingLine.{does_merge, merge_idle, merge_long, merge_spent, merge_unready}
+use Rattle.wm_model.specs.Merged.{is_even_at, longer_log_at, merge_edits}
+use Rattle.wm_model.specs.Planning.{Stay}
+use Rattle.wm_model.specs.Step.{at_its_end, counter_limit, merge_workspace, not_built}
+use Rattle.wm_plan.proofs.Planning.{early, told}
+use Rattle.wm_plan.specs.Views.{answer_view, seating_view}
+use Rattle.wm_print.specs.Texts.{Fine}
+use Rattle.wm_state.specs.Editing.{entry_of}
+use Rattle.wm_state.specs.declared.edit.NewEntry.{NewEntry}
+use Rattle.wm_merge.specs.Views.{asked_view}
+use Rattle.wm_merge.proofs.Answered.{told_nothing}
+use Rattle.wm_merge.proofs.AskedMerge.{drafts_merge}
+use Rattle.wm_merge.proofs.MergePlans.{even_told, lacks_merge, may_merge, room_of}
+use Rattle.wm_merge.proofs.merging.merge_with.Goals as goal
+
+pub returns-then-is_idle-clause-does : goal.returns-then-is_idle-clause-does
+returns-then-is_idle-clause-does c = λ xs session workspace merges.
+    told_nothing c.args.image.now xs c.args.moment c.answered.result Fine (merge_workspace session (asked_view c.args.asked) workspace) c.answered.ensures.edits c.answered.ensures.seating (ap answer_view c.answered.ensures.answer)
+    (merge_idle c.args.image.now xs c.args.moment session workspace (asked_view c.args.asked) c.args.family.space.now c.args.family.parent.now (map entry_of c.args.brought.own.items) (map entry_of c.args.brought.gained.items) merges
+    (ap (λ e. e && not (c.args.asked.keeps || c.args.asked.removes)) (sym (even_told c.args.family.space.now c.args.family.parent.now c.as_slice.result.now c.args.brought.own.items c.is_even-even.result c.as_slice.ensures.value c.is_even-even.ensures))
+    ∙ sym c.if-is_idle.ensures))
+
+pub returns-then-are_long-clause-does : goal.returns-then-are_long-clause-does
+returns-then-are_long-clause-does c = λ xs session workspace merges.
+    told_nothing c.args.image.now xs c.args.moment c.answered-then-are_long.result (at_its_end (codes "LOG")) (merge_workspace session (asked_view c.args.asked) workspace) c.answered-then-are_long.ensures.edits
+    c.answered-then-are_long.ensures.seating (ap answer_view c.answered-then-are_long.ensures.answer ∙ c.in_ok-at_its_end.ensures)
+    (merge_long c.args.image.now xs c.args.moment session workspace (asked_view c.args.asked) c.args.family.space.now c.args.family.parent.now (map entry_of c.args.brought.own.items) (map entry_of c.args.brought.gained.items) merges
+    (ap (λ e. e && not (c.args.asked.keeps || c.args.asked.removes)) (sym (even_told c.args.family.space.now c.args.family.parent.now c.as_slice.result.now c.args.brought.own.items c.is_even-even.result c.as_slice.ensures.value c.is_even-even.ensures))
+    ∙ sym c.if-is_idle.ensures)
+    (sym c.if-are_long.ensures))
+
+pub returns-then-is_spent-clause-does : goal.returns-then-is_spent-clause-does
+returns-then-is_spent-clause-does c = λ xs session workspace merges.
+    told_nothing c.args.image.now xs c.args.moment c.answered-then-is_spent.result (at_its_end (codes "WORK")) (merge_workspace session (asked_view c.args.asked) workspace) c.answered-then-is_spent.ensures.edits
+    c.answered-then-is_spent.ensures.seating (ap answer_view c.answered-then-is_spent.ensures.answer ∙ c.in_ok-at_its_end-2.ensures)
+    (merge_spent c.args.image.now xs c.args.moment session workspace (asked_view c.args.asked) c.args.family.space.now c.args.family.parent.now (map entry_of c.args.brought.own.items) (map entry_of c.args.brought.gained.items)
+    c.counters.result merges
+    (ap (λ e. e && not (c.args.asked.keeps || c.args.asked.removes)) (sym (even_told c.args.family.space.now c.args.family.parent.now c.as_slice.result.now c.args.brought.own.items c.is_even-even.result c.as_slice.ensures.value c.is_even-even.ensures))
+    ∙ sym c.if-is_idle.ensures)
+    (sym c.if-are_long.ensures) c.counters.ensures (sym c.if-is_spent.ensures))
+
+pub returns-then-not-can_merge-clause-does : goal.returns-then-not-can_merge-clause-does
+returns-then-not-can_merge-clause-does c = λ xs session workspace merges.
+    told_nothing c.args.image.now xs c.args.moment c.answered-then-not-can_merge.result not_built (merge_workspace session (asked_view c.args.asked) workspace) c.answered-then-not-can_merge.ensures.edits
+    c.answered-then-not-can_merge.ensures.seating (ap answer_view c.answered-then-not-can_merge.ensures.answer ∙ c.not_built.ensures)
+    (merge_unready c.args.image.now xs c.args.moment session workspace (asked_view c.args.asked) c.args.family.space.now c.args.family.parent.now (map entry_of c.args.brought.own.items) (map entry_of c.args.brought.gained.items)
+    not_built merges
+    (lacks_merge c.args.image.now c.args.family.space.now c.as_slice-own.result.now c.args.brought.own.items c.as_slice-gained.result.now c.args.brought.gained.items c.as_slice-own.ensures.value c.as_slice-gained.ensures.value c.if-not-can_merge.ensures))
+
+pub returns-clause-does : goal.returns-clause-does
+returns-clause-does c = λ xs session workspace merges.
+    let even = even_told c.args.family.space.now c.args.family.parent.now c.as_slice.result.now c.args.brought.own.items c.is_even-even.result c.as_slice.ensures.value c.is_even-even.ensures in
+    let may = may_merge c.args.image.now c.args.family.space.now c.as_slice-own.result.now c.args.brought.own.items c.as_slice-gained.result.now c.args.brought.gained.items c.as_slice-own.ensures.value c.as_slice-gained.ensures.value c.if-not-can_merge.ensures in
+    let room = room_of counter_limit _ _ (sym c.if-are_long.ensures) in
+    told c.args.image.now xs c.args.moment c.done.result
+    (merge_edits (asked_view c.args.asked) (is_even_at c.args.family.space.now c.args.family.parent.now (map entry_of c.args.brought.own.items)) c.args.family.space.now.number c.args.family.parent.now.number c.args.brought.own
+    c.args.brought.gained)
+    Stay Fine (merge_workspace session (asked_view c.args.asked) workspace)
+    (c.done.ensures.edits ∙ c.in_ok-merge_edits.ensures
+    ∙ ap (λ (e : Bool). merge_edits (asked_view c.args.asked) e c.args.family.space.now.number c.args.family.parent.now.number c.args.brought.own c.args.brought.gained) even)
+    (ap seating_view c.done.ensures.seating) (ap answer_view c.done.ensures.answer)
+    (does_merge c.args.image.now xs c.args.moment session workspace (asked_view c.args.asked) c.args.family.space.now c.args.family.parent.now c.counters.result c.args.brought.own c.args.brought.gained merges
+    (ap (λ e. e && not (c.args.asked.keeps || c.args.asked.removes)) (sym even) ∙ sym c.if-is_idle.ensures)
+    (drafts_merge c.args.image.now c.args.moment xs session (asked_view c.args.asked) workspace c.args.family.space.now c.args.family.parent.now c.counters.result c.args.brought.own c.args.brought.gained merges may
+    c.counters.ensures room.0 room.1 c.law_of_order.ensures (sym c.if-is_spent.ensures) (early c.args.moment c.requires.moment))
+    (sym c.if-are_long.ensures) c.counters.ensures (sym c.if-is_spent.ensures))

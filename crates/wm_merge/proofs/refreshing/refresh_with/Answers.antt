@@ -1,0 +1,47 @@
+use Rattle.std.proofs.Common.{map, true, false, sym, ap, ◌∙◌, codes}
+use Rattle.wm_model.specs.Merged.{refresh_edits}
+use Rattle.wm_model.specs.Planning.{Stay}
+use Rattle.wm_model.specs.Step.{at_its_end, not_built, refresh_workspace}
+use Rattle.wm_pending.specs.Owned.{key_pieces}
+use Rattle.wm_plan.proofs.Planning.{early, told}
+use Rattle.wm_plan.specs.Views.{answer_view, seating_view}
+use Rattle.wm_print.specs.Texts.{Fine}
+use Rattle.wm_state.specs.Editing.{entry_of}
+use Rattle.wm_merge.proofs.Answered.{listed_test, log_test, told_nothing}
+use Rattle.wm_merge.proofs.Asked.{drafts_refresh}
+use Rattle.wm_merge.proofs.RefreshPlans.{lacks_refresh, may_refresh}
+use Rattle.wm_model.proofs.RefreshingLine.{does_refresh, refresh_long, refresh_spent, refresh_unready}
+use Rattle.wm_merge.proofs.refreshing.refresh_with.Goals as goal
+
+pub returns-then-is_long-clause-does : goal.returns-then-is_long-clause-does
+returns-then-is_long-clause-does c = λ xs session workspace parent refreshes.
+    told_nothing c.args.image.now xs c.args.moment c.answered.result (at_its_end (codes "LOG")) (refresh_workspace session workspace) c.answered.ensures.edits c.answered.ensures.seating
+    (ap answer_view c.answered.ensures.answer ∙ c.in_ok-at_its_end.ensures)
+    (refresh_long c.args.image.now xs c.args.moment session workspace c.args.space.now parent (map entry_of c.args.entries.items) refreshes
+    (listed_test c.args.space.now.log_length c.args.entries.items true (log_test c.args.space.now.log_length c.as_slice.result.now c.args.entries.items true c.as_slice.ensures.value c.if-is_long.ensures)))
+
+pub returns-then-is_spent-clause-does : goal.returns-then-is_spent-clause-does
+returns-then-is_spent-clause-does c = λ xs session workspace parent refreshes.
+    told_nothing c.args.image.now xs c.args.moment c.answered-then-is_spent.result (at_its_end (codes "WORK")) (refresh_workspace session workspace) c.answered-then-is_spent.ensures.edits c.answered-then-is_spent.ensures.seating
+    (ap answer_view c.answered-then-is_spent.ensures.answer ∙ c.in_ok-at_its_end-2.ensures)
+    (refresh_spent c.args.image.now xs c.args.moment session workspace c.args.space.now parent (map entry_of c.args.entries.items) c.counters.result refreshes
+    (listed_test c.args.space.now.log_length c.args.entries.items false (log_test c.args.space.now.log_length c.as_slice.result.now c.args.entries.items false c.as_slice.ensures.value c.if-is_long.ensures))
+    c.counters.ensures (sym c.if-is_spent.ensures))
+
+pub returns-then-not-can_refresh-clause-does : goal.returns-then-not-can_refresh-clause-does
+returns-then-not-can_refresh-clause-does c = λ xs session workspace parent refreshes.
+    told_nothing c.args.image.now xs c.args.moment c.answered-then-not-can_refresh.result not_built (refresh_workspace session workspace) c.answered-then-not-can_refresh.ensures.edits c.answered-then-not-can_refresh.ensures.seating
+    (ap answer_view c.answered-then-not-can_refresh.ensures.answer ∙ c.not_built.ensures)
+    (refresh_unready c.args.image.now xs c.args.moment session workspace c.args.space.now parent (map key_pieces c.args.own.now) (map entry_of c.args.entries.items) not_built refreshes c.requires.own
+    (lacks_refresh c.args.image.now c.args.space.now (map key_pieces c.args.own.now) c.as_slice-2.result.now c.args.entries.items c.as_slice-2.ensures.value c.if-not-can_refresh.ensures))
+
+pub returns-clause-does : goal.returns-clause-does
+returns-clause-does c = λ xs session workspace parent refreshes.
+    let short = log_test c.args.space.now.log_length c.as_slice.result.now c.args.entries.items false c.as_slice.ensures.value c.if-is_long.ensures in
+    let may = may_refresh c.args.image.now c.args.space.now (map key_pieces c.args.own.now) c.as_slice-2.result.now c.args.entries.items c.as_slice-2.ensures.value c.requires.own c.if-not-can_refresh.ensures in
+    told c.args.image.now xs c.args.moment c.done.result (refresh_edits c.args.space.now.number c.args.entries) Stay Fine (refresh_workspace session workspace) (c.done.ensures.edits ∙ c.in_ok-refresh_edits.ensures)
+    (ap seating_view c.done.ensures.seating) (ap answer_view c.done.ensures.answer)
+    (does_refresh c.args.image.now xs c.args.moment session workspace c.args.space.now parent c.counters.result c.args.entries refreshes
+    (drafts_refresh c.args.image.now c.args.moment session workspace c.args.space.now parent (map key_pieces c.args.own.now) c.counters.result c.args.entries c.law_of_order.ensures refreshes may short
+    c.counters.ensures (sym c.if-is_spent.ensures) (early c.args.moment c.requires.moment))
+    short c.counters.ensures (sym c.if-is_spent.ensures))

@@ -1,0 +1,60 @@
+use Rattle.std.proofs.Common.{◌+◌, ◌-◌, ◌++◌, List, map, refl, subst, sym, ap, ◌∙◌}
+use Rattle.wm_append.proofs.TwoLayers.{touches_apart}
+use Rattle.wm_append.proofs.Written.{counted_as}
+use Rattle.wm_append.specs.Layers.{touch_in}
+use Rattle.wm_append.specs.Redraw.{AreNewsOf, IsRedrawn}
+use Rattle.wm_changes.proofs.Placed.{version_fits}
+use Rattle.wm_graph.specs.Parts.{parts_of}
+use Rattle.wm_replay.proofs.Drafted.{drafts_replaying}
+use Rattle.wm_replay.proofs.Marked.{marks_new}
+use Rattle.wm_replay.proofs.Standing.{known, there_longer}
+use Rattle.wm_spec.specs.declared.record.Record.{Record}
+use Rattle.wm_spec.specs.declared.record.Record.TheVariants as records
+use Rattle.wm_spec.specs.declared.record.piece.PieceRecord.{PieceRecord}
+use Rattle.wm_state.specs.Editing.{entry_of}
+use Rattle.wm_replay.proofs.replays.replay.Goals as goal
+
+pub versioned-counters-requires-clause-versions : goal.versioned-counters-requires-clause-versions
+versioned-counters-requires-clause-versions c = version_fits (parts_of c.args.image.now) c.counters-before.result c.requires.rules c.counters-before.ensures
+
+pub overflow_sub-place : goal.overflow_sub-place
+overflow_sub-place c = (known c.args.image.now c.args.space c.space.result c.unwrap-old.result c.requires.rules c.unwrap-old.ensures c.space.ensures).some
+
+pub enter-requires-clause-place : goal.enter-requires-clause-place
+enter-requires-clause-place c = (known c.args.image.now c.args.space c.space.result c.unwrap-old.result c.requires.rules c.unwrap-old.ensures c.space.ensures).some
+
+pub redraw-requires-clause-apart : goal.redraw-requires-clause-apart
+redraw-requires-clause-apart c = touches_apart c.args.space c.args.image.now c.requires.rules
+
+pub redraw-requires-clause-news : goal.redraw-requires-clause-news
+redraw-requires-clause-news c =
+    let place = c.unwrap-old.result.now.next_place - 1 in
+    let k = known c.args.image.now c.args.space c.space.result c.unwrap-old.result c.requires.rules c.unwrap-old.ensures c.space.ensures in
+    subst (λ n. AreNewsOf n c.in_ok-entered.entered.marks.items) (sym c.from.ensures)
+    (subst (AreNewsOf place) (sym (c.in_ok-entered.ensures.marks place k.last))
+    (marks_new (parts_of c.args.image.now).tables place c.unwrap-old.result.now.log_length (map entry_of c.args.entries.items) c.requires.can.old.real c.requires.can.sorted))
+
+pub written-requires-clause-there : goal.written-requires-clause-there
+written-requires-clause-there c =
+    let k = known c.args.image.now c.args.space c.space.result c.unwrap-old.result c.requires.rules c.unwrap-old.ensures c.space.ensures in
+    there_longer c.args.image.now c.args.space c.len.result c.unwrap-old.result.now c.in_ok-longer.longer k.found c.in_ok-longer.ensures
+
+pub returns-clause-drafts : goal.returns-clause-drafts
+returns-clause-drafts c =
+    let place = c.unwrap-old.result.now.next_place - 1 in
+    let drawn = c.in_ok-touches.touches.drawn.items in
+    let dropped = c.in_ok-touches.touches.dropped.items in
+    let pieces = c.in_ok-entered.entered.pieces.items in
+    let k = known c.args.image.now c.args.space c.space.result c.unwrap-old.result c.requires.rules c.unwrap-old.ensures c.space.ensures in
+    drafts_replaying c.args.image.now c.args.moment c.args.work c.args.space place c.in_ok-id.id (c.in_ok-id.id + 1) c.latest.result c.len.result c.args.entries c.unwrap-old.result.now c.in_ok-longer.longer c.counters-before.result
+    c.versioned-counters.result c.in_ok-front.front c.in_ok-changes.changes drawn pieces dropped c.in_ok-entered.entered.hists.items c.push_pieces.new.news.items c.push_all.new.news.items c.requires.rules c.requires.work c.requires.can k.found
+    c.counters-before.ensures c.in_ok-id.ensures.above refl k.last c.versioned-counters.ensures (counted_as c.args.entries c.len.result c.len.ensures) c.in_ok-longer.ensures c.in_ok-front.ensures c.latest.ensures c.in_ok-entered.ensures.pieces
+    (c.in_ok-push_pieces.ensures ∙ ap (λ (rs : List Record). rs ++ map records.Piece pieces) c.new-news.ensures.items)
+    (subst (λ (marks : List PieceRecord). IsRedrawn (touch_in c.args.space) c.args.image.now marks dropped drawn) (c.in_ok-entered.ensures.marks place k.last) c.in_ok-touches.ensures.redrawn)
+    (record {
+      touches = c.push_touches.new.news.items;
+      first = c.in_ok-push_touches.ensures;
+      kept = c.in_ok-entered.ensures.hists;
+      behind = c.in_ok-push_all.ensures;
+    })
+    c.in_ok-changes.ensures
