@@ -4,7 +4,7 @@ use Rattle.std.specs.Prelude.{Result, Ok, Err, OnOk, OnErr, IfErr}
 use Rattle.std.specs.List.{list_any}
 use Rattle.wm_engine.specs.Working.{HoldsSorted}
 use Rattle.wm_spec.specs.declared.record.stored.Stored.{Stored}
-use Rattle.wm_station.specs.History.{History, now, said, moment, Leaves}
+use Rattle.wm_station.specs.History.{History, now, said, moment}
 use Rattle.wm_station.specs.Moments.{During, Holds}
 use Rattle.wm_station.proofs.Steps.{during_begun, followed, weaken}
 use Rattle.wm_host.specs.Cause.{IsOfOpening, IsOfSaying}
@@ -64,23 +64,22 @@ crash_checked old begun new piece is quiet opening says =
 -- ---- statuses
 
 -- saying ends with none of these
+not_by_saying : (run : Result (Unit {0}) Stop) (number : ℕ) → number ≡ status_of run → IfErr run IsOfSaying → list_any (λ (status : ℕ). status == number) (5 ∷ 6 ∷ 7 ∷ []) ≡ true → ⊥
+not_by_saying (Ok done) number is of e = let f : list_any (λ (status : ℕ). status == 0) (5 ∷ 6 ∷ 7 ∷ []) ≡ true = subst (λ (n : ℕ). list_any (λ (status : ℕ). status == n) (5 ∷ 6 ∷ 7 ∷ []) ≡ true) is e in cc
+not_by_saying (Err SayFault) number is of e = let f : list_any (λ (status : ℕ). status == 4) (5 ∷ 6 ∷ 7 ∷ []) ≡ true = subst (λ (n : ℕ). list_any (λ (status : ℕ). status == n) (5 ∷ 6 ∷ 7 ∷ []) ≡ true) is e in cc
+not_by_saying (Err Memory) number is of e = let f : list_any (λ (status : ℕ). status == 10) (5 ∷ 6 ∷ 7 ∷ []) ≡ true = subst (λ (n : ℕ). list_any (λ (status : ℕ). status == n) (5 ∷ 6 ∷ 7 ∷ []) ≡ true) is e in cc
+not_by_saying (Err SourceFault) number is of e = of
+not_by_saying (Err DiskFault) number is of e = of
+not_by_saying (Err NotStore) number is of e = of
+not_by_saying (Err (Damaged page kind)) number is of e = of
+not_by_saying (Err Exists) number is of e = of
+not_by_saying (Err InputLimit) number is of e = of
+not_by_saying (Err Changed) number is of e = of
+
 pub saying_status : (run : Result (Unit {0}) Stop) (number : ℕ) → number ≡ status_of run → IfErr run IsOfSaying → (number ≡ 5) ⊎ ((number ≡ 6) ⊎ (number ≡ 7)) → ⊥
-saying_status (Ok done) number is of (inl five) = let e : 0 ≡ 5 = sym is ∙ five in cc
-saying_status (Ok done) number is of (inr (inl six)) = let e : 0 ≡ 6 = sym is ∙ six in cc
-saying_status (Ok done) number is of (inr (inr seven)) = let e : 0 ≡ 7 = sym is ∙ seven in cc
-saying_status (Err SayFault) number is of (inl five) = let e : 4 ≡ 5 = sym is ∙ five in cc
-saying_status (Err SayFault) number is of (inr (inl six)) = let e : 4 ≡ 6 = sym is ∙ six in cc
-saying_status (Err SayFault) number is of (inr (inr seven)) = let e : 4 ≡ 7 = sym is ∙ seven in cc
-saying_status (Err Memory) number is of (inl five) = let e : 10 ≡ 5 = sym is ∙ five in cc
-saying_status (Err Memory) number is of (inr (inl six)) = let e : 10 ≡ 6 = sym is ∙ six in cc
-saying_status (Err Memory) number is of (inr (inr seven)) = let e : 10 ≡ 7 = sym is ∙ seven in cc
-saying_status (Err SourceFault) number is of either = of
-saying_status (Err DiskFault) number is of either = of
-saying_status (Err NotStore) number is of either = of
-saying_status (Err (Damaged page kind)) number is of either = of
-saying_status (Err Exists) number is of either = of
-saying_status (Err InputLimit) number is of either = of
-saying_status (Err Changed) number is of either = of
+saying_status run number is of (inl five) = not_by_saying run number is of (rw five refl)
+saying_status run number is of (inr (inl six)) = not_by_saying run number is of (rw six refl)
+saying_status run number is of (inr (inr seven)) = not_by_saying run number is of (rw seven refl)
 
 -- and names no page
 pub placed_by_saying : (run : Result (Unit {0}) Stop) → IfErr run IsOfSaying → IsUnwritten (place_of run) → ⊥

@@ -1,16 +1,16 @@
 -- Words that could not be read for want of memory: whatever command they give, nothing was done.
 use Rattle.std.proofs.Common.{ℕ, ◌≡◌, ◌==◌, true, List, Option, Some, None, refl, inl}
 use Rattle.std.specs.List.{list_any}
-use Rattle.wm_engine.specs.Working.{FileStands, IsSound}
+use Rattle.wm_engine.specs.Working.{IsSound}
 use Rattle.wm_model.specs.Running.{transcript}
 use Rattle.wm_state.specs.State.{State, begin}
-use Rattle.wm_station.specs.History.{History, now, said}
+use Rattle.wm_station.specs.History.{History, now}
 use Rattle.wm_station.specs.Moments.{During}
 use Rattle.wm_station.proofs.Steps.{during_begun}
 use Rattle.wm_store.specs.Opened.{HoldsAs}
-use Rattle.wm_host.specs.Crash.{CrashAnswers, CrashOfRun, CrashOpens}
-use Rattle.wm_host.specs.Outcome.{AnswersSome, HasSaidFront, OfCheck, OfInit, OfRun, StaysSound, statuses_of}
-use Rattle.wm_host.proofs.Ending.{counted_unopened, crash_opened, front_of_answers, stands_unopened}
+use Rattle.wm_host.specs.Crash.{CrashOfRun, CrashOpens}
+use Rattle.wm_host.specs.Outcome.{HasSaidFront, OfCheck, OfInit, OfRun, StaysSound, statuses_of}
+use Rattle.wm_host.proofs.Ending.{counted_unopened, crash_opened, front_of_answers}
 use Rattle.wm_words.specs.declared.command.Command.{Command}
 use Rattle.wm_words.specs.declared.command.Command.TheVariants.{Init, Run, Check}
 
