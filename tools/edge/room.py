@@ -6,6 +6,7 @@ import subprocess
 NOW = "2024-06-01"
 INIT = ("init", "--limit", "1000")
 RUN = ("run", "--now", NOW)
+CHECK = ("check",)
 SECONDS = 60
 
 COMPLAINTS = {

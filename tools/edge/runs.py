@@ -2,7 +2,7 @@
 import os
 import subprocess
 
-from room import INIT, RUN, ended, inserting, read
+from room import CHECK, INIT, RUN, ended, inserting, read
 
 PAGE = 4096
 # The first page that has records, the counters among them, which each change rewrites.
@@ -39,6 +39,7 @@ def beside(kind, room, times):
         content = read(path)
         kind.expect("a run beside it", room.play(name, RUN, inserting([2])[0]), ended(5))
         kind.expect("an init beside it", room.play(name, INIT), ended(5))
+        kind.expect("a check beside it", room.play(name, CHECK), ended(5))
         kind.expect("the file is as it was", read(path) == content, True)
         kind.expect("INSERT behind them", answer(first, b"A: INSERT INTO T VALUES (3)\n"), b"DONE 1\n")
         kind.expect("the open run", finished(first), ended(0))
@@ -105,3 +106,4 @@ def written_to(kind, room):
     kind.expect("INSERT behind the other's writing", answer(first, b"A: INSERT INTO T VALUES (2)\n"), b"")
     kind.expect("the open run", finished(first), ended(11))
     kind.expect("a run over what is left", room.play(path, RUN)[0], 7)
+    kind.expect("a check of what is left", room.play(path, CHECK)[0], 7)

@@ -4,7 +4,7 @@ import resource
 import signal
 import subprocess
 
-from room import INIT, RUN, ended, inserting, read
+from room import CHECK, INIT, RUN, ended, inserting, read
 
 NOBODY = 65534
 
@@ -25,19 +25,22 @@ def no_stores(kind, room):
     ]:
         kind.expect(f"run over {name}", room.play(path, RUN, script), ended(5))
         kind.expect(f"init of {name}", room.play(path, INIT), ended(5))
+        kind.expect(f"check of {name}", room.play(path, CHECK), ended(5))
     kind.expect("the folder is empty", os.listdir(folder), [])
     kind.expect("a folder is made", os.path.exists(room.path("none")), False)
     dangling = room.absent()
     os.symlink(dangling + ".target", dangling)
     for name, path in ("no file", room.absent()), ("a link to no file", dangling), ("no file here", "s.store"):
         kind.expect(f"run over {name}", room.play(path, RUN, script, cwd=room.folder), ended(6))
+        kind.expect(f"check of {name}", room.play(path, CHECK, cwd=room.folder), ended(6))
         path = room.path(path)
-        kind.expect(f"{name} is made by a run", os.path.exists(path), False)
+        kind.expect(f"{name} is made by a run or a check", os.path.exists(path), False)
         kind.expect(f"init of {name}", room.play(path, INIT), ended(0, b"OK\n"))
         kind.expect(f"the store of {name}", read(path) == room.fresh, True)
     for name, path in ("an empty file", room.store(b"")), ("a script", text):
         content = read(path)
         kind.expect(f"run over {name}", room.play(path, RUN, script), ended(6))
+        kind.expect(f"check of {name}", room.play(path, CHECK), ended(6))
         kind.expect(f"{name} is as it was", read(path) == content, True)
         # init makes a store of any file that is none.
         kind.expect(f"init of {name}", room.play(path, INIT), ended(0, b"OK\n"))
@@ -51,11 +54,13 @@ def read_only(kind, room):
     try:
         ran = room.play(path, RUN, inserting([1])[0], **other)
         made = room.play(path, INIT, **other)
+        checked = room.play(path, CHECK, **other)
     except OSError as error:
         kind.remarks.append(f"skipped, for the program cannot be run as another user ({error})")
         return
     kind.expect("run", ran, ended(5))
     kind.expect("init", made, ended(5))
+    kind.expect("check", checked, ended(5))
     kind.expect("the file is as it was", read(path) == room.ready, True)
     os.chmod(path, 0o644)
     kind.expect("the rows", room.rows(path), [])

@@ -4,7 +4,7 @@ import os
 import subprocess
 from itertools import combinations
 
-from room import INIT, RUN, SECONDS, COMPLAINTS, ended, inserting, read
+from room import CHECK, INIT, RUN, SECONDS, COMPLAINTS, ended, inserting, read
 
 SCRIPT, ANSWERS = inserting([0])
 
@@ -26,6 +26,8 @@ def closed(kind, room):
             complaint = b"" if 2 in numbers else COMPLAINTS[status]
             kind.expect(f"init {closing}", redirected(room, closing, made, INIT), (status, said, complaint))
             kind.expect(f"the store of init {closing}", read(made) == room.fresh, True)
+            kind.expect(f"check {closing}", redirected(room, closing, made, CHECK), (status, said, complaint))
+            kind.expect(f"the store of check {closing}", read(made) == room.fresh, True)
             status = 3 if 0 in numbers else status
             said = ANSWERS if status == 0 else b""
             complaint = b"" if 2 in numbers else COMPLAINTS[status]
@@ -47,6 +49,9 @@ def failing(kind, room):
         init, run = redirected(room, redirection, made, INIT), redirected(room, redirection, path, RUN)
         kind.expect(f"init {redirection}", init, ended(init_status, b"OK\n" if says else b""))
         kind.expect(f"the store of init {redirection}", read(made) == room.fresh, True)
+        check = redirected(room, redirection, made, CHECK)
+        kind.expect(f"check {redirection}", check, ended(init_status, b"OK\n" if says else b""))
+        kind.expect(f"the store of check {redirection}", read(made) == room.fresh, True)
         kind.expect(f"run {redirection}", run, ended(run_status, ANSWERS if run_status == 0 else b""))
         kind.expect(f"the rows after run {redirection}", room.rows(path), [0] if run_status == 0 else [])
 

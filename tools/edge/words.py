@@ -14,10 +14,16 @@ NONE = [
     ["init", "--limit", "1048577"],
     ["init", "--limit", "5", "--limit", "5"],
     ["--limit", "5", "init"],
+    ["check", ""],
+    ["check", "--"],
+    ["check", "--now", "2024-06-01"],
+    ["check", "check"],
     ["run", "--now"],
     ["run", "--now", "2024-13-01"],
     ["run", "--now", "now"],
     ["run", "--now", "2024-06-01", "more"],
+    ["run", "--now", "2024-06-01", "--now=2024-06-01"],
+    ["run", "--now", "2024-06-01", "-"],
     ["run", "--now", b"2024-06-01\xff"],
     ["play", "--now", "2024-06-01"],
 ]
@@ -35,7 +41,7 @@ def none(kind, room):
         kind.expect(f"{words} over a store", room.play(store, words, script), ended(2))
     kind.expect("the script is as it was", read(text) == script, True)
     kind.expect("the store is as it was", read(store) == room.ready, True)
-    for word in "--help", "-h", "--version", "help", "init", "run":
+    for word in "--help", "-h", "--version", "help", "init", "run", "check":
         kind.expect(word, room.play(word, [], cwd=room.folder), ended(2))
         kind.expect(f"{word} makes a file", os.path.exists(room.path(word)), False)
     strange = os.fsencode(room.path("")) + b"\xff.store"

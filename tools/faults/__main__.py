@@ -6,8 +6,8 @@ goes wrong: it fails, does half or nothing, is to be made again, or the program 
 Looked at are the status, the answers and standard error; and each file that the power may leave where it goes then:
 with all that was written since the last sync, with none of it, and with parts. It must be opened, and hold all lines
 that were answered, or one more, and none in part. The same is done with the power alone at each moment of the whole
-run, and again while what that left is repaired; and with init. A C compiler (cc) builds the shim that stands before
-the C library. With --every N each Nth try alone is made.
+run, and again while what that left is repaired; and with init and check. A C compiler (cc) builds the shim that
+stands before the C library. With --every N each Nth try alone is made.
 """
 import argparse
 import os
@@ -18,7 +18,7 @@ from concurrent.futures import ThreadPoolExecutor
 from expected import Expected
 from recording import KINDS
 from room import INIT, Room
-from trying import FATES, AgainTries, InitTries, RunTries
+from trying import FATES, AgainTries, CheckTries, InitTries, RunTries
 
 from every_line import SCRIPT, lines_of
 
@@ -68,6 +68,7 @@ def try_run(told, room, fresh, every):
     left = powers(run.moments(), every)
     told.kind("the power goes", run.fault_of_power, left)
     told.kind("the power goes twice", run.fault_of_repair, [it for it in left if is_open(it[1])])
+    return [file for _, file in powers(run.moments(), 1) if is_open(file)]
 
 
 def is_open(file):
@@ -88,6 +89,14 @@ def try_init(told, room, fresh, every):
     told.kind("init over a store", again.fault, tries)
 
 
+def try_check(told, room, stores, every):
+    for name, store in stores.items():
+        check = CheckTries(room, store)
+        tries = [(*call, fate) for fate in FATES for call in check.calls(fate, every)]
+        told.kind(f"check of {name}", check.fault, tries)
+        told.kind(f"check of {name}, and the power goes", check.fault_of_power, powers(check.moments(), every))
+
+
 def main():
     words = argparse.ArgumentParser(description=__doc__, formatter_class=argparse.RawDescriptionHelpFormatter)
     words.add_argument("program")
@@ -97,8 +106,9 @@ def main():
     with tempfile.TemporaryDirectory(prefix="wm-faults-", dir=disk) as folder, ThreadPoolExecutor(os.cpu_count()) as pool:
         room, told = Room(folder, os.path.abspath(given.program)), Told(pool)
         fresh = room.play(None, INIT).file
-        try_run(told, room, fresh, given.every)
+        stopped = try_run(told, room, fresh, given.every)
         try_init(told, room, fresh, given.every)
+        try_check(told, room, {"a fresh store": fresh, "a store to be repaired": stopped[-1]}, given.every)
     return 1 if told.found else 0
 
 

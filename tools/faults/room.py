@@ -17,6 +17,7 @@ from storefile.pages import Damaged, NotAStore, Pages
 SECONDS = 300
 INIT = "init", "--limit", "1000"
 RUN = "run", "--now", NOW
+CHECK = "check",
 ASKING = b"".join(lines_of(READING))
 COMPLAINTS = {3: b"wm: source fault\n", 4: b"wm: say fault\n", 5: b"wm: disk fault\n", 8: b"wm: store exists\n"}
 

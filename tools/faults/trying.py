@@ -1,7 +1,7 @@
-"""The tries: calls that go wrong in a run and in an init, and the power that goes at each moment of these."""
+"""The tries: calls that go wrong in a run, an init and a check, and the power that goes at each moment of these."""
 from expected import fault_of_end
 from recording import KINDS, Disk, moments
-from room import INIT, RUN
+from room import CHECK, INIT, RUN
 
 STATUS = dict.fromkeys(KINDS, 5) | {"take": 3, "say": 4}
 KILLED = -9
@@ -127,3 +127,23 @@ class AgainTries(Tries):
     def fault_of(self, ran, status, kind, fate):
         why = fault_of_end(ran, 8 if status in (0, 4) else status, b"")
         return why or (None if left(self.start, ran) == {self.start} else "the store is another one")
+
+
+class CheckTries(Tries):
+    """A check of a store, also of one that is to be repaired: what it holds stays as it was, whatever happens."""
+
+    def __init__(self, room, store):
+        super().__init__(room, CHECK, store, b"", 0)
+
+    def fault_of(self, ran, status, kind, fate):
+        why = fault_of_end(ran, status, {0: b"OK\n", 5: b""}.get(status))
+        if why or not b"OK\n".startswith(ran.said):
+            return why or f"it said {ran.said!r}"
+        faults = (self.fault_of_power(ran.said, image) for image in left(self.start, ran))
+        return next((it for it in faults if it), None)
+
+    def fault_of_power(self, said, image):
+        found = self.room.look(image)
+        if found == self.room.look(self.start):
+            return None
+        return f"where {said!r} was said, a file of {len(image)} bytes is opened with status {found[0]}, and says {found[1]!r}"

@@ -5,8 +5,9 @@ use std::io::ErrorKind;
 use std::process::ExitCode;
 use std::{env, io};
 use wm_base::Damage;
-use wm_host::{Command, Ended, Place, command_of, run};
+use wm_host::{Ended, Place, run};
 use wm_station::{FileStation, StreamSource};
+use wm_words::{Command, command_of};
 
 /// The first argument is the program's name, and the second the store's path.
 const PATH: usize = 1;
@@ -50,10 +51,13 @@ fn play(rt: &HostRuntime, arguments: &[String]) -> Ended {
     }
     let words = &arguments[WORDS_BEGIN..];
     let path = arguments[PATH].as_str();
-    let mut station = match command_of(words) {
-        Some(Command::Init { .. }) => FileStation::open(rt, path, rt.stdout()),
-        Some(Command::Run { .. }) => FileStation::open_existing(rt, path, rt.stdout()),
-        None => return ended(2),
+    let mut station = match command_of(rt.alloc(), words) {
+        Ok(Some(Command::Init { .. })) => FileStation::open(rt, path, rt.stdout()),
+        Ok(Some(Command::Run { .. } | Command::Check)) => {
+            FileStation::open_existing(rt, path, rt.stdout())
+        }
+        Ok(None) => return ended(2),
+        Err(_) => return ended(10),
     };
     let mut source = StreamSource::new(rt.stdin());
     run(rt.alloc(), words, &mut source, &mut station)

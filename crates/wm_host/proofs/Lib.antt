@@ -1,4 +1,5 @@
 pub mod Causes
+pub mod Checking
 pub mod Crashing
 pub mod Ending
 pub mod Held
@@ -8,3 +9,4 @@ pub mod Past
 pub mod Saying
 pub mod Throughout
 pub mod Sounding
+pub mod Unread

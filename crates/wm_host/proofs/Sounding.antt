@@ -41,7 +41,7 @@ sound_answer e old middle new bytes out ended soundly crash only = sound_more ol
 -- ---- the end of a run
 
 -- a crash at the end is one since each moment before it
-leaves_since : (h : History) (t : ℕ) (file : List ℕ) → t ≤ moment h → Leaves h file → Since h t file (said h)
+pub leaves_since : (h : History) (t : ℕ) (file : List ℕ) → t ≤ moment h → Leaves h file → Since h t file (said h)
 leaves_since (Begin image) t file le leaves = (le, leaves, refl)
 leaves_since (Wrote h at n image) t file le leaves = inl (le, leaves, refl)
 leaves_since (Synced h) t file le leaves = inl (le, leaves, refl)

@@ -5,4 +5,3 @@ pub mod Outcome
 pub mod Saying
 pub mod Script
 pub mod Status
-pub mod Words

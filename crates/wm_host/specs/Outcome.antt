@@ -1,6 +1,6 @@
 -- What a run did with a script whose lines are answered from a state.
 use Rattle.std.specs.Prelude.{ℕ, ◌≡◌, ◌≤◌, ◌⊎◌, List, ◌∷◌, [], ◌++◌, length, Option, None, Some, codes}
-use Rattle.wm_engine.specs.Working.{FileStands, IsSound, LeavesAlone, Tells}
+use Rattle.wm_engine.specs.Working.{FileStands, HoldsSorted, IsSound, LeavesAlone, Tells}
 use Rattle.wm_station.specs.History.{History, now, said, Leaves}
 use Rattle.wm_station.specs.Moments.{During, Holds}
 use Rattle.wm_model.specs.Lines.{ended_lines}
@@ -9,14 +9,16 @@ use Rattle.wm_model.specs.Running.{transcript, after, Stopped}
 use Rattle.wm_base.specs.declared.fault.OpenFault.TheVariants.{Damaged}
 use Rattle.wm_host.specs.declared.ended.Place.{Place}
 use Rattle.wm_host.specs.declared.ended.Place.TheVariants.{Nowhere, Page}
-use Rattle.wm_host.specs.declared.words.Command.{Command}
-use Rattle.wm_host.specs.declared.words.Command.TheVariants.{Init, Run}
+use Rattle.wm_store.specs.Opened.{HoldsAs}
+use Rattle.wm_spec.specs.declared.record.stored.Stored.{Stored}
+use Rattle.wm_words.specs.declared.command.Command.{Command}
+use Rattle.wm_words.specs.declared.command.Command.TheVariants.{Init, Run, Check}
 
 -- these bytes were said, and no others
 abbrev pub HasSaid : History → History → List ℕ → Type 0
 HasSaid old new bytes = said new ≡ said old ++ bytes
 
--- what `init` says
+-- what `init` and `check` say
 abbrev pub ok_text : List ℕ
 ok_text = codes "OK" ++ 10 ∷ []
 
@@ -55,6 +57,20 @@ pub record StaysSound (old new : History) : Type 0 where
   pub here : IsSound (now new)
   pub crash : During old new (λ file after. Leaves old file ⊎ IsSound file)
 
+-- the two files are stores that hold the same records
+pub record HoldsSame (old file : List ℕ) : Type 0 where
+  pub records : List Stored
+  pub before : HoldsSorted old records
+  pub holds : HoldsSorted file records
+
+-- what a stop within `check` leaves: a file that one before could, or one that holds what the file held; and a front of `OK` was said
+pub record CrashChecks (old : History) (file after : List ℕ) : Type 0 where
+  pub kept : Leaves old file ⊎ HoldsAs (now old) file
+  pub front : List ℕ
+  pub said_is : after ≡ said old ++ front
+  pub rest : List ℕ
+  pub is : ok_text ≡ front ++ rest
+
 -- a front of the script was taken, of at most so many bytes
 pub record TakesAtMost (limit : ℕ) (script left : List ℕ) : Type 0 where
   pub taken : List ℕ
@@ -81,12 +97,21 @@ abbrev pub OfRun : Option Command → (ℕ → Type 0) → Type 0
 OfRun None Q = Unit {0}
 OfRun (Some (Init limit)) Q = Unit {0}
 OfRun (Some (Run moment)) Q = Q moment
+OfRun (Some Check) Q = Unit {0}
 
 -- Q holds of the limit of `init`
 abbrev pub OfInit : Option Command → (ℕ → Type 0) → Type 0
 OfInit None Q = Unit {0}
 OfInit (Some (Init limit)) Q = Q limit
 OfInit (Some (Run moment)) Q = Unit {0}
+OfInit (Some Check) Q = Unit {0}
+
+-- Q holds where the command is `check`
+abbrev pub OfCheck : Option Command → Type 0 → Type 0
+OfCheck None Q = Unit {0}
+OfCheck (Some (Init limit)) Q = Unit {0}
+OfCheck (Some (Run moment)) Q = Unit {0}
+OfCheck (Some Check) Q = Q
 
 -- Q holds of each state at which `run` begins: the file stands for it, but for its sessions and its moment
 abbrev pub FromEach : Option Command → History → (State → Type 0) → Type 0
@@ -94,6 +119,7 @@ FromEach command old Q = OfRun command (λ moment. (s : State) → FileStands (n
 
 -- the statuses that a command can end with
 abbrev pub statuses_of : Option Command → List ℕ
-statuses_of None = 2 ∷ []
+statuses_of None = 2 ∷ 10 ∷ []
 statuses_of (Some (Init limit)) = 0 ∷ 4 ∷ 5 ∷ 8 ∷ 10 ∷ []
 statuses_of (Some (Run moment)) = 0 ∷ 3 ∷ 4 ∷ 5 ∷ 6 ∷ 7 ∷ 9 ∷ 10 ∷ 11 ∷ []
+statuses_of (Some Check) = 0 ∷ 4 ∷ 5 ∷ 6 ∷ 7 ∷ 10 ∷ []

@@ -10,29 +10,32 @@ ghost use Rattle.wm_station.specs.Moments.{During, Holds};
 ghost use Rattle.wm_journal.specs.Disk.{is_made};
 ghost use Rattle.wm_store.specs.Opened.{HoldsAs};
 ghost use Rattle.wm_host.specs.Crash.{CrashOfRun, CrashAnswers};
-ghost use Rattle.wm_host.specs.Outcome.{HasSaid, HasSaidFront, Answered, AnswersSome, AnswersEnded, IsDamaged, IsPage, IsUnwritten, StaysSound, TakesAtMost, OfRun, OfInit, FromEach, FrontOfRun, ok_text, statuses_of};
-ghost use Rattle.wm_host.specs.Words.{command_of as command_in};
+ghost use Rattle.wm_host.specs.Outcome.{CrashChecks, HasSaid, HasSaidFront, HoldsSame, Answered, AnswersSome, AnswersEnded, IsDamaged, IsPage, IsUnwritten, StaysSound, TakesAtMost, OfCheck, OfInit, OfRun, FromEach, FrontOfRun, ok_text, statuses_of};
+ghost use Rattle.wm_words.specs.Words.{command_of as command_in};
 
+use crate::check::check;
 use crate::ended::Ended;
 use crate::store::{init, run_store};
-use crate::words::{Command, command_of};
 use std::alloc::Global;
 use wm_station::{Source, Station};
+use wm_words::{Command, command_of};
 
 /// Runs the command that the words give. `init --limit N` makes a store that takes N changes, and says
 /// `OK`. `run --now T` opens the store, takes the source as a script, and says the answer to each of its
-/// lines; what a line changes is kept before it is answered. In both `=` may stand in place of the space
-/// behind the option. N is a number of 1 to 20 digits from 1 to 1,048,576, and T a date, or a date and a
-/// time with a space or a `T` between them. Any other words end with status 2.
+/// lines; what a line changes is kept before it is answered. `check` opens the store, which writes out what
+/// a run before left in its journal, and says `OK`. In place of the space behind an option `=` may stand.
+/// N is a number of 1 to 20 digits from 1 to 1,048,576, and T a date, or a date and a time with a space or a
+/// `T` between them. Any other words end with status 2. Reading the words may want memory.
 pub fn run<S: Source, P: Station>(
     alloc: Global,
     words: &[String],
     source: &mut S,
     station: &mut P,
 ) -> Ended
-    // Status 2 for words that are not in the grammar, and then nothing was done.
-    ensures usage { (result.status ≡ 2) ↔ (command_in (map string_bytes words.now) ≡ None) }
-    ensures untouched { result.status ≡ 2 → (source.new ≡ source.old) × (station.new ≡ station.old) × (result.lines ≡ 0) }
+    // Status 2 comes only for words that are not in the grammar. They end with it, or for want of memory, and
+    // then nothing was done.
+    ensures usage { result.status ≡ 2 → command_in (map string_bytes words.now) ≡ None }
+    ensures untouched { command_in (map string_bytes words.now) ≡ None → ((result.status ≡ 2) ⊎ (result.status ≡ 10)) × (source.new ≡ source.old) × (station.new ≡ station.old) × (result.lines ≡ 0) }
 
     // `init`. Status 0 or 4: there was no store, and what a read gives and each crash leaves is a fresh one.
     // Status 8: there was one, and nothing was done. Only a front of `OK` is said, and at status 0 the whole.
@@ -81,6 +84,19 @@ pub fn run<S: Source, P: Station>(
     // was said.
     ensures crash { S.tells → P.tells → FromEach (command_in (map string_bytes words.now)) (P.history station.old) (λ s. During (P.history station.old) (P.history station.new) (CrashOfRun (P.history station.old) s (lines (S.left source.old)))) }
 
+    // `check`. Status 0: the store was opened, and the whole of `OK` was said; else a front of it, and nothing where the
+    // disk failed. Where it was opened, which statuses 0 and 4 say, the file was a store whose records keep the rules, and
+    // what a read gives and each crash from then on leaves holds the same records. Whatever the status, the pages are
+    // held as they were, also by what a crash within it leaves, and the source is not touched.
+    ensures check_done { result.status ≡ 0 → P.tells → OfCheck (command_in (map string_bytes words.now)) (HasSaid (P.history station.old) (P.history station.new) ok_text) }
+    ensures check_front { P.tells → OfCheck (command_in (map string_bytes words.now)) (HasSaidFront (P.history station.old) (P.history station.new) ok_text) }
+    ensures check_unsaid { result.status ≡ 5 → P.tells → OfCheck (command_in (map string_bytes words.now)) (said (P.history station.new) ≡ said (P.history station.old)) }
+    ensures check_opened { (result.status ≡ 0) ⊎ (result.status ≡ 4) → P.tells → OfCheck (command_in (map string_bytes words.now)) (IsSound (now (P.history station.old))) }
+    ensures check_same { (result.status ≡ 0) ⊎ (result.status ≡ 4) → P.tells → OfCheck (command_in (map string_bytes words.now)) (Holds (P.history station.new) (HoldsSame (now (P.history station.old)))) }
+    ensures check_pages { P.tells → OfCheck (command_in (map string_bytes words.now)) (HoldsAs (now (P.history station.old)) (now (P.history station.new))) }
+    ensures check_crash { P.tells → OfCheck (command_in (map string_bytes words.now)) (During (P.history station.old) (P.history station.new) (CrashChecks (P.history station.old))) }
+    ensures check_source { OfCheck (command_in (map string_bytes words.now)) ((source.new ≡ source.old) × (result.lines ≡ 0)) }
+
     // Status 6: the file is no store, stays as it is, and is only synced. Status 7: the first test of opening that fails is
     // the one that the place names; where that is page 0 with short, format or journal, the file is only synced too.
     // Neither comes where the file stands for some state, and at both the pages are held as they were, also by what a
@@ -110,11 +126,15 @@ pub fn run<S: Source, P: Station>(
     ensures say_later { P.say_faults station.old ≤ P.say_faults station.new }
     ensures disk_later { P.disk_faults station.old ≤ P.disk_faults station.new }
 {
-    let Some(command) = command_of(words) else {
+    let Ok(read) = command_of(alloc, words) else {
+        return Ended::unread();
+    };
+    let Some(command) = read else {
         return Ended::usage();
     };
     match command {
         Command::Init { limit } => init(alloc, station, limit),
         Command::Run { moment } => run_store(alloc, source, station, moment),
+        Command::Check => check(alloc, station),
     }
 }

@@ -44,6 +44,19 @@ impl Ended {
         }
     }
 
+    /// The end for words that could not be read for want of memory.
+    pub(crate) fn unread() -> Ended
+        ensures status { result.status ≡ 10 }
+        ensures lines { result.lines ≡ 0 }
+        ensures place { result.place ≡ Nowhere }
+    {
+        Ended {
+            status: 10,
+            lines: 0,
+            place: Place::Nowhere,
+        }
+    }
+
     /// The end of a command that so many lines were answered in.
     pub(crate) fn of(run: Result<(), Stop>, lines: u64) -> Ended
         ensures status { result.status ≡ status_of run }

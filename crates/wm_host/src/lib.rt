@@ -1,7 +1,8 @@
 //! The commands of the program. `run` opens a store, cuts the bytes of a source into lines, hands each to
-//! the engine and says the answer; `init` makes the store.
+//! the engine and says the answer; `init` makes the store, and `check` opens it and leaves it as it is.
 #![tactic(auto)]
 
+mod check;
 mod command;
 mod ended;
 mod host;
@@ -10,8 +11,6 @@ mod say;
 mod script;
 mod stop;
 mod store;
-mod words;
 
 pub use command::run;
 pub use ended::{Ended, Place};
-pub use words::{Command, command_of};

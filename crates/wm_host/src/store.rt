@@ -1,4 +1,4 @@
-//! The two commands over a store.
+//! The commands that make a store and run a script over it.
 ghost use Rattle.std.specs.Prelude.{◌≡◌, ◌+◌, ◌^◌, ◌<◌, ◌≤◌, ◌↔◌, ◌⊎◌, [], ◌∷◌, ◌==◌, length, take, true, false, OnOk, IfOk, IsErrOf, IfErr};
 ghost use Rattle.std.specs.List.{list_any};
 ghost use Rattle.wm_base.specs.declared.instant.TheConstants.{END};
@@ -13,7 +13,7 @@ ghost use Rattle.wm_store.specs.Opened.{HoldsAs};
 ghost use Rattle.wm_host.specs.Cause.{IsOfMaking, IsOfOpening, StopsAlone, StopTells};
 ghost use Rattle.wm_host.specs.Crash.{CrashOfRun, CrashAnswers, CrashOpens};
 ghost use Rattle.wm_host.specs.Hosting.{Begins};
-ghost use Rattle.wm_host.specs.Outcome.{HasSaid, HasSaidFront, Answered, AnswersSome, AnswersEnded, IsDamaged, IsPage, IsUnwritten, StaysSound, TakesAtMost, ok_text};
+ghost use Rattle.wm_host.specs.Outcome.{HasSaid, HasSaidFront, HoldsSame, Answered, AnswersSome, AnswersEnded, IsDamaged, IsPage, IsUnwritten, StaysSound, TakesAtMost, ok_text};
 ghost use Rattle.wm_host.specs.declared.ended.Place.TheVariants.{Nowhere};
 ghost use Rattle.wm_host.specs.declared.stop.Stop.TheVariants.{SayFault, DiskFault, Exists, NotStore, Memory as NoMemory};
 
@@ -78,7 +78,11 @@ pub(crate) fn init<P: Station>(alloc: Global, station: &mut P, limit: u32) -> En
 }
 
 /// Opens a store for a run that begins at a moment.
-fn open_host<P: Station>(alloc: Global, station: &mut P, moment: Instant) -> Result<Host, Stop>
+pub(crate) fn open_host<P: Station>(
+    alloc: Global,
+    station: &mut P,
+    moment: Instant,
+) -> Result<Host, Stop>
     requires { moment < END }
     ensures begins { IfOk result (λ host. Begins P.tells (P.history station.old) (P.history station.new) host moment) }
     ensures crash { P.tells → (s : State) → FileStands (now (P.history station.old)) s → During (P.history station.old) (P.history station.new) (CrashOpens (P.history station.old) s) }
@@ -91,6 +95,7 @@ fn open_host<P: Station>(alloc: Global, station: &mut P, moment: Instant) -> Res
     ensures pages_any_moment { P.tells → During (P.history station.old) (P.history station.new) (λ c s. (Leaves (P.history station.old) c ⊎ HoldsAs (now (P.history station.old)) c) × (s ≡ said (P.history station.old))) }
     // It opens only where the file was a store whose records keep the rules.
     ensures sound { P.tells → OnOk result (IsSound (now (P.history station.old))) }
+    ensures same { P.tells → OnOk result (Holds (P.history station.new) (HoldsSame (now (P.history station.old)))) }
     ensures fault { P.tells → IfErr result (λ stop. StopTells stop (now (P.history station.old))) }
     ensures disk_later { P.disk_faults station.old ≤ P.disk_faults station.new }
     ensures disk_failed { IsErrOf result DiskFault → Rises (P.disk_faults station.old) (P.disk_faults station.new) }
