@@ -1,6 +1,6 @@
 -- The newest version of a workspace, told by the last number under it.
-use Rattle.std.proofs.Common.{◌≡◌, ℕ, ◌≤◌, ◌==◌, Bool, true, false, cond, ◌&&◌, ◌||◌, max, List, [], ◌∷◌, Option, Some, None, unwrap_or, refl, sym, ap, ◌∙◌, arith, ◌⊎◌, inl, inr}
-use Rattle.std.proofs.lemmas.Bool.{eq-eqb, eqb-true}
+use Rattle.std.proofs.Common.{◌≡◌, ℕ, ◌<◌, ◌≤◌, ◌==◌, Bool, true, false, cond, ◌&&◌, ◌||◌, max, List, [], ◌∷◌, Option, Some, None, unwrap_or, refl, sym, ap, ◌∙◌, arith, ◌⊎◌, inl, inr}
+use Rattle.std.proofs.lemmas.Bool.{cases_lt, eq-eqb, eqb-true}
 use Rattle.std.specs.BTreeMap.{BTreeMap}
 use Rattle.std.specs.List.{filter, filter_map, list_any}
 use Rattle.std.specs.List.Sorted.{IsStrictlySortedBy}
@@ -61,16 +61,13 @@ greatest_there (v ∷ vs) = by_rest (greatest_there vs)
         later true e = refl
         later false e = e
 
-    by_order : (v.number ≤ greatest vs) ⊎ (greatest vs ≤ v.number) → is_numbered vs (greatest vs) ≡ true → is_numbered (v ∷ vs) (max v.number (greatest vs)) ≡ true
-    by_order (inl le) found = at (greatest vs) (omega (arith, le)) (inr found)
+    by_order : (v.number < greatest vs) ⊎ (greatest vs ≤ v.number) → is_numbered vs (greatest vs) ≡ true → is_numbered (v ∷ vs) (max v.number (greatest vs)) ≡ true
+    by_order (inl lt) found = at (greatest vs) (omega (arith, lt)) (inr found)
     by_order (inr le) found = at v.number (omega (arith, le)) (inl refl)
 
     by_rest : (is_numbered vs (greatest vs) ≡ true) ⊎ (greatest vs ≡ 0) → (is_numbered (v ∷ vs) (max v.number (greatest vs)) ≡ true) ⊎ (max v.number (greatest vs) ≡ 0)
-    by_rest (inl found) = inl (by_order (either v.number (greatest vs)) found)
+    by_rest (inl found) = inl (by_order (cases_lt v.number (greatest vs)) found)
     by_rest (inr zero) = inl (at v.number (omega (arith, zero)) (inl refl))
-
-    either : (m n : ℕ) → (m ≤ n) ⊎ (n ≤ m)
-    either m n = omega arith
 
 -- the last of the numbers is the greatest
 last_greatest : (vs : List Version) (o : Option ℕ) → LastOf (is_numbered vs) o → unwrap_or o 0 ≡ greatest vs
