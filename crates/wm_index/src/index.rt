@@ -12,9 +12,9 @@ use std::collections::BTreeMap;
 use wm_base::Memory;
 use wm_spec::record::{PieceRecord, Record, Savepoint, Space, Trace, Turn, Version};
 
-/// Ids in ascending order: of the counters, the tables and the workspaces; of workspaces and versions by number;
-/// of the versions of a workspace, by number, and of those under a version; of the savepoints of a workspace, by making, of
-/// those that keep a version, and of those of workspaces with a parent that see a version under their workspace's
+/// Ids in ascending order: of the counters, the tables and the workspaces; of workspaces and versions by number; of
+/// the versions of a workspace, by number, and of those under a version; of the savepoints of a workspace, by making,
+/// of those that keep a version, and of those of workspaces with a parent that see a version under their workspace's
 /// own; of the workspaces with a parent that were born from a version, or see it under their own; of rows by stamp;
 /// of pieces and of touches by table and key; of the pieces of a version; of the records that are a workspace's own;
 /// of touches by workspace and position, and of turns by workspace and number.
