@@ -2,7 +2,7 @@
 use Rattle.std.proofs.Common.{ℕ, ◌≡◌, ◌⊎◌, ⊎_elim, inl, inr, ◌==◌, true, List, [], ◌∷◌, ◌++◌, refl, ap, sym, subst, ◌∙◌, append-nil}
 use Rattle.std.specs.Prelude.{Result, Ok, Err, OnOk, OnErr, IfErr}
 use Rattle.std.specs.List.{list_any}
-use Rattle.wm_engine.specs.Working.{HoldsSorted}
+use Rattle.wm_engine.specs.Working.{HoldsSorted, IsSound}
 use Rattle.wm_spec.specs.declared.record.stored.Stored.{Stored}
 use Rattle.wm_station.specs.History.{History, now, said, moment}
 use Rattle.wm_station.specs.Moments.{During, Holds}
@@ -38,7 +38,7 @@ pub front_none : (old new : History) → said new ≡ said old → HasSaidFront 
 front_none old new quiet = record { front = []; says = quiet ∙ sym (append-nil (said old)); rest = ok_text; is = refl }
 
 checks_none : (old : History) (file after : List ℕ) → OpensAs old file after → CrashChecks old file after
-checks_none old file after opens = record { kept = opens.0; front = []; said_is = opens.1 ∙ sym (append-nil (said old)); rest = ok_text; is = refl }
+checks_none old file after opens = record { kept = opens.0; front = []; said_is = opens.1 ∙ sym (append-nil (said old)); rest = ok_text; is = refl; opened = inl refl }
 
 pub crash_unchecked : (old new : History) → During old new (OpensAs old) → During old new (CrashChecks old)
 crash_unchecked old new opening = weaken old new (OpensAs old) (CrashChecks old) (checks_none old) opening
@@ -48,8 +48,8 @@ crash_unread h = during_begun h (CrashChecks h) (λ file leaves. checks_none h f
 
 -- ---- a crash while it is said that the store is in order
 
-pub crash_checked : (old begun new : History) (piece : List ℕ) → piece ≡ ok_text → said begun ≡ said old → During old begun (OpensAs old) → During begun new (CrashSays begun piece) → During old new (CrashChecks old)
-crash_checked old begun new piece is quiet opening says =
+pub crash_checked : (old begun new : History) (piece : List ℕ) → piece ≡ ok_text → said begun ≡ said old → IsSound (now old) → Holds begun (HoldsSame (now old)) → During old begun (OpensAs old) → During begun new (CrashSays begun piece) → During old new (CrashChecks old)
+crash_checked old begun new piece is quiet sound same opening says =
     weaken old new (λ file after. OpensAs old file after ⊎ CrashSays begun piece file after) (CrashChecks old) (λ file after. ⊎_elim (checks_none old file after) (checks_some file after))
     (followed old begun new (OpensAs old) (CrashSays begun piece) opening says) where
       checks_some : (file after : List ℕ) → CrashSays begun piece file after → CrashChecks old file after
@@ -59,6 +59,7 @@ crash_checked old begun new piece is quiet opening says =
         said_is = some.said_is ∙ ap (λ (b : List ℕ). b ++ some.front) quiet;
         rest = some.rest;
         is = sym is ∙ some.is;
+        opened = inr (sound, same.left file some.leaves);
       }
 
 -- ---- statuses

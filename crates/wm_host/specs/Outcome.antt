@@ -63,13 +63,15 @@ pub record HoldsSame (old file : List ℕ) : Type 0 where
   pub before : HoldsSorted old records
   pub holds : HoldsSorted file records
 
--- what a stop within `check` leaves: a file that one before could, or one that holds what the file held; and a front of `OK` was said
+-- what a stop within `check` leaves: a file that one before could, or one that holds what the file held; and a front of `OK` was
+-- said. Where any of it was said, the file was a store whose records keep the rules, and what is left holds the same records
 pub record CrashChecks (old : History) (file after : List ℕ) : Type 0 where
   pub kept : Leaves old file ⊎ HoldsAs (now old) file
   pub front : List ℕ
   pub said_is : after ≡ said old ++ front
   pub rest : List ℕ
   pub is : ok_text ≡ front ++ rest
+  pub opened : (front ≡ []) ⊎ (IsSound (now old) × HoldsSame (now old) file)
 
 -- a front of the script was taken, of at most so many bytes
 pub record TakesAtMost (limit : ℕ) (script left : List ℕ) : Type 0 where
