@@ -18,6 +18,7 @@ ghost use Rattle.wm_print.specs.Texts.{Refused};
 ghost use Rattle.wm_station.specs.Cause.{Rises};
 ghost use Rattle.wm_station.specs.History.{now, said, Leaves, Synced};
 ghost use Rattle.wm_journal.specs.Disk.{is_made};
+ghost use Rattle.wm_journal.specs.Store.{Settles};
 ghost use Rattle.wm_store.specs.Opened.{HoldsAs};
 ghost use Rattle.wm_graph.specs.Parts.{parts_of};
 ghost use Rattle.wm_graph.specs.Rules.{keep_rules};
@@ -104,6 +105,8 @@ impl Engine {
         // Whatever the file was, its pages are held as they were, now and after a crash at any moment.
         ensures pages { P.tells → HoldsAs (now (P.history station.old)) (now (P.history station.new)) }
         ensures pages_any_moment { P.tells → During (P.history station.old) (P.history station.new) (λ c out. (Leaves (P.history station.old) c ⊎ HoldsAs (now (P.history station.old)) c) × (out ≡ said (P.history station.old))) }
+        // It syncs first, and a crash behind that leaves a file whose pages are held as they were.
+        ensures settles { P.tells → Settles (P.history station.old) (P.history station.new) (HoldsAs (now (P.history station.old))) }
         // One that is no store, or whose page 0 is short, of another format or has no journal in order, was only synced.
         ensures synced { P.tells → IfErr result (λ e. LeavesAlone e → P.history station.new ≡ Synced (P.history station.old)) }
         ensures later { P.disk_faults station.old ≤ P.disk_faults station.new }

@@ -1,12 +1,13 @@
 -- What a run did with a script whose lines are answered from a state.
 use Rattle.std.specs.Prelude.{ℕ, ◌≡◌, ◌≤◌, ◌⊎◌, List, ◌∷◌, [], ◌++◌, length, Option, None, Some, codes}
 use Rattle.wm_engine.specs.Working.{FileStands, HoldsSorted, IsSound, LeavesAlone, Tells}
-use Rattle.wm_station.specs.History.{History, now, said, Leaves}
+use Rattle.wm_station.specs.History.{History, Synced, now, said, Leaves}
 use Rattle.wm_station.specs.Moments.{During, Holds}
 use Rattle.wm_model.specs.Lines.{ended_lines}
 use Rattle.wm_state.specs.State.{State, begin}
 use Rattle.wm_model.specs.Running.{transcript, after, Stopped}
 use Rattle.wm_base.specs.declared.fault.OpenFault.TheVariants.{Damaged}
+use Rattle.wm_host.specs.Saying.{OnlySaid}
 use Rattle.wm_host.specs.declared.ended.Place.{Place}
 use Rattle.wm_host.specs.declared.ended.Place.TheVariants.{Nowhere, Page}
 use Rattle.wm_store.specs.Opened.{HoldsAs}
@@ -63,13 +64,20 @@ pub record HoldsSame (old file : List ℕ) : Type 0 where
   pub before : HoldsSorted old records
   pub holds : HoldsSorted file records
 
--- what a stop within `check` leaves: a file that one before could, or one that holds what the file held; and a front of `OK` was said
+-- what a stop within `check` leaves: a file that one before could, or one that holds what the file held; and a front of `OK` was
+-- said. Where any of it was said, the file was a store whose records keep the rules, and what is left holds the same records
 pub record CrashChecks (old : History) (file after : List ℕ) : Type 0 where
   pub kept : Leaves old file ⊎ HoldsAs (now old) file
   pub front : List ℕ
   pub said_is : after ≡ said old ++ front
   pub rest : List ℕ
   pub is : ok_text ≡ front ++ rest
+  pub opened : (front ≡ []) ⊎ (IsSound (now old) × HoldsSame (now old) file)
+
+-- nothing was done but that bytes were said; or there was a sync first, and each crash behind it leaves a file that holds what
+-- the file held
+abbrev pub HoldsBehindSync : History → History → Type 0
+HoldsBehindSync old new = ((out : List ℕ) × OnlySaid old new out) ⊎ During (Synced old) new (λ file after. HoldsAs (now old) file)
 
 -- a front of the script was taken, of at most so many bytes
 pub record TakesAtMost (limit : ℕ) (script left : List ℕ) : Type 0 where

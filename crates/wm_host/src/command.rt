@@ -10,7 +10,7 @@ ghost use Rattle.wm_station.specs.Moments.{During, Holds};
 ghost use Rattle.wm_journal.specs.Disk.{is_made};
 ghost use Rattle.wm_store.specs.Opened.{HoldsAs};
 ghost use Rattle.wm_host.specs.Crash.{CrashOfRun, CrashAnswers};
-ghost use Rattle.wm_host.specs.Outcome.{CrashChecks, HasSaid, HasSaidFront, HoldsSame, Answered, AnswersSome, AnswersEnded, IsDamaged, IsPage, IsUnwritten, StaysSound, TakesAtMost, OfCheck, OfInit, OfRun, FromEach, FrontOfRun, ok_text, statuses_of};
+ghost use Rattle.wm_host.specs.Outcome.{CrashChecks, HasSaid, HasSaidFront, HoldsBehindSync, HoldsSame, Answered, AnswersSome, AnswersEnded, IsDamaged, IsPage, IsUnwritten, StaysSound, TakesAtMost, OfCheck, OfInit, OfRun, FromEach, FrontOfRun, ok_text, statuses_of};
 ghost use Rattle.wm_words.specs.Words.{command_of as command_in};
 
 use crate::check::check;
@@ -87,7 +87,7 @@ pub fn run<S: Source, P: Station>(
     // `check`. Status 0: the store was opened, and the whole of `OK` was said; else a front of it, and nothing where the
     // disk failed. Where it was opened, which statuses 0 and 4 say, the file was a store whose records keep the rules, and
     // what a read gives and each crash from then on leaves holds the same records. Whatever the status, the pages are
-    // held as they were, also by what a crash within it leaves, and the source is not touched.
+    // held as they were, also by what a crash within it leaves, and, once there was a sync, by each. The source is not touched.
     ensures check_done { result.status ≡ 0 → P.tells → OfCheck (command_in (map string_bytes words.now)) (HasSaid (P.history station.old) (P.history station.new) ok_text) }
     ensures check_front { P.tells → OfCheck (command_in (map string_bytes words.now)) (HasSaidFront (P.history station.old) (P.history station.new) ok_text) }
     ensures check_unsaid { result.status ≡ 5 → P.tells → OfCheck (command_in (map string_bytes words.now)) (said (P.history station.new) ≡ said (P.history station.old)) }
@@ -95,6 +95,7 @@ pub fn run<S: Source, P: Station>(
     ensures check_same { (result.status ≡ 0) ⊎ (result.status ≡ 4) → P.tells → OfCheck (command_in (map string_bytes words.now)) (Holds (P.history station.new) (HoldsSame (now (P.history station.old)))) }
     ensures check_pages { P.tells → OfCheck (command_in (map string_bytes words.now)) (HoldsAs (now (P.history station.old)) (now (P.history station.new))) }
     ensures check_crash { P.tells → OfCheck (command_in (map string_bytes words.now)) (During (P.history station.old) (P.history station.new) (CrashChecks (P.history station.old))) }
+    ensures check_behind_sync { P.tells → OfCheck (command_in (map string_bytes words.now)) (HoldsBehindSync (P.history station.old) (P.history station.new)) }
     ensures check_source { OfCheck (command_in (map string_bytes words.now)) ((source.new ≡ source.old) × (result.lines ≡ 0)) }
 
     // Status 6: the file is no store, stays as it is, and is only synced. Status 7: the first test of opening that fails is

@@ -5,7 +5,7 @@ use Rattle.wm_state.specs.State.{begin}
 use Rattle.wm_host.specs.Outcome.{FromEach, FrontOfRun}
 use Rattle.wm_words.specs.declared.command.Command.{Command}
 use Rattle.wm_words.specs.Words.{command_of as command_in}
-use Rattle.wm_host.proofs.Checking.{crash_unread, front_none}
+use Rattle.wm_host.proofs.Checking.{crash_unread, front_none, settled_unread}
 use Rattle.wm_host.proofs.Ending.{counted_unopened, front_of_answers, stands_unopened, takes_none}
 use Rattle.wm_host.proofs.Unread.{crash_unread_run, each_check, each_init, each_run, front_unread, holds_itself, sound_unread, status_of_any}
 use Rattle.wm_host.proofs.command.run.Goals as goal
@@ -65,6 +65,9 @@ returns-in_default-clause-check_pages g c = λ t. each_check (command_in (map st
 
 pub returns-in_default-clause-check_crash : goal.returns-in_default-clause-check_crash
 returns-in_default-clause-check_crash g c = λ t. each_check (command_in (map string_bytes c.args.words.now)) _ (crash_unread (g.P.Station.history c.args.station.now))
+
+pub returns-in_default-clause-check_behind_sync : goal.returns-in_default-clause-check_behind_sync
+returns-in_default-clause-check_behind_sync g c = λ t. each_check (command_in (map string_bytes c.args.words.now)) _ (settled_unread (g.P.Station.history c.args.station.now))
 
 pub returns-in_default-clause-check_source : goal.returns-in_default-clause-check_source
 returns-in_default-clause-check_source g c = each_check (command_in (map string_bytes c.args.words.now)) _ (refl, c.unread.ensures.lines)
