@@ -73,11 +73,14 @@ pub record CrashChecks (old : History) (file after : List ℕ) : Type 0 where
   pub rest : List ℕ
   pub is : ok_text ≡ front ++ rest
   pub opened : (front ≡ []) ⊎ (IsSound (now old) × HoldsSame (now old) file)
+<<<<<<< HEAD
 
 -- nothing was done but that bytes were said; or there was a sync first, and each crash behind it leaves a file that holds what
 -- the file held
 abbrev pub HoldsBehindSync : History → History → Type 0
 HoldsBehindSync old new = ((out : List ℕ) × OnlySaid old new out) ⊎ During (Synced old) new (λ file after. HoldsAs (now old) file)
+=======
+>>>>>>> origin/room
 
 -- a front of the script was taken, of at most so many bytes
 pub record TakesAtMost (limit : ℕ) (script left : List ℕ) : Type 0 where

@@ -4,6 +4,7 @@ pub mod Loading
 pub mod Twice
 pub mod Newest
 pub mod Walking
+pub mod Latest
 pub mod Falling
 pub mod Along
 pub mod Naming

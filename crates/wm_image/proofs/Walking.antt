@@ -8,7 +8,7 @@ use Rattle.std.specs.List.{filter, filter_map, list_all, cons_option}
 use Rattle.std.specs.Option.{IsSome, option_map, option_map_or, option_or, option_and_then}
 use Rattle.std.specs.Ordering.{is_eq}
 use Rattle.wm_base.specs.Key.{key_order}
-use Rattle.wm_graph.specs.Parts.{Parts, parts_of, version_of, space_of, as_piece, as_version}
+use Rattle.wm_graph.specs.Parts.{Parts, parts_of, version_of, space_of, as_piece}
 use Rattle.wm_graph.specs.Rules.{keep_rules, is_version, is_version_of, stands_under}
 use Rattle.wm_period.specs.Pieces.{Held}
 use Rattle.wm_spec.specs.Lists.{Cell}
@@ -19,17 +19,17 @@ use Rattle.wm_spec.specs.declared.record.piece.PieceRecord.{PieceRecord}
 use Rattle.wm_spec.specs.declared.record.space.Space.{Space}
 use Rattle.wm_spec.specs.declared.record.stored.Stored.{Stored}
 use Rattle.wm_spec.specs.declared.record.version.Version.{Version}
-use Rattle.wm_state.specs.Standing.{newest_first, node_of, seen_at, stored_at, held_by, latest, seen}
+use Rattle.wm_state.specs.Standing.{newest_first, node_of, seen_at, stored_at, held_by, seen}
 use Rattle.wm_state.proofs.Apart.{ruled_versions, ruled as all_ruled}
 use Rattle.wm_tree.specs.Versions.{version_in, path_in, IsTree}
 use Rattle.wm_tree.specs.declared.version.Version.{Version as Node}
 use Rattle.wm_tree.proofs.Paths.{found, path_in-there, path_in-none}
-use Rattle.wm_index.proofs.Finding.{all_of, all_sought, filter-kind, versions_test}
-use Rattle.wm_image.proofs.Newest.{both, Stands, AllStand, AllStand-grow, tree_of, Descends-newest, version_in-newest, latest_in-greatest}
+use Rattle.wm_index.proofs.Finding.{all_of, all_sought}
+use Rattle.wm_image.proofs.Newest.{both, Stands, AllStand, AllStand-grow, tree_of, Descends-newest, version_in-newest}
 use Rattle.wm_index.specs.Indexed.{IsIndexed, ids_at, listed}
-use Rattle.wm_index.specs.Kinds.{kind_at, greatest}
+use Rattle.wm_index.specs.Kinds.{kind_at}
 use Rattle.wm_image.specs.Shown.{has_at, held_here, first_held, along}
-use Rattle.wm_index.specs.Sought.{VersionsOf, PiecesAt, is_sought}
+use Rattle.wm_index.specs.Sought.{PiecesAt, is_sought}
 use Rattle.wm_index.specs.declared.index.Index.{Index}
 
 -- ---- the tree of the rules
@@ -160,14 +160,6 @@ held-cons ss id ids v t = by_record (record_at ss id)
 
 -- ---- what an index tells
 
--- the newest version of a workspace
-pub latest_told : (kept : BTreeMap ℕ Record) (x : Index) → IsIndexed kept x → (s : ℕ) → greatest (kind_at as_version (listed kept.entries) (ids_at x (VersionsOf s))) ≡ latest (parts_of (listed kept.entries)) s
-unfolding parts_of
-latest_told kept x is s =
-    ap (λ rs. greatest (filter_map as_version rs)) (all_sought kept x is (VersionsOf s))
-    ∙ ap greatest (filter-kind as_version (λ (v : Version). v.space == s) (is_sought (VersionsOf s)) (versions_test s) (all_of (listed kept.entries)))
-    ∙ sym (latest_in-greatest (filter_map as_version (all_of (listed kept.entries))) s)
-
 -- what versions have of pieces at a cell, by the ids of its table and key alone
 pub along_told : (kept : BTreeMap ℕ Record) (x : Index) → IsIndexed kept x → (path : List ℕ) (c : Cell) (ids : List ℕ) (time : ℕ) → ids ≡ ids_at x (PiecesAt c.table c.key) → time ≡ c.time
     → along (λ v. first_held (kind_at as_piece (listed kept.entries) ids) v time) path ≡ along (λ v. stored_at (parts_of (listed kept.entries)).pieces v c) path
@@ -183,3 +175,15 @@ along_told kept x is path c ids time same moment =
 -- what a version holds at a cell, by its path
 pub seen_along : (p : Parts) (version : ℕ) (c : Cell) (path : List ℕ) → path ≡ path_in (newest_first p.versions) version → along (λ v. stored_at p.pieces v c) path ≡ seen p version c
 seen_along p version c path is = ap (along (λ v. stored_at p.pieces v c)) is ∙ sym (seen_at-along p.pieces c (newest_first p.versions) version)
+
+-- where no version has pieces for the table and key of a cell, none holds anything there
+pub none_seen : (kept : BTreeMap ℕ Record) (x : Index) → IsIndexed kept x → (ss : List Stored) → listed kept.entries ≡ ss → (version : ℕ) (c : Cell) → ids_at x (PiecesAt c.table c.key) ≡ [] → None ≡ seen (parts_of ss) version c
+none_seen kept x is ss view version c none =
+    sym (none_along (path_in (newest_first (parts_of ss).versions) version))
+    ∙ along_told kept x is (path_in (newest_first (parts_of ss).versions) version) c [] c.time (sym none) refl
+    ∙ ap (λ (l : List Stored). along (λ v. stored_at (parts_of l).pieces v c) (path_in (newest_first (parts_of ss).versions) version)) view
+    ∙ seen_along (parts_of ss) version c (path_in (newest_first (parts_of ss).versions) version) refl
+  where
+    none_along : (vs : List ℕ) → along (λ v. first_held (kind_at as_piece (listed kept.entries) []) v c.time) vs ≡ None
+    none_along [] = refl
+    none_along (v ∷ vs) = none_along vs

@@ -318,7 +318,7 @@ impl Image {
         )
     }
 
-    /// All that a version has for a key of a table.
+    /// All that a version has for a key of a table. The path of the version is gone along only where there are pieces.
     pub fn shown(
         &self,
         alloc: Global,
@@ -329,6 +329,9 @@ impl Image {
         requires { keep_rules (parts_of self.now) ≡ true }
         ensures { IfOk result (λ pieces. (t : ℕ) → t < END → held_at pieces t ≡ seen (parts_of self.now) version (record { table = table; key = key.now; time = t })) }
     {
+        if ids_on(&self.index.pieces, table, key).is_empty() {
+            return Ok(Pieces::new(alloc));
+        }
         let path = path_of(alloc, self, version)?;
         let pieces = self.shown_along(alloc, path.as_slice(), table, key)?;
         Ok(pieces)

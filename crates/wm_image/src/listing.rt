@@ -147,9 +147,9 @@ pub fn list_key(alloc: Global, image: &Image, asked: &Asked, key: &Key) -> Resul
     requires { keep_rules (parts_of image.now) ≡ true }
     ensures { IfOk result (λ rows. IsKeyShowing (parts_of image.now) asked.now.version asked.now.table asked.now.valid asked.now.within key.now rows) }
 {
-    let path = path_of(alloc, image, asked.version)?;
+    let pieces = image.shown(alloc, asked.version, asked.table, key)?;
     let mut rows = RowList::new(alloc);
-    push_key(alloc, image, &mut rows, asked, path.as_slice(), key)?;
+    push_rows(alloc, image, &mut rows, asked, pieces.list())?;
     Ok(rows)
 }
 

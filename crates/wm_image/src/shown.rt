@@ -6,14 +6,14 @@ ghost use Rattle.wm_index.specs.Indexed.{IsIndexed, listed};
 ghost use Rattle.wm_state.specs.Standing.{latest};
 
 use wm_index::index::Index;
-use wm_index::keyed::ids_of;
+use wm_index::keyed::last_in;
 use wm_index::records::Kept;
-use wm_index::versions::greatest_of;
 
-/// The newest version of a workspace, 0 where it has none.
+/// The newest version of a workspace, 0 where it has none: the last number that the index has under the workspace.
+/// The records are what it is told of, and are not looked at.
 pub fn latest_of(kept: &Kept, index: &Index, space: u32) -> u64
     requires { IsIndexed kept.now index.now }
     ensures { result ≡ latest (parts_of (listed kept.now.entries)) space }
 {
-    greatest_of(kept, ids_of(&index.versions_of, &space))
+    last_in(&index.versions_in, space)
 }

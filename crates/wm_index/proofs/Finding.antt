@@ -16,7 +16,7 @@ use Rattle.wm_spec.specs.declared.record.stored.Stored.{Stored}
 use Rattle.wm_index.proofs.Listed.{sorted-listed}
 use Rattle.wm_index.proofs.Lists.{first-with, taken-with}
 use Rattle.wm_index.specs.Indexed.{IsIndexed, ids_at, listed}
-use Rattle.wm_index.specs.Sought.{Sought, TheCounters, SpaceAt, VersionAt, VersionsOf, RowAt, is_sought, ids_with, first_of, head_of}
+use Rattle.wm_index.specs.Sought.{Sought, TheCounters, SpaceAt, VersionAt, RowAt, is_sought, ids_with, first_of, head_of}
 use Rattle.wm_index.specs.declared.index.Index.{Index}
 
 -- the records of a list
@@ -66,10 +66,6 @@ space_test n _ = refl
 pub version_test : (n : ℕ) → Tests as_version (λ (v : Version). v.number == n) (is_sought (VersionAt n))
 version_test n (records.Version v) = refl
 version_test n _ = refl
-
-pub versions_test : (n : ℕ) → Tests as_version (λ (v : Version). v.space == n) (is_sought (VersionsOf n))
-versions_test n (records.Version v) = refl
-versions_test n _ = refl
 
 pub row_test : (n : ℕ) → Tests as_row (λ (r : RowRecord). r.stamp == n) (is_sought (RowAt n))
 row_test n (records.Row r) = refl

@@ -3,7 +3,7 @@ use Rattle.std.proofs.Common.{◌≡◌, ℕ, Bool, true, false, cond, ◌&&◌,
 use Rattle.std.proofs.lemmas.Bool.{cases_Bool, cases_eq, eq-eqb, ne_eqb}
 use Rattle.std.proofs.lemmas.Cmp.{nat_cmp_total, tied_itself}
 use Rattle.std.proofs.lemmas.Map.Lookups.{exact_unsigned}
-use Rattle.std.specs.BTreeMap.{is_at}
+use Rattle.std.specs.BTreeMap.{BTreeMap, is_at}
 use Rattle.std.specs.Cmp.{Equal-is}
 use Rattle.std.specs.Map.{lookup}
 use Rattle.std.specs.Option.{option_map, unwrap_or}
@@ -27,8 +27,8 @@ is_at-number m n = by_number (cases_eq m n)
         no_tie (inl tie) = absurd (apart (exact_unsigned m n ((Equal-is (nat_cmp m n)).0 tie)))
         no_tie (inr e) = e
 
--- what a look-up of a table found
-abbrev pub keys_found : Option Keyed → List (List Value × Vec ℕ Global)
+-- what a look-up of a table or a workspace found
+abbrev pub keys_found : {K : Type 0} → Option (BTreeMap K (Vec ℕ Global)) → List (K × Vec ℕ Global)
 keys_found found = unwrap_or (option_map (λ m. m.entries) found) []
 
 -- where keys are tied they are one

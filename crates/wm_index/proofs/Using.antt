@@ -10,6 +10,7 @@ use Rattle.std.specs.List.Sorted.{IsStrictlySortedBy}
 use Rattle.std.specs.Map.{keys_of}
 use Rattle.std.specs.declared.alloc.Global.{Global}
 use Rattle.std.specs.declared.cmp.Ordering.TheVariants.{Less}
+use Rattle.std.specs.declared.cmp.Ordering.{Ordering}
 use Rattle.std.specs.declared.vec.Vec.{Vec}
 use Rattle.wm_base.specs.Key.{key_order}
 use Rattle.wm_base.specs.Orders.{key_order_total}
@@ -99,6 +100,6 @@ keys_told kept x is table es here sorted k =
     ∙ ap (λ ids. not (is_nil ids)) (is.told (PiecesAt table k))
     ∙ some_ids (is_sought (PiecesAt table k)) (listed kept.entries)
 
-pub no_keys : IsStrictlySortedBy key_order []
+pub no_keys : {K : Type 0} (cmp : K → K → Ordering) → IsStrictlySortedBy cmp []
 unfolding IsStrictlySortedBy
-no_keys = tt
+no_keys cmp = tt

@@ -5,7 +5,7 @@ use Rattle.std.specs.List.Sorted.{IsStrictlySortedBy}
 use Rattle.std.specs.Ordering.{nat_cmp}
 use Rattle.wm_spec.specs.declared.record.Record.{Record}
 use Rattle.wm_spec.specs.declared.record.stored.Stored.{Stored}
-use Rattle.wm_index.specs.Sought.{Sought, TheCounters, Tables, Spaces, SpaceAt, VersionAt, VersionsOf, VersionsUnder, SavepointsOf, SavepointAt, KeptAs, KeptUnder, BornAs, SeenUnder, RowAt, PiecesAt, TouchesAt, PiecesIn, OwnedBy, TouchAt, TurnAt, is_sought, ids_with, placed, without, ids_in, pair_order, piece_ids}
+use Rattle.wm_index.specs.Sought.{Sought, TheCounters, Tables, Spaces, SpaceAt, VersionAt, VersionIn, VersionsUnder, SavepointsOf, SavepointAt, KeptAs, KeptUnder, BornAs, SeenUnder, RowAt, PiecesAt, TouchesAt, PiecesIn, OwnedBy, TouchAt, TurnAt, is_sought, ids_with, placed, without, ids_in, number_ids, pair_order, piece_ids}
 use Rattle.wm_index.specs.declared.index.Index.{Index}
 
 -- the ids that an index has of what is sought
@@ -15,7 +15,7 @@ ids_at x Tables = x.tables.items
 ids_at x Spaces = x.all_spaces.items
 ids_at x (SpaceAt number) = ids_in nat_cmp x.spaces.entries number
 ids_at x (VersionAt number) = ids_in nat_cmp x.versions.entries number
-ids_at x (VersionsOf space) = ids_in nat_cmp x.versions_of.entries space
+ids_at x (VersionIn space number) = number_ids x.versions_in.entries space number
 ids_at x (VersionsUnder parent) = ids_in nat_cmp x.versions_under.entries parent
 ids_at x (SavepointsOf space) = ids_in nat_cmp x.savepoints_of.entries space
 ids_at x (SavepointAt making) = ids_in nat_cmp x.savepoints.entries making

@@ -16,11 +16,6 @@ abbrev pub greatest : List Version → ℕ
 greatest [] = 0
 greatest (v ∷ vs) = max v.number (greatest vs)
 
--- the greater of a number and that of a version, where there is one
-abbrev pub newer : ℕ → Option Version → ℕ
-newer n None = n
-newer n (Some v) = max n v.number
-
 -- a value, where it passes a test
 abbrev pub passing : {A : Type 0} → (A → Bool) → Option A → Option A
 passing p None = None

@@ -16,7 +16,7 @@ use Rattle.wm_spec.specs.declared.record.Record.TheVariants as records
 use Rattle.wm_spec.specs.declared.record.stored.Stored.{Stored}
 use Rattle.wm_spec.specs.Records.{record_at}
 
--- counters; tables; workspaces; a workspace or a version by its number; the versions of a workspace, or those under a version;
+-- counters; tables; workspaces; a workspace or a version by its number; a workspace's version of a number, or the versions under one;
 -- the savepoints of a workspace, one by its making, those that keep a version, or those of workspaces with a number above 0 that see
 -- a version under their workspace's own; workspaces with a number above 0 that were born from a version, or see it under their own; a
 -- row by its stamp; the pieces on a table and a key, or the touches; the pieces of a version; whatever is a workspace's own: itself, its
@@ -28,7 +28,7 @@ pub data Sought : Type 0 where
   Spaces : Sought
   SpaceAt : ℕ → Sought
   VersionAt : ℕ → Sought
-  VersionsOf : ℕ → Sought
+  VersionIn : ℕ → ℕ → Sought
   VersionsUnder : ℕ → Sought
   SavepointsOf : ℕ → Sought
   SavepointAt : ℕ → Sought
@@ -51,7 +51,7 @@ is_sought Tables (records.Table r) = true
 is_sought Spaces (records.Space r) = true
 is_sought (SpaceAt number) (records.Space r) = r.number == number
 is_sought (VersionAt number) (records.Version r) = r.number == number
-is_sought (VersionsOf space) (records.Version r) = r.space == space
+is_sought (VersionIn space number) (records.Version r) = (r.space == space) && (r.number == number)
 is_sought (VersionsUnder parent) (records.Version r) = r.parent == parent
 is_sought (SavepointsOf space) (records.Savepoint r) = r.space == space
 is_sought (SavepointAt making) (records.Savepoint r) = r.making == making
@@ -115,12 +115,21 @@ has_since space from id e = (e.0.0 == space) && (nat_le from e.0.1 && list_any (
 abbrev pub Keyed : Type 0
 Keyed = BTreeMap (List Value) (Vec ℕ Global)
 
-abbrev pub keyed_at : List (ℕ × Keyed) → ℕ → List (List Value × Vec ℕ Global)
-keyed_at tables table = unwrap_or (option_map (λ m. m.entries) (lookup (is_at (nat_cmp table)) tables)) []
+-- the ids by number of a workspace
+abbrev pub Numbered : Type 0
+Numbered = BTreeMap ℕ (Vec ℕ Global)
+
+-- the ids that stand under a table or a workspace, by key or number
+abbrev pub keyed_at : {K : Type 0} → List (ℕ × BTreeMap K (Vec ℕ Global)) → ℕ → List (K × Vec ℕ Global)
+keyed_at maps place = unwrap_or (option_map (λ m. m.entries) (lookup (is_at (nat_cmp place)) maps)) []
 
 -- the ids under a table and a key
 abbrev pub piece_ids : List (ℕ × Keyed) → ℕ → List Value → List ℕ
 piece_ids tables table key = ids_in key_order (keyed_at tables table) key
+
+-- the ids under a workspace and a number
+abbrev pub number_ids : List (ℕ × Numbered) → ℕ → ℕ → List ℕ
+number_ids spaces space number = ids_in nat_cmp (keyed_at spaces space) number
 
 -- the ids when the record of an id goes
 abbrev pub ids_less : (Record → Bool) → ℕ → Option Record → List ℕ → List ℕ

@@ -6,15 +6,15 @@ ghost use Rattle.wm_index.specs.Sought.{Sought};
 ghost use Rattle.wm_spec.specs.declared.record.Record.TheVariants as records;
 
 use crate::ids::{add_id, drop_id};
-use crate::keyed::{Ids, TableIds, add_on, add_to, drop_from, drop_on};
+use crate::keyed::{Ids, NumberIds, TableIds, add_in, add_on, add_to, drop_from, drop_in, drop_on};
 use std::alloc::Global;
 use std::collections::BTreeMap;
 use wm_base::Memory;
 use wm_spec::record::{PieceRecord, Record, Savepoint, Space, Trace, Turn, Version};
 
-/// Ids in ascending order: of the counters, the tables and the workspaces; of workspaces and versions by number;
-/// of the versions of a workspace, and of those under a version; of the savepoints of a workspace, by making, of
-/// those that keep a version, and of those of workspaces with a parent that see a version under their workspace's
+/// Ids in ascending order: of the counters, the tables and the workspaces; of workspaces and versions by number; of
+/// the versions of a workspace, by number, and of those under a version; of the savepoints of a workspace, by making,
+/// of those that keep a version, and of those of workspaces with a parent that see a version under their workspace's
 /// own; of the workspaces with a parent that were born from a version, or see it under their own; of rows by stamp;
 /// of pieces and of touches by table and key; of the pieces of a version; of the records that are a workspace's own;
 /// of touches by workspace and position, and of turns by workspace and number.
@@ -25,7 +25,7 @@ pub struct Index {
     pub all_spaces: Vec<u64>,
     pub spaces: Ids<u32>,
     pub versions: Ids<u64>,
-    pub versions_of: Ids<u32>,
+    pub versions_in: NumberIds,
     pub versions_under: Ids<u64>,
     pub savepoints_of: Ids<u32>,
     pub savepoints: Ids<u64>,
@@ -53,7 +53,7 @@ impl Index {
             all_spaces: Vec::new(alloc),
             spaces: BTreeMap::new(alloc),
             versions: BTreeMap::new(alloc),
-            versions_of: BTreeMap::new(alloc),
+            versions_in: BTreeMap::new(alloc),
             versions_under: BTreeMap::new(alloc),
             savepoints_of: BTreeMap::new(alloc),
             savepoints: BTreeMap::new(alloc),
@@ -114,7 +114,13 @@ impl Index {
     {
         add_to(alloc, &mut self.owned, version.space, id)?;
         add_to(alloc, &mut self.versions, version.number, id)?;
-        add_to(alloc, &mut self.versions_of, version.space, id)?;
+        add_in(
+            alloc,
+            &mut self.versions_in,
+            version.space,
+            version.number,
+            id,
+        )?;
         add_to(alloc, &mut self.versions_under, version.parent, id)
     }
 
@@ -214,7 +220,7 @@ impl Index {
     {
         drop_from(&mut self.owned, version.space, id)?;
         drop_from(&mut self.versions, version.number, id)?;
-        drop_from(&mut self.versions_of, version.space, id)?;
+        drop_in(&mut self.versions_in, version.space, version.number, id)?;
         drop_from(&mut self.versions_under, version.parent, id)
     }
 

@@ -1,6 +1,6 @@
 //! Ids under keys.
 
-ghost use Rattle.std.specs.Prelude.{◌≡◌, ℕ, ◌==◌, ◌&&◌, List, [], ◌∷◌, ◌++◌, if◌then◌else◌, IfOk, OnOk};
+ghost use Rattle.std.specs.Prelude.{◌≡◌, unwrap_or, ℕ, ◌==◌, ◌&&◌, List, [], ◌∷◌, ◌++◌, if◌then◌else◌, IfOk, OnOk};
 ghost use Rattle.std.specs.List.{list_any};
 ghost use Rattle.std.specs.BTreeMap.{IsOrdered};
 ghost use Rattle.std.specs.List.Sorted.{IsStrictlySortedBy};
@@ -9,7 +9,7 @@ ghost use Rattle.std.specs.Option.{option_copied};
 ghost use Rattle.std.specs.Ordering.{is_eq, nat_cmp};
 ghost use Rattle.wm_base.specs.Key.{key_order};
 ghost use Rattle.wm_base.specs.declared.value.Value.{Value};
-ghost use Rattle.wm_index.specs.Sought.{placed, without, has_since, ids_in, keyed_at, last_used, pair_order, piece_ids, used};
+ghost use Rattle.wm_index.specs.Sought.{placed, without, has_since, ids_in, keyed_at, last_used, number_ids, pair_order, piece_ids, used};
 
 use crate::ids::{add_id, drop_id};
 use std::alloc::Global;
@@ -19,6 +19,9 @@ use wm_base::{Key, Memory};
 pub type Ids<K> = BTreeMap<K, Vec<u64>>;
 
 pub type TableIds = BTreeMap<u16, Ids<Key>>;
+
+/// Ids by workspace, and in it by number.
+pub type NumberIds = BTreeMap<u32, Ids<u64>>;
 
 /// The ids under a key.
 pub fn ids_of<'a, K: Ord>(map: &'a Ids<K>, key: &K) -> &'a [u64]
@@ -136,6 +139,49 @@ pub fn drop_on(
     drop_from(&mut keys, key, id)?;
     tables.insert(table, keys)?;
     Ok(())
+}
+
+/// Puts an id under a workspace and a number, where those there ascend.
+pub fn add_in(
+    alloc: Global,
+    spaces: &mut NumberIds,
+    space: u32,
+    number: u64,
+    id: u64,
+) -> Result<(), Memory>
+    requires { IsStrictlySortedBy nat_cmp (number_ids spaces.old.entries space number) }
+    ensures { OnOk result ((s n : ℕ) → number_ids spaces.new.entries s n ≡ (if (space == s) && (number == n) then placed id (number_ids spaces.old.entries s n) else number_ids spaces.old.entries s n)) }
+{
+    let mut numbers = spaces.remove(&space).unwrap_or(BTreeMap::new(alloc));
+    add_to(alloc, &mut numbers, number, id)?;
+    spaces.insert(space, numbers)?;
+    Ok(())
+}
+
+/// Takes an id from under a workspace and a number, where those there ascend. A workspace that has none left goes.
+pub fn drop_in(spaces: &mut NumberIds, space: u32, number: u64, id: u64) -> Result<(), Memory>
+    requires { IsStrictlySortedBy nat_cmp (number_ids spaces.old.entries space number) }
+    ensures { OnOk result ((s n : ℕ) → number_ids spaces.new.entries s n ≡ (if (space == s) && (number == n) then without id (number_ids spaces.old.entries s n) else number_ids spaces.old.entries s n)) }
+{
+    let Some(mut numbers) = spaces.remove(&space) else {
+        return Ok(());
+    };
+    drop_from(&mut numbers, number, id)?;
+    if !numbers.is_empty() {
+        spaces.insert(space, numbers)?;
+    }
+    Ok(())
+}
+
+/// The last number of a workspace that has ids, 0 where none has.
+pub fn last_in(spaces: &NumberIds, space: u32) -> u64
+    ensures last { result ≡ unwrap_or (last_used (keyed_at spaces.now.entries space)) 0 }
+    ensures ordered { IsStrictlySortedBy nat_cmp (keys_of (keyed_at spaces.now.entries space)) }
+{
+    match spaces.get(&space) {
+        Some(numbers) => last_key(numbers).copied().unwrap_or(0),
+        None => 0,
+    }
 }
 
 /// Puts a copy of a key that has ids behind others.

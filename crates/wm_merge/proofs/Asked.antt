@@ -1,10 +1,10 @@
 -- What is asked before the edits of a refresh, where nothing refuses it and its entries can be written again.
-use Rattle.std.proofs.Common.{◌≡◌, ℕ, ◌+◌, ◌≤◌, ◌==◌, nat_lt, Bool, true, false, not, ◌&&◌, if◌then◌else◌, List, [], ◌∷◌, ◌++◌, map, length, max, Option, Some, None, refl, sym, ap, ◌∙◌, subst, arith}
+use Rattle.std.proofs.Common.{◌≡◌, ℕ, ◌+◌, ◌≤◌, ◌==◌, nat_lt, Bool, true, false, if◌then◌else◌, List, [], ◌∷◌, map, length, Option, Some, refl, ap, ◌∙◌, arith}
 use Rattle.std.proofs.lemmas.Bool.{ne_eqb}
 use Rattle.std.proofs.lemmas.Bool.Decides.{nat_tests}
-use Rattle.std.proofs.lemmas.List.{length-append, length-map}
+use Rattle.std.proofs.lemmas.List.{length-map}
 use Rattle.std.proofs.lemmas.List.Elements.{All-weaker}
-use Rattle.std.specs.List.{list_all, list_any}
+use Rattle.std.specs.List.{list_all}
 use Rattle.std.specs.declared.alloc.Global.{Global}
 use Rattle.std.specs.declared.vec.Vec.{Vec}
 use Rattle.wm_base.specs.declared.instant.TheConstants.{END}
@@ -17,7 +17,7 @@ use Rattle.wm_spec.specs.declared.record.space.Space.{Space}
 use Rattle.wm_spec.specs.declared.record.stored.Stored.{Stored}
 use Rattle.wm_state.specs.ById.{Ascend}
 use Rattle.wm_state.specs.Copied.{KeyPieces}
-use Rattle.wm_state.specs.Drafts.{AreOld, CanDraft, CanEditAll, CanGain, CanRebase, CanRemove, CanReplay, CanWork, IsCopied, can_keep_entry, is_turn}
+use Rattle.wm_state.specs.Drafts.{AreOld, CanDraft, CanEditAll, CanGain, CanRebase, CanReplay, CanWork, IsCopied, can_keep_entry}
 use Rattle.wm_state.specs.Editing.{counter_limit, entry_of, line_work}
 use Rattle.wm_state.specs.Standing.{has_history, is_ready}
 use Rattle.wm_state.specs.State.{Session}
@@ -26,21 +26,17 @@ use Rattle.wm_state.specs.declared.edit.Edit.TheVariants as edits
 use Rattle.wm_state.specs.declared.edit.NewEntry.{NewEntry}
 use Rattle.wm_state.proofs.Climbing.{parent_apart}
 use Rattle.wm_state.proofs.Named.{space_number}
-use Rattle.wm_state.proofs.Tests.{all_if, bool_apart, both}
-use Rattle.wm_gained.specs.Merging as edited
-use Rattle.wm_gained.proofs.Merging.{can_merge, can_refresh}
-use Rattle.wm_telling.specs.Telling.{AreFamily, IsHeldListing, gained_held, own_held}
+use Rattle.wm_state.proofs.Tests.{all_if, both}
+use Rattle.wm_gained.proofs.Merging.{can_refresh}
+use Rattle.wm_telling.specs.Telling.{AreFamily, IsHeldListing, gained_held}
 use Rattle.wm_telling.proofs.Replaying.{listed_copied, listed_old}
 use Rattle.wm_telling.proofs.Sorting.{listed_apart, listed_sorted}
-use Rattle.wm_telling.proofs.Storing.{Stores, stores_gained, stores_own}
-use Rattle.wm_model.proofs.RemovingLine.{childless}
+use Rattle.wm_telling.proofs.Storing.{Stores, stores_gained}
 use Rattle.wm_model.proofs.RollingLine.{named_numbered}
-use Rattle.wm_model.specs.Merged.{Merges, NamesFamily, Refreshes, after_edits, gain_edits, is_even_at, is_ready_entry, keep_edits, leaving_refusal, longer_log_at, merge_edits, refresh_edits, replay_edits}
-use Rattle.wm_model.specs.Step.{Asked}
-use Rattle.wm_model.specs.Undone.{removing_refusal}
-use Rattle.wm_merge.proofs.Clear.{MergeClear, can_keep, merge_clear, merge_left, refresh_left}
+use Rattle.wm_model.specs.Merged.{NamesFamily, Refreshes, gain_edits, is_ready_entry, refresh_edits}
+use Rattle.wm_merge.proofs.Clear.{refresh_left}
 use Rattle.wm_merge.proofs.Kept.{keys_kept}
-use Rattle.wm_merge.proofs.Answered.{turn_free}
+use Rattle.wm_merge.proofs.Answered.{listed_test, turn_free}
 use Rattle.wm_merge.proofs.RefreshPlans.{MayRefresh}
 
 -- ---- the workspace and its parent
@@ -64,10 +60,6 @@ other_number rs workspace a b family =
 -- there are some
 pub some_entries : (es : List NewEntry) → (length es == 0) ≡ false → nat_lt 0 (length (map entry_of es)) ≡ true
 some_entries es some = grind (arith, nat_tests, length-map es entry_of, some)
-
--- the log has room for them
-room_left : (log_length : ℕ) (es : List NewEntry) → nat_lt counter_limit (log_length + length es) ≡ false → nat_lt counter_limit (log_length + length (map entry_of es)) ≡ false
-room_left log_length es room = ap (λ n. nat_lt counter_limit (log_length + n)) (length-map es entry_of) ∙ room
 
 module _ (p : Parts) (m : ℕ) (user : List ℕ) (c : Counters) (rules : keep_rules p ≡ true) (one : p.counters ≡ c ∷ []) (short : is_short user ≡ true) (f : Cell → Option Held) (stores : Stores p f) (es : List Entry)
     (listing : IsHeldListing p m user f es) (ready : list_all (is_ready_entry p) es ≡ true) (some : nat_lt 0 (length es) ≡ true) (n : ℕ) (a : Space) (there : space_of p.spaces n ≡ Some a)
@@ -156,4 +148,4 @@ drafts_refresh rs m session workspace a b ks c entries sorted refreshes may room
     by_none false is =
         can_refresh rs m a.number entries sorted rules rebase
         (can_gain (parts_of rs) m session.user c rules one refreshes.user (gained_held (parts_of rs) a b) (stores_gained (parts_of rs) a b) (map entry_of entries.items) refreshes.listed may.ready
-        (some_entries entries.items is) a.number a (named_numbered rs workspace a refreshes.family.space) (room_left a.log_length entries.items room))
+        (some_entries entries.items is) a.number a (named_numbered rs workspace a refreshes.family.space) (listed_test a.log_length entries.items false room))

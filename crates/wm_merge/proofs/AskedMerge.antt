@@ -1,13 +1,11 @@
 -- What is asked before the edits of a merge, where nothing refuses it and its entries can be written again.
-use Rattle.std.proofs.Common.{◌≡◌, ℕ, ◌+◌, ◌≤◌, ◌==◌, nat_lt, Bool, true, false, not, ◌&&◌, if◌then◌else◌, List, [], ◌∷◌, ◌++◌, map, length, max, Option, Some, None, is_some, refl, sym, ap, ◌∙◌, subst, arith}
-use Rattle.std.proofs.lemmas.Bool.Decides.{nat_tests}
+use Rattle.std.proofs.Common.{◌≡◌, ℕ, ◌+◌, ◌≤◌, ◌==◌, nat_lt, Bool, true, false, not, if◌then◌else◌, List, [], ◌∷◌, ◌++◌, map, length, Option, Some, None, is_some, refl, sym, ap, ◌∙◌, subst, arith}
 use Rattle.std.proofs.lemmas.List.{length-append}
 use Rattle.std.specs.declared.alloc.Global.{Global}
 use Rattle.std.specs.declared.vec.Vec.{Vec}
 use Rattle.wm_base.specs.declared.instant.TheConstants.{END}
-use Rattle.wm_graph.specs.Parts.{Parts, parts_of}
+use Rattle.wm_graph.specs.Parts.{parts_of}
 use Rattle.wm_graph.specs.Rules.{keep_rules}
-use Rattle.wm_spec.specs.Lists.{Entry}
 use Rattle.wm_spec.specs.declared.record.counters.Counters.{Counters}
 use Rattle.wm_spec.specs.declared.record.space.Space.{Space}
 use Rattle.wm_spec.specs.declared.record.stored.Stored.{Stored}
@@ -25,7 +23,7 @@ use Rattle.wm_telling.specs.Telling.{gained_held, own_held}
 use Rattle.wm_telling.proofs.Storing.{stores_gained, stores_own}
 use Rattle.wm_model.proofs.RemovingLine.{childless}
 use Rattle.wm_model.proofs.RollingLine.{named_numbered}
-use Rattle.wm_model.specs.Merged.{Merges, after_edits, gain_edits, is_even_at, keep_edits, leaving_refusal, longer_log_at, merge_edits, replay_edits}
+use Rattle.wm_model.specs.Merged.{Merges, after_edits, is_even_at, keep_edits, leaving_refusal, merge_edits, replay_edits}
 use Rattle.wm_model.specs.Step.{Asked}
 use Rattle.wm_model.specs.Undone.{removing_refusal}
 use Rattle.wm_merge.proofs.Asked.{can_draft, can_gain, can_replay, can_work, few_gains, other_number, parent_there, some_entries}

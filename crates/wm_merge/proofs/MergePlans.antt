@@ -1,5 +1,5 @@
 -- What is told of the plans of a merge.
-use Rattle.std.proofs.Common.{◌≡◌, ◌⊎◌, ℕ, ◌+◌, ◌&&◌, ◌||◌, not, nat_lt, max, Bool, true, false, List, map, length, Option, Result, Ok, Err, IfOk, sym, ap, ◌∙◌, arith}
+use Rattle.std.proofs.Common.{◌≡◌, ◌⊎◌, ℕ, ◌+◌, ◌&&◌, not, nat_lt, max, Bool, true, false, List, map, Option, Result, Ok, Err, IfOk, sym, ap, ◌∙◌, arith}
 use Rattle.std.proofs.lemmas.Bool.Decides.{nat_tests}
 use Rattle.std.specs.List.{list_all, list_any}
 use Rattle.wm_base.specs.declared.memory.Memory.{Memory}

@@ -1,8 +1,7 @@
 -- A workspace that is not LIVE, and its parent, whose record is there.
-use Rattle.std.proofs.Common.{◌≡◌, ℕ, ◌<◌, ◌==◌, true, List, Option, Some, None, Bor, is_some, refl, sym, ap, ◌∙◌, arith}
+use Rattle.std.proofs.Common.{◌≡◌, ℕ, ◌<◌, true, List, Option, Some, None, Bor, is_some, refl, sym, ap, ◌∙◌, arith}
 use Rattle.std.specs.Option.{option_copied}
 use Rattle.wm_graph.specs.Parts.{parts_of, space_of}
-use Rattle.wm_graph.specs.Rules.{keep_rules}
 use Rattle.wm_rebased.proofs.RebasingFields.{parent_recorded}
 use Rattle.wm_spec.specs.declared.record.space.Space.{Space}
 use Rattle.wm_spec.specs.declared.record.stored.Stored.{Stored}
@@ -13,9 +12,6 @@ use Rattle.wm_model.specs.Undone.{NamesSpace}
 same_copied : {A : Type 0} (r : Option (Bor A)) (o : Option A) → option_copied r ≡ o → is_some o ≡ true → is_some r ≡ true
 same_copied None o is some = ap is_some is ∙ some
 same_copied (Some x) o is some = refl
-
-pub above_zero : (n : ℕ) → (n ≡ 0 → ⊥) → 0 < n
-above_zero n other = grind (arith, other)
 
 -- the parent is found
 pub parent_found : (rs : List Stored) (workspace : List ℕ) (a : Space) (r : Option (Bor Space)) → NamesSpace rs workspace a → 0 < a.number → option_copied r ≡ space_of (parts_of rs).spaces a.parent → is_some r ≡ true

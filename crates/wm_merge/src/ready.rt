@@ -88,7 +88,7 @@ fn are_keys_kept(own: &[OwnKey]) -> bool
     true
 }
 
-/// Whether a workspace, where it may be rebased once more, has the turn already that this makes.
+/// Whether a workspace that may be rebased once more already has the turn that this makes.
 fn has_next_turn(image: &Image, space: &Space) -> bool
     ensures { result ≡ has_next_turn (parts_of image.now) space.now }
 {

@@ -1,6 +1,6 @@
 -- What is looked up in the records where a workspace is refreshed or merged.
 use Rattle.std.specs.Prelude.{ℕ, ◌≡◌, ◌+◌, ◌<◌, Bool, true, false, ◌&&◌, ◌||◌, ◌==◌, nat_le, nat_lt, if◌then◌else◌, List, [], ◌∷◌, ◌++◌, length, max, Option, Some, None, is_some, codes}
-use Rattle.std.specs.List.{count_by, find, list_all, list_any}
+use Rattle.std.specs.List.{count_by, find, list_all}
 use Rattle.std.specs.Str.{bytes_eq}
 use Rattle.std.specs.declared.alloc.Global.{Global}
 use Rattle.std.specs.declared.vec.Vec.{Vec}
@@ -15,14 +15,14 @@ use Rattle.wm_spec.specs.declared.record.space.Space.{Space}
 use Rattle.wm_spec.specs.declared.record.stored.Stored.{Stored}
 use Rattle.wm_spec.specs.declared.record.table.Table.{Table}
 use Rattle.wm_state.specs.Copied.{KeyPieces}
-use Rattle.wm_state.specs.Drafts.{can_keep, can_keep_entry, is_turn}
+use Rattle.wm_state.specs.Drafts.{can_keep, can_keep_entry}
 use Rattle.wm_state.specs.Points.{implicit_of}
 use Rattle.wm_state.specs.Standing.{is_ready, saved_in}
 use Rattle.wm_state.specs.State.{Session}
 use Rattle.wm_state.specs.declared.edit.Edit.{Edit}
 use Rattle.wm_state.specs.declared.edit.Edit.TheVariants as edits
 use Rattle.wm_state.specs.declared.edit.NewEntry.{NewEntry}
-use Rattle.wm_telling.specs.Telling.{AreOwn, IsFirstClash, IsHeldListing, clash_held, gained_held, own_held}
+use Rattle.wm_telling.specs.Telling.{IsFirstClash, IsHeldListing, clash_held, gained_held, own_held}
 use Rattle.wm_print.specs.Texts.{Answer}
 use Rattle.wm_model.specs.Step.{Asked, at_its_end, first_fault, in_conflict, most_savepoints, number_limit, refused_for, refused_if, savepoint_there, told_period}
 use Rattle.wm_model.specs.Undone.{NamesSpace, removing_refusal}
@@ -87,13 +87,6 @@ pub record Refreshes (rs : List Stored) (m : ℕ) (session : Session) (workspace
   pub clear : refreshing_refusal (parts_of rs) a found ≡ None
   pub listed : IsHeldListing (parts_of rs) m session.user (gained_held (parts_of rs) a b) es
 
--- the entries can be written, what is own can be copied, and the next turn is not there
-pub record CanRefresh (rs : List Stored) (a : Space) (ks : List KeyPieces) (es : List Entry) : Type 0 where
-  pub own : AreOwn (parts_of rs) a ks
-  pub keys : are_keys_kept ks ≡ true
-  pub ready : list_all (is_ready_entry (parts_of rs)) es ≡ true
-  pub unturned : list_any (is_turn a.number (a.rebases + 1)) (parts_of rs).turns ≡ false
-
 -- entries that a log gains, where there are some
 abbrev pub gain_edits : ℕ → Vec NewEntry Global → List Edit
 gain_edits n entries = if length entries.items == 0 then [] else edits.Gain n entries ∷ []
@@ -144,12 +137,6 @@ pub record Merges (rs : List Stored) (m : ℕ) (xs : List Session) (session : Se
   pub clear : merging_refusal asked (parts_of rs) xs a b found own ≡ None
   pub own_listed : IsHeldListing (parts_of rs) m session.user (own_held (parts_of rs) a) own
   pub gained_listed : IsHeldListing (parts_of rs) m session.user (gained_held (parts_of rs) a b) es
-
--- the entries can be written, and the next turn is not there
-pub record CanMerge (rs : List Stored) (a : Space) (own es : List Entry) : Type 0 where
-  pub own_ready : list_all (is_ready_entry (parts_of rs)) own ≡ true
-  pub ready : list_all (is_ready_entry (parts_of rs)) es ≡ true
-  pub unturned : list_any (is_turn a.number (a.rebases + 1)) (parts_of rs).turns ≡ false
 
 -- the longer of both logs
 abbrev pub longer_log_at : Space → Space → List Entry → List Entry → ℕ

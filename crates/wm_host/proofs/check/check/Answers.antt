@@ -44,10 +44,13 @@ pub returns-in-Ok-clause-crash : goal.returns-in-Ok-clause-crash
 returns-in-Ok-clause-crash g c = λ t.
     crash_checked (g.P.Station.history c.args.station.now) (g.P.Station.history c.open_host.new.station) (g.P.Station.history c.say_all.new.station) c.as_slice.result.now c.as_slice.ensures (c.in-Ok.ensures.unsaid t)
     (c.in-Ok.ensures.sound t) (c.in-Ok.ensures.same t) (c.in-Ok.ensures.pages_any_moment t) (c.say_all.ensures.crash t)
+<<<<<<< HEAD
 
 pub returns-in-Ok-clause-behind_sync : goal.returns-in-Ok-clause-behind_sync
 returns-in-Ok-clause-behind_sync g c = λ t.
     settled_said g.P.Station.tells (g.P.Station.history c.args.station.now) (g.P.Station.history c.open_host.new.station) (g.P.Station.history c.say_all.new.station) c.as_slice.result.now c.say_all.result t (c.say_all.ensures.said t) c.say_all.ensures.part (c.say_all.ensures.crash t) (c.in-Ok.ensures.settles t)
+=======
+>>>>>>> origin/room
 
 pub returns-in-Ok-clause-not_store : goal.returns-in-Ok-clause-not_store
 returns-in-Ok-clause-not_store g c = λ six t. absurd (saying_status c.say_all.result c.of.result.status c.of.ensures.status c.say_all.ensures.answering (inr (inl six)))

@@ -12,4 +12,4 @@ use Rattle.wm_index.proofs.keyed.keys_on.Goals as goal
 
 pub returns-in-None-clause-ordered : goal.returns-in-None-clause-ordered
 returns-in-None-clause-ordered c =
-    subst (λ (es : List (List Value × Vec ℕ Global)). IsStrictlySortedBy key_order (keys_of es)) (ap keys_found (sym (sym c.get.ensures.value ∙ ap option_copied c.in-None.is))) no_keys
+    subst (λ (es : List (List Value × Vec ℕ Global)). IsStrictlySortedBy key_order (keys_of es)) (ap keys_found (sym (sym c.get.ensures.value ∙ ap option_copied c.in-None.is))) (no_keys key_order)

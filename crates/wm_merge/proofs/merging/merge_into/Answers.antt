@@ -1,4 +1,4 @@
-use Rattle.std.proofs.Common.{Some, None, map, ap, ◌∙◌}
+use Rattle.std.proofs.Common.{Some, None, map, ap}
 use Rattle.std.specs.Option.{option_map}
 use Rattle.wm_graph.specs.Parts.{parts_of}
 use Rattle.wm_model.proofs.MergingLine.{merge_refused}

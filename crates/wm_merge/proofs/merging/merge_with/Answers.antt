@@ -1,13 +1,12 @@
-use Rattle.std.proofs.Common.{◌≡◌, ◌&&◌, ◌||◌, not, Bool, List, map, sym, ap, ◌∙◌, codes}
+use Rattle.std.proofs.Common.{◌&&◌, ◌||◌, not, Bool, map, sym, ap, ◌∙◌, codes}
 use Rattle.wm_model.proofs.MergingLine.{does_merge, merge_idle, merge_long, merge_spent, merge_unready}
-use Rattle.wm_model.specs.Merged.{is_even_at, longer_log_at, merge_edits}
+use Rattle.wm_model.specs.Merged.{is_even_at, merge_edits}
 use Rattle.wm_model.specs.Planning.{Stay}
 use Rattle.wm_model.specs.Step.{at_its_end, counter_limit, merge_workspace, not_built}
 use Rattle.wm_plan.proofs.Planning.{early, told}
 use Rattle.wm_plan.specs.Views.{answer_view, seating_view}
 use Rattle.wm_print.specs.Texts.{Fine}
 use Rattle.wm_state.specs.Editing.{entry_of}
-use Rattle.wm_state.specs.declared.edit.NewEntry.{NewEntry}
 use Rattle.wm_merge.specs.Views.{asked_view}
 use Rattle.wm_merge.proofs.Answered.{told_nothing}
 use Rattle.wm_merge.proofs.AskedMerge.{drafts_merge}

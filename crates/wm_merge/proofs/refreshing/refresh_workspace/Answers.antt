@@ -1,6 +1,5 @@
 use Rattle.std.proofs.Common.{arith, sym, ap, ◌∙◌}
 use Rattle.std.specs.Option.{option_copied}
-use Rattle.wm_graph.specs.Parts.{parts_of}
 use Rattle.wm_model.specs.Step.{no_parent, no_workspace, refresh_workspace}
 use Rattle.wm_plan.specs.Views.{answer_view}
 use Rattle.wm_print.specs.Texts.{Fine}
