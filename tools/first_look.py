@@ -1,7 +1,7 @@
 #!/usr/bin/env python3
 """python3 tools/first_look.py [RT]
 
-Plays the examples through the program as 'rt try' compiles it, in a minute or two and without any proof, and shows
+Plays the examples through the program as 'rt try' compiles it, in two or three minutes and without any proof, and shows
 each line with its answer. What it makes is below build/try: the store, and a page with pictures of it.
 """
 import shutil
@@ -67,7 +67,7 @@ def show(script, said):
 
 def main():
     prepare()
-    print("The program is compiled, and not proved; that takes a minute or two ..", flush=True)
+    print("The program is compiled, and not proved; that takes two or three minutes ..", flush=True)
     call = [*(sys.argv[1:] or ["rt"]), "try", "--cases", str(CASES)]
     done = subprocess.run(call, cwd=TOP / "crates" / "wm", stdout=subprocess.PIPE)
     found = answers(done.stdout)
@@ -80,7 +80,7 @@ def main():
             print(done.stdout.decode("utf-8", "replace"))
             return 1
     subprocess.run([sys.executable, str(TOP / "tools" / "show"), str(STORE), "--html", str(PAGE)], check=True)
-    print(f"\nThis was the program as it is compiled. Nothing of it was proved: 'make demo' does that, once, in about an hour.\n"
+    print(f"\nThis was the program as it is compiled. Nothing of it was proved: 'make demo' does, and may take an hour.\n"
           f"A browser shows what the store holds now: {PAGE.relative_to(TOP)}")
     return 0
 
