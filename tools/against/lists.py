@@ -90,26 +90,30 @@ def stamp_at(entries, moment):
     return entry.stamp if entry and entry.row is not None else None
 
 
-def first_stretch(changes, contents):
-    """Of one key: the first period at each moment of which all the lists of changes have an entry, and each content has one row or none."""
+def stretches(changes, contents):
+    """Of one key, in order of time: the longest periods at each moment of which all the lists of changes have an entry, and each content has
+    one row or none."""
     ends = sorted({end for entries in [*changes, *contents] for entry in entries for end in entry.period})
-    begun, stamps, last = None, None, None
+    found, stamps = [], None  # of the moments that come before
     for start, till in zip(ends, ends[1:]):
         here = [stamp_at(entries, start) for entries in contents] if all(entry_at(entries, start) for entries in changes) else None
-        if begun is not None and here != stamps:
-            return Period(begun, last)
-        if begun is None and here is not None:
-            begun, stamps = start, here
-        last = till
-    return None if begun is None else Period(begun, last)
+        if here is not None:
+            begun = found.pop().start if here == stamps else start
+            found.append(Period(begun, till))
+        stamps = here
+    return found
+
+
+def conflicts(own, pending, contents, table):
+    """The stretches of a table that both sides changed, by key and time: the key, the period, and the row that each content has, or None."""
+    changes = [over({}, own), over({}, pending)]
+    for key in sorted(changes[0].get(table, {})):
+        held = [entries_of(content, table, key) for content in contents]
+        for period in stretches([entries_of(change, table, key) for change in changes], held):
+            there = [entry_at(entries, period.start) for entries in held]
+            yield key, period, [entry.row if entry else None for entry in there]
 
 
 def first_conflict(own, pending, contents, tables):
     """The first stretch that both sides changed, as its table, its key and its period; or None."""
-    changes = [over({}, own), over({}, pending)]
-    for table in tables:
-        for key in sorted(changes[0].get(table, {})):
-            stretch = first_stretch([entries_of(held, table, key) for held in changes], [entries_of(held, table, key) for held in contents])
-            if stretch is not None:
-                return table, key, stretch
-    return None
+    return next(((table, key, period) for table in tables for key, period, _ in conflicts(own, pending, contents, table)), None)

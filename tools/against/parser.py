@@ -8,7 +8,7 @@ from trees import (
 from values import DATE_FORMS, END, GREATEST, Instant, MASKS, Period, TIMESTAMP_FORMS, instant
 
 NEXT_STAGES = {
-    "UNFREEZEWORKSPACE": "WORKSPACE", "SETCONFLICTWORKSPACE": "WORKSPACE",
+    "UNFREEZEWORKSPACE": "WORKSPACE",
     "BEGINRESOLVE": "WORKSPACE", "COMMITRESOLVE": "WORKSPACE", "ROLLBACKRESOLVE": "WORKSPACE", "GOTODATE": "IN_DATE",
     "FREEZEWORKSPACE": "WORKSPACE FREEZEMODE FREEZEWRITER", "SETLOCKINGON": "LOCKMODE", "SETLOCKINGOFF": "",
     "LOCKROWS": "WORKSPACE TABLE_NAME WHERE_CLAUSE LOCK_MODE", "UNLOCKROWS": "WORKSPACE TABLE_NAME WHERE_CLAUSE",
@@ -19,9 +19,11 @@ BUILT = {
     "CREATESAVEPOINT": "WORKSPACE SAVEPOINT_NAME DESCRIPTION", "GOTOWORKSPACE": "WORKSPACE", "GOTOSAVEPOINT": "SAVEPOINT_NAME",
     "SETVALIDTIME": "VALIDFROM VALIDTILL", "ROLLBACKTOSP": "WORKSPACE SAVEPOINT_NAME", "REMOVEWORKSPACE": "WORKSPACE",
     "REFRESHWORKSPACE": "WORKSPACE", "MERGEWORKSPACE": "WORKSPACE CREATE_SAVEPOINT REMOVE_WORKSPACE",
+    "SETCONFLICTWORKSPACE": "WORKSPACE",
 }
 PARAMETERS = {procedure: names.split() for procedure, names in (NEXT_STAGES | BUILT).items()}
 VIEWS = ("_CONF", "_DIFF", "_HIST", "_LOCK")
+NEXT_VIEWS = ("_DIFF", "_LOCK")
 DEEPEST = 64
 
 
@@ -270,7 +272,7 @@ class Parser:
         table = self.take_id()
         label = self.step().value if self.next.is_id() else table.value
         made.sources.append(Source(table.column, table.value, label))
-        self.is_later |= table.value.endswith(VIEWS)
+        self.is_later |= table.value.endswith(NEXT_VIEWS)
 
     def order(self):
         if self.next.kind == "number":

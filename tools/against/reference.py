@@ -2,7 +2,7 @@
 import itertools
 from dataclasses import dataclass, field, replace
 
-from lists import copied, entries_of, Entry, first_conflict, net, outside, over, put, rows_of
+from lists import conflicts, copied, entries_of, Entry, first_conflict, net, outside, over, put, rows_of
 from parser import BadToken, Parser, VIEWS
 from trees import (
     Aggregate, Arithmetic, At, Both, Call, Column, Comparison, Connect, Constant, Create, Delete, Disconnect, Either, Insert,
@@ -34,10 +34,35 @@ class Table:
     key: int | None
     is_versioned: bool = False
     has_periods: bool = False
+    has_history: bool = False
 
     def shown_columns(self):
         """What '*' gives: the declared columns, and WM_VALID where each row has a period."""
         return self.columns + [WM_VALID] * self.has_periods
+
+    def keyed(self, key, row):
+        """A row, or where there is none its key among NULLs."""
+        return row if row is not None else tuple(key if place == self.key else None for place in range(len(self.columns)))
+
+
+def added(names):
+    return [Column(0, name, "time" if name.endswith("TIME") else "text") for name in names.split()]
+
+
+@dataclass
+class View:
+    """The conflicts of a table, or its history."""
+    name: str
+    table: Table
+
+    @property
+    def is_history(self):
+        return self.name.endswith("_HIST")
+
+    def shown_columns(self):
+        if self.is_history:
+            return self.table.shown_columns() + added("WM_WORKSPACE WM_USERNAME WM_OPTYPE WM_CREATETIME WM_RETIRETIME")
+        return added("WM_WORKSPACE") + self.table.shown_columns() + added("WM_DELETED")
 
 
 @dataclass
@@ -46,6 +71,7 @@ class Session:
     workspace: bytes = b"LIVE"
     savepoint: bytes | None = None
     period: Period | None = None  # of SetValidTime
+    conflict: bytes | None = None  # of SetConflictWorkspace
 
 
 @dataclass
@@ -339,6 +365,40 @@ class Reference:
         """The same as rows of the columns that '*' gives."""
         return [values + (period,) * table.has_periods for period, values in self.pieces(session, table)]
 
+    def listed(self, session, source):
+        """The rows of a source of a query. A view has all of its rows, whatever the session's period and place."""
+        if not isinstance(source, View):
+            return self.rows(session, source)
+        return list(self.history(session, source.table) if source.is_history else self.conflicting(session, source.table))
+
+    def conflicting(self, session, table):
+        """Of each conflict three rows: what the workspace began with, what its parent has, and what it has itself."""
+        name = self.conflict_workspace(session)
+        workspace = self.workspaces[name]
+        if workspace.parent is None:
+            return
+        parent = self.parent_of(workspace)
+        above = next(other for other, its in self.workspaces.items() if its is parent)
+        contents = [workspace.base, parent.content, workspace.content]
+        for key, period, rows in conflicts(workspace.own, parent.log[workspace.log_from:], contents, table.name):
+            for side, row in zip([b"BASE", above, name], rows):
+                is_lost = side != b"BASE" and rows[0] is not None
+                mark = b"NO" if row is not None else b"YES" if is_lost else b"NE"
+                yield (side, *table.keyed(key, row), *[period] * table.has_periods, mark)
+
+    def history(self, session, table):
+        """All that was changed in the workspace, with when, by whom and until when."""
+        log = self.workspaces[session.workspace].log
+        for place, entry in enumerate(log):
+            if entry.table == table.name:
+                behind = [later.moment for later in log[place + 1:]
+                          if (later.table, later.key) == (entry.table, entry.key) and later.period.overlaps(entry.period)]
+                yield (*table.keyed(entry.key, entry.row), *[entry.period] * table.has_periods, session.workspace, entry.user.encode(),
+                       entry.kind.encode(), entry.moment, behind[0] if behind else None)
+
+    def conflict_workspace(self, session):
+        return session.workspace if session.conflict is None else session.conflict
+
     def write(self, session, table, changes):
         """Entries of changes, each a key, a period, a row or None, and a kind; each has the next stamp."""
         if self.stamps + len(changes) > self.limit:
@@ -359,6 +419,29 @@ class Reference:
             if not self.tables[name].is_versioned:
                 refuse("WM-019 versioning", name, "off")
         return [self.tables[name] for name in names]
+
+    def source(self, name):
+        """The table or view of a name, or None."""
+        if not name.endswith(VIEWS):
+            return self.tables.get(name)
+        table = self.tables.get(name[:-len(VIEWS[0])])
+        return table and View(name, table)
+
+    def used_sources(self, names):
+        """The tables and views of these names, which are all there, and the tables version-enabled."""
+        sources = [self.source(name) for name in names]
+        if None in sources:
+            refuse("WM-010 no table", names[sources.index(None)])
+        self.used([source.table.name if isinstance(source, View) else source.name for source in sources])
+        return sources
+
+    def test_views(self, session, sources):
+        views = [source for source in sources if isinstance(source, View)]
+        for view in views:
+            if view.is_history and not view.table.has_history:
+                refuse("WM-018 no history", view.table.name)
+        if any(not view.is_history for view in views):
+            self.workspace(self.conflict_workspace(session))
 
     # CREATE TABLE
 
@@ -516,7 +599,7 @@ class Reference:
     # SELECT
 
     def select(self, session, tree):
-        tables = self.used([source.table for source in tree.sources])
+        tables = self.used_sources([source.table for source in tree.sources])
         scope = Scope([(source.label, table) for source, table in zip(tree.sources, tables)])
         is_grouped = tree.groups is not None or any(isinstance(item.expression, Aggregate) for item in tree.items)
         star_at = tree.star_at
@@ -543,6 +626,7 @@ class Reference:
         if bad:
             refuse("WM-013 type", first_of(bad))
         self.test_lacking(scope, [*(item.expression for item in items), *tree.conditions, *groups, *(by[1] for by, _ in orders if by[0] == 2)])
+        self.test_views(session, tables)
         self.test_periods()
         kept = [row for row in self.tuples(session, tables)
                 if all(scope.truth(condition, row) is True for condition in tree.conditions)]
@@ -599,7 +683,7 @@ class Reference:
         return (0, at[0]) if must_be_item else (1, column)
 
     def tuples(self, session, tables):
-        return (sum(rows, ()) for rows in itertools.product(*(self.rows(session, table) for table in tables)))
+        return (sum(rows, ()) for rows in itertools.product(*(self.listed(session, table) for table in tables)))
 
     def grouped(self, scope, rows, items, groups, is_one_group):
         members = {(): []} if is_one_group else {}
@@ -638,7 +722,7 @@ class Reference:
                 "CREATESAVEPOINT": self.create_savepoint, "GOTOWORKSPACE": self.goto_workspace,
                 "GOTOSAVEPOINT": self.goto_savepoint, "SETVALIDTIME": self.set_valid_time, "ROLLBACKTOSP": self.rollback_to_savepoint,
                 "REMOVEWORKSPACE": self.remove_workspace, "REFRESHWORKSPACE": self.refresh_workspace,
-                "MERGEWORKSPACE": self.merge_workspace}[tree.procedure](session, tree, given)
+                "MERGEWORKSPACE": self.merge_workspace, "SETCONFLICTWORKSPACE": self.set_conflict_workspace}[tree.procedure](session, tree, given)
 
     def test_arguments(self, tree, needed, **kinds):
         """Refuses the first argument that does not fit; 'kinds' tells for each parameter its kind, or the values it takes."""
@@ -671,6 +755,7 @@ class Reference:
         if table.key is None:
             refuse("WM-015 no primary key", table.name)
         table.is_versioned, table.has_periods = True, bool(given.get("VALIDTIME"))
+        table.has_history = folded(given.get("HIST")) == b"VIEW_WO_OVERWRITE"
         self.changed()
         return [], "OK"
 
@@ -734,6 +819,12 @@ class Reference:
         self.test_arguments(tree, ["WORKSPACE"], WORKSPACE="text")
         self.workspace(given["WORKSPACE"])
         session.workspace, session.savepoint = given["WORKSPACE"], None
+        return [], "OK"
+
+    def set_conflict_workspace(self, session, tree, given):
+        self.test_arguments(tree, ["WORKSPACE"], WORKSPACE="text")
+        self.workspace(given["WORKSPACE"])
+        session.conflict = given["WORKSPACE"]
         return [], "OK"
 
     def goto_savepoint(self, session, tree, given):

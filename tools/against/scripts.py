@@ -3,7 +3,7 @@ import random
 
 from lists import first_conflict, rows_by_key
 from parser import Parser
-from reference import ended, Reference, Session
+from reference import ended, Reference, Session, View
 from tokens import OPERATORS
 from trees import Column
 from values import ALWAYS, END, Instant, TIMESTAMP_FORMS, instant, printed
@@ -49,7 +49,7 @@ ODD_LINES = [
     b"A; SELECT * FROM BUD", b"A: SELECT*FROM BUD", b"A: SELECT 1FROM BUD", b"A: SELECT 1 -- FROM BUD", b"A:DELETE BUD WHERE ID=>5",
     *(b"A: INSERT INTO BUD VALUES (1, '" + b"y" * size + b"')" for size in (1999, 16351, 16352, 16353))]
 LATER = [
-    "SELECT * FROM BUD_CONF", "SELECT * FROM NOPE_HIST X , BUD",
+    "SELECT * FROM BUD_DIFF", "SELECT * FROM NOPE_LOCK X , BUD_CONF",
     "SELECT 1 FROM X_LOCK , Y_DIFF", "EXEC DBMS_WM . BeginResolve ( 'W' )", "EXEC DBMS_WM . CommitResolve",
     "EXEC DBMS_WM . LockRows ( 'W' , 'BUD' , 'ID = 1' , 'E' )", "EXEC DBMS_WM . LockRows ( 'W' , 'BUD' , 'ID = ' , 'E' )",
     "EXEC DBMS_WM . UnlockRows ( 'W' , 'BUD' , 'ID IN (9223372036854775808)' )", "EXEC DBMS_WM . UnlockRows ( 'W' , 'BUD' , '' )",
@@ -59,6 +59,26 @@ LATER = [
     "EXEC DBMS_WM . FreezeWorkspace ( 'W' , freezewriter => 'ANN' , 'READ_ONLY' )", "EXEC DBMS_WM . GotoDate ( SYSDATE )",
     "EXEC DBMS_WM . UnlockRows ( 'W' , 'BUD' , where_clause => 'ID = ''a'' OR NOT (AMT IS NULL)' )",
     "EXEC DBMS_WM . UnlockRows ( 'W' , 'BUD' , 'ID = ''a' )", "EXEC DBMS_WM . LockRows ( 'W' , 'BUD' , 'ID = 1 ;' )"]
+# What the columns of views hold, and what they never hold.
+MARKS = {"WM_DELETED": ["'NO'", "'NO'", "'YES'", "'NE'", "'no'"], "WM_OPTYPE": ["'I'", "'U'", "'U'", "'D'", "'X'"],
+         "WM_WORKSPACE": ["'LIVE'", "'W'", "'BASE'", "'V'", "'live'"], "WM_USERNAME": ["'ANN'", "'BEN'", "'KIM'", "'ann'"],
+         "WM_CREATETIME": ["SYSDATE", "DATE '2020-01-01'", "DATE '2020-01-02'"], "WM_RETIRETIME": ["SYSDATE", "NULL", "DATE '2020-01-02'"]}
+# Lines on the views of a table, with @ in its place.
+CONFLICTS = [
+    "SELECT * FROM @_CONF", "SELECT * FROM @_CONF", "SELECT * FROM @_CONF WHERE WM_DELETED = 'NO'", "SELECT * FROM @_CONF WHERE WM_DELETED <> 'NO'",
+    "SELECT WM_WORKSPACE , COUNT ( * ) FROM @_CONF GROUP BY WM_WORKSPACE", "SELECT WM_DELETED , COUNT ( * ) AS N FROM @_CONF GROUP BY WM_DELETED ORDER BY N DESC",
+    "SELECT COUNT ( * ) FROM @_CONF", "SELECT * FROM @_CONF ORDER BY WM_WORKSPACE , WM_DELETED DESC", "SELECT DISTINCT WM_WORKSPACE , WM_DELETED FROM @_CONF",
+    "SELECT c . WM_WORKSPACE , c . WM_DELETED FROM @_CONF c , @_CONF d WHERE c . WM_WORKSPACE = d . WM_WORKSPACE", "SELECT NOPE FROM @_CONF",
+    "SELECT * FROM @_CONF WHERE WM_WORKSPACE IN ( 'BASE' , 'LIVE' )", "SELECT WM_OPTYPE FROM @_CONF", "SELECT 1 FROM @_CONF , @_HIST", "SELECT * FROM @_CONF WHERE WM_DELETED = 1",
+    "INSERT INTO @_CONF VALUES ( 1 )", "DELETE FROM @_CONF", "UPDATE @_CONF SET WM_DELETED = 'NO'", "SELECT * FROM @_CONF WHERE WM_PERIOD ( SYSDATE , SYSDATE ) IS NULL"]
+HISTORIES = [
+    "SELECT * FROM @_HIST", "SELECT * FROM @_HIST", "SELECT * FROM @_HIST", "SELECT * FROM @_HIST WHERE WM_OPTYPE = 'D'",
+    "SELECT WM_OPTYPE , COUNT ( * ) FROM @_HIST GROUP BY WM_OPTYPE", "SELECT WM_USERNAME , COUNT ( * ) , MAX ( WM_CREATETIME ) FROM @_HIST GROUP BY WM_USERNAME",
+    "SELECT * FROM @_HIST WHERE WM_RETIRETIME IS NULL", "SELECT * FROM @_HIST WHERE WM_CREATETIME < WM_RETIRETIME", "SELECT * FROM @_HIST ORDER BY WM_CREATETIME DESC , WM_OPTYPE",
+    "SELECT DISTINCT WM_WORKSPACE , WM_USERNAME , WM_OPTYPE FROM @_HIST ORDER BY 3 DESC", "SELECT MIN ( WM_RETIRETIME ) , COUNT ( WM_RETIRETIME ) FROM @_HIST",
+    "SELECT * FROM @_HIST WHERE WM_CREATETIME = 'x'", "SELECT WM_DELETED FROM @_HIST", "SELECT SUM ( WM_CREATETIME ) FROM @_HIST", "DELETE @_HIST WHERE WM_OPTYPE = 'I'",
+    "INSERT INTO @_HIST VALUES ( 1 )", "UPDATE @_HIST SET WM_OPTYPE = 'I'", "SELECT h . WM_OPTYPE , c . WM_DELETED FROM @_HIST h , @_CONF c",
+    "SELECT * FROM @_HIST WHERE WM_PERIOD ( SYSDATE , SYSDATE ) IS NULL"]
 # Lines on periods, with @ in the place of a table and $ in that of a period.
 PERIODS = [
     "SELECT WM_VALID FROM @", "SELECT 1 FROM @ WHERE WM_VALID IS NULL", "SELECT * FROM @ WHERE WM_VALID = WM_VALID", "SELECT WM_OVERLAPS FROM @",
@@ -138,7 +158,7 @@ class Writer:
             yield line.encode()
             name = line.split()[4]
             if name in self.reference.tables and self.chance(0.95):
-                ready = self.one(["", "", ", 'NONE', FALSE, TRUE", ", validTime => TRUE"])
+                ready = self.one(["", ", 'VIEW_WO_OVERWRITE'", ", 'NONE', FALSE, TRUE", ", 'VIEW_WO_OVERWRITE', FALSE, TRUE", ", validTime => TRUE"])
                 yield f"A: EXECUTE DBMS_WM.EnableVersioning('{name}'{ready})".encode()
                 for _ in range(self.random.randrange(0, 9)):
                     yield self.insert(name).encode()
@@ -149,6 +169,8 @@ class Writer:
                 yield from self.branched()
         elif self.chance(0.5):
             yield from self.levels()
+        if self.chance(0.3):
+            yield from self.torn()
         if self.chance(0.4):
             yield self.spaced(self.set_valid_time().split(" "))
         if not part and self.chance(0.02):
@@ -182,13 +204,38 @@ class Writer:
         for _ in range(self.one([1, 2])):
             yield self.spaced(self.one([self.merge, self.refresh])().split(" "))
 
+    def torn(self):
+        """Both sides change the same rows, or one of them is away; then the conflicts are looked at, at times from a third workspace and behind a
+        removal."""
+        name = self.one(list(self.reference.workspaces)[1:] or [b"W"])
+        if name not in self.reference.workspaces:
+            yield b"A: EXEC DBMS_WM.CreateWorkspace('%s')" % name.replace(b"'", b"''")
+        if name not in self.reference.workspaces:
+            return
+        quoted, above = printed(name), self.reference.parent_of(self.reference.workspaces[name])
+        above = next(printed(other) for other, its in self.reference.workspaces.items() if its is above)
+        shared, places = self.insert().split(" : ", 1)[1], [quoted, above if self.chance(0.8) else quoted]
+        for session, place in zip(self.random.sample("AB", 2), places):
+            yield b"%s: EXEC DBMS_WM.GotoWorkspace(%s)" % (session.encode(), place)
+            if self.chance(0.6):
+                yield f"{session}: {shared}".encode()
+            for _ in range(self.one([1, 2, 3])):
+                yield self.spaced(self.one([self.insert, self.update, self.move, self.delete, self.clash, self.clash])().split(" "))
+        lines = [b"A: EXEC DBMS_WM.GotoWorkspace('LIVE')"] if self.chance(0.5) else []
+        lines += [b"%c: EXEC DBMS_WM.SetConflictWorkspace(%s)" % (self.one(b"AB"), quoted)] if self.chance(0.7) else []
+        if self.chance(0.3):
+            lines += [b"B: EXEC DBMS_WM.GotoWorkspace('LIVE')", b"A: EXEC DBMS_WM.RemoveWorkspace(%s)" % quoted, None]
+            lines += [b"B: EXEC DBMS_WM.CreateWorkspace(%s)" % quoted] if self.chance(0.6) else []
+        for line in [*lines, None, None]:
+            yield self.spaced(self.view().split(" ")) if line is None else line
+
     def closing(self):
         """Lines that list what stands in each workspace, and some of what stands at each savepoint."""
         ready = [name for name, table in self.reference.tables.items() if table.is_versioned]
         yield from ["CONNECT Z ZED", "Z: EXEC DBMS_WM.SetValidTime(DATE '0001-01-01')"]
         for workspace, its in self.reference.workspaces.items():
             yield f"Z: EXEC DBMS_WM.GotoWorkspace({printed(workspace).decode()})"
-            yield from (f"Z: SELECT * FROM {table}" for table in ready)
+            yield from (f"Z: SELECT * FROM {source}" for table in ready for source in (table, f"{table}_CONF", f"{table}_HIST"))
             for savepoint in its.savepoints if ready else []:
                 yield f"Z: EXEC DBMS_WM.GotoSavepoint({printed(savepoint).decode()})"
                 yield f"Z: SELECT * FROM {self.one(ready)}"
@@ -204,7 +251,7 @@ class Writer:
             self.create_workspace: 6 * self.branching, self.create_savepoint: 6 * self.branching, self.goto_workspace: 8 * self.branching,
             self.goto_savepoint: 7 * self.branching, self.rollback: 7 * self.branching, self.remove: 4 * self.branching,
             self.merge: 8 * self.branching, self.refresh: 5 * self.branching, self.clash: 9 * self.branching,
-            self.connect: 3, self.disconnect: 1, self.not_built: 1, self.set_valid_time: 10, self.at: 4, self.on_periods: 4, self.deep: 1,
+            self.view: 12, self.set_conflict: 2 + 2 * self.branching, self.connect: 3, self.disconnect: 1, self.not_built: 1, self.set_valid_time: 10, self.at: 4, self.on_periods: 4, self.deep: 1,
             self.wide: 0.3, self.long: 0.3})().split(" ")
         if self.chance(0.12):
             words = self.damaged(words)
@@ -249,14 +296,23 @@ class Writer:
             return self.one([*self.reference.tables, "NOPE", "BUD_CONF", "BUD_HISTX", "WM_MEETS"])
         return self.one(ready)
 
+    def source_name(self):
+        """A table, or now and then one of its views; least a history that is not kept."""
+        name = self.table_name()
+        if not self.chance(0.2):
+            return name
+        table = self.reference.tables.get(name)
+        has_history = table is not None and table.has_history
+        return name + self.weighted({"_CONF": 4, "_HIST": 6 if has_history else 0.5, "_LOCK": self.noise, "_CONF_HIST": self.noise})
+
     def columns_of(self, name):
         table = self.reference.tables.get(name)
         return table.columns if table else [Column(0, "ID"), Column(0, "AMT")]
 
     def shown_of(self, name):
         """The columns that a condition may name."""
-        table = self.reference.tables.get(name)
-        return table.shown_columns() if table else self.columns_of(name)
+        source = self.reference.source(name)
+        return source.shown_columns() if source else self.columns_of(name)
 
     def kind(self):
         return self.weighted({"number": 5, "text": 3, "time": 2})
@@ -342,6 +398,10 @@ class Writer:
     def test(self, names):
         if names("period") and self.chance(0.25):
             return f"{self.question(names)} {self.one(['=', '=', '=', '<>', '>='])} {self.one('110')}"
+        marks = [name for kind in ("text", "time") for name in names(kind) if name.split(" . ")[-1] in MARKS]
+        if marks and self.chance(0.4):
+            mark = self.one(marks)
+            return f"{mark} {self.one(['=', '=', '<>', '<', '>='])} {self.one(MARKS[mark.split(' . ')[-1]])}"
         kind = self.kind()
         if not names(kind) and self.chance(0.8):
             kind = "number"
@@ -418,15 +478,21 @@ class Writer:
             values = values[:-1] or ["1", "2"] if self.chance(0.5) else values + ["1"]
         return self.said(f"INSERT INTO {name}{listed} VALUES ( {self.listed(values)} )")
 
+    def table_of(self, name):
+        """The table of a name, also of that of a view."""
+        source = self.reference.source(name)
+        return source.table if isinstance(source, View) else source
+
     def is_key(self, name, column):
-        table = self.reference.tables.get(name)
+        table = self.table_of(name)
         return table is not None and table.key is not None and table.columns[table.key] is column
 
     def new_key(self, name, kind):
         """A constant that is most likely no key of a row that is there."""
-        used = {key for workspace in self.reference.workspaces.values() for key in rows_by_key(workspace.content, name)}
+        table = self.table_of(name)
+        used = {key for workspace in self.reference.workspaces.values() for key in rows_by_key(workspace.content, table.name)}
         most = 13
-        if self.reference.tables[name].has_periods:
+        if table.has_periods or table.name != name:
             used, most = set(), self.one([3, 3, 5])
         for _ in range(10):
             number = self.random.randrange(1, most)
@@ -502,7 +568,7 @@ class Writer:
 
     def where_key(self, name, names, likely):
         """A condition that most likely asks for one key, and for more or not."""
-        key = [column for column in self.columns_of(name) if self.is_key(name, column)]
+        key = [column for column in self.shown_of(name) if self.is_key(name, column)]
         if not key or not self.chance(likely):
             return self.where(names)
         test = f"{key[0].name} = {self.new_key(name, key[0].kind) if self.chance(0.5) else self.value(key[0].kind)}"
@@ -517,7 +583,7 @@ class Writer:
         count = self.weighted({1: 60, 2: 25, 3: 6, 4: 2 + 5 * bool(self.noise), 5: 3 * bool(self.noise)})
         sources, written, tuples = [], [], 1
         for _ in range(count):
-            name = self.table_name()
+            name = self.source_name()
             tuples *= self.rows_in(name)
             if sources and tuples > 1000:
                 break
@@ -578,10 +644,24 @@ class Writer:
 
     def on_periods(self):
         """What is said of periods, also of tables that have none."""
-        words = self.one(PERIODS).replace("@", self.table_name())
+        words = self.one(PERIODS)
+        words = words.replace("@", self.source_name() if words.startswith("SELECT") else self.table_name())
         while "$" in words:
             words = words.replace("$", self.period(), 1)
         return self.said(words)
+
+    def view(self):
+        """A query of one view, most likely of a table that has one and by a session that stands where there is something to be seen."""
+        tables = {name: 1 + 3 * (its.has_history and its.is_versioned) for name, its in self.reference.tables.items()}
+        name = self.weighted(tables) if tables and not self.is_bad(0.02) else self.one(["NOPE", "BUD"])
+        table = self.reference.tables.get(name)
+        lines = self.one([CONFLICTS, HISTORIES]) if table is not None and table.has_history or self.chance(0.05) else CONFLICTS
+        words = self.one(lines) if self.is_bad() or self.chance(0.3) else self.one(lines[:10])
+        likely = {session: 1 + 5 * bool(self.reference.workspaces[its.workspace].own) for session, its in self.reference.sessions.items()}
+        return self.said(words.replace("@", name), self.weighted(likely) if likely else None)
+
+    def set_conflict(self):
+        return self.call("SetConflictWorkspace", [self.named("workspace", self.workspace_name())], ["workspace => 'LIVE'", "5", "'W' , 'V'"])
 
     def at(self):
         """The moment that is, a later one, or one just before it."""
@@ -638,6 +718,9 @@ class Writer:
         return self.said(f"SELECT {self.one(['', 'DISTINCT '])}{self.one(['1', '*', '2 * 3'])} FROM {self.listed(sources)}")
 
     def rows_in(self, name):
+        source = self.reference.source(name)
+        if isinstance(source, View):
+            return max(sum(entry.table == source.table.name for entry in workspace.log) for workspace in self.reference.workspaces.values())
         return max(sum(map(len, rows_by_key(workspace.content, name).values())) for workspace in self.reference.workspaces.values())
 
     # Calls

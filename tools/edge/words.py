@@ -18,6 +18,11 @@ NONE = [
     ["check", "--"],
     ["check", "--now", "2024-06-01"],
     ["check", "check"],
+    ["load", "--seed", "7"],
+    ["load", "--lines", "7", "--lines", "7"],
+    ["load", "--seed", "18446744073709551616", "--lines", "0"],
+    ["load", "--seed", "7", "--lines", "1000001"],
+    ["load", "--seed", "7", "--lines", "0", "--now", "2024-06-01"],
     ["run", "--now"],
     ["run", "--now", "2024-13-01"],
     ["run", "--now", "now"],
@@ -41,7 +46,7 @@ def none(kind, room):
         kind.expect(f"{words} over a store", room.play(store, words, script), ended(2))
     kind.expect("the script is as it was", read(text) == script, True)
     kind.expect("the store is as it was", read(store) == room.ready, True)
-    for word in "--help", "-h", "--version", "help", "init", "run", "check":
+    for word in "--help", "-h", "--version", "help", "init", "run", "check", "load":
         kind.expect(word, room.play(word, [], cwd=room.folder), ended(2))
         kind.expect(f"{word} makes a file", os.path.exists(room.path(word)), False)
     strange = os.fsencode(room.path("")) + b"\xff.store"

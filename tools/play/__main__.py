@@ -3,7 +3,7 @@
 
 Plays a script through the built program, and shows each line with its answer below it. Without SCRIPT the lines come
 from standard input; at a terminal each is asked for. The last line, on standard error, counts accepted and refused ones.
-Behind three answers that mislead stands a hint, which begins with a star and is no word of the program's.
+Behind four answers that mislead stands a hint, which begins with a star and is no word of the program's.
 
     --new         makes the store first. What is at STORE already is never touched
     --limit N     how many changes the new store takes (1048576, which is the most)

@@ -1,4 +1,4 @@
-"""What the store's file says beside the answers: the columns of its tables, and its last moment."""
+"""What the store's file says beside the answers: the columns of its tables and their views, and its last moment."""
 import re
 
 from storefile.pages import Pages
@@ -6,6 +6,7 @@ from storefile.records import decoded
 
 MAKES_COLUMNS = re.compile(rb"[^:]*:\s*(CREATE\s+TABLE|EXEC(UTE)?\s+DBMS_WM\s*\.\s*EnableVersioning)\b", re.IGNORECASE)
 COUNTERS, TABLE = 1, 2
+OF_HISTORY = ["WM_WORKSPACE", "WM_USERNAME", "WM_OPTYPE", "WM_CREATETIME", "WM_RETIRETIME"]
 
 
 class Catalog:
@@ -27,8 +28,11 @@ class Catalog:
             self.known = None
 
     def columns(self):
-        """The names of the columns that `*` gives of each table, by the table's name."""
+        """The names of the columns that `*` gives of each table and of its views, by their names."""
         if self.known is None:
-            self.known = {table.name: [column.name for column in table.columns] + ["WM_VALID"] * table.is_valid
-                          for table in self.records(TABLE)}
+            self.known = {}
+            for table in self.records(TABLE):
+                columns = [column.name for column in table.columns] + ["WM_VALID"] * table.is_valid
+                self.known |= {table.name: columns, f"{table.name}_CONF": ["WM_WORKSPACE", *columns, "WM_DELETED"],
+                               f"{table.name}_HIST": columns + OF_HISTORY}
         return self.known

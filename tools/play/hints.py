@@ -1,4 +1,4 @@
-"""What an answer does not say and a newcomer wants to know: three traps that are no refusals, or that a refusal does not stop."""
+"""What an answer does not say and a newcomer wants to know: four traps that are no refusals, or that a refusal does not stop."""
 import re
 
 from lines import is_refusal, readable
@@ -6,19 +6,22 @@ from lines import is_refusal, readable
 ALL_TIME = "this row holds for all of time, from the year 1 on: SetValidTime or WM_PERIOD say from when"
 NOT_SHOWN = "no such row holds in the session's period: SetValidTime sets the time of which you speak"
 STANDS = "{} stands where it stood, and what it does next is done there"
+OF_LIVE = "LIVE has no conflicts: SetConflictWorkspace names the workspace that has them"
 SAID = re.compile(r"\s*([A-Za-z][\w$#]*)\s*:\s*(.*)", re.DOTALL)
 CONNECT = re.compile(r"\s*CONNECT\s+([A-Za-z][\w$#]*)\s", re.IGNORECASE)
 CALL = re.compile(r"EXEC(?:UTE)?\s+DBMS_WM\s*\.\s*(\w+)\s*(?:\(\s*(.*?)\s*\))?\s*;?\s*", re.IGNORECASE | re.DOTALL)
 CHANGE = re.compile(r"(?:UPDATE|DELETE(?:\s+FROM)?)\s+([A-Za-z][\w$#]*)", re.IGNORECASE)
 INSERT = re.compile(r"INSERT\s+INTO\s+([A-Za-z][\w$#]*)", re.IGNORECASE)
+CONFLICTS = re.compile(r"SELECT\b.*\bFROM\b.*_CONF\b", re.IGNORECASE | re.DOTALL)
 TEXT = re.compile(r"'(?:[^']|'')*'")
 
 
 class Hints:
-    """Follows the lines of a run, and knows which session has set a period."""
+    """Follows the lines of a run, and knows which session has set a period, where each stands and at whose conflicts it looks."""
 
     def __init__(self, catalog):
         self.catalog, self.with_period = catalog, set()
+        self.standing, self.looking = {}, {}  # texts as the lines have them
 
     def hint(self, line, answer):
         """What is to be said behind the answer of a line, or None."""
@@ -36,11 +39,17 @@ class Hints:
         """A session begins without a period."""
         found = CONNECT.match(line)
         if found:
-            self.with_period.discard(found[1].upper())
+            session = found[1].upper()
+            self.with_period.discard(session)
+            self.standing.pop(session, None)
+            self.looking.pop(session, None)
 
     def called(self, session, procedure, arguments, is_refused):
         if procedure in ("GOTOWORKSPACE", "GOTOSAVEPOINT") and is_refused:
             return STANDS.format(session)
+        name = TEXT.search(arguments or "")
+        if procedure in ("GOTOWORKSPACE", "SETCONFLICTWORKSPACE") and name and not is_refused:
+            (self.standing if procedure == "GOTOWORKSPACE" else self.looking)[session] = name[0]
         if procedure == "SETVALIDTIME" and not is_refused:
             (self.with_period.add if arguments else self.with_period.discard)(session)
         return None
@@ -49,10 +58,16 @@ class Hints:
         change, insert = CHANGE.match(statement), INSERT.match(statement)
         if change and answer == [b"DONE 0"] and self.has_valid_time(change[1]):
             return NOT_SHOWN
+        if answer == [b"ROWS 0"] and CONFLICTS.match(TEXT.sub("", statement)) and self.looks_at(session) == "'LIVE'":
+            return OF_LIVE
         names_period = re.search(r"\bWM_PERIOD\b", TEXT.sub("", statement), re.IGNORECASE)
         if insert and answer == [b"DONE 1"] and session not in self.with_period and not names_period and self.has_valid_time(insert[1]):
             return ALL_TIME
         return None
+
+    def looks_at(self, session):
+        """The workspace whose conflicts the session is shown."""
+        return self.looking.get(session) or self.standing.get(session, "'LIVE'")
 
     def has_valid_time(self, table):
         return "WM_VALID" in self.catalog.columns().get(table.upper(), [])

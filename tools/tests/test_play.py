@@ -66,6 +66,17 @@ class Lines(Played):
         self.assertIn("     NR | NAME  | ID | TEAM | WHAT          | EUROS | DUE",
                       self.lines(b"CONNECT A ANN\nA: SELECT * FROM TEAM t INNER JOIN COST c ON t.NR = c.TEAM WHERE t.NR = 2\n"))
 
+    def test_star_has_the_names_of_views(self):
+        made(self.store)
+        script = TABLE.replace(b"'T'", b"'T', 'VIEW_WO_OVERWRITE', FALSE, TRUE") + b"A: INSERT INTO T VALUES (1, 'a')\n"
+        script += (b"A: EXECUTE DBMS_WM.CreateWorkspace('W')\nA: DELETE FROM T\nA: EXECUTE DBMS_WM.GotoWorkspace('W')\n"
+                   b"A: UPDATE T SET NOTE = 'b'\nA: SELECT * FROM t_conf\nA: SELECT * FROM T_HIST\n")
+        said = self.lines(script, "--quiet")
+        wanted = ["     WM_WORKSPACE | ID | NOTE | WM_VALID                    | WM_DELETED", "     LIVE         |  1 | NULL | [2024-06-01, UNTIL_CHANGED) | YES",
+                  "     ID | NOTE | WM_VALID                    | WM_WORKSPACE | WM_USERNAME | WM_OPTYPE | WM_CREATETIME | WM_RETIRETIME",
+                  "      1 | b    | [2024-06-01, UNTIL_CHANGED) | W            | ANN         | U         | 2024-06-01    |          NULL"]
+        self.assertEqual([line for line in said if line in wanted], wanted)
+
     def test_sheet(self):
         store_of_examples(self.store)
         script = b"CONNECT A ANN\nA: SELECT * FROM OWNER\nA: SELECT WHAT, DUE FROM COST WHERE TEAM = 2\nA: SELECT * FROM NOPE\n"
@@ -80,7 +91,7 @@ class Hinted(Played):
     def hints(self, script, *words):
         return [line[7:] for line in self.lines(script, *words) if line.startswith("     * ")]
 
-    def test_three_answers_that_mislead(self):
+    def test_answers_that_mislead(self):
         made(self.store)
         script = TABLE.replace(b"'T'", b"'T', validTime => TRUE")
         script += (b"A: INSERT INTO T VALUES (1, 'WM_PERIOD')\nA: EXECUTE DBMS_WM.SetValidTime(SYSDATE)\n"
@@ -91,6 +102,13 @@ class Hinted(Played):
         self.assertEqual([text.split(":")[0].split(",")[0] for text in said],
                          ["this row holds for all of time", "no such row holds in the session's period", "A stands where it stood"])
         self.assertEqual(self.hints(b"CONNECT A ANN\nA: DELETE FROM T\n", "--quiet"), [])
+
+    def test_no_conflicts_of_live(self):
+        made(self.store)
+        script = TABLE + (b"A: EXECUTE DBMS_WM.CreateWorkspace('W')\nA: SELECT * FROM T_CONF\nA: SELECT * FROM T\nA: SELECT 'T_CONF' FROM T\n"
+                          b"A: EXECUTE DBMS_WM.SetConflictWorkspace('W')\nA: SELECT * FROM T_CONF\nCONNECT B BEN\nB: SELECT ID FROM T_CONF C WHERE 1 = 1\n"
+                          b"B: EXECUTE DBMS_WM.GotoWorkspace('W')\nB: SELECT * FROM T_CONF\nB: SELECT COUNT(*) FROM T_CONF\n")
+        self.assertEqual([text.split(":")[0] for text in self.hints(script)], ["LIVE has no conflicts"] * 2)
 
     def test_tables_without_valid_time_have_none(self):
         made(self.store)

@@ -20,11 +20,11 @@ def text(name):
 
 
 def questions(found):
-    """Lines that ask for all rows of each workspace and of each savepoint; and what the file says to each."""
+    """Lines that ask for all rows of each workspace and of each savepoint, and for what its views have; and what the file says to each."""
     lines = [("CONNECT Z ZOE", ["OK"]), ("Z: EXECUTE DBMS_WM.SetValidTime(DATE '0001-01-01')", ["OK"])]
     for space in found.spaces.values():
         lines.append((f"Z: EXECUTE DBMS_WM.GotoWorkspace({text(space.name)})", ["OK"]))
-        lines += selections(found, found.newest[space.number])
+        lines += [*selections(found, found.newest[space.number]), *views(found, space)]
         for point in found.savepoints_of(space):
             lines.append((f"Z: EXECUTE DBMS_WM.GotoSavepoint({text(point.name)})", ["OK"]))
             lines += selections(found, point.version)
@@ -36,6 +36,38 @@ def selections(found, version):
         rows = found.rows_seen(version, table)
         shown = ["|".join([*map(printed, row.values), *([str(row.period)] if table.is_valid else [])]) for row in rows]
         yield f"Z: SELECT * FROM {table.name}", [*shown, f"ROWS {len(rows)}"]
+
+
+def views(found, space):
+    """Lines that ask for the conflicts and the histories of a workspace; and what the file says to each."""
+    for table in (table for table in found.tables.values() if table.is_versioned):
+        rows = [row for conflict in found.conflicts(space) if conflict.table is table for row in sides(found, space, conflict)]
+        yield f"Z: SELECT * FROM {table.name}_CONF", [*rows, f"ROWS {len(rows)}"]
+        rows = list(changes(found, space, table))
+        yield f"Z: SELECT * FROM {table.name}_HIST", [*rows, f"ROWS {len(rows)}"] if table.has_history else [f"WM-018 no history {table.name}"]
+
+
+def sides(found, space, conflict):
+    """The three rows of a conflict."""
+    for name, row in [("BASE", conflict.base), (found.spaces[space.parent].name, conflict.parent), (space.name, conflict.child)]:
+        mark = "NO" if row else "YES" if conflict.base and name != "BASE" else "NE"
+        yield answered(conflict.table, conflict.key, conflict.period, row and row.values, [name], [mark])
+
+
+def changes(found, space, table):
+    """The rows of a history. Each is there until the first later one that shares a moment of its key."""
+    entries = [entry for entry in found.history_of(space) if entry.cells.table == table.number]
+    for place, entry in enumerate(entries):
+        behind = [later.moment for later in entries[place + 1:]
+                  if later.cells.key == entry.cells.key and later.cells.period.overlap(entry.cells.period)]
+        marks = [space.name, entry.user, "-IUD"[entry.kind], entry.moment, behind[0] if behind else None]
+        yield answered(table, entry.cells.key, entry.cells.period, None if entry.is_gone else found.rows[entry.stamp], [], marks)
+
+
+def answered(table, key, period, values, before, behind):
+    """A row of a view as it is answered. Where no row stands the key is shown alone."""
+    alone = [key if table.has_in_key(column) else None for column in table.columns]
+    return "|".join([*map(printed, [*before, *(values or alone)]), *([str(period)] if table.is_valid else []), *map(printed, behind)])
 
 
 def cells_in_conflict(found, space):

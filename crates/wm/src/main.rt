@@ -53,7 +53,7 @@ fn play(rt: &HostRuntime, arguments: &[String]) -> Ended {
     let path = arguments[PATH].as_str();
     let mut station = match command_of(rt.alloc(), words) {
         Ok(Some(Command::Init { .. })) => FileStation::open(rt, path, rt.stdout()),
-        Ok(Some(Command::Run { .. } | Command::Check)) => {
+        Ok(Some(Command::Run { .. } | Command::Check | Command::Load { .. })) => {
             FileStation::open_existing(rt, path, rt.stdout())
         }
         Ok(None) => return ended(2),

@@ -19,6 +19,7 @@ is_later_procedure procedures.RollbackToSp = false
 is_later_procedure procedures.RemoveWorkspace = false
 is_later_procedure procedures.RefreshWorkspace = false
 is_later_procedure procedures.MergeWorkspace = false
+is_later_procedure procedures.SetConflictWorkspace = false
 is_later_procedure _ = true
 
 abbrev pub is_later_name : Option Procedure → Bool
@@ -32,16 +33,16 @@ later_call _ = false
 
 -- ---- sources
 
--- the name of a view: of conflicts, differences, history or locks
-abbrev pub is_view : List ℕ → Bool
-is_view name = ends_with nat_eq name (codes "_CONF") || ends_with nat_eq name (codes "_DIFF") || ends_with nat_eq name (codes "_HIST") || ends_with nat_eq name (codes "_LOCK")
+-- the name of a view of differences or locks
+abbrev pub is_later_view : List ℕ → Bool
+is_later_view name = ends_with nat_eq name (codes "_DIFF") || ends_with nat_eq name (codes "_LOCK")
 
-abbrev pub is_view_source : Src → Bool
-is_view_source s = is_view s.table
+abbrev pub is_later_source : Src → Bool
+is_later_source s = is_later_view s.table
 
--- a query over a view
+-- a query over such a view
 abbrev pub later_source : Statement → Bool
-later_source (Select q) = list_any is_view_source q.sources
+later_source (Select q) = list_any is_later_source q.sources
 later_source _ = false
 
 -- ---- lines

@@ -2,7 +2,7 @@ ghost use Rattle.std.specs.Prelude.{◌≡◌, List};
 ghost use Rattle.std.specs.List.{list_any};
 ghost use Rattle.wm_base.specs.Views.{srcs_view, statement_view, line_view};
 ghost use Rattle.wm_grammar.specs.Calls.{procedure_of};
-ghost use Rattle.wm_calls.specs.Later.{is_later_procedure, is_later_name, later_call, is_view, is_view_source, later_source, is_later_statement, is_later};
+ghost use Rattle.wm_calls.specs.Later.{is_later_procedure, is_later_name, later_call, is_later_view, is_later_source, later_source, is_later_statement, is_later};
 
 use wm_base::tree::line::Line;
 use wm_base::tree::query::Src;
@@ -22,7 +22,8 @@ fn is_later_procedure(procedure: Procedure) -> bool
         | Procedure::RollbackToSp
         | Procedure::RemoveWorkspace
         | Procedure::RefreshWorkspace
-        | Procedure::MergeWorkspace => false,
+        | Procedure::MergeWorkspace
+        | Procedure::SetConflictWorkspace => false,
         _ => true,
     }
 }
@@ -46,33 +47,30 @@ fn later_call(statement: &Statement) -> bool
     }
 }
 
-/// Whether it is the name of a view: of conflicts, differences, history or locks.
-fn is_view(name: &[u8]) -> bool
-    ensures { result ≡ is_view name.now }
+/// Whether it is the name of a view of differences or locks.
+fn is_later_view(name: &[u8]) -> bool
+    ensures { result ≡ is_later_view name.now }
 {
-    name.ends_with(b"_CONF")
-        || name.ends_with(b"_DIFF")
-        || name.ends_with(b"_HIST")
-        || name.ends_with(b"_LOCK")
+    name.ends_with(b"_DIFF") || name.ends_with(b"_LOCK")
 }
 
-fn any_view(sources: &[Src]) -> bool
-    ensures { result ≡ list_any is_view_source (srcs_view sources.now) }
+fn any_later(sources: &[Src]) -> bool
+    ensures { result ≡ list_any is_later_source (srcs_view sources.now) }
 {
     for source in sources {
-        if is_view(source.table.as_bytes()) {
+        if is_later_view(source.table.as_bytes()) {
             return true;
         }
     }
     false
 }
 
-/// Whether the statement is a query over a view.
+/// Whether the statement is a query over such a view.
 fn later_source(statement: &Statement) -> bool
     ensures { result ≡ later_source (statement_view statement.now) }
 {
     match statement {
-        Statement::Select(query) => any_view(query.sources.as_slice()),
+        Statement::Select(query) => any_later(query.sources.as_slice()),
         _ => false,
     }
 }

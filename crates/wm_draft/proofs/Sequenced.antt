@@ -7,6 +7,8 @@ use Rattle.std.specs.List.{list_any}
 use Rattle.std.specs.declared.alloc.Global.{Global}
 use Rattle.std.specs.declared.vec.Vec.{Vec}
 use Rattle.wm_graph.specs.Rules.{keep_rules}
+use Rattle.wm_prices.proofs.Spending.{spends_more}
+use Rattle.wm_prices.specs.Prices.{Costs, Spends}
 use Rattle.wm_state.proofs.Batches.{Ascend-applied}
 use Rattle.wm_state.proofs.ById.{either-none, eqb-apart, one_order}
 use Rattle.wm_state.proofs.Drafted.{drafts_nothing}
@@ -129,6 +131,7 @@ pub record Goes (rs : List Stored) (m : ℕ) (edits yielded left : List Edit) (c
   pub all : edits ≡ first ∷ (yielded ++ left)
   pub counted : count ≡ length left
   pub still : yielded ≡ [] → front ≡ []
+  pub spends : Spends m rs (first ∷ yielded) (applied last now)
 
 -- what is asked of a list that has a first edit
 pub asked_some : (rs : List Stored) (m : ℕ) (edits left : List Edit) (e : Edit) → CanDraft rs m edits → edits ≡ e ∷ left → CanWork (parts_of rs) m line_work × (length (e ∷ left) ≤ edit_limit) × CanEditAll rs m (e ∷ left)
@@ -149,8 +152,8 @@ room_first rs m work count edits left e can is counts works =
 
 -- the first one is drafted
 pub goes_first : (rs : List Stored) (m work left_count : ℕ) (edits left : List Edit) (e : Edit) (front last : List Change) → CanDraft rs m edits → edits ≡ e ∷ left → left_count ≡ length left → work ≡ 4096 - left_count
-    → DraftsBy work rs m (e ∷ []) last → front ≡ [] → Goes rs m edits [] left left_count front last rs
-goes_first rs m work left_count edits left e front last can is left_many works drafts none =
+    → DraftsBy work rs m (e ∷ []) last → Costs rs e (applied last rs) → front ≡ [] → Goes rs m edits [] left left_count front last rs
+goes_first rs m work left_count edits left e front last can is left_many works drafts costs none =
     subst (λ cs. Goes rs m edits [] left left_count cs last rs) (sym none)
     (record {
       first = e;
@@ -158,6 +161,7 @@ goes_first rs m work left_count edits left e front last can is left_many works d
       all = is;
       counted = left_many;
       still = λ none. refl;
+      spends = record { next = applied last rs; spent = record { work = work; changes = last; drafts = drafts; is = refl; costs = costs }; rest = refl };
     })
   where
     asked : CanWork (parts_of rs) m line_work × (length (e ∷ left) ≤ edit_limit) × CanEditAll rs m (e ∷ left)
@@ -189,13 +193,15 @@ goes_can rs m count edits yielded old left x front last now next sorted g is bec
 
 -- it is drafted
 pub goes_next : (rs : List Stored) (m count fewer : ℕ) (edits yielded old left : List Edit) (x : Edit) (front last both newest : List Change) (now next : List Stored) → Ascend rs → Goes rs m edits yielded old count front last now
-    → old ≡ x ∷ left → fewer + 1 ≡ count → next ≡ applied last now → both ≡ followed_by front last → DraftsBy 1 next m (x ∷ []) newest → Goes rs m edits (yielded ++ x ∷ []) left fewer both newest next
-goes_next rs m count fewer edits yielded old left x front last both newest now next sorted g is one becomes are drafts = record {
+    → old ≡ x ∷ left → fewer + 1 ≡ count → next ≡ applied last now → both ≡ followed_by front last → DraftsBy 1 next m (x ∷ []) newest → Costs next x (applied newest next) → Goes rs m edits (yielded ++ x ∷ []) left fewer both newest next
+goes_next rs m count fewer edits yielded old left x front last both newest now next sorted g is one becomes are drafts costs = record {
   first = g.first;
   drafting = drafting_next rs m g.first x yielded left front last both newest now next sorted (subst (λ es. AreDrafting rs m g.first yielded es front last now) is g.drafting) becomes are drafts;
   all = g.all ∙ ap (λ es. g.first ∷ (yielded ++ es)) is ∙ ap (λ es. g.first ∷ es) (sym (append_assoc yielded (x ∷ []) left));
   counted = less fewer count (length left) one (g.counted ∙ ap length is);
   still = λ none. absurd (some yielded none);
+  spends = spends_more m rs next (applied newest next) (g.first ∷ yielded) x (subst (λ (ss : List Stored). Spends m rs (g.first ∷ yielded) ss) (sym becomes) g.spends)
+      (record { work = 1; changes = newest; drafts = drafts; is = refl; costs = costs });
 }
   where
     less : (c n l : ℕ) → c + 1 ≡ n → n ≡ suc l → c ≡ l
@@ -217,6 +223,17 @@ pub goes_rest : (rs : List Stored) (m count : ℕ) (edits yielded left : List Ed
     → applied all now ≡ applied all rs
 goes_rest rs m count edits yielded left front last all now sorted g is = rest_is rs m g.first yielded left front last all now sorted g.drafting is
 
+-- each at its price
+pub goes_spends : (rs : List Stored) (m count : ℕ) (edits yielded left : List Edit) (front last all : List Change) (now : List Stored) → Ascend rs → Goes rs m edits yielded left count front last now → count ≡ 0 → all ≡ followed_by front last
+    → Spends m rs edits (applied all rs)
+goes_spends rs m count edits yielded left front last all now sorted g none is =
+    subst (λ (es : List Edit). Spends m rs es (applied all rs)) (sym (whole left (sym g.counted ∙ none) g.all))
+    (subst (Spends m rs (g.first ∷ yielded)) (goes_on rs front last now (applied last now) sorted g.drafting.is refl ∙ ap (λ cs. applied cs rs) (sym is)) g.spends)
+  where
+    whole : (es : List Edit) → length es ≡ 0 → edits ≡ g.first ∷ (yielded ++ es) → edits ≡ g.first ∷ yielded
+    whole [] zero are = are ∙ ap (λ es. g.first ∷ es) (append-nil yielded)
+    whole (x ∷ es) more are = absurd (omega (arith, more))
+
 -- where there is one edit alone the records are as they were
 pub goes_still : (rs : List Stored) (m count : ℕ) (edits yielded left : List Edit) (front last : List Change) (now : List Stored) → Goes rs m edits yielded left count front last now → length edits ≤ 1 → now ≡ rs
 goes_still rs m count edits yielded left front last now g one = g.drafting.is ∙ ap (λ cs. applied cs rs) (g.still (none yielded g.all))
@@ -231,6 +248,10 @@ goes_still rs m count edits yielded left front last now g one = g.drafting.is �
 -- a list without a first edit
 pub goes_none : (rs : List Stored) (m : ℕ) (edits : List Edit) (changes : List Change) → keep_rules (parts_of rs) ≡ true → edits ≡ [] → changes ≡ [] → Drafts rs m edits changes
 goes_none rs m edits changes rules none is = subst (λ es. Drafts rs m es changes) (sym none) (subst (Drafts rs m []) (sym is) (drafts_nothing rs m rules))
+
+-- and it costs nothing
+pub none_spends : (rs : List Stored) (m : ℕ) (edits : List Edit) (changes : List Change) → edits ≡ [] → changes ≡ [] → Spends m rs edits (applied changes rs)
+none_spends rs m edits changes none is = subst (λ (es : List Edit). Spends m rs es (applied changes rs)) (sym none) (ap (λ cs. applied cs rs) is)
 
 -- as many are left as are told
 pub many_left : (n k : ℕ) (v : Vec Edit Global) (e : Edit) (left : List Edit) → v.items ≡ e ∷ left → n + 1 ≡ k → k ≡ vec_len v → n ≡ length left

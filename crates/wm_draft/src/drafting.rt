@@ -3,6 +3,7 @@ ghost use Rattle.std.specs.Prelude.{◌≡◌, ◌≤◌, ◌∷◌, [], length,
 ghost use Rattle.wm_changes.specs.Ids.{HasGreatId};
 ghost use Rattle.wm_graph.specs.Parts.{parts_of};
 ghost use Rattle.wm_graph.specs.Rules.{keep_rules};
+ghost use Rattle.wm_prices.specs.Prices.{Costs, Spends};
 ghost use Rattle.wm_state.specs.ById.{Ascend, applied};
 ghost use Rattle.wm_state.specs.Drafts.{CanDraft, CanEdit, CanWork, Drafts, DraftsBy};
 
@@ -35,6 +36,7 @@ fn draft_one(
     requires work { CanWork (parts_of image.now) moment work }
     requires can { CanEdit (parts_of image.now) moment edit }
     ensures drafts { IfOk result (DraftsBy work image.now moment (edit ∷ [])) }
+    ensures costs { IfOk result (λ changes. Costs image.now edit (applied changes image.now)) }
     ensures full { IfErr result (λ fault. fault ≡ DraftFault.Ids → HasGreatId image.now) }
 {
     match edit {
@@ -69,6 +71,7 @@ fn draft_all(
     requires rules { keep_rules (parts_of image.old) ≡ true }
     requires can { CanDraft image.old moment edits.items }
     ensures drafts { IfOk result (Drafts image.old moment edits.items) }
+    ensures spends { IfOk result (λ changes. Spends moment image.old edits.items (applied changes image.old)) }
     ensures rest { IfOk result (λ changes. applied changes image.new ≡ applied changes image.old) }
     ensures one { length edits.items ≤ 1 → OnOk result (image.new ≡ image.old) }
     ensures full { IfErr result (λ fault. fault ≡ DraftFault.Ids → HasGreatId image.new) }
@@ -104,6 +107,8 @@ pub fn draft(
     requires rules { keep_rules (parts_of image.old) ≡ true }
     requires can { CanDraft image.old moment edits.items }
     ensures drafts { IfOk result (λ batch. Drafts image.old moment edits.items batch.changes) }
+    // Each edit of a merge or a refresh costs no more than it may.
+    ensures spends { IfOk result (λ batch. Spends moment image.old edits.items (applied batch.changes image.old)) }
     ensures rest { IfOk result (λ batch. applied batch.changes image.new ≡ applied batch.changes image.old) }
     ensures one { length edits.items ≤ 1 → OnOk result (image.new ≡ image.old) }
     ensures full { IfErr result (λ fault. fault ≡ DraftFault.Ids → HasGreatId image.new) }

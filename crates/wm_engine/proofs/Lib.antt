@@ -12,3 +12,4 @@ pub mod Calling
 pub mod Replying
 pub mod Sounding
 pub mod Causes
+pub mod NetLines

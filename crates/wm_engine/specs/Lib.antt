@@ -3,3 +3,5 @@ pub mod Keeping
 pub mod Timely
 pub mod Cause
 pub mod ForkLines
+pub mod NetLines
+pub mod Kinds

@@ -1,15 +1,19 @@
 //! The state between two lines, and what a line does to it.
-ghost use Rattle.std.specs.Prelude.{◌≡◌, ℕ, ◌<◌, ◌≤◌, ◌⊎◌, List, true, false, OnOk, OnSome, IfOk, IfErr, IfSome, IsErrOf};
+ghost use Rattle.std.specs.Prelude.{◌≡◌, ℕ, ◌<◌, ◌≤◌, ◌⊎◌, ◌+◌, ◌*◌, List, Some, true, false, OnOk, OnSome, IfOk, IfErr, IfSome, IsErrOf};
 ghost use Rattle.wm_base.specs.declared.fault.MakeFault.TheVariants as making;
 ghost use Rattle.wm_base.specs.declared.fault.OpenFault.TheVariants as opening;
 ghost use Rattle.wm_base.specs.declared.instant.TheConstants.{END};
 ghost use Rattle.wm_engine.specs.Cause.{LineCause};
 ghost use Rattle.wm_engine.specs.ForkLines.{is_fork};
+ghost use Rattle.wm_engine.specs.NetLines.{nets_into};
+ghost use Rattle.wm_engine.specs.Kinds.{kind_of};
 ghost use Rattle.wm_plan.specs.Idle.{is_idle};
 ghost use Rattle.wm_grammar.specs.Parsed.{parsed};
 ghost use Rattle.wm_engine.specs.Working.{FileStands, HoldsSorted, IsSound, LeavesAlone, StandsFor, WorksOver, Tells};
 ghost use Rattle.wm_model.specs.Step.Refusing.{refusal_of};
 ghost use Rattle.wm_engine.specs.declared.fault.LineFault.TheVariants as faults;
+ghost use Rattle.wm_prices.specs.Prices.{ChangesAtMost};
+ghost use Rattle.wm_spending.specs.Stretches.{stretch_count};
 ghost use Rattle.wm_state.specs.Drafts.{ChangesFew};
 ghost use Rattle.wm_state.specs.State.{State, begin, fresh};
 ghost use Rattle.wm_model.specs.Step.{step, answer_text};
@@ -18,6 +22,7 @@ ghost use Rattle.wm_print.specs.Texts.{Refused};
 ghost use Rattle.wm_station.specs.Cause.{Rises};
 ghost use Rattle.wm_station.specs.History.{now, said, Leaves, Synced};
 ghost use Rattle.wm_journal.specs.Disk.{is_made};
+ghost use Rattle.wm_journal.specs.Store.{Settles};
 ghost use Rattle.wm_store.specs.Opened.{HoldsAs};
 ghost use Rattle.wm_graph.specs.Parts.{parts_of};
 ghost use Rattle.wm_graph.specs.Rules.{keep_rules};
@@ -104,6 +109,8 @@ impl Engine {
         // Whatever the file was, its pages are held as they were, now and after a crash at any moment.
         ensures pages { P.tells → HoldsAs (now (P.history station.old)) (now (P.history station.new)) }
         ensures pages_any_moment { P.tells → During (P.history station.old) (P.history station.new) (λ c out. (Leaves (P.history station.old) c ⊎ HoldsAs (now (P.history station.old)) c) × (out ≡ said (P.history station.old))) }
+        // It syncs first, and a crash behind that leaves a file whose pages are held as they were.
+        ensures settles { P.tells → Settles (P.history station.old) (P.history station.new) (HoldsAs (now (P.history station.old))) }
         // One that is no store, or whose page 0 is short, of another format or has no journal in order, was only synced.
         ensures synced { P.tells → IfErr result (λ e. LeavesAlone e → P.history station.new ≡ Synced (P.history station.old)) }
         ensures later { P.disk_faults station.old ≤ P.disk_faults station.new }
@@ -141,6 +148,7 @@ impl Engine {
     ) -> Result<Reply, LineFault>
         requires works { P.tells → WorksOver self.old (P.history station.old) }
         ensures answered { IfOk result (λ reply. (s : State) → StandsFor self.old s → StandsFor self.new (step s line.now).0 × (reply.bytes ≡ answer_text (step s line.now).1)) }
+        ensures kind { IfOk result (λ reply. (s : State) → StandsFor self.old s → reply.kind ≡ kind_of (step s line.now).1) }
         ensures refused { IfOk result (λ reply. (s : State) → StandsFor self.old s → reply.refused ≡ refusal_of (step s line.now).1) }
         // Where it is refused the bytes tell the refusal, the engine is as it was, and the station did nothing: whatever the records
         // are, also those of a store that stands for no state.
@@ -151,6 +159,8 @@ impl Engine {
         ensures rules { OnOk result (keep_rules (parts_of self.new.records) ≡ true) }
         // A line that makes a savepoint or a workspace changes few records, and none of a row, a piece, a touch or an entry of a log.
         ensures few { is_fork (parsed line.now) ≡ true → OnOk result (ChangesFew self.old.records self.new.records) }
+        // A refresh, or a merge that removes nothing, changes eight records at most, and eight for each stretch of what is own or pending.
+        ensures net { (workspace : List ℕ) → nets_into (parsed line.now) ≡ Some workspace → (s : State) → StandsFor self.old s → OnOk result (ChangesAtMost (8 + 8 * stretch_count s workspace) self.old.records self.new.records) }
         // A line that is refused, that reads, that changes no row, or that says nothing changes no record and no session, and leaves the moment.
         ensures idle { (s : State) → StandsFor self.old s → is_idle (step s line.now).1 ≡ true → OnOk result ((self.new.records ≡ self.old.records) × (self.new.sessions ≡ self.old.sessions) × (self.new.moment ≡ self.old.moment)) }
         // Such a line writes nothing, and syncs nothing.

@@ -1,10 +1,12 @@
 //! A line over a store: what it does is planned and printed, and only then kept.
-ghost use Rattle.std.specs.Prelude.{◌≡◌, ◌<◌, ◌≤◌, ◌⊎◌, ℕ, List, [], true, OnOk, OnSome, IfOk, IfSome, IsErrOf};
+ghost use Rattle.std.specs.Prelude.{◌≡◌, ◌<◌, ◌≤◌, ◌⊎◌, ◌+◌, ◌*◌, ℕ, List, [], Some, true, OnOk, OnSome, IfOk, IfSome, IsErrOf};
 ghost use Rattle.wm_base.specs.declared.instant.TheConstants.{END};
 ghost use Rattle.wm_engine.specs.Cause.{LineCause};
 ghost use Rattle.wm_engine.specs.ForkLines.{is_fork};
+ghost use Rattle.wm_engine.specs.NetLines.{nets_into};
 ghost use Rattle.wm_plan.specs.Idle.{is_idle};
 ghost use Rattle.wm_engine.specs.Keeping.{AreDrafted, HoldsDrafted};
+ghost use Rattle.wm_engine.specs.Kinds.{kind_of};
 ghost use Rattle.wm_engine.specs.Working.{FileStands, HoldsSorted, IsSound, KeepsOver};
 ghost use Rattle.wm_engine.specs.declared.fault.LineFault.TheVariants as faults;
 ghost use Rattle.wm_graph.specs.Parts.{parts_of};
@@ -15,6 +17,8 @@ ghost use Rattle.wm_model.specs.Planning.{StandsAt, seated};
 ghost use Rattle.wm_model.specs.Step.{step, answer_text};
 ghost use Rattle.wm_grammar.specs.Parsed.{parsed};
 ghost use Rattle.wm_print.specs.Texts.{Refused};
+ghost use Rattle.wm_prices.specs.Prices.{ChangesAtMost, Spends};
+ghost use Rattle.wm_spending.specs.Stretches.{stretch_count};
 ghost use Rattle.wm_state.specs.Drafts.{CanDraft, ChangesFew};
 ghost use Rattle.wm_state.specs.State.{State};
 ghost use Rattle.wm_station.specs.Cause.{Rises};
@@ -56,6 +60,7 @@ fn keep<P: Station>(
     requires can { CanDraft image moment changed.edits.items }
     requires works { P.tells → KeepsOver store.old image (P.history station.old) }
     ensures image { IfOk result (AreDrafted image moment changed.edits.items) }
+    ensures spends { IfOk result (Spends moment image changed.edits.items) }
     ensures sessions { OnOk result (sessions.new.items ≡ seated sessions.old.items (seating_view changed.seating)) }
     ensures works { P.tells → IfOk result (λ i. KeepsOver store.new i (P.history station.new)) }
     ensures any_moment { P.tells → Ended (P.history station.old) (P.history station.new) (λ file. HoldsSorted file image ⊎ HoldsDrafted file image moment changed.edits.items) }
@@ -74,7 +79,7 @@ fn keep<P: Station>(
     let batch = draft(alloc, &mut image, moment, edits)?;
     commit(alloc, station, store, &batch)?;
     image.apply(alloc, batch)?;
-    seat(sessions, seating)?;
+    seat(alloc, sessions, seating)?;
     Ok(image)
 }
 
@@ -92,6 +97,7 @@ pub fn run_line<P: Station>(
     requires moment { moment < END }
     requires works { P.tells → KeepsOver store.old image (P.history station.old) }
     ensures answered { IfOk result (λ k. (s : State) → StandsAt image sessions.old.items moment s → StandsAt k.image sessions.new.items k.moment (step s line.now).0 × (k.reply.bytes ≡ answer_text (step s line.now).1)) }
+    ensures kind { IfOk result (λ k. (s : State) → StandsAt image sessions.old.items moment s → k.reply.kind ≡ kind_of (step s line.now).1) }
     ensures refused { IfOk result (λ k. (s : State) → StandsAt image sessions.old.items moment s → k.reply.refused ≡ refusal_of (step s line.now).1) }
     // What it says of a refusal it says of all records, also of some that stand for no state: the bytes tell it, nothing changes, and the file is not touched.
     ensures refusal { IfOk result (λ k. IfSome k.reply.refused (λ refusal. k.reply.bytes ≡ answer_text (Refused refusal))) }
@@ -100,6 +106,7 @@ pub fn run_line<P: Station>(
     ensures rules { IfOk result (λ k. keep_rules (parts_of k.image) ≡ true) }
     ensures moment { IfOk result (λ k. k.moment < END) }
     ensures few { is_fork (parsed line.now) ≡ true → IfOk result (λ k. ChangesFew image k.image) }
+    ensures net { (workspace : List ℕ) → nets_into (parsed line.now) ≡ Some workspace → IfOk result (λ k. (s : State) → StandsAt image sessions.old.items moment s → ChangesAtMost (8 + 8 * stretch_count s workspace) image k.image) }
     ensures idle { IfOk result (λ k. (s : State) → StandsAt image sessions.old.items moment s → is_idle (step s line.now).1 ≡ true → (k.image ≡ image) × (sessions.new.items ≡ sessions.old.items) × (k.moment ≡ moment)) }
     // A line that is refused, that reads, that changes no row, or that says nothing does not touch the file, whatever the result.
     ensures unwritten { P.tells → (s : State) → StandsAt image sessions.old.items moment s → is_idle (step s line.now).1 ≡ true → P.history station.new ≡ P.history station.old }

@@ -11,4 +11,4 @@ mod reply;
 
 pub use engine::Engine;
 pub use fault::LineFault;
-pub use reply::Reply;
+pub use reply::{Kind, Reply};

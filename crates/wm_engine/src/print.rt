@@ -3,8 +3,9 @@ ghost use Rattle.std.specs.Prelude.{◌≡◌, IfOk, codes};
 ghost use Rattle.wm_print.specs.Texts.{answer_text};
 ghost use Rattle.wm_plan.specs.Views.{answer_view};
 ghost use Rattle.wm_model.specs.Step.Refusing.{refusal_of};
+ghost use Rattle.wm_engine.specs.Kinds.{kind_of};
 
-use crate::reply::Reply;
+use crate::reply::{Kind, Reply};
 use std::alloc::Global;
 use wm_base::{Bytes, Memory};
 use wm_plan::answer::Answer;
@@ -13,13 +14,27 @@ use wm_print::{print_done, print_refusal, print_rows};
 /// An answer written out.
 pub fn reply_of(alloc: Global, answer: Answer) -> Result<Reply, Memory>
     ensures bytes { IfOk result (λ reply. reply.bytes ≡ answer_text (answer_view answer)) }
+    ensures kind { IfOk result (λ reply. reply.kind ≡ kind_of (answer_view answer)) }
     ensures refused { IfOk result (λ reply. reply.refused ≡ refusal_of (answer_view answer)) }
 {
     let bytes = print(alloc, &answer)?;
     Ok(Reply {
         bytes,
+        kind: kind(&answer),
         refused: answer.into_refusal(),
     })
+}
+
+fn kind(answer: &Answer) -> Kind
+    ensures { result ≡ kind_of (answer_view answer.now) }
+{
+    match answer {
+        Answer::Nothing => Kind::Nothing,
+        Answer::Fine => Kind::Fine,
+        Answer::Done(_) => Kind::Done,
+        Answer::Listing(_) => Kind::Listing,
+        Answer::Refused(_) => Kind::Refused,
+    }
 }
 
 /// The bytes of an answer.

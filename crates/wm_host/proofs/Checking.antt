@@ -4,12 +4,14 @@ use Rattle.std.specs.Prelude.{Result, Ok, Err, OnOk, OnErr, IfErr}
 use Rattle.std.specs.List.{list_any}
 use Rattle.wm_engine.specs.Working.{HoldsSorted, IsSound}
 use Rattle.wm_spec.specs.declared.record.stored.Stored.{Stored}
-use Rattle.wm_station.specs.History.{History, now, said, moment}
-use Rattle.wm_station.specs.Moments.{During, Holds}
+use Rattle.wm_station.specs.History.{History, Synced, now, said, moment}
+use Rattle.wm_station.specs.Moments.{During, Holds, Silent}
 use Rattle.wm_station.proofs.Steps.{during_begun, followed, weaken}
+use Rattle.wm_store.specs.Opened.{HoldsAs}
+use Rattle.wm_journal.specs.Store.{Settles}
 use Rattle.wm_host.specs.Cause.{IsOfOpening, IsOfSaying}
 use Rattle.wm_host.specs.Crash.{CrashSays}
-use Rattle.wm_host.specs.Outcome.{CrashChecks, HasSaidFront, HoldsSame, IsUnwritten, ok_text}
+use Rattle.wm_host.specs.Outcome.{CrashChecks, HasSaidFront, HoldsBehindSync, HoldsSame, IsUnwritten, ok_text}
 use Rattle.wm_host.specs.Saying.{OnlySaid, SaidPart}
 use Rattle.wm_host.specs.Status.{status_of, place_of}
 use Rattle.wm_host.specs.declared.stop.Stop.{Stop}
@@ -61,6 +63,34 @@ crash_checked old begun new piece is quiet sound same opening says =
         is = sym is ∙ some.is;
         opened = inr (sound, same.left file some.leaves);
       }
+
+-- ---- a crash behind the first sync
+
+-- where nothing, or only what follows, was said
+pub settled_unchecked : (old new : History) → Settles old new (HoldsAs (now old)) → HoldsBehindSync old new
+settled_unchecked old new settles =
+    ⊎_elim (λ same. inl ([], record { calls = []; told = same; out_is = refl }))
+    (λ run. inr (weaken (Synced old) new (Silent old (HoldsAs (now old))) (λ file after. HoldsAs (now old) file) (λ file after both. both.0) run)) settles
+
+settled_saying : (old begun new : History) (piece : List ℕ) → During begun new (CrashSays begun piece) → During (Synced old) begun (Silent old (HoldsAs (now old))) → During (Synced old) new (λ file after. HoldsAs (now old) file)
+settled_saying old begun new piece says run =
+    weaken (Synced old) new (λ file after. Silent old (HoldsAs (now old)) file after ⊎ CrashSays begun piece file after) (λ file after. HoldsAs (now old) file)
+    (λ file after. ⊎_elim (λ silent. silent.0) (λ some. (run.each file (said begun) (leaves_since begun (moment (Synced old)) file run.later some.leaves)).0))
+    (followed (Synced old) begun new (Silent old (HoldsAs (now old))) (CrashSays begun piece) run says)
+
+pub settled_checked : (old begun new : History) (piece out : List ℕ) → OnlySaid begun new out → During begun new (CrashSays begun piece) → Settles old begun (HoldsAs (now old)) → HoldsBehindSync old new
+settled_checked old begun new piece out only says settles =
+    ⊎_elim (λ same. inl (out, subst (λ (h : History). OnlySaid h new out) same only)) (λ run. inr (settled_saying old begun new piece says run)) settles
+
+-- however the saying ended
+pub settled_said : (tells : Type 0) (old begun new : History) (piece : List ℕ) (result : Result (Unit {0}) Stop) → tells → OnOk result (OnlySaid begun new piece) → OnErr result (SaidPart tells begun new piece)
+    → During begun new (CrashSays begun piece) → Settles old begun (HoldsAs (now old)) → HoldsBehindSync old new
+settled_said tells old begun new piece (Ok done) t only part says settles = settled_checked old begun new piece piece only says settles
+settled_said tells old begun new piece (Err stop) t only part says settles = settled_checked old begun new piece part.part (part.only t) says settles
+
+-- where nothing was done
+pub settled_unread : (h : History) → HoldsBehindSync h h
+settled_unread h = inl ([], record { calls = []; told = refl; out_is = refl })
 
 -- ---- statuses
 

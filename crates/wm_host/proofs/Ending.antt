@@ -136,7 +136,7 @@ takes_none limit script left same = record { taken = []; script_is = sym same; f
 -- ---- where a run begins
 
 -- sessions and the moment stand in no file
-file_begins : (file : List ℕ) (s : State) (moment : ℕ) → FileStands file s → FileStands file (begin s moment)
+pub file_begins : (file : List ℕ) (s : State) (moment : ℕ) → FileStands file s → FileStands file (begin s moment)
 unfolding begin
 file_begins file s moment stands = record { records = stands.records; held = stands.held; stands = stands.stands; lawful = stands.lawful }
 

@@ -50,6 +50,13 @@ IsOfAnswers Memory = Unit {0}
 IsOfAnswers Changed = Unit {0}
 IsOfAnswers stop = ⊥
 
+-- what ends a run while it runs a line
+abbrev pub IsOfRunning : Stop → Type 0
+IsOfRunning DiskFault = Unit {0}
+IsOfRunning Memory = Unit {0}
+IsOfRunning Changed = Unit {0}
+IsOfRunning stop = ⊥
+
 -- what ends a run over the lines of a script
 abbrev pub IsOfScript : Stop → Type 0
 IsOfScript NotStore = ⊥

@@ -8,7 +8,7 @@ ghost use Rattle.wm_station.specs.History.{now, said, Leaves, Synced};
 ghost use Rattle.wm_station.specs.Moments.{During, Holds};
 ghost use Rattle.wm_journal.specs.Disk.{is_made};
 ghost use Rattle.wm_store.specs.Opened.{HoldsAs};
-ghost use Rattle.wm_host.specs.Outcome.{CrashChecks, HasSaid, HasSaidFront, HoldsSame, IsDamaged, IsPage, IsUnwritten, ok_text};
+ghost use Rattle.wm_host.specs.Outcome.{CrashChecks, HasSaid, HasSaidFront, HoldsBehindSync, HoldsSame, IsDamaged, IsPage, IsUnwritten, ok_text};
 
 use crate::ended::Ended;
 use crate::say::say_all;
@@ -28,6 +28,8 @@ pub(crate) fn check<P: Station>(alloc: Global, station: &mut P) -> Ended
     // Whatever the answer, the pages are held as they were, also by what a crash within it leaves.
     ensures pages { P.tells → HoldsAs (now (P.history station.old)) (now (P.history station.new)) }
     ensures crash { P.tells → During (P.history station.old) (P.history station.new) (CrashChecks (P.history station.old)) }
+    // It syncs first, and a crash behind that leaves a file that holds what it held.
+    ensures behind_sync { P.tells → HoldsBehindSync (P.history station.old) (P.history station.new) }
     ensures not_store { result.status ≡ 6 → P.tells → (is_made (now (P.history station.old)) ≡ false) × (now (P.history station.new) ≡ now (P.history station.old)) }
     // A file that is no store, or whose page 0 is found damaged before a repair, is only synced.
     ensures synced { result.status ≡ 6 → P.tells → P.history station.new ≡ Synced (P.history station.old) }

@@ -10,11 +10,13 @@ ghost use Rattle.wm_station.specs.Moments.{During, Holds};
 ghost use Rattle.wm_journal.specs.Disk.{is_made};
 ghost use Rattle.wm_store.specs.Opened.{HoldsAs};
 ghost use Rattle.wm_host.specs.Crash.{CrashOfRun, CrashAnswers};
-ghost use Rattle.wm_host.specs.Outcome.{CrashChecks, HasSaid, HasSaidFront, HoldsSame, Answered, AnswersSome, AnswersEnded, IsDamaged, IsPage, IsUnwritten, StaysSound, TakesAtMost, OfCheck, OfInit, OfRun, FromEach, FrontOfRun, ok_text, statuses_of};
+ghost use Rattle.wm_host.specs.Loading.{CrashOfLoad, Loaded, LoadsSome};
+ghost use Rattle.wm_host.specs.Outcome.{CrashChecks, HasSaid, HasSaidFront, HoldsBehindSync, HoldsSame, Answered, AnswersSome, AnswersEnded, IsDamaged, IsPage, IsUnwritten, StaysSound, TakesAtMost, OfCheck, OfInit, OfLoad, OfRun, FromEach, LoadsEach, FrontOfRun, load_lines, ok_text, statuses_of};
 ghost use Rattle.wm_words.specs.Words.{command_of as command_in};
 
 use crate::check::check;
 use crate::ended::Ended;
+use crate::load::load;
 use crate::store::{init, run_store};
 use std::alloc::Global;
 use wm_station::{Source, Station};
@@ -23,9 +25,11 @@ use wm_words::{Command, command_of};
 /// Runs the command that the words give. `init --limit N` makes a store that takes N changes, and says
 /// `OK`. `run --now T` opens the store, takes the source as a script, and says the answer to each of its
 /// lines; what a line changes is kept before it is answered. `check` opens the store, which writes out what
-/// a run before left in its journal, and says `OK`. In place of the space behind an option `=` may stand.
-/// N is a number of 1 to 20 digits from 1 to 1,048,576, and T a date, or a date and a time with a space or a
-/// `T` between them. Any other words end with status 2. Reading the words may want memory.
+/// a run before left in its journal, and says `OK`. `load --seed S --lines M` opens the store, runs the script
+/// of M lines and eight that S draws, and says how many lines it has and how many answers of each kind. In
+/// place of the space behind an option `=` may stand. The numbers have 1 to 20 digits: N is from 1 to
+/// 1,048,576, S below 2^64, and M at most 1,000,000; T is a date, or a date and a time with a space or a `T`
+/// between them. Any other words end with status 2. Reading the words may want memory.
 pub fn run<S: Source, P: Station>(
     alloc: Global,
     words: &[String],
@@ -87,7 +91,7 @@ pub fn run<S: Source, P: Station>(
     // `check`. Status 0: the store was opened, and the whole of `OK` was said; else a front of it, and nothing where the
     // disk failed. Where it was opened, which statuses 0 and 4 say, the file was a store whose records keep the rules, and
     // what a read gives and each crash from then on leaves holds the same records. Whatever the status, the pages are
-    // held as they were, also by what a crash within it leaves, and the source is not touched.
+    // held as they were, also by what a crash within it leaves, and, once there was a sync, by each. The source is not touched.
     ensures check_done { result.status ≡ 0 → P.tells → OfCheck (command_in (map string_bytes words.now)) (HasSaid (P.history station.old) (P.history station.new) ok_text) }
     ensures check_front { P.tells → OfCheck (command_in (map string_bytes words.now)) (HasSaidFront (P.history station.old) (P.history station.new) ok_text) }
     ensures check_unsaid { result.status ≡ 5 → P.tells → OfCheck (command_in (map string_bytes words.now)) (said (P.history station.new) ≡ said (P.history station.old)) }
@@ -95,7 +99,30 @@ pub fn run<S: Source, P: Station>(
     ensures check_same { (result.status ≡ 0) ⊎ (result.status ≡ 4) → P.tells → OfCheck (command_in (map string_bytes words.now)) (Holds (P.history station.new) (HoldsSame (now (P.history station.old)))) }
     ensures check_pages { P.tells → OfCheck (command_in (map string_bytes words.now)) (HoldsAs (now (P.history station.old)) (now (P.history station.new))) }
     ensures check_crash { P.tells → OfCheck (command_in (map string_bytes words.now)) (During (P.history station.old) (P.history station.new) (CrashChecks (P.history station.old))) }
+    ensures check_behind_sync { P.tells → OfCheck (command_in (map string_bytes words.now)) (HoldsBehindSync (P.history station.old) (P.history station.new)) }
     ensures check_source { OfCheck (command_in (map string_bytes words.now)) ((source.new ≡ source.old) × (result.lines ≡ 0)) }
+
+    // `load`, from each state that the file stands for, at the store's last moment. Status 0: all lines of the script were
+    // run, the counts of their answers were said and nothing else, and the file stands for the state that they leave.
+    ensures load_done { result.status ≡ 0 → P.tells → LoadsEach (command_in (map string_bytes words.now)) (P.history station.old) (Loaded (P.history station.old) (P.history station.new)) }
+    ensures load_all { result.status ≡ 0 → OfLoad (command_in (map string_bytes words.now)) (λ seed count. result.lines ≡ length (load_lines seed count)) }
+
+    // Whatever the status: a front of the counts was said, nothing before all lines were run, nothing where the disk failed,
+    // lines are those that were run, and the file stands for the state after them or after one more.
+    ensures load_some { P.tells → LoadsEach (command_in (map string_bytes words.now)) (P.history station.old) (λ s script_lines. LoadsSome (P.history station.old) (P.history station.new) s script_lines result.lines) }
+    ensures load_silent { P.tells → OfLoad (command_in (map string_bytes words.now)) (λ seed count. (said (P.history station.new) ≡ said (P.history station.old)) ⊎ (result.lines ≡ length (load_lines seed count))) }
+    ensures load_unsaid { result.status ≡ 5 → P.tells → OfLoad (command_in (map string_bytes words.now)) (λ seed count. said (P.history station.new) ≡ said (P.history station.old)) }
+
+    // A crash at any moment leaves a file that one before could, with nothing said; or one that stands for the state after
+    // some of the lines, with a front of the counts said, and after all of them where any was said.
+    ensures load_crash { P.tells → LoadsEach (command_in (map string_bytes words.now)) (P.history station.old) (λ s script_lines. During (P.history station.old) (P.history station.new) (CrashOfLoad (P.history station.old) s script_lines)) }
+
+    // Statuses 0 and 4 come only where the file was a store whose records keep the rules, and it is one still, as each file
+    // that a crash may leave; whatever the status, such a store stays one. The source is not touched.
+    ensures load_opened { (result.status ≡ 0) ⊎ (result.status ≡ 4) → P.tells → OfLoad (command_in (map string_bytes words.now)) (λ seed count. IsSound (now (P.history station.old))) }
+    ensures load_still { (result.status ≡ 0) ⊎ (result.status ≡ 4) → P.tells → OfLoad (command_in (map string_bytes words.now)) (λ seed count. Holds (P.history station.new) IsSound) }
+    ensures load_kept_sound { P.tells → OfLoad (command_in (map string_bytes words.now)) (λ seed count. IsSound (now (P.history station.old)) → StaysSound (P.history station.old) (P.history station.new)) }
+    ensures load_source { OfLoad (command_in (map string_bytes words.now)) (λ seed count. source.new ≡ source.old) }
 
     // Status 6: the file is no store, stays as it is, and is only synced. Status 7: the first test of opening that fails is
     // the one that the place names; where that is page 0 with short, format or journal, the file is only synced too.
@@ -136,5 +163,6 @@ pub fn run<S: Source, P: Station>(
         Command::Init { limit } => init(alloc, station, limit),
         Command::Run { moment } => run_store(alloc, source, station, moment),
         Command::Check => check(alloc, station),
+        Command::Load { seed, lines } => load(alloc, station, seed, lines),
     }
 }

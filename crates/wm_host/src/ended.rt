@@ -12,7 +12,7 @@ pub struct Ended {
     /// damaged, 8 where there is a store already, 9 where the script is longer than 2^30 bytes, 10 for want
     /// of memory, and 11 where another writer changed the store.
     pub status: u8,
-    /// The lines whose whole answer was said.
+    /// The lines whose whole answer was said; of a script drawn from a number, the lines that were run.
     pub lines: u64,
     pub place: Place,
 }

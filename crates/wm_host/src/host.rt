@@ -1,22 +1,26 @@
 //! What takes the bytes of a script one by one, and answers each line as it ends.
-ghost use Rattle.std.specs.Prelude.{◌≡◌, ◌+◌, ◌^◌, ◌<◌, ◌≤◌, List, [], ◌∷◌, length, OnOk, OnErr, IsErrOf, IfErr, true};
-ghost use Rattle.wm_engine.specs.Working.{StandsFor};
+ghost use Rattle.std.specs.Prelude.{◌≡◌, ◌+◌, ◌^◌, ◌<◌, ◌≤◌, ◌⊎◌, List, [], ◌∷◌, length, OnOk, OnErr, IfOk, IsErrOf, IfErr, true};
+ghost use Rattle.wm_engine.specs.Working.{FileStands, IsSound, StandsFor};
 ghost use Rattle.wm_model.specs.Lines.{HasNoLf, capped};
+ghost use Rattle.wm_model.specs.Step.{step};
 ghost use Rattle.wm_state.specs.State.{State};
 ghost use Rattle.wm_station.specs.Cause.{Rises};
-ghost use Rattle.wm_host.specs.Cause.{IsOfAnswers};
+ghost use Rattle.wm_station.specs.Moments.{Ended};
+ghost use Rattle.wm_host.specs.Cause.{IsOfAnswers, IsOfRunning};
 ghost use Rattle.wm_host.specs.Crash.{Throughout, CrashLine, CrashRuns, CrashAnswers, CrashSound};
 ghost use Rattle.wm_host.specs.Hosting.{line_of, Answers, Unanswered, Says, Breaks, Finishes, Halts, WorksSoundly};
+ghost use Rattle.wm_host.specs.Loading.{RunsLine};
 ghost use Rattle.wm_host.specs.declared.stop.Stop.TheVariants.{SayFault, DiskFault, Changed, Memory as NoMemory};
 
 use crate::line::LineBuffer;
 use crate::say::say_all;
 use crate::stop::Stop;
 use std::alloc::Global;
-use wm_engine::Engine;
+use wm_engine::{Engine, Kind};
 use wm_station::Station;
 
-/// The engine, what is held of the line that has not ended yet, and how many lines were answered whole.
+/// The engine, what is held of the line that has not ended yet, and how many lines were answered whole; where
+/// nothing is said, how many were run.
 #[derive(Drop)]
 pub(crate) struct Host {
     engine: Engine,
@@ -147,5 +151,31 @@ impl Host {
             return Ok(());
         }
         self.end_line(alloc, station)
+    }
+
+    /// Runs a line and keeps what it changes, and says nothing: tells the kind of its answer.
+    pub(crate) fn run_line<P: Station>(
+        &mut self,
+        alloc: Global,
+        station: &mut P,
+        line: &[u8],
+    ) -> Result<Kind, Stop>
+        requires room { self.old.lines + 1 < 2 ^ 64 }
+        requires works { P.tells → WorksSoundly self.old.engine (P.history station.old) }
+        ensures ok { IfOk result (λ kind. RunsLine P.tells (P.history station.new) self.old self.new line.now kind) }
+        ensures err { OnErr result (self.new.lines ≡ self.old.lines) }
+        ensures any_moment { P.tells → (s : State) → StandsFor self.old.engine s → Ended (P.history station.old) (P.history station.new) (λ file. FileStands file s ⊎ FileStands file (step s line.now).0) }
+        ensures sound { P.tells → Ended (P.history station.old) (P.history station.new) IsSound }
+        ensures say_quiet { P.say_faults station.new ≡ P.say_faults station.old }
+        ensures disk_later { P.disk_faults station.old ≤ P.disk_faults station.new }
+        ensures disk_failed { IsErrOf result DiskFault → Rises (P.disk_faults station.old) (P.disk_faults station.new) }
+        ensures disk_kept { OnOk result (P.disk_faults station.new ≡ P.disk_faults station.old) }
+        ensures disk_spared { IsErrOf result NoMemory → P.disk_faults station.new ≡ P.disk_faults station.old }
+        ensures unchanged { P.tells → IsErrOf result Changed → ⊥ }
+        ensures running { IfErr result IsOfRunning }
+    {
+        let reply = self.engine.line(alloc, station, line)?;
+        self.lines += 1;
+        Ok(reply.kind)
     }
 }

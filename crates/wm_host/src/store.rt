@@ -9,6 +9,7 @@ ghost use Rattle.wm_station.specs.Cause.{Rises};
 ghost use Rattle.wm_station.specs.History.{now, said, Synced, Leaves};
 ghost use Rattle.wm_station.specs.Moments.{During, Holds};
 ghost use Rattle.wm_journal.specs.Disk.{is_made};
+ghost use Rattle.wm_journal.specs.Store.{Settles};
 ghost use Rattle.wm_store.specs.Opened.{HoldsAs};
 ghost use Rattle.wm_host.specs.Cause.{IsOfMaking, IsOfOpening, StopsAlone, StopTells};
 ghost use Rattle.wm_host.specs.Crash.{CrashOfRun, CrashAnswers, CrashOpens};
@@ -95,6 +96,7 @@ pub(crate) fn open_host<P: Station>(
     ensures pages_any_moment { P.tells → During (P.history station.old) (P.history station.new) (λ c s. (Leaves (P.history station.old) c ⊎ HoldsAs (now (P.history station.old)) c) × (s ≡ said (P.history station.old))) }
     // It opens only where the file was a store whose records keep the rules.
     ensures sound { P.tells → OnOk result (IsSound (now (P.history station.old))) }
+    ensures settles { P.tells → Settles (P.history station.old) (P.history station.new) (HoldsAs (now (P.history station.old))) }
     ensures same { P.tells → OnOk result (Holds (P.history station.new) (HoldsSame (now (P.history station.old)))) }
     ensures fault { P.tells → IfErr result (λ stop. StopTells stop (now (P.history station.old))) }
     ensures disk_later { P.disk_faults station.old ≤ P.disk_faults station.new }

@@ -12,9 +12,11 @@ ghost use Rattle.wm_spec.specs.declared.record.table.Table.{Table as OneTable};
 ghost use Rattle.wm_spec.specs.declared.record.version.Version.{Version as OneVersion};
 ghost use Rattle.wm_base.specs.declared.instant.TheConstants.{END};
 ghost use Rattle.wm_period.specs.Pieces.{held_at};
-ghost use Rattle.wm_graph.specs.Parts.{as_counters, as_space, as_table, parts_of, row_of, space_of, table_of, version_of};
+ghost use Rattle.wm_graph.specs.Parts.{as_counters, as_hist, as_space, as_table, parts_of, row_of, space_of, table_of, version_of};
 ghost use Rattle.wm_graph.specs.Rules.{keep_rules};
 ghost use Rattle.wm_spec.specs.Records.{AreRecords, record_at};
+ghost use Rattle.wm_index.specs.Hists.{AreByPosition, logged_on};
+ghost use Rattle.wm_index.specs.Kinds.{kind_at};
 ghost use Rattle.wm_index.specs.Sought.{OwnedBy, PiecesAt, PiecesIn, TouchesAt, ids_with, is_sought, is_touch_since};
 ghost use Rattle.wm_state.specs.ById.{Ascend, applied, by_id};
 ghost use Rattle.wm_image.specs.Shown.{Falls, along, is_child_from, is_saved_behind, names, rests_on};
@@ -38,6 +40,7 @@ use std::collections::BTreeMap;
 use std::marker::Model;
 use wm_base::{Key, Memory};
 use wm_catalog::Catalog;
+use wm_index::hists::ids_by_position;
 use wm_index::ids::{are_empty, first_id};
 use wm_index::index::Index;
 use wm_index::keyed::{ids_of, ids_on, ids_since, keys_on, last_key};
@@ -387,6 +390,15 @@ impl Image {
         ensures { IfOk result (λ ids. (id : ℕ) → list_any (λ k. k == id) ids.items ≡ option_map_or (is_touch_since space from) (record_at self.now id) false) }
     {
         let ids = ids_since(alloc, &self.index.touched_at, space, from)?;
+        Ok(ids)
+    }
+
+    /// The ids of the entries of the log of a workspace on a table, by position. No other entry is looked at.
+    pub fn hists(&self, alloc: Global, space: u32, table: u16) -> Result<Vec<u64>, Memory>
+        ensures { IfOk result (λ ids. AreByPosition (kind_at as_hist self.now ids.items) (logged_on space table (parts_of self.now).hists)) }
+    {
+        let log = ids_of(&self.index.hists_on, &(space, table));
+        let ids = ids_by_position(alloc, &self.kept, log)?;
         Ok(ids)
     }
 

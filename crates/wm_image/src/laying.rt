@@ -1,6 +1,6 @@
 //! All that the versions of a workspace hold for one key, laid over one another.
 
-ghost use Rattle.std.specs.Prelude.{◌≡◌, ◌<◌, ◌&&◌, ℕ, true, false, min, nat_le, nat_lt, IfOk, OnOk};
+ghost use Rattle.std.specs.Prelude.{◌≡◌, ◌<◌, ◌&&◌, ℕ, true, false, is_some, min, nat_le, nat_lt, IfOk, OnOk};
 ghost use Rattle.std.specs.List.Sorted.{IsStrictlySortedBy};
 ghost use Rattle.std.specs.Map.{keys_of};
 ghost use Rattle.std.specs.Option.{option_copied, option_and_then, option_map_or, option_or, option_to_list};
@@ -92,7 +92,18 @@ fn lay_version(
     Ok(laid)
 }
 
-/// Lays the pieces under versions over one another, those of the newest uppermost.
+/// Whether the first of pieces covers all of time, as every piece does of a table without valid time: then nothing that
+/// lies under them shows.
+fn is_whole(pieces: &Pieces) -> bool
+    ensures { result ≡ true → (t : ℕ) → t < END → is_some (held_at pieces.now t) ≡ true }
+{
+    match pieces.list() {
+        [first, ..] => first.period.from().seconds() == 0 && !first.period.till().is_moment(),
+        [] => false,
+    }
+}
+
+/// Lays the pieces under versions over one another, those of the newest uppermost, until nothing under them shows.
 fn lay_found(alloc: Global, kept: &Kept, found: &Ids<u64>) -> Result<Pieces, Memory>
     ensures ordered { OnOk result (IsStrictlySortedBy nat_cmp (keys_of found.now.entries)) }
     ensures held { IfOk result (λ laid. (t : ℕ) → t < END → held_at laid t ≡ last_held (listed kept.now.entries) found.now.entries t) }
@@ -101,6 +112,9 @@ fn lay_found(alloc: Global, kept: &Kept, found: &Ids<u64>) -> Result<Pieces, Mem
     let mut entries = found.iter();
     while let Some((version, ids)) = entries.next_back() {
         laid = lay_version(alloc, kept, ids.as_slice(), *version, laid)?;
+        if is_whole(&laid) {
+            return Ok(laid);
+        }
     }
     Ok(laid)
 }

@@ -10,3 +10,4 @@ pub mod Lasts
 pub mod Pairs
 pub mod Since
 pub mod Touched
+pub mod Positions

@@ -7,13 +7,14 @@ use Rattle.std.specs.Ordering.{nat_cmp, is_eq}
 use Rattle.std.specs.declared.alloc.Global.{Global}
 use Rattle.std.specs.declared.vec.Vec.{Vec}
 use Rattle.wm_spec.specs.declared.record.Record.TheVariants as records
+use Rattle.wm_spec.specs.declared.record.hist.Hist.{Hist}
 use Rattle.wm_spec.specs.declared.record.trace.Trace.{Trace}
 use Rattle.wm_spec.specs.declared.record.turn.Turn.{Turn}
 use Rattle.wm_base.specs.Key.{key_order}
 use Rattle.wm_base.specs.declared.value.Value.{Value}
 use Rattle.wm_index.proofs.TableLists.{is_at-number}
 use Rattle.wm_index.specs.Indexed.{ids_at}
-use Rattle.wm_index.specs.Sought.{Sought, OwnedBy, TouchAt, TouchesAt, TurnAt, Keyed, ids_in, is_sought, pair_order, piece_ids}
+use Rattle.wm_index.specs.Sought.{Sought, OwnedBy, TouchAt, TouchesAt, TurnAt, HistsOn, Keyed, ids_in, is_sought, pair_order, piece_ids}
 use Rattle.wm_index.specs.declared.index.Index.{Index}
 
 -- a test for `Equal` is a test for the same numbers
@@ -47,6 +48,15 @@ pub turn_changed : (change : List ℕ → List ℕ) (old : Index) (owned : BTree
 turn_changed change old owned turns r by_space by_number (OwnedBy space) = by_space space ∙ changed_number change (ids_in nat_cmp old.owned.entries) r.space space
 turn_changed change old owned turns r by_space by_number (TurnAt space number) = by_number (space, number) ∙ changed_pair change (ids_in pair_order old.turns_at.entries) (r.space, r.rebase) (space, number)
 turn_changed change old owned turns r by_space by_number _ = refl
+
+-- the ids under the keys of an entry of a log are changed
+pub hist_changed : (change : List ℕ → List ℕ) (old : Index) (owned : BTreeMap ℕ (Vec ℕ Global)) (hists : BTreeMap (ℕ × ℕ) (Vec ℕ Global)) (r : Hist)
+    → ((q : ℕ) → ids_in nat_cmp owned.entries q ≡ cond (is_eq (nat_cmp r.space q)) (change (ids_in nat_cmp old.owned.entries r.space)) (ids_in nat_cmp old.owned.entries q))
+    → ((q : ℕ × ℕ) → ids_in pair_order hists.entries q ≡ cond (is_eq (pair_order (r.space, r.cells.table) q)) (change (ids_in pair_order old.hists_on.entries (r.space, r.cells.table))) (ids_in pair_order old.hists_on.entries q))
+    → (q : Sought) → ids_at (record old { owned = owned; hists_on = hists }) q ≡ cond (is_sought q (records.Hist r)) (change (ids_at old q)) (ids_at old q)
+hist_changed change old owned hists r by_space by_log (OwnedBy space) = by_space space ∙ changed_number change (ids_in nat_cmp old.owned.entries) r.space space
+hist_changed change old owned hists r by_space by_log (HistsOn space table) = by_log (space, table) ∙ changed_pair change (ids_in pair_order old.hists_on.entries) (r.space, r.cells.table) (space, table)
+hist_changed change old owned hists r by_space by_log _ = refl
 
 -- the ids under the keys of a touch are changed
 pub touch_changed : (change : List ℕ → List ℕ) (old : Index) (owned : BTreeMap ℕ (Vec ℕ Global)) (touched : BTreeMap (ℕ × ℕ) (Vec ℕ Global)) (touches : BTreeMap ℕ Keyed) (r : Trace)

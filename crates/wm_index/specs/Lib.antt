@@ -1,3 +1,4 @@
 pub mod Sought
 pub mod Indexed
 pub mod Kinds
+pub mod Hists

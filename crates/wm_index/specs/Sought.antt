@@ -20,8 +20,8 @@ use Rattle.wm_spec.specs.Records.{record_at}
 -- the savepoints of a workspace, one by its making, those that keep a version, or those of workspaces with a number above 0 that see
 -- a version under their workspace's own; workspaces with a number above 0 that were born from a version, or see it under their own; a
 -- row by its stamp; the pieces on a table and a key, or the touches; the pieces of a version; whatever is a workspace's own: itself, its
--- versions, savepoints, touches, locks, entries of its log, marks and turns; the touches of a workspace at a position of its log, or its
--- turns of a number
+-- versions, savepoints, touches, locks, entries of its log, marks and turns; the touches of a workspace at a position of its log, its
+-- turns of a number, or the entries of its log on a table
 pub data Sought : Type 0 where
   TheCounters : Sought
   Tables : Sought
@@ -43,6 +43,7 @@ pub data Sought : Type 0 where
   OwnedBy : ℕ → Sought
   TouchAt : ℕ → ℕ → Sought
   TurnAt : ℕ → ℕ → Sought
+  HistsOn : ℕ → ℕ → Sought
 
 -- the record is what is sought
 abbrev pub is_sought : Sought → Record → Bool
@@ -73,6 +74,7 @@ is_sought (OwnedBy space) (records.Mark r) = r.space == space
 is_sought (OwnedBy space) (records.Turn r) = r.space == space
 is_sought (TouchAt space position) (records.Touch r) = (r.space == space) && (r.position == position)
 is_sought (TurnAt space number) (records.Turn r) = (r.space == space) && (r.rebase == number)
+is_sought (HistsOn space table) (records.Hist r) = (r.space == space) && (r.cells.table == table)
 is_sought _ _ = false
 
 -- the record is a touch of a workspace at a position of its log or behind it
@@ -103,7 +105,7 @@ ids_found found = unwrap_or (option_map (λ v. v.items) found) []
 abbrev pub ids_in : {K : Type 0} → (K → K → Ordering) → List (K × Vec ℕ Global) → K → List ℕ
 ids_in cmp entries key = ids_found (lookup (is_at (cmp key)) entries)
 
--- by a workspace, and in it by a position or a number
+-- by a workspace, and in it by a position, a number or a table
 abbrev pub pair_order : ℕ × ℕ → ℕ × ℕ → Ordering
 pair_order a b = ordering_then (nat_cmp a.0 b.0) (nat_cmp a.1 b.1)
 

@@ -10,14 +10,14 @@ use crate::keyed::{Ids, NumberIds, TableIds, add_in, add_on, add_to, drop_from, 
 use std::alloc::Global;
 use std::collections::BTreeMap;
 use wm_base::Memory;
-use wm_spec::record::{PieceRecord, Record, Savepoint, Space, Trace, Turn, Version};
+use wm_spec::record::{Hist, PieceRecord, Record, Savepoint, Space, Trace, Turn, Version};
 
 /// Ids in ascending order: of the counters, the tables and the workspaces; of workspaces and versions by number; of
 /// the versions of a workspace, by number, and of those under a version; of the savepoints of a workspace, by making,
 /// of those that keep a version, and of those of workspaces with a parent that see a version under their workspace's
 /// own; of the workspaces with a parent that were born from a version, or see it under their own; of rows by stamp;
 /// of pieces and of touches by table and key; of the pieces of a version; of the records that are a workspace's own;
-/// of touches by workspace and position, and of turns by workspace and number.
+/// of touches by workspace and position, of turns by workspace and number, and of entries of logs by workspace and table.
 #[derive(Drop)]
 pub struct Index {
     pub counters: Vec<u64>,
@@ -40,6 +40,7 @@ pub struct Index {
     pub owned: Ids<u32>,
     pub touched_at: Ids<(u32, u64)>,
     pub turns_at: Ids<(u32, u32)>,
+    pub hists_on: Ids<(u32, u16)>,
 }
 
 impl Index {
@@ -68,6 +69,7 @@ impl Index {
             owned: BTreeMap::new(alloc),
             touched_at: BTreeMap::new(alloc),
             turns_at: BTreeMap::new(alloc),
+            hists_on: BTreeMap::new(alloc),
         }
     }
 
@@ -86,7 +88,7 @@ impl Index {
             Record::Piece(piece) => self.add_piece(alloc, id, piece),
             Record::Touch(touch) => self.add_touch(alloc, id, touch),
             Record::Lock(lock) => add_to(alloc, &mut self.owned, lock.space, id),
-            Record::Hist(hist) => add_to(alloc, &mut self.owned, hist.space, id),
+            Record::Hist(hist) => self.add_hist(alloc, id, hist),
             Record::Mark(mark) => add_to(alloc, &mut self.owned, mark.space, id),
             Record::Turn(turn) => self.add_turn(alloc, id, turn),
         }
@@ -171,6 +173,16 @@ impl Index {
         add_to(alloc, &mut self.turns_at, number, id)
     }
 
+    /// Adds the id of an entry of a log.
+    fn add_hist(&mut self, alloc: Global, id: u64, hist: &Hist) -> Result<(), Memory>
+        requires { IdsAscend self.old }
+        ensures { OnOk result (Adds self.old self.new id (records.Hist hist.now)) }
+    {
+        add_to(alloc, &mut self.owned, hist.space, id)?;
+        let log = (hist.space, hist.cells.table);
+        add_to(alloc, &mut self.hists_on, log, id)
+    }
+
     /// Drops the id of a record.
     pub fn drop_record(&mut self, alloc: Global, id: u64, dropped: &Record) -> Result<(), Memory>
         requires { IdsAscend self.old }
@@ -192,7 +204,7 @@ impl Index {
             Record::Piece(piece) => self.drop_piece(alloc, id, piece),
             Record::Touch(touch) => self.drop_touch(alloc, id, touch),
             Record::Lock(lock) => drop_from(&mut self.owned, lock.space, id),
-            Record::Hist(hist) => drop_from(&mut self.owned, hist.space, id),
+            Record::Hist(hist) => self.drop_hist(id, hist),
             Record::Mark(mark) => drop_from(&mut self.owned, mark.space, id),
             Record::Turn(turn) => self.drop_turn(id, turn),
         }
@@ -269,5 +281,15 @@ impl Index {
         drop_from(&mut self.owned, turn.space, id)?;
         let number = (turn.space, turn.rebase);
         drop_from(&mut self.turns_at, number, id)
+    }
+
+    /// Drops the id of an entry of a log.
+    fn drop_hist(&mut self, id: u64, hist: &Hist) -> Result<(), Memory>
+        requires { IdsAscend self.old }
+        ensures { OnOk result (Drops self.old self.new id (records.Hist hist.now)) }
+    {
+        drop_from(&mut self.owned, hist.space, id)?;
+        let log = (hist.space, hist.cells.table);
+        drop_from(&mut self.hists_on, log, id)
     }
 }

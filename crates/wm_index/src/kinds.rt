@@ -2,9 +2,11 @@
 
 ghost use Rattle.std.specs.Prelude.{◌≡◌};
 ghost use Rattle.std.specs.Option.{option_copied, option_and_then};
-ghost use Rattle.wm_graph.specs.Parts.{as_counters, as_piece, as_row, as_savepoint, as_space, as_table, as_version};
+ghost use Rattle.wm_graph.specs.Parts.{as_counters, as_hist, as_piece, as_row, as_savepoint, as_space, as_table, as_version};
 
-use wm_spec::record::{Counters, PieceRecord, Record, RowRecord, Savepoint, Space, Table, Version};
+use wm_spec::record::{
+    Counters, Hist, PieceRecord, Record, RowRecord, Savepoint, Space, Table, Version,
+};
 
 pub fn counters_of(found: Option<&Record>) -> Option<Counters>
     ensures { result ≡ option_and_then as_counters (option_copied found.entry) }
@@ -65,6 +67,15 @@ pub fn piece_of(found: Option<&Record>) -> Option<&PieceRecord>
 {
     match found {
         Some(Record::Piece(piece)) => Some(piece),
+        _ => None,
+    }
+}
+
+pub fn hist_of(found: Option<&Record>) -> Option<&Hist>
+    ensures { option_copied result ≡ option_and_then as_hist (option_copied found.entry) }
+{
+    match found {
+        Some(Record::Hist(hist)) => Some(hist),
         _ => None,
     }
 }

@@ -2,6 +2,7 @@
 #![tactic(auto)]
 
 pub mod copies;
+pub mod hists;
 pub mod ids;
 pub mod index;
 pub mod keyed;

@@ -5,7 +5,7 @@ use Rattle.wm_station.specs.Moments.{During, Ended, Silent}
 use Rattle.wm_station.proofs.Steps.{Stage, begun, ended, during_begun, during_synced, followed, weaken, Torn-done}
 use Rattle.wm_journal.specs.Disk.{page, is_made, has_format, is_open, journal_page, journal}
 use Rattle.wm_journal.specs.Opening.{replaying, Repaired, RepairedPart}
-use Rattle.wm_journal.specs.Store.{Keeps, over}
+use Rattle.wm_journal.specs.Store.{Keeps, Settles, over}
 use Rattle.wm_journal.specs.Writes.{Did, DidPart, gating, placing}
 use Rattle.wm_journal.proofs.AllOrNothing.{closed}
 use Rattle.wm_journal.proofs.Commits.{gating_did, gating_part}
@@ -71,12 +71,14 @@ gating_durable byte h new did = subst Durable (sym did.2) (λ c left. left)
 pub record Kept (old new : History) : Type 0 where
   pub keeps : Keeps (now old) (now new)
   pub during : During old new (λ c s. (Leaves old c ⊎ Keeps (now old) c) × (s ≡ said old))
+  pub settles : Settles old new (Keeps (now old))
   pub quiet : said new ≡ said old
 
 pub kept_none : (old : History) → Kept old old
 kept_none old = record {
   keeps = keeps_itself (now old);
   during = during_begun old (λ c s. (Leaves old c ⊎ Keeps (now old) c) × (s ≡ said old)) (λ c left. (inl left, refl));
+  settles = inl refl;
   quiet = refl;
 }
 
@@ -85,6 +87,7 @@ pub kept_synced : (old : History) → Kept old (Synced old)
 kept_synced old = record {
   keeps = keeps_itself (now old);
   during = during_synced old old (λ c s. (Leaves old c ⊎ Keeps (now old) c) × (s ≡ said old)) (kept_none old).during (inr (keeps_itself (now old)), refl);
+  settles = inr (during_begun (Synced old) (Silent old (Keeps (now old))) (λ c left. (subst (Keeps (now old)) (sym left) (keeps_itself (now old)), refl)));
   quiet = refl;
 }
 
@@ -97,6 +100,7 @@ kept_run old new run =
       during = weaken old new (λ c s. P c s ⊎ Silent (Synced old) (Keeps (now old)) c s) P
           (λ c s any. ⊎_elim (λ before. before) (λ silent. (inr silent.0, silent.1)) any)
           (followed old (Synced old) new P (Silent (Synced old) (Keeps (now old))) (kept_synced old).during run.during);
+      settles = inr run.during;
       quiet = run.quiet;
     }
 

@@ -4,8 +4,8 @@ use Rattle.wm_page.specs.Entries.{found}
 use Rattle.wm_page.specs.Fields.{number_at}
 use Rattle.wm_journal.specs.Disk.{page, is_made, has_format, is_open, is_in_order, held, damage_of}
 use Rattle.wm_journal.specs.Writes.{Step, root_page, journal_bytes, committing}
-use Rattle.wm_station.specs.History.{History, now}
-use Rattle.wm_station.specs.Moments.{Holds}
+use Rattle.wm_station.specs.History.{History, Synced, now}
+use Rattle.wm_station.specs.Moments.{During, Holds, Silent}
 
 -- the file is a store that opening finds to hold these pages, from page 1 to before the limit
 pub record Stores (content : ℕ → List ℕ) (limit : ℕ) (file : List ℕ) : Type 0 where
@@ -27,6 +27,10 @@ pub record Rests (content : ℕ → List ℕ) (limit : ℕ) (file : List ℕ) : 
 pub record IsAtRest (h : History) (count : ℕ) : Type 0 where
   pub rests : Holds h (Rests (page (now h)) count)
   pub counted : number_at (page (now h) 1) 0 ≡ count
+
+-- nothing was done; or there was a sync first, and each crash behind it leaves a file that has P, with nothing more said
+abbrev pub Settles : History → History → (List ℕ → Type 0) → Type 0
+Settles old new P = (new ≡ old) ⊎ During (Synced old) new (Silent old P)
 
 -- the pages with a batch over them
 abbrev pub over : List (ℕ × List ℕ) → (ℕ → List ℕ) → ℕ → List ℕ

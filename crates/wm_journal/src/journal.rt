@@ -7,7 +7,7 @@ ghost use Rattle.wm_station.specs.History.{now, said, Leaves, Synced};
 ghost use Rattle.wm_station.specs.Moments.{During, Ended};
 ghost use Rattle.wm_station.specs.Cause.{Rises};
 ghost use Rattle.wm_journal.specs.Disk.{page, is_made, is_open, count_of, damage_of, are_below};
-ghost use Rattle.wm_journal.specs.Store.{IsAtRest, OldOrNew, Keeps, over, count_after, commit_steps, made_page};
+ghost use Rattle.wm_journal.specs.Store.{IsAtRest, OldOrNew, Keeps, Settles, over, count_after, commit_steps, made_page};
 ghost use Rattle.wm_journal.specs.Opening.{Says, IsUntouched};
 ghost use Rattle.wm_journal.specs.Writes.{Did, DidPart, making, root_page};
 
@@ -151,6 +151,8 @@ impl Journal {
 
         // A crash at any moment leaves what one could leave before, or a file that says what this one said.
         ensures any_moment { P.tells → During (P.history station.old) (P.history station.new) (λ c s. (Leaves (P.history station.old) c ⊎ Keeps (now (P.history station.old)) c) × (s ≡ said (P.history station.old))) }
+        // It syncs first, and a crash behind that leaves a file that says what this one said.
+        ensures settles { P.tells → Settles (P.history station.old) (P.history station.new) (Keeps (now (P.history station.old))) }
         ensures quiet { P.tells → said (P.history station.new) ≡ said (P.history station.old) }
         ensures untouched { P.tells → IfErr result (λ e. IsUntouched e → P.history station.new ≡ Synced (P.history station.old)) }
 

@@ -3,3 +3,4 @@ mod GoneBack
 mod GoneLists
 mod GoneVersions
 mod GoneWith
+mod Priced

@@ -3,6 +3,8 @@ ghost use Rattle.std.specs.Prelude.{◌≡◌, ◌∷◌, [], true, IfOk, IfErr}
 ghost use Rattle.wm_graph.specs.Parts.{parts_of};
 ghost use Rattle.wm_graph.specs.Rules.{keep_rules};
 ghost use Rattle.wm_changes.specs.Ids.{HasGreatId};
+ghost use Rattle.wm_prices.specs.Prices.{Costs};
+ghost use Rattle.wm_state.specs.ById.{applied};
 ghost use Rattle.wm_state.specs.Drafts.{CanKeep, CanSave, CanWork, DraftsBy};
 ghost use Rattle.wm_state.specs.declared.edit.Edit.TheVariants as edits;
 
@@ -56,6 +58,7 @@ pub fn keep(
     requires work { CanWork (parts_of image.now) moment work }
     requires can { CanKeep (parts_of image.now) space }
     ensures drafts { IfOk result (DraftsBy work image.now moment (edits.Keep space ∷ [])) }
+    ensures costs { IfOk result (λ changes. Costs image.now (edits.Keep space) (applied changes image.now)) }
     ensures full { IfErr result (λ fault. fault ≡ DraftFault.Ids → HasGreatId image.now) }
 {
     let id = ids_from(image, 1)?;

@@ -7,3 +7,4 @@ pub mod Kept
 pub mod MergePlans
 pub mod Parents
 pub mod RefreshPlans
+mod NetPlans

@@ -1,7 +1,9 @@
 //! What RefreshWorkspace and MergeWorkspace are given.
 
-ghost use Rattle.std.specs.Prelude.{◌≡◌, ◌<◌, Some, true, IfOk};
+ghost use Rattle.std.specs.Prelude.{◌≡◌, ◌<◌, [], Some, true, false, unwrap_or, IfOk};
 ghost use Rattle.wm_base.specs.declared.instant.TheConstants.{END};
+ghost use Rattle.wm_calls.specs.Arguments.{is_true_given, text_given};
+ghost use Rattle.wm_grammar.specs.declared.procedure.Parameter.TheVariants as parameters;
 ghost use Rattle.wm_grammar.specs.declared.procedure.Procedure.TheVariants as procedures;
 ghost use Rattle.wm_graph.specs.Parts.{parts_of};
 ghost use Rattle.wm_graph.specs.Rules.{keep_rules};
@@ -9,6 +11,7 @@ ghost use Rattle.wm_merge.specs.Views.{asked_view};
 ghost use Rattle.wm_model.specs.Step.{call, merge_asked};
 ghost use Rattle.wm_plan.specs.Idle.{Idles};
 ghost use Rattle.wm_plan.specs.Planning.{DoesIt};
+ghost use Rattle.wm_spending.specs.Nets.{AreNets};
 
 use crate::merging::{Asked, merge_workspace};
 use crate::refreshing::refresh_workspace;
@@ -36,6 +39,7 @@ pub fn refresh_call(
     requires moment { moment < END }
     ensures does { IfOk result (λ p. DoesIt image.now sessions.now moment p (call session.now (Some procedures.RefreshWorkspace) args.now)) }
     ensures idle { IfOk result Idles }
+    ensures nets { IfOk result (λ p. AreNets image.now (unwrap_or (text_given procedures.RefreshWorkspace args.now parameters.Workspace) []) p.edits.items) }
 {
     if let Some(parameter) = fault_of(alloc, Procedure::RefreshWorkspace, args)? {
         return Ok(Planned::answered(alloc, mistyped(parameter)));
@@ -67,6 +71,7 @@ pub fn merge_call(
     requires moment { moment < END }
     ensures does { IfOk result (λ p. DoesIt image.now sessions.now moment p (call session.now (Some procedures.MergeWorkspace) args.now)) }
     ensures idle { IfOk result Idles }
+    ensures nets { is_true_given procedures.MergeWorkspace args.now parameters.RemoveWorkspace ≡ false → IfOk result (λ p. AreNets image.now (unwrap_or (text_given procedures.MergeWorkspace args.now parameters.Workspace) []) p.edits.items) }
 {
     if let Some(parameter) = fault_of(alloc, Procedure::MergeWorkspace, args)? {
         return Ok(Planned::answered(alloc, mistyped(parameter)));

@@ -1,6 +1,6 @@
 //! MergeWorkspace.
 
-ghost use Rattle.std.specs.Prelude.{◌≡◌, ◌<◌, ◌++◌, ◌&&◌, ◌||◌, not, nat_lt, ℕ, List, map, true, IfOk, OnOk};
+ghost use Rattle.std.specs.Prelude.{◌≡◌, ◌<◌, ◌⊎◌, ◌++◌, ◌&&◌, ◌||◌, not, nat_lt, ℕ, List, [], map, true, false, IfOk, OnOk};
 ghost use Rattle.std.specs.Option.{option_map};
 ghost use Rattle.wm_base.specs.declared.instant.TheConstants.{END};
 ghost use Rattle.wm_graph.specs.Parts.{parts_of};
@@ -10,6 +10,7 @@ ghost use Rattle.wm_model.specs.Merged.{Merges, NamesFamily, after_edits, is_eve
 ghost use Rattle.wm_model.specs.Step.{counter_limit, merge_workspace};
 ghost use Rattle.wm_plan.specs.Idle.{Idles};
 ghost use Rattle.wm_plan.specs.Planning.{DoesIt};
+ghost use Rattle.wm_spending.specs.Nets.{AreNets};
 ghost use Rattle.wm_state.specs.Editing.{entry_of};
 ghost use Rattle.wm_state.specs.State.{Session as SessionState};
 ghost use Rattle.wm_telling.specs.Telling.{AreFamily};
@@ -171,6 +172,7 @@ fn merge_with(
     requires moment { moment < END }
     ensures does { IfOk result (λ p. (xs : List SessionState) (session : SessionState) (workspace : List ℕ) → Merges image.now moment xs session (asked_view asked) workspace family.entry.space.now family.entry.parent.now (map entry_of brought.own.items) (map entry_of brought.gained.items) → DoesIt image.now xs moment p (merge_workspace session (asked_view asked) workspace)) }
     ensures idle { IfOk result Idles }
+    ensures edits { IfOk result (λ p. (p.edits.items ≡ []) ⊎ (p.edits.items ≡ merge_edits (asked_view asked) (is_even_at family.entry.space.now family.entry.parent.now (map entry_of brought.own.items)) family.entry.space.now.number family.entry.parent.now.number brought.own brought.gained)) }
 {
     let even = is_even(family, brought.own.as_slice());
     if is_idle(even, asked) {
@@ -205,6 +207,7 @@ fn merge_into(
     requires family { AreFamily (parts_of image.now) family.space.now family.parent.now }
     ensures does { IfOk result (λ p. (workspace : List ℕ) → NamesFamily image.now workspace family.entry.space.now family.entry.parent.now → DoesIt image.now sessions.now moment p (merge_workspace session.now (asked_view asked) workspace)) }
     ensures idle { IfOk result Idles }
+    ensures nets { asked.removes ≡ false → IfOk result (λ p. (workspace : List ℕ) → NamesFamily image.now workspace family.entry.space.now family.entry.parent.now → AreNets image.now workspace p.edits.items) }
 {
     let Family { space, parent } = family;
     let user = session.user();
@@ -240,6 +243,8 @@ pub fn merge_workspace(
     requires moment { moment < END }
     ensures does { IfOk result (λ p. DoesIt image.now sessions.now moment p (merge_workspace session.now (asked_view asked) name.now)) }
     ensures idle { IfOk result Idles }
+    // Where it does not remove the workspace it makes no edits but those of a merge of it.
+    ensures nets { asked.removes ≡ false → IfOk result (λ p. AreNets image.now name.now p.edits.items) }
 {
     let Some(space) = image.space_named(name) else {
         return Ok(Planned::answered(alloc, no_workspace(Name::copy_of(alloc, name)?)));

@@ -1,6 +1,6 @@
 //! RefreshWorkspace.
 
-ghost use Rattle.std.specs.Prelude.{◌≡◌, ◌<◌, ◌++◌, ℕ, List, map, true, false, IfOk, OnOk};
+ghost use Rattle.std.specs.Prelude.{◌≡◌, ◌<◌, ◌⊎◌, ◌++◌, ℕ, List, [], map, true, false, IfOk, OnOk};
 ghost use Rattle.std.specs.Option.{option_map};
 ghost use Rattle.wm_base.specs.declared.instant.TheConstants.{END};
 ghost use Rattle.wm_graph.specs.Parts.{parts_of};
@@ -14,6 +14,7 @@ ghost use Rattle.wm_plan.specs.Planning.{DoesIt};
 ghost use Rattle.wm_plan.specs.declared.answer.Answer.TheVariants as answers;
 ghost use Rattle.wm_plan.specs.declared.seating.Seating.TheVariants as seatings;
 ghost use Rattle.wm_spec.specs.declared.record.space.Space.{Space as SpaceRecord};
+ghost use Rattle.wm_spending.specs.Nets.{AreNets};
 ghost use Rattle.wm_state.specs.Editing.{entry_of};
 ghost use Rattle.wm_state.specs.State.{Session as SessionState};
 ghost use Rattle.wm_telling.specs.Telling.{AreFamily, AreOwn};
@@ -108,6 +109,7 @@ fn refresh_with(
     requires own { AreOwn (parts_of image.now) space.now (map key_pieces own.now) }
     ensures does { IfOk result (λ p. (xs : List SessionState) (session : SessionState) (workspace : List ℕ) (parent : SpaceRecord) → Refreshes image.now moment session workspace space.now parent (map entry_of entries.items) → DoesIt image.now xs moment p (refresh_workspace session workspace)) }
     ensures idle { IfOk result Idles }
+    ensures edits { IfOk result (λ p. (p.edits.items ≡ []) ⊎ (p.edits.items ≡ refresh_edits space.now.number entries)) }
 {
     if is_long(space.log_length, entries.as_slice()) {
         return Ok(Planned::answered(alloc, at_its_end(alloc, b"LOG")?));
@@ -137,6 +139,7 @@ fn refresh_pending(
     requires pending { is_quiet_at space.now parent.now ≡ false }
     ensures does { IfOk result (λ p. (xs : List SessionState) (workspace : List ℕ) → NamesFamily image.now workspace space.now parent.now → DoesIt image.now xs moment p (refresh_workspace session.now workspace)) }
     ensures idle { IfOk result Idles }
+    ensures nets { IfOk result (λ p. (workspace : List ℕ) → NamesFamily image.now workspace space.now parent.now → AreNets image.now workspace p.edits.items) }
 {
     let own = own_pieces(alloc, image, space)?;
     let found = first_clash(alloc, image, space, parent, own.as_slice())?;
@@ -160,6 +163,8 @@ pub fn refresh_workspace(
     requires moment { moment < END }
     ensures does { IfOk result (λ p. (xs : List SessionState) → DoesIt image.now xs moment p (refresh_workspace session.now name.now)) }
     ensures idle { IfOk result Idles }
+    // It makes no edits but those of a refresh.
+    ensures nets { IfOk result (λ p. AreNets image.now name.now p.edits.items) }
 {
     let Some(space) = image.space_named(name) else {
         return Ok(Planned::answered(alloc, no_workspace(Name::copy_of(alloc, name)?)));

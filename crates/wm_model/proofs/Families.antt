@@ -3,7 +3,7 @@ use Rattle.std.proofs.Common.{arith, ◌≡◌, ℕ, ◌<◌, ◌==◌, nat_le, 
 use Rattle.std.specs.List.{find}
 use Rattle.std.specs.Option.{option_map}
 use Rattle.std.specs.Str.{bytes_eq}
-use Rattle.wm_graph.specs.Parts.{parts_of, table_of}
+use Rattle.wm_graph.specs.Parts.{parts_of, space_of, table_of}
 use Rattle.wm_graph.specs.Rules.{keep_rules}
 use Rattle.wm_net.specs.Nets.{Stamped, net}
 use Rattle.wm_net.specs.Conflicts.{Stamps}
@@ -17,7 +17,7 @@ use Rattle.wm_spec.specs.declared.record.table.Table.{Table}
 use Rattle.wm_state.specs.Drafts.{CanDraft}
 use Rattle.wm_state.specs.Editing.{all_edited, drafted, line_work}
 use Rattle.wm_state.specs.declared.edit.Edit.{Edit}
-use Rattle.wm_state.specs.Standing.{SpaceFields, held_of, seen}
+use Rattle.wm_state.specs.Standing.{HasRows, SpaceFields, held_of, seen}
 use Rattle.wm_state.specs.State.{Session, State, Workspace, fresh_live, workspace_of}
 use Rattle.wm_state.proofs.Ready.{tables_found}
 use Rattle.wm_state.proofs.Spaces.{IsSpace, named_no_space, space_is}
@@ -31,8 +31,9 @@ use Rattle.wm_model.specs.Step.{conflict_fault, conflict_told, gained_of, is_qui
 use Rattle.wm_model.specs.Undone.{NamesSpace}
 use Rattle.wm_model.proofs.Doing.{does_nothing}
 use Rattle.wm_model.proofs.Lawful.Nets.{sound_stamped}
+use Rattle.wm_model.proofs.Lawful.Spaces.{number_is}
 use Rattle.wm_model.proofs.RollingLine.{home}
-use Rattle.wm_model.proofs.Telling.{holds_base}
+use Rattle.wm_model.proofs.Telling.{holds_base, rows_base}
 
 -- ---- lines over a workspace and its parent
 
@@ -61,8 +62,38 @@ does_liveless rs xs m workspace a to names live =
 
 -- ---- what a state has of both
 
--- the workspace and its parent, which is older; what the workspace sees under its own is its base; and one stamp tells one row in what
--- is own and in the parent's log
+-- a workspace that is not LIVE and its parent, by their records: what the workspace sees under its own is its base
+pub record Related (rs : List Stored) (a b : Space) (s : State) (w : Workspace) : Type 0 where
+  pub q : Workspace
+  pub above : IsSpace (parts_of rs) s.durable b.number b q
+  pub beside : Beside (parts_of rs) s.durable a.number w q a b
+  pub parent_is : parent_in s w ≡ q
+  pub base : (c : Cell) → seen (parts_of rs) a.base_version c ≡ option_map held_of (told w.lists.base c)
+  pub rows : HasRows (parts_of rs) w.lists.base
+
+pub related : (rs : List Stored) (xs : List Session) (m : ℕ) (a b : Space) (s : State) (w : Workspace) → IsSpace (parts_of rs) s.durable a.number a w → 0 < a.number → space_of (parts_of rs).spaces a.parent ≡ Some b → StandsAt rs xs m s
+    → Related rs a b s w
+related rs xs m a b s w is child recorded st =
+    let u = space_is (parts_of rs) s.durable a.parent b st.stands recorded in
+    let l = st.lawful.durable in
+    let there : workspace_of s.durable.spaces w.parent ≡ Some u.workspace = ap (λ (f : SpaceFields). workspace_of s.durable.spaces f.parent) (sym is.fields) ∙ u.is.found in
+    record {
+      q = u.workspace;
+      above = subst (λ n. IsSpace (parts_of rs) s.durable n b u.workspace) (sym u.is.record_number) u.is;
+      beside = record {
+        stands = st.stands;
+        is = is.found;
+        above = there;
+        family = record { child = is.recorded; parent = recorded };
+        number = refl;
+        alike = (l.spaces.each a.parent u.workspace u.is.found).latest;
+      };
+      parent_is = ap (λ (o : Option Workspace). unwrap_or o fresh_live) there;
+      base = λ c. holds_base (parts_of rs) s.durable a.number w a c st.stands l child is.found is.recorded;
+      rows = rows_base (parts_of rs) s.durable a.number w a st.stands l child is.found is.recorded;
+    }
+
+-- the workspace of a name and its parent, which is older; one stamp tells one row in what is own and in the parent's log
 pub record Family (rs : List Stored) (workspace : List ℕ) (a b : Space) (s : State) : Type 0 where
   pub w : Workspace
   pub q : Workspace
@@ -81,33 +112,25 @@ pub record Family (rs : List Stored) (workspace : List ℕ) (a b : Space) (s : S
 pub family : (rs : List Stored) (xs : List Session) (m : ℕ) (workspace : List ℕ) (a b : Space) (s : State) → NamesFamily rs workspace a b → StandsAt rs xs m s → Family rs workspace a b s
 family rs xs m workspace a b s names st =
     let h = home rs xs m workspace a s names.space st in
-    let u = space_is (parts_of rs) s.durable a.parent b st.stands names.parent in
+    let r = related rs xs m a b s h.workspace h.is names.child names.parent st in
     let l = st.lawful.durable in
-    let parent : h.workspace.parent ≡ a.parent = ap (λ (f : SpaceFields). f.parent) (sym h.is.fields) in
-    let there : workspace_of s.durable.spaces h.workspace.parent ≡ Some u.workspace = ap (workspace_of s.durable.spaces) parent ∙ u.is.found in
+    let parent : h.workspace.parent ≡ r.q.number = sym (number_is s.durable.spaces h.workspace.parent r.q r.beside.above) in
     record {
       w = h.workspace;
-      q = u.workspace;
+      q = r.q;
       is = h.is;
-      above = subst (λ n. IsSpace (parts_of rs) s.durable n b u.workspace) (sym u.is.record_number) u.is;
-      beside = record {
-        stands = st.stands;
-        is = h.is.found;
-        above = there;
-        family = record { child = h.is.recorded; parent = names.parent };
-        number = refl;
-        alike = (l.spaces.each a.parent u.workspace u.is.found).latest;
-      };
+      above = r.above;
+      beside = r.beside;
       line = λ to.
           by_number rs xs m workspace a s to names.space st false (above a.number names.child)
-          ∙ ap (λ (o : Option Workspace). to (unwrap_or o fresh_live) h.workspace s) there;
-      base = λ c. holds_base (parts_of rs) s.durable a.number h.workspace a c st.stands l names.child h.is.found h.is.recorded;
+          ∙ ap (λ (q : Workspace). to q h.workspace s) r.parent_is;
+      base = r.base;
       child = names.child;
-      parent = parent ∙ sym u.is.number;
-      older = let older = (l.spaces.bases a.number h.workspace names.child h.is.found).older in omega (arith, older, parent, u.is.number);
+      parent = parent;
+      older = let older = (l.spaces.bases a.number h.workspace names.child h.is.found).older in omega (arith, older, parent);
       tells = l.entries.tells;
       own = sound_stamped l.entries.tells s.durable.next_stamp h.workspace.lists.own (l.entries.each a.number h.workspace h.is.found).own;
-      log = sound_stamped l.entries.tells s.durable.next_stamp u.workspace.lists.log (l.entries.each a.parent u.workspace u.is.found).log;
+      log = sound_stamped l.entries.tells s.durable.next_stamp r.q.lists.log (l.entries.each b.number r.q r.above.found).log;
     }
   where
     above : (n : ℕ) → 0 < n → (n == 0) ≡ false

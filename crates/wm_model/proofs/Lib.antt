@@ -10,6 +10,7 @@ pub mod Named
 pub mod Newest
 pub mod Changing
 pub mod Written
+pub mod Looking
 pub mod Selecting
 pub mod SavingLine
 pub mod BearingLine

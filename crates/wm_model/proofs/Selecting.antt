@@ -1,33 +1,24 @@
 -- What SELECT answers for each state that the records stand for.
-use Rattle.std.proofs.Common.{◌≡◌, ℕ, Bool, true, false, List, [], ◌∷◌, Option, Some, None, refl, sym, ap, subst, ◌∙◌}
-use Rattle.std.specs.Option.{option_map_or}
-use Rattle.wm_base.specs.Period.{Span}
-use Rattle.wm_base.specs.declared.columns.Column.{Column}
+use Rattle.std.proofs.Common.{◌≡◌, ℕ, Bool, true, false, List, [], ◌∷◌, Option, Some, None, unwrap_or, refl, sym, ap, ◌∙◌}
 use Rattle.wm_base.specs.declared.listing.Listing.{Listing as Source}
 use Rattle.wm_base.specs.declared.refusal.Refusal.{Refusal}
-use Rattle.wm_base.specs.declared.row.Row.{Row}
-use Rattle.wm_base.specs.Trees.{Query, Src}
+use Rattle.wm_base.specs.Trees.{Query}
 use Rattle.wm_graph.specs.Parts.{parts_of, space_of}
 use Rattle.wm_graph.specs.Rules.{keep_rules}
 use Rattle.wm_print.specs.Texts.{Answer, Refused}
-use Rattle.wm_spec.specs.declared.record.savepoint.Savepoint.{Savepoint as Record}
 use Rattle.wm_spec.specs.declared.record.space.Space.{Space}
 use Rattle.wm_spec.specs.declared.record.stored.Stored.{Stored}
 use Rattle.wm_spec.specs.declared.record.table.Table.{Table}
 use Rattle.wm_select.specs.Query.{answer_of}
 use Rattle.wm_typing.specs.Asking.{query_fault}
-use Rattle.wm_typing.specs.Columns.{columns_of_table}
-use Rattle.wm_state.specs.Listing.{IsShowing}
-use Rattle.wm_state.specs.State.{Durable, State, Session, Workspace, Stand, Latest, At, seen_from, workspace_of}
-use Rattle.wm_state.specs.Standing.{Stands, latest, saved_as}
-use Rattle.wm_state.proofs.Listed.{showing_is, showing_saved}
-use Rattle.wm_state.proofs.Showing.{none_shown}
-use Rattle.wm_state.proofs.SavedAs.{made_some, made_none}
-use Rattle.wm_model.specs.Step.{select, select_among, select_ready, lost_source, tables_of, table_off, columns_in, sources_in, shown_by, source_name, rows_in, answer_rows, unless_empty_period, within, at_home, empty_period, no_table, versioning}
-use Rattle.wm_model.specs.Planning.{StandsAt, Does, Stay, tables_in, version_read}
-use Rattle.wm_model.specs.Sources.{AreListed}
+use Rattle.wm_state.specs.State.{State, Session, Workspace, fresh_live, workspace_of}
+use Rattle.wm_state.proofs.Spaces.{space_is}
+use Rattle.wm_model.specs.Looking.{IsLook, lost_space}
+use Rattle.wm_model.specs.Planning.{StandsAt, Does, Stay, tables_in}
+use Rattle.wm_model.specs.Sources.{AreListed, Look}
+use Rattle.wm_model.specs.Step.{answer_rows, at_home, columns_in, empty_period, first_fault, lost_history, lost_source, no_history, no_table, no_workspace, refused_for, select, select_among, select_ready, sources_in, table_off, tables_of, unless, unless_empty_period, versioning}
 use Rattle.wm_model.proofs.Doing.{does_nothing}
-use Rattle.wm_model.proofs.Homes.{home_is, home_some}
+use Rattle.wm_model.proofs.Looking.{lost_conflicts_same, sources_seen}
 
 -- ---- refusals
 
@@ -38,7 +29,7 @@ asked rs query = tables_of (tables_in rs) query.sources
 selects_among : (rs : List Stored) (xs : List Session) (m : ℕ) (session : Session) (query : Query) (empty : Bool) (s : State) → StandsAt rs xs m s → select session query empty s ≡ select_among session query empty (tables_in rs) s
 selects_among rs xs m session query empty s st = ap (λ ts. select_among session query empty ts s) (sym st.stands.tables.same)
 
--- a source is no table
+-- a source is of no table
 pub select_lost : (rs : List Stored) (xs : List Session) (m : ℕ) (session : Session) (query : Query) (empty : Bool) (name : List ℕ) → keep_rules (parts_of rs) ≡ true → lost_source (tables_in rs) query.sources ≡ Some name
     → Does rs xs m [] Stay (no_table name) (select session query empty)
 select_lost rs xs m session query empty name rules lost = does_nothing rs xs m (no_table name) (select session query empty) (λ s st. selects_among rs xs m session query empty s st ∙ rw lost refl)
@@ -48,7 +39,7 @@ pub select_off : (rs : List Stored) (xs : List Session) (m : ℕ) (session : Ses
     → table_off (asked rs query) ≡ Some name → Does rs xs m [] Stay (versioning name false) (select session query empty)
 select_off rs xs m session query empty name rules there off = does_nothing rs xs m (versioning name false) (select session query empty) (λ s st. selects_among rs xs m session query empty s st ∙ rw (there, off) refl)
 
--- the sources are tables that are ready for rows
+-- the sources are of tables that are ready for rows
 pub record AreReady (rs : List Stored) (query : Query) : Type 0 where
   pub rules : keep_rules (parts_of rs) ≡ true
   pub there : lost_source (tables_in rs) query.sources ≡ None
@@ -60,112 +51,78 @@ selects_ready rs xs m session query empty s ready st = selects_among rs xs m ses
     taken : lost_source (tables_in rs) query.sources ≡ None → table_off (asked rs query) ≡ None → select_among session query empty (tables_in rs) s ≡ select_ready session query empty (tables_in rs) s
     taken there on = rw (there, on) refl
 
+-- what the session is answered in a workspace
+abbrev in_home : Session → Query → Bool → List Table → State → Workspace → State × Answer
+in_home session query empty tables s w = unless_empty_period empty s (s, answer_rows (answer_of query (sources_in s session w tables query.sources)))
+
+-- what the query is refused for
+pub record Faults (rs : List Stored) (session : Session) (query : Query) (fault : Option Refusal) (history space : Option (List ℕ)) : Type 0 where
+  pub query_is : query_fault (columns_in (tables_in rs) query.sources) query ≡ fault
+  pub history_is : lost_history (tables_in rs) query.sources ≡ history
+  pub space_is : lost_space (parts_of rs).spaces session query.sources ≡ space
+
+-- the first of it is told
+abbrev first_told : Option Refusal → Option (List ℕ) → Option (List ℕ) → Option Refusal
+first_told fault history space = first_fault (fault ∷ refused_for no_history history ∷ refused_for no_workspace space ∷ [])
+
+comes_home : (rs : List Stored) (xs : List Session) (m : ℕ) (session : Session) (query : Query) (empty : Bool) (fault : Option Refusal) (history space : Option (List ℕ)) (s : State) → AreReady rs query
+    → Faults rs session query fault history space → StandsAt rs xs m s
+    → select session query empty s ≡ unless (first_told fault history space) s (at_home s session (in_home session query empty (tables_in rs) s))
+comes_home rs xs m session query empty fault history space s ready faults st =
+    selects_ready rs xs m session query empty s ready st
+    ∙ ap (λ (o : Option Refusal). unless o s (at_home s session (in_home session query empty (tables_in rs) s)))
+    (ap (first_told (query_fault (columns_in (tables_in rs) query.sources) query) (lost_history (tables_in rs) query.sources)) (lost_conflicts_same rs s session query.sources st.stands ∙ faults.space_is)
+    ∙ ap (λ (o : Option (List ℕ)). first_told (query_fault (columns_in (tables_in rs) query.sources) query) o space) faults.history_is
+    ∙ ap (λ (o : Option Refusal). first_told o history space) faults.query_is)
+
 -- the query names or compares what it may not
 pub select_faulty : (rs : List Stored) (xs : List Session) (m : ℕ) (session : Session) (query : Query) (empty : Bool) (refusal : Refusal) → AreReady rs query
     → query_fault (columns_in (tables_in rs) query.sources) query ≡ Some refusal → Does rs xs m [] Stay (Refused refusal) (select session query empty)
 select_faulty rs xs m session query empty refusal ready bad =
-    does_nothing rs xs m (Refused refusal) (select session query empty) (λ s st. selects_ready rs xs m session query empty s ready st ∙ rw bad refl)
+    does_nothing rs xs m (Refused refusal) (select session query empty)
+    (λ s st. comes_home rs xs m session query empty (Some refusal) (lost_history (tables_in rs) query.sources) (lost_space (parts_of rs).spaces session query.sources) s ready (record { query_is = bad; history_is = refl; space_is = refl }) st)
+
+-- a table keeps no history
+pub select_historyless : (rs : List Stored) (xs : List Session) (m : ℕ) (session : Session) (query : Query) (empty : Bool) (name : List ℕ) → AreReady rs query → query_fault (columns_in (tables_in rs) query.sources) query ≡ None
+    → lost_history (tables_in rs) query.sources ≡ Some name → Does rs xs m [] Stay (no_history name) (select session query empty)
+select_historyless rs xs m session query empty name ready good lost =
+    does_nothing rs xs m (no_history name) (select session query empty)
+    (λ s st. comes_home rs xs m session query empty None (Some name) (lost_space (parts_of rs).spaces session query.sources) s ready (record { query_is = good; history_is = lost; space_is = refl }) st)
+
+-- the workspace of conflicts is not there
+pub select_spaceless : (rs : List Stored) (xs : List Session) (m : ℕ) (session : Session) (query : Query) (empty : Bool) (name : List ℕ) → AreReady rs query → Faults rs session query None None (Some name)
+    → Does rs xs m [] Stay (no_workspace name) (select session query empty)
+select_spaceless rs xs m session query empty name ready faults =
+    does_nothing rs xs m (no_workspace name) (select session query empty) (λ s st. comes_home rs xs m session query empty None None (Some name) s ready faults st)
 
 -- ---- the workspace
 
-abbrev in_home : Session → Query → Bool → List Table → State → Workspace → State × Answer
-in_home session query empty tables s w = unless_empty_period empty s (s, answer_rows (answer_of query (sources_in s.moment session (seen_from w session.stand) tables query.sources)))
-
 -- the query is in order
-pub record IsFine (rs : List Stored) (query : Query) : Type 0 where
+pub record IsFine (rs : List Stored) (session : Session) (query : Query) : Type 0 where
   pub ready : AreReady rs query
-  pub good : query_fault (columns_in (tables_in rs) query.sources) query ≡ None
+  pub good : Faults rs session query None None None
 
-comes_home : (rs : List Stored) (xs : List Session) (m : ℕ) (session : Session) (query : Query) (empty : Bool) (s : State) → IsFine rs query → StandsAt rs xs m s
-    → select session query empty s ≡ at_home s session (in_home session query empty (tables_in rs) s)
-comes_home rs xs m session query empty s fine st = selects_ready rs xs m session query empty s fine.ready st ∙ taken fine.good
-  where
-    taken : query_fault (columns_in (tables_in rs) query.sources) query ≡ None → select_ready session query empty (tables_in rs) s ≡ at_home s session (in_home session query empty (tables_in rs) s)
-    taken good = rw good refl
-
-comes_in : (rs : List Stored) (xs : List Session) (m : ℕ) (session : Session) (query : Query) (empty : Bool) (a : Space) (s : State) → IsFine rs query → (there : space_of (parts_of rs).spaces session.space ≡ Some a) → (st : StandsAt rs xs m s)
-    → select session query empty s ≡ in_home session query empty (tables_in rs) s (home_is rs xs m s session.space a st there).space
-comes_in rs xs m session query empty a s fine there st =
-    comes_home rs xs m session query empty s fine st ∙ home_some rs xs m s session (in_home session query empty (tables_in rs) s) a st there
+comes_in : (rs : List Stored) (xs : List Session) (m : ℕ) (session : Session) (query : Query) (empty : Bool) (w : Workspace) (s : State) → IsFine rs session query → workspace_of s.durable.spaces session.space ≡ Some w → StandsAt rs xs m s
+    → select session query empty s ≡ in_home session query empty (tables_in rs) s w
+comes_in rs xs m session query empty w s fine found st =
+    comes_home rs xs m session query empty None None None s fine.ready fine.good st ∙ ap (λ (o : Option Workspace). in_home session query empty (tables_in rs) s (unwrap_or o fresh_live)) found
 
 -- a period of the query is empty
-pub select_empty : (rs : List Stored) (xs : List Session) (m : ℕ) (session : Session) (query : Query) (empty : Bool) (a : Space) → IsFine rs query → space_of (parts_of rs).spaces session.space ≡ Some a → empty ≡ true
+pub select_empty : (rs : List Stored) (xs : List Session) (m : ℕ) (session : Session) (query : Query) (empty : Bool) (a : Space) → IsFine rs session query → space_of (parts_of rs).spaces session.space ≡ Some a → empty ≡ true
     → Does rs xs m [] Stay empty_period (select session query empty)
 select_empty rs xs m session query empty a fine there none =
     does_nothing rs xs m empty_period (select session query empty)
-    (λ s st. comes_in rs xs m session query empty a s fine there st ∙ ap (λ b. in_home session query b (tables_in rs) s (home_is rs xs m s session.space a st there).space) none)
+    (λ s st.
+    let home = space_is (parts_of rs) s.durable session.space a st.stands there in
+    comes_in rs xs m session query empty home.workspace s fine home.is.found st ∙ ap (λ b. in_home session query b (tables_in rs) s home.workspace) none)
 
--- ---- the rows
-
--- a version shows these rows of a table in a period
-abbrev Shows : List Stored → ℕ → Table → Span → List Row → Type 0
-Shows rs version t period out = IsShowing (parts_of rs) version t.number t.valid period out
-
--- the rows that the session sees are these in each workspace that the records stand for
-abbrev AreSeen : List Stored → Session → Table → Span → List Row → Type 0
-AreSeen rs session t period out = (s : Durable) (w : Workspace) → Stands (parts_of rs) s → workspace_of s.spaces session.space ≡ Some w → out ≡ rows_in period (seen_from w session.stand) t
-
--- at what is newest they are those that the newest version holds
-seen_latest : (rs : List Stored) (session : Session) (t : Table) (period : Span) (out : List Row) → session.stand ≡ Latest → Shows rs (latest (parts_of rs) session.space) t period out → AreSeen rs session t period out
-seen_latest rs session t period out at is s w st found =
-    showing_is (parts_of rs) s session.space w t.number t.valid period out st found is ∙ ap (λ stand. rows_in period (seen_from w stand) t) (sym at)
-
--- ---- at a savepoint
-
-seen_saved : (rs : List Stored) (session : Session) (t : Table) (period : Span) (out : List Row) (making : ℕ) → keep_rules (parts_of rs) ≡ true → session.stand ≡ At making
-    → Shows rs (version_read (parts_of rs) session.space (At making)) t period out → AreSeen rs session t period out
-seen_saved rs session t period out making rules at is s w st found = by_record (saved_as (parts_of rs) session.space making) refl ∙ ap (λ stand. rows_in period (seen_from w stand) t) (sym at)
-  where
-    by_record : (o : Option Record) → saved_as (parts_of rs) session.space making ≡ o → out ≡ rows_in period (seen_from w (At making)) t
-    by_record None none =
-        rw (made_none (parts_of rs) s session.space w st found making none)
-        (none_shown (parts_of rs) t.number t.valid period out rules (subst (λ (o : Option Record). Shows rs (option_map_or (λ (x : Record). x.version) o 0) t period out) none is))
-    by_record (Some x) recorded =
-        let k = made_some (parts_of rs) s session.space w st found making x recorded in
-        rw k.1
-        (showing_saved (parts_of rs) s session.space making w k.0 x t.number t.valid period out st found k.1 recorded
-        (subst (λ (o : Option Record). Shows rs (option_map_or (λ (x : Record). x.version) o 0) t period out) recorded is))
-
--- ---- the rows that SELECT gives are those of the version that the session reads
-
-seen_read : (rs : List Stored) (session : Session) (t : Table) (period : Span) (out : List Row) → keep_rules (parts_of rs) ≡ true → Shows rs (version_read (parts_of rs) session.space session.stand) t period out
-    → AreSeen rs session t period out
-seen_read rs session t period out rules is = by_stand session.stand refl
-  where
-    by_stand : (stand : Stand) → session.stand ≡ stand → AreSeen rs session t period out
-    by_stand Latest at = seen_latest rs session t period out at (subst (λ (x : Stand). Shows rs (version_read (parts_of rs) session.space x) t period out) at is)
-    by_stand (At making) at = seen_saved rs session t period out making rules at (subst (λ (x : Stand). Shows rs (version_read (parts_of rs) session.space x) t period out) at is)
-
--- ---- all sources
-
--- the period in which a session sees each table
-abbrev pub seen_within : ℕ → Session → Table → Span
-seen_within moment session = λ t. within moment session t
-
--- what was listed of each source is what it shows
-sources_seen : (rs : List Stored) (moment : ℕ) (session : Session) (s : Durable) (w : Workspace) (tables : List Table) (sources : List Src) (ls : List Source) → keep_rules (parts_of rs) ≡ true → Stands (parts_of rs) s
-    → workspace_of s.spaces session.space ≡ Some w → AreListed (parts_of rs) (version_read (parts_of rs) session.space session.stand) (seen_within moment session) tables sources ls
-    → ls ≡ sources_in moment session (seen_from w session.stand) tables sources
-sources_seen rs moment session s w tables [] ls rules st found are = are
-sources_seen rs moment session s w tables (x ∷ sources) [] rules st found are = absurd are
-sources_seen rs moment session s w tables (x ∷ sources) (l ∷ ls) rules st found are =
-    let is = are.0 in
-    let first : l ≡ shown_by moment session (seen_from w session.stand) x is.table =
-    both (columns_of_table (source_name x) is.table) (rows_in (within moment session is.table) (seen_from w session.stand) is.table) is.columns
-    (seen_read rs session is.table (within moment session is.table) l.rows rules is.rows s w st found) in
-    rw is.named (ap (λ y. y ∷ ls) first ∙ ap (λ ys. shown_by moment session (seen_from w session.stand) x is.table ∷ ys) (sources_seen rs moment session s w tables sources ls rules st found are.1))
-  where
-    both : (columns : List Column) (out : List Row) → l.columns ≡ columns → l.rows ≡ out → l ≡ record { columns = columns; rows = out }
-    both columns out c r = ap (λ cs. let y : Source = record { columns = cs; rows = l.rows } in y) c ∙ ap (λ rs. let y : Source = record { columns = columns; rows = rs } in y) r
-
--- what the query answers over them
-pub selects : (rs : List Stored) (xs : List Session) (m : ℕ) (session : Session) (query : Query) (empty : Bool) (a : Space) (ls : List Source) → IsFine rs query → space_of (parts_of rs).spaces session.space ≡ Some a → empty ≡ false
-    → AreListed (parts_of rs) (version_read (parts_of rs) session.space session.stand) (seen_within m session) (tables_in rs) query.sources ls → Does rs xs m [] Stay (answer_rows (answer_of query ls)) (select session query empty)
-selects rs xs m session query empty a ls fine there lasting are =
+-- what the query answers over what is listed for the session
+pub selects : (rs : List Stored) (xs : List Session) (m : ℕ) (session : Session) (query : Query) (empty : Bool) (look : Look) (ls : List Source) → IsFine rs session query → IsLook (parts_of rs) m session look → empty ≡ false
+    → AreListed (parts_of rs) look (tables_in rs) query.sources ls → Does rs xs m [] Stay (answer_rows (answer_of query ls)) (select session query empty)
+selects rs xs m session query empty look ls fine is lasting are =
     does_nothing rs xs m (answer_rows (answer_of query ls)) (select session query empty)
     (λ s st.
-    let home = home_is rs xs m s session.space a st there in
-    comes_in rs xs m session query empty a s fine there st ∙ ap (λ b. in_home session query b (tables_in rs) s home.space) lasting
-    ∙ ap (λ n. let answered : State × Answer = (s, answer_rows (answer_of query (sources_in n session (seen_from home.space session.stand) (tables_in rs) query.sources))) in answered) (sym st.moment_is)
+    let home = space_is (parts_of rs) s.durable session.space look.home st.stands is.home in
+    comes_in rs xs m session query empty home.workspace s fine home.is.found st ∙ ap (λ b. in_home session query b (tables_in rs) s home.workspace) lasting
     ∙ ap (λ (sources : List Source). let answered : State × Answer = (s, answer_rows (answer_of query sources)) in answered)
-    (sym (sources_seen rs m session s.durable home.space (tables_in rs) query.sources ls fine.ready.rules st.stands home.is are)))
+    (sym (sources_seen rs xs m session look s home.workspace query.sources ls (record { rules = fine.ready.rules; stands = st; is = is; home = home.is }) fine.good.history_is are)))

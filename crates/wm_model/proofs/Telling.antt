@@ -1,12 +1,12 @@
 -- What is pending in a parent and what is own is told by what workspaces hold; and what the versions of a lawful state hold is told by logs.
-use Rattle.std.proofs.Common.{◌≡◌, ◌≢◌, ◌==◌, ℕ, ◌+◌, ◌<◌, ◌≤◌, if◌then◌else◌, nat_lt, List, length, slice_get, drop, zero, suc, [], ◌∷◌, Option, Some, None, option_map, refl, sym, ap, ◌∙◌, arith}
+use Rattle.std.proofs.Common.{◌≡◌, ◌≢◌, ◌==◌, ℕ, ◌+◌, ◌<◌, ◌≤◌, if◌then◌else◌, nat_lt, List, length, slice_get, drop, zero, suc, [], ◌∷◌, Option, Some, None, option_map, refl, sym, ap, subst, ◌∙◌, arith}
 use Rattle.std.proofs.lemmas.Bool.{ne_eqb}
 use Rattle.wm_graph.specs.Parts.{Parts, space_of}
 use Rattle.wm_net.proofs.Merging as merging
 use Rattle.wm_spec.specs.Lists.{Alike, Cell, Entry, reach, told, touched}
 use Rattle.wm_spec.specs.declared.record.savepoint.Savepoint.{Savepoint as Record}
 use Rattle.wm_spec.specs.declared.record.space.Space.{Space}
-use Rattle.wm_state.specs.Standing.{Base, Kept, KeptBase, Names, Newest, Stands, held_of, latest, saved_as, seen}
+use Rattle.wm_state.specs.Standing.{Base, HasRows, Kept, KeptBase, Names, Newest, Stands, held_of, latest, saved_as, seen}
 use Rattle.wm_state.specs.State.{Durable, Savepoint, Turn, Workspace, content, kept, savepoint_made, turn_of, workspace_of}
 use Rattle.wm_model.specs.Lawful.{Lawful, LawfulSpace, point, whole}
 use Rattle.wm_model.proofs.Lawful.Lists.{one_some}
@@ -82,6 +82,12 @@ holds_base p d n w r c st l above found recorded =
     let t = turn_there n w.rebases w d l above found (omega arith) in
     (st.named.tells r.base_version w.parent t.turn.rebases t.turn.content (Base w r t.turn above found recorded t.is)).holds c
     ∙ ap (λ (es : List Entry). option_map held_of (told es c)) ((l.spaces.each n w found).last t.turn t.is).0
+
+-- whose rows stand under their stamps
+pub rows_base : (p : Parts) (d : Durable) (n : ℕ) (w : Workspace) (r : Space) → Stands p d → Lawful d → 0 < n → workspace_of d.spaces n ≡ Some w → space_of p.spaces n ≡ Some r → HasRows p w.lists.base
+rows_base p d n w r st l above found recorded =
+    let t = turn_there n w.rebases w d l above found (omega arith) in
+    subst (HasRows p) ((l.spaces.each n w found).last t.turn t.is).0 (st.named.tells r.base_version w.parent t.turn.rebases t.turn.content (Base w r t.turn above found recorded t.is)).rows
 
 -- and the one that it saw so at a savepoint
 pub tells_kept_base : (p : Parts) (d : Durable) (n making : ℕ) (w q : Workspace) (k : Savepoint) (x : Record) (c : Cell) → Stands p d → Lawful d → 0 < n → workspace_of d.spaces n ≡ Some w → workspace_of d.spaces w.parent ≡ Some q

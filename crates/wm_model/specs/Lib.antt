@@ -6,6 +6,7 @@ pub mod Undone
 pub mod Merged
 pub mod Running
 pub mod Sources
+pub mod Looking
 pub mod Changes
 pub mod Entered
 pub mod Lawful

@@ -15,4 +15,5 @@ pub mod Placing
 pub mod RowsListed
 pub mod Sharing
 pub mod Stretching
+pub mod Tabled
 pub mod Unique

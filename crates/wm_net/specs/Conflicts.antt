@@ -1,6 +1,7 @@
 -- Cells in conflict, and the stretches of them.
-use Rattle.std.specs.Prelude.{ℕ, max, ◌&&◌, ◌==◌, Bool, true, false, nat_lt, List, [], ◌++◌, map, Option, None, Some}
+use Rattle.std.specs.Prelude.{ℕ, max, ◌&&◌, ◌==◌, Bool, true, false, nat_lt, if◌then◌else◌, List, [], ◌++◌, map, Option, None, Some}
 use Rattle.std.specs.Bool.{then_some}
+use Rattle.std.specs.List.{filter}
 use Rattle.std.specs.Option.{option_and_then}
 use Rattle.wm_base.specs.declared.kind.Kind.TheVariants.{Insert}
 use Rattle.wm_base.specs.declared.value.Value.{Value}
@@ -74,3 +75,11 @@ grouped g s = (g, s)
 -- the maximal periods of one key of cells in conflict on which each side holds one stamp or no row, by table, key and from
 abbrev pub conflicts : Sides → List (Group × Stretch Stamps)
 conflicts s = listing same_stamps grouped (all_sides s) (conflict_at s)
+
+-- those of a table
+abbrev pub conflicts_in : ℕ → Sides → List (Group × Stretch Stamps)
+conflicts_in table s = filter (λ (x : Group × Stretch Stamps). x.0.table == table) (conflicts s)
+
+-- what a function of the cell gives in a table, and nothing in others
+abbrev pub in_table : {A : Type 0} → ℕ → (Cell → Option A) → Cell → Option A
+in_table table f c = if c.table == table then f c else None

@@ -1,6 +1,6 @@
 //! Laws of net lists, of what is gained, of conflicts, of last positions and of counts. Each is the contract of a
 //! function that does nothing.
-ghost use Rattle.std.specs.Prelude.{◌≡◌, ◌≤◌, ◌+◌, ℕ, List, [], ◌∷◌, ◌++◌, map, length, take, drop, Bool, true, false, not, ◌&&◌, ◌||◌, nat_lt, if◌then◌else◌, None};
+ghost use Rattle.std.specs.Prelude.{◌≡◌, ◌≤◌, ◌+◌, ℕ, List, [], ◌∷◌, ◌++◌, map, length, take, drop, Bool, true, false, not, ◌&&◌, ◌||◌, nat_lt, if◌then◌else◌, Some, None, slice_get};
 ghost use Rattle.std.specs.List.{All};
 ghost use Rattle.wm_base.specs.declared.value.Value.{Value};
 ghost use Rattle.wm_spec.specs.Lists.{Entry, Cell, Told, told, touched, covers, reach, stamp_at, Alike};
@@ -11,7 +11,7 @@ ghost use Rattle.wm_net.specs.Groups.{Group};
 ghost use Rattle.wm_net.specs.Listed.{Stretch, IsListing, stretches, with_stamp, same_number};
 ghost use Rattle.wm_net.specs.Nets.{net, gained, gained_at, IsGained, IsToldListing, Stamped};
 ghost use Rattle.wm_net.specs.Places.{Once};
-ghost use Rattle.wm_net.specs.Conflicts.{Sides, Stamps, same_stamps, conflict_at, grouped, conflicts};
+ghost use Rattle.wm_net.specs.Conflicts.{Sides, Stamps, same_stamps, conflict_at, conflicts, conflicts_in, grouped, in_table};
 
 /// A net list holds what its list holds, covers each cell once, and is the only list that goes by table, key and from,
 /// joined, and holds that.
@@ -37,10 +37,14 @@ pub fn own_entries_keep_out_what_is_pending()
         → IsToldListing moment user (gained_at own pending) xs → xs ≡ gained moment user own pending }
 {}
 
-/// The stretches of conflict go by table, key and from, are as long as they can be, and no other list is so.
+/// The stretches of conflict go by table, key and from, are as long as they can be, and no other list is so. The same is
+/// said of those of a table, in that table; and the first of all is the first of its own.
 pub fn conflicts_are_maximal_stretches()
     ensures are { (s : Sides) → IsListing same_stamps grouped (conflict_at s) (conflicts s) }
     ensures only { (s : Sides) (xs : List (Group × Stretch Stamps)) → IsListing same_stamps grouped (conflict_at s) xs → xs ≡ conflicts s }
+    ensures table { (table : ℕ) (s : Sides) (xs : List (Group × Stretch Stamps)) → IsListing same_stamps grouped (in_table table (conflict_at s)) xs
+        → xs ≡ conflicts_in table s }
+    ensures first { (s : Sides) (x : Group × Stretch Stamps) → slice_get (conflicts s) 0 ≡ Some x → slice_get (conflicts_in x.0.table s) 0 ≡ Some x }
 {}
 
 /// The last position decides what touches a cell from a position on.

@@ -1,10 +1,10 @@
 -- Where a workspace and its parent both changed something, key by key.
-use Rattle.std.proofs.Common.{◌≡◌, ℕ, zero, suc, ◌<◌, ◌≤◌, ◌⊎◌, inl, inr, Bool, true, false, ◌&&◌, ◌||◌, List, [], ◌∷◌, map, length, take, get_or, Option, None, Some, is_some, refl, sym, ap, ◌∙◌, subst, arith}
+use Rattle.std.proofs.Common.{◌≡◌, ℕ, zero, suc, ◌<◌, ◌≤◌, ◌⊎◌, inl, inr, Bool, true, false, ◌&&◌, ◌||◌, List, [], ◌∷◌, map, length, take, get_or, Option, None, is_some, refl, sym, ap, ◌∙◌, subst, arith}
 use Rattle.std.proofs.lemmas.List.{get_or-take, length-take-le, take_all}
 use Rattle.std.specs.Bool.{then_some}
+use Rattle.std.specs.Option.{option_and_then}
 use Rattle.std.specs.List.{All}
 use Rattle.std.specs.declared.cmp.Ordering.TheVariants.{Less}
-use Rattle.wm_base.specs.Period.{Span}
 use Rattle.wm_base.specs.declared.instant.TheConstants.{END}
 use Rattle.wm_base.specs.declared.value.Value.{Value}
 use Rattle.wm_graph.specs.Parts.{Parts}
@@ -13,21 +13,23 @@ use Rattle.wm_net.proofs.Stretching.{le_or_lt}
 use Rattle.wm_net.specs.Conflicts.{Stamps}
 use Rattle.wm_net.specs.Firsts.{IsFirst}
 use Rattle.wm_net.specs.Groups.{Group, GroupsAscend, cell, group_order, has_group, same_group}
+use Rattle.wm_net.specs.Listed.{Stretch}
 use Rattle.wm_period.proofs.Order.{held_at-past}
 use Rattle.wm_period.specs.Pieces.{Between, Held, held_at}
-use Rattle.wm_period.specs.declared.piece.Piece.{Piece}
 use Rattle.wm_spec.specs.Lists.{Cell}
 use Rattle.wm_spec.specs.declared.record.space.Space.{Space}
 use Rattle.wm_state.specs.Copied.{HoldsKey}
-use Rattle.wm_state.specs.Standing.{latest}
-use Rattle.wm_telling.specs.Telling.{AreOwn, IsFirstClash, clash_held, is_pending, own_held, stamps_of}
+use Rattle.wm_state.specs.Standing.{seen}
+use Rattle.wm_telling.specs.Telling.{AreOwn, IsFirstClash, clash_held, is_pending, own_held, standing, stamps_of}
 use Rattle.wm_pending.proofs.Blocks.{at_group}
+use Rattle.wm_pending.proofs.Chaining.{first_alike}
 use Rattle.wm_pending.proofs.Looking.{ascend_at, groups_own}
 use Rattle.wm_pending.proofs.Netted.{held_of}
 use Rattle.wm_pending.proofs.Touching.{touched_reached}
+use Rattle.wm_pending.proofs.Walking.{stamps_made}
 use Rattle.wm_pending.specs.Lookups.{group_own}
 use Rattle.wm_pending.specs.Owned.{key_pieces}
-use Rattle.wm_pending.specs.Sides.{IsFirstPeriod, are_contested, asked_clash, asked_stamps, contest_at, stamps_at}
+use Rattle.wm_pending.specs.Sides.{are_contested, asked_clash, asked_of, asked_stamps, contest_at, stamps_at}
 use Rattle.wm_pending.specs.Touched.{is_touched, since_of}
 use Rattle.wm_pending.specs.declared.clash.Asked.{Asked}
 use Rattle.wm_pending.specs.declared.own.OwnKey.{OwnKey}
@@ -41,64 +43,39 @@ contested_late : (p : Parts) (s : Since) (k : OwnKey) (t : ℕ) → Between 0 k.
 contested_late p s k t order late = ap (λ (o : Option Held). is_some o && is_touched p.touches s (cell (group_own k) t)) (held_at-past 0 k.pieces END t order late)
 
 -- where nothing is held there is nothing in conflict
-pub none_contested : (p : Parts) (q : Asked) (k : OwnKey) (ps : List Piece) → Between 0 k.pieces END → ((t : ℕ) → t < END → is_some (held_at ps t) ≡ are_contested p q.since k t)
-    → ((t : ℕ) → held_at ps t ≡ None) → (t : ℕ) → asked_clash p q k t ≡ None
-none_contested p q k ps order told none t = by_place (le_or_lt END t)
+pub sides_none : (p : Parts) (q : Asked) (k : OwnKey) (s : Sides) → Between 0 k.pieces END → ((t : ℕ) → t < END → is_some (held_at s.contested t) ≡ are_contested p q.since k t) → ((t : ℕ) → held_at s.contested t ≡ None)
+    → (t : ℕ) → contest_at s t ≡ asked_clash p q k t
+sides_none p q k s order told none t =
+    ap (λ (o : Option Held). then_some (is_some o) (stamps_at s t)) (none t) ∙ ap (λ b. then_some b (asked_stamps p q (group_own k) t)) (sym (by_place (le_or_lt END t)))
   where
-    by_place : (END ≤ t) ⊎ (t < END) → asked_clash p q k t ≡ None
-    by_place (inl late) = ap (λ b. then_some b (asked_stamps p q (group_own k) t)) (contested_late p q.since k t order late)
-    by_place (inr early) = ap (λ b. then_some b (asked_stamps p q (group_own k) t)) (sym (told t early) ∙ ap (λ (o : Option Held). is_some o) (none t))
+    by_place : (END ≤ t) ⊎ (t < END) → are_contested p q.since k t ≡ false
+    by_place (inl late) = contested_late p q.since k t order late
+    by_place (inr early) = sym (told t early) ∙ ap (λ (o : Option Held). is_some o) (none t)
 
 -- what the sides tell
-sides_tell : (p : Parts) (q : Asked) (k : OwnKey) (s : Sides) → Between 0 k.pieces END → Between 0 s.contested END → ((t : ℕ) → t < END → is_some (held_at s.contested t) ≡ are_contested p q.since k t)
-    → ((t : ℕ) → t < END → stamps_at s t ≡ asked_stamps p q (group_own k) t) → (t : ℕ) → contest_at s t ≡ asked_clash p q k t
-sides_tell p q k s order within told rows t = by_place (le_or_lt END t)
+pub sides_tell : (p : Parts) (q : Asked) (k : OwnKey) (s : Sides) → Between 0 k.pieces END → Between 0 s.contested END → ((t : ℕ) → t < END → is_some (held_at s.contested t) ≡ are_contested p q.since k t)
+    → ((t : ℕ) → t < END → held_at s.base t ≡ seen p q.base (cell (group_own k) t)) → ((t : ℕ) → t < END → held_at s.parent t ≡ seen p q.parent (cell (group_own k) t))
+    → ((t : ℕ) → t < END → held_at s.child t ≡ seen p q.child (cell (group_own k) t)) → (t : ℕ) → contest_at s t ≡ asked_clash p q k t
+sides_tell p q k s order within told base parent child t = by_place (le_or_lt END t)
   where
     by_place : (END ≤ t) ⊎ (t < END) → contest_at s t ≡ asked_clash p q k t
     by_place (inl late) =
         ap (λ (o : Option Held). then_some (is_some o) (stamps_at s t)) (held_at-past 0 s.contested END t within late)
         ∙ sym (ap (λ b. then_some b (asked_stamps p q (group_own k) t)) (contested_late p q.since k t order late))
-    by_place (inr early) = ap (λ b. then_some b (stamps_at s t)) (told t early) ∙ ap (λ v. then_some (are_contested p q.since k t) v) (rows t early)
-
-first_alike : (f h : ℕ → Option Stamps) (from till : ℕ) (v w : Stamps) → ((t : ℕ) → f t ≡ h t) → v ≡ w → IsFirst f 0 (record { from = from; till = till; value = v }) → IsFirst h 0 (record { from = from; till = till; value = w })
-first_alike f h from till v w same is first = record {
-  begins = first.begins;
-  before = λ t low lt. sym (same t) ∙ first.before t low lt;
-  real = first.real;
-  over = λ t le lt. sym (same t) ∙ first.over t le lt ∙ ap (λ (x : Stamps). Some x) is;
-  ends = λ e. first.ends (same till ∙ e ∙ ap (λ (x : Stamps). Some x) (sym is));
-}
-
--- the first stretch of the sides is that of the key
-pub first_asked : (p : Parts) (q : Asked) (k : OwnKey) (s : Sides) (period : Span) → Between 0 k.pieces END → Between 0 s.contested END → ((t : ℕ) → t < END → is_some (held_at s.contested t) ≡ are_contested p q.since k t)
-    → ((t : ℕ) → t < END → stamps_at s t ≡ asked_stamps p q (group_own k) t) → IsFirstPeriod (contest_at s) (stamps_at s) period → IsFirstPeriod (asked_clash p q k) (asked_stamps p q (group_own k)) period
-first_asked p q k s period order within told rows first =
-    first_alike (contest_at s) (asked_clash p q k) period.from period.till (stamps_at s period.from) (asked_stamps p q (group_own k) period.from)
-    (sides_tell p q k s order within told rows) (rows period.from (by_place (le_or_lt END period.from))) first
-  where
-    by_place : (END ≤ period.from) ⊎ (period.from < END) → period.from < END
-    by_place (inl late) =
-        let none : contest_at s period.from ≡ None = ap (λ (o : Option Held). then_some (is_some o) (stamps_at s period.from)) (held_at-past 0 s.contested END period.from within late) in
-        let some : contest_at s period.from ≡ Some (stamps_at s period.from) = first.over period.from (omega arith) first.real in
-        absurd (cc)
-    by_place (inr early) = early
+    by_place (inr early) =
+        ap (λ b. then_some b (stamps_at s t)) (told t early)
+        ∙ ap (λ v. then_some (are_contested p q.since k t) v)
+        (stamps_made _ _ _ _ _ _ (ap (λ (o : Option Held). option_and_then standing o) (base t early)) (ap (λ (o : Option Held). option_and_then standing o) (parent t early))
+        (ap (λ (o : Option Held). option_and_then standing o) (child t early)))
 
 -- ---- all keys
-
--- what is asked for a workspace and its parent
-abbrev pub asked_of : Parts → Space → Space → Asked
-asked_of p a b = record { since = since_of a b; base = a.base_version; parent = latest p b.number; child = latest p a.number }
-
-pub asked_made : (p : Parts) (a b : Space) (s : Since) (parent child : ℕ) → s ≡ since_of a b → parent ≡ latest p b.number → child ≡ latest p a.number
-    → record { since = s; base = a.base_version; parent = parent; child = child } ≡ asked_of p a b
-asked_made p a b s parent child e f g = λ i. record { since = e i; base = a.base_version; parent = f i; child = g i }
 
 -- nothing of the key is in conflict
 pub record Quiet (p : Parts) (a b : Space) (k : OwnKey) : Type 0 where
   pub none : (t : ℕ) → clash_held p a b (cell (group_own k) t) ≡ None
 
 -- what is in conflict of a key, as it is asked
-same_clash : (p : Parts) (a b : Space) (k : OwnKey) → HoldsKey (own_held p a) (key_pieces k) → (t : ℕ) → asked_clash p (asked_of p a b) k t ≡ clash_held p a b (cell (group_own k) t)
+pub same_clash : (p : Parts) (a b : Space) (k : OwnKey) → HoldsKey (own_held p a) (key_pieces k) → (t : ℕ) → asked_clash p (asked_of p a b) k t ≡ clash_held p a b (cell (group_own k) t)
 same_clash p a b k holds t =
     ap (λ (o : Option Held). then_some (is_some o && is_touched p.touches (since_of a b) (cell (group_own k) t)) (stamps_of p a b (cell (group_own k) t))) (holds.holds t)
     ∙ ap (λ v. then_some (is_some (own_held p a (cell (group_own k) t)) && v) (stamps_of p a b (cell (group_own k) t))) (touched_reached p.touches (since_of a b) (cell (group_own k) t))
@@ -129,7 +106,7 @@ stands (k ∷ ks) g e = by_group (same_group (group_own k) g) refl e (stands ks 
     by_group false same h rest = let s = rest h in record { place = suc s.place; within = (let w = s.within in omega arith); key = s.key; at = s.at; is = s.is }
 
 -- nothing is in conflict where the workspace has nothing of its own
-no_own : (p : Parts) (a b : Space) (ks : List OwnKey) (g : Group) → AreOwn p a (map key_pieces ks) → has_group g (map group_own ks) ≡ false → (t : ℕ) → clash_held p a b (cell g t) ≡ None
+pub no_own : (p : Parts) (a b : Space) (ks : List OwnKey) (g : Group) → AreOwn p a (map key_pieces ks) → has_group g (map group_own ks) ≡ false → (t : ℕ) → clash_held p a b (cell g t) ≡ None
 no_own p a b ks g own none t =
     ap (λ (o : Option Held). then_some (is_some o && is_pending p a b (cell g t)) (stamps_of p a b (cell g t)))
     (own.copied.elsewhere (cell g t) (sym (at_group (cell g t) (map key_pieces ks) g refl refl) ∙ ap (λ (gs : List Group). has_group g gs) (groups_own ks) ∙ none))
@@ -182,15 +159,15 @@ placed_before ks i k h s up within is lt = by_place (le_or_lt i s.place)
     by_place (inr early) = early
 
 -- the first stretch of a key before which nothing is in conflict
-pub first_found : (p : Parts) (a b : Space) (ks : List OwnKey) (i : ℕ) (k : OwnKey) (q : Asked) (key : List Value) (period : Span) → AreOwn p a (map key_pieces ks) → All (Quiet p a b) (take i ks) → i < length ks
-    → k ≡ get_or ks i k → q ≡ asked_of p a b → IsFirstPeriod (asked_clash p q k) (asked_stamps p q (group_own k)) period → key ≡ k.key → IsFirstClash p a b k.table key period.from period.till
-first_found p a b ks i k q key period own quiet within is asked first copied =
-    subst (λ (x : List Value). IsFirstClash p a b k.table x period.from period.till) (sym copied) (record {
-      stamps = asked_stamps p q (group_own k) period.from;
+pub first_found : (p : Parts) (a b : Space) (ks : List OwnKey) (i : ℕ) (k : OwnKey) (q : Asked) (key : List Value) (s : Stretch Stamps) → AreOwn p a (map key_pieces ks) → All (Quiet p a b) (take i ks) → i < length ks
+    → k ≡ get_or ks i k → q ≡ asked_of p a b → IsFirst (asked_clash p q k) 0 s → key ≡ k.key → IsFirstClash p a b k.table key s.from s.till
+first_found p a b ks i k q key s own quiet within is asked first copied =
+    subst (λ (x : List Value). IsFirstClash p a b k.table x s.from s.till) (sym copied) (record {
+      stamps = s.value;
       first = record {
         before = λ h lt t. by_member h lt t (has_group h (map group_own ks)) refl;
-        first = first_alike (asked_clash p q k) (λ t. clash_held p a b (cell (group_own k) t)) period.from period.till (asked_stamps p q (group_own k) period.from) (asked_stamps p q (group_own k) period.from)
-            (λ t. ap (λ (x : Asked). asked_clash p x k t) asked ∙ same_clash p a b k (held_of (own_held p a) ks i k within is own.copied.each) t) refl first;
+        first = first_alike (asked_clash p q k) (λ t. clash_held p a b (cell (group_own k) t)) 0 s
+            (λ t le. ap (λ (x : Asked). asked_clash p x k t) asked ∙ same_clash p a b k (held_of (own_held p a) ks i k within is own.copied.each) t) first;
       };
     })
   where

@@ -1,11 +1,14 @@
 pub mod Above
 pub mod Blocks
+pub mod Chaining
 pub mod Clashing
+pub mod Conflicting
+pub mod Fronting
 pub mod Gaining
 pub mod Keyed
 pub mod Looking
 pub mod Netted
 pub mod OwnPath
-pub mod Stepping
 pub mod Stored
 pub mod Touching
+pub mod Walking

@@ -17,7 +17,7 @@ use Rattle.wm_pending.specs.declared.own.OwnKey.{OwnKey}
 abbrev pub groups_at : List OwnKey → List Group
 groups_at ks = map group_at (map key_pieces ks)
 
-groups_more : (ks : List OwnKey) (i : ℕ) (k : OwnKey) → i < length ks → k ≡ get_or ks i k → groups_at (take (i + 1) ks) ≡ groups_at (take i ks) ++ group_at (key_pieces k) ∷ []
+pub groups_more : (ks : List OwnKey) (i : ℕ) (k : OwnKey) → i < length ks → k ≡ get_or ks i k → groups_at (take (i + 1) ks) ≡ groups_at (take i ks) ++ group_at (key_pieces k) ∷ []
 groups_more ks i k within is =
     ap groups_at (take_more ks i k within ∙ ap (λ l. take i ks ++ l ∷ []) (sym is))
     ∙ ap (map group_at) (map-append key_pieces (take i ks) (k ∷ []))

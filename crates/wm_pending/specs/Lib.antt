@@ -1,6 +1,9 @@
+pub mod Clashes
+pub mod Fronts
 pub mod Keys
 pub mod Lookups
 pub mod Owned
 pub mod Replayed
 pub mod Sides
 pub mod Touched
+pub mod Walks

@@ -4,6 +4,7 @@
 pub mod clash;
 pub mod entries;
 mod erasing;
+mod front;
 pub mod gained;
 pub mod keys;
 pub mod net;
@@ -11,5 +12,7 @@ pub mod own;
 pub mod path;
 mod sides;
 mod touched;
+mod walk;
 
 pub use crate::own::OwnKey;
+pub use crate::sides::SideStamps;

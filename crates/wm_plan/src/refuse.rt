@@ -1,7 +1,7 @@
 //! The refusals of lines.
 ghost use Rattle.std.specs.Prelude.{◌≡◌, IfOk};
 ghost use Rattle.wm_plan.specs.Views.{answer_view};
-ghost use Rattle.wm_model.specs.Step.{at_its_end, bad_literal, bad_name, change_limit, dependent_child, empty_period, has_child, in_conflict, key_there, long_name, mistyped, moment_back, most_rows, most_savepoints, most_sessions, most_tables, most_workspaces, no_key, no_parent, no_savepoint, no_session, no_table, no_workspace, no_text, not_built, not_latest, out_of_range, rebased_since, reserved_name, savepoint_there, session_inside, session_there, syntax, table_there, too_long_line, versioning, workspace_there};
+ghost use Rattle.wm_model.specs.Step.{at_its_end, bad_literal, bad_name, change_limit, dependent_child, empty_period, has_child, in_conflict, key_there, long_name, mistyped, moment_back, most_rows, most_savepoints, most_sessions, most_tables, most_workspaces, no_history, no_key, no_parent, no_savepoint, no_session, no_table, no_workspace, no_text, not_built, not_latest, out_of_range, rebased_since, reserved_name, savepoint_there, session_inside, session_there, syntax, table_there, too_long_line, versioning, workspace_there};
 
 use crate::answer::Answer;
 use std::alloc::Global;
@@ -120,6 +120,13 @@ pub fn versioning(name: Name, on: bool) -> Answer
     ensures { answer_view result ≡ versioning name on }
 {
     Answer::Refused(Refusal::Form(FormRefusal::Wm019(name, on)))
+}
+
+/// That the table of this name keeps no history.
+pub fn no_history(name: Name) -> Answer
+    ensures { answer_view result ≡ no_history name }
+{
+    Answer::Refused(Refusal::Form(FormRefusal::Wm018(name)))
 }
 
 /// That there is no workspace of this name.

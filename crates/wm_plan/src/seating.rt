@@ -7,6 +7,7 @@ ghost use Rattle.wm_model.specs.Planning.{seated};
 ghost use Rattle.wm_model.specs.Step.{altered, closed, with_setting};
 
 use crate::session::{Session, Setting};
+use std::alloc::Global;
 use wm_base::{Memory, Name};
 
 /// What a line does to the sessions.
@@ -30,33 +31,45 @@ fn close(sessions: &mut Vec<Session>, name: &Name)
 }
 
 /// Sets this of the session, where it has this name.
-fn alter_one(session: &mut Session, name: &Name, setting: &Setting)
-    ensures { session.new ≡ (if bytes_eq name.now session.old.name then with_setting (setting_view setting.now) session.old else session.old) }
+fn alter_one(
+    alloc: Global,
+    session: &mut Session,
+    name: &Name,
+    setting: &Setting,
+) -> Result<(), Memory>
+    ensures { OnOk result (session.new ≡ (if bytes_eq name.now session.old.name then with_setting (setting_view setting.now) session.old else session.old)) }
 {
     if session.is_named(name) {
-        session.set(setting);
+        session.set(alloc, setting)?;
     }
+    Ok(())
 }
 
 /// Sets this of the sessions of a name.
-fn alter(sessions: &mut [Session], name: &Name, setting: &Setting)
-    ensures { sessions.new ≡ altered name.now (setting_view setting.now) sessions.old }
+fn alter(
+    alloc: Global,
+    sessions: &mut [Session],
+    name: &Name,
+    setting: &Setting,
+) -> Result<(), Memory>
+    ensures { OnOk result (sessions.new ≡ altered name.now (setting_view setting.now) sessions.old) }
 {
     if let Some((session, rest)) = sessions.split_first_mut() {
-        alter_one(session, name, setting);
-        alter(rest, name, setting);
+        alter_one(alloc, session, name, setting)?;
+        alter(alloc, rest, name, setting)?;
     }
+    Ok(())
 }
 
 /// Does to the sessions what a line does to them.
-pub fn seat(sessions: &mut Vec<Session>, seating: Seating) -> Result<(), Memory>
+pub fn seat(alloc: Global, sessions: &mut Vec<Session>, seating: Seating) -> Result<(), Memory>
     ensures { OnOk result (sessions.new.items ≡ seated sessions.old.items (seating_view seating)) }
 {
     match seating {
         Seating::Stay => {}
         Seating::Open(session) => sessions.push(session)?,
         Seating::Close(name) => close(sessions, &name),
-        Seating::Set { name, setting } => alter(sessions, &name, &setting),
+        Seating::Set { name, setting } => alter(alloc, sessions, &name, &setting)?,
     }
     Ok(())
 }

@@ -1,5 +1,5 @@
 //! Who is connected, and where they stand.
-ghost use Rattle.std.specs.Prelude.{◌≡◌, None, is_some, true};
+ghost use Rattle.std.specs.Prelude.{◌≡◌, None, is_some, true, OnOk};
 ghost use Rattle.std.specs.Option.{option_copied};
 ghost use Rattle.std.specs.Str.{bytes_eq};
 ghost use Rattle.wm_plan.specs.Stands.{setting_view, stand_view};
@@ -7,8 +7,9 @@ ghost use Rattle.wm_graph.specs.Rules.{is_short};
 ghost use Rattle.wm_model.specs.Step.{session_of, with_setting};
 ghost use Rattle.wm_state.specs.State.{Latest};
 
+use std::alloc::Global;
 use std::marker::Model;
-use wm_base::{Name, Period};
+use wm_base::{Memory, Name, Period};
 
 /// Where a session stands in its workspace.
 #[derive(Clone, Copy, Debug, PartialEq)]
@@ -20,12 +21,14 @@ pub enum Stand {
 }
 
 /// What is set of a session.
-#[derive(Clone, Copy)]
+#[derive(Drop)]
 pub enum Setting {
     /// The workspace that it stands in, and where there.
     Stand { space: u32, stand: Stand },
     /// The period in which it sees rows and changes them, or none.
     Period(Option<Period>),
+    /// The workspace whose conflicts it looks at, by name.
+    Conflict(Name),
 }
 
 /// Somebody who is connected, under the name that lines begin with.
@@ -38,6 +41,8 @@ pub struct Session {
     stand: Stand,
     /// The period that was set for it.
     period: Option<Period>,
+    /// The workspace of conflicts that was set for it, by name.
+    conflict: Option<Name>,
 }
 
 impl Model for Session {
@@ -48,17 +53,18 @@ impl Model for Session {
 
     ghost Value = { SessionState };
 
-    ghost view = { λ s. record { name = s.name; user = s.user; space = s.space; stand = stand_view s.stand; period = s.period } };
+    ghost view = { λ s. record { name = s.name; user = s.user; space = s.space; stand = stand_view s.stand; period = s.period; conflict = s.conflict } };
 
     ghost invariant = { λ s. is_short s.user ≡ true };
 }
 
 impl Session {
-    /// A session of this name for this user, which stands in LIVE at what is newest, and for which no period is set.
+    /// A session of this name for this user, which stands in LIVE at what is newest, and for which neither a period nor a
+    /// workspace of conflicts is set.
     pub fn new(name: Name, user: Name) -> Session
         // An entry of a log has room for the user.
         requires { is_short user ≡ true }
-        ensures { result ≡ record { name = name; user = user; space = 0; stand = Latest; period = None } }
+        ensures { result ≡ record { name = name; user = user; space = 0; stand = Latest; period = None; conflict = None } }
     {
         Session {
             name,
@@ -66,6 +72,7 @@ impl Session {
             space: 0,
             stand: Stand::Latest,
             period: None,
+            conflict: None,
         }
     }
 
@@ -96,6 +103,13 @@ impl Session {
         self.period
     }
 
+    /// The workspace of conflicts that was set for it, by name.
+    pub fn conflict(&self) -> Option<&Name>
+        ensures { option_copied result ≡ self.now.conflict }
+    {
+        self.conflict.as_ref()
+    }
+
     pub fn stand(&self) -> Stand
         ensures { stand_view result ≡ self.now.stand }
     {
@@ -110,8 +124,8 @@ impl Session {
     }
 
     /// Sets this of it.
-    pub fn set(&mut self, setting: &Setting)
-        ensures { self.new ≡ with_setting (setting_view setting.now) self.old }
+    pub fn set(&mut self, alloc: Global, setting: &Setting) -> Result<(), Memory>
+        ensures { OnOk result (self.new ≡ with_setting (setting_view setting.now) self.old) }
     {
         match setting {
             Setting::Stand { space, stand } => {
@@ -119,7 +133,9 @@ impl Session {
                 self.stand = *stand;
             }
             Setting::Period(period) => self.period = *period,
+            Setting::Conflict(workspace) => self.conflict = Some(workspace.copy(alloc)?),
         }
+        Ok(())
     }
 }
 

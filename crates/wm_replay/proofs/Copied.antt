@@ -9,7 +9,7 @@ use Rattle.wm_graph.specs.Parts.{parts_of, space_of}
 use Rattle.wm_graph.specs.Rules.{keep_rules}
 use Rattle.wm_pending.specs.Owned.{key_pieces}
 use Rattle.wm_pending.specs.declared.own.OwnKey.{OwnKey}
-use Rattle.wm_rebased.proofs.DraftedRebased.{drafts_rebase}
+use Rattle.wm_rebased.proofs.DraftedRebased.{drafts_rebase, rebase_to}
 use Rattle.wm_rebased.proofs.RebasingFields.{parent_recorded}
 use Rattle.wm_rebased.specs.Rebasing.{rebased_on, turn_record}
 use Rattle.wm_replay.proofs.Drafted.{batch_so}
@@ -59,19 +59,14 @@ key_behind version keys i own front before after within at is pushed =
 
 -- ---- the draft
 
-rebases_own : (rs : List Stored) (m work base id : ℕ) (emptied : Bool) (a b new : Space) (c counters : Counters) (front changes : List Change) (ks : List KeyPieces) (dropped : List ℕ) (first news : List Record) → keep_rules (parts_of rs) ≡ true
-    → CanWork (parts_of rs) m work → CanRebase (parts_of rs) a.number emptied → space_of (parts_of rs).spaces a.number ≡ Some a → space_of (parts_of rs).spaces a.parent ≡ Some b → (parts_of rs).counters ≡ c ∷ []
-    → ((i : ℕ) → id ≤ i → record_at rs i ≡ None) → AreCopied (λ k. if emptied then None else owned (parts_of rs) a.base_version a.number k) ks → base ≡ latest (parts_of rs) a.parent
+-- the batch is that of the rebase
+pub rebases_as : (rs : List Stored) (m work base id : ℕ) (a b new : Space) (c counters : Counters) (front changes : List Change) (ks : List KeyPieces) (dropped : List ℕ) (first news : List Record) → base ≡ latest (parts_of rs) a.parent
     → first ≡ records.Version (record { number = c.next_version; space = a.number; parent = base }) ∷ records.Turn (turn_record a.number a b) ∷ [] → news ≡ first ++ map records.Piece (pieces_for c.next_version ks)
-    → counters ≡ versioned c m work → new ≡ rebased_on base b.log_length a → front ≡ [] → dropped ≡ [] → AreWritten rs front counters new id dropped news changes → DraftsBy work rs m (edits.Rebase a.number emptied ∷ []) changes
-rebases_own rs m work base id emptied a b new c counters front changes ks dropped first news rules can_work can there parent one above copied newest begins behind counts rebased none nothing w =
-    subst (DraftsBy work rs m (edits.Rebase a.number emptied ∷ []))
-    (sym
-    (batch_so changes front [] counters (versioned c m work) w.counters_id w.space_id id id new (rebased_on (latest (parts_of rs) a.parent) b.log_length a) dropped news (all (latest (parts_of rs) a.parent)) w.are none counts
+    → counters ≡ versioned c m work → new ≡ rebased_on base b.log_length a → front ≡ [] → dropped ≡ [] → (w : AreWritten rs front counters new id dropped news changes) → changes ≡ rebase_to (parts_of rs) m work w.counters_id c w.space_id a b id ks
+rebases_as rs m work base id a b new c counters front changes ks dropped first news newest begins behind counts rebased none nothing w =
+    batch_so changes front [] counters (versioned c m work) w.counters_id w.space_id id id new (rebased_on (latest (parts_of rs) a.parent) b.log_length a) dropped news (all (latest (parts_of rs) a.parent)) w.are none counts
     (rebased ∙ ap (λ v. rebased_on v b.log_length a) newest) refl (behind ∙ ap (λ (rs : List Record). rs ++ pieces) begins ∙ ap all newest)
-    ∙ ap batch nothing))
-    (drafts_rebase rs m work emptied c a b w.counters_id w.space_id id ks rules can_work can there parent
-    (written_places rs front counters c a new id id dropped news changes one there (ap (λ (r : Space). r.number) rebased) above w) copied)
+    ∙ ap batch nothing
   where
     pieces : List Record
     pieces = map records.Piece (pieces_for c.next_version ks)
@@ -84,6 +79,16 @@ rebases_own rs m work base id emptied a b new c counters front changes ks droppe
         put w.counters_id (records.Counters (versioned c m work))
         ∷ put w.space_id (records.Space (rebased_on (latest (parts_of rs) a.parent) b.log_length a))
         ∷ (map drop_one ids ++ put_all id (all (latest (parts_of rs) a.parent)))
+
+rebases_own : (rs : List Stored) (m work base id : ℕ) (emptied : Bool) (a b new : Space) (c counters : Counters) (front changes : List Change) (ks : List KeyPieces) (dropped : List ℕ) (first news : List Record) → keep_rules (parts_of rs) ≡ true
+    → CanWork (parts_of rs) m work → CanRebase (parts_of rs) a.number emptied → space_of (parts_of rs).spaces a.number ≡ Some a → space_of (parts_of rs).spaces a.parent ≡ Some b → (parts_of rs).counters ≡ c ∷ []
+    → ((i : ℕ) → id ≤ i → record_at rs i ≡ None) → AreCopied (λ k. if emptied then None else owned (parts_of rs) a.base_version a.number k) ks → base ≡ latest (parts_of rs) a.parent
+    → first ≡ records.Version (record { number = c.next_version; space = a.number; parent = base }) ∷ records.Turn (turn_record a.number a b) ∷ [] → news ≡ first ++ map records.Piece (pieces_for c.next_version ks)
+    → counters ≡ versioned c m work → new ≡ rebased_on base b.log_length a → front ≡ [] → dropped ≡ [] → AreWritten rs front counters new id dropped news changes → DraftsBy work rs m (edits.Rebase a.number emptied ∷ []) changes
+rebases_own rs m work base id emptied a b new c counters front changes ks dropped first news rules can_work can there parent one above copied newest begins behind counts rebased none nothing w =
+    subst (DraftsBy work rs m (edits.Rebase a.number emptied ∷ [])) (sym (rebases_as rs m work base id a b new c counters front changes ks dropped first news newest begins behind counts rebased none nothing w))
+    (drafts_rebase rs m work emptied c a b w.counters_id w.space_id id ks rules can_work can there parent
+    (written_places rs front counters c a new id id dropped news changes one there (ap (λ (r : Space). r.number) rebased) above w) copied)
 
 -- told of the number by which the workspace was found
 pub drafts_rebasing : (rs : List Stored) (m work n base id : ℕ) (emptied : Bool) (a b new : Space) (c counters : Counters) (front changes : List Change) (ks : List KeyPieces) (dropped : List ℕ) (first news : List Record) → keep_rules (parts_of rs) ≡ true

@@ -3,3 +3,5 @@ mod Marked
 mod Drafted
 mod Standing
 mod Copied
+mod Priced
+mod PricedRebase

@@ -4,6 +4,8 @@ ghost use Rattle.std.specs.Prelude.{◌≡◌, ◌∷◌, [], map, true, IfOk, I
 ghost use Rattle.wm_changes.specs.Ids.{HasGreatId};
 ghost use Rattle.wm_graph.specs.Parts.{parts_of};
 ghost use Rattle.wm_graph.specs.Rules.{keep_rules};
+ghost use Rattle.wm_prices.specs.Prices.{Costs};
+ghost use Rattle.wm_state.specs.ById.{applied};
 ghost use Rattle.wm_state.specs.Drafts.{CanGain, CanWork, DraftsBy};
 ghost use Rattle.wm_state.specs.Editing.{entry_of};
 ghost use Rattle.wm_state.specs.declared.edit.Edit.TheVariants as edits;
@@ -33,6 +35,7 @@ pub fn gain(
     requires work { CanWork (parts_of image.now) moment work }
     requires can { CanGain (parts_of image.now) space (map entry_of entries.items) }
     ensures drafts { IfOk result (DraftsBy work image.now moment (edits.Gain space entries ∷ [])) }
+    ensures costs { IfOk result (λ changes. Costs image.now (edits.Gain space entries) (applied changes image.now)) }
     ensures full { IfErr result (λ fault. fault ≡ DraftFault.Ids → HasGreatId image.now) }
 {
     let old = image.space(space).unwrap();

@@ -5,9 +5,11 @@ ghost use Rattle.wm_changes.specs.Ids.{HasGreatId};
 ghost use Rattle.wm_graph.specs.Parts.{parts_of, space_of};
 ghost use Rattle.wm_graph.specs.Rules.{keep_rules};
 ghost use Rattle.wm_pending.specs.Owned.{key_pieces};
+ghost use Rattle.wm_prices.specs.Prices.{Costs};
 ghost use Rattle.wm_rebased.specs.Rebasing.{rebased_on};
 ghost use Rattle.wm_spec.specs.declared.record.Record.TheVariants as records;
 ghost use Rattle.wm_state.specs.Copied.{AreCopied, piece_for, pieces_for};
+ghost use Rattle.wm_state.specs.ById.{applied};
 ghost use Rattle.wm_state.specs.Drafts.{CanRebase, CanWork, DraftsBy};
 ghost use Rattle.wm_state.specs.Standing.{owned};
 ghost use Rattle.wm_state.specs.declared.edit.Edit.TheVariants as edits;
@@ -112,6 +114,7 @@ pub fn rebase(
     requires work { CanWork (parts_of image.now) moment work }
     requires can { CanRebase (parts_of image.now) space emptied }
     ensures drafts { IfOk result (DraftsBy work image.now moment (edits.Rebase space emptied ∷ [])) }
+    ensures costs { IfOk result (λ changes. Costs image.now (edits.Rebase space emptied) (applied changes image.now)) }
     ensures full { IfErr result (λ fault. fault ≡ DraftFault.Ids → HasGreatId image.now) }
 {
     let old = image.space(space).unwrap();

@@ -7,7 +7,7 @@ use Rattle.wm_calls.specs.Arguments.{moment_given, text_given}
 use Rattle.wm_calls.specs.Faults.{argument_fault}
 use Rattle.wm_grammar.specs.declared.procedure.Parameter.TheVariants as parameters
 use Rattle.wm_grammar.specs.declared.procedure.Procedure.TheVariants as procedures
-use Rattle.wm_model.specs.Step.{call, given, newly_named, unless_mistyped, readiness_given, enable, set_valid_time, create_workspace, create_savepoint, goto_workspace, goto_savepoint, is_name, names_no_workspace, names_no_savepoint, bad_name, reserved_name, mistyped, latest, rollback_to, remove_workspace}
+use Rattle.wm_model.specs.Step.{call, given, newly_named, unless_mistyped, readiness_given, enable, set_valid_time, create_workspace, create_savepoint, goto_workspace, goto_savepoint, set_conflict_workspace, is_name, names_no_workspace, names_no_savepoint, bad_name, reserved_name, mistyped, latest, rollback_to, remove_workspace}
 use Rattle.wm_print.specs.Texts.{Answer}
 use Rattle.wm_reader.specs.Reading.{folded}
 use Rattle.wm_state.specs.State.{State, Session, Readiness}
@@ -145,6 +145,16 @@ to_workspace_mistyped session args s parameter wrong = unless_some (argument_fau
 pub to_workspace_done : (session : Session) (args : List Arg) (s : State) (workspace : List ℕ) → argument_fault procedures.GotoWorkspace args ≡ None → workspace ≡ unwrap_or (text_given procedures.GotoWorkspace args parameters.Workspace) []
     → call session (Some procedures.GotoWorkspace) args s ≡ goto_workspace session workspace s
 to_workspace_done session args s workspace right is = unless_none (argument_fault procedures.GotoWorkspace args) s _ right ∙ ap (λ w. goto_workspace session w s) (sym is)
+
+-- ---- SetConflictWorkspace
+
+pub to_conflicts_mistyped : (session : Session) (args : List Arg) (s : State) (parameter : List ℕ) → argument_fault procedures.SetConflictWorkspace args ≡ Some parameter
+    → call session (Some procedures.SetConflictWorkspace) args s ≡ (s, mistyped parameter)
+to_conflicts_mistyped session args s parameter wrong = unless_some (argument_fault procedures.SetConflictWorkspace args) parameter s _ wrong
+
+pub to_conflicts_done : (session : Session) (args : List Arg) (s : State) (workspace : List ℕ) → argument_fault procedures.SetConflictWorkspace args ≡ None
+    → workspace ≡ unwrap_or (text_given procedures.SetConflictWorkspace args parameters.Workspace) [] → call session (Some procedures.SetConflictWorkspace) args s ≡ set_conflict_workspace session workspace s
+to_conflicts_done session args s workspace right is = unless_none (argument_fault procedures.SetConflictWorkspace args) s _ right ∙ ap (λ w. set_conflict_workspace session w s) (sym is)
 
 -- ---- GotoSavepoint
 

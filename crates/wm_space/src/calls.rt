@@ -2,6 +2,7 @@
 
 pub mod enable;
 pub mod going;
+pub mod looking;
 pub mod savepoint;
 pub mod undoing;
 pub mod valid_time;

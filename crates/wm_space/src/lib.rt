@@ -1,5 +1,6 @@
 //! What lines do and answer that make tables, workspaces and savepoints, that go back to a savepoint or remove a
-//! workspace, and that say who is connected, where a session stands, in which period it sees rows, and what the moment is.
+//! workspace, and that say who is connected, where a session stands, in which period it sees rows, which conflicts it
+//! looks at, and what the moment is.
 #![tactic(auto)]
 
 pub mod at;
@@ -9,6 +10,7 @@ pub mod connect;
 pub mod create;
 mod enable;
 mod going;
+mod looking;
 pub mod removing;
 mod rolling;
 pub mod saving;

@@ -61,13 +61,15 @@ pub data Stand : Type 0 where
   Latest : Stand
   At : (making : ℕ) → Stand
 
--- space: the number of its workspace; period: the one that SetValidTime set for it, in which it sees rows and changes them
+-- space: the number of its workspace; period: the one that SetValidTime set for it, in which it sees rows and changes them; conflict:
+-- the name of the workspace whose conflicts it looks at, which SetConflictWorkspace set for it
 pub record Session : Type 0 where
   pub name : List ℕ
   pub user : List ℕ
   pub space : ℕ
   pub stand : Stand
   pub period : Option Span
+  pub conflict : Option (List ℕ)
 
 -- the part of the state that a store keeps: tables in the order of their making; workspaces by number; next_stamp: the stamp that
 -- the next change gets; limit: the greatest stamp that a change may get; last_moment: that of the last line that changed something

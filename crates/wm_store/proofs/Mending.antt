@@ -4,11 +4,11 @@ use Rattle.wm_base.specs.declared.fault.OpenFault.{OpenFault}
 use Rattle.wm_base.specs.declared.fault.OpenFault.TheVariants as faults
 use Rattle.wm_spec.specs.declared.record.stored.Stored.{Stored}
 use Rattle.wm_station.specs.History.{History, now, said, Leaves, Synced}
-use Rattle.wm_station.specs.Moments.{Holds, During}
+use Rattle.wm_station.specs.Moments.{Holds, During, Silent}
 use Rattle.wm_station.proofs.Steps.{weaken}
 use Rattle.wm_journal.specs.Disk.{page, is_made}
 use Rattle.wm_journal.specs.Opening.{Says, IsUntouched}
-use Rattle.wm_journal.specs.Store.{IsAtRest, Keeps}
+use Rattle.wm_journal.specs.Store.{IsAtRest, Keeps, Settles}
 use Rattle.wm_heap.specs.Asking.{Finds}
 use Rattle.wm_heap.specs.Content.{slots_in, content, fault_of}
 use Rattle.wm_heap.specs.Places.{IsHeapOf}
@@ -83,6 +83,11 @@ pub moments_hold : (old new : History) → During old new (λ c s. (Leaves old c
 moments_hold old new run =
     weaken old new (λ c s. (Leaves old c ⊎ Keeps (now old) c) × (s ≡ said old)) (λ c s. (Leaves old c ⊎ HoldsAs (now old) c) × (s ≡ said old))
     (λ c s both. (⊎_elim (λ left. inl left) (λ keeps. inr (holds_as (now old) c keeps)) both.0, both.1)) run
+
+pub settles_hold : (old new : History) → Settles old new (Keeps (now old)) → Settles old new (HoldsAs (now old))
+settles_hold old new settles =
+    ⊎_elim (λ same. inl same)
+    (λ run. inr (weaken (Synced old) new (Silent old (Keeps (now old))) (Silent old (HoldsAs (now old))) (λ c s both. (holds_as (now old) c both.0, both.1)) run)) settles
 
 -- what the pages say is nothing that is found before anything is written
 pub behind_page_0 : (e : OpenFault) (pages : ℕ → List ℕ) (count whole : ℕ) → FindsIn e (pages_opened pages count whole) → IsUntouched e → ⊥

@@ -11,6 +11,7 @@ ghost use Rattle.wm_station.specs.History.{now, said, Leaves, Synced};
 ghost use Rattle.wm_station.specs.Moments.{Holds, During, Ended};
 ghost use Rattle.wm_journal.specs.Disk.{is_made, count_of};
 ghost use Rattle.wm_journal.specs.Opening.{IsUntouched};
+ghost use Rattle.wm_journal.specs.Store.{Settles};
 ghost use Rattle.wm_heap.specs.Places.{place_of};
 ghost use Rattle.wm_store.specs.Answers.{SaysOf};
 ghost use Rattle.wm_store.specs.Fresh.{fresh_records};
@@ -84,6 +85,9 @@ impl Store {
         // Whatever the answer, each page is held as it was, now and after a crash at any moment.
         ensures pages { P.tells → HoldsAs (now (P.history station.old)) (now (P.history station.new)) }
         ensures pages_any_moment { P.tells → During (P.history station.old) (P.history station.new) (λ c s. (Leaves (P.history station.old) c ⊎ HoldsAs (now (P.history station.old)) c) × (s ≡ said (P.history station.old))) }
+
+        // It syncs first, and a crash behind that leaves a file whose pages are held as they were.
+        ensures settles { P.tells → Settles (P.history station.old) (P.history station.new) (HoldsAs (now (P.history station.old))) }
 
         // Where the file is no store, or page 0 is damaged, it was only synced.
         ensures synced { P.tells → IfErr result (λ e. IsUntouched e → P.history station.new ≡ Synced (P.history station.old)) }

@@ -95,8 +95,17 @@ module _ (p : Parts) (d : Durable) (n : ℕ) (w q : Workspace) (a b : Space) (be
   pub parent_number : b.number ≡ w.parent
   parent_number = number_of p w.parent b parent_recorded
 
+  parent_fields : fields_of b ≡ fields_in q
+  parent_fields = fields_are p d w.parent b q beside.stands beside.above parent_recorded
+
   parent_place : b.next_place ≡ q.next_place
-  parent_place = ap (λ (f : SpaceFields). f.next_place) (fields_are p d w.parent b q beside.stands beside.above parent_recorded)
+  parent_place = ap (λ (f : SpaceFields). f.next_place) parent_fields
+
+  pub child_name : a.name ≡ w.name
+  child_name = ap (λ (f : SpaceFields). f.name) child_fields
+
+  pub parent_name : b.name ≡ q.name
+  parent_name = ap (λ (f : SpaceFields). f.name) parent_fields
 
   -- the parent changed a cell where its log reaches past what the workspace has
   pub pending_reach : (c : Cell) → is_pending p a b c ≡ nat_lt w.from (reach q.lists.log c)

@@ -1,11 +1,11 @@
 -- The first stretch on which a workspace and its parent are in conflict, by their records, is the first of their conflicts.
-use Rattle.std.proofs.Common.{◌≡◌, ℕ, ◌&&◌, max, nat_lt, Bool, not, List, [], slice_get, Option, Some, None, is_some, is_none, refl, sym, ap, ◌∙◌, arith}
+use Rattle.std.proofs.Common.{◌≡◌, ℕ, ◌&&◌, max, nat_lt, Bool, not, List, slice_get, Option, Some, None, is_some, is_none, refl, sym, ap, ◌∙◌, arith}
 use Rattle.std.specs.Bool.{then_some}
 use Rattle.std.specs.Option.{option_and_then, option_map}
 use Rattle.wm_base.specs.declared.row.Row.{Row}
 use Rattle.wm_base.specs.declared.value.Value.{Value}
 use Rattle.wm_graph.specs.Parts.{Parts}
-use Rattle.wm_net.specs.Conflicts.{Sides, Stamps, all_sides, conflict_at, conflicts, grouped, in_conflict, same_stamps, stamps}
+use Rattle.wm_net.specs.Conflicts.{Stamps, all_sides, conflict_at, conflicts, grouped, in_conflict, same_stamps, stamps}
 use Rattle.wm_net.specs.Firsts.{IsFirstOf}
 use Rattle.wm_net.specs.Groups.{Group, cell}
 use Rattle.wm_net.specs.Listed.{Stretch}
@@ -16,12 +16,9 @@ use Rattle.wm_spec.specs.Lists.{Cell, Told, reach, standing_stamp, told, touched
 use Rattle.wm_spec.specs.declared.record.space.Space.{Space}
 use Rattle.wm_state.specs.Standing.{Newest, held_of, latest, seen}
 use Rattle.wm_state.specs.State.{Durable, Workspace, content}
+use Rattle.wm_telling.specs.Sides.{sides}
 use Rattle.wm_telling.specs.Telling.{IsFirstClash, clash_held, is_pending, own_held, stamps_of, standing}
 use Rattle.wm_telling.proofs.Beside.{Beside, child_recorded, own_is_held, parent_holds, pending_reach}
-
--- a workspace beside its parent, with nothing settled
-abbrev pub sides_of : Workspace → Workspace → Sides
-sides_of w q = record { base = w.lists.base; parent = content q; own = w.lists.own; log = q.lists.log; from = w.from; settled = [] }
 
 some_mapped : (o : Option Told) → is_some (option_map held_of o) ≡ is_some o
 some_mapped None = refl
@@ -52,7 +49,7 @@ first_alike f h g s alike is = record {
 }
 
 module _ (p : Parts) (d : Durable) (n : ℕ) (w q : Workspace) (a b : Space) (beside : Beside p d n w q a b) (base : (c : Cell) → seen p a.base_version c ≡ option_map held_of (told w.lists.base c)) where
-  in_conflict_is : (c : Cell) → (is_some (own_held p a c) && is_pending p a b c) ≡ in_conflict (sides_of w q) c
+  in_conflict_is : (c : Cell) → (is_some (own_held p a c) && is_pending p a b c) ≡ in_conflict (sides q w) c
   in_conflict_is c =
       ap (λ (o : Option Held). is_some o && is_pending p a b c) (own_is_held p d n w a beside.stands beside.is (child_recorded p d n w q a b beside) c)
       ∙ ap (λ (t : Bool). t && is_pending p a b c) (some_mapped (told w.lists.own c))
@@ -73,21 +70,21 @@ module _ (p : Parts) (d : Durable) (n : ℕ) (w q : Workspace) (a b : Space) (be
       λ i. record { base = under i; parent = above i; child = own i }
 
   -- by their records a cell is in conflict where it is so by their lists, with the same stamps
-  pub clash_is : (c : Cell) → clash_held p a b c ≡ conflict_at (sides_of w q) c
+  pub clash_is : (c : Cell) → clash_held p a b c ≡ conflict_at (sides q w) c
   clash_is c =
       ap (λ (t : Bool). then_some t (stamps_of p a b c)) (in_conflict_is c)
-      ∙ ap (λ (x : Stamps). then_some (in_conflict (sides_of w q) c) x) (stamps_are c)
+      ∙ ap (λ (x : Stamps). then_some (in_conflict (sides q w) c) x) (stamps_are c)
 
   -- the first clash is the first conflict
   pub clash_listed : (table : ℕ) (key : List Value) (from till : ℕ) (clash : IsFirstClash p a b table key from till)
-      → slice_get (conflicts (sides_of w q)) 0 ≡ Some ((let g : Group = record { table = table; key = key } in g), (let s : Stretch Stamps = record { from = from; till = till; value = clash.stamps } in s))
+      → slice_get (conflicts (sides q w)) 0 ≡ Some ((let g : Group = record { table = table; key = key } in g), (let s : Stretch Stamps = record { from = from; till = till; value = clash.stamps } in s))
   clash_listed table key from till clash =
-      listing_first same_stamps grouped (all_sides (sides_of w q)) (conflict_at (sides_of w q)) (record { table = table; key = key })
-      (record { from = from; till = till; value = clash.stamps }) same_stamps-itself (Fit-conflicts (sides_of w q))
-      (first_alike (clash_held p a b) (conflict_at (sides_of w q)) (record { table = table; key = key }) (record { from = from; till = till; value = clash.stamps }) clash_is clash.first)
+      listing_first same_stamps grouped (all_sides (sides q w)) (conflict_at (sides q w)) (record { table = table; key = key })
+      (record { from = from; till = till; value = clash.stamps }) same_stamps-itself (Fit-conflicts (sides q w))
+      (first_alike (clash_held p a b) (conflict_at (sides q w)) (record { table = table; key = key }) (record { from = from; till = till; value = clash.stamps }) clash_is clash.first)
 
   -- and where there is no clash, there is no conflict
-  pub clash_none : ((c : Cell) → clash_held p a b c ≡ None) → slice_get (conflicts (sides_of w q)) 0 ≡ None
+  pub clash_none : ((c : Cell) → clash_held p a b c ≡ None) → slice_get (conflicts (sides q w)) 0 ≡ None
   clash_none none =
       ap (λ xs. slice_get xs 0)
-      (listing_none same_stamps grouped (all_sides (sides_of w q)) (conflict_at (sides_of w q)) same_stamps-itself (Fit-conflicts (sides_of w q)) (λ c. sym (clash_is c) ∙ none c))
+      (listing_none same_stamps grouped (all_sides (sides q w)) (conflict_at (sides q w)) same_stamps-itself (Fit-conflicts (sides q w)) (λ c. sym (clash_is c) ∙ none c))

@@ -1,5 +1,5 @@
 -- What records tell of a workspace beside its parent: what it has of its own, what it gains of its parent, and where both changed.
-use Rattle.std.specs.Prelude.{ℕ, ◌≡◌, ◌&&◌, ◌||◌, ◌==◌, Bool, true, false, nat_lt, not, if◌then◌else◌, List, map, Option, None, Some, is_some}
+use Rattle.std.specs.Prelude.{ℕ, ◌≡◌, ◌&&◌, ◌==◌, Bool, true, false, nat_lt, not, if◌then◌else◌, List, map, Option, None, Some, is_some}
 use Rattle.std.specs.Bool.{then_some}
 use Rattle.std.specs.Option.{option_and_then, option_map}
 use Rattle.wm_base.specs.declared.kind.Kind.{Kind}

@@ -1,4 +1,4 @@
 pub mod Fits
-pub mod Listing
+pub mod Sourcing
 pub mod Narrowing
 pub mod Querying

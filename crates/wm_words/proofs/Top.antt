@@ -128,32 +128,41 @@ check_stops : Stops (codes "check")
 unfolding clap_on_literals begun
 check_stops = record { stops = refl; fine = refl }
 
+load_stops : Stops (codes "load")
+unfolding clap_on_literals begun
+load_stops = record { stops = refl; fine = refl }
+
 no_words : judged [] ≡ None
 unfolding clap_on_literals
 no_words = refl
 
 -- a word that names no command
-unknown_turn : (name : Text) → Look name → bytes_eq (codes "init") name ≡ false → bytes_eq (codes "run") name ≡ false → bytes_eq (codes "check") name ≡ false → is_nil (turn_fault top labels begun name) ≡ false
+unknown_turn : (name : Text) → Look name → bytes_eq (codes "init") name ≡ false → bytes_eq (codes "run") name ≡ false → bytes_eq (codes "check") name ≡ false → bytes_eq (codes "load") name ≡ false → is_nil (turn_fault top labels begun name) ≡ false
 unfolding begun
-unknown_turn name (long p is dashed apart) a b c = rw (a, b, c, apart, is) refl
-unknown_turn name (plain none short dashed apart) a b c = rw (a, b, c, apart, none, short) refl
+unknown_turn name (long p is dashed apart) a b c d = rw (a, b, c, d, apart, is) refl
+unknown_turn name (plain none short dashed apart) a b c d = rw (a, b, c, d, apart, none, short) refl
 
-unknown : (name : Text) (words : List Text) → Look name → bytes_eq (codes "init") name ≡ false → bytes_eq (codes "run") name ≡ false → bytes_eq (codes "check") name ≡ false → judged (name ∷ words) ≡ None
+unknown : (name : Text) (words : List Text) → Look name → bytes_eq (codes "init") name ≡ false → bytes_eq (codes "run") name ≡ false → bytes_eq (codes "check") name ≡ false → bytes_eq (codes "load") name ≡ false → judged (name ∷ words) ≡ None
 unfolding begun walk_fault
-unknown name words seen a b c =
-    ap (option_and_then command_by) (none_pass _ (subcommand_of wm_app (name ∷ words)) (first_bad (or_else (turn_fault top labels begun name) _) _ (first_bad (turn_fault top labels begun name) _ (unknown_turn name seen a b c))))
+unknown name words seen a b c d =
+    ap (option_and_then command_by) (none_pass _ (subcommand_of wm_app (name ∷ words)) (first_bad (or_else (turn_fault top labels begun name) _) _ (first_bad (turn_fault top labels begun name) _ (unknown_turn name seen a b c d))))
 
 pub judged_asks : (words : List Text) → Clean words → judged words ≡ command_of words
 judged_asks [] clean = no_words
-judged_asks (name ∷ words) clean = by_init (bytes_eq (codes "init") name) (bytes_eq (codes "run") name) (bytes_eq (codes "check") name) refl refl refl where
-  named : (word : Text) → bytes_eq word name ≡ true → judged (word ∷ words) ≡ command_of (word ∷ words) → judged (name ∷ words) ≡ command_of (name ∷ words)
-  named word e asks = subst (λ (n : Text). judged (n ∷ words) ≡ command_of (n ∷ words)) ((bytes_eq-Decides word name).0 e) asks
+judged_asks (name ∷ words) clean =
+    by_name (bytes_eq (codes "init") name) (bytes_eq (codes "run") name) (bytes_eq (codes "check") name) (bytes_eq (codes "load") name) refl refl refl refl where
+      named : (word : Text) → bytes_eq word name ≡ true → judged (word ∷ words) ≡ command_of (word ∷ words) → judged (name ∷ words) ≡ command_of (name ∷ words)
+      named word e asks = subst (λ (n : Text). judged (n ∷ words) ≡ command_of (n ∷ words)) ((bytes_eq-Decides word name).0 e) asks
 
-  by_init : (a b c : Bool) → bytes_eq (codes "init") name ≡ a → bytes_eq (codes "run") name ≡ b → bytes_eq (codes "check") name ≡ c → judged (name ∷ words) ≡ command_of (name ∷ words)
-  by_init true b c e f g = named (codes "init") e (case_of (codes "init") (codes "limit" ∷ []) words init_stops refl ∙ leaf_asks (codes "init") (codes "limit" ∷ []) words clean.1)
-  by_init false true c e f g = named (codes "run") f (case_of (codes "run") (codes "now" ∷ []) words run_stops refl ∙ leaf_asks (codes "run") (codes "now" ∷ []) words clean.1)
-  by_init false false true e f g = named (codes "check") g (case_of (codes "check") [] words check_stops refl ∙ leaf_asks (codes "check") [] words clean.1)
-  by_init false false false e f g = unknown name words (look name clean.0) e f g ∙ sym (rw (e, f, g) refl)
+      by_name : (a b c d : Bool) → bytes_eq (codes "init") name ≡ a → bytes_eq (codes "run") name ≡ b → bytes_eq (codes "check") name ≡ c → bytes_eq (codes "load") name ≡ d
+          → judged (name ∷ words) ≡ command_of (name ∷ words)
+      by_name true b c d e f g h = named (codes "init") e (case_of (codes "init") (codes "limit" ∷ []) words init_stops refl ∙ leaf_asks (codes "init") (codes "limit" ∷ []) words clean.1)
+      by_name false true c d e f g h = named (codes "run") f (case_of (codes "run") (codes "now" ∷ []) words run_stops refl ∙ leaf_asks (codes "run") (codes "now" ∷ []) words clean.1)
+      by_name false false true d e f g h = named (codes "check") g (case_of (codes "check") [] words check_stops refl ∙ leaf_asks (codes "check") [] words clean.1)
+      by_name false false false true e f g h =
+          named (codes "load") h
+          (case_of (codes "load") (codes "seed" ∷ codes "lines" ∷ []) words load_stops refl ∙ leaf_asks (codes "load") (codes "seed" ∷ codes "lines" ∷ []) words clean.1)
+      by_name false false false false e f g h = unknown name words (look name clean.0) e f g h ∙ sym (rw (e, f, g, h) refl)
 
 -- ---- how the parse ended
 

@@ -23,12 +23,15 @@ run_app = with_rule (new_app (codes "run")) (option_rule (codes "now"))
 abbrev pub check_app : App
 check_app = new_app (codes "check")
 
+abbrev pub load_app : App
+load_app = with_rule (with_rule (new_app (codes "load")) (option_rule (codes "seed"))) (option_rule (codes "lines"))
+
 abbrev pub settings_of : App → App
 settings_of a = record a { top = record a.top { no_binary_name = true; subcommand_required = true; disable_help_flag = true; disable_help_subcommand = true } }
 
 -- the command line of the program
 abbrev pub wm_app : App
-wm_app = with_subcommand (with_subcommand (with_subcommand (settings_of (new_app (codes "wm"))) init_app.top) run_app.top) check_app.top
+wm_app = with_subcommand (with_subcommand (with_subcommand (with_subcommand (settings_of (new_app (codes "wm"))) init_app.top) run_app.top) check_app.top) load_app.top
 
 -- the command that the rows of a parse give
 abbrev pub command_by : Option (Text × List Row) → Option Command

@@ -4,7 +4,7 @@ use Rattle.std.specs.Prelude.{ℕ, ◌==◌, ◌&&◌, Bool, false, not, if◌th
 use Rattle.std.specs.List.{list_all, list_any}
 use Rattle.std.specs.Str.{bytes_eq}
 use Rattle.clap.specs.Lexer.{long_of}
-use Rattle.wm_words.specs.Values.{init_of, run_of}
+use Rattle.wm_words.specs.Values.{init_of, load_of, run_of}
 use Rattle.wm_words.specs.declared.command.Command.{Command}
 use Rattle.wm_words.specs.declared.command.Command.TheVariants.{Check}
 
@@ -53,14 +53,16 @@ abbrev pub names_of : Text → Option (List Text)
 names_of name =
     if bytes_eq (codes "init") name then Some (codes "limit" ∷ []) else
     (if bytes_eq (codes "run") name then Some (codes "now" ∷ []) else
-    (if bytes_eq (codes "check") name then Some [] else None))
+    (if bytes_eq (codes "check") name then Some [] else
+    (if bytes_eq (codes "load") name then Some (codes "seed" ∷ codes "lines" ∷ []) else None)))
 
 -- a command by its name and the values of its options
 abbrev pub command_with : Text → (Text → Option Text) → Option Command
 command_with name value =
     if bytes_eq (codes "init") name then option_and_then init_of (value (codes "limit")) else
     (if bytes_eq (codes "run") name then option_and_then run_of (value (codes "now")) else
-    (if bytes_eq (codes "check") name then Some Check else None))
+    (if bytes_eq (codes "check") name then Some Check else
+    (if bytes_eq (codes "load") name then option_and_then (λ seed. option_and_then (load_of seed) (value (codes "lines"))) (value (codes "seed")) else None)))
 
 -- the command that the words give
 abbrev pub command_of : List Text → Option Command

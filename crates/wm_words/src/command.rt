@@ -2,7 +2,7 @@
 ghost use Rattle.std.specs.Prelude.{◌≡◌, ◌≤◌, length, true, IfSome};
 ghost use Rattle.std.specs.Char.{is_ascii_digit};
 ghost use Rattle.std.specs.List.{list_all};
-ghost use Rattle.wm_words.specs.Values.{init_of, run_of, are_digits, number_behind, IsInBounds};
+ghost use Rattle.wm_words.specs.Values.{init_of, load_of, run_of, are_digits, number_behind, number_within, IsInBounds};
 
 use wm_base::Instant;
 use wm_instants::read_instant;
@@ -16,6 +16,8 @@ pub enum Command {
     Run { moment: Instant },
     /// To open the store, and leave it as it is.
     Check,
+    /// To run the script of this number, with so many drawn lines.
+    Load { seed: u64, lines: u32 },
 }
 
 /// The most digits that a number may have.
@@ -24,22 +26,21 @@ const DIGITS: usize = 20;
 /// The most changes that a store can take.
 const GREATEST_LIMIT: u128 = 1_048_576;
 
+/// The greatest number from which a script is drawn, which is that of u64.
+const GREATEST_SEED: u128 = 18_446_744_073_709_551_615;
+
+/// The most lines that are drawn.
+const MOST_LINES: u128 = 1_000_000;
+
 /// `init` of the limit that the text writes.
 pub(crate) fn init_command(text: &[u8]) -> Option<Command>
     ensures value { result ≡ init_of text.now }
     ensures bounds { IfSome result IsInBounds }
 {
-    if !are_number_digits(text) {
-        return None;
-    }
-    let number = number_of(text);
-    if 1 <= number && number <= GREATEST_LIMIT {
-        Some(Command::Init {
-            limit: number as u32,
-        })
-    } else {
-        None
-    }
+    let limit = number_within(text, 1, GREATEST_LIMIT)?;
+    Some(Command::Init {
+        limit: limit as u32,
+    })
 }
 
 /// `run` from the moment that the text means.
@@ -51,6 +52,35 @@ pub(crate) fn run_command(text: &[u8]) -> Option<Command>
         // A run begins below END; no text means END itself.
         Ok(moment) if moment.is_moment() => Some(Command::Run { moment }),
         _ => None,
+    }
+}
+
+/// `load` of the number and the count of lines that the texts write.
+pub(crate) fn load_command(seed: &[u8], lines: &[u8]) -> Option<Command>
+    ensures value { result ≡ load_of seed.now lines.now }
+    ensures bounds { IfSome result IsInBounds }
+{
+    let seed = number_within(seed, 0, GREATEST_SEED)?;
+    let lines = number_within(lines, 0, MOST_LINES)?;
+    Some(Command::Load {
+        seed: seed as u64,
+        lines: lines as u32,
+    })
+}
+
+/// The number that the text writes, where it lies within the bounds.
+fn number_within(text: &[u8], least: u128, greatest: u128) -> Option<u128>
+    ensures value { result ≡ number_within least greatest text.now }
+    ensures bounds { IfSome result (λ number. (least ≤ number) × (number ≤ greatest)) }
+{
+    if !are_number_digits(text) {
+        return None;
+    }
+    let number = number_of(text);
+    if least <= number && number <= greatest {
+        Some(number)
+    } else {
+        None
     }
 }
 

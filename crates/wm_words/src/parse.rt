@@ -3,18 +3,18 @@ ghost use Rattle.std.specs.Prelude.{◌≡◌, IfOk, IfSome, codes, false, map, 
 ghost use Rattle.std.specs.List.{list_any};
 ghost use Rattle.clap.specs.Words.{app_of, first_of, found_of, new_app, rows_of, rule_of, subcommand_rows_of};
 ghost use Rattle.clap.specs.declared.builder.command.Command.TheViews.{out-Command};
-ghost use Rattle.wm_words.specs.Parse.{command_by, init_app, is_barred, option_rule, run_app, settings_of, wm_app};
+ghost use Rattle.wm_words.specs.Parse.{command_by, init_app, is_barred, load_app, option_rule, run_app, settings_of, wm_app};
 ghost use Rattle.wm_words.specs.Values.{IsInBounds};
 ghost use Rattle.wm_words.specs.Words.{command_of as command_in, command_with as command_valued};
 
-use crate::command::{Command, init_command, run_command};
+use crate::command::{Command, init_command, load_command, run_command};
 use clap::error::ErrorKind;
 use clap::{Arg, ArgAction, ArgMatches};
 use std::alloc::{AllocError, Global};
 use wm_base::Memory;
 
 /// The command that the words give, or None where they are not in the grammar: `init --limit N`,
-/// `run --now T` and `check`, where `=` may stand in place of the space behind an option.
+/// `run --now T`, `check` and `load --seed N --lines M`, where `=` may stand in place of the space behind an option.
 pub fn command_of(alloc: Global, words: &[String]) -> Result<Option<Command>, Memory>
     ensures value { IfOk result (λ r. r ≡ command_in (map string_bytes words.entry.now)) }
     ensures bounds { IfOk result (λ r. IfSome r IsInBounds) }
@@ -69,6 +69,14 @@ fn run_grammar<'a>(alloc: Global) -> Result<clap::Command<'a>, AllocError>
     clap::Command::new(alloc, "run").arg(option(alloc, "now"))
 }
 
+fn load_grammar<'a>(alloc: Global) -> Result<clap::Command<'a>, AllocError>
+    ensures { IfOk result (λ r. (app_of r ≡ load_app) × ((out-Command r).has_globals ≡ false)) }
+{
+    clap::Command::new(alloc, "load")
+        .arg(option(alloc, "seed"))?
+        .arg(option(alloc, "lines"))
+}
+
 fn settings<'a>(alloc: Global) -> clap::Command<'a>
     ensures { app_of result ≡ settings_of (new_app (codes "wm")) }
 {
@@ -85,7 +93,8 @@ fn grammar<'a>(alloc: Global) -> Result<clap::Command<'a>, AllocError>
     settings(alloc)
         .subcommand(init_grammar(alloc)?)?
         .subcommand(run_grammar(alloc)?)?
-        .subcommand(clap::Command::new(alloc, "check"))
+        .subcommand(clap::Command::new(alloc, "check"))?
+        .subcommand(load_grammar(alloc)?)
 }
 
 fn command_in_matches(matches: &ArgMatches<'_>) -> Option<Command>
@@ -104,6 +113,10 @@ fn command_with(name: &str, options: &ArgMatches<'_>) -> Option<Command>
         "init" => init_command(value_of(options, "limit")?.as_bytes()),
         "run" => run_command(value_of(options, "now")?.as_bytes()),
         "check" => Some(Command::Check),
+        "load" => {
+            let seed = value_of(options, "seed")?;
+            load_command(seed.as_bytes(), value_of(options, "lines")?.as_bytes())
+        }
         _ => None,
     }
 }

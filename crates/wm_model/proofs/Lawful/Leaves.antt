@@ -210,3 +210,7 @@ leaves_gone name n stand s answer l p = leaves_seated s _ answer l (seats_altere
 -- a period is set, and nobody goes
 pub leaves_period : (name : List ℕ) (period : Option Span) (s : State) (answer : Answer) → LawfulState s → Leaves (record s { sessions = altered name (settings.Period period) s.sessions }, answer)
 leaves_period name period s answer l = leaves_seated s _ answer l (seats_altered s.durable.spaces name (settings.Period period) s.sessions (λ x old. old) l.seats)
+
+-- so with the workspace of conflicts
+pub leaves_conflict : (name workspace : List ℕ) (s : State) (answer : Answer) → LawfulState s → Leaves (record s { sessions = altered name (settings.Conflict workspace) s.sessions }, answer)
+leaves_conflict name workspace s answer l = leaves_seated s _ answer l (seats_altered s.durable.spaces name (settings.Conflict workspace) s.sessions (λ x old. old) l.seats)

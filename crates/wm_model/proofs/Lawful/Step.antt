@@ -28,8 +28,8 @@ use Rattle.wm_model.specs.Entered.{entries_of}
 use Rattle.wm_model.specs.Lawful.{IsPlace, LawfulState, is_full_row}
 use Rattle.wm_model.specs.Lines.{fits_line}
 use Rattle.wm_model.specs.Step.Sessions as settings
-use Rattle.wm_model.specs.Step.{Answer, State, add_found, add_to, altered, at_newest, bear, born, call, connect, create, create_savepoint, create_workspace, delete, disconnect, durably, enable, first_clash, goto_savepoint, home_of, goto_workspace, implicit_name, insert, key_there, latest, lost_source, move_all, new_period, no_savepoint, no_table, no_text, replace_all, rows_in, run_for, run_line, run_parsed, run_statement, save, saved_at, select, select_from, select_ready, session_of, set_moment, set_valid_time, step, table_off, tables_of, taken, timed_line, told_period, too_long_line, update, versioning, with_rows, within, write_all, write_ascending}
-use Rattle.wm_model.proofs.Lawful.Leaves.{Leaves, leaves_born, leaves_durably, leaves_gone, leaves_if, leaves_period, leaves_saved, leaves_seated, leaves_tables, leaves_unless, leaves_with_named, leaves_written, leaving, live_place, seats_filter, seats_push, stays}
+use Rattle.wm_model.specs.Step.{Answer, State, add_found, add_to, altered, at_newest, bear, born, call, connect, create, create_savepoint, create_workspace, delete, disconnect, durably, enable, first_clash, goto_savepoint, home_of, goto_workspace, implicit_name, insert, key_there, latest, lost_source, move_all, new_period, no_savepoint, no_table, no_text, replace_all, rows_in, run_for, run_line, run_parsed, run_statement, save, saved_at, select, select_from, select_ready, session_of, set_conflict_workspace, set_moment, set_valid_time, step, table_off, tables_of, taken, timed_line, told_period, too_long_line, update, versioning, with_rows, within, write_all, write_ascending}
+use Rattle.wm_model.proofs.Lawful.Leaves.{Leaves, leaves_born, leaves_conflict, leaves_durably, leaves_gone, leaves_if, leaves_period, leaves_saved, leaves_seated, leaves_tables, leaves_unless, leaves_with_named, leaves_written, leaving, live_place, seats_filter, seats_push, stays}
 use Rattle.wm_model.proofs.Lawful.Places.{home_found, place_of}
 use Rattle.wm_model.proofs.Lawful.Rows.{are_full, chosen_full, content_full, entries_written, gone_full, is_full_change, keyed_row, moving_full, replacing_full, rows_full, updated_full}
 use Rattle.wm_model.proofs.Lawful.Lists.{one_some}
@@ -216,6 +216,9 @@ leaves_create_workspace session name s l p =
 leaves_goto_workspace : (session : Session) (name : List ℕ) (s : State) → LawfulState s → Leaves (goto_workspace session name s)
 leaves_goto_workspace session name s l = leaves_with_named s name _ l (λ w found. leaves_gone session.name w.number Latest s _ l (record { space = w; is = found; stands = tt }))
 
+leaves_conflict_workspace : (session : Session) (name : List ℕ) (s : State) → LawfulState s → Leaves (set_conflict_workspace session name s)
+leaves_conflict_workspace session name s l = leaves_with_named s name _ l (λ w found. leaves_conflict session.name name s _ l)
+
 -- ---- lines
 
 leaves_call : (session : Session) (procedure : Option Procedure) (args : List Arg) (s : State) → LawfulState s → IsHere s session → Leaves (call session procedure args s)
@@ -225,6 +228,7 @@ leaves_call session (Some procedures.CreateSavepoint) args s l p = search (leavi
 leaves_call session (Some procedures.GotoWorkspace) args s l p = search (leaving, leaves_goto_workspace) depth 12
 leaves_call session (Some procedures.GotoSavepoint) args s l p = search (leaving, leaves_goto_savepoint) depth 12
 leaves_call session (Some procedures.SetValidTime) args s l p = search (leaving, leaves_valid_time) depth 12
+leaves_call session (Some procedures.SetConflictWorkspace) args s l p = search (leaving, leaves_conflict_workspace) depth 12
 leaves_call session (Some procedures.RollbackToSp) args s l p = search (leaving, leaves_rollback_to) depth 12
 leaves_call session (Some procedures.RemoveWorkspace) args s l p = search (leaving, leaves_remove_workspace) depth 12
 leaves_call session (Some procedures.RefreshWorkspace) args s l p = search (leaving, leaves_refresh_workspace) depth 12

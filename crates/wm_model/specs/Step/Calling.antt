@@ -17,7 +17,7 @@ use Rattle.wm_model.specs.Step.Tables.{enable}
 use Rattle.wm_model.specs.Step.Periods.{set_valid_time}
 use Rattle.wm_model.specs.Step.Rows.{taken}
 use Rattle.wm_model.specs.Step.Savepoints.{create_savepoint, goto_savepoint}
-use Rattle.wm_model.specs.Step.Workspaces.{create_workspace, goto_workspace}
+use Rattle.wm_model.specs.Step.Workspaces.{create_workspace, goto_workspace, set_conflict_workspace}
 use Rattle.wm_model.specs.Step.Undoing.{remove_workspace, rollback_to}
 use Rattle.wm_model.specs.Step.Merging.{Asked, merge_workspace, refresh_workspace}
 
@@ -77,6 +77,9 @@ call session (Some procedures.SetValidTime) args s =
     let fault = argument_fault procedures.SetValidTime args in
     unless_mistyped fault s
     (set_valid_time session (moment_given procedures.SetValidTime args parameters.ValidFrom) (unwrap_or (moment_given procedures.SetValidTime args parameters.ValidTill) END) s)
+call session (Some procedures.SetConflictWorkspace) args s =
+    let fault = argument_fault procedures.SetConflictWorkspace args in
+    unless_mistyped fault s (set_conflict_workspace session (unwrap_or (text_given procedures.SetConflictWorkspace args parameters.Workspace) []) s)
 call session (Some procedures.RollbackToSp) args s =
     let fault = argument_fault procedures.RollbackToSp args in
     given (text_given procedures.RollbackToSp args parameters.SavepointName) fault s

@@ -2,26 +2,24 @@
 use Rattle.std.specs.Prelude.{ℕ, ◌+◌, List, [], ◌∷◌, Bool, true, false, not, ◌&&◌, ◌||◌, ◌==◌, nat_le, nat_lt, if◌then◌else◌, length, drop, max, slice_get, is_some, unwrap_or, Option, None, Some, codes}
 use Rattle.wm_base.specs.declared.refusal.Refusal.{Refusal}
 use Rattle.wm_graph.specs.Parts.{table_of}
-use Rattle.wm_net.specs.Conflicts.{Sides, Stamps, conflicts}
+use Rattle.wm_net.specs.Conflicts.{Stamps, conflicts}
 use Rattle.wm_net.specs.Groups.{Group}
 use Rattle.wm_net.specs.Listed.{Stretch}
 use Rattle.wm_net.specs.Nets.{gained, net}
 use Rattle.wm_spec.specs.Lists.{Entry}
 use Rattle.wm_spec.specs.declared.record.table.Table.{Table}
-use Rattle.wm_state.specs.State.{Durable, State, Session, Workspace, content, fresh_live, savepoint_named, with_entries, with_gained, with_space, workspace_of}
+use Rattle.wm_state.specs.State.{Durable, State, Session, Workspace, fresh_live, savepoint_named, with_entries, with_gained, with_space, workspace_of}
 use Rattle.wm_state.specs.Editing.{implicit_name, kept_in, number_limit, rebased, without}
+pub use Rattle.wm_telling.specs.Sides.{sides}
 use Rattle.wm_print.specs.Texts.{Answer, Fine}
 use Rattle.wm_model.specs.Step.Refusing.{at_its_end, first_fault, has_child, in_conflict, most_savepoints, no_parent, refused_for, refused_if, savepoint_there, session_inside, unless}
 use Rattle.wm_model.specs.Step.Counting.{durably}
+pub use Rattle.wm_model.specs.Step.Naming.{parent_in}
 use Rattle.wm_model.specs.Step.Naming.{with_named}
 use Rattle.wm_model.specs.Step.Rows.{told_period}
 use Rattle.wm_model.specs.Step.Undoing.{first_name, first_session, is_child, stands_in}
 
 -- ---- a workspace beside its parent
-
--- the parent of a workspace; it is there in each state that lines lead to
-abbrev pub parent_in : State → Workspace → Workspace
-parent_in s w = unwrap_or (workspace_of s.durable.spaces w.parent) fresh_live
 
 -- what the parent changed since the workspace took its copy
 abbrev pub pending : Workspace → Workspace → List Entry
@@ -29,10 +27,6 @@ pending p w = drop w.from p.lists.log
 
 abbrev pub is_quiet : Workspace → Workspace → Bool
 is_quiet p w = nat_le (length p.lists.log) w.from
-
--- the two sides, and what they have in common
-abbrev pub sides : Workspace → Workspace → Sides
-sides p w = record { base = w.lists.base; parent = content p; own = w.lists.own; log = p.lists.log; from = w.from; settled = [] }
 
 -- what the workspace gains of its parent, as entries of a line
 abbrev pub gained_of : ℕ → List ℕ → Workspace → Workspace → List Entry

@@ -55,3 +55,7 @@ home_of s session = unwrap_or (workspace_of s.durable.spaces session.space) fres
 -- what is done with it
 abbrev pub at_home : State → Session → (Workspace → State × Answer) → State × Answer
 at_home s session act = act (home_of s session)
+
+-- the parent of a workspace; it is there in each state that lines lead to
+abbrev pub parent_in : State → Workspace → Workspace
+parent_in s w = unwrap_or (workspace_of s.durable.spaces w.parent) fresh_live

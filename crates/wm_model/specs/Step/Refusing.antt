@@ -4,7 +4,7 @@ use Rattle.wm_base.specs.Period.{Span}
 use Rattle.wm_base.specs.declared.value.Value.{Value}
 use Rattle.wm_base.specs.declared.refusal.Refusal.TheVariants.{Form, Limit}
 use Rattle.wm_base.specs.declared.refusal.Refusal.TheVariants as refusals
-use Rattle.wm_base.specs.declared.refusal.FormRefusal.TheVariants.{Wm001, Wm002, Wm003, Wm004, Wm005, Wm010, Wm011, Wm013, Wm015, Wm016, Wm019}
+use Rattle.wm_base.specs.declared.refusal.FormRefusal.TheVariants.{Wm001, Wm002, Wm003, Wm004, Wm005, Wm010, Wm011, Wm013, Wm015, Wm016, Wm018, Wm019}
 use Rattle.wm_base.specs.declared.refusal.SpaceRefusal.TheVariants.{Wm020, Wm021, Wm022, Wm023, Wm024, Wm025, Wm030, Wm031, Wm033, Wm043, Wm044, Wm045, Wm046}
 use Rattle.wm_base.specs.declared.refusal.CellRefusal.TheVariants.{Wm051, Wm060, Wm064, Wm065}
 use Rattle.wm_base.specs.declared.refusal.LimitRefusal.TheVariants.{Wm070, Wm071, Wm072, Wm073, Wm074, Wm075, Wm076, Wm099}
@@ -53,6 +53,10 @@ reserved_name name = Refused (refusals.Space (Wm024 name))
 
 abbrev pub no_table : List ℕ → Answer
 no_table name = Refused (Form (Wm010 name))
+
+-- the table keeps none
+abbrev pub no_history : List ℕ → Answer
+no_history name = Refused (Form (Wm018 name))
 
 abbrev pub table_there : List ℕ → Answer
 table_there name = Refused (Form (Wm011 name))

@@ -39,3 +39,7 @@ create_workspace session name s =
 -- GotoWorkspace stands the session in a workspace, at what is newest
 abbrev pub goto_workspace : Session → List ℕ → State → State × Answer
 goto_workspace session name s = with_named s name (λ w. (record s { sessions = altered session.name (settings.Stand w.number Latest) s.sessions }, Fine))
+
+-- SetConflictWorkspace has the session look at the conflicts of a workspace
+abbrev pub set_conflict_workspace : Session → List ℕ → State → State × Answer
+set_conflict_workspace session name s = with_named s name (λ w. (record s { sessions = altered session.name (settings.Conflict name) s.sessions }, Fine))

@@ -1,7 +1,7 @@
 use Rattle.std.proofs.Common.{◌≡◌, ◌∷◌, ◌+◌, ◌-◌, sym, ap, ◌∙◌}
 use Rattle.std.specs.Vec.Iter.{into_iter_items, into_iter_len}
 use Rattle.wm_state.specs.ById.{applied}
-use Rattle.wm_draft.proofs.Sequenced.{goes_can, goes_drafts, goes_first, goes_next, goes_none, goes_rest, goes_room, goes_rules, many_left, no_edits}
+use Rattle.wm_draft.proofs.Sequenced.{goes_can, goes_drafts, goes_first, goes_next, goes_none, goes_rest, goes_room, goes_rules, goes_spends, many_left, no_edits, none_spends}
 use Rattle.wm_draft.proofs.drafting.draft_all.Goals as goal
 
 pub returns-in_default-clause-drafts : goal.returns-in_default-clause-drafts
@@ -18,7 +18,7 @@ loop-edit-init c =
     c.requires.can (begins c)
     (many_left (into_iter_len c.into_iter-edit-iterator.result) (into_iter_len c.into_iter-edits.result) c.args.edits c.in-Some.first (into_iter_items c.into_iter-edit-iterator.result) (begins c)
     (ap (λ it. into_iter_len it + 1) c.into_iter-edit-iterator.ensures.into_iter_gives ∙ c.in-Some.ensures.len) c.into_iter-edits.ensures.len)
-    (ap (λ k. 4096 - k) (c.len.ensures ∙ ap into_iter_len (sym c.into_iter-edit-iterator.ensures.into_iter_gives))) c.in_ok-last.ensures.drafts c.new-front.ensures
+    (ap (λ k. 4096 - k) (c.len.ensures ∙ ap into_iter_len (sym c.into_iter-edit-iterator.ensures.into_iter_gives))) c.in_ok-last.ensures.drafts c.in_ok-last.ensures.costs c.new-front.ensures
 
 -- the changes of the last edit are made
 applies : (c : goal.In_ok-front) → c.apply.new.self ≡ applied c.loop-edit.last c.loop-edit.image
@@ -43,7 +43,7 @@ pub loop-edit-preserved : goal.loop-edit-preserved
 loop-edit-preserved c =
     goes_next c.args.image.now c.args.moment (into_iter_len c.loop-edit.edit-iterator) (into_iter_len c.next-in-loop-edit.new.self) c.args.edits.items c.loop-edit.yielded (into_iter_items c.loop-edit.edit-iterator)
     (into_iter_items c.next-in-loop-edit.new.self) c.in-Some-edit.edit c.loop-edit.front c.loop-edit.last c.in_ok-front.front c.in_ok-last-2.last c.loop-edit.image c.apply.new.self c.requires.sorted c.loop-edit.invariant
-    c.in-Some-edit.ensures.steps.0 c.in-Some-edit.ensures.steps.1 (c.in_ok-apply.ensures.ok ∙ ap (λ cs. applied cs c.loop-edit.image) c.in_ok-copies.ensures) c.in_ok-front.ensures c.in_ok-last-2.ensures.drafts
+    c.in-Some-edit.ensures.steps.0 c.in-Some-edit.ensures.steps.1 (c.in_ok-apply.ensures.ok ∙ ap (λ cs. applied cs c.loop-edit.image) c.in_ok-copies.ensures) c.in_ok-front.ensures c.in_ok-last-2.ensures.drafts c.in_ok-last-2.ensures.costs
 
 pub returns-clause-rest : goal.returns-clause-rest
 returns-clause-rest c =
@@ -54,3 +54,12 @@ pub returns-clause-drafts : goal.returns-clause-drafts
 returns-clause-drafts c =
     goes_drafts c.args.image.now c.args.moment (into_iter_len c.loop-edit.edit-iterator) c.args.edits.items c.loop-edit.yielded (into_iter_items c.loop-edit.edit-iterator) c.loop-edit.front c.loop-edit.last c.in_ok-changes.changes
     c.loop-edit.image c.loop-edit.invariant c.in-None.ensures.steps.0 c.in_ok-changes.ensures
+
+pub returns-in_default-clause-spends : goal.returns-in_default-clause-spends
+returns-in_default-clause-spends c =
+    none_spends c.args.image.now c.args.moment c.args.edits.items c.new.result (no_edits c.args.edits (sym c.into_iter-edits.ensures.len ∙ c.in_default.ensures.cases.0)) c.new.ensures
+
+pub returns-clause-spends : goal.returns-clause-spends
+returns-clause-spends c =
+    goes_spends c.args.image.now c.args.moment (into_iter_len c.loop-edit.edit-iterator) c.args.edits.items c.loop-edit.yielded (into_iter_items c.loop-edit.edit-iterator) c.loop-edit.front c.loop-edit.last c.in_ok-changes.changes
+    c.loop-edit.image c.requires.sorted c.loop-edit.invariant c.in-None.ensures.steps.0 c.in_ok-changes.ensures

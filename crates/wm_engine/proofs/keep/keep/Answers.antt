@@ -1,7 +1,9 @@
-use Rattle.std.proofs.Common.{sym, subst, ◌∙◌}
+use Rattle.std.proofs.Common.{sym, subst, ◌∙◌, List}
 use Rattle.wm_engine.specs.Working.{KeepsOver}
 use Rattle.wm_engine.proofs.DraftsFit.{drafts_fit}
 use Rattle.wm_engine.proofs.Keeping.{begun_drafted, drafted_as, ended_drafted}
+use Rattle.wm_prices.specs.Prices.{Spends}
+use Rattle.wm_spec.specs.declared.record.stored.Stored.{Stored}
 use Rattle.wm_engine.proofs.keep.keep.Goals as goal
 
 pub returns-in_err-batch-clause-any_moment : goal.returns-in_err-batch-clause-any_moment
@@ -53,3 +55,9 @@ returns-clause-works g c = λ told.
 
 pub returns-clause-same_store : goal.returns-clause-same_store
 returns-clause-same_store g c = λ none. c.in_ok-commit.ensures.same_store (c.in_ok-batch.ensures.drafts.nothing none)
+
+-- ---- lines that refresh or merge
+
+pub returns-clause-spends : goal.returns-clause-spends
+returns-clause-spends g c =
+    subst (λ (ss : List Stored). Spends c.args.moment c.args.image c.args.changed.edits.items ss) (sym (c.in_ok-apply.ensures.ok ∙ c.in_ok-batch.ensures.rest)) c.in_ok-batch.ensures.spends

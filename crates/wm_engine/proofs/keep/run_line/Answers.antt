@@ -9,8 +9,10 @@ use Rattle.wm_engine.proofs.Replying.{of_refusal, tells_refusal}
 use Rattle.wm_engine.proofs.Sounding.{sound_begun, sound_kept}
 use Rattle.wm_plan.specs.Idle.{is_idle}
 use Rattle.wm_plan.specs.Views.{answer_view, seating_view}
+use Rattle.wm_engine.specs.Kinds.{kind_of}
 use Rattle.wm_model.specs.Step.Refusing.{refusal_of}
 use Rattle.wm_plan.specs.declared.seating.Seating.{Seating}
+use Rattle.wm_spending.proofs.Counted.{spends_few}
 use Rattle.wm_engine.proofs.keep.run_line.Goals as goal
 
 pub returns-in_err-planned-clause-any_moment : goal.returns-in_err-planned-clause-any_moment
@@ -94,6 +96,13 @@ returns-clause-workless_unwritten g c = λ told s stands workless.
     (answer_view c.in_ok-planned.field-0.planned.answer) (λ t. step t c.args.line.now) c.in_ok-planned.ensures.does refl s
     (subst (λ (xs : List Session). StandsAt c.args.image xs c.args.moment s) (sym c.as_slice.ensures.value) stands) workless)
 
+-- ---- the kind of the answer
+
+pub returns-clause-kind : goal.returns-clause-kind
+returns-clause-kind g c = λ s stands.
+    c.in_ok-reply.ensures.kind
+    ∙ ap (λ (r : State × Answer). kind_of r.1) (sym (c.in_ok-planned.ensures.does.does s (subst (λ (xs : List Session). StandsAt c.args.image xs c.args.moment s) (sym c.as_slice.ensures.value) stands)))
+
 -- ---- lines that are refused
 
 pub returns-clause-refused : goal.returns-clause-refused
@@ -135,3 +144,9 @@ returns-in_err-image-clause-sound g c = λ told.
 pub returns-clause-sound : goal.returns-clause-sound
 returns-clause-sound g c = λ told.
     sound_kept c.args.image c.args.moment c.in_ok-planned.field-0.planned.edits.items (g.P.Station.history c.args.station.now) (g.P.Station.history c.keep.new.station) c.requires.rules (c.in_ok-image.ensures.any_moment told)
+
+-- ---- lines that refresh or merge
+
+pub returns-clause-net : goal.returns-clause-net
+returns-clause-net g c = λ workspace named s stands.
+    spends_few c.args.image c.in_ok-image.image c.args.sessions.now.items c.args.moment c.args.moment workspace c.in_ok-planned.field-0.planned.edits.items s stands (c.in_ok-planned.ensures.nets workspace named) c.in_ok-image.ensures.spends

@@ -4,7 +4,7 @@ use Rattle.wm_store.specs.Opened.{HoldsAs}
 use Rattle.wm_station.specs.History.{now}
 use Rattle.wm_host.specs.Outcome.{HoldsSame, IsUnwritten, ok_text}
 use Rattle.wm_host.specs.declared.stop.Stop.TheVariants.{SayFault, Memory}
-use Rattle.wm_host.proofs.Checking.{crash_checked, crash_unchecked, front_none, now_said, placed_by_saying, saying_status, statuses_of_opening, statuses_of_saying, unopened_either}
+use Rattle.wm_host.proofs.Checking.{crash_checked, crash_unchecked, front_none, now_said, placed_by_saying, saying_status, settled_said, settled_unchecked, statuses_of_opening, statuses_of_saying, unopened_either}
 use Rattle.wm_host.proofs.Ending.{alone_at_place, alone_at_status, at_done, at_status, stops_by, stops_not}
 use Rattle.wm_host.proofs.Making.{has_said_front, has_said_whole, holds_said}
 use Rattle.wm_host.proofs.check.check.Goals as goal
@@ -44,6 +44,10 @@ pub returns-in-Ok-clause-crash : goal.returns-in-Ok-clause-crash
 returns-in-Ok-clause-crash g c = λ t.
     crash_checked (g.P.Station.history c.args.station.now) (g.P.Station.history c.open_host.new.station) (g.P.Station.history c.say_all.new.station) c.as_slice.result.now c.as_slice.ensures (c.in-Ok.ensures.unsaid t)
     (c.in-Ok.ensures.sound t) (c.in-Ok.ensures.same t) (c.in-Ok.ensures.pages_any_moment t) (c.say_all.ensures.crash t)
+
+pub returns-in-Ok-clause-behind_sync : goal.returns-in-Ok-clause-behind_sync
+returns-in-Ok-clause-behind_sync g c = λ t.
+    settled_said g.P.Station.tells (g.P.Station.history c.args.station.now) (g.P.Station.history c.open_host.new.station) (g.P.Station.history c.say_all.new.station) c.as_slice.result.now c.say_all.result t (c.say_all.ensures.said t) c.say_all.ensures.part (c.say_all.ensures.crash t) (c.in-Ok.ensures.settles t)
 
 pub returns-in-Ok-clause-not_store : goal.returns-in-Ok-clause-not_store
 returns-in-Ok-clause-not_store g c = λ six t. absurd (saying_status c.say_all.result c.of.result.status c.of.ensures.status c.say_all.ensures.answering (inr (inl six)))
@@ -93,6 +97,9 @@ returns-in-Err-clause-same g c = λ either t. absurd (unopened_either c.in-Err.s
 
 pub returns-in-Err-clause-crash : goal.returns-in-Err-clause-crash
 returns-in-Err-clause-crash g c = λ t. crash_unchecked (g.P.Station.history c.args.station.now) (g.P.Station.history c.open_host.new.station) (c.in-Err.ensures.pages_any_moment t)
+
+pub returns-in-Err-clause-behind_sync : goal.returns-in-Err-clause-behind_sync
+returns-in-Err-clause-behind_sync g c = λ t. settled_unchecked (g.P.Station.history c.args.station.now) (g.P.Station.history c.open_host.new.station) (c.in-Err.ensures.settles t)
 
 pub returns-in-Err-clause-synced : goal.returns-in-Err-clause-synced
 returns-in-Err-clause-synced g c = λ six t. c.in-Err.ensures.synced t (alone_at_status c.in-Err.stop c.of-in-Err.result.status c.of-in-Err.ensures.status six)

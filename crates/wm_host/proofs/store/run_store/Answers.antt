@@ -4,6 +4,7 @@ use Rattle.wm_state.specs.State.{begin}
 use Rattle.wm_host.specs.Outcome.{IsUnwritten}
 use Rattle.wm_host.specs.declared.stop.Stop.TheVariants.{SourceFault, InputLimit, Memory}
 use Rattle.wm_host.proofs.Ending.{alone_at_place, alone_at_status, at_done, at_status, answers_all, answers_at_end, answers_ended, crash_opened, crash_ran, stands_ran, stands_unopened, counted_unopened, placed_by_script, stops_by, stops_not, takes_none, unopened_status}
+use Rattle.wm_host.proofs.NeverScript.{script_never, script_never_6, script_never_7}
 use Rattle.wm_host.proofs.Sounding.{sound_at_end, sound_ran, sound_unopened}
 use Rattle.wm_host.proofs.store.run_store.Goals as goal
 
@@ -42,6 +43,28 @@ pub returns-in-Ok-clause-crash : goal.returns-in-Ok-clause-crash
 returns-in-Ok-clause-crash g c = λ r t s stands.
     crash_ran g.P.Station.tells (g.P.Station.history c.args.station.now) (g.P.Station.history c.open_host.new.station) (g.P.Station.history c.run_script-run.new.station) c.in-Ok.host c.args.moment (lines (g.S.Source.left c.args.source.now))
     c.in-Ok.ensures.begins (c.in-Ok.ensures.unsaid t) s (c.in-Ok.ensures.crash t s stands) (c.run_script-run.ensures.crash r) t stands
+
+-- neither is a store that is open none, nor damaged
+pub returns-in-Ok-clause-pages : goal.returns-in-Ok-clause-pages
+returns-in-Ok-clause-pages g c = λ either t. absurd (script_never c.run_script-run.result c.of.result.status c.of.ensures.status c.run_script-run.ensures.of_script either)
+
+pub returns-in-Ok-clause-pages_any_moment : goal.returns-in-Ok-clause-pages_any_moment
+returns-in-Ok-clause-pages_any_moment g c = λ either t. absurd (script_never c.run_script-run.result c.of.result.status c.of.ensures.status c.run_script-run.ensures.of_script either)
+
+pub returns-in-Ok-clause-sound : goal.returns-in-Ok-clause-sound
+returns-in-Ok-clause-sound g c = λ either t s stands. absurd (script_never c.run_script-run.result c.of.result.status c.of.ensures.status c.run_script-run.ensures.of_script either)
+
+pub returns-in-Ok-clause-unopened : goal.returns-in-Ok-clause-unopened
+returns-in-Ok-clause-unopened g c = λ either. absurd (script_never c.run_script-run.result c.of.result.status c.of.ensures.status c.run_script-run.ensures.of_script either)
+
+pub returns-in-Ok-clause-not_store : goal.returns-in-Ok-clause-not_store
+returns-in-Ok-clause-not_store g c = λ six t. absurd (script_never_6 c.run_script-run.result c.of.result.status c.of.ensures.status c.run_script-run.ensures.of_script six)
+
+pub returns-in-Ok-clause-synced : goal.returns-in-Ok-clause-synced
+returns-in-Ok-clause-synced g c = λ six t. absurd (script_never_6 c.run_script-run.result c.of.result.status c.of.ensures.status c.run_script-run.ensures.of_script six)
+
+pub returns-in-Ok-clause-damaged : goal.returns-in-Ok-clause-damaged
+returns-in-Ok-clause-damaged g c = λ seven t. absurd (script_never_7 c.run_script-run.result c.of.result.status c.of.ensures.status c.run_script-run.ensures.of_script seven)
 
 -- where it was not opened
 pub returns-in-Err-clause-counted : goal.returns-in-Err-clause-counted

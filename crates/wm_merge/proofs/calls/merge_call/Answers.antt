@@ -1,10 +1,11 @@
-use Rattle.std.proofs.Common.{Some, sym, ap, ◌∙◌}
+use Rattle.std.proofs.Common.{Some, sym, ap, ◌∙◌, ℕ, List, IfOk, subst}
 use Rattle.wm_grammar.specs.declared.procedure.Procedure.TheVariants as procedures
-use Rattle.wm_model.specs.Step.{call, merge_workspace, mistyped}
+use Rattle.wm_model.specs.Step.{call, merge_workspace, mistyped, Asked}
 use Rattle.wm_plan.proofs.Planning.{does_here, refused}
 use Rattle.wm_plan.specs.Views.{answer_view}
 use Rattle.wm_merge.specs.Views.{asked_view}
 use Rattle.wm_merge.proofs.Calling.{merge_done, merge_mistyped}
+use Rattle.wm_spending.specs.Nets.{AreNets, Nothing}
 use Rattle.wm_merge.proofs.calls.merge_call.Goals as goal
 
 pub returns-in-Some-clause-does : goal.returns-in-Some-clause-does
@@ -20,3 +21,13 @@ returns-clause-does c =
     (λ s. merge_done c.args.session.now c.args.args.now s (asked_view c.merge_asked-asked.result) c.bytes_given-workspace.result.now (sym c.in_ok-parameter.ensures ∙ c.in_default.is) c.merge_asked-asked.ensures
     c.bytes_given-workspace.ensures)
     c.merge_workspace.ensures.does
+
+-- ---- its edits
+
+pub returns-in-Some-clause-nets : goal.returns-in-Some-clause-nets
+returns-in-Some-clause-nets c = λ stays. Nothing c.answered.ensures.edits
+
+pub returns-clause-nets : goal.returns-clause-nets
+returns-clause-nets c = λ stays.
+    subst (λ (w : List ℕ). IfOk c.merge_workspace.result (λ p. AreNets c.args.image.now w p.edits.items)) c.bytes_given-workspace.ensures
+    (c.merge_workspace.ensures.nets (ap (λ (a : Asked). a.removes) c.merge_asked-asked.ensures ∙ stays))

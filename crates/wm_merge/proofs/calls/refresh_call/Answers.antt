@@ -1,9 +1,10 @@
-use Rattle.std.proofs.Common.{Some, sym, ap, ◌∙◌}
+use Rattle.std.proofs.Common.{Some, sym, ap, ◌∙◌, ℕ, List, IfOk, subst}
 use Rattle.wm_grammar.specs.declared.procedure.Procedure.TheVariants as procedures
 use Rattle.wm_model.specs.Step.{call, mistyped, refresh_workspace}
 use Rattle.wm_plan.proofs.Planning.{for_these, refused}
 use Rattle.wm_plan.specs.Views.{answer_view}
 use Rattle.wm_merge.proofs.Calling.{refresh_done, refresh_mistyped}
+use Rattle.wm_spending.specs.Nets.{AreNets, Nothing}
 use Rattle.wm_merge.proofs.calls.refresh_call.Goals as goal
 
 pub returns-in-Some-clause-does : goal.returns-in-Some-clause-does
@@ -18,3 +19,11 @@ returns-clause-does c =
     (call c.args.session.now (Some procedures.RefreshWorkspace) c.args.args.now)
     (λ s. refresh_done c.args.session.now c.args.args.now s c.bytes_given-workspace.result.now (sym c.in_ok-parameter.ensures ∙ c.in_default.is) c.bytes_given-workspace.ensures)
     c.refresh_workspace.ensures.does
+
+-- ---- its edits
+
+pub returns-in-Some-clause-nets : goal.returns-in-Some-clause-nets
+returns-in-Some-clause-nets c = Nothing c.answered.ensures.edits
+
+pub returns-clause-nets : goal.returns-clause-nets
+returns-clause-nets c = subst (λ (w : List ℕ). IfOk c.refresh_workspace.result (λ p. AreNets c.args.image.now w p.edits.items)) c.bytes_given-workspace.ensures c.refresh_workspace.ensures.nets

@@ -10,6 +10,8 @@ use Rattle.wm_telling.specs.Telling.{gained_held, own_held}
 use Rattle.wm_merge.specs.Views.{asked_view, clashed}
 use Rattle.wm_merge.proofs.Answered.{clash_found, listed_for, told_nothing}
 use Rattle.wm_merge.proofs.MergePlans.{merges_as, refusal_told}
+use Rattle.wm_merge.proofs.NetPlans.{merge_nets}
+use Rattle.wm_spending.specs.Nets.{Nothing}
 use Rattle.wm_merge.proofs.merging.merge_into.Goals as goal
 
 pub own_pieces-requires-clause-there : goal.own_pieces-requires-clause-there
@@ -48,3 +50,13 @@ returns-clause-does c =
           (map entry_of c.in_ok-gained.gained.items) c.user-user.ensures.user c.in_ok-gained.ensures;
     })
     c.merge_with.ensures.does
+
+-- ---- its edits
+
+pub returns-in-Some-clause-nets : goal.returns-in-Some-clause-nets
+returns-in-Some-clause-nets c = λ stays workspace family. Nothing c.answered.ensures.edits
+
+pub returns-clause-nets : goal.returns-clause-nets
+returns-clause-nets c = λ stays.
+    merge_nets c.args.image.now c.args.moment c.user-user.result.now c.args.family.space.now c.args.family.parent.now (asked_view c.args.asked) _ c.in_ok-own.own c.in_ok-gained.gained c.merge_with.result stays c.in_ok-own.ensures c.in_ok-gained.ensures
+    c.merge_with.ensures.edits

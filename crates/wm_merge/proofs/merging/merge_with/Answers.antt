@@ -1,4 +1,4 @@
-use Rattle.std.proofs.Common.{◌&&◌, ◌||◌, not, Bool, map, sym, ap, ◌∙◌, codes}
+use Rattle.std.proofs.Common.{◌&&◌, ◌||◌, not, Bool, map, sym, ap, ◌∙◌, codes, inl, inr}
 use Rattle.wm_model.proofs.MergingLine.{does_merge, merge_idle, merge_long, merge_spent, merge_unready}
 use Rattle.wm_model.specs.Merged.{is_even_at, merge_edits}
 use Rattle.wm_model.specs.Planning.{Stay}
@@ -64,3 +64,24 @@ returns-clause-does c = λ xs session workspace merges.
     (drafts_merge c.args.image.now c.args.moment xs session (asked_view c.args.asked) workspace c.args.family.space.now c.args.family.parent.now c.counters.result c.args.brought.own c.args.brought.gained merges may
     c.counters.ensures room.0 room.1 c.law_of_order.ensures (sym c.if-is_spent.ensures) (early c.args.moment c.requires.moment))
     (sym c.if-are_long.ensures) c.counters.ensures (sym c.if-is_spent.ensures))
+
+-- ---- its edits
+
+pub returns-then-is_idle-clause-edits : goal.returns-then-is_idle-clause-edits
+returns-then-is_idle-clause-edits c = inl c.answered.ensures.edits
+
+pub returns-then-are_long-clause-edits : goal.returns-then-are_long-clause-edits
+returns-then-are_long-clause-edits c = inl c.answered-then-are_long.ensures.edits
+
+pub returns-then-is_spent-clause-edits : goal.returns-then-is_spent-clause-edits
+returns-then-is_spent-clause-edits c = inl c.answered-then-is_spent.ensures.edits
+
+pub returns-then-not-can_merge-clause-edits : goal.returns-then-not-can_merge-clause-edits
+returns-then-not-can_merge-clause-edits c = inl c.answered-then-not-can_merge.ensures.edits
+
+pub returns-clause-edits : goal.returns-clause-edits
+returns-clause-edits c =
+    let even = even_told c.args.family.space.now c.args.family.parent.now c.as_slice.result.now c.args.brought.own.items c.is_even-even.result c.as_slice.ensures.value c.is_even-even.ensures in
+    inr
+    (c.done.ensures.edits ∙ c.in_ok-merge_edits.ensures
+    ∙ ap (λ (e : Bool). merge_edits (asked_view c.args.asked) e c.args.family.space.now.number c.args.family.parent.now.number c.args.brought.own c.args.brought.gained) even)

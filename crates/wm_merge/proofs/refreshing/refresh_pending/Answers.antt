@@ -10,6 +10,8 @@ use Rattle.wm_merge.specs.Views.{clashed}
 use Rattle.wm_merge.proofs.Answered.{clash_found, listed_for, told_nothing}
 use Rattle.wm_merge.proofs.RefreshPlans.{refreshes_as}
 use Rattle.wm_model.proofs.RefreshingLine.{refresh_refused}
+use Rattle.wm_merge.proofs.NetPlans.{refresh_nets}
+use Rattle.wm_spending.specs.Nets.{Nothing}
 use Rattle.wm_merge.proofs.refreshing.refresh_pending.Goals as goal
 
 pub own_pieces-requires-clause-there : goal.own_pieces-requires-clause-there
@@ -37,3 +39,12 @@ returns-clause-does c =
           c.user-user.ensures.user c.in_ok-entries.ensures;
     })
     c.refresh_with.ensures.does
+
+-- ---- its edits
+
+pub returns-in-Some-clause-nets : goal.returns-in-Some-clause-nets
+returns-in-Some-clause-nets c = λ workspace family. Nothing c.answered.ensures.edits
+
+pub returns-clause-nets : goal.returns-clause-nets
+returns-clause-nets c =
+    refresh_nets c.args.image.now c.args.moment c.user-user.result.now c.args.space.now c.args.parent.now c.in_ok-entries.entries c.refresh_with.result c.in_ok-entries.ensures c.refresh_with.ensures.edits

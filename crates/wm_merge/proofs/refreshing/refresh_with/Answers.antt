@@ -1,4 +1,4 @@
-use Rattle.std.proofs.Common.{map, true, false, sym, ap, ◌∙◌, codes}
+use Rattle.std.proofs.Common.{map, true, false, sym, ap, ◌∙◌, codes, inl, inr}
 use Rattle.wm_model.specs.Merged.{refresh_edits}
 use Rattle.wm_model.specs.Planning.{Stay}
 use Rattle.wm_model.specs.Step.{at_its_end, not_built, refresh_workspace}
@@ -45,3 +45,17 @@ returns-clause-does c = λ xs session workspace parent refreshes.
     (drafts_refresh c.args.image.now c.args.moment session workspace c.args.space.now parent (map key_pieces c.args.own.now) c.counters.result c.args.entries c.law_of_order.ensures refreshes may short
     c.counters.ensures (sym c.if-is_spent.ensures) (early c.args.moment c.requires.moment))
     short c.counters.ensures (sym c.if-is_spent.ensures))
+
+-- ---- its edits
+
+pub returns-then-is_long-clause-edits : goal.returns-then-is_long-clause-edits
+returns-then-is_long-clause-edits c = inl c.answered.ensures.edits
+
+pub returns-then-is_spent-clause-edits : goal.returns-then-is_spent-clause-edits
+returns-then-is_spent-clause-edits c = inl c.answered-then-is_spent.ensures.edits
+
+pub returns-then-not-can_refresh-clause-edits : goal.returns-then-not-can_refresh-clause-edits
+returns-then-not-can_refresh-clause-edits c = inl c.answered-then-not-can_refresh.ensures.edits
+
+pub returns-clause-edits : goal.returns-clause-edits
+returns-clause-edits c = inr (c.done.ensures.edits ∙ c.in_ok-refresh_edits.ensures)

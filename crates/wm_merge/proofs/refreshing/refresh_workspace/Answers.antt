@@ -8,6 +8,8 @@ use Rattle.wm_merge.proofs.Parents.{family_named, parent_found}
 use Rattle.wm_merge.proofs.RefreshPlans.{refreshes_named}
 use Rattle.wm_merge.proofs.Asked.{family_of}
 use Rattle.wm_model.proofs.RefreshingLine.{refresh_homeless, refresh_liveless, refresh_quiet}
+use Rattle.wm_merge.proofs.NetPlans.{nets_named}
+use Rattle.wm_spending.specs.Nets.{Nothing}
 use Rattle.wm_merge.proofs.refreshing.refresh_workspace.Goals as goal
 
 pub returns-in_default-clause-does : goal.returns-in_default-clause-does
@@ -46,3 +48,21 @@ returns-clause-does c =
     (family_named c.args.image.now c.args.name.now c.in-Some.space.now c.space.result c.unwrap-parent.result.now (record { rules = c.requires.rules; found = sym c.in-Some.ensures }) (omega (arith, c.if-space-eq0.false))
     c.space.ensures (ap option_copied c.unwrap-parent.ensures))
     c.refresh_pending.ensures.does
+
+-- ---- its edits
+
+pub returns-in_default-clause-nets : goal.returns-in_default-clause-nets
+returns-in_default-clause-nets c = Nothing c.answered.ensures.edits
+
+pub returns-then-space-eq0-clause-nets : goal.returns-then-space-eq0-clause-nets
+returns-then-space-eq0-clause-nets c = Nothing c.answered-then-space-eq0.ensures.edits
+
+pub returns-then-is_quiet-clause-nets : goal.returns-then-is_quiet-clause-nets
+returns-then-is_quiet-clause-nets c = Nothing c.answered-then-is_quiet.ensures.edits
+
+pub returns-clause-nets : goal.returns-clause-nets
+returns-clause-nets c =
+    nets_named c.args.image.now c.refresh_pending.result c.args.name.now c.in-Some.space.now c.unwrap-parent.result.now
+    (family_named c.args.image.now c.args.name.now c.in-Some.space.now c.space.result c.unwrap-parent.result.now (record { rules = c.requires.rules; found = sym c.in-Some.ensures }) (omega (arith, c.if-space-eq0.false))
+    c.space.ensures (ap option_copied c.unwrap-parent.ensures))
+    c.refresh_pending.ensures.nets

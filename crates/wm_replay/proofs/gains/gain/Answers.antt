@@ -12,6 +12,7 @@ use Rattle.wm_spec.specs.declared.record.Record.TheVariants as records
 use Rattle.wm_spec.specs.declared.record.piece.PieceRecord.{PieceRecord}
 use Rattle.wm_state.specs.Editing.{entry_of}
 use Rattle.wm_state.specs.Touching.{trace_at}
+use Rattle.wm_replay.proofs.Priced.{gain_costs}
 use Rattle.wm_replay.proofs.gains.gain.Goals as goal
 
 pub overflow_sub-place : goal.overflow_sub-place
@@ -46,6 +47,24 @@ returns-clause-drafts c =
     c.in_ok-entered.entered.hists.items c.push_all.new.news.items c.requires.rules c.requires.work c.requires.can k.found c.counters.ensures c.in_ok-id.ensures.above k.last c.moved-counters.ensures (counted_as c.args.entries c.len.result c.len.ensures)
     c.in_ok-longer.ensures c.new.ensures
     (subst (λ (marks : List PieceRecord). IsRedrawn (touch_in c.args.space) c.args.image.now marks dropped drawn) (c.in_ok-entered.ensures.marks place k.last) c.in_ok-touches.ensures.redrawn)
+    (record {
+      touches = c.push_touches.new.news.items;
+      first = c.in_ok-push_touches.ensures ∙ ap (λ (rs : List Record). rs ++ map records.Touch (map (trace_at c.args.space place) drawn)) c.new-news.ensures.items;
+      kept = c.in_ok-entered.ensures.hists;
+      behind = c.in_ok-push_all.ensures;
+    })
+    c.in_ok-changes.ensures
+
+pub returns-clause-costs : goal.returns-clause-costs
+returns-clause-costs c =
+    let place = c.unwrap-old.result.now.next_place - 1 in
+    let drawn = c.in_ok-touches.touches.drawn.items in
+    let dropped = c.in_ok-touches.touches.dropped.items in
+    let k = known c.args.image.now c.args.space c.space.result c.unwrap-old.result c.requires.rules c.unwrap-old.ensures c.space.ensures in
+    let marks = c.in_ok-entered.ensures.marks place k.last in
+    gain_costs c.args.image.now c.args.space place c.in_ok-id.id c.len.result c.args.entries c.unwrap-old.result.now c.in_ok-longer.longer c.moved-counters.result c.new.result c.in_ok-changes.changes c.in_ok-entered.entered.marks.items drawn dropped
+    c.in_ok-entered.entered.hists.items c.push_all.new.news.items k.found c.in_ok-longer.ensures c.new.ensures marks
+    (subst (λ (xs : List PieceRecord). IsRedrawn (touch_in c.args.space) c.args.image.now xs dropped drawn) marks c.in_ok-touches.ensures.redrawn) c.in_ok-touches.ensures.few
     (record {
       touches = c.push_touches.new.news.items;
       first = c.in_ok-push_touches.ensures ∙ ap (λ (rs : List Record). rs ++ map records.Touch (map (trace_at c.args.space place) drawn)) c.new-news.ensures.items;

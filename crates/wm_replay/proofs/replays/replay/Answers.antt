@@ -12,6 +12,7 @@ use Rattle.wm_spec.specs.declared.record.Record.{Record}
 use Rattle.wm_spec.specs.declared.record.Record.TheVariants as records
 use Rattle.wm_spec.specs.declared.record.piece.PieceRecord.{PieceRecord}
 use Rattle.wm_state.specs.Editing.{entry_of}
+use Rattle.wm_replay.proofs.Priced.{replay_costs}
 use Rattle.wm_replay.proofs.replays.replay.Goals as goal
 
 pub versioned-counters-requires-clause-versions : goal.versioned-counters-requires-clause-versions
@@ -51,6 +52,26 @@ returns-clause-drafts c =
     c.counters-before.ensures c.in_ok-id.ensures.above refl k.last c.versioned-counters.ensures (counted_as c.args.entries c.len.result c.len.ensures) c.in_ok-longer.ensures c.in_ok-front.ensures c.latest.ensures c.in_ok-entered.ensures.pieces
     (c.in_ok-push_pieces.ensures ∙ ap (λ (rs : List Record). rs ++ map records.Piece pieces) c.new-news.ensures.items)
     (subst (λ (marks : List PieceRecord). IsRedrawn (touch_in c.args.space) c.args.image.now marks dropped drawn) (c.in_ok-entered.ensures.marks place k.last) c.in_ok-touches.ensures.redrawn)
+    (record {
+      touches = c.push_touches.new.news.items;
+      first = c.in_ok-push_touches.ensures;
+      kept = c.in_ok-entered.ensures.hists;
+      behind = c.in_ok-push_all.ensures;
+    })
+    c.in_ok-changes.ensures
+
+pub returns-clause-costs : goal.returns-clause-costs
+returns-clause-costs c =
+    let place = c.unwrap-old.result.now.next_place - 1 in
+    let drawn = c.in_ok-touches.touches.drawn.items in
+    let dropped = c.in_ok-touches.touches.dropped.items in
+    let pieces = c.in_ok-entered.entered.pieces.items in
+    let k = known c.args.image.now c.args.space c.space.result c.unwrap-old.result c.requires.rules c.unwrap-old.ensures c.space.ensures in
+    let marks = c.in_ok-entered.ensures.marks place k.last in
+    replay_costs c.args.image.now c.args.space place (c.in_ok-id.id + 1) c.len.result c.counters-before.result.next_version c.args.entries c.unwrap-old.result.now c.in_ok-longer.longer c.versioned-counters.result _ c.in_ok-front.front
+    c.in_ok-changes.changes c.in_ok-entered.entered.marks.items drawn pieces dropped c.in_ok-entered.entered.hists.items c.push_pieces.new.news.items c.push_all.new.news.items k.found c.in_ok-longer.ensures c.in_ok-front.ensures marks
+    c.in_ok-entered.ensures.pieces (c.in_ok-push_pieces.ensures ∙ ap (λ (rs : List Record). rs ++ map records.Piece pieces) c.new-news.ensures.items)
+    (subst (λ (xs : List PieceRecord). IsRedrawn (touch_in c.args.space) c.args.image.now xs dropped drawn) marks c.in_ok-touches.ensures.redrawn) c.in_ok-touches.ensures.few
     (record {
       touches = c.push_touches.new.news.items;
       first = c.in_ok-push_touches.ensures;

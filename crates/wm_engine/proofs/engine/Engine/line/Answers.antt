@@ -1,4 +1,4 @@
-use Rattle.std.proofs.Common.{◌≡◌, List, [], Option, unwrap_or, inl, sym, ap, subst, ◌∙◌}
+use Rattle.std.proofs.Common.{◌≡◌, ◌+◌, ◌*◌, List, [], Option, unwrap_or, inl, sym, ap, subst, ◌∙◌}
 use Rattle.wm_graph.specs.Parts.{parts_of}
 use Rattle.wm_model.specs.Planning.{StandsAt}
 use Rattle.wm_spec.specs.declared.record.stored.Stored.{Stored}
@@ -10,6 +10,8 @@ use Rattle.wm_engine.proofs.Sounding.{sound_begun}
 use Rattle.wm_engine.proofs.Working.{stands_over}
 use Rattle.wm_state.specs.Drafts.{ChangesFew}
 use Rattle.wm_engine.specs.Working.{Engaged, StandsFor}
+use Rattle.wm_prices.specs.Prices.{ChangesAtMost}
+use Rattle.wm_spending.specs.Stretches.{stretch_count}
 use Rattle.wm_engine.proofs.engine.Engine.line.Goals as goal
 
 pub returns-in_default-clause-any_moment : goal.returns-in_default-clause-any_moment
@@ -65,6 +67,13 @@ returns-clause-workless_unwritten g c = λ told s for workless.
     let here = ap (λ (o : Option (List Stored)). unwrap_or o []) (sym c.in-Some.ensures.value) in
     c.in_ok-kept.ensures.workless_unwritten told s (stands_at _ c.in-Some.image s here (subst (λ (e : Engaged). StandsFor e s) (sym c.self.view_is) for)) workless
 
+-- ---- the kind of the answer
+
+pub returns-clause-kind : goal.returns-clause-kind
+returns-clause-kind g c = λ s for.
+    let here = ap (λ (o : Option (List Stored)). unwrap_or o []) (sym c.in-Some.ensures.value) in
+    c.in_ok-kept.ensures.kind s (stands_at _ c.in-Some.image s here (subst (λ (e : Engaged). StandsFor e s) (sym c.self.view_is) for))
+
 -- ---- lines that are refused
 
 pub returns-clause-refused : goal.returns-clause-refused
@@ -81,3 +90,11 @@ returns-clause-unmoved g c =
 
 pub returns-in_default-clause-sound : goal.returns-in_default-clause-sound
 returns-in_default-clause-sound g c = λ told rules. sound_begun _ _ _ (c.requires.works told) rules
+
+-- ---- lines that refresh or merge
+
+pub returns-clause-net : goal.returns-clause-net
+returns-clause-net g c = λ workspace named s for.
+    let here = ap (λ (o : Option (List Stored)). unwrap_or o []) (sym c.in-Some.ensures.value) in
+    subst (λ (rs : List Stored). ChangesAtMost (8 + 8 * stretch_count s workspace) rs c.in_ok-kept.kept.image) (sym (ap (λ (e : Engaged). e.records) (sym c.self.view_is) ∙ here))
+    (c.in_ok-kept.ensures.net workspace named s (stands_at _ c.in-Some.image s here (subst (λ (e : Engaged). StandsFor e s) (sym c.self.view_is) for)))

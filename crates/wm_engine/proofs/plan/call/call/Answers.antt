@@ -2,9 +2,10 @@ use Rattle.std.proofs.Common.{◌≡◌, Option, Some, None, sym, ap, ◌∙◌}
 use Rattle.wm_grammar.specs.Calls.{procedure_of}
 use Rattle.wm_grammar.specs.declared.procedure.Procedure.{Procedure}
 use Rattle.wm_model.specs.Step.{call, not_built}
-use Rattle.wm_plan.proofs.Planning.{refused}
-use Rattle.wm_plan.proofs.Planning.{does_here}
+use Rattle.wm_plan.proofs.Planning.{refused, does_here}
 use Rattle.wm_plan.specs.Views.{answer_view}
+use Rattle.wm_engine.specs.NetLines.{nets_call}
+use Rattle.wm_spending.specs.Nets.{Nothing}
 use Rattle.wm_engine.proofs.plan.call.call.Goals as goal
 
 pub returns-in-Some-clause-does : goal.returns-in-Some-clause-does
@@ -18,3 +19,13 @@ returns-in-None-clause-does c =
     let none : procedure_of c.args.name.now ≡ (let nothing : Option Procedure = None in nothing) = ap procedure_of (sym c.as_bytes.ensures) ∙ sym c.in-None.ensures in
     refused c.args.image.now c.args.sessions.now c.args.moment c.answered.result not_built (call c.args.session.now (procedure_of c.args.name.now) c.args.given.args.now) c.answered.ensures.edits c.answered.ensures.seating
     (ap answer_view c.answered.ensures.answer ∙ c.not_built.ensures) c.requires.rules (λ s. ap (λ (o : Option Procedure). call c.args.session.now o c.args.given.args.now s) none)
+
+-- ---- lines that refresh or merge
+
+pub returns-in-Some-clause-nets : goal.returns-in-Some-clause-nets
+returns-in-Some-clause-nets c = λ workspace named.
+    let is : procedure_of c.args.name.now ≡ Some c.in-Some.procedure = ap procedure_of (sym c.as_bytes.ensures) ∙ sym c.in-Some.ensures in
+    c.call_of.ensures.nets workspace (ap (λ (o : Option Procedure). nets_call o c.args.given.args.now) (sym is) ∙ named)
+
+pub returns-in-None-clause-nets : goal.returns-in-None-clause-nets
+returns-in-None-clause-nets c = λ workspace named. Nothing c.answered.ensures.edits

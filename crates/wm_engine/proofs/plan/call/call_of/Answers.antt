@@ -1,11 +1,15 @@
-use Rattle.std.proofs.Common.{Some, ap, ◌∙◌}
+use Rattle.std.proofs.Common.{ℕ, List, Some, IfOk, sym, ap, subst, ◌∙◌}
 use Rattle.wm_grammar.specs.declared.procedure.Procedure.{Procedure}
 use Rattle.wm_grammar.specs.declared.procedure.Procedure.TheVariants as procedures
 use Rattle.wm_model.specs.Step.{call, not_built}
-use Rattle.wm_plan.proofs.Planning.{refused}
+use Rattle.wm_plan.proofs.Planning.{refused, does_here, for_moment, for_one, for_open_one, for_these, forks_none, is_open_here}
 use Rattle.wm_engine.proofs.Calling.{other_call}
-use Rattle.wm_plan.proofs.Planning.{does_here, for_moment, for_one, for_open_one, for_these, forks_none, is_open_here}
 use Rattle.wm_plan.specs.Views.{answer_view}
+use Rattle.wm_calls.specs.Arguments.{is_true_given}
+use Rattle.wm_grammar.specs.declared.procedure.Parameter.TheVariants as parameters
+use Rattle.wm_engine.specs.NetLines.{nets_call}
+use Rattle.wm_engine.proofs.NetLines.{merges_alone, no_workspace, one_workspace}
+use Rattle.wm_spending.specs.Nets.{AreNets, Nothing}
 use Rattle.wm_engine.proofs.plan.call.call_of.Goals as goal
 
 pub returns-in-EnableVersioning-clause-does : goal.returns-in-EnableVersioning-clause-does
@@ -32,6 +36,11 @@ pub returns-in-GotoSavepoint-clause-does : goal.returns-in-GotoSavepoint-clause-
 returns-in-GotoSavepoint-clause-does c =
     for_open_one c.args.image.now c.args.sessions.now c.args.moment c.goto_savepoint_call.result c.args.session.now (call c.args.session.now (Some procedures.GotoSavepoint) c.args.given.args.now) (call c.args.session.now (Some c.args.procedure) c.args.given.args.now)
     c.requires.open (λ s. ap (λ (p : Procedure). call c.args.session.now (Some p) c.args.given.args.now s) c.in-GotoSavepoint.is) c.goto_savepoint_call.ensures.does
+
+pub returns-in-SetConflictWorkspace-clause-does : goal.returns-in-SetConflictWorkspace-clause-does
+returns-in-SetConflictWorkspace-clause-does c =
+    for_one c.args.image.now c.args.sessions.now c.args.moment c.conflict_workspace_call.result (call c.args.session.now (Some procedures.SetConflictWorkspace) c.args.given.args.now) (call c.args.session.now (Some c.args.procedure) c.args.given.args.now)
+    (λ s. ap (λ (p : Procedure). call c.args.session.now (Some p) c.args.given.args.now s) c.in-SetConflictWorkspace.is) c.conflict_workspace_call.ensures.does
 
 pub returns-in-SetValidTime-clause-does : goal.returns-in-SetValidTime-clause-does
 returns-in-SetValidTime-clause-does c =
@@ -63,8 +72,48 @@ returns-in_default c = record {
   does =
       refused c.args.image.now c.args.sessions.now c.args.moment c.answered.result not_built (call c.args.session.now (Some c.args.procedure) c.args.given.args.now) c.answered.ensures.edits c.answered.ensures.seating
       (ap answer_view c.answered.ensures.answer ∙ c.not_built.ensures) c.requires.rules
-      (λ s. other_call c.args.session.now c.args.procedure c.args.given.args.now s c.in_default.not-EnableVersioning c.in_default.not-CreateWorkspace c.in_default.not-CreateSavepoint c.in_default.not-GotoWorkspace c.in_default.not-GotoSavepoint c.in_default.not-SetValidTime
+      (λ s. other_call c.args.session.now c.args.procedure c.args.given.args.now s c.in_default.not-EnableVersioning c.in_default.not-CreateWorkspace c.in_default.not-CreateSavepoint c.in_default.not-GotoWorkspace c.in_default.not-GotoSavepoint c.in_default.not-SetConflictWorkspace c.in_default.not-SetValidTime
       c.in_default.not-RollbackToSp c.in_default.not-RemoveWorkspace c.in_default.not-RefreshWorkspace c.in_default.not-MergeWorkspace);
   idle = λ idle. (c.answered.ensures.edits, c.answered.ensures.seating);
   few = λ forks. forks_none c.answered.result c.answered.ensures.edits;
+  nets = λ workspace named. Nothing c.answered.ensures.edits;
 }
+
+-- ---- lines that refresh or merge
+
+pub returns-in-EnableVersioning-clause-nets : goal.returns-in-EnableVersioning-clause-nets
+returns-in-EnableVersioning-clause-nets c = λ workspace named. absurd (no_workspace workspace (ap (λ (p : Procedure). nets_call (Some p) c.args.given.args.now) (sym c.in-EnableVersioning.is) ∙ named))
+
+pub returns-in-CreateWorkspace-clause-nets : goal.returns-in-CreateWorkspace-clause-nets
+returns-in-CreateWorkspace-clause-nets c = λ workspace named. absurd (no_workspace workspace (ap (λ (p : Procedure). nets_call (Some p) c.args.given.args.now) (sym c.in-CreateWorkspace.is) ∙ named))
+
+pub returns-in-CreateSavepoint-clause-nets : goal.returns-in-CreateSavepoint-clause-nets
+returns-in-CreateSavepoint-clause-nets c = λ workspace named. absurd (no_workspace workspace (ap (λ (p : Procedure). nets_call (Some p) c.args.given.args.now) (sym c.in-CreateSavepoint.is) ∙ named))
+
+pub returns-in-GotoWorkspace-clause-nets : goal.returns-in-GotoWorkspace-clause-nets
+returns-in-GotoWorkspace-clause-nets c = λ workspace named. absurd (no_workspace workspace (ap (λ (p : Procedure). nets_call (Some p) c.args.given.args.now) (sym c.in-GotoWorkspace.is) ∙ named))
+
+pub returns-in-GotoSavepoint-clause-nets : goal.returns-in-GotoSavepoint-clause-nets
+returns-in-GotoSavepoint-clause-nets c = λ workspace named. absurd (no_workspace workspace (ap (λ (p : Procedure). nets_call (Some p) c.args.given.args.now) (sym c.in-GotoSavepoint.is) ∙ named))
+
+pub returns-in-SetConflictWorkspace-clause-nets : goal.returns-in-SetConflictWorkspace-clause-nets
+returns-in-SetConflictWorkspace-clause-nets c = λ workspace named. absurd (no_workspace workspace (ap (λ (p : Procedure). nets_call (Some p) c.args.given.args.now) (sym c.in-SetConflictWorkspace.is) ∙ named))
+
+pub returns-in-SetValidTime-clause-nets : goal.returns-in-SetValidTime-clause-nets
+returns-in-SetValidTime-clause-nets c = λ workspace named. absurd (no_workspace workspace (ap (λ (p : Procedure). nets_call (Some p) c.args.given.args.now) (sym c.in-SetValidTime.is) ∙ named))
+
+pub returns-in-RollbackToSp-clause-nets : goal.returns-in-RollbackToSp-clause-nets
+returns-in-RollbackToSp-clause-nets c = λ workspace named. absurd (no_workspace workspace (ap (λ (p : Procedure). nets_call (Some p) c.args.given.args.now) (sym c.in-RollbackToSp.is) ∙ named))
+
+pub returns-in-RemoveWorkspace-clause-nets : goal.returns-in-RemoveWorkspace-clause-nets
+returns-in-RemoveWorkspace-clause-nets c = λ workspace named. absurd (no_workspace workspace (ap (λ (p : Procedure). nets_call (Some p) c.args.given.args.now) (sym c.in-RemoveWorkspace.is) ∙ named))
+
+pub returns-in-RefreshWorkspace-clause-nets : goal.returns-in-RefreshWorkspace-clause-nets
+returns-in-RefreshWorkspace-clause-nets c = λ workspace named.
+    subst (λ (w : List ℕ). IfOk c.refresh_call.result (λ p. AreNets c.args.image.now w p.edits.items)) (one_workspace _ workspace (ap (λ (p : Procedure). nets_call (Some p) c.args.given.args.now) (sym c.in-RefreshWorkspace.is) ∙ named))
+    c.refresh_call.ensures.nets
+
+pub returns-in-MergeWorkspace-clause-nets : goal.returns-in-MergeWorkspace-clause-nets
+returns-in-MergeWorkspace-clause-nets c = λ workspace named.
+    let alone = merges_alone (is_true_given procedures.MergeWorkspace c.args.given.args.now parameters.RemoveWorkspace) _ workspace (ap (λ (p : Procedure). nets_call (Some p) c.args.given.args.now) (sym c.in-MergeWorkspace.is) ∙ named) in
+    subst (λ (w : List ℕ). IfOk c.merge_call.result (λ p. AreNets c.args.image.now w p.edits.items)) alone.1 (c.merge_call.ensures.nets alone.0)

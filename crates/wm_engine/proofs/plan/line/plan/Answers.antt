@@ -5,6 +5,7 @@ use Rattle.wm_print.specs.Texts.{Nothing}
 use Rattle.wm_grammar.specs.Parsed.{parsed}
 use Rattle.wm_plan.proofs.Planning.{told_alone, timed_same}
 use Rattle.wm_plan.specs.Views.{answer_view, seating_view}
+use Rattle.wm_spending.specs.Nets.{Nothing}
 use Rattle.wm_engine.proofs.plan.line.plan.Goals as goal
 
 long : (n : ℕ) → 16384 < n → nat_le n 16384 ≡ false
@@ -39,3 +40,14 @@ returns-clause-does c =
     let text = c.args.text.now in
     timed_same c.args.image.now c.args.sessions.now c.args.moment c.plan_text.result (run_parsed (parsed text)) (λ s. step s text)
     (λ s st. rw (short (length text) c.if-text-gt-LINE_LIMIT.false, sym c.if-is_remark.ensures, sym c.if-not-is_text.ensures) refl) c.plan_text.ensures.does
+
+-- ---- lines that refresh or merge
+
+pub returns-then-text-gt-LINE_LIMIT-clause-nets : goal.returns-then-text-gt-LINE_LIMIT-clause-nets
+returns-then-text-gt-LINE_LIMIT-clause-nets c = λ workspace named. Nothing c.answered.ensures.edits
+
+pub returns-then-is_remark-clause-nets : goal.returns-then-is_remark-clause-nets
+returns-then-is_remark-clause-nets c = λ workspace named. Nothing c.answered-then-is_remark.ensures.edits
+
+pub returns-then-not-is_text-clause-nets : goal.returns-then-not-is_text-clause-nets
+returns-then-not-is_text-clause-nets c = λ workspace named. Nothing c.answered-then-not-is_text.ensures.edits

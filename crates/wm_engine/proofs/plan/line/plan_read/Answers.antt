@@ -4,6 +4,9 @@ use Rattle.wm_model.specs.Step.{run_parsed, not_built}
 use Rattle.wm_plan.proofs.Planning.{told_alone}
 use Rattle.wm_engine.proofs.Timely.{timely_timed}
 use Rattle.wm_plan.specs.Views.{answer_view, seating_view}
+use Rattle.wm_engine.specs.NetLines.{nets_of_line}
+use Rattle.wm_engine.proofs.NetLines.{nets_timed}
+use Rattle.wm_spending.specs.Nets.{Nothing}
 use Rattle.wm_engine.proofs.plan.line.plan_read.Goals as goal
 
 pub returns-then-is_later-clause-does : goal.returns-then-is_later-clause-does
@@ -13,3 +16,12 @@ returns-then-is_later-clause-does c =
 
 pub plan_line-requires-clause-timely : goal.plan_line-requires-clause-timely
 plan_line-requires-clause-timely c = rw c.set_moment_in.ensures (timely_timed c.unwrap-now.result (line_view c.args.line.now) c.requires.timely)
+
+-- ---- lines that refresh or merge
+
+pub returns-then-is_later-clause-nets : goal.returns-then-is_later-clause-nets
+returns-then-is_later-clause-nets c = λ workspace named. Nothing c.answered.ensures.edits
+
+pub returns-clause-nets : goal.returns-clause-nets
+returns-clause-nets c = λ workspace named.
+    c.plan_line.ensures.nets workspace (ap nets_of_line c.set_moment_in.ensures ∙ nets_timed c.unwrap-now.result (line_view c.args.line.now) ∙ named)

@@ -5,6 +5,7 @@ use Rattle.wm_grammar.specs.Parsed.{parsed}
 use Rattle.wm_plan.proofs.Planning.{told_alone}
 use Rattle.wm_engine.proofs.Timely.{line_timely}
 use Rattle.wm_plan.specs.Views.{answer_view, seating_view}
+use Rattle.wm_spending.specs.Nets.{Nothing}
 use Rattle.wm_engine.proofs.plan.line.plan_text.Goals as goal
 
 pub plan_read-planned-requires-clause-timely : goal.plan_read-planned-requires-clause-timely
@@ -22,3 +23,11 @@ returns-in-Err-Literal-clause-does c =
     let answered = c.answered-in-Err-Literal in
     told_alone c.args.image.now c.args.sessions.now c.args.moment answered.result (bad_literal c.in-Err-Literal.column) (run_parsed (parsed c.args.text.now)) answered.ensures.edits (ap seating_view answered.ensures.seating)
     answered.ensures.moment (ap answer_view answered.ensures.answer ∙ c.bad_literal.ensures) (λ s st. rw wrong refl)
+
+-- ---- lines that refresh or merge
+
+pub returns-in-Err-Syntax-clause-nets : goal.returns-in-Err-Syntax-clause-nets
+returns-in-Err-Syntax-clause-nets c = λ workspace named. Nothing c.answered.ensures.edits
+
+pub returns-in-Err-Literal-clause-nets : goal.returns-in-Err-Literal-clause-nets
+returns-in-Err-Literal-clause-nets c = λ workspace named. Nothing c.answered-in-Err-Literal.ensures.edits

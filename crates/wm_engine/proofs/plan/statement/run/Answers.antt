@@ -12,6 +12,7 @@ use Rattle.wm_plan.proofs.Planning.{told}
 use Rattle.wm_plan.specs.Planning.{DoesIt}
 use Rattle.wm_plan.specs.Views.{answer_view, seating_view}
 use Rattle.wm_plan.specs.declared.planned.Planned.{Planned}
+use Rattle.wm_spending.specs.Nets.{Nothing}
 use Rattle.wm_engine.proofs.plan.statement.run.Goals as goal
 
 -- where the session is open, its statement is run for it
@@ -34,3 +35,8 @@ returns-clause-does c =
 
 pub run_statement-requires-clause-open : goal.run_statement-requires-clause-open
 run_statement-requires-clause-open c = record { name = c.args.name.now; found = sym c.in-Some.ensures }
+
+-- ---- lines that refresh or merge
+
+pub returns-in_default-clause-nets : goal.returns-in_default-clause-nets
+returns-in_default-clause-nets c = λ workspace named. Nothing c.answered.ensures.edits

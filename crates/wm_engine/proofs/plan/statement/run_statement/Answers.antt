@@ -7,6 +7,7 @@ use Rattle.wm_calls.proofs.Lasting.{insert_lasts, update_lasts}
 use Rattle.wm_calls.specs.Empty.{has_empty_period}
 use Rattle.wm_engine.proofs.Lasting.{select_lasts}
 use Rattle.wm_plan.proofs.Planning.{does_here, for_open, for_these}
+use Rattle.wm_engine.proofs.NetLines.{no_workspace}
 use Rattle.wm_engine.proofs.plan.statement.run_statement.Goals as goal
 
 pub returns-in-Create-clause-does : goal.returns-in-Create-clause-does
@@ -58,3 +59,25 @@ update-requires-clause-lasting c = λ none.
 
 pub select-requires-clause-lasting : goal.select-requires-clause-lasting
 select-requires-clause-lasting c = λ none. select_lasts (query_view c.in-Select.query) (ap has_empty_period (ap statement_view (sym c.in-Select.is)) ∙ sym c.has_empty_period-empty.ensures ∙ none)
+
+-- ---- lines that refresh or merge
+
+pub returns-in-Create-clause-nets : goal.returns-in-Create-clause-nets
+returns-in-Create-clause-nets c = rw c.in-Create.is (λ workspace named. absurd (no_workspace workspace named))
+
+pub returns-in-Insert-clause-nets : goal.returns-in-Insert-clause-nets
+returns-in-Insert-clause-nets c = rw c.in-Insert.is (λ workspace named. absurd (no_workspace workspace named))
+
+pub returns-in-Update-clause-nets : goal.returns-in-Update-clause-nets
+returns-in-Update-clause-nets c = rw c.in-Update.is (λ workspace named. absurd (no_workspace workspace named))
+
+pub returns-in-Delete-clause-nets : goal.returns-in-Delete-clause-nets
+returns-in-Delete-clause-nets c = rw c.in-Delete.is (λ workspace named. absurd (no_workspace workspace named))
+
+pub returns-in-Select-clause-nets : goal.returns-in-Select-clause-nets
+returns-in-Select-clause-nets c = rw c.in-Select.is (λ workspace named. absurd (no_workspace workspace named))
+
+pub returns-in-Call-clause-nets : goal.returns-in-Call-clause-nets
+returns-in-Call-clause-nets c =
+    let plans = rw c.as_slice-args.ensures at c.call.ensures.nets in
+    rw c.in-Call.is plans

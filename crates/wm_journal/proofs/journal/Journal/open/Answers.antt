@@ -12,12 +12,24 @@ returns-in_err-settle-clause-any_moment g c = λ t.
     let old : History = g.P.Station.history c.args.station.now in
     (kept_before old (g.P.Station.history c.settle.new.station) (c.in_err-settle.ensures.err t)).during
 
+pub returns-in_err-settle-clause-settles : goal.returns-in_err-settle-clause-settles
+returns-in_err-settle-clause-settles g c = λ t.
+    let old : History = g.P.Station.history c.args.station.now in
+    (kept_before old (g.P.Station.history c.settle.new.station) (c.in_err-settle.ensures.err t)).settles
+
 pub returns-in_err-size-clause-any_moment : goal.returns-in_err-size-clause-any_moment
 returns-in_err-size-clause-any_moment g c = λ t.
     let old : History = g.P.Station.history c.args.station.now in
     let sized : History = g.P.Station.history c.settle.new.station in
     let settled : sized ≡ Synced old = c.in_ok-settle.ensures.ok t in
     (kept_after old (g.P.Station.history c.size_of.new.station) (c.in_err-size.ensures.told t ∙ settled)).during
+
+pub returns-in_err-size-clause-settles : goal.returns-in_err-size-clause-settles
+returns-in_err-size-clause-settles g c = λ t.
+    let old : History = g.P.Station.history c.args.station.now in
+    let sized : History = g.P.Station.history c.settle.new.station in
+    let settled : sized ≡ Synced old = c.in_ok-settle.ensures.ok t in
+    (kept_after old (g.P.Station.history c.size_of.new.station) (c.in_err-size.ensures.told t ∙ settled)).settles
 
 pub returns-in_err-header-clause-any_moment : goal.returns-in_err-header-clause-any_moment
 returns-in_err-header-clause-any_moment g c = λ t.
@@ -27,6 +39,15 @@ returns-in_err-header-clause-any_moment g c = λ t.
     let at : History = g.P.Station.history c.size_of.new.station in
     let at_is : at ≡ Synced old = c.in_ok-size.ensures.told t ∙ settled in
     (kept_after old (g.P.Station.history c.read_header.new.station) (c.in_err-header.ensures.told t ∙ at_is)).during
+
+pub returns-in_err-header-clause-settles : goal.returns-in_err-header-clause-settles
+returns-in_err-header-clause-settles g c = λ t.
+    let old : History = g.P.Station.history c.args.station.now in
+    let sized : History = g.P.Station.history c.settle.new.station in
+    let settled : sized ≡ Synced old = c.in_ok-settle.ensures.ok t in
+    let at : History = g.P.Station.history c.size_of.new.station in
+    let at_is : at ≡ Synced old = c.in_ok-size.ensures.told t ∙ settled in
+    (kept_after old (g.P.Station.history c.read_header.new.station) (c.in_err-header.ensures.told t ∙ at_is)).settles
 
 pub returns-in_err-repair-clause-keeps : goal.returns-in_err-repair-clause-keeps
 returns-in_err-repair-clause-keeps g c = λ t.
@@ -55,6 +76,20 @@ returns-in_err-repair-clause-any_moment g c = λ t.
     let is : IsHeader header (now at) = c.in_ok-header.ensures.header t in
     let fixed : History = g.P.Station.history c.repair.new.station in
     (kept_failed header old at from fixed at_is from_is is (c.in_err-repair.ensures.part t)).during
+
+pub returns-in_err-repair-clause-settles : goal.returns-in_err-repair-clause-settles
+returns-in_err-repair-clause-settles g c = λ t.
+    let old : History = g.P.Station.history c.args.station.now in
+    let sized : History = g.P.Station.history c.settle.new.station in
+    let settled : sized ≡ Synced old = c.in_ok-settle.ensures.ok t in
+    let at : History = g.P.Station.history c.size_of.new.station in
+    let at_is : at ≡ Synced old = c.in_ok-size.ensures.told t ∙ settled in
+    let from : History = g.P.Station.history c.read_header.new.station in
+    let from_is : from ≡ Synced old = c.in_ok-header.ensures.told t ∙ at_is in
+    let header : Header = c.in_ok-header.header in
+    let is : IsHeader header (now at) = c.in_ok-header.ensures.header t in
+    let fixed : History = g.P.Station.history c.repair.new.station in
+    (kept_failed header old at from fixed at_is from_is is (c.in_err-repair.ensures.part t)).settles
 
 pub returns-in_err-repair-clause-quiet : goal.returns-in_err-repair-clause-quiet
 returns-in_err-repair-clause-quiet g c = λ t.
@@ -193,6 +228,22 @@ returns-in_err-count-clause-any_moment g c = λ t.
     let new : History = g.P.Station.history c.read_count.new.station in
     (kept_told old fixed new mended (c.in_err-count.ensures.told t)).during
 
+pub returns-in_err-count-clause-settles : goal.returns-in_err-count-clause-settles
+returns-in_err-count-clause-settles g c = λ t.
+    let old : History = g.P.Station.history c.args.station.now in
+    let sized : History = g.P.Station.history c.settle.new.station in
+    let settled : sized ≡ Synced old = c.in_ok-settle.ensures.ok t in
+    let at : History = g.P.Station.history c.size_of.new.station in
+    let at_is : at ≡ Synced old = c.in_ok-size.ensures.told t ∙ settled in
+    let from : History = g.P.Station.history c.read_header.new.station in
+    let from_is : from ≡ Synced old = c.in_ok-header.ensures.told t ∙ at_is in
+    let header : Header = c.in_ok-header.header in
+    let is : IsHeader header (now at) = c.in_ok-header.ensures.header t in
+    let fixed : History = g.P.Station.history c.repair.new.station in
+    let mended : Mended old fixed = mended_all header old at from fixed at_is from_is is (c.in_ok-repair.ensures.done t) in
+    let new : History = g.P.Station.history c.read_count.new.station in
+    (kept_told old fixed new mended (c.in_err-count.ensures.told t)).settles
+
 pub returns-in_err-count-clause-quiet : goal.returns-in_err-count-clause-quiet
 returns-in_err-count-clause-quiet g c = λ t.
     let old : History = g.P.Station.history c.args.station.now in
@@ -327,6 +378,23 @@ returns-clause-any_moment g c = λ t.
     let new : History = g.P.Station.history c.read_count.new.station in
     let all : Opened old new c.in_ok-count.count = opened old fixed new c.in_ok-count.count mended (c.in_ok-count.ensures.told t) (whole_mended header old at fixed at_is is mended) (c.in_ok-count.ensures.count t) (c.in_ok-count.ensures.store t) in
     all.mended.kept.during
+
+pub returns-clause-settles : goal.returns-clause-settles
+returns-clause-settles g c = λ t.
+    let old : History = g.P.Station.history c.args.station.now in
+    let sized : History = g.P.Station.history c.settle.new.station in
+    let settled : sized ≡ Synced old = c.in_ok-settle.ensures.ok t in
+    let at : History = g.P.Station.history c.size_of.new.station in
+    let at_is : at ≡ Synced old = c.in_ok-size.ensures.told t ∙ settled in
+    let from : History = g.P.Station.history c.read_header.new.station in
+    let from_is : from ≡ Synced old = c.in_ok-header.ensures.told t ∙ at_is in
+    let header : Header = c.in_ok-header.header in
+    let is : IsHeader header (now at) = c.in_ok-header.ensures.header t in
+    let fixed : History = g.P.Station.history c.repair.new.station in
+    let mended : Mended old fixed = mended_all header old at from fixed at_is from_is is (c.in_ok-repair.ensures.done t) in
+    let new : History = g.P.Station.history c.read_count.new.station in
+    let all : Opened old new c.in_ok-count.count = opened old fixed new c.in_ok-count.count mended (c.in_ok-count.ensures.told t) (whole_mended header old at fixed at_is is mended) (c.in_ok-count.ensures.count t) (c.in_ok-count.ensures.store t) in
+    all.mended.kept.settles
 
 pub returns-clause-quiet : goal.returns-clause-quiet
 returns-clause-quiet g c = λ t.

@@ -4,11 +4,12 @@ use Rattle.wm_base.specs.declared.fault.OpenFault.TheVariants as faults
 use Rattle.wm_station.specs.History.{History, now, said, Leaves}
 use Rattle.wm_station.specs.Moments.{Holds, During}
 use Rattle.wm_journal.specs.Disk.{page}
+use Rattle.wm_journal.specs.Store.{Settles}
 use Rattle.wm_heap.specs.Places.{IsHeapOf}
 use Rattle.wm_store.specs.Opened.{Held, SaysAs, HoldsAs}
 use Rattle.wm_store.specs.Stores.{IsStoreOf}
 use Rattle.wm_store.proofs.Opening.{opened-closed}
-use Rattle.wm_store.proofs.Mending.{untouched_by, says_of, says_as, says_in, moments_say, holds_as, moments_hold, behind_page_0, held_on, store_on}
+use Rattle.wm_store.proofs.Mending.{untouched_by, says_of, says_as, says_in, moments_say, holds_as, moments_hold, settles_hold, behind_page_0, held_on, store_on}
 use Rattle.wm_store.proofs.store.Store.open.Goals as goal
 
 pub returns-in_err-journal-clause-fault : goal.returns-in_err-journal-clause-fault
@@ -70,6 +71,9 @@ returns-in_err-journal-clause-pages g c = λ t. holds_as (now (g.P.Station.histo
 pub returns-in_err-journal-clause-pages_any_moment : goal.returns-in_err-journal-clause-pages_any_moment
 returns-in_err-journal-clause-pages_any_moment g c = λ t. moments_hold (g.P.Station.history c.args.station.now) (g.P.Station.history c.open.new.station) (c.in_err-journal.ensures.any_moment t)
 
+pub returns-in_err-journal-clause-settles : goal.returns-in_err-journal-clause-settles
+returns-in_err-journal-clause-settles g c = λ t. settles_hold (g.P.Station.history c.args.station.now) (g.P.Station.history c.open.new.station) (c.in_err-journal.ensures.settles t)
+
 pub returns-in_err-journal-clause-synced : goal.returns-in_err-journal-clause-synced
 returns-in_err-journal-clause-synced g c = λ t.
     let p = err_from_is_err_and c.from_residual.result c.from_residual.ensures.1 in
@@ -88,6 +92,10 @@ pub returns-in_err-heap-clause-pages_any_moment : goal.returns-in_err-heap-claus
 returns-in_err-heap-clause-pages_any_moment g c = λ t.
     subst (λ (h : History). During (g.P.Station.history c.args.station.now) h (λ f s. (Leaves (g.P.Station.history c.args.station.now) f ⊎ HoldsAs (now (g.P.Station.history c.args.station.now)) f) × (s ≡ said (g.P.Station.history c.args.station.now)))) (sym (c.in_err-heap.ensures.told t)) (moments_hold (g.P.Station.history c.args.station.now) (g.P.Station.history c.open.new.station) (c.in_ok-journal.ensures.any_moment t))
 
+pub returns-in_err-heap-clause-settles : goal.returns-in_err-heap-clause-settles
+returns-in_err-heap-clause-settles g c = λ t.
+    subst (λ (h : History). Settles (g.P.Station.history c.args.station.now) h (HoldsAs (now (g.P.Station.history c.args.station.now)))) (sym (c.in_err-heap.ensures.told t)) (settles_hold (g.P.Station.history c.args.station.now) (g.P.Station.history c.open.new.station) (c.in_ok-journal.ensures.settles t))
+
 pub returns-clause-pages : goal.returns-clause-pages
 returns-clause-pages g c = λ t.
     subst (λ (h : History). HoldsAs (now (g.P.Station.history c.args.station.now)) (now h)) (sym (c.in_ok-heap.ensures.told t)) (holds_as (now (g.P.Station.history c.args.station.now)) (now (g.P.Station.history c.open.new.station)) (c.in_ok-journal.ensures.keeps t))
@@ -95,3 +103,7 @@ returns-clause-pages g c = λ t.
 pub returns-clause-pages_any_moment : goal.returns-clause-pages_any_moment
 returns-clause-pages_any_moment g c = λ t.
     subst (λ (h : History). During (g.P.Station.history c.args.station.now) h (λ f s. (Leaves (g.P.Station.history c.args.station.now) f ⊎ HoldsAs (now (g.P.Station.history c.args.station.now)) f) × (s ≡ said (g.P.Station.history c.args.station.now)))) (sym (c.in_ok-heap.ensures.told t)) (moments_hold (g.P.Station.history c.args.station.now) (g.P.Station.history c.open.new.station) (c.in_ok-journal.ensures.any_moment t))
+
+pub returns-clause-settles : goal.returns-clause-settles
+returns-clause-settles g c = λ t.
+    subst (λ (h : History). Settles (g.P.Station.history c.args.station.now) h (HoldsAs (now (g.P.Station.history c.args.station.now)))) (sym (c.in_ok-heap.ensures.told t)) (settles_hold (g.P.Station.history c.args.station.now) (g.P.Station.history c.open.new.station) (c.in_ok-journal.ensures.settles t))

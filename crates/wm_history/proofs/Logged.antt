@@ -1,0 +1,94 @@
+-- Entries of a log on a table, by position; and what the rules say of an entry.
+use Rattle.std.proofs.Common.{◌≡◌, ℕ, ◌<◌, ◌≤◌, ◌==◌, nat_lt, nat_le, Bool, true, false, cond, ◌&&◌, List, [], ◌∷◌, map, Option, Some, None, refl, sym, ap, ◌∙◌, arith}
+use Rattle.std.proofs.lemmas.Map.Keys.{sorted_head, sorted_tail}
+use Rattle.std.specs.List.{find, list_all}
+use Rattle.std.specs.List.Sorted.{IsStrictlySortedBy}
+use Rattle.std.specs.Option.{option_and_then, option_map_or}
+use Rattle.std.specs.Ordering.{nat_cmp}
+use Rattle.wm_base.specs.declared.instant.TheConstants.{END}
+use Rattle.wm_graph.specs.Parts.{Parts, as_hist, parts_of, row_of, space_of, table_of}
+use Rattle.wm_graph.specs.Rules.{are_cells, differ, is_hist, is_short, keep_rules, same_position}
+use Rattle.wm_spec.specs.Records.{record_at}
+use Rattle.wm_spec.specs.declared.record.Record.{Record}
+use Rattle.wm_spec.specs.declared.record.cell_range.CellRange.{CellRange}
+use Rattle.wm_spec.specs.declared.record.hist.Hist.{Hist}
+use Rattle.wm_spec.specs.declared.record.space.Space.{Space}
+use Rattle.wm_spec.specs.declared.record.stored.Stored.{Stored}
+use Rattle.wm_index.proofs.Firsts.{find-filter}
+use Rattle.wm_index.proofs.IdLists.{less_than}
+use Rattle.wm_index.specs.Hists.{AreByPosition, logged_on, stands_at}
+use Rattle.wm_state.proofs.Apart.{ruled}
+use Rattle.wm_state.proofs.ByKind.{Split, kinds, kinds-one, split_of}
+use Rattle.wm_state.proofs.Tests.{all_middle, both}
+use Rattle.wm_view_rows.specs.History.{AreLogged, Follow}
+
+-- ---- the entries of a log
+
+follow : (xs : List Hist) → IsStrictlySortedBy nat_cmp (map (λ (x : Hist). x.position) xs) → Follow xs
+follow [] ascend = tt
+follow (x ∷ []) ascend = tt
+follow (x ∷ y ∷ ys) ascend = (
+  less_than x.position y.position (sorted_head nat_cmp x.position (map (λ (z : Hist). z.position) (y ∷ ys)) ascend).0,
+  follow (y ∷ ys) (sorted_tail nat_cmp x.position (map (λ (z : Hist). z.position) (y ∷ ys)) ascend),
+)
+
+-- the same in another order
+turned : (n table position : ℕ) (xs : List Hist) → find (λ (x : Hist). (x.position == position) && ((x.space == n) && (x.cells.table == table))) xs ≡ find (λ (x : Hist). (x.space == n) && ((x.cells.table == table) && (x.position == position))) xs
+turned n table position [] = refl
+turned n table position (x ∷ xs) =
+    ap (λ b. cond b (Some x) (find (λ (y : Hist). (y.position == position) && ((y.space == n) && (y.cells.table == table))) xs)) (moved (x.position == position) (x.space == n) (x.cells.table == table))
+    ∙ ap (λ o. cond ((x.space == n) && ((x.cells.table == table) && (x.position == position))) (Some x) o) (turned n table position xs)
+  where
+    moved : (a b c : Bool) → (a && (b && c)) ≡ (b && (c && a))
+    moved true true true = refl
+    moved true true false = refl
+    moved true false c = refl
+    moved false true true = refl
+    moved false true false = refl
+    moved false false c = refl
+
+-- by position they are the records of a log on a table
+pub are_logged : (p : Parts) (n table : ℕ) (xs : List Hist) → AreByPosition xs (logged_on n table p.hists) → AreLogged p n table xs
+are_logged p n table xs are = record {
+  follow = follow xs are.ascend;
+  same = λ position. are.same position ∙ find-filter (stands_at position) (λ (x : Hist). (x.space == n) && (x.cells.table == table)) p.hists ∙ turned n table position p.hists;
+}
+
+-- ---- an entry
+
+-- the cells of an entry have a moment, and none behind the end of time
+pub record HasTime (c : CellRange) : Type 0 where
+  pub some : c.from < c.till
+  pub till : c.till ≤ END
+
+less_of : (m n : ℕ) → nat_lt m n ≡ true → m < n
+less_of m n is = grind (arith, is)
+
+most_of : (m n : ℕ) → nat_le m n ≡ true → m ≤ n
+most_of m n is = grind (arith, is)
+
+-- what holds of each entry holds of that of an id
+one_found : (test : Hist → Bool) (ss : List Stored) (id : ℕ) (x : Hist) → option_and_then as_hist (record_at ss id) ≡ Some x → list_all test (kinds as_hist ss) ≡ true → test x ≡ true
+one_found test ss id x found each = by_record (record_at ss id) refl found
+  where
+    by_record : (o : Option Record) → record_at ss id ≡ o → option_and_then as_hist o ≡ Some x → test x ≡ true
+    by_record None none is = cc
+    by_record (Some r) some is = by_split (split_of ss id r some)
+      where
+        by_split : Split ss id r → test x ≡ true
+        by_split s = all_middle test x (kinds as_hist s.front) (kinds as_hist s.back) (ap (list_all test) (sym (ap (kinds as_hist) s.is ∙ kinds-one as_hist s.front s.back id r x is)) ∙ each)
+
+time_of : (p : Parts) (next : ℕ) (x : Hist) → is_hist (table_of p.tables) (space_of p.spaces) (row_of p.rows) next x ≡ true → HasTime x.cells
+time_of p next x is =
+    let h = both (are_cells (table_of p.tables) x.cells) _ (both (is_short x.user && option_map_or (λ (s : Space). nat_lt x.position s.log_length) (space_of p.spaces x.space) false) _ is).1 in
+    let g = both (nat_lt x.cells.from x.cells.till && nat_le x.cells.till END) _ h.0 in
+    let k = both (nat_lt x.cells.from x.cells.till) (nat_le x.cells.till END) g.0 in
+    record { some = less_of x.cells.from x.cells.till k.0; till = most_of x.cells.till END k.1 }
+
+pub has_time : (ss : List Stored) (id : ℕ) (x : Hist) → keep_rules (parts_of ss) ≡ true → option_and_then as_hist (record_at ss id) ≡ Some x → HasTime x.cells
+unfolding parts_of
+has_time ss id x rules found =
+    let r = ruled (parts_of ss) rules in
+    time_of (parts_of ss) r.counters.next_stamp x
+    (one_found (is_hist (table_of (parts_of ss).tables) (space_of (parts_of ss).spaces) (row_of (parts_of ss).rows) r.counters.next_stamp) ss id x found
+    (both (differ same_position (parts_of ss).hists) _ r.hists).1)

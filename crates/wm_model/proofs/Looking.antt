@@ -1,0 +1,168 @@
+-- What a session sees in each state that the records stand for, by what it looks at.
+use Rattle.std.proofs.Common.{arith, ◌≡◌, ℕ, ◌<◌, ◌==◌, ◌&&◌, not, Bool, true, false, if◌then◌else◌, List, [], ◌∷◌, Option, Some, None, is_some, unwrap_or, refl, sym, ap, subst, ◌∙◌}
+use Rattle.std.specs.Option.{option_map_or}
+use Rattle.wm_base.specs.Period.{Span}
+use Rattle.wm_base.specs.declared.columns.Column.{Column}
+use Rattle.wm_base.specs.declared.listing.Listing.{Listing as Source}
+use Rattle.wm_base.specs.declared.row.Row.{Row}
+use Rattle.wm_base.specs.Trees.{Src}
+use Rattle.wm_graph.specs.Parts.{parts_of, table_of}
+use Rattle.wm_graph.specs.Rules.{keep_rules}
+use Rattle.wm_spec.specs.declared.record.savepoint.Savepoint.{Savepoint as Record}
+use Rattle.wm_spec.specs.declared.record.space.Space.{Space}
+use Rattle.wm_spec.specs.declared.record.stored.Stored.{Stored}
+use Rattle.wm_spec.specs.declared.record.table.Table.{Table}
+use Rattle.wm_state.specs.Listing.{IsShowing}
+use Rattle.wm_state.specs.State.{Durable, State, Session, Workspace, Stand, Latest, At, seen_from, workspace_named, workspace_of}
+use Rattle.wm_state.specs.Standing.{Stands, latest, saved_as}
+use Rattle.wm_state.proofs.Listed.{showing_is, showing_saved}
+use Rattle.wm_state.proofs.Showing.{none_shown}
+use Rattle.wm_state.proofs.SavedAs.{made_some, made_none}
+use Rattle.wm_state.proofs.Spaces.{IsSpace, named_no_space, named_space}
+use Rattle.wm_view_rows.proofs.Conflicts.{conflict_view_is}
+use Rattle.wm_view_rows.proofs.History.{history_view_is}
+use Rattle.wm_view_rows.specs.Columns.{columns_of_view}
+use Rattle.wm_view_rows.specs.Conflicts.{IsConflictView, conflict_view}
+use Rattle.wm_view_rows.specs.Views.{is_history, table_sought, view_named}
+use Rattle.wm_view_rows.specs.declared.view.View.{View}
+use Rattle.wm_view_rows.specs.declared.view.View.TheVariants.{Rows, Conflicts, History}
+use Rattle.wm_model.specs.Looking.{IsFamilyOf, IsLook, conflicting_space, lost_name, lost_space, space_named}
+use Rattle.wm_model.specs.Planning.{StandsAt, tables_in, version_read}
+use Rattle.wm_model.specs.Sources.{AreConflicts, AreListed, IsSeen, Look}
+use Rattle.wm_model.specs.Step.{asks_conflicts, conflicting, conflicts_shown, lacks_history, lost_choice, lost_conflicts, lost_history, parent_in, rows_in, shown_by, source_name, sources_in, table_asked, view_shown, within}
+use Rattle.wm_model.proofs.Families.{related}
+use Rattle.wm_model.proofs.Named.{named_is}
+
+-- ---- the rows of a table
+
+-- a version shows these rows of a table in a period
+abbrev Shows : List Stored → ℕ → Table → Span → List Row → Type 0
+Shows rs version t period out = IsShowing (parts_of rs) version t.number t.valid period out
+
+-- the rows that the session sees are these in each workspace that the records stand for
+abbrev AreSeen : List Stored → Session → Table → Span → List Row → Type 0
+AreSeen rs session t period out = (s : Durable) (w : Workspace) → Stands (parts_of rs) s → workspace_of s.spaces session.space ≡ Some w → out ≡ rows_in period (seen_from w session.stand) t
+
+-- at what is newest they are those that the newest version holds
+seen_latest : (rs : List Stored) (session : Session) (t : Table) (period : Span) (out : List Row) → session.stand ≡ Latest → Shows rs (latest (parts_of rs) session.space) t period out → AreSeen rs session t period out
+seen_latest rs session t period out at is s w st found =
+    showing_is (parts_of rs) s session.space w t.number t.valid period out st found is ∙ ap (λ stand. rows_in period (seen_from w stand) t) (sym at)
+
+-- at a savepoint those that its version holds
+seen_saved : (rs : List Stored) (session : Session) (t : Table) (period : Span) (out : List Row) (making : ℕ) → keep_rules (parts_of rs) ≡ true → session.stand ≡ At making
+    → Shows rs (version_read (parts_of rs) session.space (At making)) t period out → AreSeen rs session t period out
+seen_saved rs session t period out making rules at is s w st found = by_record (saved_as (parts_of rs) session.space making) refl ∙ ap (λ stand. rows_in period (seen_from w stand) t) (sym at)
+  where
+    by_record : (o : Option Record) → saved_as (parts_of rs) session.space making ≡ o → out ≡ rows_in period (seen_from w (At making)) t
+    by_record None none =
+        rw (made_none (parts_of rs) s session.space w st found making none)
+        (none_shown (parts_of rs) t.number t.valid period out rules (subst (λ (o : Option Record). Shows rs (option_map_or (λ (x : Record). x.version) o 0) t period out) none is))
+    by_record (Some x) recorded =
+        let k = made_some (parts_of rs) s session.space w st found making x recorded in
+        rw k.1
+        (showing_saved (parts_of rs) s session.space making w k.0 x t.number t.valid period out st found k.1 recorded
+        (subst (λ (o : Option Record). Shows rs (option_map_or (λ (x : Record). x.version) o 0) t period out) recorded is))
+
+-- they are those of the version that the session reads
+seen_read : (rs : List Stored) (session : Session) (t : Table) (period : Span) (out : List Row) → keep_rules (parts_of rs) ≡ true → Shows rs (version_read (parts_of rs) session.space session.stand) t period out
+    → AreSeen rs session t period out
+seen_read rs session t period out rules is = by_stand session.stand refl
+  where
+    by_stand : (stand : Stand) → session.stand ≡ stand → AreSeen rs session t period out
+    by_stand Latest at = seen_latest rs session t period out at (subst (λ (x : Stand). Shows rs (version_read (parts_of rs) session.space x) t period out) at is)
+    by_stand (At making) at = seen_saved rs session t period out making rules at (subst (λ (x : Stand). Shows rs (version_read (parts_of rs) session.space x) t period out) at is)
+
+-- ---- the workspace whose conflicts are looked at
+
+-- the one that was set is there where its record is
+lost_same : (rs : List Stored) (s : State) (o : Option (List ℕ)) → Stands (parts_of rs) s.durable → lost_choice s.durable.spaces o ≡ lost_name (parts_of rs).spaces o
+lost_same rs s None st = refl
+lost_same rs s (Some name) st = by_record (space_named name (parts_of rs).spaces) refl
+  where
+    told : Bool → Option (List ℕ)
+    told there = if there then None else Some name
+
+    by_record : (o : Option Space) → space_named name (parts_of rs).spaces ≡ o → told (is_some (workspace_named name s.durable.spaces)) ≡ told (is_some o)
+    by_record None none = ap (λ (w : Option Workspace). told (is_some w)) (named_no_space (parts_of rs) s.durable name st none)
+    by_record (Some r) found = ap (λ (w : Option Workspace). told (is_some w)) (named_space (parts_of rs) s.durable name r st found).named
+
+pub lost_conflicts_same : (rs : List Stored) (s : State) (session : Session) (sources : List Src) → Stands (parts_of rs) s.durable → lost_conflicts s.durable.spaces session sources ≡ lost_space (parts_of rs).spaces session sources
+lost_conflicts_same rs s session sources st = ap (λ (o : Option (List ℕ)). if asks_conflicts sources then o else None) (lost_same rs s session.conflict st)
+
+-- in a state that the records stand for
+record Conflicting (rs : List Stored) (s : State) (o : Option (List ℕ)) (home : Workspace) (a : Space) : Type 0 where
+  pub workspace : Workspace
+  pub named : conflicting s.durable.spaces o home ≡ workspace
+  pub is : IsSpace (parts_of rs) s.durable a.number a workspace
+
+conflicting_is : (rs : List Stored) (s : State) (o : Option (List ℕ)) (home : Workspace) (a : Space) → Stands (parts_of rs) s.durable → IsSpace (parts_of rs) s.durable a.number a home
+    → Conflicting rs s o home (conflicting_space (parts_of rs).spaces o a)
+conflicting_is rs s None home a st is = record { workspace = home; named = refl; is = is }
+conflicting_is rs s (Some name) home a st is = by_record (space_named name (parts_of rs).spaces) refl
+  where
+    by_record : (o : Option Space) → space_named name (parts_of rs).spaces ≡ o → Conflicting rs s (Some name) home (unwrap_or o a)
+    by_record None none = record { workspace = home; named = ap (λ (w : Option Workspace). unwrap_or w home) (named_no_space (parts_of rs) s.durable name st none); is = is }
+    by_record (Some r) found =
+        let x = named_space (parts_of rs) s.durable name r st found in record { workspace = x.workspace; named = ap (λ (w : Option Workspace). unwrap_or w home) x.named; is = x.is }
+
+-- its conflicts with its parent
+conflicts_seen : (rs : List Stored) (xs : List Session) (m : ℕ) (s : State) (a : Space) (w : Workspace) (t : Table) (family : Option (Space × Space)) (rows : List Row) → StandsAt rs xs m s
+    → IsSpace (parts_of rs) s.durable a.number a w → IsFamilyOf (parts_of rs) a family → AreConflicts (parts_of rs) family t rows → rows ≡ conflicts_shown s w t
+conflicts_seen rs xs m s a w t None rows st is live are = are ∙ sym (ap (λ (n : ℕ). if n == 0 then [] else conflict_view (parent_in s w) w t) (is.number ∙ live))
+conflicts_seen rs xs m s a w t (Some x) rows st is family are =
+    let r = related rs xs m a x.1 s w is family.1.0 family.1.1 st in
+    conflict_view_is (parts_of rs) s.durable a.number w r.q a x.1 t rows r.beside r.base r.rows (subst (λ (k : Space). IsConflictView (parts_of rs) k x.1 t rows) family.0 are)
+    ∙ ap (λ (q : Workspace). conflict_view q w t) (sym r.parent_is)
+    ∙ sym (ap (λ (b : Bool). if b then [] else conflict_view (parent_in s w) w t) (ap (λ (n : ℕ). n == 0) is.number ∙ above a.number family.1.0))
+  where
+    above : (n : ℕ) → 0 < n → (n == 0) ≡ false
+    above n lt = grind (arith, lt)
+
+-- ---- the sources of a query
+
+-- where none is the history of a table that keeps none, the first is not
+history_kept : (tables : List Table) (x : Src) (xs : List Src) (t : Table) → table_asked tables x ≡ Some t → lost_history tables (x ∷ xs) ≡ None → (lacks_history x t ≡ false) × (lost_history tables xs ≡ None)
+history_kept tables x xs t named kept = by_test (lacks_history x t) (rw named at kept)
+  where
+    by_test : (b : Bool) → (if b then Some t.name else lost_history tables xs) ≡ None → (b ≡ false) × (lost_history tables xs ≡ None)
+    by_test true some = absurd (cc)
+    by_test false rest = (refl, rest)
+
+-- a session looks so, and stands in this workspace
+pub record LooksAt (rs : List Stored) (xs : List Session) (m : ℕ) (session : Session) (look : Look) (s : State) (w : Workspace) : Type 0 where
+  pub rules : keep_rules (parts_of rs) ≡ true
+  pub stands : StandsAt rs xs m s
+  pub is : IsLook (parts_of rs) m session look
+  pub home : IsSpace (parts_of rs) s.durable session.space look.home w
+
+-- what it sees of a table is what the state shows
+view_seen : (rs : List Stored) (xs : List Session) (m : ℕ) (session : Session) (look : Look) (s : State) (w : Workspace) (view : View) (t : Table) (rows : List Row) → LooksAt rs xs m session look s w
+    → table_of (parts_of rs).tables t.number ≡ Some t → (is_history view && not t.history) ≡ false → IsSeen (parts_of rs) look view t rows → rows ≡ view_shown s session w view t
+view_seen rs xs m session look s w Rows t rows at there kept are =
+    seen_read rs session t (look.period t) rows at.rules (subst (λ (version : ℕ). Shows rs version t (look.period t) rows) at.is.version are) s.durable w at.stands.stands at.home.found
+    ∙ ap (λ (period : Span). rows_in period (seen_from w session.stand) t) (at.is.period t ∙ ap (λ (n : ℕ). within n session t) at.stands.moment_is)
+view_seen rs xs m session look s w Conflicts t rows at there kept are =
+    let c = conflicting_is rs s session.conflict w look.home at.stands.stands (subst (λ (n : ℕ). IsSpace (parts_of rs) s.durable n look.home w) (sym at.home.record_number) at.home) in
+    conflicts_seen rs xs m s (conflicting_space (parts_of rs).spaces session.conflict look.home) c.workspace t look.family rows at.stands c.is at.is.family are ∙ ap (λ (v : Workspace). conflicts_shown s v t) (sym c.named)
+view_seen rs xs m session look s w History t rows at there kept are =
+    history_view_is (parts_of rs) s.durable session.space w look.home t rows at.stands.stands at.home.found at.home.recorded there (is_kept t.history kept) are
+  where
+    is_kept : (b : Bool) → not b ≡ false → b ≡ true
+    is_kept true e = refl
+    is_kept false e = sym e
+
+-- what was listed of each source is what the state shows
+pub sources_seen : (rs : List Stored) (xs : List Session) (m : ℕ) (session : Session) (look : Look) (s : State) (w : Workspace) (sources : List Src) (ls : List Source) → LooksAt rs xs m session look s w
+    → lost_history (tables_in rs) sources ≡ None → AreListed (parts_of rs) look (tables_in rs) sources ls → ls ≡ sources_in s session w (tables_in rs) sources
+sources_seen rs xs m session look s w [] ls at kept are = are
+sources_seen rs xs m session look s w (x ∷ sources) [] at kept are = absurd are
+sources_seen rs xs m session look s w (x ∷ sources) (l ∷ ls) at kept are =
+    let is = are.0 in
+    let k = history_kept (tables_in rs) x sources is.table is.named kept in
+    let first : l ≡ shown_by s session w x is.table =
+    both (columns_of_view (view_named x.table) (source_name x) is.table) (view_shown s session w (view_named x.table) is.table) is.columns
+    (view_seen rs xs m session look s w (view_named x.table) is.table l.rows at (named_is rs (table_sought x.table) is.table at.rules is.named).there k.0 is.rows) in
+    rw is.named (ap (λ y. y ∷ ls) first ∙ ap (λ ys. shown_by s session w x is.table ∷ ys) (sources_seen rs xs m session look s w sources ls at k.1 are.1))
+  where
+    both : (columns : List Column) (out : List Row) → l.columns ≡ columns → l.rows ≡ out → l ≡ record { columns = columns; rows = out }
+    both columns out c r = ap (λ cs. let y : Source = record { columns = cs; rows = l.rows } in y) c ∙ ap (λ rs. let y : Source = record { columns = columns; rows = rs } in y) r

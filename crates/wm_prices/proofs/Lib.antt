@@ -1,0 +1,5 @@
+pub mod Beside
+pub mod Heads
+pub mod Batch
+pub mod Gone
+pub mod Spending

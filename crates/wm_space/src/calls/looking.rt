@@ -1,0 +1,43 @@
+//! What SetConflictWorkspace is given.
+ghost use Rattle.std.specs.Prelude.{◌≡◌, ℕ, List, Some, true, IfOk};
+ghost use Rattle.wm_plan.specs.Idle.{Idles};
+ghost use Rattle.wm_plan.specs.Planning.{DoesIt};
+ghost use Rattle.wm_grammar.specs.declared.procedure.Procedure.TheVariants as procedures;
+ghost use Rattle.wm_graph.specs.Parts.{parts_of};
+ghost use Rattle.wm_graph.specs.Rules.{keep_rules};
+ghost use Rattle.wm_model.specs.Step.{call};
+ghost use Rattle.wm_state.specs.State.{Session as SessionState};
+
+use crate::looking::set_conflict_workspace;
+use std::alloc::Global;
+use wm_base::Memory;
+use wm_base::tree::statement::Arg;
+use wm_grammar::{Parameter, Procedure};
+use wm_image::Image;
+use wm_plan::given::{bytes_given, fault_of};
+use wm_plan::planned::Planned;
+use wm_plan::refuse::mistyped;
+use wm_plan::session::Session;
+
+/// SetConflictWorkspace.
+pub fn conflict_workspace_call(
+    alloc: Global,
+    image: &Image,
+    session: &Session,
+    args: &[Arg],
+) -> Result<Planned, Memory>
+    requires rules { keep_rules (parts_of image.now) ≡ true }
+    ensures does { IfOk result (λ p. (xs : List SessionState) (m : ℕ) → DoesIt image.now xs m p (call session.now (Some procedures.SetConflictWorkspace) args.now)) }
+    ensures idle { IfOk result Idles }
+{
+    if let Some(parameter) = fault_of(alloc, Procedure::SetConflictWorkspace, args)? {
+        return Ok(Planned::answered(alloc, mistyped(parameter)));
+    }
+    let workspace = bytes_given(
+        Procedure::SetConflictWorkspace,
+        args,
+        Parameter::Workspace,
+        b"",
+    );
+    set_conflict_workspace(alloc, image, session, workspace)
+}

@@ -1,0 +1,46 @@
+-- Plans that refresh a workspace, or merge it and let it be.
+use Rattle.std.specs.Prelude.{ℕ, ◌≡◌, Bool, false, List, [], map}
+use Rattle.std.specs.declared.alloc.Global.{Global}
+use Rattle.std.specs.declared.vec.Vec.{Vec}
+use Rattle.wm_graph.specs.Parts.{parts_of}
+use Rattle.wm_spec.specs.declared.record.space.Space.{Space}
+use Rattle.wm_spec.specs.declared.record.stored.Stored.{Stored}
+use Rattle.wm_state.specs.Editing.{entry_of}
+use Rattle.wm_state.specs.declared.edit.Edit.{Edit}
+use Rattle.wm_state.specs.declared.edit.NewEntry.{NewEntry}
+use Rattle.wm_telling.specs.Telling.{IsHeldListing, gained_held, own_held}
+use Rattle.wm_model.specs.Merged.{NamesFamily, merge_edits, refresh_edits}
+use Rattle.wm_model.specs.Step.{Asked}
+
+-- the edits refresh the workspace of a name: its log gains what it gains of its parent
+pub record AreRefresh (rs : List Stored) (workspace : List ℕ) (edits : List Edit) : Type 0 where
+  pub space : Space
+  pub parent : Space
+  pub family : NamesFamily rs workspace space parent
+  pub moment : ℕ
+  pub user : List ℕ
+  pub gained : Vec NewEntry Global
+  pub listed : IsHeldListing (parts_of rs) moment user (gained_held (parts_of rs) space parent) (map entry_of gained.items)
+  pub are : edits ≡ refresh_edits space.number gained
+
+-- they merge it into its parent, which has what is its own then, and it stays
+pub record AreMerge (rs : List Stored) (workspace : List ℕ) (edits : List Edit) : Type 0 where
+  pub space : Space
+  pub parent : Space
+  pub family : NamesFamily rs workspace space parent
+  pub moment : ℕ
+  pub user : List ℕ
+  pub asked : Asked
+  pub stays : asked.removes ≡ false
+  pub even : Bool
+  pub own : Vec NewEntry Global
+  pub own_listed : IsHeldListing (parts_of rs) moment user (own_held (parts_of rs) space) (map entry_of own.items)
+  pub gained : Vec NewEntry Global
+  pub gained_listed : IsHeldListing (parts_of rs) moment user (gained_held (parts_of rs) space parent) (map entry_of gained.items)
+  pub are : edits ≡ merge_edits asked even space.number parent.number own gained
+
+-- there are none, or they do one of the two
+pub data AreNets (rs : List Stored) (workspace : List ℕ) (edits : List Edit) : Type 0 where
+  Nothing : edits ≡ [] → AreNets rs workspace edits
+  Refresh : AreRefresh rs workspace edits → AreNets rs workspace edits
+  Merge : AreMerge rs workspace edits → AreNets rs workspace edits

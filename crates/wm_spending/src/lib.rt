@@ -1,0 +1,2 @@
+//! What a merge or a refresh of a workspace costs: no more records than its stretches allow. Laws alone.
+#![tactic(auto)]

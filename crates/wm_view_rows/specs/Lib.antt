@@ -1,0 +1,6 @@
+pub mod Views
+pub mod Columns
+pub mod Rows
+pub mod Given
+pub mod Conflicts
+pub mod History

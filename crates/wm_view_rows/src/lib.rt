@@ -1,0 +1,7 @@
+//! Views of a table: its conflicts and its history. What a name says of a source, its columns, and the rows of views as
+//! they are made of what stands.
+#![tactic(auto)]
+
+pub mod columns;
+pub mod rows;
+pub mod view;

@@ -1,0 +1,32 @@
+-- What a session looks at, as the code has it, and what a query answers over that.
+use Rattle.std.specs.Prelude.{◌≡◌, List, Option, Some, None}
+use Rattle.wm_base.specs.declared.listing.Listing.{Listing as Source}
+use Rattle.wm_base.specs.Trees.{Query}
+use Rattle.wm_graph.specs.Parts.{Parts}
+use Rattle.wm_model.specs.Sources as sources
+use Rattle.wm_model.specs.Sources.{AreListed}
+use Rattle.wm_model.specs.Step.{answer_rows, within}
+use Rattle.wm_print.specs.Texts.{Answer}
+use Rattle.wm_select.specs.Query.{answer_of}
+use Rattle.wm_spec.specs.declared.record.space.Space.{Space}
+use Rattle.wm_spec.specs.declared.record.table.Table.{Table}
+use Rattle.wm_views.specs.declared.looking.Family.{Family}
+use Rattle.wm_views.specs.declared.looking.Look.{Look}
+
+abbrev pub family_view : Option Family → Option (Space × Space)
+family_view None = None
+family_view (Some f) = Some (f.space.now, f.parent.now)
+
+abbrev pub look_view : Look → sources.Look
+look_view l = record {
+  version = l.version;
+  period = λ (t : Table). within l.moment l.session.now t;
+  home = l.home.now;
+  family = family_view l.family;
+}
+
+-- what the query answers over all that the sources show
+pub record IsAnswered (p : Parts) (look : sources.Look) (tables : List Table) (query : Query) (answer : Answer) : Type 0 where
+  pub listings : List Source
+  pub listed : AreListed p look tables query.sources listings
+  pub is : answer ≡ answer_rows (answer_of query listings)
