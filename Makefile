@@ -49,6 +49,8 @@ demo: build/wm
 	cmp build/survey.answers examples/survey.answers
 	build/wm build/demo.store run --now 2024-08-01 < examples/plans.wm | tee build/plans.answers
 	cmp build/plans.answers examples/plans.answers
+	build/wm build/demo.store run --now 2024-09-02 < examples/teams.wm | tee build/teams.answers
+	cmp build/teams.answers examples/teams.answers
 
 # The gate leaves the program that it proved in the crate's out/: it is taken from there, and not proved a second time.
 test:

@@ -70,6 +70,22 @@ B: EXECUTE DBMS_WM.GotoWorkspace('W')
 B: INSERT INTO EMP VALUES ('Ada', 40, WM_PERIOD(DATE '2021-06-01', DATE '2022-06-01'))
 B: SELECT * FROM EMP_CONF
 B: SELECT * FROM EMP_HIST
+B: EXECUTE DBMS_WM.CommitResolve('W')
+B: EXECUTE DBMS_WM.BeginResolve('W')
+B: EXECUTE DBMS_WM.ResolveConflicts('W', 'BUD', 'ID = 1', 'PARENT')
+A: EXECUTE DBMS_WM.MergeWorkspace('W')
+B: EXECUTE DBMS_WM.RollbackResolve('W')
+B: EXECUTE DBMS_WM.BeginResolve('W')
+B: EXECUTE DBMS_WM.ResolveConflicts('W', 'BUD', 'ID = 1 OR BUD.ID IN (2, 3)', 'PARENT')
+A: UPDATE BUD SET AMT = 13 WHERE ID = 1
+B: EXECUTE DBMS_WM.ResolveConflicts('W', 'BUD', 'ID = 2', 'BASE')
+B: EXECUTE DBMS_WM.ResolveConflicts('W', 'BUD', 'AMT = 10', 'BASE')
+B: EXECUTE DBMS_WM.ResolveConflicts('W', 'EMP', NULL, 'CHILD')
+B: EXECUTE DBMS_WM.CommitResolve('W')
+B: SELECT * FROM BUD_CONF
+A: EXECUTE DBMS_WM.RollbackToSP('LIVE', 'ICP-4')
+B: EXECUTE DBMS_WM.BeginResolve('W')
+B: EXECUTE DBMS_WM.ResolveConflicts('W', 'BUD', '', 'CHILD')
 B: EXECUTE DBMS_WM.SetConflictWorkspace('U')
 A: SELECT NOPE FROM BUD
 A: MERGE

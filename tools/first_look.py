@@ -20,7 +20,7 @@ FOLDER = TOP / "build" / "try"
 STORE, PAGE, CASES = FOLDER / "demo.store", FOLDER / "demo.html", FOLDER / "cases"
 LIMIT = 1_048_576
 EXAMPLES = [("first", "2020-01-01"), ("again", "2020-01-02"), ("budget", "2024-06-01"), ("survey", "2024-07-01"),
-            ("plans", "2024-08-01")]
+            ("plans", "2024-08-01"), ("teams", "2024-09-02")]
 
 
 def write_case(name, script, words):

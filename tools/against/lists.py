@@ -1,4 +1,5 @@
-"""Lists of entries: what they hold at each moment of a key, what of them a merge and a refresh replay, and where two are in conflict.
+"""Lists of entries: what they hold at each moment of a key, what of them a merge and a refresh replay, where two are in conflict, and what is
+decided about that.
 
 What a list holds is a dictionary of tables and keys with the last entry at each moment: entries cut to where they are last, in order of
 time, those that are gone among them."""
@@ -18,6 +19,31 @@ class Entry:
     kind: str  # I, U or D
     moment: Instant
     user: str
+
+
+@dataclass(frozen=True)
+class Mark:
+    """Over a period of a key all that stands in the parent's log before a position is settled."""
+    table: str
+    key: object
+    period: Period
+    position: int
+
+
+@dataclass(frozen=True)
+class Decision:
+    """What becomes of a conflict over a period of a key, as of a position of the parent's log; the entries that are copied for it."""
+    table: str
+    key: object
+    period: Period
+    copies: list
+    position: int
+
+    def beside(self, other):
+        """What is left of it behind a later one."""
+        if (self.table, self.key) != (other.table, other.key) or not self.period.overlaps(other.period):
+            return [self]
+        return [replace(self, period=part, copies=within(self.copies, part)) for part in self.period.outside(other.period)]
 
 
 def copied(held):
@@ -90,13 +116,25 @@ def stamp_at(entries, moment):
     return entry.stamp if entry and entry.row is not None else None
 
 
-def stretches(changes, contents):
-    """Of one key, in order of time: the longest periods at each moment of which all the lists of changes have an entry, and each content has
-    one row or none."""
-    ends = sorted({end for entries in [*changes, *contents] for entry in entries for end in entry.period})
+def within(entries, period):
+    """What of the entries lies in a period."""
+    return [replace(entry, period=entry.period.shared(period)) for entry in entries if entry.period.overlaps(period)]
+
+
+def clash(own, news, settled, moment):
+    """Whether of one key both sides have a change at a moment: the workspace, and its parent's log at a position that is not settled."""
+    mark = entry_at(settled, moment)
+    unsettled = [entry for position, entry in news if mark is None or position >= mark.position]
+    return entry_at(own, moment) is not None and entry_at(unsettled, moment) is not None
+
+
+def stretches(own, news, settled, contents):
+    """Of one key, in order of time: the longest periods at each moment of which both sides clash, and each content has one row or none."""
+    lists = [own, [entry for _, entry in news], settled, *contents]
+    ends = sorted({end for entries in lists for entry in entries for end in entry.period})
     found, stamps = [], None  # of the moments that come before
     for start, till in zip(ends, ends[1:]):
-        here = [stamp_at(entries, start) for entries in contents] if all(entry_at(entries, start) for entries in changes) else None
+        here = [stamp_at(entries, start) for entries in contents] if clash(own, news, settled, start) else None
         if here is not None:
             begun = found.pop().start if here == stamps else start
             found.append(Period(begun, till))
@@ -104,16 +142,13 @@ def stretches(changes, contents):
     return found
 
 
-def conflicts(own, pending, contents, table):
-    """The stretches of a table that both sides changed, by key and time: the key, the period, and the row that each content has, or None."""
-    changes = [over({}, own), over({}, pending)]
-    for key in sorted(changes[0].get(table, {})):
+def conflicts(own, news, settled, contents, table):
+    """The stretches of a table that both sides changed, by key and time: the key, the period, and the row that each content has, or None.
+    'news' has entries of the parent's log with their positions."""
+    for key in sorted({entry.key for entry in own if entry.table == table}):
+        mine = [entry for entry in own if (entry.table, entry.key) == (table, key)]
+        theirs = [(position, entry) for position, entry in news if (entry.table, entry.key) == (table, key)]
         held = [entries_of(content, table, key) for content in contents]
-        for period in stretches([entries_of(change, table, key) for change in changes], held):
+        for period in stretches(mine, theirs, entries_of(settled, table, key), held):
             there = [entry_at(entries, period.start) for entries in held]
             yield key, period, [entry.row if entry else None for entry in there]
-
-
-def first_conflict(own, pending, contents, tables):
-    """The first stretch that both sides changed, as its table, its key and its period; or None."""
-    return next(((table, key, period) for table in tables for key, period, _ in conflicts(own, pending, contents, table)), None)

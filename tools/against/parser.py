@@ -8,18 +8,18 @@ from trees import (
 from values import DATE_FORMS, END, GREATEST, Instant, MASKS, Period, TIMESTAMP_FORMS, instant
 
 NEXT_STAGES = {
-    "UNFREEZEWORKSPACE": "WORKSPACE",
-    "BEGINRESOLVE": "WORKSPACE", "COMMITRESOLVE": "WORKSPACE", "ROLLBACKRESOLVE": "WORKSPACE", "GOTODATE": "IN_DATE",
+    "UNFREEZEWORKSPACE": "WORKSPACE", "GOTODATE": "IN_DATE",
     "FREEZEWORKSPACE": "WORKSPACE FREEZEMODE FREEZEWRITER", "SETLOCKINGON": "LOCKMODE", "SETLOCKINGOFF": "",
     "LOCKROWS": "WORKSPACE TABLE_NAME WHERE_CLAUSE LOCK_MODE", "UNLOCKROWS": "WORKSPACE TABLE_NAME WHERE_CLAUSE",
-    "RESOLVECONFLICTS": "WORKSPACE TABLE_NAME WHERE_CLAUSE KEEP", "SETDIFFVERSIONS": "1 2 3 4",
+    "SETDIFFVERSIONS": "1 2 3 4",
 }
 BUILT = {
     "ENABLEVERSIONING": "TABLE_NAME HIST ISTOPOLOGY VALIDTIME", "CREATEWORKSPACE": "WORKSPACE ISREFRESHED DESCRIPTION",
     "CREATESAVEPOINT": "WORKSPACE SAVEPOINT_NAME DESCRIPTION", "GOTOWORKSPACE": "WORKSPACE", "GOTOSAVEPOINT": "SAVEPOINT_NAME",
     "SETVALIDTIME": "VALIDFROM VALIDTILL", "ROLLBACKTOSP": "WORKSPACE SAVEPOINT_NAME", "REMOVEWORKSPACE": "WORKSPACE",
     "REFRESHWORKSPACE": "WORKSPACE", "MERGEWORKSPACE": "WORKSPACE CREATE_SAVEPOINT REMOVE_WORKSPACE",
-    "SETCONFLICTWORKSPACE": "WORKSPACE",
+    "SETCONFLICTWORKSPACE": "WORKSPACE", "BEGINRESOLVE": "WORKSPACE", "COMMITRESOLVE": "WORKSPACE", "ROLLBACKRESOLVE": "WORKSPACE",
+    "RESOLVECONFLICTS": "WORKSPACE TABLE_NAME WHERE_CLAUSE KEEP",
 }
 PARAMETERS = {procedure: names.split() for procedure, names in (NEXT_STAGES | BUILT).items()}
 VIEWS = ("_CONF", "_DIFF", "_HIST", "_LOCK")
@@ -476,7 +476,7 @@ class Parser:
             raise BadToken(first)
         by_name.remove(parameter)
         if parameter == "WHERE_CLAUSE" and self.next.kind == "text" and self.next.value:
-            self.where_clause(self.next)
+            made.condition = self.where_clause(self.next)
         made.given[parameter] = self.argument_value()
 
     def argument_value(self):
@@ -488,9 +488,11 @@ class Parser:
     def where_clause(self, text):
         inner = Parser(text.value, self.moment)
         try:
-            inner.condition()
+            condition = inner.condition()
             inner.take_kind("end")
         except BadToken:
             raise BadToken(text) from None
         if inner.bad_literals:
             self.bad_literals.append(text.column)
+        self.has_empty_period |= inner.has_empty_period
+        return condition

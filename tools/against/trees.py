@@ -176,3 +176,4 @@ class Select:
 class Call:
     procedure: str
     given: dict = field(default_factory=dict)  # parameter to Constant, in the order of the line
+    condition: object = None  # of the where_clause

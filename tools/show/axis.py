@@ -38,8 +38,9 @@ def hours(begin, till):
         return []
     step = next((step for step in (1, 2, 3, 6, 12) if (till - begin) / timedelta(hours=step) <= MOST), 12)
     first = begin.replace(minute=0, second=0, microsecond=0)
-    found = [first + timedelta(hours=hour) for hour in range(1, 60) if (first.hour + hour) % step == 0]
-    return [(moment, moment.strftime("%m-%d %H:%M")) for moment in found if moment <= till]
+    count = (till - first) // timedelta(hours=1)  # no moment is made behind the last one that there is
+    found = [first + timedelta(hours=hour) for hour in range(1, count + 1) if (first.hour + hour) % step == 0]
+    return [(moment, moment.strftime("%m-%d %H:%M")) for moment in found]
 
 
 def days(begin, till):
@@ -47,8 +48,8 @@ def days(begin, till):
         return []
     step = next((step for step in (1, 2, 7, 14) if (till - begin).days / step <= MOST), 14)
     first = begin.replace(hour=0, minute=0, second=0, microsecond=0)
-    found = [first + timedelta(days=step * count) for count in range(1, 80)]
-    return [(moment, f"{moment:%Y-%m-%d}") for moment in found if moment <= till]
+    found = [first + timedelta(days=step * count) for count in range(1, (till - first).days // step + 1)]
+    return [(moment, f"{moment:%Y-%m-%d}") for moment in found]
 
 
 def months(begin, till):

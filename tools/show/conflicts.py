@@ -2,6 +2,7 @@
 from html import escape
 
 from colours import colour_of
+from overview import settled_told
 from storefile.values import printed
 
 MOST = 200
@@ -33,13 +34,27 @@ def conflict_card(store, space, found):
     return f'<div class="card conflict">{heading}<div class="sides">{"".join(sides)}</div></div>'
 
 
+def settled_card(store):
+    """What was settled, in a list, where there is any."""
+    told = [(space, text) for space in store.spaces.values() for text in settled_told(store, space)]
+    if not told:
+        return []
+    items = "".join(f'<li><span class="space" style="background:{colour_of(space)}">{escape(space.name)}</span> {escape(text)}</li>'
+                    for space, text in told[:MOST])
+    more = f"<p>The first {MOST} of {len(told)} are here.</p>" if len(told) > MOST else ""
+    return ['<div class="card"><h3>Settled</h3><p>It was in conflict, and is settled until the parent changes it again.</p>'
+            f'<ul class="settled">{items}</ul>{more}</div>']
+
+
 def conflicts_section(store, found):
     """What the section says, and its cards."""
+    settled = settled_card(store)
     if not found:
-        return ["None: no workspace and its parent have changed the same key since they last met."]
+        none = "None: what a workspace and its parent have both changed since they last met is settled."
+        return [none if settled else "None: no workspace and its parent have changed the same key since they last met.", *settled]
     told = ("What a workspace and its parent both changed since they last met, as the one was made of the other, refreshed or merged: "
             "as it was then, and as each of them has it now. Marked is what is no more as it was. It counts also where both wrote the "
             "same.")
     if len(found) > MOST:
         told += f" The first {MOST} of {len(found)} are here."
-    return [told, *(conflict_card(store, space, conflict) for space, conflict in found[:MOST])]
+    return [told, *(conflict_card(store, space, conflict) for space, conflict in found[:MOST]), *settled]

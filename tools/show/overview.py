@@ -59,10 +59,11 @@ def facts(store, space):
     """What a workspace's line says behind its name."""
     found = [counted(space.log_length, "change")]
     if space.number != LIVE:
-        conflicts = store.conflicts(space)
+        conflicts, settled = store.conflicts(space), store.settled(space)
         found = [f"made {space.born}", own_told(store, space),
                  f"{counted(store.changes_since(space), 'new change')} in {store.spaces[space.parent].name}",
-                 counted(len(conflicts), "conflict") if conflicts else "no conflict"]
+                 counted(len(conflicts), "conflict") if conflicts else "no conflict",
+                 *([f"{counted(len(settled), 'key')} settled"] if settled else [])]
     return found + ([f"frozen {FREEZES[space.freeze]}"] if space.freeze else [])
 
 
@@ -134,5 +135,17 @@ def conflicts(store):
     return lines if len(lines) > 2 else lines + ["  nothing"]
 
 
+def settled_told(store, space):
+    """The keys whose conflict was settled, each with its periods where the table has valid time."""
+    return [f"{table.name} {printed(key)}" + "".join(f" {period}" for period in periods if table.is_valid)
+            for table, key, periods in store.settled(space)]
+
+
+def settled(store):
+    """What resolves have settled, where there is any."""
+    told = [f"  {space.name} and {store.spaces[space.parent].name}: {text}" for space in store.spaces.values() for text in settled_told(store, space)]
+    return ["", "What was in conflict and is settled, until the parent changes it again", *told] if told else []
+
+
 def overview(path, store, most):
-    return [*head(path, store), *tables(store), *workspaces(store), *log(store, most), *conflicts(store)]
+    return [*head(path, store), *tables(store), *workspaces(store), *log(store, most), *conflicts(store), *settled(store)]

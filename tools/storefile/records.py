@@ -109,7 +109,7 @@ class Touch(Trace):
 
 
 class Mark(Trace):
-    """Cells that a workspace has settled with its parent."""
+    """Cells whose conflict with the parent was settled: what its log holds there below the position."""
 
 
 class Lock(NamedTuple):

@@ -5,7 +5,7 @@ from pathlib import Path
 from typing import NamedTuple
 
 from .pages import Damaged, Pages
-from .records import Counters, Hist, Piece, Row, Savepoint, Space, Table, Touch, Turn, Version, records_of
+from .records import Counters, Hist, Mark, Piece, Row, Savepoint, Space, Table, Touch, Turn, Version, records_of
 from .use import has_a_run
 from .values import in_order
 
@@ -56,6 +56,7 @@ class Store:
         self.rows = {row.stamp: row.values for row in by_kind[Row]}
         self.history = sorted(by_kind[Hist], key=lambda entry: (entry.space, entry.position))
         self.touches = sorted(by_kind[Touch], key=lambda touch: (touch.space, touch.place, touch.position))
+        self.marks = sorted(by_kind[Mark], key=lambda mark: (mark.space, mark.place, mark.position))
         self.turns = sorted(by_kind[Turn])
         self.pieces = defaultdict(list)
         for piece in by_kind[Piece]:
@@ -66,8 +67,8 @@ class Store:
 
     def test_references(self, pieces):
         """Looks at what the questions below rely on. The rest of the rules over all records is the program's to test."""
-        found = [self.tables[part.cells.table] for part in [*pieces, *self.history, *self.touches]]
-        found += [self.spaces[part.space] for part in [*self.savepoints, *self.history, *self.touches, *self.turns]]
+        found = [self.tables[part.cells.table] for part in [*pieces, *self.history, *self.touches, *self.marks]]
+        found += [self.spaces[part.space] for part in [*self.savepoints, *self.history, *self.touches, *self.marks, *self.turns]]
         found += [self.spaces[space.parent] for space in self.spaces.values()]
         found += [self.rows[part.stamp] for part in [*pieces, *self.history] if not part.is_gone]
         found += [self.path(version) for version in self.versions]
@@ -143,10 +144,14 @@ class Store:
         """The cells that the workspace changed, or that were merged into it, and that it did not merge."""
         return [piece.cells for version in self.own_path(space) for piece in self.pieces[version]]
 
-    def pending(self, space):
-        """The cells that the parent changed since the workspace last looked at its parent."""
+    def news(self, space):
+        """What the parent changed since the workspace last looked at its parent, as touches."""
         touches = self.touches_of(self.spaces[space.parent])
-        return [touch.cells for touch in touches if touch.position >= space.parent_log_length]
+        return [touch for touch in touches if touch.position >= space.parent_log_length]
+
+    def pending(self, space):
+        """The same as cells."""
+        return [touch.cells for touch in self.news(space)]
 
     def changes_since(self, space):
         """How many entries the parent's log has got since then."""
@@ -163,14 +168,43 @@ class Store:
     # What will conflict
 
     def conflicts(self, space):
-        """The longest periods that the workspace and its parent both changed since they last met, by table and key."""
+        """The longest periods that the workspace and its parent both changed since they last met, by table and key, but those that
+        are settled."""
         if space.number not in self.found:
             self.found[space.number] = self.find_conflicts(space) if space.number != LIVE else []
         return self.found[space.number]
 
+    def marks_of(self, space):
+        return [mark for mark in self.marks if mark.space == space.number]
+
+    def unsettled(self, space):
+        """The cells that the parent changed since the workspace last looked at its parent, and behind what was settled of them."""
+        marks = defaultdict(list)
+        for mark in self.marks_of(space):
+            marks[mark.cells.table, mark.cells.key].append(mark)
+        found = []
+        for touch in self.news(space):
+            parts = [touch.cells.period]
+            for mark in marks[touch.cells.table, touch.cells.key]:
+                if touch.position < mark.position:
+                    parts = [left for part in parts for left in part.without(mark.cells.period)]
+            found += [touch.cells._replace(period=part) for part in parts]
+        return found
+
+    def settled(self, space):
+        """What was settled and is in no conflict again: for each key, by table, the longest periods."""
+        settled = defaultdict(list)
+        for mark in self.marks_of(space):
+            settled[mark.cells.table, mark.cells.key].append(mark.cells.period)
+        for conflict in self.conflicts(space):
+            cell = conflict.table.number, conflict.key
+            settled[cell] = [left for period in settled[cell] for left in period.without(conflict.period)]
+        return [(self.tables[table], key, joined(periods)) for (table, key), periods in
+                sorted(settled.items(), key=lambda item: (item[0][0], in_order(item[0][1]))) if periods]
+
     def find_conflicts(self, space):
         touched = defaultdict(list)
-        for cells in self.pending(space):
+        for cells in self.unsettled(space):
             touched[cells.table, cells.key].append(cells.period)
         shared = defaultdict(list)
         for cells in self.own_cells(space):
@@ -199,6 +233,17 @@ class Store:
             else:
                 found.append(stretch)
         return found
+
+
+def joined(periods):
+    """The longest periods that some periods cover together."""
+    found = []
+    for period in sorted(periods):
+        if found and period.begin <= found[-1].till:
+            found[-1] = found[-1]._replace(till=max(found[-1].till, period.till))
+        else:
+            found.append(period)
+    return found
 
 
 def stamps(conflict):

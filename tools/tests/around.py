@@ -9,7 +9,7 @@ from pathlib import Path
 TOP = Path(__file__).resolve().parents[2]
 PROGRAM = os.environ.get("WM", str(TOP / "build" / "wm"))
 EXAMPLES = [("first", "2020-01-01"), ("again", "2020-01-02"), ("budget", "2024-06-01"), ("survey", "2024-07-01"),
-            ("plans", "2024-08-01")]
+            ("plans", "2024-08-01"), ("teams", "2024-09-02")]
 TUTORIAL = [("planner", "2024-06-01"), ("surveyor", "2024-06-01"), ("officer", "2024-06-01")]
 
 

@@ -1,4 +1,4 @@
-"""Random scripts that make workspaces, savepoints and rows over periods, refresh, merge, go back and remove, and are mostly accepted."""
+"""Random scripts that make workspaces, savepoints and rows over periods, refresh, merge, resolve, go back and remove, and are mostly accepted."""
 import random
 
 # Whether a table has valid time, and its history.
@@ -28,6 +28,8 @@ class Writer:
         return self.random.choice(["", " WHERE ID = {}".format(self.random.randrange(6)), " WHERE X > 5", " WHERE NOTE IS NULL"])
 
     def line(self):
+        if len(self.workspaces) > 1 and self.random.random() < 0.08:
+            return self.resolve_lines(self.random.choice("AB"))
         pick, session = self.random.random(), self.random.choice("AB")
         table, number = self.random.choice(list(TABLES)), self.random.randrange(6)
         if pick < 0.26:
@@ -72,6 +74,19 @@ class Writer:
             return f"{session}: EXECUTE DBMS_WM.RefreshWorkspace('{workspace}')"
         return f"{session}: EXECUTE DBMS_WM.MergeWorkspace('{workspace}'{self.random.choice(BESIDES)})"
 
+    def resolve_lines(self, session):
+        """A resolve of a workspace, with a decision on most tables. Now and then it stays open, or is given up."""
+        workspace = self.random.choice(self.workspaces[1:])
+        lines = [f"{session}: EXECUTE DBMS_WM.BeginResolve('{workspace}')"]
+        for table in TABLES:
+            clause = self.random.choice(["", "", "ID > {}", "ID = {}"]).format(self.random.randrange(6))
+            keep = self.random.choice(["PARENT", "CHILD", "CHILD", "BASE"])
+            lines.append(f"{session}: EXECUTE DBMS_WM.ResolveConflicts('{workspace}', '{table}', '{clause}', '{keep}')")
+        word = self.random.choice(["Commit"] * 8 + ["Rollback"])
+        return "\n".join(lines + [f"{session}: EXECUTE DBMS_WM.{word}Resolve('{workspace}')"] * (self.random.random() < 0.9))
+
     def script(self, length):
         self.lines += [self.line() for _ in range(length)]
+        # What is settled stands in the store until the next merge.
+        self.lines += [self.resolve_lines("A") for _ in range(2 * (len(self.workspaces) > 1))]
         return "".join(line + "\n" for line in self.lines).encode()

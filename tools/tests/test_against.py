@@ -18,6 +18,8 @@ sys.path.remove(FOLDER)
 from play_cases import fits, read_case
 
 CHANGES = {"cut", "poke", "set", "add"}
+# Some lines of the random scripts are a deep tree.
+sys.setrecursionlimit(100_000)
 
 
 def begun(reference, now):
@@ -69,6 +71,10 @@ def lengths_of(workspace):
     return lengths
 
 
+def marks_of(settled):
+    return [mark for keys in settled.values() for marks in keys.values() for mark in marks]
+
+
 class Reading(unittest.TestCase):
     def test_cases(self):
         for path in sorted((TOP / "cases").rglob("*.case")):
@@ -104,5 +110,34 @@ class Reading(unittest.TestCase):
                 self.assertEqual(workspace.log_from, workspace.turns[-1][0])
                 # What a workspace saw of its parent is what stood in it at that length of its log.
                 self.assertEqual(lengths_of(by_number[workspace.parent])[workspace.log_from], alike(workspace.base))
+            self.look_at_marks(workspace, by_number.get(workspace.parent))
+        self.look_at_resolves(reference)
         for session in reference.sessions.values():
             self.assertIn(session.savepoint, [None, *reference.workspaces[session.workspace].savepoints])
+
+    def look_at_marks(self, workspace, parent):
+        """Marks lie on what is the workspace's own, and speak of the parent's log as it is. Those of a savepoint are still there, or later ones."""
+        marks = marks_of(workspace.settled)
+        for mark in marks:
+            self.assertEqual(mark.period.beside([entry.period for entry in workspace.own if (entry.table, entry.key) == (mark.table, mark.key)]), [])
+            self.assertTrue(workspace.log_from < mark.position <= len(parent.log))
+        for point in workspace.savepoints.values():
+            for kept in marks_of(point.settled) if point.rebases == workspace.rebases else []:
+                mine = [mark for mark in marks if (mark.table, mark.key) == (kept.table, kept.key) and mark.position >= kept.position]
+                self.assertEqual(kept.period.beside([mark.period for mark in mine]), [])
+
+    def look_at_resolves(self, reference):
+        """One session alone has a resolve of a workspace open. What it decided is in conflict until it commits, and later than what was settled."""
+        names = [session.resolve for session in reference.sessions.values() if session.resolve]
+        self.assertEqual(len(names), len(set(names)))
+        for session in reference.sessions.values():
+            workspace, decisions = reference.workspaces.get(session.resolve), session.decisions
+            self.assertEqual((workspace is None, decisions if workspace is None else []), (session.resolve is None, []))
+            for place, one in enumerate(decisions):
+                self.assertLessEqual(one.position, len(reference.parent_of(workspace).log))
+                torn = [period for key, period, _ in reference.conflicts(workspace, one.table) if key == one.key]
+                self.assertEqual(one.period.beside(torn), [])
+                for mark in marks_of(workspace.settled) + decisions[:place]:
+                    if (mark.table, mark.key) == (one.table, one.key) and mark.period.overlaps(one.period):
+                        self.assertLess(mark.position, one.position)
+                        self.assertNotIn(mark, decisions)

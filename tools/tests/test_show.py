@@ -71,8 +71,8 @@ def answered(table, key, period, values, before, behind):
 
 
 def cells_in_conflict(found, space):
-    """What both have touched, by key. Of a workspace that was never refreshed or merged this is all that is in conflict; of
-    others it may be more, for touches stay of what was brought."""
+    """What both have touched, by key. Of a workspace that was never refreshed, merged or resolved this is all that is in
+    conflict; of others it may be more, for touches stay of what was brought, and what was settled is in none."""
     inside = {}
     for ours in found.touches_of(space):
         for theirs in found.pending(space):
@@ -162,6 +162,7 @@ class Contents(WithFolder):
                 self.touches(found)
                 self.turns(found)
                 self.conflicts(found)
+                self.marks(found)
                 self.refreshes(found)
 
     def test_undone(self):
@@ -195,6 +196,34 @@ class Contents(WithFolder):
             said = tool("show", self.store).stdout
             self.assertIn(f"W: made 2024-01-01 00:00:00, {told} in LIVE, no conflict", said)
         self.assertIn("'ICP-2' 2024-01-01 00:00:00 (made for a workspace or a merge)", said)
+
+    def test_settled(self):
+        """What a resolve has settled is no conflict, until the parent changes it again; a merge forgets it."""
+        lines = ["CREATE TABLE T (ID NUMBER PRIMARY KEY, N NUMBER)", "EXECUTE DBMS_WM.EnableVersioning('T', validTime => TRUE)",
+                 "EXECUTE DBMS_WM.SetValidTime(DATE '2020-01-01', DATE '2022-01-01')", "INSERT INTO T VALUES (1, 0)",
+                 "INSERT INTO T VALUES (2, 0)", "EXECUTE DBMS_WM.CreateWorkspace('W')", "UPDATE T SET N = 1",
+                 "EXECUTE DBMS_WM.GotoWorkspace('W')", "UPDATE T SET N = 2", "EXECUTE DBMS_WM.BeginResolve('W')",
+                 "EXECUTE DBMS_WM.ResolveConflicts('W', 'T', 'ID = 1', 'CHILD')", "EXECUTE DBMS_WM.CommitResolve('W')",
+                 "EXECUTE DBMS_WM.GotoWorkspace('LIVE')", "EXECUTE DBMS_WM.SetValidTime(DATE '2020-01-01', DATE '2021-01-01')",
+                 "UPDATE T SET N = 3 WHERE ID = 1", "EXECUTE DBMS_WM.BeginResolve('W')",
+                 "EXECUTE DBMS_WM.ResolveConflicts('W', 'T', '', 'PARENT')", "EXECUTE DBMS_WM.CommitResolve('W')",
+                 "EXECUTE DBMS_WM.MergeWorkspace('W')"]
+        years = {2020: "[2020-01-01 00:00:00, 2021-01-01 00:00:00)", 2021: "[2021-01-01 00:00:00, 2022-01-01 00:00:00)",
+                 "both": "[2020-01-01 00:00:00, 2022-01-01 00:00:00)"}
+        for count, facts, settled in ((11, "2 conflicts", []), (12, "1 conflict, 1 key settled", [f"T 1 {years['both']}"]),
+                                      (15, "2 conflicts, 1 key settled", [f"T 1 {years[2021]}"]),
+                                      (18, "no conflict, 2 keys settled", [f"T 1 {years['both']}", f"T 2 {years['both']}"]),
+                                      (19, "no conflict", [])):
+            self.store.unlink(missing_ok=True)
+            script = "CONNECT A ANN\n" + "".join(f"A: {line}\n" for line in lines[:count])
+            self.assertNotIn(b"WM-", run(made(self.store), "2024-01-01", script.encode()).stdout)
+            text, page = shown(self.store, opened(self.store), 20, 40)
+            self.assertIn(f" in LIVE, {facts}\n", text)
+            self.assertEqual([line[2:] for line in text.splitlines() if line.startswith("  W and LIVE: ") and line[14:] in settled],
+                             [f"W and LIVE: {cell}" for cell in settled])
+            self.assertEqual("is settled, until" in text, bool(settled))
+            self.assertEqual("<h3>Settled</h3>" in page, bool(settled))
+            self.assertEqual([cell for cell in settled if f"</span> {cell}</li>" not in page], [])
 
     def histories(self, found):
         """Each entry of a log has a stamp that was given, and a position in it: of a table with history each is kept, and of
@@ -250,10 +279,23 @@ class Contents(WithFolder):
                 told.setdefault((conflict.table.number, conflict.key), []).append(tuple(conflict.period))
             told = {cell: covered(periods) for cell, periods in told.items()}
             wanted = {cell: covered(periods) for cell, periods in cells_in_conflict(found, space).items()}
-            if space.rebases:
+            if space.rebases or found.marks_of(space):
                 self.assertTrue(lies_within(told, wanted))
             else:
                 self.assertEqual(told, wanted)
+
+    def marks(self, found):
+        """What was settled is the workspace's own, and changed in the parent, which has not gone back behind it. None of one place
+        is over another."""
+        for space in found.spaces.values():
+            marks = found.marks_of(space)
+            self.assertTrue(all(space.parent_log_length < mark.position <= found.spaces[space.parent].log_length for mark in marks))
+            inside = by_key(mark.cells for mark in marks)
+            self.assertTrue(lies_within(inside, by_key(found.own_cells(space))))
+            self.assertTrue(lies_within(inside, by_key(found.pending(space))))
+            for one, other in combinations(marks, 2):
+                if (one.place, *one.cells[:2]) == (other.place, *other.cells[:2]):
+                    self.assertIsNone(one.cells.period.overlap(other.cells.period))
 
     def refreshes(self, found):
         """The program tells the first conflict of each workspace, or refreshes it. Children are asked before their parents, whose

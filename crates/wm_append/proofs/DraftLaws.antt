@@ -12,10 +12,12 @@ use Rattle.wm_spec.specs.declared.record.Record.{Record}
 use Rattle.wm_spec.specs.declared.record.Record.TheVariants as records
 use Rattle.wm_spec.specs.declared.record.piece.PieceRecord.{PieceRecord}
 use Rattle.wm_spec.specs.declared.record.stored.Stored.{Stored}
+use Rattle.wm_spec.specs.declared.record.trace.Trace.{Trace}
 use Rattle.wm_graph.specs.Rules.{as_drawn}
 use Rattle.wm_state.specs.Batches.{is_out}
 use Rattle.wm_state.specs.ById.{Ascend}
 use Rattle.wm_state.specs.Drawing.{left_by}
+use Rattle.wm_state.specs.Touching.{drawn_as}
 use Rattle.wm_index.specs.Kinds.{kind_at}
 use Rattle.wm_index.specs.Sought.{Sought, ids_with, is_sought}
 use Rattle.wm_changes.proofs.Dropping.{filter-with}
@@ -30,17 +32,10 @@ use Rattle.wm_append.specs.declared.redraw.layer.Layer.TheVariants as layers
 
 -- ---- the ids of a key
 
--- those that are drawn for a key are found for it
-pub layer_placed : (layer : Layer) (table : ℕ) (key : List Value) → IsPlaced (view_of layer) (sought_in layer table key) table key
-layer_placed layers.Pieces table key (records.Piece y) x is = ap (λ (z : PieceRecord). (z.cells.table == table) && is_eq (key_order z.cells.key key)) (same is)
-  where
-    same : Some y ≡ Some x → y ≡ x
-    same e = cc
-layer_placed layers.Pieces table key _ x is = absurd (none_some is)
-  where
-    none_some : (let none : Option PieceRecord = None in none) ≡ Some x → ⊥
-    none_some e = cc
-layer_placed (layers.Touches n) table key (records.Touch y) x is = by_space (y.space == n) is
+-- a touch or a mark that is drawn is of the table and the key of what it is drawn as
+trace_placed : (n : ℕ) (y : Trace) (table : ℕ) (key : List Value) (x : PieceRecord) → drawn_as n y ≡ Some x
+    → ((y.cells.table == table) && is_eq (key_order y.cells.key key)) ≡ ((x.cells.table == table) && is_eq (key_order x.cells.key key))
+trace_placed n y table key x is = by_space (y.space == n) is
   where
     by_space : (b : Bool) → then_some b (as_drawn y) ≡ Some x → ((y.cells.table == table) && is_eq (key_order y.cells.key key)) ≡ ((x.cells.table == table) && is_eq (key_order x.cells.key key))
     by_space true e = ap (λ (z : PieceRecord). (z.cells.table == table) && is_eq (key_order z.cells.key key)) (same e)
@@ -51,7 +46,24 @@ layer_placed (layers.Touches n) table key (records.Touch y) x is = by_space (y.s
       where
         none_some : (let none : Option PieceRecord = None in none) ≡ Some x → ⊥
         none_some h = cc
+
+-- those that are drawn for a key are found for it
+pub layer_placed : (layer : Layer) (table : ℕ) (key : List Value) → IsPlaced (view_of layer) (sought_in layer table key) table key
+layer_placed layers.Pieces table key (records.Piece y) x is = ap (λ (z : PieceRecord). (z.cells.table == table) && is_eq (key_order z.cells.key key)) (same is)
+  where
+    same : Some y ≡ Some x → y ≡ x
+    same e = cc
+layer_placed layers.Pieces table key _ x is = absurd (none_some is)
+  where
+    none_some : (let none : Option PieceRecord = None in none) ≡ Some x → ⊥
+    none_some e = cc
+layer_placed (layers.Touches n) table key (records.Touch y) x is = trace_placed n y table key x is
 layer_placed (layers.Touches n) table key _ x is = absurd (none_some is)
+  where
+    none_some : (let none : Option PieceRecord = None in none) ≡ Some x → ⊥
+    none_some e = cc
+layer_placed (layers.Marks n) table key (records.Mark y) x is = trace_placed n y table key x is
+layer_placed (layers.Marks n) table key _ x is = absurd (none_some is)
   where
     none_some : (let none : Option PieceRecord = None in none) ≡ Some x → ⊥
     none_some e = cc

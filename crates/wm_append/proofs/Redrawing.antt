@@ -49,7 +49,7 @@ less Less e = refl
 less Equal e = absurd (bool_apart (sym e))
 less Greater e = absurd (bool_apart (sym e))
 
-spot_total : IsTotalOrder spot_order
+pub spot_total : IsTotalOrder spot_order
 spot_total = then_total (on_total (λ (c : CellRange). c.table) nat_cmp_total) (on_total (λ (c : CellRange). c.key) key_order_total)
 
 below_more : (a b c : CellRange) → is_lt (spot_order a b) ≡ true → is_lt (spot_order b c) ≡ true → is_lt (spot_order a c) ≡ true

@@ -1,4 +1,4 @@
-//! What becomes of pieces, or of touches as pieces, where new ones come over them.
+//! What becomes of pieces, or of touches or marks as pieces, where new ones come over them.
 
 ghost use Rattle.std.specs.Prelude.{◌≡◌, ◌≤◌, ◌+◌, ◌*◌, ◌∷◌, [], ◌++◌, length, true, List, IfOk, OnOk};
 ghost use Rattle.std.specs.List.{filter, flat_map};
@@ -16,8 +16,9 @@ ghost use Rattle.wm_state.specs.Drawing.{has_moments, left_by};
 mod layer;
 mod over;
 
-pub use crate::redraw::layer::Layer;
-use crate::redraw::layer::{drawn_as, ids_in, is_own, is_touched};
+use crate::redraw::layer::{ids_in, is_own, is_touched};
+pub use crate::redraw::layer::{Layer, drawn_as};
+pub use crate::redraw::over::all_left;
 use crate::redraw::over::lay_over;
 use std::alloc::Global;
 use wm_base::Memory;
@@ -74,7 +75,7 @@ fn pieces_at(
 }
 
 /// Puts pieces behind others.
-fn append(pieces: &mut Vec<PieceRecord>, more: Vec<PieceRecord>) -> Result<(), Memory>
+pub fn append(pieces: &mut Vec<PieceRecord>, more: Vec<PieceRecord>) -> Result<(), Memory>
     ensures { OnOk result (pieces.new.items ≡ pieces.old.items ++ more.items) }
 {
     for piece in more {

@@ -6,7 +6,7 @@ use Rattle.wm_base.specs.declared.tree.statement.ArgValue.{ArgValue}
 use Rattle.wm_base.specs.declared.tree.statement.Arg.{Arg}
 use Rattle.wm_grammar.specs.declared.procedure.Procedure.{Procedure}
 use Rattle.wm_grammar.specs.declared.procedure.Parameter.{Parameter}
-use Rattle.wm_grammar.specs.Calls.{is_among}
+use Rattle.wm_grammar.specs.Calls.{is_among, is_some_same}
 use Rattle.wm_calls.specs.Takes.{takes_of, parameter_name, fits}
 use Rattle.wm_calls.specs.Places.{is_diff, parameter_at, required_of}
 use Rattle.wm_calls.specs.Arguments.{argument}
@@ -31,6 +31,19 @@ missing procedure args = if is_diff procedure then None else find (λ p. is_none
 -- the parameter whose value does not fit, the first in the line, or else the first that is missing
 unfoldable pub faulty_parameter : Procedure → List Arg → Option Parameter
 faulty_parameter procedure args = option_or (misfit_from procedure (length args) 0 args) (missing procedure args)
+
+-- the parameter of the argument at a place is this one
+abbrev pub is_given_for : Procedure → ℕ → Parameter → ℕ → Arg → Bool
+is_given_for procedure count p place a = is_some_same (parameter_at procedure count place a) p
+
+-- the arguments from a place on, in a call with so many, that stand before the one for a parameter
+abbrev pub before_from : Procedure → Parameter → ℕ → ℕ → List Arg → List Arg
+before_from procedure p count place [] = []
+before_from procedure p count place (a ∷ rest) = if is_given_for procedure count p place a then [] else a ∷ before_from procedure p count (place + 1) rest
+
+-- the name of the first parameter whose value does not fit, of those that are given before this one
+abbrev pub misfit_before : Procedure → Parameter → List Arg → Option (List ℕ)
+misfit_before procedure p args = option_map parameter_name (misfit_from procedure (length args) 0 (before_from procedure p (length args) 0 args))
 
 -- its name in capitals
 abbrev pub argument_fault : Procedure → List Arg → Option (List ℕ)

@@ -20,6 +20,10 @@ is_later_procedure procedures.RemoveWorkspace = false
 is_later_procedure procedures.RefreshWorkspace = false
 is_later_procedure procedures.MergeWorkspace = false
 is_later_procedure procedures.SetConflictWorkspace = false
+is_later_procedure procedures.BeginResolve = false
+is_later_procedure procedures.ResolveConflicts = false
+is_later_procedure procedures.CommitResolve = false
+is_later_procedure procedures.RollbackResolve = false
 is_later_procedure _ = true
 
 abbrev pub is_later_name : Option Procedure → Bool

@@ -1,11 +1,11 @@
 ghost use Rattle.std.specs.Prelude.{◌≡◌, List, length};
 ghost use Rattle.std.specs.Option.{option_map};
 ghost use Rattle.wm_calls.specs.Takes.{parameter_name};
-ghost use Rattle.wm_calls.specs.Faults.{fits_parameter, misfit, misfit_from, missing, faulty_parameter, argument_fault};
+ghost use Rattle.wm_calls.specs.Faults.{fits_parameter, misfit, misfit_from, missing, faulty_parameter, misfit_before, argument_fault};
 
 use crate::arguments::argument;
 use crate::fits::fits;
-use crate::places::{is_among, is_diff, parameter_at, required_of};
+use crate::places::{is_among, is_diff, is_that, parameter_at, required_of};
 use crate::takes::takes_of;
 use wm_base::tree::statement::{Arg, ArgValue};
 use wm_grammar::{Parameter, Procedure};
@@ -47,6 +47,23 @@ fn first_misfit(procedure: Procedure, args: &[Arg]) -> Option<Parameter>
     for (place, arg) in args.iter().enumerate() {
         let parameter = parameter_at(procedure, count, place, arg);
         if let Some(one) = misfit(procedure, count, parameter, &arg.value) {
+            return Some(one);
+        }
+    }
+    None
+}
+
+/// The first parameter whose value does not fit, of those that are given before this one.
+pub fn misfit_before(procedure: Procedure, parameter: Parameter, args: &[Arg]) -> Option<Parameter>
+    ensures { option_map parameter_name result ≡ misfit_before procedure parameter args.now }
+{
+    let count = args.len();
+    for (place, arg) in args.iter().enumerate() {
+        let given = parameter_at(procedure, count, place, arg);
+        if is_that(given, parameter) {
+            return None;
+        }
+        if let Some(one) = misfit(procedure, count, given, &arg.value) {
             return Some(one);
         }
     }

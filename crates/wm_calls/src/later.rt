@@ -23,7 +23,11 @@ fn is_later_procedure(procedure: Procedure) -> bool
         | Procedure::RemoveWorkspace
         | Procedure::RefreshWorkspace
         | Procedure::MergeWorkspace
-        | Procedure::SetConflictWorkspace => false,
+        | Procedure::SetConflictWorkspace
+        | Procedure::BeginResolve
+        | Procedure::ResolveConflicts
+        | Procedure::CommitResolve
+        | Procedure::RollbackResolve => false,
         _ => true,
     }
 }

@@ -12,6 +12,6 @@ mod takes;
 
 pub use arguments::{argument, is_true_given, moment_given, text_given};
 pub use empty::has_empty_period;
-pub use faults::argument_fault;
+pub use faults::{argument_fault, misfit_before};
 pub use later::is_later;
 pub use takes::parameter_name;

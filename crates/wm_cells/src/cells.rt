@@ -1,7 +1,7 @@
 //! The rules of the cells that a record speaks of.
 ghost use Rattle.std.specs.Prelude.{◌≡◌};
 ghost use Rattle.wm_cells.specs.Lookups.{found};
-ghost use Rattle.wm_graph.specs.Rules.{is_typed, are_typed, is_key_of, are_cells, values_at, is_key, is_row_at};
+ghost use Rattle.wm_graph.specs.Rules.{is_typed, are_typed, is_key_of, are_cells, values_at, key_of, is_key, is_row_at};
 ghost use Rattle.wm_cells.specs.Pairs.{is_at};
 
 use crate::index::{self, Index};
@@ -36,7 +36,7 @@ fn are_typed(columns: &[TableColumn], places: &[u8], values: &[Value]) -> bool
 }
 
 /// Whether it may be the key of a row of the table.
-fn is_key_of(table: &Table, key: &Key) -> bool
+pub fn is_key_of(table: &Table, key: &Key) -> bool
     ensures { result ≡ is_key_of key.now table.now }
 {
     weights::weigh_at_most(key.values(), HEAVIEST_KEY)
@@ -86,6 +86,13 @@ fn are_at(values: &[Value], places: &[u8], key: &[Value]) -> bool
     true
 }
 
+/// Whether these values of a row of the table have the key.
+pub fn has_this_key(table: &Table, key: &Key, values: &[Value]) -> bool
+    ensures { result ≡ is_key key.now (key_of table.now values.now) }
+{
+    rows::has_key(table) && are_at(values, table.key_columns.as_slice(), key.values())
+}
+
 /// Whether the row is of the table of the cells and has their key.
 pub fn is_row_at(tables: &Index<Table>, cells: &CellRange, row: &RowRecord) -> bool
     ensures { result ≡ is_row_at (found tables.now.entries) cells.now row.now }
@@ -96,10 +103,5 @@ pub fn is_row_at(tables: &Index<Table>, cells: &CellRange, row: &RowRecord) -> b
     let Some(table) = index::look(tables, u64::from(cells.table)) else {
         return false;
     };
-    rows::has_key(table)
-        && are_at(
-            row.values.as_slice(),
-            table.key_columns.as_slice(),
-            cells.key.values(),
-        )
+    has_this_key(table, &cells.key, row.values.as_slice())
 }

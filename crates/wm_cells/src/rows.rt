@@ -44,7 +44,7 @@ fn has_light_key(table: &Table, values: &[Value]) -> bool
 }
 
 /// Whether these may be the values of a row of the table.
-fn is_row_of(table: &Table, values: &[Value]) -> bool
+pub fn is_row_of(table: &Table, values: &[Value]) -> bool
     ensures { result ≡ is_row_of values.now table.now }
 {
     columns::fit_columns(table.columns.as_slice(), values)

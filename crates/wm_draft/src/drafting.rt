@@ -21,6 +21,7 @@ use wm_lifecycle::tables::{create, enable};
 use wm_replay::gains::gain;
 use wm_replay::rebases::rebase;
 use wm_replay::replays::replay;
+use wm_settle::settles::settle;
 use wm_spec::record::{Batch, Changes};
 use wm_state::edit::{Edit, LINE_WORK};
 
@@ -55,6 +56,7 @@ fn draft_one(
         Edit::Replay { space, entries } => replay(alloc, image, moment, work, space, entries),
         Edit::Gain { space, entries } => gain(alloc, image, moment, work, space, entries),
         Edit::Rebase { space, emptied } => rebase(alloc, image, moment, work, space, emptied),
+        Edit::Settle { space, marks } => settle(alloc, image, moment, work, space, marks),
     }
 }
 

@@ -13,7 +13,7 @@ use Rattle.wm_spec.specs.Lists.{Cell, Entry, Told, told, touched}
 use Rattle.wm_spec.specs.declared.record.savepoint.Savepoint.{Savepoint as Record}
 use Rattle.wm_state.specs.ById.{by_id}
 use Rattle.wm_state.specs.State.{Durable, Workspace, Savepoint, Turn, content, fresh, fresh_live, log_of, savepoint_made, savepoints_of, turn_of, turns_of, workspace_of}
-use Rattle.wm_state.specs.Standing.{Base, Birth, Covers, HasRow, IsReal, Kept, KeptBase, KeptOwn, Names, Newest, Own, Owns, Stands, Tells, Top, fields_in, fields_of, fields_saved, has_history, held_of, latest, logged_as, seen, seen_above, turned_in}
+use Rattle.wm_state.specs.Standing.{Base, Birth, Covers, HasRow, IsReal, IsRealMark, Kept, KeptBase, KeptOwn, Names, Newest, Own, Owns, Stands, Tells, Top, fields_in, fields_of, fields_saved, has_history, held_of, latest, logged_as, seen, seen_above, turned_in}
 use Rattle.wm_store.specs.Fresh.{fresh_records, fresh_counters, live, first_version}
 
 -- the records of a store that was just made
@@ -190,7 +190,8 @@ fresh_stands limit some most = record {
     latest = λ n w is. rw (only_live n w is) (record { reaches = λ c. refl; ends = refl });
     kept = λ n making w k is made. absurd (none_made n making w k is made);
   };
-  later = record { locks = refl; marks = refl };
+  marks = record { same = λ n w place c is. rw (only_live n w is) refl; real = λ n w is. rw (only_live n w is) (All-nil IsRealMark) };
+  later = record { locks = refl };
   hists = record { same = λ n position. ap (λ es. option_and_then (λ (e : Entry). then_some (has_history [] e.table) (logged_as e)) (slice_get es position)) (sym (none_logged n)) };
   entries = record {
     logs = λ n. rw (none_logged n) (All-nil (IsReal []));

@@ -1,14 +1,16 @@
 -- What a file stands for once a line was run over the records that it holds.
 use Rattle.std.proofs.Common.{◌≤◌, ◌+◌, length, ◌≡◌, ℕ, true, List, [], ◌∷◌, ◌⊎◌, inl, inr, refl, sym, ap, subst, ◌∙◌, arith}
 use Rattle.std.specs.List.{list_all}
+use Rattle.wm_decided.specs.Staged.{AreStaged}
 use Rattle.wm_graph.specs.Parts.{parts_of}
 use Rattle.wm_graph.specs.Rules.{keep_rules}
+use Rattle.wm_model.proofs.Lawful.Runs.{lawful_durable}
 use Rattle.wm_model.specs.Lawful.{LawfulState}
 use Rattle.wm_model.specs.Planning.{StandsAt, DoesAt, Seating, seated}
 use Rattle.wm_print.specs.Texts.{Answer, answer_text}
 use Rattle.wm_spec.specs.declared.record.batch.Change.{Change}
 use Rattle.wm_spec.specs.declared.record.stored.Stored.{Stored}
-use Rattle.wm_state.specs.ById.{applied}
+use Rattle.wm_state.specs.ById.{Ascend, applied}
 use Rattle.wm_forked.proofs.FewChanged.{forks_few}
 use Rattle.wm_state.specs.Drafts.{ChangesFew, Drafts, is_fork as is_fork_edit}
 use Rattle.wm_state.specs.Editing.{line_work, drafted as drafted_state}
@@ -19,6 +21,7 @@ use Rattle.wm_station.specs.History.{History}
 use Rattle.wm_station.specs.Moments.{Ended}
 use Rattle.wm_store.specs.declared.store.Store.{Store}
 use Rattle.wm_engine.proofs.Committing.{ended_begun, ended_weaken, holds_weaken}
+use Rattle.wm_engine.proofs.Staging.{staged_behind}
 use Rattle.wm_engine.proofs.Working.{file_stands}
 use Rattle.wm_engine.specs.Keeping.{AreDrafted, HoldsDrafted}
 use Rattle.wm_engine.specs.Working.{FileStands, HoldsSorted, KeepsOver}
@@ -26,7 +29,7 @@ use Rattle.wm_engine.specs.Working.{FileStands, HoldsSorted, KeepsOver}
 -- where nothing was done the file stands for what it stood for
 pub begun_stands : (store : Store) (rs : List Stored) (xs : List Session) (m : ℕ) (h : History) (s t : State) → KeepsOver store rs h → StandsAt rs xs m s → Ended h h (λ file. FileStands file s ⊎ FileStands file t)
 begun_stands store rs xs m h s t works stands =
-    ended_begun h (λ file. FileStands file s ⊎ FileStands file t) (holds_weaken h (λ file. HoldsSorted file rs) (λ file. FileStands file s ⊎ FileStands file t) (λ file holds. inl (file_stands file rs s holds stands.stands stands.lawful.durable)) works.holds)
+    ended_begun h (λ file. FileStands file s ⊎ FileStands file t) (holds_weaken h (λ file. HoldsSorted file rs) (λ file. FileStands file s ⊎ FileStands file t) (λ file holds. inl (file_stands file rs s holds stands.stands (lawful_durable s stands.lawful))) works.holds)
 
 -- records that were made by changes that draft edits
 pub drafted_as : (rs new : List Stored) (m : ℕ) (es : List Edit) (changes : List Change) → Drafts rs m es changes → new ≡ applied changes rs → AreDrafted rs m es new
@@ -60,18 +63,19 @@ kept_stands rs xs m es made seating after answer act old new s does keeps same s
     ended_weaken old new (λ file. HoldsSorted file rs ⊎ HoldsDrafted file rs m made) (λ file. FileStands file s ⊎ FileStands file (act s).0) (λ file. by_side file) ended
   where
     by_side : (file : List ℕ) → HoldsSorted file rs ⊎ HoldsDrafted file rs m made → FileStands file s ⊎ FileStands file (act s).0
-    by_side file (inl holds) = inl (file_stands file rs s holds stands.stands stands.lawful.durable)
-    by_side file (inr h) = inr (file_stands file h.new (act s).0 h.holds (drafted_stands rs h.new xs m es seating after answer act does (subst (λ ds. AreDrafted rs m ds h.new) same h.drafted) s stands) (keeps s stands.lawful).durable)
+    by_side file (inl holds) = inl (file_stands file rs s holds stands.stands (lawful_durable s stands.lawful))
+    by_side file (inr h) = inr (file_stands file h.new (act s).0 h.holds (drafted_stands rs h.new xs m es seating after answer act does (subst (λ ds. AreDrafted rs m ds h.new) same h.drafted) s stands) (lawful_durable (act s).0 (keeps s stands.lawful)))
 
 -- what was kept of a plan does what the plan does
 pub kept_does : (rs new : List Stored) (xs now : List Session) (m moment : ℕ) (es made : List Edit) (seating : Seating) (answer : Answer) (act : State → State × Answer) (bytes : List ℕ) → DoesAt rs xs m es seating moment answer act
-    → ((t : State) → LawfulState t → LawfulState (act t).0) → made ≡ es → AreDrafted rs m made new → now ≡ seated xs seating → bytes ≡ answer_text answer → (s : State) → StandsAt rs xs m s → StandsAt new now moment (act s).0 × (bytes ≡ answer_text (act s).1)
-kept_does rs new xs now m moment es made seating answer act bytes does keeps same drafted sessions says s st = (
+    → ((t : State) → LawfulState t → LawfulState (act t).0) → made ≡ es → Ascend rs → AreDrafted rs m made new → now ≡ seated xs seating → bytes ≡ answer_text answer → (s : State) → StandsAt rs xs m s → StandsAt new now moment (act s).0 × (bytes ≡ answer_text (act s).1)
+kept_does rs new xs now m moment es made seating answer act bytes does keeps same sorted drafted sessions says s st = (
   record {
     stands = drafted_stands rs new xs m es seating moment answer act does (subst (λ ds. AreDrafted rs m ds new) same drafted) s st;
     lawful = keeps s st.lawful;
     sessions_are = sessions ∙ ap (λ ys. seated ys seating) st.sessions_are ∙ ap (λ (r : State × Answer). r.0.sessions) (sym (does.does s st));
     moment_is = ap (λ (r : State × Answer). r.0.moment) (sym (does.does s st));
+    staged = subst (λ (ys : List Session). AreStaged (parts_of new) ys) (sym sessions) (staged_behind rs new xs m made seating s.durable sorted st.stands drafted does.seats st.staged);
   },
   says ∙ ap (λ (r : State × Answer). answer_text r.1) (sym (does.does s st)),
 )

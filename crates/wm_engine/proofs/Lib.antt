@@ -2,6 +2,7 @@ pub mod Committing
 pub mod Fitting
 pub mod DraftsFit
 pub mod Working
+pub mod Staging
 pub mod Keeping
 pub mod Fresh
 pub mod Opening

@@ -1,11 +1,13 @@
 -- What a store that was opened stands for.
 use Rattle.std.proofs.Common.{◌≡◌, ℕ, ◌<◌, ◌&&◌, nat_lt, nat_le, ◌+◌, ◌^◌, max, Bool, true, false, List, [], ◌∷◌, Result, Ok, refl, sym, ap, subst, ◌∙◌, arith}
 use Rattle.std.proofs.lemmas.Bool.Decides.{nat_tests}
+use Rattle.std.proofs.lemmas.List.Elements.{All-nil}
 use Rattle.wm_base.specs.declared.fault.Damage.{Damage}
 use Rattle.wm_base.specs.declared.fault.Damage.TheVariants.{Graph}
 use Rattle.wm_base.specs.declared.fault.OpenFault.TheVariants.{Damaged}
 use Rattle.wm_base.specs.declared.instant.TheConstants.{END}
-use Rattle.wm_graph.specs.Parts.{parts_of}
+use Rattle.wm_decided.specs.Staged.{AreStaged, IsStagedResolve}
+use Rattle.wm_graph.specs.Parts.{Parts, parts_of}
 use Rattle.wm_graph.specs.Rules.{keep_rules, are_counters}
 use Rattle.wm_journal.specs.Disk.{is_made}
 use Rattle.wm_model.specs.Lawful.{Lawful, LawfulState}
@@ -14,7 +16,7 @@ use Rattle.wm_spec.specs.declared.record.counters.Counters.{Counters}
 use Rattle.wm_spec.specs.declared.record.stored.Stored.{Stored}
 use Rattle.wm_state.proofs.Apart.{ruled}
 use Rattle.wm_state.specs.ById.{by_id}
-use Rattle.wm_state.specs.State.{State, begin}
+use Rattle.wm_state.specs.State.{Session, State, begin}
 use Rattle.wm_state.specs.Standing.{Stands}
 use Rattle.wm_store.proofs.Distinct.{held_differ}
 use Rattle.wm_store.specs.Opened.{Held, opened}
@@ -58,7 +60,7 @@ opens_stand file records rs m s held same stands =
     subst (λ xs. Stands (parts_of xs) s.durable) (ap by_id (same_records file stands.records records stands.held held) ∙ sym same) stands.stands
 
 -- no session stands anywhere
-pub opens_lawful : (m : ℕ) (s : State) → Lawful s.durable → LawfulState (begin s m)
+pub opens_lawful : (m : ℕ) (s : State) → Lawful s.durable [] → LawfulState (begin s m)
 unfolding begin
 opens_lawful m s lawful = record { durable = lawful; seats = tt }
 
@@ -71,3 +73,7 @@ opens_at file records rs c m s held same one stands =
 pub opens_none : (m : ℕ) (s : State) → [] ≡ (begin s m).sessions
 unfolding begin
 opens_none m s = refl
+
+-- and nothing is staged
+pub opens_staged : (p : Parts) (xs : List Session) → xs ≡ [] → AreStaged p xs
+opens_staged p xs none = subst (λ (ys : List Session). AreStaged p ys) (sym none) (All-nil (λ (x : Session). IsStagedResolve p x.resolve))

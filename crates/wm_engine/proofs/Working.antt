@@ -1,7 +1,8 @@
 -- An engine that works over a station, and what its file stands for.
-use Rattle.std.proofs.Common.{ℕ, List, subst}
+use Rattle.std.proofs.Common.{ℕ, List, [], subst}
 use Rattle.wm_graph.specs.Parts.{parts_of}
 use Rattle.wm_model.specs.Lawful.{Lawful}
+use Rattle.wm_model.proofs.Lawful.Runs.{lawful_durable}
 use Rattle.wm_spec.specs.declared.record.stored.Stored.{Stored}
 use Rattle.wm_state.specs.State.{State}
 use Rattle.wm_state.specs.Standing.{Stands}
@@ -12,12 +13,12 @@ use Rattle.wm_engine.proofs.Committing.{holds_weaken}
 use Rattle.wm_engine.specs.Working.{Engaged, FileStands, HoldsSorted, StandsFor, WorksOver}
 
 -- a file that holds records stands for the lawful states for which they stand
-pub file_stands : (file : List ℕ) (rs : List Stored) (s : State) → HoldsSorted file rs → Stands (parts_of rs) s.durable → Lawful s.durable → FileStands file s
+pub file_stands : (file : List ℕ) (rs : List Stored) (s : State) → HoldsSorted file rs → Stands (parts_of rs) s.durable → Lawful s.durable [] → FileStands file s
 file_stands file rs s holds stands lawful = record { records = holds.records; held = holds.held; stands = subst (λ xs. Stands (parts_of xs) s.durable) holds.same stands; lawful = lawful }
 
 -- what a read gives, and each file that a crash may leave, stands for what the engine stands for
 pub stands_over : (e : Engaged) (h : History) (s : State) → WorksOver e h → StandsFor e s → Holds h (λ file. FileStands file s)
-stands_over e h s works for = holds_weaken h (λ file. HoldsSorted file e.records) (λ file. FileStands file s) (λ file holds. file_stands file e.records s holds for.stands for.lawful.durable) works.holds
+stands_over e h s works for = holds_weaken h (λ file. HoldsSorted file e.records) (λ file. FileStands file s) (λ file holds. file_stands file e.records s holds for.stands (lawful_durable s for.lawful)) works.holds
 
 -- what is said changes nothing of the file
 pub works_said : (e : Engaged) (h : History) (piece : List ℕ) (n : ℕ) → WorksOver e h → WorksOver e (Said h piece n)

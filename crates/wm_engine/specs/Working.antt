@@ -34,14 +34,16 @@ pub record FileStands (file : List ℕ) (s : State) : Type 0 where
   pub records : List Stored
   pub held : Held records file
   pub stands : Stands (parts_of (by_id records)) s.durable
-  pub lawful : Lawful s.durable
+  pub lawful : Lawful s.durable []
 
--- the engine's records stand for the state, which is lawful, and its sessions and its moment are the state's
+-- the engine's records stand for the state, which is lawful, and its sessions and its moment are the state's; what these have staged can be
+-- committed
 pub record StandsFor (e : Engaged) (s : State) : Type 0 where
   pub stands : Stands (parts_of e.records) s.durable
   pub lawful : LawfulState s
   pub sessions : e.sessions ≡ s.sessions
   pub moment : e.moment ≡ s.moment
+  pub staged : AreStaged (parts_of e.records) e.sessions
 
 -- the file holds these records, in the order of their ids
 pub record HoldsSorted (file : List ℕ) (rs : List Stored) : Type 0 where

@@ -13,7 +13,7 @@ ghost use Rattle.wm_engine.specs.Working.{FileStands, HoldsSorted, IsSound, Leav
 ghost use Rattle.wm_model.specs.Step.Refusing.{refusal_of};
 ghost use Rattle.wm_engine.specs.declared.fault.LineFault.TheVariants as faults;
 ghost use Rattle.wm_prices.specs.Prices.{ChangesAtMost};
-ghost use Rattle.wm_spending.specs.Stretches.{stretch_count};
+ghost use Rattle.wm_spending.specs.Stretches.{mark_count, stretch_count};
 ghost use Rattle.wm_state.specs.Drafts.{ChangesFew};
 ghost use Rattle.wm_state.specs.State.{State, begin, fresh};
 ghost use Rattle.wm_model.specs.Step.{step, answer_text};
@@ -159,8 +159,9 @@ impl Engine {
         ensures rules { OnOk result (keep_rules (parts_of self.new.records) ≡ true) }
         // A line that makes a savepoint or a workspace changes few records, and none of a row, a piece, a touch or an entry of a log.
         ensures few { is_fork (parsed line.now) ≡ true → OnOk result (ChangesFew self.old.records self.new.records) }
-        // A refresh, or a merge that removes nothing, changes eight records at most, and eight for each stretch of what is own or pending.
-        ensures net { (workspace : List ℕ) → nets_into (parsed line.now) ≡ Some workspace → (s : State) → StandsFor self.old s → OnOk result (ChangesAtMost (8 + 8 * stretch_count s workspace) self.old.records self.new.records) }
+        // A refresh, or a merge that removes nothing, changes eight records at most, eight for each stretch of what is own or pending, and each mark
+        // of the workspace.
+        ensures net { (workspace : List ℕ) → nets_into (parsed line.now) ≡ Some workspace → (s : State) → StandsFor self.old s → OnOk result (ChangesAtMost (8 + 8 * stretch_count s workspace + mark_count self.old.records workspace) self.old.records self.new.records) }
         // A line that is refused, that reads, that changes no row, or that says nothing changes no record and no session, and leaves the moment.
         ensures idle { (s : State) → StandsFor self.old s → is_idle (step s line.now).1 ≡ true → OnOk result ((self.new.records ≡ self.old.records) × (self.new.sessions ≡ self.old.sessions) × (self.new.moment ≡ self.old.moment)) }
         // Such a line writes nothing, and syncs nothing.

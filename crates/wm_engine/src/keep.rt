@@ -18,7 +18,7 @@ ghost use Rattle.wm_model.specs.Step.{step, answer_text};
 ghost use Rattle.wm_grammar.specs.Parsed.{parsed};
 ghost use Rattle.wm_print.specs.Texts.{Refused};
 ghost use Rattle.wm_prices.specs.Prices.{ChangesAtMost, Spends};
-ghost use Rattle.wm_spending.specs.Stretches.{stretch_count};
+ghost use Rattle.wm_spending.specs.Stretches.{mark_count, stretch_count};
 ghost use Rattle.wm_state.specs.Drafts.{CanDraft, ChangesFew};
 ghost use Rattle.wm_state.specs.State.{State};
 ghost use Rattle.wm_station.specs.Cause.{Rises};
@@ -106,7 +106,7 @@ pub fn run_line<P: Station>(
     ensures rules { IfOk result (λ k. keep_rules (parts_of k.image) ≡ true) }
     ensures moment { IfOk result (λ k. k.moment < END) }
     ensures few { is_fork (parsed line.now) ≡ true → IfOk result (λ k. ChangesFew image k.image) }
-    ensures net { (workspace : List ℕ) → nets_into (parsed line.now) ≡ Some workspace → IfOk result (λ k. (s : State) → StandsAt image sessions.old.items moment s → ChangesAtMost (8 + 8 * stretch_count s workspace) image k.image) }
+    ensures net { (workspace : List ℕ) → nets_into (parsed line.now) ≡ Some workspace → IfOk result (λ k. (s : State) → StandsAt image sessions.old.items moment s → ChangesAtMost (8 + 8 * stretch_count s workspace + mark_count image workspace) image k.image) }
     ensures idle { IfOk result (λ k. (s : State) → StandsAt image sessions.old.items moment s → is_idle (step s line.now).1 ≡ true → (k.image ≡ image) × (sessions.new.items ≡ sessions.old.items) × (k.moment ≡ moment)) }
     // A line that is refused, that reads, that changes no row, or that says nothing does not touch the file, whatever the result.
     ensures unwritten { P.tells → (s : State) → StandsAt image sessions.old.items moment s → is_idle (step s line.now).1 ≡ true → P.history station.new ≡ P.history station.old }
@@ -133,6 +133,7 @@ pub fn run_line<P: Station>(
         answer,
     } = planned;
     let reply = reply_of(alloc, answer)?;
+    image.law_of_order();
     let image = keep(
         alloc,
         station,

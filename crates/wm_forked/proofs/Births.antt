@@ -120,7 +120,7 @@ FieldsStand-birth p old new front a back place implicit x b r v u parent child k
     mid = record s { spaces = with_space x.space (with_savepoint place implicit k) s.spaces; next_stamp = new.next_stamp; last_moment = new.last_moment; limit = new.limit; work = new.work }
 
 -- a workspace is born where a savepoint was made: its record names the version that the savepoint keeps, and it has the fields of its
--- record, no changes and no savepoints, and for its one turn what the savepoint keeps
+-- record, no changes, savepoints and marks, and for its one turn what the savepoint keeps
 pub record IsBornAt (x : Savepoint) (k : Kept) (r : Space) (u : Turn) (child : Workspace) : Type 0 where
   pub under : r.base_version ≡ x.version
   pub parent : child.parent ≡ x.space
@@ -132,6 +132,7 @@ pub record IsBornAt (x : Savepoint) (k : Kept) (r : Space) (u : Turn) (child : W
   pub own : child.lists.own ≡ []
   pub log : child.lists.log ≡ []
   pub savepoints : child.savepoints ≡ []
+  pub settled : child.settled ≡ []
 
 -- so what it sees of its parent is named by the savepoint
 child_kept : (p q : Parts) (s t : Durable) (place implicit : ℕ) (w child : Workspace) (k : Kept) (x : Savepoint) (r : Space) (u : Turn) → Saved p q x.space place implicit x → SavepointsStand p s → workspace_of s.spaces x.space ≡ Some w
@@ -145,6 +146,7 @@ child_kept p q s t place implicit w child k x r u v stand found fields spaces is
   own = is.own;
   log = is.log;
   savepoints = is.savepoints;
+  settled = is.settled;
   named = Named-as q t _ _ _ _ _ _ _ _ is.under is.parent refl refl
       (KeptAs x.making (with_savepoint place implicit k w) k x (ap (λ ws. workspace_of ws x.space) spaces ∙ has_savepoint x.space place implicit k s.spaces w found)
       (made_new p q s x.space place implicit k x v fields stand w found x.making refl) (saved_as-here p q x.space place implicit x v x.making refl));

@@ -14,7 +14,7 @@ use Rattle.wm_spec.specs.declared.record.trace.Trace.{Trace}
 use Rattle.wm_spec.specs.declared.record.turn.Turn.{Turn as TurnRecord}
 use Rattle.wm_tree.specs.declared.version.Version.{Version as Node}
 use Rattle.wm_state.specs.State.{Durable, Workspace, Savepoint, Turn, content, workspace_of, savepoint_made, turn_of, turns_of, log_of}
-use Rattle.wm_state.specs.Standing.{held_of, fields_of, fields_in, latest, saved_as, newest_first, Up, SpaceFields, HasRows, CountersStand, SpacesStand, FieldsStand, Stands, Names, Newest, Kept, Birth, Base, KeptBase, Tells, NamedStand, Owns, Own, KeptOwn, Covers, OwnsStand, turned, turned_in, turn_at, TurnsStand, TouchesTell, TouchesStand, IsReal, EntriesStand, RowsStand}
+use Rattle.wm_state.specs.Standing.{held_of, fields_of, fields_in, latest, saved_as, newest_first, Up, SpaceFields, HasRows, CountersStand, SpacesStand, FieldsStand, Stands, Names, Newest, Kept, Birth, Base, KeptBase, Tells, NamedStand, Owns, Own, KeptOwn, Covers, OwnsStand, turned, turned_in, turn_at, TurnsStand, TouchesTell, TouchesStand, MarksStand, marked_at, IsReal, EntriesStand, RowsStand}
 use Rattle.wm_state.specs.Effects.{Born}
 use Rattle.wm_state.proofs.Climbing.{first-sprout, parent_apart}
 use Rattle.wm_state.proofs.FirstIn.{first-itself}
@@ -22,16 +22,17 @@ use Rattle.wm_state.proofs.Frames.{KeepRows, HasRows-kept, fields_stand}
 use Rattle.wm_state.proofs.Keeping.{KeepRows-same}
 use Rattle.wm_state.proofs.Logging.{HistsStand-frame, log_of-found, log_of-none, log_of-same, logs-kept}
 use Rattle.wm_state.proofs.Mapped.{any-if, find-none, find-skip}
+use Rattle.wm_state.proofs.Marking.{AreMarked, MarksStand-kept, SayMarked, marks_in, unmarked}
 use Rattle.wm_state.proofs.Named.{version_below}
 use Rattle.wm_state.proofs.Naming.{Carries, Covers-as, Named-as, NamedStand-kept, Owned-as, OwnsStand-kept, Stays, Tells-as, WasNamed, carries-more, climbs_kept, named_of, own_there, there_of}
 use Rattle.wm_state.proofs.Ready.{KeepReady, KeepReady-same}
-use Rattle.wm_state.proofs.Staying.{AreReal, AreReal-same, AreTold, EntriesStand-kept, LaterStand-same, TouchesStand-kept, WasTouched, entries_real, turns_in, turns_of-alike, turns_of-found}
+use Rattle.wm_state.proofs.Staying.{AreReal, AreReal-same, AreTold, EntriesStand-kept, LaterStand-same, TouchesStand-kept, WasTold, WasTouched, entries_real, turns_in, turns_of-alike, turns_of-found}
 use Rattle.wm_state.proofs.Tests.{both}
 use Rattle.wm_forked.proofs.Birth.{FieldsStand-born, Is, child_found, child_none, find_more, is_of, some_same}
 use Rattle.wm_forked.proofs.Placed.{tell_none}
 use Rattle.wm_forked.proofs.Sprouting.{Sprouted, covers-before, covers-sprout, newest-away, newest-here, seen-before, seen-sprout}
 
--- the workspace that is born: its record has its fields, it has no changes and no savepoints, and what it sees of its parent is named
+-- the workspace that is born: its record has its fields, it has no changes, savepoints and marks, and what it sees of its parent is named
 -- already for its one turn, whose fields are recorded
 pub record IsChild (p : Parts) (d : Durable) (r : Space) (turn : TurnRecord) (w : Workspace) (u : Turn) : Type 0 where
   pub fields : fields_of r ≡ fields_in w
@@ -42,6 +43,7 @@ pub record IsChild (p : Parts) (d : Durable) (r : Space) (turn : TurnRecord) (w 
   pub own : w.lists.own ≡ []
   pub log : w.lists.log ≡ []
   pub savepoints : w.savepoints ≡ []
+  pub settled : w.settled ≡ []
   pub named : Names p d r.base_version w.parent u.rebases u.content
 
 -- ---- its version
@@ -276,6 +278,17 @@ module _ (p q : Parts) (s t : Durable) (r : Space) (number : ℕ) (turn : TurnRe
       each m new (inl h) = inr (record { latest = nothing m new h.0 h.1; kept = λ making k made. absurd (made_none making new k h.1 made) })
       each m new (inr h) = inl (record { old = new; is = h.1; log = refl; place = refl; savepoints = refl }, λ below log tell. subst (λ xs. TouchesTell xs m below log) (sym touches) tell)
 
+  -- nothing is settled in it
+  MarksStand-born : MarksStand p s → MarksStand q t
+  MarksStand-born = MarksStand-kept p q s t (λ m new is. each m new (workspace_is m new is))
+    where
+      marks : q.marks ≡ p.marks
+      marks = ap (λ (z : Parts). z.marks) b.rest
+
+      each : (m : ℕ) (new : Workspace) → Is (workspace_of s.spaces m) r.number m w new → (WasTold marks_in s.spaces m new × SayMarked p.marks q.marks m) ⊎ AreMarked q.marks m new
+      each m new (inl h) = inr (rw (h.0, h.1, marks) (unmarked p.marks r.number w child.settled b.unmarked))
+      each m new (inr h) = inl (record { old = new; is = h.1; same = refl }, λ place c. ap (λ xs. marked_at xs m place c) marks)
+
   -- and it has no entries
   EntriesStand-born : KeepReady s.tables t.tables → EntriesStand s → EntriesStand t
   EntriesStand-born ready entries = EntriesStand-kept t (λ m new is. each m new (workspace_is m new is))
@@ -325,7 +338,8 @@ Stands-born p q s t r number turn w u b st child spaces tables counters rules = 
   owns = OwnsStand-born p q s t r number turn w u b st.rules st.spaces child spaces st.owns;
   turns = TurnsStand-born p q s t r number turn w u b st.rules st.spaces child spaces st.turns;
   touches = TouchesStand-born p q s t r number turn w u b st.rules st.spaces child spaces st.touches;
-  later = LaterStand-same p q (ap (λ (z : Parts). z.locks) b.rest) (ap (λ (z : Parts). z.marks) b.rest) st.later;
+  marks = MarksStand-born p q s t r number turn w u b st.rules st.spaces child spaces st.marks;
+  later = LaterStand-same p q (ap (λ (z : Parts). z.locks) b.rest) st.later;
   hists = HistsStand-frame p q s t (ap (λ (z : Parts). z.hists) b.rest) (logs_born p q s t r number turn w u b st.rules st.spaces child spaces) ready st.entries st.hists;
   entries = EntriesStand-born p q s t r number turn w u b st.rules st.spaces child spaces ready st.entries;
   rows = RowsStand-born p q s t r number turn w u b st.rules st.spaces child spaces ready st.named st.entries st.rows;

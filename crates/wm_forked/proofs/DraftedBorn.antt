@@ -124,6 +124,7 @@ child_same p s a m w stand name pt st is k = record {
   own = refl;
   log = refl;
   savepoints = refl;
+  settled = refl;
 }
   where
     fields : ℕ → ℕ → TurnFields

@@ -6,7 +6,7 @@ use Rattle.std.specs.List.{list_all, list_any, filter, count_by}
 use Rattle.std.specs.Option.{option_map_or}
 use Rattle.std.specs.Str.{bytes_eq}
 use Rattle.wm_graph.specs.Parts.{Parts, table_of, space_of, version_of, has_version}
-use Rattle.wm_graph.specs.Rules.{keep_rules, are_counters, are_spaces, is_space, is_placed, is_short, live, are_versions, is_version, is_version_of, has_versions, stands_under, is_savepoint, is_saved_in, has_few, are_savepoints, are_rows, are_pieces, are_hists, is_trace, is_touch, meet, are_locks, is_asked, asked_turns, same_turn, has_turns, are_turns, differ}
+use Rattle.wm_graph.specs.Rules.{keep_rules, are_counters, are_spaces, is_space, is_placed, is_short, live, are_versions, is_version, is_version_of, has_versions, stands_under, is_savepoint, is_saved_in, has_few, are_savepoints, are_rows, are_pieces, are_hists, is_trace, is_touch, is_given, are_cells, meet, are_locks, is_asked, asked_turns, same_turn, has_turns, are_turns, differ}
 use Rattle.wm_spec.specs.declared.record.counters.Counters.{Counters}
 use Rattle.wm_spec.specs.declared.record.savepoint.Savepoint.{Savepoint}
 use Rattle.wm_spec.specs.declared.record.space.Space.{Space}
@@ -92,7 +92,7 @@ module _ {A : Type 0} (p : Parts) (number : ℕ) (none : space_of p.spaces numbe
   new_free = none_if (λ x. option_map_or (asks x) (space_of p.spaces (in_space x)) false) (λ x. in_space x == number)
       (λ x is. ne_eqb (in_space x) number (λ same. bool_apart (sym is ∙ ap (λ o. option_map_or (asks x) o false) (ap (space_of p.spaces) same ∙ none))))
 
--- no savepoint is of it, no touch and no turn
+-- no savepoint is of it, no touch, no mark and no turn
 unsaved : (p : Parts) (old new : Counters) (a r : Space) (v : Version) (u : Turn) → MayBear p old new a r v u → keep_rules p ≡ true → list_any (λ (x : Savepoint). x.space == r.number) p.savepoints ≡ false
 unsaved p old new a r v u may e =
     let rule = ruled p e in
@@ -106,6 +106,13 @@ untouched p old new a r v u may e =
     (all_if (is_touch (table_of p.tables) (space_of p.spaces)) (λ (x : Trace). option_map_or (λ (s : Space). nat_lt x.position s.log_length) (space_of p.spaces x.space) false)
     (λ x is. (both (is_trace (table_of p.tables) (space_of p.spaces) x) _ is).1) p.touches
     (both (differ meet p.touches) (list_all (is_touch (table_of p.tables) (space_of p.spaces)) p.touches) (ruled p e).touches).1)
+
+unmarked : (p : Parts) (old new : Counters) (a r : Space) (v : Version) (u : Turn) → MayBear p old new a r v u → keep_rules p ≡ true → list_any (λ (x : Trace). x.space == r.number) p.marks ≡ false
+unmarked p old new a r v u may e =
+    new_free p r.number (number_none p old new a r v u may) (λ (x : Trace). x.space) (λ x (s : Space). nat_lt x.place s.next_place) p.marks
+    (all_if (is_trace (table_of p.tables) (space_of p.spaces)) (λ (x : Trace). is_given (space_of p.spaces) x.space x.place)
+    (λ x is. (both (are_cells (table_of p.tables) x.cells) (is_given (space_of p.spaces) x.space x.place) is).1) p.marks
+    (both (differ meet p.marks) (list_all (is_trace (table_of p.tables) (space_of p.spaces)) p.marks) (ruled p e).marks).1)
 
 unturned : (p : Parts) (old new : Counters) (a r : Space) (v : Version) (u : Turn) → MayBear p old new a r v u → keep_rules p ≡ true → list_any (λ (x : Turn). x.space == r.number) p.turns ≡ false
 unturned p old new a r v u may e =
@@ -392,6 +399,7 @@ born_of p old new a r v u may e = record {
   rebases = may.rebases;
   unturned = unturned p old new a r v u may e;
   untouched = untouched p old new a r v u may e;
+  unmarked = unmarked p old new a r v u may e;
   turns = refl;
   turn_space = may.turn_space;
   turn_number = may.turn_number;

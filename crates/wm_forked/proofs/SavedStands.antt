@@ -13,6 +13,7 @@ use Rattle.wm_state.proofs.Climbing.{Recorded, recorded_of}
 use Rattle.wm_state.proofs.Frames.{fields_stand}
 use Rattle.wm_state.proofs.Keeping.{KeepRows-same}
 use Rattle.wm_state.proofs.Logging.{HistsStand-frame, log_of-changed}
+use Rattle.wm_state.proofs.Marking.{MarksStand-alike, marks_in}
 use Rattle.wm_state.proofs.Naming.{Named-as, NamedStand-kept, Owned-as, OwnsStand-kept, carries-same, stays-changed}
 use Rattle.wm_state.proofs.Ready.{KeepReady, KeepReady-same, all_real-kept}
 use Rattle.wm_state.proofs.Staying.{AreReal, EntriesStand-kept, LaterStand-same, RowsStand-alike, SameTurns, TurnsStand-alike, entries_real, part-changed, turns_in}
@@ -182,7 +183,8 @@ Stands-saved p q s t n place implicit w k x v st found new_one spaces tables wid
   owns = OwnsStand-saved p q s t n place implicit w k x v spaces found new_one st.savepoints st.owns;
   turns = TurnsStand-alike p q s t (ap (λ (z : Parts). z.turns) v.rest) alike st.turns;
   touches = TouchesStand-saved p q s t n place implicit w k x v spaces found new_one st.savepoints st.rules st.spaces wide st.touches;
-  later = LaterStand-same p q (ap (λ (z : Parts). z.locks) v.rest) (ap (λ (z : Parts). z.marks) v.rest) st.later;
+  marks = MarksStand-alike p q s t (ap (λ (z : Parts). z.marks) v.rest) (part-changed marks_in n (with_savepoint place implicit k) (λ w. refl) (λ w. refl) s.spaces t.spaces spaces) st.marks;
+  later = LaterStand-same p q (ap (λ (z : Parts). z.locks) v.rest) st.later;
   hists = HistsStand-frame p q s t (ap (λ (z : Parts). z.hists) v.rest) logs ready st.entries st.hists;
   entries = EntriesStand-saved p q s t n place implicit w k x v spaces found new_one st.savepoints ready st.entries;
   rows = RowsStand-alike p q s t (KeepRows-same p q (ap (λ (z : Parts). z.rows) v.rest)) ready logs alike st.entries st.rows;

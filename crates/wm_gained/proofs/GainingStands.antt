@@ -6,6 +6,7 @@ use Rattle.wm_spec.specs.Lists.{Entry}
 use Rattle.wm_state.specs.State.{with_gained, with_space, Durable}
 use Rattle.wm_state.specs.Standing.{CountersStand, FieldsStand, Stands}
 use Rattle.wm_state.proofs.Frames.{fields_stand}
+use Rattle.wm_state.proofs.Marking.{MarksStand-alike, marks_in}
 use Rattle.wm_state.proofs.Staying.{LaterStand-same, TurnsStand-alike, part-changed, turns_in}
 use Rattle.wm_gained.specs.Gaining.{Gained}
 use Rattle.wm_gained.proofs.Gained.{FieldsStand-gained}
@@ -24,7 +25,8 @@ Stands-gained p q s t n es g st spaces tables counters rules = record {
   owns = OwnsStand-gained p q s t n es g spaces st.owns;
   turns = TurnsStand-alike p q s t (ap (λ (z : Parts). z.turns) g.rest) (part-changed turns_in n (with_gained es) (λ w. refl) (λ w. refl) s.spaces t.spaces spaces) st.turns;
   touches = TouchesStand-gained p q s t n es g spaces st tables;
-  later = LaterStand-same p q (ap (λ (z : Parts). z.locks) g.rest) (ap (λ (z : Parts). z.marks) g.rest) st.later;
+  marks = MarksStand-alike p q s t (ap (λ (z : Parts). z.marks) g.rest) (part-changed marks_in n (with_gained es) (λ w. refl) (λ w. refl) s.spaces t.spaces spaces) st.marks;
+  later = LaterStand-same p q (ap (λ (z : Parts). z.locks) g.rest) st.later;
   hists = HistsStand-gained p q s t n es g spaces st tables;
   entries = EntriesStand-gained p q s t n es g spaces st tables;
   rows = RowsStand-gained p q s t n es g spaces st tables;

@@ -43,7 +43,7 @@ fn child_at(found: Option<&Record>, behind: Behind) -> Option<&Space>
 }
 
 /// That of two workspaces with the lesser number, where there are both.
-fn lesser<'a>(one: Option<&'a Space>, other: Option<&'a Space>) -> Option<&'a Space>
+pub fn lesser<'a>(one: Option<&'a Space>, other: Option<&'a Space>) -> Option<&'a Space>
     ensures { option_copied result ≡ shown.lesser (option_copied one.entry) (option_copied other.entry) }
 {
     match (one, other) {

@@ -17,7 +17,7 @@ ghost use Rattle.wm_graph.specs.Rules.{keep_rules};
 ghost use Rattle.wm_spec.specs.Records.{AreRecords, record_at};
 ghost use Rattle.wm_index.specs.Hists.{AreByPosition, logged_on};
 ghost use Rattle.wm_index.specs.Kinds.{kind_at};
-ghost use Rattle.wm_index.specs.Sought.{OwnedBy, PiecesAt, PiecesIn, TouchesAt, ids_with, is_sought, is_touch_since};
+ghost use Rattle.wm_index.specs.Sought.{MarksAt, MarksIn, OwnedBy, PiecesAt, PiecesIn, TouchesAt, ids_with, is_sought, is_touch_since};
 ghost use Rattle.wm_state.specs.ById.{Ascend, applied, by_id};
 ghost use Rattle.wm_image.specs.Shown.{Falls, along, is_child_from, is_saved_behind, names, rests_on};
 ghost use Rattle.wm_spec.specs.declared.record.savepoint.Savepoint.{Savepoint as OneSavepoint};
@@ -210,6 +210,13 @@ impl Image {
         space_of_name(&self.kept, self.index.all_spaces.as_slice(), name)
     }
 
+    /// The ids of the workspaces.
+    pub fn spaces(&self) -> &[u64]
+        ensures { kind_at as_space self.now result.now ≡ (parts_of self.now).spaces }
+    {
+        self.index.all_spaces.as_slice()
+    }
+
     /// How many workspaces there are.
     pub fn space_count(&self) -> usize
         ensures { result ≡ length (parts_of self.now).spaces }
@@ -368,6 +375,20 @@ impl Image {
         ensures { result.now ≡ ids_with (is_sought (TouchesAt table key.now)) self.now }
     {
         ids_on(&self.index.touches, table, key)
+    }
+
+    /// The ids of the marks for a key of a table, of any workspace and place, in order.
+    pub fn marks_of(&self, table: u16, key: &Key) -> &[u64]
+        ensures { result.now ≡ ids_with (is_sought (MarksAt table key.now)) self.now }
+    {
+        ids_on(&self.index.marks, table, key)
+    }
+
+    /// The ids of the marks of a workspace, in order.
+    pub fn marks_in(&self, space: u32) -> &[u64]
+        ensures { result.now ≡ ids_with (is_sought (MarksIn space)) self.now }
+    {
+        ids_of(&self.index.marks_in, &space)
     }
 
     /// The ids of the pieces of a version, in order.

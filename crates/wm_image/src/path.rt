@@ -1,6 +1,6 @@
 //! The path of a version up to its root, and which pieces stand on it.
 
-ghost use Rattle.std.specs.Prelude.{◌≡◌, ℕ, ◌==◌, ◌++◌, true, [], ◌∷◌, if◌then◌else◌, nat_eq, IfOk, OnOk};
+ghost use Rattle.std.specs.Prelude.{◌≡◌, ℕ, ◌++◌, true, [], ◌∷◌, if◌then◌else◌, nat_eq, IfOk, OnOk};
 ghost use Rattle.std.specs.List.{filter, list_any};
 ghost use Rattle.std.specs.Option.{option_and_then, option_copied};
 ghost use Rattle.std.specs.Ordering.{nat_cmp};
@@ -17,7 +17,7 @@ use crate::image::Image;
 use std::alloc::Global;
 use std::collections::BTreeMap;
 use wm_base::Memory;
-use wm_index::keyed::Ids;
+use wm_index::keyed::{Ids, push_under};
 use wm_index::kinds::piece_of;
 use wm_index::records::{Kept, at};
 use wm_spec::record::PieceRecord;
@@ -46,16 +46,6 @@ fn stands_on(path: &[u64], version: u64) -> bool
         Ok(_) => true,
         Err(_) => false,
     }
-}
-
-/// Puts an id behind those under a version.
-fn push_under(alloc: Global, found: &mut Ids<u64>, version: u64, id: u64) -> Result<(), Memory>
-    ensures { OnOk result ((v : ℕ) → ids_in nat_cmp found.new.entries v ≡ (if version == v then ids_in nat_cmp found.old.entries v ++ id ∷ [] else ids_in nat_cmp found.old.entries v)) }
-{
-    let mut ids = found.remove(&version).unwrap_or(Vec::new(alloc));
-    ids.push(id)?;
-    found.insert(version, ids)?;
-    Ok(())
 }
 
 /// Puts the id of a piece behind those under its version, where that stands on a path.

@@ -1,6 +1,6 @@
 //! Records under their ids, with the index of them, changed one by one and by batches.
 
-ghost use Rattle.std.specs.Prelude.{◌≡◌, ◌||◌, false, IfOk, OnOk};
+ghost use Rattle.std.specs.Prelude.{◌≡◌, false, IfOk, OnOk};
 ghost use Rattle.std.specs.BTreeMap.{IsOrdered};
 ghost use Rattle.std.specs.Ordering.{nat_cmp};
 ghost use Rattle.wm_graph.specs.Parts.{parts_of};
@@ -13,7 +13,7 @@ use std::alloc::Global;
 use wm_base::Memory;
 use wm_catalog::Catalog;
 use wm_index::index::Index;
-use wm_index::records::{Kept, add_new, drop_old};
+use wm_index::records::{Kept, add_new, drop_old, is_either};
 use wm_spec::record::{Changes, Record};
 
 /// Sets what becomes of an id.
@@ -31,13 +31,6 @@ pub fn set(kept: &mut Kept, id: u64, becomes: Option<Record>) -> Result<(), Memo
         }
     }
     Ok(())
-}
-
-/// Whether one is true or the other.
-fn is_either(one: bool, other: bool) -> bool
-    ensures { result ≡ (one || other) }
-{
-    one || other
 }
 
 /// Changes what stands under an id, and the index with it, and tells whether a table was or is there.

@@ -19,9 +19,9 @@ use Rattle.wm_spec.specs.Records.{record_at}
 -- counters; tables; workspaces; a workspace or a version by its number; a workspace's version of a number, or the versions under one;
 -- the savepoints of a workspace, one by its making, those that keep a version, or those of workspaces with a number above 0 that see
 -- a version under their workspace's own; workspaces with a number above 0 that were born from a version, or see it under their own; a
--- row by its stamp; the pieces on a table and a key, or the touches; the pieces of a version; whatever is a workspace's own: itself, its
--- versions, savepoints, touches, locks, entries of its log, marks and turns; the touches of a workspace at a position of its log, its
--- turns of a number, or the entries of its log on a table
+-- row by its stamp; the pieces on a table and a key, the touches or the marks; the pieces of a version; whatever is a workspace's own:
+-- itself, its versions, savepoints, touches, locks, entries of its log, marks and turns; its marks alone; the touches of a workspace at a
+-- position of its log, its turns of a number, or the entries of its log on a table
 pub data Sought : Type 0 where
   TheCounters : Sought
   Tables : Sought
@@ -39,8 +39,10 @@ pub data Sought : Type 0 where
   RowAt : ℕ → Sought
   PiecesAt : ℕ → List Value → Sought
   TouchesAt : ℕ → List Value → Sought
+  MarksAt : ℕ → List Value → Sought
   PiecesIn : ℕ → Sought
   OwnedBy : ℕ → Sought
+  MarksIn : ℕ → Sought
   TouchAt : ℕ → ℕ → Sought
   TurnAt : ℕ → ℕ → Sought
   HistsOn : ℕ → ℕ → Sought
@@ -63,6 +65,7 @@ is_sought (SeenUnder version) (records.Space r) = not (r.number == 0) && (r.base
 is_sought (RowAt stamp) (records.Row r) = r.stamp == stamp
 is_sought (PiecesAt table key) (records.Piece r) = (r.cells.table == table) && is_eq (key_order r.cells.key key)
 is_sought (TouchesAt table key) (records.Touch r) = (r.cells.table == table) && is_eq (key_order r.cells.key key)
+is_sought (MarksAt table key) (records.Mark r) = (r.cells.table == table) && is_eq (key_order r.cells.key key)
 is_sought (PiecesIn version) (records.Piece r) = r.version == version
 is_sought (OwnedBy space) (records.Space r) = r.number == space
 is_sought (OwnedBy space) (records.Version r) = r.space == space
@@ -72,6 +75,7 @@ is_sought (OwnedBy space) (records.Lock r) = r.space == space
 is_sought (OwnedBy space) (records.Hist r) = r.space == space
 is_sought (OwnedBy space) (records.Mark r) = r.space == space
 is_sought (OwnedBy space) (records.Turn r) = r.space == space
+is_sought (MarksIn space) (records.Mark r) = r.space == space
 is_sought (TouchAt space position) (records.Touch r) = (r.space == space) && (r.position == position)
 is_sought (TurnAt space number) (records.Turn r) = (r.space == space) && (r.rebase == number)
 is_sought (HistsOn space table) (records.Hist r) = (r.space == space) && (r.cells.table == table)

@@ -16,8 +16,9 @@ use wm_spec::record::{Hist, PieceRecord, Record, Savepoint, Space, Trace, Turn, 
 /// the versions of a workspace, by number, and of those under a version; of the savepoints of a workspace, by making,
 /// of those that keep a version, and of those of workspaces with a parent that see a version under their workspace's
 /// own; of the workspaces with a parent that were born from a version, or see it under their own; of rows by stamp;
-/// of pieces and of touches by table and key; of the pieces of a version; of the records that are a workspace's own;
-/// of touches by workspace and position, of turns by workspace and number, and of entries of logs by workspace and table.
+/// of pieces, of touches and of marks by table and key; of the pieces of a version; of the records that are a workspace's
+/// own, and of its marks alone; of touches by workspace and position, of turns by workspace and number, and of entries of
+/// logs by workspace and table.
 #[derive(Drop)]
 pub struct Index {
     pub counters: Vec<u64>,
@@ -36,8 +37,10 @@ pub struct Index {
     pub rows: Ids<u64>,
     pub pieces: TableIds,
     pub touches: TableIds,
+    pub marks: TableIds,
     pub pieces_in: Ids<u64>,
     pub owned: Ids<u32>,
+    pub marks_in: Ids<u32>,
     pub touched_at: Ids<(u32, u64)>,
     pub turns_at: Ids<(u32, u32)>,
     pub hists_on: Ids<(u32, u16)>,
@@ -65,8 +68,10 @@ impl Index {
             rows: BTreeMap::new(alloc),
             pieces: BTreeMap::new(alloc),
             touches: BTreeMap::new(alloc),
+            marks: BTreeMap::new(alloc),
             pieces_in: BTreeMap::new(alloc),
             owned: BTreeMap::new(alloc),
+            marks_in: BTreeMap::new(alloc),
             touched_at: BTreeMap::new(alloc),
             turns_at: BTreeMap::new(alloc),
             hists_on: BTreeMap::new(alloc),
@@ -89,7 +94,7 @@ impl Index {
             Record::Touch(touch) => self.add_touch(alloc, id, touch),
             Record::Lock(lock) => add_to(alloc, &mut self.owned, lock.space, id),
             Record::Hist(hist) => self.add_hist(alloc, id, hist),
-            Record::Mark(mark) => add_to(alloc, &mut self.owned, mark.space, id),
+            Record::Mark(mark) => self.add_mark(alloc, id, mark),
             Record::Turn(turn) => self.add_turn(alloc, id, turn),
         }
     }
@@ -163,6 +168,17 @@ impl Index {
         add_on(alloc, &mut self.touches, cells.table, &cells.key, id)
     }
 
+    /// Adds the id of a mark.
+    fn add_mark(&mut self, alloc: Global, id: u64, mark: &Trace) -> Result<(), Memory>
+        requires { IdsAscend self.old }
+        ensures { OnOk result (Adds self.old self.new id (records.Mark mark.now)) }
+    {
+        add_to(alloc, &mut self.owned, mark.space, id)?;
+        add_to(alloc, &mut self.marks_in, mark.space, id)?;
+        let cells = &mark.cells;
+        add_on(alloc, &mut self.marks, cells.table, &cells.key, id)
+    }
+
     /// Adds the id of a turn.
     fn add_turn(&mut self, alloc: Global, id: u64, turn: &Turn) -> Result<(), Memory>
         requires { IdsAscend self.old }
@@ -205,7 +221,7 @@ impl Index {
             Record::Touch(touch) => self.drop_touch(alloc, id, touch),
             Record::Lock(lock) => drop_from(&mut self.owned, lock.space, id),
             Record::Hist(hist) => self.drop_hist(id, hist),
-            Record::Mark(mark) => drop_from(&mut self.owned, mark.space, id),
+            Record::Mark(mark) => self.drop_mark(alloc, id, mark),
             Record::Turn(turn) => self.drop_turn(id, turn),
         }
     }
@@ -271,6 +287,17 @@ impl Index {
         drop_from(&mut self.touched_at, place, id)?;
         let cells = &touch.cells;
         drop_on(alloc, &mut self.touches, cells.table, &cells.key, id)
+    }
+
+    /// Drops the id of a mark.
+    fn drop_mark(&mut self, alloc: Global, id: u64, mark: &Trace) -> Result<(), Memory>
+        requires { IdsAscend self.old }
+        ensures { OnOk result (Drops self.old self.new id (records.Mark mark.now)) }
+    {
+        drop_from(&mut self.owned, mark.space, id)?;
+        drop_from(&mut self.marks_in, mark.space, id)?;
+        let cells = &mark.cells;
+        drop_on(alloc, &mut self.marks, cells.table, &cells.key, id)
     }
 
     /// Drops the id of a turn.

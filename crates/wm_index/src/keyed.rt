@@ -44,6 +44,16 @@ pub fn add_to<K: Ord + Drop>(alloc: Global, map: &mut Ids<K>, key: K, id: u64) -
     Ok(())
 }
 
+/// Puts an id behind those under a version.
+pub fn push_under(alloc: Global, found: &mut Ids<u64>, version: u64, id: u64) -> Result<(), Memory>
+    ensures { OnOk result ((v : ℕ) → ids_in nat_cmp found.new.entries v ≡ (if version == v then ids_in nat_cmp found.old.entries v ++ id ∷ [] else ids_in nat_cmp found.old.entries v)) }
+{
+    let mut ids = found.remove(&version).unwrap_or(Vec::new(alloc));
+    ids.push(id)?;
+    found.insert(version, ids)?;
+    Ok(())
+}
+
 /// Takes an id from under a key, where those there ascend. A key that has none left goes.
 pub fn drop_from<K: Ord + Drop>(map: &mut Ids<K>, key: K, id: u64) -> Result<(), Memory>
     requires { IsStrictlySortedBy nat_cmp (ids_in K.cmp map.old.entries key) }

@@ -1,6 +1,6 @@
 //! Records under their ids, and the index of those that go and come.
 
-ghost use Rattle.std.specs.Prelude.{◌≡◌, ◌<◌, ◌≤◌, ◌+◌, ◌^◌, ℕ, None, is_some, IsSome, IfSome, IfNone, IfOk, OnOk};
+ghost use Rattle.std.specs.Prelude.{◌≡◌, ◌<◌, ◌≤◌, ◌+◌, ◌^◌, ◌||◌, ℕ, None, is_some, IsSome, IfSome, IfNone, IfOk, OnOk};
 ghost use Rattle.std.specs.Option.{option_and_then, option_copied};
 ghost use Rattle.wm_graph.specs.Parts.{as_table};
 ghost use Rattle.wm_spec.specs.Records.{record_at};
@@ -73,4 +73,11 @@ pub fn add_new(
         index.add_record(alloc, id, new)?;
     }
     Ok(table_of(becomes.as_ref()).is_some())
+}
+
+/// Whether one is true or the other.
+pub fn is_either(one: bool, other: bool) -> bool
+    ensures { result ≡ (one || other) }
+{
+    one || other
 }

@@ -1,5 +1,5 @@
 -- The records that go where a workspace goes back to a savepoint, and what is put for that.
-use Rattle.std.proofs.Common.{◌≡◌, ℕ, ◌==◌, Bool, true, false, not, ◌&&◌, ◌||◌, List, [], ◌∷◌, ◌++◌, map, Option, Some, is_some, refl, sym, ap, subst, ◌∙◌}
+use Rattle.std.proofs.Common.{◌≡◌, ℕ, ◌==◌, Bool, true, false, not, ◌&&◌, ◌||◌, List, [], ◌∷◌, ◌++◌, map, Some, is_some, refl, sym, ap, subst, ◌∙◌}
 use Rattle.std.specs.List.{filter, list_all}
 use Rattle.wm_graph.specs.Parts.{Parts, parts_of, space_of}
 use Rattle.wm_graph.specs.Rules.{keep_rules}
@@ -38,6 +38,11 @@ goes_owned x (records.Touch y) = by_test (y.space == x.space) _
     by_test : (a b : Bool) → not (not a || b) ≡ (a && not (not a || b))
     by_test true b = refl
     by_test false b = refl
+goes_owned x (records.Mark y) = by_test (y.space == x.space) _
+  where
+    by_test : (a b : Bool) → not (not a || b) ≡ (a && not (not a || b))
+    by_test true b = refl
+    by_test false b = refl
 goes_owned x (records.Hist y) = by_test (y.space == x.space) _
   where
     by_test : (a b : Bool) → not (not a || b) ≡ (a && not (not a || b))
@@ -54,11 +59,6 @@ goes_owned x (records.Version y) = none (y.space == x.space)
     none true = refl
     none false = refl
 goes_owned x (records.Lock y) = none (y.space == x.space)
-  where
-    none : (a : Bool) → false ≡ (a && false)
-    none true = refl
-    none false = refl
-goes_owned x (records.Mark y) = none (y.space == x.space)
   where
     none : (a : Bool) → false ≡ (a && false)
     none true = refl

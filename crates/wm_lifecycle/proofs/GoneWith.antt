@@ -2,8 +2,7 @@
 use Rattle.std.proofs.Common.{◌≡◌, ◌≢◌, ℕ, ◌==◌, Bool, true, false, not, ◌&&◌, ◌||◌, List, [], ◌∷◌, ◌++◌, map, Option, Some, None, is_some, refl, sym, ap, subst, ◌∙◌, ◌⊎◌, inl, inr}
 use Rattle.std.proofs.lemmas.Bool.{cases_eq, eq-eqb, eqb-true, ne_eqb}
 use Rattle.std.specs.List.{filter_map, flat_map, list_all, list_any}
-use Rattle.std.specs.Option.{option_map_or}
-use Rattle.wm_graph.specs.Parts.{Parts, parts_of, as_version}
+use Rattle.wm_graph.specs.Parts.{parts_of, as_version}
 use Rattle.wm_graph.specs.Rules.{keep_rules}
 use Rattle.wm_spec.specs.Records.{record_at, ids_differ}
 use Rattle.wm_spec.specs.declared.record.Record.{Record}

@@ -24,7 +24,7 @@ use wm_image::Image;
 use wm_spec::record::{Changes, Record, Savepoint, Space, Version};
 
 /// Whether a record goes where its workspace goes back to a savepoint: a later savepoint, a touch that was made from its
-/// place on or by a later entry, and a later entry of the log.
+/// place on or by a later entry, a mark that was made from its place on, and a later entry of the log.
 fn goes_back(savepoint: &Savepoint, found: Option<&Record>) -> bool
     ensures { result ≡ goes_back savepoint.now (option_copied found.entry) }
 {
@@ -36,6 +36,9 @@ fn goes_back(savepoint: &Savepoint, found: Option<&Record>) -> bool
         Some(Record::Touch(touch)) => {
             touch.space == savepoint.space
                 && (touch.place >= savepoint.place || touch.position >= savepoint.log_length)
+        }
+        Some(Record::Mark(mark)) => {
+            mark.space == savepoint.space && mark.place >= savepoint.place
         }
         Some(Record::Hist(hist)) => {
             hist.space == savepoint.space && hist.position >= savepoint.log_length

@@ -118,10 +118,10 @@ few_gains n entries = by_none (length entries.items == 0)
 -- ---- a refresh
 
 -- the workspace may be rebased with what is its own
-can_rebase : (rs : List Stored) (m : ℕ) (session : Session) (workspace : List ℕ) (a b : Space) (ks : List KeyPieces) (es : List Entry) → Refreshes rs m session workspace a b es → MayRefresh rs a ks es
+can_rebase : (rs : List Stored) (m : ℕ) (xs : List Session) (session : Session) (workspace : List ℕ) (a b : Space) (ks : List KeyPieces) (es : List Entry) → Refreshes rs m xs session workspace a b es → MayRefresh rs a ks es
     → CanRebase (parts_of rs) a.number false
-can_rebase rs m session workspace a b ks es refreshes may =
-    let left = refresh_left (parts_of rs) a refreshes.found refreshes.clear in
+can_rebase rs m xs session workspace a b ks es refreshes may =
+    let left = refresh_left (parts_of rs) xs a refreshes.found refreshes.clear in
     record {
       some = refreshes.family.child;
       space = a;
@@ -131,17 +131,17 @@ can_rebase rs m session workspace a b ks es refreshes may =
       kept = λ stays. keys_kept (parts_of rs) a ks may.own may.keys;
     }
 
-pub drafts_refresh : (rs : List Stored) (m : ℕ) (session : Session) (workspace : List ℕ) (a b : Space) (ks : List KeyPieces) (c : Counters) (entries : Vec NewEntry Global) → Ascend rs
-    → Refreshes rs m session workspace a b (map entry_of entries.items) → MayRefresh rs a ks (map entry_of entries.items) → nat_lt counter_limit (a.log_length + length entries.items) ≡ false
+pub drafts_refresh : (rs : List Stored) (m : ℕ) (xs : List Session) (session : Session) (workspace : List ℕ) (a b : Space) (ks : List KeyPieces) (c : Counters) (entries : Vec NewEntry Global) → Ascend rs
+    → Refreshes rs m xs session workspace a b (map entry_of entries.items) → MayRefresh rs a ks (map entry_of entries.items) → nat_lt counter_limit (a.log_length + length entries.items) ≡ false
     → (parts_of rs).counters ≡ c ∷ [] → nat_lt counter_limit (c.work + line_work) ≡ false → nat_lt m END ≡ true → CanDraft rs m (refresh_edits a.number entries)
-drafts_refresh rs m session workspace a b ks c entries sorted refreshes may room one spare early =
+drafts_refresh rs m xs session workspace a b ks c entries sorted refreshes may room one spare early =
     can_draft rs m (refresh_edits a.number entries) (can_work (parts_of rs) m c one spare early) (omega (arith, few_gains a.number entries)) (by_none (length entries.items == 0) refl)
   where
     rules : keep_rules (parts_of rs) ≡ true
     rules = refreshes.family.space.rules
 
     rebase : CanRebase (parts_of rs) a.number false
-    rebase = can_rebase rs m session workspace a b ks (map entry_of entries.items) refreshes may
+    rebase = can_rebase rs m xs session workspace a b ks (map entry_of entries.items) refreshes may
 
     by_none : (none : Bool) → (length entries.items == 0) ≡ none → CanEditAll rs m (edits.Rebase a.number false ∷ (if none then [] else edits.Gain a.number entries ∷ []))
     by_none true is = (rebase, λ work cs drafts. tt)

@@ -24,8 +24,8 @@ use Rattle.wm_telling.proofs.Storing.{stores_gained, stores_own}
 use Rattle.wm_model.proofs.RemovingLine.{childless}
 use Rattle.wm_model.proofs.RollingLine.{named_numbered}
 use Rattle.wm_model.specs.Merged.{Merges, after_edits, is_even_at, keep_edits, leaving_refusal, merge_edits, replay_edits}
-use Rattle.wm_model.specs.Step.{Asked}
-use Rattle.wm_model.specs.Undone.{removing_refusal}
+use Rattle.wm_model.specs.Step.{Asked, first_fault}
+use Rattle.wm_model.specs.Undone.{going_refusal, removing_refusal, resolving_refusal}
 use Rattle.wm_merge.proofs.Asked.{can_draft, can_gain, can_replay, can_work, few_gains, other_number, parent_there, some_entries}
 use Rattle.wm_merge.proofs.Answered.{turn_free}
 use Rattle.wm_merge.proofs.MergePlans.{MayMerge}
@@ -119,7 +119,8 @@ module _ (rs : List Stored) (m : ℕ) (xs : List Session) (session : Session) (a
   -- of the workspace
   removes : asked.removes ≡ true → CanRemove (parts_of rs) a.number
   removes goes =
-      let free : removing_refusal (parts_of rs) xs a ≡ None = sym (ap (λ (r : Bool). leaving_refusal r (parts_of rs) xs a) goes) ∙ clear.leaving in
+      let going : going_refusal (parts_of rs) xs a ≡ None = sym (ap (λ (r : Bool). leaving_refusal r (parts_of rs) xs a) goes) ∙ clear.leaving in
+      let free : removing_refusal (parts_of rs) xs a ≡ None = ap (λ o. first_fault (o ∷ resolving_refusal xs a ∷ [])) going ∙ ap (λ o. first_fault (o ∷ [])) clear.resolving in
       record {
         some = merges.family.child;
         there = some_space (named_numbered rs workspace a merges.family.space);

@@ -13,6 +13,7 @@ use Rattle.wm_state.specs.Standing.{saved_in}
 use Rattle.wm_state.specs.State.{Session}
 use Rattle.wm_state.proofs.Tests.{bool_apart}
 use Rattle.wm_model.specs.Merged.{Clashed, clash_fault, is_even_at, keeping_refusal, leaving_refusal, merging_refusal, naming_refusal, rebase_fault, refreshing_refusal}
+use Rattle.wm_model.specs.Undone.{resolving_refusal}
 use Rattle.wm_model.specs.Step.{Asked, at_its_end, first_fault, most_savepoints, number_limit, refused_if, savepoint_there}
 use Rattle.wm_spec.specs.Lists.{Entry}
 
@@ -43,8 +44,8 @@ second false b first none = absurd (bool_apart (sym first))
 pub rebases_left : (a : Space) → rebase_fault a ≡ None → nat_lt number_limit (a.rebases + 1) ≡ false
 rebases_left a clear = some_answer (nat_lt number_limit (a.rebases + 1)) (at_its_end (codes "REBASE")) _ refl clear
 
-pub refresh_left : (p : Parts) (a : Space) (found : Option Clashed) → refreshing_refusal p a found ≡ None → nat_lt number_limit (a.rebases + 1) ≡ false
-refresh_left p a found clear = rebases_left a (none_first (rebase_fault a) _ (none_behind (clash_fault p found) _ clear))
+pub refresh_left : (p : Parts) (xs : List Session) (a : Space) (found : Option Clashed) → refreshing_refusal p xs a found ≡ None → nat_lt number_limit (a.rebases + 1) ≡ false
+refresh_left p xs a found clear = rebases_left a (none_first (rebase_fault a) _ (none_behind (clash_fault p found) _ (none_behind (resolving_refusal xs a) _ clear)))
 
 -- ---- a merge
 
@@ -52,6 +53,7 @@ refresh_left p a found clear = rebases_left a (none_first (rebase_fault a) _ (no
 pub record MergeClear (asked : Asked) (p : Parts) (xs : List Session) (a b : Space) (own : List Entry) : Type 0 where
   pub naming : naming_refusal asked.keeps p b ≡ None
   pub leaving : leaving_refusal asked.removes p xs a ≡ None
+  pub resolving : resolving_refusal xs a ≡ None
   pub keeping : keeping_refusal asked.keeps p b ≡ None
   pub rebasing : (if is_even_at a b own then None else rebase_fault a) ≡ None
 
@@ -59,11 +61,13 @@ pub merge_clear : (asked : Asked) (p : Parts) (xs : List Session) (a b : Space) 
 merge_clear asked p xs a b found own clear =
     let h = none_behind (naming_refusal asked.keeps p b) _ clear in
     let k = none_behind (leaving_refusal asked.removes p xs a) _ h in
-    let l = none_behind (clash_fault p found) _ k in
+    let s = none_behind (resolving_refusal xs a) _ k in
+    let l = none_behind (clash_fault p found) _ s in
     let r = none_behind (keeping_refusal asked.keeps p b) _ l in
     record {
       naming = none_first (naming_refusal asked.keeps p b) _ clear;
       leaving = none_first (leaving_refusal asked.removes p xs a) _ h;
+      resolving = none_first (resolving_refusal xs a) _ k;
       keeping = none_first (keeping_refusal asked.keeps p b) _ l;
       rebasing = none_first (if is_even_at a b own then None else rebase_fault a) _ r;
     }

@@ -1,5 +1,5 @@
 -- A workspace that is not LIVE, and its parent, whose record is there.
-use Rattle.std.proofs.Common.{◌≡◌, ℕ, ◌<◌, true, List, Option, Some, None, Bor, is_some, refl, sym, ap, ◌∙◌, arith}
+use Rattle.std.proofs.Common.{◌≡◌, ℕ, ◌<◌, true, List, Option, Some, None, Bor, is_some, refl, sym, ap, ◌∙◌}
 use Rattle.std.specs.Option.{option_copied}
 use Rattle.wm_graph.specs.Parts.{parts_of, space_of}
 use Rattle.wm_rebased.proofs.RebasingFields.{parent_recorded}

@@ -1,10 +1,16 @@
 -- What is told of the plans of a refresh.
-use Rattle.std.proofs.Common.{◌≡◌, ◌⊎◌, ℕ, ◌+◌, ◌&&◌, not, Bool, true, false, List, map, Result, Ok, Err, IfOk, ap, ◌∙◌}
+use Rattle.std.proofs.Common.{◌≡◌, ◌⊎◌, ℕ, ◌+◌, ◌&&◌, not, Bool, true, false, List, [], map, Option, Some, None, Result, Ok, Err, IfOk, sym, ap, ◌∙◌}
 use Rattle.std.specs.List.{list_all, list_any}
+use Rattle.std.specs.Option.{option_map_or}
 use Rattle.wm_base.specs.declared.memory.Memory.{Memory}
+use Rattle.wm_base.specs.declared.refusal.Refusal.{Refusal}
 use Rattle.wm_graph.specs.Parts.{parts_of}
-use Rattle.wm_model.specs.Merged.{NamesFamily, Refreshes, are_keys_kept, is_ready_entry}
+use Rattle.wm_model.proofs.RefreshingLine.{refresh_open, refresh_quiet}
+use Rattle.wm_model.specs.Merged.{NamesFamily, Refreshes, are_keys_kept, is_quiet_at, is_ready_entry}
+use Rattle.wm_model.specs.Planning.{Does, Stay}
 use Rattle.wm_model.specs.Step.{refresh_workspace}
+use Rattle.wm_model.specs.Undone.{resolving_refusal}
+use Rattle.wm_print.specs.Texts.{Fine, Refused}
 use Rattle.wm_plan.specs.Planning.{DoesIt}
 use Rattle.wm_plan.specs.declared.planned.Planned.{Planned}
 use Rattle.wm_spec.specs.Lists.{Entry}
@@ -42,19 +48,27 @@ module _ (rs : List Stored) (a : Space) (ks : List KeyPieces) (given es : List N
   pub lacks_refresh : false ≡ (can_write given && not (has_next_turn (parts_of rs) a)) → (can_write es ≡ false) ⊎ (list_any (is_turn a.number (a.rebases + 1)) (parts_of rs).turns ≡ true)
   lacks_refresh test = lacks_or_turned (can_write es) (parts_of rs) a (test ∙ ap (λ xs. can_write xs && not (has_next_turn (parts_of rs) a)) is)
 
+-- ---- where nothing is pending
+
+-- an open resolve refuses it all the same
+pub quiet_told : (rs : List Stored) (xs : List Session) (m : ℕ) (session : Session) (workspace : List ℕ) (a b : Space) (refusal : Option Refusal) → NamesFamily rs workspace a b → is_quiet_at a b ≡ true → refusal ≡ resolving_refusal xs a
+    → Does rs xs m [] Stay (option_map_or Refused refusal Fine) (refresh_workspace session workspace)
+quiet_told rs xs m session workspace a b None family quiet is = refresh_quiet rs xs m session workspace a b family (sym is) quiet
+quiet_told rs xs m session workspace a b (Some refusal) family quiet is = refresh_open rs xs m session workspace a b refusal family (sym is)
+
 -- ---- the plans
 
 -- a plan for whatever may be gained is one for this
-pub refreshes_as : (rs : List Stored) (m : ℕ) (r : Result Planned Memory) (session : Session) (a b : Space) (es : List Entry)
-    → ((workspace : List ℕ) → NamesFamily rs workspace a b → Refreshes rs m session workspace a b es)
-    → IfOk r (λ p. (xs : List Session) (session : Session) (workspace : List ℕ) (parent : Space) → Refreshes rs m session workspace a parent es → DoesIt rs xs m p (refresh_workspace session workspace))
-    → IfOk r (λ p. (xs : List Session) (workspace : List ℕ) → NamesFamily rs workspace a b → DoesIt rs xs m p (refresh_workspace session workspace))
-refreshes_as rs m (Ok p) session a b es may does = λ xs workspace family. does xs session workspace b (may workspace family)
-refreshes_as rs m (Err e) session a b es may does = tt
+pub refreshes_as : (rs : List Stored) (xs : List Session) (m : ℕ) (r : Result Planned Memory) (session : Session) (a b : Space) (es : List Entry)
+    → ((workspace : List ℕ) → NamesFamily rs workspace a b → Refreshes rs m xs session workspace a b es)
+    → IfOk r (λ p. (xs : List Session) (session : Session) (workspace : List ℕ) (parent : Space) → Refreshes rs m xs session workspace a parent es → DoesIt rs xs m p (refresh_workspace session workspace))
+    → IfOk r (λ p. (workspace : List ℕ) → NamesFamily rs workspace a b → DoesIt rs xs m p (refresh_workspace session workspace))
+refreshes_as rs xs m (Ok p) session a b es may does = λ workspace family. does xs session workspace b (may workspace family)
+refreshes_as rs xs m (Err e) session a b es may does = tt
 
 -- one for each name of the workspace is one for this name
-pub refreshes_named : (rs : List Stored) (m : ℕ) (r : Result Planned Memory) (session : Session) (workspace : List ℕ) (a b : Space) → NamesFamily rs workspace a b
-    → IfOk r (λ p. (xs : List Session) (workspace : List ℕ) → NamesFamily rs workspace a b → DoesIt rs xs m p (refresh_workspace session workspace))
-    → IfOk r (λ p. (xs : List Session) → DoesIt rs xs m p (refresh_workspace session workspace))
-refreshes_named rs m (Ok p) session workspace a b family does = λ xs. does xs workspace family
-refreshes_named rs m (Err e) session workspace a b family does = tt
+pub refreshes_named : (rs : List Stored) (xs : List Session) (m : ℕ) (r : Result Planned Memory) (session : Session) (workspace : List ℕ) (a b : Space) → NamesFamily rs workspace a b
+    → IfOk r (λ p. (workspace : List ℕ) → NamesFamily rs workspace a b → DoesIt rs xs m p (refresh_workspace session workspace))
+    → IfOk r (λ p. DoesIt rs xs m p (refresh_workspace session workspace))
+refreshes_named rs xs m (Ok p) session workspace a b family does = does workspace family
+refreshes_named rs xs m (Err e) session workspace a b family does = tt

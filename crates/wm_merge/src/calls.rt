@@ -45,7 +45,7 @@ pub fn refresh_call(
         return Ok(Planned::answered(alloc, mistyped(parameter)));
     }
     let workspace = bytes_given(Procedure::RefreshWorkspace, args, Parameter::Workspace, b"");
-    refresh_workspace(alloc, image, moment, session, workspace)
+    refresh_workspace(alloc, image, sessions, moment, session, workspace)
 }
 
 /// What a merge is asked to do besides.

@@ -11,7 +11,7 @@ use wm_changes::names::implicit_name;
 use wm_image::Image;
 use wm_plan::refuse::{at_its_end, most_savepoints, savepoint_there};
 use wm_plan::session::Session;
-use wm_space::removing::removing_refusal;
+use wm_space::removing::going_refusal;
 use wm_space::saving::{SAVEPOINT_LIMIT, is_last};
 use wm_spec::record::Space;
 
@@ -29,7 +29,7 @@ pub fn leaving_refusal(
     if !removes {
         return Ok(None);
     }
-    removing_refusal(alloc, image, sessions, space)
+    going_refusal(alloc, image, sessions, space)
 }
 
 /// What a merge that keeps the parent first is refused for: the name of the savepoint stands there.

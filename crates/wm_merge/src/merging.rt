@@ -17,7 +17,7 @@ ghost use Rattle.wm_telling.specs.Telling.{AreFamily};
 
 use crate::conflict::{clash_refusal, rebase_refusal};
 use crate::leaving::{keeping_refusal, leaving_refusal, naming_refusal};
-use crate::ready::{can_merge, is_long};
+use crate::ready::can_merge;
 use crate::refreshing::{done, is_quiet, push_gain};
 use std::alloc::Global;
 use wm_base::{Memory, Name, Refusal};
@@ -29,8 +29,9 @@ use wm_pending::own::own_pieces;
 use wm_plan::answer::Answer;
 use wm_plan::planned::Planned;
 use wm_plan::refuse::{at_its_end, no_parent, no_workspace, not_built};
+use wm_plan::resolving::resolving_refusal;
 use wm_plan::session::Session;
-use wm_plan::work::is_spent;
+use wm_plan::work::{is_long, is_spent};
 use wm_spec::record::Space;
 use wm_state::edit::{Edit, NewEntry};
 
@@ -95,6 +96,9 @@ fn merging_refusal(
         return Ok(Some(refusal));
     }
     if let Some(refusal) = leaving_refusal(alloc, image, sessions, family.space, asked.removes)? {
+        return Ok(Some(refusal));
+    }
+    if let Some(refusal) = resolving_refusal(alloc, sessions, family.space)? {
         return Ok(Some(refusal));
     }
     if let Some(refusal) = clash_refusal(alloc, image, found)? {

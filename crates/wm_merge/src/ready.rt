@@ -1,53 +1,19 @@
 //! Whether entries can be written again, and what is own copied. In every state that lines lead to they can.
 
-ghost use Rattle.std.specs.Prelude.{◌≡◌, ◌+◌, ◌&&◌, not, nat_lt, length, map};
+ghost use Rattle.std.specs.Prelude.{◌≡◌, ◌&&◌, not, map};
 ghost use Rattle.std.specs.List.{list_all};
 ghost use Rattle.wm_graph.specs.Parts.{parts_of};
 ghost use Rattle.wm_merge.specs.Views.{has_next_turn};
 ghost use Rattle.wm_model.specs.Merged.{are_keys_kept, is_ready_entry};
-ghost use Rattle.wm_model.specs.Step.{counter_limit};
 ghost use Rattle.wm_pending.specs.Owned.{key_pieces};
-ghost use Rattle.wm_state.specs.Drafts.{can_keep};
 ghost use Rattle.wm_state.specs.Editing.{entry_of};
 
-use wm_base::Value;
 use wm_image::Image;
 use wm_pending::OwnKey;
+use wm_plan::kept::are_kept;
 use wm_space::saving::is_last;
 use wm_spec::record::Space;
 use wm_state::edit::NewEntry;
-
-/// The greatest length of a log.
-const LOG_LIMIT: u64 = 1 << 62;
-
-/// Whether a log would be longer than a log may be, with entries more.
-pub fn is_long(log_length: u64, entries: &[NewEntry]) -> bool
-    ensures { result ≡ nat_lt counter_limit (log_length + length entries.now) }
-{
-    log_length.saturating_add(entries.len() as u64) > LOG_LIMIT
-}
-
-/// Whether a record can keep a value.
-fn can_keep(value: &Value) -> bool
-    ensures { result ≡ can_keep value.now }
-{
-    match value {
-        Value::Text(text) => !text.as_bytes().is_empty(),
-        _ => true,
-    }
-}
-
-/// Whether a record can keep all of some values.
-fn are_kept(values: &[Value]) -> bool
-    ensures { result ≡ list_all can_keep values.now }
-{
-    for value in values {
-        if !can_keep(value) {
-            return false;
-        }
-    }
-    true
-}
 
 /// Whether an entry can be written again.
 fn is_ready_entry(image: &Image, entry: &NewEntry) -> bool

@@ -1,7 +1,7 @@
 //! RefreshWorkspace.
 
 ghost use Rattle.std.specs.Prelude.{◌≡◌, ◌<◌, ◌⊎◌, ◌++◌, ℕ, List, [], map, true, false, IfOk, OnOk};
-ghost use Rattle.std.specs.Option.{option_map};
+ghost use Rattle.std.specs.Option.{option_map, option_map_or};
 ghost use Rattle.wm_base.specs.declared.instant.TheConstants.{END};
 ghost use Rattle.wm_graph.specs.Parts.{parts_of};
 ghost use Rattle.wm_graph.specs.Rules.{keep_rules};
@@ -11,8 +11,10 @@ ghost use Rattle.wm_model.specs.Step.{refresh_workspace};
 ghost use Rattle.wm_pending.specs.Owned.{key_pieces};
 ghost use Rattle.wm_plan.specs.Idle.{Idles};
 ghost use Rattle.wm_plan.specs.Planning.{DoesIt};
+ghost use Rattle.wm_plan.specs.Views.{answer_view};
 ghost use Rattle.wm_plan.specs.declared.answer.Answer.TheVariants as answers;
 ghost use Rattle.wm_plan.specs.declared.seating.Seating.TheVariants as seatings;
+ghost use Rattle.wm_print.specs.Texts.{Fine, Refused};
 ghost use Rattle.wm_spec.specs.declared.record.space.Space.{Space as SpaceRecord};
 ghost use Rattle.wm_spending.specs.Nets.{AreNets};
 ghost use Rattle.wm_state.specs.Editing.{entry_of};
@@ -20,7 +22,7 @@ ghost use Rattle.wm_state.specs.State.{Session as SessionState};
 ghost use Rattle.wm_telling.specs.Telling.{AreFamily, AreOwn};
 
 use crate::conflict::{clash_refusal, rebase_refusal};
-use crate::ready::{can_refresh, is_long};
+use crate::ready::can_refresh;
 use std::alloc::Global;
 use wm_base::{Memory, Name, Refusal};
 use wm_image::Image;
@@ -31,9 +33,10 @@ use wm_pending::own::own_pieces;
 use wm_plan::answer::Answer;
 use wm_plan::planned::Planned;
 use wm_plan::refuse::{at_its_end, no_parent, no_workspace, not_built};
+use wm_plan::resolving::resolving_refusal;
 use wm_plan::seating::Seating;
 use wm_plan::session::Session;
-use wm_plan::work::is_spent;
+use wm_plan::work::{is_long, is_spent};
 use wm_spec::record::Space;
 use wm_state::edit::{Edit, NewEntry};
 
@@ -67,19 +70,33 @@ pub fn done(edits: Vec<Edit>) -> Planned
     }
 }
 
-/// What a refresh is refused for: a conflict, or that the workspace was rebased as often as may be.
+/// What a refresh is refused for: an open resolve, a conflict, or that the workspace was rebased as often as may be.
 fn refreshing_refusal(
     alloc: Global,
     image: &Image,
+    sessions: &[Session],
     space: &Space,
     found: Option<Clash>,
 ) -> Result<Option<Refusal>, Memory>
-    ensures { IfOk result (λ fault. fault ≡ refreshing_refusal (parts_of image.now) space.now (option_map clashed found)) }
+    ensures { IfOk result (λ fault. fault ≡ refreshing_refusal (parts_of image.now) sessions.now space.now (option_map clashed found)) }
 {
+    if let Some(refusal) = resolving_refusal(alloc, sessions, space)? {
+        return Ok(Some(refusal));
+    }
     if let Some(refusal) = clash_refusal(alloc, image, found)? {
         return Ok(Some(refusal));
     }
     rebase_refusal(alloc, space)
+}
+
+/// What a refresh is answered where nothing is pending.
+fn quiet_answer(refusal: Option<Refusal>) -> Answer
+    ensures { answer_view result ≡ option_map_or Refused refusal Fine }
+{
+    match refusal {
+        Some(refusal) => Answer::Refused(refusal),
+        None => Answer::Fine,
+    }
 }
 
 /// The edits of a refresh.
@@ -107,7 +124,7 @@ fn refresh_with(
     requires rules { keep_rules (parts_of image.now) ≡ true }
     requires moment { moment < END }
     requires own { AreOwn (parts_of image.now) space.now (map key_pieces own.now) }
-    ensures does { IfOk result (λ p. (xs : List SessionState) (session : SessionState) (workspace : List ℕ) (parent : SpaceRecord) → Refreshes image.now moment session workspace space.now parent (map entry_of entries.items) → DoesIt image.now xs moment p (refresh_workspace session workspace)) }
+    ensures does { IfOk result (λ p. (xs : List SessionState) (session : SessionState) (workspace : List ℕ) (parent : SpaceRecord) → Refreshes image.now moment xs session workspace space.now parent (map entry_of entries.items) → DoesIt image.now xs moment p (refresh_workspace session workspace)) }
     ensures idle { IfOk result Idles }
     ensures edits { IfOk result (λ p. (p.edits.items ≡ []) ⊎ (p.edits.items ≡ refresh_edits space.now.number entries)) }
 {
@@ -128,6 +145,7 @@ fn refresh_with(
 fn refresh_pending(
     alloc: Global,
     image: &Image,
+    sessions: &[Session],
     moment: u64,
     session: &Session,
     space: &Space,
@@ -137,13 +155,13 @@ fn refresh_pending(
     requires moment { moment < END }
     requires family { AreFamily (parts_of image.now) space.now parent.now }
     requires pending { is_quiet_at space.now parent.now ≡ false }
-    ensures does { IfOk result (λ p. (xs : List SessionState) (workspace : List ℕ) → NamesFamily image.now workspace space.now parent.now → DoesIt image.now xs moment p (refresh_workspace session.now workspace)) }
+    ensures does { IfOk result (λ p. (workspace : List ℕ) → NamesFamily image.now workspace space.now parent.now → DoesIt image.now sessions.now moment p (refresh_workspace session.now workspace)) }
     ensures idle { IfOk result Idles }
     ensures nets { IfOk result (λ p. (workspace : List ℕ) → NamesFamily image.now workspace space.now parent.now → AreNets image.now workspace p.edits.items) }
 {
     let own = own_pieces(alloc, image, space)?;
     let found = first_clash(alloc, image, space, parent, own.as_slice())?;
-    if let Some(refusal) = refreshing_refusal(alloc, image, space, found)? {
+    if let Some(refusal) = refreshing_refusal(alloc, image, sessions, space, found)? {
         return Ok(Planned::answered(alloc, Answer::Refused(refusal)));
     }
     let user = session.user();
@@ -155,13 +173,14 @@ fn refresh_pending(
 pub fn refresh_workspace(
     alloc: Global,
     image: &Image,
+    sessions: &[Session],
     moment: u64,
     session: &Session,
     name: &[u8],
 ) -> Result<Planned, Memory>
     requires rules { keep_rules (parts_of image.now) ≡ true }
     requires moment { moment < END }
-    ensures does { IfOk result (λ p. (xs : List SessionState) → DoesIt image.now xs moment p (refresh_workspace session.now name.now)) }
+    ensures does { IfOk result (λ p. DoesIt image.now sessions.now moment p (refresh_workspace session.now name.now)) }
     ensures idle { IfOk result Idles }
     // It makes no edits but those of a refresh.
     ensures nets { IfOk result (λ p. AreNets image.now name.now p.edits.items) }
@@ -174,7 +193,8 @@ pub fn refresh_workspace(
     }
     let parent = image.space(space.parent).unwrap();
     if is_quiet(space, parent) {
-        return Ok(Planned::answered(alloc, Answer::Fine));
+        let refusal = resolving_refusal(alloc, sessions, space)?;
+        return Ok(Planned::answered(alloc, quiet_answer(refusal)));
     }
-    refresh_pending(alloc, image, moment, session, space, parent)
+    refresh_pending(alloc, image, sessions, moment, session, space, parent)
 }

@@ -10,24 +10,29 @@ use Rattle.wm_state.specs.State.{Session, State}
 use Rattle.wm_state.specs.declared.edit.Edit.{Edit}
 use Rattle.wm_state.proofs.Counting.{CountsAs, counts_as as counted_as}
 use Rattle.wm_model.specs.Step.{durably, counter_limit, line_work, at_its_end}
-use Rattle.wm_model.specs.Planning.{StandsAt, Does, Seating, Stay, seated}
+use Rattle.wm_model.specs.Planning.{StandsAt, Does, Seating, SeatsStaged, Stay, seated}
 
 -- ---- nothing changes
 
 -- an answer alone
 pub does_nothing : (rs : List Stored) (xs : List Session) (m : ℕ) (answer : Answer) (act : State → State × Answer) → ((s : State) → StandsAt rs xs m s → act s ≡ (s, answer)) → Does rs xs m [] Stay answer act
-does_nothing rs xs m answer act same = record { can = tt; does = λ s st. same s st ∙ ap (λ n. (record s { moment = n }, answer)) (sym st.moment_is) }
+does_nothing rs xs m answer act same = record { can = tt; seats = tt; does = λ s st. same s st ∙ ap (λ n. (record s { moment = n }, answer)) (sym st.moment_is) }
 
 -- the sessions alone change
-pub does_seat : (rs : List Stored) (xs : List Session) (m : ℕ) (seating : Seating) (answer : Answer) (act : State → State × Answer)
+pub does_seat : (rs : List Stored) (xs : List Session) (m : ℕ) (seating : Seating) (answer : Answer) (act : State → State × Answer) → SeatsStaged (parts_of rs) seating
     → ((s : State) → StandsAt rs xs m s → act s ≡ (record s { sessions = seated s.sessions seating }, answer)) → Does rs xs m [] seating answer act
-does_seat rs xs m seating answer act same = record { can = tt; does = λ s st. same s st ∙ ap (λ n. (record s { sessions = seated s.sessions seating; moment = n }, answer)) (sym st.moment_is) }
+does_seat rs xs m seating answer act staged same = record {
+  can = tt;
+  seats = staged;
+  does = λ s st. same s st ∙ ap (λ n. (record s { sessions = seated s.sessions seating; moment = n }, answer)) (sym st.moment_is);
+}
 
 -- one edit is made
 pub does_edit : (rs : List Stored) (xs : List Session) (m : ℕ) (e : Edit) (answer : Answer) (act : State → State × Answer) → CanWork (parts_of rs) m line_work → CanEdit (parts_of rs) m e
     → ((s : State) → StandsAt rs xs m s → act s ≡ (record s { durable = record (edited m e s.durable) { last_moment = m; work = s.durable.work + line_work } }, answer)) → Does rs xs m (e ∷ []) Stay answer act
 does_edit rs xs m e answer act work can same = record {
   can = (work, omega arith, (can, λ given changes drafts. tt));
+  seats = tt;
   does = λ s st. same s st ∙ ap (λ n. (record s { durable = drafted m (e ∷ []) s.durable; moment = n }, answer)) (sym st.moment_is);
 }
 

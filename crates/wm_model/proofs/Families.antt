@@ -144,6 +144,7 @@ pub does_edits : (rs : List Stored) (xs : List Session) (m : ℕ) (es : List Edi
 does_edits rs xs m [] answer act can some same = absurd (some refl)
 does_edits rs xs m (e ∷ es) answer act can some same = record {
   can = can;
+  seats = tt;
   does = λ s st. same s st ∙ ap (λ n. (record s { durable = drafted m (e ∷ es) s.durable; moment = n }, answer)) (sym st.moment_is);
 }
 

@@ -25,7 +25,7 @@ use Rattle.wm_model.proofs.Homes.{home_is}
 -- what is done by one function is done by another that does the same to each state
 pub does_alike : (rs : List Stored) (xs : List Session) (m : ℕ) (es : List Edit) (seating : Seating) (answer : Answer) (act also : State → State × Answer) → ((s : State) → StandsAt rs xs m s → also s ≡ act s)
     → Does rs xs m es seating answer act → Does rs xs m es seating answer also
-does_alike rs xs m es seating answer act also same does = record { can = does.can; does = λ s st. same s st ∙ does.does s st }
+does_alike rs xs m es seating answer act also same does = record { can = does.can; seats = does.seats; does = λ s st. same s st ∙ does.does s st }
 
 pub run_some : (rs : List Stored) (xs : List Session) (m : ℕ) (name : List ℕ) (session : Session) (statement : Statement) (es : List Edit) (seating : Seating) (answer : Answer) → session_of name xs ≡ Some session
     → Does rs xs m es seating answer (run_statement session statement) → Does rs xs m es seating answer (λ s. run_for name (session_of name s.sessions) statement s)
@@ -46,7 +46,7 @@ goto_no_space rs xs m session name rules none = does_nothing rs xs m (no_workspa
 pub does_goto_workspace : (rs : List Stored) (xs : List Session) (m : ℕ) (session : Session) (name : List ℕ) (n : ℕ) → keep_rules (parts_of rs) ≡ true
     → ((s : State) → StandsAt rs xs m s → (w : Workspace) × (workspace_named name s.durable.spaces ≡ Some w) × (w.number ≡ n)) → Does rs xs m [] (Set session.name (settings.Stand n Latest)) Fine (goto_workspace session name)
 does_goto_workspace rs xs m session name n rules some =
-    does_seat rs xs m (Set session.name (settings.Stand n Latest)) Fine (goto_workspace session name)
+    does_seat rs xs m (Set session.name (settings.Stand n Latest)) Fine (goto_workspace session name) tt
     (λ s st. let r = some s st in rw r.1 (ap (λ a. standing session s a Latest) r.2))
 
 -- as the records say
@@ -65,7 +65,7 @@ does_goto_named_space rs xs m session name r rules some =
 pub does_goto_latest : (rs : List Stored) (xs : List Session) (m : ℕ) (session : Session) (name : List ℕ) (r : Space) → keep_rules (parts_of rs) ≡ true → space_of (parts_of rs).spaces session.space ≡ Some r
     → bytes_eq name latest ≡ true → Does rs xs m [] (Set session.name (settings.Stand session.space Latest)) Fine (goto_savepoint session name)
 does_goto_latest rs xs m session name r rules found is =
-    does_seat rs xs m (Set session.name (settings.Stand session.space Latest)) Fine (goto_savepoint session name) (λ s st. rw ((home_is rs xs m s session.space r st found).is, is) refl)
+    does_seat rs xs m (Set session.name (settings.Stand session.space Latest)) Fine (goto_savepoint session name) tt (λ s st. rw ((home_is rs xs m s session.space r st found).is, is) refl)
 
 -- no savepoint of the workspace has the name
 pub goto_no_savepoint : (rs : List Stored) (xs : List Session) (m : ℕ) (session : Session) (name : List ℕ) (r : Space) → keep_rules (parts_of rs) ≡ true → space_of (parts_of rs).spaces session.space ≡ Some r
@@ -79,7 +79,7 @@ pub does_goto_savepoint : (rs : List Stored) (xs : List Session) (m : ℕ) (sess
     → bytes_eq name latest ≡ false → find (λ (y : Saved). bytes_eq name y.name) (saved_in (parts_of rs) session.space) ≡ Some x
     → Does rs xs m [] (Set session.name (settings.Stand session.space (At x.making))) Fine (goto_savepoint session name)
 does_goto_savepoint rs xs m session name r x rules found other some =
-    does_seat rs xs m (Set session.name (settings.Stand session.space (At x.making))) Fine (goto_savepoint session name)
+    does_seat rs xs m (Set session.name (settings.Stand session.space (At x.making))) Fine (goto_savepoint session name) tt
     (λ s st.
     let h = home_is rs xs m s session.space r st found in
     let k = named_some (parts_of rs) s.durable session.space h.space st.stands h.is name x some in

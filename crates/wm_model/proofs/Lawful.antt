@@ -9,7 +9,10 @@ pub mod Firsts
 pub mod Undoing
 pub mod Nets
 pub mod Rebasing
+pub mod Staging
+pub mod Deciding
 pub mod Merging
+pub mod Resolving
 pub mod Step
 pub mod Runs
 pub mod Places

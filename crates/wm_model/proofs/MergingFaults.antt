@@ -17,10 +17,11 @@ use Rattle.wm_telling.specs.Telling.{IsHeldListing, own_held}
 use Rattle.wm_telling.proofs.Relisting.{empty_own, own_empty}
 use Rattle.wm_model.specs.Merged.{Clashed, IsClash, is_even_at, is_quiet_at, keeping_refusal, leaving_refusal, merging_refusal, naming_refusal, rebase_fault}
 use Rattle.wm_model.specs.Planning.{StandsAt}
-use Rattle.wm_model.specs.Step.{Asked, at_its_end, first_fault, is_even, keeping_faults, leaving_faults, merging_faults, most_savepoints, number_limit, refused_if, savepoint_there}
-use Rattle.wm_model.specs.Undone.{removing_refusal}
+use Rattle.wm_model.specs.Step.{Asked, at_its_end, first_fault, is_even, keeping_faults, leaving_faults, merging_faults, most_savepoints, number_limit, refused_if, resolving_fault, savepoint_there}
+use Rattle.wm_model.specs.Undone.{going_refusal, resolving_refusal}
 use Rattle.wm_model.proofs.Families.{Family, conflict_same, quiet_same}
-use Rattle.wm_model.proofs.RemovingLine.{removing_same}
+use Rattle.wm_model.proofs.RemovingLine.{going_same}
+use Rattle.wm_model.proofs.RollingLine.{resolving_same}
 
 module _ (rs : List Stored) (workspace : List ℕ) (a b : Space) (xs : List Session) (m : ℕ) (s : State) (st : StandsAt rs xs m s) (f : Family rs workspace a b s) where
   -- the name of the implicit savepoint that comes next in the parent
@@ -41,8 +42,11 @@ module _ (rs : List Stored) (workspace : List ℕ) (a b : Space) (xs : List Sess
       ∙ ap (λ t. refused_if (keeps && t) (savepoint_there (implicit_of b))) (named_same (implicit_of b))
 
   leaving_same : (removes : Bool) → first_fault (leaving_faults removes s f.w) ≡ leaving_refusal removes (parts_of rs) xs a
-  leaving_same true = removing_same rs xs m a s st f.w f.is ∙ ap (λ ys. removing_refusal (parts_of rs) ys a) (sym st.sessions_are)
+  leaving_same true = going_same rs xs m a s st f.w f.is ∙ ap (λ ys. going_refusal (parts_of rs) ys a) (sym st.sessions_are)
   leaving_same false = refl
+
+  open_same : resolving_fault s f.w ≡ resolving_refusal xs a
+  open_same = resolving_same (parts_of rs) a s f.w f.is ∙ ap (λ ys. resolving_refusal ys a) (sym st.sessions_are)
 
   keeping_same : (keeps : Bool) → first_fault (keeping_faults keeps f.q) ≡ keeping_refusal keeps (parts_of rs) b
   keeping_same keeps =
@@ -84,6 +88,7 @@ module _ (rs : List Stored) (workspace : List ℕ) (a b : Space) (xs : List Sess
       first_fault
       (naming_same asked.keeps i
       ∷ leaving_same asked.removes i
+      ∷ open_same i
       ∷ conflict_same rs workspace a b s f found clash i
       ∷ keeping_same asked.keeps i
       ∷ rebasing_same (is_even_at a b own) (even_same m user own listed) i

@@ -25,11 +25,11 @@ use Rattle.wm_state.proofs.Spaces.{IsSpace, named_no_space, ruled_spaces}
 use Rattle.wm_state.proofs.Tests.{bool_apart, not_true}
 use Rattle.wm_model.specs.Planning.{StandsAt, Does, Stay}
 use Rattle.wm_model.specs.Step.{at_its_end, counter_limit, first_fault, first_session, has_child, line_work, no_parent, no_workspace, refused_for, remove_workspace, session_inside, unless}
-use Rattle.wm_model.specs.Step.Undoing.{first_name, is_child, remove, removing_faults, stands_in}
-use Rattle.wm_model.specs.Undone.{NamesSpace, first_child, removing_refusal}
+use Rattle.wm_model.specs.Step.Undoing.{first_name, is_child, remove, removing_faults, resolving_fault, stands_in}
+use Rattle.wm_model.specs.Undone.{NamesSpace, first_child, going_refusal, removing_refusal, resolving_refusal}
 use Rattle.wm_model.proofs.Doing.{does_edit, does_nothing, not_spent_at, spent_at}
 use Rattle.wm_model.proofs.FirstChild.{first_same, none_first}
-use Rattle.wm_model.proofs.RollingLine.{fields_stand, home, named_numbered, pair}
+use Rattle.wm_model.proofs.RollingLine.{fields_stand, home, named_numbered, pair, resolving_same}
 
 -- ---- refusals by names
 
@@ -78,10 +78,16 @@ module _ (rs : List Stored) (xs : List Session) (m : ℕ) (a : Space) (s : State
       ap (λ (f : SpaceFields). refused_for (has_child f.name) (first_name (is_child w) s)) (sym is.fields)
       ∙ ap (refused_for (has_child a.name)) (first_same (parts_of rs) s.durable (fields_stand (parts_of rs) s.durable st.stands) (is_child w) (is_child_from a.number 0 0) child_same)
 
-  pub removing_same : first_fault (removing_faults s w) ≡ removing_refusal (parts_of rs) s.sessions a
-  removing_same =
-      ap (λ o. first_fault (o ∷ refused_for (has_child w.name) (first_name (is_child w) s) ∷ [])) session_part
-      ∙ ap (λ o. first_fault (refused_for (session_inside a.name) (first_session (λ (x : Session). x.space == a.number) s.sessions) ∷ o ∷ [])) child_part
+  pub going_same : first_fault (refused_for (session_inside w.name) (first_session (stands_in w) s.sessions) ∷ refused_for (has_child w.name) (first_name (is_child w) s) ∷ []) ≡ going_refusal (parts_of rs) s.sessions a
+  going_same = λ i. first_fault (session_part i ∷ child_part i ∷ [])
+
+  removing_same : first_fault (removing_faults s w) ≡ removing_refusal (parts_of rs) s.sessions a
+  removing_same = grouped _ _ (resolving_fault s w) ∙ (λ i. first_fault (going_same i ∷ resolving_same (parts_of rs) a s w is i ∷ []))
+    where
+      grouped : (f g h : Option Fault) → first_fault (f ∷ g ∷ h ∷ []) ≡ first_fault (first_fault (f ∷ g ∷ []) ∷ h ∷ [])
+      grouped (Some r) g h = refl
+      grouped None (Some r) h = refl
+      grouped None None h = refl
 
 -- the line, by what it is refused for
 by_refusal : (rs : List Stored) (xs : List Session) (m : ℕ) (workspace : List ℕ) (a : Space) (s : State) (names : NamesSpace rs workspace a) (st : StandsAt rs xs m s) (o : Option Fault) → 0 < a.number → removing_refusal (parts_of rs) xs a ≡ o
@@ -118,10 +124,10 @@ childless rs xs workspace a names some clear =
     all-found (λ (r : Space). r.number) (λ (r : Space). is_other a.number r.parent) (parts_of rs).spaces (ruled_spaces (parts_of rs) names.rules).numbers
     (λ n r found. by_itself n r found (r.number == a.number) refl)
   where
-    by_faults : (f : Option Fault) (o : Option (List ℕ)) → first_fault (f ∷ refused_for (has_child a.name) o ∷ []) ≡ None → o ≡ None
-    by_faults f None h = refl
-    by_faults None (Some y) h = cc
-    by_faults (Some z) (Some y) h = cc
+    by_faults : (f : Option Fault) (o : Option (List ℕ)) (g : Option Fault) → first_fault (first_fault (f ∷ refused_for (has_child a.name) o ∷ []) ∷ g ∷ []) ≡ None → o ≡ None
+    by_faults f None g h = refl
+    by_faults None (Some y) g h = cc
+    by_faults (Some z) (Some y) g h = cc
 
     unnamed : (o : Option Space) → option_map (λ (r : Space). r.name) o ≡ None → o ≡ None
     unnamed None h = refl
@@ -130,7 +136,7 @@ childless rs xs workspace a names some clear =
     none : first_recorded (is_child_from a.number 0 0) (parts_of rs).spaces ≡ None
     none =
         unnamed (first_recorded (is_child_from a.number 0 0) (parts_of rs).spaces)
-        (by_faults (refused_for (session_inside a.name) (first_session (λ (x : Session). x.space == a.number) xs)) (first_child (parts_of rs) a.number 0 0) clear)
+        (by_faults (refused_for (session_inside a.name) (first_session (λ (x : Session). x.space == a.number) xs)) (first_child (parts_of rs) a.number 0 0) (resolving_refusal xs a) clear)
 
     -- one that passes no test of children is none
     outside : (b c : Bool) (birth : ℕ) (more : Bool) → c ≡ false → (b && (not c && (nat_le 0 birth || more))) ≡ false → not b ≡ true

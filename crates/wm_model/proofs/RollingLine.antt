@@ -1,20 +1,21 @@
 -- What RollbackToSP does to each state that the records stand for.
-use Rattle.std.proofs.Common.{arith, ◌≡◌, ℕ, ◌+◌, ◌==◌, nat_lt, nat_le, Bool, true, false, not, ◌&&◌, ◌||◌, cond, List, [], ◌∷◌, Option, Some, None, unwrap_or, refl, sym, ap, ◌∙◌, codes}
+use Rattle.std.proofs.Common.{arith, ◌≡◌, ℕ, ◌+◌, ◌==◌, nat_lt, nat_le, Bool, true, false, not, ◌&&◌, ◌||◌, cond, List, [], ◌∷◌, length, Option, Some, None, unwrap_or, refl, sym, ap, ◌∙◌, codes}
 use Rattle.std.proofs.lemmas.Bool.{eq-eqb, eqb-true}
-use Rattle.std.specs.List.{find, list_all}
+use Rattle.std.specs.List.{find, list_all, list_any}
 use Rattle.std.specs.Option.{option_map, option_map_or}
 use Rattle.std.specs.Str.{bytes_eq}
 use Rattle.wm_base.specs.declared.instant.TheConstants.{END}
 use Rattle.wm_base.specs.declared.refusal.Refusal.{Refusal as Fault}
 use Rattle.wm_graph.specs.Parts.{Parts, parts_of, space_of}
 use Rattle.wm_graph.specs.Rules.{differ, keep_rules}
+use Rattle.wm_net.specs.Conflicts.{Settled}
 use Rattle.wm_print.specs.Texts.{Fine, Refused}
 use Rattle.wm_spec.specs.declared.record.counters.Counters.{Counters}
 use Rattle.wm_spec.specs.declared.record.savepoint.Savepoint.{Savepoint as Record}
 use Rattle.wm_spec.specs.declared.record.space.Space.{Space}
 use Rattle.wm_spec.specs.declared.record.stored.Stored.{Stored}
-use Rattle.wm_state.specs.Editing.{restored_in, stays_at}
-use Rattle.wm_state.specs.Firsts.{is_behind, is_child_from}
+use Rattle.wm_state.specs.Editing.{is_settled_below, restored_in, stays_at}
+use Rattle.wm_state.specs.Firsts.{is_behind, is_saved_behind}
 use Rattle.wm_state.specs.Standing.{FieldsStand, SavepointFields, SpaceFields, Stands, fields_in, fields_of, fields_saved, saved_as, saved_fields, saved_in}
 use Rattle.wm_state.specs.State.{Durable, Savepoint, Session, Stand, State, Latest, At, Workspace, savepoint_made, savepoints_of, workspace_of}
 use Rattle.wm_state.specs.declared.edit.Edit.TheVariants as edits
@@ -25,11 +26,12 @@ use Rattle.wm_state.proofs.Mapped.{find-again, find-else, find-passes}
 use Rattle.wm_state.proofs.Named.{ruled_savepoints, space_number}
 use Rattle.wm_state.proofs.SavedAs.{IsSaved, made_none, made_some, named_none, named_some, named_sorted}
 use Rattle.wm_state.proofs.Spaces.{IsSpace, NamedSpace, named_no_space, named_space, ruled_spaces}
-use Rattle.wm_state.proofs.Tests.{and_true, both}
+use Rattle.wm_state.proofs.Tests.{and_true, bool_apart, both}
+use Rattle.wm_telling.proofs.Marking.{marked_beyond, marked_since}
 use Rattle.wm_model.specs.Planning.{StandsAt, Does, Stay}
-use Rattle.wm_model.specs.Step.{at_its_end, counter_limit, dependent_child, durably, first_fault, first_session, line_work, no_savepoint, no_workspace, rebased_since, refused_for, refused_if, rollback_to, session_inside, unless}
-use Rattle.wm_model.specs.Step.Undoing.{depends, first_name, is_still, roll_back, rolling_faults, stands_behind, would_go}
-use Rattle.wm_model.specs.Undone.{NamesSpace, RollsIn, first_child, is_still_at, rolling_refusal, sits_behind}
+use Rattle.wm_model.specs.Step.{at_its_end, counter_limit, dependent_child, durably, first_fault, first_session, line_work, no_savepoint, no_workspace, rebased_since, refused_for, refused_if, resolve_open, resolves, rollback_to, session_inside, unless}
+use Rattle.wm_model.specs.Step.Undoing.{decides_beyond, depends, first_name, is_child, is_still, resolving_fault, roll_back, rolling_faults, settles_beyond, stands_behind, would_go}
+use Rattle.wm_model.specs.Undone.{NamesSpace, RollsIn, first_dependent, is_dependent, is_marked_beyond, is_marked_since, is_still_at, resolving_refusal, rolling_refusal, sits_behind}
 use Rattle.wm_model.proofs.Doing.{does_edit, does_nothing, not_spent_at, spent_at}
 use Rattle.wm_model.proofs.FirstChild.{first_same, no_savepoint_behind}
 
@@ -116,6 +118,31 @@ pair p s n c r st found recorded = record {
     some_fields : (f g : SpaceFields) → Some f ≡ Some g → f ≡ g
     some_fields f g h = cc
 
+-- whether a session has a resolve of the workspace open
+pub resolving_same : (p : Parts) (a : Space) (s : State) (w : Workspace) → IsSpace p s.durable a.number a w → resolving_fault s w ≡ resolving_refusal s.sessions a
+resolving_same p a s w is =
+    ap (λ (f : SpaceFields). refused_for (resolve_open f.name) (first_session (resolves w.number) s.sessions)) (sym is.fields)
+    ∙ ap (λ n. refused_for (resolve_open a.name) (first_session (resolves n) s.sessions)) is.number
+
+-- a child that takes something, or of which something else is said
+child_or : (parent apart e some f : Bool) → some ≡ true → ((parent && apart) && (e || f)) ≡ ((parent && (apart && e)) || ((parent && (apart && some)) && f))
+child_or true true e true f is = refl
+child_or true false e true f is = refl
+child_or false apart e true f is = refl
+child_or parent apart e false f is = absurd (bool_apart (sym is))
+
+-- all are below where none is not
+all_below : (place : ℕ) (ms : List Settled) → list_all (is_settled_below place) ms ≡ not (list_any (λ (m : Settled). nat_le place m.place) ms)
+all_below place [] = refl
+all_below place (m ∷ ms) = ap (λ b. nat_lt m.place place && b) (all_below place ms) ∙ by_test (nat_lt m.place place) (nat_le place m.place) (list_any (λ (q : Settled). nat_le place q.place) ms) (turned m.place place)
+  where
+    turned : (a b : ℕ) → nat_lt a b ≡ not (nat_le b a)
+    turned a b = grind arith
+
+    by_test : (b c d : Bool) → b ≡ not c → (b && not d) ≡ not (c || d)
+    by_test b true d e = ap (λ t. t && not d) e
+    by_test b false d e = ap (λ t. t && not d) e
+
 module _ (rs : List Stored) (xs : List Session) (m : ℕ) (workspace name : List ℕ) (a : Space) (x : Record) (s : State) (st : StandsAt rs xs m s) (w : Workspace) (k : Savepoint) (is : IsSpace (parts_of rs) s.durable a.number a w)
     (saved : IsSaved (parts_of rs) a.number w x k) where
   -- a savepoint stays where its record does
@@ -148,23 +175,35 @@ module _ (rs : List Stored) (xs : List Session) (m : ℕ) (workspace name : List
       ap (λ (f : SpaceFields). refused_for (session_inside f.name) (first_session (stands_behind w k) s.sessions)) (sym is.fields)
       ∙ ap (λ o. refused_for (session_inside a.name) (option_map (λ (y : Session). y.name) o)) (find_alike (stands_behind w k) (sits_behind (parts_of rs) a.number x) s.sessions sits_same)
 
-  depends_same : (n : ℕ) (c : Workspace) (r : Space) → workspace_of s.durable.spaces n ≡ Some c → space_of (parts_of rs).spaces n ≡ Some r → depends w k c ≡ is_child_from a.number (x.place + 1) (x.log_length + 1) r
+  -- a decision on the child is beyond where the records and the sessions say so
+  decided_same : (n : ℕ) (c : Workspace) (r : Space) → workspace_of s.durable.spaces n ≡ Some c → space_of (parts_of rs).spaces n ≡ Some r
+      → (settles_beyond k.log_length c || list_any (decides_beyond k.log_length c.number) s.sessions) ≡ (is_marked_beyond (parts_of rs) x.log_length r.number || list_any (decides_beyond x.log_length r.number) s.sessions)
+  decided_same n c r found recorded =
+      let two = pair (parts_of rs) s.durable n c r st.stands found recorded in
+      ap (λ b. b || list_any (decides_beyond k.log_length c.number) s.sessions) (sym (marked_beyond (parts_of rs) s.durable n c st.stands.marks st.stands.rules found k.log_length))
+      ∙ ap (λ i. is_marked_beyond (parts_of rs) k.log_length i || list_any (decides_beyond k.log_length c.number) s.sessions) (sym (space_number (parts_of rs) n r recorded))
+      ∙ ap (λ i. is_marked_beyond (parts_of rs) k.log_length r.number || list_any (decides_beyond k.log_length i) s.sessions) two.number
+      ∙ ap (λ (f : SavepointFields). is_marked_beyond (parts_of rs) f.log_length r.number || list_any (decides_beyond f.log_length r.number) s.sessions) (sym saved.fields)
+
+  depends_same : (n : ℕ) (c : Workspace) (r : Space) → workspace_of s.durable.spaces n ≡ Some c → space_of (parts_of rs).spaces n ≡ Some r → depends s.sessions w k c ≡ is_dependent (parts_of rs) s.sessions a.number x r
   depends_same n c r found recorded =
       let two = pair (parts_of rs) s.durable n c r st.stands found recorded in
-      ap (λ i. ((c.parent == i) && not (c.number == i)) && (nat_lt k.place c.birth_place || nat_lt k.log_length c.from)) is.number
-      ∙ ap (λ i. ((c.parent == a.number) && not (i == a.number)) && (nat_lt k.place c.birth_place || nat_lt k.log_length c.from)) two.number
-      ∙ ap (λ (f : SpaceFields). ((f.parent == a.number) && not (r.number == a.number)) && (nat_lt k.place f.birth_place || nat_lt k.log_length f.from)) (sym two.fields)
-      ∙ ap (λ (f : SavepointFields). ((r.parent == a.number) && not (r.number == a.number)) && (nat_lt f.place r.birth_place || nat_lt f.log_length r.from)) (sym saved.fields)
-      ∙ ap (λ b. ((r.parent == a.number) && not (r.number == a.number)) && (b || nat_lt x.log_length r.from)) (under_next x.place r.birth_place)
-      ∙ ap (λ b. ((r.parent == a.number) && not (r.number == a.number)) && (nat_le (x.place + 1) r.birth_place || b)) (under_next x.log_length r.from)
-      ∙ grouped (r.parent == a.number) (not (r.number == a.number)) (nat_le (x.place + 1) r.birth_place || nat_le (x.log_length + 1) r.from)
+      let decided = is_marked_beyond (parts_of rs) x.log_length r.number || list_any (decides_beyond x.log_length r.number) s.sessions in
+      ap (λ t. is_child w c && ((nat_lt k.place c.birth_place || nat_lt k.log_length c.from) || t)) (decided_same n c r found recorded)
+      ∙ ap (λ i. ((c.parent == i) && not (c.number == i)) && ((nat_lt k.place c.birth_place || nat_lt k.log_length c.from) || decided)) is.number
+      ∙ ap (λ i. ((c.parent == a.number) && not (i == a.number)) && ((nat_lt k.place c.birth_place || nat_lt k.log_length c.from) || decided)) two.number
+      ∙ ap (λ (f : SpaceFields). ((f.parent == a.number) && not (r.number == a.number)) && ((nat_lt k.place f.birth_place || nat_lt k.log_length f.from) || decided)) (sym two.fields)
+      ∙ ap (λ (f : SavepointFields). ((r.parent == a.number) && not (r.number == a.number)) && ((nat_lt f.place r.birth_place || nat_lt f.log_length r.from) || decided)) (sym saved.fields)
+      ∙ ap (λ b. ((r.parent == a.number) && not (r.number == a.number)) && ((b || nat_lt x.log_length r.from) || decided)) (under_next x.place r.birth_place)
+      ∙ ap (λ b. ((r.parent == a.number) && not (r.number == a.number)) && ((nat_le (x.place + 1) r.birth_place || b) || decided)) (under_next x.log_length r.from)
+      ∙ child_or (r.parent == a.number) (not (r.number == a.number)) (nat_le (x.place + 1) r.birth_place || nat_le (x.log_length + 1) r.from) (nat_le 0 r.birth_place || nat_le 0 r.from) decided
+      (ap (λ b. b || nat_le 0 r.from) (from_none r.birth_place))
     where
-      grouped : (b c d : Bool) → ((b && c) && d) ≡ (b && (c && d))
-      grouped true c d = refl
-      grouped false c d = refl
+      from_none : (i : ℕ) → nat_le 0 i ≡ true
+      from_none i = grind arith
 
-  child_part : refused_for dependent_child (first_name (depends w k) s) ≡ refused_for dependent_child (first_child (parts_of rs) a.number (x.place + 1) (x.log_length + 1))
-  child_part = ap (refused_for dependent_child) (first_same (parts_of rs) s.durable (fields_stand (parts_of rs) s.durable st.stands) (depends w k) (is_child_from a.number (x.place + 1) (x.log_length + 1)) depends_same)
+  child_part : refused_for dependent_child (first_name (depends s.sessions w k) s) ≡ refused_for dependent_child (first_dependent (parts_of rs) s.sessions a.number x)
+  child_part = ap (refused_for dependent_child) (first_same (parts_of rs) s.durable (fields_stand (parts_of rs) s.durable st.stands) (depends s.sessions w k) (is_dependent (parts_of rs) s.sessions a.number x) depends_same)
 
   rebase_part : refused_if (not (k.rebases == w.rebases)) (rebased_since k.name) ≡ refused_if (not (x.rebases == a.rebases)) (rebased_since x.name)
   rebase_part =
@@ -172,13 +211,7 @@ module _ (rs : List Stored) (xs : List Session) (m : ℕ) (workspace name : List
       ∙ ap (λ (f : SpaceFields). refused_if (not (x.rebases == f.rebases)) (rebased_since x.name)) (sym is.fields)
 
   pub rolling_same : first_fault (rolling_faults s w k) ≡ rolling_refusal (parts_of rs) s.sessions a x
-  rolling_same =
-      ap (λ o. first_fault (o ∷ refused_for dependent_child (first_name (depends w k) s) ∷ refused_if (not (k.rebases == w.rebases)) (rebased_since k.name) ∷ [])) session_part
-      ∙ ap (λ o. first_fault (inside ∷ o ∷ refused_if (not (k.rebases == w.rebases)) (rebased_since k.name) ∷ [])) child_part
-      ∙ ap (λ o. first_fault (inside ∷ refused_for dependent_child (first_child (parts_of rs) a.number (x.place + 1) (x.log_length + 1)) ∷ o ∷ [])) rebase_part
-    where
-      inside : Option Fault
-      inside = refused_for (session_inside a.name) (first_session (sits_behind (parts_of rs) a.number x) s.sessions)
+  rolling_same = λ i. first_fault (session_part i ∷ child_part i ∷ rebase_part i ∷ resolving_same (parts_of rs) a s w is i ∷ [])
 
   -- the savepoint by the making of its record
   made_here : savepoint_made x.making w.savepoints ≡ Some k
@@ -187,12 +220,22 @@ module _ (rs : List Stored) (xs : List Session) (m : ℕ) (workspace name : List
   saved_here : saved_as (parts_of rs) a.number x.making ≡ Some x
   saved_here = ap (λ (f : SavepointFields). saved_as (parts_of rs) a.number f.making) saved.fields ∙ saved.recorded
 
-  pub still_same : is_still w k ≡ is_still_at (parts_of rs) a x
-  still_same =
+  -- nothing came behind the savepoint but marks, and no mark did
+  still_logged : (nat_le (length w.lists.log) k.log_length && list_all (stays_at k) w.savepoints) ≡ (nat_le a.log_length x.log_length && not (list_any (is_saved_behind a.number x.place x.log_length) (parts_of rs).savepoints))
+  still_logged =
       ap (λ (f : SpaceFields). nat_le f.log_length k.log_length && list_all (stays_at k) w.savepoints) (sym is.fields)
       ∙ ap (λ (f : SavepointFields). nat_le a.log_length f.log_length && list_all (stays_at k) w.savepoints) (sym saved.fields)
       ∙ ap (λ b. nat_le a.log_length x.log_length && b)
       (no_savepoint_behind (parts_of rs) s.durable (fields_stand (parts_of rs) s.durable st.stands) st.stands.rules a.number x.making w k x is.found made_here saved_here)
+
+  still_settled : list_all (is_settled_below k.place) w.settled ≡ not (is_marked_since (parts_of rs) x.place a.number)
+  still_settled =
+      all_below k.place w.settled
+      ∙ ap not (sym (marked_since (parts_of rs) s.durable a.number w st.stands.marks st.stands.rules is.found k.place))
+      ∙ ap (λ (f : SavepointFields). not (is_marked_since (parts_of rs) f.place a.number)) (sym saved.fields)
+
+  pub still_same : is_still w k ≡ is_still_at (parts_of rs) a x
+  still_same = λ i. still_logged i && still_settled i
 
   pub made_in : savepoint_made x.making (savepoints_of s.durable.spaces a.number) ≡ Some k
   made_in = ap (savepoint_made x.making) (savepoints_of-found s.durable.spaces a.number w is.found) ∙ made_here
@@ -239,13 +282,13 @@ roll_spent rs xs m workspace name a x c among clear moved one much =
 based : (rs : List Stored) (xs : List Session) (a : Space) (x : Record) → rolling_refusal (parts_of rs) xs a x ≡ None → x.rebases ≡ a.rebases
 based rs xs a x clear =
     eqb-true x.rebases a.rebases
-    (by_faults (refused_for (session_inside a.name) (first_session (sits_behind (parts_of rs) a.number x) xs)) (refused_for dependent_child (first_child (parts_of rs) a.number (x.place + 1) (x.log_length + 1))) (x.rebases == a.rebases) clear)
+    (by_faults (refused_for (session_inside a.name) (first_session (sits_behind (parts_of rs) a.number x) xs)) (refused_for dependent_child (first_dependent (parts_of rs) xs a.number x)) (resolving_refusal xs a) (x.rebases == a.rebases) clear)
   where
-    by_faults : (f g : Option Fault) (b : Bool) → first_fault (f ∷ g ∷ refused_if (not b) (rebased_since x.name) ∷ []) ≡ None → b ≡ true
-    by_faults f g true h = refl
-    by_faults None None false h = cc
-    by_faults None (Some y) false h = cc
-    by_faults (Some y) g false h = cc
+    by_faults : (f g h : Option Fault) (b : Bool) → first_fault (f ∷ g ∷ refused_if (not b) (rebased_since x.name) ∷ h ∷ []) ≡ None → b ≡ true
+    by_faults f g h true none = refl
+    by_faults None None h false none = cc
+    by_faults None (Some y) h false none = cc
+    by_faults (Some y) g h false none = cc
 
 pub does_roll : (rs : List Stored) (xs : List Session) (m : ℕ) (workspace name : List ℕ) (a : Space) (x : Record) (c : Counters) → RollsIn rs workspace name a x → rolling_refusal (parts_of rs) xs a x ≡ None
     → is_still_at (parts_of rs) a x ≡ false → (parts_of rs).counters ≡ c ∷ [] → nat_lt counter_limit (c.work + line_work) ≡ false → nat_lt m END ≡ true

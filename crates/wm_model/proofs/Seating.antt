@@ -33,9 +33,9 @@ connect_full rs xs m name user rules new good full =
     does_nothing rs xs m most_sessions (connect name user) (λ s st. rw (open_still rs xs m s name false st new, good, ap (λ (ys : List Session). nat_le 256 (length ys)) (sym st.sessions_are) ∙ full) refl)
 
 pub does_connect : (rs : List Stored) (xs : List Session) (m : ℕ) (name user : List ℕ) → keep_rules (parts_of rs) ≡ true → is_some (session_of name xs) ≡ false → (is_name name && is_name user) ≡ true → nat_le 256 (length xs) ≡ false
-    → Does rs xs m [] (Open (record { name = name; user = user; space = 0; stand = Latest; period = None; conflict = None })) Fine (connect name user)
+    → Does rs xs m [] (Open (record { name = name; user = user; space = 0; stand = Latest; period = None; conflict = None; resolve = None })) Fine (connect name user)
 does_connect rs xs m name user rules new good room =
-    does_seat rs xs m (Open (record { name = name; user = user; space = 0; stand = Latest; period = None; conflict = None })) Fine (connect name user)
+    does_seat rs xs m (Open (record { name = name; user = user; space = 0; stand = Latest; period = None; conflict = None; resolve = None })) Fine (connect name user) tt
     (λ s st. rw (open_still rs xs m s name false st new, good, ap (λ (ys : List Session). nat_le 256 (length ys)) (sym st.sessions_are) ∙ room) refl)
 
 -- ---- DISCONNECT
@@ -44,7 +44,7 @@ pub disconnect_none : (rs : List Stored) (xs : List Session) (m : ℕ) (name : L
 disconnect_none rs xs m name rules none = does_nothing rs xs m (no_session name) (disconnect name) (λ s st. rw (open_still rs xs m s name false st none) refl)
 
 pub does_disconnect : (rs : List Stored) (xs : List Session) (m : ℕ) (name : List ℕ) → keep_rules (parts_of rs) ≡ true → is_some (session_of name xs) ≡ true → Does rs xs m [] (Close name) Fine (disconnect name)
-does_disconnect rs xs m name rules there = does_seat rs xs m (Close name) Fine (disconnect name) (λ s st. rw (open_still rs xs m s name true st there) refl)
+does_disconnect rs xs m name rules there = does_seat rs xs m (Close name) Fine (disconnect name) tt (λ s st. rw (open_still rs xs m s name true st there) refl)
 
 -- ---- SetValidTime
 
@@ -52,7 +52,7 @@ does_disconnect rs xs m name rules there = does_seat rs xs m (Close name) Fine (
 pub does_unset : (rs : List Stored) (xs : List Session) (m : ℕ) (session : Session) (from : Option ℕ) (till : ℕ) → keep_rules (parts_of rs) ≡ true → from ≡ None
     → Does rs xs m [] (Set session.name (settings.Period None)) Fine (set_valid_time session from till)
 does_unset rs xs m session from till rules none =
-    does_seat rs xs m (Set session.name (settings.Period None)) Fine (set_valid_time session from till) (λ s st. ap (λ o. set_valid_time session o till s) none)
+    does_seat rs xs m (Set session.name (settings.Period None)) Fine (set_valid_time session from till) tt (λ s st. ap (λ o. set_valid_time session o till s) none)
 
 -- the period would be empty
 pub sets_empty : (rs : List Stored) (xs : List Session) (m : ℕ) (session : Session) (given : Option ℕ) (from till : ℕ) → keep_rules (parts_of rs) ≡ true → given ≡ Some from → nat_lt from till ≡ false
@@ -67,7 +67,7 @@ sets_empty rs xs m session given from till rules is empty =
 pub does_set : (rs : List Stored) (xs : List Session) (m : ℕ) (session : Session) (given : Option ℕ) (from till : ℕ) → keep_rules (parts_of rs) ≡ true → given ≡ Some from → nat_lt from till ≡ true
     → Does rs xs m [] (Set session.name (settings.Period (Some (record { from = from; till = till })))) Fine (set_valid_time session given till)
 does_set rs xs m session given from till rules is lasts =
-    does_seat rs xs m (Set session.name (settings.Period (Some (record { from = from; till = till })))) Fine (set_valid_time session given till)
+    does_seat rs xs m (Set session.name (settings.Period (Some (record { from = from; till = till })))) Fine (set_valid_time session given till) tt
     (λ s st. ap (λ o. set_valid_time session o till s) is ∙ set s)
   where
     set : (s : State) → set_valid_time session (Some from) till s ≡ set_period session (Some (record { from = from; till = till })) s
@@ -85,7 +85,7 @@ look_unnamed rs xs m session name rules none =
 pub does_look : (rs : List Stored) (xs : List Session) (m : ℕ) (session : Session) (name : List ℕ) (r : Space) → keep_rules (parts_of rs) ≡ true → find (λ (q : Space). bytes_eq name q.name) (parts_of rs).spaces ≡ Some r
     → Does rs xs m [] (Set session.name (settings.Conflict name)) Fine (set_conflict_workspace session name)
 does_look rs xs m session name r rules some =
-    does_seat rs xs m (Set session.name (settings.Conflict name)) Fine (set_conflict_workspace session name) (λ s st. rw (named_space (parts_of rs) s.durable name r st.stands some).named refl)
+    does_seat rs xs m (Set session.name (settings.Conflict name)) Fine (set_conflict_workspace session name) tt (λ s st. rw (named_space (parts_of rs) s.durable name r st.stands some).named refl)
 
 -- ---- a statement of a session
 

@@ -29,11 +29,11 @@ tells_alike : (p : Parts) (d : Durable) (v n r : ℕ) (es fs : List Entry) (c : 
 tells_alike p d v n r es fs c st named a = (st.named.tells v n r es named).holds c ∙ ap (option_map held_of) (a.same c)
 
 -- the newest version of a workspace holds all that it was
-pub tells_latest : (p : Parts) (d : Durable) (n : ℕ) (w : Workspace) (c : Cell) → Stands p d → Lawful d → workspace_of d.spaces n ≡ Some w → seen p (latest p n) c ≡ option_map held_of (told (whole w) c)
+pub tells_latest : {staged : List Entry} (p : Parts) (d : Durable) (n : ℕ) (w : Workspace) (c : Cell) → Stands p d → Lawful d staged → workspace_of d.spaces n ≡ Some w → seen p (latest p n) c ≡ option_map held_of (told (whole w) c)
 tells_latest p d n w c st l found = tells_alike p d (latest p n) n w.rebases (content w) (whole w) c st (Newest w found) (l.spaces.each n w found).latest
 
 -- that of a savepoint, what the workspace was there
-pub tells_kept : (p : Parts) (d : Durable) (n making : ℕ) (w : Workspace) (k : Savepoint) (x : Record) (c : Cell) → Stands p d → Lawful d → workspace_of d.spaces n ≡ Some w → savepoint_made making w.savepoints ≡ Some k
+pub tells_kept : {staged : List Entry} (p : Parts) (d : Durable) (n making : ℕ) (w : Workspace) (k : Savepoint) (x : Record) (c : Cell) → Stands p d → Lawful d staged → workspace_of d.spaces n ≡ Some w → savepoint_made making w.savepoints ≡ Some k
     → saved_as p n making ≡ Some x → seen p x.version c ≡ option_map held_of (told (point w k.log_length) c)
 tells_kept p d n making w k x c st l found made saved =
     tells_alike p d x.version n k.rebases (kept k) (point w k.log_length) c st (Kept making w k x found made saved)
@@ -44,7 +44,7 @@ record IsTurn (w : Workspace) (number : ℕ) : Type 0 where
   turn : Turn
   is : turn_of w number ≡ Some turn
 
-turn_there : (n number : ℕ) (w : Workspace) (d : Durable) → Lawful d → 0 < n → workspace_of d.spaces n ≡ Some w → number ≤ w.rebases → IsTurn w number
+turn_there : {staged : List Entry} (n number : ℕ) (w : Workspace) (d : Durable) → Lawful d staged → 0 < n → workspace_of d.spaces n ≡ Some w → number ≤ w.rebases → IsTurn w number
 turn_there n number w d l above found within = by_turn (turn_of w number) refl (inside w.turns number (omega (arith, turns, within)))
   where
     turns : length w.turns ≡ w.rebases + 1
@@ -60,14 +60,14 @@ turn_there n number w d l above found within = by_turn (turn_of w number) refl (
     by_turn (Some t) is some = record { turn = t; is = is }
 
 -- what a turn took is what the parent was at the length that it names
-took : (d : Durable) (n number : ℕ) (w q : Workspace) (t : Turn) → Lawful d → 0 < n → workspace_of d.spaces n ≡ Some w → workspace_of d.spaces w.parent ≡ Some q → turn_of w number ≡ Some t → Alike t.content (point q t.log_length)
+took : {staged : List Entry} (d : Durable) (n number : ℕ) (w q : Workspace) (t : Turn) → Lawful d staged → 0 < n → workspace_of d.spaces n ≡ Some w → workspace_of d.spaces w.parent ≡ Some q → turn_of w number ≡ Some t → Alike t.content (point q t.log_length)
 took d n number w q t l above found parent turn =
     let b = l.spaces.bases n w above found in
     let same : b.parent ≡ q = one_some b.parent q (sym b.is ∙ parent) in
     rw (← same) (b.alike number t turn)
 
 -- the version that a workspace sees under its own holds what the parent was where its log was so long
-pub tells_base : (p : Parts) (d : Durable) (n : ℕ) (w q : Workspace) (r : Space) (c : Cell) → Stands p d → Lawful d → 0 < n → workspace_of d.spaces n ≡ Some w → workspace_of d.spaces w.parent ≡ Some q → space_of p.spaces n ≡ Some r
+pub tells_base : {staged : List Entry} (p : Parts) (d : Durable) (n : ℕ) (w q : Workspace) (r : Space) (c : Cell) → Stands p d → Lawful d staged → 0 < n → workspace_of d.spaces n ≡ Some w → workspace_of d.spaces w.parent ≡ Some q → space_of p.spaces n ≡ Some r
     → seen p r.base_version c ≡ option_map held_of (told (point q w.from) c)
 tells_base p d n w q r c st l above found parent recorded =
     let t = turn_there n w.rebases w d l above found (omega arith) in
@@ -76,7 +76,7 @@ tells_base p d n w q r c st l above found parent recorded =
     ∙ ap (λ k. option_map held_of (told (point q k) c)) last.1
 
 -- and that is the base that it took there
-pub holds_base : (p : Parts) (d : Durable) (n : ℕ) (w : Workspace) (r : Space) (c : Cell) → Stands p d → Lawful d → 0 < n → workspace_of d.spaces n ≡ Some w → space_of p.spaces n ≡ Some r
+pub holds_base : {staged : List Entry} (p : Parts) (d : Durable) (n : ℕ) (w : Workspace) (r : Space) (c : Cell) → Stands p d → Lawful d staged → 0 < n → workspace_of d.spaces n ≡ Some w → space_of p.spaces n ≡ Some r
     → seen p r.base_version c ≡ option_map held_of (told w.lists.base c)
 holds_base p d n w r c st l above found recorded =
     let t = turn_there n w.rebases w d l above found (omega arith) in
@@ -84,13 +84,13 @@ holds_base p d n w r c st l above found recorded =
     ∙ ap (λ (es : List Entry). option_map held_of (told es c)) ((l.spaces.each n w found).last t.turn t.is).0
 
 -- whose rows stand under their stamps
-pub rows_base : (p : Parts) (d : Durable) (n : ℕ) (w : Workspace) (r : Space) → Stands p d → Lawful d → 0 < n → workspace_of d.spaces n ≡ Some w → space_of p.spaces n ≡ Some r → HasRows p w.lists.base
+pub rows_base : {staged : List Entry} (p : Parts) (d : Durable) (n : ℕ) (w : Workspace) (r : Space) → Stands p d → Lawful d staged → 0 < n → workspace_of d.spaces n ≡ Some w → space_of p.spaces n ≡ Some r → HasRows p w.lists.base
 rows_base p d n w r st l above found recorded =
     let t = turn_there n w.rebases w d l above found (omega arith) in
     subst (HasRows p) ((l.spaces.each n w found).last t.turn t.is).0 (st.named.tells r.base_version w.parent t.turn.rebases t.turn.content (Base w r t.turn above found recorded t.is)).rows
 
 -- and the one that it saw so at a savepoint
-pub tells_kept_base : (p : Parts) (d : Durable) (n making : ℕ) (w q : Workspace) (k : Savepoint) (x : Record) (c : Cell) → Stands p d → Lawful d → 0 < n → workspace_of d.spaces n ≡ Some w → workspace_of d.spaces w.parent ≡ Some q
+pub tells_kept_base : {staged : List Entry} (p : Parts) (d : Durable) (n making : ℕ) (w q : Workspace) (k : Savepoint) (x : Record) (c : Cell) → Stands p d → Lawful d staged → 0 < n → workspace_of d.spaces n ≡ Some w → workspace_of d.spaces w.parent ≡ Some q
     → savepoint_made making w.savepoints ≡ Some k → saved_as p n making ≡ Some x → seen p x.base_version c ≡ option_map held_of (told (point q k.from) c)
 tells_kept_base p d n making w q k x c st l above found parent made saved =
     let m = (l.spaces.each n w found).marks (λ (y : Savepoint). y.making == making) k made in

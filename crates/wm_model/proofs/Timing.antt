@@ -20,4 +20,4 @@ moment_stays rs xs m instant before =
 
 -- the moment moves, and the records stay
 pub moment_moves : (rs : List Stored) (xs : List Session) (m instant : ℕ) → nat_lt instant m ≡ false → DoesAt rs xs m [] Stay instant Fine (set_moment instant)
-moment_moves rs xs m instant behind = record { can = tt; does = λ s st. later m instant s st.moment_is behind }
+moment_moves rs xs m instant behind = record { can = tt; seats = tt; does = λ s st. later m instant s st.moment_is behind }

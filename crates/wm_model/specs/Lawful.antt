@@ -1,13 +1,14 @@
 -- What holds in each state that lines lead to: private copies and logs say the same.
-use Rattle.std.specs.Prelude.{ℕ, ◌≡◌, ◌+◌, ◌<◌, ◌≤◌, Bool, true, ◌==◌, if◌then◌else◌, List, [], ◌∷◌, ◌++◌, length, take, drop, Some, is_some}
-use Rattle.std.specs.List.{find, list_all}
+use Rattle.std.specs.Prelude.{ℕ, ◌≡◌, ◌+◌, ◌<◌, ◌≤◌, Bool, true, ◌==◌, if◌then◌else◌, List, [], ◌∷◌, ◌++◌, length, map, take, drop, Some, is_some}
+use Rattle.std.specs.List.{find, flat_map, list_all}
 use Rattle.std.specs.Option.{option_map_or}
 use Rattle.wm_base.specs.declared.row.Row.{Row}
+use Rattle.wm_decided.specs.Staged.{copy_of}
 use Rattle.wm_graph.specs.Rules.{differ}
 use Rattle.wm_making.specs.Rows.{is_filled}
-use Rattle.wm_model.specs.Step.{step}
+use Rattle.wm_model.specs.Step.{decisions_of, step}
 use Rattle.wm_spec.specs.Lists.{Alike, Entry, Told, told_of}
-use Rattle.wm_state.specs.State.{Durable, Savepoint, Session, Stand, Latest, At, State, Turn, Workspace, begin, content, fresh, kept, savepoint_made, turn_of, workspace_of}
+use Rattle.wm_state.specs.State.{Decision, Durable, Savepoint, Session, Stand, Latest, At, State, Turn, Workspace, begin, content, fresh, kept, savepoint_made, turn_of, workspace_of}
 
 -- ---- one workspace
 
@@ -93,17 +94,25 @@ pub record IsSound (tells : ℕ → Told) (next : ℕ) (e : Entry) : Type 0 wher
   pub filled : option_map_or is_full_row e.row true ≡ true
   pub keyed : list_all is_filled e.key ≡ true
 
--- so is each entry of each list, also those that lie under others
-pub record LawfulEntries (next : ℕ) (spaces : List Workspace) : Type 0 where
+-- so is each entry of each list, also those that lie under others, and each of those that sessions have staged
+pub record LawfulEntries (next : ℕ) (spaces : List Workspace) (copies : List Entry) : Type 0 where
   pub tells : ℕ → Told
   pub each : (n : ℕ) (w : Workspace) → workspace_of spaces n ≡ Some w → Holds (IsSound tells next) w
+  pub staged : Each (IsSound tells next) copies
 
--- what a store keeps is lawful
-pub record Lawful (d : Durable) : Type 0 where
+-- what a store keeps is lawful, and so is what was staged of it
+pub record Lawful (d : Durable) (staged : List Entry) : Type 0 where
   pub spaces : LawfulSpaces d.spaces
-  pub entries : LawfulEntries d.next_stamp d.spaces
+  pub entries : LawfulEntries d.next_stamp d.spaces staged
 
 -- ---- sessions
+
+-- what sessions have staged to be copied
+abbrev pub staged_of : Decision → List Entry
+staged_of d = map (copy_of d) d.copied
+
+abbrev pub staged_in : List Session → List Entry
+staged_in xs = flat_map (λ (x : Session). flat_map staged_of (decisions_of x)) xs
 
 -- one may stand so in a workspace
 abbrev pub IsAt : Workspace → Stand → Type 0
@@ -121,9 +130,9 @@ abbrev pub Seats : List Workspace → List Session → Type 0
 Seats spaces [] = Unit {0}
 Seats spaces (x ∷ xs) = IsPlace spaces x.space x.stand × Seats spaces xs
 
--- a state that lines lead to: what a store keeps of it is lawful, and each session stands somewhere
+-- a state that lines lead to: what a store keeps of it is lawful, and so is what sessions have staged; each session stands somewhere
 pub record LawfulState (s : State) : Type 0 where
-  pub durable : Lawful s.durable
+  pub durable : Lawful s.durable (staged_in s.sessions)
   pub seats : Seats s.durable.spaces s.sessions
 
 -- a state that lines lead to from a fresh store, over runs

@@ -25,7 +25,7 @@ use Rattle.wm_state.specs.declared.edit.NewEntry.{NewEntry}
 use Rattle.wm_telling.specs.Telling.{IsFirstClash, IsHeldListing, clash_held, gained_held, own_held}
 use Rattle.wm_print.specs.Texts.{Answer}
 use Rattle.wm_model.specs.Step.{Asked, at_its_end, first_fault, in_conflict, most_savepoints, number_limit, refused_for, refused_if, savepoint_there, told_period}
-use Rattle.wm_model.specs.Undone.{NamesSpace, removing_refusal}
+use Rattle.wm_model.specs.Undone.{NamesSpace, going_refusal, resolving_refusal}
 
 -- ---- conflicts
 
@@ -73,18 +73,18 @@ are_keys_kept ks = list_all (λ (k : KeyPieces). (length k.pieces == 0) || list_
 abbrev pub rebase_fault : Space → Option Refusal
 rebase_fault a = refused_if (nat_lt number_limit (a.rebases + 1)) (at_its_end (codes "REBASE"))
 
--- what RefreshWorkspace is refused for where something is pending
-abbrev pub refreshing_refusal : Parts → Space → Option Clashed → Option Refusal
-refreshing_refusal p a found = first_fault (clash_fault p found ∷ rebase_fault a ∷ [])
+-- what RefreshWorkspace is refused for where something is pending; else it is for an open resolve alone
+abbrev pub refreshing_refusal : Parts → List Session → Space → Option Clashed → Option Refusal
+refreshing_refusal p xs a found = first_fault (resolving_refusal xs a ∷ clash_fault p found ∷ rebase_fault a ∷ [])
 
 -- something is pending that the workspace may gain, and nothing refuses it
-pub record Refreshes (rs : List Stored) (m : ℕ) (session : Session) (workspace : List ℕ) (a b : Space) (es : List Entry) : Type 0 where
+pub record Refreshes (rs : List Stored) (m : ℕ) (xs : List Session) (session : Session) (workspace : List ℕ) (a b : Space) (es : List Entry) : Type 0 where
   pub user : is_short session.user ≡ true
   pub family : NamesFamily rs workspace a b
   pub pending : is_quiet_at a b ≡ false
   pub found : Option Clashed
   pub clash : IsClash (parts_of rs) a b found
-  pub clear : refreshing_refusal (parts_of rs) a found ≡ None
+  pub clear : refreshing_refusal (parts_of rs) xs a found ≡ None
   pub listed : IsHeldListing (parts_of rs) m session.user (gained_held (parts_of rs) a b) es
 
 -- entries that a log gains, where there are some
@@ -98,7 +98,7 @@ refresh_edits n entries = edits.Rebase n false ∷ gain_edits n entries
 
 -- what a merge with removal is refused for
 abbrev pub leaving_refusal : Bool → Parts → List Session → Space → Option Refusal
-leaving_refusal removes p xs a = if removes then removing_refusal p xs a else None
+leaving_refusal removes p xs a = if removes then going_refusal p xs a else None
 
 -- a merge that keeps the parent first is refused for the name of its savepoint
 abbrev pub naming_refusal : Bool → Parts → Space → Option Refusal
@@ -123,6 +123,7 @@ merging_refusal asked p xs a b found own =
     first_fault
     (naming_refusal asked.keeps p b
     ∷ leaving_refusal asked.removes p xs a
+    ∷ resolving_refusal xs a
     ∷ clash_fault p found
     ∷ keeping_refusal asked.keeps p b
     ∷ (if is_even_at a b own then None else rebase_fault a)

@@ -1,6 +1,8 @@
 -- What a plan over the records of a store says that a line does and answers.
 use Rattle.std.specs.Prelude.{◌≡◌, ℕ, List, [], ◌∷◌, ◌++◌, Option, Some}
 use Rattle.std.specs.Option.{option_map_or}
+use Rattle.std.specs.List.{All}
+use Rattle.wm_decided.specs.Staged.{AreStaged, IsStaged, IsStagedResolve}
 use Rattle.wm_graph.specs.Parts.{Parts, parts_of}
 use Rattle.wm_print.specs.Texts.{Answer}
 use Rattle.wm_spec.specs.declared.record.stored.Stored.{Stored}
@@ -9,6 +11,7 @@ use Rattle.wm_state.specs.Editing.{drafted}
 use Rattle.wm_state.specs.State.{State, Session, Stand, Latest, At, table_named}
 use Rattle.wm_model.specs.Lawful.{LawfulState}
 use Rattle.wm_model.specs.Step.{Setting, closed, altered, session_of}
+use Rattle.wm_model.specs.Step.Sessions as settings
 use Rattle.wm_state.specs.Standing.{Stands, by_number, latest, saved_as}
 use Rattle.wm_spec.specs.declared.record.savepoint.Savepoint.{Savepoint}
 use Rattle.wm_spec.specs.declared.record.table.Table.{Table}
@@ -20,6 +23,7 @@ pub record StandsAt (records : List Stored) (sessions : List Session) (moment : 
   pub lawful : LawfulState s
   pub sessions_are : sessions ≡ s.sessions
   pub moment_is : moment ≡ s.moment
+  pub staged : AreStaged (parts_of records) sessions
 
 -- the session is one of these
 pub record IsOpen (sessions : List Session) (session : Session) : Type 0 where
@@ -43,10 +47,22 @@ seated sessions (Set name setting) = altered name setting sessions
 abbrev pub planned : ℕ → ℕ → List Edit → Seating → State → State
 planned m after edits seating s = record { durable = drafted m edits s.durable; sessions = seated s.sessions seating; moment = after }
 
+-- what is set of a session leaves it with nothing but decisions that are staged
+abbrev pub SetsStaged : Parts → Setting → Type 0
+SetsStaged p (settings.Decide ds) = All (IsStaged p) ds
+SetsStaged p setting = Unit {0}
+
+-- so does what becomes of the sessions
+abbrev pub SeatsStaged : Parts → Seating → Type 0
+SeatsStaged p (Open session) = IsStagedResolve p session.resolve
+SeatsStaged p (Set name setting) = SetsStaged p setting
+SeatsStaged p seating = Unit {0}
+
 -- the edits of the plan may be drafted of the records, and it does and answers what a function of the state does and answers, for each state that these
 -- stand for
 pub record DoesAt (records : List Stored) (sessions : List Session) (moment : ℕ) (edits : List Edit) (seating : Seating) (after : ℕ) (answer : Answer) (act : State → State × Answer) : Type 0 where
   pub can : CanDraft records moment edits
+  pub seats : SeatsStaged (parts_of records) seating
   pub does : (s : State) → StandsAt records sessions moment s → act s ≡ (planned moment after edits seating s, answer)
 
 -- so, and the moment stays

@@ -1,22 +1,23 @@
 -- Conflicts are the maximal periods of one key in conflict on which each side holds one stamp, and the first of them is found alone.
-use Rattle.std.proofs.Common.{◌≡◌, ℕ, ◌+◌, ◌<◌, ◌≤◌, max, List, [], ◌∷◌, ◌++◌, drop, slice_get, Option, None, Some, is_some, option_map, Bool, true, false, ◌&&◌, nat_lt, refl, sym, ap, arith, eqb-true, eq-eqb}
+use Rattle.std.proofs.Common.{◌≡◌, ℕ, ◌+◌, ◌-◌, zero, suc, ◌<◌, ◌≤◌, max, List, [], ◌∷◌, ◌++◌, map, drop, slice_get, Option, None, Some, is_some, option_map, Bool, true, false, ◌&&◌, ◌||◌, if◌then◌else◌, nat_le, nat_lt, refl, sym, ap, arith, eqb-true, eq-eqb}
 use Rattle.std.proofs.lemmas.Bool.{and_parts}
+use Rattle.std.proofs.lemmas.Bool.Decides.{nat_tests}
 use Rattle.std.specs.Bool.{then_some}
 use Rattle.std.specs.Option.{option_or}
 use Rattle.std.specs.declared.cmp.Ordering.TheVariants.{Less}
 use Rattle.wm_base.proofs.Plain.{option_or-none}
 use Rattle.wm_spec.proofs.Lists.{told-append}
 use Rattle.wm_spec.proofs.Stretches.{Up, Steady, by_test, Steady-alike, Steady-or, Steady-period, Up-cuts}
-use Rattle.wm_spec.specs.Lists.{Entry, Cell, Told, told, touched, is_of, has_time}
+use Rattle.wm_spec.specs.Lists.{Entry, Cell, Told, covers, told, touched, reach, is_of, has_time}
 use Rattle.wm_spec.specs.Stretches.{cuts}
-use Rattle.wm_net.specs.Conflicts.{Stamps, Sides, same_stamp, same_stamps, mark_of, marks, in_conflict, stamps, conflict_at, all_sides, grouped, conflicts}
+use Rattle.wm_net.specs.Conflicts.{Stamps, Sides, same_stamp, same_stamps, Settled, as_entry, marks, settled_at, in_conflict, stamps, conflict_at, all_sides, grouped, conflicts}
 use Rattle.wm_net.specs.Groups.{Group, cell, group_order}
 use Rattle.wm_net.specs.Listed.{Stretch, value_at, stretches_of, IsListing}
 use Rattle.wm_net.specs.Places.{last_position}
 use Rattle.wm_net.proofs.Firsting.{listing_first, listing_none}
 use Rattle.wm_net.proofs.Listing.{Fit, value_of, is_listing, listing_is}
 use Rattle.wm_net.proofs.Placing.{touched-drop, past_position, reach-last}
-use Rattle.wm_net.proofs.Stretching.{Steady-none, Cut, Cut-cuts, Cut-left, Cut-right, Steady-told}
+use Rattle.wm_net.proofs.Stretching.{Steady-none, Steady-two, Cut, Cut-cuts, Cut-left, Cut-right, Steady-told}
 
 -- ---- what a conflict is told by changes at cuts alone
 
@@ -45,12 +46,45 @@ Steady-five op f h k m n low (x ∷ cs) none a b c d e = (
   Steady-five op f h k m n x cs none a.1 b.1 c.1 d.1 e.1,
 )
 
--- a conflict by what own, marks, log, base and parent say of its cell
-abbrev from_views : ℕ → Option Told → Option Told → Option ℕ → Option Told → Option Told → Option Stamps
-from_views from own mark last base parent = then_some (is_some own && nat_lt (max from (mark_of mark)) (past_position last)) (stamps base parent (option_or own base))
+-- the greater of two numbers, where there are two
+abbrev greater : Option ℕ → Option ℕ → Option ℕ
+greater None None = None
+greater (Some a) None = Some a
+greater None (Some b) = Some b
+greater (Some a) (Some b) = Some (max a b)
 
-views_are : (s : Sides) (c : Cell) → from_views s.from (told s.own c) (told (marks s) c) (last_position s.log c) (told s.base c) (told s.parent c) ≡ conflict_at s c
-views_are s c = sym (rw (reach-last s.log c, told-append s.base s.own c) refl)
+-- the greatest position of the marks that cover a cell
+abbrev last_mark : List Settled → Cell → Option ℕ
+last_mark [] c = None
+last_mark (m ∷ ms) c = greater (then_some (covers (as_entry m) c) m.position) (last_mark ms c)
+
+settled-last : (ms : List Settled) (c : Cell) → settled_at ms c ≡ past_position (last_mark ms c)
+settled-last [] c = refl
+settled-last (m ∷ ms) c = rw (settled-last ms c) (by_last (covers (as_entry m) c) (last_mark ms c))
+  where
+    by_last : (b : Bool) (o : Option ℕ) → max (if b then m.position + 1 else 0) (past_position o) ≡ past_position (greater (then_some b m.position) o)
+    by_last true (Some p) = omega arith
+    by_last true None = omega arith
+    by_last false (Some p) = omega arith
+    by_last false None = refl
+
+-- it changes at ends of marks alone
+Steady-mark : (g : Group) (ms : List Settled) (cs : List ℕ) → Up 0 cs → Cut g (map as_entry ms) cs → Steady (λ t. last_mark ms (cell g t)) 0 cs
+Steady-mark g [] cs u k = Steady-none None 0 cs refl
+Steady-mark g (m ∷ ms) cs u k =
+    Steady-two greater (λ t. then_some (covers (as_entry m) (cell g t)) m.position) (λ t. last_mark ms (cell g t)) 0 cs refl
+    (by_test (is_of g.table g.key (as_entry m))
+    (λ h. rw h (Steady-period m.position m.from m.till 0 cs u (k.0 h).0 (k.0 h).1))
+    (λ h. rw h (Steady-none None 0 cs refl)))
+    (Steady-mark g ms cs u k.1)
+
+-- a conflict by what own, marks, log, base and parent say of its cell
+abbrev from_views : ℕ → Option Told → Option ℕ → Option ℕ → Option Told → Option Told → Option Stamps
+from_views from own mark last base parent =
+    then_some (is_some own && (nat_lt from (past_position last) && nat_le (past_position mark) (past_position last))) (stamps base parent (option_or own base))
+
+views_are : (s : Sides) (c : Cell) → from_views s.from (told s.own c) (last_mark s.settled c) (last_position s.log c) (told s.base c) (told s.parent c) ≡ conflict_at s c
+views_are s c = sym (rw (reach-last s.log c, settled-last s.settled c, told-append s.base s.own c) refl)
 
 pub Steady-conflict : (s : Sides) (g : Group) → Steady (λ t. conflict_at s (cell g t)) 0 (cuts (all_sides s) g.table g.key)
 Steady-conflict s g =
@@ -60,10 +94,10 @@ Steady-conflict s g =
     let past_base : Cut g (s.parent ++ (s.own ++ (s.log ++ marks s))) cs = Cut-right g s.base (s.parent ++ (s.own ++ (s.log ++ marks s))) cs all in
     let past_parent : Cut g (s.own ++ (s.log ++ marks s)) cs = Cut-right g s.parent (s.own ++ (s.log ++ marks s)) cs past_base in
     let past_own : Cut g (s.log ++ marks s) cs = Cut-right g s.own (s.log ++ marks s) cs past_parent in
-    Steady-alike (λ t. from_views s.from (told s.own (cell g t)) (told (marks s) (cell g t)) (last_position s.log (cell g t)) (told s.base (cell g t)) (told s.parent (cell g t)))
+    Steady-alike (λ t. from_views s.from (told s.own (cell g t)) (last_mark s.settled (cell g t)) (last_position s.log (cell g t)) (told s.base (cell g t)) (told s.parent (cell g t)))
     (λ t. conflict_at s (cell g t)) 0 cs (λ t. views_are s (cell g t))
-    (Steady-five (from_views s.from) (λ t. told s.own (cell g t)) (λ t. told (marks s) (cell g t)) (λ t. last_position s.log (cell g t)) (λ t. told s.base (cell g t)) (λ t. told s.parent (cell g t)) 0 cs refl
-    (Steady-told g s.own cs up (Cut-left g s.own (s.log ++ marks s) cs past_parent)) (Steady-told g (marks s) cs up (Cut-right g s.log (marks s) cs past_own))
+    (Steady-five (from_views s.from) (λ t. told s.own (cell g t)) (λ t. last_mark s.settled (cell g t)) (λ t. last_position s.log (cell g t)) (λ t. told s.base (cell g t)) (λ t. told s.parent (cell g t)) 0 cs refl
+    (Steady-told g s.own cs up (Cut-left g s.own (s.log ++ marks s) cs past_parent)) (Steady-mark g s.settled cs up (Cut-right g s.log (marks s) cs past_own))
     (Steady-last g s.log cs up (Cut-left g s.log (marks s) cs past_own)) (Steady-told g s.base cs up (Cut-left g s.base (s.parent ++ (s.own ++ (s.log ++ marks s))) cs all))
     (Steady-told g s.parent cs up (Cut-left g s.parent (s.own ++ (s.log ++ marks s)) cs past_base)))
 
@@ -108,9 +142,13 @@ conflicts_are s = listing_is same_stamps grouped (all_sides s) (conflict_at s) (
 pub conflicts_is : (s : Sides) (xs : List (Group × Stretch Stamps)) → IsListing same_stamps grouped (conflict_at s) xs → xs ≡ conflicts s
 conflicts_is s xs l = is_listing same_stamps grouped (all_sides s) (conflict_at s) xs same_stamps-itself (Fit-conflicts s) l
 
--- a conflict asks for no position of an entry: own touches the cell, and the log does from the position and the mark on
-pub in_conflict-is : (s : Sides) (c : Cell) → in_conflict s c ≡ (touched s.own c && touched (drop (max s.from (mark_of (told (marks s) c))) s.log) c)
-in_conflict-is s c = ap (λ (b : Bool). touched s.own c && b) (sym (touched-drop (max s.from (mark_of (told (marks s) c))) s.log c))
+-- a conflict asks for no position of an entry: own touches the cell, and the log does from the position on, and from each mark on
+pub in_conflict-is : (s : Sides) (c : Cell) → in_conflict s c ≡ (touched s.own c && (touched (drop s.from s.log) c && (touched (drop (settled_at s.settled c - 1) s.log) c || nat_le (settled_at s.settled c) 0)))
+in_conflict-is s c = rw (touched-drop s.from s.log c, touched-drop (settled_at s.settled c - 1) s.log c) (ap (λ (b : Bool). touched s.own c && (nat_lt s.from (reach s.log c) && b)) (by_mark (settled_at s.settled c) (reach s.log c)))
+  where
+    by_mark : (mark last : ℕ) → nat_le mark last ≡ (nat_lt (mark - 1) last || nat_le mark 0)
+    by_mark zero last = grind (arith, nat_tests)
+    by_mark (suc mark) last = grind (arith, nat_tests)
 
 -- ---- the first conflict
 

@@ -46,7 +46,7 @@ stretch from till base parent child = (key_one, record { from = from; till = til
 
 -- a mark on the first key
 abbrev settled_up_to : ℕ → ℕ → ℕ → Settled
-settled_up_to from till position = record { table = 1; key = Num (pos 1) ∷ []; from = from; till = till; position = position }
+settled_up_to from till position = record { table = 1; key = Num (pos 1) ∷ []; from = from; till = till; position = position; place = 0 }
 
 -- ---- lists that are cut
 
@@ -78,9 +78,13 @@ conflicts_sample = refl
 settled_sample : conflicts (sides (settled_up_to 0 5 2 ∷ [])) ≡ stretch 5 6 (Some 1) (Some 2) (Some 3) ∷ stretch 6 8 None (Some 2) (Some 3) ∷ []
 settled_sample = refl
 
--- a later mark lies over an earlier one
-resettled_sample : conflicts (sides (settled_up_to 0 8 2 ∷ settled_up_to 6 8 1 ∷ [])) ≡ stretch 6 8 None (Some 2) (Some 3) ∷ []
+-- where two marks lie, the greater position counts: what is at position 1 is a conflict for the first alone
+resettled_sample : conflicts (sides (settled_up_to 0 8 1 ∷ settled_up_to 6 8 2 ∷ [])) ≡ stretch 4 6 (Some 1) (Some 2) (Some 3) ∷ []
 resettled_sample = refl
+
+-- in whichever order they were made
+reordered_sample : conflicts (sides (settled_up_to 6 8 2 ∷ settled_up_to 0 8 1 ∷ [])) ≡ stretch 4 6 (Some 1) (Some 2) (Some 3) ∷ []
+reordered_sample = refl
 
 -- ---- stretches that are counted
 

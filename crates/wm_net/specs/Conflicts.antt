@@ -1,11 +1,11 @@
 -- Cells in conflict, and the stretches of them.
-use Rattle.std.specs.Prelude.{ℕ, max, ◌&&◌, ◌==◌, Bool, true, false, nat_lt, if◌then◌else◌, List, [], ◌++◌, map, Option, None, Some}
+use Rattle.std.specs.Prelude.{ℕ, ◌+◌, max, ◌&&◌, ◌==◌, Bool, true, false, nat_le, nat_lt, if◌then◌else◌, List, [], ◌∷◌, ◌++◌, map, Option, None, Some}
 use Rattle.std.specs.Bool.{then_some}
 use Rattle.std.specs.List.{filter}
 use Rattle.std.specs.Option.{option_and_then}
 use Rattle.wm_base.specs.declared.kind.Kind.TheVariants.{Insert}
 use Rattle.wm_base.specs.declared.value.Value.{Value}
-use Rattle.wm_spec.specs.Lists.{Entry, Cell, Told, told, touched, standing_stamp, reach}
+use Rattle.wm_spec.specs.Lists.{Entry, Cell, Told, covers, told, touched, standing_stamp, reach}
 use Rattle.wm_net.specs.Groups.{Group}
 use Rattle.wm_net.specs.Listed.{Stretch, listing}
 
@@ -24,20 +24,22 @@ same_stamp (Some a) None = false
 abbrev pub same_stamps : Stamps → Stamps → Bool
 same_stamps x y = same_stamp x.base y.base && (same_stamp x.parent y.parent && same_stamp x.child y.child)
 
--- cells that a resolve has settled: changes of the parent below the position are in conflict there no more
+-- cells that a resolve has settled: changes of the parent below the position are in conflict there no more; place: the greatest place
+-- that was given in the workspace when it was made
 pub record Settled : Type 0 where
   pub table : ℕ
   pub key : List Value
   pub from : ℕ
   pub till : ℕ
   pub position : ℕ
+  pub place : ℕ
 
 -- an entry with the cells of a mark, and its position for a stamp
 abbrev pub as_entry : Settled → Entry
 as_entry m = record { table = m.table; key = m.key; from = m.from; till = m.till; row = None; stamp = m.position; kind = Insert; moment = 0; user = [] }
 
 -- a workspace beside its parent: its copy of the parent's content, what the parent holds now, its own changes, the parent's log, the position from which on
--- the copy has not the log, and its marks, of which the later lie over the earlier
+-- the copy has not the log, and its marks
 pub record Sides : Type 0 where
   pub base : List Entry
   pub parent : List Entry
@@ -46,17 +48,17 @@ pub record Sides : Type 0 where
   pub from : ℕ
   pub settled : List Settled
 
--- the position of a mark, and 0 where there is none
-abbrev pub mark_of : Option Told → ℕ
-mark_of None = 0
-mark_of (Some m) = m.stamp
+-- one more than the greatest position of the marks that cover a cell; 0 where there is none
+abbrev pub settled_at : List Settled → Cell → ℕ
+settled_at [] c = 0
+settled_at (m ∷ ms) c = max (if covers (as_entry m) c then m.position + 1 else 0) (settled_at ms c)
 
 abbrev pub marks : Sides → List Entry
 marks s = map as_entry s.settled
 
--- own changes cover the cell, and the parent's log does at a position that is at least `from` and at least the mark of the cell
+-- own changes cover the cell, and the parent's log does at a position that is at least `from` and at least the greatest of the marks that cover it
 abbrev pub in_conflict : Sides → Cell → Bool
-in_conflict s c = touched s.own c && nat_lt (max s.from (mark_of (told (marks s) c))) (reach s.log c)
+in_conflict s c = touched s.own c && (nat_lt s.from (reach s.log c) && nat_le (settled_at s.settled c) (reach s.log c))
 
 abbrev pub stamps : Option Told → Option Told → Option Told → Stamps
 stamps b p w = record { base = option_and_then standing_stamp b; parent = option_and_then standing_stamp p; child = option_and_then standing_stamp w }

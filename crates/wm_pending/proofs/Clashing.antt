@@ -1,5 +1,5 @@
 -- Where a workspace and its parent both changed something, key by key.
-use Rattle.std.proofs.Common.{◌≡◌, ℕ, zero, suc, ◌<◌, ◌≤◌, ◌⊎◌, inl, inr, Bool, true, false, ◌&&◌, ◌||◌, List, [], ◌∷◌, map, length, take, get_or, Option, None, is_some, refl, sym, ap, ◌∙◌, subst, arith}
+use Rattle.std.proofs.Common.{◌≡◌, ℕ, zero, suc, ◌<◌, ◌≤◌, ◌⊎◌, inl, inr, Bool, true, false, not, ◌&&◌, ◌||◌, List, [], ◌∷◌, map, length, take, get_or, Option, None, is_some, refl, sym, ap, ◌∙◌, subst, arith}
 use Rattle.std.proofs.lemmas.List.{get_or-take, length-take-le, take_all}
 use Rattle.std.specs.Bool.{then_some}
 use Rattle.std.specs.Option.{option_and_then}
@@ -20,40 +20,41 @@ use Rattle.wm_spec.specs.Lists.{Cell}
 use Rattle.wm_spec.specs.declared.record.space.Space.{Space}
 use Rattle.wm_state.specs.Copied.{HoldsKey}
 use Rattle.wm_state.specs.Standing.{seen}
-use Rattle.wm_telling.specs.Telling.{AreOwn, IsFirstClash, clash_held, is_pending, own_held, standing, stamps_of}
+use Rattle.wm_telling.specs.Telling.{AreOwn, IsFirstClash, clash_held, is_pending, is_unsettled, own_held, standing, stamps_of}
 use Rattle.wm_pending.proofs.Blocks.{at_group}
 use Rattle.wm_pending.proofs.Chaining.{first_alike}
 use Rattle.wm_pending.proofs.Looking.{ascend_at, groups_own}
 use Rattle.wm_pending.proofs.Netted.{held_of}
-use Rattle.wm_pending.proofs.Touching.{touched_reached}
+use Rattle.wm_pending.proofs.Touching.{touched_reached, unsettled_reached}
 use Rattle.wm_pending.proofs.Walking.{stamps_made}
 use Rattle.wm_pending.specs.Lookups.{group_own}
 use Rattle.wm_pending.specs.Owned.{key_pieces}
 use Rattle.wm_pending.specs.Sides.{are_contested, asked_clash, asked_of, asked_stamps, contest_at, stamps_at}
-use Rattle.wm_pending.specs.Touched.{is_touched, since_of}
+use Rattle.wm_pending.specs.Settled.{is_settled}
+use Rattle.wm_pending.specs.Touched.{is_touched, marks_since, since_of}
 use Rattle.wm_pending.specs.declared.clash.Asked.{Asked}
 use Rattle.wm_pending.specs.declared.own.OwnKey.{OwnKey}
 use Rattle.wm_pending.specs.declared.sides.Sides.{Sides}
-use Rattle.wm_pending.specs.declared.touched.Since.{Since}
 
 -- ---- one key
 
 -- from the end of time on nothing is contested
-contested_late : (p : Parts) (s : Since) (k : OwnKey) (t : ℕ) → Between 0 k.pieces END → END ≤ t → are_contested p s k t ≡ false
-contested_late p s k t order late = ap (λ (o : Option Held). is_some o && is_touched p.touches s (cell (group_own k) t)) (held_at-past 0 k.pieces END t order late)
+contested_late : (p : Parts) (q : Asked) (k : OwnKey) (t : ℕ) → Between 0 k.pieces END → END ≤ t → are_contested p q k t ≡ false
+contested_late p q k t order late =
+    ap (λ (o : Option Held). is_some o && (is_touched p.touches q.since (cell (group_own k) t) && not (is_settled p q.marks q.since (cell (group_own k) t)))) (held_at-past 0 k.pieces END t order late)
 
 -- where nothing is held there is nothing in conflict
-pub sides_none : (p : Parts) (q : Asked) (k : OwnKey) (s : Sides) → Between 0 k.pieces END → ((t : ℕ) → t < END → is_some (held_at s.contested t) ≡ are_contested p q.since k t) → ((t : ℕ) → held_at s.contested t ≡ None)
+pub sides_none : (p : Parts) (q : Asked) (k : OwnKey) (s : Sides) → Between 0 k.pieces END → ((t : ℕ) → t < END → is_some (held_at s.contested t) ≡ are_contested p q k t) → ((t : ℕ) → held_at s.contested t ≡ None)
     → (t : ℕ) → contest_at s t ≡ asked_clash p q k t
 sides_none p q k s order told none t =
     ap (λ (o : Option Held). then_some (is_some o) (stamps_at s t)) (none t) ∙ ap (λ b. then_some b (asked_stamps p q (group_own k) t)) (sym (by_place (le_or_lt END t)))
   where
-    by_place : (END ≤ t) ⊎ (t < END) → are_contested p q.since k t ≡ false
-    by_place (inl late) = contested_late p q.since k t order late
+    by_place : (END ≤ t) ⊎ (t < END) → are_contested p q k t ≡ false
+    by_place (inl late) = contested_late p q k t order late
     by_place (inr early) = sym (told t early) ∙ ap (λ (o : Option Held). is_some o) (none t)
 
 -- what the sides tell
-pub sides_tell : (p : Parts) (q : Asked) (k : OwnKey) (s : Sides) → Between 0 k.pieces END → Between 0 s.contested END → ((t : ℕ) → t < END → is_some (held_at s.contested t) ≡ are_contested p q.since k t)
+pub sides_tell : (p : Parts) (q : Asked) (k : OwnKey) (s : Sides) → Between 0 k.pieces END → Between 0 s.contested END → ((t : ℕ) → t < END → is_some (held_at s.contested t) ≡ are_contested p q k t)
     → ((t : ℕ) → t < END → held_at s.base t ≡ seen p q.base (cell (group_own k) t)) → ((t : ℕ) → t < END → held_at s.parent t ≡ seen p q.parent (cell (group_own k) t))
     → ((t : ℕ) → t < END → held_at s.child t ≡ seen p q.child (cell (group_own k) t)) → (t : ℕ) → contest_at s t ≡ asked_clash p q k t
 sides_tell p q k s order within told base parent child t = by_place (le_or_lt END t)
@@ -61,10 +62,10 @@ sides_tell p q k s order within told base parent child t = by_place (le_or_lt EN
     by_place : (END ≤ t) ⊎ (t < END) → contest_at s t ≡ asked_clash p q k t
     by_place (inl late) =
         ap (λ (o : Option Held). then_some (is_some o) (stamps_at s t)) (held_at-past 0 s.contested END t within late)
-        ∙ sym (ap (λ b. then_some b (asked_stamps p q (group_own k) t)) (contested_late p q.since k t order late))
+        ∙ sym (ap (λ b. then_some b (asked_stamps p q (group_own k) t)) (contested_late p q k t order late))
     by_place (inr early) =
         ap (λ b. then_some b (stamps_at s t)) (told t early)
-        ∙ ap (λ v. then_some (are_contested p q.since k t) v)
+        ∙ ap (λ v. then_some (are_contested p q k t) v)
         (stamps_made _ _ _ _ _ _ (ap (λ (o : Option Held). option_and_then standing o) (base t early)) (ap (λ (o : Option Held). option_and_then standing o) (parent t early))
         (ap (λ (o : Option Held). option_and_then standing o) (child t early)))
 
@@ -77,8 +78,12 @@ pub record Quiet (p : Parts) (a b : Space) (k : OwnKey) : Type 0 where
 -- what is in conflict of a key, as it is asked
 pub same_clash : (p : Parts) (a b : Space) (k : OwnKey) → HoldsKey (own_held p a) (key_pieces k) → (t : ℕ) → asked_clash p (asked_of p a b) k t ≡ clash_held p a b (cell (group_own k) t)
 same_clash p a b k holds t =
-    ap (λ (o : Option Held). then_some (is_some o && is_touched p.touches (since_of a b) (cell (group_own k) t)) (stamps_of p a b (cell (group_own k) t))) (holds.holds t)
-    ∙ ap (λ v. then_some (is_some (own_held p a (cell (group_own k) t)) && v) (stamps_of p a b (cell (group_own k) t))) (touched_reached p.touches (since_of a b) (cell (group_own k) t))
+    ap (λ (o : Option Held). then_some (is_some o && (is_touched p.touches (since_of a b) at && not (is_settled p (marks_since a) (since_of a b) at))) (stamps_of p a b at)) (holds.holds t)
+    ∙ ap (λ v. then_some (is_some (own_held p a at) && (v && not (is_settled p (marks_since a) (since_of a b) at))) (stamps_of p a b at)) (touched_reached p.touches (since_of a b) at)
+    ∙ ap (λ v. then_some (is_some (own_held p a at) && (is_pending p a b at && v)) (stamps_of p a b at)) (unsettled_reached p.marks p.touches a.number a.next_place (since_of a b) at)
+  where
+    at : Cell
+    at = cell (group_own k) t
 
 -- a key more in which nothing is in conflict
 pub quiet_more : (p : Parts) (a b : Space) (ks : List OwnKey) (i : ℕ) (k : OwnKey) (q : Asked) → i < length ks → k ≡ get_or ks i k → AreOwn p a (map key_pieces ks) → q ≡ asked_of p a b
@@ -108,7 +113,7 @@ stands (k ∷ ks) g e = by_group (same_group (group_own k) g) refl e (stands ks 
 -- nothing is in conflict where the workspace has nothing of its own
 pub no_own : (p : Parts) (a b : Space) (ks : List OwnKey) (g : Group) → AreOwn p a (map key_pieces ks) → has_group g (map group_own ks) ≡ false → (t : ℕ) → clash_held p a b (cell g t) ≡ None
 no_own p a b ks g own none t =
-    ap (λ (o : Option Held). then_some (is_some o && is_pending p a b (cell g t)) (stamps_of p a b (cell g t)))
+    ap (λ (o : Option Held). then_some (is_some o && (is_pending p a b (cell g t) && is_unsettled p a b (cell g t))) (stamps_of p a b (cell g t)))
     (own.copied.elsewhere (cell g t) (sym (at_group (cell g t) (map key_pieces ks) g refl refl) ∙ ap (λ (gs : List Group). has_group g gs) (groups_own ks) ∙ none))
 
 -- a key in which nothing is in conflict, by its place

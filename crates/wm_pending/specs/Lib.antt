@@ -4,6 +4,7 @@ pub mod Keys
 pub mod Lookups
 pub mod Owned
 pub mod Replayed
+pub mod Settled
 pub mod Sides
 pub mod Touched
 pub mod Walks

@@ -1,5 +1,5 @@
 -- Where pieces of a key are in conflict.
-use Rattle.std.specs.Prelude.{ℕ, Bool, ◌&&◌, Option, is_some}
+use Rattle.std.specs.Prelude.{ℕ, Bool, ◌&&◌, not, Option, is_some}
 use Rattle.std.specs.Bool.{then_some}
 use Rattle.std.specs.Option.{option_and_then}
 use Rattle.wm_graph.specs.Parts.{Parts}
@@ -10,12 +10,12 @@ use Rattle.wm_spec.specs.declared.record.space.Space.{Space}
 use Rattle.wm_state.specs.Standing.{latest, seen}
 use Rattle.wm_telling.specs.Telling.{standing}
 use Rattle.wm_pending.specs.Lookups.{group_own}
-use Rattle.wm_pending.specs.Touched.{is_touched, since_of}
+use Rattle.wm_pending.specs.Settled.{is_settled}
+use Rattle.wm_pending.specs.Touched.{is_touched, marks_since, since_of}
 use Rattle.wm_pending.specs.declared.clash.Asked.{Asked}
 use Rattle.wm_pending.specs.declared.own.OwnKey.{OwnKey}
 use Rattle.wm_pending.specs.declared.sides.SideStamps.{SideStamps}
 use Rattle.wm_pending.specs.declared.sides.Sides.{Sides}
-use Rattle.wm_pending.specs.declared.touched.Since.{Since}
 
 -- stamps as the code has them
 abbrev pub stamps_in : SideStamps → Stamps
@@ -41,14 +41,15 @@ asked_stamps p q g t = record {
   child = option_and_then standing (seen p q.child (cell g t));
 }
 
--- own pieces cover the moment, and a touch that is meant does
-abbrev pub are_contested : Parts → Since → OwnKey → ℕ → Bool
-are_contested p since k t = is_some (held_at k.pieces t) && is_touched p.touches since (cell (group_own k) t)
+-- own pieces cover the moment, a touch that is meant does, and no mark that is meant settles it
+abbrev pub are_contested : Parts → Asked → OwnKey → ℕ → Bool
+are_contested p q k t =
+    is_some (held_at k.pieces t) && (is_touched p.touches q.since (cell (group_own k) t) && not (is_settled p q.marks q.since (cell (group_own k) t)))
 
 -- what is asked for a workspace and its parent
 abbrev pub asked_of : Parts → Space → Space → Asked
-asked_of p a b = record { since = since_of a b; base = a.base_version; parent = latest p b.number; child = latest p a.number }
+asked_of p a b = record { since = since_of a b; marks = marks_since a; base = a.base_version; parent = latest p b.number; child = latest p a.number }
 
--- they, where own pieces cover the moment and a touch that is meant does
+-- they, where the moment is contested
 abbrev pub asked_clash : Parts → Asked → OwnKey → ℕ → Option Stamps
-asked_clash p q k t = then_some (are_contested p q.since k t) (asked_stamps p q (group_own k) t)
+asked_clash p q k t = then_some (are_contested p q k t) (asked_stamps p q (group_own k) t)

@@ -18,7 +18,15 @@ use Rattle.wm_pending.specs.declared.touched.Since.{Since}
 abbrev pub since_of : Space → Space → Since
 since_of a b = record { space = b.number; below = b.next_place; from = a.from }
 
--- the touch is of the workspace, was made below the place, and stands at the position or behind it
+-- the same since another position
+abbrev pub since_position : Since → ℕ → Since
+since_position s from = record { space = s.space; below = s.below; from = from }
+
+-- the marks of a workspace
+abbrev pub marks_since : Space → Since
+marks_since a = record { space = a.number; below = a.next_place; from = 0 }
+
+-- the touch or mark is of the workspace, was made below the place, and stands at the position or behind it
 abbrev pub is_since : Since → Trace → Bool
 is_since s x = (x.space == s.space) && (nat_lt x.place s.below && nat_le s.from x.position)
 

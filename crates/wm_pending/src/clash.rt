@@ -16,6 +16,7 @@ ghost use Rattle.wm_telling.specs.Telling.{AreFamily, AreOwn, IsFirstClash, clas
 
 use crate::erasing::erase_all;
 use crate::own::OwnKey;
+use crate::settled::erase_settled;
 use crate::sides::{SideStamps, Sides};
 use crate::touched::{Since, untouched};
 use crate::walk::{Contest, Walk};
@@ -42,11 +43,12 @@ pub struct Conflict {
     pub stamps: SideStamps,
 }
 
-/// What is looked at: the touches of a parent since a workspace took its log, and the versions that stand for the base
-/// of the workspace, for its parent and for itself.
+/// What is looked at: the touches of a parent since a workspace took its log, the marks of the workspace, and the
+/// versions that stand for the base of the workspace, for its parent and for itself.
 #[derive(Clone, Copy)]
 struct Asked {
     since: Since,
+    marks: Since,
     base: u64,
     parent: u64,
     child: u64,
@@ -58,19 +60,21 @@ fn asked_about(image: &Image, space: &Space, parent: &Space) -> Asked
 {
     Asked {
         since: Since::of(space, parent),
+        marks: Since::marks(space),
         base: space.base_version,
         parent: image.latest(parent.number),
         child: image.latest(space.number),
     }
 }
 
-/// What own pieces of a key have where a touch that is meant covers it.
-fn contested(alloc: Global, image: &Image, since: Since, own: &OwnKey) -> Result<Pieces, Memory>
-    ensures { IfOk result (λ pieces. (t : ℕ) → t < END → is_some (held_at pieces t) ≡ are_contested (parts_of image.now) since own.now t) }
+/// What own pieces of a key have where a touch that is meant covers it, and no mark that is meant settles it.
+fn contested(alloc: Global, image: &Image, asked: Asked, own: &OwnKey) -> Result<Pieces, Memory>
+    ensures { IfOk result (λ pieces. (t : ℕ) → t < END → is_some (held_at pieces t) ≡ are_contested (parts_of image.now) asked own.now t) }
 {
-    let quiet = untouched(alloc, image, since, own.table, &own.key)?;
+    let quiet = untouched(alloc, image, asked.since, own.table, &own.key)?;
     let mut pieces = own.pieces.copy(alloc)?;
     erase_all(alloc, &mut pieces, quiet.list())?;
+    erase_settled(alloc, image, &mut pieces, asked.marks, asked.since, own)?;
     Ok(pieces)
 }
 
@@ -80,7 +84,7 @@ fn sides_of(alloc: Global, image: &Image, asked: Asked, own: &OwnKey) -> Result<
     requires order { Between 0 own.now.pieces END }
     ensures { IfOk result (λ sides. (t : ℕ) → contest_at sides t ≡ asked_clash (parts_of image.now) asked own.now t) }
 {
-    let contested = contested(alloc, image, asked.since, own)?;
+    let contested = contested(alloc, image, asked, own)?;
     if contested.list().is_empty() {
         return Ok(Sides {
             contested,

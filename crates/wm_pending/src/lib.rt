@@ -10,6 +10,7 @@ pub mod keys;
 pub mod net;
 pub mod own;
 pub mod path;
+mod settled;
 mod sides;
 mod touched;
 mod walk;

@@ -9,7 +9,7 @@ ghost use Rattle.wm_base.specs.declared.instant.TheConstants.{END};
 ghost use Rattle.wm_graph.specs.Parts.{as_touch, parts_of};
 ghost use Rattle.wm_index.specs.Kinds.{kind_at, passing};
 ghost use Rattle.wm_pending.specs.Keys.{Place, place_order};
-ghost use Rattle.wm_pending.specs.Touched.{covers_since, has_touch_of, has_touched, is_meant, is_since, is_touched, passes_at, since_of};
+ghost use Rattle.wm_pending.specs.Touched.{covers_since, has_touch_of, has_touched, is_meant, is_since, is_touched, marks_since, passes_at, since_of, since_position};
 ghost use Rattle.wm_period.specs.Pieces.{held_at};
 
 use crate::keys::TableKeys;
@@ -21,8 +21,8 @@ use wm_image::Image;
 use wm_period::{Piece, Pieces};
 use wm_spec::record::{Record, Space, Trace};
 
-/// Which touches are meant: those of a workspace that were made at a place below one, and whose last entry stands in
-/// its log at a position or behind it.
+/// Which touches or marks are meant: those of a workspace that were made at a place below one, and whose position is one
+/// or behind it.
 #[derive(Clone, Copy)]
 pub struct Since {
     pub space: u32,
@@ -41,13 +41,35 @@ impl Since {
             from: space.from,
         }
     }
+
+    /// The marks of a workspace.
+    pub fn marks(space: &Space) -> Since
+        ensures { result ≡ marks_since space.now }
+    {
+        Since {
+            space: space.number,
+            below: space.next_place,
+            from: 0,
+        }
+    }
+
+    /// The same touches, but since another position.
+    pub fn from_position(self, from: u64) -> Since
+        ensures { result ≡ since_position self from }
+    {
+        Since {
+            space: self.space,
+            below: self.below,
+            from,
+        }
+    }
 }
 
-/// Whether a touch is meant.
-fn is_since(touch: &Trace, since: Since) -> bool
-    ensures { result ≡ is_since since touch.now }
+/// Whether a touch or a mark is meant.
+pub fn is_since(trace: &Trace, since: Since) -> bool
+    ensures { result ≡ is_since since trace.now }
 {
-    touch.space == since.space && (touch.place < since.below && since.from <= touch.position)
+    trace.space == since.space && (trace.place < since.below && since.from <= trace.position)
 }
 
 /// A record that is a touch that is meant.
@@ -113,19 +135,52 @@ fn period_since(found: Option<&Record>, since: Since) -> Option<Period>
     period_of(&touch.cells)
 }
 
-/// Takes the period of a record out of others, where it is a touch that is meant.
+/// Takes the period of a record out of pieces, where it is a touch that is meant.
 fn erase_since(
     alloc: Global,
-    quiet: &mut Pieces,
+    pieces: &mut Pieces,
     found: Option<&Record>,
     since: Since,
 ) -> Result<(), Memory>
-    ensures { OnOk result ((t : ℕ) → t < END → is_some (held_at quiet.new t) ≡ (is_some (held_at quiet.old t) && not (covers_since since (option_and_then as_touch (option_copied found.entry)) t))) }
+    ensures { OnOk result ((t : ℕ) → t < END → is_some (held_at pieces.new t) ≡ (is_some (held_at pieces.old t) && not (covers_since since (option_and_then as_touch (option_copied found.entry)) t))) }
 {
     if let Some(period) = period_since(found, since) {
-        quiet.erase(alloc, &period)?;
+        pieces.erase(alloc, &period)?;
     }
     Ok(())
+}
+
+/// Takes out of pieces of a key what a touch that is meant covers.
+pub fn erase_touched(
+    alloc: Global,
+    image: &Image,
+    pieces: &mut Pieces,
+    since: Since,
+    table: u16,
+    key: &Key,
+) -> Result<(), Memory>
+    ensures { OnOk result ((t : ℕ) → t < END → is_some (held_at pieces.new t) ≡ (is_some (held_at pieces.old t) && not (is_touched (parts_of image.now).touches since (record { table = table; key = key.now; time = t })))) }
+{
+    image.law_of_order();
+    for id in image.touches_of(table, key) {
+        erase_since(alloc, pieces, image.record(*id), since)?;
+    }
+    Ok(())
+}
+
+/// A piece over a period. What it says means nothing.
+pub fn over_period(alloc: Global, period: Period) -> Result<Pieces, Memory>
+    ensures { IfOk result (λ pieces. (t : ℕ) → is_some (held_at pieces t) ≡ covers period t) }
+{
+    let mut pieces = Pieces::new(alloc);
+    let piece = Piece {
+        period,
+        stamp: Stamp { number: 0 },
+        kind: Kind::Insert,
+        gone: false,
+    };
+    pieces.put(alloc, piece)?;
+    Ok(pieces)
 }
 
 /// The periods of a key that no touch that is meant covers. What its pieces say means nothing.
@@ -138,17 +193,7 @@ pub fn untouched(
 ) -> Result<Pieces, Memory>
     ensures { IfOk result (λ quiet. (t : ℕ) → t < END → is_some (held_at quiet t) ≡ not (is_touched (parts_of image.now).touches since (record { table = table; key = key.now; time = t }))) }
 {
-    image.law_of_order();
-    let mut quiet = Pieces::new(alloc);
-    let all = Piece {
-        period: Period::always(),
-        stamp: Stamp { number: 0 },
-        kind: Kind::Insert,
-        gone: false,
-    };
-    quiet.put(alloc, all)?;
-    for id in image.touches_of(table, key) {
-        erase_since(alloc, &mut quiet, image.record(*id), since)?;
-    }
+    let mut quiet = over_period(alloc, Period::always())?;
+    erase_touched(alloc, image, &mut quiet, since, table, key)?;
     Ok(quiet)
 }

@@ -9,7 +9,7 @@ use Rattle.wm_spec.specs.declared.record.space.Space.{Space}
 use Rattle.wm_spec.specs.declared.record.stored.Stored.{Stored}
 use Rattle.wm_state.specs.State.{State, Session}
 use Rattle.wm_state.specs.declared.edit.Edit.{Edit}
-use Rattle.wm_model.specs.Planning.{StandsAt, Does, DoesAt, IsOpen, Seating, Stay, planned}
+use Rattle.wm_model.specs.Planning.{StandsAt, Does, DoesAt, IsOpen, Seating, Stay, planned, SeatsStaged}
 use Rattle.wm_model.proofs.Doing.{does_nothing}
 use Rattle.wm_model.proofs.Homes.{home_recorded}
 use Rattle.wm_state.specs.Drafts.{is_fork as is_fork_edit}
@@ -38,7 +38,7 @@ told_ok rs (Err e) es seating answer act changes seats says does = tt
 -- two functions that do the same to each state that the records stand for
 pub does_same : (rs : List Stored) (xs : List Session) (m : ℕ) (es : List Edit) (seating : Seating) (answer : Answer) (act other : State → State × Answer) → ((s : State) → StandsAt rs xs m s → other s ≡ act s)
     → Does rs xs m es seating answer act → Does rs xs m es seating answer other
-does_same rs xs m es seating answer act other same does = record { can = does.can; does = λ s st. same s st ∙ does.does s st }
+does_same rs xs m es seating answer act other same does = record { can = does.can; seats = does.seats; does = λ s st. same s st ∙ does.does s st }
 
 -- a plan of one edit that makes a savepoint or a workspace, and one of none
 pub forks_one : (p : Planned) (e : Edit) → p.edits.items ≡ e ∷ [] → is_fork_edit e ≡ true → AreForks p
@@ -121,9 +121,9 @@ for_moments rs xs (Err e) act other same does = tt
 -- ---- a plan for a session that is open
 
 -- a plan for each record that its workspace may have is one, since its workspace has a record wherever these stand for a state
-pub does_at_home : (rs : List Stored) (xs : List Session) (m : ℕ) (session : Session) (seating : Seating) (answer : Answer) (act : State → State × Answer) → IsOpen xs session
+pub does_at_home : (rs : List Stored) (xs : List Session) (m : ℕ) (session : Session) (seating : Seating) (answer : Answer) (act : State → State × Answer) → IsOpen xs session → SeatsStaged (parts_of rs) seating
     → ((a : Space) → space_of (parts_of rs).spaces session.space ≡ Some a → Does rs xs m [] seating answer act) → Does rs xs m [] seating answer act
-does_at_home rs xs m session seating answer act among each = record { can = tt; does = λ s st. by_record s st (space_of (parts_of rs).spaces session.space) refl (home_recorded rs xs m s session st among) }
+does_at_home rs xs m session seating answer act among staged each = record { can = tt; seats = staged; does = λ s st. by_record s st (space_of (parts_of rs).spaces session.space) refl (home_recorded rs xs m s session st among) }
   where
     by_record : (s : State) → StandsAt rs xs m s → (o : Option Space) → space_of (parts_of rs).spaces session.space ≡ o → is_some o ≡ true → act s ≡ (planned m m [] seating s, answer)
     by_record s st None none there = absurd (let e : false ≡ true = there in cc)
@@ -189,7 +189,7 @@ told_alone rs xs m t answer act none stays behind says same = told_at rs xs m t 
 
 -- a plan does what another function does to each state that the records stand for
 timed_one : (rs : List Stored) (xs : List Session) (m : ℕ) (t : Timed) (act other : State → State × Answer) → ((s : State) → StandsAt rs xs m s → other s ≡ act s) → DoesTimed rs xs m t act → DoesTimed rs xs m t other
-timed_one rs xs m t act other same does = record { can = does.can; does = λ s st. same s st ∙ does.does s st }
+timed_one rs xs m t act other same does = record { can = does.can; seats = does.seats; does = λ s st. same s st ∙ does.does s st }
 
 pub timed_same : (rs : List Stored) (xs : List Session) (m : ℕ) (r : Result Timed Memory) (act other : State → State × Answer) → ((s : State) → StandsAt rs xs m s → other s ≡ act s)
     → IfOk r (λ t. DoesTimed rs xs m t act) → IfOk r (λ t. DoesTimed rs xs m t other)

@@ -2,7 +2,7 @@
 use Rattle.wm_state.specs.State as state
 use Rattle.wm_model.specs.Step.Sessions as settings
 use Rattle.wm_plan.specs.declared.session.Setting.{Setting}
-use Rattle.wm_plan.specs.declared.session.Setting.TheVariants.{Stand as Standing, Period, Conflict}
+use Rattle.wm_plan.specs.declared.session.Setting.TheVariants.{Stand as Standing, Period, Conflict, Begin, Decide, End}
 use Rattle.wm_plan.specs.declared.session.Stand.{Stand}
 use Rattle.wm_plan.specs.declared.session.Stand.TheVariants.{Latest, At}
 
@@ -14,3 +14,6 @@ abbrev pub setting_view : Setting → settings.Setting
 setting_view (Standing space stand) = settings.Stand space (stand_view stand)
 setting_view (Period period) = settings.Period period
 setting_view (Conflict workspace) = settings.Conflict workspace
+setting_view (Begin space) = settings.Begin space
+setting_view (Decide decisions) = settings.Decide decisions.items
+setting_view End = settings.End

@@ -3,9 +3,11 @@
 
 pub mod answer;
 pub mod given;
+pub mod kept;
 pub mod names;
 pub mod planned;
 pub mod refuse;
+pub mod resolving;
 pub mod seating;
 pub mod session;
 pub mod within;

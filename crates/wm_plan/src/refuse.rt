@@ -1,7 +1,7 @@
 //! The refusals of lines.
 ghost use Rattle.std.specs.Prelude.{◌≡◌, IfOk};
 ghost use Rattle.wm_plan.specs.Views.{answer_view};
-ghost use Rattle.wm_model.specs.Step.{at_its_end, bad_literal, bad_name, change_limit, dependent_child, empty_period, has_child, in_conflict, key_there, long_name, mistyped, moment_back, most_rows, most_savepoints, most_sessions, most_tables, most_workspaces, no_history, no_key, no_parent, no_savepoint, no_session, no_table, no_workspace, no_text, not_built, not_latest, out_of_range, rebased_since, reserved_name, savepoint_there, session_inside, session_there, syntax, table_there, too_long_line, versioning, workspace_there};
+ghost use Rattle.wm_model.specs.Step.{at_its_end, bad_literal, bad_name, change_limit, dependent_child, empty_period, has_child, in_conflict, key_there, long_name, mistyped, moment_back, most_rows, most_savepoints, most_sessions, most_tables, most_workspaces, no_history, no_key, no_parent, no_resolve, no_savepoint, no_session, no_table, no_workspace, no_text, not_built, not_latest, out_of_range, rebased_since, reserved_name, resolve_open, savepoint_there, session_inside, session_there, syntax, table_there, too_long_line, versioning, workspace_there};
 
 use crate::answer::Answer;
 use std::alloc::Global;
@@ -225,6 +225,20 @@ pub fn in_conflict(table: Name, key: Key, period: Option<Period>) -> Answer
     ensures { answer_view result ≡ in_conflict table key period }
 {
     Answer::Refused(Refusal::Cell(CellRefusal::Wm051(table, key, period)))
+}
+
+/// That a session has a resolve of the workspace open.
+pub fn resolve_open(workspace: Name, session: Name) -> Answer
+    ensures { answer_view result ≡ resolve_open workspace session }
+{
+    Answer::Refused(Refusal::Cell(CellRefusal::Wm052(workspace, session)))
+}
+
+/// That the session has no resolve of the workspace open.
+pub fn no_resolve(workspace: Name) -> Answer
+    ensures { answer_view result ≡ no_resolve workspace }
+{
+    Answer::Refused(Refusal::Cell(CellRefusal::Wm053(workspace)))
 }
 
 /// That a period has no moment.

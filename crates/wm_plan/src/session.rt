@@ -5,11 +5,13 @@ ghost use Rattle.std.specs.Str.{bytes_eq};
 ghost use Rattle.wm_plan.specs.Stands.{setting_view, stand_view};
 ghost use Rattle.wm_graph.specs.Rules.{is_short};
 ghost use Rattle.wm_model.specs.Step.{session_of, with_setting};
+ghost use Rattle.wm_model.specs.Step.Sessions as settings;
 ghost use Rattle.wm_state.specs.State.{Latest};
 
 use std::alloc::Global;
 use std::marker::Model;
 use wm_base::{Memory, Name, Period};
+use wm_decided::decision::{Decision, Resolve};
 
 /// Where a session stands in its workspace.
 #[derive(Clone, Copy, Debug, PartialEq)]
@@ -29,6 +31,12 @@ pub enum Setting {
     Period(Option<Period>),
     /// The workspace whose conflicts it looks at, by name.
     Conflict(Name),
+    /// A resolve of the workspace of a number, in place of another one that it has open.
+    Begin(u32),
+    /// Decisions that come behind those of the resolve that it has open.
+    Decide(Vec<Decision>),
+    /// That it has no resolve open.
+    End,
 }
 
 /// Somebody who is connected, under the name that lines begin with.
@@ -43,6 +51,8 @@ pub struct Session {
     period: Option<Period>,
     /// The workspace of conflicts that was set for it, by name.
     conflict: Option<Name>,
+    /// The resolve that it has open.
+    resolve: Option<Resolve>,
 }
 
 impl Model for Session {
@@ -53,18 +63,18 @@ impl Model for Session {
 
     ghost Value = { SessionState };
 
-    ghost view = { λ s. record { name = s.name; user = s.user; space = s.space; stand = stand_view s.stand; period = s.period; conflict = s.conflict } };
+    ghost view = { λ s. record { name = s.name; user = s.user; space = s.space; stand = stand_view s.stand; period = s.period; conflict = s.conflict; resolve = s.resolve } };
 
     ghost invariant = { λ s. is_short s.user ≡ true };
 }
 
 impl Session {
-    /// A session of this name for this user, which stands in LIVE at what is newest, and for which neither a period nor a
-    /// workspace of conflicts is set.
+    /// A session of this name for this user, which stands in LIVE at what is newest, for which neither a period nor a
+    /// workspace of conflicts is set, and which has no resolve open.
     pub fn new(name: Name, user: Name) -> Session
         // An entry of a log has room for the user.
         requires { is_short user ≡ true }
-        ensures { result ≡ record { name = name; user = user; space = 0; stand = Latest; period = None; conflict = None } }
+        ensures { result ≡ record { name = name; user = user; space = 0; stand = Latest; period = None; conflict = None; resolve = None } }
     {
         Session {
             name,
@@ -73,6 +83,7 @@ impl Session {
             stand: Stand::Latest,
             period: None,
             conflict: None,
+            resolve: None,
         }
     }
 
@@ -110,6 +121,23 @@ impl Session {
         self.conflict.as_ref()
     }
 
+    /// The resolve that it has open.
+    pub fn resolve(&self) -> Option<&Resolve>
+        ensures { option_copied result ≡ self.now.resolve }
+    {
+        self.resolve.as_ref()
+    }
+
+    /// Puts copies of decisions behind those of the resolve that it has open.
+    fn decide(&mut self, alloc: Global, decisions: &[Decision]) -> Result<(), Memory>
+        ensures { OnOk result (self.new ≡ with_setting (settings.Decide decisions.now) self.old) }
+    {
+        match &mut self.resolve {
+            Some(resolve) => resolve.decide(alloc, decisions),
+            None => Ok(()),
+        }
+    }
+
     pub fn stand(&self) -> Stand
         ensures { stand_view result ≡ self.now.stand }
     {
@@ -134,6 +162,9 @@ impl Session {
             }
             Setting::Period(period) => self.period = *period,
             Setting::Conflict(workspace) => self.conflict = Some(workspace.copy(alloc)?),
+            Setting::Begin(space) => self.resolve = Some(Resolve::new(alloc, *space)),
+            Setting::Decide(decisions) => self.decide(alloc, decisions.as_slice())?,
+            Setting::End => self.resolve = None,
         }
         Ok(())
     }

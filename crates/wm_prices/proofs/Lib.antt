@@ -2,4 +2,5 @@ pub mod Beside
 pub mod Heads
 pub mod Batch
 pub mod Gone
+pub mod Marks
 pub mod Spending

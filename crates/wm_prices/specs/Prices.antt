@@ -11,6 +11,7 @@ use Rattle.wm_spec.specs.declared.record.batch.Change.{Change}
 use Rattle.wm_spec.specs.declared.record.piece.PieceRecord.{PieceRecord}
 use Rattle.wm_spec.specs.declared.record.space.Space.{Space}
 use Rattle.wm_spec.specs.declared.record.stored.Stored.{Stored}
+use Rattle.wm_spec.specs.declared.record.trace.Trace.{Trace}
 use Rattle.wm_state.specs.ById.{applied}
 use Rattle.wm_state.specs.Drafts.{DraftsBy}
 use Rattle.wm_state.specs.Drawing.{touched as met_by}
@@ -54,14 +55,22 @@ touch_price p n es = option_map_or (λ (a : Space). 2 * length (met_touches p a 
 abbrev pub pieces_at : Parts → ℕ → List PieceRecord
 pieces_at p version = filter (λ (x : PieceRecord). x.version == version) p.pieces
 
+-- the marks of a workspace
+abbrev pub marks_at : Parts → ℕ → List Trace
+marks_at p n = filter (λ (x : Trace). x.space == n) p.marks
+
+-- no mark comes or goes
+abbrev pub KeepsMarks : List Stored → List Stored → Type 0
+KeepsMarks old new = (parts_of new).marks ≡ (parts_of old).marks
+
 -- beside the counters and its workspace an implicit savepoint changes one record; entries that are replayed change four each, a piece, two
--- touches and an entry of the log, and the version that has them; entries that a log gains three each; a rebase changes a version, a turn
--- and the pieces of that version; nothing is said of other edits
+-- touches and an entry of the log, and the version that has them; entries that a log gains three each; a rebase changes a version, a turn,
+-- the pieces of that version and the marks of the workspace; nothing is said of other edits
 abbrev pub Costs : List Stored → Edit → List Stored → Type 0
-Costs old (edits.Keep n) new = ChangesBeside (is_head n) 1 old new
-Costs old (edits.Replay n entries) new = ChangesBeside (is_head n) (1 + 4 * length entries.items + touch_price (parts_of old) n (map entry_of entries.items)) old new
+Costs old (edits.Keep n) new = ChangesBeside (is_head n) 1 old new × KeepsMarks old new
+Costs old (edits.Replay n entries) new = ChangesBeside (is_head n) (1 + 4 * length entries.items + touch_price (parts_of old) n (map entry_of entries.items)) old new × KeepsMarks old new
 Costs old (edits.Gain n entries) new = ChangesBeside (is_head n) (3 * length entries.items + touch_price (parts_of old) n (map entry_of entries.items)) old new
-Costs old (edits.Rebase n emptied) new = ChangesBeside (is_head n) (2 + length (pieces_at (parts_of new) (latest (parts_of new) n))) old new
+Costs old (edits.Rebase n emptied) new = ChangesBeside (is_head n) (2 + length (pieces_at (parts_of new) (latest (parts_of new) n)) + length (marks_at (parts_of old) n)) old new
 Costs old e new = Unit {0}
 
 -- ---- what edits cost, one after another

@@ -21,6 +21,7 @@ use Rattle.wm_spec.specs.declared.record.piece.PieceRecord.{PieceRecord}
 use Rattle.wm_spec.specs.declared.record.space.Space.{Space}
 use Rattle.wm_spec.specs.declared.record.stored.Stored.{Stored}
 use Rattle.wm_spec.specs.declared.record.version.Version.{Version}
+use Rattle.wm_state.specs.Batches.{drop_one}
 use Rattle.wm_state.specs.ById.{applied}
 use Rattle.wm_state.specs.Copied.{AreCopied, HoldsKey, KeyPieces, key_cell, piece_for, pieces_for}
 use Rattle.wm_state.specs.Drafts.{CanRebase, CanWork, DraftsBy, can_keep, is_turn}
@@ -28,6 +29,7 @@ use Rattle.wm_state.specs.Editing.{rebased_in, rebased_so}
 use Rattle.wm_state.specs.Points.{versioned}
 use Rattle.wm_state.specs.Standing.{FieldsStand, Stands, latest, owned}
 use Rattle.wm_state.specs.State.{Durable, Workspace, workspace_of}
+use Rattle.wm_state.specs.Writes.{put_all}
 use Rattle.wm_state.specs.declared.edit.Edit.TheVariants as edits
 use Rattle.wm_state.specs.declared.edit.NewEntry.{NewEntry}
 use Rattle.wm_state.proofs.Apart.{ruled}
@@ -36,12 +38,12 @@ use Rattle.wm_state.proofs.Counting.{counts_as, counts_in, version_well, work_gr
 use Rattle.wm_state.proofs.Drafted.{some_edit}
 use Rattle.wm_state.proofs.Growing.{same_counters}
 use Rattle.wm_state.proofs.Named.{one_space}
-use Rattle.wm_state.proofs.RowsStay.{away_put, row_apart, rows_stay}
-use Rattle.wm_state.proofs.Settled.{Places, places_apart}
+use Rattle.wm_state.proofs.RowsStay.{away_append, away_dropped, away_put, row_apart, rows_stay}
+use Rattle.wm_state.proofs.Settled.{Places}
 use Rattle.wm_state.proofs.Tests.{and_true, bool_apart}
 use Rattle.wm_state.proofs.WorkedOn.{counted_put, first_change}
-use Rattle.wm_written.proofs.WrittenKept.{keeps_key, kept_pieces, kept_put}
-use Rattle.wm_rebased.specs.Rebasing.{rebase_batch, rebased_on, turn_record}
+use Rattle.wm_written.proofs.WrittenKept.{keeps_key, kept_dropped, kept_pieces, kept_put}
+use Rattle.wm_rebased.specs.Rebasing.{AreMarksOf, rebase_batch, rebased_on, turn_record}
 use Rattle.wm_rebased.proofs.CopiedThere.{AllBegin, all_begin, own_there}
 use Rattle.wm_rebased.proofs.Copying.{differ_copied, ends_copied, stored_copied}
 use Rattle.wm_rebased.proofs.RebasingBatch.{agree_rebased, changes-put_on, keep_plan_rebased, plan_rebased}
@@ -93,35 +95,38 @@ rebased_there s n emptied h =
 abbrev pub version_on : Parts → Counters → Space → Version
 version_on p c a = record { number = c.next_version; space = a.number; parent = latest p a.parent }
 
-abbrev pub rebase_to : Parts → ℕ → ℕ → ℕ → Counters → ℕ → Space → Space → ℕ → List KeyPieces → List Change
-rebase_to p m work counters_id c space_id a b id ks =
-    rebase_batch counters_id (versioned c m work) space_id (rebased_on (latest p a.parent) b.log_length a) id (version_on p c a) (turn_record a.number a b) (pieces_for c.next_version ks)
+abbrev pub rebase_to : Parts → ℕ → ℕ → ℕ → Counters → ℕ → Space → Space → List ℕ → ℕ → List KeyPieces → List Change
+rebase_to p m work counters_id c space_id a b ids id ks =
+    rebase_batch counters_id (versioned c m work) space_id (rebased_on (latest p a.parent) b.log_length a) ids id (version_on p c a) (turn_record a.number a b) (pieces_for c.next_version ks)
 
 -- it makes of the records what the rebase makes of each state
-pub drafts_rebase : (rs : List Stored) (m work : ℕ) (emptied : Bool) (c : Counters) (a b : Space) (counters_id space_id id : ℕ) (ks : List KeyPieces) → keep_rules (parts_of rs) ≡ true → CanWork (parts_of rs) m work
+pub drafts_rebase : (rs : List Stored) (m work : ℕ) (emptied : Bool) (c : Counters) (a b : Space) (counters_id space_id id : ℕ) (ids : List ℕ) (ks : List KeyPieces) → keep_rules (parts_of rs) ≡ true → CanWork (parts_of rs) m work
     → CanRebase (parts_of rs) a.number emptied → space_of (parts_of rs).spaces a.number ≡ Some a → space_of (parts_of rs).spaces a.parent ≡ Some b → Places rs counters_id space_id id c a
-    → AreCopied (λ k. if emptied then None else owned (parts_of rs) a.base_version a.number k) ks → DraftsBy work rs m (edits.Rebase a.number emptied ∷ []) (rebase_to (parts_of rs) m work counters_id c space_id a b id ks)
-drafts_rebase rs m work emptied c a b counters_id space_id id ks rules can_work can there parent at copied = record {
+    → AreMarksOf rs a.number ids → AreCopied (λ k. if emptied then None else owned (parts_of rs) a.base_version a.number k) ks → DraftsBy work rs m (edits.Rebase a.number emptied ∷ []) (rebase_to (parts_of rs) m work counters_id c space_id a b ids id ks)
+drafts_rebase rs m work emptied c a b counters_id space_id id ids ks rules can_work can there parent at marks copied = record {
   keeps = keeps;
   once = once;
   stands = λ s st.
       let h = based_there (parts_of rs) s a.number a b st.spaces there parent in
       let counts = counts_as (parts_of rs) s c st at.one in
       subst (λ (u : Durable). Stands (parts_of (applied batch rs)) (record u { last_moment = m; work = s.work + work })) (sym (rebased_there s a.number emptied h))
-      (plan_rebased rs counters_id space_id id c d a b emptied y news at may h.workspace h.parent s _ st h.is refl refl
+      (plan_rebased rs counters_id space_id id c d a b emptied y news ids at marks.gone may h.workspace h.parent s _ st h.is refl refl
       (record { counters = d; one = refl; next_stamp = counts.next_stamp; last_moment = refl; limit = counts.limit; work = ap (λ w. w + work) counts.work }));
   fields = λ s st.
       let h = based_there (parts_of rs) s a.number a b st.spaces there parent in
       let counts = counts_in (parts_of rs) s c st.counters at.one in
       subst (λ (u : Durable). FieldsStand (parts_of (applied batch rs)) (record u { last_moment = m; work = s.work + work })) (sym (rebased_there s a.number emptied h))
-      (agree_rebased rs counters_id space_id id c d a b emptied y news at may h.workspace h.parent s _ rules st h.is refl refl
+      (agree_rebased rs counters_id space_id id c d a b emptied y news ids at marks.gone may h.workspace h.parent s _ rules st h.is refl refl
       (record { counters = d; one = refl; next_stamp = counts.next_stamp; last_moment = refl; limit = counts.limit; work = ap (λ w. w + work) counts.work }));
   rows = rows_stay rs batch
       (λ k r found. (
         row_apart rs counters_id k (records.Counters c) r at.counters refl found,
-        (row_apart rs space_id k (records.Space a) r at.space refl found, away_put k id behind (under_found id rs k (records.Row r) at.under found)),
+        (
+          row_apart rs space_id k (records.Space a) r at.space refl found,
+          away_append k (map drop_one ids) (put_all id behind) (away_dropped k ids (marks.gone k (records.Row r) found)) (away_put k id behind (under_found id rs k (records.Row r) at.under found)),
+        ),
       ));
-  kept = kept_put id behind (kept_pieces news (keeps_keys _ (keeps_own (parts_of rs) emptied a can there) c.next_version ks copied.each));
+  kept = kept_dropped ids _ (kept_put id behind (kept_pieces news (keeps_keys _ (keeps_own (parts_of rs) emptied a can there) c.next_version ks copied.each)));
   counted = λ some_edits. counted_put rs work counters_id c d batch at.sorted at.one once (first_change counters_id _ _) keeps refl;
   nothing = some_edit (edits.Rebase a.number emptied) [] batch;
   few = λ forks. absurd (bool_apart (sym forks));
@@ -145,7 +150,7 @@ drafts_rebase rs m work emptied c a b counters_id space_id id ks rules can_work 
     behind = records.Version y ∷ records.Turn (turn_record a.number a b) ∷ map records.Piece news
 
     batch : List Change
-    batch = rebase_to (parts_of rs) m work counters_id c space_id a b id ks
+    batch = rebase_to (parts_of rs) m work counters_id c space_id a b ids id ks
 
     rule : are_pieces (parts_of rs) c.next_stamp ≡ true
     rule = let r = ruled (parts_of rs) rules in ap (λ (k : Counters). are_pieces (parts_of rs) k.next_stamp) (sym (same_counters (parts_of rs) c r.counters at.one r.one)) ∙ r.pieces
@@ -174,7 +179,7 @@ drafts_rebase rs m work emptied c a b counters_id space_id id ks rules can_work 
     }
 
     keeps : keep_rules (parts_of (applied batch rs)) ≡ true
-    keeps = keep_plan_rebased rs counters_id space_id id c d a b emptied y news at may rules
+    keeps = keep_plan_rebased rs counters_id space_id id c d a b emptied y news ids at marks.gone may rules
 
     once : AreChanges batch
-    once = changes-put_on counters_id d space_id (rebased_on (latest (parts_of rs) a.parent) b.log_length a) id y (turn_record a.number a b) news (places_apart rs counters_id space_id id c a at)
+    once = changes-put_on rs counters_id space_id id c d a (rebased_on (latest (parts_of rs) a.parent) b.log_length a) ids y (turn_record a.number a b) news at marks

@@ -2,7 +2,7 @@
 use Rattle.std.proofs.Common.{◌≡◌, ◌≢◌, ℕ, ◌+◌, ◌<◌, ◌≤◌, ◌==◌, nat_le, nat_lt, Bool, true, false, not, ◌&&◌, ◌||◌, if◌then◌else◌, List, [], ◌∷◌, ◌++◌, length, length-append, Some, None, is_some, refl, sym, ap, subst, ◌∙◌, arith}
 use Rattle.std.proofs.lemmas.Bool.{eq-eqb, eqb-true}
 use Rattle.std.proofs.lemmas.List.Folds.{list_all-append}
-use Rattle.std.specs.List.{All, list_all, list_any}
+use Rattle.std.specs.List.{All, filter, list_all, list_any}
 use Rattle.std.specs.Option.{option_map_or}
 use Rattle.std.specs.Str.{bytes_eq}
 use Rattle.wm_graph.specs.Parts.{Parts, has_version, row_of, space_of, table_of, version_of}
@@ -26,7 +26,7 @@ use Rattle.wm_forked.proofs.KeepBorn.{version_numbered}
 use Rattle.wm_forked.proofs.KeptSpaces.{has_push, has_versions-kept, is_version-kept}
 use Rattle.wm_forked.proofs.Sprouting.{newest-behind}
 use Rattle.wm_written.proofs.Leaves.{leaf_new}
-use Rattle.wm_rebased.specs.Rebasing.{Ends, Grafted, IsRebase, RebasedTo, is_copied, rebased_on, turn_record}
+use Rattle.wm_rebased.specs.Rebasing.{Ends, Grafted, IsRebase, RebasedTo, is_copied, is_elsewhere, rebased_on, turn_record}
 use Rattle.wm_rebased.proofs.Copying.{differ_both}
 use Rattle.wm_rebased.proofs.RebasingFields.{FieldsStand-rebased}
 use Rattle.wm_rebased.proofs.RebasingRules.{hists_counted, locks_counted, marks_counted, saves_counted, touches_counted, turns_rebased}
@@ -34,7 +34,8 @@ use Rattle.wm_rebased.proofs.RebasingStands.{Stands-rebased}
 use Rattle.wm_state.specs.Editing.{rebased}
 use Rattle.wm_state.specs.Drafts.{is_turn}
 
--- the records with a workspace's record on a version of its parent, that version's child with these pieces, a turn more and other counters
+-- the records with a workspace's record on a version of its parent, that version's child with these pieces, a turn more, none of its marks
+-- and other counters
 abbrev pub put_on : Parts → Counters → List Space → Space → List Space → Space → Version → List PieceRecord → Parts
 put_on p c front a back b y news = record p {
   counters = c ∷ [];
@@ -42,6 +43,7 @@ put_on p c front a back b y news = record p {
   versions = p.versions ++ y ∷ [];
   pieces = p.pieces ++ news;
   turns = p.turns ++ turn_record a.number a b ∷ [];
+  marks = filter (is_elsewhere a.number) p.marks;
 }
 
 -- what these are asked: the next version of the workspace, under the newest one of its parent, with what the workspace has of its own and
@@ -268,7 +270,7 @@ module _ (p : Parts) (old new : Counters) (front : List Space) (a : Space) (back
       (touches_counted mid front back on (a.rebases + 1) q.pieces q.turns refl (are_touches-kept p mid (KeepTables-same p mid refl) keep_spaces refl r.touches))
       (locks_counted mid front back on (a.rebases + 1) q.pieces q.turns refl new.work
       (are_locks-kept p mid old.work new.work more (KeepTables-same p mid refl) keep_spaces refl (ap (λ (c : Counters). are_locks p c.work) (sym same) ∙ r.locks)))
-      (marks_counted mid front back on (a.rebases + 1) q.pieces q.turns refl (are_marks-kept p mid (KeepTables-same p mid refl) keep_spaces refl r.marks))
+      (marks_counted mid front back on (a.rebases + 1) q.pieces q.turns refl (is_elsewhere a.number) (are_marks-kept p mid (KeepTables-same p mid refl) keep_spaces refl r.marks))
       (turns_rebased mid front back on q.pieces (turn_record a.number a b) refl may.child spaces_mid spaces_now refl refl may.unturned
       (are_turns-kept p mid keep_spaces refl (turned-swap p mid front back a on refl refl may.spaces refl r.turns) r.turns))
     where
@@ -291,6 +293,7 @@ module _ (p : Parts) (old new : Counters) (front : List Space) (a : Space) (back
     here = space_here front back (rebased_on y.parent b.log_length a) a.number spaces_now refl ∙ ap (λ k. Some (rebased_on k b.log_length a)) may.under;
     elsewhere = λ m other. elsewhere m (λ at. bool_apart (sym (eq-eqb m a.number (sym at)) ∙ other));
     turns = refl;
+    marks = refl;
     rest = refl;
   }
     where

@@ -23,7 +23,7 @@ use Rattle.wm_state.proofs.Making.{same_making}
 use Rattle.wm_state.proofs.Mapped.{all-found, any-if}
 use Rattle.wm_state.proofs.Named.{one_space, ruled_savepoints, space_number}
 use Rattle.wm_state.proofs.Respaced.{space_elsewhere, space_here}
-use Rattle.wm_state.proofs.Tests.{all_if, all_middle, all_push, all_swap, and_true, any_filter, both, differ_push, either_false, find_swapped, some_swap}
+use Rattle.wm_state.proofs.Tests.{all_filter, all_if, all_middle, all_push, all_swap, and_true, any_filter, both, differ_filter, differ_push, either_false, find_swapped, some_swap}
 use Rattle.wm_forked.proofs.KeepSaved.{count_push}
 
 -- ---- another count of rebases
@@ -91,11 +91,13 @@ module _ (p : Parts) (front back : List Space) (a : Space) (rebases : ℕ) (piec
       and_true (differ meet p.touches) (list_all (is_touch (table_of p.tables) (space_of q.spaces)) p.touches) h.0
       (all_if (is_touch (table_of p.tables) (space_of p.spaces)) (is_touch (table_of p.tables) (space_of q.spaces)) touch p.touches h.1)
 
-  pub marks_counted : are_marks p ≡ true → are_marks q ≡ true
-  marks_counted e =
+  -- the marks that a test keeps are in order too
+  pub marks_counted : (k : Trace → Bool) → are_marks p ≡ true → are_marks (record q { marks = filter k p.marks }) ≡ true
+  marks_counted k e =
       let h = both (differ meet p.marks) (list_all (is_trace (table_of p.tables) (space_of p.spaces)) p.marks) e in
-      and_true (differ meet p.marks) (list_all (is_trace (table_of p.tables) (space_of q.spaces)) p.marks) h.0
-      (all_if (is_trace (table_of p.tables) (space_of p.spaces)) (is_trace (table_of p.tables) (space_of q.spaces)) trace p.marks h.1)
+      and_true (differ meet (filter k p.marks)) (list_all (is_trace (table_of p.tables) (space_of q.spaces)) (filter k p.marks)) (differ_filter meet k p.marks h.0)
+      (all_filter (is_trace (table_of p.tables) (space_of q.spaces)) k p.marks
+      (all_if (is_trace (table_of p.tables) (space_of p.spaces)) (is_trace (table_of p.tables) (space_of q.spaces)) trace p.marks h.1))
 
   lock : (work : ℕ) (x : Lock) → is_lock (table_of p.tables) (space_of p.spaces) work x ≡ true → is_lock (table_of p.tables) (space_of q.spaces) work x ≡ true
   lock work x is =

@@ -1,25 +1,27 @@
 -- The records of a workspace that was rebased stand for the state in which it was.
-use Rattle.std.proofs.Common.{◌≡◌, ◌≢◌, ℕ, ◌+◌, ◌<◌, ◌==◌, Bool, true, false, ◌&&◌, cond, List, [], ◌∷◌, ◌++◌, length, length-append, Option, Some, None, refl, sym, ap, subst, ◌∙◌, ◌⊎◌, inl, inr, arith}
-use Rattle.std.proofs.lemmas.Bool.{cases_eq, eq-eqb, ne_eqb}
+use Rattle.std.proofs.Common.{◌≡◌, ◌≢◌, ℕ, ◌+◌, ◌<◌, ◌==◌, Bool, true, false, ◌&&◌, not, cond, List, [], ◌∷◌, ◌++◌, length, length-append, max, Option, Some, None, refl, sym, ap, subst, ◌∙◌, ◌⊎◌, inl, inr, arith}
+use Rattle.std.proofs.lemmas.Bool.{cases_eq, eq-eqb, eqb-true, ne_eqb}
 use Rattle.std.proofs.lemmas.List.Elements.{All-nil}
-use Rattle.std.specs.List.{All, slice_get}
+use Rattle.std.specs.List.{All, filter, list_any, slice_get}
 use Rattle.std.specs.Option.{option_map, option_or}
 use Rattle.wm_graph.specs.Parts.{Parts}
 use Rattle.wm_graph.specs.Rules.{keep_rules}
-use Rattle.wm_spec.specs.Lists.{Entry}
+use Rattle.wm_spec.specs.Lists.{Cell, Entry}
 use Rattle.wm_spec.specs.declared.record.piece.PieceRecord.{PieceRecord}
 use Rattle.wm_spec.specs.declared.record.space.Space.{Space}
+use Rattle.wm_spec.specs.declared.record.trace.Trace.{Trace}
 use Rattle.wm_spec.specs.declared.record.turn.Turn.{Turn as TurnRecord}
 use Rattle.wm_state.specs.State.{Durable, Turn, Workspace, content, log_of, turn_of, turns_of, with_space, workspace_of}
-use Rattle.wm_state.specs.Standing.{CountersStand, EntriesStand, FieldsStand, HasRows, IsReal, NamedStand, Newest, RowsStand, SpaceFields, SpacesStand, Stands, TouchesStand, TouchesTell, TurnFields, TurnsStand, turn_at, turned, turned_in}
+use Rattle.wm_state.specs.Standing.{CountersStand, EntriesStand, FieldsStand, HasRows, IsReal, IsRealMark, MarksStand, NamedStand, Newest, RowsStand, SpaceFields, SpacesStand, Stands, TouchesStand, TouchesTell, TurnFields, TurnsStand, marked_at, settled_from, turn_at, turned, turned_in}
 use Rattle.wm_state.proofs.Frames.{HasRows-kept, KeepRows, fields_stand}
 use Rattle.wm_state.proofs.Keeping.{KeepRows-same}
 use Rattle.wm_state.proofs.Logging.{HistsStand-frame, log_of-changed, logs-kept}
 use Rattle.wm_state.proofs.Mapped.{find-skip}
+use Rattle.wm_state.proofs.Marking.{AreMarked, unmarked}
 use Rattle.wm_state.proofs.Ready.{KeepReady, KeepReady-same, all_real-kept}
 use Rattle.wm_state.proofs.Staying.{AreReal, EntriesStand-kept, LaterStand-same, TouchesStand-kept, entries_real, turns_in, turns_of-alike, turns_of-found}
 use Rattle.wm_forked.proofs.Birth.{find_more}
-use Rattle.wm_rebased.specs.Rebasing.{IsRebase, RebasedTo, turn_record}
+use Rattle.wm_rebased.specs.Rebasing.{IsRebase, RebasedTo, is_elsewhere, turn_record}
 use Rattle.wm_rebased.proofs.RebasingFields.{FieldsStand-rebased, WasRebased, before, found_away, found_here, new_here, recorded_here, recorded_parent, slice_get-push, turns_many}
 use Rattle.wm_rebased.proofs.RebasingNamed.{NamedStand-rebased, OwnsStand-rebased, own_left}
 use Rattle.wm_state.specs.Editing.{rebased, turn_on}
@@ -28,6 +30,33 @@ map-more : {A B : Type 0} (f : A → B) (o : Option A) (c : Bool) (x : A) → op
 map-more f None true x = refl
 map-more f None false x = refl
 map-more f (Some y) c x = refl
+
+-- where the marks of a workspace went, none is of it
+none_left : (n m : ℕ) → m ≡ n → (xs : List Trace) → list_any (λ (x : Trace). x.space == m) (filter (is_elsewhere n) xs) ≡ false
+none_left n m same [] = refl
+none_left n m same (x ∷ xs) = by_test (x.space == n) refl (none_left n m same xs)
+  where
+    tail : List Trace
+    tail = filter (is_elsewhere n) xs
+
+    by_test : (b : Bool) → (x.space == n) ≡ b → list_any (λ (y : Trace). y.space == m) tail ≡ false → list_any (λ (y : Trace). y.space == m) (cond (not b) (x ∷ tail) tail) ≡ false
+    by_test true here rest = rest
+    by_test false away rest = rw (ap (λ k. x.space == k) same ∙ away) rest
+
+-- and every other has those that it had
+marked_still : (n m place : ℕ) (c : Cell) → m ≢ n → (xs : List Trace) → marked_at (filter (is_elsewhere n) xs) m place c ≡ marked_at xs m place c
+marked_still n m place c other [] = refl
+marked_still n m place c other (x ∷ xs) = by_test (x.space == n) refl (marked_still n m place c other xs)
+  where
+    tail : List Trace
+    tail = filter (is_elsewhere n) xs
+
+    none_more : (k : ℕ) → k ≡ max 0 k
+    none_more k = omega arith
+
+    by_test : (b : Bool) → (x.space == n) ≡ b → marked_at tail m place c ≡ marked_at xs m place c → marked_at (cond (not b) (x ∷ tail) tail) m place c ≡ marked_at (x ∷ xs) m place c
+    by_test true here rest = rest ∙ rw (ne_eqb x.space m (λ same. other (sym same ∙ eqb-true x.space n here))) (none_more (marked_at xs m place c))
+    by_test false away rest = rw rest refl
 
 module _ (p q : Parts) (s t : Durable) (n number : ℕ) (emptied : Bool) (a b : Space) (news : List PieceRecord) (w pw : Workspace) (v : RebasedTo p q n number emptied a b news) (g : IsRebase s n w pw) (there : SpacesStand p s)
     (spaces : t.spaces ≡ with_space n (rebased emptied pw) s.spaces) where
@@ -94,6 +123,30 @@ module _ (p q : Parts) (s t : Durable) (n number : ℕ) (emptied : Bool) (a b : 
           ∙ ap (option_map turned) (find-skip (λ (y : TurnRecord). (y.space == m) && (y.rebase == i)) p.turns (turn_record n a b) (ap (λ c. c && (a.rebases + 1 == i)) (ne_eqb n m (λ same. away (sym same)))))
           ∙ turns.same m i
           ∙ ap (λ ts. option_map turned_in (slice_get ts i)) (sym (turns_of-alike s.spaces t.spaces m (ap (option_map turns_in) (found_away p q s t n number emptied a b news w pw v g there spaces m away))))
+
+  -- ---- marks
+
+  MarksStand-rebased : MarksStand p s → MarksStand q t
+  MarksStand-rebased stand = record {
+    same = λ m new place c is. (marked m new is).same place c;
+    real = λ m new is. (marked m new is).real;
+  }
+    where
+      as_marked : (m : ℕ) (new : Workspace) → AreMarked (filter (is_elsewhere n) p.marks) m new → AreMarked q.marks m new
+      as_marked m new = subst (λ xs. AreMarked xs m new) (sym v.marks)
+
+      marked : (m : ℕ) (new : Workspace) → workspace_of t.spaces m ≡ Some new → AreMarked q.marks m new
+      marked m new is = by_how (was m new is)
+        where
+          by_how : WasRebased n emptied pw s.spaces m new → AreMarked q.marks m new
+          by_how y = by_case y.how
+            where
+              by_case : ((m ≡ n) × (new ≡ rebased emptied pw y.old)) ⊎ ((m ≢ n) × (new ≡ y.old)) → AreMarked q.marks m new
+              by_case (inl h) = as_marked m new (unmarked (filter (is_elsewhere n) p.marks) m new (ap (λ (o : Workspace). o.settled) h.1) (none_left n m h.0 p.marks))
+              by_case (inr h) = as_marked m new (record {
+                same = λ place c. marked_still n m place c h.0 p.marks ∙ stand.same m y.old place c y.is ∙ ap (λ (o : Workspace). settled_from o.settled place c) (sym h.1);
+                real = subst (λ (o : Workspace). All IsRealMark o.settled) (sym h.1) (stand.real m y.old y.is);
+              })
 
   -- ---- touches, logs and entries
 
@@ -172,7 +225,8 @@ Stands-rebased p q s t n number emptied a b news w pw v st g spaces tables count
   owns = OwnsStand-rebased p q s t n number emptied a b news w pw v g st.rules st.spaces st.named st.owns st.turns spaces;
   turns = TurnsStand-rebased p q s t n number emptied a b news w pw v g st.spaces spaces st.turns;
   touches = TouchesStand-rebased p q s t n number emptied a b news w pw v g st.spaces spaces st.touches;
-  later = LaterStand-same p q (ap (λ (z : Parts). z.locks) v.rest) (ap (λ (z : Parts). z.marks) v.rest) st.later;
+  marks = MarksStand-rebased p q s t n number emptied a b news w pw v g st.spaces spaces st.marks;
+  later = LaterStand-same p q (ap (λ (z : Parts). z.locks) v.rest) st.later;
   hists = HistsStand-frame p q s t (ap (λ (z : Parts). z.hists) v.rest) (logs_rebased p q s t n number emptied a b news w pw v g st.spaces spaces) ready st.entries st.hists;
   entries = EntriesStand-rebased p q s t n number emptied a b news w pw v g st.spaces spaces ready st.entries;
   rows = RowsStand-rebased p q s t n number emptied a b news w pw v g st.spaces spaces ready st.named st.entries st.rows;

@@ -1,22 +1,26 @@
 -- How many records the edits of a merge or a refresh change.
-use Rattle.std.proofs.Common.{◌≡◌, ℕ, ◌+◌, ◌-◌, ◌*◌, ◌≤◌, ◌==◌, Bool, true, false, not, cond, if◌then◌else◌, List, [], ◌∷◌, ◌++◌, map, length, Option, Some, None, refl, sym, ap, subst, ◌∙◌, arith, length-append}
+use Rattle.std.proofs.Common.{◌≡◌, ℕ, ◌+◌, ◌-◌, ◌*◌, ◌≤◌, Bool, true, false, not, cond, if◌then◌else◌, List, [], ◌∷◌, ◌++◌, map, length, Option, Some, None, refl, sym, ap, subst, ◌∙◌, arith, length-append}
 use Rattle.std.proofs.lemmas.List.{length-map}
 use Rattle.std.specs.List.{cons_option, filter}
 use Rattle.std.specs.Option.{option_map_or}
 use Rattle.std.specs.declared.alloc.Global.{Global}
 use Rattle.std.specs.declared.vec.Vec.{Vec}
+use Rattle.wm_append.proofs.Appended.{written_places}
 use Rattle.wm_append.proofs.TwoLayers.{touches_seen}
 use Rattle.wm_append.specs.Appending.{AreWritten}
 use Rattle.wm_append.specs.Layers.{touch_in}
 use Rattle.wm_append.specs.Redraw.{IsRedrawn}
 use Rattle.wm_append.specs.Views.{View, drawn_in, keeps_in}
+use Rattle.wm_forked.proofs.DraftedSaved.{home_there}
 use Rattle.wm_graph.specs.Parts.{parts_of, space_of}
 use Rattle.wm_prices.proofs.Batch.{batch_beside}
 use Rattle.wm_prices.proofs.Beside.{few_more}
 use Rattle.wm_prices.proofs.Gone.{few_gone, going}
-use Rattle.wm_prices.specs.Prices.{ChangesBeside, Costs, is_head, met_touches, touch_price}
+use Rattle.wm_prices.proofs.Marks.{AreUnmarked, batch_unmarked, unmarked_append, unmarked_map}
+use Rattle.wm_prices.specs.Prices.{ChangesBeside, Costs, KeepsMarks, is_head, met_touches, touch_price}
 use Rattle.wm_replay.proofs.Drafted.{Comes}
 use Rattle.wm_spec.specs.Lists.{Entry}
+use Rattle.wm_spec.specs.Records.{record_at}
 use Rattle.wm_spec.specs.declared.record.Record.{Record}
 use Rattle.wm_spec.specs.declared.record.Record.TheVariants as records
 use Rattle.wm_spec.specs.declared.record.batch.Change.{Change}
@@ -25,14 +29,16 @@ use Rattle.wm_spec.specs.declared.record.piece.PieceRecord.{PieceRecord}
 use Rattle.wm_spec.specs.declared.record.space.Space.{Space}
 use Rattle.wm_spec.specs.declared.record.stored.Stored.{Stored}
 use Rattle.wm_spec.specs.declared.record.table.Table.{Table}
+use Rattle.wm_spec.specs.declared.record.version.Version.{Version}
 use Rattle.wm_state.proofs.Named.{space_number}
+use Rattle.wm_state.specs.Batches.{drop_one, put}
 use Rattle.wm_state.specs.ById.{applied}
 use Rattle.wm_state.specs.Drawing.{is_clear, touched as met_by}
 use Rattle.wm_state.specs.Editing.{entry_of}
 use Rattle.wm_state.specs.Entries.{hist_of, hists_kept, piece_of, pieces_of}
 use Rattle.wm_state.specs.Standing.{has_history}
 use Rattle.wm_state.specs.Touching.{drawn_all, marks_of, trace_at}
-use Rattle.wm_state.specs.Writes.{longer_by}
+use Rattle.wm_state.specs.Writes.{longer_by, put_all}
 use Rattle.wm_state.specs.declared.edit.Edit.TheVariants as edits
 use Rattle.wm_state.specs.declared.edit.NewEntry.{NewEntry}
 use Rattle.wm_written.proofs.DraftedWritten.{entries_in}
@@ -129,7 +135,7 @@ gain_costs rs n place id count entries a longer counters front changes marks dra
 pub replay_costs : (rs : List Stored) (n place id count version : ℕ) (entries : Vec NewEntry Global) (a longer : Space) (counters : Counters) (one : Change) (front changes : List Change) (marks drawn pieces : List PieceRecord) (dropped : List ℕ) (hists first news : List Record)
     → space_of (parts_of rs).spaces n ≡ Some a → longer ≡ longer_by count a → front ≡ one ∷ [] → marks ≡ marks_of (a.next_place - 1) a.log_length (entries_in entries) → pieces ≡ pieces_of version (entries_in entries) → first ≡ map records.Piece pieces
     → IsRedrawn (touch_in n) rs (marks_of (a.next_place - 1) a.log_length (entries_in entries)) dropped drawn → length drawn ≤ 2 * length marks + length dropped → Comes rs n place a (entries_in entries) drawn hists first news
-    → AreWritten rs front counters longer id dropped news changes → Costs rs (edits.Replay n entries) (applied changes rs)
+    → AreWritten rs front counters longer id dropped news changes → ChangesBeside (is_head n) (1 + 4 * length entries.items + touch_price (parts_of rs) n (entries_in entries)) rs (applied changes rs)
 replay_costs rs n place id count version entries a longer counters one front changes marks drawn pieces dropped hists first news found longer_is none marks_are pieces_are first_is redrawn few comes w =
     let es = entries_in entries in
     let fronts = ap (λ (xs : List Change). length xs) none in
@@ -145,3 +151,26 @@ replay_costs rs n place id count version entries a longer counters one front cha
     let price = price_there rs n a es found in
     few_more (is_head n) (length front + (length dropped + length news)) (1 + 4 * length entries.items + touch_price (parts_of rs) n es) rs (applied changes rs)
     (omega (arith, fronts, many, marked, entered, its, pieced, firsts, first_many, gone, all, price, few)) (written_beside rs n id front counters longer dropped news changes (longer_number rs n count a longer found longer_is) w)
+
+-- ---- marks
+
+-- where entries are replayed no mark comes or goes
+pub replay_unmarked : (rs : List Stored) (n place id count : ℕ) (a longer : Space) (es : List Entry) (c counters : Counters) (v : Version) (front changes : List Change) (marks drawn pieces : List PieceRecord) (dropped : List ℕ) (hists first news : List Record)
+    → space_of (parts_of rs).spaces n ≡ Some a → (parts_of rs).counters ≡ c ∷ [] → ((i : ℕ) → id ≤ i → record_at rs i ≡ None) → longer ≡ longer_by count a → front ≡ put id (records.Version v) ∷ [] → IsRedrawn (touch_in n) rs marks dropped drawn
+    → first ≡ map records.Piece pieces → Comes rs n place a es drawn hists first news → AreWritten rs front counters longer (id + 1) dropped news changes → KeepsMarks rs (applied changes rs)
+replay_unmarked rs n place id count a longer es c counters v front changes marks drawn pieces dropped hists first news found one above longer_is begins redrawn first_is comes w =
+    subst (λ (cs : List Change). KeepsMarks rs (applied cs rs)) (sym (w.are ∙ ap (λ (fs : List Change). fs ++ behind) begins))
+    (batch_unmarked rs w.counters_id w.space_id id (id + 1) c counters a longer (records.Version v ∷ []) (keeps_in (touch_in n) (is_clear marks)) dropped news
+    (written_places rs front counters c a longer id (id + 1) dropped news changes one (home_there (parts_of rs) n a found) (ap (λ (b : Space). b.number) longer_is) above w) (omega arith) (refl, tt) redrawn.gone (λ x. refl) all)
+  where
+    behind : List Change
+    behind = put w.counters_id (records.Counters counters) ∷ put w.space_id (records.Space longer) ∷ (map drop_one dropped ++ put_all (id + 1) news)
+
+    front_unmarked : AreUnmarked comes.touches
+    front_unmarked =
+        subst AreUnmarked (sym comes.first)
+        (unmarked_append first (map records.Touch (map (trace_at n place) drawn)) (subst AreUnmarked (sym first_is) (unmarked_map records.Piece (λ x. refl) pieces)) (unmarked_map records.Touch (λ x. refl) (map (trace_at n place) drawn)))
+
+    all : AreUnmarked news
+    all = subst AreUnmarked (sym comes.behind)
+        (unmarked_append comes.touches hists front_unmarked (subst AreUnmarked (sym comes.kept) (unmarked_map records.Hist (λ x. refl) (hists_kept (parts_of rs).tables a.number a.log_length es))))

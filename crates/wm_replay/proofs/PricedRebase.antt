@@ -1,5 +1,5 @@
--- How many records a rebase changes: a version, a turn and the pieces of that version.
-use Rattle.std.proofs.Common.{◌≡◌, ℕ, ◌+◌, ◌≤◌, ◌==◌, nat_lt, Bool, true, false, ◌&&◌, cond, if◌then◌else◌, List, [], ◌∷◌, ◌++◌, map, length, None, Some, refl, sym, ap, subst, ◌∙◌, arith, length-append}
+-- How many records a rebase changes: a version, a turn, the pieces of that version, and the marks that go.
+use Rattle.std.proofs.Common.{◌≡◌, ℕ, ◌+◌, ◌≤◌, ◌==◌, nat_lt, Bool, true, cond, List, [], ◌∷◌, ◌++◌, map, length, None, Some, refl, sym, ap, subst, ◌∙◌, arith, length-append}
 use Rattle.std.proofs.lemmas.Bool.{eq-eqb}
 use Rattle.std.proofs.lemmas.List.{length-map}
 use Rattle.std.proofs.lemmas.List.Elements.{filter-append}
@@ -11,14 +11,16 @@ use Rattle.wm_forked.proofs.DraftedSaved.{home_there}
 use Rattle.wm_forked.proofs.Sprouting.{newest-behind}
 use Rattle.wm_graph.specs.Parts.{Parts, parts_of, space_of, version_of}
 use Rattle.wm_graph.specs.Rules.{is_version, keep_rules}
+use Rattle.wm_index.specs.Sought.{MarksIn, ids_with, is_sought}
 use Rattle.wm_period.specs.declared.piece.Piece.{Piece}
 use Rattle.wm_prices.proofs.Beside.{few_more}
-use Rattle.wm_prices.specs.Prices.{Costs, is_head, pieces_at}
-use Rattle.wm_rebased.proofs.DraftedRebased.{rebase_to, version_on}
+use Rattle.wm_prices.specs.Prices.{Costs, is_head, marks_at, pieces_at}
+use Rattle.wm_rebased.proofs.DraftedRebased.{version_on}
 use Rattle.wm_rebased.proofs.RebasingBatch.{parts-put_on}
 use Rattle.wm_rebased.proofs.RebasingKept.{put_on}
 use Rattle.wm_rebased.specs.Rebasing.{rebased_on, turn_record}
 use Rattle.wm_replay.proofs.Copied.{rebases_as}
+use Rattle.wm_replay.proofs.Marks.{marks_are, marks_many}
 use Rattle.wm_replay.proofs.Priced.{written_beside}
 use Rattle.wm_spec.specs.Records.{record_at}
 use Rattle.wm_spec.specs.declared.record.Record.{Record}
@@ -79,17 +81,17 @@ newest_new versions y n its below =
 module _ (rs : List Stored) (m work base id : ℕ) (a b new : Space) (c counters : Counters) (front changes : List Change) (ks : List KeyPieces) (dropped : List ℕ) (first news : List Record) where
   pub rebase_costs : (n : ℕ) (emptied : Bool) → keep_rules (parts_of rs) ≡ true → space_of (parts_of rs).spaces n ≡ Some a → (parts_of rs).counters ≡ c ∷ [] → ((i : ℕ) → id ≤ i → record_at rs i ≡ None) → base ≡ latest (parts_of rs) a.parent
       → first ≡ records.Version (record { number = c.next_version; space = n; parent = base }) ∷ records.Turn (turn_record n a b) ∷ [] → news ≡ first ++ map records.Piece (pieces_for c.next_version ks) → counters ≡ versioned c m work
-      → new ≡ rebased_on base b.log_length a → front ≡ [] → dropped ≡ [] → AreWritten rs front counters new id dropped news changes → Costs rs (edits.Rebase n emptied) (applied changes rs)
-  rebase_costs n emptied rules found one above newest begins behind counts rebased none nothing w =
+      → new ≡ rebased_on base b.log_length a → front ≡ [] → dropped ≡ ids_with (is_sought (MarksIn n)) rs → AreWritten rs front counters new id dropped news changes → Costs rs (edits.Rebase n emptied) (applied changes rs)
+  rebase_costs n emptied rules found one above newest begins behind counts rebased none gone w =
       let number = space_number (parts_of rs) n a found in
       let fronts = ap (λ (xs : List Change). length xs) none in
-      let goes = ap (λ (xs : List ℕ). length xs) nothing in
+      let goes = ap (λ (xs : List ℕ). length xs) gone ∙ marks_many n rs in
       let comes = ap (λ (xs : List Record). length xs) behind in
       let begin = ap (λ (xs : List Record). length xs) begins in
       let both_parts = length-append first (map records.Piece its) in
       let pieces = length-map its records.Piece in
       let there = its_there number in
-      few_more (is_head n) (length front + (length dropped + length news)) (2 + length (pieces_at (parts_of (applied changes rs)) (latest (parts_of (applied changes rs)) n))) rs (applied changes rs)
+      few_more (is_head n) (length front + (length dropped + length news)) (2 + length (pieces_at (parts_of (applied changes rs)) (latest (parts_of (applied changes rs)) n)) + length (marks_at (parts_of rs) n)) rs (applied changes rs)
       (omega (arith, fronts, goes, comes, begin, both_parts, pieces, there)) (written_beside rs n id front counters new dropped news changes (ap (λ (r : Space). r.number) rebased ∙ number) w)
     where
       its : List PieceRecord
@@ -109,9 +111,9 @@ module _ (rs : List Stored) (m work base id : ℕ) (a b new : Space) (c counters
       its_there : a.number ≡ n → length its ≤ length (pieces_at (parts_of (applied changes rs)) (latest (parts_of (applied changes rs)) n))
       its_there number =
           let at = written_places rs front counters c a new id id dropped news changes one (home_there (parts_of rs) n a found) (ap (λ (r : Space). r.number) rebased) above w in
-          let put = parts-put_on rs w.counters_id w.space_id id c (versioned c m work) a b y its at in
+          let put = parts-put_on rs w.counters_id w.space_id id c (versioned c m work) a b y its dropped at (marks_are rs a.number dropped w.sorted (gone ∙ ap (λ k. ids_with (is_sought (MarksIn k)) rs) (sym number))).gone in
           let batch = rebases_as rs m work base id a b new c counters front changes ks dropped first news newest
-          (begins ∙ ap (λ k. records.Version (record { number = c.next_version; space = k; parent = base }) ∷ records.Turn (turn_record k a b) ∷ []) (sym number)) behind counts rebased none nothing w in
+          (begins ∙ ap (λ k. records.Version (record { number = c.next_version; space = k; parent = base }) ∷ records.Turn (turn_record k a b) ∷ []) (sym number)) behind counts rebased none w in
           let is : parts_of (applied changes rs) ≡ put_on (parts_of rs) (versioned c m work) put.front a put.back b y its = ap (λ (cs : List Change). parts_of (applied cs rs)) batch ∙ put.is in
           subst (λ (p : Parts). length its ≤ length (pieces_at p (latest p n))) (sym is)
           (subst (λ v. length its ≤ length (filter (λ (x : PieceRecord). x.version == v) ((parts_of rs).pieces ++ its))) (sym (newest_new (parts_of rs).versions y n number below))

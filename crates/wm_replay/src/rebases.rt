@@ -4,6 +4,7 @@ ghost use Rattle.std.specs.Prelude.{◌≡◌, ◌<◌, ◌+◌, ◌^◌, ◌∷
 ghost use Rattle.wm_changes.specs.Ids.{HasGreatId};
 ghost use Rattle.wm_graph.specs.Parts.{parts_of, space_of};
 ghost use Rattle.wm_graph.specs.Rules.{keep_rules};
+ghost use Rattle.wm_index.specs.Sought.{MarksIn, ids_with, is_sought};
 ghost use Rattle.wm_pending.specs.Owned.{key_pieces};
 ghost use Rattle.wm_prices.specs.Prices.{Costs};
 ghost use Rattle.wm_rebased.specs.Rebasing.{rebased_on};
@@ -101,7 +102,17 @@ fn first_news(alloc: Global, version: Version, turn: Turn) -> Result<Vec<Record>
     Ok(news)
 }
 
-/// A workspace stands on the newest version of its parent; what it keeps of its own comes into a version more.
+/// The ids of the marks of a workspace: they go where it stands on its parent.
+fn mark_ids(alloc: Global, image: &Image, space: u32) -> Result<Vec<u64>, Memory>
+    ensures { IfOk result (λ ids. ids.items ≡ ids_with (is_sought (MarksIn space)) image.now) }
+{
+    let mut ids = Vec::new(alloc);
+    ids.extend_from_slice(image.marks_in(space))?;
+    Ok(ids)
+}
+
+/// A workspace stands on the newest version of its parent; what it keeps of its own comes into a version more, and
+/// its marks go.
 pub fn rebase(
     alloc: Global,
     image: &Image,
@@ -138,10 +149,8 @@ pub fn rebase(
     let counters = versioned(before, moment, work);
     let new = rebased_on(alloc, base_version, parent.log_length, old)?;
     let id = ids_from(image, news.len() as u64)?;
-    let made = Made {
-        dropped: Vec::new(alloc),
-        news,
-    };
+    let dropped = mark_ids(alloc, image, space)?;
+    let made = Made { dropped, news };
     let changes = written(image, Changes::new(alloc), counters, new, id, made)?;
     Ok(changes)
 }

@@ -2,5 +2,6 @@ pub mod BirthPlans
 pub mod Calling
 pub mod Creating
 pub mod Lengths
+pub mod Marks
 pub mod SavepointPlans
 pub mod UndoingPlans

@@ -1,8 +1,7 @@
 -- What is told of the plans by which a workspace goes back to a savepoint, and by which it goes.
-use Rattle.std.proofs.Common.{arith, ◌≡◌, ℕ, ◌≤◌, ◌^◌, ◌==◌, nat_le, true, ◌&&◌, List, [], ◌∷◌, Some, None, Result, Ok, Err, IfOk, ap}
+use Rattle.std.proofs.Common.{◌≡◌, ℕ, List, [], ◌∷◌, None, Result, Ok, Err, IfOk, ap}
 use Rattle.wm_base.specs.declared.memory.Memory.{Memory}
-use Rattle.wm_graph.specs.Parts.{Parts, parts_of, space_of}
-use Rattle.wm_graph.specs.Rules.{is_placed, is_short, is_space, keep_rules}
+use Rattle.wm_graph.specs.Parts.{parts_of}
 use Rattle.wm_model.specs.Planning.{Does, Stay}
 use Rattle.wm_model.specs.Step.{remove_workspace, rollback_to}
 use Rattle.wm_model.specs.Undone.{NamesSpace, RollsIn, removing_refusal, rolling_refusal}
@@ -10,36 +9,14 @@ use Rattle.wm_print.specs.Texts.{Answer, Fine}
 use Rattle.wm_spec.specs.declared.record.savepoint.Savepoint.{Savepoint}
 use Rattle.wm_spec.specs.declared.record.space.Space.{Space}
 use Rattle.wm_spec.specs.declared.record.stored.Stored.{Stored}
-use Rattle.wm_state.specs.Standing.{saved_as}
 use Rattle.wm_state.specs.State.{Session, State}
 use Rattle.wm_state.specs.declared.edit.Edit.{Edit}
-use Rattle.wm_state.proofs.Apart.{found-passes}
-use Rattle.wm_state.proofs.Named.{saved_there}
-use Rattle.wm_state.proofs.Spaces.{ruled_spaces}
-use Rattle.wm_state.proofs.Tests.{both}
 use Rattle.wm_plan.proofs.Planning.{told}
 use Rattle.wm_plan.specs.Planning.{DoesIt}
 use Rattle.wm_plan.specs.Views.{answer_view, seating_view}
 use Rattle.wm_plan.specs.declared.answer.Answer.TheVariants as answers
 use Rattle.wm_plan.specs.declared.planned.Planned.{Planned}
 use Rattle.wm_plan.specs.declared.seating.Seating.TheVariants as seatings
-
--- ---- logs
-
--- the log of a savepoint has an end
-pub log_bounded : (p : Parts) (n making : ℕ) (x : Savepoint) → keep_rules p ≡ true → saved_as p n making ≡ Some x → x.log_length ≤ 2 ^ 62
-log_bounded p n making x rules saved =
-    let t = saved_there p rules n making x saved in
-    let s = found-passes (λ (r : Space). r.number == n) (is_space (space_of p.spaces)) p.spaces t.space t.found (ruled_spaces p rules).each in
-    let h = both (is_placed (space_of p.spaces) t.space && (is_short t.space.name && is_short t.space.writer)) _ s.1 in
-    let g = both (nat_le 1 t.space.next_place) _ h.1 in
-    let f = both (nat_le 1 t.space.next_implicit) (nat_le t.space.log_length (2 ^ 62)) g.1 in
-    under x.log_length t.space.log_length (2 ^ 62) t.log f.1
-  where
-    under : (a b c : ℕ) → nat_le a b ≡ true → nat_le b c ≡ true → a ≤ c
-    under a b c le also = grind (arith, le, also)
-
--- ---- the plans
 
 -- a plan of one edit
 pub edits_one : (rs : List Stored) (xs : List Session) (m : ℕ) (p : Planned) (e : Edit) (act : State → State × Answer) → p.edits.items ≡ e ∷ [] → p.seating ≡ seatings.Stay → p.answer ≡ answers.Fine

@@ -8,6 +8,7 @@ mod bearing;
 pub mod calls;
 pub mod connect;
 pub mod create;
+mod dependent;
 mod enable;
 mod going;
 mod looking;

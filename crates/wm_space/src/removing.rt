@@ -6,7 +6,7 @@ ghost use Rattle.wm_base.specs.declared.instant.TheConstants.{END};
 ghost use Rattle.wm_graph.specs.Parts.{parts_of};
 ghost use Rattle.wm_graph.specs.Rules.{keep_rules};
 ghost use Rattle.wm_model.specs.Step.{remove_workspace};
-ghost use Rattle.wm_model.specs.Undone.{NamesSpace, removing_refusal};
+ghost use Rattle.wm_model.specs.Undone.{NamesSpace, going_refusal, removing_refusal};
 ghost use Rattle.wm_plan.specs.Idle.{Idles};
 ghost use Rattle.wm_plan.specs.Planning.{DoesIt};
 ghost use Rattle.wm_state.specs.State.{Session as SessionState};
@@ -17,6 +17,7 @@ use wm_image::Image;
 use wm_plan::answer::Answer;
 use wm_plan::planned::Planned;
 use wm_plan::refuse::{at_its_end, has_child, no_parent, no_workspace, session_inside};
+use wm_plan::resolving::resolving_refusal;
 use wm_plan::session::Session;
 use wm_plan::work::is_spent;
 use wm_spec::record::Space;
@@ -34,15 +35,15 @@ fn first_inside(sessions: &[Session], space: u32) -> Option<&Session>
     None
 }
 
-/// What the removal of a workspace is refused for: a session stands in it, or it has a child.
-pub fn removing_refusal(
+/// What a workspace that is to go is refused for: a session stands in it, or it has a child.
+pub fn going_refusal(
     alloc: Global,
     image: &Image,
     sessions: &[Session],
     space: &Space,
 ) -> Result<Option<Refusal>, Memory>
     requires rules { keep_rules (parts_of image.now) ≡ true }
-    ensures { IfOk result (λ fault. fault ≡ removing_refusal (parts_of image.now) sessions.now space.now) }
+    ensures { IfOk result (λ fault. fault ≡ going_refusal (parts_of image.now) sessions.now space.now) }
 {
     if let Some(session) = first_inside(sessions, space.number) {
         let inside = session_inside(space.name.copy(alloc)?, session.name().copy(alloc)?);
@@ -53,6 +54,22 @@ pub fn removing_refusal(
         return Ok(child.into_refusal());
     }
     Ok(None)
+}
+
+/// What the removal of a workspace is refused for: that, or that a resolve of it is open.
+fn removing_refusal(
+    alloc: Global,
+    image: &Image,
+    sessions: &[Session],
+    space: &Space,
+) -> Result<Option<Refusal>, Memory>
+    requires rules { keep_rules (parts_of image.now) ≡ true }
+    ensures { IfOk result (λ fault. fault ≡ removing_refusal (parts_of image.now) sessions.now space.now) }
+{
+    if let Some(refusal) = going_refusal(alloc, image, sessions, space)? {
+        return Ok(Some(refusal));
+    }
+    resolving_refusal(alloc, sessions, space)
 }
 
 /// A workspace goes for which nothing refuses it, unless the work is at its end.

@@ -1,5 +1,5 @@
 //! RollbackToSP.
-ghost use Rattle.std.specs.Prelude.{◌≡◌, ◌<◌, ℕ, List, true, Some, None, IfOk};
+ghost use Rattle.std.specs.Prelude.{◌≡◌, ◌<◌, ℕ, List, true, None, IfOk};
 ghost use Rattle.std.specs.Option.{option_copied};
 ghost use Rattle.std.specs.List.{find};
 ghost use Rattle.wm_base.specs.declared.instant.TheConstants.{END};
@@ -9,9 +9,9 @@ ghost use Rattle.wm_model.specs.Step.{rollback_to};
 ghost use Rattle.wm_model.specs.Undone.{RollsIn, is_still_at, rolling_refusal, sits_behind};
 ghost use Rattle.wm_plan.specs.Idle.{Idles};
 ghost use Rattle.wm_plan.specs.Planning.{DoesIt};
-ghost use Rattle.wm_state.specs.Standing.{saved_as};
 ghost use Rattle.wm_state.specs.State.{Session as SessionState};
 
+use crate::dependent::{first_dependent, is_marked_since};
 use std::alloc::Global;
 use wm_base::{Memory, Name, Refusal};
 use wm_image::Image;
@@ -20,6 +20,7 @@ use wm_plan::planned::Planned;
 use wm_plan::refuse::{
     at_its_end, dependent_child, no_savepoint, no_workspace, rebased_since, session_inside,
 };
+use wm_plan::resolving::resolving_refusal;
 use wm_plan::session::{Session, Stand};
 use wm_plan::work::is_spent;
 use wm_spec::record::{Savepoint, Space};
@@ -58,8 +59,8 @@ fn first_behind<'a>(
     None
 }
 
-/// What a rollback to a savepoint is refused for: a session stands at a later one, a child took of the workspace what came
-/// behind it, or the workspace was rebased since.
+/// What a rollback to a savepoint is refused for: a session stands at a later one, a child, or a decision of a resolve of
+/// one, took of the workspace what came behind it, the workspace was rebased since, or a resolve of it is open.
 fn rolling_refusal(
     alloc: Global,
     image: &Image,
@@ -68,29 +69,28 @@ fn rolling_refusal(
     savepoint: &Savepoint,
 ) -> Result<Option<Refusal>, Memory>
     requires rules { keep_rules (parts_of image.now) ≡ true }
-    requires saved { saved_as (parts_of image.now) space.now.number savepoint.now.making ≡ Some savepoint.now }
     ensures { IfOk result (λ fault. fault ≡ rolling_refusal (parts_of image.now) sessions.now space.now savepoint.now) }
 {
     if let Some(session) = first_behind(image, sessions, space.number, savepoint) {
         let inside = session_inside(space.name.copy(alloc)?, session.name().copy(alloc)?);
         return Ok(inside.into_refusal());
     }
-    let place = u64::from(savepoint.place) + 1;
-    if let Some(child) = image.child_from(space.number, place, savepoint.log_length + 1) {
+    if let Some(child) = first_dependent(image, sessions, space.number, savepoint) {
         return Ok(dependent_child(child.name.copy(alloc)?).into_refusal());
     }
     if savepoint.rebases != space.rebases {
         return Ok(rebased_since(savepoint.name.copy(alloc)?).into_refusal());
     }
-    Ok(None)
+    resolving_refusal(alloc, sessions, space)
 }
 
-/// Whether nothing came behind a savepoint: neither a change nor another savepoint.
+/// Whether nothing came behind a savepoint: neither a change nor another savepoint nor a mark.
 fn is_still(image: &Image, space: &Space, savepoint: &Savepoint) -> bool
     ensures { result ≡ is_still_at (parts_of image.now) space.now savepoint.now }
 {
     space.log_length <= savepoint.log_length
         && !image.has_savepoint_behind(space.number, savepoint.place, savepoint.log_length)
+        && !is_marked_since(image, savepoint.place, space.number)
 }
 
 /// A workspace goes back to a savepoint for which nothing refuses it, unless the work is at its end. Where nothing came

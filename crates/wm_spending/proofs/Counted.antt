@@ -1,6 +1,8 @@
--- A merge or a refresh that removes nothing changes eight records at most, and eight for each stretch of what is own or pending.
+-- A merge or a refresh that removes nothing changes eight records at most, eight for each stretch of what is own or pending, and each mark
+-- of the workspace.
 use Rattle.std.proofs.Common.{◌≡◌, ℕ, ◌+◌, ◌*◌, ◌<◌, ◌≤◌, ◌==◌, Bool, true, false, not, ◌&&◌, ◌||◌, if◌then◌else◌, List, [], ◌∷◌, ◌++◌, drop, map, length, zero, suc, Option, Some, None, is_some, unwrap_or, refl, sym, ap, subst, ◌∙◌, arith}
 use Rattle.std.proofs.lemmas.Bool.{ne_eqb}
+use Rattle.std.specs.List.{filter}
 use Rattle.std.specs.Option.{option_map_or}
 use Rattle.std.specs.declared.alloc.Global.{Global}
 use Rattle.std.specs.declared.vec.Vec.{Vec}
@@ -10,6 +12,7 @@ use Rattle.wm_model.proofs.RollingLine.{home}
 use Rattle.wm_model.specs.Merged.{after_edits, keep_edits, merge_edits, refresh_edits, replay_edits}
 use Rattle.wm_model.specs.Planning.{StandsAt}
 use Rattle.wm_model.specs.Step.{Asked, parent_in, pending}
+use Rattle.wm_model.specs.Undone.{NamesSpace}
 use Rattle.wm_net.proofs.Cutting.{IsSteady-touched, has_cuts-before, has_cuts-behind, has_cuts-first, has_cuts-itself}
 use Rattle.wm_net.proofs.Measuring.{IsSteady-alone, alone_count, gained_count, net_count, touched_alone}
 use Rattle.wm_net.proofs.Netting.{Stamped-drop, gained_is, told_net}
@@ -17,12 +20,13 @@ use Rattle.wm_net.specs.Counts.{cut_count, has_cuts, is_end}
 use Rattle.wm_net.specs.Nets.{gained}
 use Rattle.wm_prices.proofs.Beside.{beside_same, beside_then, beside_wider, few_more}
 use Rattle.wm_prices.proofs.Heads.{changes_in_all, is_either}
-use Rattle.wm_prices.specs.Prices.{ChangesAtMost, ChangesBeside, Spends, is_head}
+use Rattle.wm_prices.specs.Prices.{ChangesAtMost, ChangesBeside, Spends, is_head, marks_at}
 use Rattle.wm_spec.specs.Lists.{Cell, Entry, Told, told, touched}
 use Rattle.wm_spec.specs.Records.{record_at}
 use Rattle.wm_spec.specs.declared.record.Record.{Record}
 use Rattle.wm_spec.specs.declared.record.space.Space.{Space}
 use Rattle.wm_spec.specs.declared.record.stored.Stored.{Stored}
+use Rattle.wm_spec.specs.declared.record.trace.Trace.{Trace}
 use Rattle.wm_state.proofs.Tests.{bool_apart, both}
 use Rattle.wm_state.specs.Editing.{entry_of}
 use Rattle.wm_state.specs.Standing.{Stands}
@@ -31,7 +35,7 @@ use Rattle.wm_state.specs.declared.edit.Edit.{Edit}
 use Rattle.wm_state.specs.declared.edit.NewEntry.{NewEntry}
 use Rattle.wm_telling.specs.Telling.{IsHeldListing, gained_held, own_held}
 use Rattle.wm_spending.specs.Nets.{AreNets, Merge, Nothing, Refresh}
-use Rattle.wm_spending.specs.Stretches.{all_entries, stretch_count, stretches_of}
+use Rattle.wm_spending.specs.Stretches.{all_entries, mark_count, stretch_count, stretches_of}
 use Rattle.wm_spending.proofs.Ends.{EndIn, end_first, end_second, end_then}
 use Rattle.wm_spending.proofs.Priced.{gain_priced, keep_priced, parted, rebase_bare, rebase_priced, replay_priced}
 use Rattle.wm_spending.proofs.Steps.{IsAt}
@@ -77,6 +81,10 @@ module _ (rs : List Stored) (workspace : List ℕ) (a b : Space) (s : State) (f 
 
   abbrev alone : ℕ
   alone = cut_count all (touched_alone f.w.lists.own behind)
+
+  -- the marks that go
+  abbrev marks : ℕ
+  marks = length (marks_at (parts_of rs) a.number)
 
   together : own_count + alone ≤ stretches_of f.q f.w
   together = alone_count all f.w.lists.own behind
@@ -146,18 +154,18 @@ module _ (rs : List Stored) (workspace : List ℕ) (a b : Space) (s : State) (f 
   -- ---- what the two lines change
 
   refresh_few : (m user_moment : ℕ) (user : List ℕ) (gained : Vec NewEntry Global) (new : List Stored) → IsHeldListing (parts_of rs) user_moment user (gained_held (parts_of rs) a b) (map entry_of gained.items)
-      → Spends m rs (refresh_edits a.number gained) new → ChangesBeside (is_either b.number a.number) (2 + own_count + 5 * alone) rs new
+      → Spends m rs (refresh_edits a.number gained) new → ChangesBeside (is_either b.number a.number) (2 + own_count + marks + 5 * alone) rs new
   refresh_few m user_moment user gained new listed spends =
       let first = rebase_priced m a.number rs spends.next s.durable f.w f.q all f.beside.stands f.is.found f.beside.above own_cut own_ends spends.spent in
       let second = gain_priced m a.number gained spends.next new first.state f.w.lists.log f.w.parent all (touched_alone f.w.lists.own behind) first.stands first.known log_ends (IsSteady-alone all f.w.lists.own behind own_cut behind_cut)
       (gained_covered user_moment user (map entry_of gained.items) listed) (gained_few user_moment user (map entry_of gained.items) listed) spends.rest in
-      beside_then (is_either b.number a.number) (2 + own_count) (5 * alone) rs spends.next new
-      (beside_wider (is_head a.number) (is_either b.number a.number) (2 + own_count) rs spends.next (right_head b.number a.number) first.changes)
+      beside_then (is_either b.number a.number) (2 + own_count + marks) (5 * alone) rs spends.next new
+      (beside_wider (is_head a.number) (is_either b.number a.number) (2 + own_count + marks) rs spends.next (right_head b.number a.number) first.changes)
       (beside_wider (is_head a.number) (is_either b.number a.number) (5 * alone) spends.next new (right_head b.number a.number) second)
 
   merge_few : (m user_moment : ℕ) (user : List ℕ) (asked : Asked) (even : Bool) (own gained : Vec NewEntry Global) (new : List Stored) → asked.removes ≡ false
       → IsHeldListing (parts_of rs) user_moment user (own_held (parts_of rs) a) (map entry_of own.items) → IsHeldListing (parts_of rs) user_moment user (gained_held (parts_of rs) a b) (map entry_of gained.items)
-      → Spends m rs (merge_edits asked even a.number b.number own gained) new → ChangesBeside (is_either b.number a.number) (1 + (1 + 6 * own_count) + (2 + 5 * alone)) rs new
+      → Spends m rs (merge_edits asked even a.number b.number own gained) new → ChangesBeside (is_either b.number a.number) (1 + (1 + 6 * own_count) + (2 + marks + 5 * alone)) rs new
   merge_few m user_moment user asked even own gained new stays own_listed gained_listed spends =
       let one = parted m rs (keep_edits asked.keeps b.number) (replay_edits b.number own ++ after_edits asked.removes even a.number gained) new spends in
       let two = parted m one.between (replay_edits b.number own) (after_edits asked.removes even a.number gained) new one.rest in
@@ -165,23 +173,24 @@ module _ (rs : List Stored) (workspace : List ℕ) (a b : Space) (s : State) (f 
       let replayed = replay_priced m a.number b.number own one.between two.between kept.state f.w.lists.log f.q.lists.log f.w.parent f.q.parent all (touched f.w.lists.own) apart kept.stands kept.known.0 kept.known.1 above_ends
       (IsSteady-touched all f.w.lists.own own_cut) (own_covered user_moment user (map entry_of own.items) own_listed) (own_few user_moment user (map entry_of own.items) own_listed) two.first in
       let found = replayed.known.1 in
-      beside_then wide (1 + (1 + 6 * own_count)) (2 + 5 * alone) rs two.between new
+      beside_then wide (1 + (1 + 6 * own_count)) (2 + marks + 5 * alone) rs two.between new
       (beside_then wide 1 (1 + 6 * own_count) rs one.between two.between (beside_wider (is_head b.number) wide 1 rs one.between (left_head b.number a.number) kept.changes)
       (beside_wider (is_head b.number) wide (1 + 6 * own_count) one.between two.between (left_head b.number a.number) replayed.changes))
+      (subst (λ k. ChangesBeside wide (2 + k + 5 * alone) two.between new) (ap (λ (xs : List Trace). length (filter (λ (x : Trace). x.space == a.number) xs)) (replayed.known.2 ∙ kept.known.2))
       (behind_few even two.between replayed.state replayed.stands replayed.known.0 found.0 (ap (workspace_of replayed.state.spaces) parent_number ∙ found.1)
-      (subst (λ r. Spends m two.between (after_edits r even a.number gained) new) stays two.rest))
+      (subst (λ r. Spends m two.between (after_edits r even a.number gained) new) stays two.rest)))
     where
       wide : Record → Bool
       wide = is_either b.number a.number
 
       behind_few : (same : Bool) (mid : List Stored) (d : Durable) → Stands (parts_of mid) d → IsAt d.spaces a.number f.w.lists.log f.w.parent → (p : Workspace) → workspace_of d.spaces f.w.parent ≡ Some p → Spends m mid (after_edits false same a.number gained) new
-          → ChangesBeside wide (2 + 5 * alone) mid new
-      behind_few true mid d st at p above spent = few_more wide 0 (2 + 5 * alone) mid new (omega arith) (beside_same wide mid new spent)
+          → ChangesBeside wide (2 + length (marks_at (parts_of mid) a.number) + 5 * alone) mid new
+      behind_few true mid d st at p above spent = few_more wide 0 (2 + length (marks_at (parts_of mid) a.number) + 5 * alone) mid new (omega arith) (beside_same wide mid new spent)
       behind_few false mid d st at p above spent =
           let first = rebase_bare m a.number mid spent.next d f.w.lists.log f.w.parent p st at above spent.spent in
           let second = gain_priced m a.number gained spent.next new first.state f.w.lists.log f.w.parent all (touched_alone f.w.lists.own behind) first.stands first.known log_ends (IsSteady-alone all f.w.lists.own behind own_cut behind_cut)
           (gained_covered user_moment user (map entry_of gained.items) gained_listed) (gained_few user_moment user (map entry_of gained.items) gained_listed) spent.rest in
-          beside_then wide 2 (5 * alone) mid spent.next new (beside_wider (is_head a.number) wide 2 mid spent.next (right_head b.number a.number) first.changes)
+          beside_then wide (2 + length (marks_at (parts_of mid) a.number)) (5 * alone) mid spent.next new (beside_wider (is_head a.number) wide (2 + length (marks_at (parts_of mid) a.number)) mid spent.next (right_head b.number a.number) first.changes)
           (beside_wider (is_head a.number) wide (5 * alone) spent.next new (right_head b.number a.number) second)
 
 -- ---- and the stretches of the workspace of a name
@@ -196,7 +205,11 @@ counted_for w q s name named child above =
     ∙ ap {B = ℕ} (λ t. if t then 0 else stretches_of (parent_in s w) w) child
     ∙ ap (λ (p : Workspace). stretches_of p w) above
 
-pub spends_few : (rs new : List Stored) (xs : List Session) (m m_plan : ℕ) (name : List ℕ) (edits : List Edit) (s : State) → StandsAt rs xs m_plan s → AreNets rs name edits → Spends m rs edits new → ChangesAtMost (8 + 8 * stretch_count s name) rs new
+-- and the marks of its records
+marks_for : (rs : List Stored) (name : List ℕ) (a : Space) → NamesSpace rs name a → mark_count rs name ≡ length (marks_at (parts_of rs) a.number)
+marks_for rs name a names = ap {B = ℕ} (λ (o : Option Space). option_map_or (λ (r : Space). length (marks_at (parts_of rs) r.number)) o 0) names.found
+
+pub spends_few : (rs new : List Stored) (xs : List Session) (m m_plan : ℕ) (name : List ℕ) (edits : List Edit) (s : State) → StandsAt rs xs m_plan s → AreNets rs name edits → Spends m rs edits new → ChangesAtMost (8 + 8 * stretch_count s name + mark_count rs name) rs new
 spends_few rs new xs m m_plan name edits s st (Nothing none) spends = record {
   ids = [];
   few = omega arith;
@@ -210,7 +223,8 @@ spends_few rs new xs m m_plan name edits s st (Refresh r) spends =
     let few = refresh_few rs name a b s f m r.moment r.user r.gained new r.listed (subst (λ (es : List Edit). Spends m rs es new) r.are spends) in
     let all = together rs name a b s f in
     let is = counted_for f.w f.q s name (h.named ∙ sym h.is.found ∙ f.is.found) (child f.w.number a.number f.is.number f.child) (ap (λ (o : Option Workspace). unwrap_or o fresh_live) f.beside.above) in
-    at_most_more _ (8 + 8 * stretch_count s name) rs new (omega (arith, all, is)) (changes_in_all b.number a.number _ rs new st.stands.rules few)
+    let went = marks_for rs name a r.family.space in
+    at_most_more _ (8 + 8 * stretch_count s name + mark_count rs name) rs new (omega (arith, all, is, went)) (changes_in_all b.number a.number _ rs new st.stands.rules few)
   where
     child : (k n : ℕ) → k ≡ n → 0 < n → (k == 0) ≡ false
     child k n same lt = ne_eqb k 0 (λ none. absurd (omega (arith, same, lt, none)))
@@ -222,7 +236,8 @@ spends_few rs new xs m m_plan name edits s st (Merge r) spends =
     let few = merge_few rs name a b s f m r.moment r.user r.asked r.even r.own r.gained new r.stays r.own_listed r.gained_listed (subst (λ (es : List Edit). Spends m rs es new) r.are spends) in
     let all = together rs name a b s f in
     let is = counted_for f.w f.q s name (h.named ∙ sym h.is.found ∙ f.is.found) (child f.w.number a.number f.is.number f.child) (ap (λ (o : Option Workspace). unwrap_or o fresh_live) f.beside.above) in
-    at_most_more _ (8 + 8 * stretch_count s name) rs new (omega (arith, all, is)) (changes_in_all b.number a.number _ rs new st.stands.rules few)
+    let went = marks_for rs name a r.family.space in
+    at_most_more _ (8 + 8 * stretch_count s name + mark_count rs name) rs new (omega (arith, all, is, went)) (changes_in_all b.number a.number _ rs new st.stands.rules few)
   where
     child : (k n : ℕ) → k ≡ n → 0 < n → (k == 0) ≡ false
     child k n same lt = ne_eqb k 0 (λ none. absurd (omega (arith, same, lt, none)))

@@ -8,7 +8,7 @@ use Rattle.wm_graph.specs.Parts.{parts_of}
 use Rattle.wm_model.specs.Merged.{gain_edits, keep_edits, replay_edits}
 use Rattle.wm_net.specs.Counts.{IsSteady, cut_count, has_cuts}
 use Rattle.wm_prices.proofs.Beside.{beside_same, few_more}
-use Rattle.wm_prices.specs.Prices.{ChangesBeside, Spends, Spent, is_head, pieces_at, touch_price}
+use Rattle.wm_prices.specs.Prices.{ChangesBeside, KeepsMarks, Spends, Spent, is_head, marks_at, pieces_at, touch_price}
 use Rattle.wm_spec.specs.Lists.{Cell, Entry, touched}
 use Rattle.wm_spec.specs.declared.record.Record.{Record}
 use Rattle.wm_spec.specs.declared.record.stored.Stored.{Stored}
@@ -60,15 +60,19 @@ met_price old d n log parent tables es all f st at real steady ends covered =
     let r = record_is (parts_of old) d n at.now st at.found in
     touches_priced (parts_of old) d n at.now r.recorded st r.is tables es all f real steady (subst (λ (l : List Entry). EndIn l all) (sym at.log_is) ends) covered
 
+-- what is as it was has the marks that it had
+marks_same : (old new : List Stored) → new ≡ old → KeepsMarks old new
+marks_same old new = ap (λ (ss : List Stored). (parts_of ss).marks)
+
 -- ---- edits
 
 -- an implicit savepoint
 pub keep_priced : (m n k : ℕ) (keeps : Bool) (old new : List Stored) (d : Durable) (log above_log : List Entry) (parent above_parent : ℕ) → Stands (parts_of old) d → IsAt d.spaces n log parent → IsAt d.spaces k above_log above_parent
-    → Spends m old (keep_edits keeps k) new → Leaves (is_head k) 1 old new (λ e. IsAt e.spaces n log parent × IsAt e.spaces k above_log above_parent)
+    → Spends m old (keep_edits keeps k) new → Leaves (is_head k) 1 old new (λ e. IsAt e.spaces n log parent × IsAt e.spaces k above_log above_parent × KeepsMarks old new)
 keep_priced m n k false old new d log above_log parent above_parent st at above spends = record {
   state = d;
   stands = subst (λ (ss : List Stored). Stands (parts_of ss) d) (sym spends) st;
-  known = (at, above);
+  known = (at, above, marks_same old new spends);
   changes = few_more (is_head k) 0 1 old new (omega arith) (beside_same (is_head k) old new spends);
 }
 keep_priced m n k true old new d log above_log parent above_parent st at above spends =
@@ -77,24 +81,24 @@ keep_priced m n k true old new d log above_log parent above_parent st at above s
     record {
       state = drafted_by x.work m (edits.Keep k ∷ []) d;
       stands = subst (λ (ss : List Stored). Stands (parts_of ss) (drafted_by x.work m (edits.Keep k ∷ []) d)) (sym (now ∙ x.is)) (x.drafts.stands d st);
-      known = (kept_stays m k d n log parent at, kept_stays m k d k above_log above_parent above);
-      changes = subst (ChangesBeside (is_head k) 1 old) (sym now) x.costs;
+      known = (kept_stays m k d n log parent at, kept_stays m k d k above_log above_parent above, subst (KeepsMarks old) (sym now) x.costs.1);
+      changes = subst (ChangesBeside (is_head k) 1 old) (sym now) x.costs.0;
     }
 
 -- entries that are replayed in another workspace: six for each stretch, and a version
 pub replay_priced : (m n k : ℕ) (own : Vec NewEntry Global) (old new : List Stored) (d : Durable) (log above_log : List Entry) (parent above_parent : ℕ) (all : List Entry) (f : Cell → Bool) → (n == k) ≡ false → Stands (parts_of old) d
     → IsAt d.spaces n log parent → IsAt d.spaces k above_log above_parent → EndIn above_log all → IsSteady all f → ((c : Cell) → touched (map entry_of own.items) c ≡ true → f c ≡ true) → length (map entry_of own.items) ≤ cut_count all f
-    → Spends m old (replay_edits k own) new → Leaves (is_head k) (1 + 6 * cut_count all f) old new (λ e. IsAt e.spaces n log parent × ((v : Workspace) × (workspace_of e.spaces k ≡ Some v)))
+    → Spends m old (replay_edits k own) new → Leaves (is_head k) (1 + 6 * cut_count all f) old new (λ e. IsAt e.spaces n log parent × ((v : Workspace) × (workspace_of e.spaces k ≡ Some v)) × KeepsMarks old new)
 replay_priced m n k own old new d log above_log parent above_parent all f other st at above ends steady covered few = by_some (length own.items == 0)
   where
     es : List Entry
     es = map entry_of own.items
 
-    by_some : (b : Bool) → Spends m old (if b then [] else edits.Replay k own ∷ []) new → Leaves (is_head k) (1 + 6 * cut_count all f) old new (λ e. IsAt e.spaces n log parent × ((v : Workspace) × (workspace_of e.spaces k ≡ Some v)))
+    by_some : (b : Bool) → Spends m old (if b then [] else edits.Replay k own ∷ []) new → Leaves (is_head k) (1 + 6 * cut_count all f) old new (λ e. IsAt e.spaces n log parent × ((v : Workspace) × (workspace_of e.spaces k ≡ Some v)) × KeepsMarks old new)
     by_some true spends = record {
       state = d;
       stands = subst (λ (ss : List Stored). Stands (parts_of ss) d) (sym spends) st;
-      known = (at, (above.now, above.found));
+      known = (at, (above.now, above.found), marks_same old new spends);
       changes = few_more (is_head k) 0 (1 + 6 * cut_count all f) old new (omega arith) (beside_same (is_head k) old new spends);
     }
     by_some false spends =
@@ -108,8 +112,8 @@ replay_priced m n k own old new d log above_log parent above_parent all f other 
         record {
           state = after;
           stands = subst (λ (ss : List Stored). Stands (parts_of ss) after) (sym (now ∙ x.is)) stands;
-          known = (replayed_stays k es d n log parent other at, (moved.now, moved.found));
-          changes = few_more (is_head k) (1 + 4 * length own.items + touch_price (parts_of old) k es) (1 + 6 * cut_count all f) old new (omega (arith, price, few, many)) (subst (ChangesBeside (is_head k) _ old) (sym now) x.costs);
+          known = (replayed_stays k es d n log parent other at, (moved.now, moved.found), subst (KeepsMarks old) (sym now) x.costs.1);
+          changes = few_more (is_head k) (1 + 4 * length own.items + touch_price (parts_of old) k es) (1 + 6 * cut_count all f) old new (omega (arith, price, few, many)) (subst (ChangesBeside (is_head k) _ old) (sym now) x.costs.0);
         }
 
 -- entries that a log gains: five for each stretch
@@ -130,9 +134,9 @@ gain_priced m n gained old new d log parent all f st at ends steady covered few 
         let many : length es ≡ length gained.items = length-map gained.items entry_of in
         few_more (is_head n) (3 * length gained.items + touch_price (parts_of old) n es) (5 * cut_count all f) old new (omega (arith, price, few, many)) (subst (ChangesBeside (is_head n) _ old) (sym spends.rest) x.costs)
 
--- a rebase that keeps what is own: a version, a turn and one piece for each stretch
+-- a rebase that keeps what is own: a version, a turn, one piece for each stretch, and the marks that go
 pub rebase_priced : (m n : ℕ) (old new : List Stored) (d : Durable) (w p : Workspace) (all : List Entry) → Stands (parts_of old) d → workspace_of d.spaces n ≡ Some w → workspace_of d.spaces w.parent ≡ Some p → has_cuts all w.lists.own ≡ true
-    → EndIn w.lists.own all → Spent m old (edits.Rebase n false) new → Leaves (is_head n) (2 + cut_count all (touched w.lists.own)) old new (λ e. IsAt e.spaces n w.lists.log w.parent)
+    → EndIn w.lists.own all → Spent m old (edits.Rebase n false) new → Leaves (is_head n) (2 + cut_count all (touched w.lists.own) + length (marks_at (parts_of old) n)) old new (λ e. IsAt e.spaces n w.lists.log w.parent)
 rebase_priced m n old new d w p all st found above cut ends x =
     let after : Durable = drafted_by x.work m (edits.Rebase n false ∷ []) d in
     let stands : Stands (parts_of new) after = subst (λ (ss : List Stored). Stands (parts_of ss) after) (sym x.is) (x.drafts.stands d st) in
@@ -143,12 +147,12 @@ rebase_priced m n old new d w p all st found above cut ends x =
       state = after;
       stands = stands;
       known = rebased_stays n false d n w.lists.log w.parent (record { now = w; found = found; log_is = refl; parent_is = refl });
-      changes = few_more (is_head n) (2 + length (pieces_at (parts_of new) (latest (parts_of new) n))) (2 + cut_count all (touched w.lists.own)) old new (omega (arith, pieces)) x.costs;
+      changes = few_more (is_head n) (2 + length (pieces_at (parts_of new) (latest (parts_of new) n)) + length (marks_at (parts_of old) n)) (2 + cut_count all (touched w.lists.own) + length (marks_at (parts_of old) n)) old new (omega (arith, pieces)) x.costs;
     }
 
--- one behind which nothing is own: a version and a turn
+-- one behind which nothing is own: a version, a turn, and the marks that go
 pub rebase_bare : (m n : ℕ) (old new : List Stored) (d : Durable) (log : List Entry) (parent : ℕ) (p : Workspace) → Stands (parts_of old) d → IsAt d.spaces n log parent → workspace_of d.spaces parent ≡ Some p
-    → Spent m old (edits.Rebase n true) new → Leaves (is_head n) 2 old new (λ e. IsAt e.spaces n log parent)
+    → Spent m old (edits.Rebase n true) new → Leaves (is_head n) (2 + length (marks_at (parts_of old) n)) old new (λ e. IsAt e.spaces n log parent)
 rebase_bare m n old new d log parent p st at above x =
     let after : Durable = drafted_by x.work m (edits.Rebase n true ∷ []) d in
     let stands : Stands (parts_of new) after = subst (λ (ss : List Stored). Stands (parts_of ss) after) (sym x.is) (x.drafts.stands d st) in
@@ -159,5 +163,5 @@ rebase_bare m n old new d log parent p st at above x =
       state = after;
       stands = stands;
       known = rebased_stays n true d n log parent at;
-      changes = few_more (is_head n) (2 + length (pieces_at (parts_of new) (latest (parts_of new) n))) 2 old new (omega (arith, pieces)) x.costs;
+      changes = few_more (is_head n) (2 + length (pieces_at (parts_of new) (latest (parts_of new) n)) + length (marks_at (parts_of old) n)) (2 + length (marks_at (parts_of old) n)) old new (omega (arith, pieces)) x.costs;
     }

@@ -1,8 +1,14 @@
--- Into how many stretches the cells fall that a merge or a refresh is about.
-use Rattle.std.specs.Prelude.{ℕ, ◌||◌, ◌==◌, if◌then◌else◌, List, ◌++◌}
+-- Into how many stretches the cells fall that a merge or a refresh is about, and how many marks go by it.
+use Rattle.std.specs.Prelude.{ℕ, ◌||◌, ◌==◌, if◌then◌else◌, List, ◌++◌, length}
+use Rattle.std.specs.List.{find}
 use Rattle.std.specs.Option.{option_map_or}
+use Rattle.std.specs.Str.{bytes_eq}
+use Rattle.wm_graph.specs.Parts.{parts_of}
 use Rattle.wm_net.specs.Counts.{cut_count}
+use Rattle.wm_prices.specs.Prices.{marks_at}
 use Rattle.wm_spec.specs.Lists.{Cell, Entry, touched}
+use Rattle.wm_spec.specs.declared.record.space.Space.{Space}
+use Rattle.wm_spec.specs.declared.record.stored.Stored.{Stored}
 use Rattle.wm_state.specs.State.{State, Workspace, workspace_named}
 use Rattle.wm_model.specs.Step.{parent_in, pending}
 
@@ -18,3 +24,7 @@ stretches_of p w = cut_count (all_entries w ++ all_entries p) (λ (c : Cell). to
 -- those of the workspace of a name; none where there is no such, or it is LIVE, which has no parent
 abbrev pub stretch_count : State → List ℕ → ℕ
 stretch_count s name = option_map_or (λ (w : Workspace). if w.number == 0 then 0 else stretches_of (parent_in s w) w) (workspace_named name s.durable.spaces) 0
+
+-- how many records are marks of the workspace of a name; none where there is no such
+abbrev pub mark_count : List Stored → List ℕ → ℕ
+mark_count rs name = option_map_or (λ (a : Space). length (marks_at (parts_of rs) a.number)) (find (λ (r : Space). bytes_eq name r.name) (parts_of rs).spaces) 0

@@ -66,6 +66,7 @@ edited_timed m (edits.Remove n) moment work s = refl
 edited_timed m (edits.Keep n) moment work s = keep_timed m moment work s (workspace_of s.spaces n)
 edited_timed m (edits.Replay n entries) moment work s = refl
 edited_timed m (edits.Gain n entries) moment work s = refl
+edited_timed m (edits.Settle n marks) moment work s = refl
 edited_timed m (edits.Rebase n emptied) moment work s = rebase_timed n emptied moment work s (parent_of s.spaces n)
 
 -- so do edits

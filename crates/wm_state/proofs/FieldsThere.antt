@@ -58,6 +58,7 @@ workspace_for p r = record {
   writer = r.writer;
   savepoints = map savepoint_for (saved_in p r.number);
   turns = [];
+  settled = [];
 }
 
 -- a state of such workspaces

@@ -18,6 +18,7 @@ use Rattle.wm_state.proofs.Ending.{all_end}
 use Rattle.wm_state.proofs.Frames.{KeepRows, fields_stand, HasRows-kept, OnceStand-same, SavepointsStand-same}
 use Rattle.wm_state.proofs.Keeping.{KeepRows-same}
 use Rattle.wm_state.proofs.Logging.{HistsStand-frame}
+use Rattle.wm_state.proofs.Marking.{MarksStand-same}
 use Rattle.wm_state.proofs.Named.{version_below}
 use Rattle.wm_state.proofs.Naming.{Carries, Climbs-sprout, Covers-as, Framed, IsKeptOwn, IsMarked, IsNewest, IsNewestOwn, NamedStand-kept, Named-as, Owned-as, OwnsStand-kept, Tells-as, WasNamed, carries-more, climbs_kept, framed_same, named_framed, own_there, owns_framed, past_framed, stays-same, there_of}
 use Rattle.wm_state.proofs.Ready.{KeepReady, KeepReady-same}
@@ -199,7 +200,8 @@ Stands-forked p q s t n number f st spaces tables counters rules = record {
   owns = OwnsStand-forked p q s t n number f st.rules st.spaces spaces st.owns;
   turns = TurnsStand-alike p q s t (ap (λ (z : Parts). z.turns) f.rest) alike st.turns;
   touches = TouchesStand-same p q s t (ap (λ (z : Parts). z.touches) f.rest) spaces st.touches;
-  later = LaterStand-same p q (ap (λ (z : Parts). z.locks) f.rest) (ap (λ (z : Parts). z.marks) f.rest) st.later;
+  marks = MarksStand-same p q s t (ap (λ (z : Parts). z.marks) f.rest) spaces st.marks;
+  later = LaterStand-same p q (ap (λ (z : Parts). z.locks) f.rest) st.later;
   hists = HistsStand-frame p q s t (ap (λ (z : Parts). z.hists) f.rest) logs ready st.entries st.hists;
   entries = EntriesStand-same s t ready spaces st.entries;
   rows = RowsStand-alike p q s t (KeepRows-same p q (ap (λ (z : Parts). z.rows) f.rest)) ready logs alike st.entries st.rows;

@@ -39,6 +39,7 @@ pub mod Appending
 pub mod Ready
 pub mod Logging
 pub mod Staying
+pub mod Marking
 pub mod DrawingEnds
 pub mod Above
 pub mod Ending

@@ -8,6 +8,7 @@ use Rattle.wm_state.specs.Standing.{latest, seen, seen_above, have_ends, Names, 
 use Rattle.wm_state.proofs.Frames.{KeepRows, fields_stand, OnceStand-same, SavepointsStand-same}
 use Rattle.wm_state.proofs.Keeping.{KeepRows-same}
 use Rattle.wm_state.proofs.Logging.{HistsStand-frame}
+use Rattle.wm_state.proofs.Marking.{MarksStand-same}
 use Rattle.wm_state.proofs.Naming.{Framed, IsKeptOwn, IsMarked, IsNewest, IsNewestOwn, NamedStand-kept, Named-as, Owned-as, OwnsStand-kept, carries-same, framed_same, named_framed, owns_framed, past_framed, stays-same}
 use Rattle.wm_state.proofs.Ready.{KeepReady}
 use Rattle.wm_state.proofs.Staying.{EntriesStand-same, LaterStand-same, RowsStand-alike, SameTurns, SameTurns-same, TouchesStand-same, TurnsStand-alike}
@@ -69,7 +70,8 @@ module _ (p q : Parts) (s t : Durable) (r : Retabled p q) (spaces : t.spaces ≡
     owns = OwnsStand-retabled st.owns;
     turns = TurnsStand-alike p q s t (ap (λ (z : Parts). z.turns) r.rest) alike st.turns;
     touches = TouchesStand-same p q s t (ap (λ (z : Parts). z.touches) r.rest) spaces st.touches;
-    later = LaterStand-same p q (ap (λ (z : Parts). z.locks) r.rest) (ap (λ (z : Parts). z.marks) r.rest) st.later;
+    marks = MarksStand-same p q s t (ap (λ (z : Parts). z.marks) r.rest) spaces st.marks;
+    later = LaterStand-same p q (ap (λ (z : Parts). z.locks) r.rest) st.later;
     hists = HistsStand-frame p q s t (ap (λ (z : Parts). z.hists) r.rest) logs ready st.entries st.hists;
     entries = EntriesStand-same s t ready spaces st.entries;
     rows = RowsStand-alike p q s t rows ready logs alike st.entries st.rows;

@@ -146,8 +146,8 @@ TouchesStand-same p q s t touches spaces = TouchesStand-kept p q s t (λ n w is.
 
 -- ---- what is not there yet
 
-pub LaterStand-same : (p q : Parts) → q.locks ≡ p.locks → q.marks ≡ p.marks → LaterStand p → LaterStand q
-LaterStand-same p q locks marks stand = record { locks = locks ∙ stand.locks; marks = marks ∙ stand.marks }
+pub LaterStand-same : (p q : Parts) → q.locks ≡ p.locks → LaterStand p → LaterStand q
+LaterStand-same p q locks stand = record { locks = locks ∙ stand.locks }
 
 -- ---- entries
 

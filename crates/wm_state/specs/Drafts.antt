@@ -13,13 +13,16 @@ use Rattle.wm_base.specs.declared.row.Row.{Row}
 use Rattle.wm_base.specs.declared.value.Value.{Value}
 use Rattle.wm_base.specs.declared.value.Value.TheVariants as values
 use Rattle.wm_graph.specs.Parts.{Parts, parts_of, row_of, space_of, table_of}
-use Rattle.wm_graph.specs.Rules.{collide, differ, has_key, is_short, is_table, keep_rules}
+use Rattle.wm_graph.specs.Rules.{are_cells, as_drawn, collide, differ, has_key, is_short, is_table, keep_rules}
 use Rattle.wm_spec.specs.Lists.{Cell, Entry}
 use Rattle.wm_spec.specs.Records.{AreChanges, record_at}
+use Rattle.wm_net.specs.Conflicts.{as_entry}
 use Rattle.wm_spec.specs.declared.record.Record.{Record}
 use Rattle.wm_spec.specs.declared.record.Record.TheVariants as records
 use Rattle.wm_spec.specs.declared.record.batch.Change.{Change}
+use Rattle.wm_spec.specs.declared.record.cell_range.CellRange.{CellRange}
 use Rattle.wm_spec.specs.declared.record.counters.Counters.{Counters}
+use Rattle.wm_spec.specs.declared.record.piece.PieceRecord.{PieceRecord}
 use Rattle.wm_spec.specs.declared.record.row.RowRecord.{RowRecord}
 use Rattle.wm_spec.specs.declared.record.savepoint.Savepoint.{Savepoint}
 use Rattle.wm_spec.specs.declared.record.space.Space.{Space}
@@ -29,13 +32,14 @@ use Rattle.wm_spec.specs.declared.record.turn.Turn.{Turn}
 use Rattle.wm_state.specs.ById.{applied}
 use Rattle.wm_state.specs.Drawing.{are_sorted}
 use Rattle.wm_state.specs.Effects.{IsFree, IsLeaf}
-use Rattle.wm_state.specs.Editing.{counter_limit, drafted_by, entry_of, is_other, line_work, number_limit, stand_of}
+use Rattle.wm_state.specs.Editing.{counter_limit, drafted_by, entry_of, is_other, line_work, number_limit, settled_by, stand_of}
 use Rattle.wm_state.specs.Entries.{AreStamped, entry_keys, is_well, pieces_of}
 use Rattle.wm_state.specs.Points.{HasRoom, Point, implicit_of, next_place_at, point_at}
 use Rattle.wm_state.specs.Standing.{FieldsStand, IsReal, Stands, by_number, has_history, latest, newest_first, owned, saved_as, space_after}
 use Rattle.wm_state.specs.State.{Durable, table_named}
 use Rattle.wm_state.specs.declared.edit.Edit.{Edit}
 use Rattle.wm_state.specs.declared.edit.NewEntry.{NewEntry}
+use Rattle.wm_state.specs.declared.edit.NewMark.{NewMark}
 use Rattle.wm_state.specs.declared.edit.Edit.TheVariants as edits
 
 -- ---- texts
@@ -218,6 +222,29 @@ pub record CanRebase (p : Parts) (n : ℕ) (emptied : Bool) : Type 0 where
   pub unturned : list_any (is_turn n (space.rebases + 1)) p.turns ≡ false
   pub kept : emptied ≡ false → (c : Cell) → is_some (owned p space.base_version n c) ≡ true → list_all can_keep c.key ≡ true
 
+-- the cells of a mark
+abbrev pub cells_in : NewMark → CellRange
+cells_in m = record { table = m.table; key = m.key; from = m.period.from; till = m.period.till }
+
+-- marks as pieces of a version
+abbrev pub mark_piece : ℕ → NewMark → PieceRecord
+mark_piece place m = as_drawn (record { space = 0; place = place; cells = cells_in m; position = m.position })
+
+-- none is of a table and key above those of the next
+abbrev pub mark_entry : NewMark → Entry
+mark_entry m = as_entry (settled_by 0 m)
+
+-- the workspace is there; there are marks, in order, no two of which share a cell, on cells of tables that are there, whose keys can be
+-- kept
+pub record CanSettle (p : Parts) (n : ℕ) (ms : List NewMark) : Type 0 where
+  pub space : Space
+  pub there : space_of p.spaces n ≡ Some space
+  pub some : nat_lt 0 (length ms) ≡ true
+  pub cells : list_all (λ (m : NewMark). are_cells (table_of p.tables) (cells_in m)) ms ≡ true
+  pub kept : list_all (λ (m : NewMark). list_all can_keep m.key) ms ≡ true
+  pub sorted : are_in_order (map mark_entry ms) ≡ true
+  pub apart : differ collide (map (mark_piece 0) ms) ≡ true
+
 -- what is asked before an edit at a moment
 abbrev pub CanEdit : Parts → ℕ → Edit → Type 0
 CanEdit p m (edits.Create t) = CanCreate p t
@@ -231,6 +258,7 @@ CanEdit p m (edits.Keep n) = CanKeep p n
 CanEdit p m (edits.Replay n entries) = CanReplay p n (map entry_of entries.items)
 CanEdit p m (edits.Gain n entries) = CanGain p n (map entry_of entries.items)
 CanEdit p m (edits.Rebase n emptied) = CanRebase p n emptied
+CanEdit p m (edits.Settle n marks) = CanSettle p n marks.items
 
 -- ---- what is made of them
 
@@ -245,6 +273,7 @@ abbrev pub leaves_turns : Edit → Bool
 leaves_turns (edits.Keep n) = true
 leaves_turns (edits.Replay n entries) = true
 leaves_turns (edits.Gain n entries) = true
+leaves_turns (edits.Settle n marks) = true
 leaves_turns e = false
 
 -- but for counters, workspaces, versions, savepoints and turns the records are what they were

@@ -1,16 +1,18 @@
 -- What edits make of the state.
-use Rattle.std.specs.Prelude.{ℕ, ◌+◌, ◌^◌, ◌==◌, ◌&&◌, nat_le, not, Bool, true, false, if◌then◌else◌, List, [], ◌∷◌, ◌++◌, map, length, take, Option, Some, None, unwrap_or, codes}
+use Rattle.std.specs.Prelude.{ℕ, ◌+◌, ◌-◌, ◌^◌, ◌==◌, ◌&&◌, nat_le, nat_lt, not, Bool, true, false, if◌then◌else◌, List, [], ◌∷◌, ◌++◌, map, length, take, Option, Some, None, unwrap_or, codes}
 use Rattle.std.specs.List.{filter}
 use Rattle.std.specs.Fmt.{decimal}
 use Rattle.std.specs.Option.{option_map, option_and_then}
 use Rattle.wm_base.specs.declared.row.Row.{Row}
 use Rattle.wm_base.specs.declared.value.Value.{Value}
+use Rattle.wm_net.specs.Conflicts.{Settled}
 use Rattle.wm_spec.specs.Lists.{Entry}
 use Rattle.wm_spec.specs.declared.record.space.FreezeMode.TheVariants.{Free}
 use Rattle.wm_spec.specs.declared.record.table.Table.{Table}
 use Rattle.wm_state.specs.declared.edit.Edit.{Edit}
 use Rattle.wm_state.specs.declared.edit.Edit.TheVariants as edits
 use Rattle.wm_state.specs.declared.edit.NewEntry.{NewEntry}
+use Rattle.wm_state.specs.declared.edit.NewMark.{NewMark}
 use Rattle.wm_state.specs.State.{Durable, Workspace, Savepoint, Turn, Stand, Latest, At, Readiness, content, kept, enabled, with_space, with_entries, with_gained, with_savepoint, workspace_of, savepoints_of, savepoint_made, table_named, next_making, next_space}
 
 -- ---- what is counted
@@ -115,6 +117,7 @@ child_of m spaces w k name = record {
   writer = [];
   savepoints = [];
   turns = turn_at_birth k ∷ [];
+  settled = [];
 }
 
 -- the state with a workspace more, born at a savepoint that is made for it
@@ -134,12 +137,17 @@ bear_in m stand name s w = option_map (λ (k : Savepoint). born m w stand name k
 abbrev pub stays_at : Savepoint → Savepoint → Bool
 stays_at k j = nat_le j.place k.place && nat_le j.log_length k.log_length
 
--- a workspace as it was at a savepoint; its turns, its rebases and the places that it gave stay
+-- a mark that was made before a place was given
+abbrev pub is_settled_below : ℕ → Settled → Bool
+is_settled_below place m = nat_lt m.place place
+
+-- a workspace as it was at a savepoint: the marks that were made since go; its turns, its rebases and the places that it gave stay
 abbrev pub restored : Savepoint → Workspace → Workspace
 restored k w = record w {
   lists = record w.lists { base = k.base; own = k.own; log = take k.log_length w.lists.log };
   from = k.from;
   savepoints = filter (stays_at k) w.savepoints;
+  settled = filter (is_settled_below k.place) w.settled;
 }
 
 -- the workspace of this number is as it was at a savepoint
@@ -176,13 +184,14 @@ gained_in n es s = record s { spaces = with_space n (with_gained es) s.spaces }
 abbrev pub turn_on : Workspace → Turn
 turn_on p = record { log_length = length p.lists.log; rebases = p.rebases; content = content p }
 
--- a workspace on its parent as that is now; what it has of its own stays, or goes where it was merged
+-- a workspace on its parent as that is now; what it has of its own stays, or goes where it was merged; its marks go
 abbrev pub rebased : Bool → Workspace → Workspace → Workspace
 rebased emptied p w = record w {
   lists = record w.lists { base = content p; own = if emptied then [] else w.lists.own };
   from = length p.lists.log;
   rebases = w.rebases + 1;
   turns = w.turns ++ turn_on p ∷ [];
+  settled = [];
 }
 
 -- the workspace of this number on a parent
@@ -196,6 +205,20 @@ parent_of spaces n = option_and_then (λ (w : Workspace). workspace_of spaces w.
 -- what a rebase of this workspace makes of a state; where the workspace or its parent is not there, nothing
 abbrev pub rebased_so : ℕ → Bool → Durable → Durable
 rebased_so n emptied s = unwrap_or (option_map (rebased_in n emptied s) (parent_of s.spaces n)) s
+
+-- ---- what is settled
+
+-- a mark that is made at a place of a workspace
+abbrev pub settled_by : ℕ → NewMark → Settled
+settled_by place m = record { table = m.table; key = m.key; from = m.period.from; till = m.period.till; position = m.position; place = place }
+
+-- a workspace with marks more, at the place that was given there last
+abbrev pub with_marks : List NewMark → Workspace → Workspace
+with_marks ms w = record w { settled = w.settled ++ map (settled_by (w.next_place - 1)) ms }
+
+-- the workspace of this number has marks more
+abbrev pub settled_in : ℕ → List NewMark → Durable → Durable
+settled_in n ms s = record s { spaces = with_space n (with_marks ms) s.spaces }
 
 -- ---- edits
 
@@ -222,6 +245,7 @@ edited m (edits.Keep n) s = kept_in m n s
 edited m (edits.Replay n entries) s = replayed_in n (map entry_of entries.items) s
 edited m (edits.Gain n entries) s = gained_in n (map entry_of entries.items) s
 edited m (edits.Rebase n emptied) s = rebased_so n emptied s
+edited m (edits.Settle n marks) s = settled_in n marks.items s
 
 -- and what edits make of it in their order
 abbrev pub all_edited : ℕ → List Edit → Durable → Durable

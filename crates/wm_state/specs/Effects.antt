@@ -79,6 +79,7 @@ pub record Born (p q : Parts) (r : Space) (number : ℕ) (turn : Turn) : Type 0 
   pub rebases : r.rebases ≡ 0
   pub unturned : list_any (λ (x : Turn). x.space == r.number) p.turns ≡ false
   pub untouched : list_any (λ (x : Trace). x.space == r.number) p.touches ≡ false
+  pub unmarked : list_any (λ (x : Trace). x.space == r.number) p.marks ≡ false
   pub turns : q.turns ≡ p.turns ++ turn ∷ []
   pub turn_space : turn.space ≡ r.number
   pub turn_number : turn.rebase ≡ 0

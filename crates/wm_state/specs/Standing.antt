@@ -13,7 +13,8 @@ use Rattle.wm_base.specs.declared.stamp.Stamp.{Stamp}
 use Rattle.wm_graph.specs.Parts.{Parts, row_of, space_of, table_of}
 use Rattle.wm_graph.specs.Rules.{keep_rules, differ}
 use Rattle.wm_period.specs.Pieces.{Held}
-use Rattle.wm_spec.specs.Lists.{Cell, Entry, Told, reach, told, touched}
+use Rattle.wm_net.specs.Conflicts.{Settled, as_entry}
+use Rattle.wm_spec.specs.Lists.{Cell, Entry, Told, covers, reach, told, touched}
 use Rattle.wm_spec.specs.declared.record.cell_range.CellRange.{CellRange}
 use Rattle.wm_spec.specs.declared.record.counters.Counters.{Counters}
 use Rattle.wm_spec.specs.declared.record.hist.Hist.{Hist}
@@ -393,10 +394,31 @@ pub record TouchesStand (p : Parts) (d : Durable) : Type 0 where
   pub latest : (n : ℕ) (w : Workspace) → workspace_of d.spaces n ≡ Some w → TouchesTell p.touches n w.next_place w.lists.log
   pub kept : (n making : ℕ) (w : Workspace) (k : Savepoint) → workspace_of d.spaces n ≡ Some w → savepoint_made making w.savepoints ≡ Some k → TouchesTell p.touches n k.place (take k.log_length w.lists.log)
 
--- nothing is locked, and nothing settled
+-- ---- settled cells
+
+-- one more than the greatest position of the marks of a workspace that were made at a place and cover a cell; 0 where there is none
+abbrev pub marked_at : List Trace → ℕ → ℕ → Cell → ℕ
+marked_at [] n place c = 0
+marked_at (x ∷ xs) n place c = max (if ((x.space == n) && (x.place == place)) && in_cells x.cells c then x.position + 1 else 0) (marked_at xs n place c)
+
+-- the same of what was settled in a workspace
+abbrev pub settled_from : List Settled → ℕ → Cell → ℕ
+settled_from [] place c = 0
+settled_from (m ∷ ms) place c = max (if (m.place == place) && covers (as_entry m) c then m.position + 1 else 0) (settled_from ms place c)
+
+-- a mark is over a period
+pub record IsRealMark (m : Settled) : Type 0 where
+  pub some : m.from < m.till
+  pub till : m.till ≤ END
+
+-- the marks of each workspace have records that say the same, place by place, and there is no other
+pub record MarksStand (p : Parts) (d : Durable) : Type 0 where
+  pub same : (n : ℕ) (w : Workspace) (place : ℕ) (c : Cell) → workspace_of d.spaces n ≡ Some w → marked_at p.marks n place c ≡ settled_from w.settled place c
+  pub real : (n : ℕ) (w : Workspace) → workspace_of d.spaces n ≡ Some w → All IsRealMark w.settled
+
+-- nothing is locked
 pub record LaterStand (p : Parts) : Type 0 where
   pub locks : p.locks ≡ []
-  pub marks : p.marks ≡ []
 
 -- ---- logs
 
@@ -451,6 +473,7 @@ pub record Stands (p : Parts) (s : Durable) : Type 0 where
   pub owns : OwnsStand p s
   pub turns : TurnsStand p s
   pub touches : TouchesStand p s
+  pub marks : MarksStand p s
   pub later : LaterStand p
   pub hists : HistsStand p s
   pub entries : EntriesStand s

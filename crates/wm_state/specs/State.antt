@@ -3,7 +3,10 @@ use Rattle.std.specs.Prelude.{ℕ, ◌+◌, Bool, true, ◌==◌, if◌then◌el
 use Rattle.std.specs.List.{find}
 use Rattle.std.specs.Str.{bytes_eq}
 use Rattle.wm_base.specs.Period.{Span}
-use Rattle.wm_spec.specs.Lists.{Entry}
+use Rattle.wm_base.specs.declared.value.Value.{Value}
+use Rattle.wm_net.specs.Conflicts.{Settled}
+use Rattle.wm_net.specs.Listed.{Stretch}
+use Rattle.wm_spec.specs.Lists.{Entry, Told}
 use Rattle.wm_spec.specs.declared.record.space.FreezeMode.{FreezeMode}
 use Rattle.wm_spec.specs.declared.record.space.FreezeMode.TheVariants.{Free}
 use Rattle.wm_spec.specs.declared.record.table.Table.{Table}
@@ -39,7 +42,7 @@ pub record Savepoint : Type 0 where
   pub rebases : ℕ
 
 -- parent is 0 in LIVE, whose number is 0; from: the length of the parent's log when base was taken; savepoints: by making; turns: none
--- in LIVE, and in every other the birth and then each rebase
+-- in LIVE, and in every other the birth and then each rebase; settled: the marks of what resolves decided since the last of them
 pub record Workspace : Type 0 where
   pub number : ℕ
   pub name : List ℕ
@@ -55,14 +58,30 @@ pub record Workspace : Type 0 where
   pub writer : List ℕ
   pub savepoints : List Savepoint
   pub turns : List Turn
+  pub settled : List Settled
 
 -- where a session stands in its workspace: at what is newest, or at the savepoint of this making
 pub data Stand : Type 0 where
   Latest : Stand
   At : (making : ℕ) → Stand
 
+-- a decision on a stretch of conflict: what is copied there of one side, each with the period over which it stands; position: how long
+-- the log of the parent was
+pub record Decision : Type 0 where
+  pub table : ℕ
+  pub key : List Value
+  pub from : ℕ
+  pub till : ℕ
+  pub copied : List (Stretch Told)
+  pub position : ℕ
+
+-- what a session has open to resolve conflicts of the workspace of a number: decisions in the order in which they were made
+pub record Resolve : Type 0 where
+  pub space : ℕ
+  pub decisions : List Decision
+
 -- space: the number of its workspace; period: the one that SetValidTime set for it, in which it sees rows and changes them; conflict:
--- the name of the workspace whose conflicts it looks at, which SetConflictWorkspace set for it
+-- the name of the workspace whose conflicts it looks at, which SetConflictWorkspace set for it; resolve: what BeginResolve opened
 pub record Session : Type 0 where
   pub name : List ℕ
   pub user : List ℕ
@@ -70,6 +89,7 @@ pub record Session : Type 0 where
   pub stand : Stand
   pub period : Option Span
   pub conflict : Option (List ℕ)
+  pub resolve : Option Resolve
 
 -- the part of the state that a store keeps: tables in the order of their making; workspaces by number; next_stamp: the stamp that
 -- the next change gets; limit: the greatest stamp that a change may get; last_moment: that of the last line that changed something
@@ -116,6 +136,7 @@ fresh_live = record {
   writer = [];
   savepoints = [];
   turns = [];
+  settled = [];
 }
 
 -- a store that takes this many changes, before its first line

@@ -21,6 +21,16 @@ pub struct NewEntry {
     pub user: Name,
 }
 
+/// What a resolve settles: cells of a key, and how long the log of the parent was when it was decided. Changes of the
+/// parent before are in conflict there no more.
+#[derive(Drop)]
+pub struct NewMark {
+    pub table: u16,
+    pub key: Key,
+    pub period: Period,
+    pub position: u64,
+}
+
 /// One change of the state.
 #[derive(Drop)]
 pub enum Edit {
@@ -77,5 +87,10 @@ pub enum Edit {
     Rebase {
         space: u32,
         emptied: bool,
+    },
+    /// Conflicts of a workspace are settled: by table and key, no two on one cell.
+    Settle {
+        space: u32,
+        marks: Vec<NewMark>,
     },
 }

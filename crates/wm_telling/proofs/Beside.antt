@@ -1,10 +1,11 @@
 -- What records tell of a workspace beside its parent is what their lists tell, cell by cell.
-use Rattle.std.proofs.Common.{◌≡◌, ℕ, ◌==◌, nat_lt, Bool, true, false, if◌then◌else◌, List, ◌++◌, drop, Option, Some, None, is_some, is_none, refl, sym, ap, ◌∙◌}
+use Rattle.std.proofs.Common.{◌≡◌, ℕ, ◌==◌, nat_le, nat_lt, Bool, true, false, if◌then◌else◌, List, ◌++◌, drop, Option, Some, None, is_some, is_none, refl, sym, ap, ◌∙◌}
 use Rattle.std.proofs.lemmas.Bool.{eqb-true}
 use Rattle.std.specs.Option.{option_map, option_or}
 use Rattle.wm_base.specs.declared.row.Row.{Row}
 use Rattle.wm_base.specs.declared.value.Value.{Value}
 use Rattle.wm_graph.specs.Parts.{Parts, row_of, space_of}
+use Rattle.wm_net.specs.Conflicts.{settled_at}
 use Rattle.wm_net.specs.Nets.{gained_at, outside}
 use Rattle.wm_net.proofs.Merging.{told_pending}
 use Rattle.wm_period.specs.Pieces.{Held}
@@ -17,7 +18,8 @@ use Rattle.wm_state.specs.Standing.{Newest, SpaceFields, Stands, fields_in, fiel
 use Rattle.wm_state.specs.State.{Durable, Workspace, content, workspace_of}
 use Rattle.wm_state.proofs.Mapped.{find-passes}
 use Rattle.wm_state.proofs.Owning.{own_is}
-use Rattle.wm_telling.specs.Telling.{AreFamily, gained_held, is_pending, own_held, pending_held, told_by}
+use Rattle.wm_telling.specs.Telling.{AreFamily, gained_held, is_pending, is_unsettled, own_held, pending_held, told_by}
+use Rattle.wm_telling.proofs.Marking.{marks_reached}
 
 pub some_same : {A : Type 0} (x y : A) → Some x ≡ Some y → x ≡ y
 some_same x y e = cc
@@ -98,6 +100,9 @@ module _ (p : Parts) (d : Durable) (n : ℕ) (w q : Workspace) (a b : Space) (be
   parent_fields : fields_of b ≡ fields_in q
   parent_fields = fields_are p d w.parent b q beside.stands beside.above parent_recorded
 
+  child_place : a.next_place ≡ w.next_place
+  child_place = ap (λ (f : SpaceFields). f.next_place) child_fields
+
   parent_place : b.next_place ≡ q.next_place
   parent_place = ap (λ (f : SpaceFields). f.next_place) parent_fields
 
@@ -107,13 +112,26 @@ module _ (p : Parts) (d : Durable) (n : ℕ) (w q : Workspace) (a b : Space) (be
   pub parent_name : b.name ≡ q.name
   parent_name = ap (λ (f : SpaceFields). f.name) parent_fields
 
+  -- the last position of the parent's touches at a cell is that of its log
+  reach_of_parent : (c : Cell) → reached p.touches b.number b.next_place c ≡ reach q.lists.log c
+  reach_of_parent c =
+      ap (λ (m : ℕ). reached p.touches m b.next_place c) parent_number
+      ∙ ap (λ (m : ℕ). reached p.touches w.parent m c) parent_place
+      ∙ (beside.stands.touches.latest w.parent q beside.above).reaches c
+
   -- the parent changed a cell where its log reaches past what the workspace has
   pub pending_reach : (c : Cell) → is_pending p a b c ≡ nat_lt w.from (reach q.lists.log c)
   pending_reach c =
-      ap (λ (f : SpaceFields). nat_lt f.from (reached p.touches b.number b.next_place c)) child_fields
-      ∙ ap (λ (m : ℕ). nat_lt w.from (reached p.touches m b.next_place c)) parent_number
-      ∙ ap (λ (m : ℕ). nat_lt w.from (reached p.touches w.parent m c)) parent_place
-      ∙ ap (λ (m : ℕ). nat_lt w.from m) ((beside.stands.touches.latest w.parent q beside.above).reaches c)
+      ap (λ (f : SpaceFields). nat_lt f.from (reached p.touches b.number b.next_place c)) child_fields ∙ ap (λ (m : ℕ). nat_lt w.from m) (reach_of_parent c)
+
+  -- and since it was settled where its log reaches as far as the marks that cover it
+  pub unsettled_reach : (c : Cell) → is_unsettled p a b c ≡ nat_le (settled_at w.settled c) (reach q.lists.log c)
+  unsettled_reach c =
+      ap (λ (m : ℕ). nat_le m (reached p.touches b.number b.next_place c))
+      (ap (λ (m : ℕ). reached p.marks m a.next_place c) beside.number
+      ∙ ap (λ (m : ℕ). reached p.marks n m c) child_place
+      ∙ marks_reached p d n w beside.stands.marks beside.stands.rules beside.is a child_recorded child_place c)
+      ∙ ap (λ (m : ℕ). nat_le (settled_at w.settled c) m) (reach_of_parent c)
 
   -- the newest version of the parent holds what its content does
   pub parent_holds : (c : Cell) → seen p (latest p b.number) c ≡ option_map held_of (told (content q) c)

@@ -1,5 +1,5 @@
 -- The first stretch on which a workspace and its parent are in conflict, by their records, is the first of their conflicts.
-use Rattle.std.proofs.Common.{◌≡◌, ℕ, ◌&&◌, max, nat_lt, Bool, not, List, slice_get, Option, Some, None, is_some, is_none, refl, sym, ap, ◌∙◌, arith}
+use Rattle.std.proofs.Common.{◌≡◌, ℕ, ◌&&◌, nat_lt, Bool, not, List, slice_get, Option, Some, None, is_some, is_none, refl, sym, ap, ◌∙◌}
 use Rattle.std.specs.Bool.{then_some}
 use Rattle.std.specs.Option.{option_and_then, option_map}
 use Rattle.wm_base.specs.declared.row.Row.{Row}
@@ -17,8 +17,8 @@ use Rattle.wm_spec.specs.declared.record.space.Space.{Space}
 use Rattle.wm_state.specs.Standing.{Newest, held_of, latest, seen}
 use Rattle.wm_state.specs.State.{Durable, Workspace, content}
 use Rattle.wm_telling.specs.Sides.{sides}
-use Rattle.wm_telling.specs.Telling.{IsFirstClash, clash_held, is_pending, own_held, stamps_of, standing}
-use Rattle.wm_telling.proofs.Beside.{Beside, child_recorded, own_is_held, parent_holds, pending_reach}
+use Rattle.wm_telling.specs.Telling.{IsFirstClash, clash_held, is_pending, is_unsettled, own_held, stamps_of, standing}
+use Rattle.wm_telling.proofs.Beside.{Beside, child_recorded, own_is_held, parent_holds, pending_reach, unsettled_reach}
 
 some_mapped : (o : Option Told) → is_some (option_map held_of o) ≡ is_some o
 some_mapped None = refl
@@ -49,15 +49,12 @@ first_alike f h g s alike is = record {
 }
 
 module _ (p : Parts) (d : Durable) (n : ℕ) (w q : Workspace) (a b : Space) (beside : Beside p d n w q a b) (base : (c : Cell) → seen p a.base_version c ≡ option_map held_of (told w.lists.base c)) where
-  in_conflict_is : (c : Cell) → (is_some (own_held p a c) && is_pending p a b c) ≡ in_conflict (sides q w) c
+  in_conflict_is : (c : Cell) → (is_some (own_held p a c) && (is_pending p a b c && is_unsettled p a b c)) ≡ in_conflict (sides q w) c
   in_conflict_is c =
-      ap (λ (o : Option Held). is_some o && is_pending p a b c) (own_is_held p d n w a beside.stands beside.is (child_recorded p d n w q a b beside) c)
-      ∙ ap (λ (t : Bool). t && is_pending p a b c) (some_mapped (told w.lists.own c))
-      ∙ ap (λ (t : Bool). touched w.lists.own c && t) (pending_reach p d n w q a b beside c)
-      ∙ ap (λ (m : ℕ). touched w.lists.own c && nat_lt m (reach q.lists.log c)) (least w.from)
-    where
-      least : (m : ℕ) → m ≡ max m 0
-      least m = omega arith
+      ap (λ (o : Option Held). is_some o && (is_pending p a b c && is_unsettled p a b c)) (own_is_held p d n w a beside.stands beside.is (child_recorded p d n w q a b beside) c)
+      ∙ ap (λ (t : Bool). t && (is_pending p a b c && is_unsettled p a b c)) (some_mapped (told w.lists.own c))
+      ∙ ap (λ (t : Bool). touched w.lists.own c && (t && is_unsettled p a b c)) (pending_reach p d n w q a b beside c)
+      ∙ ap (λ (t : Bool). touched w.lists.own c && (nat_lt w.from (reach q.lists.log c) && t)) (unsettled_reach p d n w q a b beside c)
 
   child_holds : (c : Cell) → seen p (latest p a.number) c ≡ option_map held_of (told (content w) c)
   child_holds c = ap (λ (m : ℕ). seen p (latest p m) c) beside.number ∙ (beside.stands.named.tells _ _ _ _ (Newest w beside.is)).holds c

@@ -5,3 +5,4 @@ pub mod Storing
 pub mod Replaying
 pub mod Sorting
 pub mod Everywhere
+pub mod Marking

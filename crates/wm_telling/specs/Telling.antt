@@ -1,5 +1,5 @@
 -- What records tell of a workspace beside its parent: what it has of its own, what it gains of its parent, and where both changed.
-use Rattle.std.specs.Prelude.{ℕ, ◌≡◌, ◌&&◌, ◌==◌, Bool, true, false, nat_lt, not, if◌then◌else◌, List, map, Option, None, Some, is_some}
+use Rattle.std.specs.Prelude.{ℕ, ◌≡◌, ◌&&◌, ◌==◌, Bool, true, false, nat_le, nat_lt, not, if◌then◌else◌, List, map, Option, None, Some, is_some}
 use Rattle.std.specs.Bool.{then_some}
 use Rattle.std.specs.Option.{option_and_then, option_map}
 use Rattle.wm_base.specs.declared.kind.Kind.{Kind}
@@ -74,9 +74,13 @@ stamps_of p a b c = record {
   child = option_and_then standing (seen p (latest p a.number) c);
 }
 
--- where both changed the cell
+-- the parent changed the cell at the position of each mark of the workspace that covers it, or behind it
+abbrev pub is_unsettled : Parts → Space → Space → Cell → Bool
+is_unsettled p a b c = nat_le (reached p.marks a.number a.next_place c) (reached p.touches b.number b.next_place c)
+
+-- where both changed the cell, and it is not settled
 abbrev pub clash_held : Parts → Space → Space → Cell → Option Stamps
-clash_held p a b c = then_some (is_some (own_held p a c) && is_pending p a b c) (stamps_of p a b c)
+clash_held p a b c = then_some (is_some (own_held p a c) && (is_pending p a b c && is_unsettled p a b c)) (stamps_of p a b c)
 
 -- ---- what is found key by key
 

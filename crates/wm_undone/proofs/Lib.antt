@@ -1,5 +1,6 @@
 pub mod RestoringLists
 pub mod RestoringTouches
+pub mod Marked
 pub mod RestoringFields
 pub mod RestoringNamed
 pub mod RestoringStands

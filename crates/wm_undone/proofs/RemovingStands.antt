@@ -14,18 +14,20 @@ use Rattle.wm_spec.specs.declared.record.table.Table.{Table}
 use Rattle.wm_spec.specs.declared.record.trace.Trace.{Trace}
 use Rattle.wm_spec.specs.declared.record.turn.Turn.{Turn as TurnRecord}
 use Rattle.wm_state.specs.State.{Durable, Workspace, log_of, turns_of, workspace_of}
-use Rattle.wm_state.specs.Standing.{CountersStand, EntriesStand, FieldsStand, HistsStand, LaterStand, Logged, RowsStand, Stands, TouchesStand, TouchesTell, TurnsStand, has_history, hist_at, logged, logged_as, turn_at, turned, turned_in}
+use Rattle.wm_state.specs.Standing.{CountersStand, EntriesStand, FieldsStand, HistsStand, LaterStand, Logged, MarksStand, RowsStand, Stands, TouchesStand, TouchesTell, TurnsStand, has_history, hist_at, logged, logged_as, turn_at, turned, turned_in}
 use Rattle.wm_state.proofs.Frames.{KeepRows, fields_stand}
 use Rattle.wm_state.proofs.Keeping.{KeepRows-same}
 use Rattle.wm_state.proofs.Logging.{HaveRows, log_of-none, log_of-same, rows-kept}
+use Rattle.wm_state.proofs.Marking.{MarksStand-kept}
 use Rattle.wm_state.proofs.Ready.{KeepReady, KeepReady-same}
 use Rattle.wm_state.proofs.Staying.{AreReal-same, EntriesStand-kept, entries_real, turns_of-none}
 use Rattle.wm_state.proofs.Tests.{both}
 use Rattle.wm_undone.specs.Removing.{CanRemove, Thinned, is_other, without}
 use Rattle.wm_undone.specs.Restoring.{stays_touched}
+use Rattle.wm_undone.proofs.Marked.{marked-filter}
 use Rattle.wm_undone.proofs.RemovingFields.{FieldsStand-thinned, found_away, found_before, found_none}
 use Rattle.wm_undone.proofs.RemovingNamed.{NamedStand-thinned, OwnsStand-thinned}
-use Rattle.wm_undone.proofs.RemovingRecords.{find_other, find_own, thinned}
+use Rattle.wm_undone.proofs.RemovingRecords.{find_other, find_own, other_of, thinned}
 use Rattle.wm_undone.proofs.RestoringTouches.{tells_beside}
 
 -- a touch of another workspace is one that stays where all of the workspace's go
@@ -76,7 +78,7 @@ module _ (p : Parts) (s t : Durable) (n : ℕ) (counters : List Counters) (may :
           ∙ stand.same m number
           ∙ ap (λ ts. option_map turned_in (slice_get ts number)) (sym (turns_of-same t.spaces s.spaces m (found_away p s t n counters may rules spaces m away)))
 
-  -- ---- touches, and what is not there yet
+  -- ---- touches, marks, and what is not there yet
 
   TouchesStand-removed : TouchesStand p s → TouchesStand (thinned p n counters) t
   TouchesStand-removed stand = record {
@@ -84,8 +86,18 @@ module _ (p : Parts) (s t : Durable) (n : ℕ) (counters : List Counters) (may :
     kept = λ m making w k is made. let h = was m w is in tells_others n m _ _ p.touches h.0 (stand.kept m making w k h.1 made);
   }
 
+  MarksStand-removed : MarksStand p s → MarksStand (thinned p n counters) t
+  MarksStand-removed stand = MarksStand-kept p (thinned p n counters) s t (λ m w is.
+      let h = was m w is in
+      inl (
+        record { old = w; is = h.1; same = refl },
+        λ place c.
+            marked-filter (λ (x : Trace). is_other n x.space) true m place (λ x at. other_of n x.space (λ same. h.0 (sym (eqb-true x.space m (both (x.space == m) (x.place == place) at).0) ∙ same))) p.marks c,
+      ))
+      stand
+
   LaterStand-removed : LaterStand p → LaterStand (thinned p n counters)
-  LaterStand-removed stand = record { locks = ap (filter _) stand.locks; marks = ap (filter _) stand.marks }
+  LaterStand-removed stand = record { locks = ap (filter _) stand.locks }
 
   -- ---- logs
 
@@ -144,6 +156,7 @@ module _ (p : Parts) (s t : Durable) (n : ℕ) (counters : List Counters) (may :
     owns = OwnsStand-thinned p s t n counters may rules st.spaces spaces st.owns;
     turns = TurnsStand-removed st.turns;
     touches = TouchesStand-removed st.touches;
+    marks = MarksStand-removed st.marks;
     later = LaterStand-removed st.later;
     hists = HistsStand-removed st.hists;
     entries = EntriesStand-removed st.entries;

@@ -26,14 +26,14 @@ use Rattle.wm_state.proofs.Settled.{Places}
 use Rattle.wm_forked.proofs.PlannedSaved.{more_version}
 use Rattle.wm_written.proofs.Dropping.{dropped, dropped-set}
 use Rattle.wm_written.proofs.Ids.{are_under, ids_differ-push, ids_of-dropped}
-use Rattle.wm_undone.specs.Restoring.{GoesBack, keeps_back, restore_batch, restored, restored_to, stays_logged, stays_saved, stays_touched}
+use Rattle.wm_undone.specs.Restoring.{GoesBack, keeps_back, restore_batch, restored, restored_to, stays_logged, stays_marked, stays_saved, stays_touched}
 use Rattle.wm_undone.proofs.RestoringKept.{FieldsStand-back, MayGoBack, Stands-back, gone_back, keep-restored}
 
 -- ---- what the test keeps
 
--- the parts without the savepoints, touches and entries that go
+-- the parts without the savepoints, touches, marks and entries that go
 parts-stay : (x : Point) (ss : List Stored) → parts_of (filter (λ (s : Stored). keeps_back x s.record) ss)
-    ≡ record (parts_of ss) { savepoints = filter (stays_saved x) (parts_of ss).savepoints; touches = filter (stays_touched x.space x.place x.log_length) (parts_of ss).touches; hists = filter (stays_logged x.space x.log_length) (parts_of ss).hists }
+    ≡ record (parts_of ss) { savepoints = filter (stays_saved x) (parts_of ss).savepoints; touches = filter (stays_touched x.space x.place x.log_length) (parts_of ss).touches; marks = filter (stays_marked x.space x.place) (parts_of ss).marks; hists = filter (stays_logged x.space x.log_length) (parts_of ss).hists }
 unfolding parts_of
 parts-stay x [] = refl
 parts-stay x (s ∷ ss) = by_record s.record (parts-stay x ss)
@@ -42,7 +42,7 @@ parts-stay x (s ∷ ss) = by_record s.record (parts-stay x ss)
     rest = filter (λ (s : Stored). keeps_back x s.record) ss
 
     after : Parts → Parts
-    after p = record p { savepoints = filter (stays_saved x) p.savepoints; touches = filter (stays_touched x.space x.place x.log_length) p.touches; hists = filter (stays_logged x.space x.log_length) p.hists }
+    after p = record p { savepoints = filter (stays_saved x) p.savepoints; touches = filter (stays_touched x.space x.place x.log_length) p.touches; marks = filter (stays_marked x.space x.place) p.marks; hists = filter (stays_logged x.space x.log_length) p.hists }
 
     by_savepoint : (y : Point) → parts_of rest ≡ after (parts_of ss) → (b : Bool)
         → parts_of (cond b (stored s.id (records.Savepoint y) ∷ rest) rest) ≡ record (after (parts_of ss)) { savepoints = cond b (y ∷ (after (parts_of ss)).savepoints) (after (parts_of ss)).savepoints }
@@ -54,6 +54,11 @@ parts-stay x (s ∷ ss) = by_record s.record (parts-stay x ss)
     by_touch y same true = ap (λ (p : Parts). record p { touches = y ∷ p.touches }) same
     by_touch y same false = same
 
+    by_mark : (y : Trace) → parts_of rest ≡ after (parts_of ss) → (b : Bool)
+        → parts_of (cond b (stored s.id (records.Mark y) ∷ rest) rest) ≡ record (after (parts_of ss)) { marks = cond b (y ∷ (after (parts_of ss)).marks) (after (parts_of ss)).marks }
+    by_mark y same true = ap (λ (p : Parts). record p { marks = y ∷ p.marks }) same
+    by_mark y same false = same
+
     by_hist : (y : Hist) → parts_of rest ≡ after (parts_of ss) → (b : Bool)
         → parts_of (cond b (stored s.id (records.Hist y) ∷ rest) rest) ≡ record (after (parts_of ss)) { hists = cond b (y ∷ (after (parts_of ss)).hists) (after (parts_of ss)).hists }
     by_hist y same true = ap (λ (p : Parts). record p { hists = y ∷ p.hists }) same
@@ -62,6 +67,7 @@ parts-stay x (s ∷ ss) = by_record s.record (parts-stay x ss)
     by_record : (r : Record) → parts_of rest ≡ after (parts_of ss) → parts_of (cond (keeps_back x r) (stored s.id r ∷ rest) rest) ≡ after (parts_of (stored s.id r ∷ ss))
     by_record (records.Savepoint y) same = by_savepoint y same (stays_saved x y)
     by_record (records.Touch y) same = by_touch y same (stays_touched x.space x.place x.log_length y)
+    by_record (records.Mark y) same = by_mark y same (stays_marked x.space x.place y)
     by_record (records.Hist y) same = by_hist y same (stays_logged x.space x.log_length y)
     by_record (records.Piece y) same = ap (λ (p : Parts). record p { pieces = y ∷ p.pieces }) same
     by_record (records.Counters y) same = ap (λ (p : Parts). record p { counters = y ∷ p.counters }) same
@@ -70,7 +76,6 @@ parts-stay x (s ∷ ss) = by_record s.record (parts-stay x ss)
     by_record (records.Version y) same = ap (λ (p : Parts). record p { versions = y ∷ p.versions }) same
     by_record (records.Row y) same = ap (λ (p : Parts). record p { rows = y ∷ p.rows }) same
     by_record (records.Lock y) same = ap (λ (p : Parts). record p { locks = y ∷ p.locks }) same
-    by_record (records.Mark y) same = ap (λ (p : Parts). record p { marks = y ∷ p.marks }) same
     by_record (records.Turn y) same = ap (λ (p : Parts). record p { turns = y ∷ p.turns }) same
 
 -- ---- what the batch makes of the records
@@ -139,6 +144,7 @@ parts-back ss counters_id space_id id old new a y x ids at are = by_split (split
                 versions = p.versions ++ y ∷ [];
                 savepoints = filter (stays_saved x) p.savepoints;
                 touches = filter (stays_touched x.space x.place x.log_length) p.touches;
+                marks = filter (stays_marked x.space x.place) p.marks;
                 hists = filter (stays_logged x.space x.log_length) p.hists;
               }) parts_second;
         }

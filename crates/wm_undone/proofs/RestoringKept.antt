@@ -23,13 +23,13 @@ use Rattle.wm_state.proofs.Tests.{all_if, all_middle, all_push, all_swap, and_tr
 use Rattle.wm_forked.proofs.KeepBorn.{version_numbered}
 use Rattle.wm_forked.proofs.KeptSpaces.{has_push, has_versions-kept}
 use Rattle.wm_forked.proofs.Sprouting.{newest-behind}
-use Rattle.wm_undone.specs.Restoring.{GoesBack, RestoredTo, restored, restored_to, stays_logged, stays_saved, stays_touched}
+use Rattle.wm_undone.specs.Restoring.{GoesBack, RestoredTo, restored, restored_to, stays_logged, stays_marked, stays_saved, stays_touched}
 use Rattle.wm_undone.proofs.RestoringFields.{FieldsStand-restored}
 use Rattle.wm_undone.proofs.RestoringRules.{KeepBack, SpaceBack, base_back, hists_back, locks_back, marks_back, saves_back, touches_back, turns_back, version_back}
 use Rattle.wm_undone.proofs.RestoringStands.{Stands-restored}
 
--- the records with a workspace's record as it was at a savepoint, a version more, without later savepoints, touched cells and entries of
--- its log, and with other counters
+-- the records with a workspace's record as it was at a savepoint, a version more, without later savepoints, touched cells, marks and
+-- entries of its log, and with other counters
 abbrev pub gone_back : Parts → Counters → List Space → Space → List Space → Version → Record → Parts
 gone_back p c front a back y x = record p {
   counters = c ∷ [];
@@ -37,6 +37,7 @@ gone_back p c front a back y x = record p {
   versions = p.versions ++ y ∷ [];
   savepoints = filter (stays_saved x) p.savepoints;
   touches = filter (stays_touched x.space x.place x.log_length) p.touches;
+  marks = filter (stays_marked x.space x.place) p.marks;
   hists = filter (stays_logged x.space x.log_length) p.hists;
 }
 
@@ -248,6 +249,7 @@ module _ (p : Parts) (old new : Counters) (front : List Space) (a : Space) (back
     elsewhere = λ m other. elsewhere m (λ at. bool_apart (sym (eq-eqb m x.space at) ∙ other));
     savepoints = refl;
     touches = refl;
+    marks = refl;
     hists = refl;
     rest = refl;
   }

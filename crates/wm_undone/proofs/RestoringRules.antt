@@ -1,5 +1,5 @@
 -- Records in which each workspace is there still, with the log that it had or, where it went back, the log of the savepoint: the rules on
--- versions, locks, marks and turns, and those on savepoints, touches and entries that stay.
+-- versions, locks and turns, and those on savepoints, touches, marks and entries that stay.
 use Rattle.std.proofs.Common.{◌≡◌, ◌≢◌, ℕ, ◌+◌, ◌==◌, nat_lt, nat_le, Bool, true, false, not, ◌&&◌, ◌||◌, cond, if◌then◌else◌, List, [], ◌∷◌, Option, Some, None, is_some, refl, sym, ap, ◌∙◌, ◌⊎◌, inl, inr}
 use Rattle.std.proofs.lemmas.Bool.{eq-eqb}
 use Rattle.std.specs.List.{filter, list_all}
@@ -19,7 +19,7 @@ use Rattle.wm_state.proofs.Making.{same_making}
 use Rattle.wm_state.proofs.Named.{ruled_savepoints}
 use Rattle.wm_state.proofs.Tests.{all_if, and_true, bool_apart, both, differ_filter}
 use Rattle.wm_undone.proofs.RestoringLists.{all_left, fewer}
-use Rattle.wm_undone.specs.Restoring.{stays_logged, stays_saved, stays_touched}
+use Rattle.wm_undone.specs.Restoring.{stays_logged, stays_marked, stays_saved, stays_touched}
 
 -- ---- what is there still
 
@@ -62,13 +62,6 @@ module _ (p q : Parts) (x : Record) (back : KeepBack p q x) where
       rw locks
       (and_true (differ (λ (y z : Lock). y.making == z.making) p.locks) (list_all (is_lock (table_of q.tables) (space_of q.spaces) more) p.locks) h.0
       (all_if (is_lock (table_of p.tables) (space_of p.spaces) work) (is_lock (table_of q.tables) (space_of q.spaces) more) (lock_back work more le tables) p.locks h.1))
-
-  pub marks_back : KeepTables p q → q.marks ≡ p.marks → are_marks p ≡ true → are_marks q ≡ true
-  marks_back tables marks e =
-      let h = both (differ meet p.marks) (list_all (is_trace (table_of p.tables) (space_of p.spaces)) p.marks) e in
-      rw marks
-      (and_true (differ meet p.marks) (list_all (is_trace (table_of q.tables) (space_of q.spaces)) p.marks) h.0
-      (all_if (is_trace (table_of p.tables) (space_of p.spaces)) (is_trace (table_of q.tables) (space_of q.spaces)) (trace_back tables) p.marks h.1))
 
   -- ---- turns
 
@@ -165,6 +158,16 @@ module _ (p q : Parts) (x : Record) (back : KeepBack p q x) where
       (and_true (differ meet (filter (stays_touched x.space x.place x.log_length) p.touches)) (list_all (is_touch (table_of q.tables) (space_of q.spaces)) (filter (stays_touched x.space x.place x.log_length) p.touches))
       (differ_filter meet (stays_touched x.space x.place x.log_length) p.touches h.0)
       (all_left (stays_touched x.space x.place x.log_length) (is_touch (table_of p.tables) (space_of p.spaces)) (is_touch (table_of q.tables) (space_of q.spaces)) (touch_back tables) p.touches h.1))
+
+  -- ---- marks that stay
+
+  pub marks_back : KeepTables p q → q.marks ≡ filter (stays_marked x.space x.place) p.marks → are_marks p ≡ true → are_marks q ≡ true
+  marks_back tables marks e =
+      let h = both (differ meet p.marks) (list_all (is_trace (table_of p.tables) (space_of p.spaces)) p.marks) e in
+      rw marks
+      (and_true (differ meet (filter (stays_marked x.space x.place) p.marks)) (list_all (is_trace (table_of q.tables) (space_of q.spaces)) (filter (stays_marked x.space x.place) p.marks))
+      (differ_filter meet (stays_marked x.space x.place) p.marks h.0)
+      (all_left (stays_marked x.space x.place) (is_trace (table_of p.tables) (space_of p.spaces)) (is_trace (table_of q.tables) (space_of q.spaces)) (λ z stays. trace_back tables z) p.marks h.1))
 
   -- ---- entries that stay
 

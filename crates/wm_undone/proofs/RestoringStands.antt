@@ -14,15 +14,17 @@ use Rattle.wm_spec.specs.declared.record.savepoint.Savepoint.{Savepoint as Recor
 use Rattle.wm_spec.specs.declared.record.space.Space.{Space}
 use Rattle.wm_spec.specs.declared.record.table.Table.{Table}
 use Rattle.wm_state.specs.State.{Durable, Workspace, Savepoint, workspace_of, with_space, savepoint_made, log_of}
-use Rattle.wm_state.specs.Standing.{SavepointFields, CountersStand, SpacesStand, SavepointsStand, FieldsStand, Stands, TouchesTell, TouchesStand, HasRow, HistsStand, IsReal, EntriesStand, Logged, RowsStand, has_history, hist_at, logged, logged_as}
+use Rattle.wm_state.specs.Standing.{SavepointFields, CountersStand, SpacesStand, SavepointsStand, FieldsStand, Stands, TouchesTell, TouchesStand, HasRow, HistsStand, IsReal, EntriesStand, Logged, MarksStand, RowsStand, has_history, hist_at, logged, logged_as, marked_at}
 use Rattle.wm_state.proofs.Frames.{KeepRows, fields_stand}
 use Rattle.wm_state.proofs.Keeping.{KeepRows-same}
 use Rattle.wm_state.proofs.Logging.{HaveRows, log_of-found, log_of-same, rows-kept}
 use Rattle.wm_state.proofs.Ready.{KeepReady, KeepReady-same, all_real-kept}
-use Rattle.wm_state.proofs.Staying.{AreReal, EntriesStand-kept, LaterStand-same, SameTurns, TurnsStand-alike, entries_real, part-changed, turn_rows-kept, turns_in}
+use Rattle.wm_state.proofs.Staying.{AreReal, EntriesStand-kept, LaterStand-same, SameTurns, TurnsStand-alike, entries_real, part-changed, turn_rows-kept, turns_in, WasTold}
+use Rattle.wm_state.proofs.Marking.{AreMarked, MarksStand-kept, SayMarked, marks_in}
 use Rattle.wm_state.proofs.Tests.{both}
 use Rattle.wm_forked.proofs.Placed.{Tell-as}
-use Rattle.wm_undone.specs.Restoring.{GoesBack, RestoredTo, restored, stays_logged, stays_touched}
+use Rattle.wm_undone.specs.Restoring.{GoesBack, RestoredTo, restored, stays_logged, stays_marked, stays_touched}
+use Rattle.wm_undone.proofs.Marked.{marked_back, marked_beside}
 use Rattle.wm_undone.proofs.RestoringFields.{FieldsStand-restored, WasMade, WasRestored, before, found_away, found_here, its_fields, its_log, made_before, old_here, place_within}
 use Rattle.wm_undone.proofs.RestoringLists.{find-gone, find-left, slice_get-take, take-take}
 use Rattle.wm_undone.proofs.RestoringNamed.{NamedStand-restored, OwnsStand-restored}
@@ -110,6 +112,21 @@ module _ (p q : Parts) (s t : Durable) (n number making : ℕ) (a : Space) (w : 
           by_case (inl h) = Tell-as q.touches _ _ _ _ _ _ h.0 refl (ap (take j.log_length) (log_back m new z.was h.0 h.1))
               (told_kept touches at j (ap (λ (o : Workspace). savepoint_made at o.savepoints) (sym (it m z.was.old z.was.is h.0)) ∙ z.made) (z.stays h.0))
           by_case (inr h) = beside m j.place (take j.log_length new.lists.log) h.0 (subst (λ (o : Workspace). TouchesTell p.touches m j.place (take j.log_length o.lists.log)) (sym h.1) (touches.kept m at z.was.old j z.was.is z.made))
+
+  -- ---- marks
+
+  MarksStand-restored : MarksStand p s → MarksStand q t
+  MarksStand-restored marks = MarksStand-kept p q s t (λ m new is. by_case m new (was m new is)) marks
+    where
+      marks_are : q.marks ≡ filter (stays_marked n k.place) p.marks
+      marks_are = v.marks ∙ ap (λ (f : SavepointFields). filter (stays_marked n f.place) p.marks) (its_fields p q s t n number making a w k x v g rules there saves spaces)
+
+      by_case : (m : ℕ) (new : Workspace) → WasRestored n k s.spaces m new → (WasTold marks_in s.spaces m new × SayMarked p.marks q.marks m) ⊎ AreMarked q.marks m new
+      by_case m new y = by_how y.how
+        where
+          by_how : ((m ≡ n) × (new ≡ restored k y.old)) ⊎ ((m ≢ n) × (new ≡ y.old)) → (WasTold marks_in s.spaces m new × SayMarked p.marks q.marks m) ⊎ AreMarked q.marks m new
+          by_how (inl h) = inr (rw (marks_are, h.0, h.1, it m y.old y.is h.0) (marked_back n k w p s g.found marks))
+          by_how (inr h) = inl (record { old = y.old; is = y.is; same = ap marks_in h.1 }, λ place c. ap (λ xs. marked_at xs m place c) marks_are ∙ marked_beside n k.place m p.marks h.0 place c)
 
   -- ---- records of entries
 
@@ -222,7 +239,8 @@ Stands-restored p q s t n number making a w k x v st g spaces tables counters ru
   owns = OwnsStand-restored p q s t n number making a w k x v g st.rules st.spaces st.savepoints spaces st.owns;
   turns = TurnsStand-alike p q s t (ap (λ (z : Parts). z.turns) v.rest) (alike p q s t n number making a w k x v g st.rules st.spaces st.savepoints spaces) st.turns;
   touches = TouchesStand-restored p q s t n number making a w k x v g st.rules st.spaces st.savepoints spaces st.touches;
-  later = LaterStand-same p q (ap (λ (z : Parts). z.locks) v.rest) (ap (λ (z : Parts). z.marks) v.rest) st.later;
+  marks = MarksStand-restored p q s t n number making a w k x v g st.rules st.spaces st.savepoints spaces st.marks;
+  later = LaterStand-same p q (ap (λ (z : Parts). z.locks) v.rest) st.later;
   hists = HistsStand-restored p q s t n number making a w k x v g st.rules st.spaces st.savepoints spaces tables st.hists;
   entries = EntriesStand-restored p q s t n number making a w k x v g st.rules st.spaces st.savepoints spaces ready st.entries;
   rows = RowsStand-restored p q s t n number making a w k x v g st.rules st.spaces st.savepoints spaces ready st.entries st.rows;

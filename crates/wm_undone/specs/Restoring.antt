@@ -37,6 +37,10 @@ stays_saved x y = not (y.space == x.space) || (nat_le y.place x.place && nat_le 
 abbrev pub stays_touched : ℕ → ℕ → ℕ → Trace → Bool
 stays_touched n place count x = not (x.space == n) || (nat_lt x.place place && nat_lt x.position count)
 
+-- a mark that stays where a workspace goes back to a place; so does each of another workspace
+abbrev pub stays_marked : ℕ → ℕ → Trace → Bool
+stays_marked n place x = not (x.space == n) || nat_lt x.place place
+
 -- an entry that stays where the log of a workspace is cut to this length; so does each of another workspace
 abbrev pub stays_logged : ℕ → ℕ → Hist → Bool
 stays_logged n count x = not (x.space == n) || nat_lt x.position count
@@ -46,7 +50,7 @@ abbrev pub restored_to : Record → Space → Space
 restored_to x a = record a { base_version = x.base_version; from = x.from; log_length = x.log_length }
 
 -- a workspace is as it was at a savepoint: it has a version more under the savepoint's, with nothing in it; later savepoints, touched
--- cells and entries of its log are gone; but for counters all else is as it was
+-- cells, marks and entries of its log are gone; but for counters all else is as it was
 pub record RestoredTo (p q : Parts) (n number : ℕ) (a : Space) (x : Record) : Type 0 where
   pub old : space_of p.spaces n ≡ Some a
   pub some : 0 < number
@@ -58,8 +62,9 @@ pub record RestoredTo (p q : Parts) (n number : ℕ) (a : Space) (x : Record) : 
   pub elsewhere : (m : ℕ) → (m == n) ≡ false → space_of q.spaces m ≡ space_of p.spaces m
   pub savepoints : q.savepoints ≡ filter (stays_saved x) p.savepoints
   pub touches : q.touches ≡ filter (stays_touched n x.place x.log_length) p.touches
+  pub marks : q.marks ≡ filter (stays_marked n x.place) p.marks
   pub hists : q.hists ≡ filter (stays_logged n x.log_length) p.hists
-  pub rest : record q { counters = p.counters; spaces = p.spaces; versions = p.versions; savepoints = p.savepoints; touches = p.touches; hists = p.hists } ≡ p
+  pub rest : record q { counters = p.counters; spaces = p.spaces; versions = p.versions; savepoints = p.savepoints; touches = p.touches; marks = p.marks; hists = p.hists } ≡ p
 
 -- ---- the batch
 
@@ -67,6 +72,7 @@ pub record RestoredTo (p q : Parts) (n number : ℕ) (a : Space) (x : Record) : 
 abbrev pub keeps_back : Record → OneRecord → Bool
 keeps_back x (records.Savepoint y) = stays_saved x y
 keeps_back x (records.Touch y) = stays_touched x.space x.place x.log_length y
+keeps_back x (records.Mark y) = stays_marked x.space x.place y
 keeps_back x (records.Hist y) = stays_logged x.space x.log_length y
 keeps_back x r = true
 

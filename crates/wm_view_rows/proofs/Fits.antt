@@ -36,7 +36,7 @@ use Rattle.wm_state.specs.Standing.{covers_at, held_by, latest, newest_first, ow
 use Rattle.wm_state.proofs.Apart.{found-passes, ruled}
 use Rattle.wm_state.proofs.Laying.{key_same}
 use Rattle.wm_state.proofs.Tests.{and_true, bool_apart, both}
-use Rattle.wm_telling.specs.Telling.{clash_held, is_pending, own_held, stamps_of, standing}
+use Rattle.wm_telling.specs.Telling.{clash_held, is_pending, is_unsettled, own_held, stamps_of, standing}
 use Rattle.wm_typing.specs.Columns.{columns_of_table, declared_column, valid_column}
 use Rattle.wm_view_rows.specs.Columns.{columns_of_view, history_columns, text_column}
 use Rattle.wm_view_rows.specs.Conflicts.{IsConflictView, clash_rows, rows_with, values_with}
@@ -282,8 +282,8 @@ given_parts false x y e = absurd (none_some y e)
 -- where both changed a cell of the table, they are
 clash_suits : (p : Parts) (t : Table) (a b : Space) (c : Cell) (x : Stamps) → Asks p t → c.table ≡ t.number → clash_held p a b c ≡ Some x → AreSuited t c.key (rows_with p x)
 clash_suits p t a b c x asks of held =
-    let given = given_parts (is_some (own_held p a c) && is_pending p a b c) (stamps_of p a b c) x held in
-    let own = both (is_some (own_held p a c)) (is_pending p a b c) given.0 in
+    let given = given_parts (is_some (own_held p a c) && (is_pending p a b c && is_unsettled p a b c)) (stamps_of p a b c) x held in
+    let own = both (is_some (own_held p a c)) (is_pending p a b c && is_unsettled p a b c) given.0 in
     subst (λ (s : Stamps). AreSuited t c.key (rows_with p s)) given.1 (record {
       keyed = held_key p t c (own_held p a c) (own_suits p t (newest_first p.versions) a.base_version (latest p a.number) c asks of) own.0;
       base = standing_fits p t c (seen p a.base_version c) (seen_suits p t (newest_first p.versions) a.base_version c asks of);

@@ -125,6 +125,22 @@ pub parts-entered : (id : ℕ) (rows : List RowRecord) (pieces : List PieceRecor
 parts-entered id rows pieces touches hists ss under =
     parts-put id (new_records rows pieces touches hists) ss under ∙ ap (appended (parts_of ss)) (parts-new rows pieces touches hists) ∙ none_behind (parts_of ss) rows pieces touches hists
 
+-- ---- marks
+
+parts-marks : (xs : List Trace) → parts_in (map records.Mark xs) ≡ record (parts_in []) { marks = xs }
+parts-marks [] = refl
+parts-marks (x ∷ xs) = ap (λ (p : Parts). record p { marks = x ∷ p.marks }) (parts-marks xs)
+
+-- they come behind the others too
+pub parts-marked : (id : ℕ) (marks : List Trace) (ss : List Stored) → AllUnder id ss → parts_of (applied (put_all id (map records.Mark marks)) ss) ≡ record (parts_of ss) { marks = (parts_of ss).marks ++ marks }
+unfolding appended
+parts-marked id marks ss under =
+    let p : Parts = parts_of ss in
+    parts-put id (map records.Mark marks) ss under
+    ∙ ap (appended p) (parts-marks marks)
+    ∙ rw (append-nil p.counters, append-nil p.tables, append-nil p.spaces, append-nil p.versions, append-nil p.savepoints, append-nil p.rows, append-nil p.pieces, append-nil p.touches, append-nil p.locks, append-nil p.hists, append-nil p.turns)
+    refl
+
 -- ---- what tests keep
 
 pub parts-kept : (f : PieceRecord → Bool) (g : Trace → Bool) (ss : List Stored)

@@ -133,7 +133,7 @@ differ_left new x lasts = by_place (collide new x)
     by_place true = by_parts (nat_lt x.cells.from (min x.cells.till new.cells.from)) (nat_lt (max x.cells.from new.cells.till) x.cells.till)
     by_place false = refl
 
-new_apart : (new : PieceRecord) (xs : List PieceRecord) → list_any (collide new) (flat_map (left_by new) xs) ≡ false
+pub new_apart : (new : PieceRecord) (xs : List PieceRecord) → list_any (collide new) (flat_map (left_by new) xs) ≡ false
 new_apart new [] = refl
 new_apart new (x ∷ xs) = any_append (collide new) (left_by new x) (flat_map (left_by new) xs) (by_place (collide new x) refl) (new_apart new xs)
   where

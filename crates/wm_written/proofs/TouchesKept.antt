@@ -168,7 +168,7 @@ tells_other n place start m below es log old new done apart tells = record {
 -- ---- the rules
 
 -- touches whose pieces do not collide in any workspace do not meet
-apart-view : (xs : List Trace) → ((n : ℕ) → differ collide (drawn_all n xs) ≡ true) → differ meet xs ≡ true
+pub apart-view : (xs : List Trace) → ((n : ℕ) → differ collide (drawn_all n xs) ≡ true) → differ meet xs ≡ true
 apart-view [] apart = refl
 apart-view (x ∷ xs) apart =
     and_true (not (list_any (meet x) xs)) (differ meet xs)
@@ -213,7 +213,7 @@ marked_apart n place start es old new apart m = apart-view new (λ k. by_space k
     by_space k false other = ap (differ collide) (view-other k n news old new other m) ∙ view-apart k old apart
 
 -- each touch passes a test where the old ones do, the marks do, and the test is one of parts
-marked-pass : (n : ℕ) (news : List PieceRecord) (old new : List Trace) (test : Trace → Bool) → PassesParts (λ x. test (trace_of n x)) → list_all test old ≡ true → list_all (λ (x : PieceRecord). test (trace_of n x)) news ≡ true
+pub marked-pass : (n : ℕ) (news : List PieceRecord) (old new : List Trace) (test : Trace → Bool) → PassesParts (λ x. test (trace_of n x)) → list_all test old ≡ true → list_all (λ (x : PieceRecord). test (trace_of n x)) news ≡ true
     → AreMarked n news old new → list_all test new ≡ true
 marked-pass n news old new test parts olds passed m =
     ap (list_all test) m.is

@@ -7,6 +7,7 @@ use Rattle.wm_state.specs.State.{Durable, with_entries}
 use Rattle.wm_state.specs.Standing.{CountersStand, FieldsStand, Stands, by_number}
 use Rattle.wm_state.specs.Writes.{WroteAll}
 use Rattle.wm_state.proofs.Frames.{OnceStand-changed, SavepointsStand-same, fields_stand}
+use Rattle.wm_state.proofs.Marking.{MarksStand-alike, marks_in}
 use Rattle.wm_state.proofs.Staying.{LaterStand-same, TurnsStand-alike, part-changed, turns_in}
 use Rattle.wm_written.proofs.WritingLogs.{EntriesStand-wrote, HistsStand-wrote, RowsStand-wrote, TouchesStand-wrote}
 use Rattle.wm_written.proofs.WritingNamed.{NamedStand-wrote, OwnsStand-wrote}
@@ -35,7 +36,8 @@ Stands-wrote_all p q s t n es w st spaces tables counters rules = record {
   owns = OwnsStand-wrote p q s t n es w spaces st.spaces st.owns;
   turns = TurnsStand-alike p q s t (ap (λ (z : Parts). z.turns) w.rest) (part-changed turns_in n (with_entries es) (λ w. refl) (λ w. refl) s.spaces t.spaces spaces) st.turns;
   touches = TouchesStand-wrote p q s t n es w spaces st tables;
-  later = LaterStand-same p q (ap (λ (z : Parts). z.locks) w.rest) (ap (λ (z : Parts). z.marks) w.rest) st.later;
+  marks = MarksStand-alike p q s t (ap (λ (z : Parts). z.marks) w.rest) (part-changed marks_in n (with_entries es) (λ w. refl) (λ w. refl) s.spaces t.spaces spaces) st.marks;
+  later = LaterStand-same p q (ap (λ (z : Parts). z.locks) w.rest) st.later;
   hists = HistsStand-wrote p q s t n es w spaces st tables;
   entries = EntriesStand-wrote p q s t n es w spaces st tables;
   rows = RowsStand-wrote p q s t n es w spaces st tables;

@@ -34,7 +34,7 @@ put_all-append id (x ∷ xs) ys = ap (λ cs. put id x ∷ cs) (put_all-append (i
     one_more n k = omega arith
 
 -- ids from one on are none of those below it
-ids-put : (id : ℕ) (rs : List Record) (ids : List ℕ) → ids_differ ids ≡ true → are_under id ids ≡ true → ids_differ (ids ++ ids_of (put_all id rs)) ≡ true
+pub ids-put : (id : ℕ) (rs : List Record) (ids : List ℕ) → ids_differ ids ≡ true → are_under id ids ≡ true → ids_differ (ids ++ ids_of (put_all id rs)) ≡ true
 ids-put id [] ids differ under = ap ids_differ (append-nil ids) ∙ differ
 ids-put id (r ∷ rs) ids differ under =
     ap ids_differ (sym (append_assoc ids (id ∷ []) (ids_of (put_all (id + 1) rs))))

@@ -102,7 +102,7 @@ fn push_left(
 }
 
 /// What a new piece leaves of others.
-fn all_left(
+pub fn all_left(
     alloc: Global,
     over: &PieceRecord,
     pieces: Vec<PieceRecord>,

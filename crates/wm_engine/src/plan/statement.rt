@@ -13,7 +13,7 @@ ghost use Rattle.wm_model.specs.Planning.{IsOpen};
 ghost use Rattle.wm_model.specs.Step.{run_for, run_statement, session_of};
 ghost use Rattle.wm_spending.specs.Nets.{AreNets};
 
-use crate::plan::call::call;
+use crate::plan::call::{Called, call};
 use std::alloc::Global;
 use wm_base::tree::statement::Statement;
 use wm_base::{Memory, Name};
@@ -89,7 +89,8 @@ fn run_statement(
         } => {
             let args = args.as_slice();
             let given = Given { args, condition };
-            call(alloc, image, sessions, moment, session, procedure, given)
+            let called = Called { given, empty };
+            call(alloc, image, sessions, moment, session, procedure, called)
         }
     }
 }

@@ -18,6 +18,10 @@ pub each_append : (P : Entry → Type 0) (xs ys : List Entry) → Each P xs → 
 each_append P [] ys a b = b
 each_append P (x ∷ xs) ys a b = (a.0, each_append P xs ys a.1 b)
 
+pub each_split : (P : Entry → Type 0) (xs ys : List Entry) → Each P (xs ++ ys) → Each P xs × Each P ys
+each_split P [] ys a = (tt, a)
+each_split P (x ∷ xs) ys a = let rest = each_split P xs ys a.1 in ((a.0, rest.0), rest.1)
+
 pub each_if : (P Q : Entry → Type 0) → ((e : Entry) → P e → Q e) → (xs : List Entry) → Each P xs → Each Q xs
 each_if P Q f [] a = tt
 each_if P Q f (x ∷ xs) a = (f x a.0, each_if P Q f xs a.1)
@@ -143,11 +147,12 @@ sound_new f tells next top (e ∷ es) same under n = (
 )
 
 -- entries more in a workspace
-pub entries_more : (ws vs : List Workspace) (n next : ℕ) (w : Workspace) (es : List Entry) → LawfulEntries next ws → Kept ws vs n w (with_entries es w) → Written next es → LawfulEntries (next + length es) vs
-entries_more ws vs n next w es l k num =
+pub entries_more : {staged : List Entry} (ws vs : List Workspace) (n next : ℕ) (w : Workspace) (es : List Entry) → LawfulEntries next ws staged → Kept ws vs n w (with_entries es w) → Written next es → LawfulEntries (next + length es) vs staged
+entries_more {staged = staged} ws vs n next w es l k num =
     let P = IsSound (tells_more l.tells next es) (next + length es) in
     let all : AllHold P ws = λ m x found. holds_if (IsSound l.tells next) P (sound_older l.tells next es) x (l.each m x found) in
     record {
       tells = tells_more l.tells next es;
       each = all_swapped P ws vs n w (with_entries es w) all k.swap (holds_appended P es w (all n w k.swap.was) (sound_new (tells_more l.tells next es) l.tells next (next + length es) es (λ m h. refl) (omega arith) num));
+      staged = each_if (IsSound l.tells next) P (sound_older l.tells next es) staged l.staged;
     }

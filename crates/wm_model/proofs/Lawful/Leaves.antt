@@ -10,11 +10,12 @@ use Rattle.wm_spec.specs.declared.record.table.Table.{Table}
 use Rattle.wm_state.specs.State as state
 use Rattle.wm_state.specs.State.{Durable, Savepoint, Session, State, Workspace, Latest, next_space, table_named, with_entries, with_savepoint, with_space, workspace_named, workspace_of}
 use Rattle.wm_state.proofs.Changing.{differ-changed}
-use Rattle.wm_model.specs.Lawful.{Each, IsPlace, IsSound, Lawful, LawfulState, Seats}
+use Rattle.wm_model.specs.Lawful.{Each, IsPlace, IsSound, Lawful, LawfulState, Seats, staged_in}
 use Rattle.wm_model.specs.Step.{Setting, altered, at_latest, born, child_of, counter_limit, durably, given, is_name, latest, line_work, newly_named, no_table, no_workspace, place_behind, saved, saved_at, unless, unless_empty_period, unless_latest, unless_mistyped, with_named, with_setting, with_table, written_all}
 use Rattle.wm_model.specs.Step.Sessions as settings
 use Rattle.wm_model.proofs.Lawful.Entries.{Written, all_more, all_saved, entries_more, mark_holds}
 use Rattle.wm_model.proofs.Lawful.Saving.{child_lawful, fits, space_appended, space_saved}
+use Rattle.wm_model.proofs.Lawful.Staging.{staged_altered, staged_with}
 use Rattle.wm_model.proofs.Lawful.Spaces.{at_its_number, changed, child_based, goes_appended, goes_saved, none_at, numbered, seats_kept, seats_more, spaces_kept, spaces_more, under}
 
 -- what a line or a part of it leaves is lawful
@@ -82,7 +83,7 @@ pub ruleset leaving = (stays, leaves_if, leaves_unless, leaves_unless_mistyped, 
 -- ---- changes of what is kept
 
 -- entries more in a workspace
-lawful_written : (n : ℕ) (w : Workspace) (es : List Entry) (d : Durable) → Lawful d → workspace_of d.spaces n ≡ Some w → Written d.next_stamp es → Lawful (written_all n es d)
+lawful_written : {staged : List Entry} (n : ℕ) (w : Workspace) (es : List Entry) (d : Durable) → Lawful d staged → workspace_of d.spaces n ≡ Some w → Written d.next_stamp es → Lawful (written_all n es d) staged
 lawful_written n w es d l found num =
     let k = changed d.spaces n (with_entries es) w (λ _. refl) found (goes_appended es w) in
     record {
@@ -91,13 +92,13 @@ lawful_written n w es d l found num =
     }
 
 -- what is saved where one stands is sound
-mark_of : (m : ℕ) (w : Workspace) (stand : state.Stand) (name : List ℕ) (implicit : Bool) (k : Savepoint) (d : Durable) (l : Lawful d) → workspace_of d.spaces w.number ≡ Some w → saved_at m d.spaces w stand name implicit ≡ Some k
+mark_of : {staged : List Entry} (m : ℕ) (w : Workspace) (stand : state.Stand) (name : List ℕ) (implicit : Bool) (k : Savepoint) (d : Durable) (l : Lawful d staged) → workspace_of d.spaces w.number ≡ Some w → saved_at m d.spaces w stand name implicit ≡ Some k
     → Each (IsSound l.entries.tells d.next_stamp) k.base × Each (IsSound l.entries.tells d.next_stamp) k.own
 mark_of m w stand name implicit k d l found is = mark_holds (IsSound l.entries.tells d.next_stamp) m d.spaces w stand name implicit k (l.entries.each w.number w found) is
 
 -- a savepoint more in a workspace
-lawful_saved : (m : ℕ) (w : Workspace) (stand : state.Stand) (name : List ℕ) (implicit : Bool) (icp : ℕ) (k : Savepoint) (d : Durable) → Lawful d → workspace_of d.spaces w.number ≡ Some w → saved_at m d.spaces w stand name implicit ≡ Some k
-    → Lawful (saved w.number (place_behind w stand) icp k d)
+lawful_saved : {staged : List Entry} (m : ℕ) (w : Workspace) (stand : state.Stand) (name : List ℕ) (implicit : Bool) (icp : ℕ) (k : Savepoint) (d : Durable) → Lawful d staged → workspace_of d.spaces w.number ≡ Some w → saved_at m d.spaces w stand name implicit ≡ Some k
+    → Lawful (saved w.number (place_behind w stand) icp k d) staged
 lawful_saved m w stand name implicit icp k d l found is =
     let lawful = l.spaces.each w.number w found in
     let act = with_savepoint (place_behind w stand) icp k in
@@ -108,12 +109,13 @@ lawful_saved m w stand name implicit icp k d l found is =
       entries = record {
         tells = l.entries.tells;
         each = all_saved (IsSound l.entries.tells d.next_stamp) d.spaces (with_space w.number act d.spaces) w.number (place_behind w stand) icp w k l.entries.each c (mark_of m w stand name implicit k d l found is);
+        staged = l.entries.staged;
       };
     }
 
 -- a workspace more
-lawful_born : (m : ℕ) (w : Workspace) (stand : state.Stand) (name implicit_name : List ℕ) (k : Savepoint) (d : Durable) → Lawful d → workspace_of d.spaces w.number ≡ Some w → saved_at m d.spaces w stand implicit_name true ≡ Some k
-    → Lawful (born m w stand name k d)
+lawful_born : {staged : List Entry} (m : ℕ) (w : Workspace) (stand : state.Stand) (name implicit_name : List ℕ) (k : Savepoint) (d : Durable) → Lawful d staged → workspace_of d.spaces w.number ≡ Some w → saved_at m d.spaces w stand implicit_name true ≡ Some k
+    → Lawful (born m w stand name k d) staged
 lawful_born m w stand name implicit_name k d l found is =
     let lawful = l.spaces.each w.number w found in
     let act = with_savepoint (place_behind w stand) (w.next_implicit + 1) k in
@@ -128,7 +130,7 @@ lawful_born m w stand name implicit_name k d l found is =
     record {
       spaces = spaces_more (with_space w.number act d.spaces) child t.spaces (c.swap.others (next_space d.spaces) (λ e. absurd (omega (arith, older, e))) ∙ none_at d.spaces) (child_lawful m d.spaces w k name older)
           (child_based m d.spaces (with_space w.number act d.spaces) w (act w) k name c.swap.now older fit.mark);
-      entries = record { tells = l.entries.tells; each = all_more P m d.spaces (with_space w.number act d.spaces) w k name all mark };
+      entries = record { tells = l.entries.tells; each = all_more P m d.spaces (with_space w.number act d.spaces) w k name all mark; staged = l.entries.staged };
     }
 
 -- ---- and of the state with it
@@ -170,8 +172,17 @@ leaves_tables s tables answer l = record { lawful = record { durable = record { 
 
 -- ---- sessions
 
-pub leaves_seated : (s : State) (sessions : List Session) (answer : Answer) → LawfulState s → Seats s.durable.spaces sessions → Leaves (record s { sessions = sessions }, answer)
-leaves_seated s sessions answer l seats = record { lawful = record { durable = l.durable; seats = seats } }
+-- what sessions have staged of what a state keeps
+abbrev pub AreSound : (s : State) → LawfulState s → List Entry → Type 0
+AreSound s l es = Each (IsSound l.durable.entries.tells s.durable.next_stamp) es
+
+pub leaves_seated : (s : State) (sessions : List Session) (answer : Answer) (l : LawfulState s) → Seats s.durable.spaces sessions → AreSound s l (staged_in sessions) → Leaves (record s { sessions = sessions }, answer)
+leaves_seated s sessions answer l seats staged = record {
+  lawful = record {
+    durable = record { spaces = l.durable.spaces; entries = record { tells = l.durable.entries.tells; each = l.durable.entries.each; staged = staged } };
+    seats = seats;
+  };
+}
 
 pub seats_push : (ws : List Workspace) (xs : List Session) (x : Session) → Seats ws xs → IsPlace ws x.space x.stand → Seats ws (xs ++ x ∷ [])
 seats_push ws [] x s p = (p, tt)
@@ -203,14 +214,22 @@ seats_altered ws name setting (x ∷ xs) to s = (by_name (bytes_eq name x.name),
     by_name true = to x s.0
     by_name false = s.0
 
+-- something is set of a session, which leaves it where something is, and stages what is sound
+pub leaves_set : (name : List ℕ) (setting : Setting) (s : State) (answer : Answer) (l : LawfulState s)
+    → ((x : Session) → IsPlace s.durable.spaces x.space x.stand → IsPlace s.durable.spaces (with_setting setting x).space (with_setting setting x).stand) → AreSound s l (staged_with setting)
+    → Leaves (record s { sessions = altered name setting s.sessions }, answer)
+leaves_set name setting s answer l to new =
+    leaves_seated s _ answer l (seats_altered s.durable.spaces name setting s.sessions to l.seats)
+    (staged_altered (IsSound l.durable.entries.tells s.durable.next_stamp) name setting s.sessions new l.durable.entries.staged)
+
 -- a session goes to a place
 pub leaves_gone : (name : List ℕ) (n : ℕ) (stand : state.Stand) (s : State) (answer : Answer) → LawfulState s → IsPlace s.durable.spaces n stand → Leaves (record s { sessions = altered name (settings.Stand n stand) s.sessions }, answer)
-leaves_gone name n stand s answer l p = leaves_seated s _ answer l (seats_altered s.durable.spaces name (settings.Stand n stand) s.sessions (λ x old. p) l.seats)
+leaves_gone name n stand s answer l p = leaves_set name (settings.Stand n stand) s answer l (λ x old. p) tt
 
 -- a period is set, and nobody goes
 pub leaves_period : (name : List ℕ) (period : Option Span) (s : State) (answer : Answer) → LawfulState s → Leaves (record s { sessions = altered name (settings.Period period) s.sessions }, answer)
-leaves_period name period s answer l = leaves_seated s _ answer l (seats_altered s.durable.spaces name (settings.Period period) s.sessions (λ x old. old) l.seats)
+leaves_period name period s answer l = leaves_set name (settings.Period period) s answer l (λ x old. old) tt
 
 -- so with the workspace of conflicts
 pub leaves_conflict : (name workspace : List ℕ) (s : State) (answer : Answer) → LawfulState s → Leaves (record s { sessions = altered name (settings.Conflict workspace) s.sessions }, answer)
-leaves_conflict name workspace s answer l = leaves_seated s _ answer l (seats_altered s.durable.spaces name (settings.Conflict workspace) s.sessions (λ x old. old) l.seats)
+leaves_conflict name workspace s answer l = leaves_set name (settings.Conflict workspace) s answer l (λ x old. old) tt

@@ -38,9 +38,9 @@ record Family (tells : ℕ → Told) (next : ℕ) (xs : List Session) (w p : Wor
   child : workspace_of ws w.number ≡ Some w
   parent : workspace_of ws w.parent ≡ Some p
 
-leaves_holding : (tells : ℕ → Told) (s : State) (ws : List Workspace) (answer : Answer) → Holding tells s.durable.next_stamp s.sessions ws → Leaves (record s { durable = record s.durable { spaces = ws } }, answer)
-leaves_holding tells s ws answer h = record {
-  lawful = record { durable = record { spaces = h.spaces; entries = record { tells = tells; each = h.sound } }; seats = h.seats };
+leaves_holding : (s : State) (l : LawfulState s) (ws : List Workspace) (answer : Answer) → Holding l.durable.entries.tells s.durable.next_stamp s.sessions ws → Leaves (record s { durable = record s.durable { spaces = ws } }, answer)
+leaves_holding s l ws answer h = record {
+  lawful = record { durable = record { spaces = h.spaces; entries = record { tells = l.durable.entries.tells; each = h.sound; staged = l.durable.entries.staged } }; seats = h.seats };
 }
 
 family_in : (s : State) (w p : Workspace) (l : LawfulState s) → 0 < w.number → workspace_of s.durable.spaces w.number ≡ Some w → workspace_of s.durable.spaces w.parent ≡ Some p
@@ -124,9 +124,9 @@ leaves_refresh session w p s l above child parent =
     let f = family_in s w p l above child parent in
     leaves_if (is_quiet p w) _ _ (stays s _ l)
     (leaves_durably s (length w.lists.log + length es) _ l
-    (leaves_holding tells s (with_space w.number (refreshed es p) ws) Fine
+    (leaves_holding s l (with_space w.number (refreshed es p) ws) Fine
     (holding_rebased false tells next s.sessions w p ws es f
-    (gained_sound tells next s.moment session.user w.lists.own (pending p w) (own_sound tells next s.sessions w p ws f) (pending_sound tells next s.sessions w p ws f))
+    (gained_sound tells next s.moment session.user w.lists.own (pending p w) (pending_sound tells next s.sessions w p ws f))
     (refreshed_alike s.moment session.user tells next s.sessions w p ws f))))
 
 -- the parent of a workspace that is not LIVE
@@ -170,7 +170,7 @@ holding_merged moment user tells w p d xs f =
     let es = gained_of moment user p w in
     holding_rebased true tells next xs w (with_entries own p) (with_space p.number (with_entries own) d.spaces) es
     (family_appended tells next xs w p d.spaces own f (net_sound tells next moment user w.lists.own (own_sound tells next xs w p d.spaces f)))
-    (gained_sound tells next moment user w.lists.own (pending p w) (own_sound tells next xs w p d.spaces f) (pending_sound tells next xs w p d.spaces f))
+    (gained_sound tells next moment user w.lists.own (pending p w) (pending_sound tells next xs w p d.spaces f))
     (merged_alike moment user tells next xs w p d.spaces f)
 
 -- a change of a workspace that keeps its number and its parent gives none a child
@@ -226,7 +226,7 @@ leaves_merged removes user w p s l above child parent alone = by_even (is_even p
 
     moved : Leaves (record s { durable = merged own es p w s.durable }, Fine)
     moved =
-        leaves_holding l.durable.entries.tells s (merged own es p w s.durable).spaces Fine
+        leaves_holding s l (merged own es p w s.durable).spaces Fine
         (holding_merged s.moment user l.durable.entries.tells w p s.durable s.sessions (family_in s w p l above child parent))
 
     still : removes ≡ true → Alone (record s { durable = merged own es p w s.durable }) w

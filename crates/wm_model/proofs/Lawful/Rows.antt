@@ -36,7 +36,7 @@ abbrev pub Full : Entry → Type 0
 Full e = option_map_or is_full_row e.row true ≡ true
 
 -- in what a workspace holds no text is empty
-pub content_full : (d : Durable) (n : ℕ) (w : Workspace) → Lawful d → workspace_of d.spaces n ≡ Some w → Each Full (content w)
+pub content_full : {staged : List Entry} (d : Durable) (n : ℕ) (w : Workspace) → Lawful d staged → workspace_of d.spaces n ≡ Some w → Each Full (content w)
 content_full d n w l found =
     let h = l.entries.each n w found in
     each_append Full w.lists.base w.lists.own

@@ -3,7 +3,7 @@ use Rattle.std.proofs.Common.{◌≡◌, ℕ, Bool, true, false, cond, List, [],
 use Rattle.wm_base.specs.declared.kind.Kind.TheVariants.{Insert}
 use Rattle.wm_spec.specs.Lists.{Told}
 use Rattle.wm_state.specs.State.{State, Workspace, begin, fresh, fresh_live, workspace_of}
-use Rattle.wm_model.specs.Lawful.{Holds, IsSound, LawfulEntries, LawfulSpace, LawfulSpaces, LawfulState, Reached, Made, Begun, Stepped}
+use Rattle.wm_model.specs.Lawful.{Holds, IsSound, Lawful, LawfulEntries, LawfulSpace, LawfulSpaces, LawfulState, Reached, Made, Begun, Stepped}
 use Rattle.wm_model.specs.Running.{after}
 use Rattle.wm_model.specs.Step.{step}
 use Rattle.wm_model.proofs.Lawful.Lists.{one_some}
@@ -47,14 +47,18 @@ lawful_fresh limit = record { durable = record { spaces = spaces; entries = entr
     tells : ℕ → Told
     tells stamp = record { stamp = stamp; kind = Insert; row = None }
 
-    entries : LawfulEntries 1 (fresh_live ∷ [])
-    entries = record { tells = tells; each = λ n w found. subst (Holds (IsSound tells 1)) (sym (one_live n w found)) (fresh_holds tells 1) }
+    entries : LawfulEntries 1 (fresh_live ∷ []) []
+    entries = record { tells = tells; each = λ n w found. subst (Holds (IsSound tells 1)) (sym (one_live n w found)) (fresh_holds tells 1); staged = tt }
 
 -- ---- runs
 
+-- what a store keeps of a lawful state is lawful
+pub lawful_durable : (s : State) → LawfulState s → Lawful s.durable []
+lawful_durable s l = record { spaces = l.durable.spaces; entries = record { tells = l.durable.entries.tells; each = l.durable.entries.each; staged = tt } }
+
 pub lawful_begin : (s : State) (now : ℕ) → LawfulState s → LawfulState (begin s now)
 unfolding begin
-lawful_begin s now l = record { durable = l.durable; seats = tt }
+lawful_begin s now l = record { durable = lawful_durable s l; seats = tt }
 
 pub lawful_after : (s : State) (lines : List (List ℕ)) → LawfulState s → LawfulState (after s lines)
 unfolding after

@@ -1,5 +1,5 @@
 -- Each line leaves a lawful state.
-use Rattle.std.proofs.Common.{◌≡◌, ℕ, ◌+◌, ◌==◌, Bool, true, false, not, nat_le, if◌then◌else◌, List, [], ◌∷◌, length, map, unwrap_or, Option, Some, None, is_some, option_map, Result, Ok, Err, refl, sym, ap, ◌∙◌}
+use Rattle.std.proofs.Common.{◌≡◌, ℕ, ◌+◌, ◌==◌, Bool, true, false, not, nat_le, if◌then◌else◌, List, [], ◌∷◌, ◌++◌, length, map, unwrap_or, Option, Some, None, is_some, option_map, Result, Ok, Err, refl, sym, ap, ◌∙◌}
 use Rattle.std.proofs.lemmas.Bool.{eq-eqb}
 use Rattle.std.specs.List.{find, list_all}
 use Rattle.std.specs.Str.{bytes_eq, is_utf8}
@@ -25,15 +25,17 @@ use Rattle.wm_making.specs.Inserting.{insert_fault}
 use Rattle.wm_making.specs.Rows.{row_of, row_fault}
 use Rattle.wm_typing.specs.Changing.{update_fault, delete_fault}
 use Rattle.wm_model.specs.Entered.{entries_of}
-use Rattle.wm_model.specs.Lawful.{IsPlace, LawfulState, is_full_row}
+use Rattle.wm_model.specs.Lawful.{IsPlace, IsSound, LawfulState, is_full_row}
 use Rattle.wm_model.specs.Lines.{fits_line}
 use Rattle.wm_model.specs.Step.Sessions as settings
-use Rattle.wm_model.specs.Step.{Answer, State, add_found, add_to, altered, at_newest, bear, born, call, connect, create, create_savepoint, create_workspace, delete, disconnect, durably, enable, first_clash, goto_savepoint, home_of, goto_workspace, implicit_name, insert, key_there, latest, lost_source, move_all, new_period, no_savepoint, no_table, no_text, replace_all, rows_in, run_for, run_line, run_parsed, run_statement, save, saved_at, select, select_from, select_ready, session_of, set_conflict_workspace, set_moment, set_valid_time, step, table_off, tables_of, taken, timed_line, told_period, too_long_line, update, versioning, with_rows, within, write_all, write_ascending}
+use Rattle.wm_model.specs.Step.{Answer, State, add_found, add_to, altered, at_newest, bear, born, call, call_with, commit_resolve, connect, create, create_savepoint, create_workspace, delete, disconnect, durably, enable, first_clash, goto_savepoint, home_of, goto_workspace, implicit_name, insert, key_there, latest, lost_source, move_all, new_period, no_savepoint, no_table, no_text, replace_all, rows_in, run_for, run_line, run_parsed, run_statement, save, saved_at, select, select_from, select_ready, session_of, set_conflict_workspace, set_moment, set_valid_time, step, table_off, tables_of, taken, timed_line, told_period, too_long_line, update, versioning, with_rows, within, write_all, write_ascending}
 use Rattle.wm_model.proofs.Lawful.Leaves.{Leaves, leaves_born, leaves_conflict, leaves_durably, leaves_gone, leaves_if, leaves_period, leaves_saved, leaves_seated, leaves_tables, leaves_unless, leaves_with_named, leaves_written, leaving, live_place, seats_filter, seats_push, stays}
 use Rattle.wm_model.proofs.Lawful.Places.{home_found, place_of}
 use Rattle.wm_model.proofs.Lawful.Rows.{are_full, chosen_full, content_full, entries_written, gone_full, is_full_change, keyed_row, moving_full, replacing_full, rows_full, updated_full}
 use Rattle.wm_model.proofs.Lawful.Lists.{one_some}
 use Rattle.wm_model.proofs.Lawful.Merging.{leaves_merge_workspace, leaves_refresh_workspace}
+use Rattle.wm_model.proofs.Lawful.Resolving.{leaves_begin_resolve, leaves_commit_resolve, leaves_resolve_conflicts, leaves_rollback_resolve}
+use Rattle.wm_model.proofs.Lawful.Staging.{staged_filter, staged_push}
 use Rattle.wm_model.proofs.Lawful.Undoing.{leaves_remove_workspace, leaves_rollback_to}
 use Rattle.wm_print.specs.Texts.{Done, Fine, Nothing}
 use Rattle.wm_reader.specs.Reading.{is_remark}
@@ -44,11 +46,20 @@ use Rattle.wm_state.proofs.Tests.{and_true, bool_apart}
 
 -- ---- sessions and the moment
 
+leaves_opened : (name user : List ℕ) (s : State) → LawfulState s → Leaves (record s { sessions = s.sessions ++ record { name = name; user = user; space = 0; stand = Latest; period = None; conflict = None; resolve = None } ∷ [] }, Fine)
+leaves_opened name user s l =
+    let x : Session = record { name = name; user = user; space = 0; stand = Latest; period = None; conflict = None; resolve = None } in
+    leaves_seated s (s.sessions ++ x ∷ []) Fine l (seats_push s.durable.spaces s.sessions x l.seats (live_place s.durable.spaces l.durable.spaces.live))
+    (staged_push (IsSound l.durable.entries.tells s.durable.next_stamp) s.sessions x l.durable.entries.staged tt)
+
 leaves_connect : (name user : List ℕ) (s : State) → LawfulState s → Leaves (connect name user s)
-leaves_connect name user s l = search (leaving, leaves_seated s, seats_push, live_place, l.durable.spaces, l.seats) depth 12
+leaves_connect name user s l = search (leaving, leaves_opened) depth 12
 
 leaves_disconnect : (name : List ℕ) (s : State) → LawfulState s → Leaves (disconnect name s)
-leaves_disconnect name s l = leaves_if _ _ _ (leaves_seated s _ _ l (seats_filter s.durable.spaces _ s.sessions l.seats)) (stays s _ l)
+leaves_disconnect name s l =
+    leaves_if _ _ _
+    (leaves_seated s _ _ l (seats_filter s.durable.spaces _ s.sessions l.seats) (staged_filter (IsSound l.durable.entries.tells s.durable.next_stamp) _ s.sessions l.durable.entries.staged))
+    (stays s _ l)
 
 leaves_moment : (instant : ℕ) (s : State) → LawfulState s → Leaves (set_moment instant s)
 leaves_moment instant s l = leaves_if _ _ _ (stays s _ l) (record { lawful = record { durable = l.durable; seats = l.seats } })
@@ -221,31 +232,46 @@ leaves_conflict_workspace session name s l = leaves_with_named s name _ l (λ w 
 
 -- ---- lines
 
-leaves_call : (session : Session) (procedure : Option Procedure) (args : List Arg) (s : State) → LawfulState s → IsHere s session → Leaves (call session procedure args s)
-leaves_call session (Some procedures.EnableVersioning) args s l p = search (leaving, leaves_enable) depth 12
-leaves_call session (Some procedures.CreateWorkspace) args s l p = search (leaving, leaves_create_workspace) depth 12
-leaves_call session (Some procedures.CreateSavepoint) args s l p = search (leaving, leaves_create_savepoint) depth 12
-leaves_call session (Some procedures.GotoWorkspace) args s l p = search (leaving, leaves_goto_workspace) depth 12
-leaves_call session (Some procedures.GotoSavepoint) args s l p = search (leaving, leaves_goto_savepoint) depth 12
-leaves_call session (Some procedures.SetValidTime) args s l p = search (leaving, leaves_valid_time) depth 12
-leaves_call session (Some procedures.SetConflictWorkspace) args s l p = search (leaving, leaves_conflict_workspace) depth 12
-leaves_call session (Some procedures.RollbackToSp) args s l p = search (leaving, leaves_rollback_to) depth 12
-leaves_call session (Some procedures.RemoveWorkspace) args s l p = search (leaving, leaves_remove_workspace) depth 12
-leaves_call session (Some procedures.RefreshWorkspace) args s l p = search (leaving, leaves_refresh_workspace) depth 12
-leaves_call session (Some procedures.MergeWorkspace) args s l p = search (leaving, leaves_merge_workspace) depth 12
-leaves_call session _ args s l p = stays s _ l
+-- the session is the one of its name, and stands somewhere
+record IsOne (s : State) (session : Session) : Type 0 where
+  name : List ℕ
+  found : session_of name s.sessions ≡ Some session
 
-leaves_statement : (session : Session) (statement : Statement) (s : State) → LawfulState s → IsHere s session → Leaves (run_statement session statement s)
-leaves_statement session (Create name items) s l p = leaves_create name items s l
-leaves_statement session (Insert name names values) s l p = leaves_insert session name names values _ s l p
-leaves_statement session (Update name sets filter) s l p = leaves_update session name sets filter _ s l p
-leaves_statement session (Delete name filter) s l p = leaves_delete session name filter _ s l p
-leaves_statement session (Select query) s l p = leaves_select session query _ s l
-leaves_statement session (Call procedure args condition) s l p = leaves_call session (procedure_of procedure) args s l p
+leaves_commits : (session : Session) (name : List ℕ) (s : State) → LawfulState s → IsOne s session → Leaves (commit_resolve session name s)
+leaves_commits session name s l one = leaves_commit_resolve session name s l (λ (x : Session). bytes_eq one.name x.name) one.found
+
+leaves_call : (session : Session) (procedure : Option Procedure) (args : List Arg) (s : State) → LawfulState s → IsHere s session → IsOne s session → Leaves (call session procedure args s)
+leaves_call session (Some procedures.EnableVersioning) args s l p one = search (leaving, leaves_enable) depth 12
+leaves_call session (Some procedures.CreateWorkspace) args s l p one = search (leaving, leaves_create_workspace) depth 12
+leaves_call session (Some procedures.CreateSavepoint) args s l p one = search (leaving, leaves_create_savepoint) depth 12
+leaves_call session (Some procedures.GotoWorkspace) args s l p one = search (leaving, leaves_goto_workspace) depth 12
+leaves_call session (Some procedures.GotoSavepoint) args s l p one = search (leaving, leaves_goto_savepoint) depth 12
+leaves_call session (Some procedures.SetValidTime) args s l p one = search (leaving, leaves_valid_time) depth 12
+leaves_call session (Some procedures.SetConflictWorkspace) args s l p one = search (leaving, leaves_conflict_workspace) depth 12
+leaves_call session (Some procedures.RollbackToSp) args s l p one = search (leaving, leaves_rollback_to) depth 12
+leaves_call session (Some procedures.RemoveWorkspace) args s l p one = search (leaving, leaves_remove_workspace) depth 12
+leaves_call session (Some procedures.RefreshWorkspace) args s l p one = search (leaving, leaves_refresh_workspace) depth 12
+leaves_call session (Some procedures.MergeWorkspace) args s l p one = search (leaving, leaves_merge_workspace) depth 12
+leaves_call session (Some procedures.BeginResolve) args s l p one = search (leaving, leaves_begin_resolve) depth 12
+leaves_call session (Some procedures.CommitResolve) args s l p one = search (leaving, leaves_commits) depth 12
+leaves_call session (Some procedures.RollbackResolve) args s l p one = search (leaving, leaves_rollback_resolve) depth 12
+leaves_call session _ args s l p one = stays s _ l
+
+leaves_call_with : (session : Session) (procedure : Option Procedure) (args : List Arg) (condition : Option Cond) (empty : Bool) (s : State) → LawfulState s → IsHere s session → IsOne s session → Leaves (call_with session procedure args condition empty s)
+leaves_call_with session (Some procedures.ResolveConflicts) args condition empty s l p one = search (leaving, leaves_resolve_conflicts) depth 12
+leaves_call_with session procedure args condition empty s l p one = leaves_call session procedure args s l p one
+
+leaves_statement : (session : Session) (statement : Statement) (s : State) → LawfulState s → IsHere s session → IsOne s session → Leaves (run_statement session statement s)
+leaves_statement session (Create name items) s l p one = leaves_create name items s l
+leaves_statement session (Insert name names values) s l p one = leaves_insert session name names values _ s l p
+leaves_statement session (Update name sets filter) s l p one = leaves_update session name sets filter _ s l p
+leaves_statement session (Delete name filter) s l p one = leaves_delete session name filter _ s l p
+leaves_statement session (Select query) s l p one = leaves_select session query _ s l
+leaves_statement session (Call procedure args condition) s l p one = leaves_call_with session (procedure_of procedure) args condition _ s l p one
 
 leaves_for : (name : List ℕ) (o : Option Session) (statement : Statement) (s : State) → LawfulState s → session_of name s.sessions ≡ o → Leaves (run_for name o statement s)
 leaves_for name None statement s l is = stays s _ l
-leaves_for name (Some session) statement s l is = leaves_statement session statement s l (place_of s name session l is)
+leaves_for name (Some session) statement s l is = leaves_statement session statement s l (place_of s name session l is) (record { name = name; found = is })
 
 leaves_line : (line : Line) (s : State) → LawfulState s → Leaves (run_line line s)
 leaves_line (Connect name user) s l = leaves_connect name user s l

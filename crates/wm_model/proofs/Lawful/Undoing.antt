@@ -1,5 +1,5 @@
 -- A workspace that goes back to one of its savepoints, and workspaces of which one goes, leave a lawful state.
-use Rattle.std.proofs.Common.{◌≡◌, ◌≢◌, ℕ, zero, suc, ◌<◌, ◌≤◌, ◌==◌, Bool, true, false, not, ◌&&◌, nat_le, nat_lt, if◌then◌else◌, List, [], ◌∷◌, ◌++◌, length, take, drop, Option, Some, None, is_some, refl, sym, ap, ◌∙◌, append_assoc, arith, ◌⊎◌, inl, inr, le_refl}
+use Rattle.std.proofs.Common.{◌≡◌, ◌≢◌, ℕ, zero, suc, ◌<◌, ◌≤◌, ◌==◌, Bool, true, false, not, ◌&&◌, ◌||◌, nat_le, nat_lt, if◌then◌else◌, List, [], ◌∷◌, ◌++◌, length, take, drop, Option, Some, None, is_some, refl, sym, ap, ◌∙◌, append_assoc, arith, ◌⊎◌, inl, inr, le_refl}
 use Rattle.std.proofs.lemmas.Bool.{cases_eq, eq-eqb, eqb-true, leb-true, ne_eqb}
 use Rattle.std.proofs.lemmas.Bool.Decides.{nat_tests}
 use Rattle.std.proofs.lemmas.List.{append_cancel_right, drop-append-le, length-take-le, take-append-drop}
@@ -99,19 +99,20 @@ holds_restored P Q w k h found = let m = h.marks Q k found in record {
 }
 
 -- no workspace took what came behind the savepoint
-abbrev NoneDepends : Durable → Workspace → Savepoint → Type 0
-NoneDepends d w k = (n : ℕ) (x : Workspace) → workspace_of d.spaces n ≡ Some x → depends w k x ≡ false
+abbrev NoneDepends : List Session → Durable → Workspace → Savepoint → Type 0
+NoneDepends xs d w k = (n : ℕ) (x : Workspace) → workspace_of d.spaces n ≡ Some x → depends xs w k x ≡ false
 
 -- a child that does not took no more of the log than the savepoint had
-took_less : (w x : Workspace) (k : Savepoint) → x.parent ≡ w.number → x.number ≢ w.number → depends w k x ≡ false → x.from ≤ k.log_length
-took_less w x k here other none =
+took_less : (xs : List Session) (w x : Workspace) (k : Savepoint) → x.parent ≡ w.number → x.number ≢ w.number → depends xs w k x ≡ false → x.from ≤ k.log_length
+took_less xs w x k here other none =
     let child : is_child w x ≡ true = rw (eq-eqb x.parent w.number here, ne_eqb x.number w.number other) refl in
-    let late = either_false (nat_lt k.place x.birth_place) (nat_lt k.log_length x.from) (both_false (is_child w x) _ none child) in
-    not_less k.log_length x.from late.1
+    let late = either_false (nat_lt k.place x.birth_place || nat_lt k.log_length x.from) _ (both_false (is_child w x) _ none child) in
+    not_less k.log_length x.from (either_false (nat_lt k.place x.birth_place) (nat_lt k.log_length x.from) late.0).1
 
-becomes_restored : (w : Workspace) (P : Savepoint → Bool) (k : Savepoint) (d : Durable) → Lawful d → workspace_of d.spaces w.number ≡ Some w → find P w.savepoints ≡ Some k → k.rebases ≡ w.rebases → NoneDepends d w k
+becomes_restored : {staged : List Entry} (xs : List Session) (w : Workspace) (P : Savepoint → Bool) (k : Savepoint) (d : Durable) → Lawful d staged → workspace_of d.spaces w.number ≡ Some w → find P w.savepoints ≡ Some k → k.rebases ≡ w.rebases
+    → NoneDepends xs d w k
     → Becomes d.spaces (with_space w.number (restored k) d.spaces) w.number w (restored k w)
-becomes_restored w P k d l known found same none =
+becomes_restored xs w P k d l known found same none =
     let m = (l.spaces.each w.number w known).marks P k found in
     let cut : length (take k.log_length w.lists.log) ≡ k.log_length = length-take-le k.log_length w.lists.log m.within in
     record {
@@ -119,15 +120,15 @@ becomes_restored w P k d l known found same none =
       rebases = le_refl w.rebases;
       children = λ n x above is here.
           let older = (l.spaces.bases n x above is).older in
-          rw cut (took_less w x k here (λ (e : x.number ≡ w.number). absurd (omega (arith, older, here, e))) (none n x is));
+          rw cut (took_less xs w x k here (λ (e : x.number ≡ w.number). absurd (omega (arith, older, here, e))) (none n x is));
       points = λ i le under. point_cut w.lists.at_birth w.lists.log i k.log_length (omega (arith, under, cut));
     }
 
-lawful_restored : (w : Workspace) (P : Savepoint → Bool) (k : Savepoint) (d : Durable) → Lawful d → workspace_of d.spaces w.number ≡ Some w → find P w.savepoints ≡ Some k → k.rebases ≡ w.rebases → NoneDepends d w k
-    → Lawful (restored_in w.number d k)
-lawful_restored w P k d l known found same none =
+lawful_restored : {staged : List Entry} (xs : List Session) (w : Workspace) (P : Savepoint → Bool) (k : Savepoint) (d : Durable) → Lawful d staged → workspace_of d.spaces w.number ≡ Some w → find P w.savepoints ≡ Some k → k.rebases ≡ w.rebases
+    → NoneDepends xs d w k → Lawful (restored_in w.number d k) staged
+lawful_restored xs w P k d l known found same none =
     let vs = with_space w.number (restored k) d.spaces in
-    let b = becomes_restored w P k d l known found same none in
+    let b = becomes_restored xs w P k d l known found same none in
     let space = l.spaces.each w.number w known in
     record {
       spaces = spaces_become d.spaces vs w.number w (restored k w) l.spaces b (differ-changed w.number (restored k) (λ _. refl) d.spaces ∙ l.spaces.once) (space_restored w P k space found same)
@@ -135,6 +136,7 @@ lawful_restored w P k d l known found same none =
       entries = record {
         tells = l.entries.tells;
         each = all_swapped (IsSound l.entries.tells d.next_stamp) d.spaces vs w.number w (restored k w) l.entries.each b.swap (holds_restored (IsSound l.entries.tells d.next_stamp) P w k (l.entries.each w.number w known) found);
+        staged = l.entries.staged;
       };
     }
 
@@ -154,11 +156,12 @@ place_restored ws vs w k x swap none p =
     place_swapped ws vs w.number w (restored k w) x.space x.stand swap
     (λ here. stands_restored w k x.stand (both_false (x.space == w.number) (would_go w k x.stand) none (eq-eqb x.space w.number here))) p
 
-leaves_restored : (w : Workspace) (P : Savepoint → Bool) (k : Savepoint) (s : State) (answer : Answer) → LawfulState s → workspace_of s.durable.spaces w.number ≡ Some w → find P w.savepoints ≡ Some k → k.rebases ≡ w.rebases → NoneDepends s.durable w k
+leaves_restored : (w : Workspace) (P : Savepoint → Bool) (k : Savepoint) (s : State) (answer : Answer) → LawfulState s → workspace_of s.durable.spaces w.number ≡ Some w → find P w.savepoints ≡ Some k → k.rebases ≡ w.rebases
+    → NoneDepends s.sessions s.durable w k
     → list_any (stands_behind w k) s.sessions ≡ false → Leaves (record s { durable = restored_in w.number s.durable k }, answer)
 leaves_restored w P k s answer l known found same none away = record {
   lawful = record {
-    durable = lawful_restored w P k s.durable l.durable known found same none;
+    durable = lawful_restored s.sessions w P k s.durable l.durable known found same none;
     seats = seats_unless s.durable.spaces (with_space w.number (restored k) s.durable.spaces) (stands_behind w k)
         (λ x out. place_restored s.durable.spaces (with_space w.number (restored k) s.durable.spaces) w k x (swapped s.durable.spaces w.number (restored k) w (λ _. refl) known) out)
         s.sessions away l.seats;
@@ -229,7 +232,11 @@ leaves_left w s answer l above none away = record {
   lawful = record {
     durable = record {
       spaces = spaces_left s.durable.spaces w l.durable.spaces above none;
-      entries = record { tells = l.durable.entries.tells; each = λ n x found. l.durable.entries.each n x (was_found w.number n s.durable.spaces x found).1 };
+      entries = record {
+        tells = l.durable.entries.tells;
+        each = λ n x found. l.durable.entries.each n x (was_found w.number n s.durable.spaces x found).1;
+        staged = l.durable.entries.staged;
+      };
     };
     seats = seats_unless s.durable.spaces (without w.number s.durable.spaces) (stands_in w) (λ x out. place_left s.durable.spaces w x out) s.sessions away l.seats;
   };
@@ -250,7 +257,7 @@ leaves_roll_back w P k s l known found none =
     let rebased = not_refused (not (k.rebases == w.rebases)) (rebased_since k.name) refl h.1.1.0 in
     leaves_if (is_still w k) _ _ (stays s _ l)
     (leaves_durably s 0 _ l
-    (leaves_restored w P k s Fine l known found (eqb-true k.rebases w.rebases (not_false (k.rebases == w.rebases) rebased)) (none_named (depends w k) s dependent) (none_inside (stands_behind w k) s.sessions inside)))
+    (leaves_restored w P k s Fine l known found (eqb-true k.rebases w.rebases (not_false (k.rebases == w.rebases) rebased)) (none_named (depends s.sessions w k) s dependent) (none_inside (stands_behind w k) s.sessions inside)))
 
 pub leaves_rollback_to : (workspace name : List ℕ) (s : State) → LawfulState s → Leaves (rollback_to workspace name s)
 leaves_rollback_to workspace name s l = leaves_with_named s workspace _ l (λ w known. by_savepoint w known (savepoint_named name w.savepoints) refl)

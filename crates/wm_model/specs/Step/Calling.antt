@@ -2,12 +2,17 @@
 use Rattle.std.specs.Prelude.{ℕ, List, [], Bool, false, not, if◌then◌else◌, unwrap_or, Option, None, Some, codes}
 use Rattle.std.specs.Str.{bytes_eq}
 use Rattle.wm_base.specs.declared.instant.TheConstants.{END}
+use Rattle.std.specs.Option.{option_or}
+use Rattle.wm_base.specs.Trees.{Cond}
 use Rattle.wm_base.specs.declared.tree.statement.Arg.{Arg}
 use Rattle.wm_grammar.specs.declared.procedure.Procedure.{Procedure}
 use Rattle.wm_grammar.specs.declared.procedure.Procedure.TheVariants as procedures
 use Rattle.wm_grammar.specs.declared.procedure.Parameter.TheVariants as parameters
 use Rattle.wm_calls.specs.Arguments.{text_given, moment_given, is_true_given}
-use Rattle.wm_calls.specs.Faults.{argument_fault}
+use Rattle.wm_calls.specs.Faults.{argument_fault, misfit_before}
+use Rattle.wm_calls.specs.Takes.{is_written}
+use Rattle.wm_decided.specs.declared.keep.Keep.{Keep}
+use Rattle.wm_decided.specs.declared.keep.Keep.TheVariants.{Parent, Child, Base}
 use Rattle.wm_reader.specs.Reading.{folded}
 use Rattle.wm_state.specs.State.{State, Session, Readiness}
 use Rattle.wm_print.specs.Texts.{Answer}
@@ -20,6 +25,7 @@ use Rattle.wm_model.specs.Step.Savepoints.{create_savepoint, goto_savepoint}
 use Rattle.wm_model.specs.Step.Workspaces.{create_workspace, goto_workspace, set_conflict_workspace}
 use Rattle.wm_model.specs.Step.Undoing.{remove_workspace, rollback_to}
 use Rattle.wm_model.specs.Step.Merging.{Asked, merge_workspace, refresh_workspace}
+use Rattle.wm_model.specs.Step.Resolving.{begin_resolve, commit_resolve, resolve_conflicts, rollback_resolve}
 
 -- what is done with a text that is given for a parameter that the call requires; where it is not, something is wrong with the arguments
 abbrev pub given : Option (List ℕ) → Option (List ℕ) → State → (List ℕ → State × Answer) → State × Answer
@@ -53,7 +59,19 @@ merge_asked args = record {
   removes = is_true_given procedures.MergeWorkspace args parameters.RemoveWorkspace;
 }
 
--- a call, by the arguments for its parameters and what is wrong with them
+-- the side that a decision is to keep, by its word
+abbrev pub keep_in : List ℕ → Keep
+keep_in word = if is_written word (codes "PARENT") then Parent else (if is_written word (codes "CHILD") then Child else Base)
+
+abbrev pub keep_given : List Arg → Keep
+keep_given args = keep_in (unwrap_or (text_given procedures.ResolveConflicts args parameters.Keep) [])
+
+-- what is wrong with the arguments of a call with a condition, by what is of a wrong type first in that: an argument before it that does not
+-- fit comes first, then the condition, then what is behind it and what is missing
+abbrev pub fault_around : Procedure → List Arg → Option (List ℕ) → Option (List ℕ)
+fault_around procedure args inside = option_or (misfit_before procedure parameters.WhereClause args) (option_or inside (argument_fault procedure args))
+
+-- a call without a condition, by the arguments for its parameters and what is wrong with them
 abbrev pub call : Session → Option Procedure → List Arg → State → State × Answer
 call session (Some procedures.EnableVersioning) args s =
     let fault = argument_fault procedures.EnableVersioning args in
@@ -93,4 +111,22 @@ call session (Some procedures.RefreshWorkspace) args s =
 call session (Some procedures.MergeWorkspace) args s =
     let fault = argument_fault procedures.MergeWorkspace args in
     unless_mistyped fault s (merge_workspace session (merge_asked args) (unwrap_or (text_given procedures.MergeWorkspace args parameters.Workspace) []) s)
+call session (Some procedures.BeginResolve) args s =
+    let fault = argument_fault procedures.BeginResolve args in
+    unless_mistyped fault s (begin_resolve session (unwrap_or (text_given procedures.BeginResolve args parameters.Workspace) []) s)
+call session (Some procedures.CommitResolve) args s =
+    let fault = argument_fault procedures.CommitResolve args in
+    unless_mistyped fault s (commit_resolve session (unwrap_or (text_given procedures.CommitResolve args parameters.Workspace) []) s)
+call session (Some procedures.RollbackResolve) args s =
+    let fault = argument_fault procedures.RollbackResolve args in
+    unless_mistyped fault s (rollback_resolve session (unwrap_or (text_given procedures.RollbackResolve args parameters.Workspace) []) s)
 call session _ args s = (s, not_built)
+
+-- a call that may have a condition; empty: a period in it is
+abbrev pub call_with : Session → Option Procedure → List Arg → Option Cond → Bool → State → State × Answer
+call_with session (Some procedures.ResolveConflicts) args condition empty s =
+    given (text_given procedures.ResolveConflicts args parameters.TableName) (argument_fault procedures.ResolveConflicts args) s
+    (λ name.
+    resolve_conflicts session (unwrap_or (text_given procedures.ResolveConflicts args parameters.Workspace) []) (folded name) condition (keep_given args)
+    (fault_around procedures.ResolveConflicts args) empty s)
+call_with session procedure args condition empty s = call session procedure args s

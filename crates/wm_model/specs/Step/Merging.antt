@@ -1,5 +1,5 @@
 -- RefreshWorkspace and MergeWorkspace.
-use Rattle.std.specs.Prelude.{ℕ, ◌+◌, List, [], ◌∷◌, Bool, true, false, not, ◌&&◌, ◌||◌, ◌==◌, nat_le, nat_lt, if◌then◌else◌, length, drop, max, slice_get, is_some, unwrap_or, Option, None, Some, codes}
+use Rattle.std.specs.Prelude.{ℕ, ◌+◌, List, [], ◌∷◌, Bool, true, false, not, ◌&&◌, ◌||◌, ◌==◌, nat_le, nat_lt, if◌then◌else◌, length, drop, max, slice_get, is_some, Option, None, Some, codes}
 use Rattle.wm_base.specs.declared.refusal.Refusal.{Refusal}
 use Rattle.wm_graph.specs.Parts.{table_of}
 use Rattle.wm_net.specs.Conflicts.{Stamps, conflicts}
@@ -8,7 +8,7 @@ use Rattle.wm_net.specs.Listed.{Stretch}
 use Rattle.wm_net.specs.Nets.{gained, net}
 use Rattle.wm_spec.specs.Lists.{Entry}
 use Rattle.wm_spec.specs.declared.record.table.Table.{Table}
-use Rattle.wm_state.specs.State.{Durable, State, Session, Workspace, fresh_live, savepoint_named, with_entries, with_gained, with_space, workspace_of}
+use Rattle.wm_state.specs.State.{Durable, State, Session, Workspace, savepoint_named, with_entries, with_gained, with_space}
 use Rattle.wm_state.specs.Editing.{implicit_name, kept_in, number_limit, rebased, without}
 pub use Rattle.wm_telling.specs.Sides.{sides}
 use Rattle.wm_print.specs.Texts.{Answer, Fine}
@@ -17,7 +17,7 @@ use Rattle.wm_model.specs.Step.Counting.{durably}
 pub use Rattle.wm_model.specs.Step.Naming.{parent_in}
 use Rattle.wm_model.specs.Step.Naming.{with_named}
 use Rattle.wm_model.specs.Step.Rows.{told_period}
-use Rattle.wm_model.specs.Step.Undoing.{first_name, first_session, is_child, stands_in}
+use Rattle.wm_model.specs.Step.Undoing.{first_name, first_session, is_child, resolving_fault, stands_in}
 
 -- ---- a workspace beside its parent
 
@@ -48,10 +48,11 @@ conflict_fault s p w = refused_for (conflict_told s.durable.tables) (slice_get (
 
 -- ---- a refresh
 
--- what RefreshWorkspace is refused for; whether it is frozen, and whether a resolve of it is open, come before
+-- what RefreshWorkspace is refused for; whether it is frozen comes before
 abbrev pub refreshing_faults : State → Workspace → Workspace → List (Option Refusal)
 refreshing_faults s p w =
-    conflict_fault s p w
+    resolving_fault s w
+    ∷ conflict_fault s p w
     ∷ refused_if (not (is_quiet p w) && nat_lt number_limit (w.rebases + 1)) (at_its_end (codes "REBASE"))
     ∷ []
 
@@ -98,12 +99,12 @@ keeping_faults keeps p =
     ∷ refused_if (keeps && nat_lt number_limit (p.next_implicit + 1)) (at_its_end (codes "ICP"))
     ∷ []
 
--- what MergeWorkspace is refused for; whether the two are frozen comes behind the name, whether a resolve is open before the conflict, and
--- locks behind it
+-- what MergeWorkspace is refused for; whether the two are frozen comes behind the name, and locks behind the conflict
 abbrev pub merging_faults : Asked → State → Workspace → Workspace → List (Option Refusal)
 merging_faults asked s p w =
     refused_if (asked.keeps && is_some (savepoint_named (implicit_name p) p.savepoints)) (savepoint_there (implicit_name p))
     ∷ first_fault (leaving_faults asked.removes s w)
+    ∷ resolving_fault s w
     ∷ conflict_fault s p w
     ∷ first_fault (keeping_faults asked.keeps p)
     ∷ refused_if (not (is_even p w) && nat_lt number_limit (w.rebases + 1)) (at_its_end (codes "REBASE"))

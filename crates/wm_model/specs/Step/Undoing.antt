@@ -1,13 +1,14 @@
 -- RollbackToSP and RemoveWorkspace.
 use Rattle.std.specs.Prelude.{ℕ, List, [], ◌∷◌, Bool, false, not, ◌&&◌, ◌||◌, ◌==◌, nat_le, nat_lt, if◌then◌else◌, length, Option, None, Some, option_map}
-use Rattle.std.specs.List.{find, list_all}
+use Rattle.std.specs.List.{find, list_all, list_any}
 use Rattle.std.specs.Option.{option_map_or}
 use Rattle.wm_base.specs.declared.refusal.Refusal.{Refusal}
-use Rattle.wm_state.specs.State.{State, Workspace, Savepoint, Session, Stand, Latest, At, savepoint_made, savepoint_named}
-use Rattle.wm_state.specs.Editing.{restored_in, stays_at, without}
+use Rattle.wm_net.specs.Conflicts.{Settled}
+use Rattle.wm_state.specs.State.{State, Workspace, Savepoint, Session, Resolve, Decision, Stand, Latest, At, savepoint_made, savepoint_named}
+use Rattle.wm_state.specs.Editing.{is_settled_below, restored_in, stays_at, without}
 use Rattle.wm_state.specs.Firsts.{first_space}
 use Rattle.wm_print.specs.Texts.{Answer, Fine}
-use Rattle.wm_model.specs.Step.Refusing.{dependent_child, has_child, no_parent, no_savepoint, rebased_since, session_inside, refused_for, refused_if, first_fault, unless}
+use Rattle.wm_model.specs.Step.Refusing.{dependent_child, has_child, no_parent, no_savepoint, rebased_since, resolve_open, session_inside, refused_for, refused_if, first_fault, unless}
 use Rattle.wm_model.specs.Step.Counting.{durably}
 use Rattle.wm_model.specs.Step.Naming.{with_named}
 
@@ -23,6 +24,16 @@ first_name test s = option_map (λ (c : Workspace). c.name) (first_space test s.
 abbrev pub is_child : Workspace → Workspace → Bool
 is_child w c = (c.parent == w.number) && not (c.number == w.number)
 
+-- ---- resolves that are open
+
+-- the session has a resolve of the workspace of a number open
+abbrev pub resolves : ℕ → Session → Bool
+resolves n x = option_map_or (λ (r : Resolve). r.space == n) x.resolve false
+
+-- what a call is refused for that changes a workspace while a resolve of it is open
+abbrev pub resolving_fault : State → Workspace → Option Refusal
+resolving_fault s w = refused_for (resolve_open w.name) (first_session (resolves w.number) s.sessions)
+
 -- ---- back to a savepoint
 
 -- one stands where a rollback to a savepoint would leave nothing
@@ -34,21 +45,32 @@ would_go w k (At making) = option_map_or (λ (j : Savepoint). not (stays_at k j)
 abbrev pub stands_behind : Workspace → Savepoint → Session → Bool
 stands_behind w k x = (x.space == w.number) && would_go w k x.stand
 
--- a child took of the workspace what came behind the savepoint
-abbrev pub depends : Workspace → Savepoint → Workspace → Bool
-depends w k c = is_child w c && (nat_lt k.place c.birth_place || nat_lt k.log_length c.from)
+-- a position of a mark of the workspace is beyond a length of its parent's log
+abbrev pub settles_beyond : ℕ → Workspace → Bool
+settles_beyond limit c = list_any (λ (m : Settled). nat_lt limit m.position) c.settled
+
+-- so is one of a decision that a session has staged for it
+abbrev pub decides_beyond : ℕ → ℕ → Session → Bool
+decides_beyond limit n x = option_map_or (λ (r : Resolve). (r.space == n) && list_any (λ (d : Decision). nat_lt limit d.position) r.decisions) x.resolve false
+
+-- a child took of the workspace what came behind the savepoint, or a decision of a resolve of it did
+abbrev pub depends : List Session → Workspace → Savepoint → Workspace → Bool
+depends sessions w k c =
+    is_child w c
+    && ((nat_lt k.place c.birth_place || nat_lt k.log_length c.from) || (settles_beyond k.log_length c || list_any (decides_beyond k.log_length c.number) sessions))
 
 -- what RollbackToSP is refused for in the workspace; whether it is frozen comes before
 abbrev pub rolling_faults : State → Workspace → Savepoint → List (Option Refusal)
 rolling_faults s w k =
     refused_for (session_inside w.name) (first_session (stands_behind w k) s.sessions)
-    ∷ refused_for dependent_child (first_name (depends w k) s)
+    ∷ refused_for dependent_child (first_name (depends s.sessions w k) s)
     ∷ refused_if (not (k.rebases == w.rebases)) (rebased_since k.name)
+    ∷ resolving_fault s w
     ∷ []
 
--- nothing came behind the savepoint: no change and no savepoint
+-- nothing came behind the savepoint: no change, no savepoint and no mark
 abbrev pub is_still : Workspace → Savepoint → Bool
-is_still w k = nat_le (length w.lists.log) k.log_length && list_all (stays_at k) w.savepoints
+is_still w k = (nat_le (length w.lists.log) k.log_length && list_all (stays_at k) w.savepoints) && list_all (is_settled_below k.place) w.settled
 
 -- the workspace is as it was at the savepoint
 abbrev pub roll_back : Workspace → Savepoint → State → State × Answer
@@ -73,6 +95,7 @@ abbrev pub removing_faults : State → Workspace → List (Option Refusal)
 removing_faults s w =
     refused_for (session_inside w.name) (first_session (stands_in w) s.sessions)
     ∷ refused_for (has_child w.name) (first_name (is_child w) s)
+    ∷ resolving_fault s w
     ∷ []
 
 -- the workspace is gone, with all that is its own

@@ -65,7 +65,7 @@ pub returns-clause-answered : goal.returns-clause-answered
 returns-clause-answered g c = λ s stands.
     kept_does c.args.image c.in_ok-image.image c.as_slice.result.now c.keep.new.sessions.items c.args.moment c.in_ok-planned.field-0.moment c.in_ok-planned.field-0.planned.edits.items c.in_ok-planned.field-0.planned.edits.items
     (seating_view c.in_ok-planned.field-0.planned.seating) (answer_view c.in_ok-planned.field-0.planned.answer) (λ t. step t c.args.line.now) c.in_ok-reply.reply.bytes c.in_ok-planned.ensures.does (λ t. lawful_step t c.args.line.now) refl
-    c.in_ok-image.ensures.image
+    c.law_of_order.ensures c.in_ok-image.ensures.image
     (c.in_ok-image.ensures.sessions
     ∙ ap (λ (xs : List Session). seated xs (seating_view c.in_ok-planned.field-0.planned.seating)) (sym c.as_slice.ensures.value))
     c.in_ok-reply.ensures.bytes s (subst (λ (xs : List Session). StandsAt c.args.image xs c.args.moment s) (sym c.as_slice.ensures.value) stands)

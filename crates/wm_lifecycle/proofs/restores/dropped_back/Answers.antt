@@ -1,4 +1,4 @@
-use Rattle.std.proofs.Common.{◌≡◌, ap, ◌∙◌}
+use Rattle.std.proofs.Common.{ap, ◌∙◌}
 use Rattle.std.specs.List.{filter}
 use Rattle.wm_spec.specs.Records.{record_at}
 use Rattle.wm_lifecycle.proofs.GoneBack.{found_back}

@@ -1,4 +1,4 @@
-use Rattle.std.proofs.Common.{◌≡◌, ◌∷◌, [], Some, refl}
+use Rattle.std.proofs.Common.{◌≡◌, Some, refl}
 use Rattle.wm_graph.specs.Parts.{parts_of, space_of}
 use Rattle.wm_state.specs.Points.{versioned}
 use Rattle.wm_state.specs.Standing.{saved_as}

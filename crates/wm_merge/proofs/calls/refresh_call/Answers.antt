@@ -1,7 +1,7 @@
 use Rattle.std.proofs.Common.{Some, sym, ap, ◌∙◌, ℕ, List, IfOk, subst}
 use Rattle.wm_grammar.specs.declared.procedure.Procedure.TheVariants as procedures
 use Rattle.wm_model.specs.Step.{call, mistyped, refresh_workspace}
-use Rattle.wm_plan.proofs.Planning.{for_these, refused}
+use Rattle.wm_plan.proofs.Planning.{does_here, refused}
 use Rattle.wm_plan.specs.Views.{answer_view}
 use Rattle.wm_merge.proofs.Calling.{refresh_done, refresh_mistyped}
 use Rattle.wm_spending.specs.Nets.{AreNets, Nothing}
@@ -15,7 +15,7 @@ returns-in-Some-clause-does c =
 
 pub returns-clause-does : goal.returns-clause-does
 returns-clause-does c =
-    for_these c.args.image.now c.args.sessions.now c.args.moment c.refresh_workspace.result (refresh_workspace c.args.session.now c.bytes_given-workspace.result.now)
+    does_here c.args.image.now c.args.sessions.now c.args.moment c.refresh_workspace.result (refresh_workspace c.args.session.now c.bytes_given-workspace.result.now)
     (call c.args.session.now (Some procedures.RefreshWorkspace) c.args.args.now)
     (λ s. refresh_done c.args.session.now c.args.args.now s c.bytes_given-workspace.result.now (sym c.in_ok-parameter.ensures ∙ c.in_default.is) c.bytes_given-workspace.ensures)
     c.refresh_workspace.ensures.does

@@ -18,14 +18,14 @@ pub own_pieces-requires-clause-there : goal.own_pieces-requires-clause-there
 own_pieces-requires-clause-there c = c.requires.family.child
 
 pub returns-in-Some-clause-does : goal.returns-in-Some-clause-does
-returns-in-Some-clause-does c = λ xs workspace family.
-    told_nothing c.args.image.now xs c.args.moment c.answered.result (Refused c.in-Some.refusal) (refresh_workspace c.args.session.now workspace) c.answered.ensures.edits c.answered.ensures.seating (ap answer_view c.answered.ensures.answer)
-    (refresh_refused c.args.image.now xs c.args.moment c.args.session.now workspace c.args.space.now c.args.parent.now (option_map clashed c.in_ok-found.found) c.in-Some.refusal family c.requires.pending
+returns-in-Some-clause-does c = λ workspace family.
+    told_nothing c.args.image.now c.args.sessions.now c.args.moment c.answered.result (Refused c.in-Some.refusal) (refresh_workspace c.args.session.now workspace) c.answered.ensures.edits c.answered.ensures.seating (ap answer_view c.answered.ensures.answer)
+    (refresh_refused c.args.image.now c.args.sessions.now c.args.moment c.args.session.now workspace c.args.space.now c.args.parent.now (option_map clashed c.in_ok-found.found) c.in-Some.refusal family c.requires.pending
     (clash_found (parts_of c.args.image.now) c.args.space.now c.args.parent.now c.in_ok-found.found c.in_ok-found.ensures.some c.in_ok-found.ensures.none) (sym c.in_ok-refusal.ensures ∙ c.in-Some.is))
 
 pub returns-clause-does : goal.returns-clause-does
 returns-clause-does c =
-    refreshes_as c.args.image.now c.args.moment c.refresh_with.result c.args.session.now c.args.space.now c.args.parent.now (map entry_of c.in_ok-entries.entries.items)
+    refreshes_as c.args.image.now c.args.sessions.now c.args.moment c.refresh_with.result c.args.session.now c.args.space.now c.args.parent.now (map entry_of c.in_ok-entries.entries.items)
     (λ workspace family.
     record {
       user = c.user-user.ensures.short;

@@ -42,7 +42,7 @@ returns-clause-does c = λ xs session workspace parent refreshes.
     told c.args.image.now xs c.args.moment c.done.result (refresh_edits c.args.space.now.number c.args.entries) Stay Fine (refresh_workspace session workspace) (c.done.ensures.edits ∙ c.in_ok-refresh_edits.ensures)
     (ap seating_view c.done.ensures.seating) (ap answer_view c.done.ensures.answer)
     (does_refresh c.args.image.now xs c.args.moment session workspace c.args.space.now parent c.counters.result c.args.entries refreshes
-    (drafts_refresh c.args.image.now c.args.moment session workspace c.args.space.now parent (map key_pieces c.args.own.now) c.counters.result c.args.entries c.law_of_order.ensures refreshes may short
+    (drafts_refresh c.args.image.now c.args.moment xs session workspace c.args.space.now parent (map key_pieces c.args.own.now) c.counters.result c.args.entries c.law_of_order.ensures refreshes may short
     c.counters.ensures (sym c.if-is_spent.ensures) (early c.args.moment c.requires.moment))
     short c.counters.ensures (sym c.if-is_spent.ensures))
 

@@ -1,40 +1,40 @@
 use Rattle.std.proofs.Common.{arith, sym, ap, ◌∙◌}
-use Rattle.std.specs.Option.{option_copied}
+use Rattle.std.specs.Option.{option_copied, option_map_or}
 use Rattle.wm_model.specs.Step.{no_parent, no_workspace, refresh_workspace}
 use Rattle.wm_plan.specs.Views.{answer_view}
-use Rattle.wm_print.specs.Texts.{Fine}
+use Rattle.wm_print.specs.Texts.{Fine, Refused}
 use Rattle.wm_merge.proofs.Answered.{told_nothing}
 use Rattle.wm_merge.proofs.Parents.{family_named, parent_found}
-use Rattle.wm_merge.proofs.RefreshPlans.{refreshes_named}
+use Rattle.wm_merge.proofs.RefreshPlans.{quiet_told, refreshes_named}
 use Rattle.wm_merge.proofs.Asked.{family_of}
-use Rattle.wm_model.proofs.RefreshingLine.{refresh_homeless, refresh_liveless, refresh_quiet}
+use Rattle.wm_model.proofs.RefreshingLine.{refresh_homeless, refresh_liveless}
 use Rattle.wm_merge.proofs.NetPlans.{nets_named}
 use Rattle.wm_spending.specs.Nets.{Nothing}
 use Rattle.wm_merge.proofs.refreshing.refresh_workspace.Goals as goal
 
 pub returns-in_default-clause-does : goal.returns-in_default-clause-does
-returns-in_default-clause-does c = λ xs.
-    told_nothing c.args.image.now xs c.args.moment c.answered.result (no_workspace c.args.name.now) (refresh_workspace c.args.session.now c.args.name.now) c.answered.ensures.edits c.answered.ensures.seating
+returns-in_default-clause-does c =
+    told_nothing c.args.image.now c.args.sessions.now c.args.moment c.answered.result (no_workspace c.args.name.now) (refresh_workspace c.args.session.now c.args.name.now) c.answered.ensures.edits c.answered.ensures.seating
     (ap answer_view c.answered.ensures.answer ∙ c.no_workspace.ensures ∙ ap no_workspace c.in_ok-copy_of.ensures)
-    (refresh_homeless c.args.image.now xs c.args.moment c.args.session.now c.args.name.now c.requires.rules (sym c.in_default.ensures))
+    (refresh_homeless c.args.image.now c.args.sessions.now c.args.moment c.args.session.now c.args.name.now c.requires.rules (sym c.in_default.ensures))
 
 pub returns-then-space-eq0-clause-does : goal.returns-then-space-eq0-clause-does
-returns-then-space-eq0-clause-does c = λ xs.
-    told_nothing c.args.image.now xs c.args.moment c.answered-then-space-eq0.result (no_parent c.args.name.now) (refresh_workspace c.args.session.now c.args.name.now) c.answered-then-space-eq0.ensures.edits c.answered-then-space-eq0.ensures.seating
+returns-then-space-eq0-clause-does c =
+    told_nothing c.args.image.now c.args.sessions.now c.args.moment c.answered-then-space-eq0.result (no_parent c.args.name.now) (refresh_workspace c.args.session.now c.args.name.now) c.answered-then-space-eq0.ensures.edits c.answered-then-space-eq0.ensures.seating
     (ap answer_view c.answered-then-space-eq0.ensures.answer ∙ c.no_parent.ensures ∙ ap no_parent c.in_ok-copy_of-2.ensures)
-    (refresh_liveless c.args.image.now xs c.args.moment c.args.session.now c.args.name.now c.in-Some.space.now (record { rules = c.requires.rules; found = sym c.in-Some.ensures }) c.if-space-eq0.true)
+    (refresh_liveless c.args.image.now c.args.sessions.now c.args.moment c.args.session.now c.args.name.now c.in-Some.space.now (record { rules = c.requires.rules; found = sym c.in-Some.ensures }) c.if-space-eq0.true)
 
 pub unwrap-parent-requires : goal.unwrap-parent-requires
 unwrap-parent-requires c =
     parent_found c.args.image.now c.args.name.now c.in-Some.space.now c.space.result (record { rules = c.requires.rules; found = sym c.in-Some.ensures }) (omega (arith, c.if-space-eq0.false)) c.space.ensures
 
 pub returns-then-is_quiet-clause-does : goal.returns-then-is_quiet-clause-does
-returns-then-is_quiet-clause-does c = λ xs.
+returns-then-is_quiet-clause-does c =
     let family = family_named c.args.image.now c.args.name.now c.in-Some.space.now c.space.result c.unwrap-parent.result.now (record { rules = c.requires.rules; found = sym c.in-Some.ensures }) (omega (arith, c.if-space-eq0.false))
     c.space.ensures (ap option_copied c.unwrap-parent.ensures) in
-    told_nothing c.args.image.now xs c.args.moment c.answered-then-is_quiet.result Fine (refresh_workspace c.args.session.now c.args.name.now) c.answered-then-is_quiet.ensures.edits c.answered-then-is_quiet.ensures.seating
-    (ap answer_view c.answered-then-is_quiet.ensures.answer)
-    (refresh_quiet c.args.image.now xs c.args.moment c.args.session.now c.args.name.now c.in-Some.space.now c.unwrap-parent.result.now family (sym c.if-is_quiet.ensures))
+    told_nothing c.args.image.now c.args.sessions.now c.args.moment c.answered-then-is_quiet.result (option_map_or Refused c.in_ok-refusal.refusal Fine) (refresh_workspace c.args.session.now c.args.name.now)
+    c.answered-then-is_quiet.ensures.edits c.answered-then-is_quiet.ensures.seating (ap answer_view c.answered-then-is_quiet.ensures.answer ∙ c.quiet_answer.ensures)
+    (quiet_told c.args.image.now c.args.sessions.now c.args.moment c.args.session.now c.args.name.now c.in-Some.space.now c.unwrap-parent.result.now c.in_ok-refusal.refusal family (sym c.if-is_quiet.ensures) c.in_ok-refusal.ensures)
 
 pub refresh_pending-requires-clause-family : goal.refresh_pending-requires-clause-family
 refresh_pending-requires-clause-family c =
@@ -44,7 +44,7 @@ refresh_pending-requires-clause-family c =
 
 pub returns-clause-does : goal.returns-clause-does
 returns-clause-does c =
-    refreshes_named c.args.image.now c.args.moment c.refresh_pending.result c.args.session.now c.args.name.now c.in-Some.space.now c.unwrap-parent.result.now
+    refreshes_named c.args.image.now c.args.sessions.now c.args.moment c.refresh_pending.result c.args.session.now c.args.name.now c.in-Some.space.now c.unwrap-parent.result.now
     (family_named c.args.image.now c.args.name.now c.in-Some.space.now c.space.result c.unwrap-parent.result.now (record { rules = c.requires.rules; found = sym c.in-Some.ensures }) (omega (arith, c.if-space-eq0.false))
     c.space.ensures (ap option_copied c.unwrap-parent.ensures))
     c.refresh_pending.ensures.does

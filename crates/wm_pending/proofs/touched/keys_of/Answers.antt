@@ -17,5 +17,5 @@ loop-id-preserved c = λ q.
     c.in_ok-add_key.ensures q
     ∙ ap (λ (o : Option Record). contains place_order c.loop-id.keys q || has_touch_of q (option_to_list (option_and_then as_touch o))) c.record.ensures
     ∙ ap (λ (b : Bool). b || has_touch_of q (option_to_list (option_and_then as_touch (record_at c.args.image.now (get_or ids i 0))))) (c.loop-id.invariant q)
-    ∙ sym (any_at-push (is_touch_of q) c.args.image.now (take i ids) (get_or ids i 0))
-    ∙ ap (λ (l : List ℕ). any_at (is_touch_of q) c.args.image.now l) (sym (take_more ids i 0 (omega (arith, c.loop-id-test.true))))
+    ∙ sym (any_at-push as_touch (is_touch_of q) c.args.image.now (take i ids) (get_or ids i 0))
+    ∙ ap (λ (l : List ℕ). any_at as_touch (is_touch_of q) c.args.image.now l) (sym (take_more ids i 0 (omega (arith, c.loop-id-test.true))))

@@ -15,6 +15,6 @@ returns c =
     (λ keys. (q : Place) → contains place_order keys q ≡ has_touched (parts_of c.args.image.now).touches c.args.since q)
     (λ keys same q.
     same q
-    ∙ ap (λ (ids : List ℕ). any_at (is_touch_of q) c.args.image.now ids) c.as_slice.ensures.value
+    ∙ ap (λ (ids : List ℕ). any_at as_touch (is_touch_of q) c.args.image.now ids) c.as_slice.ensures.value
     ∙ keys_touched c.args.since q c.args.image.now _ c.law_of_order.ensures c.in_ok-ids.ensures)
     c.keys_of.ensures

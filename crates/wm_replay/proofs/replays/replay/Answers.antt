@@ -1,18 +1,19 @@
-use Rattle.std.proofs.Common.{◌+◌, ◌-◌, ◌++◌, List, map, refl, subst, sym, ap, ◌∙◌}
+use Rattle.std.proofs.Common.{◌≡◌, ◌+◌, ◌-◌, ◌++◌, List, map, refl, subst, sym, ap, ◌∙◌}
 use Rattle.wm_append.proofs.TwoLayers.{touches_apart}
 use Rattle.wm_append.proofs.Written.{counted_as}
 use Rattle.wm_append.specs.Layers.{touch_in}
 use Rattle.wm_append.specs.Redraw.{AreNewsOf, IsRedrawn}
 use Rattle.wm_changes.proofs.Placed.{version_fits}
 use Rattle.wm_graph.specs.Parts.{parts_of}
-use Rattle.wm_replay.proofs.Drafted.{drafts_replaying}
+use Rattle.wm_replay.proofs.Drafted.{Comes, drafts_replaying}
 use Rattle.wm_replay.proofs.Marked.{marks_new}
 use Rattle.wm_replay.proofs.Standing.{known, there_longer}
 use Rattle.wm_spec.specs.declared.record.Record.{Record}
 use Rattle.wm_spec.specs.declared.record.Record.TheVariants as records
 use Rattle.wm_spec.specs.declared.record.piece.PieceRecord.{PieceRecord}
 use Rattle.wm_state.specs.Editing.{entry_of}
-use Rattle.wm_replay.proofs.Priced.{replay_costs}
+use Rattle.wm_replay.proofs.Priced.{replay_costs, replay_unmarked}
+use Rattle.wm_written.proofs.DraftedWritten.{entries_in}
 use Rattle.wm_replay.proofs.replays.replay.Goals as goal
 
 pub versioned-counters-requires-clause-versions : goal.versioned-counters-requires-clause-versions
@@ -68,14 +69,18 @@ returns-clause-costs c =
     let pieces = c.in_ok-entered.entered.pieces.items in
     let k = known c.args.image.now c.args.space c.space.result c.unwrap-old.result c.requires.rules c.unwrap-old.ensures c.space.ensures in
     let marks = c.in_ok-entered.ensures.marks place k.last in
-    replay_costs c.args.image.now c.args.space place (c.in_ok-id.id + 1) c.len.result c.counters-before.result.next_version c.args.entries c.unwrap-old.result.now c.in_ok-longer.longer c.versioned-counters.result _ c.in_ok-front.front
-    c.in_ok-changes.changes c.in_ok-entered.entered.marks.items drawn pieces dropped c.in_ok-entered.entered.hists.items c.push_pieces.new.news.items c.push_all.new.news.items k.found c.in_ok-longer.ensures c.in_ok-front.ensures marks
-    c.in_ok-entered.ensures.pieces (c.in_ok-push_pieces.ensures ∙ ap (λ (rs : List Record). rs ++ map records.Piece pieces) c.new-news.ensures.items)
-    (subst (λ (xs : List PieceRecord). IsRedrawn (touch_in c.args.space) c.args.image.now xs dropped drawn) marks c.in_ok-touches.ensures.redrawn) c.in_ok-touches.ensures.few
-    (record {
+    let first : c.push_pieces.new.news.items ≡ map records.Piece pieces = c.in_ok-push_pieces.ensures ∙ ap (λ (rs : List Record). rs ++ map records.Piece pieces) c.new-news.ensures.items in
+    let comes : Comes c.args.image.now c.args.space place c.unwrap-old.result.now (entries_in c.args.entries) drawn c.in_ok-entered.entered.hists.items c.push_pieces.new.news.items c.push_all.new.news.items =
+    record {
       touches = c.push_touches.new.news.items;
       first = c.in_ok-push_touches.ensures;
       kept = c.in_ok-entered.ensures.hists;
       behind = c.in_ok-push_all.ensures;
-    })
-    c.in_ok-changes.ensures
+    } in (
+      replay_costs c.args.image.now c.args.space place (c.in_ok-id.id + 1) c.len.result c.counters-before.result.next_version c.args.entries c.unwrap-old.result.now c.in_ok-longer.longer c.versioned-counters.result _ c.in_ok-front.front
+          c.in_ok-changes.changes c.in_ok-entered.entered.marks.items drawn pieces dropped c.in_ok-entered.entered.hists.items c.push_pieces.new.news.items c.push_all.new.news.items k.found c.in_ok-longer.ensures c.in_ok-front.ensures marks
+          c.in_ok-entered.ensures.pieces first (subst (λ (xs : List PieceRecord). IsRedrawn (touch_in c.args.space) c.args.image.now xs dropped drawn) marks c.in_ok-touches.ensures.redrawn) c.in_ok-touches.ensures.few comes c.in_ok-changes.ensures,
+      replay_unmarked c.args.image.now c.args.space place c.in_ok-id.id c.len.result c.unwrap-old.result.now c.in_ok-longer.longer (entries_in c.args.entries) c.counters-before.result c.versioned-counters.result _ c.in_ok-front.front
+          c.in_ok-changes.changes c.in_ok-entered.entered.marks.items drawn pieces dropped c.in_ok-entered.entered.hists.items c.push_pieces.new.news.items c.push_all.new.news.items k.found c.counters-before.ensures c.in_ok-id.ensures.above
+          c.in_ok-longer.ensures c.in_ok-front.ensures c.in_ok-touches.ensures.redrawn first comes c.in_ok-changes.ensures,
+    )

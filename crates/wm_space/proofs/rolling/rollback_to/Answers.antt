@@ -1,6 +1,5 @@
 use Rattle.std.proofs.Common.{[], sym, ap, ◌∙◌}
-use Rattle.wm_graph.specs.Parts.{parts_of}
-use Rattle.wm_model.proofs.RollingLine.{named_made, roll_homeless, roll_unsaved, roll_refused}
+use Rattle.wm_model.proofs.RollingLine.{roll_homeless, roll_unsaved, roll_refused}
 use Rattle.wm_model.specs.Planning.{Stay}
 use Rattle.wm_model.specs.Step.{no_savepoint, no_workspace, rollback_to}
 use Rattle.wm_print.specs.Texts.{Refused}
@@ -21,10 +20,6 @@ returns-in_default-savepoint_named-clause-does c =
     c.answered-in_default-savepoint_named.ensures.edits (ap seating_view c.answered-in_default-savepoint_named.ensures.seating)
     (ap answer_view c.answered-in_default-savepoint_named.ensures.answer ∙ c.no_savepoint.ensures ∙ ap no_savepoint c.in_ok-copy_of-2.ensures)
     (roll_unsaved c.args.image.now c.args.sessions.now c.args.moment c.args.workspace.now c.args.name.now c.in-Some.space.now (record { rules = c.requires.rules; found = sym c.in-Some.ensures }) (sym c.in_default-savepoint_named.ensures))
-
-pub rolling_refusal-requires-clause-saved : goal.rolling_refusal-requires-clause-saved
-rolling_refusal-requires-clause-saved c =
-    named_made (parts_of c.args.image.now) c.in-Some.space.now.number c.args.name.now c.in-Some-savepoint_named.savepoint.now c.requires.rules (sym c.in-Some-savepoint_named.ensures)
 
 pub returns-in-Some-2-clause-does : goal.returns-in-Some-2-clause-does
 returns-in-Some-2-clause-does c =

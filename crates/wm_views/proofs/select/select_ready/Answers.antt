@@ -56,7 +56,7 @@ returns-then-empty-clause-does c = λ xs among.
     let query = query_view c.args.query.now in
     told image xs c.args.moment c.answered-then-empty.result [] Stay empty_period (select c.args.session.now query c.args.empty) c.answered-then-empty.ensures.edits (ap seating_view c.answered-then-empty.ensures.seating)
     (ap answer_view c.answered-then-empty.ensures.answer ∙ c.empty_period.ensures)
-    (does_at_home image xs c.args.moment c.args.session.now Stay empty_period (select c.args.session.now query c.args.empty) among (λ r there.
+    (does_at_home image xs c.args.moment c.args.session.now Stay empty_period (select c.args.session.now query c.args.empty) among tt (λ r there.
     select_empty image xs c.args.moment c.args.session.now query c.args.empty r
     (record {
       ready = record { rules = c.requires.rules; there = c.requires.there; on = c.requires.on };

@@ -1,4 +1,5 @@
 use Rattle.std.proofs.Common.{◌≡◌, ◌+◌, ◌*◌, List, [], Option, unwrap_or, inl, sym, ap, subst, ◌∙◌}
+use Rattle.wm_decided.specs.Staged.{AreStaged}
 use Rattle.wm_graph.specs.Parts.{parts_of}
 use Rattle.wm_model.specs.Planning.{StandsAt}
 use Rattle.wm_spec.specs.declared.record.stored.Stored.{Stored}
@@ -11,7 +12,7 @@ use Rattle.wm_engine.proofs.Working.{stands_over}
 use Rattle.wm_state.specs.Drafts.{ChangesFew}
 use Rattle.wm_engine.specs.Working.{Engaged, StandsFor}
 use Rattle.wm_prices.specs.Prices.{ChangesAtMost}
-use Rattle.wm_spending.specs.Stretches.{stretch_count}
+use Rattle.wm_spending.specs.Stretches.{mark_count, stretch_count}
 use Rattle.wm_engine.proofs.engine.Engine.line.Goals as goal
 
 pub returns-in_default-clause-any_moment : goal.returns-in_default-clause-any_moment
@@ -20,11 +21,17 @@ returns-in_default-clause-any_moment g c = λ told s for.
 
 -- the engine's records, its sessions and its moment stand for what it stands for
 stands_at : (e : Engaged) (rs : List Stored) (s : State) → e.records ≡ rs → StandsFor e s → StandsAt rs e.sessions e.moment s
-stands_at e rs s same for = record { stands = subst (λ (xs : List Stored). Stands (parts_of xs) s.durable) same for.stands; lawful = for.lawful; sessions_are = for.sessions; moment_is = for.moment }
+stands_at e rs s same for = record {
+  stands = subst (λ (xs : List Stored). Stands (parts_of xs) s.durable) same for.stands;
+  lawful = for.lawful;
+  sessions_are = for.sessions;
+  moment_is = for.moment;
+  staged = subst (λ (xs : List Stored). AreStaged (parts_of xs) e.sessions) same for.staged;
+}
 
 pub returns-clause-answered : goal.returns-clause-answered
 returns-clause-answered g c = λ s for.
-    let d = c.in_ok-kept.ensures.answered s (stands_at _ c.in-Some.image s (ap (λ (o : Option (List Stored)). unwrap_or o []) (sym c.in-Some.ensures.value)) (subst (λ (e : Engaged). StandsFor e s) (sym c.self.view_is) for)) in (record { stands = d.0.stands; lawful = d.0.lawful; sessions = d.0.sessions_are; moment = d.0.moment_is }, d.1)
+    let d = c.in_ok-kept.ensures.answered s (stands_at _ c.in-Some.image s (ap (λ (o : Option (List Stored)). unwrap_or o []) (sym c.in-Some.ensures.value)) (subst (λ (e : Engaged). StandsFor e s) (sym c.self.view_is) for)) in (record { stands = d.0.stands; lawful = d.0.lawful; sessions = d.0.sessions_are; moment = d.0.moment_is; staged = d.0.staged }, d.1)
 
 pub returns-clause-few : goal.returns-clause-few
 returns-clause-few g c = λ fork.
@@ -96,5 +103,5 @@ returns-in_default-clause-sound g c = λ told rules. sound_begun _ _ _ (c.requir
 pub returns-clause-net : goal.returns-clause-net
 returns-clause-net g c = λ workspace named s for.
     let here = ap (λ (o : Option (List Stored)). unwrap_or o []) (sym c.in-Some.ensures.value) in
-    subst (λ (rs : List Stored). ChangesAtMost (8 + 8 * stretch_count s workspace) rs c.in_ok-kept.kept.image) (sym (ap (λ (e : Engaged). e.records) (sym c.self.view_is) ∙ here))
+    subst (λ (rs : List Stored). ChangesAtMost (8 + 8 * stretch_count s workspace + mark_count rs workspace) rs c.in_ok-kept.kept.image) (sym (ap (λ (e : Engaged). e.records) (sym c.self.view_is) ∙ here))
     (c.in_ok-kept.ensures.net workspace named s (stands_at _ c.in-Some.image s here (subst (λ (e : Engaged). StandsFor e s) (sym c.self.view_is) for)))

@@ -1,8 +1,9 @@
 use Rattle.std.proofs.Common.{ℕ, List, Some, IfOk, sym, ap, subst, ◌∙◌}
+use Rattle.wm_base.specs.Views.{filter_view}
 use Rattle.wm_grammar.specs.declared.procedure.Procedure.{Procedure}
 use Rattle.wm_grammar.specs.declared.procedure.Procedure.TheVariants as procedures
-use Rattle.wm_model.specs.Step.{call, not_built}
-use Rattle.wm_plan.proofs.Planning.{refused, does_here, for_moment, for_one, for_open_one, for_these, forks_none, is_open_here}
+use Rattle.wm_model.specs.Step.{call, call_with, not_built}
+use Rattle.wm_plan.proofs.Planning.{refused, does_here, for_moment, for_one, for_open, for_open_one, for_these, forks_none, is_open_here}
 use Rattle.wm_engine.proofs.Calling.{other_call}
 use Rattle.wm_plan.specs.Views.{answer_view}
 use Rattle.wm_calls.specs.Arguments.{is_true_given}
@@ -14,66 +15,87 @@ use Rattle.wm_engine.proofs.plan.call.call_of.Goals as goal
 
 pub returns-in-EnableVersioning-clause-does : goal.returns-in-EnableVersioning-clause-does
 returns-in-EnableVersioning-clause-does c =
-    for_these c.args.image.now c.args.sessions.now c.args.moment c.enable_call.result (call c.args.session.now (Some procedures.EnableVersioning) c.args.given.args.now) (call c.args.session.now (Some c.args.procedure) c.args.given.args.now)
-    (λ s. ap (λ (p : Procedure). call c.args.session.now (Some p) c.args.given.args.now s) c.in-EnableVersioning.is) c.enable_call.ensures.does
+    for_these c.args.image.now c.args.sessions.now c.args.moment c.enable_call.result (call c.args.session.now (Some procedures.EnableVersioning) c.args.called.given.args.now) (call_with c.args.session.now (Some c.args.procedure) c.args.called.given.args.now (filter_view c.args.called.given.condition.now) c.args.called.empty)
+    (λ s. ap (λ (p : Procedure). call_with c.args.session.now (Some p) c.args.called.given.args.now (filter_view c.args.called.given.condition.now) c.args.called.empty s) c.in-EnableVersioning.is) c.enable_call.ensures.does
 
 pub returns-in-CreateWorkspace-clause-does : goal.returns-in-CreateWorkspace-clause-does
 returns-in-CreateWorkspace-clause-does c =
-    is_open_here c.args.image.now c.args.sessions.now c.args.moment c.workspace_call.result c.args.session.now (call c.args.session.now (Some procedures.CreateWorkspace) c.args.given.args.now) (call c.args.session.now (Some c.args.procedure) c.args.given.args.now)
-    c.requires.open (λ s. ap (λ (p : Procedure). call c.args.session.now (Some p) c.args.given.args.now s) c.in-CreateWorkspace.is) c.workspace_call.ensures.does
+    is_open_here c.args.image.now c.args.sessions.now c.args.moment c.workspace_call.result c.args.session.now (call c.args.session.now (Some procedures.CreateWorkspace) c.args.called.given.args.now) (call_with c.args.session.now (Some c.args.procedure) c.args.called.given.args.now (filter_view c.args.called.given.condition.now) c.args.called.empty)
+    c.requires.open (λ s. ap (λ (p : Procedure). call_with c.args.session.now (Some p) c.args.called.given.args.now (filter_view c.args.called.given.condition.now) c.args.called.empty s) c.in-CreateWorkspace.is) c.workspace_call.ensures.does
 
 pub returns-in-CreateSavepoint-clause-does : goal.returns-in-CreateSavepoint-clause-does
 returns-in-CreateSavepoint-clause-does c =
-    does_here c.args.image.now c.args.sessions.now c.args.moment c.savepoint_call.result (call c.args.session.now (Some procedures.CreateSavepoint) c.args.given.args.now) (call c.args.session.now (Some c.args.procedure) c.args.given.args.now)
-    (λ s. ap (λ (p : Procedure). call c.args.session.now (Some p) c.args.given.args.now s) c.in-CreateSavepoint.is) c.savepoint_call.ensures.does
+    does_here c.args.image.now c.args.sessions.now c.args.moment c.savepoint_call.result (call c.args.session.now (Some procedures.CreateSavepoint) c.args.called.given.args.now) (call_with c.args.session.now (Some c.args.procedure) c.args.called.given.args.now (filter_view c.args.called.given.condition.now) c.args.called.empty)
+    (λ s. ap (λ (p : Procedure). call_with c.args.session.now (Some p) c.args.called.given.args.now (filter_view c.args.called.given.condition.now) c.args.called.empty s) c.in-CreateSavepoint.is) c.savepoint_call.ensures.does
 
 pub returns-in-GotoWorkspace-clause-does : goal.returns-in-GotoWorkspace-clause-does
 returns-in-GotoWorkspace-clause-does c =
-    for_moment c.args.image.now c.args.sessions.now c.args.moment c.goto_workspace_call.result (call c.args.session.now (Some procedures.GotoWorkspace) c.args.given.args.now) (call c.args.session.now (Some c.args.procedure) c.args.given.args.now)
-    (λ s. ap (λ (p : Procedure). call c.args.session.now (Some p) c.args.given.args.now s) c.in-GotoWorkspace.is) c.goto_workspace_call.ensures.does
+    for_moment c.args.image.now c.args.sessions.now c.args.moment c.goto_workspace_call.result (call c.args.session.now (Some procedures.GotoWorkspace) c.args.called.given.args.now) (call_with c.args.session.now (Some c.args.procedure) c.args.called.given.args.now (filter_view c.args.called.given.condition.now) c.args.called.empty)
+    (λ s. ap (λ (p : Procedure). call_with c.args.session.now (Some p) c.args.called.given.args.now (filter_view c.args.called.given.condition.now) c.args.called.empty s) c.in-GotoWorkspace.is) c.goto_workspace_call.ensures.does
 
 pub returns-in-GotoSavepoint-clause-does : goal.returns-in-GotoSavepoint-clause-does
 returns-in-GotoSavepoint-clause-does c =
-    for_open_one c.args.image.now c.args.sessions.now c.args.moment c.goto_savepoint_call.result c.args.session.now (call c.args.session.now (Some procedures.GotoSavepoint) c.args.given.args.now) (call c.args.session.now (Some c.args.procedure) c.args.given.args.now)
-    c.requires.open (λ s. ap (λ (p : Procedure). call c.args.session.now (Some p) c.args.given.args.now s) c.in-GotoSavepoint.is) c.goto_savepoint_call.ensures.does
+    for_open_one c.args.image.now c.args.sessions.now c.args.moment c.goto_savepoint_call.result c.args.session.now (call c.args.session.now (Some procedures.GotoSavepoint) c.args.called.given.args.now) (call_with c.args.session.now (Some c.args.procedure) c.args.called.given.args.now (filter_view c.args.called.given.condition.now) c.args.called.empty)
+    c.requires.open (λ s. ap (λ (p : Procedure). call_with c.args.session.now (Some p) c.args.called.given.args.now (filter_view c.args.called.given.condition.now) c.args.called.empty s) c.in-GotoSavepoint.is) c.goto_savepoint_call.ensures.does
 
 pub returns-in-SetConflictWorkspace-clause-does : goal.returns-in-SetConflictWorkspace-clause-does
 returns-in-SetConflictWorkspace-clause-does c =
-    for_one c.args.image.now c.args.sessions.now c.args.moment c.conflict_workspace_call.result (call c.args.session.now (Some procedures.SetConflictWorkspace) c.args.given.args.now) (call c.args.session.now (Some c.args.procedure) c.args.given.args.now)
-    (λ s. ap (λ (p : Procedure). call c.args.session.now (Some p) c.args.given.args.now s) c.in-SetConflictWorkspace.is) c.conflict_workspace_call.ensures.does
+    for_one c.args.image.now c.args.sessions.now c.args.moment c.conflict_workspace_call.result (call c.args.session.now (Some procedures.SetConflictWorkspace) c.args.called.given.args.now) (call_with c.args.session.now (Some c.args.procedure) c.args.called.given.args.now (filter_view c.args.called.given.condition.now) c.args.called.empty)
+    (λ s. ap (λ (p : Procedure). call_with c.args.session.now (Some p) c.args.called.given.args.now (filter_view c.args.called.given.condition.now) c.args.called.empty s) c.in-SetConflictWorkspace.is) c.conflict_workspace_call.ensures.does
 
 pub returns-in-SetValidTime-clause-does : goal.returns-in-SetValidTime-clause-does
 returns-in-SetValidTime-clause-does c =
-    for_one c.args.image.now c.args.sessions.now c.args.moment c.valid_time_call.result (call c.args.session.now (Some procedures.SetValidTime) c.args.given.args.now) (call c.args.session.now (Some c.args.procedure) c.args.given.args.now)
-    (λ s. ap (λ (p : Procedure). call c.args.session.now (Some p) c.args.given.args.now s) c.in-SetValidTime.is) c.valid_time_call.ensures.does
+    for_one c.args.image.now c.args.sessions.now c.args.moment c.valid_time_call.result (call c.args.session.now (Some procedures.SetValidTime) c.args.called.given.args.now) (call_with c.args.session.now (Some c.args.procedure) c.args.called.given.args.now (filter_view c.args.called.given.condition.now) c.args.called.empty)
+    (λ s. ap (λ (p : Procedure). call_with c.args.session.now (Some p) c.args.called.given.args.now (filter_view c.args.called.given.condition.now) c.args.called.empty s) c.in-SetValidTime.is) c.valid_time_call.ensures.does
 
 pub returns-in-RollbackToSp-clause-does : goal.returns-in-RollbackToSp-clause-does
 returns-in-RollbackToSp-clause-does c =
-    does_here c.args.image.now c.args.sessions.now c.args.moment c.rollback_call.result (call c.args.session.now (Some procedures.RollbackToSp) c.args.given.args.now) (call c.args.session.now (Some c.args.procedure) c.args.given.args.now)
-    (λ s. ap (λ (p : Procedure). call c.args.session.now (Some p) c.args.given.args.now s) c.in-RollbackToSp.is) c.rollback_call.ensures.does
+    does_here c.args.image.now c.args.sessions.now c.args.moment c.rollback_call.result (call c.args.session.now (Some procedures.RollbackToSp) c.args.called.given.args.now) (call_with c.args.session.now (Some c.args.procedure) c.args.called.given.args.now (filter_view c.args.called.given.condition.now) c.args.called.empty)
+    (λ s. ap (λ (p : Procedure). call_with c.args.session.now (Some p) c.args.called.given.args.now (filter_view c.args.called.given.condition.now) c.args.called.empty s) c.in-RollbackToSp.is) c.rollback_call.ensures.does
 
 pub returns-in-RemoveWorkspace-clause-does : goal.returns-in-RemoveWorkspace-clause-does
 returns-in-RemoveWorkspace-clause-does c =
-    does_here c.args.image.now c.args.sessions.now c.args.moment c.remove_call.result (call c.args.session.now (Some procedures.RemoveWorkspace) c.args.given.args.now) (call c.args.session.now (Some c.args.procedure) c.args.given.args.now)
-    (λ s. ap (λ (p : Procedure). call c.args.session.now (Some p) c.args.given.args.now s) c.in-RemoveWorkspace.is) c.remove_call.ensures.does
+    does_here c.args.image.now c.args.sessions.now c.args.moment c.remove_call.result (call c.args.session.now (Some procedures.RemoveWorkspace) c.args.called.given.args.now) (call_with c.args.session.now (Some c.args.procedure) c.args.called.given.args.now (filter_view c.args.called.given.condition.now) c.args.called.empty)
+    (λ s. ap (λ (p : Procedure). call_with c.args.session.now (Some p) c.args.called.given.args.now (filter_view c.args.called.given.condition.now) c.args.called.empty s) c.in-RemoveWorkspace.is) c.remove_call.ensures.does
 
 pub returns-in-RefreshWorkspace-clause-does : goal.returns-in-RefreshWorkspace-clause-does
 returns-in-RefreshWorkspace-clause-does c =
-    does_here c.args.image.now c.args.sessions.now c.args.moment c.refresh_call.result (call c.args.session.now (Some procedures.RefreshWorkspace) c.args.given.args.now) (call c.args.session.now (Some c.args.procedure) c.args.given.args.now)
-    (λ s. ap (λ (p : Procedure). call c.args.session.now (Some p) c.args.given.args.now s) c.in-RefreshWorkspace.is) c.refresh_call.ensures.does
+    does_here c.args.image.now c.args.sessions.now c.args.moment c.refresh_call.result (call c.args.session.now (Some procedures.RefreshWorkspace) c.args.called.given.args.now) (call_with c.args.session.now (Some c.args.procedure) c.args.called.given.args.now (filter_view c.args.called.given.condition.now) c.args.called.empty)
+    (λ s. ap (λ (p : Procedure). call_with c.args.session.now (Some p) c.args.called.given.args.now (filter_view c.args.called.given.condition.now) c.args.called.empty s) c.in-RefreshWorkspace.is) c.refresh_call.ensures.does
 
 pub returns-in-MergeWorkspace-clause-does : goal.returns-in-MergeWorkspace-clause-does
 returns-in-MergeWorkspace-clause-does c =
-    does_here c.args.image.now c.args.sessions.now c.args.moment c.merge_call.result (call c.args.session.now (Some procedures.MergeWorkspace) c.args.given.args.now) (call c.args.session.now (Some c.args.procedure) c.args.given.args.now)
-    (λ s. ap (λ (p : Procedure). call c.args.session.now (Some p) c.args.given.args.now s) c.in-MergeWorkspace.is) c.merge_call.ensures.does
+    does_here c.args.image.now c.args.sessions.now c.args.moment c.merge_call.result (call c.args.session.now (Some procedures.MergeWorkspace) c.args.called.given.args.now) (call_with c.args.session.now (Some c.args.procedure) c.args.called.given.args.now (filter_view c.args.called.given.condition.now) c.args.called.empty)
+    (λ s. ap (λ (p : Procedure). call_with c.args.session.now (Some p) c.args.called.given.args.now (filter_view c.args.called.given.condition.now) c.args.called.empty s) c.in-MergeWorkspace.is) c.merge_call.ensures.does
+
+pub returns-in-BeginResolve-clause-does : goal.returns-in-BeginResolve-clause-does
+returns-in-BeginResolve-clause-does c =
+    for_moment c.args.image.now c.args.sessions.now c.args.moment c.begin_call.result (call c.args.session.now (Some procedures.BeginResolve) c.args.called.given.args.now) (call_with c.args.session.now (Some c.args.procedure) c.args.called.given.args.now (filter_view c.args.called.given.condition.now) c.args.called.empty)
+    (λ s. ap (λ (p : Procedure). call_with c.args.session.now (Some p) c.args.called.given.args.now (filter_view c.args.called.given.condition.now) c.args.called.empty s) c.in-BeginResolve.is) c.begin_call.ensures.does
+
+pub returns-in-ResolveConflicts-clause-does : goal.returns-in-ResolveConflicts-clause-does
+returns-in-ResolveConflicts-clause-does c =
+    for_one c.args.image.now c.args.sessions.now c.args.moment c.resolve_call.result (call_with c.args.session.now (Some procedures.ResolveConflicts) c.args.called.given.args.now (filter_view c.args.called.given.condition.now) c.args.called.empty) (call_with c.args.session.now (Some c.args.procedure) c.args.called.given.args.now (filter_view c.args.called.given.condition.now) c.args.called.empty)
+    (λ s. ap (λ (p : Procedure). call_with c.args.session.now (Some p) c.args.called.given.args.now (filter_view c.args.called.given.condition.now) c.args.called.empty s) c.in-ResolveConflicts.is) c.resolve_call.ensures.does
+
+pub returns-in-CommitResolve-clause-does : goal.returns-in-CommitResolve-clause-does
+returns-in-CommitResolve-clause-does c =
+    for_open c.args.image.now c.args.sessions.now c.args.moment c.commit_call.result c.args.session.now (call c.args.session.now (Some procedures.CommitResolve) c.args.called.given.args.now) (call_with c.args.session.now (Some c.args.procedure) c.args.called.given.args.now (filter_view c.args.called.given.condition.now) c.args.called.empty)
+    c.requires.open (λ s. ap (λ (p : Procedure). call_with c.args.session.now (Some p) c.args.called.given.args.now (filter_view c.args.called.given.condition.now) c.args.called.empty s) c.in-CommitResolve.is) c.commit_call.ensures.does
+
+pub returns-in-RollbackResolve-clause-does : goal.returns-in-RollbackResolve-clause-does
+returns-in-RollbackResolve-clause-does c =
+    for_one c.args.image.now c.args.sessions.now c.args.moment c.rollback_resolve_call.result (call c.args.session.now (Some procedures.RollbackResolve) c.args.called.given.args.now) (call_with c.args.session.now (Some c.args.procedure) c.args.called.given.args.now (filter_view c.args.called.given.condition.now) c.args.called.empty)
+    (λ s. ap (λ (p : Procedure). call_with c.args.session.now (Some p) c.args.called.given.args.now (filter_view c.args.called.given.condition.now) c.args.called.empty s) c.in-RollbackResolve.is) c.rollback_resolve_call.ensures.does
 
 pub returns-in_default : goal.returns-in_default
 returns-in_default c = record {
   does =
-      refused c.args.image.now c.args.sessions.now c.args.moment c.answered.result not_built (call c.args.session.now (Some c.args.procedure) c.args.given.args.now) c.answered.ensures.edits c.answered.ensures.seating
+      refused c.args.image.now c.args.sessions.now c.args.moment c.answered.result not_built (call_with c.args.session.now (Some c.args.procedure) c.args.called.given.args.now (filter_view c.args.called.given.condition.now) c.args.called.empty) c.answered.ensures.edits c.answered.ensures.seating
       (ap answer_view c.answered.ensures.answer ∙ c.not_built.ensures) c.requires.rules
-      (λ s. other_call c.args.session.now c.args.procedure c.args.given.args.now s c.in_default.not-EnableVersioning c.in_default.not-CreateWorkspace c.in_default.not-CreateSavepoint c.in_default.not-GotoWorkspace c.in_default.not-GotoSavepoint c.in_default.not-SetConflictWorkspace c.in_default.not-SetValidTime
-      c.in_default.not-RollbackToSp c.in_default.not-RemoveWorkspace c.in_default.not-RefreshWorkspace c.in_default.not-MergeWorkspace);
+      (λ s. other_call c.args.session.now c.args.procedure c.args.called.given.args.now (filter_view c.args.called.given.condition.now) c.args.called.empty s c.in_default.not-EnableVersioning c.in_default.not-CreateWorkspace c.in_default.not-CreateSavepoint c.in_default.not-GotoWorkspace c.in_default.not-GotoSavepoint c.in_default.not-SetConflictWorkspace c.in_default.not-SetValidTime
+      c.in_default.not-RollbackToSp c.in_default.not-RemoveWorkspace c.in_default.not-RefreshWorkspace c.in_default.not-MergeWorkspace c.in_default.not-BeginResolve c.in_default.not-ResolveConflicts
+      c.in_default.not-CommitResolve c.in_default.not-RollbackResolve);
   idle = λ idle. (c.answered.ensures.edits, c.answered.ensures.seating);
   few = λ forks. forks_none c.answered.result c.answered.ensures.edits;
   nets = λ workspace named. Nothing c.answered.ensures.edits;
@@ -82,38 +104,50 @@ returns-in_default c = record {
 -- ---- lines that refresh or merge
 
 pub returns-in-EnableVersioning-clause-nets : goal.returns-in-EnableVersioning-clause-nets
-returns-in-EnableVersioning-clause-nets c = λ workspace named. absurd (no_workspace workspace (ap (λ (p : Procedure). nets_call (Some p) c.args.given.args.now) (sym c.in-EnableVersioning.is) ∙ named))
+returns-in-EnableVersioning-clause-nets c = λ workspace named. absurd (no_workspace workspace (ap (λ (p : Procedure). nets_call (Some p) c.args.called.given.args.now) (sym c.in-EnableVersioning.is) ∙ named))
 
 pub returns-in-CreateWorkspace-clause-nets : goal.returns-in-CreateWorkspace-clause-nets
-returns-in-CreateWorkspace-clause-nets c = λ workspace named. absurd (no_workspace workspace (ap (λ (p : Procedure). nets_call (Some p) c.args.given.args.now) (sym c.in-CreateWorkspace.is) ∙ named))
+returns-in-CreateWorkspace-clause-nets c = λ workspace named. absurd (no_workspace workspace (ap (λ (p : Procedure). nets_call (Some p) c.args.called.given.args.now) (sym c.in-CreateWorkspace.is) ∙ named))
 
 pub returns-in-CreateSavepoint-clause-nets : goal.returns-in-CreateSavepoint-clause-nets
-returns-in-CreateSavepoint-clause-nets c = λ workspace named. absurd (no_workspace workspace (ap (λ (p : Procedure). nets_call (Some p) c.args.given.args.now) (sym c.in-CreateSavepoint.is) ∙ named))
+returns-in-CreateSavepoint-clause-nets c = λ workspace named. absurd (no_workspace workspace (ap (λ (p : Procedure). nets_call (Some p) c.args.called.given.args.now) (sym c.in-CreateSavepoint.is) ∙ named))
 
 pub returns-in-GotoWorkspace-clause-nets : goal.returns-in-GotoWorkspace-clause-nets
-returns-in-GotoWorkspace-clause-nets c = λ workspace named. absurd (no_workspace workspace (ap (λ (p : Procedure). nets_call (Some p) c.args.given.args.now) (sym c.in-GotoWorkspace.is) ∙ named))
+returns-in-GotoWorkspace-clause-nets c = λ workspace named. absurd (no_workspace workspace (ap (λ (p : Procedure). nets_call (Some p) c.args.called.given.args.now) (sym c.in-GotoWorkspace.is) ∙ named))
 
 pub returns-in-GotoSavepoint-clause-nets : goal.returns-in-GotoSavepoint-clause-nets
-returns-in-GotoSavepoint-clause-nets c = λ workspace named. absurd (no_workspace workspace (ap (λ (p : Procedure). nets_call (Some p) c.args.given.args.now) (sym c.in-GotoSavepoint.is) ∙ named))
+returns-in-GotoSavepoint-clause-nets c = λ workspace named. absurd (no_workspace workspace (ap (λ (p : Procedure). nets_call (Some p) c.args.called.given.args.now) (sym c.in-GotoSavepoint.is) ∙ named))
 
 pub returns-in-SetConflictWorkspace-clause-nets : goal.returns-in-SetConflictWorkspace-clause-nets
-returns-in-SetConflictWorkspace-clause-nets c = λ workspace named. absurd (no_workspace workspace (ap (λ (p : Procedure). nets_call (Some p) c.args.given.args.now) (sym c.in-SetConflictWorkspace.is) ∙ named))
+returns-in-SetConflictWorkspace-clause-nets c = λ workspace named. absurd (no_workspace workspace (ap (λ (p : Procedure). nets_call (Some p) c.args.called.given.args.now) (sym c.in-SetConflictWorkspace.is) ∙ named))
 
 pub returns-in-SetValidTime-clause-nets : goal.returns-in-SetValidTime-clause-nets
-returns-in-SetValidTime-clause-nets c = λ workspace named. absurd (no_workspace workspace (ap (λ (p : Procedure). nets_call (Some p) c.args.given.args.now) (sym c.in-SetValidTime.is) ∙ named))
+returns-in-SetValidTime-clause-nets c = λ workspace named. absurd (no_workspace workspace (ap (λ (p : Procedure). nets_call (Some p) c.args.called.given.args.now) (sym c.in-SetValidTime.is) ∙ named))
 
 pub returns-in-RollbackToSp-clause-nets : goal.returns-in-RollbackToSp-clause-nets
-returns-in-RollbackToSp-clause-nets c = λ workspace named. absurd (no_workspace workspace (ap (λ (p : Procedure). nets_call (Some p) c.args.given.args.now) (sym c.in-RollbackToSp.is) ∙ named))
+returns-in-RollbackToSp-clause-nets c = λ workspace named. absurd (no_workspace workspace (ap (λ (p : Procedure). nets_call (Some p) c.args.called.given.args.now) (sym c.in-RollbackToSp.is) ∙ named))
 
 pub returns-in-RemoveWorkspace-clause-nets : goal.returns-in-RemoveWorkspace-clause-nets
-returns-in-RemoveWorkspace-clause-nets c = λ workspace named. absurd (no_workspace workspace (ap (λ (p : Procedure). nets_call (Some p) c.args.given.args.now) (sym c.in-RemoveWorkspace.is) ∙ named))
+returns-in-RemoveWorkspace-clause-nets c = λ workspace named. absurd (no_workspace workspace (ap (λ (p : Procedure). nets_call (Some p) c.args.called.given.args.now) (sym c.in-RemoveWorkspace.is) ∙ named))
+
+pub returns-in-BeginResolve-clause-nets : goal.returns-in-BeginResolve-clause-nets
+returns-in-BeginResolve-clause-nets c = λ workspace named. absurd (no_workspace workspace (ap (λ (p : Procedure). nets_call (Some p) c.args.called.given.args.now) (sym c.in-BeginResolve.is) ∙ named))
+
+pub returns-in-ResolveConflicts-clause-nets : goal.returns-in-ResolveConflicts-clause-nets
+returns-in-ResolveConflicts-clause-nets c = λ workspace named. absurd (no_workspace workspace (ap (λ (p : Procedure). nets_call (Some p) c.args.called.given.args.now) (sym c.in-ResolveConflicts.is) ∙ named))
+
+pub returns-in-CommitResolve-clause-nets : goal.returns-in-CommitResolve-clause-nets
+returns-in-CommitResolve-clause-nets c = λ workspace named. absurd (no_workspace workspace (ap (λ (p : Procedure). nets_call (Some p) c.args.called.given.args.now) (sym c.in-CommitResolve.is) ∙ named))
+
+pub returns-in-RollbackResolve-clause-nets : goal.returns-in-RollbackResolve-clause-nets
+returns-in-RollbackResolve-clause-nets c = λ workspace named. absurd (no_workspace workspace (ap (λ (p : Procedure). nets_call (Some p) c.args.called.given.args.now) (sym c.in-RollbackResolve.is) ∙ named))
 
 pub returns-in-RefreshWorkspace-clause-nets : goal.returns-in-RefreshWorkspace-clause-nets
 returns-in-RefreshWorkspace-clause-nets c = λ workspace named.
-    subst (λ (w : List ℕ). IfOk c.refresh_call.result (λ p. AreNets c.args.image.now w p.edits.items)) (one_workspace _ workspace (ap (λ (p : Procedure). nets_call (Some p) c.args.given.args.now) (sym c.in-RefreshWorkspace.is) ∙ named))
+    subst (λ (w : List ℕ). IfOk c.refresh_call.result (λ p. AreNets c.args.image.now w p.edits.items)) (one_workspace _ workspace (ap (λ (p : Procedure). nets_call (Some p) c.args.called.given.args.now) (sym c.in-RefreshWorkspace.is) ∙ named))
     c.refresh_call.ensures.nets
 
 pub returns-in-MergeWorkspace-clause-nets : goal.returns-in-MergeWorkspace-clause-nets
 returns-in-MergeWorkspace-clause-nets c = λ workspace named.
-    let alone = merges_alone (is_true_given procedures.MergeWorkspace c.args.given.args.now parameters.RemoveWorkspace) _ workspace (ap (λ (p : Procedure). nets_call (Some p) c.args.given.args.now) (sym c.in-MergeWorkspace.is) ∙ named) in
+    let alone = merges_alone (is_true_given procedures.MergeWorkspace c.args.called.given.args.now parameters.RemoveWorkspace) _ workspace (ap (λ (p : Procedure). nets_call (Some p) c.args.called.given.args.now) (sym c.in-MergeWorkspace.is) ∙ named) in
     subst (λ (w : List ℕ). IfOk c.merge_call.result (λ p. AreNets c.args.image.now w p.edits.items)) alone.1 (c.merge_call.ensures.nets alone.0)

@@ -2,7 +2,7 @@ use Rattle.std.proofs.Common.{refl, sym, ap, ◌∙◌}
 use Rattle.wm_base.specs.Views.{exprs_view, sets_view, filter_view, query_view, statement_view}
 use Rattle.wm_base.specs.declared.tree.statement.Statement.TheVariants.{Create, Insert, Update, Delete, Select, Call}
 use Rattle.wm_grammar.specs.Calls.{procedure_of}
-use Rattle.wm_model.specs.Step.{run_statement, create, insert, update, delete, select, call}
+use Rattle.wm_model.specs.Step.{run_statement, create, insert, update, delete, select, call_with}
 use Rattle.wm_calls.proofs.Lasting.{insert_lasts, update_lasts}
 use Rattle.wm_calls.specs.Empty.{has_empty_period}
 use Rattle.wm_engine.proofs.Lasting.{select_lasts}
@@ -31,8 +31,10 @@ pub returns-in-Call-clause-does : goal.returns-in-Call-clause-does
 returns-in-Call-clause-does c =
     let done = rw c.as_slice-args.ensures at c.call.ensures.does in
     rw c.in-Call.is
-    (does_here c.args.image.now c.args.sessions.now c.args.moment c.call.result (call c.args.session.now (procedure_of c.in-Call.procedure) c.in-Call.args)
-    (run_statement c.args.session.now (statement_view (Call c.in-Call.procedure c.in-Call.args c.in-Call.condition))) (λ s. refl) done)
+    (does_here c.args.image.now c.args.sessions.now c.args.moment c.call.result (call_with c.args.session.now (procedure_of c.in-Call.procedure) c.in-Call.args (filter_view c.in-Call.condition) c.has_empty_period-empty.result)
+    (run_statement c.args.session.now (statement_view (Call c.in-Call.procedure c.in-Call.args c.in-Call.condition)))
+    (λ s. ap (λ b. call_with c.args.session.now (procedure_of c.in-Call.procedure) c.in-Call.args (filter_view c.in-Call.condition) b s)
+    (ap has_empty_period (ap statement_view (sym c.in-Call.is)) ∙ sym c.has_empty_period-empty.ensures)) done)
 
 pub returns-in-Update-clause-does : goal.returns-in-Update-clause-does
 returns-in-Update-clause-does c =

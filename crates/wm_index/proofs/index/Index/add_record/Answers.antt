@@ -12,6 +12,3 @@ add_to-requires c = c.requires (RowAt c.in-Row.row.stamp)
 
 pub add_to-requires-in-Lock : goal.add_to-requires-in-Lock
 add_to-requires-in-Lock c = c.requires (OwnedBy c.in-Lock.lock.space)
-
-pub add_to-requires-in-Mark : goal.add_to-requires-in-Mark
-add_to-requires-in-Mark c = c.requires (OwnedBy c.in-Mark.mark.space)

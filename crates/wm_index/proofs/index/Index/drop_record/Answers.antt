@@ -12,6 +12,3 @@ drop_from-requires c = c.requires (RowAt c.in-Row.row.stamp)
 
 pub drop_from-requires-in-Lock : goal.drop_from-requires-in-Lock
 drop_from-requires-in-Lock c = c.requires (OwnedBy c.in-Lock.lock.space)
-
-pub drop_from-requires-in-Mark : goal.drop_from-requires-in-Mark
-drop_from-requires-in-Mark c = c.requires (OwnedBy c.in-Mark.mark.space)

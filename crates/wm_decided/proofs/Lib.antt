@@ -1,0 +1,11 @@
+pub mod Chosen
+pub mod Copies
+pub mod Copying
+pub mod InOrder
+pub mod KeyColumns
+pub mod Laid
+pub mod Netting
+pub mod Placed
+pub mod Pushed
+pub mod Sources
+pub mod Uniquely

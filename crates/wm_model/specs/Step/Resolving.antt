@@ -1,0 +1,95 @@
+-- BeginResolve, ResolveConflicts, CommitResolve and RollbackResolve.
+use Rattle.std.specs.Prelude.{ℕ, ◌+◌, ◌-◌, ◌==◌, ◌&&◌, nat_lt, Bool, true, false, not, if◌then◌else◌, List, [], ◌∷◌, ◌++◌, length, Option, None}
+use Rattle.std.specs.Option.{option_map, option_map_or}
+use Rattle.wm_base.specs.Trees.{Cond}
+use Rattle.wm_base.specs.declared.refusal.FormRefusal.TheVariants.{Wm012}
+use Rattle.wm_base.specs.declared.refusal.Refusal.{Refusal}
+use Rattle.wm_base.specs.declared.refusal.Refusal.TheVariants.{Form}
+use Rattle.wm_decided.specs.Deciding.{decisions_in}
+use Rattle.wm_decided.specs.Keys.{columns_of_keys, meets_key}
+use Rattle.wm_decided.specs.Netted.{entries_decided, marks_of}
+use Rattle.wm_decided.specs.declared.keep.Keep.{Keep}
+use Rattle.wm_net.specs.Conflicts.{Settled}
+use Rattle.wm_print.specs.Texts.{Answer, Fine, Done}
+use Rattle.wm_spec.specs.Lists.{Entry}
+use Rattle.wm_spec.specs.declared.record.table.Table.{Table}
+use Rattle.wm_state.specs.State.{State, Session, Workspace, Resolve, Decision, with_entries, with_space}
+use Rattle.wm_telling.specs.Sides.{sides}
+use Rattle.wm_typing.specs.Names.{unknown_in_filter}
+use Rattle.wm_typing.specs.Types.{mistyped_in_filter}
+use Rattle.wm_model.specs.Step.Refusing.{no_parent, no_resolve, refused_if, unless, unless_empty_period, unless_mistyped, versioning}
+use Rattle.wm_model.specs.Step.Counting.{durably}
+use Rattle.wm_model.specs.Step.Naming.{parent_in, with_named, with_table}
+use Rattle.wm_model.specs.Step.Sessions.{altered}
+use Rattle.wm_model.specs.Step.Sessions as settings
+use Rattle.wm_model.specs.Step.Undoing.{resolves, resolving_fault}
+
+-- this is set of a session, and nothing else changes
+abbrev pub set_of : Session → settings.Setting → State → State
+set_of session setting s = record s { sessions = altered session.name setting s.sessions }
+
+-- BeginResolve opens a resolve of a workspace, which is not LIVE, for the session; another one that the session has open is closed
+abbrev pub begin_resolve : Session → List ℕ → State → State × Answer
+begin_resolve session name s =
+    with_named s name (λ w.
+    if w.number == 0 then (s, no_parent name) else unless (resolving_fault s w) s (set_of session (settings.Begin w.number) s, Fine))
+
+-- the session that asks has a resolve of the workspace of this number open, which none has of LIVE
+abbrev pub has_open : ℕ → Session → Bool
+has_open n session = nat_lt 0 n && resolves n session
+
+-- it has none
+abbrev pub unresolved_fault : Session → Workspace → Option Refusal
+unresolved_fault session w = if has_open w.number session then None else refused_if true (no_resolve w.name)
+
+-- RollbackResolve closes it
+abbrev pub rollback_resolve : Session → List ℕ → State → State × Answer
+rollback_resolve session name s = with_named s name (λ w. unless (unresolved_fault session w) s (set_of session settings.End s, Fine))
+
+-- ---- decisions
+
+-- decisions come behind those that the session has made, where there are any; told is how many
+abbrev pub decide : Session → List Decision → State → State × Answer
+decide session [] s = (s, Done 0)
+decide session (d ∷ ds) s = (set_of session (settings.Decide (d ∷ ds)) s, Done (length (d ∷ ds)))
+
+-- on the conflicts of a workspace in a table, those whose keys meet a condition
+abbrev pub decide_on : Session → Table → Option Cond → Keep → State → Workspace → State × Answer
+decide_on session table condition keep s w = decide session (decisions_in keep (sides (parent_in s w) w) table.number (meets_key table condition)) s
+
+-- the first name in a condition that is none of a key column
+abbrev pub unkeyed_fault : Table → Option Cond → Option Refusal
+unkeyed_fault table condition = option_map (λ (name : List ℕ). Form (Wm012 name)) (unknown_in_filter (columns_of_keys table) condition)
+
+-- ResolveConflicts decides which side of conflicts stands; `fault` tells what is wrong with the arguments, by what is of a wrong type first in
+-- the condition
+abbrev pub resolve_conflicts : Session → List ℕ → List ℕ → Option Cond → Keep → (Option (List ℕ) → Option (List ℕ)) → Bool → State → State × Answer
+resolve_conflicts session workspace name condition keep fault empty s =
+    with_table s name (λ table.
+    if not table.versioned then (s, versioning name false) else
+    unless (unkeyed_fault table condition) s
+    (unless_mistyped (fault (mistyped_in_filter (columns_of_keys table) condition)) s
+    (with_named s workspace (λ w. unless_empty_period empty s (unless (unresolved_fault session w) s (decide_on session table condition keep s w))))))
+
+-- ---- what was decided
+
+-- a workspace with entries and marks more
+abbrev pub resolved : List Entry → List Settled → Workspace → Workspace
+resolved es ms w = record (with_entries es w) { settled = w.settled ++ ms }
+
+-- the decisions of a resolve become changes and marks of its workspace, if there are any, and the resolve is closed
+abbrev pub commit : Session → List Decision → Workspace → State → State × Answer
+commit session [] w s = (set_of session settings.End s, Fine)
+commit session (d ∷ ds) w s =
+    let es = entries_decided s.moment session.user (d ∷ ds) in
+    let ms = marks_of (w.next_place - 1) (d ∷ ds) in
+    durably s (length w.lists.log + length es)
+    (record (set_of session settings.End s) { durable = record s.durable { spaces = with_space w.number (resolved es ms) s.durable.spaces } }, Fine)
+
+-- the decisions that a session has made
+abbrev pub decisions_of : Session → List Decision
+decisions_of session = option_map_or (λ (r : Resolve). r.decisions) session.resolve []
+
+-- CommitResolve makes what was decided part of the workspace
+abbrev pub commit_resolve : Session → List ℕ → State → State × Answer
+commit_resolve session name s = with_named s name (λ w. unless (unresolved_fault session w) s (commit session (decisions_of session) w s))

@@ -1,0 +1,91 @@
+-- What is told of what is decided on stretches of conflict.
+use Rattle.std.proofs.Common.{◌≡◌, ◌<◌, ◌≤◌, ◌==◌, ℕ, suc, ◌+◌, nat_lt, arith, Bool, true, false, if◌then◌else◌, List, [], ◌∷◌, ◌++◌, map, take, length, get_or, Bor, Option, None, Some, is_some, option_map, option_to_list, Result, Ok, Err, IfOk, refl, sym, ap, ◌∙◌, subst}
+use Rattle.std.proofs.lemmas.List.{append-nil, map-append, take_all, take_more}
+use Rattle.std.proofs.lemmas.Bool.Decides.{nat_tests}
+use Rattle.std.specs.List.{cons_option, filter_map}
+use Rattle.std.specs.Option.{option_copied}
+use Rattle.wm_base.specs.declared.memory.Memory.{Memory}
+use Rattle.wm_base.specs.declared.value.Value.{Value}
+use Rattle.wm_decided.specs.Deciding.{copied_on, decided_on, decision_of}
+use Rattle.wm_decided.specs.declared.keep.Keep.{Keep}
+use Rattle.wm_graph.specs.Parts.{parts_of, space_of}
+use Rattle.wm_net.specs.Conflicts.{Sides, Stamps}
+use Rattle.wm_net.specs.Groups.{Group}
+use Rattle.wm_net.specs.Listed.{Stretch}
+use Rattle.wm_rebased.proofs.RebasingFields.{parent_recorded}
+use Rattle.wm_spec.specs.Lists.{Told}
+use Rattle.wm_spec.specs.declared.record.space.Space.{Space}
+use Rattle.wm_spec.specs.declared.record.stored.Stored.{Stored}
+use Rattle.wm_state.specs.State.{Decision, Session}
+use Rattle.wm_model.specs.Merged.{NamesFamily}
+use Rattle.wm_model.specs.Step.{has_open}
+use Rattle.wm_model.specs.Undone.{NamesSpace}
+use Rattle.wm_model.proofs.RollingLine.{named_numbered}
+use Rattle.wm_state.proofs.Tests.{both}
+use Rattle.wm_resolve.specs.Deciding.{decided_where}
+
+-- ---- one stretch
+
+pub where_unmet : (keep : Keep) (s : Sides) (test : List Value → Bool) (x : Group × Stretch Stamps) (met : Bool) → met ≡ test x.0.key → met ≡ false → None ≡ decided_where keep s test x
+where_unmet keep s test x met is not_met = sym (ap (λ (b : Bool). if b then decided_on keep s x else None) (sym is ∙ not_met))
+
+pub where_met : (keep : Keep) (s : Sides) (test : List Value → Bool) (x : Group × Stretch Stamps) (met : Bool) (o : Option (List (Stretch Told))) (made : Option Decision) → met ≡ test x.0.key → met ≡ true → o ≡ copied_on keep s x
+    → made ≡ option_map (decision_of x (length s.log)) o → made ≡ decided_where keep s test x
+where_met keep s test x met o made is meets copied so =
+    so ∙ ap (option_map (decision_of x (length s.log))) copied ∙ sym (ap (λ (b : Bool). if b then decided_on keep s x else None) (sym is ∙ meets))
+
+-- ---- all of them
+
+filter_map_last : {A B : Type 0} (f : A → Option B) (xs : List A) (x : A) → filter_map f (xs ++ x ∷ []) ≡ filter_map f xs ++ option_to_list (f x)
+filter_map_last f [] x = one (f x)
+  where
+    one : {B : Type 0} (o : Option B) → cons_option o [] ≡ option_to_list o
+    one None = refl
+    one (Some y) = refl
+filter_map_last {B = B} f (y ∷ ys) x = ap (cons_option (f y)) (filter_map_last f ys x) ∙ by_first (f y)
+  where
+    by_first : (o : Option B) → cons_option o (filter_map f ys ++ option_to_list (f x)) ≡ cons_option o (filter_map f ys) ++ option_to_list (f x)
+    by_first None = refl
+    by_first (Some z) = refl
+
+pub decided_more : {A B C : Type 0} (f : B → Option C) (pair : A → B) (xs : List A) (i : ℕ) (x : A) (made : Option C) (old new : List C) → i < length xs → x ≡ get_or xs i x → made ≡ f (pair x) → new ≡ old ++ option_to_list made
+    → old ≡ filter_map f (map pair (take i xs)) → new ≡ filter_map f (map pair (take (i + 1) xs))
+decided_more {A} {B} {C} f pair xs i x made old new within is so more were =
+    more
+    ∙ (λ j. were j ++ option_to_list (so j))
+    ∙ sym (filter_map_last f (map pair (take i xs)) (pair x))
+    ∙ ap (filter_map f) (sym (map-append pair (take i xs) (x ∷ [])))
+    ∙ ap (λ (ys : List A). filter_map f (map pair ys)) (ap (λ y. take i xs ++ y ∷ []) is ∙ sym (take_more xs i x within))
+
+pub decided_all : {A B C : Type 0} (f : B → Option C) (pair : A → B) (xs : List A) (i : ℕ) (ds : List C) → length xs ≤ i → ds ≡ filter_map f (map pair (take i xs)) → ds ≡ filter_map f (map pair xs)
+decided_all {A} f pair xs i ds past were = were ∙ ap (λ (ys : List A). filter_map f (map pair ys)) (take_all i xs past)
+
+-- ---- whether there are any
+
+pub none_of : {A : Type 0} (xs : List A) → (length xs == 0) ≡ true → xs ≡ []
+none_of [] none = refl
+none_of (x ∷ xs) none = absurd (more (length xs) none)
+  where
+    more : (n : ℕ) → (suc n == 0) ≡ true → ⊥
+    more n e = grind (arith, e)
+
+pub some_of : {A : Type 0} (xs : List A) → (length xs == 0) ≡ false → xs ≡ [] → ⊥
+some_of [] some none = cc
+some_of (x ∷ xs) some none = cc
+
+-- ---- the workspace and its parent
+
+pub not_live : (n : ℕ) (session : Session) → has_open n session ≡ true → 0 < n
+not_live n session has = let some = (both (nat_lt 0 n) _ has).0 in grind (arith, nat_tests, some)
+
+parent_copied : {A : Type 0} (r : Option (Bor A)) (o : Option A) → option_copied r ≡ o → is_some o ≡ true → is_some r ≡ true
+parent_copied None o is some = ap is_some is ∙ some
+parent_copied (Some x) o is some = refl
+
+pub parent_found : (rs : List Stored) (workspace : List ℕ) (a : Space) (session : Session) (r : Option (Bor Space)) → NamesSpace rs workspace a → has_open a.number session ≡ true → option_copied r ≡ space_of (parts_of rs).spaces a.parent → is_some r ≡ true
+parent_found rs workspace a session r names has found =
+    parent_copied r (space_of (parts_of rs).spaces a.parent) found (parent_recorded (parts_of rs) names.rules a.number a (not_live a.number session has) (named_numbered rs workspace a names))
+
+pub family_named : (rs : List Stored) (workspace : List ℕ) (a : Space) (session : Session) (r : Option (Bor Space)) (b : Space) → NamesSpace rs workspace a → has_open a.number session ≡ true
+    → option_copied r ≡ space_of (parts_of rs).spaces a.parent → option_copied r ≡ Some b → NamesFamily rs workspace a b
+family_named rs workspace a session r b names has found is = record { space = names; child = not_live a.number session has; parent = sym found ∙ is }

@@ -1,0 +1,14 @@
+pub mod Calling
+pub mod Committed
+pub mod CommittingLine
+pub mod Copies
+pub mod Decided
+pub mod DecidesLine
+pub mod DecidingLine
+pub mod Listed
+pub mod OpeningLine
+pub mod Plans
+pub mod Restored
+pub mod Settling
+pub mod Staging
+pub mod ToldOn

@@ -1,0 +1,16 @@
+use Rattle.std.proofs.Common.{◌≡◌, map, take}
+use Rattle.std.specs.List.{filter_map}
+use Rattle.wm_base.specs.Views.{filter_view}
+use Rattle.wm_decided.specs.Keys.{key_as_row}
+use Rattle.wm_dml.specs.Changing.{meets}
+use Rattle.wm_graph.specs.Parts.{parts_of}
+use Rattle.wm_net.specs.Conflicts.{Sides}
+use Rattle.wm_pending.specs.Clashes.{conflict_pair}
+use Rattle.wm_resolve.specs.Deciding.{decided_where}
+use Rattle.wm_resolve.specs.Telling.{TellSides}
+use Rattle.wm_resolve.proofs.deciding.decisions_on.Given as goal
+
+abbrev pub invariant-loop-conflict : goal.invariant-loop-conflict
+invariant-loop-conflict l = (s : Sides) → TellSides (parts_of l.image) l.deciding.space.now l.deciding.parent.now s
+    → l.decisions.items
+    ≡ filter_map (decided_where l.deciding.keep s (λ key. meets (filter_view l.deciding.condition.now) l.deciding.columns.now (key_as_row key))) (map (conflict_pair l.deciding.table.now.number) (take l.conflict-index l.found))

@@ -1,0 +1,32 @@
+-- ResolveConflicts over a table, by what is decided.
+use Rattle.std.specs.Prelude.{ℕ, ◌≡◌, Bool, if◌then◌else◌, List, Option, None}
+use Rattle.std.specs.List.{All}
+use Rattle.wm_base.specs.Trees.{Cond}
+use Rattle.wm_base.specs.declared.value.Value.{Value}
+use Rattle.wm_decided.specs.Deciding.{decided_on}
+use Rattle.wm_decided.specs.Staged.{IsStaged}
+use Rattle.wm_decided.specs.declared.keep.Keep.{Keep}
+use Rattle.wm_graph.specs.Parts.{parts_of}
+use Rattle.wm_net.specs.Conflicts.{Sides, Stamps}
+use Rattle.wm_net.specs.Groups.{Group}
+use Rattle.wm_net.specs.Listed.{Stretch}
+use Rattle.wm_print.specs.Texts.{Answer}
+use Rattle.wm_spec.specs.declared.record.stored.Stored.{Stored}
+use Rattle.wm_spec.specs.declared.record.table.Table.{Table}
+use Rattle.wm_state.specs.State.{Decision, Session, State}
+use Rattle.wm_model.specs.Planning.{StandsAt}
+use Rattle.wm_model.specs.Step.{decide, decide_on, unless, unless_empty_period, unresolved_fault, with_named}
+
+-- the decision on a stretch of conflict, where its key passes a test
+abbrev pub decided_where : Keep → Sides → (List Value → Bool) → Group × Stretch Stamps → Option Decision
+decided_where keep s test x = if test x.0.key then decided_on keep s x else None
+
+-- what ResolveConflicts does with a table that is ready for rows, where nothing is wrong with its arguments and its condition
+abbrev pub resolve_to : Session → List ℕ → Table → Option Cond → Keep → Bool → State → State × Answer
+resolve_to session workspace table condition keep empty s =
+    with_named s workspace (λ w. unless_empty_period empty s (unless (unresolved_fault session w) s (decide_on session table condition keep s w)))
+
+-- a function of the state makes these decisions of each state that the records stand for, and they can be committed
+pub record Decides (rs : List Stored) (xs : List Session) (m : ℕ) (session : Session) (ds : List Decision) (act : State → State × Answer) : Type 0 where
+  pub made : (s : State) → StandsAt rs xs m s → act s ≡ decide session ds s
+  pub staged : (s : State) → StandsAt rs xs m s → All (IsStaged (parts_of rs)) ds

@@ -1,0 +1,5 @@
+pub mod Committed
+pub mod Copying
+pub mod Deciding
+pub mod Restoring
+pub mod Telling
