@@ -1,5 +1,5 @@
 -- What CommitResolve does to each state that the records stand for.
-use Rattle.std.proofs.Common.{◌≡◌, ℕ, ◌+◌, ◌-◌, ◌==◌, nat_lt, length, Bool, true, false, cond, if◌then◌else◌, List, [], ◌∷◌, ◌++◌, map, Option, Some, None, refl, sym, ap, ◌∙◌, codes, subst}
+use Rattle.std.proofs.Common.{◌≡◌, ℕ, ◌+◌, ◌-◌, ◌==◌, nat_lt, length, Bool, true, false, if◌then◌else◌, List, [], ◌∷◌, ◌++◌, map, Option, Some, None, refl, sym, ap, ◌∙◌, codes, subst}
 use Rattle.std.proofs.lemmas.List.Elements.{All-head, All-nil, All-tail}
 use Rattle.std.specs.List.{All, find}
 use Rattle.std.specs.Str.{bytes_eq}
@@ -8,7 +8,7 @@ use Rattle.std.specs.declared.alloc.Global.{Global}
 use Rattle.std.specs.declared.vec.Vec.{Vec}
 use Rattle.wm_decided.specs.Netted.{entries_decided, marks_of}
 use Rattle.wm_decided.specs.Staged.{AreStaged, IsStaged, IsStagedResolve}
-use Rattle.wm_graph.specs.Parts.{Parts, parts_of}
+use Rattle.wm_graph.specs.Parts.{parts_of}
 use Rattle.wm_net.specs.Conflicts.{Settled}
 use Rattle.wm_print.specs.Texts.{Answer, Fine}
 use Rattle.wm_spec.specs.Lists.{Entry}
@@ -24,7 +24,7 @@ use Rattle.wm_state.specs.declared.edit.Edit.TheVariants as edits
 use Rattle.wm_state.specs.declared.edit.NewEntry.{NewEntry}
 use Rattle.wm_state.specs.declared.edit.NewMark.{NewMark}
 use Rattle.wm_model.specs.Planning.{StandsAt, Does, IsOpen, Set, Stay}
-use Rattle.wm_model.specs.Step.{at_its_end, commit, commit_resolve, counter_limit, decisions_of, durably, has_open, line_work, resolved, session_of, set_of}
+use Rattle.wm_model.specs.Step.{at_its_end, commit, commit_resolve, counter_limit, decisions_of, durably, has_open, line_work, resolved, set_of}
 use Rattle.wm_model.specs.Step.Sessions as settings
 use Rattle.wm_model.specs.Undone.{NamesSpace}
 use Rattle.wm_state.proofs.EditedLater.{all_edited_append}

@@ -1,9 +1,8 @@
 -- Copies of what pieces say, one piece after another.
-use Rattle.std.proofs.Common.{◌≡◌, ◌⊎◌, inl, inr, ℕ, ◌+◌, ◌<◌, ◌≤◌, ◌==◌, ◌&&◌, nat_le, nat_lt, max, min, Bool, true, false, if◌then◌else◌, List, [], ◌∷◌, ◌++◌, drop, length, take, get_or, Option, None, Some, option_map, refl, sym, ap, ◌∙◌, arith, subst, eqb-true}
+use Rattle.std.proofs.Common.{◌≡◌, ℕ, ◌+◌, ◌<◌, ◌≤◌, ◌==◌, ◌&&◌, nat_lt, max, min, Bool, true, false, if◌then◌else◌, List, [], ◌∷◌, ◌++◌, drop, length, take, get_or, Option, None, Some, option_map, refl, sym, ap, ◌∙◌, arith, subst, eqb-true}
 use Rattle.std.proofs.lemmas.Bool.Decides.{nat_tests}
 use Rattle.std.proofs.lemmas.List.{append_assoc, drop_more, take_all, take_more}
 use Rattle.std.specs.Bool.{then_some}
-use Rattle.std.specs.List.{AllByRecursion}
 use Rattle.std.specs.Option.{option_or}
 use Rattle.wm_base.proofs.Plain.{option_or-none, option_or_assoc}
 use Rattle.wm_base.specs.Period.{Span, covers, overlaps, shared}
@@ -12,7 +11,7 @@ use Rattle.wm_base.specs.declared.row.Row.{Row}
 use Rattle.wm_graph.specs.Parts.{Parts}
 use Rattle.wm_net.specs.Listed.{IsApart, IsJoined, Ordered, Stretch, value_at, within}
 use Rattle.wm_net.specs.Nets.{one_stamp}
-use Rattle.wm_net.proofs.Stretching.{within_is, within_not_after, within_not_before}
+use Rattle.wm_net.proofs.Stretching.{within_is, within_not_after}
 use Rattle.wm_period.specs.Pieces.{Between, Held, held, held_at}
 use Rattle.wm_period.specs.declared.piece.Piece.{Piece}
 use Rattle.wm_spec.specs.Lists.{Told}

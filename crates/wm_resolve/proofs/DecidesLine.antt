@@ -1,5 +1,5 @@
 -- What ResolveConflicts decides is what the state says, and it can be committed.
-use Rattle.std.proofs.Common.{◌≡◌, ℕ, zero, suc, ◌+◌, ◌<◌, ◌≤◌, ◌==◌, ◌&&◌, nat_le, nat_lt, Bool, true, false, if◌then◌else◌, List, [], ◌∷◌, ◌++◌, map, length, slice_get, Option, None, Some, is_some, option_map, refl, sym, ap, ◌∙◌, subst, arith, eqb-true}
+use Rattle.std.proofs.Common.{◌≡◌, ℕ, zero, suc, ◌+◌, ◌==◌, ◌&&◌, nat_le, nat_lt, Bool, true, false, if◌then◌else◌, List, [], ◌∷◌, length, slice_get, Option, None, Some, is_some, option_map, refl, sym, ap, ◌∙◌, subst, arith, eqb-true}
 use Rattle.std.proofs.lemmas.Bool.Decides.{nat_tests}
 use Rattle.std.proofs.lemmas.List.Elements.{All-cons, All-filter, All-head, All-nil, All-tail}
 use Rattle.std.specs.Bool.{then_some}
@@ -11,19 +11,17 @@ use Rattle.wm_base.specs.declared.instant.TheConstants.{END}
 use Rattle.wm_base.specs.declared.value.Value.{Value}
 use Rattle.wm_decided.specs.Deciding.{copied_on, decided_on, decision_of, told_on}
 use Rattle.wm_decided.specs.Keys.{columns_of_keys, key_as_row, meets_key}
-use Rattle.wm_decided.specs.Staged.{IsRestorable, IsStaged, cells_of, copy_of}
+use Rattle.wm_decided.specs.Staged.{IsRestorable, IsStaged}
 use Rattle.wm_decided.specs.declared.keep.Keep.{Keep}
 use Rattle.wm_decided.specs.declared.keep.Keep.TheVariants.{Parent, Child, Base}
 use Rattle.wm_dml.specs.Changing.{meets}
 use Rattle.wm_graph.specs.Parts.{Parts, parts_of, row_of, table_of, version_of}
 use Rattle.wm_graph.specs.Rules.{are_cells, collide, differ, is_key_of, is_piece}
-use Rattle.wm_net.specs.Conflicts.{Sides, Stamps, all_sides, conflict_at, conflicts, grouped, in_conflict, in_table, same_stamps}
+use Rattle.wm_net.specs.Conflicts.{Sides, Stamps, all_sides, conflict_at, conflicts, grouped, in_table, same_stamps}
 use Rattle.wm_net.specs.Groups.{Group, cell}
 use Rattle.wm_net.specs.Listed.{IsListing, Stretch}
 use Rattle.wm_net.specs.Nets.{replayed}
 use Rattle.wm_net.proofs.Conflicting.{Steady-conflict}
-use Rattle.wm_period.specs.Pieces.{Held}
-use Rattle.wm_print.specs.Texts.{Answer}
 use Rattle.wm_spec.specs.Lists as lists
 use Rattle.wm_spec.specs.Lists.{Cell, Entry, Told, covers, is_of, told, told_of}
 use Rattle.wm_spec.specs.declared.record.piece.PieceRecord.{PieceRecord}
@@ -38,12 +36,12 @@ use Rattle.wm_state.proofs.Laying.{key_same}
 use Rattle.wm_state.proofs.Ready.{tables_found}
 use Rattle.wm_state.proofs.Tests.{and_true, both}
 use Rattle.wm_telling.specs.Sides.{sides}
-use Rattle.wm_telling.specs.Telling.{clash_held, own_held}
+use Rattle.wm_telling.specs.Telling.{clash_held}
 use Rattle.wm_telling.proofs.Beside.{child_recorded, own_is_held, some_same}
-use Rattle.wm_telling.proofs.Storing.{IsStored, stores_own}
+use Rattle.wm_telling.proofs.Storing.{stores_own}
 use Rattle.wm_model.specs.Merged.{NamesFamily}
 use Rattle.wm_model.specs.Planning.{StandsAt}
-use Rattle.wm_model.specs.Step.{decide, decide_on, has_open, parent_in}
+use Rattle.wm_model.specs.Step.{decide, has_open}
 use Rattle.wm_model.proofs.Families.{Related, related}
 use Rattle.wm_model.proofs.Lawful.Nets.{told_tells}
 use Rattle.wm_model.proofs.RollingLine.{home}
@@ -100,7 +98,7 @@ module _ (rs : List Stored) (xs : List Session) (m : ℕ) (a b : Space) (s : Sta
           let stored = stores_own p a c (held_of y) (own_is_held p s.durable a.number w a st.stands r.beside.is (child_recorded p s.durable a.number w r.q a b r.beside) c ∙ ap (option_map held_of) is) in
           let rules = ruled p st.stands.rules in
           let piece = all_at (is_piece (table_of p.tables) (version_of p.versions) (row_of p.rows) rules.counters.next_stamp) p.pieces stored.place stored.piece
-              (both (differ collide p.pieces) (list_all (is_piece (table_of p.tables) (version_of p.versions) (row_of p.rows) rules.counters.next_stamp) p.pieces) rules.pieces).1 stored.there in
+          (both (differ collide p.pieces) (list_all (is_piece (table_of p.tables) (version_of p.versions) (row_of p.rows) rules.counters.next_stamp) p.pieces) rules.pieces).1 stored.there in
           let place = both _ (nat_le stored.piece.cells.from c.time && nat_lt c.time stored.piece.cells.till) stored.covers in
           let group = both (stored.piece.cells.table == c.table) _ place.0 in
           record {

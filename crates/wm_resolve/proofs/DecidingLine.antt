@@ -1,12 +1,10 @@
 -- What ResolveConflicts does to each state that the records stand for, over a table in which nothing is wrong.
-use Rattle.std.proofs.Common.{◌≡◌, ℕ, ◌<◌, ◌==◌, nat_lt, Bool, true, false, if◌then◌else◌, List, [], ◌∷◌, ◌++◌, map, length, Option, None, Some, option_map, refl, sym, ap, ◌∙◌, subst, arith}
-use Rattle.std.proofs.lemmas.Bool.Decides.{nat_tests}
+use Rattle.std.proofs.Common.{◌≡◌, ℕ, ◌==◌, Bool, true, false, if◌then◌else◌, List, [], ◌∷◌, length, Option, None, Some, refl, sym, ap, ◌∙◌, subst}
 use Rattle.std.specs.List.{All, cons_option, filter, filter_map, find}
 use Rattle.std.specs.Str.{bytes_eq}
 use Rattle.wm_base.specs.Trees.{Cond}
 use Rattle.wm_base.specs.declared.value.Value.{Value}
-use Rattle.wm_decided.specs.Deciding.{decided_on, decisions_in}
-use Rattle.wm_decided.specs.Keys.{meets_key}
+use Rattle.wm_decided.specs.Deciding.{decided_on}
 use Rattle.wm_decided.specs.Staged.{IsStaged}
 use Rattle.wm_decided.specs.declared.keep.Keep.{Keep}
 use Rattle.wm_graph.specs.Parts.{parts_of}
@@ -17,32 +15,29 @@ use Rattle.wm_net.specs.Listed.{IsListing, Stretch}
 use Rattle.wm_net.proofs.Owing.{listing_alike}
 use Rattle.wm_net.proofs.Tabled.{conflicts_in_is}
 use Rattle.wm_print.specs.Texts.{Answer, Done}
-use Rattle.wm_spec.specs.Lists.{Cell, Entry}
+use Rattle.wm_spec.specs.Lists.{Entry}
 use Rattle.wm_spec.specs.declared.record.space.Space.{Space}
 use Rattle.wm_spec.specs.declared.record.stored.Stored.{Stored}
 use Rattle.wm_spec.specs.declared.record.table.Table.{Table}
 use Rattle.wm_state.specs.Standing.{Newest, SpaceFields}
 use Rattle.wm_state.specs.State.{Decision, Session, State, Workspace, content, workspace_of}
-use Rattle.wm_state.proofs.Spaces.{NamedSpace}
-use Rattle.wm_state.proofs.Tests.{both}
 use Rattle.wm_telling.specs.Sides.{sides}
 use Rattle.wm_telling.specs.Telling.{clash_held}
 use Rattle.wm_telling.proofs.Beside.{parent_holds}
 use Rattle.wm_telling.proofs.Clashing.{clash_is}
 use Rattle.wm_model.specs.Lawful.{Each, IsSound}
-use Rattle.wm_model.specs.Merged.{NamesFamily}
 use Rattle.wm_model.specs.Planning.{StandsAt, Does, Set, Stay}
-use Rattle.wm_model.specs.Step.{altered, decide, decide_on, empty_period, has_open, no_resolve, no_workspace, not_built, parent_in, unless, unless_empty_period, unresolved_fault}
+use Rattle.wm_model.specs.Step.{altered, decide, decide_on, empty_period, has_open, no_resolve, no_workspace, unless, unless_empty_period, unresolved_fault}
 use Rattle.wm_model.specs.Step.Sessions as settings
 use Rattle.wm_model.specs.Undone.{NamesSpace}
 use Rattle.wm_model.proofs.Doing.{does_nothing, does_seat}
-use Rattle.wm_model.proofs.Families.{Related, related}
+use Rattle.wm_model.proofs.Families.{Related}
 use Rattle.wm_model.proofs.Lawful.Entries.{each_append}
 use Rattle.wm_model.proofs.Lawful.Nets.{sound_stamped}
 use Rattle.wm_model.proofs.RollingLine.{home}
-use Rattle.wm_resolve.proofs.OpeningLine.{nameless, resolve_closed, resolving}
+use Rattle.wm_resolve.proofs.OpeningLine.{nameless, resolve_closed}
 use Rattle.wm_resolve.specs.Deciding.{Decides, decided_where, resolve_to}
-use Rattle.wm_resolve.specs.Telling.{TellSides, TellsList}
+use Rattle.wm_resolve.specs.Telling.{TellSides}
 
 -- ---- what it is refused for
 

@@ -1,137 +1,15 @@
--- A listing goes by table and key, and no two of it share a cell; each stretch of it is over what the function gives.
-use Rattle.std.proofs.Common.{◌≡◌, ◌⊎◌, inl, inr, ℕ, ◌+◌, ◌-◌, ◌<◌, ◌≤◌, ◌==◌, is_some, ◌&&◌, ◌||◌, nat_le, nat_lt, Bool, true, false, not, if◌then◌else◌, List, [], ◌∷◌, ◌++◌, map, Option, None, Some, refl, sym, ap, ◌∙◌, arith, eqb-true, subst}
-use Rattle.std.proofs.lemmas.Bool.Decides.{nat_tests}
+-- Each stretch of a listing is over what the function gives, and there is one where it gives something.
+use Rattle.std.proofs.Common.{◌≡◌, ◌⊎◌, inl, inr, ℕ, ◌+◌, ◌-◌, ◌<◌, ◌≤◌, ◌==◌, is_some, ◌&&◌, ◌||◌, Bool, true, false, if◌then◌else◌, List, [], ◌∷◌, ◌++◌, map, Option, None, Some, refl, sym, ap, ◌∙◌, arith, eqb-true, subst}
 use Rattle.std.proofs.lemmas.List.Elements.{All-append, All-from_recursion, All-map, All-nil}
-use Rattle.std.specs.List.{All, AllByRecursion, list_any}
-use Rattle.std.specs.Ordering.{is_gt}
-use Rattle.std.specs.declared.cmp.Ordering.{Ordering}
-use Rattle.wm_base.specs.declared.kind.Kind.{Kind}
-use Rattle.wm_base.specs.declared.row.Row.{Row}
-use Rattle.wm_base.specs.declared.value.Value.{Value}
-use Rattle.wm_graph.specs.Rules.{collide, differ}
-use Rattle.wm_net.specs.Groups.{Group, GroupsAscend, Precedes, cell, group_of, group_order, groups, has_group, same_group}
-use Rattle.wm_net.specs.Listed.{Ordered, Stretch, joined, listed, listing, onto, stretches, stretches_of}
-use Rattle.wm_net.proofs.Grouping.{cuts_none, group_order-itself, groups-ascend, less_other, same_group-is}
-use Rattle.wm_net.proofs.Stretching.{Ordered-stretches, le_or_lt}
+use Rattle.std.specs.List.{All, AllByRecursion}
+use Rattle.wm_net.specs.Groups.{Group, cell, groups, has_group, same_group}
+use Rattle.wm_net.specs.Listed.{Stretch, joined, listed, listing, onto, stretches, stretches_of}
+use Rattle.wm_net.proofs.Grouping.{cuts_none, same_group-is}
+use Rattle.wm_net.proofs.Stretching.{le_or_lt}
 use Rattle.wm_spec.proofs.Stretches.{Steady, Up, Up-cuts}
 use Rattle.wm_spec.specs.Lists.{Cell, Entry}
 use Rattle.wm_spec.specs.Stretches.{cuts}
-use Rattle.wm_state.specs.Drafts.{are_in_order, entry_order}
-use Rattle.wm_state.specs.Entries.{piece_of, pieces_of}
-use Rattle.wm_state.proofs.Tests.{and_true, both}
-
--- ---- in order
-
--- a group does not come behind that of the first of some entries
-abbrev IsBefore : Group → List Entry → Type 0
-IsBefore g [] = Unit {0}
-IsBefore g (e ∷ es) = not (is_gt (group_order g (group_of e))) ≡ true
-
-in_order-cons : (e : Entry) (es : List Entry) → IsBefore (group_of e) es → are_in_order es ≡ true → are_in_order (e ∷ es) ≡ true
-in_order-cons e [] before rest = refl
-in_order-cons e (f ∷ fs) before rest = and_true (not (is_gt (entry_order e f))) (are_in_order (f ∷ fs)) before rest
-
-neither : (a b : Bool) → a ≡ false → b ≡ false → (a || b) ≡ false
-neither true b e f = e
-neither false b e f = f
-
-last_fails : (a b d : Bool) → d ≡ false → (a && (b && d)) ≡ false
-last_fails true true d e = e
-last_fails true false d e = refl
-last_fails false b d e = refl
-
-second_fails : (a b d : Bool) → b ≡ false → ((a && b) && d) ≡ false
-second_fails true true d e = absurd (cc)
-second_fails true false d e = refl
-second_fails false b d e = refl
-
--- no entry is of the group
-abbrev IsNoneOf : Group → List Entry → Type 0
-IsNoneOf g es = AllByRecursion (λ (e : Entry). same_group g (group_of e) ≡ false) es
-
--- entries that have the cells of their stretches, whatever else they have of them
-module _ {A : Type 0} (row : A → Option Row) (stamp : A → ℕ) (kind : A → Kind) (moment : ℕ) (user : List ℕ) (F : Group → List (Stretch A)) (ordered : (g : Group) → Ordered 0 (F g)) where
-  abbrev made : Group → Stretch A → Entry
-  made g s = record { table = g.table; key = g.key; from = s.from; till = s.till; row = row s.value; stamp = stamp s.value; kind = kind s.value; moment = moment; user = user }
-
-  abbrev all_made : List Group → List Entry
-  all_made gs = listed made F gs
-
-  before_own : (g : Group) (ss : List (Stretch A)) (rest : List Entry) → IsBefore g rest → IsBefore g (map (made g) ss ++ rest)
-  before_own g [] rest before = before
-  before_own g (s ∷ ss) rest before = ap (λ (o : Ordering). not (is_gt o)) (group_order-itself g)
-
-  before_block : (g h : Group) (ss : List (Stretch A)) (rest : List Entry) → not (is_gt (group_order g h)) ≡ true → IsBefore g rest → IsBefore g (map (made h) ss ++ rest)
-  before_block g h [] rest less before = before
-  before_block g h (s ∷ ss) rest less before = less
-
-  before_all : (g : Group) (gs : List Group) → Precedes g gs → IsBefore g (all_made gs)
-  before_all g [] before = tt
-  before_all g (h ∷ hs) before = before_block g h (F h) (all_made hs) (ap (λ (o : Ordering). not (is_gt o)) before.0) (before_all g hs before.1)
-
-  sorted_block : (g : Group) (ss : List (Stretch A)) (rest : List Entry) → IsBefore g rest → are_in_order rest ≡ true → are_in_order (map (made g) ss ++ rest) ≡ true
-  sorted_block g [] rest before sorted = sorted
-  sorted_block g (s ∷ ss) rest before sorted = in_order-cons (made g s) (map (made g) ss ++ rest) (before_own g ss rest before) (sorted_block g ss rest before sorted)
-
-  pub sorted_all : (gs : List Group) → GroupsAscend gs → are_in_order (all_made gs) ≡ true
-  sorted_all [] up = refl
-  sorted_all (g ∷ gs) up = sorted_block g (F g) (all_made gs) (before_all g gs up.0) (sorted_all gs up.1)
-
-  -- ---- apart
-
-  none_block : (g h : Group) (ss : List (Stretch A)) (rest : List Entry) → same_group g h ≡ false → IsNoneOf g rest → IsNoneOf g (map (made h) ss ++ rest)
-  none_block g h [] rest other none = none
-  none_block g h (s ∷ ss) rest other none = (other, none_block g h ss rest other none)
-
-  none_all : (g : Group) (gs : List Group) → Precedes g gs → IsNoneOf g (all_made gs)
-  none_all g [] before = tt
-  none_all g (h ∷ hs) before = none_block g h (F h) (all_made hs) (less_other g h before.0) (none_all g hs before.1)
-
-  -- an entry shares no cell with those of other groups
-  apart_rest : (g : Group) (s : Stretch A) (rest : List Entry) → IsNoneOf g rest → list_any (collide (piece_of 0 (made g s))) (pieces_of 0 rest) ≡ false
-  apart_rest g s [] none = refl
-  apart_rest g s (e ∷ rest) none =
-      neither (collide (piece_of 0 (made g s)) (piece_of 0 e)) (list_any (collide (piece_of 0 (made g s))) (pieces_of 0 rest))
-      (second_fails (let version : ℕ = 0 in version == 0) (same_group g (group_of e)) (nat_lt s.from e.till && nat_lt e.from s.till) none.0)
-      (apart_rest g s rest none.1)
-
-  -- nor with those of its own that come behind it
-  apart_own : (g : Group) (s : Stretch A) (low : ℕ) (ss : List (Stretch A)) (rest : List Entry) → s.till ≤ low → Ordered low ss → IsNoneOf g rest
-      → list_any (collide (piece_of 0 (made g s))) (pieces_of 0 (map (made g) ss ++ rest)) ≡ false
-  apart_own g s low [] rest le o none = apart_rest g s rest none
-  apart_own g s low (q ∷ ss) rest le o none =
-      neither (collide (piece_of 0 (made g s)) (piece_of 0 (made g q))) (list_any (collide (piece_of 0 (made g s))) (pieces_of 0 (map (made g) ss ++ rest)))
-      (last_fails ((let version : ℕ = 0 in version == 0) && same_group g g) (nat_lt s.from q.till) (nat_lt q.from s.till) (late s.till low q.from le o.0))
-      (apart_own g s q.till ss rest (omega (arith, le, o.0, o.1)) o.2 none)
-    where
-      late : (till low from : ℕ) → till ≤ low → low ≤ from → nat_lt from till ≡ false
-      late till low from a b = grind (arith, nat_tests, a, b)
-
-  apart_block : (g : Group) (low : ℕ) (ss : List (Stretch A)) (rest : List Entry) → Ordered low ss → IsNoneOf g rest → differ collide (pieces_of 0 rest) ≡ true
-      → differ collide (pieces_of 0 (map (made g) ss ++ rest)) ≡ true
-  apart_block g low [] rest o none apart = apart
-  apart_block g low (s ∷ ss) rest o none apart =
-      and_true (not (list_any (collide (piece_of 0 (made g s))) (pieces_of 0 (map (made g) ss ++ rest)))) (differ collide (pieces_of 0 (map (made g) ss ++ rest)))
-      (ap not (apart_own g s s.till ss rest (omega arith) o.2 none)) (apart_block g s.till ss rest o.2 none apart)
-
-  pub apart_all : (gs : List Group) → GroupsAscend gs → differ collide (pieces_of 0 (all_made gs)) ≡ true
-  apart_all [] up = refl
-  apart_all (g ∷ gs) up = apart_block g 0 (F g) (all_made gs) (ordered g) (none_all g gs up.0) (apart_all gs up.1)
-
--- ---- of a listing
-
-module _ {A : Type 0} (same : A → A → Bool) (es : List Entry) (f : Cell → Option A) (row : A → Option Row) (stamp : A → ℕ) (kind : A → Kind) (moment : ℕ) (user : List ℕ) where
-  abbrev entry : Group → Stretch A → Entry
-  entry g s = record { table = g.table; key = g.key; from = s.from; till = s.till; row = row s.value; stamp = stamp s.value; kind = kind s.value; moment = moment; user = user }
-
-  ordered_of : (g : Group) → Ordered 0 (stretches_of same es f g)
-  ordered_of g = Ordered-stretches same (λ t. f (cell g t)) 0 (cuts es g.table g.key) (Up-cuts es g.table g.key)
-
-  pub listing_sorted : are_in_order (listing same entry es f) ≡ true
-  listing_sorted = sorted_all row stamp kind moment user (stretches_of same es f) ordered_of (groups es) (groups-ascend es)
-
-  pub listing_apart : differ collide (pieces_of 0 (listing same entry es f)) ≡ true
-  listing_apart = apart_all row stamp kind moment user (stretches_of same es f) ordered_of (groups es) (groups-ascend es)
+use Rattle.wm_state.proofs.Tests.{both}
 
 -- ---- what each is of
 
@@ -237,19 +115,3 @@ nothing_given same entry es f steady none g t = by_group (has_group g (groups es
     by_group : (b : Bool) → has_group g (groups es) ≡ b → f (cell g t) ≡ None
     by_group true has = none_given same (λ u. f (cell g u)) 0 (cuts es g.table g.key) (steady g) (listed_none entry (stretches_of same es f) (groups es) none g has) t (omega arith)
     by_group false out = subst (Steady (λ u. f (cell g u)) 0) (cuts_none es g out) (steady g) t (omega arith)
-
--- ---- what becomes of each
-
-pub listing_map : {A B X : Type 0} (same : A → A → Bool) (entry : Group → Stretch A → B) (to : B → X) (es : List Entry) (f : Cell → Option A)
-    → map to (listing same entry es f) ≡ listing same (λ g s. to (entry g s)) es f
-listing_map {A = A} {B = B} {X = X} same entry to es f = over (groups es)
-  where
-    of_group : (g : Group) (ss : List (Stretch A)) (rest : List B) → map to (map (entry g) ss ++ rest) ≡ map (λ s. to (entry g s)) ss ++ map to rest
-    of_group g [] rest = refl
-    of_group g (s ∷ ss) rest = ap (λ (xs : List X). to (entry g s) ∷ xs) (of_group g ss rest)
-
-    over : (gs : List Group) → map to (listed entry (stretches_of same es f) gs) ≡ listed (λ g s. to (entry g s)) (stretches_of same es f) gs
-    over [] = refl
-    over (g ∷ gs) =
-        of_group g (stretches_of same es f g) (listed entry (stretches_of same es f) gs)
-        ∙ ap (λ (xs : List X). map (λ s. to (entry g s)) (stretches_of same es f g) ++ xs) (over gs)

@@ -10,7 +10,7 @@ use Rattle.wm_spec.specs.declared.record.space.Space.{Space}
 use Rattle.wm_spec.specs.declared.record.stored.Stored.{Stored}
 use Rattle.wm_state.specs.Standing.{SpaceFields}
 use Rattle.wm_state.specs.State.{Session, State, Workspace}
-use Rattle.wm_state.proofs.Spaces.{NamedSpace, named_no_space}
+use Rattle.wm_state.proofs.Spaces.{named_no_space}
 use Rattle.wm_model.specs.Planning.{StandsAt, Does, Set, Stay}
 use Rattle.wm_model.specs.Step.{begin_resolve, has_open, no_parent, no_resolve, no_workspace, refused_if, resolving_fault, rollback_resolve, set_of, unless, unresolved_fault, with_named}
 use Rattle.wm_model.specs.Step.Sessions as settings

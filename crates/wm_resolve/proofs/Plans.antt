@@ -4,11 +4,9 @@ use Rattle.wm_base.specs.declared.memory.Memory.{Memory}
 use Rattle.wm_print.specs.Texts.{Answer, Fine}
 use Rattle.wm_spec.specs.declared.record.stored.Stored.{Stored}
 use Rattle.wm_state.specs.State.{Session, State}
-use Rattle.wm_graph.specs.Parts.{parts_of}
 use Rattle.wm_model.specs.Planning.{Does, IsOpen, Seating, StandsAt}
 use Rattle.wm_model.specs.Undone.{NamesSpace}
 use Rattle.wm_spec.specs.declared.record.space.Space.{Space}
-use Rattle.wm_state.specs.declared.edit.Edit.{Edit}
 use Rattle.wm_plan.proofs.Planning.{does_one, told}
 use Rattle.wm_plan.specs.Planning.{DoesIt}
 use Rattle.wm_plan.specs.Views.{answer_view, seating_view}

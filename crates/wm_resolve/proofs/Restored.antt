@@ -1,6 +1,5 @@
 -- Decisions can be committed just where the tests pass.
-use Rattle.std.proofs.Common.{◌≡◌, ℕ, ◌<◌, ◌≤◌, ◌==◌, ◌&&◌, ◌↔◌, nat_le, nat_lt, Bool, true, false, IsTrue, List, [], ◌∷◌, Option, Some, None, refl, sym, ap, ◌∙◌, arith, subst, eqb-true, eq-eqb}
-use Rattle.std.proofs.lemmas.Bool.Decides.{nat_tests}
+use Rattle.std.proofs.Common.{◌≡◌, ℕ, ◌==◌, ◌&&◌, ◌↔◌, nat_le, nat_lt, Bool, true, false, IsTrue, List, [], ◌∷◌, Option, Some, None, refl, sym, ap, ◌∙◌, subst, eqb-true, eq-eqb}
 use Rattle.std.proofs.lemmas.List.Elements.{All-cons, All-head, All-nil, All-tail}
 use Rattle.std.specs.List.{All, list_all}
 use Rattle.std.specs.Option.{option_map_or}
@@ -9,17 +8,16 @@ use Rattle.wm_base.specs.Key.{key_order}
 use Rattle.wm_base.specs.declared.instant.TheConstants.{END}
 use Rattle.wm_base.specs.declared.row.Row.{Row}
 use Rattle.wm_base.specs.declared.value.Value.{Value}
-use Rattle.wm_decided.specs.Staged.{IsRestorable, IsStaged, cells_of, copy_of}
+use Rattle.wm_decided.specs.Staged.{IsRestorable, IsStaged, copy_of}
 use Rattle.wm_graph.specs.Parts.{Parts, row_of, table_of}
-use Rattle.wm_graph.specs.Rules.{are_cells, is_key, is_key_of, is_row_of, key_of}
+use Rattle.wm_graph.specs.Rules.{is_key, is_key_of, is_row_of, key_of}
 use Rattle.wm_net.specs.Listed.{Stretch}
 use Rattle.wm_spec.specs.Lists.{Told}
 use Rattle.wm_spec.specs.declared.record.counters.Counters.{Counters}
 use Rattle.wm_spec.specs.declared.record.row.RowRecord.{RowRecord}
 use Rattle.wm_spec.specs.declared.record.table.Table.{Table}
-use Rattle.wm_state.specs.Drafts.{can_keep, can_keep_entry}
-use Rattle.wm_state.specs.Entries.{fits_table, is_keyed, is_well}
-use Rattle.wm_state.specs.Standing.{is_ready}
+use Rattle.wm_state.specs.Drafts.{can_keep}
+use Rattle.wm_state.specs.Entries.{fits_table, is_keyed}
 use Rattle.wm_state.specs.State.{Decision}
 use Rattle.wm_state.proofs.Laying.{key_itself, key_same}
 use Rattle.wm_state.proofs.Mapped.{find-passes}

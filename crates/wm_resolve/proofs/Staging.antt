@@ -1,41 +1,34 @@
 -- In a lawful state what ResolveConflicts decides can be committed.
-use Rattle.std.proofs.Common.{◌≡◌, ℕ, zero, suc, ◌+◌, ◌<◌, ◌≤◌, ◌==◌, ◌&&◌, ◌||◌, nat_le, nat_lt, Bool, true, false, if◌then◌else◌, List, [], ◌∷◌, ◌++◌, map, slice_get, Option, None, Some, is_some, option_map, refl, sym, ap, ◌∙◌, subst, arith, eqb-true, eq-eqb}
-use Rattle.std.proofs.lemmas.Bool.Decides.{nat_tests}
-use Rattle.std.proofs.lemmas.List.Elements.{All-cons, All-from_recursion, All-head, All-nil, All-tail}
+use Rattle.std.proofs.Common.{◌≡◌, ℕ, suc, ◌==◌, ◌&&◌, ◌||◌, nat_lt, Bool, true, false, if◌then◌else◌, List, [], ◌∷◌, ◌++◌, map, Option, None, Some, option_map, refl, sym, ap, ◌∙◌, subst, arith}
+use Rattle.std.proofs.lemmas.List.Elements.{All-cons, All-head, All-nil, All-tail}
 use Rattle.std.specs.Bool.{then_some}
-use Rattle.std.specs.List.{All, AllByRecursion, cons_option, filter, filter_map, list_all}
+use Rattle.std.specs.List.{All, AllByRecursion, list_all}
 use Rattle.std.specs.Option.{option_map_or, option_or}
-use Rattle.wm_base.specs.declared.instant.TheConstants.{END}
 use Rattle.wm_base.specs.declared.row.Row.{Row}
 use Rattle.wm_base.specs.declared.value.Value.{Value}
 use Rattle.wm_base.specs.declared.value.Value.TheVariants.{Null, Num, Text, Time, Span}
-use Rattle.wm_decided.specs.Deciding.{copied_on, decided_on, decision_of, told_on}
-use Rattle.wm_decided.specs.Staged.{IsRestorable, IsStaged, copy_of}
-use Rattle.wm_decided.specs.declared.keep.Keep.{Keep}
-use Rattle.wm_decided.specs.declared.keep.Keep.TheVariants.{Parent, Child, Base}
+use Rattle.wm_decided.specs.Deciding.{told_on}
+use Rattle.wm_decided.specs.Staged.{IsRestorable}
 use Rattle.wm_graph.specs.Parts.{Parts, table_of}
-use Rattle.wm_graph.specs.Rules.{are_cells, collide, differ, is_key_of, is_piece, keep_rules}
+use Rattle.wm_graph.specs.Rules.{keep_rules}
 use Rattle.wm_making.specs.Rows.{is_filled}
-use Rattle.wm_net.specs.Conflicts.{Sides, Stamps, all_sides, conflict_at, conflicts, conflicts_in, grouped, in_conflict, same_stamps}
-use Rattle.wm_net.specs.Groups.{Group, cell, has_group, of_cell, same_group}
+use Rattle.wm_net.specs.Conflicts.{Stamps}
+use Rattle.wm_net.specs.Groups.{Group, cell, of_cell, same_group}
 use Rattle.wm_net.specs.Listed.{Block, IsApart, IsJoined, Ordered, Stretch, blocks_listed, value_at, within}
 use Rattle.wm_net.specs.Nets.{one_stamp, replayed}
-use Rattle.wm_net.proofs.Conflicting.{Steady-conflict}
 use Rattle.wm_net.proofs.Grouping.{same_group-itself}
 use Rattle.wm_net.proofs.Stretching.{Ordered-stretches, value_stretches}
 use Rattle.wm_net.proofs.Unique.{IsJoined-stretches}
 use Rattle.wm_period.specs.Pieces.{Held}
-use Rattle.wm_spec.specs.Lists.{Cell, Entry, Told, covers, is_of, told, told_of, touched}
+use Rattle.wm_spec.specs.Lists.{Cell, Entry, Told, told}
 use Rattle.wm_spec.specs.declared.record.counters.Counters.{Counters}
 use Rattle.wm_spec.specs.declared.record.piece.PieceRecord.{PieceRecord}
-use Rattle.wm_spec.specs.declared.record.table.Table.{Table}
-use Rattle.wm_state.specs.Drafts.{AreOld, IsCopied, can_keep, can_keep_entry}
+use Rattle.wm_state.specs.Drafts.{IsCopied, can_keep, can_keep_entry}
 use Rattle.wm_state.specs.Entries.{is_well}
 use Rattle.wm_state.specs.Standing.{covers_at, held_by, held_of, in_cells, is_ready, newest_first, seen, seen_at, stored_at}
-use Rattle.wm_state.specs.State.{Decision}
 use Rattle.wm_state.proofs.Apart.{ruled}
 use Rattle.wm_state.proofs.Tests.{and_true, both}
-use Rattle.wm_telling.specs.Telling.{IsHeldListing, replayed_by, same_held, same_kind, told_by}
+use Rattle.wm_telling.specs.Telling.{IsHeldListing, replayed_by, same_held, told_by}
 use Rattle.wm_telling.proofs.Beside.{HasRowOf, some_same, told_again}
 use Rattle.wm_telling.proofs.Replaying.{listed_copied, listed_old}
 use Rattle.wm_telling.proofs.Storing.{IsStored, Stores}

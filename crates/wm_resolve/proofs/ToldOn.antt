@@ -1,5 +1,5 @@
 -- What is copied of the pieces that a version shows is what its list says.
-use Rattle.std.proofs.Common.{◌≡◌, ℕ, ◌<◌, ◌≤◌, ◌==◌, nat_le, nat_lt, Bool, true, false, if◌then◌else◌, List, Option, None, Some, option_map, refl, sym, ap, ◌∙◌, arith, eqb-true, eq-eqb, ◌⊎◌, inl, inr, subst}
+use Rattle.std.proofs.Common.{◌≡◌, ℕ, ◌<◌, ◌≤◌, Bool, true, false, if◌then◌else◌, List, Option, None, Some, option_map, refl, sym, ap, ◌∙◌, arith, eqb-true, eq-eqb, ◌⊎◌, inl, inr, subst}
 use Rattle.std.proofs.lemmas.Bool.Decides.{nat_tests}
 use Rattle.std.specs.Bool.{then_some}
 use Rattle.wm_base.specs.declared.instant.TheConstants.{END}
@@ -7,7 +7,7 @@ use Rattle.wm_graph.specs.Parts.{Parts}
 use Rattle.wm_decided.specs.Deciding.{told_on}
 use Rattle.wm_net.specs.Conflicts.{Stamps}
 use Rattle.wm_net.specs.Groups.{Group, cell}
-use Rattle.wm_net.specs.Listed.{Stretch, value_at, within}
+use Rattle.wm_net.specs.Listed.{Stretch, within}
 use Rattle.wm_net.specs.Nets.{one_stamp}
 use Rattle.wm_net.proofs.Netting.{stamped_told}
 use Rattle.wm_net.proofs.Stretching.{Cut-cuts, Right, Steady-told, Steady-two, le_or_lt}

@@ -1,5 +1,5 @@
 -- What is copied of what pieces say.
-use Rattle.std.specs.Prelude.{ℕ, ◌≡◌, ◌==◌, ◌&&◌, max, min, nat_lt, Bool, if◌then◌else◌, List, [], ◌∷◌, Option, Some, None}
+use Rattle.std.specs.Prelude.{ℕ, ◌≡◌, ◌==◌, ◌&&◌, max, min, nat_lt, Bool, if◌then◌else◌, List, [], ◌∷◌, Some, None}
 use Rattle.std.specs.Option.{option_map}
 use Rattle.wm_graph.specs.Parts.{Parts}
 use Rattle.wm_net.specs.Listed.{IsJoined, Ordered, Stretch, value_at, within}

@@ -108,20 +108,11 @@ fn keep_in(word: &[u8]) -> Keep
 fn keep_given(args: &[Arg]) -> Keep
     ensures { result ≡ keep_given args.now }
 {
-    keep_in(bytes_given(
-        Procedure::ResolveConflicts,
-        args,
-        Parameter::Keep,
-        b"",
-    ))
+    keep_in(bytes_given(Procedure::ResolveConflicts, args, Parameter::Keep, b""))
 }
 
 /// What is wrong with the arguments, where this is of a wrong type first in the condition.
-fn fault_around(
-    alloc: Global,
-    args: &[Arg],
-    inside: Option<&[u8]>,
-) -> Result<Option<Name>, Memory>
+fn fault_around(alloc: Global, args: &[Arg], inside: Option<&[u8]>) -> Result<Option<Name>, Memory>
     ensures { IfOk result (λ fault. fault ≡ fault_around procedures.ResolveConflicts args.now (option_copied inside.entry)) }
 {
     let before = misfit_before(Procedure::ResolveConflicts, Parameter::WhereClause, args);

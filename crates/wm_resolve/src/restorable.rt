@@ -33,7 +33,13 @@ fn fits_key(table: &Table, key: &Key, values: &[Value]) -> bool
 }
 
 /// Whether what a decision copies to a key can be written again, where this stamp is the next.
-fn is_restored(image: &Image, next: u64, table: &Table, decision: &Decision, copied: &Copied) -> bool
+fn is_restored(
+    image: &Image,
+    next: u64,
+    table: &Table,
+    decision: &Decision,
+    copied: &Copied,
+) -> bool
     ensures { result ≡ is_restored (parts_of image.now) next table.now decision.now.table decision.now.key copied.now }
 {
     if !table.versioned || copied.stamp >= next {
@@ -69,8 +75,7 @@ fn is_staged(image: &Image, next: u64, decision: &Decision) -> bool
         return false;
     };
     let key = decision.key();
-    (is_key_of(table, key) && are_kept(key.values()))
-        && are_restored(image, next, table, decision)
+    (is_key_of(table, key) && are_kept(key.values())) && are_restored(image, next, table, decision)
 }
 
 /// Whether all pass the test, where this stamp is the next.

@@ -1,18 +1,18 @@
-//! What `chosen` chooses by a test that counts its calls.
+//! What a test chooses of the rows of BUD, and what a query answers by it.
 ghost use Rattle.std.specs.Prelude.{◌≡◌, true};
 ghost use Rattle.std.specs.List.{list_all};
-ghost use Rattle.wm_base.specs.declared.row.Row.{Row as RowOf};
-ghost use Rattle.wm_base.specs.declared.truth.Truth.{Truth as TruthOf};
-ghost use Rattle.wm_base.specs.Views.{cond_view};
-ghost use Rattle.wm_spec.specs.Conditions.{typed as is_typed, fits as row_fits, truth_of};
+ghost use Rattle.wm_base.specs.Views.{cond_view, filter_view, projection_view};
+ghost use Rattle.wm_spec.specs.Conditions.{fits as row_fits};
+ghost use Rattle.wm_select.specs.Query.{columns_of as all_columns, rows_fit as do_fit, where_of as where_is, projection_lasts as items_last};
 
+use crate::tables::{are_first, rows};
 use std::alloc::Global;
-use std::cell::Cell;
-use wm_base::tree::cond::Cond;
-use wm_base::{Columns, Memory, Row, Truth};
+use wm_base::tree::query::Query;
+use wm_base::{Columns, Listings, Memory, Row, Truth};
 use wm_dml::chosen;
-use wm_expr::{fits, truth, typed};
+use wm_expr::fits;
 use wm_rowtest::{Judge, RowTest};
+use wm_select::select;
 
 /// Whether each row fits the columns.
 fn all_fit(columns: &Columns, rows: &[Row]) -> bool
@@ -21,51 +21,41 @@ fn all_fit(columns: &Columns, rows: &[Row]) -> bool
     rows.iter().all(|row| fits(columns, row))
 }
 
-/// The rows that are chosen by the test, which is let go.
-fn chosen_with<F: Fn(&Row) -> Truth + Judge + Drop>(
+/// The rows of BUD that the test chooses; all of them where one does not fit its columns.
+fn chosen_rows<F: Fn(&Row) -> Truth + Judge>(
     alloc: Global,
-    rows: Vec<Row>,
-    test: RowTest<F>,
-) -> Result<Vec<Row>, Memory>
-    requires { list_all (row_fits test.columns) rows.items ≡ true }
-{
-    chosen(alloc, rows, &test)
-}
-
-/// The rows that are chosen by a test that is made of the closure.
-fn chosen_by<F: Fn(&Row) -> Truth + Judge + Drop>(
-    alloc: Global,
-    rows: Vec<Row>,
-    cond: &Cond,
-    columns: &Columns,
-    test: F,
-) -> Result<Vec<Row>, Memory>
-    requires typed { is_typed (cond_view cond.now) columns.now ≡ true }
-    requires callable { (row : RowOf) → row_fits columns.now row ≡ true → ∥ F.may test row ∥₁ }
-    requires answers { (row : RowOf) (truth : TruthOf) → row_fits columns.now row ≡ true → F.gives test row truth → truth ≡ truth_of (cond_view cond.now) columns.now row }
-    requires fit { list_all (row_fits columns.now) rows.items ≡ true }
-{
-    match RowTest::new(alloc, cond, columns, test) {
-        Ok(test) => chosen_with(alloc, rows, test),
-        Err(fault) => Err(fault),
+    test: &RowTest<F>,
+) -> Result<Vec<Row>, Memory> {
+    let rows = rows(alloc)?;
+    if all_fit(test.columns(), rows.as_slice()) {
+        chosen(alloc, rows, test)
+    } else {
+        Ok(rows)
     }
 }
 
-/// The rows on which the condition is true, with the calls of its test counted in the cell; none are chosen where the
-/// condition or a row does not fit the columns.
-pub fn chosen_where(
+/// Whether the test chooses the first row alone.
+pub fn chooses_first<F: Fn(&Row) -> Truth + Judge>(alloc: Global, test: &RowTest<F>) -> bool {
+    match chosen_rows(alloc, test) {
+        Ok(rows) => are_first(rows.as_slice()),
+        Err(_) => false,
+    }
+}
+
+/// Whether the query answers the first row alone by the test.
+pub fn answers_first<F: Fn(&Row) -> Truth + Judge>(
     alloc: Global,
-    rows: Vec<Row>,
-    cond: &Cond,
-    columns: &Columns,
-    calls: &Cell<u64>,
-) -> Result<Vec<Row>, Memory> {
-    if typed(cond, columns) && all_fit(columns, rows.as_slice()) {
-        chosen_by(alloc, rows, cond, columns, |row: &Row| {
-            calls.set(calls.get().saturating_add(1));
-            truth(cond, columns, row)
-        })
-    } else {
-        Ok(Vec::new(alloc))
+    query: &Query,
+    tables: &Listings,
+    test: &RowTest<F>,
+) -> bool
+    requires condition { cond_view test.now.cond ≡ where_is (filter_view query.now.filter) }
+    requires columns { test.now.columns ≡ all_columns tables.now }
+    requires fitting { do_fit tables.now ≡ true }
+    requires lasting { items_last (projection_view query.now.projection) ≡ true }
+{
+    match select(alloc, query, tables, test) {
+        Ok(rows) => are_first(rows.as_slice()),
+        Err(_) => false,
     }
 }

@@ -1,4 +1,4 @@
-//! What `select` answers by a test that counts its calls.
+//! A test of a query's condition that counts its calls, and what is found by it.
 ghost use Rattle.std.specs.Prelude.{◌≡◌, true};
 ghost use Rattle.wm_base.specs.declared.row.Row.{Row as RowOf};
 ghost use Rattle.wm_base.specs.declared.truth.Truth.{Truth as TruthOf};
@@ -6,40 +6,46 @@ ghost use Rattle.wm_base.specs.Views.{cond_view, filter_view, projection_view};
 ghost use Rattle.wm_spec.specs.Conditions.{typed as is_typed, fits, truth_of};
 ghost use Rattle.wm_select.specs.Query.{columns_of as all_columns, rows_fit as do_fit, where_of as where_is, projection_lasts as items_last};
 
+use crate::choosing::{answers_first, chooses_first};
 use std::alloc::Global;
 use std::cell::Cell;
 use std::mem::ManuallyDrop;
 use wm_base::tree::cond::Cond;
 use wm_base::tree::query::Query;
-use wm_base::{Columns, Listings, Row, RowList, Truth};
+use wm_base::{Columns, Listings, Row, Truth};
 use wm_expr::{truth, typed};
 use wm_rowtest::{Judge, RowTest};
-use wm_select::{SelectFault, columns_of, projection_lasts, rows_fit, select, where_of};
+use wm_select::{columns_of, projection_lasts, rows_fit, where_of};
 
-/// The answer by the test, which is let go.
-fn selected_with<F: Fn(&Row) -> Truth + Judge + Drop>(
+/// Whether the first row is found by the test, which is let go.
+fn found_with<F: Fn(&Row) -> Truth + Judge + Drop>(
     alloc: Global,
     query: &Query,
     tables: &Listings,
     test: RowTest<F>,
-) -> Result<RowList, SelectFault>
+) -> bool
     requires condition { cond_view test.cond ≡ where_is (filter_view query.now.filter) }
     requires columns { test.columns ≡ all_columns tables.now }
     requires fitting { do_fit tables.now ≡ true }
     requires lasting { items_last (projection_view query.now.projection) ≡ true }
 {
-    select(alloc, query, tables, &test)
+    let is_chosen = chooses_first(alloc, &test);
+    let is_answered = answers_first(alloc, query, tables, &test);
+    let_go(test);
+    is_chosen && is_answered
 }
 
-/// The answer by a test that is made of the closure.
-fn selected_by<F: Fn(&Row) -> Truth + Judge + Drop>(
+fn let_go<F: Fn(&Row) -> Truth + Judge + Drop>(_test: RowTest<F>) {}
+
+/// Whether it is found by a test that is made of the closure.
+fn found_by<F: Fn(&Row) -> Truth + Judge + Drop>(
     alloc: Global,
     query: &Query,
     tables: &Listings,
     cond: &Cond,
     columns: &Columns,
     test: F,
-) -> Result<RowList, SelectFault>
+) -> bool
     requires typed { is_typed (cond_view cond.now) columns.now ≡ true }
     requires callable { (row : RowOf) → fits columns.now row ≡ true → ∥ F.may test row ∥₁ }
     requires answers { (row : RowOf) (truth : TruthOf) → fits columns.now row ≡ true → F.gives test row truth → truth ≡ truth_of (cond_view cond.now) columns.now row }
@@ -49,62 +55,56 @@ fn selected_by<F: Fn(&Row) -> Truth + Judge + Drop>(
     requires lasting { items_last (projection_view query.now.projection) ≡ true }
 {
     match RowTest::new(alloc, cond, columns, test) {
-        Ok(test) => selected_with(alloc, query, tables, test),
-        Err(_) => Err(SelectFault::Memory),
+        Ok(test) => found_with(alloc, query, tables, test),
+        Err(_) => false,
     }
 }
 
-/// The answer where the condition is that of the query and the columns are those of the tables; none where they do not
-/// fit.
-fn selected_where(
+/// Whether it is found where the condition is that of the query and the columns are those of the tables.
+fn found_where(
     alloc: Global,
     query: &Query,
     tables: &Listings,
     cond: &Cond,
     columns: &Columns,
     calls: &Cell<u64>,
-) -> Option<RowList>
+) -> bool
     requires condition { cond_view cond.now ≡ where_is (filter_view query.now.filter) }
     requires columns { columns.now ≡ all_columns tables.now }
 {
     if typed(cond, columns) && rows_fit(tables) && projection_lasts(&query.projection) {
-        let rows = selected_by(alloc, query, tables, cond, columns, |row: &Row| {
+        found_by(alloc, query, tables, cond, columns, |row: &Row| {
             calls.set(calls.get().saturating_add(1));
             truth(cond, columns, row)
-        });
-        rows.ok()
+        })
     } else {
-        None
+        false
     }
 }
 
-fn selected(
+fn found(
     alloc: Global,
     query: &Query,
     tables: &Listings,
     columns: &Columns,
     calls: &Cell<u64>,
-) -> Option<RowList>
+) -> bool
     requires { columns.now ≡ all_columns tables.now }
 {
     match where_of(alloc, &query.filter) {
         Ok(cond) => {
             let cond = ManuallyDrop::new(cond);
-            selected_where(alloc, query, tables, &cond, columns, calls)
+            found_where(alloc, query, tables, &cond, columns, calls)
         }
-        Err(_) => None,
+        Err(_) => false,
     }
 }
 
-/// The answer of the query, with the calls of its test counted in the cell.
-pub fn answer(
-    alloc: Global,
-    query: &Query,
-    tables: &Listings,
-    calls: &Cell<u64>,
-) -> Option<RowList> {
+/// Whether a change chooses the first row alone by the query's condition, and the query answers it, with the calls of
+/// the test counted in the cell.
+pub fn finds_first(alloc: Global, query: &Query, tables: &Listings, calls: &Cell<u64>) -> bool {
     match columns_of(alloc, tables) {
-        Ok(columns) => selected(alloc, query, tables, &columns, calls),
-        Err(_) => None,
+        Ok(columns) => found(alloc, query, tables, &columns, calls),
+        Err(_) => false,
     }
 }

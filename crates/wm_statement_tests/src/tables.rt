@@ -1,7 +1,7 @@
 //! The columns ID and AMT of BUD, both of numbers, and the rows 1|10 and 2|20.
 use std::alloc::Global;
 use wm_base::columns::NUMBER;
-use wm_base::{Column, Columns, Memory, Name, Row, Value, Values};
+use wm_base::{Column, Columns, Listing, Listings, Memory, Name, Row, RowList, Value, Values};
 
 fn column(alloc: Global, name: &[u8]) -> Result<Column, Memory> {
     Ok(Column {
@@ -11,7 +11,7 @@ fn column(alloc: Global, name: &[u8]) -> Result<Column, Memory> {
     })
 }
 
-pub fn columns(alloc: Global) -> Result<Columns, Memory> {
+fn columns(alloc: Global) -> Result<Columns, Memory> {
     let mut list = Vec::new(alloc);
     list.push(column(alloc, b"ID")?)?;
     list.push(column(alloc, b"AMT")?)?;
@@ -30,6 +30,14 @@ pub fn rows(alloc: Global) -> Result<Vec<Row>, Memory> {
     rows.push(row(alloc, 1, 10)?)?;
     rows.push(row(alloc, 2, 20)?)?;
     Ok(rows)
+}
+
+pub fn tables_of_bud(alloc: Global) -> Result<Listings, Memory> {
+    let columns = columns(alloc)?;
+    let rows = RowList::from_vec(rows(alloc)?);
+    let mut tables = Vec::new(alloc);
+    tables.push(Listing { columns, rows })?;
+    Ok(Listings::from_vec(tables))
 }
 
 /// Whether there is one row, and it is 1|10.

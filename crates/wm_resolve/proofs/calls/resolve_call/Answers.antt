@@ -5,13 +5,12 @@ use Rattle.wm_calls.specs.Arguments.{text_given}
 use Rattle.wm_calls.specs.Faults.{argument_fault}
 use Rattle.wm_grammar.specs.declared.procedure.Parameter.TheVariants as parameters
 use Rattle.wm_grammar.specs.declared.procedure.Procedure.TheVariants as procedures
-use Rattle.wm_model.specs.Planning.{Stay, named}
-use Rattle.wm_model.specs.Step.{mistyped, no_table, resolve_conflicts}
+use Rattle.wm_model.specs.Planning.{named}
+use Rattle.wm_model.specs.Step.{mistyped, resolve_conflicts}
 use Rattle.wm_model.specs.Step.Calling.{call_with, fault_around, keep_given}
-use Rattle.wm_plan.proofs.Planning.{does_one, refused, told}
-use Rattle.wm_plan.specs.Views.{answer_view, seating_view}
+use Rattle.wm_plan.proofs.Planning.{does_one, refused}
 use Rattle.wm_reader.specs.Reading.{folded}
-use Rattle.wm_resolve.proofs.Calling.{resolve_lacking, resolve_named, resolve_tableless}
+use Rattle.wm_resolve.proofs.Calling.{resolve_lacking, resolve_named}
 use Rattle.wm_resolve.proofs.calls.resolve_call.Goals as goal
 
 pub returns-in_default-clause-does : goal.returns-in_default-clause-does

@@ -1,18 +1,15 @@
-use Rattle.std.proofs.Common.{[], Some, unwrap_or, option_copied, false, sym, ap, ◌∙◌}
+use Rattle.std.proofs.Common.{[], unwrap_or, false, sym, ap, ◌∙◌}
 use Rattle.std.proofs.lemmas.Result.{IfOk-weaker}
 use Rattle.wm_base.specs.Views.{filter_view}
-use Rattle.wm_base.specs.declared.refusal.FormRefusal.TheVariants.{Wm012}
-use Rattle.wm_base.specs.declared.refusal.Refusal.TheVariants.{Form}
 use Rattle.wm_calls.specs.Arguments.{text_given}
 use Rattle.wm_grammar.specs.declared.procedure.Parameter.TheVariants as parameters
 use Rattle.wm_grammar.specs.declared.procedure.Procedure.TheVariants as procedures
 use Rattle.wm_model.specs.Planning.{Stay}
-use Rattle.wm_model.specs.Step.{mistyped, resolve_conflicts, versioning}
+use Rattle.wm_model.specs.Step.{resolve_conflicts, versioning}
 use Rattle.wm_model.specs.Step.Calling.{fault_around, keep_given}
 use Rattle.wm_plan.proofs.Planning.{does_one, told}
 use Rattle.wm_plan.specs.Views.{answer_view, seating_view}
-use Rattle.wm_print.specs.Texts.{Refused}
-use Rattle.wm_resolve.proofs.Calling.{name_found, resolve_mistyped, resolve_right, resolve_unkeyed, resolve_unready}
+use Rattle.wm_resolve.proofs.Calling.{name_found, resolve_right, resolve_unready}
 use Rattle.wm_resolve.specs.Deciding.{resolve_to}
 use Rattle.wm_resolve.proofs.calls.resolve_over.Goals as goal
 

@@ -1,4 +1,4 @@
-use Rattle.std.proofs.Common.{[], Some, sym, ap, ◌∙◌}
+use Rattle.std.proofs.Common.{Some, sym, ap, ◌∙◌}
 use Rattle.wm_grammar.specs.declared.procedure.Procedure.TheVariants as procedures
 use Rattle.wm_model.specs.Step.{call, mistyped, rollback_resolve}
 use Rattle.wm_plan.proofs.Planning.{for_all, refused}

@@ -1,5 +1,5 @@
 use Rattle.wm_graph.specs.Parts.{parts_of}
-use Rattle.wm_resolve.proofs.Copies.{lays_all, lays_first, lays_next}
+use Rattle.wm_resolve.proofs.Copies.{lays_next}
 use Rattle.wm_resolve.proofs.copying.copies_on.Goals as goal
 
 pub loop-piece-preserved : goal.loop-piece-preserved

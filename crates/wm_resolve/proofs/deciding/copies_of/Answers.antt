@@ -1,4 +1,3 @@
-use Rattle.std.proofs.Common.{sym, ap, ◌∙◌}
 use Rattle.std.proofs.lemmas.Result.{IfOk-weaker}
 use Rattle.wm_graph.specs.Parts.{parts_of}
 use Rattle.wm_pending.specs.Clashes.{conflict_pair}

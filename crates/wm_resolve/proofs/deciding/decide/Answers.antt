@@ -1,4 +1,4 @@
-use Rattle.std.proofs.Common.{[], List, length, ◌==◌, refl, sym, ap, ◌∙◌, subst}
+use Rattle.std.proofs.Common.{[], List, length, ◌==◌, sym, ap, ◌∙◌, subst}
 use Rattle.std.specs.List.{All}
 use Rattle.wm_decided.specs.Staged.{IsStaged}
 use Rattle.wm_graph.specs.Parts.{parts_of}

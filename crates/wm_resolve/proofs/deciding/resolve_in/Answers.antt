@@ -1,4 +1,4 @@
-use Rattle.std.proofs.Common.{[], sym, ap, ◌∙◌, subst, false}
+use Rattle.std.proofs.Common.{[], sym, ap, ◌∙◌, subst}
 use Rattle.std.proofs.lemmas.Result.{IfOk-weaker}
 use Rattle.std.specs.Option.{option_copied}
 use Rattle.wm_base.specs.Views.{filter_view}
@@ -45,7 +45,7 @@ unwrap-parent-requires c =
 pub decide_on-requires-clause-family : goal.decide_on-requires-clause-family
 decide_on-requires-clause-family c =
     let family = family_named c.args.image.now c.args.asked.workspace.now c.in-Some.space.now c.args.session.now c.space.result c.unwrap-parent.result.now (record { rules = c.requires.rules; found = sym c.in-Some.ensures })
-        (sym c.has_open.ensures ∙ c.if-not-has_open.false) c.space.ensures (ap option_copied c.unwrap-parent.ensures) in
+    (sym c.has_open.ensures ∙ c.if-not-has_open.false) c.space.ensures (ap option_copied c.unwrap-parent.ensures) in
     record { child = named_numbered c.args.image.now c.args.asked.workspace.now c.in-Some.space.now family.space; parent = family.parent }
 
 pub decide_on-requires-clause-open : goal.decide_on-requires-clause-open
