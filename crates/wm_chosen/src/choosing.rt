@@ -16,6 +16,7 @@ ghost use Rattle.wm_spec.specs.declared.record.table.Table.{Table as TableOf};
 
 use crate::keyed::key_asked;
 use std::alloc::Global;
+use std::mem::ManuallyDrop;
 use wm_base::tree::cond::{Cmp, Cond};
 use wm_base::tree::constant::Const;
 use wm_base::tree::operand::Operand;
@@ -38,6 +39,23 @@ pub fn always() -> Cond
     }
 }
 
+/// Lets a test go. To drop its condition is dear to prove, so it is done here alone.
+pub fn let_go<F: Fn(&Row) -> Truth + Judge + Drop>(_test: RowTest<F>) {}
+
+/// The rows on which the condition of the test is true; the test is let go.
+fn chosen_by_test<F: Fn(&Row) -> Truth + Judge + Drop>(
+    alloc: Global,
+    rows: Vec<Row>,
+    test: RowTest<F>,
+) -> Result<Vec<Row>, Memory>
+    requires fitting { list_all (fits test.columns) rows.items ≡ true }
+    ensures { IfOk result (λ kept. (t : TableOf) (condition : Option CondTree) → test.columns ≡ own_columns t → cond_view test.cond ≡ where_of condition → kept.items ≡ chosen t condition rows.items) }
+{
+    let kept = chosen(alloc, rows, &test);
+    let_go(test);
+    kept
+}
+
 /// The rows on which the condition is true, which the closure judges.
 fn chosen_by<F: Fn(&Row) -> Truth + Judge + Drop>(
     alloc: Global,
@@ -52,9 +70,10 @@ fn chosen_by<F: Fn(&Row) -> Truth + Judge + Drop>(
     requires answers { (row : RowOf) (truth : TruthOf) → fits columns.now row ≡ true → F.gives test row truth → truth ≡ truth_of (cond_view cond.now) columns.now row }
     ensures { IfOk result (λ kept. (t : TableOf) (condition : Option CondTree) → columns.now ≡ own_columns t → cond_view cond.now ≡ where_of condition → kept.items ≡ chosen t condition rows.items) }
 {
-    let test = RowTest::new(alloc, cond, columns, test)?;
-    let kept = chosen(alloc, rows, &test)?;
-    Ok(kept)
+    match RowTest::new(alloc, cond, columns, test) {
+        Ok(test) => chosen_by_test(alloc, rows, test),
+        Err(memory) => Err(memory),
+    }
 }
 
 /// The rows on which the condition is true.
@@ -90,7 +109,11 @@ fn chosen_of(
 {
     match filter {
         Some(cond) => chosen_with(alloc, cond, columns, rows),
-        None => chosen_with(alloc, &always(), columns, rows),
+        None => {
+            // It owns no memory.
+            let always = ManuallyDrop::new(always());
+            chosen_with(alloc, &always, columns, rows)
+        }
     }
 }
 

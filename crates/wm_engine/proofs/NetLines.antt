@@ -1,8 +1,8 @@
 -- Lines that refresh a workspace, or merge it and let it be: what they are is left by SYSDATE, and what others are not.
-use Rattle.std.proofs.Common.{◌≡◌, ℕ, ◌+◌, ◌&&◌, Bool, true, false, cond, if◌then◌else◌, List, [], ◌∷◌, map, length, Option, Some, None, unwrap_or, refl, sym, ap, ◌∙◌}
+use Rattle.std.proofs.Common.{◌≡◌, ℕ, ◌+◌, ◌&&◌, Bool, true, false, cond, if◌then◌else◌, List, [], ◌∷◌, map, length, Option, Some, None, unwrap_or, refl, ap, ◌∙◌}
 use Rattle.std.proofs.lemmas.List.{length-map}
 use Rattle.std.specs.Option.{option_map}
-use Rattle.wm_base.specs.Trees.{Line, Statement}
+use Rattle.wm_base.specs.Trees.{Line}
 use Rattle.wm_base.specs.Trees as trees
 use Rattle.wm_base.specs.declared.tree.constant.Const.TheVariants as consts
 use Rattle.wm_base.specs.declared.tree.statement.Arg.{Arg}
@@ -10,7 +10,7 @@ use Rattle.wm_base.specs.declared.tree.statement.ArgValue.{ArgValue}
 use Rattle.wm_base.specs.declared.tree.statement.ArgValue.TheVariants as values
 use Rattle.wm_calls.specs.Arguments.{argument, argument_from, is_true, is_true_given, text_given, text_of}
 use Rattle.wm_calls.specs.Places.{parameter_at, parameters_in}
-use Rattle.wm_grammar.specs.Calls.{at_place, is_description, is_some_same, is_text, parameter_by, parameter_of, placed_parameter, procedure_of}
+use Rattle.wm_grammar.specs.Calls.{at_place, is_some_same, is_text, parameter_by, procedure_of}
 use Rattle.wm_grammar.specs.declared.procedure.Parameter.{Parameter}
 use Rattle.wm_grammar.specs.declared.procedure.Parameter.TheVariants as parameters
 use Rattle.wm_grammar.specs.declared.procedure.Procedure.{Procedure}

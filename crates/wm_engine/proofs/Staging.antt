@@ -1,7 +1,6 @@
 -- What sessions have staged can be committed still once a line was run.
-use Rattle.std.proofs.Common.{◌≡◌, ℕ, ◌+◌, ◌≤◌, ◌==◌, nat_le, Bool, true, false, cond, if◌then◌else◌, List, [], ◌∷◌, ◌++◌, length, map, Option, Some, None, unwrap_or, refl, sym, ap, subst, ◌∙◌, arith}
+use Rattle.std.proofs.Common.{◌≡◌, ℕ, ◌+◌, ◌≤◌, ◌==◌, nat_le, Bool, true, false, cond, if◌then◌else◌, List, [], ◌∷◌, ◌++◌, Option, Some, None, unwrap_or, refl, sym, ap, subst, ◌∙◌, arith}
 use Rattle.std.proofs.lemmas.List.Elements.{All-append, All-filter, All-map, All-nil, All-push, All-weaker}
-use Rattle.std.specs.List.{All}
 use Rattle.std.specs.Option.{option_and_then, option_map, option_map_or}
 use Rattle.std.specs.Str.{bytes_eq}
 use Rattle.wm_base.specs.declared.row.Row.{Row}
@@ -23,7 +22,7 @@ use Rattle.wm_state.specs.ById.{Ascend}
 use Rattle.wm_state.specs.Editing.{all_edited, bear_in, born, drafted, edited, enable_named, implicit_name, keep_in, parent_of, rebased_in, restored_in, save_in, saved_at, stand_of}
 use Rattle.wm_state.specs.Entries.{fits_table}
 use Rattle.wm_state.specs.Standing.{Stands, is_ready}
-use Rattle.wm_state.specs.State.{Decision, Durable, Readiness, Resolve, Savepoint, Session, Workspace, enabled, savepoint_made, savepoints_of, table_named, workspace_of}
+use Rattle.wm_state.specs.State.{Decision, Durable, Readiness, Resolve, Savepoint, Session, enabled, savepoint_made, savepoints_of, table_named, workspace_of}
 use Rattle.wm_state.specs.declared.edit.Edit.{Edit}
 use Rattle.wm_state.specs.declared.edit.Edit.TheVariants as edits
 use Rattle.wm_state.proofs.Counting.{counts_in}

@@ -18,7 +18,8 @@ ghost use Rattle.wm_pending.specs.Clashes.{conflict_pair};
 ghost use Rattle.wm_plan.specs.Idle.{Idles};
 ghost use Rattle.wm_plan.specs.Planning.{DoesIt};
 ghost use Rattle.wm_print.specs.Texts.{Answer as AnswerText};
-ghost use Rattle.wm_resolve.specs.Deciding.{Decides, decided_where, resolve_to};
+ghost use Rattle.wm_resolve.specs.Deciding.{Decides, decided_where, resolve_to, version_kept};
+ghost use Rattle.wm_resolve.specs.Shown.{Shows};
 ghost use Rattle.wm_resolve.specs.Telling.{TellSides, TellsList};
 ghost use Rattle.wm_spec.specs.Lists.{Entry};
 ghost use Rattle.wm_state.specs.State.{Session as SessionState, State};
@@ -29,13 +30,14 @@ use crate::opening::has_open;
 use crate::restorable::are_staged;
 use std::alloc::Global;
 use wm_base::tree::cond::Cond;
-use wm_base::{Columns, Memory, Name};
+use wm_base::{Columns, Key, Memory, Name};
 use wm_decided::Keep;
 use wm_decided::decision::{Copied, Decision};
 use wm_decided::keyed::{columns_of_keys, meets_key};
 use wm_image::Image;
 use wm_pending::clash::{Conflict, conflicts};
 use wm_pending::own::own_pieces;
+use wm_period::Pieces;
 use wm_plan::answer::Answer;
 use wm_plan::planned::Planned;
 use wm_plan::refuse::{empty_period, no_resolve, no_workspace, not_built};
@@ -55,22 +57,58 @@ struct Deciding<'a> {
     condition: &'a Option<Cond>,
 }
 
-/// What a version shows on a stretch of conflict of a table.
+/// What a version shows of a key of a table.
+#[derive(Drop)]
+struct Shown {
+    key: Key,
+    pieces: Pieces,
+}
+
+/// What a version shows of a key of a table. It is read where it is not the key of what was shown last.
+fn shown_of(
+    alloc: Global,
+    image: &Image,
+    version: u64,
+    table: u16,
+    key: &Key,
+    last: Option<Shown>,
+) -> Result<Shown, Memory>
+    requires rules { keep_rules (parts_of image.now) ≡ true }
+    requires last { IfSome last (Shows (parts_of image.now) version table) }
+    ensures key { IfOk result (λ shown. shown.key ≡ key.now) }
+    ensures shows { IfOk result (Shows (parts_of image.now) version table) }
+{
+    if let Some(shown) = last {
+        if shown.key.equals(key) {
+            return Ok(shown);
+        }
+    }
+    let pieces = image.shown(alloc, version, table, key)?;
+    let key = key.copy(alloc)?;
+    Ok(Shown { key, pieces })
+}
+
+/// What a version shows on a stretch of conflict of a table, where this was shown last.
 fn copies_of(
     alloc: Global,
     image: &Image,
     version: u64,
     table: u16,
     conflict: &Conflict,
+    last: &mut Option<Shown>,
 ) -> Result<Vec<Copied>, Memory>
     requires rules { keep_rules (parts_of image.now) ≡ true }
+    requires last { IfSome last.old (Shows (parts_of image.now) version table) }
+    ensures last { OnOk result (IfSome last.new (Shows (parts_of image.now) version table)) }
     ensures ordered { IfOk result (λ copies. Ordered 0 copies.items) }
     ensures joined { IfOk result (λ copies. IsJoined one_stamp copies.items) }
     ensures told { IfOk result (λ copies. (es : List Entry) → TellsList (parts_of image.now) version es → copies.items ≡ told_on es (conflict_pair table conflict.now).0 (conflict_pair table conflict.now).1) }
 {
     let _till = conflict.period.till();
-    let pieces = image.shown(alloc, version, table, &conflict.key)?;
-    copies_on(alloc, image, pieces.list(), conflict.period)
+    let shown = shown_of(alloc, image, version, table, &conflict.key, last.take())?;
+    let copies = copies_on(alloc, image, shown.pieces.list(), conflict.period)?;
+    *last = Some(shown);
+    Ok(copies)
 }
 
 /// What is copied of a stretch of conflict, or None where it is passed over.
@@ -79,8 +117,11 @@ fn copied_on(
     image: &Image,
     deciding: Deciding<'_>,
     conflict: &Conflict,
+    last: &mut Option<Shown>,
 ) -> Result<Option<Vec<Copied>>, Memory>
     requires rules { keep_rules (parts_of image.now) ≡ true }
+    requires last { IfSome last.old (Shows (parts_of image.now) (version_kept (parts_of image.now) deciding.keep deciding.space.now deciding.parent.now) deciding.table.now.number) }
+    ensures last { OnOk result (IfSome last.new (Shows (parts_of image.now) (version_kept (parts_of image.now) deciding.entry.keep deciding.entry.space.now deciding.entry.parent.now) deciding.entry.table.now.number)) }
     ensures ordered { IfOk result (λ copied. IfSome copied (λ copies. Ordered 0 copies.items)) }
     ensures joined { IfOk result (λ copied. IfSome copied (λ copies. IsJoined one_stamp copies.items)) }
     ensures told { IfOk result (λ copied. (s : Sides) → TellSides (parts_of image.now) deciding.entry.space.now deciding.entry.parent.now s → option_map (λ copies. copies.items) copied ≡ copied_on deciding.entry.keep s (conflict_pair deciding.entry.table.now.number conflict.now)) }
@@ -91,14 +132,14 @@ fn copied_on(
         Keep::Child => Ok(Some(Vec::new(alloc))),
         Keep::Parent => {
             let version = image.latest(parent.number);
-            Ok(Some(copies_of(alloc, image, version, table, conflict)?))
+            Ok(Some(copies_of(alloc, image, version, table, conflict, last)?))
         }
         Keep::Base => {
             if conflict.stamps.base.is_none() {
                 return Ok(None);
             }
             let version = space.base_version;
-            Ok(Some(copies_of(alloc, image, version, table, conflict)?))
+            Ok(Some(copies_of(alloc, image, version, table, conflict, last)?))
         }
     }
 }
@@ -110,14 +151,17 @@ fn decision_on(
     image: &Image,
     deciding: Deciding<'_>,
     conflict: &Conflict,
+    last: &mut Option<Shown>,
 ) -> Result<Option<Decision>, Memory>
     requires rules { keep_rules (parts_of image.now) ≡ true }
-    ensures { IfOk result (λ made. (s : Sides) → TellSides (parts_of image.now) deciding.entry.space.now deciding.entry.parent.now s → made ≡ decided_where deciding.entry.keep s (λ key. meets (filter_view deciding.entry.condition.now) deciding.entry.columns.now (key_as_row key)) (conflict_pair deciding.entry.table.now.number conflict.now)) }
+    requires last { IfSome last.old (Shows (parts_of image.now) (version_kept (parts_of image.now) deciding.keep deciding.space.now deciding.parent.now) deciding.table.now.number) }
+    ensures last { OnOk result (IfSome last.new (Shows (parts_of image.now) (version_kept (parts_of image.now) deciding.entry.keep deciding.entry.space.now deciding.entry.parent.now) deciding.entry.table.now.number)) }
+    ensures made { IfOk result (λ made. (s : Sides) → TellSides (parts_of image.now) deciding.entry.space.now deciding.entry.parent.now s → made ≡ decided_where deciding.entry.keep s (λ key. meets (filter_view deciding.entry.condition.now) deciding.entry.columns.now (key_as_row key)) (conflict_pair deciding.entry.table.now.number conflict.now)) }
 {
     if !meets_key(alloc, deciding.columns, deciding.condition, &conflict.key)? {
         return Ok(None);
     }
-    match copied_on(alloc, image, deciding, conflict)? {
+    match copied_on(alloc, image, deciding, conflict, last)? {
         Some(copied) => Ok(Some(Decision::new(
             deciding.table.number,
             conflict.key.copy(alloc)?,
@@ -150,8 +194,9 @@ fn decisions_on(
     ensures { IfOk result (λ decisions. (s : Sides) → TellSides (parts_of image.now) deciding.entry.space.now deciding.entry.parent.now s → decisions.items ≡ filter_map (decided_where deciding.entry.keep s (λ key. meets (filter_view deciding.entry.condition.now) deciding.entry.columns.now (key_as_row key))) (map (conflict_pair deciding.entry.table.now.number) found.now)) }
 {
     let mut decisions = Vec::new(alloc);
+    let mut last = None;
     for conflict in found {
-        let made = decision_on(alloc, image, deciding, conflict)?;
+        let made = decision_on(alloc, image, deciding, conflict, &mut last)?;
         push_made(&mut decisions, made)?;
     }
     Ok(decisions)

@@ -10,6 +10,29 @@ fn some(alloc: Global, number: u64) -> Result<Failing, Fail> {
     Ok(Failing::at(vec![in alloc; number]?))
 }
 
+/// A station of 1, 2, 3, 4 whose second write is torn and whose first sync fails.
+fn failing_station(alloc: Global) -> Result<MemoryStation, Fail> {
+    let start = [1, 2, 3, 4].to_vec(alloc)?;
+    let writes = some(alloc, 1)?;
+    let syncs = some(alloc, 0)?;
+    let torn = vec![in alloc; 9, 9, 9]?;
+    let faults = Faults {
+        reads: Failing::never(alloc),
+        writes,
+        syncs,
+        says: Failing::never(alloc),
+        torn,
+        say_limit: usize::MAX,
+    };
+    Ok(MemoryStation::new(alloc, start, faults)?)
+}
+
+/// A source of abc whose second take fails.
+fn failing_source(alloc: Global) -> Result<MemorySource, Fail> {
+    let bytes = b"abc".to_vec(alloc)?;
+    Ok(MemorySource::new(bytes, some(alloc, 1)?))
+}
+
 /// Stops the test where an answer is another than the one that is wanted.
 fn want<R: Abort, T: PartialEq + Debug + Drop>(rt: &R, found: T, wanted: T) {
     assert_eq!(rt; found, wanted);
@@ -46,12 +69,7 @@ fn crashes_leave<R: Abort>(rt: &R, done: &Recording) -> Result<(), Fail> {
 
 #[test]
 fn a_failed_write_tears_and_a_failed_sync_keeps_nothing(rt: HostRuntime) -> Result<(), Fail> {
-    let alloc = rt.alloc();
-    let mut faults = Faults::none(alloc);
-    faults.writes = some(alloc, 1)?;
-    faults.syncs = some(alloc, 0)?;
-    faults.torn = vec![in alloc; 9, 9, 9]?;
-    let mut station = MemoryStation::new(alloc, [1, 2, 3, 4].to_vec(alloc)?, faults)?;
+    let mut station = failing_station(rt.alloc())?;
     want(&rt, station.write_at(1, &[7, 7]), Ok(()));
     want(&rt, station.write_at(2, &[8]), Err(DiskFailed::Failed));
     want(&rt, station.sync(), Err(DiskFailed::Failed));
@@ -66,7 +84,7 @@ fn a_failed_write_tears_and_a_failed_sync_keeps_nothing(rt: HostRuntime) -> Resu
 #[test]
 fn a_source_gives_its_bytes_in_pieces(rt: HostRuntime) -> Result<(), Fail> {
     let alloc = rt.alloc();
-    let mut source = MemorySource::new(b"abc".to_vec(alloc)?, some(alloc, 1)?);
+    let mut source = failing_source(alloc)?;
     let mut into = [0; 2];
     want(&rt, source.take(&mut into), Ok(2));
     want(&rt, into, *b"ab");

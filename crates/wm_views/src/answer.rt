@@ -11,10 +11,11 @@ ghost use Rattle.wm_select.specs.Query.{answer_of, columns_of, projection_lasts,
 ghost use Rattle.wm_spec.specs.Conditions.{fits, truth_of, typed};
 
 use std::alloc::Global;
+use std::mem::ManuallyDrop;
 use wm_base::tree::cond::Cond;
 use wm_base::tree::query::Query;
 use wm_base::{Columns, Listings, Memory, Row, RowList, Truth};
-use wm_chosen::choosing::always;
+use wm_chosen::choosing::{always, let_go};
 use wm_expr::truth;
 use wm_plan::answer::Answer;
 use wm_plan::refuse::{most_rows, out_of_range};
@@ -37,7 +38,9 @@ fn rows_of<F: Fn(&Row) -> Truth + Judge + Drop>(
     ensures out_of_range { IsErrOf result SelectFault.OutOfRange → answer_of (query_view query.now) listings.now ≡ None }
     ensures too_many { IsErrOf result SelectFault.TooMany → IsSomeAnd (answer_of (query_view query.now) listings.now) (λ rows. row_limit < length rows) }
 {
-    wm_select::select(alloc, query, listings, &test)
+    let rows = wm_select::select(alloc, query, listings, &test);
+    let_go(test);
+    rows
 }
 
 /// The rows that a query answers over its sources, its condition being judged by the closure.
@@ -133,6 +136,10 @@ pub fn answer(
 {
     match &query.filter {
         Some(cond) => answer_with(alloc, query, cond, columns, listings),
-        None => answer_with(alloc, query, &always(), columns, listings),
+        None => {
+            // It owns no memory.
+            let always = ManuallyDrop::new(always());
+            answer_with(alloc, query, &always, columns, listings)
+        }
     }
 }

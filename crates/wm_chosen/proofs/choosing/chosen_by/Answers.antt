@@ -1,5 +1,4 @@
-use Rattle.std.proofs.Common.{◌∙◌}
 use Rattle.wm_chosen.proofs.choosing.chosen_by.Goals as goal
 
-pub returns : goal.returns
-returns g c = λ t condition own stands. c.in_ok-kept.ensures.chosen t condition (c.in_ok-test.ensures.1 ∙ own) (c.in_ok-test.ensures.0 ∙ stands)
+pub returns-in-Ok : goal.returns-in-Ok
+returns-in-Ok g c = rw (c.in-Ok.ensures.0, c.in-Ok.ensures.1) at c.chosen_by_test.ensures

@@ -1,4 +1,4 @@
-use Rattle.std.proofs.Common.{sym, ap, ◌∙◌}
+use Rattle.std.proofs.Common.{◌≡◌, sym, ap, ◌∙◌}
 use Rattle.wm_base.specs.Views.{cond_view, filter_view}
 use Rattle.wm_select.specs.Query.{where_of}
 use Rattle.wm_chosen.proofs.ChosenRows.{kept_so}
@@ -10,5 +10,6 @@ returns-in-Some c =
 
 pub returns-in-None : goal.returns-in-None
 returns-in-None c =
-    kept_so c.chosen_with-in-None.result c.args.columns.now (cond_view c.always.result) (filter_view c.args.filter.now) c.args.rows.items (c.always.ensures ∙ sym (ap (λ f. where_of (filter_view f)) c.in-None.is))
+    let same : c.deref.result.now ≡ c.always.result = cc in
+    kept_so c.chosen_with-in-None.result c.args.columns.now (cond_view c.deref.result.now) (filter_view c.args.filter.now) c.args.rows.items (ap cond_view same ∙ c.always.ensures ∙ sym (ap (λ f. where_of (filter_view f)) c.in-None.is))
     c.chosen_with-in-None.ensures
