@@ -149,7 +149,8 @@ class Contents(WithFolder):
 
     def test_examples(self):
         found = self.compare(store_of_examples(self.store))
-        self.assertEqual([space.name for space in found.spaces.values()], ["LIVE", "Plan", "Parks 2025", "Roads 2025", "North plan"])
+        self.assertEqual([space.name for space in found.spaces.values()],
+                         ["LIVE", "Plan", "Parks 2025", "Roads 2025", "North plan", "Roads draft", "Parks draft"])
 
     def test_random_stores(self):
         for seed in range(SEEDS):
