@@ -67,7 +67,7 @@ def show(script, said):
 
 def main():
     prepare()
-    print("The program is compiled, and not proved; that takes two or three minutes ..", flush=True)
+    print("The program is compiled, and not proved; that takes two or three minutes, and longer beside other work ..", flush=True)
     call = [*(sys.argv[1:] or ["rt"]), "try", "--cases", str(CASES)]
     done = subprocess.run(call, cwd=TOP / "crates" / "wm", stdout=subprocess.PIPE)
     found = answers(done.stdout)

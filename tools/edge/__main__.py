@@ -2,13 +2,15 @@
 """edge PROGRAM [--times N]
 
 Tries the program where no clause speaks of it: two runs of one store at once, standard streams that are closed or full, disks that
-are full, and paths and words that are none. It looks at the status, the answers, standard error and the file, and at what the store
-then holds. It prints a line for each kind of try, and ends with 1 where one of them is not as it should be.
+are full, scripts that go on and on, and paths and words that are none. It looks at the status, the answers, standard error and the
+file, and at what the store then holds. It prints a line for each kind of try, and ends with 1 where one of them is not as it should be.
 """
 import argparse
 import sys
 import tempfile
 
+import deepest
+import endless
 import runs
 import storage
 import streams
@@ -34,6 +36,9 @@ def main():
             "standard streams that fail": lambda kind: streams.failing(kind, room),
             "answers that are not taken": lambda kind: streams.not_taken(kind, room),
             "a script that is too long": lambda kind: streams.too_long(kind, room),
+            "a line without an end": lambda kind: endless.without_end(kind, room),
+            "lines that are deepest": lambda kind: deepest.chains(kind, room),
+            "one short line again and again": lambda kind: endless.again(kind, room),
             "paths that lead to no store": lambda kind: storage.no_stores(kind, room),
             "a file that may only be read": lambda kind: storage.read_only(kind, room),
             "a file that may not grow": lambda kind: storage.limited(kind, room),

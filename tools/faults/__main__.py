@@ -6,7 +6,7 @@ goes wrong: it fails, does half or nothing, is to be made again, or the program 
 Looked at are the status, the answers and standard error; and each file that the power may leave where it goes then:
 with all that was written since the last sync, with none of it, and with parts. It must be opened, and hold all lines
 that were answered, or one more, and none in part. The same is done with the power alone at each moment of the whole
-run, and again while what that left is repaired; and with init and check. A C compiler (cc) builds the shim that
+run, and again while what that left is repaired; and with init, check and load. A C compiler (cc) builds the shim that
 stands before the C library. With --every N each Nth try alone is made.
 """
 import argparse
@@ -17,9 +17,10 @@ from concurrent.futures import ThreadPoolExecutor
 
 from expected import Expected
 from recording import KINDS
-from room import INIT, Room
-from trying import FATES, AgainTries, CheckTries, InitTries, RunTries
+from room import INIT, RUN, Room
+from trying import FATES, AgainTries, CheckTries, InitTries, LoadTries, RunTries
 
+from drawn_script import script
 from every_line import SCRIPT, lines_of
 
 # Rows that fill pages, so that a line changes several.
@@ -30,6 +31,11 @@ WIDE = [
     b"A: UPDATE WIDE SET NOTE = NULL WHERE ID < 3\n",
     b"A: DELETE FROM WIDE\n",
 ]
+
+# What a load draws: inserts, updates, deletes, counts, merges and a refresh are among the lines.
+SEED, DRAWN = 7, 32
+# A load begins at the moment of the last change, and what is played before it makes that the moment of the runs.
+BEFORE = b"CONNECT A ANN\nA: CREATE TABLE BUD (ID NUMBER PRIMARY KEY)\n"
 
 # How many bytes of the script the program is given at a time, so that it takes it in pieces.
 TAKEN = 64
@@ -60,7 +66,8 @@ def try_run(told, room, fresh, every):
     lines = lines_of(SCRIPT)
     lines = [*lines[:-1], *WIDE, *lines[-1:]]
     run = RunTries(room, fresh, Expected(room, told.pool, fresh, lines), TAKEN)
-    missing = set(KINDS) - {call.kind for call in run.whole.calls}
+    # A program that names the place with each read and write has no seeks.
+    missing = set(KINDS) - {call.kind for call in run.whole.calls} - {"seek"}
     if missing or run.whole.status:
         raise SystemExit(f"a run ended with status {run.whole.status}; no calls were seen of {sorted(missing)}")
     for fate, (name, _, _) in FATES.items():
@@ -97,6 +104,19 @@ def try_check(told, room, stores, every):
         told.kind(f"check of {name}, and the power goes", check.fault_of_power, powers(check.moments(), every))
 
 
+def try_load(told, room, fresh, every):
+    store = room.play(fresh, RUN, BEFORE).file
+    lines = [f"{line}\n".encode() for line in script(SEED, DRAWN)]
+    words = "load", "--seed", str(SEED), "--lines", str(DRAWN)
+    load = LoadTries(room, store, Expected(room, told.pool, store, lines), words)
+    if load.whole.status:
+        raise SystemExit(f"a load ended with status {load.whole.status}")
+    for fate, (name, _, _) in FATES.items():
+        told.kind(f"load, {name}", load.fault, [(*call, fate) for call in load.calls(fate, every)])
+    left = powers(load.moments(), every)
+    told.kind("load, the power goes", load.fault_of_power, left)
+
+
 def main():
     words = argparse.ArgumentParser(description=__doc__, formatter_class=argparse.RawDescriptionHelpFormatter)
     words.add_argument("program")
@@ -109,6 +129,7 @@ def main():
         stopped = try_run(told, room, fresh, given.every)
         try_init(told, room, fresh, given.every)
         try_check(told, room, {"a fresh store": fresh, "a store to be repaired": stopped[-1]}, given.every)
+        try_load(told, room, fresh, given.every)
     return 1 if told.found else 0
 
 

@@ -235,10 +235,13 @@ int fsync(int file)
 
 int fdatasync(int file)
 {
-    return fsync(file);
+    enum kind kind = kind_of(file, SYNC);
+    enum fate fate = fate_of(kind);
+    return fate == FAILS ? failed(kind, EIO) : (int)ended(kind, fate, syscall(SYS_fdatasync, file));
 }
 
-ssize_t read(int file, void *to, size_t size)
+/* From a place in the file, or from where the descriptor stands. */
+static ssize_t read_from(int file, void *to, size_t size, const off_t *at)
 {
     enum kind kind = file == STDIN_FILENO ? TAKE : kind_of(file, READ);
     enum fate fate = fate_of(kind);
@@ -250,27 +253,63 @@ ssize_t read(int file, void *to, size_t size)
         size = 0;
     if (fate == LESS)
         size = (size + 1) / 2;
-    return ended(kind, fate, syscall(SYS_read, file, to, size));
+    return ended(kind, fate, at ? syscall(SYS_pread64, file, to, size, *at) : syscall(SYS_read, file, to, size));
 }
 
-ssize_t write(int file, const void *from, size_t size)
+ssize_t read(int file, void *to, size_t size)
+{
+    return read_from(file, to, size, NULL);
+}
+
+ssize_t pread(int file, void *to, size_t size, off_t at)
+{
+    return read_from(file, to, size, &at);
+}
+
+ssize_t pread64(int file, void *to, size_t size, off64_t at)
+{
+    return read_from(file, to, size, &at);
+}
+
+static ssize_t put(int file, const void *from, size_t size, const off_t *at)
+{
+    return at ? syscall(SYS_pwrite64, file, from, size, *at) : syscall(SYS_write, file, from, size);
+}
+
+/* To a place in the file, or to where the descriptor stands. */
+static ssize_t write_to(int file, const void *from, size_t size, const off_t *at)
 {
     enum kind kind = file == STDOUT_FILENO ? SAY : kind_of(file, WRITE);
     enum fate fate = fate_of(kind);
     if (kind == OTHER)
-        return syscall(SYS_write, file, from, size);
+        return put(file, from, size, at);
     if (fate == FAILS || fate == INTERRUPTED)
         return failed(kind, fate == FAILS ? EIO : EINTR);
     size_t part = fate == LESS ? (size + 1) / 2 : fate == TORN || fate == DIES_IN ? size / 2 : fate == NOTHING ? 0 : size;
-    off_t at = kind == WRITE ? syscall(SYS_lseek, file, 0, SEEK_CUR) : 0;
-    ssize_t done = part ? syscall(SYS_write, file, from, part) : 0;
-    write_down(kind, done >= 0 && fate != TORN, at, done > 0 ? done : 0, from);
+    off_t place = at ? *at : kind == WRITE ? syscall(SYS_lseek, file, 0, SEEK_CUR) : 0;
+    ssize_t done = part ? put(file, from, part, at) : 0;
+    write_down(kind, done >= 0 && fate != TORN, place, done > 0 ? done : 0, from);
     if (fate == DIES_IN || fate == DIES_AFTER)
         die();
     if (fate != TORN)
         return done;
     errno = EIO;
     return -1;
+}
+
+ssize_t write(int file, const void *from, size_t size)
+{
+    return write_to(file, from, size, NULL);
+}
+
+ssize_t pwrite(int file, const void *from, size_t size, off_t at)
+{
+    return write_to(file, from, size, &at);
+}
+
+ssize_t pwrite64(int file, const void *from, size_t size, off64_t at)
+{
+    return write_to(file, from, size, &at);
 }
 
 /* The first part alone is written, as a system may. */

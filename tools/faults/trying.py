@@ -147,3 +147,26 @@ class CheckTries(Tries):
         if found == self.room.look(self.start):
             return None
         return f"where {said!r} was said, a file of {len(image)} bytes is opened with status {found[0]}, and says {found[1]!r}"
+
+
+class LoadTries(Tries):
+    """A load of some lines: it says nothing before all were played, and what it then says is known."""
+
+    def __init__(self, room, store, expected, words):
+        self.expected = expected
+        super().__init__(room, words, store, b"", 0)
+
+    def fault_of(self, ran, status, kind, fate):
+        why = fault_of_end(ran, status, {0: self.whole.said, 5: b""}.get(status))
+        if why or not self.whole.said.startswith(ran.said):
+            return why or f"it said {ran.said!r}"
+        is_played = ran.said or status in (0, 4)
+        faults = (self.fault_of_power(is_played, image) for image in left(self.start, ran))
+        return next((it for it in faults if it), None)
+
+    def fault_of_power(self, said, image):
+        """The store holds what a front of the lines made; where anything was said, what all of them did."""
+        found = self.room.look(image)
+        if found in (self.expected.states[-1:] if said else self.expected.states):
+            return None
+        return f"where {said!r} was said, a file of {len(image)} bytes is opened with status {found[0]}, and says {found[1]!r}"

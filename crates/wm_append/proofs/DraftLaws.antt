@@ -47,51 +47,67 @@ trace_placed n y table key x is = by_space (y.space == n) is
         none_some : (let none : Option PieceRecord = None in none) ≡ Some x → ⊥
         none_some h = cc
 
--- those that are drawn for a key are found for it
-pub layer_placed : (layer : Layer) (table : ℕ) (key : List Value) → IsPlaced (view_of layer) (sought_in layer table key) table key
-layer_placed layers.Pieces table key (records.Piece y) x is = ap (λ (z : PieceRecord). (z.cells.table == table) && is_eq (key_order z.cells.key key)) (same is)
+turned : (a b : Bool) → (a && b) ≡ (b && a)
+turned true true = refl
+turned true false = refl
+turned false true = refl
+turned false false = refl
+
+-- those that are drawn for a key as pieces of a version are found for it
+pub layer_placed : (layer : Layer) (version table : ℕ) (key : List Value) → IsPlaced (view_of layer) (sought_in layer version table key) version table key
+layer_placed layers.Pieces version table key (records.Piece y) x is =
+    ap (λ (z : PieceRecord). ((z.cells.table == table) && (is_eq (key_order z.cells.key key) && (z.version == version))) && (x.version == version)) (same is)
+    ∙ once (x.cells.table == table) (is_eq (key_order x.cells.key key)) (x.version == version)
   where
     same : Some y ≡ Some x → y ≡ x
     same e = cc
-layer_placed layers.Pieces table key _ x is = absurd (none_some is)
+
+    once : (a b v : Bool) → ((a && (b && v)) && v) ≡ (v && (a && b))
+    once true true true = refl
+    once true true false = refl
+    once true false true = refl
+    once true false false = refl
+    once false b true = refl
+    once false b false = refl
+layer_placed layers.Pieces version table key _ x is = absurd (none_some is)
   where
     none_some : (let none : Option PieceRecord = None in none) ≡ Some x → ⊥
     none_some e = cc
-layer_placed (layers.Touches n) table key (records.Touch y) x is = trace_placed n y table key x is
-layer_placed (layers.Touches n) table key _ x is = absurd (none_some is)
+layer_placed (layers.Touches n) version table key (records.Touch y) x is =
+    turned ((y.cells.table == table) && is_eq (key_order y.cells.key key)) (x.version == version) ∙ ap (λ b. (x.version == version) && b) (trace_placed n y table key x is)
+layer_placed (layers.Touches n) version table key _ x is = absurd (none_some is)
   where
     none_some : (let none : Option PieceRecord = None in none) ≡ Some x → ⊥
     none_some e = cc
-layer_placed (layers.Marks n) table key (records.Mark y) x is = trace_placed n y table key x is
-layer_placed (layers.Marks n) table key _ x is = absurd (none_some is)
+layer_placed (layers.Marks n) version table key (records.Mark y) x is =
+    turned ((y.cells.table == table) && is_eq (key_order y.cells.key key)) (x.version == version) ∙ ap (λ b. (x.version == version) && b) (trace_placed n y table key x is)
+layer_placed (layers.Marks n) version table key _ x is = absurd (none_some is)
   where
     none_some : (let none : Option PieceRecord = None in none) ≡ Some x → ⊥
     none_some e = cc
 
-own_test : (view : View) (q : Sought) (version table : ℕ) (key : List Value) → IsPlaced view q table key → (r : Record) → not (keeps_in view (is_out version table key) r) ≡ (is_sought q r && has_version view version (Some r))
+own_test : (view : View) (q : Sought) (version table : ℕ) (key : List Value) → IsPlaced view q version table key → (r : Record) → not (keeps_in view (is_out version table key) r) ≡ (is_sought q r && has_version view version (Some r))
 own_test view q version table key placed r = by_view (view r) refl
   where
     none_of : (b : Bool) → false ≡ (b && false)
     none_of true = refl
     none_of false = refl
 
-    by_tests : (a b c : Bool) → c ≡ b → not (not (a && b)) ≡ (c && a)
-    by_tests true true c e = rw e refl
-    by_tests true false c e = rw e refl
-    by_tests false true c e = rw e refl
-    by_tests false false c e = rw e refl
+    twice : (b : Bool) → not (not b) ≡ b
+    twice true = refl
+    twice false = refl
 
     by_view : (o : Option PieceRecord) → view r ≡ o → not (option_map_or (is_out version table key) o true) ≡ (is_sought q r && option_map_or (λ (x : PieceRecord). x.version == version) o false)
     by_view None none = none_of (is_sought q r)
-    by_view (Some x) some = by_tests (x.version == version) ((x.cells.table == table) && is_eq (key_order x.cells.key key)) (is_sought q r) (placed r x some)
+    by_view (Some x) some = twice ((x.version == version) && ((x.cells.table == table) && is_eq (key_order x.cells.key key))) ∙ sym (placed r x some)
 
-pub ids_told : (ss : List Stored) → Ascend ss → (layer : Layer) (version table : ℕ) (key : List Value) (ids own : List ℕ) → ids ≡ ids_with (is_sought (sought_in layer table key)) ss
+pub ids_told : (ss : List Stored) → Ascend ss → (layer : Layer) (version table : ℕ) (key : List Value) (ids own : List ℕ) → ids ≡ ids_with (is_sought (sought_in layer version table key)) ss
     → own ≡ filter (λ id. has_version (view_of layer) version (record_at ss id)) ids → own ≡ ids_of_key (view_of layer) ss version table key
 ids_told ss sorted layer version table key ids own are told =
     told
     ∙ ap (filter (λ id. has_version (view_of layer) version (record_at ss id))) are
-    ∙ filter-with (has_version (view_of layer) version) (is_sought (sought_in layer table key)) (λ r. not (keeps_in (view_of layer) (is_out version table key) r))
-    (own_test (view_of layer) (sought_in layer table key) version table key (layer_placed layer table key)) ss sorted
+    ∙ filter-with (has_version (view_of layer) version) (is_sought (sought_in layer version table key)) (λ r. not (keeps_in (view_of layer) (is_out version table key) r))
+    (own_test (view_of layer) (sought_in layer version table key) version table key (layer_placed layer version table key)) ss sorted
 
 -- ---- drafts
 

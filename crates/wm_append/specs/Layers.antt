@@ -4,7 +4,7 @@ use Rattle.wm_base.specs.declared.value.Value.{Value}
 use Rattle.wm_graph.specs.Parts.{as_piece}
 use Rattle.wm_spec.specs.declared.record.Record.TheVariants as records
 use Rattle.wm_state.specs.Touching.{drawn_as}
-use Rattle.wm_index.specs.Sought.{Sought, PiecesAt, TouchesAt, MarksAt}
+use Rattle.wm_index.specs.Sought.{Sought, PieceAt, TouchesAt, MarksAt}
 use Rattle.wm_append.specs.Views.{View}
 use Rattle.wm_append.specs.declared.redraw.layer.Layer.{Layer}
 use Rattle.wm_append.specs.declared.redraw.layer.Layer.TheVariants as layers
@@ -24,8 +24,8 @@ view_of layers.Pieces = as_piece
 view_of (layers.Touches n) = touch_in n
 view_of (layers.Marks n) = mark_in n
 
--- as what they are found for a key
-abbrev pub sought_in : Layer → ℕ → List Value → Sought
-sought_in layers.Pieces table key = PiecesAt table key
-sought_in (layers.Touches n) table key = TouchesAt table key
-sought_in (layers.Marks n) table key = MarksAt table key
+-- as what those of a version are found for a key
+abbrev pub sought_in : Layer → ℕ → ℕ → List Value → Sought
+sought_in layers.Pieces version table key = PieceAt table key version
+sought_in (layers.Touches n) version table key = TouchesAt table key
+sought_in (layers.Marks n) version table key = MarksAt table key

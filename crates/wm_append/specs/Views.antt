@@ -31,6 +31,7 @@ keeps_in view test r = option_map_or test (view r) true
 abbrev pub ids_of_key : View → List Stored → ℕ → ℕ → List Value → List ℕ
 ids_of_key view ss version table key = ids_with (λ r. not (keeps_in view (is_out version table key) r)) ss
 
--- records that are drawn as pieces are found by their table and key
-abbrev pub IsPlaced : View → Sought → ℕ → List Value → Type 0
-IsPlaced view q table key = (r : Record) (x : PieceRecord) → view r ≡ Some x → is_sought q r ≡ ((x.cells.table == table) && is_eq (key_order x.cells.key key))
+-- records that are drawn as pieces of a version are found by their table and key
+abbrev pub IsPlaced : View → Sought → ℕ → ℕ → List Value → Type 0
+IsPlaced view q version table key =
+    (r : Record) (x : PieceRecord) → view r ≡ Some x → (is_sought q r && (x.version == version)) ≡ ((x.version == version) && ((x.cells.table == table) && is_eq (key_order x.cells.key key)))

@@ -161,7 +161,7 @@ fn begin_key(
         left: _,
     } = draft;
     append(&mut finished, hand)?;
-    let ids = ids_in(image, layer, cells.table, &cells.key);
+    let ids = ids_in(image, layer, version, cells.table, &cells.key);
     let left = own_ids(alloc, image, layer, ids, version)?;
     let hand = Vec::new(alloc);
     Ok(Draft {

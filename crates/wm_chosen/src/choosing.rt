@@ -39,23 +39,6 @@ pub fn always() -> Cond
     }
 }
 
-/// Lets a test go. To drop its condition is dear to prove, so it is done here alone.
-pub fn let_go<F: Fn(&Row) -> Truth + Judge + Drop>(_test: RowTest<F>) {}
-
-/// The rows on which the condition of the test is true; the test is let go.
-fn chosen_by_test<F: Fn(&Row) -> Truth + Judge + Drop>(
-    alloc: Global,
-    rows: Vec<Row>,
-    test: RowTest<F>,
-) -> Result<Vec<Row>, Memory>
-    requires fitting { list_all (fits test.columns) rows.items ≡ true }
-    ensures { IfOk result (λ kept. (t : TableOf) (condition : Option CondTree) → test.columns ≡ own_columns t → cond_view test.cond ≡ where_of condition → kept.items ≡ chosen t condition rows.items) }
-{
-    let kept = chosen(alloc, rows, &test);
-    let_go(test);
-    kept
-}
-
 /// The rows on which the condition is true, which the closure judges.
 fn chosen_by<F: Fn(&Row) -> Truth + Judge + Drop>(
     alloc: Global,
@@ -70,10 +53,8 @@ fn chosen_by<F: Fn(&Row) -> Truth + Judge + Drop>(
     requires answers { (row : RowOf) (truth : TruthOf) → fits columns.now row ≡ true → F.gives test row truth → truth ≡ truth_of (cond_view cond.now) columns.now row }
     ensures { IfOk result (λ kept. (t : TableOf) (condition : Option CondTree) → columns.now ≡ own_columns t → cond_view cond.now ≡ where_of condition → kept.items ≡ chosen t condition rows.items) }
 {
-    match RowTest::new(alloc, cond, columns, test) {
-        Ok(test) => chosen_by_test(alloc, rows, test),
-        Err(memory) => Err(memory),
-    }
+    let test = RowTest::new(cond, columns, test);
+    chosen(alloc, rows, &test)
 }
 
 /// The rows on which the condition is true.

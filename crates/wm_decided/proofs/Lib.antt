@@ -3,6 +3,7 @@ pub mod Copies
 pub mod Copying
 pub mod InOrder
 pub mod KeyColumns
+pub mod KeyRows
 pub mod Laid
 pub mod Netting
 pub mod Placed

@@ -198,15 +198,4 @@ impl Resolve {
     {
         push_copies(alloc, &mut self.decisions, decisions)
     }
-
-    pub fn copy(&self, alloc: Global) -> Result<Resolve, Memory>
-        ensures { IfOk result (λ copy. copy ≡ self.now) }
-    {
-        let mut decisions = Vec::with_capacity(alloc, self.decisions.len())?;
-        push_copies(alloc, &mut decisions, self.decisions.as_slice())?;
-        Ok(Resolve {
-            space: self.space,
-            decisions,
-        })
-    }
 }

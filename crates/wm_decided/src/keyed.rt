@@ -2,7 +2,6 @@
 ghost use Rattle.std.specs.Prelude.{◌≡◌, map, None, option_copied, slice_get, IfOk, true};
 ghost use Rattle.wm_base.specs.Views.{filter_view};
 ghost use Rattle.wm_decided.specs.Keys.{columns_of_keys, key_as_row, key_columns};
-ghost use Rattle.wm_dml.specs.Changing.{meets};
 ghost use Rattle.wm_typing.specs.Columns.{declared_column, valid_column};
 ghost use Rattle.wm_typing.specs.Names.{unknown_in_filter};
 ghost use Rattle.wm_typing.specs.Types.{is_filter_typed, mistyped_in_filter};
@@ -11,8 +10,7 @@ use std::alloc::Global;
 use wm_base::columns::PERIOD;
 use wm_base::tree::cond::Cond;
 use wm_base::values::copies_of;
-use wm_base::{Column, Columns, Key, Memory, Name, Row, Truth, Value, Values};
-use wm_expr::truth;
+use wm_base::{Column, Columns, Key, Memory, Name, Row, Value, Values};
 use wm_spec::record::Table;
 use wm_typing::columns_of_table;
 use wm_typing::names::unknown_in_filter;
@@ -63,7 +61,7 @@ pub fn columns_of_keys(alloc: Global, table: &Table) -> Result<Columns, Memory>
 }
 
 /// A key as a row of these columns.
-fn key_as_row(alloc: Global, key: &Key) -> Result<Row, Memory>
+pub fn key_as_row(alloc: Global, key: &Key) -> Result<Row, Memory>
     ensures { IfOk result (λ row. row ≡ key_as_row key.now) }
 {
     let mut values = copies_of(alloc, key.values())?;
@@ -72,24 +70,6 @@ fn key_as_row(alloc: Global, key: &Key) -> Result<Row, Memory>
     Ok(Row {
         values: Values::from_vec(values),
     })
-}
-
-/// Whether the condition over these columns is true of a key, where there is one.
-pub fn meets_key(
-    alloc: Global,
-    columns: &Columns,
-    condition: &Option<Cond>,
-    key: &Key,
-) -> Result<bool, Memory>
-    ensures { IfOk result (λ met. met ≡ meets (filter_view condition.now) columns.now (key_as_row key.now)) }
-{
-    match condition {
-        Some(condition) => {
-            let row = key_as_row(alloc, key)?;
-            Ok(truth(condition, columns, &row) == Truth::Yes)
-        }
-        None => Ok(true),
-    }
 }
 
 /// The first name in a condition over keys that is none of a key column.

@@ -20,10 +20,10 @@ use wm_rowtest::{Judge, RowTest};
 fn kept<F: Fn(&Row) -> Truth + Judge>(
     alloc: Global,
     rows: Vec<Row>,
-    test: &RowTest<F>,
+    test: &RowTest<'_, F>,
 ) -> Result<Vec<Row>, Memory>
-    requires { list_all (fits test.now.columns) rows.items ≡ true }
-    ensures { IfOk result (λ kept. kept.items ≡ filter (λ row. is_yes (truth_of (cond_view test.now.cond) test.now.columns row)) rows.items) }
+    requires { list_all (fits test.now.columns.now) rows.items ≡ true }
+    ensures { IfOk result (λ kept. kept.items ≡ filter (λ row. is_yes (truth_of (cond_view test.now.cond.now) test.now.columns.now row)) rows.items) }
 {
     let mut kept = Vec::new(alloc);
     for row in rows {
@@ -38,13 +38,13 @@ fn kept<F: Fn(&Row) -> Truth + Judge>(
 pub fn chosen<F: Fn(&Row) -> Truth + Judge>(
     alloc: Global,
     rows: Vec<Row>,
-    test: &RowTest<F>,
+    test: &RowTest<'_, F>,
 ) -> Result<Vec<Row>, Memory>
-    requires { list_all (fits test.now.columns) rows.items ≡ true }
-    ensures kept { IfOk result (λ kept. kept.items ≡ filter (λ row. is_yes (truth_of (cond_view test.now.cond) test.now.columns row)) rows.items) }
+    requires { list_all (fits test.now.columns.now) rows.items ≡ true }
+    ensures kept { IfOk result (λ kept. kept.items ≡ filter (λ row. is_yes (truth_of (cond_view test.now.cond.now) test.now.columns.now row)) rows.items) }
 
     // Of a table whose columns the test judges, by a WHERE for which its condition stands.
-    ensures chosen { IfOk result (λ kept. (t : TableOf) (condition : Option CondTree) → test.now.columns ≡ own_columns t → cond_view test.now.cond ≡ where_of condition → kept.items ≡ chosen_of t condition rows.items) }
+    ensures chosen { IfOk result (λ kept. (t : TableOf) (condition : Option CondTree) → test.now.columns.now ≡ own_columns t → cond_view test.now.cond.now ≡ where_of condition → kept.items ≡ chosen_of t condition rows.items) }
 
     // What each row passes, each of those passes, and no two of them are alike where no two of all rows are.
     ensures pass { IfOk result (λ kept. (test : RowOf → Bool) → list_all test rows.items ≡ true → list_all test kept.items ≡ true) }

@@ -4,7 +4,6 @@
 
 mod compare;
 pub mod conditions;
-pub mod copies;
 pub mod expressions;
 pub mod fault;
 mod fitting;

@@ -1,5 +1,5 @@
 -- From the steps of a change to its pages.
-use Rattle.std.proofs.Common.{◌≡◌, ℕ, ◌+◌, ◌-◌, ◌<◌, ◌≤◌, ◌⊎◌, inl, inr, ⊎_elim, Bool, true, false, cond, not, ◌&&◌, ◌||◌, eqb, ltb, List, [], ◌∷◌, ◌++◌, length, get_or, drop, map, Option, Some, None, is_some, unwrap_or, IfSome, refl, sym, ap, subst, ◌∙◌, arith}
+use Rattle.std.proofs.Common.{◌≡◌, ℕ, ◌+◌, ◌-◌, ◌*◌, ◌<◌, ◌≤◌, ◌⊎◌, inl, inr, ⊎_elim, Bool, true, false, cond, not, ◌&&◌, ◌||◌, eqb, ltb, List, [], ◌∷◌, ◌++◌, length, get_or, drop, map, Option, Some, None, is_some, unwrap_or, IfSome, refl, sym, ap, subst, ◌∙◌, arith}
 use Rattle.std.specs.Option.{option_and_then}
 use Rattle.std.specs.List.{list_any, AllByRecursion}
 use Rattle.std.specs.List.Sorted.{IsStrictlySortedBy}
@@ -7,7 +7,7 @@ use Rattle.std.specs.Ordering.{nat_cmp, is_eq}
 use Rattle.std.specs.declared.cmp.Ordering.TheVariants.{Less}
 use Rattle.std.specs.Map.{keys_of}
 use Rattle.std.proofs.lemmas.Bool.{cases_lt, eqb-true, lt-ltb, ltb-true, or_parts}
-use Rattle.std.proofs.lemmas.List.{drop_more, drop_all}
+use Rattle.std.proofs.lemmas.List.{drop_more, drop_all, length-map}
 use Rattle.wm_base.proofs.Plain.{unless_parts}
 use Rattle.wm_page.proofs.Batches.{length-entries}
 use Rattle.wm_page.specs.declared.write.PageWrite.{PageWrite}
@@ -271,6 +271,21 @@ paged_none before count changed grows = by_test (ltb before count) refl changed 
     by_test true e (x ∷ xs) some = grind arith
     by_test false e [] some = refl
     by_test false e (x ∷ xs) some = grind arith
+
+-- ---- how many pages
+
+length-paged : (before count : ℕ) (changed : List (ℕ × List Slot)) → length (paged before count changed) ≤ length changed + 1
+length-paged before count changed = by_test (ltb before count)
+  where
+    written_are : length (written changed) ≡ length changed
+    written_are = length-map changed (λ e. (e.0, page_of e.1))
+
+    by_test : (b : Bool) → length (rooted b count ++ written changed) ≤ length changed + 1
+    by_test true = omega (arith, written_are)
+    by_test false = omega (arith, written_are)
+
+pub planned_few : (changed : List (ℕ × List Slot)) (before count i n : ℕ) (pages : List PageWrite) → entries pages ≡ paged before count changed → length changed ≤ 2 * i → i ≤ n → length pages ≤ 2 * n + 2
+planned_few changed before count i n pages pages_are few within = omega (arith, few, within, length-entries pages, ap length pages_are, length-paged before count changed)
 
 -- ---- what the store holds then
 

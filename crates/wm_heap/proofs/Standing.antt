@@ -224,6 +224,11 @@ moves_out slots count old page id new placed here new_is =
 
 -- ---- room and growth
 
+-- one entry more, or none
+pub one_more : (was now : ℕ) (there : Bool) → now ≡ was + cond there 0 1 → now ≤ was + 1
+one_more was now true e = omega (arith, e)
+one_more was now false e = omega (arith, e)
+
 pub HasRoom-puts : (page id : ℕ) (slots : List Slot) (place : Option ℕ) (old new : Heap) (was now : List (ℕ × List Slot)) → Puts page slots id place old new was now → used slots ≤ 4096 → HasRoom was → HasRoom now
 HasRoom-puts page id slots place old new was now puts fits room p xs e = by_test (eqb p page) (sym (puts.changed p) ∙ e)
   where
@@ -274,6 +279,20 @@ some_page (e ∷ changed) p there = omega arith
 
 pub put_some : (page id : ℕ) (slots : List Slot) (place : Option ℕ) (old new : Heap) (was now : List (ℕ × List Slot)) → Puts page slots id place old new was now → 0 < length now
 put_some page id slots place old new was now puts = some_page now page (rw (puts.changed page, test_here page) refl)
+
+-- slots put over those of a page that were taken out, in a heap with the same ids and places
+pub puts_over : (page id : ℕ) (slots : List Slot) (place : Option ℕ) (old mid new : Heap) (was between now : List (ℕ × List Slot)) → mid.ids ≡ old.ids → mid.places ≡ old.places → ((p : ℕ) → eqb p page ≡ false → at between p ≡ at was p)
+    → Puts page slots id place mid new between now → Puts page slots id place old new was now
+puts_over page id slots place old mid new was between now ids_same places_same apart puts = record {
+  changed = λ p. puts.changed p ∙ by_test p (eqb p page) refl;
+  ids = λ p from. puts.ids p from ∙ ap (λ v. cond (eqb p page) (ids_of slots) (ids_on v.items p)) ids_same;
+  count = puts.count ∙ ap (λ v. max (2 + length v.items) (suc page)) ids_same;
+  places = λ j. puts.places j ∙ ap (λ m. cond (eqb j id) place (at m.entries j)) places_same;
+}
+  where
+    by_test : (p : ℕ) (b : Bool) → eqb p page ≡ b → cond b (Some slots) (at between p) ≡ cond b (Some slots) (at was p)
+    by_test p true e = refl
+    by_test p false e = apart p e
 
 -- ---- the steps of a change
 

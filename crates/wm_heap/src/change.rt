@@ -1,15 +1,16 @@
 //! One change of a heap: what is under an id is put where there is room, or taken out.
-ghost use Rattle.std.specs.Prelude.{◌≡◌, ℕ, ◌<◌, ◌≤◌, true, false, ◌||◌, ◌==◌, if◌then◌else◌, ◌++◌, ◌∷◌, [], length, Some, None, is_some, OnOk, IsErrOf, IfSome};
+ghost use Rattle.std.specs.Prelude.{◌≡◌, ℕ, ◌+◌, ◌<◌, ◌≤◌, true, false, ◌||◌, ◌==◌, if◌then◌else◌, ◌++◌, ◌∷◌, [], length, Some, None, is_some, OnOk, IsErrOf, IfSome};
 ghost use Rattle.wm_base.specs.declared.fault.StoreFault.TheVariants as faults;
 ghost use Rattle.wm_page.specs.Cause.{StoreCause};
 ghost use Rattle.wm_heap.specs.Draft.{HasRoom, Stands, Puts, Goes, Done};
 ghost use Rattle.wm_heap.specs.Places.{place_of, page_count};
 
 use crate::blob::Blob;
-use crate::draft::{Changed, slots_by_now};
+use crate::draft::{Changed, take_slots};
 use crate::heap::Heap;
 use crate::ids::ids_of_slots;
 use crate::places::{clear_page_of, page_of as place_in, set_page_of};
+use crate::room::take_roomy;
 use crate::slot::{Slots, slot_of};
 use std::alloc::Global;
 use wm_base::{Bytes, Memory, StoreFault};
@@ -17,6 +18,7 @@ use wm_page::Pages;
 
 impl Heap {
     /// Puts these slots on a page, or on a new page behind the last.
+    #[tactic(auto, using(crate::proofs::Standing::one_more))]
     fn set_slots(
         &mut self,
         alloc: Global,
@@ -28,8 +30,10 @@ impl Heap {
         requires till { page ≤ page_count self.old }
         ensures ok { OnOk result ((id : ℕ) → Puts page slots id (place_of self.old id) self.old self.new changed.old.entries changed.new.entries) }
         ensures places { self.new.places ≡ self.old.places }
+        ensures few { OnOk result (length changed.new.entries ≤ length changed.old.entries + 1) }
     {
         let ids = ids_of_slots(alloc, slots.as_slice())?;
+        self.room.keep(page, slots.left())?;
         let at = (page - 2) as usize;
         if at < self.ids.len() {
             self.ids[at] = ids;
@@ -52,7 +56,8 @@ impl Heap {
     ) -> Result<(), Memory>
         requires from { 2 ≤ page }
         requires till { page ≤ page_count self.old }
-        ensures { OnOk result (Puts page (slots ++ (record { id = id; bytes = bytes.now }) ∷ []) id (Some page) self.old self.new changed.old.entries changed.new.entries) }
+        ensures puts { OnOk result (Puts page (slots ++ (record { id = id; bytes = bytes.now }) ∷ []) id (Some page) self.old self.new changed.old.entries changed.new.entries) }
+        ensures few { OnOk result (length changed.new.entries ≤ length changed.old.entries + 1) }
     {
         let mut slots = slots;
         slots.push(slot_of(alloc, id, bytes)?)?;
@@ -61,7 +66,7 @@ impl Heap {
         Ok(())
     }
 
-    /// Puts bytes under an id that has none: on the last page, or on a new one.
+    /// Puts bytes under an id that has none: on a page that has room, or on a new one.
     fn add<G: Pages>(
         &mut self,
         alloc: Global,
@@ -76,6 +81,7 @@ impl Heap {
         requires stands { G.tells → Stands self.old changed.old.entries (G.held pages.old) (G.in_use pages.old) (G.in_file pages.old) }
         ensures goes { OnOk result (Goes self.old self.new changed.old.entries changed.new.entries id true) }
         ensures done { G.tells → OnOk result (Done self.old self.new changed.old.entries changed.new.entries (G.held pages.old) (G.in_use pages.old) (G.in_file pages.old) id (Some bytes.now)) }
+        ensures few { OnOk result (length changed.new.entries ≤ length changed.old.entries + 1) }
         ensures told { G.tells → G.held pages.new ≡ G.held pages.old }
         ensures past { G.tells → G.past pages.new ≡ G.past pages.old }
         ensures source { G.source pages.new ≡ G.source pages.old }
@@ -84,15 +90,13 @@ impl Heap {
         ensures cause { StoreCause (G.faults pages.old) (G.faults pages.new) result }
         ensures sound { G.tells → IsErrOf result faults.Changed → ⊥ }
     {
-        let last = self.page_count() - 1;
-        if last >= 2 {
-            let slots = slots_by_now(alloc, changed, pages, last)?;
-            if slots.fit_with(bytes.len()) {
-                self.put_behind(alloc, changed, last, slots, id, bytes)?;
-                return Ok(());
-            }
-        }
-        self.put_behind(alloc, changed, last + 1, Slots::new(alloc), id, bytes)?;
+        let count = self.page_count();
+        let Some(roomy) = take_roomy(alloc, &mut self.room, changed, pages, count, bytes.len())?
+        else {
+            self.put_behind(alloc, changed, count, Slots::new(alloc), id, bytes)?;
+            return Ok(());
+        };
+        self.put_behind(alloc, changed, roomy.page, roomy.slots, id, bytes)?;
         Ok(())
     }
 
@@ -107,7 +111,8 @@ impl Heap {
     ) -> Result<(), Memory>
         requires from { 2 ≤ page }
         requires till { page ≤ page_count self.old }
-        ensures { OnOk result (Puts page slots id None self.old self.new changed.old.entries changed.new.entries) }
+        ensures puts { OnOk result (Puts page slots id None self.old self.new changed.old.entries changed.new.entries) }
+        ensures few { OnOk result (length changed.new.entries ≤ length changed.old.entries + 1) }
     {
         self.set_slots(alloc, changed, page, slots)?;
         clear_page_of(&mut self.places, id);
@@ -129,6 +134,7 @@ impl Heap {
         requires stands { G.tells → Stands self.old changed.old.entries (G.held pages.old) (G.in_use pages.old) (G.in_file pages.old) }
         ensures goes { OnOk result (Goes self.old self.new changed.old.entries changed.new.entries blob.now.id true) }
         ensures done { G.tells → OnOk result (Done self.old self.new changed.old.entries changed.new.entries (G.held pages.old) (G.in_use pages.old) (G.in_file pages.old) blob.now.id blob.now.bytes) }
+        ensures few { OnOk result (length changed.new.entries ≤ length changed.old.entries + 2) }
         ensures told { G.tells → G.held pages.new ≡ G.held pages.old }
         ensures past { G.tells → G.past pages.new ≡ G.past pages.old }
         ensures source { G.source pages.new ≡ G.source pages.old }
@@ -140,8 +146,8 @@ impl Heap {
         if page < 2 || page >= self.page_count() {
             return Err(StoreFault::Changed);
         }
-        let slots = slots_by_now(alloc, changed, pages, page)?;
-        let slots = slots.without(alloc, blob.id)?;
+        let found = take_slots(alloc, changed, pages, page)?;
+        let slots = found.without(blob.id);
         let Some(bytes) = &blob.bytes else {
             self.take_out(alloc, changed, page, slots, blob.id)?;
             return Ok(());
@@ -168,6 +174,7 @@ impl Heap {
         requires stands { G.tells → Stands self.old changed.old.entries (G.held pages.old) (G.in_use pages.old) (G.in_file pages.old) }
         ensures goes { OnOk result (Goes self.old self.new changed.old.entries changed.new.entries blob.now.id (is_some blob.now.bytes || is_some (place_of self.old blob.now.id))) }
         ensures done { G.tells → OnOk result (Done self.old self.new changed.old.entries changed.new.entries (G.held pages.old) (G.in_use pages.old) (G.in_file pages.old) blob.now.id blob.now.bytes) }
+        ensures few { OnOk result (length changed.new.entries ≤ length changed.old.entries + 2) }
         ensures told { G.tells → G.held pages.new ≡ G.held pages.old }
         ensures past { G.tells → G.past pages.new ≡ G.past pages.old }
         ensures source { G.source pages.new ≡ G.source pages.old }

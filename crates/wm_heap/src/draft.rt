@@ -1,5 +1,5 @@
 //! The pages of a change, before they are written.
-ghost use Rattle.std.specs.Prelude.{◌≡◌, ℕ, ◌+◌, ◌<◌, ◌≤◌, ◌++◌, List, true, nat_lt, length, Some, is_some, IfOk, OnOk, IsErrOf};
+ghost use Rattle.std.specs.Prelude.{◌≡◌, ℕ, ◌+◌, ◌<◌, ◌≤◌, ◌++◌, ◌==◌, List, true, false, nat_lt, length, Some, None, is_some, IfOk, IfSome, OnOk, IsErrOf};
 ghost use Rattle.std.specs.BTreeMap.{IsOrdered};
 ghost use Rattle.std.specs.Ordering.{nat_cmp};
 ghost use Rattle.wm_base.specs.declared.fault.StoreFault.TheVariants as faults;
@@ -23,28 +23,64 @@ use wm_page::{PAGE_SIZE, PageBatch, PageWrite, PageWrites, Pages, write_number};
 /// The slots of the pages that a change puts.
 pub type Changed = BTreeMap<u64, Slots>;
 
-/// The slots of a page by now.
-pub fn slots_by_now<G: Pages>(
+/// The slots of a page by now. Those that were put there are taken out.
+pub fn take_slots<G: Pages>(
     alloc: Global,
-    changed: &Changed,
+    changed: &mut Changed,
     pages: &mut G,
     page: u64,
 ) -> Result<Slots, StoreFault>
-    requires { HasRoom changed.now.entries }
-    ensures value { G.tells → IfOk result (λ slots. slots ≡ slots_now changed.now.entries (G.held pages.old) page) }
+    requires { HasRoom changed.old.entries }
+    ensures value { G.tells → IfOk result (λ slots. slots ≡ slots_now changed.old.entries (G.held pages.old) page) }
     ensures room { IfOk result (λ slots. used slots ≤ 4096) }
+    ensures others { (p : ℕ) → (p == page) ≡ false → at changed.new.entries p ≡ at changed.old.entries p }
+    ensures fewer { length changed.new.entries ≤ length changed.old.entries }
     ensures told { G.tells → G.held pages.new ≡ G.held pages.old }
     ensures past { G.tells → G.past pages.new ≡ G.past pages.old }
     ensures source { G.source pages.new ≡ G.source pages.old }
     ensures in_use { G.in_use pages.new ≡ G.in_use pages.old }
     ensures in_file { G.in_file pages.new ≡ G.in_file pages.old }
     ensures cause { StoreCause (G.faults pages.old) (G.faults pages.new) result }
-    ensures sound { G.tells → IsThere changed.now.entries (G.held pages.old) (G.in_use pages.old) (G.in_file pages.old) page → IsErrOf result faults.Changed → ⊥ }
+    ensures sound { G.tells → IsThere changed.old.entries (G.held pages.old) (G.in_use pages.old) (G.in_file pages.old) page → IsErrOf result faults.Changed → ⊥ }
 {
-    match changed.get(&page) {
-        Some(slots) => Ok(slots.copy(alloc)?),
+    match changed.remove(&page) {
+        Some(slots) => Ok(slots),
         None => stored_slots(alloc, pages, page),
     }
+}
+
+/// The same where they leave room for a slot of so many bytes. Else nothing is taken out.
+pub fn take_fitting<G: Pages>(
+    alloc: Global,
+    changed: &mut Changed,
+    pages: &mut G,
+    page: u64,
+    len: usize,
+) -> Result<Option<Slots>, StoreFault>
+    ensures value { G.tells → IfOk result (λ found. IfSome found (λ slots. slots ≡ slots_now changed.old.entries (G.held pages.old) page)) }
+    ensures room { IfOk result (λ found. IfSome found (λ slots. used slots + 10 + len ≤ 4096)) }
+    ensures others { (p : ℕ) → (p == page) ≡ false → at changed.new.entries p ≡ at changed.old.entries p }
+    ensures fewer { length changed.new.entries ≤ length changed.old.entries }
+    ensures kept { IfOk result (λ found. found ≡ None → changed.new.entries ≡ changed.old.entries) }
+    ensures told { G.tells → G.held pages.new ≡ G.held pages.old }
+    ensures past { G.tells → G.past pages.new ≡ G.past pages.old }
+    ensures source { G.source pages.new ≡ G.source pages.old }
+    ensures in_use { G.in_use pages.new ≡ G.in_use pages.old }
+    ensures in_file { G.in_file pages.new ≡ G.in_file pages.old }
+    ensures cause { StoreCause (G.faults pages.old) (G.faults pages.new) result }
+    ensures sound { G.tells → IsThere changed.old.entries (G.held pages.old) (G.in_use pages.old) (G.in_file pages.old) page → IsErrOf result faults.Changed → ⊥ }
+{
+    let Some(put) = changed.get(&page) else {
+        let slots = stored_slots(alloc, pages, page)?;
+        if slots.fit_with(len) {
+            return Ok(Some(slots));
+        }
+        return Ok(None);
+    };
+    if put.fit_with(len) {
+        return Ok(changed.remove(&page));
+    }
+    Ok(None)
 }
 
 /// Page 1 of a store with so many pages.

@@ -1,5 +1,5 @@
 //! The heap: where each record stands.
-ghost use Rattle.std.specs.Prelude.{◌≡◌, ℕ, ◌+◌, ◌<◌, ◌≤◌, ◌⊎◌, ◌++◌, ◌∷◌, [], true, not, length, is_some, IfOk, IsErrOf, OnOk, IsTrue, ◌==◌};
+ghost use Rattle.std.specs.Prelude.{◌≡◌, ℕ, ◌+◌, ◌*◌, ◌<◌, ◌≤◌, ◌⊎◌, ◌++◌, ◌∷◌, [], true, not, length, is_some, IfOk, IsErrOf, OnOk, IsTrue, ◌==◌};
 ghost use Rattle.wm_base.specs.declared.fault.StoreFault.TheVariants as faults;
 ghost use Rattle.wm_page.specs.Batch.{entries};
 ghost use Rattle.wm_page.specs.Cause.{StoreCause};
@@ -13,6 +13,7 @@ use crate::blob::{Blob, Blobs};
 use crate::draft::{Changed, page_batch};
 use crate::ids::Ids;
 use crate::places::{Places, page_of as place_in};
+use crate::room::Room;
 use crate::slot::{Slots, slot_of};
 use crate::spot::{Spot, Spots};
 use crate::stored::stored_slots;
@@ -27,6 +28,8 @@ pub struct Heap {
     pub(crate) ids: Vec<Ids>,
     /// The page of each id.
     pub(crate) places: Places,
+    /// Which pages have room.
+    pub(crate) room: Room,
 }
 
 impl Heap {
@@ -79,7 +82,8 @@ impl Heap {
     }
 
     /// The pages that put the changes in place, and none exactly where nothing changes. The heap is then that of
-    /// the store with these pages. After an error it is to be given up.
+    /// the store with these pages. They are at most two for each change, and two more. After an error the heap is to be
+    /// given up.
     pub fn plan<G: Pages>(
         &mut self,
         alloc: Global,
@@ -92,6 +96,7 @@ impl Heap {
         requires whole { G.tells → G.in_use pages.old ≤ G.in_file pages.old }
         ensures plan { IfOk result (λ b. IsPlan (page_count self.old) (page_count self.new) (entries b.pages)) }
         ensures nothing { IfOk result (λ b. (length b.pages == 0) ≡ not (change_something (λ id. is_some (place_of self.old id)) batch.now)) }
+        ensures few { IfOk result (λ b. length b.pages ≤ 2 * length batch.now + 2) }
         ensures changed { G.tells → IfOk result (λ b. IsChanged self.new batch.now (entries b.pages) (G.held pages.old) (G.in_use pages.old)) }
         ensures told { G.tells → G.held pages.new ≡ G.held pages.old }
         ensures past { G.tells → G.past pages.new ≡ G.past pages.old }

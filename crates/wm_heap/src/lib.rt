@@ -9,6 +9,7 @@ mod ids;
 mod load;
 mod places;
 mod reading;
+mod room;
 pub mod slot;
 pub mod spot;
 mod stored;

@@ -18,6 +18,7 @@ use crate::heap::Heap;
 use crate::ids::{Ids, ids_of_slots};
 use crate::places::{Places, page_of as place_in, set_page_of};
 use crate::reading::read_slots;
+use crate::room::Room;
 use crate::slot::{Slot, Slots, slot_of};
 use crate::writing::write_slots;
 use std::alloc::Global;
@@ -77,11 +78,12 @@ fn place_all(places: &mut Places, page: u64, slots: &[Slot]) -> Result<(), OpenF
     Ok(())
 }
 
-/// Keeps the ids of a page, and the page of each.
+/// Keeps the ids of a page, the page of each, and how much room it has.
 fn load_page<G: Pages>(
     alloc: Global,
     places: &mut Places,
     ids: &mut Vec<Ids>,
+    room: &mut Room,
     pages: &mut G,
     page: u64,
 ) -> Result<(), OpenFault>
@@ -101,6 +103,8 @@ fn load_page<G: Pages>(
     let slots = load_slots(alloc, pages, page)?;
     place_all(places, page, slots.as_slice())?;
     ids.push(ids_of_slots(alloc, slots.as_slice())?)?;
+    room.prefer(page);
+    room.keep(page, slots.left())?;
     Ok(())
 }
 
@@ -122,10 +126,11 @@ impl Heap {
     {
         let mut places = Places::new(alloc);
         let mut ids = Vec::new(alloc);
+        let mut room = Room::new(alloc);
         for page in 2..pages.count() {
-            load_page(alloc, &mut places, &mut ids, pages, page)?;
+            load_page(alloc, &mut places, &mut ids, &mut room, pages, page)?;
         }
-        Ok(Heap { ids, places })
+        Ok(Heap { ids, places, room })
     }
 
     /// The heap of a store that holds these records alone, and its pages: page 1 and page 2.
@@ -143,8 +148,11 @@ impl Heap {
         place_each(&mut places, 2, slots.as_slice())?;
         let mut ids = Vec::new(alloc);
         ids.push(ids_of_slots(alloc, slots.as_slice())?)?;
+        let mut room = Room::new(alloc);
+        room.prefer(2);
+        room.keep(2, slots.left())?;
         let pages = first_pages(alloc, &slots)?;
-        Ok((Heap { ids, places }, pages))
+        Ok((Heap { ids, places, room }, pages))
     }
 }
 

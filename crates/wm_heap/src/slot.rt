@@ -1,5 +1,5 @@
 //! The slots of a page.
-ghost use Rattle.std.specs.Prelude.{◌≡◌, ◌+◌, ◌<◌, ◌≤◌, false, IsTrue, ◌∷◌, [], ◌++◌, length, filter, not, ◌==◌, Some, OnOk, OnErr, IfOk};
+ghost use Rattle.std.specs.Prelude.{◌≡◌, ◌+◌, ◌-◌, ◌<◌, ◌≤◌, false, IsTrue, ◌∷◌, [], ◌++◌, length, filter, not, ◌==◌, Some, OnOk, OnErr, IfOk};
 ghost use Rattle.wm_heap.specs.Slots.{used};
 ghost use Rattle.wm_heap.specs.Content.{bytes_at};
 
@@ -60,28 +60,13 @@ impl Slots {
         Ok(())
     }
 
-    /// A copy of the slots.
-    pub fn copy(&self, alloc: Global) -> Result<Slots, Memory>
-        ensures { IfOk result (λ slots. slots ≡ self.now) }
-    {
-        let mut slots = Slots::new(alloc);
-        for slot in self.as_slice() {
-            slots.push(slot_of(alloc, slot.id, &slot.bytes)?)?;
-        }
-        Ok(slots)
-    }
-
     /// The slots but those of an id.
-    pub fn without(&self, alloc: Global, id: u64) -> Result<Slots, Memory>
-        ensures { IfOk result (λ slots. slots ≡ filter (λ s. not (s.id == id)) self.now) }
+    pub fn without(self, id: u64) -> Slots
+        ensures { result ≡ filter (λ s. not (s.id == id)) self }
     {
-        let mut slots = Slots::new(alloc);
-        for slot in self.as_slice() {
-            if slot.id != id {
-                slots.push(slot_of(alloc, slot.id, &slot.bytes)?)?;
-            }
-        }
-        Ok(slots)
+        let mut slots = self;
+        slots.list.retain(|slot| slot.id != id);
+        slots
     }
 
     /// The bytes under an id.
@@ -96,6 +81,17 @@ impl Slots {
         Ok(None)
     }
 
+    /// How many bytes of a page they leave.
+    pub fn left(&self) -> usize
+        ensures { result ≡ 4096 - used self.now }
+    {
+        let mut left: usize = 4094;
+        for slot in self.as_slice() {
+            left = left.saturating_sub(10 + slot.bytes.len());
+        }
+        left
+    }
+
     /// Whether a page has room for them and a slot of so many bytes.
     pub fn fit_with(&self, len: usize) -> bool
         ensures yes { IsTrue result → used self.now + 10 + len ≤ 4096 }
@@ -104,15 +100,7 @@ impl Slots {
         if len > 4084 {
             return false;
         }
-        let mut left = 4084 - len;
-        for slot in self.as_slice() {
-            let need = 10 + slot.bytes.len();
-            if need > left {
-                return false;
-            }
-            left -= need;
-        }
-        true
+        10 + len <= self.left()
     }
 }
 

@@ -1,30 +1,27 @@
--- What is held along a path by the pieces of one key, found under their versions.
-use Rattle.std.proofs.Common.{◌≡◌, ◌≢◌, ◌<◌, ◌≤◌, ◌+◌, ◌&&◌, ◌||◌, ℕ, Bool, true, false, cond, eqb, nat_eq, ◌==◌, nat_le, nat_lt, List, [], ◌∷◌, ◌++◌, Option, Some, None, refl, sym, ap, ◌∙◌, arith, ◌⊎◌, inl, inr}
-use Rattle.std.proofs.lemmas.Bool.{cases_lt, cases_eq, eq-eqb, ne_eqb, eqb-true}
-use Rattle.std.proofs.lemmas.Map.Keys.{sorted_head, sorted_tail}
-use Rattle.std.specs.BTreeMap.{is_at}
+-- What is held along a path by the pieces of one key, laid version by version.
+use Rattle.std.proofs.Common.{◌≡◌, ◌≢◌, ◌<◌, ◌≤◌, ◌+◌, ◌&&◌, ◌||◌, ℕ, zero, suc, max, length, get_or, drop, Bool, true, false, cond, nat_eq, ◌==◌, nat_le, nat_lt, List, [], ◌∷◌, Option, Some, None, is_some, refl, sym, ap, ◌∙◌, subst, arith, ◌⊎◌, inl, inr}
+use Rattle.std.proofs.lemmas.Bool.{cases_lt, cases_eq, eq-eqb, ne_eqb}
+use Rattle.std.proofs.lemmas.List.{drop_all, drop_more}
 use Rattle.std.specs.Bool.{then_some}
-use Rattle.std.specs.List.{filter, list_any, AllByRecursion}
-use Rattle.std.specs.List.Sorted.{IsStrictlySortedBy}
-use Rattle.std.specs.Map.{keys_of, lookup}
+use Rattle.std.specs.List.{list_any, AllByRecursion}
 use Rattle.std.specs.Option.{option_and_then, option_or}
-use Rattle.std.specs.Ordering.{nat_cmp}
-use Rattle.std.specs.declared.alloc.Global.{Global}
-use Rattle.std.specs.declared.cmp.Ordering.TheVariants.{Less}
-use Rattle.std.specs.declared.vec.Vec.{Vec}
-use Rattle.wm_graph.specs.Parts.{as_piece}
-use Rattle.wm_image.proofs.Falling.{bounded, not_below}
-use Rattle.wm_image.proofs.Walking.{held-cons}
-use Rattle.wm_image.specs.Shown.{Falls, FallsBelow, along, first_held, has_at, held_here, is_piece_on, last_held}
-use Rattle.wm_index.proofs.IdLists.{less_than}
-use Rattle.wm_index.proofs.TableLists.{is_at-number}
+use Rattle.wm_graph.specs.Parts.{Parts, as_piece}
+use Rattle.wm_graph.specs.Rules.{keep_rules}
+use Rattle.wm_image.proofs.Falling.{FallsBelow, below_path, not_below}
+use Rattle.wm_image.proofs.Walking.{held-cons, ruled}
+use Rattle.wm_image.specs.Shown.{along, entry_held, first_held, held_here}
+use Rattle.wm_index.specs.Versioned.{AreSpanned, IsSpanned, VersionsBelow, VersionsFall, ids_under}
+use Rattle.wm_index.specs.declared.versioned.Versioned.{Versioned}
+use Rattle.wm_index.proofs.Placing.{none_below}
 use Rattle.wm_index.specs.Kinds.{kind_at}
-use Rattle.wm_index.specs.Sought.{ids_found, ids_in}
-use Rattle.wm_period.specs.Pieces.{Held}
+use Rattle.wm_base.specs.Period.{covers}
+use Rattle.wm_period.specs.Pieces.{Held, held, held_at}
+use Rattle.wm_period.specs.declared.piece.Piece.{Piece}
 use Rattle.wm_spec.specs.Records.{record_at}
 use Rattle.wm_spec.specs.declared.record.piece.PieceRecord.{PieceRecord}
 use Rattle.wm_spec.specs.declared.record.stored.Stored.{Stored}
-use Rattle.wm_state.specs.Standing.{held_by}
+use Rattle.wm_state.specs.Standing.{held_by, newest_first}
+use Rattle.wm_tree.specs.Versions.{path_in}
 
 -- ---- what the greatest number has
 
@@ -79,141 +76,172 @@ along_below f b (v ∷ vs) below = by_held (f v) refl (along_below f v vs below.
 
 -- ---- under versions
 
+-- what the first of the entries has whose version stands on a path
+abbrev pub newest_held : List Stored → List ℕ → List Versioned → ℕ → Option Held
+newest_held ss path [] t = None
+newest_held ss path (e ∷ es) t = option_or (entry_held ss path e t) (newest_held ss path es t)
+
 -- what the pieces under a version have of it
-abbrev held_under : List Stored → ℕ → List (ℕ × Vec ℕ Global) → ℕ → Option Held
-held_under ss t es v = first_held (kind_at as_piece ss (ids_in nat_cmp es v)) v t
+abbrev held_under : List Stored → ℕ → List Versioned → ℕ → Option Held
+held_under ss t es v = first_held (kind_at as_piece ss (ids_under es v)) v t
 
-ids_away : (e : ℕ × Vec ℕ Global) (es : List (ℕ × Vec ℕ Global)) (v : ℕ) → v ≢ e.0 → ids_in nat_cmp (e ∷ es) v ≡ ids_in nat_cmp es v
-ids_away e es v other = ap (λ b. ids_found (cond b (Some e.1) (lookup (is_at (nat_cmp v)) es))) (is_at-number v e.0 ∙ ne_eqb v e.0 other)
+under_away : (e : Versioned) (es : List Versioned) (v : ℕ) → v ≢ e.version → ids_under (e ∷ es) v ≡ ids_under es v
+under_away e es v other = ap (λ b. cond b e.ids.items (ids_under es v)) (ne_eqb e.version v (λ same. other (sym same)))
 
-ids_here : (e : ℕ × Vec ℕ Global) (es : List (ℕ × Vec ℕ Global)) (v : ℕ) → v ≡ e.0 → ids_in nat_cmp (e ∷ es) v ≡ e.1.items
-ids_here e es v same = ap (λ b. ids_found (cond b (Some e.1) (lookup (is_at (nat_cmp v)) es))) (is_at-number v e.0 ∙ eq-eqb v e.0 same)
+under_here : (e : Versioned) (es : List Versioned) → ids_under (e ∷ es) e.version ≡ e.ids.items
+under_here e es = ap (λ b. cond b e.ids.items (ids_under es e.version)) (eq-eqb e.version e.version refl)
 
--- before the first key there are none
-ids_before : (k : ℕ) (es : List (ℕ × Vec ℕ Global)) (v : ℕ) → AllByRecursion (λ q. nat_cmp k q ≡ Less) (keys_of es) → v ≤ k → ids_in nat_cmp es v ≡ []
-ids_before k [] v above most = refl
-ids_before k (e ∷ es) v above most =
-    let first = less_than k e.0 above.0 in
-    ids_away e es v (λ same. absurd (omega (arith, first, most, same))) ∙ ids_before k es v above.1 most
-
-last_topmost : (ss : List Stored) (t : ℕ) (es : List (ℕ × Vec ℕ Global)) → IsStrictlySortedBy nat_cmp (keys_of es) → Topmost (held_under ss t es) (last_held ss es t)
-last_topmost ss t [] sorted = λ v. refl
-last_topmost ss t (e ∷ es) sorted = by_rest (last_held ss es t) (last_topmost ss t es (sorted_tail nat_cmp e.0 (keys_of es) sorted))
+newest_topmost : (ss : List Stored) (path : List ℕ) (t b : ℕ) (es : List Versioned) → VersionsBelow b es → Topmost (said_on (held_under ss t es) path) (newest_held ss path es t)
+newest_topmost ss path t b [] below = λ v. said_none (list_any (nat_eq v) path) None refl
+newest_topmost ss path t b (e ∷ es) below = by_own (entry_held ss path e t) refl (newest_topmost ss path t e.version es below.1)
   where
-    own : Option Held
-    own = first_held (kind_at as_piece ss e.1.items) e.0 t
+    says : ℕ → Option Held
+    says = said_on (held_under ss t (e ∷ es)) path
 
-    here : (v : ℕ) → v ≡ e.0 → held_under ss t (e ∷ es) v ≡ own
-    here v same = ap (λ ids. first_held (kind_at as_piece ss ids) v t) (ids_here e es v same) ∙ ap (λ n. first_held (kind_at as_piece ss e.1.items) n t) same
+    rest_says : ℕ → Option Held
+    rest_says = said_on (held_under ss t es) path
 
-    away : (v : ℕ) → v ≢ e.0 → held_under ss t (e ∷ es) v ≡ held_under ss t es v
-    away v other = ap (λ ids. first_held (kind_at as_piece ss ids) v t) (ids_away e es v other)
+    away : (v : ℕ) → v ≢ e.version → says v ≡ rest_says v
+    away v other = ap (λ ids. cond (list_any (nat_eq v) path) (first_held (kind_at as_piece ss ids) v t) None) (under_away e es v other)
 
-    none_before : (v : ℕ) → v ≤ e.0 → held_under ss t es v ≡ None
-    none_before v most = ap (λ ids. first_held (kind_at as_piece ss ids) v t) (ids_before e.0 es v (sorted_head nat_cmp e.0 (keys_of es) sorted) most)
+    here : says e.version ≡ entry_held ss path e t
+    here = ap (λ ids. cond (list_any (nat_eq e.version) path) (first_held (kind_at as_piece ss ids) e.version t) None) (under_here e es)
 
-    by_own : (o : Option Held) → own ≡ o → ((v : ℕ) → held_under ss t es v ≡ None) → Topmost (held_under ss t (e ∷ es)) o
-    by_own None none rest = λ v. by_number v (cases_eq v e.0)
+    newer : (v : ℕ) → e.version ≤ v → rest_says v ≡ None
+    newer v most =
+        ap (λ ids. cond (list_any (nat_eq v) path) (first_held (kind_at as_piece ss ids) v t) None) (none_below e.version v es below.1 most)
+        ∙ said_none (list_any (nat_eq v) path) None refl
+
+    by_own : (o : Option Held) → entry_held ss path e t ≡ o → Topmost rest_says (newest_held ss path es t) → Topmost says (option_or o (newest_held ss path es t))
+    by_own None none rest = topmost_same rest_says says (λ v. by_number v (cases_eq v e.version)) (newest_held ss path es t) rest
       where
-        by_number : (v : ℕ) → (v ≡ e.0) ⊎ (v ≢ e.0) → held_under ss t (e ∷ es) v ≡ None
-        by_number v (inl same) = here v same ∙ none
-        by_number v (inr other) = away v other ∙ rest v
-    by_own (Some h) some rest = (e.0, here e.0 refl ∙ some, λ w more. away w (λ same. absurd (omega (arith, more, same))) ∙ rest w)
+        by_number : (v : ℕ) → (v ≡ e.version) ⊎ (v ≢ e.version) → rest_says v ≡ says v
+        by_number v (inl same) = newer v (omega (arith, same)) ∙ sym (ap says same ∙ here ∙ none)
+        by_number v (inr other) = sym (away v other)
+    by_own (Some h) some rest = (e.version, here ∙ some, λ w more. away w (λ same. absurd (omega (arith, more, same))) ∙ newer w (omega (arith, more)))
 
-    by_rest : (o : Option Held) → Topmost (held_under ss t es) o → Topmost (held_under ss t (e ∷ es)) (option_or o own)
-    by_rest None top = by_own own refl top
-    by_rest (Some h) top = by_place (cases_lt e.0 top.0)
-      where
-        by_place : (e.0 < top.0) ⊎ (top.0 ≤ e.0) → Topmost (held_under ss t (e ∷ es)) (Some h)
-        by_place (inl later) = (
-          top.0,
-          away top.0 (λ same. absurd (omega (arith, later, same))) ∙ top.1,
-          λ w more. away w (λ same. absurd (omega (arith, later, more, same))) ∙ top.2 w more,
-        )
-        by_place (inr early) = absurd (none_some (held_under ss t es top.0) h (none_before top.0 early) top.1)
+versions_below : (es : List Versioned) → VersionsFall es → (b : ℕ) × VersionsBelow b es
+versions_below [] down = (0, tt)
+versions_below (e ∷ es) down = (e.version + 1, (omega arith, down))
 
--- ---- the pieces that stand on a path
-
--- the piece of an id is a version's own, and the version stands on a path
-abbrev pub id_on : List Stored → List ℕ → ℕ → ℕ → Bool
-id_on ss path v id = is_piece_on path v (option_and_then as_piece (record_at ss id))
-
-held_on : (ss : List Stored) (path ids : List ℕ) (v t : ℕ) → first_held (kind_at as_piece ss (filter (id_on ss path v) ids)) v t ≡ said_on (λ w. first_held (kind_at as_piece ss ids) w t) path v
-held_on ss path [] v t = sym (said_none (list_any (nat_eq v) path) None refl)
-held_on ss path (id ∷ ids) v t =
-    by_piece (option_and_then as_piece (record_at ss id)) refl (held_on ss path ids v t)
-    ∙ sym (ap (λ o. cond (list_any (nat_eq v) path) o None) (held-cons ss id ids v t))
+-- what the first entry on a path has is what is held along it
+pub held_along : (ss : List Stored) (p : Parts) → keep_rules p ≡ true → (top : ℕ) (es : List Versioned) (t : ℕ) → VersionsFall es
+    → newest_held ss (path_in (newest_first p.versions) top) es t ≡ along (λ v. first_held (kind_at as_piece ss (ids_under es v)) v t) (path_in (newest_first p.versions) top)
+held_along ss p kept top es t down =
+    topmost_one (said_on f path) (newest_held ss path es t) (along f path) (newest_topmost ss path t (versions_below es down).0 es (versions_below es down).1)
+    (along_below f (top + 1) path (below_path (newest_first p.versions) top (top + 1) (ruled p kept).tree (omega arith)))
   where
-    all : Option Held
-    all = first_held (kind_at as_piece ss ids) v t
+    path : List ℕ
+    path = path_in (newest_first p.versions) top
 
-    some : List ℕ
-    some = filter (id_on ss path v) ids
-
-    by_piece : (o : Option PieceRecord) → option_and_then as_piece (record_at ss id) ≡ o → first_held (kind_at as_piece ss some) v t ≡ cond (list_any (nat_eq v) path) all None
-        → first_held (kind_at as_piece ss (cond (is_piece_on path v o) (id ∷ some) some)) v t ≡ cond (list_any (nat_eq v) path) (option_or (held_here o v t) all) None
-    by_piece None is rest = rest
-    by_piece (Some x) is rest = by_version (x.version == v) refl
-      where
-        covered : Bool
-        covered = nat_le x.cells.from t && nat_lt t x.cells.till
-
-        by_path : (b : Bool) → list_any (nat_eq v) path ≡ b
-            → first_held (kind_at as_piece ss (cond (b && true) (id ∷ some) some)) v t ≡ cond b (option_or (held_here (Some x) v t) all) None
-        by_path true there =
-            held-cons ss id some v t
-            ∙ ap (λ o. option_or (held_here o v t) (first_held (kind_at as_piece ss some) v t)) is
-            ∙ ap (option_or (held_here (Some x) v t)) (rest ∙ ap (λ b. cond b all None) there)
-        by_path false there = rest ∙ ap (λ b. cond b all None) there
-
-        by_version : (c : Bool) → (x.version == v) ≡ c
-            → first_held (kind_at as_piece ss (cond (is_piece_on path v (Some x)) (id ∷ some) some)) v t ≡ cond (list_any (nat_eq v) path) (option_or (held_here (Some x) v t) all) None
-        by_version true own =
-            ap (λ n. first_held (kind_at as_piece ss (cond (list_any (nat_eq n) path && (x.version == v)) (id ∷ some) some)) v t) (eqb-true x.version v own)
-            ∙ ap (λ c. first_held (kind_at as_piece ss (cond (list_any (nat_eq v) path && c) (id ∷ some) some)) v t) own
-            ∙ by_path (list_any (nat_eq v) path) refl
-        by_version false other =
-            ap (λ c. first_held (kind_at as_piece ss (cond (list_any (nat_eq x.version) path && c) (id ∷ some) some)) v t) other
-            ∙ by_first (list_any (nat_eq x.version) path)
-            ∙ rest
-            ∙ sym (ap (λ c. cond (list_any (nat_eq v) path) (option_or (then_some (c && covered) (held_by x)) all) None) other)
-          where
-            by_first : (b : Bool) → first_held (kind_at as_piece ss (cond (b && false) (id ∷ some) some)) v t ≡ first_held (kind_at as_piece ss some) v t
-            by_first true = refl
-            by_first false = refl
-
-pub held_along : (ss : List Stored) (path ids : List ℕ) (es : List (ℕ × Vec ℕ Global)) (t : ℕ) → Falls path → IsStrictlySortedBy nat_cmp (keys_of es)
-    → ((v : ℕ) → ids_in nat_cmp es v ≡ filter (id_on ss path v) ids) → last_held ss es t ≡ along (λ v. first_held (kind_at as_piece ss ids) v t) path
-held_along ss path ids es t down sorted known =
-    topmost_one (said_on f path) (last_held ss es t) (along f path)
-    (topmost_same (held_under ss t es) (said_on f path) (λ v. ap (λ l. first_held (kind_at as_piece ss l) v t) (known v) ∙ held_on ss path ids v t) (last_held ss es t) (last_topmost ss t es sorted))
-    (along_below f (bounded path down).0 path (bounded path down).1)
-  where
     f : ℕ → Option Held
-    f v = first_held (kind_at as_piece ss ids) v t
+    f v = first_held (kind_at as_piece ss (ids_under es v)) v t
 
--- ---- from the last version on
+-- ---- entry by entry
 
 or_assoc : (a b c : Option Held) → option_or (option_or a b) c ≡ option_or a (option_or b c)
 or_assoc None b c = refl
 or_assoc (Some h) b c = refl
 
-last_held-push : (ss : List Stored) (es : List (ℕ × Vec ℕ Global)) (e : ℕ × Vec ℕ Global) (t : ℕ)
-    → last_held ss (es ++ e ∷ []) t ≡ option_or (first_held (kind_at as_piece ss e.1.items) e.0 t) (last_held ss es t)
-last_held-push ss [] e t = or_none (first_held (kind_at as_piece ss e.1.items) e.0 t)
-  where
-    or_none : (o : Option Held) → o ≡ option_or o None
-    or_none None = refl
-    or_none (Some h) = refl
-last_held-push ss (d ∷ es) e t =
-    ap (λ o. option_or o (first_held (kind_at as_piece ss d.1.items) d.0 t)) (last_held-push ss es e t)
-    ∙ or_assoc (first_held (kind_at as_piece ss e.1.items) e.0 t) (last_held ss es t) (first_held (kind_at as_piece ss d.1.items) d.0 t)
+pub or_none : (o : Option Held) → o ≡ option_or o None
+or_none None = refl
+or_none (Some h) = refl
 
--- the last version is laid under those before
-pub last_laid : (ss : List Stored) (left rest : List (ℕ × Vec ℕ Global)) (version : ℕ) (ids : Vec ℕ Global) (t : ℕ) (old new all : Option Held) → left ≡ rest ++ (version, ids) ∷ []
-    → new ≡ option_or old (first_held (kind_at as_piece ss ids.items) version t) → option_or old (last_held ss left t) ≡ all → option_or new (last_held ss rest t) ≡ all
-last_laid ss left rest version ids t old new all taken laid so =
-    ap (λ o. option_or o (last_held ss rest t)) laid
-    ∙ or_assoc old (first_held (kind_at as_piece ss ids.items) version t) (last_held ss rest t)
-    ∙ ap (option_or old) (sym (last_held-push ss rest (version, ids) t) ∙ ap (λ es. last_held ss es t) (sym taken))
-    ∙ so
+-- where something stands, what lies under it does not show
+pub hides : (o under : Option Held) → is_some o ≡ true → o ≡ option_or o under
+hides None under some = absurd (cc)
+hides (Some h) under some = refl
+
+-- an entry is laid under those before
+pub next_laid : (old new own rest all : Option Held) → new ≡ option_or old own → option_or old (option_or own rest) ≡ all → option_or new rest ≡ all
+next_laid old new own rest all laid so = ap (λ o. option_or o rest) laid ∙ or_assoc old own rest ∙ so
+
+-- ---- an entry that is covered
+
+out_of : (from till low high t : ℕ) → (from ≤ low) × (high ≤ till) → (nat_le from t && nat_lt t till) ≡ false → (nat_le low t && nat_lt t high) ≡ false
+out_of from till low high t within out = let first = within.0 in let last = within.1 in grind (arith, first, last, out)
+
+-- pieces that lie within a span hold nothing beside it
+beside : (ss : List Stored) (from till v t : ℕ) → (nat_le from t && nat_lt t till) ≡ false → (ids : List ℕ) → AllByRecursion (IsSpanned ss from till) ids → first_held (kind_at as_piece ss ids) v t ≡ None
+beside ss from till v t out [] all = refl
+beside ss from till v t out (id ∷ ids) all = held-cons ss id ids v t ∙ by_piece (option_and_then as_piece (record_at ss id)) all.0 ∙ beside ss from till v t out ids all.1
+  where
+    rest : Option Held
+    rest = first_held (kind_at as_piece ss ids) v t
+
+    by_piece : (o : Option PieceRecord) → ((r : PieceRecord) → o ≡ Some r → (from ≤ r.cells.from) × (r.cells.till ≤ till)) → option_or (held_here o v t) rest ≡ rest
+    by_piece None spanned = refl
+    by_piece (Some x) spanned =
+        ap (λ b. option_or (then_some ((x.version == v) && b) (held_by x)) rest) (out_of from till x.cells.from x.cells.till t (spanned x refl) out)
+        ∙ by_version (x.version == v)
+      where
+        by_version : (b : Bool) → option_or (then_some (b && false) (held_by x)) rest ≡ rest
+        by_version true = refl
+        by_version false = refl
+
+within : (from till t : ℕ) → (nat_le from t && nat_lt t till) ≡ true → (from ≤ t) × (t < till)
+within from till t in_it = (grind (arith, in_it), grind (arith, in_it))
+
+-- what lies over the whole span of an entry hides it
+pub passed_over : (ss : List Stored) (path : List ℕ) (e : Versioned) (t : ℕ) (o : Option Held) → AllByRecursion (IsSpanned ss e.from e.till) e.ids.items → (e.from ≤ t → t < e.till → is_some o ≡ true) → o ≡ option_or o (entry_held ss path e t)
+passed_over ss path e t o spanned covered = by_place (nat_le e.from t && nat_lt t e.till) refl
+  where
+    by_place : (b : Bool) → (nat_le e.from t && nat_lt t e.till) ≡ b → o ≡ option_or o (entry_held ss path e t)
+    by_place true is = hides o (entry_held ss path e t) (covered (within e.from e.till t is).0 (within e.from e.till t is).1)
+    by_place false is =
+        or_none o
+        ∙ ap (option_or o) (sym (ap (λ own. cond (list_any (nat_eq e.version) path) own None) (beside ss e.from e.till e.version t is e.ids.items spanned) ∙ said_none (list_any (nat_eq e.version) path) None refl))
+
+-- what stands on no path is not laid
+pub not_on : (ss : List Stored) (path : List ℕ) (e : Versioned) (t : ℕ) (o : Option Held) → list_any (nat_eq e.version) path ≡ false → o ≡ option_or o (entry_held ss path e t)
+not_on ss path e t o out = or_none o ∙ ap (option_or o) (sym (ap (λ b. cond b (first_held (kind_at as_piece ss e.ids.items) e.version t) None) out))
+
+-- what stands on it is
+pub is_on : (ss : List Stored) (path : List ℕ) (e : Versioned) (t : ℕ) → list_any (nat_eq e.version) path ≡ true → first_held (kind_at as_piece ss e.ids.items) e.version t ≡ entry_held ss path e t
+is_on ss path e t on = sym (ap (λ b. cond b (first_held (kind_at as_piece ss e.ids.items) e.version t) None) on)
+
+-- ---- how far pieces reach
+
+-- a moment of one of the pieces is held
+reaches : (ps : List Piece) (i : ℕ) (p : Piece) (t : ℕ) → i < length ps → p ≡ get_or ps i p → (nat_le p.period.from t && nat_lt t p.period.till) ≡ true → is_some (held_at ps t) ≡ true
+reaches [] i p t less is in_it = absurd (omega (arith, less))
+reaches (q ∷ qs) zero p t less is in_it = ap (λ (x : Piece). is_some (held_at (x ∷ qs) t)) (sym is) ∙ ap (λ b. is_some (option_or (then_some b (held p)) (held_at qs t))) in_it
+reaches (q ∷ qs) (suc i) p t less is in_it = by_first (covers q.period t) (reaches qs i p t (omega (arith, less)) is in_it)
+  where
+    by_first : (b : Bool) → is_some (held_at qs t) ≡ true → is_some (option_or (then_some b (held q)) (held_at qs t)) ≡ true
+    by_first true rest = refl
+    by_first false rest = rest
+
+in_span : (from till t : ℕ) → from ≤ t → t < till → (nat_le from t && nat_lt t till) ≡ true
+in_span from till t low high = grind (arith, low, high)
+
+-- they reach as far as the next of them, where that begins before
+pub reaches_on : (ps : List Piece) (i from reached next : ℕ) (p : Piece) → i < length ps → p ≡ get_or ps i p → p.period.from ≤ reached → next ≤ max reached p.period.till
+    → ((t : ℕ) → from ≤ t → t < reached → is_some (held_at ps t) ≡ true) → (t : ℕ) → from ≤ t → t < next → is_some (held_at ps t) ≡ true
+reaches_on ps i from reached next p less is begun most before t low high = by_place (cases_lt t reached)
+  where
+    by_place : (t < reached) ⊎ (reached ≤ t) → is_some (held_at ps t) ≡ true
+    by_place (inl early) = before t low early
+    by_place (inr late) = reaches ps i p t less is (in_span p.period.from p.period.till t (omega (arith, begun, late)) (below_max reached p.period.till next t most high late))
+      where
+        below_max : (a b n u : ℕ) → n ≤ max a b → u < n → a ≤ u → u < b
+        below_max a b n u m h l = grind (arith, m, h, l)
+
+-- ---- one entry more
+
+-- the first of what is left, and the rest
+pub first_left : (es : List Versioned) (i : ℕ) (e : Versioned) → i < length es → e ≡ get_or es i e → drop i es ≡ e ∷ drop (i + 1) es
+first_left es i e less is = drop_more es i e less ∙ ap (λ (x : Versioned). x ∷ drop (i + 1) es) (sym is)
+
+pub first_spanned : (ss : List Stored) (es : List Versioned) (i : ℕ) (e : Versioned) → i < length es → e ≡ get_or es i e → AreSpanned ss (drop i es)
+    → AllByRecursion (IsSpanned ss e.from e.till) e.ids.items × AreSpanned ss (drop (i + 1) es)
+first_spanned ss es i e less is spanned = subst (AreSpanned ss) (first_left es i e less is) spanned
+
+pub next_entry : (ss : List Stored) (path : List ℕ) (es : List Versioned) (i : ℕ) (e : Versioned) (t : ℕ) (old new all : Option Held) → i < length es → e ≡ get_or es i e → new ≡ option_or old (entry_held ss path e t)
+    → option_or old (newest_held ss path (drop i es) t) ≡ all → option_or new (newest_held ss path (drop (i + 1) es) t) ≡ all
+next_entry ss path es i e t old new all less is laid so =
+    next_laid old new (entry_held ss path e t) (newest_held ss path (drop (i + 1) es) t) all laid (sym (ap (λ (l : List Versioned). option_or old (newest_held ss path l t)) (first_left es i e less is)) ∙ so)
+
+-- where none is left, what is laid is all
+pub none_left : (ss : List Stored) (path : List ℕ) (es : List Versioned) (i : ℕ) (t : ℕ) (o all : Option Held) → length es ≤ i → option_or o (newest_held ss path (drop i es) t) ≡ all → o ≡ all
+none_left ss path es i t o all done so = or_none o ∙ sym (ap (λ (l : List Versioned). option_or o (newest_held ss path l t)) (drop_all i es done)) ∙ so

@@ -37,7 +37,7 @@ use Rattle.wm_image.proofs.Spans.{maximal, value}
 use Rattle.wm_image.proofs.Spanning.{stretches_are, shown_keyed}
 use Rattle.wm_image.specs.Listing.{AddsRows, IsKeyShowing, shown_on}
 use Rattle.wm_image.specs.Standing.{stretches_on}
-use Rattle.wm_index.specs.Sought.{PiecesAt, is_sought}
+use Rattle.wm_index.specs.Sought.{is_piece_of}
 
 -- ---- nothing is held from the end of time on
 
@@ -187,14 +187,14 @@ turned k (q ∷ qs) = ap (λ b. b || list_any (λ q. is_eq (key_order k q)) qs) 
     back Equal = refl
     back Greater = refl
 
-sought_pieces : (table : ℕ) (k : List Value) (rs : List Record) → list_any (λ (x : PieceRecord). (x.cells.table == table) && is_eq (key_order x.cells.key k)) (filter_map as_piece rs) ≡ list_any (is_sought (PiecesAt table k)) rs
+sought_pieces : (table : ℕ) (k : List Value) (rs : List Record) → list_any (λ (x : PieceRecord). (x.cells.table == table) && is_eq (key_order x.cells.key k)) (filter_map as_piece rs) ≡ list_any (is_piece_of table k) rs
 sought_pieces table k [] = refl
 sought_pieces table k (records.Piece x ∷ rs) = ap (λ b. ((x.cells.table == table) && is_eq (key_order x.cells.key k)) || b) (sought_pieces table k rs)
 sought_pieces table k (_ ∷ rs) = sought_pieces table k rs
 
 pub is_showing : (ss : List Stored) (version table : ℕ) (valid : Bool) (within : Span) (keys passed : List (List Value)) (rows : List Row) → passed ≡ keys → Gathered (parts_of ss) version table valid within passed rows
     → IsStrictlySortedBy key_order keys
-    → ((k : List Value) → list_any (λ q. is_eq (key_order k q)) keys ≡ list_any (is_sought (PiecesAt table k)) (map (λ (s : Stored). s.record) ss)) → IsShowing (parts_of ss) version table valid within rows
+    → ((k : List Value) → list_any (λ q. is_eq (key_order k q)) keys ≡ list_any (is_piece_of table k) (map (λ (s : Stored). s.record) ss)) → IsShowing (parts_of ss) version table valid within rows
 unfolding parts_of
 is_showing ss version table valid within keys passed rows all so sorted each = record {
   groups = so.groups;

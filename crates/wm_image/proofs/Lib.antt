@@ -6,6 +6,8 @@ pub mod Newest
 pub mod Walking
 pub mod Latest
 pub mod Falling
+pub mod Descending
+pub mod Hopping
 pub mod Along
 pub mod Naming
 pub mod Cataloguing
@@ -17,5 +19,6 @@ pub mod Saved
 pub mod Spaced
 pub mod Coming
 pub mod Ascending
+pub mod Pieced
 pub mod Least
 pub mod Turned

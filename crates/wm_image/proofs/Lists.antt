@@ -18,7 +18,7 @@ pub record_at-above : (id : ℕ) (ss : List Stored) → AllAbove id ss → recor
 record_at-above id [] above = record_at-none id
 record_at-above id (s ∷ ss) above = record_at-away s ss id (λ e. absurd (let lt = above.0 in omega arith)) ∙ record_at-above id ss above.1
 
-AllAbove-less : (m n : ℕ) (ss : List Stored) → m < n → AllAbove n ss → AllAbove m ss
+pub AllAbove-less : (m n : ℕ) (ss : List Stored) → m < n → AllAbove n ss → AllAbove m ss
 AllAbove-less m n [] lt above = tt
 AllAbove-less m n (s ∷ ss) lt above = (omega (arith, lt, above.0), AllAbove-less m n ss lt above.1)
 
@@ -125,7 +125,7 @@ above-ids : (id : ℕ) (ss : List Stored) → AllAbove id ss → AllByRecursion 
 above-ids id [] above = tt
 above-ids id (s ∷ ss) above = (less_is id s.id above.0, above-ids id ss above.1)
 
-ids-sorted : (ss : List Stored) → Ascend ss → IsStrictlySortedBy nat_cmp (ids_of ss)
+pub ids-sorted : (ss : List Stored) → Ascend ss → IsStrictlySortedBy nat_cmp (ids_of ss)
 unfolding IsStrictlySortedBy
 ids-sorted [] sorted = tt
 ids-sorted (s ∷ ss) sorted = (above-ids s.id ss sorted.0, ids-sorted ss sorted.1)

@@ -1,7 +1,6 @@
 -- The path of a version by the rules, and what is held along it.
-use Rattle.std.proofs.Common.{◌≡◌, ◌≢◌, ◌<◌, ◌+◌, ℕ, Bool, true, false, cond, ◌&&◌, ◌||◌, ◌==◌, nat_lt, nat_le, List, [], ◌∷◌, length, get_or, drop, Option, Some, None, is_some, refl, sym, ap, ◌∙◌, subst, arith, ◌⊎◌, inl, inr}
+use Rattle.std.proofs.Common.{◌≡◌, ◌≢◌, ◌<◌, ℕ, Bool, true, false, cond, ◌&&◌, ◌||◌, ◌==◌, nat_lt, nat_le, List, [], ◌∷◌, Option, Some, None, is_some, refl, sym, ap, ◌∙◌, subst, arith, ◌⊎◌, inl, inr}
 use Rattle.std.proofs.lemmas.Bool.{cases_eq, eq-eqb, ne_eqb, eqb-true}
-use Rattle.std.proofs.lemmas.List.{drop_more}
 use Rattle.std.specs.Bool.{then_some}
 use Rattle.std.specs.BTreeMap.{BTreeMap}
 use Rattle.std.specs.List.{filter, filter_map, list_all, cons_option}
@@ -29,7 +28,7 @@ use Rattle.wm_image.proofs.Newest.{both, Stands, AllStand, AllStand-grow, tree_o
 use Rattle.wm_index.specs.Indexed.{IsIndexed, ids_at, listed}
 use Rattle.wm_index.specs.Kinds.{kind_at}
 use Rattle.wm_image.specs.Shown.{has_at, held_here, first_held, along}
-use Rattle.wm_index.specs.Sought.{PiecesAt, is_sought}
+use Rattle.wm_index.specs.Sought.{PieceAt, is_sought}
 use Rattle.wm_index.specs.declared.index.Index.{Index}
 
 -- ---- the tree of the rules
@@ -122,24 +121,27 @@ seen_at-along pieces c (x ∷ older) v = by_test (x.number == v) (seen_at-along 
     by_test true up rest = ap (option_or (stored_at pieces v c)) up
     by_test false up rest = rest
 
--- only the pieces of the cell's table and key are looked at
-stored_at-sought : (c : Cell) (v : ℕ) (rs : List Record) → stored_at (filter_map as_piece rs) v c ≡ first_held (filter_map as_piece (filter (is_sought (PiecesAt c.table c.key)) rs)) v c.time
+-- only the version's own pieces of the cell's table and key are looked at
+stored_at-sought : (c : Cell) (v : ℕ) (rs : List Record) → stored_at (filter_map as_piece rs) v c ≡ first_held (filter_map as_piece (filter (is_sought (PieceAt c.table c.key v)) rs)) v c.time
 stored_at-sought c v [] = refl
 stored_at-sought c v (records.Piece x ∷ rs) =
-    one (x.version == v) ((x.cells.table == c.table) && is_eq (key_order x.cells.key c.key)) (nat_le x.cells.from c.time && nat_lt c.time x.cells.till) (stored_at (filter_map as_piece rs) v c)
-    (first_held (filter_map as_piece (filter (is_sought (PiecesAt c.table c.key)) rs)) v c.time) (stored_at-sought c v rs)
-    ∙ pushed ((x.cells.table == c.table) && is_eq (key_order x.cells.key c.key))
+    one (x.version == v) (x.cells.table == c.table) (is_eq (key_order x.cells.key c.key)) (nat_le x.cells.from c.time && nat_lt c.time x.cells.till) (stored_at (filter_map as_piece rs) v c)
+    (first_held (filter_map as_piece (filter (is_sought (PieceAt c.table c.key v)) rs)) v c.time) (stored_at-sought c v rs)
+    ∙ pushed ((x.cells.table == c.table) && (is_eq (key_order x.cells.key c.key) && (x.version == v)))
   where
-    one : (a b t : Bool) (all some : Option Held) → all ≡ some → option_or (then_some (a && (b && t)) (held_by x)) all ≡ cond b (option_or (then_some (a && t) (held_by x)) some) some
-    one true true true all some same = refl
-    one true true false all some same = same
-    one true false t all some same = same
-    one false true t all some same = same
-    one false false t all some same = same
+    one : (a p k t : Bool) (all some : Option Held) → all ≡ some
+        → option_or (then_some (a && ((p && k) && t)) (held_by x)) all ≡ cond (p && (k && a)) (option_or (then_some (a && t) (held_by x)) some) some
+    one true true true true all some same = refl
+    one true true true false all some same = same
+    one true true false t all some same = same
+    one true false k t all some same = same
+    one false true true t all some same = same
+    one false true false t all some same = same
+    one false false k t all some same = same
 
-    pushed : (b : Bool) → cond b (option_or (then_some (has_at x v c.time) (held_by x)) (first_held (filter_map as_piece (filter (is_sought (PiecesAt c.table c.key)) rs)) v c.time))
-        (first_held (filter_map as_piece (filter (is_sought (PiecesAt c.table c.key)) rs)) v c.time)
-        ≡ first_held (filter_map as_piece (cond b (records.Piece x ∷ filter (is_sought (PiecesAt c.table c.key)) rs) (filter (is_sought (PiecesAt c.table c.key)) rs))) v c.time
+    pushed : (b : Bool) → cond b (option_or (then_some (has_at x v c.time) (held_by x)) (first_held (filter_map as_piece (filter (is_sought (PieceAt c.table c.key v)) rs)) v c.time))
+        (first_held (filter_map as_piece (filter (is_sought (PieceAt c.table c.key v)) rs)) v c.time)
+        ≡ first_held (filter_map as_piece (cond b (records.Piece x ∷ filter (is_sought (PieceAt c.table c.key v)) rs) (filter (is_sought (PieceAt c.table c.key v)) rs))) v c.time
     pushed true = refl
     pushed false = refl
 stored_at-sought c v (_ ∷ rs) = stored_at-sought c v rs
@@ -160,30 +162,14 @@ held-cons ss id ids v t = by_record (record_at ss id)
 
 -- ---- what an index tells
 
--- what versions have of pieces at a cell, by the ids of its table and key alone
-pub along_told : (kept : BTreeMap ℕ Record) (x : Index) → IsIndexed kept x → (path : List ℕ) (c : Cell) (ids : List ℕ) (time : ℕ) → ids ≡ ids_at x (PiecesAt c.table c.key) → time ≡ c.time
-    → along (λ v. first_held (kind_at as_piece (listed kept.entries) ids) v time) path ≡ along (λ v. stored_at (parts_of (listed kept.entries)).pieces v c) path
+-- what a version has of pieces at a cell, by its ids for the table and key alone
+pub held_told : (kept : BTreeMap ℕ Record) (x : Index) → IsIndexed kept x → (c : Cell) (v : ℕ)
+    → first_held (kind_at as_piece (listed kept.entries) (ids_at x (PieceAt c.table c.key v))) v c.time ≡ stored_at (parts_of (listed kept.entries)).pieces v c
 unfolding parts_of
-along_told kept x is path c ids time same moment =
-    along-same (λ v. first_held (kind_at as_piece (listed kept.entries) ids) v time) (λ v. stored_at (filter_map as_piece (all_of (listed kept.entries))) v c)
-    (λ v.
-    rw (same, moment)
-    (ap (λ rs. first_held (filter_map as_piece rs) v c.time) (all_sought kept x is (PiecesAt c.table c.key))
-    ∙ sym (stored_at-sought c v (all_of (listed kept.entries)))))
-    path
+held_told kept x is c v =
+    ap (λ rs. first_held (filter_map as_piece rs) v c.time) (all_sought kept x is (PieceAt c.table c.key v)) ∙ sym (stored_at-sought c v (all_of (listed kept.entries)))
 
 -- what a version holds at a cell, by its path
-pub seen_along : (p : Parts) (version : ℕ) (c : Cell) (path : List ℕ) → path ≡ path_in (newest_first p.versions) version → along (λ v. stored_at p.pieces v c) path ≡ seen p version c
-seen_along p version c path is = ap (along (λ v. stored_at p.pieces v c)) is ∙ sym (seen_at-along p.pieces c (newest_first p.versions) version)
-
--- where no version has pieces for the table and key of a cell, none holds anything there
-pub none_seen : (kept : BTreeMap ℕ Record) (x : Index) → IsIndexed kept x → (ss : List Stored) → listed kept.entries ≡ ss → (version : ℕ) (c : Cell) → ids_at x (PiecesAt c.table c.key) ≡ [] → None ≡ seen (parts_of ss) version c
-none_seen kept x is ss view version c none =
-    sym (none_along (path_in (newest_first (parts_of ss).versions) version))
-    ∙ along_told kept x is (path_in (newest_first (parts_of ss).versions) version) c [] c.time (sym none) refl
-    ∙ ap (λ (l : List Stored). along (λ v. stored_at (parts_of l).pieces v c) (path_in (newest_first (parts_of ss).versions) version)) view
-    ∙ seen_along (parts_of ss) version c (path_in (newest_first (parts_of ss).versions) version) refl
-  where
-    none_along : (vs : List ℕ) → along (λ v. first_held (kind_at as_piece (listed kept.entries) []) v c.time) vs ≡ None
-    none_along [] = refl
-    none_along (v ∷ vs) = none_along vs
+pub seen_along : (p : Parts) (version : ℕ) (c : Cell) (held : ℕ → Option Held) → ((v : ℕ) → held v ≡ stored_at p.pieces v c) → along held (path_in (newest_first p.versions) version) ≡ seen p version c
+seen_along p version c held is =
+    along-same held (λ v. stored_at p.pieces v c) is (path_in (newest_first p.versions) version) ∙ sym (seen_at-along p.pieces c (newest_first p.versions) version)

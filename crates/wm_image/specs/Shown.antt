@@ -1,11 +1,10 @@
 -- What is read of the records of some ids.
-use Rattle.std.specs.Prelude.{ℕ, ◌+◌, ◌<◌, Bool, false, nat_eq, not, ◌&&◌, ◌||◌, ◌==◌, nat_le, nat_lt, max, if◌then◌else◌, List, [], ◌∷◌, Option, Some, None}
+use Rattle.std.specs.Prelude.{ℕ, ◌+◌, Bool, nat_eq, not, ◌&&◌, ◌||◌, ◌==◌, nat_le, nat_lt, max, if◌then◌else◌, List, [], ◌∷◌, Option, Some, None}
 use Rattle.std.specs.Bool.{then_some}
 use Rattle.std.specs.List.{list_any}
 use Rattle.std.specs.Option.{option_or}
-use Rattle.std.specs.declared.alloc.Global.{Global}
-use Rattle.std.specs.declared.vec.Vec.{Vec}
 use Rattle.wm_graph.specs.Parts.{as_piece}
+use Rattle.wm_index.specs.declared.versioned.Versioned.{Versioned}
 use Rattle.wm_index.specs.Kinds.{kind_at}
 use Rattle.wm_period.specs.Pieces.{Held}
 use Rattle.wm_spec.specs.declared.record.piece.PieceRecord.{PieceRecord}
@@ -40,25 +39,9 @@ abbrev pub along : (ℕ → Option Held) → List ℕ → Option Held
 along f [] = None
 along f (v ∷ vs) = option_or (f v) (along f vs)
 
--- the numbers fall, from below a bound on
-abbrev pub FallsBelow : ℕ → List ℕ → Type 0
-FallsBelow bound [] = Unit {0}
-FallsBelow bound (v ∷ vs) = (v < bound) × FallsBelow v vs
-
--- the numbers fall
-abbrev pub Falls : List ℕ → Type 0
-Falls [] = Unit {0}
-Falls (v ∷ vs) = FallsBelow v vs
-
--- the piece is the version's own, and the version stands on a path
-abbrev pub is_piece_on : List ℕ → ℕ → Option PieceRecord → Bool
-is_piece_on path version None = false
-is_piece_on path version (Some x) = list_any (nat_eq x.version) path && (x.version == version)
-
--- what the last of versions with ids of pieces has at a moment that has anything
-abbrev pub last_held : List Stored → List (ℕ × Vec ℕ Global) → ℕ → Option Held
-last_held ss [] time = None
-last_held ss (e ∷ es) time = option_or (last_held ss es time) (first_held (kind_at as_piece ss e.1.items) e.0 time)
+-- what an entry of versions with ids of pieces has at a moment, where its version stands on a path
+abbrev pub entry_held : List Stored → List ℕ → Versioned → ℕ → Option Held
+entry_held ss path e time = if list_any (nat_eq e.version) path then first_held (kind_at as_piece ss e.ids.items) e.version time else None
 
 -- a savepoint of a workspace with a parent sees the version under its workspace's own
 abbrev pub rests_on : ℕ → Savepoint → Bool

@@ -12,14 +12,16 @@ ghost use Rattle.wm_spec.specs.declared.record.table.Table.{Table as OneTable};
 ghost use Rattle.wm_spec.specs.declared.record.version.Version.{Version as OneVersion};
 ghost use Rattle.wm_base.specs.declared.instant.TheConstants.{END};
 ghost use Rattle.wm_period.specs.Pieces.{held_at};
-ghost use Rattle.wm_graph.specs.Parts.{as_counters, as_hist, as_space, as_table, parts_of, row_of, space_of, table_of, version_of};
+ghost use Rattle.wm_graph.specs.Parts.{as_counters, as_hist, as_piece, as_space, as_table, parts_of, row_of, space_of, table_of, version_of};
 ghost use Rattle.wm_graph.specs.Rules.{keep_rules};
 ghost use Rattle.wm_spec.specs.Records.{AreRecords, record_at};
 ghost use Rattle.wm_index.specs.Hists.{AreByPosition, logged_on};
 ghost use Rattle.wm_index.specs.Kinds.{kind_at};
-ghost use Rattle.wm_index.specs.Sought.{MarksAt, MarksIn, OwnedBy, PiecesAt, PiecesIn, TouchesAt, ids_with, is_sought, is_touch_since};
+ghost use Rattle.wm_index.specs.Sought.{MarksAt, MarksIn, OwnedBy, PieceAt, PiecesIn, TouchesAt, ids_with, is_piece_of, is_sought, is_touch_since};
+ghost use Rattle.wm_index.specs.Versioned.{AreSpanned, VersionsFall, ids_under};
 ghost use Rattle.wm_state.specs.ById.{Ascend, applied, by_id};
-ghost use Rattle.wm_image.specs.Shown.{Falls, along, is_child_from, is_saved_behind, names, rests_on};
+ghost use Rattle.wm_image.specs.Hops.{IsHop};
+ghost use Rattle.wm_image.specs.Shown.{first_held, is_child_from, is_saved_behind, names, rests_on};
 ghost use Rattle.wm_spec.specs.declared.record.savepoint.Savepoint.{Savepoint as OneSavepoint};
 ghost use Rattle.wm_spec.specs.declared.record.space.Space.{Space as OneSpace};
 ghost use Rattle.wm_state.specs.Drafts.{is_turn};
@@ -29,9 +31,9 @@ ghost use Rattle.wm_state.specs.Standing.{by_number, latest, saved_as, saved_in,
 ghost use Rattle.wm_state.specs.State.{next_table};
 
 use crate::children::{Behind, any_behind, least_child};
+use crate::hops::{Hop, Hops};
 use crate::laying::lay_key;
 use crate::load::{ImageFault, put_all, sorted};
-use crate::path::path_of;
 use crate::records::apply_all;
 use crate::shown::latest_of;
 use crate::tables::{after_last, catalog_of};
@@ -43,12 +45,13 @@ use wm_catalog::Catalog;
 use wm_index::hists::ids_by_position;
 use wm_index::ids::{are_empty, first_id};
 use wm_index::index::Index;
-use wm_index::keyed::{ids_of, ids_on, ids_since, keys_on, last_key};
+use wm_index::keyed::{ids_of, ids_on, ids_since, last_key};
 use wm_index::kinds;
 use wm_index::records::{Kept, at, first, next_id};
 use wm_index::savepoints::{making_after, savepoint_in, savepoint_of_name};
 use wm_index::spaces::{number_after, space_of_name};
 use wm_index::tables::{id_named, table_of_number};
+use wm_index::versioned::{Versioned, ids_of_version, keys_on, versions_of_key};
 use wm_index::versions::version_at;
 use wm_period::Pieces;
 use wm_rules::keeps_rules;
@@ -61,20 +64,23 @@ use wm_spec::record::{
 pub struct Image {
     kept: Kept,
     index: Index,
+    hops: Hops,
     catalog: Catalog,
 }
 
 impl Model for Image {
     ghost use Rattle.std.specs.Prelude.{List};
     ghost use Rattle.wm_index.specs.Indexed.{listed, IsIndexed};
+    ghost use Rattle.wm_graph.specs.Parts.{parts_of};
     ghost use Rattle.wm_image.specs.Cataloged.{IsCatalog};
+    ghost use Rattle.wm_image.specs.Hops.{AreHops};
     ghost use Rattle.wm_spec.specs.declared.record.stored.Stored.{Stored};
 
     ghost Value = { List Stored };
 
     ghost view = { λ i. listed i.kept.entries };
 
-    ghost invariant = { λ i. IsIndexed i.kept i.index × IsCatalog (listed i.kept.entries) i.catalog };
+    ghost invariant = { λ i. IsIndexed i.kept i.index × IsCatalog (listed i.kept.entries) i.catalog × AreHops (parts_of (listed i.kept.entries)).versions i.hops };
 }
 
 impl Image {
@@ -85,6 +91,7 @@ impl Image {
         Image {
             kept: BTreeMap::new(alloc),
             index: Index::new(alloc),
+            hops: Hops::new(alloc),
             catalog: Catalog::new(alloc),
         }
     }
@@ -112,11 +119,13 @@ impl Image {
     {
         let mut kept = BTreeMap::new(alloc);
         let mut index = Index::new(alloc);
-        put_all(alloc, &mut kept, &mut index, records)?;
+        let mut hops = Hops::new(alloc);
+        put_all(alloc, &mut kept, &mut index, &mut hops, records)?;
         let catalog = catalog_of(alloc, &kept, &index)?;
         Ok(Image {
             kept,
             index,
+            hops,
             catalog,
         })
     }
@@ -300,6 +309,13 @@ impl Image {
         version_at(&self.kept, &self.index, number)
     }
 
+    /// The ways down from a version, where they are known.
+    pub(crate) fn hop(&self, number: u64) -> Option<Hop>
+        ensures { IfSome result (λ hop. IsHop (parts_of self.now).versions number hop) }
+    {
+        self.hops.hop(number)
+    }
+
     /// The newest version of a workspace, 0 where it has none.
     pub fn latest(&self, space: u32) -> u64
         ensures { result ≡ latest (parts_of self.now) space }
@@ -328,7 +344,7 @@ impl Image {
         )
     }
 
-    /// All that a version has for a key of a table. The path of the version is gone along only where there are pieces.
+    /// All that a version has for a key of a table.
     pub fn shown(
         &self,
         alloc: Global,
@@ -339,35 +355,25 @@ impl Image {
         requires { keep_rules (parts_of self.now) ≡ true }
         ensures { IfOk result (λ pieces. (t : ℕ) → t < END → held_at pieces t ≡ seen (parts_of self.now) version (record { table = table; key = key.now; time = t })) }
     {
-        if ids_on(&self.index.pieces, table, key).is_empty() {
-            return Ok(Pieces::new(alloc));
-        }
-        let path = path_of(alloc, self, version)?;
-        let pieces = self.shown_along(alloc, path.as_slice(), table, key)?;
+        let versions = self.versions_of(table, key);
+        let pieces = lay_key(alloc, self, versions, version)?;
         Ok(pieces)
     }
 
-    /// What the first version on a path that has anything for a key of a table has there.
-    pub(crate) fn shown_along(
-        &self,
-        alloc: Global,
-        path: &[u64],
-        table: u16,
-        key: &Key,
-    ) -> Result<Pieces, Memory>
-        requires { Falls path.now }
-        ensures { IfOk result (λ pieces. (t : ℕ) → t < END → held_at pieces t ≡ along (λ v. stored_at (parts_of self.now).pieces v (record { table = table; key = key.now; time = t })) path.now) }
+    /// What versions have of the pieces for a key of a table, the newest version first.
+    fn versions_of(&self, table: u16, key: &Key) -> &[Versioned]
+        ensures falls { VersionsFall result.now }
+        ensures spanned { AreSpanned self.now result.now }
+        ensures held { (v t : ℕ) → first_held (kind_at as_piece self.now (ids_under result.now v)) v t ≡ stored_at (parts_of self.now).pieces v (record { table = table; key = key.now; time = t }) }
     {
-        let ids = ids_on(&self.index.pieces, table, key);
-        let pieces = lay_key(alloc, &self.kept, ids, path)?;
-        Ok(pieces)
+        versions_of_key(&self.index.pieces, table, key)
     }
 
-    /// The ids of the pieces for a key of a table, of any version, in order.
-    pub fn pieces_of(&self, table: u16, key: &Key) -> &[u64]
-        ensures { result.now ≡ ids_with (is_sought (PiecesAt table key.now)) self.now }
+    /// The ids of the pieces that a version has for a key of a table, in order.
+    pub fn pieces_at(&self, table: u16, key: &Key, version: u64) -> &[u64]
+        ensures { result.now ≡ ids_with (is_sought (PieceAt table key.now version)) self.now }
     {
-        ids_on(&self.index.pieces, table, key)
+        ids_of_version(&self.index.pieces, table, key, version)
     }
 
     /// The ids of the touches for a key of a table, of any workspace and place, in order.
@@ -432,7 +438,7 @@ impl Image {
 
     /// Each key for which a table has pieces, of any version, once and in order.
     pub fn keys(&self, alloc: Global, table: u16) -> Result<Vec<Key>, Memory>
-        ensures each { IfOk result (λ keys. (k : List OneValue) → list_any (λ q. is_eq (key_order k q)) keys.items ≡ list_any (is_sought (PiecesAt table k)) (map (λ (s : Stored). s.record) self.now)) }
+        ensures each { IfOk result (λ keys. (k : List OneValue) → list_any (λ q. is_eq (key_order k q)) keys.items ≡ list_any (is_piece_of table k) (map (λ (s : Stored). s.record) self.now)) }
         ensures ascending { IfOk result (λ keys. IsStrictlySortedBy key_order keys.items) }
     {
         let keys = keys_on(alloc, &self.index.pieces, table)?;
@@ -469,12 +475,14 @@ impl Image {
             alloc,
             &mut self.kept,
             &mut self.index,
+            &mut self.hops,
             &mut self.catalog,
             batch.changes,
         );
         if made.is_err() {
             self.kept = BTreeMap::new(alloc);
             self.index = Index::new(alloc);
+            self.hops = Hops::new(alloc);
             self.catalog = Catalog::new(alloc);
         }
         made

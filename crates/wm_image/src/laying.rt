@@ -1,24 +1,25 @@
-//! All that the versions of a workspace hold for one key, laid over one another.
+//! All that the versions on a path hold for one key, laid over one another.
 
-ghost use Rattle.std.specs.Prelude.{◌≡◌, ◌<◌, ◌&&◌, ℕ, true, false, is_some, min, nat_le, nat_lt, IfOk, OnOk};
-ghost use Rattle.std.specs.List.Sorted.{IsStrictlySortedBy};
-ghost use Rattle.std.specs.Map.{keys_of};
+ghost use Rattle.std.specs.Prelude.{◌≡◌, ◌<◌, ◌≤◌, ◌&&◌, ℕ, true, false, is_some, min, nat_le, nat_lt, IfOk};
+ghost use Rattle.std.specs.List.{AllByRecursion};
 ghost use Rattle.std.specs.Option.{option_copied, option_and_then, option_map_or, option_or, option_to_list};
-ghost use Rattle.std.specs.Ordering.{nat_cmp};
 ghost use Rattle.wm_base.specs.Period.{covers};
 ghost use Rattle.wm_base.specs.declared.instant.TheConstants.{END};
-ghost use Rattle.wm_graph.specs.Parts.{as_piece};
-ghost use Rattle.wm_index.specs.Indexed.{listed};
+ghost use Rattle.wm_graph.specs.Parts.{as_piece, parts_of};
+ghost use Rattle.wm_graph.specs.Rules.{keep_rules};
+ghost use Rattle.wm_image.specs.Shown.{along, entry_held, first_held, held_here};
+ghost use Rattle.wm_index.specs.Versioned.{AreSpanned, IsSpanned, VersionsFall, ids_under};
 ghost use Rattle.wm_index.specs.Kinds.{kind_at};
-ghost use Rattle.wm_image.specs.Shown.{Falls, along, first_held, held_here, last_held};
 ghost use Rattle.wm_period.specs.Pieces.{held_at};
+ghost use Rattle.wm_state.specs.Standing.{newest_first};
+ghost use Rattle.wm_tree.specs.Versions.{path_in};
 
-use crate::path::pieces_on;
+use crate::descent::stands_under;
+use crate::image::Image;
 use std::alloc::Global;
 use wm_base::{END, Instant, Memory, Period, Stamp};
-use wm_index::keyed::Ids;
 use wm_index::kinds::piece_of;
-use wm_index::records::{Kept, at};
+use wm_index::versioned::Versioned;
 use wm_period::{Piece, Pieces};
 use wm_spec::record::{CellRange, Record};
 
@@ -78,54 +79,83 @@ fn lay_record(
 /// Lays the pieces of a version under others, of some pieces of one table and key.
 fn lay_version(
     alloc: Global,
-    kept: &Kept,
+    image: &Image,
     ids: &[u64],
     version: u64,
     upper: Pieces,
 ) -> Result<Pieces, Memory>
-    ensures { IfOk result (λ both. (t : ℕ) → t < END → held_at both t ≡ option_or (held_at upper t) (first_held (kind_at as_piece (listed kept.now.entries) ids.now) version t)) }
+    ensures { IfOk result (λ both. (t : ℕ) → t < END → held_at both t ≡ option_or (held_at upper t) (first_held (kind_at as_piece image.now ids.now) version t)) }
 {
     let mut laid = upper;
     for id in ids {
-        laid = lay_record(alloc, laid, at(kept, *id), version)?;
+        laid = lay_record(alloc, laid, image.record(*id), version)?;
     }
     Ok(laid)
 }
 
-/// Whether the first of pieces covers all of time, as every piece does of a table without valid time: then nothing that
-/// lies under them shows.
-fn is_whole(pieces: &Pieces) -> bool
-    ensures { result ≡ true → (t : ℕ) → t < END → is_some (held_at pieces.now t) ≡ true }
+/// The moment before which pieces cover all from another on. They are gone through until one begins behind it.
+fn covered_till(pieces: &[Piece], from: u64) -> u64
+    ensures { (t : ℕ) → from ≤ t → t < result → is_some (held_at pieces.now t) ≡ true }
 {
-    match pieces.list() {
-        [first, ..] => first.period.from().seconds() == 0 && !first.period.till().is_moment(),
-        [] => false,
+    let mut reached = from;
+    for piece in pieces {
+        if reached < piece.period.from().seconds() {
+            return reached;
+        }
+        reached = reached.max(piece.period.till().seconds());
     }
+    reached
 }
 
-/// Lays the pieces under versions over one another, those of the newest uppermost, until nothing under them shows.
-fn lay_found(alloc: Global, kept: &Kept, found: &Ids<u64>) -> Result<Pieces, Memory>
-    ensures ordered { OnOk result (IsStrictlySortedBy nat_cmp (keys_of found.now.entries)) }
-    ensures held { IfOk result (λ laid. (t : ℕ) → t < END → held_at laid t ≡ last_held (listed kept.now.entries) found.now.entries t) }
+/// Whether pieces cover all from one moment to another: then nothing that lies under them shows there.
+fn covers_all(pieces: &Pieces, from: u64, till: u64) -> bool
+    ensures { result ≡ true → (t : ℕ) → from ≤ t → t < till → is_some (held_at pieces.now t) ≡ true }
+{
+    till <= covered_till(pieces.list(), from)
+}
+
+/// Lays the pieces that a version has of a key under others, where something of them can show and the version stands on
+/// the path of `top`.
+fn lay_entry(
+    alloc: Global,
+    image: &Image,
+    entry: &Versioned,
+    top: u64,
+    upper: Pieces,
+) -> Result<Pieces, Memory>
+    requires rules { keep_rules (parts_of image.now) ≡ true }
+    requires spanned { AllByRecursion (IsSpanned image.now entry.now.from entry.now.till) entry.now.ids.items }
+    ensures { IfOk result (λ both. (t : ℕ) → t < END → held_at both t ≡ option_or (held_at upper t) (entry_held image.now (path_in (newest_first (parts_of image.now).versions) top) entry.now t)) }
+{
+    if covers_all(&upper, entry.from, entry.till) {
+        return Ok(upper);
+    }
+    if !stands_under(image, top, entry.version) {
+        return Ok(upper);
+    }
+    let both = lay_version(alloc, image, entry.ids.as_slice(), entry.version, upper)?;
+    Ok(both)
+}
+
+/// Lays the pieces of the versions on the path of `top` over one another, those of the newest uppermost, until they cover
+/// all of time: then nothing under them shows.
+pub fn lay_key(
+    alloc: Global,
+    image: &Image,
+    versions: &[Versioned],
+    top: u64,
+) -> Result<Pieces, Memory>
+    requires rules { keep_rules (parts_of image.now) ≡ true }
+    requires falls { VersionsFall versions.now }
+    requires spanned { AreSpanned image.now versions.now }
+    ensures { IfOk result (λ laid. (t : ℕ) → t < END → held_at laid t ≡ along (λ v. first_held (kind_at as_piece image.now (ids_under versions.now v)) v t) (path_in (newest_first (parts_of image.now).versions) top)) }
 {
     let mut laid = Pieces::new(alloc);
-    let mut entries = found.iter();
-    while let Some((version, ids)) = entries.next_back() {
-        laid = lay_version(alloc, kept, ids.as_slice(), *version, laid)?;
-        if is_whole(&laid) {
+    for entry in versions {
+        laid = lay_entry(alloc, image, entry, top, laid)?;
+        if covers_all(&laid, 0, END) {
             return Ok(laid);
         }
     }
-    Ok(laid)
-}
-
-/// Lays the pieces of the versions on a path over one another, of some pieces of one table and key. A version on the
-/// path that has none of them is not looked at.
-pub fn lay_key(alloc: Global, kept: &Kept, ids: &[u64], path: &[u64]) -> Result<Pieces, Memory>
-    requires { Falls path.now }
-    ensures { IfOk result (λ laid. (t : ℕ) → t < END → held_at laid t ≡ along (λ v. first_held (kind_at as_piece (listed kept.now.entries) ids.now) v t) path.now) }
-{
-    let found = pieces_on(alloc, kept, ids, path)?;
-    let laid = lay_found(alloc, kept, &found)?;
     Ok(laid)
 }

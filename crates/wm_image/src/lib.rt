@@ -2,12 +2,13 @@
 #![tactic(auto)]
 
 pub mod children;
+pub mod descent;
+pub mod hops;
 pub mod image;
 pub mod laying;
 pub mod listing;
 pub mod load;
 mod overlap;
-pub mod path;
 pub mod records;
 pub mod shown;
 mod standing;

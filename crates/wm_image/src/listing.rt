@@ -7,14 +7,10 @@ ghost use Rattle.wm_base.specs.declared.value.Value.TheVariants as values;
 ghost use Rattle.wm_graph.specs.Parts.{parts_of};
 ghost use Rattle.wm_graph.specs.Rules.{keep_rules};
 ghost use Rattle.wm_image.specs.Listing.{AddsRows, IsKeyShowing, row_under, shown_on};
-ghost use Rattle.wm_image.specs.Shown.{Falls};
 ghost use Rattle.wm_image.specs.Standing.{IsBegun, stretch_ending, stretch_of, stretches_on};
 ghost use Rattle.wm_state.specs.Listing.{IsShowing, seen_row};
-ghost use Rattle.wm_state.specs.Standing.{newest_first};
-ghost use Rattle.wm_tree.specs.Versions.{path_in};
 
 use crate::image::Image;
-use crate::path::path_of;
 use crate::standing::{ending, first_from, from_behind};
 use std::alloc::Global;
 use wm_base::{Instant, Key, Memory, Period, Row, RowList, Value};
@@ -123,21 +119,18 @@ fn push_rows(
     Ok(())
 }
 
-/// Puts what is shown of the rows of a key behind others, where the path of the version is given.
+/// Puts what is shown of the rows of a key behind others.
 fn push_key(
     alloc: Global,
     image: &Image,
     rows: &mut RowList,
     asked: &Asked,
-    path: &[u64],
     key: &Key,
 ) -> Result<(), Memory>
-    requires rules { keep_rules (parts_of image.now) ≡ true }
-    requires path { path.now ≡ path_in (newest_first (parts_of image.now).versions) asked.now.version }
-    requires falls { Falls path.now }
+    requires { keep_rules (parts_of image.now) ≡ true }
     ensures { OnOk result (AddsRows (parts_of image.now) asked.now.version asked.now.table asked.now.valid asked.now.within key.now rows.old rows.new) }
 {
-    let pieces = image.shown_along(alloc, path, asked.table, key)?;
+    let pieces = image.shown(alloc, asked.version, asked.table, key)?;
     push_rows(alloc, image, rows, asked, pieces.list())?;
     Ok(())
 }
@@ -147,22 +140,20 @@ pub fn list_key(alloc: Global, image: &Image, asked: &Asked, key: &Key) -> Resul
     requires { keep_rules (parts_of image.now) ≡ true }
     ensures { IfOk result (λ rows. IsKeyShowing (parts_of image.now) asked.now.version asked.now.table asked.now.valid asked.now.within key.now rows) }
 {
-    let pieces = image.shown(alloc, asked.version, asked.table, key)?;
     let mut rows = RowList::new(alloc);
-    push_rows(alloc, image, &mut rows, asked, pieces.list())?;
+    push_key(alloc, image, &mut rows, asked, key)?;
     Ok(rows)
 }
 
-/// What is shown of the rows of a table, by key and from. The path of the version is gone along once for all keys.
+/// What is shown of the rows of a table, by key and from.
 pub fn list_rows(alloc: Global, image: &Image, asked: &Asked) -> Result<RowList, Memory>
     requires { keep_rules (parts_of image.now) ≡ true }
     ensures { IfOk result (λ rows. IsShowing (parts_of image.now) asked.now.version asked.now.table asked.now.valid asked.now.within rows) }
 {
-    let path = path_of(alloc, image, asked.version)?;
     let keys = image.keys(alloc, asked.table)?;
     let mut rows = RowList::new(alloc);
     for key in &keys {
-        push_key(alloc, image, &mut rows, asked, path.as_slice(), key)?;
+        push_key(alloc, image, &mut rows, asked, key)?;
     }
     Ok(rows)
 }

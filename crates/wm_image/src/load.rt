@@ -3,12 +3,15 @@ ghost use Rattle.std.specs.Prelude.{◌≡◌, [], map, true, false, Some, None,
 ghost use Rattle.std.specs.BTreeMap.{IsOrdered};
 ghost use Rattle.std.specs.Ordering.{nat_cmp};
 ghost use Rattle.wm_index.specs.Indexed.{IsIndexed, listed};
+ghost use Rattle.wm_graph.specs.Parts.{parts_of};
+ghost use Rattle.wm_image.specs.Hops.{AreHops};
 ghost use Rattle.wm_image.specs.declared.load.ImageFault.TheVariants.{Memory as OutOfMemory};
 ghost use Rattle.wm_spec.specs.Records.{AreRecords, ids_differ, record_at};
 ghost use Rattle.wm_spec.specs.declared.record.stored.Stored.{Stored as OneStored};
 ghost use Rattle.wm_state.specs.ById.{Ascend, by_id, set_at};
 
-use crate::records::{change, set};
+use crate::hops::Hops;
+use crate::records::{change_one, set};
 use std::alloc::Global;
 use std::collections::BTreeMap;
 use wm_base::Memory;
@@ -88,22 +91,25 @@ fn list_of(alloc: Global, kept: Kept) -> Result<Records, Memory>
     Ok(Records::from_vec(list))
 }
 
-/// Puts records that stand by id under their ids, with an index of them: from the first on, so that each comes last among
-/// those in the index.
+/// Puts records that stand by id under their ids, with an index of them and the hops of their versions: from the first
+/// on, so that each comes last among those in the index.
 pub fn put_all(
     alloc: Global,
     kept: &mut Kept,
     index: &mut Index,
+    hops: &mut Hops,
     records: Records,
 ) -> Result<(), Memory>
     requires indexed { IsIndexed kept.old index.old }
+    requires hops { AreHops (parts_of (listed kept.old.entries)).versions hops.old }
     requires empty { listed kept.old.entries ≡ [] }
     requires ascend { Ascend records }
     ensures listed { OnOk result (listed kept.new.entries ≡ records) }
     ensures indexed { OnOk result (IsIndexed kept.new index.new) }
+    ensures hops { OnOk result (AreHops (parts_of (listed kept.new.entries)).versions hops.new) }
 {
     for one in records.into_vec() {
-        change(alloc, kept, index, one.id, Some(one.record))?;
+        change_one(alloc, kept, index, hops, one.id, Some(one.record))?;
     }
     Ok(())
 }

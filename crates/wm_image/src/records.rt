@@ -7,13 +7,16 @@ ghost use Rattle.wm_graph.specs.Parts.{parts_of};
 ghost use Rattle.wm_state.specs.ById.{applied, set_at};
 ghost use Rattle.wm_index.specs.Indexed.{listed, IsIndexed};
 ghost use Rattle.wm_image.specs.Cataloged.{IsCatalog};
+ghost use Rattle.wm_image.specs.Hops.{AreHops};
 
+use crate::hops::Hops;
 use crate::tables::catalog_of;
 use std::alloc::Global;
 use wm_base::Memory;
 use wm_catalog::Catalog;
 use wm_index::index::Index;
-use wm_index::records::{Kept, add_new, drop_old, is_either};
+use wm_index::kinds::version_of;
+use wm_index::records::{Kept, add_new, at, drop_old, is_either};
 use wm_spec::record::{Changes, Record};
 
 /// Sets what becomes of an id.
@@ -34,7 +37,7 @@ pub fn set(kept: &mut Kept, id: u64, becomes: Option<Record>) -> Result<(), Memo
 }
 
 /// Changes what stands under an id, and the index with it, and tells whether a table was or is there.
-pub fn change(
+fn change(
     alloc: Global,
     kept: &mut Kept,
     index: &mut Index,
@@ -52,21 +55,47 @@ pub fn change(
     Ok(is_either(stood, stands))
 }
 
+/// Changes what stands under an id, and the index and the hops with it, and tells whether a table was or is there.
+pub fn change_one(
+    alloc: Global,
+    kept: &mut Kept,
+    index: &mut Index,
+    hops: &mut Hops,
+    id: u64,
+    becomes: Option<Record>,
+) -> Result<bool, Memory>
+    requires indexed { IsIndexed kept.old index.old }
+    requires hops { AreHops (parts_of (listed kept.old.entries)).versions hops.old }
+    ensures listed { OnOk result (listed kept.new.entries ≡ set_at id becomes (listed kept.old.entries)) }
+    ensures indexed { OnOk result (IsIndexed kept.new index.new) }
+    ensures tables { IfOk result (λ touched. touched ≡ false → (parts_of (listed kept.new.entries)).tables ≡ (parts_of (listed kept.old.entries)).tables) }
+    ensures hops { OnOk result (AreHops (parts_of (listed kept.new.entries)).versions hops.new) }
+{
+    let goes = version_of(at(kept, id));
+    let comes = version_of(becomes.as_ref());
+    let touched = change(alloc, kept, index, id, becomes)?;
+    hops.follow(goes, comes)?;
+    Ok(touched)
+}
+
 /// Makes the changes of a batch, one after another, and tells whether a table was or is under one of their ids.
 fn change_all(
     alloc: Global,
     kept: &mut Kept,
     index: &mut Index,
+    hops: &mut Hops,
     changes: Changes,
 ) -> Result<bool, Memory>
-    requires { IsIndexed kept.old index.old }
+    requires indexed { IsIndexed kept.old index.old }
+    requires hops { AreHops (parts_of (listed kept.old.entries)).versions hops.old }
     ensures listed { OnOk result (listed kept.new.entries ≡ applied changes (listed kept.old.entries)) }
     ensures indexed { OnOk result (IsIndexed kept.new index.new) }
     ensures tables { IfOk result (λ touched. touched ≡ false → (parts_of (listed kept.new.entries)).tables ≡ (parts_of (listed kept.old.entries)).tables) }
+    ensures hops { OnOk result (AreHops (parts_of (listed kept.new.entries)).versions hops.new) }
 {
     let mut touched = false;
     for one in changes.into_vec() {
-        let changed = change(alloc, kept, index, one.id, one.becomes)?;
+        let changed = change_one(alloc, kept, index, hops, one.id, one.becomes)?;
         touched = is_either(changed, touched);
     }
     Ok(touched)
@@ -77,16 +106,19 @@ pub fn apply_all(
     alloc: Global,
     kept: &mut Kept,
     index: &mut Index,
+    hops: &mut Hops,
     catalog: &mut Catalog,
     changes: Changes,
 ) -> Result<(), Memory>
     requires indexed { IsIndexed kept.old index.old }
+    requires hops { AreHops (parts_of (listed kept.old.entries)).versions hops.old }
     requires tables { IsCatalog (listed kept.old.entries) catalog.old }
     ensures listed { OnOk result (listed kept.new.entries ≡ applied changes (listed kept.old.entries)) }
     ensures indexed { OnOk result (IsIndexed kept.new index.new) }
+    ensures hops { OnOk result (AreHops (parts_of (listed kept.new.entries)).versions hops.new) }
     ensures tables { OnOk result (IsCatalog (listed kept.new.entries) catalog.new) }
 {
-    let touched = change_all(alloc, kept, index, changes)?;
+    let touched = change_all(alloc, kept, index, hops, changes)?;
     if touched {
         *catalog = catalog_of(alloc, kept, index)?;
     }

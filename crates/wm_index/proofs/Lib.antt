@@ -1,5 +1,7 @@
 pub mod IdLists
 pub mod TableLists
+pub mod Placing
+pub mod Versioning
 pub mod Lists
 pub mod Listed
 pub mod Finding

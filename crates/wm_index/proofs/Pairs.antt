@@ -33,7 +33,7 @@ changed_pair change f key q = by_test (is_eq (pair_order key q)) refl ∙ ap (λ
     by_test true tie = ap (λ k. change (f k)) (pair_same key q tie)
     by_test false apart = refl
 
-changed_number : (change : List ℕ → List ℕ) (f : ℕ → List ℕ) (m n : ℕ) → cond (is_eq (nat_cmp m n)) (change (f m)) (f n) ≡ cond (m == n) (change (f n)) (f n)
+pub changed_number : (change : List ℕ → List ℕ) (f : ℕ → List ℕ) (m n : ℕ) → cond (is_eq (nat_cmp m n)) (change (f m)) (f n) ≡ cond (m == n) (change (f n)) (f n)
 changed_number change f m n = by_test (is_eq (nat_cmp m n)) refl ∙ ap (λ b. cond b (change (f n)) (f n)) (is_at-number m n)
   where
     by_test : (b : Bool) → is_eq (nat_cmp m n) ≡ b → cond b (change (f m)) (f n) ≡ cond b (change (f n)) (f n)

@@ -28,7 +28,7 @@ is_at-number m n = by_number (cases_eq m n)
         no_tie (inr e) = e
 
 -- what a look-up of a table or a workspace found
-abbrev pub keys_found : {K : Type 0} → Option (BTreeMap K (Vec ℕ Global)) → List (K × Vec ℕ Global)
+abbrev pub keys_found : {K : Type 0} → {V : Type 0} → Option (BTreeMap K V) → List (K × V)
 keys_found found = unwrap_or (option_map (λ m. m.entries) found) []
 
 -- where keys are tied they are one

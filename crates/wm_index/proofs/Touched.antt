@@ -44,7 +44,7 @@ none_above p id (s ∷ ss) above = by_test (p s.record) (none_above p id ss abov
     by_test false rest = rest
 
 -- an id is among them where its record passes
-among_with : (p : Record → Bool) (id : ℕ) (ss : List Stored) → IsStrictlySortedBy nat_cmp (ids_of ss) → has_id id (ids_with p ss) ≡ option_map_or p (record_at ss id) false
+pub among_with : (p : Record → Bool) (id : ℕ) (ss : List Stored) → IsStrictlySortedBy nat_cmp (ids_of ss) → has_id id (ids_with p ss) ≡ option_map_or p (record_at ss id) false
 among_with p id [] sorted = ap (λ o. option_map_or p o false) (sym (record_at-none id))
 among_with p id (s ∷ ss) sorted = by_id (s.id == id) refl (among_with p id ss (sorted_tail nat_cmp s.id (ids_of ss) sorted))
   where

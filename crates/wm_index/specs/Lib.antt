@@ -1,4 +1,5 @@
 pub mod Sought
+pub mod Versioned
 pub mod Indexed
 pub mod Kinds
 pub mod Hists

@@ -19,7 +19,7 @@ use Rattle.wm_spec.specs.Records.{record_at}
 -- counters; tables; workspaces; a workspace or a version by its number; a workspace's version of a number, or the versions under one;
 -- the savepoints of a workspace, one by its making, those that keep a version, or those of workspaces with a number above 0 that see
 -- a version under their workspace's own; workspaces with a number above 0 that were born from a version, or see it under their own; a
--- row by its stamp; the pieces on a table and a key, the touches or the marks; the pieces of a version; whatever is a workspace's own:
+-- row by its stamp; the pieces of a version on a table and a key; the touches on a table and a key, or the marks; the pieces of a version; whatever is a workspace's own:
 -- itself, its versions, savepoints, touches, locks, entries of its log, marks and turns; its marks alone; the touches of a workspace at a
 -- position of its log, its turns of a number, or the entries of its log on a table
 pub data Sought : Type 0 where
@@ -37,7 +37,7 @@ pub data Sought : Type 0 where
   BornAs : ℕ → Sought
   SeenUnder : ℕ → Sought
   RowAt : ℕ → Sought
-  PiecesAt : ℕ → List Value → Sought
+  PieceAt : ℕ → List Value → ℕ → Sought
   TouchesAt : ℕ → List Value → Sought
   MarksAt : ℕ → List Value → Sought
   PiecesIn : ℕ → Sought
@@ -63,7 +63,7 @@ is_sought (KeptUnder version) (records.Savepoint r) = not (r.space == 0) && (r.b
 is_sought (BornAs version) (records.Space r) = not (r.number == 0) && (r.birth_version == version)
 is_sought (SeenUnder version) (records.Space r) = not (r.number == 0) && (r.base_version == version)
 is_sought (RowAt stamp) (records.Row r) = r.stamp == stamp
-is_sought (PiecesAt table key) (records.Piece r) = (r.cells.table == table) && is_eq (key_order r.cells.key key)
+is_sought (PieceAt table key version) (records.Piece r) = (r.cells.table == table) && (is_eq (key_order r.cells.key key) && (r.version == version))
 is_sought (TouchesAt table key) (records.Touch r) = (r.cells.table == table) && is_eq (key_order r.cells.key key)
 is_sought (MarksAt table key) (records.Mark r) = (r.cells.table == table) && is_eq (key_order r.cells.key key)
 is_sought (PiecesIn version) (records.Piece r) = r.version == version
@@ -80,6 +80,11 @@ is_sought (TouchAt space position) (records.Touch r) = (r.space == space) && (r.
 is_sought (TurnAt space number) (records.Turn r) = (r.space == space) && (r.rebase == number)
 is_sought (HistsOn space table) (records.Hist r) = (r.space == space) && (r.cells.table == table)
 is_sought _ _ = false
+
+-- the record is a piece of a table and a key, of any version
+abbrev pub is_piece_of : ℕ → List Value → Record → Bool
+is_piece_of table key (records.Piece r) = (r.cells.table == table) && is_eq (key_order r.cells.key key)
+is_piece_of table key _ = false
 
 -- the record is a touch of a workspace at a position of its log or behind it
 abbrev pub is_touch_since : ℕ → ℕ → Record → Bool
@@ -125,8 +130,8 @@ Keyed = BTreeMap (List Value) (Vec ℕ Global)
 abbrev pub Numbered : Type 0
 Numbered = BTreeMap ℕ (Vec ℕ Global)
 
--- the ids that stand under a table or a workspace, by key or number
-abbrev pub keyed_at : {K : Type 0} → List (ℕ × BTreeMap K (Vec ℕ Global)) → ℕ → List (K × Vec ℕ Global)
+-- what stands under a table or a workspace, by key or number
+abbrev pub keyed_at : {K : Type 0} → {V : Type 0} → List (ℕ × BTreeMap K V) → ℕ → List (K × V)
 keyed_at maps place = unwrap_or (option_map (λ m. m.entries) (lookup (is_at (nat_cmp place)) maps)) []
 
 -- the ids under a table and a key
@@ -161,11 +166,6 @@ first_of ss (id ∷ ids) = record_at ss id
 abbrev pub is_nil : List ℕ → Bool
 is_nil [] = true
 is_nil (x ∷ xs) = false
-
--- the keys that have ids
-abbrev pub used : List (List Value × Vec ℕ Global) → List (List Value)
-used [] = []
-used (e ∷ es) = if is_nil e.1.items then used es else e.0 ∷ used es
 
 -- the last key that has ids
 abbrev pub last_used : {K : Type 0} → List (K × Vec ℕ Global) → Option K

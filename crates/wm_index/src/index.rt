@@ -3,10 +3,12 @@
 ghost use Rattle.std.specs.Prelude.{◌≡◌, [], OnOk};
 ghost use Rattle.wm_index.specs.Indexed.{Adds, Drops, IdsAscend, ids_at};
 ghost use Rattle.wm_index.specs.Sought.{Sought};
+ghost use Rattle.wm_index.specs.Versioned.{AllFall, Gains, Loses};
 ghost use Rattle.wm_spec.specs.declared.record.Record.TheVariants as records;
 
 use crate::ids::{add_id, drop_id};
 use crate::keyed::{Ids, NumberIds, TableIds, add_in, add_on, add_to, drop_from, drop_in, drop_on};
+use crate::versioned::{PieceIds, add_piece_id, drop_piece_id};
 use std::alloc::Global;
 use std::collections::BTreeMap;
 use wm_base::Memory;
@@ -16,9 +18,9 @@ use wm_spec::record::{Hist, PieceRecord, Record, Savepoint, Space, Trace, Turn, 
 /// the versions of a workspace, by number, and of those under a version; of the savepoints of a workspace, by making,
 /// of those that keep a version, and of those of workspaces with a parent that see a version under their workspace's
 /// own; of the workspaces with a parent that were born from a version, or see it under their own; of rows by stamp;
-/// of pieces, of touches and of marks by table and key; of the pieces of a version; of the records that are a workspace's
-/// own, and of its marks alone; of touches by workspace and position, of turns by workspace and number, and of entries of
-/// logs by workspace and table.
+/// of pieces by table, key and version; of touches and of marks by table and key; of the pieces of a version; of the
+/// records that are a workspace's own, and of its marks alone; of touches by workspace and position, of turns by
+/// workspace and number, and of entries of logs by workspace and table.
 #[derive(Drop)]
 pub struct Index {
     pub counters: Vec<u64>,
@@ -35,7 +37,7 @@ pub struct Index {
     pub born_as: Ids<u64>,
     pub seen_under: Ids<u64>,
     pub rows: Ids<u64>,
-    pub pieces: TableIds,
+    pub pieces: PieceIds,
     pub touches: TableIds,
     pub marks: TableIds,
     pub pieces_in: Ids<u64>,
@@ -49,7 +51,8 @@ pub struct Index {
 impl Index {
     /// The index of no records.
     pub fn new(alloc: Global) -> Index
-        ensures { (q : Sought) → ids_at result q ≡ [] }
+        ensures ids { (q : Sought) → ids_at result q ≡ [] }
+        ensures pieces { result.pieces.entries ≡ [] }
     {
         Index {
             counters: Vec::new(alloc),
@@ -80,8 +83,10 @@ impl Index {
 
     /// Adds the id of a record.
     pub fn add_record(&mut self, alloc: Global, id: u64, added: &Record) -> Result<(), Memory>
-        requires { IdsAscend self.old }
-        ensures { OnOk result (Adds self.old self.new id added.now) }
+        requires ascend { IdsAscend self.old }
+        requires falls { AllFall self.old.pieces.entries }
+        ensures ids { OnOk result (Adds self.old self.new id added.now) }
+        ensures pieces { OnOk result (Gains self.old.pieces.entries self.new.pieces.entries id added.now) }
     {
         match added {
             Record::Counters(_) => add_id(&mut self.counters, id),
@@ -102,7 +107,8 @@ impl Index {
     /// Adds the id of a workspace.
     fn add_space(&mut self, alloc: Global, id: u64, space: &Space) -> Result<(), Memory>
         requires { IdsAscend self.old }
-        ensures { OnOk result (Adds self.old self.new id (records.Space space.now)) }
+        ensures ids { OnOk result (Adds self.old self.new id (records.Space space.now)) }
+        ensures pieces { OnOk result (self.new.pieces.entries ≡ self.old.pieces.entries) }
     {
         add_id(&mut self.all_spaces, id)?;
         add_to(alloc, &mut self.owned, space.number, id)?;
@@ -117,7 +123,8 @@ impl Index {
     /// Adds the id of a version.
     fn add_version(&mut self, alloc: Global, id: u64, version: &Version) -> Result<(), Memory>
         requires { IdsAscend self.old }
-        ensures { OnOk result (Adds self.old self.new id (records.Version version.now)) }
+        ensures ids { OnOk result (Adds self.old self.new id (records.Version version.now)) }
+        ensures pieces { OnOk result (self.new.pieces.entries ≡ self.old.pieces.entries) }
     {
         add_to(alloc, &mut self.owned, version.space, id)?;
         add_to(alloc, &mut self.versions, version.number, id)?;
@@ -134,7 +141,8 @@ impl Index {
     /// Adds the id of a savepoint.
     fn add_savepoint(&mut self, alloc: Global, id: u64, savepoint: &Savepoint) -> Result<(), Memory>
         requires { IdsAscend self.old }
-        ensures { OnOk result (Adds self.old self.new id (records.Savepoint savepoint.now)) }
+        ensures ids { OnOk result (Adds self.old self.new id (records.Savepoint savepoint.now)) }
+        ensures pieces { OnOk result (self.new.pieces.entries ≡ self.old.pieces.entries) }
     {
         add_to(alloc, &mut self.owned, savepoint.space, id)?;
         add_to(alloc, &mut self.savepoints_of, savepoint.space, id)?;
@@ -148,18 +156,20 @@ impl Index {
 
     /// Adds the id of a piece.
     fn add_piece(&mut self, alloc: Global, id: u64, piece: &PieceRecord) -> Result<(), Memory>
-        requires { IdsAscend self.old }
-        ensures { OnOk result (Adds self.old self.new id (records.Piece piece.now)) }
+        requires ascend { IdsAscend self.old }
+        requires falls { AllFall self.old.pieces.entries }
+        ensures ids { OnOk result (Adds self.old self.new id (records.Piece piece.now)) }
+        ensures pieces { OnOk result (Gains self.old.pieces.entries self.new.pieces.entries id (records.Piece piece.now)) }
     {
         add_to(alloc, &mut self.pieces_in, piece.version, id)?;
-        let cells = &piece.cells;
-        add_on(alloc, &mut self.pieces, cells.table, &cells.key, id)
+        add_piece_id(alloc, &mut self.pieces, id, piece)
     }
 
     /// Adds the id of a touch.
     fn add_touch(&mut self, alloc: Global, id: u64, touch: &Trace) -> Result<(), Memory>
         requires { IdsAscend self.old }
-        ensures { OnOk result (Adds self.old self.new id (records.Touch touch.now)) }
+        ensures ids { OnOk result (Adds self.old self.new id (records.Touch touch.now)) }
+        ensures pieces { OnOk result (self.new.pieces.entries ≡ self.old.pieces.entries) }
     {
         add_to(alloc, &mut self.owned, touch.space, id)?;
         let place = (touch.space, touch.position);
@@ -171,7 +181,8 @@ impl Index {
     /// Adds the id of a mark.
     fn add_mark(&mut self, alloc: Global, id: u64, mark: &Trace) -> Result<(), Memory>
         requires { IdsAscend self.old }
-        ensures { OnOk result (Adds self.old self.new id (records.Mark mark.now)) }
+        ensures ids { OnOk result (Adds self.old self.new id (records.Mark mark.now)) }
+        ensures pieces { OnOk result (self.new.pieces.entries ≡ self.old.pieces.entries) }
     {
         add_to(alloc, &mut self.owned, mark.space, id)?;
         add_to(alloc, &mut self.marks_in, mark.space, id)?;
@@ -182,7 +193,8 @@ impl Index {
     /// Adds the id of a turn.
     fn add_turn(&mut self, alloc: Global, id: u64, turn: &Turn) -> Result<(), Memory>
         requires { IdsAscend self.old }
-        ensures { OnOk result (Adds self.old self.new id (records.Turn turn.now)) }
+        ensures ids { OnOk result (Adds self.old self.new id (records.Turn turn.now)) }
+        ensures pieces { OnOk result (self.new.pieces.entries ≡ self.old.pieces.entries) }
     {
         add_to(alloc, &mut self.owned, turn.space, id)?;
         let number = (turn.space, turn.rebase);
@@ -192,7 +204,8 @@ impl Index {
     /// Adds the id of an entry of a log.
     fn add_hist(&mut self, alloc: Global, id: u64, hist: &Hist) -> Result<(), Memory>
         requires { IdsAscend self.old }
-        ensures { OnOk result (Adds self.old self.new id (records.Hist hist.now)) }
+        ensures ids { OnOk result (Adds self.old self.new id (records.Hist hist.now)) }
+        ensures pieces { OnOk result (self.new.pieces.entries ≡ self.old.pieces.entries) }
     {
         add_to(alloc, &mut self.owned, hist.space, id)?;
         let log = (hist.space, hist.cells.table);
@@ -201,8 +214,10 @@ impl Index {
 
     /// Drops the id of a record.
     pub fn drop_record(&mut self, alloc: Global, id: u64, dropped: &Record) -> Result<(), Memory>
-        requires { IdsAscend self.old }
-        ensures { OnOk result (Drops self.old self.new id dropped.now) }
+        requires ascend { IdsAscend self.old }
+        requires falls { AllFall self.old.pieces.entries }
+        ensures ids { OnOk result (Drops self.old self.new id dropped.now) }
+        ensures pieces { OnOk result (Loses self.old.pieces.entries self.new.pieces.entries id dropped.now) }
     {
         match dropped {
             Record::Counters(_) => {
@@ -229,7 +244,8 @@ impl Index {
     /// Drops the id of a workspace.
     fn drop_space(&mut self, id: u64, space: &Space) -> Result<(), Memory>
         requires { IdsAscend self.old }
-        ensures { OnOk result (Drops self.old self.new id (records.Space space.now)) }
+        ensures ids { OnOk result (Drops self.old self.new id (records.Space space.now)) }
+        ensures pieces { OnOk result (self.new.pieces.entries ≡ self.old.pieces.entries) }
     {
         drop_id(&mut self.all_spaces, id);
         drop_from(&mut self.owned, space.number, id)?;
@@ -244,7 +260,8 @@ impl Index {
     /// Drops the id of a version.
     fn drop_version(&mut self, id: u64, version: &Version) -> Result<(), Memory>
         requires { IdsAscend self.old }
-        ensures { OnOk result (Drops self.old self.new id (records.Version version.now)) }
+        ensures ids { OnOk result (Drops self.old self.new id (records.Version version.now)) }
+        ensures pieces { OnOk result (self.new.pieces.entries ≡ self.old.pieces.entries) }
     {
         drop_from(&mut self.owned, version.space, id)?;
         drop_from(&mut self.versions, version.number, id)?;
@@ -255,7 +272,8 @@ impl Index {
     /// Drops the id of a savepoint.
     fn drop_savepoint(&mut self, id: u64, savepoint: &Savepoint) -> Result<(), Memory>
         requires { IdsAscend self.old }
-        ensures { OnOk result (Drops self.old self.new id (records.Savepoint savepoint.now)) }
+        ensures ids { OnOk result (Drops self.old self.new id (records.Savepoint savepoint.now)) }
+        ensures pieces { OnOk result (self.new.pieces.entries ≡ self.old.pieces.entries) }
     {
         drop_from(&mut self.owned, savepoint.space, id)?;
         drop_from(&mut self.savepoints_of, savepoint.space, id)?;
@@ -269,18 +287,20 @@ impl Index {
 
     /// Drops the id of a piece.
     fn drop_piece(&mut self, alloc: Global, id: u64, piece: &PieceRecord) -> Result<(), Memory>
-        requires { IdsAscend self.old }
-        ensures { OnOk result (Drops self.old self.new id (records.Piece piece.now)) }
+        requires ascend { IdsAscend self.old }
+        requires falls { AllFall self.old.pieces.entries }
+        ensures ids { OnOk result (Drops self.old self.new id (records.Piece piece.now)) }
+        ensures pieces { OnOk result (Loses self.old.pieces.entries self.new.pieces.entries id (records.Piece piece.now)) }
     {
         drop_from(&mut self.pieces_in, piece.version, id)?;
-        let cells = &piece.cells;
-        drop_on(alloc, &mut self.pieces, cells.table, &cells.key, id)
+        drop_piece_id(alloc, &mut self.pieces, id, piece)
     }
 
     /// Drops the id of a touch.
     fn drop_touch(&mut self, alloc: Global, id: u64, touch: &Trace) -> Result<(), Memory>
         requires { IdsAscend self.old }
-        ensures { OnOk result (Drops self.old self.new id (records.Touch touch.now)) }
+        ensures ids { OnOk result (Drops self.old self.new id (records.Touch touch.now)) }
+        ensures pieces { OnOk result (self.new.pieces.entries ≡ self.old.pieces.entries) }
     {
         drop_from(&mut self.owned, touch.space, id)?;
         let place = (touch.space, touch.position);
@@ -292,7 +312,8 @@ impl Index {
     /// Drops the id of a mark.
     fn drop_mark(&mut self, alloc: Global, id: u64, mark: &Trace) -> Result<(), Memory>
         requires { IdsAscend self.old }
-        ensures { OnOk result (Drops self.old self.new id (records.Mark mark.now)) }
+        ensures ids { OnOk result (Drops self.old self.new id (records.Mark mark.now)) }
+        ensures pieces { OnOk result (self.new.pieces.entries ≡ self.old.pieces.entries) }
     {
         drop_from(&mut self.owned, mark.space, id)?;
         drop_from(&mut self.marks_in, mark.space, id)?;
@@ -303,7 +324,8 @@ impl Index {
     /// Drops the id of a turn.
     fn drop_turn(&mut self, id: u64, turn: &Turn) -> Result<(), Memory>
         requires { IdsAscend self.old }
-        ensures { OnOk result (Drops self.old self.new id (records.Turn turn.now)) }
+        ensures ids { OnOk result (Drops self.old self.new id (records.Turn turn.now)) }
+        ensures pieces { OnOk result (self.new.pieces.entries ≡ self.old.pieces.entries) }
     {
         drop_from(&mut self.owned, turn.space, id)?;
         let number = (turn.space, turn.rebase);
@@ -313,7 +335,8 @@ impl Index {
     /// Drops the id of an entry of a log.
     fn drop_hist(&mut self, id: u64, hist: &Hist) -> Result<(), Memory>
         requires { IdsAscend self.old }
-        ensures { OnOk result (Drops self.old self.new id (records.Hist hist.now)) }
+        ensures ids { OnOk result (Drops self.old self.new id (records.Hist hist.now)) }
+        ensures pieces { OnOk result (self.new.pieces.entries ≡ self.old.pieces.entries) }
     {
         drop_from(&mut self.owned, hist.space, id)?;
         let log = (hist.space, hist.cells.table);

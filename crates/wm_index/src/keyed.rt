@@ -1,6 +1,6 @@
 //! Ids under keys.
 
-ghost use Rattle.std.specs.Prelude.{◌≡◌, unwrap_or, ℕ, ◌==◌, ◌&&◌, List, [], ◌∷◌, ◌++◌, if◌then◌else◌, IfOk, OnOk};
+ghost use Rattle.std.specs.Prelude.{◌≡◌, unwrap_or, ℕ, ◌==◌, ◌&&◌, List, if◌then◌else◌, IfOk, OnOk};
 ghost use Rattle.std.specs.List.{list_any};
 ghost use Rattle.std.specs.BTreeMap.{IsOrdered};
 ghost use Rattle.std.specs.List.Sorted.{IsStrictlySortedBy};
@@ -9,7 +9,7 @@ ghost use Rattle.std.specs.Option.{option_copied};
 ghost use Rattle.std.specs.Ordering.{is_eq, nat_cmp};
 ghost use Rattle.wm_base.specs.Key.{key_order};
 ghost use Rattle.wm_base.specs.declared.value.Value.{Value};
-ghost use Rattle.wm_index.specs.Sought.{placed, without, has_since, ids_in, keyed_at, last_used, number_ids, pair_order, piece_ids, used};
+ghost use Rattle.wm_index.specs.Sought.{placed, without, has_since, ids_in, keyed_at, last_used, number_ids, pair_order, piece_ids};
 
 use crate::ids::{add_id, drop_id};
 use std::alloc::Global;
@@ -41,16 +41,6 @@ pub fn add_to<K: Ord + Drop>(alloc: Global, map: &mut Ids<K>, key: K, id: u64) -
     let mut ids = map.remove(&key).unwrap_or(Vec::new(alloc));
     add_id(&mut ids, id)?;
     map.insert(key, ids)?;
-    Ok(())
-}
-
-/// Puts an id behind those under a version.
-pub fn push_under(alloc: Global, found: &mut Ids<u64>, version: u64, id: u64) -> Result<(), Memory>
-    ensures { OnOk result ((v : ℕ) → ids_in nat_cmp found.new.entries v ≡ (if version == v then ids_in nat_cmp found.old.entries v ++ id ∷ [] else ids_in nat_cmp found.old.entries v)) }
-{
-    let mut ids = found.remove(&version).unwrap_or(Vec::new(alloc));
-    ids.push(id)?;
-    found.insert(version, ids)?;
     Ok(())
 }
 
@@ -191,39 +181,5 @@ pub fn last_in(spaces: &NumberIds, space: u32) -> u64
     match spaces.get(&space) {
         Some(numbers) => last_key(numbers).copied().unwrap_or(0),
         None => 0,
-    }
-}
-
-/// Puts a copy of a key that has ids behind others.
-fn push_used(alloc: Global, keys: &mut Vec<Key>, key: &Key, ids: &Vec<u64>) -> Result<(), Memory>
-    ensures { OnOk result (keys.new.items ≡ keys.old.items ++ used ((key.now, ids.now) ∷ [])) }
-{
-    if ids.is_empty() {
-        return Ok(());
-    }
-    keys.push(key.copy(alloc)?)?;
-    Ok(())
-}
-
-/// A copy of each key that has ids, in order.
-fn used_keys(alloc: Global, map: &Ids<Key>) -> Result<Vec<Key>, Memory>
-    ensures keys { IfOk result (λ keys. keys.items ≡ used map.now.entries) }
-    ensures ordered { OnOk result (IsStrictlySortedBy key_order (keys_of map.now.entries)) }
-{
-    let mut keys = Vec::new(alloc);
-    for (key, ids) in map {
-        push_used(alloc, &mut keys, key, ids)?;
-    }
-    Ok(keys)
-}
-
-/// A copy of each key of a table that has ids, in order.
-pub fn keys_on(alloc: Global, tables: &TableIds, table: u16) -> Result<Vec<Key>, Memory>
-    ensures keys { IfOk result (λ keys. keys.items ≡ used (keyed_at tables.now.entries table)) }
-    ensures ordered { OnOk result (IsStrictlySortedBy key_order (keys_of (keyed_at tables.now.entries table))) }
-{
-    match tables.get(&table) {
-        Some(keys) => used_keys(alloc, keys),
-        None => Ok(Vec::new(alloc)),
     }
 }

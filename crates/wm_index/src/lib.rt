@@ -11,4 +11,5 @@ pub mod records;
 pub mod savepoints;
 pub mod spaces;
 pub mod tables;
+pub mod versioned;
 pub mod versions;

@@ -13,7 +13,7 @@ use Rattle.wm_graph.specs.Parts.{parts_of, as_piece, version_of}
 use Rattle.wm_graph.specs.Rules.{keep_rules}
 use Rattle.wm_image.specs.Shown.{first_held}
 use Rattle.wm_index.specs.Kinds.{kind_at}
-use Rattle.wm_index.specs.Sought.{PiecesAt, PiecesIn, ids_with, is_sought}
+use Rattle.wm_index.specs.Sought.{PieceAt, PiecesIn, ids_with, is_sought}
 use Rattle.wm_period.proofs.Order.{held_at-past}
 use Rattle.wm_period.specs.Pieces.{Between, Held, IsJoined, held_at}
 use Rattle.wm_period.specs.declared.piece.Piece.{Piece}
@@ -37,7 +37,7 @@ use Rattle.wm_pending.specs.Keys.{Place, has_piece_of}
 
 -- what a version has is laid under what was laid before
 pub laid_more : (ss : List Stored) (a : Space) (n : ℕ) (v : Version) (ids : List ℕ) (c : Cell) (old new own : Option Held) → keep_rules (parts_of ss) ≡ true → Ascend ss
-    → Some v ≡ cond (n == a.base_version) None (version_of (parts_of ss).versions n) → ids ≡ ids_with (is_sought (PiecesAt c.table c.key)) ss
+    → Some v ≡ cond (n == a.base_version) None (version_of (parts_of ss).versions n) → ids ≡ ids_with (is_sought (PieceAt c.table c.key n)) ss
     → new ≡ option_or old (first_held (kind_at as_piece ss ids) n c.time) → option_or old (seen_above (parts_of ss) a.base_version n c) ≡ own
     → option_or new (seen_above (parts_of ss) a.base_version v.parent c) ≡ own
 laid_more ss a n v ids c old new own rules up there are laid so =

@@ -113,10 +113,10 @@ pub fn own_of_key(
     ensures { IfOk result (λ pieces. HoldsKey (own_held (parts_of image.now) space.now) (record { table = table; key = key.now; pieces = pieces })) }
 {
     image.law_of_order();
-    let ids = image.pieces_of(table, key);
     let mut own = Pieces::new(alloc);
     let mut number = image.latest(space.number);
     while let Some(version) = version_above(image, space.base_version, number) {
+        let ids = image.pieces_at(table, key, number);
         own = lay_version(alloc, image, ids, number, own)?;
         number = version.parent;
     }

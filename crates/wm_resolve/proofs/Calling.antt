@@ -1,16 +1,18 @@
 -- What the four calls do, by what is given and what is wrong with it.
 use Rattle.std.proofs.Common.{◌≡◌, ℕ, Bool, true, false, not, if◌then◌else◌, List, [], Option, None, Some, unwrap_or, option_map, refl, sym, ap, ◌∙◌}
 use Rattle.std.proofs.lemmas.Slice.Eq.{bytes_eq-Decides}
+use Rattle.std.specs.Option.{option_or}
 use Rattle.std.specs.Str.{bytes_eq}
 use Rattle.wm_base.specs.Trees.{Cond}
 use Rattle.wm_base.specs.declared.refusal.FormRefusal.TheVariants.{Wm012}
 use Rattle.wm_base.specs.declared.refusal.Refusal.TheVariants.{Form}
 use Rattle.wm_base.specs.declared.tree.statement.Arg.{Arg}
 use Rattle.wm_calls.specs.Arguments.{text_given}
-use Rattle.wm_calls.specs.Faults.{argument_fault}
+use Rattle.wm_calls.specs.Faults.{argument_fault, misfit_before}
 use Rattle.wm_decided.specs.Keys.{columns_of_keys}
 use Rattle.wm_decided.specs.declared.keep.Keep.{Keep}
 use Rattle.wm_grammar.specs.declared.procedure.Parameter.TheVariants as parameters
+use Rattle.wm_grammar.specs.declared.procedure.Procedure.{Procedure}
 use Rattle.wm_grammar.specs.declared.procedure.Procedure.TheVariants as procedures
 use Rattle.wm_graph.specs.Parts.{parts_of}
 use Rattle.wm_model.specs.Planning.{Does, StandsAt, Stay, named}
@@ -80,6 +82,15 @@ resolve_named session args condition empty s text name some is =
     (λ n. resolve_conflicts session (unwrap_or (text_given procedures.ResolveConflicts args parameters.Workspace) []) (folded n) condition (keep_given args) (fault_around procedures.ResolveConflicts args) empty s))
     some
     ∙ ap (λ n. resolve_conflicts session (unwrap_or (text_given procedures.ResolveConflicts args parameters.Workspace) []) n condition (keep_given args) (fault_around procedures.ResolveConflicts args) empty s) (sym is)
+
+-- where nothing is wrong around a condition, nothing is in it
+pub inside_none : (p : Procedure) (args : List Arg) (inside : Option (List ℕ)) → fault_around p args inside ≡ None → inside ≡ None
+inside_none p args inside none = by_faults (misfit_before p parameters.WhereClause args) inside none
+  where
+    by_faults : (before inside : Option (List ℕ)) → option_or before (option_or inside (argument_fault p args)) ≡ None → inside ≡ None
+    by_faults (Some x) inside e = absurd (cc)
+    by_faults None (Some x) e = absurd (cc)
+    by_faults None None e = refl
 
 -- the table of a name has the name
 pub name_found : (rs : List Stored) (name : List ℕ) (table : Table) → named rs name ≡ Some table → table.name ≡ name

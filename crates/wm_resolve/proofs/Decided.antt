@@ -1,37 +1,19 @@
 -- What is told of what is decided on stretches of conflict.
-use Rattle.std.proofs.Common.{◌≡◌, ◌<◌, ◌≤◌, ◌==◌, ℕ, suc, ◌+◌, nat_lt, arith, Bool, true, false, if◌then◌else◌, List, [], ◌∷◌, ◌++◌, map, take, length, get_or, Bor, Option, None, Some, is_some, option_map, option_to_list, refl, sym, ap, ◌∙◌}
+use Rattle.std.proofs.Common.{◌≡◌, ◌<◌, ◌≤◌, ◌==◌, ℕ, suc, ◌+◌, nat_lt, arith, true, false, List, [], ◌∷◌, ◌++◌, map, take, length, get_or, Bor, Option, None, Some, is_some, option_to_list, refl, sym, ap, ◌∙◌}
 use Rattle.std.proofs.lemmas.List.{map-append, take_all, take_more}
 use Rattle.std.proofs.lemmas.Bool.Decides.{nat_tests}
 use Rattle.std.specs.List.{cons_option, filter_map}
 use Rattle.std.specs.Option.{option_copied}
-use Rattle.wm_base.specs.declared.value.Value.{Value}
-use Rattle.wm_decided.specs.Deciding.{copied_on, decided_on, decision_of}
-use Rattle.wm_decided.specs.declared.keep.Keep.{Keep}
 use Rattle.wm_graph.specs.Parts.{parts_of, space_of}
-use Rattle.wm_net.specs.Conflicts.{Sides, Stamps}
-use Rattle.wm_net.specs.Groups.{Group}
-use Rattle.wm_net.specs.Listed.{Stretch}
 use Rattle.wm_rebased.proofs.RebasingFields.{parent_recorded}
-use Rattle.wm_spec.specs.Lists.{Told}
 use Rattle.wm_spec.specs.declared.record.space.Space.{Space}
 use Rattle.wm_spec.specs.declared.record.stored.Stored.{Stored}
-use Rattle.wm_state.specs.State.{Decision, Session}
+use Rattle.wm_state.specs.State.{Session}
 use Rattle.wm_model.specs.Merged.{NamesFamily}
 use Rattle.wm_model.specs.Step.{has_open}
 use Rattle.wm_model.specs.Undone.{NamesSpace}
 use Rattle.wm_model.proofs.RollingLine.{named_numbered}
 use Rattle.wm_state.proofs.Tests.{both}
-use Rattle.wm_resolve.specs.Deciding.{decided_where}
-
--- ---- one stretch
-
-pub where_unmet : (keep : Keep) (s : Sides) (test : List Value → Bool) (x : Group × Stretch Stamps) (met : Bool) → met ≡ test x.0.key → met ≡ false → None ≡ decided_where keep s test x
-where_unmet keep s test x met is not_met = sym (ap (λ (b : Bool). if b then decided_on keep s x else None) (sym is ∙ not_met))
-
-pub where_met : (keep : Keep) (s : Sides) (test : List Value → Bool) (x : Group × Stretch Stamps) (met : Bool) (o : Option (List (Stretch Told))) (made : Option Decision) → met ≡ test x.0.key → met ≡ true → o ≡ copied_on keep s x
-    → made ≡ option_map (decision_of x (length s.log)) o → made ≡ decided_where keep s test x
-where_met keep s test x met o made is meets copied so =
-    so ∙ ap (option_map (decision_of x (length s.log))) copied ∙ sym (ap (λ (b : Bool). if b then decided_on keep s x else None) (sym is ∙ meets))
 
 -- ---- all of them
 

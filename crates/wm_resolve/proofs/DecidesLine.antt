@@ -1,5 +1,5 @@
 -- What ResolveConflicts decides is what the state says, and it can be committed.
-use Rattle.std.proofs.Common.{◌≡◌, ℕ, zero, suc, ◌+◌, ◌==◌, ◌&&◌, nat_le, nat_lt, Bool, true, false, if◌then◌else◌, List, [], ◌∷◌, length, slice_get, Option, None, Some, is_some, option_map, refl, sym, ap, ◌∙◌, subst, arith, eqb-true}
+use Rattle.std.proofs.Common.{◌≡◌, ℕ, ◌+◌, ◌==◌, ◌&&◌, nat_le, nat_lt, Bool, true, false, if◌then◌else◌, List, [], ◌∷◌, length, Option, None, Some, is_some, option_map, refl, sym, ap, ◌∙◌, subst, arith, eqb-true}
 use Rattle.std.proofs.lemmas.Bool.Decides.{nat_tests}
 use Rattle.std.proofs.lemmas.List.Elements.{All-cons, All-filter, All-head, All-nil, All-tail}
 use Rattle.std.specs.Bool.{then_some}
@@ -15,8 +15,8 @@ use Rattle.wm_decided.specs.Staged.{IsRestorable, IsStaged}
 use Rattle.wm_decided.specs.declared.keep.Keep.{Keep}
 use Rattle.wm_decided.specs.declared.keep.Keep.TheVariants.{Parent, Child, Base}
 use Rattle.wm_dml.specs.Changing.{meets}
-use Rattle.wm_graph.specs.Parts.{Parts, parts_of, row_of, table_of, version_of}
-use Rattle.wm_graph.specs.Rules.{are_cells, collide, differ, is_key_of, is_piece}
+use Rattle.wm_graph.specs.Parts.{Parts, parts_of, table_of}
+use Rattle.wm_graph.specs.Rules.{is_key_of}
 use Rattle.wm_net.specs.Conflicts.{Sides, Stamps, all_sides, conflict_at, conflicts, grouped, in_table, same_stamps}
 use Rattle.wm_net.specs.Groups.{Group, cell}
 use Rattle.wm_net.specs.Listed.{IsListing, Stretch}
@@ -24,38 +24,34 @@ use Rattle.wm_net.specs.Nets.{replayed}
 use Rattle.wm_net.proofs.Conflicting.{Steady-conflict}
 use Rattle.wm_spec.specs.Lists as lists
 use Rattle.wm_spec.specs.Lists.{Cell, Entry, Told, covers, is_of, told, told_of}
-use Rattle.wm_spec.specs.declared.record.piece.PieceRecord.{PieceRecord}
 use Rattle.wm_spec.specs.declared.record.space.Space.{Space}
 use Rattle.wm_spec.specs.declared.record.stored.Stored.{Stored}
 use Rattle.wm_spec.specs.declared.record.table.Table.{Table}
 use Rattle.wm_state.specs.Drafts.{can_keep}
 use Rattle.wm_state.specs.Standing.{IsReal, held_of, is_ready}
 use Rattle.wm_state.specs.State.{Decision, Session, State, Workspace}
-use Rattle.wm_state.proofs.Apart.{ruled}
-use Rattle.wm_state.proofs.Laying.{key_same}
 use Rattle.wm_state.proofs.Ready.{tables_found}
 use Rattle.wm_state.proofs.Tests.{and_true, both}
 use Rattle.wm_telling.specs.Sides.{sides}
 use Rattle.wm_telling.specs.Telling.{clash_held}
 use Rattle.wm_telling.proofs.Beside.{child_recorded, own_is_held, some_same}
-use Rattle.wm_telling.proofs.Storing.{stores_own}
 use Rattle.wm_model.specs.Merged.{NamesFamily}
 use Rattle.wm_model.specs.Planning.{StandsAt}
 use Rattle.wm_model.specs.Step.{decide, has_open}
 use Rattle.wm_model.proofs.Families.{Related, related}
 use Rattle.wm_model.proofs.Lawful.Nets.{told_tells}
 use Rattle.wm_model.proofs.RollingLine.{home}
-use Rattle.wm_resolve.proofs.DecidingLine.{base_sound, decide_to, found_same, parent_sound, tell_sides, where_filtered}
+use Rattle.wm_resolve.proofs.DecidingLine.{base_sound, decide_to, found_same, parent_sound, tell_sides}
+use Rattle.wm_resolve.proofs.Keyed.{IsLaid, laid_keyed, own_laid}
 use Rattle.wm_resolve.proofs.Listed.{IsGiven, listing_each}
 use Rattle.wm_resolve.proofs.OpeningLine.{resolving}
 use Rattle.wm_resolve.proofs.Staging.{filled_kept, restorable_told}
-use Rattle.wm_resolve.specs.Deciding.{Decides, decided_where, resolve_to}
+use Rattle.wm_resolve.specs.Deciding.{Decides, resolve_to}
 use Rattle.wm_resolve.specs.Telling.{TellSides}
 
-all_at : {A : Type 0} (P : A → Bool) (xs : List A) (n : ℕ) (x : A) → list_all P xs ≡ true → slice_get xs n ≡ Some x → P x ≡ true
-all_at P [] n x all e = absurd (cc)
-all_at P (y ∷ ys) zero x all e = ap P (sym (some_same y x e)) ∙ (both (P y) (list_all P ys) all).0
-all_at P (y ∷ ys) (suc n) x all e = all_at P ys n x (both (P y) (list_all P ys) all).1 e
+-- stretches whose keys pass a test
+abbrev meant : (List Value → Bool) → List (Group × Stretch Stamps) → List (Group × Stretch Stamps)
+meant test xs = filter (λ (x : Group × Stretch Stamps). test x.0.key) xs
 
 -- the table of a cell at which real entries tell something is ready
 real_ready : (tables : List Table) (es : List Entry) (c : Cell) (y : Told) → All (IsReal tables) es → told es c ≡ Some y → is_ready tables c.table ≡ true
@@ -79,11 +75,7 @@ module _ (rs : List Stored) (xs : List Session) (m : ℕ) (a b : Space) (s : Sta
   record Own (c : Cell) : Type 0 where
     told : Told
     found : lists.told w.lists.own c ≡ Some told
-    piece : PieceRecord
-    cells : are_cells (table_of p.tables) piece.cells ≡ true
-    table : piece.cells.table ≡ c.table
-    key : piece.cells.key ≡ c.key
-    till : nat_lt c.time piece.cells.till ≡ true
+    laid : IsLaid p c
 
   own_of : (c : Cell) → is_some (conflict_at both_sides c) ≡ true → Own c
   own_of c some = by_told (told w.lists.own c) refl (touched_own (told w.lists.own c) _ _ some)
@@ -94,22 +86,11 @@ module _ (rs : List Stored) (xs : List Session) (m : ℕ) (a b : Space) (s : Sta
 
       by_told : (o : Option Told) → told w.lists.own c ≡ o → is_some o ≡ true → Own c
       by_told None is e = absurd (cc)
-      by_told (Some y) is e =
-          let stored = stores_own p a c (held_of y) (own_is_held p s.durable a.number w a st.stands r.beside.is (child_recorded p s.durable a.number w r.q a b r.beside) c ∙ ap (option_map held_of) is) in
-          let rules = ruled p st.stands.rules in
-          let piece = all_at (is_piece (table_of p.tables) (version_of p.versions) (row_of p.rows) rules.counters.next_stamp) p.pieces stored.place stored.piece
-          (both (differ collide p.pieces) (list_all (is_piece (table_of p.tables) (version_of p.versions) (row_of p.rows) rules.counters.next_stamp) p.pieces) rules.pieces).1 stored.there in
-          let place = both _ (nat_le stored.piece.cells.from c.time && nat_lt c.time stored.piece.cells.till) stored.covers in
-          let group = both (stored.piece.cells.table == c.table) _ place.0 in
-          record {
-            told = y;
-            found = is;
-            piece = stored.piece;
-            cells = (both (are_cells (table_of p.tables) stored.piece.cells) _ (both (is_some (version_of p.versions stored.piece.version)) _ piece).1).0;
-            table = eqb-true stored.piece.cells.table c.table group.0;
-            key = key_same stored.piece.cells.key c.key group.1;
-            till = (both (nat_le stored.piece.cells.from c.time) (nat_lt c.time stored.piece.cells.till) place.1).1;
-          }
+      by_told (Some y) is e = record {
+        told = y;
+        found = is;
+        laid = own_laid p st.stands.rules a c (held_of y) (own_is_held p s.durable a.number w a st.stands r.beside.is (child_recorded p s.durable a.number w r.q a b r.beside) c ∙ ap (option_map held_of) is);
+      }
 
   -- a stretch of conflict
   abbrev IsContested : Group × Stretch Stamps → Type 0
@@ -123,14 +104,12 @@ module _ (rs : List Stored) (xs : List Session) (m : ℕ) (a b : Space) (s : Sta
     last = own_of (cell x.0 contested.last) contested.given
 
     is_key : option_map_or (is_key_of x.0.key) (table_of p.tables x.0.table) false ≡ true
-    is_key =
-        let over = both (nat_lt here.piece.cells.from here.piece.cells.till && nat_le here.piece.cells.till END) (option_map_or (is_key_of here.piece.cells.key) (table_of p.tables here.piece.cells.table) false) here.cells in
-        sym (λ i. option_map_or (is_key_of (here.key i)) (table_of p.tables (here.table i)) false) ∙ over.1
+    is_key = laid_keyed p (cell x.0 contested.time) here.laid
 
     ended : nat_le x.1.till END ≡ true
     ended =
-        let over = both (nat_lt last.piece.cells.from last.piece.cells.till && nat_le last.piece.cells.till END) _ last.cells in
-        by_numbers contested.last x.1.till last.piece.cells.till contested.till last.till (both (nat_lt last.piece.cells.from last.piece.cells.till) (nat_le last.piece.cells.till END) over.0).1
+        let over = both (nat_lt last.laid.piece.cells.from last.laid.piece.cells.till && nat_le last.laid.piece.cells.till END) _ last.laid.cells in
+        by_numbers contested.last x.1.till last.laid.piece.cells.till contested.till last.laid.till (both (nat_lt last.laid.piece.cells.from last.laid.piece.cells.till) (nat_le last.laid.piece.cells.till END) over.0).1
       where
         by_numbers : (t till end : ℕ) → t + 1 ≡ till → nat_lt t end ≡ true → nat_le end END ≡ true → nat_le till END ≡ true
         by_numbers t till end e lt le = grind (arith, nat_tests, e, lt, le)
@@ -171,43 +150,43 @@ module _ (rs : List Stored) (xs : List Session) (m : ℕ) (a b : Space) (s : Sta
               copies = copies_can keep ss copied;
             })
 
-  all_staged : (keep : Keep) (test : List Value → Bool) (cs : List (Group × Stretch Stamps)) → All IsContested cs → All (IsStaged p) (filter_map (decided_where keep both_sides test) cs)
-  all_staged keep test [] all = All-nil (IsStaged p)
-  all_staged keep test (x ∷ cs) all = by_test (test x.0.key) (decided_on keep both_sides x) refl (all_staged keep test cs (All-tail IsContested x cs all))
+  all_staged : (keep : Keep) (cs : List (Group × Stretch Stamps)) → All IsContested cs → All (IsStaged p) (filter_map (decided_on keep both_sides) cs)
+  all_staged keep [] all = All-nil (IsStaged p)
+  all_staged keep (x ∷ cs) all = by_decision (decided_on keep both_sides x) refl (all_staged keep cs (All-tail IsContested x cs all))
     where
-      by_test : (t : Bool) (o : Option Decision) → decided_on keep both_sides x ≡ o → All (IsStaged p) (filter_map (decided_where keep both_sides test) cs)
-          → All (IsStaged p) (cons_option (if t then o else None) (filter_map (decided_where keep both_sides test) cs))
-      by_test true None is rest = rest
-      by_test true (Some d) is rest = All-cons (IsStaged p) d (filter_map (decided_where keep both_sides test) cs) (decided_staged x (All-head IsContested x cs all) keep d is) rest
-      by_test false o is rest = rest
+      by_decision : (o : Option Decision) → decided_on keep both_sides x ≡ o → All (IsStaged p) (filter_map (decided_on keep both_sides) cs)
+          → All (IsStaged p) (cons_option o (filter_map (decided_on keep both_sides) cs))
+      by_decision None is rest = rest
+      by_decision (Some d) is rest = All-cons (IsStaged p) d (filter_map (decided_on keep both_sides) cs) (decided_staged x (All-head IsContested x cs all) keep d is) rest
 
-  all_contested : (table : ℕ) → All IsContested (filter (λ (x : Group × Stretch Stamps). x.0.table == table) (conflicts both_sides))
-  all_contested table =
-      All-filter (λ (x : Group × Stretch Stamps). x.0.table == table) IsContested (conflicts both_sides)
-      (listing_each same_stamps grouped (all_sides both_sides) (conflict_at both_sides) IsContested (Steady-conflict both_sides) (λ g z given. given))
+  all_contested : (table : ℕ) (test : List Value → Bool) → All IsContested (meant test (filter (λ (x : Group × Stretch Stamps). x.0.table == table) (conflicts both_sides)))
+  all_contested table test =
+      All-filter (λ (x : Group × Stretch Stamps). test x.0.key) IsContested (filter (λ (x : Group × Stretch Stamps). x.0.table == table) (conflicts both_sides))
+      (All-filter (λ (x : Group × Stretch Stamps). x.0.table == table) IsContested (conflicts both_sides)
+      (listing_each same_stamps grouped (all_sides both_sides) (conflict_at both_sides) IsContested (Steady-conflict both_sides) (λ g z given. given)))
 
 -- ---- the line
 
 pub decides : (rs : List Stored) (xs : List Session) (m : ℕ) (session : Session) (workspace : List ℕ) (a b : Space) (table : Table) (condition : Option Cond) (keep : Keep) (columns : List Column) (found : List (Group × Stretch Stamps)) (ds : List Decision)
     → NamesFamily rs workspace a b → has_open a.number session ≡ true → columns ≡ columns_of_keys table → IsListing same_stamps grouped (in_table table.number (clash_held (parts_of rs) a b)) found
-    → ((s : Sides) → TellSides (parts_of rs) a b s → ds ≡ filter_map (decided_where keep s (λ key. meets condition columns (key_as_row key))) found)
+    → ((s : Sides) → TellSides (parts_of rs) a b s → ds ≡ filter_map (decided_on keep s) (filter (λ (x : Group × Stretch Stamps). meets condition columns (key_as_row x.0.key)) found))
     → Decides rs xs m session ds (resolve_to session workspace table condition keep false)
 decides rs xs m session workspace a b table condition keep columns found ds names has same listing decided = record {
   made = λ s st. let h = home rs xs m workspace a s names.space st in
       let w = h.workspace in
       let r = related rs xs m a b s w h.is names.child names.parent st in
       resolving rs xs m session workspace (decide_to session table condition keep) a true s names.space st has
-      ∙ ap (λ (q : Workspace). decide session (filter_map (decided_on keep (sides q w)) (filter (λ (x : Group × Stretch Stamps). meets_key table condition x.0.key) (filter (λ (x : Group × Stretch Stamps). x.0.table == table.number) (conflicts (sides q w))))) s) r.parent_is
-      ∙ ap (λ (ys : List Decision). decide session ys s) (sym (is s w st r ∙ where_filtered keep (sides r.q w) (meets_key table condition) _));
+      ∙ ap (λ (q : Workspace). decide session (filter_map (decided_on keep (sides q w)) (meant (meets_key table condition) (filter (λ (x : Group × Stretch Stamps). x.0.table == table.number) (conflicts (sides q w))))) s) r.parent_is
+      ∙ ap (λ (ys : List Decision). decide session ys s) (sym (is s w st r));
   staged = λ s st. let h = home rs xs m workspace a s names.space st in
       let w = h.workspace in
       let r = related rs xs m a b s w h.is names.child names.parent st in
-      subst (All (IsStaged (parts_of rs))) (sym (is s w st r)) (all_staged rs xs m a b s w st r keep (meets_key table condition) _ (all_contested rs xs m a b s w st r table.number));
+      subst (All (IsStaged (parts_of rs))) (sym (is s w st r)) (all_staged rs xs m a b s w st r keep _ (all_contested rs xs m a b s w st r table.number (meets_key table condition)));
 }
   where
     is : (s : State) (w : Workspace) (st : StandsAt rs xs m s) (r : Related rs a b s w)
-        → ds ≡ filter_map (decided_where keep (sides r.q w) (meets_key table condition)) (filter (λ (x : Group × Stretch Stamps). x.0.table == table.number) (conflicts (sides r.q w)))
+        → ds ≡ filter_map (decided_on keep (sides r.q w)) (meant (meets_key table condition) (filter (λ (x : Group × Stretch Stamps). x.0.table == table.number) (conflicts (sides r.q w))))
     is s w st r =
         decided (sides r.q w) (tell_sides rs xs m a b s w st r)
-        ∙ ap (λ (cs : List Column). filter_map (decided_where keep (sides r.q w) (λ key. meets condition cs (key_as_row key))) found) same
-        ∙ ap (filter_map (decided_where keep (sides r.q w) (meets_key table condition))) (found_same rs xs m a b s w st r table.number found listing)
+        ∙ ap (λ (cs : List Column). filter_map (decided_on keep (sides r.q w)) (filter (λ (x : Group × Stretch Stamps). meets condition cs (key_as_row x.0.key)) found)) same
+        ∙ ap (λ (ys : List (Group × Stretch Stamps)). filter_map (decided_on keep (sides r.q w)) (meant (meets_key table condition) ys)) (found_same rs xs m a b s w st r table.number found listing)

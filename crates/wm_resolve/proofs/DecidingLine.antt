@@ -1,15 +1,13 @@
 -- What ResolveConflicts does to each state that the records stand for, over a table in which nothing is wrong.
 use Rattle.std.proofs.Common.{◌≡◌, ℕ, ◌==◌, Bool, true, false, if◌then◌else◌, List, [], ◌∷◌, length, Option, None, Some, refl, sym, ap, ◌∙◌, subst}
-use Rattle.std.specs.List.{All, cons_option, filter, filter_map, find}
+use Rattle.std.specs.List.{All, find}
 use Rattle.std.specs.Str.{bytes_eq}
 use Rattle.wm_base.specs.Trees.{Cond}
-use Rattle.wm_base.specs.declared.value.Value.{Value}
-use Rattle.wm_decided.specs.Deciding.{decided_on}
 use Rattle.wm_decided.specs.Staged.{IsStaged}
 use Rattle.wm_decided.specs.declared.keep.Keep.{Keep}
 use Rattle.wm_graph.specs.Parts.{parts_of}
 use Rattle.wm_graph.specs.Rules.{keep_rules}
-use Rattle.wm_net.specs.Conflicts.{Sides, Stamps, conflict_at, conflicts_in, grouped, in_table, same_stamps}
+use Rattle.wm_net.specs.Conflicts.{Stamps, conflict_at, conflicts_in, grouped, in_table, same_stamps}
 use Rattle.wm_net.specs.Groups.{Group}
 use Rattle.wm_net.specs.Listed.{IsListing, Stretch}
 use Rattle.wm_net.proofs.Owing.{listing_alike}
@@ -36,7 +34,7 @@ use Rattle.wm_model.proofs.Lawful.Entries.{each_append}
 use Rattle.wm_model.proofs.Lawful.Nets.{sound_stamped}
 use Rattle.wm_model.proofs.RollingLine.{home}
 use Rattle.wm_resolve.proofs.OpeningLine.{nameless, resolve_closed}
-use Rattle.wm_resolve.specs.Deciding.{Decides, decided_where, resolve_to}
+use Rattle.wm_resolve.specs.Deciding.{Decides, resolve_to}
 use Rattle.wm_resolve.specs.Telling.{TellSides}
 
 -- ---- what it is refused for
@@ -118,15 +116,3 @@ module _ (rs : List Stored) (xs : List Session) (m : ℕ) (a b : Space) (s : Sta
       conflicts_in_is table (sides r.q w) found
       (listing_alike same_stamps grouped (in_table table (clash_held (parts_of rs) a b)) (in_table table (conflict_at (sides r.q w))) found
       (λ c. ap (λ (o : Option Stamps). if c.table == table then o else None) (clash_is (parts_of rs) s.durable a.number w r.q a b r.beside r.base c)) l)
-
--- decisions where a key passes a test, and those on what passes it
-pub where_filtered : (keep : Keep) (s : Sides) (test : List Value → Bool) (cs : List (Group × Stretch Stamps))
-    → filter_map (decided_where keep s test) cs ≡ filter_map (decided_on keep s) (filter (λ (x : Group × Stretch Stamps). test x.0.key) cs)
-where_filtered keep s test [] = refl
-where_filtered keep s test (x ∷ cs) = by_test (test x.0.key) (where_filtered keep s test cs)
-  where
-    by_test : (b : Bool) → filter_map (decided_where keep s test) cs ≡ filter_map (decided_on keep s) (filter (λ (x : Group × Stretch Stamps). test x.0.key) cs)
-        → cons_option (if b then decided_on keep s x else None) (filter_map (decided_where keep s test) cs)
-        ≡ filter_map (decided_on keep s) (if b then x ∷ filter (λ (x : Group × Stretch Stamps). test x.0.key) cs else filter (λ (x : Group × Stretch Stamps). test x.0.key) cs)
-    by_test true rest = ap (cons_option (decided_on keep s x)) rest
-    by_test false rest = rest

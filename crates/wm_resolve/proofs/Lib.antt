@@ -5,6 +5,7 @@ pub mod Copies
 pub mod Decided
 pub mod DecidesLine
 pub mod DecidingLine
+pub mod Keyed
 pub mod Listed
 pub mod OpeningLine
 pub mod Plans

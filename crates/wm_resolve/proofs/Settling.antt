@@ -1,5 +1,5 @@
 -- What is asked before the edits by which decisions become part of a workspace, where each can be committed.
-use Rattle.std.proofs.Common.{◌≡◌, ℕ, zero, suc, ◌+◌, ◌<◌, ◌≤◌, ◌==◌, ◌&&◌, nat_le, nat_lt, Bool, true, false, if◌then◌else◌, List, [], ◌∷◌, ◌++◌, map, length, slice_get, Option, Some, None, option_map, refl, sym, ap, ◌∙◌, arith, subst, eq-eqb}
+use Rattle.std.proofs.Common.{◌≡◌, ℕ, suc, ◌+◌, ◌<◌, ◌≤◌, ◌==◌, ◌&&◌, nat_le, nat_lt, Bool, true, false, if◌then◌else◌, List, [], ◌∷◌, ◌++◌, map, length, Option, Some, None, option_map, refl, sym, ap, ◌∙◌, arith, subst, eq-eqb}
 use Rattle.std.proofs.lemmas.Bool.Decides.{nat_tests}
 use Rattle.std.proofs.lemmas.List.{length-map}
 use Rattle.std.proofs.lemmas.List.Elements.{All-head, All-tail, All-weaker}
@@ -36,23 +36,15 @@ use Rattle.wm_state.specs.declared.edit.Edit.TheVariants as edits
 use Rattle.wm_state.specs.declared.edit.NewEntry.{NewEntry}
 use Rattle.wm_state.specs.declared.edit.NewMark.{NewMark}
 use Rattle.wm_state.proofs.Laying.{key_itself}
+use Rattle.wm_state.proofs.Logging.{all_at}
 use Rattle.wm_state.proofs.Tests.{and_true, both}
 use Rattle.wm_settled.proofs.SettledBehind.{settles_behind}
 use Rattle.wm_resolve.proofs.Listed.{nothing_given}
 use Rattle.wm_resolve.specs.Committed.{commit_edits}
 
-one_some : {A : Type 0} (x y : A) → Some x ≡ Some y → x ≡ y
-one_some x y e = cc
-
 all_true : {A : Type 0} (P : A → Bool) (xs : List A) → All (λ x. P x ≡ true) xs → list_all P xs ≡ true
 all_true P [] all = refl
 all_true P (x ∷ xs) all = and_true (P x) (list_all P xs) (All-head (λ y. P y ≡ true) x xs all) (all_true P xs (All-tail (λ y. P y ≡ true) x xs all))
-
--- what is so of all is so of one that is got
-all_got : {A : Type 0} (P : A → Type 0) (xs : List A) (n : ℕ) (x : A) → All P xs → slice_get xs n ≡ Some x → P x
-all_got P [] n x all is = absurd (cc)
-all_got P (y ∷ ys) zero x all is = subst P (one_some y x is) (All-head P y ys all)
-all_got P (y ∷ ys) (suc n) x all is = all_got P ys n x (All-tail P y ys all) is
 
 module _ (p : Parts) (ds : List Decision) (staged : All (IsStaged p) ds) where
   ended : (till high : ℕ) → till ≤ high → nat_le high END ≡ true → till ≤ END
@@ -74,8 +66,8 @@ module _ (p : Parts) (ds : List Decision) (staged : All (IsStaged p) ds) where
   rewritten : (m : ℕ) (user : List ℕ) (e : Entry) → IsCopy m user ds e → CanRewrite user e
   rewritten m user e copy =
       let d = copy.decision in
-      let can = all_got (IsStaged p) ds copy.place d staged copy.there in
-      let r = all_got (λ (s : Stretch Told). IsRestorable p (copy_of d s)) d.copied copy.index copy.copied can.copies copy.among in
+      let can = all_at (IsStaged p) ds copy.place d staged copy.there in
+      let r = all_at (λ (s : Stretch Told). IsRestorable p (copy_of d s)) d.copied copy.index copy.copied can.copies copy.among in
       let there : Restores d.table d.key copy.copied.value = record { given = r.given; ready = r.ready; well = r.well; kept = r.kept; copied = r.copied } in
       let here : Restores e.table e.key (told_of e) =
       subst (λ n. Restores n e.key (told_of e)) (sym copy.table) (subst (λ k. Restores d.table k (told_of e)) (sym copy.key) (subst (Restores d.table d.key) (sym copy.says) there)) in
@@ -120,7 +112,7 @@ module _ (p : Parts) (ds : List Decision) (staged : All (IsStaged p) ds) where
   marked : (m : Settled) → IsMark ds m → CanMark m
   marked m mark =
       let d = mark.decision in
-      let can = all_got (IsStaged p) ds mark.place d staged mark.there in
+      let can = all_at (IsStaged p) ds mark.place d staged mark.there in
       let cells = both (nat_lt d.from d.till && nat_le d.till END) (option_map_or (is_key_of d.key) (table_of p.tables d.table) false) can.cells in
       record {
         cells = and_true (nat_lt m.from m.till && nat_le m.till END) _

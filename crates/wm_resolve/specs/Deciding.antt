@@ -1,16 +1,11 @@
 -- ResolveConflicts over a table, by what is decided.
-use Rattle.std.specs.Prelude.{ℕ, ◌≡◌, Bool, if◌then◌else◌, List, Option, None}
+use Rattle.std.specs.Prelude.{ℕ, ◌≡◌, Bool, List, Option}
 use Rattle.std.specs.List.{All}
 use Rattle.wm_base.specs.Trees.{Cond}
-use Rattle.wm_base.specs.declared.value.Value.{Value}
-use Rattle.wm_decided.specs.Deciding.{decided_on}
 use Rattle.wm_decided.specs.Staged.{IsStaged}
 use Rattle.wm_decided.specs.declared.keep.Keep.{Keep}
 use Rattle.wm_decided.specs.declared.keep.Keep.TheVariants.{Parent, Child, Base}
 use Rattle.wm_graph.specs.Parts.{Parts, parts_of}
-use Rattle.wm_net.specs.Conflicts.{Sides, Stamps}
-use Rattle.wm_net.specs.Groups.{Group}
-use Rattle.wm_net.specs.Listed.{Stretch}
 use Rattle.wm_print.specs.Texts.{Answer}
 use Rattle.wm_spec.specs.declared.record.space.Space.{Space}
 use Rattle.wm_spec.specs.declared.record.stored.Stored.{Stored}
@@ -19,10 +14,6 @@ use Rattle.wm_state.specs.Standing.{latest}
 use Rattle.wm_state.specs.State.{Decision, Session, State}
 use Rattle.wm_model.specs.Planning.{StandsAt}
 use Rattle.wm_model.specs.Step.{decide, decide_on, unless, unless_empty_period, unresolved_fault, with_named}
-
--- the decision on a stretch of conflict, where its key passes a test
-abbrev pub decided_where : Keep → Sides → (List Value → Bool) → Group × Stretch Stamps → Option Decision
-decided_where keep s test x = if test x.0.key then decided_on keep s x else None
 
 -- what ResolveConflicts does with a table that is ready for rows, where nothing is wrong with its arguments and its condition
 abbrev pub resolve_to : Session → List ℕ → Table → Option Cond → Keep → Bool → State → State × Answer

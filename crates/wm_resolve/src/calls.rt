@@ -6,7 +6,7 @@ ghost use Rattle.wm_base.specs.declared.instant.TheConstants.{END};
 ghost use Rattle.wm_calls.specs.Arguments.{text_given};
 ghost use Rattle.wm_grammar.specs.declared.procedure.Parameter.TheVariants as parameters;
 ghost use Rattle.wm_grammar.specs.declared.procedure.Procedure.TheVariants as procedures;
-ghost use Rattle.wm_graph.specs.Parts.{parts_of};
+ghost use Rattle.wm_graph.specs.Parts.{parts_of, table_of};
 ghost use Rattle.wm_graph.specs.Rules.{keep_rules};
 ghost use Rattle.wm_model.specs.Planning.{IsOpen, named};
 ghost use Rattle.wm_model.specs.Step.{call, resolve_conflicts};
@@ -135,6 +135,7 @@ fn resolve_over(
     empty: bool,
 ) -> Result<Planned, Memory>
     requires rules { keep_rules (parts_of image.now) ≡ true }
+    requires there { table_of (parts_of image.now).tables table.now.number ≡ Some table.now }
     ensures does { IfOk result (λ p. (xs : List SessionState) (m : ℕ) (name : List ℕ) → named image.now name ≡ Some table.now → DoesIt image.now xs m p (resolve_conflicts session.now (unwrap_or (text_given procedures.ResolveConflicts given.entry.args.now parameters.Workspace) []) name (filter_view given.entry.condition.now) (keep_given given.entry.args.now) (fault_around procedures.ResolveConflicts given.entry.args.now) empty)) }
     ensures idle { IfOk result Idles }
 {

@@ -1,13 +1,12 @@
 //! ResolveConflicts: decisions on conflicts.
 
-ghost use Rattle.std.specs.Prelude.{◌≡◌, ◌++◌, ℕ, List, map, true, false, IfOk, IfSome, OnOk};
+ghost use Rattle.std.specs.Prelude.{◌≡◌, ◌++◌, ℕ, List, map, true, false, Some, IfOk, IfSome, OnOk};
 ghost use Rattle.std.specs.List.{filter_map};
 ghost use Rattle.std.specs.Option.{option_map, option_to_list};
 ghost use Rattle.wm_base.specs.Views.{filter_view};
-ghost use Rattle.wm_decided.specs.Deciding.{copied_on, told_on};
-ghost use Rattle.wm_decided.specs.Keys.{columns_of_keys, key_as_row};
-ghost use Rattle.wm_dml.specs.Changing.{meets};
-ghost use Rattle.wm_graph.specs.Parts.{parts_of};
+ghost use Rattle.wm_decided.specs.Deciding.{copied_on, decided_on, told_on};
+ghost use Rattle.wm_decided.specs.Keys.{columns_of_keys};
+ghost use Rattle.wm_graph.specs.Parts.{parts_of, table_of};
 ghost use Rattle.wm_graph.specs.Rules.{keep_rules};
 ghost use Rattle.wm_model.specs.Merged.{NamesFamily};
 ghost use Rattle.wm_model.specs.Step.{has_open};
@@ -18,14 +17,16 @@ ghost use Rattle.wm_pending.specs.Clashes.{conflict_pair};
 ghost use Rattle.wm_plan.specs.Idle.{Idles};
 ghost use Rattle.wm_plan.specs.Planning.{DoesIt};
 ghost use Rattle.wm_print.specs.Texts.{Answer as AnswerText};
-ghost use Rattle.wm_resolve.specs.Deciding.{Decides, decided_where, resolve_to, version_kept};
+ghost use Rattle.wm_resolve.specs.Deciding.{Decides, resolve_to, version_kept};
 ghost use Rattle.wm_resolve.specs.Shown.{Shows};
 ghost use Rattle.wm_resolve.specs.Telling.{TellSides, TellsList};
 ghost use Rattle.wm_spec.specs.Lists.{Entry};
 ghost use Rattle.wm_state.specs.State.{Session as SessionState, State};
 ghost use Rattle.wm_telling.specs.Telling.{AreFamily};
+ghost use Rattle.wm_typing.specs.Types.{is_filter_typed};
 
 use crate::copying::copies_on;
+use crate::meaning::meant;
 use crate::opening::has_open;
 use crate::restorable::are_staged;
 use std::alloc::Global;
@@ -33,7 +34,7 @@ use wm_base::tree::cond::Cond;
 use wm_base::{Columns, Key, Memory, Name};
 use wm_decided::Keep;
 use wm_decided::decision::{Copied, Decision};
-use wm_decided::keyed::{columns_of_keys, meets_key};
+use wm_decided::keyed::columns_of_keys;
 use wm_image::Image;
 use wm_pending::clash::{Conflict, conflicts};
 use wm_pending::own::own_pieces;
@@ -144,8 +145,7 @@ fn copied_on(
     }
 }
 
-/// The decision on a stretch of conflict, at the length of the parent's log, where its key is meant and it is not passed
-/// over.
+/// The decision on a stretch of conflict, at the length of the parent's log, where it is not passed over.
 fn decision_on(
     alloc: Global,
     image: &Image,
@@ -156,11 +156,8 @@ fn decision_on(
     requires rules { keep_rules (parts_of image.now) ≡ true }
     requires last { IfSome last.old (Shows (parts_of image.now) (version_kept (parts_of image.now) deciding.keep deciding.space.now deciding.parent.now) deciding.table.now.number) }
     ensures last { OnOk result (IfSome last.new (Shows (parts_of image.now) (version_kept (parts_of image.now) deciding.entry.keep deciding.entry.space.now deciding.entry.parent.now) deciding.entry.table.now.number)) }
-    ensures made { IfOk result (λ made. (s : Sides) → TellSides (parts_of image.now) deciding.entry.space.now deciding.entry.parent.now s → made ≡ decided_where deciding.entry.keep s (λ key. meets (filter_view deciding.entry.condition.now) deciding.entry.columns.now (key_as_row key)) (conflict_pair deciding.entry.table.now.number conflict.now)) }
+    ensures made { IfOk result (λ made. (s : Sides) → TellSides (parts_of image.now) deciding.entry.space.now deciding.entry.parent.now s → made ≡ decided_on deciding.entry.keep s (conflict_pair deciding.entry.table.now.number conflict.now)) }
 {
-    if !meets_key(alloc, deciding.columns, deciding.condition, &conflict.key)? {
-        return Ok(None);
-    }
     match copied_on(alloc, image, deciding, conflict, last)? {
         Some(copied) => Ok(Some(Decision::new(
             deciding.table.number,
@@ -191,7 +188,7 @@ fn decisions_on(
     found: &[Conflict],
 ) -> Result<Vec<Decision>, Memory>
     requires rules { keep_rules (parts_of image.now) ≡ true }
-    ensures { IfOk result (λ decisions. (s : Sides) → TellSides (parts_of image.now) deciding.entry.space.now deciding.entry.parent.now s → decisions.items ≡ filter_map (decided_where deciding.entry.keep s (λ key. meets (filter_view deciding.entry.condition.now) deciding.entry.columns.now (key_as_row key))) (map (conflict_pair deciding.entry.table.now.number) found.now)) }
+    ensures { IfOk result (λ decisions. (s : Sides) → TellSides (parts_of image.now) deciding.entry.space.now deciding.entry.parent.now s → decisions.items ≡ filter_map (decided_on deciding.entry.keep s) (map (conflict_pair deciding.entry.table.now.number) found.now)) }
 {
     let mut decisions = Vec::new(alloc);
     let mut last = None;
@@ -239,7 +236,9 @@ fn decide_on(
 ) -> Result<Planned, Memory>
     requires rules { keep_rules (parts_of image.now) ≡ true }
     requires family { AreFamily (parts_of image.now) deciding.space.now deciding.parent.now }
+    requires there { table_of (parts_of image.now).tables deciding.table.now.number ≡ Some deciding.table.now }
     requires columns { deciding.columns.now ≡ columns_of_keys deciding.table.now }
+    requires typed { is_filter_typed deciding.columns.now (filter_view deciding.condition.now) ≡ true }
     requires open { has_open deciding.space.now.number session.now ≡ true }
     ensures does { IfOk result (λ p. (xs : List SessionState) (m : ℕ) (workspace : List ℕ) → NamesFamily image.now workspace deciding.entry.space.now deciding.entry.parent.now → DoesIt image.now xs m p (resolve_to session.now workspace deciding.entry.table.now (filter_view deciding.entry.condition.now) deciding.entry.keep false)) }
     ensures idle { IfOk result Idles }
@@ -248,7 +247,8 @@ fn decide_on(
     let own = own_pieces(alloc, image, space)?;
     let table = deciding.table.number;
     let found = conflicts(alloc, image, space, parent, own.as_slice(), table)?;
-    let decisions = decisions_on(alloc, image, deciding, found.as_slice())?;
+    let meant = meant(alloc, deciding.columns, deciding.condition, found)?;
+    let decisions = decisions_on(alloc, image, deciding, meant.as_slice())?;
     decide(alloc, image, session, decisions)
 }
 
@@ -270,6 +270,8 @@ pub fn resolve_in(
     asked: Asked<'_>,
 ) -> Result<Planned, Memory>
     requires rules { keep_rules (parts_of image.now) ≡ true }
+    requires there { table_of (parts_of image.now).tables table.now.number ≡ Some table.now }
+    requires typed { is_filter_typed (columns_of_keys table.now) (filter_view asked.condition.now) ≡ true }
     ensures does { IfOk result (λ p. (xs : List SessionState) (m : ℕ) → DoesIt image.now xs m p (resolve_to session.now asked.entry.workspace.now table.now (filter_view asked.entry.condition.now) asked.entry.keep asked.entry.empty)) }
     ensures idle { IfOk result Idles }
 {

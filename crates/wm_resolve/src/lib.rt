@@ -6,5 +6,6 @@ pub mod calls;
 mod committing;
 mod copying;
 mod deciding;
+mod meaning;
 mod opening;
 mod restorable;

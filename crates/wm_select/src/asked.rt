@@ -1,19 +1,15 @@
-//! What `select` asks of its caller: the columns and the condition that its test is made of, and tests of the rest.
+//! What `select` asks of its caller: the columns that its test is made of, and tests of the rest.
 ghost use Rattle.std.specs.Prelude.{◌≡◌, ◌++◌, IfOk, OnOk};
 ghost use Rattle.std.specs.List.{list_all};
 ghost use Rattle.wm_base.specs.Trees.{Outs};
-ghost use Rattle.wm_base.specs.Views.{cond_view, filter_view, item_view, outs_view, projection_view};
+ghost use Rattle.wm_base.specs.Views.{item_view, outs_view, projection_view};
 ghost use Rattle.wm_base.specs.declared.row.Row.{Row as RowOf};
 ghost use Rattle.wm_spec.specs.Conditions.{fits as row_fits};
-ghost use Rattle.wm_select.specs.Query.{columns_of, rows_fit, where_of, item_lasts, projection_lasts};
+ghost use Rattle.wm_select.specs.Query.{columns_of, rows_fit, item_lasts, projection_lasts};
 
 use std::alloc::Global;
-use wm_base::tree::cond::{Cmp, Cond};
-use wm_base::tree::constant::Const;
-use wm_base::tree::operand::Operand;
 use wm_base::tree::query::{Item, Out, Projection};
 use wm_base::{Column, Columns, Listing, Listings, Memory, Row};
-use wm_expr::copies::cond_copy;
 use wm_expr::{fits, has_no_empty_period};
 
 /// Adds copies of the columns.
@@ -42,20 +38,6 @@ pub fn columns_of(alloc: Global, tables: &Listings) -> Result<Columns, Memory>
 {
     let all = all_columns(alloc, tables.as_slice())?;
     Ok(Columns::from_vec(all))
-}
-
-/// A copy of the condition, and 1 = 1 where there is none.
-pub fn where_of(alloc: Global, filter: &Option<Cond>) -> Result<Cond, Memory>
-    ensures { IfOk result (λ cond. cond_view cond ≡ where_of (filter_view filter.now)) }
-{
-    match filter {
-        Some(cond) => cond_copy(alloc, cond),
-        None => Ok(Cond::Compare {
-            left: Operand::Const(Const::Num(1)),
-            cmp: Cmp::Eq,
-            right: Operand::Const(Const::Num(1)),
-        }),
-    }
 }
 
 /// Whether each row fits the columns.

@@ -25,5 +25,5 @@ mod shown;
 mod source;
 
 pub use answer::select;
-pub use asked::{columns_of, projection_lasts, rows_fit, where_of};
+pub use asked::{columns_of, projection_lasts, rows_fit};
 pub use fault::SelectFault;

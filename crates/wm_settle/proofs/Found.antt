@@ -1,6 +1,6 @@
 -- The marks that are found for a new one are all that may share a cell with it, so what they leave of it is what it says newly.
 use Rattle.std.proofs.Common.{◌≡◌, ℕ, ◌==◌, ◌&&◌, ◌||◌, nat_le, nat_lt, Bool, true, false, cond, List, [], ◌∷◌, map, Option, None, Some, refl, sym, ap, ◌∙◌}
-use Rattle.std.proofs.lemmas.Bool.{eqb-true}
+use Rattle.std.proofs.lemmas.Bool.{eq-eqb, eqb-true}
 use Rattle.std.specs.List.{filter, filter_map, flat_map, list_all}
 use Rattle.std.specs.Ordering.{is_eq}
 use Rattle.wm_base.specs.Key.{key_order}
@@ -68,10 +68,16 @@ drawn-filter view p q same (r ∷ rs) = by_view (view r) refl (q r) refl (drawn-
     by_view (Some x) some true test rest = rw (test, some, sym (same r x some) ∙ test) (ap (λ xs. x ∷ xs) rest)
     by_view (Some x) some false test rest = rw (test, some, sym (same r x some) ∙ test) rest
 
+once : (a b v : Bool) → v ≡ true → (a && v) ≡ (v && b) → a ≡ b
+once true b true is e = e
+once false b true is e = e
+once a b false is e = absurd (cc)
+
 found_marks : (ss : List Stored) → Ascend ss → (n table : ℕ) (key : List Value) → kind_at (mark_in n) ss (ids_with (is_sought (MarksAt table key)) ss) ≡ filter (at_key table key) (drawn_all n (parts_of ss).marks)
 found_marks ss sorted n table key =
     ap (filter_map (mark_in n)) (taken-with (is_sought (MarksAt table key)) ss sorted)
-    ∙ drawn-filter (mark_in n) (at_key table key) (is_sought (MarksAt table key)) (layer_placed (layers.Marks n) table key) (all_of ss)
+    ∙ drawn-filter (mark_in n) (at_key table key) (is_sought (MarksAt table key))
+      (λ r x some. once (is_sought (MarksAt table key) r) (at_key table key x) (x.version == x.version) (eq-eqb x.version x.version refl) (layer_placed (layers.Marks n) x.version table key r x some)) (all_of ss)
     ∙ ap (filter (at_key table key)) (marks_seen n ss)
 
 -- those of the table and the key of a new mark are all that cover one of its cells

@@ -24,7 +24,7 @@ fn all_fit(columns: &Columns, rows: &[Row]) -> bool
 /// The rows of BUD that the test chooses; all of them where one does not fit its columns.
 fn chosen_rows<F: Fn(&Row) -> Truth + Judge>(
     alloc: Global,
-    test: &RowTest<F>,
+    test: &RowTest<'_, F>,
 ) -> Result<Vec<Row>, Memory> {
     let rows = rows(alloc)?;
     if all_fit(test.columns(), rows.as_slice()) {
@@ -35,7 +35,7 @@ fn chosen_rows<F: Fn(&Row) -> Truth + Judge>(
 }
 
 /// Whether the test chooses the first row alone.
-pub fn chooses_first<F: Fn(&Row) -> Truth + Judge>(alloc: Global, test: &RowTest<F>) -> bool {
+pub fn chooses_first<F: Fn(&Row) -> Truth + Judge>(alloc: Global, test: &RowTest<'_, F>) -> bool {
     match chosen_rows(alloc, test) {
         Ok(rows) => are_first(rows.as_slice()),
         Err(_) => false,
@@ -47,10 +47,10 @@ pub fn answers_first<F: Fn(&Row) -> Truth + Judge>(
     alloc: Global,
     query: &Query,
     tables: &Listings,
-    test: &RowTest<F>,
+    test: &RowTest<'_, F>,
 ) -> bool
-    requires condition { cond_view test.now.cond ≡ where_is (filter_view query.now.filter) }
-    requires columns { test.now.columns ≡ all_columns tables.now }
+    requires condition { cond_view test.now.cond.now ≡ where_is (filter_view query.now.filter) }
+    requires columns { test.now.columns.now ≡ all_columns tables.now }
     requires fitting { do_fit tables.now ≡ true }
     requires lasting { items_last (projection_view query.now.projection) ≡ true }
 {

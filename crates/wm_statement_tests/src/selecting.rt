@@ -9,35 +9,14 @@ ghost use Rattle.wm_select.specs.Query.{columns_of as all_columns, rows_fit as d
 use crate::choosing::{answers_first, chooses_first};
 use std::alloc::Global;
 use std::cell::Cell;
-use std::mem::ManuallyDrop;
 use wm_base::tree::cond::Cond;
 use wm_base::tree::query::Query;
 use wm_base::{Columns, Listings, Row, Truth};
 use wm_expr::{truth, typed};
 use wm_rowtest::{Judge, RowTest};
-use wm_select::{columns_of, projection_lasts, rows_fit, where_of};
+use wm_select::{columns_of, projection_lasts, rows_fit};
 
-/// Whether the first row is found by the test, which is let go.
-fn found_with<F: Fn(&Row) -> Truth + Judge + Drop>(
-    alloc: Global,
-    query: &Query,
-    tables: &Listings,
-    test: RowTest<F>,
-) -> bool
-    requires condition { cond_view test.cond ≡ where_is (filter_view query.now.filter) }
-    requires columns { test.columns ≡ all_columns tables.now }
-    requires fitting { do_fit tables.now ≡ true }
-    requires lasting { items_last (projection_view query.now.projection) ≡ true }
-{
-    let is_chosen = chooses_first(alloc, &test);
-    let is_answered = answers_first(alloc, query, tables, &test);
-    let_go(test);
-    is_chosen && is_answered
-}
-
-fn let_go<F: Fn(&Row) -> Truth + Judge + Drop>(_test: RowTest<F>) {}
-
-/// Whether it is found by a test that is made of the closure.
+/// Whether the first row is found by a test that is made of the closure.
 fn found_by<F: Fn(&Row) -> Truth + Judge + Drop>(
     alloc: Global,
     query: &Query,
@@ -54,10 +33,10 @@ fn found_by<F: Fn(&Row) -> Truth + Judge + Drop>(
     requires fitting { do_fit tables.now ≡ true }
     requires lasting { items_last (projection_view query.now.projection) ≡ true }
 {
-    match RowTest::new(alloc, cond, columns, test) {
-        Ok(test) => found_with(alloc, query, tables, test),
-        Err(_) => false,
-    }
+    let test = RowTest::new(cond, columns, test);
+    let is_chosen = chooses_first(alloc, &test);
+    let is_answered = answers_first(alloc, query, tables, &test);
+    is_chosen && is_answered
 }
 
 /// Whether it is found where the condition is that of the query and the columns are those of the tables.
@@ -91,12 +70,9 @@ fn found(
 ) -> bool
     requires { columns.now ≡ all_columns tables.now }
 {
-    match where_of(alloc, &query.filter) {
-        Ok(cond) => {
-            let cond = ManuallyDrop::new(cond);
-            found_where(alloc, query, tables, &cond, columns, calls)
-        }
-        Err(_) => false,
+    match &query.filter {
+        Some(cond) => found_where(alloc, query, tables, cond, columns, calls),
+        None => false,
     }
 }
 

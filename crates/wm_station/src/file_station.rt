@@ -7,7 +7,8 @@ use crate::opening::{Opened, open_alone};
 use crate::{DiskFailed, SayFailed, Station};
 use std::fs::File;
 use std::io;
-use std::io::{ErrorKind, Read, Seek, SeekFrom, Write};
+use std::io::{ErrorKind, Write};
+use std::os::unix::fs::FileExt;
 use std::rt::Files;
 
 /// A file of the system, and a writer for answers. It tells nothing, and never wants memory.
@@ -69,12 +70,12 @@ impl<W: Write> Station for FileStation<W> {
     }
 
     fn read(&mut self, at: u64, into: &mut [u8]) -> Result<(), DiskFailed> {
-        let done = read_at(&mut self.file, at, into);
+        let done = read_at(&self.file, at, into);
         counted(&mut self.disk_faults, done)
     }
 
     fn write_at(&mut self, at: u64, bytes: &[u8]) -> Result<(), DiskFailed> {
-        let done = write_all_at(&mut self.file, at, bytes);
+        let done = write_at(&self.file, at, bytes);
         counted(&mut self.disk_faults, done)
     }
 
@@ -123,27 +124,25 @@ fn len_of(file: &Opened) -> io::Result<u64> {
 }
 
 // Goes on until `into` is full. The end of the file before that is an error.
-fn read_at(file: &mut Opened, at: u64, into: &mut [u8]) -> io::Result<()> {
-    let Opened::File(file) = file else {
-        return Err(not_open());
-    };
-    file.seek(SeekFrom::Start(at))?;
-    file.read_exact(into)
+fn read_at(file: &Opened, at: u64, into: &mut [u8]) -> io::Result<()> {
+    match file {
+        Opened::File(file) => file.read_exact_at(into, at),
+        Opened::Nothing | Opened::Fault => Err(not_open()),
+    }
 }
 
 // Goes on until all bytes are written.
-fn write_all_at(file: &mut Opened, at: u64, bytes: &[u8]) -> io::Result<()> {
-    let Opened::File(file) = file else {
-        return Err(not_open());
-    };
-    file.seek(SeekFrom::Start(at))?;
-    file.write_all(bytes)?;
-    file.flush()
+fn write_at(file: &Opened, at: u64, bytes: &[u8]) -> io::Result<()> {
+    match file {
+        Opened::File(file) => file.write_all_at(bytes, at),
+        Opened::Nothing | Opened::Fault => Err(not_open()),
+    }
 }
 
+// The file's length comes to the disk with its bytes, and what no read asks for, as its times, need not.
 fn sync_of(file: &Opened) -> io::Result<()> {
     match file {
-        Opened::File(file) => file.sync_all(),
+        Opened::File(file) => file.sync_data(),
         Opened::Nothing => Ok(()),
         Opened::Fault => Err(not_open()),
     }

@@ -54,6 +54,8 @@ fn open_locked<R: Files<File = File>>(rt: &R, path: &str, makes: bool) -> io::Re
     // The lock is of the file that was opened, so the clone keeps it.
     file.try_lock()?;
     if makes {
+        // The syncs that follow bring the bytes and the length, and need not bring the owner and the mode.
+        file.sync_all()?;
         // A folder that may not be read, or has no syncs, is left to the system.
         let _ = sync_folder(rt, path);
     }

@@ -1,11 +1,15 @@
 -- What a store holds after a batch.
-use Rattle.std.proofs.Common.{◌≡◌, ℕ, ◌-◌, ◌<◌, ◌≤◌, ◌⊎◌, inl, inr, Bool, true, false, cond, eqb, ltb, List, [], ◌∷◌, length, map, Option, Some, None, is_some, IfSome, Ok, refl, sym, ap, subst, ◌∙◌, arith}
+use Rattle.std.proofs.Common.{◌≡◌, ℕ, ◌+◌, ◌-◌, ◌*◌, ◌<◌, ◌≤◌, ◌⊎◌, inl, inr, Bool, true, false, cond, eqb, ltb, List, [], ◌∷◌, length, map, Option, Some, None, is_some, IfSome, Ok, refl, sym, ap, subst, ◌∙◌, arith}
 use Rattle.std.specs.Option.{option_map, option_and_then}
 use Rattle.std.proofs.lemmas.Bool.{cases_lt, lt-ltb, le-ltb, eqb-true}
+use Rattle.std.proofs.lemmas.List.{length-map}
 use Rattle.wm_spec.specs.declared.record.Record.{Record}
 use Rattle.wm_spec.specs.declared.record.stored.Stored.{Stored}
 use Rattle.wm_spec.specs.declared.record.batch.Change.{Change}
 use Rattle.wm_spec.specs.Records.{record_at, change_at, ids_differ, AreChanges, AfterBatch}
+use Rattle.wm_page.proofs.Batches.{length-entries}
+use Rattle.wm_page.specs.Batch.{entries}
+use Rattle.wm_page.specs.declared.write.PageWrite.{PageWrite}
 use Rattle.wm_page.specs.Entries.{is_named, found}
 use Rattle.wm_page.specs.Fields.{number_at}
 use Rattle.wm_codec.specs.Reading.{record_of}
@@ -22,7 +26,7 @@ use Rattle.wm_heap.specs.Places.{page_count, Once, IsHeapOf}
 use Rattle.wm_heap.specs.Plan.{IsPlan, IsChanged, laid}
 use Rattle.wm_heap.proofs.Getting.{bytes_there}
 use Rattle.wm_store.specs.Opened.{records_in, are_records, unread_in, pages_opened}
-use Rattle.wm_store.specs.Spelled.{HaveSpellings, blobs_of}
+use Rattle.wm_store.specs.Spelled.{HaveSpellings, blob_of, blobs_of}
 use Rattle.wm_store.proofs.Reading.{record_at-records_in, bytes_read, unread_none, all_read}
 use Rattle.wm_store.proofs.Opening.{pages_found, passed}
 
@@ -42,6 +46,10 @@ blobs_small (c ∷ changes) all = (by_record c.becomes all.0, blobs_small change
     by_record : (o : Option Record) → IfSome o (λ r. HasSpelling r × (length (spelling r) ≤ 4084)) → IfSome (option_map spelling o) (λ bytes. length bytes ≤ 4084)
     by_record None h = tt
     by_record (Some r) h = h.1
+
+-- as many pages as the heap plans, said of the changes
+pub few_rewritten : (changes : List Change) (blobs : List Blob) (writes : List PageWrite) → blobs ≡ blobs_of changes → length writes ≤ 2 * length blobs + 2 → length (entries writes) ≤ 2 * length changes + 2
+few_rewritten changes blobs writes are few = omega (arith, few, ap length are, length-map changes blob_of, length-entries writes)
 
 blob_at-blobs_of : (changes : List Change) (id : ℕ) → blob_at (blobs_of changes) id ≡ option_map (λ becomes. option_map spelling becomes) (change_at changes id)
 unfolding change_at

@@ -1,11 +1,11 @@
 -- A store and the station under it.
-use Rattle.std.specs.Prelude.{◌≡◌, ℕ, ◌⊎◌, List, [], ◌∷◌, None, Ok}
+use Rattle.std.specs.Prelude.{◌≡◌, ℕ, ◌<◌, ◌≤◌, ◌⊎◌, List, [], ◌∷◌, length, None, Ok}
 use Rattle.wm_spec.specs.declared.record.stored.Stored.{Stored}
 use Rattle.wm_spec.specs.declared.record.batch.Change.{Change}
 use Rattle.wm_spec.specs.Records.{record_at, AfterBatch}
 use Rattle.wm_station.specs.History.{History, now}
 use Rattle.wm_journal.specs.Disk.{page}
-use Rattle.wm_journal.specs.Store.{IsAtRest}
+use Rattle.wm_journal.specs.Store.{IsAtRest, over}
 use Rattle.wm_heap.specs.Places.{IsHeapOf}
 use Rattle.wm_store.specs.Opened.{opened, Held}
 use Rattle.wm_store.specs.declared.store.Store.{Store}
@@ -24,3 +24,9 @@ OldOrAfter old changes file = Held old file ⊎ ((new : List Stored) × AfterBat
 abbrev pub ChangesNothing : List Stored → List Change → Type 0
 ChangesNothing stored [] = Unit {0}
 ChangesNothing stored (c ∷ changes) = (c.becomes ≡ None) × (record_at stored c.id ≡ None) × ChangesNothing stored changes
+
+-- of so many pages few are other than they were: the new ones are the old with a list of them over it
+pub record DifferOnFew (count most : ℕ) (old new : ℕ → List ℕ) : Type 0 where
+  pub rewritten : List (ℕ × List ℕ)
+  pub few : length rewritten ≤ most
+  pub pages : (p : ℕ) → 1 ≤ p → p < count → new p ≡ over rewritten old p

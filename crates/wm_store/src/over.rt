@@ -1,5 +1,5 @@
 //! The heap over the pages of a station.
-ghost use Rattle.std.specs.Prelude.{◌≡◌, ℕ, ◌*◌, ◌/◌, ◌<◌, ◌≤◌, ◌==◌, not, length, is_some, Ok, IfOk, IfErr, OnOk, IsErrOf};
+ghost use Rattle.std.specs.Prelude.{◌≡◌, ℕ, ◌+◌, ◌*◌, ◌/◌, ◌<◌, ◌≤◌, ◌==◌, not, length, is_some, Ok, IfOk, IfErr, OnOk, IsErrOf};
 ghost use Rattle.wm_base.specs.declared.fault.OpenFault.TheVariants as opening;
 ghost use Rattle.wm_base.specs.declared.fault.StoreFault.TheVariants as storing;
 ghost use Rattle.wm_page.specs.Batch.{entries};
@@ -69,6 +69,7 @@ pub fn plan_over<P: Station>(
     requires size { P.tells → count * 4096 ≤ length (now (P.history station.old)) }
     ensures plan { IfOk result (λ b. IsPlan (page_count heap.old) (page_count heap.new) (entries b.pages)) }
     ensures nothing { IfOk result (λ b. (length b.pages == 0) ≡ not (change_something (λ id. is_some (place_of heap.old id)) blobs.now)) }
+    ensures few { IfOk result (λ b. length b.pages ≤ 2 * length blobs.now + 2) }
     ensures changed { P.tells → IfOk result (λ b. IsChanged heap.new blobs.now (entries b.pages) (page (now (P.history station.old))) count) }
     ensures told { P.tells → P.history station.new ≡ P.history station.old }
     ensures cause { StoreCause (P.disk_faults station.old) (P.disk_faults station.new) result }

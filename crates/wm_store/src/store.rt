@@ -1,5 +1,5 @@
 //! A store: its records, and how they change.
-ghost use Rattle.std.specs.Prelude.{◌≡◌, ℕ, ◌*◌, ◌/◌, ◌<◌, ◌≤◌, ◌⊎◌, max, true, false, List, length, is_some, Ok, Err, IfOk, IfErr, OnOk, IsErrOf};
+ghost use Rattle.std.specs.Prelude.{◌≡◌, ℕ, ◌+◌, ◌*◌, ◌/◌, ◌<◌, ◌≤◌, ◌⊎◌, max, true, false, List, length, is_some, Ok, Err, IfOk, IfErr, OnOk, IsErrOf};
 ghost use Rattle.wm_base.specs.declared.fault.MakeFault.TheVariants as making;
 ghost use Rattle.wm_base.specs.declared.fault.OpenFault.TheVariants as opening;
 ghost use Rattle.wm_base.specs.declared.fault.StoreFault.TheVariants as storing;
@@ -9,7 +9,7 @@ ghost use Rattle.wm_page.specs.Cause.{MakeCause, OpenCause, StoreCause};
 ghost use Rattle.wm_station.specs.Cause.{Rises};
 ghost use Rattle.wm_station.specs.History.{now, said, Leaves, Synced};
 ghost use Rattle.wm_station.specs.Moments.{Holds, During, Ended};
-ghost use Rattle.wm_journal.specs.Disk.{is_made, count_of};
+ghost use Rattle.wm_journal.specs.Disk.{is_made, count_of, page};
 ghost use Rattle.wm_journal.specs.Opening.{IsUntouched};
 ghost use Rattle.wm_journal.specs.Store.{Settles};
 ghost use Rattle.wm_heap.specs.Places.{place_of};
@@ -37,7 +37,7 @@ pub struct Store {
 }
 
 impl Store {
-    ghost use Rattle.wm_store.specs.Stores.{IsStoreOf, OldOrAfter, ChangesNothing};
+    ghost use Rattle.wm_store.specs.Stores.{IsStoreOf, OldOrAfter, ChangesNothing, DifferOnFew};
 
     /// Makes a store of a file that holds none, which takes `limit` changes. It then holds three records: counters, the
     /// workspace LIVE, and its version. What a crash within the call leaves, or an error but Exists, is not said.
@@ -118,6 +118,9 @@ impl Store {
 
         // A crash at any moment of the call, and a read after it, finds the old records or those after the batch.
         ensures any_moment { P.tells → (old : List Stored) → Held old (now (P.history station.old)) → Ended (P.history station.old) (P.history station.new) (OldOrAfter old batch.now.changes) }
+
+        // At most two pages for each change and two more are other than they were, whatever the store holds.
+        ensures few { P.tells → OnOk result (DifferOnFew self.new.journal (2 * length batch.now.changes + 2) (page (now (P.history station.old))) (page (now (P.history station.new)))) }
 
         // A batch that changes nothing leaves the station alone.
         ensures nothing { P.tells → (old : List Stored) → Held old (now (P.history station.old)) → ChangesNothing old batch.now.changes → P.history station.new ≡ P.history station.old }

@@ -15,33 +15,12 @@ use std::mem::ManuallyDrop;
 use wm_base::tree::cond::Cond;
 use wm_base::tree::query::Query;
 use wm_base::{Columns, Listings, Memory, Row, RowList, Truth};
-use wm_chosen::choosing::{always, let_go};
+use wm_chosen::choosing::always;
 use wm_expr::truth;
 use wm_plan::answer::Answer;
 use wm_plan::refuse::{most_rows, out_of_range};
 use wm_rowtest::{Judge, RowTest};
 use wm_select::SelectFault;
-
-/// The rows that a query answers over its sources, by a test of its condition.
-fn rows_of<F: Fn(&Row) -> Truth + Judge + Drop>(
-    alloc: Global,
-    query: &Query,
-    listings: &Listings,
-    test: RowTest<F>,
-) -> Result<RowList, SelectFault>
-    requires condition { cond_view test.cond ≡ where_of (filter_view query.now.filter) }
-    requires columns { test.columns ≡ columns_of listings.now }
-    requires fitting { rows_fit listings.now ≡ true }
-    requires lasting { projection_lasts (query_view query.now).projection ≡ true }
-    ensures ok { IfOk result (λ rows. answer_of (query_view query.now) listings.now ≡ Some rows) }
-    ensures within { IfOk result (λ rows. length rows ≤ row_limit) }
-    ensures out_of_range { IsErrOf result SelectFault.OutOfRange → answer_of (query_view query.now) listings.now ≡ None }
-    ensures too_many { IsErrOf result SelectFault.TooMany → IsSomeAnd (answer_of (query_view query.now) listings.now) (λ rows. row_limit < length rows) }
-{
-    let rows = wm_select::select(alloc, query, listings, &test);
-    let_go(test);
-    rows
-}
 
 /// The rows that a query answers over its sources, its condition being judged by the closure.
 fn rows_by<F: Fn(&Row) -> Truth + Judge + Drop>(
@@ -64,10 +43,8 @@ fn rows_by<F: Fn(&Row) -> Truth + Judge + Drop>(
     ensures out_of_range { IsErrOf result SelectFault.OutOfRange → answer_of (query_view query.now) listings.now ≡ None }
     ensures too_many { IsErrOf result SelectFault.TooMany → IsSomeAnd (answer_of (query_view query.now) listings.now) (λ rows. row_limit < length rows) }
 {
-    match RowTest::new(alloc, cond, columns, test) {
-        Ok(test) => rows_of(alloc, query, listings, test),
-        Err(_) => Err(SelectFault::Memory),
-    }
+    let test = RowTest::new(cond, columns, test);
+    wm_select::select(alloc, query, listings, &test)
 }
 
 /// The rows that a query answers over its sources, with the condition of its WHERE.

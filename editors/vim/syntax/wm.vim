@@ -6,7 +6,6 @@ endif
 syntax case ignore
 syntax iskeyword @,48-57,_,$,#
 
-syntax keyword wmLine AT CONNECT DISCONNECT
 syntax keyword wmType DATE INTEGER NUMBER TIMESTAMP VARCHAR2
 syntax keyword wmConstant FALSE NULL SYSDATE TRUE UNTIL_CHANGED
 syntax keyword wmFunction COUNT MAX MIN SUM TO_DATE WM_CONTAINS WM_EQUALS WM_GREATERTHAN WM_LESSTHAN WM_MEETS WM_OVERLAPS
@@ -14,6 +13,7 @@ syntax keyword wmFunction WM_PERIOD
 syntax keyword wmName DBMS_WM VALIDFROM VALIDTILL WMSYS WM_VALID
 syntax keyword wmWord AND AS ASC BETWEEN BY CONSTRAINT CREATE DELETE DESC DISTINCT EXEC EXECUTE FROM GROUP IN INNER INSERT
 syntax keyword wmWord INTO IS JOIN KEY NOT ON OR ORDER PRIMARY SELECT SET TABLE UPDATE VALUES WHERE
+syntax match wmLine /^\s*\(AT\|CONNECT\|DISCONNECT\)\>/
 syntax match wmNumber /\<\d\+\>/
 syntax match wmSession /^\s*\a[A-Za-z0-9_$#]*\ze\s*:/
 syntax match wmCall /\(DBMS_WM\s*\.\s*\)\@<=\(UNTIL_CHANGED\>\)\@!\a[A-Za-z0-9_$#]*/

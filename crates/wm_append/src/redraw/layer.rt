@@ -123,12 +123,18 @@ pub fn is_own(found: Option<&Record>, version: u64, layer: Layer) -> bool
     }
 }
 
-/// The ids of the records that are drawn for a key of a table, and maybe of others.
-pub fn ids_in<'a>(image: &'a Image, layer: Layer, table: u16, key: &Key) -> &'a [u64]
-    ensures { result.now ≡ ids_with (is_sought (sought_in layer table key.now)) image.now }
+/// The ids of the records that are drawn for a key of a table as pieces of a version, and maybe of others.
+pub fn ids_in<'a>(
+    image: &'a Image,
+    layer: Layer,
+    version: u64,
+    table: u16,
+    key: &Key,
+) -> &'a [u64]
+    ensures { result.now ≡ ids_with (is_sought (sought_in layer version table key.now)) image.now }
 {
     match layer {
-        Layer::Pieces => image.pieces_of(table, key),
+        Layer::Pieces => image.pieces_at(table, key, version),
         Layer::Touches(_) => image.touches_of(table, key),
         Layer::Marks(_) => image.marks_of(table, key),
     }

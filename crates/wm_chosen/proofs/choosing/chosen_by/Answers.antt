@@ -1,4 +1,4 @@
 use Rattle.wm_chosen.proofs.choosing.chosen_by.Goals as goal
 
-pub returns-in-Ok : goal.returns-in-Ok
-returns-in-Ok g c = rw (c.in-Ok.ensures.0, c.in-Ok.ensures.1) at c.chosen_by_test.ensures
+pub returns : goal.returns
+returns g c = rw (c.new-test.ensures.0, c.new-test.ensures.1) at c.chosen.ensures.chosen

@@ -1,15 +1,8 @@
-use Rattle.std.proofs.Common.{List, ◌++◌, ap, ◌∙◌}
 use Rattle.wm_graph.specs.Parts.{parts_of}
-use Rattle.wm_period.specs.declared.piece.Piece.{Piece}
-use Rattle.wm_image.proofs.Gathering.{adds_rows, lists_key}
-use Rattle.wm_image.specs.Listing.{shown_on}
-use Rattle.wm_image.specs.Standing.{stretches_on}
+use Rattle.wm_image.proofs.Gathering.{lists_key}
 use Rattle.wm_image.proofs.listing.list_key.Goals as goal
 
 pub returns : goal.returns
 returns c =
-    lists_key (parts_of c.args.image.now) c.args.asked.now.version c.args.asked.now.table c.args.asked.now.valid c.args.asked.now.within c.args.key.now c.new-rows.result c.push_rows.new.rows c.new-rows.ensures
-    (adds_rows (parts_of c.args.image.now) c.args.asked.now.version c.args.asked.now.table c.args.asked.now.valid c.args.asked.now.within c.args.key.now c.in_ok-pieces.pieces c.new-rows.result c.push_rows.new.rows
-    c.requires c.list.ensures.in_order c.in_ok-pieces.ensures
-    (c.in_ok-push_rows.ensures
-    ∙ ap (λ (ps : List Piece). c.new-rows.result ++ shown_on (parts_of c.args.image.now) c.args.asked.now.valid c.args.asked.now.within (stretches_on ps)) c.list.ensures.value))
+    lists_key (parts_of c.args.image.now) c.args.asked.now.version c.args.asked.now.table c.args.asked.now.valid c.args.asked.now.within c.args.key.now c.new-rows.result c.push_key.new.rows c.new-rows.ensures
+    c.in_ok-push_key.ensures

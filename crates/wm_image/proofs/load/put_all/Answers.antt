@@ -8,8 +8,9 @@ use Rattle.wm_image.proofs.load.put_all.Goals as goal
 
 pub loop-one-preserved : goal.loop-one-preserved
 loop-one-preserved c = record {
-  indexed = c.in_ok-change.ensures.indexed;
-  are = c.in_ok-change.ensures.listed
+  indexed = c.in_ok-change_one.ensures.indexed;
+  hops = c.in_ok-change_one.ensures.hops;
+  are = c.in_ok-change_one.ensures.listed
       ∙ ap (set_at c.in-Some.one.id (Some c.in-Some.one.record)) c.loop-one.invariant.are
       ∙ sym (entered-push c.loop-one.yielded c.in-Some.one []);
 }

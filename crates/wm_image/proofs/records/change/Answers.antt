@@ -3,16 +3,21 @@ use Rattle.wm_image.proofs.Ascending.{ids_ascend, ids_ascend_less}
 use Rattle.wm_image.proofs.Cataloguing.{tables_kept}
 use Rattle.wm_image.proofs.Listed.{Ascend-listed}
 use Rattle.wm_image.proofs.Lists.{ids_with-set}
+use Rattle.wm_image.proofs.Pieced.{gains_fall, loses_fall, pieces_spanned}
 use Rattle.wm_index.specs.Indexed.{listed}
 use Rattle.wm_index.specs.Sought.{is_sought, ids_with, ids_less, ids_more}
 use Rattle.wm_spec.specs.Records.{record_at}
 use Rattle.wm_image.proofs.records.change.Goals as goal
 
-pub drop_old-requires : goal.drop_old-requires
-drop_old-requires c = ids_ascend c.args.kept.now c.args.index.now c.requires
+pub drop_old-requires-clause-ascend : goal.drop_old-requires-clause-ascend
+drop_old-requires-clause-ascend c = ids_ascend c.args.kept.now c.args.index.now c.requires
 
-pub add_new-requires : goal.add_new-requires
-add_new-requires c = ids_ascend_less c.args.kept.now c.args.index.now c.drop_old.new.index c.args.id c.requires c.in_ok-stood.ensures.dropped
+pub add_new-requires-clause-ascend : goal.add_new-requires-clause-ascend
+add_new-requires-clause-ascend c = ids_ascend_less c.args.kept.now c.args.index.now c.drop_old.new.index c.args.id c.requires c.in_ok-stood.ensures.dropped
+
+pub add_new-requires-clause-falls : goal.add_new-requires-clause-falls
+add_new-requires-clause-falls c =
+    loses_fall c.args.index.now.pieces.entries c.drop_old.new.index.pieces.entries c.args.id (record_at (listed c.args.kept.now.entries) c.args.id) c.in_ok-stood.ensures.pieces c.requires.falls
 
 pub returns-clause-indexed : goal.returns-clause-indexed
 returns-clause-indexed c = record {
@@ -24,6 +29,10 @@ returns-clause-indexed c = record {
       ∙ ap (ids_less (is_sought q) c.args.id (record_at (listed c.args.kept.now.entries) c.args.id)) (c.requires.told q))
       ∙ sym (ids_with-set (is_sought q) c.args.id c.args.becomes (listed c.args.kept.now.entries) (Ascend-listed c.args.kept.now.entries c.requires.ordered))
       ∙ ap (ids_with (is_sought q)) (sym c.in_ok-set.ensures.listed);
+  falls = gains_fall c.drop_old.new.index.pieces.entries c.add_new.new.index.pieces.entries c.args.id c.args.becomes c.in_ok-stands.ensures.pieces
+      (loses_fall c.args.index.now.pieces.entries c.drop_old.new.index.pieces.entries c.args.id (record_at (listed c.args.kept.now.entries) c.args.id) c.in_ok-stood.ensures.pieces c.requires.falls);
+  spanned = pieces_spanned c.args.kept.now c.args.index.now c.drop_old.new.index c.add_new.new.index c.args.id c.args.becomes (listed c.set.new.kept.entries) c.requires c.in_ok-stood.ensures.dropped
+      c.in_ok-stood.ensures.pieces c.in_ok-stands.ensures.pieces c.in_ok-set.ensures.listed;
 }
 
 pub returns-clause-tables : goal.returns-clause-tables

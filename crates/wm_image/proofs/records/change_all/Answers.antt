@@ -11,6 +11,7 @@ loop-one-preserved c = record {
   are = c.in_ok-changed.ensures.listed
       ∙ ap (set_at c.in-Some.one.id c.in-Some.one.becomes) c.loop-one.invariant.are
       ∙ sym (applied-push c.loop-one.yielded c.in-Some.one (listed c.args.kept.now.entries));
+  hops = c.in_ok-changed.ensures.hops;
   tables = λ neither.
       let h = either_false c.in_ok-changed.changed c.loop-one.touched (sym c.is_either-touched.ensures ∙ neither) in
       c.in_ok-changed.ensures.tables h.0 ∙ c.loop-one.invariant.tables h.1;

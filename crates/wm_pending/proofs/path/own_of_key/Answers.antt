@@ -11,9 +11,9 @@ loop-version-smaller c = (own_goes_on (parts_of c.args.image.now) c.args.space.n
 
 pub loop-version-preserved : goal.loop-version-preserved
 loop-version-preserved c = λ t less.
-    laid_more c.args.image.now c.args.space.now c.loop-version.number c.in-Some.version c.pieces_of-ids.result.now (record { table = c.args.table; key = c.args.key.now; time = t })
+    laid_more c.args.image.now c.args.space.now c.loop-version.number c.in-Some.version c.pieces_at-ids.result.now (record { table = c.args.table; key = c.args.key.now; time = t })
     (held_at c.loop-version.own t) (held_at c.in_ok-own.own t) (own_held (parts_of c.args.image.now) c.args.space.now (record { table = c.args.table; key = c.args.key.now; time = t }))
-    c.requires c.law_of_order.ensures c.in-Some.ensures c.pieces_of-ids.ensures (c.in_ok-own.ensures t less) (c.loop-version.invariant t less)
+    c.requires c.law_of_order.ensures c.in-Some.ensures c.pieces_at-ids.ensures (c.in_ok-own.ensures t less) (c.loop-version.invariant t less)
 
 pub returns : goal.returns
 returns c =

@@ -8,6 +8,7 @@ use Rattle.wm_grammar.specs.declared.procedure.Procedure.TheVariants as procedur
 use Rattle.wm_model.specs.Planning.{named}
 use Rattle.wm_model.specs.Step.{mistyped, resolve_conflicts}
 use Rattle.wm_model.specs.Step.Calling.{call_with, fault_around, keep_given}
+use Rattle.wm_model.proofs.Named.{named_is}
 use Rattle.wm_plan.proofs.Planning.{does_one, refused}
 use Rattle.wm_reader.specs.Reading.{folded}
 use Rattle.wm_resolve.proofs.Calling.{resolve_lacking, resolve_named}
@@ -19,6 +20,10 @@ returns-in_default-clause-does c = λ xs m.
     (call_with c.args.session.now (Some procedures.ResolveConflicts) c.args.given.args.now (filter_view c.args.given.condition.now) c.args.empty) c.lacking.ensures.edits c.lacking.ensures.seating
     (c.lacking.ensures.answer ∙ ap (λ (fault : Option (List ℕ)). mistyped (unwrap_or fault [])) c.in_ok-fault.ensures) c.requires.rules
     (λ s. resolve_lacking c.args.session.now c.args.given.args.now (filter_view c.args.given.condition.now) c.args.empty s (sym c.in_default.ensures))
+
+pub resolve_over-requires-clause-there : goal.resolve_over-requires-clause-there
+resolve_over-requires-clause-there c =
+    (named_is c.args.image.now c.in_ok-name.name c.in-Some-table.table.now c.requires.rules (ap (named c.args.image.now) (sym c.as_bytes-2.ensures) ∙ sym c.in-Some-table.ensures)).there
 
 pub returns-clause-does : goal.returns-clause-does
 returns-clause-does c =

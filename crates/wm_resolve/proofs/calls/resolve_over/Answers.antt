@@ -1,5 +1,6 @@
 use Rattle.std.proofs.Common.{[], unwrap_or, false, sym, ap, ◌∙◌}
 use Rattle.std.proofs.lemmas.Result.{IfOk-weaker}
+use Rattle.std.specs.Option.{option_copied}
 use Rattle.wm_base.specs.Views.{filter_view}
 use Rattle.wm_calls.specs.Arguments.{text_given}
 use Rattle.wm_grammar.specs.declared.procedure.Parameter.TheVariants as parameters
@@ -9,7 +10,7 @@ use Rattle.wm_model.specs.Step.{resolve_conflicts, versioning}
 use Rattle.wm_model.specs.Step.Calling.{fault_around, keep_given}
 use Rattle.wm_plan.proofs.Planning.{does_one, told}
 use Rattle.wm_plan.specs.Views.{answer_view, seating_view}
-use Rattle.wm_resolve.proofs.Calling.{name_found, resolve_right, resolve_unready}
+use Rattle.wm_resolve.proofs.Calling.{inside_none, name_found, resolve_right, resolve_unready}
 use Rattle.wm_resolve.specs.Deciding.{resolve_to}
 use Rattle.wm_resolve.proofs.calls.resolve_over.Goals as goal
 
@@ -22,6 +23,11 @@ returns-then-not-table-clause-does c = λ xs m name is.
     (ap answer_view c.answered.ensures.answer ∙ c.versioning.ensures ∙ ap (λ n. versioning n false) (c.in_ok-name.ensures ∙ name_found c.args.image.now name c.args.table.now is))
     (resolve_unready c.args.image.now xs m c.args.session.now (unwrap_or (text_given procedures.ResolveConflicts c.args.given.args.now parameters.Workspace) []) name (filter_view c.args.given.condition.now)
     (keep_given c.args.given.args.now) (fault_around procedures.ResolveConflicts c.args.given.args.now) c.args.empty c.args.table.now is c.if-not-table.true)
+
+pub resolve_in-requires-clause-typed : goal.resolve_in-requires-clause-typed
+resolve_in-requires-clause-typed c =
+    c.in_ok-mark.ensures.typed (sym c.in_ok-name-2.ensures ∙ c.in_default.is)
+    (inside_none procedures.ResolveConflicts c.args.given.args.now (option_copied c.in_ok-mark.mark) (sym c.in_ok-parameter.ensures ∙ c.in_default-2.is))
 
 pub returns-clause-does : goal.returns-clause-does
 returns-clause-does c =

@@ -1,9 +1,6 @@
-use Rattle.wm_base.specs.Views.{filter_view}
-use Rattle.wm_decided.specs.Keys.{key_as_row}
-use Rattle.wm_dml.specs.Changing.{meets}
+use Rattle.wm_decided.specs.Deciding.{decided_on}
 use Rattle.wm_pending.specs.Clashes.{conflict_pair}
 use Rattle.wm_resolve.proofs.Decided.{decided_all, decided_more}
-use Rattle.wm_resolve.specs.Deciding.{decided_where}
 use Rattle.wm_resolve.proofs.deciding.decisions_on.Goals as goal
 
 pub decision_on-requires-clause-last : goal.decision_on-requires-clause-last
@@ -12,7 +9,7 @@ decision_on-requires-clause-last c = c.loop-conflict.invariant.1
 pub loop-conflict-preserved : goal.loop-conflict-preserved
 loop-conflict-preserved c = (
   λ s tells.
-      decided_more (decided_where c.args.deciding.keep s (λ key. meets (filter_view c.args.deciding.condition.now) c.args.deciding.columns.now (key_as_row key))) (conflict_pair c.args.deciding.table.now.number)
+      decided_more (decided_on c.args.deciding.keep s) (conflict_pair c.args.deciding.table.now.number)
       c.args.found.now c.loop-conflict.conflict-index c.conflict-item.result c.in_ok-made.made c.loop-conflict.decisions.items c.push_made.new.decisions.items c.loop-conflict-test.true c.conflict-item.is (c.in_ok-made.ensures.made s tells)
       c.in_ok-push_made.ensures (c.loop-conflict.invariant.0 s tells),
   c.in_ok-made.ensures.last,
@@ -20,5 +17,5 @@ loop-conflict-preserved c = (
 
 pub returns : goal.returns
 returns c = λ s tells.
-    decided_all (decided_where c.args.deciding.keep s (λ key. meets (filter_view c.args.deciding.condition.now) c.args.deciding.columns.now (key_as_row key))) (conflict_pair c.args.deciding.table.now.number)
+    decided_all (decided_on c.args.deciding.keep s) (conflict_pair c.args.deciding.table.now.number)
     c.args.found.now c.loop-conflict.conflict-index c.loop-conflict.decisions.items c.loop-conflict-test.false (c.loop-conflict.invariant.0 s tells)

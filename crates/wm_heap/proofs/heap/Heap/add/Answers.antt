@@ -1,35 +1,59 @@
-use Rattle.std.proofs.Common.{◌+◌, ◌-◌, ◌++◌, ◌∷◌, [], Some, ap, arith}
+use Rattle.std.proofs.Common.{◌≡◌, ℕ, ◌+◌, ◌<◌, ◌≤◌, ◌++◌, ◌∷◌, [], eqb, false, Some, Option, IfSome, refl, ap, subst, arith}
+use Rattle.wm_heap.specs.declared.room.Roomy.{Roomy}
+use Rattle.wm_heap.specs.Draft.{slots_now}
+use Rattle.wm_heap.specs.Places.{at}
 use Rattle.wm_heap.specs.Slots.{used}
 use Rattle.wm_heap.proofs.Sizes.{used-push}
-use Rattle.wm_heap.proofs.Standing.{slot_with, put_goes, added_there, added_new}
+use Rattle.wm_heap.proofs.Standing.{slot_with, put_goes, puts_over, added_there, added_new}
 use Rattle.wm_heap.proofs.heap.Heap.add.Goals as goal
 
-pub returns-then-fit_with-clause-goes : goal.returns-then-fit_with-clause-goes
-returns-then-fit_with-clause-goes g c =
-    let count = c.page_count-last.ensures in
-    let fits = c.fit_with.ensures.yes c.if-fit_with.true in
-    let len = c.len.ensures.value in
-    let size = used-push c.in_ok-slots.slots (slot_with c.args.id c.args.bytes.now) in
-    put_goes (c.page_count-last.result - 1) c.args.id (c.in_ok-slots.slots ++ slot_with c.args.id c.args.bytes.now ∷ []) (Some (c.page_count-last.result - 1)) c.args.self.now c.put_behind.new.self c.args.changed.now.entries c.put_behind.new.changed.entries
-    c.in_ok-put_behind.ensures c.if-last-ge2.true (omega arith) (omega (arith, fits, len, size)) c.requires.room
-
-pub returns-then-fit_with-clause-done : goal.returns-then-fit_with-clause-done
-returns-then-fit_with-clause-done g c = λ t.
-    let count = c.page_count-last.ensures in
-    added_there c.args.self.now c.put_behind.new.self c.args.changed.now.entries c.put_behind.new.changed.entries (g.G.Pages.held c.args.pages.now) (g.G.Pages.in_use c.args.pages.now) (g.G.Pages.in_file c.args.pages.now)
-    (c.page_count-last.result - 1) c.args.id c.in_ok-slots.slots c.args.bytes.now (c.requires.stands t) c.requires.absent c.if-last-ge2.true (omega arith) (c.in_ok-slots.ensures.value t) c.in_ok-put_behind.ensures
-
-pub returns-clause-goes : goal.returns-clause-goes
-returns-clause-goes g c =
-    let count = c.page_count-last.ensures in
+pub returns-in_default-clause-goes : goal.returns-in_default-clause-goes
+returns-in_default-clause-goes g c =
+    let count = c.page_count-count.ensures in
     let small = c.requires.small in
     let none = ap used c.new.ensures in
     let size = used-push c.new.result (slot_with c.args.id c.args.bytes.now) in
-    put_goes (c.page_count-last.result - 1 + 1) c.args.id (c.new.result ++ slot_with c.args.id c.args.bytes.now ∷ []) (Some (c.page_count-last.result - 1 + 1)) c.args.self.now c.put_behind-2.new.self c.args.changed.now.entries c.put_behind-2.new.changed.entries
-    c.in_ok-put_behind-2.ensures (omega arith) (omega arith) (omega (arith, small, none, size)) c.requires.room
+    put_goes c.page_count-count.result c.args.id (c.new.result ++ slot_with c.args.id c.args.bytes.now ∷ []) (Some c.page_count-count.result) c.args.self.now c.put_behind.new.self c.args.changed.now.entries c.put_behind.new.changed.entries
+    (puts_over c.page_count-count.result c.args.id (c.new.result ++ slot_with c.args.id c.args.bytes.now ∷ []) (Some c.page_count-count.result) c.args.self.now (record { ids = c.args.self.now.ids; places = c.args.self.now.places; room = c.take_roomy.new.room }) c.put_behind.new.self c.args.changed.now.entries c.take_roomy.new.changed.entries c.put_behind.new.changed.entries refl refl
+    (λ p e. ap (λ l. at l p) (c.in_ok-roomy.ensures.kept c.in_default.is)) c.in_ok-put_behind.ensures.puts)
+    (omega arith) (omega arith) (omega (arith, small, none, size)) c.requires.room
+
+pub returns-in_default-clause-done : goal.returns-in_default-clause-done
+returns-in_default-clause-done g c = λ t.
+    let count = c.page_count-count.ensures in
+    added_new c.args.self.now c.put_behind.new.self c.args.changed.now.entries c.put_behind.new.changed.entries (g.G.Pages.held c.args.pages.now) (g.G.Pages.in_use c.args.pages.now) (g.G.Pages.in_file c.args.pages.now)
+    c.page_count-count.result c.args.id c.new.result c.args.bytes.now (c.requires.stands t) c.requires.absent count c.new.ensures
+    (puts_over c.page_count-count.result c.args.id (c.new.result ++ slot_with c.args.id c.args.bytes.now ∷ []) (Some c.page_count-count.result) c.args.self.now (record { ids = c.args.self.now.ids; places = c.args.self.now.places; room = c.take_roomy.new.room }) c.put_behind.new.self c.args.changed.now.entries c.take_roomy.new.changed.entries c.put_behind.new.changed.entries refl refl
+    (λ p e. ap (λ l. at l p) (c.in_ok-roomy.ensures.kept c.in_default.is)) c.in_ok-put_behind.ensures.puts)
+
+pub returns-clause-goes : goal.returns-clause-goes
+returns-clause-goes g c =
+    let count = c.page_count-count.ensures in
+    let page = c.in-Some.roomy.page in
+    let slots = c.in-Some.roomy.slots in
+    let was = c.args.changed.now.entries in
+    let mid = c.take_roomy.new.changed.entries in
+    let from : 2 ≤ page = subst (λ (o : Option Roomy). IfSome o (λ r. 2 ≤ r.page)) c.in-Some.is c.in_ok-roomy.ensures.from in
+    let till : page < c.page_count-count.result = subst (λ (o : Option Roomy). IfSome o (λ r. r.page < c.page_count-count.result)) c.in-Some.is c.in_ok-roomy.ensures.till in
+    let fits : used slots + 10 + c.len.result ≤ 4096 = subst (λ (o : Option Roomy). IfSome o (λ r. used r.slots + 10 + c.len.result ≤ 4096)) c.in-Some.is c.in_ok-roomy.ensures.room in
+    let others = subst (λ (o : Option Roomy). IfSome o (λ r. (p : ℕ) → eqb p r.page ≡ false → at mid p ≡ at was p)) c.in-Some.is c.in_ok-roomy.ensures.others in
+    let len = c.len.ensures.value in
+    let size = used-push slots (slot_with c.args.id c.args.bytes.now) in
+    put_goes page c.args.id (slots ++ slot_with c.args.id c.args.bytes.now ∷ []) (Some page) c.args.self.now c.put_behind-2.new.self was c.put_behind-2.new.changed.entries
+    (puts_over page c.args.id (slots ++ slot_with c.args.id c.args.bytes.now ∷ []) (Some page) c.args.self.now (record { ids = c.args.self.now.ids; places = c.args.self.now.places; room = c.take_roomy.new.room }) c.put_behind-2.new.self was mid c.put_behind-2.new.changed.entries refl refl others c.in_ok-put_behind-2.ensures.puts)
+    from (omega arith) (omega (arith, fits, len, size)) c.requires.room
 
 pub returns-clause-done : goal.returns-clause-done
 returns-clause-done g c = λ t.
-    let count = c.page_count-last.ensures in
-    added_new c.args.self.now c.put_behind-2.new.self c.args.changed.now.entries c.put_behind-2.new.changed.entries (g.G.Pages.held c.args.pages.now) (g.G.Pages.in_use c.args.pages.now) (g.G.Pages.in_file c.args.pages.now)
-    (c.page_count-last.result - 1 + 1) c.args.id c.new.result c.args.bytes.now (c.requires.stands t) c.requires.absent (omega arith) c.new.ensures c.in_ok-put_behind-2.ensures
+    let count = c.page_count-count.ensures in
+    let page = c.in-Some.roomy.page in
+    let slots = c.in-Some.roomy.slots in
+    let was = c.args.changed.now.entries in
+    let mid = c.take_roomy.new.changed.entries in
+    let from : 2 ≤ page = subst (λ (o : Option Roomy). IfSome o (λ r. 2 ≤ r.page)) c.in-Some.is c.in_ok-roomy.ensures.from in
+    let till : page < c.page_count-count.result = subst (λ (o : Option Roomy). IfSome o (λ r. r.page < c.page_count-count.result)) c.in-Some.is c.in_ok-roomy.ensures.till in
+    let others = subst (λ (o : Option Roomy). IfSome o (λ r. (p : ℕ) → eqb p r.page ≡ false → at mid p ≡ at was p)) c.in-Some.is c.in_ok-roomy.ensures.others in
+    let value : slots ≡ slots_now was (g.G.Pages.held c.args.pages.now) page = subst (λ (o : Option Roomy). IfSome o (λ r. r.slots ≡ slots_now was (g.G.Pages.held c.args.pages.now) r.page)) c.in-Some.is (c.in_ok-roomy.ensures.value t) in
+    added_there c.args.self.now c.put_behind-2.new.self was c.put_behind-2.new.changed.entries (g.G.Pages.held c.args.pages.now) (g.G.Pages.in_use c.args.pages.now) (g.G.Pages.in_file c.args.pages.now)
+    page c.args.id slots c.args.bytes.now (c.requires.stands t) c.requires.absent from (omega arith) value
+    (puts_over page c.args.id (slots ++ slot_with c.args.id c.args.bytes.now ∷ []) (Some page) c.args.self.now (record { ids = c.args.self.now.ids; places = c.args.self.now.places; room = c.take_roomy.new.room }) c.put_behind-2.new.self was mid c.put_behind-2.new.changed.entries refl refl others c.in_ok-put_behind-2.ensures.puts)

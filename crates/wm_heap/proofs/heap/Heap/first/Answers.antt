@@ -10,7 +10,7 @@ pub returns-clause-heap : goal.returns-clause-heap
 returns-clause-heap c = λ held page_is.
     let slots : c.in_ok-slots.slots ≡ slots_put c.args.batch.now = c.in_ok-slots.ensures ∙ ap slots_put c.as_slice.ensures in
     let pages = c.in_ok-pages.ensures in
-    first_heap (record { ids = c.push.new.self; places = c.place_each.new.places }) held (slots_put c.args.batch.now)
+    first_heap (record { ids = c.push.new.self; places = c.place_each.new.places; room = c.keep.new.self }) held (slots_put c.args.batch.now)
     (ap (λ l. slots_of (page_of l)) (sym slots) ∙ pages.again ∙ ap (λ l. Some l) slots)
     (once_put c.args.batch.now c.requires.once)
     (c.in_ok-push.ensures.items ∙ ap (λ l. l ++ c.in_ok-ids_of_slots.field-0 ∷ []) c.new-ids.ensures.items ∙ ap (λ (l : List ℕ). l ∷ []) (c.in_ok-ids_of_slots.ensures ∙ ap ids_of (c.as_slice-3.ensures ∙ slots)))
@@ -19,4 +19,4 @@ returns-clause-heap c = λ held page_is.
 
 pub returns-clause-sound : goal.returns-clause-sound
 returns-clause-sound c = λ held whole page_is fits.
-    first_sound (record { ids = c.push.new.self; places = c.place_each.new.places }) held whole (returns-clause-heap c held page_is) fits
+    first_sound (record { ids = c.push.new.self; places = c.place_each.new.places; room = c.keep.new.self }) held whole (returns-clause-heap c held page_is) fits

@@ -62,7 +62,7 @@ returns-clause-heap g c = λ t.
     let test = c.loop-page-test.false in
     let few = inv.few in
     let count = c.count-page-end.ensures in
-    (loaded_all (record { ids = c.loop-page.ids; places = c.loop-page.places }) (g.G.Pages.held c.args.pages.now) (g.G.Pages.in_file c.args.pages.now) c.loop-page.page (g.G.Pages.in_use c.args.pages.now) (omega arith) (omega arith) inv.len (inv.loaded t)).0
+    (loaded_all (record { ids = c.loop-page.ids; places = c.loop-page.places; room = c.loop-page.room }) (g.G.Pages.held c.args.pages.now) (g.G.Pages.in_file c.args.pages.now) c.loop-page.page (g.G.Pages.in_use c.args.pages.now) (omega arith) (omega arith) inv.len (inv.loaded t)).0
 
 pub returns-clause-undamaged : goal.returns-clause-undamaged
 returns-clause-undamaged g c = λ t.
@@ -70,4 +70,4 @@ returns-clause-undamaged g c = λ t.
     let test = c.loop-page-test.false in
     let few = inv.few in
     let count = c.count-page-end.ensures in
-    (loaded_all (record { ids = c.loop-page.ids; places = c.loop-page.places }) (g.G.Pages.held c.args.pages.now) (g.G.Pages.in_file c.args.pages.now) c.loop-page.page (g.G.Pages.in_use c.args.pages.now) (omega arith) (omega arith) inv.len (inv.loaded t)).1
+    (loaded_all (record { ids = c.loop-page.ids; places = c.loop-page.places; room = c.loop-page.room }) (g.G.Pages.held c.args.pages.now) (g.G.Pages.in_file c.args.pages.now) c.loop-page.page (g.G.Pages.in_use c.args.pages.now) (omega arith) (omega arith) inv.len (inv.loaded t)).1

@@ -1,12 +1,14 @@
 use Rattle.std.proofs.Common.{◌<◌, ◌≤◌, length, get_or, refl, ap, subst, ◌∙◌, arith}
 use Rattle.wm_heap.specs.Draft.{Done}
 use Rattle.wm_heap.proofs.Standing.{at_pages}
-use Rattle.wm_heap.proofs.Planning.{going_begun, going_on, telling_begun, telling_on, planned, planned_told}
+use Rattle.wm_heap.proofs.Planning.{going_begun, going_on, telling_begun, telling_on, planned, planned_few, planned_told}
 use Rattle.wm_heap.proofs.heap.Heap.plan.Goals as goal
 
 pub loop-blob-init : goal.loop-blob-init
 loop-blob-init g c = record {
   going = going_begun c.args.self.now c.new-changed.result.entries c.args.batch.now c.new-changed.ensures.empty c.requires.once c.requires.small;
+  few = omega (arith, ap length c.new-changed.ensures.empty);
+  within = omega arith;
   told = λ t. refl;
   past = λ t. refl;
   source = refl;
@@ -25,6 +27,8 @@ loop-blob-preserved g c =
     let is = c.blob-item.is ∙ ap (λ bs. get_or bs c.loop-blob.blob-index c.blob-item.result) items in
     record {
       going = going_on c.args.self.now c.loop-blob.self c.change.new.self c.loop-blob.changed.entries c.change.new.changed.entries c.args.batch.now c.loop-blob.blob-index c.blob-item.result within is inv.going did.goes;
+      few = omega (arith, inv.few, did.few);
+      within = omega (arith, within);
       told = λ t. did.told t ∙ inv.told t;
       past = λ t. did.past t ∙ inv.past t;
       source = did.source ∙ inv.source;
@@ -57,3 +61,8 @@ returns-clause-changed g c = λ t.
     let done = c.in_ok-batch.ensures in
     let end : length c.args.batch.now ≤ c.loop-blob.blob-index = subst (λ bs. length bs ≤ c.loop-blob.blob-index) c.as_slice-blob-items.ensures c.loop-blob-test.false in
     planned_told c.loop-blob.self c.loop-blob.changed.entries (g.G.Pages.held c.args.pages.now) (g.G.Pages.in_use c.args.pages.now) (g.G.Pages.in_file c.args.pages.now) c.args.batch.now c.loop-blob.blob-index c.page_count-before.result c.page_count.result c.in_ok-batch.batch.pages c.page_count.ensures done.pages end done.again (inv.telling t)
+
+pub returns-clause-few : goal.returns-clause-few
+returns-clause-few g c =
+    let inv = c.loop-blob.invariant in
+    planned_few c.loop-blob.changed.entries c.page_count-before.result c.page_count.result c.loop-blob.blob-index (length c.args.batch.now) c.in_ok-batch.batch.pages c.in_ok-batch.ensures.pages inv.few inv.within

@@ -1,10 +1,12 @@
-use Rattle.std.proofs.Common.{◌≡◌}
+use Rattle.std.proofs.Common.{◌≡◌, ◌*◌, ◌≤◌, length}
 use Rattle.wm_heap.proofs.Planning.{Going, Telling}
 use Rattle.wm_heap.proofs.heap.Heap.plan.Given as goal
 
 abbrev pub invariant-loop-blob : goal.invariant-loop-blob
 invariant-loop-blob g l = record {
   going : Going l.fn.self l.self l.changed.entries l.fn.batch l.blob-index;
+  few : length l.changed.entries ≤ 2 * l.blob-index;
+  within : l.blob-index ≤ length l.fn.batch;
   told : g.G.Pages.tells → g.G.Pages.held l.pages ≡ g.G.Pages.held l.fn.pages;
   past : g.G.Pages.tells → g.G.Pages.past l.pages ≡ g.G.Pages.past l.fn.pages;
   source : g.G.Pages.source l.pages ≡ g.G.Pages.source l.fn.pages;

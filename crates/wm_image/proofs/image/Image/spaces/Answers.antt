@@ -1,4 +1,4 @@
-use Rattle.std.proofs.Common.{ℕ, List, sym, ap, ◌∙◌}
+use Rattle.std.proofs.Common.{List, sym, ap, ◌∙◌}
 use Rattle.wm_graph.specs.Parts.{parts_of, as_space}
 use Rattle.wm_image.proofs.Spaced.{spaces_told}
 use Rattle.wm_index.specs.Indexed.{listed}

@@ -1,8 +1,17 @@
-use Rattle.wm_index.specs.Sought.{PiecesIn, PiecesAt}
+use Rattle.std.proofs.lemmas.Result.{on_ok_weaker}
+use Rattle.wm_index.proofs.Versioning.{more_ids, piece_changed}
+use Rattle.wm_index.specs.Sought.{PieceAt, PiecesIn, placed}
 use Rattle.wm_index.proofs.index.Index.add_piece.Goals as goal
 
 pub add_to-requires : goal.add_to-requires
-add_to-requires c = c.requires (PiecesIn c.args.piece.now.version)
+add_to-requires c = c.requires.ascend (PiecesIn c.args.piece.now.version)
 
-pub add_on-requires : goal.add_on-requires
-add_on-requires c = c.requires (PiecesAt c.args.piece.now.cells.table c.args.piece.now.cells.key)
+pub add_piece_id-requires-clause-ascend : goal.add_piece_id-requires-clause-ascend
+add_piece_id-requires-clause-ascend c = c.requires.ascend (PieceAt c.args.piece.now.cells.table c.args.piece.now.cells.key c.args.piece.now.version)
+
+pub returns-clause-ids : goal.returns-clause-ids
+returns-clause-ids c =
+    on_ok_weaker c.add_piece_id.result
+    (λ changed. piece_changed (placed c.args.id) c.args.self.now c.add_to.new.map c.add_piece_id.new.tables c.args.piece.now c.in_ok-add_to.ensures
+    (more_ids c.args.self.now.pieces.entries c.add_piece_id.new.tables.entries c.args.id c.args.piece.now changed))
+    c.add_piece_id.ensures

@@ -12,8 +12,8 @@ add_to-requires-2 c = c.requires (TouchAt c.args.touch.now.space c.args.touch.no
 pub add_on-requires : goal.add_on-requires
 add_on-requires c = c.requires (TouchesAt c.args.touch.now.cells.table c.args.touch.now.cells.key)
 
-pub returns : goal.returns
-returns c =
+pub returns-clause-ids : goal.returns-clause-ids
+returns-clause-ids c =
     on_ok_weaker c.add_on.result
     (touch_changed (placed c.args.id) c.args.self.now c.add_to.new.map c.add_to-2.new.map c.add_on.new.tables c.args.touch.now c.in_ok-add_to.ensures c.in_ok-add_to-2.ensures)
     c.add_on.ensures

@@ -9,5 +9,5 @@ add_to-requires c = c.requires (OwnedBy c.args.turn.now.space)
 pub add_to-requires-2 : goal.add_to-requires-2
 add_to-requires-2 c = c.requires (TurnAt c.args.turn.now.space c.args.turn.now.rebase)
 
-pub returns : goal.returns
-returns c = on_ok_weaker c.add_to-2.result (turn_changed (placed c.args.id) c.args.self.now c.add_to.new.map c.add_to-2.new.map c.args.turn.now c.in_ok-add_to.ensures) c.add_to-2.ensures
+pub returns-clause-ids : goal.returns-clause-ids
+returns-clause-ids c = on_ok_weaker c.add_to-2.result (turn_changed (placed c.args.id) c.args.self.now c.add_to.new.map c.add_to-2.new.map c.args.turn.now c.in_ok-add_to.ensures) c.add_to-2.ensures

@@ -9,5 +9,5 @@ drop_from-requires c = c.requires (OwnedBy c.args.hist.now.space)
 pub drop_from-requires-2 : goal.drop_from-requires-2
 drop_from-requires-2 c = c.requires (HistsOn c.args.hist.now.space c.args.hist.now.cells.table)
 
-pub returns : goal.returns
-returns c = on_ok_weaker c.drop_from-2.result (hist_changed (without c.args.id) c.args.self.now c.drop_from.new.map c.drop_from-2.new.map c.args.hist.now c.in_ok-drop_from.ensures) c.drop_from-2.ensures
+pub returns-clause-ids : goal.returns-clause-ids
+returns-clause-ids c = on_ok_weaker c.drop_from-2.result (hist_changed (without c.args.id) c.args.self.now c.drop_from.new.map c.drop_from-2.new.map c.args.hist.now c.in_ok-drop_from.ensures) c.drop_from-2.ensures

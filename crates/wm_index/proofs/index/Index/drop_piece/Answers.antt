@@ -1,8 +1,17 @@
-use Rattle.wm_index.specs.Sought.{PiecesIn, PiecesAt}
+use Rattle.std.proofs.lemmas.Result.{on_ok_weaker}
+use Rattle.wm_index.proofs.Versioning.{less_ids, piece_changed}
+use Rattle.wm_index.specs.Sought.{PieceAt, PiecesIn, without}
 use Rattle.wm_index.proofs.index.Index.drop_piece.Goals as goal
 
 pub drop_from-requires : goal.drop_from-requires
-drop_from-requires c = c.requires (PiecesIn c.args.piece.now.version)
+drop_from-requires c = c.requires.ascend (PiecesIn c.args.piece.now.version)
 
-pub drop_on-requires : goal.drop_on-requires
-drop_on-requires c = c.requires (PiecesAt c.args.piece.now.cells.table c.args.piece.now.cells.key)
+pub drop_piece_id-requires-clause-ascend : goal.drop_piece_id-requires-clause-ascend
+drop_piece_id-requires-clause-ascend c = c.requires.ascend (PieceAt c.args.piece.now.cells.table c.args.piece.now.cells.key c.args.piece.now.version)
+
+pub returns-clause-ids : goal.returns-clause-ids
+returns-clause-ids c =
+    on_ok_weaker c.drop_piece_id.result
+    (λ changed. piece_changed (without c.args.id) c.args.self.now c.drop_from.new.map c.drop_piece_id.new.tables c.args.piece.now c.in_ok-drop_from.ensures
+    (less_ids c.args.self.now.pieces.entries c.drop_piece_id.new.tables.entries c.args.id c.args.piece.now changed))
+    c.drop_piece_id.ensures

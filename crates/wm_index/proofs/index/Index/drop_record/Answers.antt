@@ -2,13 +2,13 @@ use Rattle.wm_index.specs.Sought.{TheCounters, Tables, RowAt, OwnedBy}
 use Rattle.wm_index.proofs.index.Index.drop_record.Goals as goal
 
 pub drop_id-requires : goal.drop_id-requires
-drop_id-requires c = c.requires TheCounters
+drop_id-requires c = c.requires.ascend TheCounters
 
 pub drop_id-requires-in-Table : goal.drop_id-requires-in-Table
-drop_id-requires-in-Table c = c.requires Tables
+drop_id-requires-in-Table c = c.requires.ascend Tables
 
 pub drop_from-requires : goal.drop_from-requires
-drop_from-requires c = c.requires (RowAt c.in-Row.row.stamp)
+drop_from-requires c = c.requires.ascend (RowAt c.in-Row.row.stamp)
 
 pub drop_from-requires-in-Lock : goal.drop_from-requires-in-Lock
-drop_from-requires-in-Lock c = c.requires (OwnedBy c.in-Lock.lock.space)
+drop_from-requires-in-Lock c = c.requires.ascend (OwnedBy c.in-Lock.lock.space)

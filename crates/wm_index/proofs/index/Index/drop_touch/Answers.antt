@@ -12,8 +12,8 @@ drop_from-requires-2 c = c.requires (TouchAt c.args.touch.now.space c.args.touch
 pub drop_on-requires : goal.drop_on-requires
 drop_on-requires c = c.requires (TouchesAt c.args.touch.now.cells.table c.args.touch.now.cells.key)
 
-pub returns : goal.returns
-returns c =
+pub returns-clause-ids : goal.returns-clause-ids
+returns-clause-ids c =
     on_ok_weaker c.drop_on.result
     (touch_changed (without c.args.id) c.args.self.now c.drop_from.new.map c.drop_from-2.new.map c.drop_on.new.tables c.args.touch.now c.in_ok-drop_from.ensures c.in_ok-drop_from-2.ensures)
     c.drop_on.ensures

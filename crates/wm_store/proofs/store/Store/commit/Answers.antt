@@ -1,4 +1,4 @@
-use Rattle.std.proofs.Common.{◌≡◌, ℕ, ◌≤◌, ◌<◌, true, [], refl, sym, ap, subst, ◌∙◌}
+use Rattle.std.proofs.Common.{◌≡◌, ℕ, ◌≤◌, ◌<◌, true, [], refl, sym, ap, subst, ◌∙◌, arith}
 use Rattle.wm_page.specs.Batch.{entries}
 use Rattle.wm_station.specs.History.{now}
 use Rattle.wm_station.specs.Moments.{Ended}
@@ -7,7 +7,7 @@ use Rattle.wm_journal.specs.Store.{OldOrNew, over}
 use Rattle.wm_heap.specs.Blobs.{AreBlobs, AreSmall}
 use Rattle.wm_heap.specs.Places.{page_count}
 use Rattle.wm_store.specs.Spelled.{blobs_of}
-use Rattle.wm_store.proofs.Committing.{blobs_once, blobs_small}
+use Rattle.wm_store.proofs.Committing.{blobs_once, blobs_small, few_rewritten}
 use Rattle.wm_store.proofs.Storing.{as_planned, before_plan, takes_pages, takes_root, takes_grown, store_after, held_after, store_same, held_same, kept_same, old_or_after}
 use Rattle.wm_store.proofs.Unchanging.{nothing_planned}
 use Rattle.wm_store.proofs.store.Store.commit.Goals as goal
@@ -100,3 +100,17 @@ returns-in_err-commit-clause-nothing g c = λ t old held nothing.
     let yes : c.is_empty.result ≡ true = c.is_empty.ensures.1 none in
     let no = c.if-is_empty.false in
     cc)
+
+pub returns-then-is_empty-clause-few : goal.returns-then-is_empty-clause-few
+returns-then-is_empty-clause-few g c = λ t. record {
+  rewritten = [];
+  few = omega arith;
+  pages = λ p from till. ap (λ h. page (now h) p) (c.in_ok-pages.ensures.told t);
+}
+
+pub returns-clause-few : goal.returns-clause-few
+returns-clause-few g c = λ t. record {
+  rewritten = entries c.in_ok-pages.pages.pages;
+  few = few_rewritten c.args.batch.now.changes c.in_ok-blobs.blobs c.in_ok-pages.pages.pages (c.in_ok-blobs.ensures.blobs ∙ ap blobs_of c.as_slice.ensures) c.in_ok-pages.ensures.few;
+  pages = subst (λ h. (p : ℕ) → 1 ≤ p → p < c.commit.new.self → page (now (g.P.Station.history c.commit.new.station)) p ≡ over (entries c.in_ok-pages.pages.pages) (page (now h)) p) (c.in_ok-pages.ensures.told t) (c.in_ok-commit.ensures.pages t);
+}

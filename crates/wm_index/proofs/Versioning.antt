@@ -1,0 +1,187 @@
+-- The pieces of a version of a key of a table, changed.
+use Rattle.std.proofs.Common.{◌≡◌, ℕ, ◌<◌, ◌≤◌, ◌==◌, ◌&&◌, Bool, true, false, cond, List, [], ◌∷◌, length, get_or, insert, remove, min, max, Option, Some, None, refl, sym, ap, subst, ◌∙◌, arith}
+use Rattle.std.proofs.Math.ListN.{set}
+use Rattle.std.proofs.Math.Nat.{le-max_left, le-max_right, min-le_left, min-le_right}
+use Rattle.std.proofs.lemmas.Bool.{eqb-true}
+use Rattle.std.proofs.lemmas.Cmp.{tied_itself}
+use Rattle.std.proofs.lemmas.List.{nil_from_length}
+use Rattle.std.specs.BTreeMap.{BTreeMap, is_at}
+use Rattle.std.specs.Cmp.{Equal-is}
+use Rattle.std.specs.List.{AllByRecursion}
+use Rattle.std.specs.Map.{lookup}
+use Rattle.std.specs.Ordering.{nat_cmp, is_eq}
+use Rattle.std.specs.Vec.{vec_len}
+use Rattle.std.specs.declared.alloc.Global.{Global}
+use Rattle.std.specs.declared.vec.Vec.{Vec}
+use Rattle.wm_base.specs.Key.{key_order}
+use Rattle.wm_base.specs.Orders.{key_order-equal, key_order_total}
+use Rattle.wm_base.specs.declared.value.Value.{Value}
+use Rattle.wm_index.proofs.Pairs.{changed_number}
+use Rattle.wm_index.proofs.Placing.{All-without, fits_under, insert_falls, insert_spanned, insert_under, remove_falls, remove_spanned, remove_under, set_falls, set_spanned, set_under, stands_under, stands_version, widened}
+use Rattle.wm_index.specs.Indexed.{ids_at}
+use Rattle.wm_index.specs.Sought.{Sought, PieceAt, PiecesIn, ids_in, is_sought, placed, without}
+use Rattle.wm_index.specs.Versioned.{ChangedOn, ChangedWhere, FitsAt, HasLess, HasMore, IsPieceAt, IsSpanned, StandsAt, Versions, VersionsFall, ids_under, versions_found, versions_in, versions_on}
+use Rattle.wm_index.specs.declared.index.Index.{Index}
+use Rattle.wm_index.specs.declared.versioned.Versioned.{Versioned}
+use Rattle.wm_spec.specs.declared.record.Record.TheVariants as records
+use Rattle.wm_spec.specs.declared.record.piece.PieceRecord.{PieceRecord}
+use Rattle.wm_spec.specs.declared.record.stored.Stored.{Stored}
+
+-- ---- a period that grows
+
+-- the period of a version grows with the cells of a piece
+pub grown : (ss : List Stored) (id : ℕ) (x : PieceRecord) (old : Versioned) (f t : ℕ) (ids : List ℕ) → f ≡ min old.from x.cells.from → t ≡ max old.till x.cells.till → ids ≡ placed id old.ids.items
+    → IsPieceAt ss id x → AllByRecursion (IsSpanned ss old.from old.till) old.ids.items → AllByRecursion (IsSpanned ss f t) ids
+grown ss id x old f t ids low high put is all =
+    let a = min-le_left old.from x.cells.from in
+    let b = min-le_right old.from x.cells.from in
+    let c = le-max_left old.till x.cells.till in
+    let d = le-max_right old.till x.cells.till in
+    subst (AllByRecursion (IsSpanned ss f t)) (sym put)
+    (widened ss id x old.from old.till f t old.ids.items (subst (λ n. n ≤ old.from) (sym low) a) (subst (λ n. n ≤ x.cells.from) (sym low) b) (subst (λ n. old.till ≤ n) (sym high) c)
+    (subst (λ n. x.cells.till ≤ n) (sym high) d) is all)
+
+-- ---- an id more, or less
+
+-- a version that stands there has it
+pub more_there : (es : List Versioned) (i id : ℕ) (x : PieceRecord) (d new : Versioned) → VersionsFall es → StandsAt x.version es i → i < length es → d ≡ get_or es i d
+    → new.version ≡ d.version → new.ids.items ≡ placed id d.ids.items
+    → ((ss : List Stored) → IsPieceAt ss id x → AllByRecursion (IsSpanned ss d.from d.till) d.ids.items → AllByRecursion (IsSpanned ss new.from new.till) new.ids.items)
+    → HasMore id x es (set es i new)
+more_there es i id x d new down at within is same put spans = record {
+  ids = λ v. set_under es x.version i new at version v ∙ by_test v (x.version == v) refl;
+  falls = set_falls es x.version i new at version down;
+  spanned = λ ss piece all. set_spanned ss es i d new within (subst (λ (e : Versioned). AllByRecursion (IsSpanned ss e.from e.till) e.ids.items → AllByRecursion (IsSpanned ss new.from new.till) new.ids.items) is (spans ss piece)) all;
+}
+  where
+    version : new.version ≡ x.version
+    version = same ∙ ap (λ (e : Versioned). e.version) is ∙ stands_version es x.version i d at
+
+    by_test : (v : ℕ) (b : Bool) → (x.version == v) ≡ b → cond b new.ids.items (ids_under es v) ≡ cond b (placed id (ids_under es v)) (ids_under es v)
+    by_test v true here = put ∙ ap (placed id) (ap (λ (e : Versioned). e.ids.items) is ∙ sym (stands_under es x.version i d at) ∙ ap (ids_under es) (eqb-true x.version v here))
+    by_test v false here = refl
+
+-- a version that is put there has it
+pub more_put : (es : List Versioned) (i id : ℕ) (x : PieceRecord) (new : Versioned) → VersionsFall es → FitsAt x.version es i → new.version ≡ x.version → new.ids.items ≡ id ∷ []
+    → ((ss : List Stored) → IsPieceAt ss id x → AllByRecursion (IsSpanned ss new.from new.till) new.ids.items) → HasMore id x es (insert es i new)
+more_put es i id x new down at version put spans = record {
+  ids = λ v. insert_under es x.version i new at version v ∙ by_test v (x.version == v) refl;
+  falls = insert_falls es x.version i new at version down;
+  spanned = λ ss piece all. insert_spanned ss es x.version i new at (spans ss piece) all;
+}
+  where
+    by_test : (v : ℕ) (b : Bool) → (x.version == v) ≡ b → cond b new.ids.items (ids_under es v) ≡ cond b (placed id (ids_under es v)) (ids_under es v)
+    by_test v true here = put ∙ ap (placed id) (sym (fits_under es x.version i at down) ∙ ap (ids_under es) (eqb-true x.version v here))
+    by_test v false here = refl
+
+-- a version that stands there has it no more
+pub less_there : (es : List Versioned) (v i id : ℕ) (d new : Versioned) → VersionsFall es → StandsAt v es i → i < length es → d ≡ get_or es i d
+    → new.version ≡ d.version → new.from ≡ d.from → new.till ≡ d.till → new.ids.items ≡ without id d.ids.items → HasLess id v es (set es i new)
+less_there es v i id d new down at within is same from till left = record {
+  ids = λ w. set_under es v i new at version w ∙ by_test w (v == w) refl;
+  falls = set_falls es v i new at version down;
+  spanned = λ ss all. set_spanned ss es i d new within (subst (λ (e : Versioned). AllByRecursion (IsSpanned ss e.from e.till) e.ids.items → AllByRecursion (IsSpanned ss new.from new.till) new.ids.items) is (fewer ss)) all;
+}
+  where
+    version : new.version ≡ v
+    version = same ∙ ap (λ (e : Versioned). e.version) is ∙ stands_version es v i d at
+
+    fewer : (ss : List Stored) → AllByRecursion (IsSpanned ss d.from d.till) d.ids.items → AllByRecursion (IsSpanned ss new.from new.till) new.ids.items
+    fewer ss all =
+        subst (λ f. AllByRecursion (IsSpanned ss f new.till) new.ids.items) (sym from)
+        (subst (λ t. AllByRecursion (IsSpanned ss d.from t) new.ids.items) (sym till)
+        (subst (AllByRecursion (IsSpanned ss d.from d.till)) (sym left) (All-without (IsSpanned ss d.from d.till) id d.ids.items all)))
+
+    by_test : (w : ℕ) (b : Bool) → (v == w) ≡ b → cond b new.ids.items (ids_under es w) ≡ cond b (without id (ids_under es w)) (ids_under es w)
+    by_test w true here = left ∙ ap (without id) (ap (λ (e : Versioned). e.ids.items) is ∙ sym (stands_under es v i d at) ∙ ap (ids_under es) (eqb-true v w here))
+    by_test w false here = refl
+
+-- and goes where it has none left
+pub less_gone : (es : List Versioned) (v i id : ℕ) (d : Versioned) → VersionsFall es → StandsAt v es i → d ≡ get_or es i d → without id d.ids.items ≡ [] → HasLess id v es (remove es i)
+less_gone es v i id d down at is left = record {
+  ids = λ w. remove_under es v i at down w ∙ by_test w (v == w) refl;
+  falls = remove_falls es v i at down;
+  spanned = λ ss all. remove_spanned ss es v i at all;
+}
+  where
+    by_test : (w : ℕ) (b : Bool) → (v == w) ≡ b → cond b [] (ids_under es w) ≡ cond b (without id (ids_under es w)) (ids_under es w)
+    by_test w true here = sym left ∙ ap (without id) (ap (λ (e : Versioned). e.ids.items) is ∙ sym (stands_under es v i d at) ∙ ap (ids_under es) (eqb-true v w here))
+    by_test w false here = refl
+
+-- a version that is not there has none
+pub less_none : (es : List Versioned) (v id : ℕ) → VersionsFall es → ids_under es v ≡ [] → HasLess id v es es
+less_none es v id down none = record { ids = λ w. by_test w (v == w) refl; falls = down; spanned = λ ss all. all }
+  where
+    by_test : (w : ℕ) (b : Bool) → (v == w) ≡ b → ids_under es w ≡ cond b (without id (ids_under es w)) (ids_under es w)
+    by_test w true here = let empty : ids_under es w ≡ [] = sym (ap (ids_under es) (eqb-true v w here)) ∙ none in empty ∙ sym (ap (without id) empty)
+    by_test w false here = refl
+
+-- ---- by key and by table
+
+-- what is under one key is changed
+pub changed_key : (changed : List Versioned → List Versioned → Type 0) (old next : List (List Value × Vec Versioned Global)) (key : List Value) (items : List Versioned)
+    → changed (versions_in old key) items → versions_in next key ≡ items → ((k : List Value) → is_eq (key_order key k) ≡ false → versions_in next k ≡ versions_in old k)
+    → (k : List Value) → ChangedWhere changed (is_eq (key_order key k)) (versions_in old k) (versions_in next k)
+changed_key changed old next key items change here away k = by_test (is_eq (key_order key k)) refl
+  where
+    by_test : (b : Bool) → is_eq (key_order key k) ≡ b → ChangedWhere changed b (versions_in old k) (versions_in next k)
+    by_test true tie = subst (λ j. changed (versions_in old j) (versions_in next j)) (key_order-equal key k ((Equal-is (key_order key k)).0 tie)) (subst (changed (versions_in old key)) (sym here) change)
+    by_test false apart = away k apart
+
+-- what is taken out and put back changed
+pub put_key : (changed : List Versioned → List Versioned → Type 0) (old mid next : List (List Value × Vec Versioned Global)) (key : List Value) (was : List Versioned) (v : Vec Versioned Global)
+    → was ≡ versions_in old key → changed was v.items
+    → ((k : List Value) → lookup (is_at (key_order k)) mid ≡ cond (is_at (key_order key) k) None (lookup (is_at (key_order k)) old))
+    → ((k : List Value) → lookup (is_at (key_order k)) next ≡ cond (is_at (key_order key) k) (Some v) (lookup (is_at (key_order k)) mid))
+    → (k : List Value) → ChangedWhere changed (is_eq (key_order key k)) (versions_in old k) (versions_in next k)
+put_key changed old mid next key was v is change taken put =
+    changed_key changed old next key v.items (subst (λ es. changed es v.items) is change)
+    (ap versions_found (put key ∙ ap (λ b. cond b (Some v) (lookup (is_at (key_order key)) mid)) (ap is_eq (tied_itself key_order_total key))))
+    (λ k apart. ap versions_found
+    (put k ∙ ap (λ b. cond b (Some v) (lookup (is_at (key_order k)) mid)) apart
+    ∙ taken k ∙ ap (λ b. cond b (let nothing : Option (Vec Versioned Global) = None in nothing) (lookup (is_at (key_order k)) old)) apart))
+
+-- or not put back, where nothing is left
+pub gone_key : (changed : List Versioned → List Versioned → Type 0) (old mid : List (List Value × Vec Versioned Global)) (key : List Value) (was left : List Versioned)
+    → was ≡ versions_in old key → changed was left → left ≡ []
+    → ((k : List Value) → lookup (is_at (key_order k)) mid ≡ cond (is_at (key_order key) k) None (lookup (is_at (key_order k)) old))
+    → (k : List Value) → ChangedWhere changed (is_eq (key_order key k)) (versions_in old k) (versions_in mid k)
+gone_key changed old mid key was left is change none taken =
+    changed_key changed old mid key left (subst (λ es. changed es left) is change)
+    (ap versions_found (taken key ∙ ap (λ b. cond b (let nothing : Option (Vec Versioned Global) = None in nothing) (lookup (is_at (key_order key)) old)) (ap is_eq (tied_itself key_order_total key))) ∙ sym none)
+    (λ k apart. ap versions_found (taken k ∙ ap (λ b. cond b (let nothing : Option (Vec Versioned Global) = None in nothing) (lookup (is_at (key_order k)) old)) apart))
+
+-- where nothing is counted nothing is there
+pub empty_from : (v : Vec Versioned Global) (b : Bool) → b ≡ (vec_len v == 0) → b ≡ true → v.items ≡ []
+empty_from v b is empty = let none : vec_len v ≡ 0 = eqb-true (vec_len v) 0 (sym is ∙ empty) in nil_from_length v.items (omega (arith, none))
+
+-- ---- in an index
+
+pub more_ids : (old next : List (ℕ × Versions)) (id : ℕ) (x : PieceRecord) → ChangedOn (HasMore id x) old next x.cells.table x.cells.key → (t : ℕ) (k : List Value) (v : ℕ)
+    → ids_under (versions_on next t k) v ≡ cond ((x.cells.table == t) && (is_eq (key_order x.cells.key k) && (x.version == v))) (placed id (ids_under (versions_on old t k) v)) (ids_under (versions_on old t k) v)
+more_ids old next id x change t k v = by_tests (x.cells.table == t) (is_eq (key_order x.cells.key k)) (change t k)
+  where
+    by_tests : (a b : Bool) → ChangedWhere (HasMore id x) (a && b) (versions_on old t k) (versions_on next t k)
+        → ids_under (versions_on next t k) v ≡ cond (a && (b && (x.version == v))) (placed id (ids_under (versions_on old t k) v)) (ids_under (versions_on old t k) v)
+    by_tests true true more = more.ids v
+    by_tests true false same = ap (λ es. ids_under es v) same
+    by_tests false b same = ap (λ es. ids_under es v) same
+
+pub less_ids : (old next : List (ℕ × Versions)) (id : ℕ) (x : PieceRecord) → ChangedOn (HasLess id x.version) old next x.cells.table x.cells.key → (t : ℕ) (k : List Value) (v : ℕ)
+    → ids_under (versions_on next t k) v ≡ cond ((x.cells.table == t) && (is_eq (key_order x.cells.key k) && (x.version == v))) (without id (ids_under (versions_on old t k) v)) (ids_under (versions_on old t k) v)
+less_ids old next id x change t k v = by_tests (x.cells.table == t) (is_eq (key_order x.cells.key k)) (change t k)
+  where
+    by_tests : (a b : Bool) → ChangedWhere (HasLess id x.version) (a && b) (versions_on old t k) (versions_on next t k)
+        → ids_under (versions_on next t k) v ≡ cond (a && (b && (x.version == v))) (without id (ids_under (versions_on old t k) v)) (ids_under (versions_on old t k) v)
+    by_tests true true less = less.ids v
+    by_tests true false same = ap (λ es. ids_under es v) same
+    by_tests false b same = ap (λ es. ids_under es v) same
+
+-- the ids under the keys of a piece are changed
+pub piece_changed : (change : List ℕ → List ℕ) (old : Index) (owned : BTreeMap ℕ (Vec ℕ Global)) (pieces : BTreeMap ℕ Versions) (r : PieceRecord)
+    → ((q : ℕ) → ids_in nat_cmp owned.entries q ≡ cond (is_eq (nat_cmp r.version q)) (change (ids_in nat_cmp old.pieces_in.entries r.version)) (ids_in nat_cmp old.pieces_in.entries q))
+    → ((t : ℕ) (k : List Value) (v : ℕ) → ids_under (versions_on pieces.entries t k) v ≡ cond ((r.cells.table == t) && (is_eq (key_order r.cells.key k) && (r.version == v))) (change (ids_under (versions_on old.pieces.entries t k) v)) (ids_under (versions_on old.pieces.entries t k) v))
+    → (q : Sought) → ids_at (record old { pieces = pieces; pieces_in = owned }) q ≡ cond (is_sought q (records.Piece r)) (change (ids_at old q)) (ids_at old q)
+piece_changed change old owned pieces r by_version by_key (PieceAt table key version) = by_key table key version
+piece_changed change old owned pieces r by_version by_key (PiecesIn version) = by_version version ∙ changed_number change (ids_in nat_cmp old.pieces_in.entries) r.version version
+piece_changed change old owned pieces r by_version by_key _ = refl
