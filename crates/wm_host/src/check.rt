@@ -48,7 +48,10 @@ pub(crate) fn check<P: Station>(alloc: Global, station: &mut P) -> Ended
     ensures place { (result.status ≡ 7) ↔ IsPage result.place }
 {
     match open_host(alloc, station, Instant::beginning()) {
-        Ok(_host) => Ended::of(say_all(station, b"OK\n".as_slice()), 0),
+        Ok(host) => {
+            drop(host);
+            Ended::of(say_all(station, b"OK\n".as_slice()), 0)
+        }
         Err(stop) => Ended::of(Err(stop), 0),
     }
 }

@@ -61,7 +61,9 @@ impl Host {
         ensures answering { IfErr result IsOfAnswers }
     {
         let answer = self.engine.line(alloc, station, self.line.line())?;
-        say_all(station, answer.bytes.as_slice())?;
+        let said = say_all(station, answer.bytes.as_slice());
+        drop(answer);
+        said?;
         self.line.clear();
         self.lines += 1;
         Ok(())
@@ -176,6 +178,8 @@ impl Host {
     {
         let reply = self.engine.line(alloc, station, line)?;
         self.lines += 1;
-        Ok(reply.kind)
+        let kind = reply.kind;
+        drop(reply);
+        Ok(kind)
     }
 }

@@ -133,7 +133,9 @@ pub(crate) fn load<P: Station>(alloc: Global, station: &mut P, seed: u64, count:
     match open_host(alloc, station, Instant::beginning()) {
         Ok(mut host) => {
             let run = run_drawn(alloc, station, &mut host, seed, count);
-            Ended::of(run, host.lines)
+            let lines = host.lines;
+            drop(host);
+            Ended::of(run, lines)
         }
         Err(stop) => Ended::of(Err(stop), 0),
     }

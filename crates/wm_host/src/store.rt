@@ -165,7 +165,9 @@ pub(crate) fn run_store<S: Source, P: Station>(
     match open_host(alloc, station, moment) {
         Ok(mut host) => {
             let run = run_script(alloc, source, station, &mut host);
-            Ended::of(run, host.lines)
+            let lines = host.lines;
+            drop(host);
+            Ended::of(run, lines)
         }
         Err(stop) => Ended::of(Err(stop), 0),
     }

@@ -3,7 +3,7 @@ use Rattle.wm_model.specs.Lines.{lines, ended_lines}
 use Rattle.wm_state.specs.State.{begin}
 use Rattle.wm_host.specs.Outcome.{IsUnwritten}
 use Rattle.wm_host.specs.declared.stop.Stop.TheVariants.{SourceFault, InputLimit, Memory}
-use Rattle.wm_host.proofs.Ending.{alone_at_place, alone_at_status, at_done, at_status, answers_all, answers_at_end, answers_ended, crash_opened, crash_ran, stands_ran, stands_unopened, counted_unopened, placed_by_script, stops_by, stops_not, takes_none, unopened_status}
+use Rattle.wm_host.proofs.Ending.{alone_at_place, alone_at_status, at_done, at_status, answers_all, answers_at_end, answers_ended, counts_all, crash_opened, crash_ran, stands_ran, stands_unopened, counted_unopened, placed_by_script, stops_by, stops_not, takes_none, unopened_status}
 use Rattle.wm_host.proofs.NeverScript.{script_never, script_never_6, script_never_7}
 use Rattle.wm_host.proofs.Sounding.{sound_at_end, sound_ran, sound_unopened}
 use Rattle.wm_host.proofs.store.run_store.Goals as goal
@@ -27,6 +27,13 @@ returns-in-Ok-clause-to_limit g c = λ nine r t.
     answers_all g.P.Station.tells (g.P.Station.history c.args.station.now) (g.P.Station.history c.open_host.new.station) (g.P.Station.history c.run_script-run.new.station) c.in-Ok.host c.run_script-run.new.host c.args.moment (ended_lines (take (2 ^ 30) (g.S.Source.left c.args.source.now)))
     c.in-Ok.ensures.begins (c.in-Ok.ensures.unsaid t)
     (c.run_script-run.ensures.limit r (at_status c.run_script-run.result (Err InputLimit) c.of.result.status c.of.ensures.status nine refl)).lines t
+
+pub returns-in-Ok-clause-counted_to_limit : goal.returns-in-Ok-clause-counted_to_limit
+returns-in-Ok-clause-counted_to_limit g c = λ nine r.
+    c.of.ensures.lines
+    ∙ counts_all g.P.Station.tells (g.P.Station.history c.open_host.new.station) (g.P.Station.history c.run_script-run.new.station) c.in-Ok.host c.run_script-run.new.host (ended_lines (take (2 ^ 30) (g.S.Source.left c.args.source.now)))
+    c.in-Ok.ensures.begins.none
+    (c.run_script-run.ensures.limit r (at_status c.run_script-run.result (Err InputLimit) c.of.result.status c.of.ensures.status nine refl)).lines
 
 pub returns-in-Ok-clause-counted : goal.returns-in-Ok-clause-counted
 returns-in-Ok-clause-counted g c = λ r t.
