@@ -17,12 +17,17 @@ pub fn reply_of(alloc: Global, answer: Answer) -> Result<Reply, Memory>
     ensures kind { IfOk result (λ reply. reply.kind ≡ kind_of (answer_view answer)) }
     ensures refused { IfOk result (λ reply. reply.refused ≡ refusal_of (answer_view answer)) }
 {
-    let bytes = print(alloc, &answer)?;
-    Ok(Reply {
-        bytes,
-        kind: kind(&answer),
-        refused: answer.into_refusal(),
-    })
+    match print(alloc, &answer) {
+        Ok(bytes) => Ok(Reply {
+            bytes,
+            kind: kind(&answer),
+            refused: answer.into_refusal(),
+        }),
+        Err(memory) => {
+            drop(answer);
+            Err(memory)
+        }
+    }
 }
 
 fn kind(answer: &Answer) -> Kind

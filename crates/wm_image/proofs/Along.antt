@@ -1,18 +1,19 @@
 -- What is held along a path by the pieces of one key, laid version by version.
-use Rattle.std.proofs.Common.{◌≡◌, ◌≢◌, ◌<◌, ◌≤◌, ◌+◌, ◌&&◌, ◌||◌, ℕ, zero, suc, max, length, get_or, drop, Bool, true, false, cond, nat_eq, ◌==◌, nat_le, nat_lt, List, [], ◌∷◌, Option, Some, None, is_some, refl, sym, ap, ◌∙◌, subst, arith, ◌⊎◌, inl, inr}
-use Rattle.std.proofs.lemmas.Bool.{cases_lt, cases_eq, eq-eqb, ne_eqb}
-use Rattle.std.proofs.lemmas.List.{drop_all, drop_more}
+use Rattle.std.proofs.Common.{◌≡◌, ◌≢◌, ◌<◌, ◌≤◌, ◌+◌, ◌++◌, ◌&&◌, ◌||◌, ℕ, zero, suc, max, length, get_or, Bool, true, false, cond, nat_eq, ◌==◌, nat_le, nat_lt, List, [], ◌∷◌, Option, Some, None, is_some, refl, sym, ap, ◌∙◌, subst, arith, ◌⊎◌, inl, inr}
+use Rattle.std.proofs.lemmas.Bool.{cases_lt, cases_eq, eq-eqb, leb-false, ne_eqb}
+use Rattle.std.proofs.lemmas.List.{nil_from_length}
 use Rattle.std.specs.Bool.{then_some}
 use Rattle.std.specs.List.{list_any, AllByRecursion}
 use Rattle.std.specs.Option.{option_and_then, option_or}
 use Rattle.wm_graph.specs.Parts.{Parts, as_piece}
 use Rattle.wm_graph.specs.Rules.{keep_rules}
 use Rattle.wm_image.proofs.Falling.{FallsBelow, below_path, not_below}
+use Rattle.wm_image.proofs.Rising.{last_spanned, last_widest}
 use Rattle.wm_image.proofs.Walking.{held-cons, ruled}
-use Rattle.wm_image.specs.Shown.{along, entry_held, first_held, held_here}
-use Rattle.wm_index.specs.Versioned.{AreSpanned, IsSpanned, VersionsBelow, VersionsFall, ids_under}
+use Rattle.wm_image.specs.Shown.{along, entry_held, first_held, held_here, up_to}
+use Rattle.wm_index.specs.Versioned.{AreSpanned, Encloses, IsSpanned, VersionsFrom, VersionsRise, Widens, ids_under}
 use Rattle.wm_index.specs.declared.versioned.Versioned.{Versioned}
-use Rattle.wm_index.proofs.Placing.{none_below}
+use Rattle.wm_index.proofs.Placing.{none_from}
 use Rattle.wm_index.specs.Kinds.{kind_at}
 use Rattle.wm_base.specs.Period.{covers}
 use Rattle.wm_period.specs.Pieces.{Held, held, held_at}
@@ -21,6 +22,7 @@ use Rattle.wm_spec.specs.Records.{record_at}
 use Rattle.wm_spec.specs.declared.record.piece.PieceRecord.{PieceRecord}
 use Rattle.wm_spec.specs.declared.record.stored.Stored.{Stored}
 use Rattle.wm_state.specs.Standing.{held_by, newest_first}
+use Rattle.wm_tree.proofs.Paths.{not_on_path}
 use Rattle.wm_tree.specs.Versions.{path_in}
 
 -- ---- what the greatest number has
@@ -76,10 +78,18 @@ along_below f b (v ∷ vs) below = by_held (f v) refl (along_below f v vs below.
 
 -- ---- under versions
 
--- what the first of the entries has whose version stands on a path
+or_assoc : (a b c : Option Held) → option_or (option_or a b) c ≡ option_or a (option_or b c)
+or_assoc None b c = refl
+or_assoc (Some h) b c = refl
+
+pub or_none : (o : Option Held) → o ≡ option_or o None
+or_none None = refl
+or_none (Some h) = refl
+
+-- what the last of the entries has whose version stands on a path
 abbrev pub newest_held : List Stored → List ℕ → List Versioned → ℕ → Option Held
 newest_held ss path [] t = None
-newest_held ss path (e ∷ es) t = option_or (entry_held ss path e t) (newest_held ss path es t)
+newest_held ss path (e ∷ es) t = option_or (newest_held ss path es t) (entry_held ss path e t)
 
 -- what the pieces under a version have of it
 abbrev held_under : List Stored → ℕ → List Versioned → ℕ → Option Held
@@ -91,9 +101,9 @@ under_away e es v other = ap (λ b. cond b e.ids.items (ids_under es v)) (ne_eqb
 under_here : (e : Versioned) (es : List Versioned) → ids_under (e ∷ es) e.version ≡ e.ids.items
 under_here e es = ap (λ b. cond b e.ids.items (ids_under es e.version)) (eq-eqb e.version e.version refl)
 
-newest_topmost : (ss : List Stored) (path : List ℕ) (t b : ℕ) (es : List Versioned) → VersionsBelow b es → Topmost (said_on (held_under ss t es) path) (newest_held ss path es t)
-newest_topmost ss path t b [] below = λ v. said_none (list_any (nat_eq v) path) None refl
-newest_topmost ss path t b (e ∷ es) below = by_own (entry_held ss path e t) refl (newest_topmost ss path t e.version es below.1)
+newest_topmost : (ss : List Stored) (path : List ℕ) (t b : ℕ) (es : List Versioned) → VersionsFrom b es → Topmost (said_on (held_under ss t es) path) (newest_held ss path es t)
+newest_topmost ss path t b [] up = λ v. said_none (list_any (nat_eq v) path) None refl
+newest_topmost ss path t b (e ∷ es) up = by_rest (newest_held ss path es t) (newest_topmost ss path t (e.version + 1) es up.1)
   where
     says : ℕ → Option Held
     says = said_on (held_under ss t (e ∷ es)) path
@@ -107,28 +117,37 @@ newest_topmost ss path t b (e ∷ es) below = by_own (entry_held ss path e t) re
     here : says e.version ≡ entry_held ss path e t
     here = ap (λ ids. cond (list_any (nat_eq e.version) path) (first_held (kind_at as_piece ss ids) e.version t) None) (under_here e es)
 
-    newer : (v : ℕ) → e.version ≤ v → rest_says v ≡ None
-    newer v most =
-        ap (λ ids. cond (list_any (nat_eq v) path) (first_held (kind_at as_piece ss ids) v t) None) (none_below e.version v es below.1 most)
+    older : (v : ℕ) → v ≤ e.version → rest_says v ≡ None
+    older v most =
+        ap (λ ids. cond (list_any (nat_eq v) path) (first_held (kind_at as_piece ss ids) v t) None) (none_from (e.version + 1) v es up.1 (omega (arith, most)))
         ∙ said_none (list_any (nat_eq v) path) None refl
 
-    by_own : (o : Option Held) → entry_held ss path e t ≡ o → Topmost rest_says (newest_held ss path es t) → Topmost says (option_or o (newest_held ss path es t))
-    by_own None none rest = topmost_same rest_says says (λ v. by_number v (cases_eq v e.version)) (newest_held ss path es t) rest
+    newer : (v : ℕ) (h : Held) → rest_says v ≡ Some h → e.version < v
+    newer v h some = by_order (cases_lt e.version v)
       where
-        by_number : (v : ℕ) → (v ≡ e.version) ⊎ (v ≢ e.version) → rest_says v ≡ says v
-        by_number v (inl same) = newer v (omega (arith, same)) ∙ sym (ap says same ∙ here ∙ none)
-        by_number v (inr other) = sym (away v other)
-    by_own (Some h) some rest = (e.version, here ∙ some, λ w more. away w (λ same. absurd (omega (arith, more, same))) ∙ newer w (omega (arith, more)))
+        by_order : (e.version < v) ⊎ (v ≤ e.version) → e.version < v
+        by_order (inl more) = more
+        by_order (inr most) = absurd (none_some (rest_says v) h (older v most) some)
 
-versions_below : (es : List Versioned) → VersionsFall es → (b : ℕ) × VersionsBelow b es
-versions_below [] down = (0, tt)
-versions_below (e ∷ es) down = (e.version + 1, (omega arith, down))
+    by_rest : (o : Option Held) → Topmost rest_says o → Topmost says (option_or o (entry_held ss path e t))
+    by_rest (Some h) top =
+        let more = newer top.0 h top.1 in
+        (top.0, away top.0 (λ same. absurd (omega (arith, more, same))) ∙ top.1, λ w less. away w (λ same. absurd (omega (arith, more, less, same))) ∙ top.2 w less)
+    by_rest None none = by_own (entry_held ss path e t) refl
+      where
+        by_own : (o : Option Held) → entry_held ss path e t ≡ o → Topmost says o
+        by_own (Some h) some = (e.version, here ∙ some, λ w more. away w (λ same. absurd (omega (arith, more, same))) ∙ none w)
+        by_own None own = λ v. by_number v (cases_eq v e.version)
+          where
+            by_number : (v : ℕ) → (v ≡ e.version) ⊎ (v ≢ e.version) → says v ≡ None
+            by_number v (inl same) = ap says same ∙ here ∙ own
+            by_number v (inr other) = away v other ∙ none v
 
--- what the first entry on a path has is what is held along it
-pub held_along : (ss : List Stored) (p : Parts) → keep_rules p ≡ true → (top : ℕ) (es : List Versioned) (t : ℕ) → VersionsFall es
+-- what the last entry on a path has is what is held along it
+pub held_along : (ss : List Stored) (p : Parts) → keep_rules p ≡ true → (top : ℕ) (es : List Versioned) (t : ℕ) → VersionsRise es
     → newest_held ss (path_in (newest_first p.versions) top) es t ≡ along (λ v. first_held (kind_at as_piece ss (ids_under es v)) v t) (path_in (newest_first p.versions) top)
-held_along ss p kept top es t down =
-    topmost_one (said_on f path) (newest_held ss path es t) (along f path) (newest_topmost ss path t (versions_below es down).0 es (versions_below es down).1)
+held_along ss p kept top es t up =
+    topmost_one (said_on f path) (newest_held ss path es t) (along f path) (newest_topmost ss path t 0 es up)
     (along_below f (top + 1) path (below_path (newest_first p.versions) top (top + 1) (ruled p kept).tree (omega arith)))
   where
     path : List ℕ
@@ -137,15 +156,25 @@ held_along ss p kept top es t down =
     f : ℕ → Option Held
     f v = first_held (kind_at as_piece ss (ids_under es v)) v t
 
+-- those above the top of a path have no part in it
+pub up_to_held : (ss : List Stored) (p : Parts) → keep_rules p ≡ true → (top : ℕ) (es : List Versioned) (t : ℕ)
+    → newest_held ss (path_in (newest_first p.versions) top) (up_to top es) t ≡ newest_held ss (path_in (newest_first p.versions) top) es t
+up_to_held ss p kept top [] t = refl
+up_to_held ss p kept top (e ∷ es) t = by_test (nat_le e.version top) refl (up_to_held ss p kept top es t)
+  where
+    path : List ℕ
+    path = path_in (newest_first p.versions) top
+
+    by_test : (b : Bool) → nat_le e.version top ≡ b → newest_held ss path (up_to top es) t ≡ newest_held ss path es t
+        → newest_held ss path (cond b (e ∷ up_to top es) (up_to top es)) t ≡ newest_held ss path (e ∷ es) t
+    by_test true low rest = ap (λ o. option_or o (entry_held ss path e t)) rest
+    by_test false high rest =
+        rest
+        ∙ or_none (newest_held ss path es t)
+        ∙ ap (option_or (newest_held ss path es t))
+        (sym (ap (λ b. cond b (first_held (kind_at as_piece ss e.ids.items) e.version t) None) (not_on_path (newest_first p.versions) top e.version (ruled p kept).tree (leb-false e.version top high))))
+
 -- ---- entry by entry
-
-or_assoc : (a b c : Option Held) → option_or (option_or a b) c ≡ option_or a (option_or b c)
-or_assoc None b c = refl
-or_assoc (Some h) b c = refl
-
-pub or_none : (o : Option Held) → o ≡ option_or o None
-or_none None = refl
-or_none (Some h) = refl
 
 -- where something stands, what lies under it does not show
 pub hides : (o under : Option Held) → is_some o ≡ true → o ≡ option_or o under
@@ -182,15 +211,49 @@ beside ss from till v t out (id ∷ ids) all = held-cons ss id ids v t ∙ by_pi
 within : (from till t : ℕ) → (nat_le from t && nat_lt t till) ≡ true → (from ≤ t) × (t < till)
 within from till t in_it = (grind (arith, in_it), grind (arith, in_it))
 
--- what lies over the whole span of an entry hides it
-pub passed_over : (ss : List Stored) (path : List ℕ) (e : Versioned) (t : ℕ) (o : Option Held) → AllByRecursion (IsSpanned ss e.from e.till) e.ids.items → (e.from ≤ t → t < e.till → is_some o ≡ true) → o ≡ option_or o (entry_held ss path e t)
-passed_over ss path e t o spanned covered = by_place (nat_le e.from t && nat_lt t e.till) refl
+-- nor do entries beside a period that holds theirs
+beside_entry : (ss : List Stored) (path : List ℕ) (w : Versioned) (t : ℕ) (e : Versioned) → (nat_le w.from t && nat_lt t w.till) ≡ false → Encloses w e → AllByRecursion (IsSpanned ss e.from e.till) e.ids.items
+    → entry_held ss path e t ≡ None
+beside_entry ss path w t e out inside spanned =
+    said_none (list_any (nat_eq e.version) path) (first_held (kind_at as_piece ss e.ids.items) e.version t) (beside ss e.from e.till e.version t (out_of w.from w.till e.from e.till t inside out) e.ids.items spanned)
+
+beside_all : (ss : List Stored) (path : List ℕ) (w : Versioned) (t : ℕ) (es : List Versioned) → (nat_le w.from t && nat_lt t w.till) ≡ false → AllByRecursion (Encloses w) es → AreSpanned ss es → newest_held ss path es t ≡ None
+beside_all ss path w t [] out inside spanned = refl
+beside_all ss path w t (e ∷ es) out inside spanned = ap (λ o. option_or o (entry_held ss path e t)) (beside_all ss path w t es out inside.1 spanned.1) ∙ beside_entry ss path w t e out inside.0 spanned.0
+
+-- the last is laid over those before
+held_last : (ss : List Stored) (path : List ℕ) (t : ℕ) (xs : List Versioned) (e : Versioned) → newest_held ss path (xs ++ e ∷ []) t ≡ option_or (entry_held ss path e t) (newest_held ss path xs t)
+held_last ss path t [] e = or_none (entry_held ss path e t)
+held_last ss path t (x ∷ xs) e =
+    ap (λ o. option_or o (entry_held ss path x t)) (held_last ss path t xs e) ∙ or_assoc (entry_held ss path e t) (newest_held ss path xs t) (entry_held ss path x t)
+
+-- what is left holds what its last entry has, or those before
+held_left : (ss : List Stored) (path : List ℕ) (t : ℕ) (es rest : List Versioned) (e : Versioned) → es ≡ rest ++ e ∷ [] → newest_held ss path es t ≡ option_or (entry_held ss path e t) (newest_held ss path rest t)
+held_left ss path t es rest e is = ap (λ (l : List Versioned). newest_held ss path l t) is ∙ held_last ss path t rest e
+
+-- what lies over the whole period of the last entry hides it and all before
+pub passed_over : (ss : List Stored) (path : List ℕ) (es rest : List Versioned) (e : Versioned) (t : ℕ) (o all : Option Held) → es ≡ rest ++ e ∷ [] → Widens es → AreSpanned ss es
+    → (e.from ≤ t → t < e.till → is_some o ≡ true) → option_or o (newest_held ss path es t) ≡ all → o ≡ all
+passed_over ss path es rest e t o all is wide spanned covered so = by_place (nat_le e.from t && nat_lt t e.till) refl ∙ so
   where
-    by_place : (b : Bool) → (nat_le e.from t && nat_lt t e.till) ≡ b → o ≡ option_or o (entry_held ss path e t)
-    by_place true is = hides o (entry_held ss path e t) (covered (within e.from e.till t is).0 (within e.from e.till t is).1)
-    by_place false is =
+    inside : AllByRecursion (Encloses e) rest
+    inside = (last_widest rest e (subst Widens is wide)).0
+
+    spans : AreSpanned ss rest × AllByRecursion (IsSpanned ss e.from e.till) e.ids.items
+    spans = last_spanned ss rest e (subst (AreSpanned ss) is spanned)
+
+    own : Encloses e e
+    own = (omega arith, omega arith)
+
+    by_place : (b : Bool) → (nat_le e.from t && nat_lt t e.till) ≡ b → o ≡ option_or o (newest_held ss path es t)
+    by_place true at = hides o (newest_held ss path es t) (covered (within e.from e.till t at).0 (within e.from e.till t at).1)
+    by_place false out =
         or_none o
-        ∙ ap (option_or o) (sym (ap (λ own. cond (list_any (nat_eq e.version) path) own None) (beside ss e.from e.till e.version t is e.ids.items spanned) ∙ said_none (list_any (nat_eq e.version) path) None refl))
+        ∙ ap (option_or o)
+        (sym
+        (held_left ss path t es rest e is
+        ∙ ap (λ own. option_or own (newest_held ss path rest t)) (beside_entry ss path e t e out own spans.1)
+        ∙ beside_all ss path e t rest out inside spans.0))
 
 -- what stands on no path is not laid
 pub not_on : (ss : List Stored) (path : List ℕ) (e : Versioned) (t : ℕ) (o : Option Held) → list_any (nat_eq e.version) path ≡ false → o ≡ option_or o (entry_held ss path e t)
@@ -229,19 +292,17 @@ reaches_on ps i from reached next p less is begun most before t low high = by_pl
 
 -- ---- one entry more
 
--- the first of what is left, and the rest
-pub first_left : (es : List Versioned) (i : ℕ) (e : Versioned) → i < length es → e ≡ get_or es i e → drop i es ≡ e ∷ drop (i + 1) es
-first_left es i e less is = drop_more es i e less ∙ ap (λ (x : Versioned). x ∷ drop (i + 1) es) (sym is)
+-- what is left without its last
+pub rest_widens : (es rest : List Versioned) (e : Versioned) → es ≡ rest ++ e ∷ [] → Widens es → Widens rest
+rest_widens es rest e is wide = (last_widest rest e (subst Widens is wide)).1
 
-pub first_spanned : (ss : List Stored) (es : List Versioned) (i : ℕ) (e : Versioned) → i < length es → e ≡ get_or es i e → AreSpanned ss (drop i es)
-    → AllByRecursion (IsSpanned ss e.from e.till) e.ids.items × AreSpanned ss (drop (i + 1) es)
-first_spanned ss es i e less is spanned = subst (AreSpanned ss) (first_left es i e less is) spanned
+pub rest_spanned : (ss : List Stored) (es rest : List Versioned) (e : Versioned) → es ≡ rest ++ e ∷ [] → AreSpanned ss es → AreSpanned ss rest
+rest_spanned ss es rest e is spanned = (last_spanned ss rest e (subst (AreSpanned ss) is spanned)).0
 
-pub next_entry : (ss : List Stored) (path : List ℕ) (es : List Versioned) (i : ℕ) (e : Versioned) (t : ℕ) (old new all : Option Held) → i < length es → e ≡ get_or es i e → new ≡ option_or old (entry_held ss path e t)
-    → option_or old (newest_held ss path (drop i es) t) ≡ all → option_or new (newest_held ss path (drop (i + 1) es) t) ≡ all
-next_entry ss path es i e t old new all less is laid so =
-    next_laid old new (entry_held ss path e t) (newest_held ss path (drop (i + 1) es) t) all laid (sym (ap (λ (l : List Versioned). option_or old (newest_held ss path l t)) (first_left es i e less is)) ∙ so)
+pub next_entry : (ss : List Stored) (path : List ℕ) (es rest : List Versioned) (e : Versioned) (t : ℕ) (old new all : Option Held) → es ≡ rest ++ e ∷ []
+    → new ≡ option_or old (entry_held ss path e t) → option_or old (newest_held ss path es t) ≡ all → option_or new (newest_held ss path rest t) ≡ all
+next_entry ss path es rest e t old new all is laid so = next_laid old new (entry_held ss path e t) (newest_held ss path rest t) all laid (sym (ap (option_or old) (held_left ss path t es rest e is)) ∙ so)
 
 -- where none is left, what is laid is all
-pub none_left : (ss : List Stored) (path : List ℕ) (es : List Versioned) (i : ℕ) (t : ℕ) (o all : Option Held) → length es ≤ i → option_or o (newest_held ss path (drop i es) t) ≡ all → o ≡ all
-none_left ss path es i t o all done so = or_none o ∙ sym (ap (λ (l : List Versioned). option_or o (newest_held ss path l t)) (drop_all i es done)) ∙ so
+pub none_left : (ss : List Stored) (path : List ℕ) (es : List Versioned) (t : ℕ) (o all : Option Held) → length es ≡ 0 → option_or o (newest_held ss path es t) ≡ all → o ≡ all
+none_left ss path es t o all done so = or_none o ∙ sym (ap (λ (l : List Versioned). option_or o (newest_held ss path l t)) (nil_from_length es done)) ∙ so

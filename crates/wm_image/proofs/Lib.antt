@@ -8,6 +8,7 @@ pub mod Latest
 pub mod Falling
 pub mod Descending
 pub mod Hopping
+pub mod Rising
 pub mod Along
 pub mod Naming
 pub mod Cataloguing

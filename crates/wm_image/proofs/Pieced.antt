@@ -1,5 +1,5 @@
 -- The pieces in an index, when what stands under an id is changed.
-use Rattle.std.proofs.Common.{◌≡◌, ℕ, ◌≤◌, ◌==◌, ◌&&◌, ◌||◌, Bool, true, false, cond, List, [], ◌∷◌, Option, Some, None, refl, sym, ap, subst, ◌∙◌, arith}
+use Rattle.std.proofs.Common.{◌≡◌, ℕ, ◌+◌, ◌==◌, ◌&&◌, ◌||◌, Bool, true, false, cond, List, [], ◌∷◌, Option, Some, None, refl, sym, ap, subst, ◌∙◌, arith}
 use Rattle.std.proofs.lemmas.Bool.{eq-eqb, eqb-true}
 use Rattle.std.specs.BTreeMap.{BTreeMap, IsOrdered}
 use Rattle.std.specs.List.{AllByRecursion}
@@ -9,11 +9,11 @@ use Rattle.wm_base.specs.Key.{key_order}
 use Rattle.wm_graph.specs.Parts.{as_piece}
 use Rattle.wm_image.proofs.Listed.{Ascend-listed}
 use Rattle.wm_image.proofs.Lists.{ids_with-set, ids-sorted}
-use Rattle.wm_index.proofs.Placing.{none_below, tail_falls}
+use Rattle.wm_index.proofs.Placing.{none_from}
 use Rattle.wm_index.proofs.Touched.{among_with, has_id}
 use Rattle.wm_index.specs.Indexed.{IsIndexed, ids_at, listed}
 use Rattle.wm_index.specs.Sought.{Sought, PieceAt, is_sought, ids_less, ids_with}
-use Rattle.wm_index.specs.Versioned.{AllFall, AllSpanned, AreSpanned, ChangedWhere, GainsAny, HasLess, HasMore, IsPieceAt, IsSpanned, LosesAny, Versions, VersionsFall, ids_under, versions_on}
+use Rattle.wm_index.specs.Versioned.{AllNested, AllSpanned, AreNested, AreSpanned, ChangedWhere, GainsAny, HasLess, HasMore, IsPieceAt, IsSpanned, LosesAny, Versions, VersionsFrom, ids_under, versions_on}
 use Rattle.wm_index.specs.declared.index.Index.{Index}
 use Rattle.wm_index.specs.declared.versioned.Versioned.{Versioned}
 use Rattle.wm_spec.specs.Records.{record_at}
@@ -27,25 +27,25 @@ use Rattle.wm_state.proofs.ById.{Ascend-set, record_at-set}
 true_false : true ≡ false → ⊥
 true_false h = cc
 
--- ---- the versions fall as before
+-- ---- the versions are nested as before
 
-pub loses_fall : (old next : List (ℕ × Versions)) (id : ℕ) (o : Option Record) → LosesAny old next id o → AllFall old → AllFall next
-loses_fall old next id None same fall = subst AllFall (sym same) fall
-loses_fall old next id (Some (records.Piece x)) less fall = λ t k. by_test ((x.cells.table == t) && is_eq (key_order x.cells.key k)) (versions_on old t k) (versions_on next t k) (fall t k) (less t k)
+pub loses_nested : (old next : List (ℕ × Versions)) (id : ℕ) (o : Option Record) → LosesAny old next id o → AllNested old → AllNested next
+loses_nested old next id None same nested = subst AllNested (sym same) nested
+loses_nested old next id (Some (records.Piece x)) less nested = λ t k. by_test ((x.cells.table == t) && is_eq (key_order x.cells.key k)) (versions_on old t k) (versions_on next t k) (nested t k) (less t k)
   where
-    by_test : (b : Bool) (es fs : List Versioned) → VersionsFall es → ChangedWhere (HasLess id x.version) b es fs → VersionsFall fs
-    by_test true es fs down change = change.falls
-    by_test false es fs down same = subst VersionsFall (sym same) down
-loses_fall old next id (Some _) same fall = subst AllFall (sym same) fall
+    by_test : (b : Bool) (es fs : List Versioned) → AreNested es → ChangedWhere (HasLess id x.version) b es fs → AreNested fs
+    by_test true es fs before change = change.nested
+    by_test false es fs before same = subst AreNested (sym same) before
+loses_nested old next id (Some _) same nested = subst AllNested (sym same) nested
 
-pub gains_fall : (old next : List (ℕ × Versions)) (id : ℕ) (o : Option Record) → GainsAny old next id o → AllFall old → AllFall next
-gains_fall old next id None same fall = subst AllFall (sym same) fall
-gains_fall old next id (Some (records.Piece x)) more fall = λ t k. by_test ((x.cells.table == t) && is_eq (key_order x.cells.key k)) (versions_on old t k) (versions_on next t k) (fall t k) (more t k)
+pub gains_nested : (old next : List (ℕ × Versions)) (id : ℕ) (o : Option Record) → GainsAny old next id o → AllNested old → AllNested next
+gains_nested old next id None same nested = subst AllNested (sym same) nested
+gains_nested old next id (Some (records.Piece x)) more nested = λ t k. by_test ((x.cells.table == t) && is_eq (key_order x.cells.key k)) (versions_on old t k) (versions_on next t k) (nested t k) (more t k)
   where
-    by_test : (b : Bool) (es fs : List Versioned) → VersionsFall es → ChangedWhere (HasMore id x) b es fs → VersionsFall fs
-    by_test true es fs down change = change.falls
-    by_test false es fs down same = subst VersionsFall (sym same) down
-gains_fall old next id (Some _) same fall = subst AllFall (sym same) fall
+    by_test : (b : Bool) (es fs : List Versioned) → AreNested es → ChangedWhere (HasMore id x) b es fs → AreNested fs
+    by_test true es fs before change = change.nested
+    by_test false es fs before same = subst AreNested (sym same) before
+gains_nested old next id (Some _) same nested = subst AllNested (sym same) nested
 
 -- ---- their periods hold the cells as before
 
@@ -89,19 +89,16 @@ apart_ids id ss rs from till (j ∷ js) same none all =
     let parts = neither (j == id) (has_id id js) none in
     (λ r at. all.0 r (ap (option_and_then as_piece) (sym (same j parts.0)) ∙ at), apart_ids id ss rs from till js same parts.1 all.1)
 
-apart_key : (id : ℕ) (ss rs : List Stored) (es : List Versioned) → Same id ss rs → VersionsFall es → ((v : ℕ) → has_id id (ids_under es v) ≡ false) → AreSpanned ss es → AreSpanned rs es
-apart_key id ss rs [] same down none all = tt
-apart_key id ss rs (e ∷ es) same down none all =
-    (apart_ids id ss rs e.from e.till e.ids.items same here all.0, apart_key id ss rs es same (tail_falls e es down) (λ v. by_test v (e.version == v) refl (none v)) all.1)
+apart_key : (id b : ℕ) (ss rs : List Stored) (es : List Versioned) → Same id ss rs → VersionsFrom b es → ((v : ℕ) → has_id id (ids_under es v) ≡ false) → AreSpanned ss es → AreSpanned rs es
+apart_key id b ss rs [] same up none all = tt
+apart_key id b ss rs (e ∷ es) same up none all =
+    (apart_ids id ss rs e.from e.till e.ids.items same here all.0, apart_key id (e.version + 1) ss rs es same up.1 (λ v. by_test v (e.version == v) refl (none v)) all.1)
   where
     here : has_id id e.ids.items ≡ false
     here = ap (λ b. has_id id (cond b e.ids.items (ids_under es e.version))) (sym (eq-eqb e.version e.version refl)) ∙ none e.version
 
     by_test : (v : ℕ) (b : Bool) → (e.version == v) ≡ b → has_id id (cond b e.ids.items (ids_under es v)) ≡ false → has_id id (ids_under es v) ≡ false
-    by_test v true is h = ap (has_id id) (ap (ids_under es) (sym (eqb-true e.version v is)) ∙ none_below e.version e.version es down (refl_le e.version))
-      where
-        refl_le : (n : ℕ) → n ≤ n
-        refl_le n = omega arith
+    by_test v true is h = ap (has_id id) (ap (ids_under es) (sym (eqb-true e.version v is)) ∙ none_from (e.version + 1) e.version es up.1 (omega arith))
     by_test v false is h = h
 
 -- ---- what stands under an id is changed
@@ -129,7 +126,8 @@ pub pieces_spanned : (kept : BTreeMap ℕ Record) (x mid next : Index) (id : ℕ
 pieces_spanned kept x mid next id becomes rs is told less more set =
     gains_spanned rs mid.pieces.entries next.pieces.entries id becomes
     (at id ∙ ap (λ b. cond b becomes (record_at (listed kept.entries) id)) (eq-eqb id id refl)) more
-    (λ t k. apart_key id (listed kept.entries) rs (versions_on mid.pieces.entries t k) same (loses_fall x.pieces.entries mid.pieces.entries id (record_at (listed kept.entries) id) less is.falls t k)
+    (λ t k. apart_key id 0 (listed kept.entries) rs (versions_on mid.pieces.entries t k) same
+    (loses_nested x.pieces.entries mid.pieces.entries id (record_at (listed kept.entries) id) less is.nested t k).rises
     (λ v. gone_id kept x mid id is told (PieceAt t k v))
     (loses_spanned (listed kept.entries) x.pieces.entries mid.pieces.entries id (record_at (listed kept.entries) id) less is.spanned t k))
   where
@@ -145,6 +143,6 @@ pub none_indexed : (kept : BTreeMap ℕ Record) (x : Index) → IsOrdered nat_cm
 none_indexed kept x ordered empty none pieces = record {
   ordered = ordered;
   told = λ q. none q ∙ ap (λ es. ids_with (is_sought q) (listed es)) (sym empty);
-  falls = subst AllFall (sym pieces) (λ t k. tt);
+  nested = subst AllNested (sym pieces) (λ t k. record { rises = tt; widens = tt });
   spanned = subst (AllSpanned (listed kept.entries)) (sym pieces) (λ t k. tt);
 }

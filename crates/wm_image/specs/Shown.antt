@@ -1,7 +1,7 @@
 -- What is read of the records of some ids.
 use Rattle.std.specs.Prelude.{ℕ, ◌+◌, Bool, nat_eq, not, ◌&&◌, ◌||◌, ◌==◌, nat_le, nat_lt, max, if◌then◌else◌, List, [], ◌∷◌, Option, Some, None}
 use Rattle.std.specs.Bool.{then_some}
-use Rattle.std.specs.List.{list_any}
+use Rattle.std.specs.List.{filter, list_any}
 use Rattle.std.specs.Option.{option_or}
 use Rattle.wm_graph.specs.Parts.{as_piece}
 use Rattle.wm_index.specs.declared.versioned.Versioned.{Versioned}
@@ -42,6 +42,10 @@ along f (v ∷ vs) = option_or (f v) (along f vs)
 -- what an entry of versions with ids of pieces has at a moment, where its version stands on a path
 abbrev pub entry_held : List Stored → List ℕ → Versioned → ℕ → Option Held
 entry_held ss path e time = if list_any (nat_eq e.version) path then first_held (kind_at as_piece ss e.ids.items) e.version time else None
+
+-- those of versions that are not above a number
+abbrev pub up_to : ℕ → List Versioned → List Versioned
+up_to top es = filter (λ (e : Versioned). nat_le e.version top) es
 
 -- a savepoint of a workspace with a parent sees the version under its workspace's own
 abbrev pub rests_on : ℕ → Savepoint → Bool

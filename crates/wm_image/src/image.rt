@@ -18,7 +18,7 @@ ghost use Rattle.wm_spec.specs.Records.{AreRecords, record_at};
 ghost use Rattle.wm_index.specs.Hists.{AreByPosition, logged_on};
 ghost use Rattle.wm_index.specs.Kinds.{kind_at};
 ghost use Rattle.wm_index.specs.Sought.{MarksAt, MarksIn, OwnedBy, PieceAt, PiecesIn, TouchesAt, ids_with, is_piece_of, is_sought, is_touch_since};
-ghost use Rattle.wm_index.specs.Versioned.{AreSpanned, VersionsFall, ids_under};
+ghost use Rattle.wm_index.specs.Versioned.{AreNested, AreSpanned, ids_under};
 ghost use Rattle.wm_state.specs.ById.{Ascend, applied, by_id};
 ghost use Rattle.wm_image.specs.Hops.{IsHop};
 ghost use Rattle.wm_image.specs.Shown.{first_held, is_child_from, is_saved_behind, names, rests_on};
@@ -59,7 +59,8 @@ use wm_spec::record::{
     Batch, Counters, Record, Records, RowRecord, Savepoint, Space, Table, Version,
 };
 
-/// All records of a store, in the order of their ids, with an index of them and a catalog of the tables.
+/// All records of a store, in the order of their ids, with an index of them, the hops of the versions (the long steps down
+/// their paths) and a catalog of the tables.
 #[derive(Drop)]
 pub struct Image {
     kept: Kept,
@@ -360,9 +361,9 @@ impl Image {
         Ok(pieces)
     }
 
-    /// What versions have of the pieces for a key of a table, the newest version first.
+    /// What versions have of the pieces for a key of a table, the oldest version first.
     fn versions_of(&self, table: u16, key: &Key) -> &[Versioned]
-        ensures falls { VersionsFall result.now }
+        ensures nested { AreNested result.now }
         ensures spanned { AreSpanned self.now result.now }
         ensures held { (v t : ℕ) → first_held (kind_at as_piece self.now (ids_under result.now v)) v t ≡ stored_at (parts_of self.now).pieces v (record { table = table; key = key.now; time = t }) }
     {

@@ -1,14 +1,13 @@
 //! All that the versions on a path hold for one key, laid over one another.
 
 ghost use Rattle.std.specs.Prelude.{◌≡◌, ◌<◌, ◌≤◌, ◌&&◌, ℕ, true, false, is_some, min, nat_le, nat_lt, IfOk};
-ghost use Rattle.std.specs.List.{AllByRecursion};
 ghost use Rattle.std.specs.Option.{option_copied, option_and_then, option_map_or, option_or, option_to_list};
 ghost use Rattle.wm_base.specs.Period.{covers};
 ghost use Rattle.wm_base.specs.declared.instant.TheConstants.{END};
 ghost use Rattle.wm_graph.specs.Parts.{as_piece, parts_of};
 ghost use Rattle.wm_graph.specs.Rules.{keep_rules};
-ghost use Rattle.wm_image.specs.Shown.{along, entry_held, first_held, held_here};
-ghost use Rattle.wm_index.specs.Versioned.{AreSpanned, IsSpanned, VersionsFall, ids_under};
+ghost use Rattle.wm_image.specs.Shown.{along, entry_held, first_held, held_here, up_to};
+ghost use Rattle.wm_index.specs.Versioned.{AreNested, AreSpanned, VersionsRise, ids_under};
 ghost use Rattle.wm_index.specs.Kinds.{kind_at};
 ghost use Rattle.wm_period.specs.Pieces.{held_at};
 ghost use Rattle.wm_state.specs.Standing.{newest_first};
@@ -17,7 +16,7 @@ ghost use Rattle.wm_tree.specs.Versions.{path_in};
 use crate::descent::stands_under;
 use crate::image::Image;
 use std::alloc::Global;
-use wm_base::{END, Instant, Memory, Period, Stamp};
+use wm_base::{Instant, Memory, Period, Stamp};
 use wm_index::kinds::piece_of;
 use wm_index::versioned::Versioned;
 use wm_period::{Piece, Pieces};
@@ -114,8 +113,7 @@ fn covers_all(pieces: &Pieces, from: u64, till: u64) -> bool
     till <= covered_till(pieces.list(), from)
 }
 
-/// Lays the pieces that a version has of a key under others, where something of them can show and the version stands on
-/// the path of `top`.
+/// Lays the pieces that a version has of a key under others, where the version stands on the path of `top`.
 fn lay_entry(
     alloc: Global,
     image: &Image,
@@ -123,13 +121,9 @@ fn lay_entry(
     top: u64,
     upper: Pieces,
 ) -> Result<Pieces, Memory>
-    requires rules { keep_rules (parts_of image.now) ≡ true }
-    requires spanned { AllByRecursion (IsSpanned image.now entry.now.from entry.now.till) entry.now.ids.items }
+    requires { keep_rules (parts_of image.now) ≡ true }
     ensures { IfOk result (λ both. (t : ℕ) → t < END → held_at both t ≡ option_or (held_at upper t) (entry_held image.now (path_in (newest_first (parts_of image.now).versions) top) entry.now t)) }
 {
-    if covers_all(&upper, entry.from, entry.till) {
-        return Ok(upper);
-    }
     if !stands_under(image, top, entry.version) {
         return Ok(upper);
     }
@@ -137,8 +131,17 @@ fn lay_entry(
     Ok(both)
 }
 
+/// Those of some versions that are not above `top`: no other stands on its path.
+fn up_to(versions: &[Versioned], top: u64) -> &[Versioned]
+    requires { VersionsRise versions.now }
+    ensures { result.now ≡ up_to top versions.now }
+{
+    let count = versions.partition_point(|one| one.version <= top);
+    &versions[..count]
+}
+
 /// Lays the pieces of the versions on the path of `top` over one another, those of the newest uppermost, until they cover
-/// all of time: then nothing under them shows.
+/// the period of the next version: it holds the periods of all older ones, so then nothing that is left shows.
 pub fn lay_key(
     alloc: Global,
     image: &Image,
@@ -146,16 +149,18 @@ pub fn lay_key(
     top: u64,
 ) -> Result<Pieces, Memory>
     requires rules { keep_rules (parts_of image.now) ≡ true }
-    requires falls { VersionsFall versions.now }
+    requires nested { AreNested versions.now }
     requires spanned { AreSpanned image.now versions.now }
     ensures { IfOk result (λ laid. (t : ℕ) → t < END → held_at laid t ≡ along (λ v. first_held (kind_at as_piece image.now (ids_under versions.now v)) v t) (path_in (newest_first (parts_of image.now).versions) top)) }
 {
     let mut laid = Pieces::new(alloc);
-    for entry in versions {
-        laid = lay_entry(alloc, image, entry, top, laid)?;
-        if covers_all(&laid, 0, END) {
+    let mut left = up_to(versions, top);
+    while let Some((entry, rest)) = left.split_last() {
+        if covers_all(&laid, entry.from, entry.till) {
             return Ok(laid);
         }
+        laid = lay_entry(alloc, image, entry, top, laid)?;
+        left = rest;
     }
     Ok(laid)
 }

@@ -2,8 +2,8 @@
 #![tactic(auto)]
 
 pub mod children;
-pub mod descent;
-pub mod hops;
+mod descent;
+mod hops;
 pub mod image;
 pub mod laying;
 pub mod listing;

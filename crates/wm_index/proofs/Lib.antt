@@ -13,3 +13,4 @@ pub mod Pairs
 pub mod Since
 pub mod Touched
 pub mod Positions
+pub mod Widening

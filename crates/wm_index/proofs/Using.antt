@@ -1,5 +1,5 @@
 -- Keys that have ids.
-use Rattle.std.proofs.Common.{◌≡◌, ℕ, ◌<◌, ◌+◌, ◌==◌, Bool, true, false, cond, not, ◌&&◌, ◌||◌, eqb, List, [], ◌∷◌, length, refl, sym, ap, ◌∙◌, arith}
+use Rattle.std.proofs.Common.{◌≡◌, ℕ, ◌≤◌, ◌+◌, ◌==◌, Bool, true, false, cond, not, ◌&&◌, ◌||◌, eqb, List, [], ◌∷◌, length, refl, sym, ap, ◌∙◌, arith}
 use Rattle.std.proofs.lemmas.Bool.{eq-eqb, ne_eqb}
 use Rattle.std.proofs.lemmas.Cmp.{eq_by_cmp_equiv}
 use Rattle.std.proofs.lemmas.Map.Entries.{none_past_head}
@@ -22,7 +22,7 @@ use Rattle.wm_spec.specs.declared.record.stored.Stored.{Stored}
 use Rattle.wm_index.proofs.Finding.{all_of}
 use Rattle.wm_index.specs.Indexed.{IsIndexed, listed}
 use Rattle.wm_index.specs.Sought.{PieceAt, is_piece_of, is_sought, ids_with, is_nil, keyed_at}
-use Rattle.wm_index.specs.Versioned.{VersionsBelow, VersionsFall, has_ids, ids_under, used, versions_in, versions_on}
+use Rattle.wm_index.specs.Versioned.{VersionsFrom, has_ids, ids_under, used, versions_in, versions_on}
 use Rattle.wm_index.specs.declared.versioned.Versioned.{Versioned}
 use Rattle.wm_spec.specs.declared.record.Record.TheVariants as records
 use Rattle.wm_index.specs.declared.index.Index.{Index}
@@ -115,24 +115,20 @@ has_under v (e ∷ es) some = by_test (e.version == v) some (has_under v es)
         or_true false is = is
 
 -- and then one of a number has
-under_has : (b : ℕ) (es : List Versioned) → VersionsBelow b es → has_ids es ≡ true → (v : ℕ) × (v < b) × (is_nil (ids_under es v) ≡ false)
-under_has b [] below has = absurd (true_false (sym has))
-under_has b (e ∷ es) below has = by_test (is_nil e.ids.items) refl has (under_has e.version es below.1)
+under_has : (b : ℕ) (es : List Versioned) → VersionsFrom b es → has_ids es ≡ true → (v : ℕ) × (b ≤ v) × (is_nil (ids_under es v) ≡ false)
+under_has b [] up has = absurd (true_false (sym has))
+under_has b (e ∷ es) up has = by_test (is_nil e.ids.items) refl has (under_has (e.version + 1) es up.1)
   where
-    first : e.version < b
-    first = below.0
+    first : b ≤ e.version
+    first = up.0
 
-    by_test : (n : Bool) → is_nil e.ids.items ≡ n → (not n || has_ids es) ≡ true → (has_ids es ≡ true → (v : ℕ) × (v < e.version) × (is_nil (ids_under es v) ≡ false))
-        → (v : ℕ) × (v < b) × (is_nil (ids_under (e ∷ es) v) ≡ false)
+    by_test : (n : Bool) → is_nil e.ids.items ≡ n → (not n || has_ids es) ≡ true → (has_ids es ≡ true → (v : ℕ) × (e.version + 1 ≤ v) × (is_nil (ids_under es v) ≡ false))
+        → (v : ℕ) × (b ≤ v) × (is_nil (ids_under (e ∷ es) v) ≡ false)
     by_test false some h rest = (e.version, first, ap (λ c. is_nil (cond c e.ids.items (ids_under es e.version))) (eq-eqb e.version e.version refl) ∙ some)
     by_test true none h rest =
         let found = rest h in
-        let less = found.1 in
-        (found.0, omega (arith, less, first), ap (λ c. is_nil (cond c e.ids.items (ids_under es found.0))) (ne_eqb e.version found.0 (λ same. absurd (omega (arith, less, same)))) ∙ found.2)
-
-bounded : (es : List Versioned) → VersionsFall es → (b : ℕ) × VersionsBelow b es
-bounded [] down = (0, tt)
-bounded (e ∷ es) down = (e.version + 1, (omega arith, down))
+        let more = found.1 in
+        (found.0, omega (arith, more, first), ap (λ c. is_nil (cond c e.ids.items (ids_under es found.0))) (ne_eqb e.version found.0 (λ same. absurd (omega (arith, more, same)))) ∙ found.2)
 
 -- a piece of a version is a piece
 piece_any : (table version : ℕ) (k : List Value) (rs : List Record) → list_any (is_sought (PieceAt table k version)) rs ≡ true → list_any (is_piece_of table k) rs ≡ true
@@ -200,8 +196,7 @@ pieces_told kept x is table k = both_ways _ _ there back
 
     there : has_ids (versions_on x.pieces.entries table k) ≡ true → list_any (is_piece_of table k) (all_of (listed kept.entries)) ≡ true
     there has =
-        let bound = bounded (versions_on x.pieces.entries table k) (is.falls table k) in
-        let found = under_has bound.0 (versions_on x.pieces.entries table k) bound.1 has in
+        let found = under_has 0 (versions_on x.pieces.entries table k) (is.nested table k).rises has in
         piece_any table found.0 k (all_of (listed kept.entries)) (sym (at found.0) ∙ not_nil _ found.2)
 
     back : list_any (is_piece_of table k) (all_of (listed kept.entries)) ≡ true → has_ids (versions_on x.pieces.entries table k) ≡ true

@@ -1,7 +1,6 @@
 -- The pieces of a version of a key of a table, changed.
-use Rattle.std.proofs.Common.{◌≡◌, ℕ, ◌<◌, ◌≤◌, ◌==◌, ◌&&◌, Bool, true, false, cond, List, [], ◌∷◌, length, get_or, insert, remove, min, max, Option, Some, None, refl, sym, ap, subst, ◌∙◌, arith}
+use Rattle.std.proofs.Common.{◌≡◌, ℕ, suc, ◌<◌, ◌≤◌, ◌+◌, ◌==◌, ◌&&◌, Bool, true, false, cond, List, [], ◌∷◌, length, get_or, insert, remove, take, drop, Option, Some, None, refl, sym, ap, subst, ◌∙◌, arith}
 use Rattle.std.proofs.Math.ListN.{set}
-use Rattle.std.proofs.Math.Nat.{le-max_left, le-max_right, min-le_left, min-le_right}
 use Rattle.std.proofs.lemmas.Bool.{eqb-true}
 use Rattle.std.proofs.lemmas.Cmp.{tied_itself}
 use Rattle.std.proofs.lemmas.List.{nil_from_length}
@@ -17,41 +16,30 @@ use Rattle.wm_base.specs.Key.{key_order}
 use Rattle.wm_base.specs.Orders.{key_order-equal, key_order_total}
 use Rattle.wm_base.specs.declared.value.Value.{Value}
 use Rattle.wm_index.proofs.Pairs.{changed_number}
-use Rattle.wm_index.proofs.Placing.{All-without, fits_under, insert_falls, insert_spanned, insert_under, remove_falls, remove_spanned, remove_under, set_falls, set_spanned, set_under, stands_under, stands_version, widened}
+use Rattle.wm_index.proofs.Placing.{All-without, fits_under, insert_rises, insert_spanned, insert_under, remove_rises, remove_spanned, remove_under, set_rises, set_spanned, set_under, stands_under, stands_version}
+use Rattle.wm_index.proofs.Widening.{next, one_spanned, put_widens, remove_widens, set_widens, there_spanned, widened_rises, widened_spanned, widened_under, widened_widens}
 use Rattle.wm_index.specs.Indexed.{ids_at}
 use Rattle.wm_index.specs.Sought.{Sought, PieceAt, PiecesIn, ids_in, is_sought, placed, without}
-use Rattle.wm_index.specs.Versioned.{ChangedOn, ChangedWhere, FitsAt, HasLess, HasMore, IsPieceAt, IsSpanned, StandsAt, Versions, VersionsFall, ids_under, versions_found, versions_in, versions_on}
+use Rattle.wm_index.specs.Versioned.{AreNested, ChangedOn, ChangedWhere, Encloses, FitsAt, HasLess, HasMore, IsSpanned, IsWithin, StandsAt, Versions, ids_under, versions_found, versions_in, versions_on, widened_from}
 use Rattle.wm_index.specs.declared.index.Index.{Index}
 use Rattle.wm_index.specs.declared.versioned.Versioned.{Versioned}
 use Rattle.wm_spec.specs.declared.record.Record.TheVariants as records
 use Rattle.wm_spec.specs.declared.record.piece.PieceRecord.{PieceRecord}
 use Rattle.wm_spec.specs.declared.record.stored.Stored.{Stored}
 
--- ---- a period that grows
-
--- the period of a version grows with the cells of a piece
-pub grown : (ss : List Stored) (id : ℕ) (x : PieceRecord) (old : Versioned) (f t : ℕ) (ids : List ℕ) → f ≡ min old.from x.cells.from → t ≡ max old.till x.cells.till → ids ≡ placed id old.ids.items
-    → IsPieceAt ss id x → AllByRecursion (IsSpanned ss old.from old.till) old.ids.items → AllByRecursion (IsSpanned ss f t) ids
-grown ss id x old f t ids low high put is all =
-    let a = min-le_left old.from x.cells.from in
-    let b = min-le_right old.from x.cells.from in
-    let c = le-max_left old.till x.cells.till in
-    let d = le-max_right old.till x.cells.till in
-    subst (AllByRecursion (IsSpanned ss f t)) (sym put)
-    (widened ss id x old.from old.till f t old.ids.items (subst (λ n. n ≤ old.from) (sym low) a) (subst (λ n. n ≤ x.cells.from) (sym low) b) (subst (λ n. old.till ≤ n) (sym high) c)
-    (subst (λ n. x.cells.till ≤ n) (sym high) d) is all)
-
 -- ---- an id more, or less
 
 -- a version that stands there has it
-pub more_there : (es : List Versioned) (i id : ℕ) (x : PieceRecord) (d new : Versioned) → VersionsFall es → StandsAt x.version es i → i < length es → d ≡ get_or es i d
-    → new.version ≡ d.version → new.ids.items ≡ placed id d.ids.items
-    → ((ss : List Stored) → IsPieceAt ss id x → AllByRecursion (IsSpanned ss d.from d.till) d.ids.items → AllByRecursion (IsSpanned ss new.from new.till) new.ids.items)
-    → HasMore id x es (set es i new)
-more_there es i id x d new down at within is same put spans = record {
-  ids = λ v. set_under es x.version i new at version v ∙ by_test v (x.version == v) refl;
-  falls = set_falls es x.version i new at version down;
-  spanned = λ ss piece all. set_spanned ss es i d new within (subst (λ (e : Versioned). AllByRecursion (IsSpanned ss e.from e.till) e.ids.items → AllByRecursion (IsSpanned ss new.from new.till) new.ids.items) is (spans ss piece)) all;
+pub more_there : (es : List Versioned) (i id : ℕ) (x : PieceRecord) (d new : Versioned) → AreNested es → StandsAt x.version es i → i < length es → d ≡ get_or es i d
+    → new.version ≡ d.version → new.from ≡ d.from → new.till ≡ d.till → new.ids.items ≡ placed id d.ids.items → HasMore id x es (widened_from x i (set es i new))
+more_there es i id x d new nested at within is same from till put = record {
+  ids = λ v. widened_under x i (set es i new) v ∙ set_under es x.version i new at version v ∙ by_test v (x.version == v) refl;
+  nested = record {
+    rises = widened_rises x i 0 (set es i new) (set_rises 0 es x.version i new at version nested.rises);
+    widens = widened_widens x i (set es i new) (set_widens es i d new (from ∙ ap (λ (e : Versioned). e.from) is) (till ∙ ap (λ (e : Versioned). e.till) is) nested.widens);
+  };
+  spanned = λ ss piece all.
+      there_spanned ss id x es i d new within (from ∙ ap (λ (e : Versioned). e.from) is) (till ∙ ap (λ (e : Versioned). e.till) is) (put ∙ ap (λ (e : Versioned). placed id e.ids.items) is) piece all;
 }
   where
     version : new.version ≡ x.version
@@ -61,25 +49,44 @@ more_there es i id x d new down at within is same put spans = record {
     by_test v true here = put ∙ ap (placed id) (ap (λ (e : Versioned). e.ids.items) is ∙ sym (stands_under es x.version i d at) ∙ ap (ids_under es) (eqb-true x.version v here))
     by_test v false here = refl
 
--- a version that is put there has it
-pub more_put : (es : List Versioned) (i id : ℕ) (x : PieceRecord) (new : Versioned) → VersionsFall es → FitsAt x.version es i → new.version ≡ x.version → new.ids.items ≡ id ∷ []
-    → ((ss : List Stored) → IsPieceAt ss id x → AllByRecursion (IsSpanned ss new.from new.till) new.ids.items) → HasMore id x es (insert es i new)
-more_put es i id x new down at version put spans = record {
-  ids = λ v. insert_under es x.version i new at version v ∙ by_test v (x.version == v) refl;
-  falls = insert_falls es x.version i new at version down;
-  spanned = λ ss piece all. insert_spanned ss es x.version i new at (spans ss piece) all;
-}
+more_next : (es : List Versioned) (i id : ℕ) (x : PieceRecord) (new : Versioned) → AreNested es → FitsAt x.version es i → i ≤ length es → new.version ≡ x.version → new.ids.items ≡ id ∷ []
+    → new.from ≤ x.cells.from → x.cells.till ≤ new.till → AllByRecursion (Encloses new) (take i es) → AllByRecursion (IsWithin x new.from new.till) (drop i es)
+    → HasMore id x es (widened_from x (i + 1) (insert es i new))
+more_next es i id x new nested at within version put low high older newer = subst (λ n. HasMore id x es (widened_from x n (insert es i new))) (next i) more
   where
-    by_test : (v : ℕ) (b : Bool) → (x.version == v) ≡ b → cond b new.ids.items (ids_under es v) ≡ cond b (placed id (ids_under es v)) (ids_under es v)
-    by_test v true here = put ∙ ap (placed id) (sym (fits_under es x.version i at down) ∙ ap (ids_under es) (eqb-true x.version v here))
-    by_test v false here = refl
+    more : HasMore id x es (widened_from x (suc i) (insert es i new))
+    more = record {
+      ids = λ v. widened_under x (suc i) (insert es i new) v ∙ insert_under es x.version i new at version v ∙ by_test v (x.version == v) refl;
+      nested = record {
+        rises = widened_rises x (suc i) 0 (insert es i new) (insert_rises 0 es x.version i new at version (omega arith) nested.rises);
+        widens = put_widens x i es new within older newer nested.widens;
+      };
+      spanned = λ ss piece all.
+          widened_spanned ss x (suc i) (insert es i new) (insert_spanned ss es x.version i new at (one_spanned ss id x new.from new.till new.ids.items put low high piece) all);
+    }
+      where
+        by_test : (v : ℕ) (b : Bool) → (x.version == v) ≡ b → cond b new.ids.items (ids_under es v) ≡ cond b (placed id (ids_under es v)) (ids_under es v)
+        by_test v true here = put ∙ ap (placed id) (sym (fits_under 0 es x.version i at nested.rises) ∙ ap (ids_under es) (eqb-true x.version v here))
+        by_test v false here = refl
+
+-- a version that is put there has it
+pub more_put : (es : List Versioned) (i id : ℕ) (x : PieceRecord) (new : Versioned) (from till : ℕ) → AreNested es → FitsAt x.version es i → i ≤ length es → new.version ≡ x.version → new.from ≡ from → new.till ≡ till
+    → new.ids.items ≡ id ∷ [] → from ≤ x.cells.from → x.cells.till ≤ till → AllByRecursion (λ (e : Versioned). (from ≤ e.from) × (e.till ≤ till)) (take i es) → AllByRecursion (IsWithin x from till) (drop i es)
+    → HasMore id x es (widened_from x (i + 1) (insert es i new))
+more_put es i id x new from till nested at within version low high put early late older newer =
+    more_next es i id x new nested at within version put (subst (λ n. n ≤ x.cells.from) (sym low) early) (subst (λ n. x.cells.till ≤ n) (sym high) late)
+    (subst (λ n. AllByRecursion (λ (e : Versioned). (n ≤ e.from) × (e.till ≤ new.till)) (take i es)) (sym low) (subst (λ n. AllByRecursion (λ (e : Versioned). (from ≤ e.from) × (e.till ≤ n)) (take i es)) (sym high) older))
+    (subst (λ n. AllByRecursion (IsWithin x n new.till) (drop i es)) (sym low) (subst (λ n. AllByRecursion (IsWithin x from n) (drop i es)) (sym high) newer))
 
 -- a version that stands there has it no more
-pub less_there : (es : List Versioned) (v i id : ℕ) (d new : Versioned) → VersionsFall es → StandsAt v es i → i < length es → d ≡ get_or es i d
+pub less_there : (es : List Versioned) (v i id : ℕ) (d new : Versioned) → AreNested es → StandsAt v es i → i < length es → d ≡ get_or es i d
     → new.version ≡ d.version → new.from ≡ d.from → new.till ≡ d.till → new.ids.items ≡ without id d.ids.items → HasLess id v es (set es i new)
-less_there es v i id d new down at within is same from till left = record {
+less_there es v i id d new nested at within is same from till left = record {
   ids = λ w. set_under es v i new at version w ∙ by_test w (v == w) refl;
-  falls = set_falls es v i new at version down;
+  nested = record {
+    rises = set_rises 0 es v i new at version nested.rises;
+    widens = set_widens es i d new (from ∙ ap (λ (e : Versioned). e.from) is) (till ∙ ap (λ (e : Versioned). e.till) is) nested.widens;
+  };
   spanned = λ ss all. set_spanned ss es i d new within (subst (λ (e : Versioned). AllByRecursion (IsSpanned ss e.from e.till) e.ids.items → AllByRecursion (IsSpanned ss new.from new.till) new.ids.items) is (fewer ss)) all;
 }
   where
@@ -97,10 +104,10 @@ less_there es v i id d new down at within is same from till left = record {
     by_test w false here = refl
 
 -- and goes where it has none left
-pub less_gone : (es : List Versioned) (v i id : ℕ) (d : Versioned) → VersionsFall es → StandsAt v es i → d ≡ get_or es i d → without id d.ids.items ≡ [] → HasLess id v es (remove es i)
-less_gone es v i id d down at is left = record {
-  ids = λ w. remove_under es v i at down w ∙ by_test w (v == w) refl;
-  falls = remove_falls es v i at down;
+pub less_gone : (es : List Versioned) (v i id : ℕ) (d : Versioned) → AreNested es → StandsAt v es i → i < length es → d ≡ get_or es i d → without id d.ids.items ≡ [] → HasLess id v es (remove es i)
+less_gone es v i id d nested at within is left = record {
+  ids = λ w. remove_under 0 es v i at nested.rises w ∙ by_test w (v == w) refl;
+  nested = record { rises = remove_rises 0 es v i at nested.rises; widens = remove_widens es i within nested.widens };
   spanned = λ ss all. remove_spanned ss es v i at all;
 }
   where
@@ -109,8 +116,8 @@ less_gone es v i id d down at is left = record {
     by_test w false here = refl
 
 -- a version that is not there has none
-pub less_none : (es : List Versioned) (v id : ℕ) → VersionsFall es → ids_under es v ≡ [] → HasLess id v es es
-less_none es v id down none = record { ids = λ w. by_test w (v == w) refl; falls = down; spanned = λ ss all. all }
+pub less_none : (es : List Versioned) (v id : ℕ) → AreNested es → ids_under es v ≡ [] → HasLess id v es es
+less_none es v id nested none = record { ids = λ w. by_test w (v == w) refl; nested = nested; spanned = λ ss all. all }
   where
     by_test : (w : ℕ) (b : Bool) → (v == w) ≡ b → ids_under es w ≡ cond b (without id (ids_under es w)) (ids_under es w)
     by_test w true here = let empty : ids_under es w ≡ [] = sym (ap (ids_under es) (eqb-true v w here)) ∙ none in empty ∙ sym (ap (without id) empty)

@@ -6,7 +6,7 @@ use Rattle.std.specs.Ordering.{nat_cmp}
 use Rattle.wm_spec.specs.declared.record.Record.{Record}
 use Rattle.wm_spec.specs.declared.record.stored.Stored.{Stored}
 use Rattle.wm_index.specs.Sought.{Sought, TheCounters, Tables, Spaces, SpaceAt, VersionAt, VersionIn, VersionsUnder, SavepointsOf, SavepointAt, KeptAs, KeptUnder, BornAs, SeenUnder, RowAt, PieceAt, TouchesAt, MarksAt, PiecesIn, OwnedBy, MarksIn, TouchAt, TurnAt, HistsOn, is_sought, ids_with, placed, without, ids_in, number_ids, pair_order, piece_ids}
-use Rattle.wm_index.specs.Versioned.{AllFall, AllSpanned, ids_under, versions_on}
+use Rattle.wm_index.specs.Versioned.{AllNested, AllSpanned, ids_under, versions_on}
 use Rattle.wm_index.specs.declared.index.Index.{Index}
 
 -- the ids that an index has of what is sought
@@ -51,10 +51,10 @@ Drops old new id r = (q : Sought) → ids_at new q ≡ (if is_sought q r then wi
 abbrev pub listed : List (ℕ × Record) → List Stored
 listed entries = map (λ (e : ℕ × Record). let s : Stored = record { id = e.0; «record» = e.1 } in s) entries
 
--- the records stand by their ids, and the index has the ids of whatever is sought among them; of each key the versions fall that have
--- pieces of it, and the cells of these lie in the period that is kept beside them
+-- the records stand by their ids, and the index has the ids of whatever is sought among them; of each key the versions rise that have
+-- pieces of it, and so do the periods that are kept beside them, in which the cells of these pieces lie
 pub record IsIndexed (kept : BTreeMap ℕ Record) (x : Index) : Type 0 where
   pub ordered : IsOrdered nat_cmp kept
   pub told : (q : Sought) → ids_at x q ≡ ids_with (is_sought q) (listed kept.entries)
-  pub falls : AllFall x.pieces.entries
+  pub nested : AllNested x.pieces.entries
   pub spanned : AllSpanned (listed kept.entries) x.pieces.entries

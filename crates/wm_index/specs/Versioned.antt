@@ -1,5 +1,5 @@
 -- The pieces of tables and keys, version by version.
-use Rattle.std.specs.Prelude.{ℕ, zero, suc, ◌≡◌, ◌<◌, ◌≤◌, ◌==◌, ◌&&◌, Bool, true, false, not, if◌then◌else◌, List, [], ◌∷◌, Option, Some, None, option_map, unwrap_or}
+use Rattle.std.specs.Prelude.{ℕ, zero, suc, ◌≡◌, ◌<◌, ◌≤◌, ◌+◌, ◌==◌, ◌&&◌, min, max, Bool, true, false, not, if◌then◌else◌, List, [], ◌∷◌, Option, Some, None, option_map, unwrap_or}
 use Rattle.std.specs.BTreeMap.{BTreeMap, is_at}
 use Rattle.std.specs.List.{AllByRecursion, list_any}
 use Rattle.std.specs.Map.{lookup}
@@ -27,15 +27,28 @@ abbrev pub ids_under : List Versioned → ℕ → List ℕ
 ids_under [] version = []
 ids_under (e ∷ es) version = if e.version == version then e.ids.items else ids_under es version
 
--- the versions fall, from below a bound on
-abbrev pub VersionsBelow : ℕ → List Versioned → Type 0
-VersionsBelow bound [] = Unit {0}
-VersionsBelow bound (e ∷ es) = (e.version < bound) × VersionsBelow e.version es
+-- the versions rise, from a bound on
+abbrev pub VersionsFrom : ℕ → List Versioned → Type 0
+VersionsFrom bound [] = Unit {0}
+VersionsFrom bound (e ∷ es) = (bound ≤ e.version) × VersionsFrom (e.version + 1) es
 
--- the versions fall, the newest first
-abbrev pub VersionsFall : List Versioned → Type 0
-VersionsFall [] = Unit {0}
-VersionsFall (e ∷ es) = VersionsBelow e.version es
+-- the versions rise, the newest last
+abbrev pub VersionsRise : List Versioned → Type 0
+VersionsRise es = VersionsFrom 0 es
+
+-- the period of one holds that of another
+abbrev pub Encloses : Versioned → Versioned → Type 0
+Encloses outer inner = (outer.from ≤ inner.from) × (inner.till ≤ outer.till)
+
+-- that of each version holds those of all older ones
+abbrev pub Widens : List Versioned → Type 0
+Widens [] = Unit {0}
+Widens (e ∷ es) = AllByRecursion (λ (d : Versioned). Encloses d e) es × Widens es
+
+-- the versions rise, and so do their periods
+pub record AreNested (es : List Versioned) : Type 0 where
+  pub rises : VersionsRise es
+  pub widens : Widens es
 
 -- what a look-up of versions found
 abbrev pub versions_found : Option (Vec Versioned Global) → List Versioned
@@ -49,15 +62,15 @@ versions_in keys key = versions_found (lookup (is_at (key_order key)) keys)
 abbrev pub versions_on : List (ℕ × Versions) → ℕ → List Value → List Versioned
 versions_on tables table key = versions_in (keyed_at tables table) key
 
--- the versions fall at each key
-abbrev pub AllFall : List (ℕ × Versions) → Type 0
-AllFall tables = (t : ℕ) (k : List Value) → VersionsFall (versions_on tables t k)
+-- they do at each key
+abbrev pub AllNested : List (ℕ × Versions) → Type 0
+AllNested tables = (t : ℕ) (k : List Value) → AreNested (versions_on tables t k)
 
 -- the cells of the piece under an id lie in a period
 abbrev pub IsSpanned : List Stored → ℕ → ℕ → ℕ → Type 0
 IsSpanned ss from till id = (r : PieceRecord) → option_and_then as_piece (record_at ss id) ≡ Some r → (from ≤ r.cells.from) × (r.cells.till ≤ till)
 
--- those of the pieces of each version lie in the period that it has
+-- those of the pieces of each version lie in its period
 abbrev pub AreSpanned : List Stored → List Versioned → Type 0
 AreSpanned ss [] = Unit {0}
 AreSpanned ss (e ∷ es) = AllByRecursion (IsSpanned ss e.from e.till) e.ids.items × AreSpanned ss es
@@ -75,18 +88,32 @@ abbrev pub used : List (List Value × Vec Versioned Global) → List (List Value
 used [] = []
 used (e ∷ es) = if has_ids e.1.items then e.0 ∷ used es else used es
 
--- a version stands at a place, behind newer ones
+-- a version stands at a place, behind older ones
 abbrev pub StandsAt : ℕ → List Versioned → ℕ → Type 0
 StandsAt version [] i = ⊥
 StandsAt version (e ∷ es) zero = e.version ≡ version
-StandsAt version (e ∷ es) (suc i) = (version < e.version) × StandsAt version es i
+StandsAt version (e ∷ es) (suc i) = (e.version < version) × StandsAt version es i
 
--- it may be put at a place, behind newer ones and before older ones
+-- it may be put at a place, behind older ones and before newer ones
 abbrev pub FitsAt : ℕ → List Versioned → ℕ → Type 0
 FitsAt version [] zero = Unit {0}
 FitsAt version [] (suc i) = ⊥
-FitsAt version (e ∷ es) zero = e.version < version
-FitsAt version (e ∷ es) (suc i) = (version < e.version) × FitsAt version es i
+FitsAt version (e ∷ es) zero = version < e.version
+FitsAt version (e ∷ es) (suc i) = (e.version < version) × FitsAt version es i
+
+-- a period lies in that which another has with the cells of a piece
+abbrev pub IsWithin : PieceRecord → ℕ → ℕ → Versioned → Type 0
+IsWithin x from till e = (min e.from x.cells.from ≤ from) × (till ≤ max e.till x.cells.till)
+
+-- the period of a version, with the cells of a piece
+abbrev pub widened : PieceRecord → Versioned → Versioned
+widened x e = record e { from = min e.from x.cells.from; till = max e.till x.cells.till }
+
+-- those of the versions from a place on
+abbrev pub widened_from : PieceRecord → ℕ → List Versioned → List Versioned
+widened_from x i [] = []
+widened_from x zero (e ∷ es) = widened x e ∷ widened_from x zero es
+widened_from x (suc i) (e ∷ es) = e ∷ widened_from x i es
 
 -- if there is a piece under the id, it is this one
 abbrev pub IsPieceAt : List Stored → ℕ → PieceRecord → Type 0
@@ -95,13 +122,13 @@ IsPieceAt ss id x = (r : PieceRecord) → option_and_then as_piece (record_at ss
 -- one of the versions has the id of a piece more
 pub record HasMore (id : ℕ) (x : PieceRecord) (old new : List Versioned) : Type 0 where
   pub ids : (v : ℕ) → ids_under new v ≡ (if x.version == v then placed id (ids_under old v) else ids_under old v)
-  pub falls : VersionsFall new
+  pub nested : AreNested new
   pub spanned : (ss : List Stored) → IsPieceAt ss id x → AreSpanned ss old → AreSpanned ss new
 
 -- one of the versions has an id no more
 pub record HasLess (id version : ℕ) (old new : List Versioned) : Type 0 where
   pub ids : (v : ℕ) → ids_under new v ≡ (if version == v then without id (ids_under old v) else ids_under old v)
-  pub falls : VersionsFall new
+  pub nested : AreNested new
   pub spanned : (ss : List Stored) → AreSpanned ss old → AreSpanned ss new
 
 -- the versions of a key are changed, or as they were

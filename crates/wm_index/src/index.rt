@@ -3,7 +3,7 @@
 ghost use Rattle.std.specs.Prelude.{◌≡◌, [], OnOk};
 ghost use Rattle.wm_index.specs.Indexed.{Adds, Drops, IdsAscend, ids_at};
 ghost use Rattle.wm_index.specs.Sought.{Sought};
-ghost use Rattle.wm_index.specs.Versioned.{AllFall, Gains, Loses};
+ghost use Rattle.wm_index.specs.Versioned.{AllNested, Gains, Loses};
 ghost use Rattle.wm_spec.specs.declared.record.Record.TheVariants as records;
 
 use crate::ids::{add_id, drop_id};
@@ -84,7 +84,7 @@ impl Index {
     /// Adds the id of a record.
     pub fn add_record(&mut self, alloc: Global, id: u64, added: &Record) -> Result<(), Memory>
         requires ascend { IdsAscend self.old }
-        requires falls { AllFall self.old.pieces.entries }
+        requires nested { AllNested self.old.pieces.entries }
         ensures ids { OnOk result (Adds self.old self.new id added.now) }
         ensures pieces { OnOk result (Gains self.old.pieces.entries self.new.pieces.entries id added.now) }
     {
@@ -157,7 +157,7 @@ impl Index {
     /// Adds the id of a piece.
     fn add_piece(&mut self, alloc: Global, id: u64, piece: &PieceRecord) -> Result<(), Memory>
         requires ascend { IdsAscend self.old }
-        requires falls { AllFall self.old.pieces.entries }
+        requires nested { AllNested self.old.pieces.entries }
         ensures ids { OnOk result (Adds self.old self.new id (records.Piece piece.now)) }
         ensures pieces { OnOk result (Gains self.old.pieces.entries self.new.pieces.entries id (records.Piece piece.now)) }
     {
@@ -215,7 +215,7 @@ impl Index {
     /// Drops the id of a record.
     pub fn drop_record(&mut self, alloc: Global, id: u64, dropped: &Record) -> Result<(), Memory>
         requires ascend { IdsAscend self.old }
-        requires falls { AllFall self.old.pieces.entries }
+        requires nested { AllNested self.old.pieces.entries }
         ensures ids { OnOk result (Drops self.old self.new id dropped.now) }
         ensures pieces { OnOk result (Loses self.old.pieces.entries self.new.pieces.entries id dropped.now) }
     {
@@ -288,7 +288,7 @@ impl Index {
     /// Drops the id of a piece.
     fn drop_piece(&mut self, alloc: Global, id: u64, piece: &PieceRecord) -> Result<(), Memory>
         requires ascend { IdsAscend self.old }
-        requires falls { AllFall self.old.pieces.entries }
+        requires nested { AllNested self.old.pieces.entries }
         ensures ids { OnOk result (Drops self.old self.new id (records.Piece piece.now)) }
         ensures pieces { OnOk result (Loses self.old.pieces.entries self.new.pieces.entries id (records.Piece piece.now)) }
     {

@@ -6,7 +6,7 @@ ghost use Rattle.wm_graph.specs.Parts.{as_table};
 ghost use Rattle.wm_spec.specs.Records.{record_at};
 ghost use Rattle.wm_index.specs.Indexed.{ids_at, listed, IdsAscend};
 ghost use Rattle.wm_index.specs.Sought.{Sought, is_sought, ids_less, ids_more, first_of};
-ghost use Rattle.wm_index.specs.Versioned.{AllFall, GainsAny, LosesAny};
+ghost use Rattle.wm_index.specs.Versioned.{AllNested, GainsAny, LosesAny};
 
 use crate::index::Index;
 use crate::kinds::table_of;
@@ -49,7 +49,7 @@ pub fn next_id(kept: &Kept) -> Option<u64>
 /// Drops the id of a record that goes, and tells whether that is a table.
 pub fn drop_old(alloc: Global, kept: &Kept, index: &mut Index, id: u64) -> Result<bool, Memory>
     requires ascend { IdsAscend index.old }
-    requires falls { AllFall index.old.pieces.entries }
+    requires nested { AllNested index.old.pieces.entries }
     ensures dropped { OnOk result ((q : Sought) → ids_at index.new q ≡ ids_less (is_sought q) id (record_at (listed kept.now.entries) id) (ids_at index.old q)) }
     ensures pieces { OnOk result (LosesAny index.old.pieces.entries index.new.pieces.entries id (record_at (listed kept.now.entries) id)) }
     ensures table { IfOk result (λ was. was ≡ is_some (option_and_then as_table (record_at (listed kept.now.entries) id))) }
@@ -69,7 +69,7 @@ pub fn add_new(
     becomes: &Option<Record>,
 ) -> Result<bool, Memory>
     requires ascend { IdsAscend index.old }
-    requires falls { AllFall index.old.pieces.entries }
+    requires nested { AllNested index.old.pieces.entries }
     ensures added { OnOk result ((q : Sought) → ids_at index.new q ≡ ids_more (is_sought q) id becomes.now (ids_at index.old q)) }
     ensures pieces { OnOk result (GainsAny index.old.pieces.entries index.new.pieces.entries id becomes.now) }
     ensures table { IfOk result (λ is. is ≡ is_some (option_and_then as_table becomes.now)) }

@@ -1,6 +1,6 @@
 //! The ids of pieces by table and key, version by version.
 
-ghost use Rattle.std.specs.Prelude.{◌≡◌, ◌<◌, ◌≤◌, ◌++◌, ◌==◌, if◌then◌else◌, List, [], ◌∷◌, length, None, IfErr, IfOk, OnOk};
+ghost use Rattle.std.specs.Prelude.{◌≡◌, ◌<◌, ◌≤◌, ◌++◌, ◌==◌, ◌&&◌, if◌then◌else◌, List, [], ◌∷◌, drop, length, nat_le, take, None, IfErr, IfOk, OnOk};
 ghost use Rattle.std.specs.BTreeMap.{is_at};
 ghost use Rattle.std.specs.List.{AllByRecursion};
 ghost use Rattle.std.specs.List.Sorted.{IsStrictlySortedBy};
@@ -9,8 +9,8 @@ ghost use Rattle.std.specs.Ordering.{is_eq, nat_cmp};
 ghost use Rattle.wm_base.specs.Key.{key_order};
 ghost use Rattle.wm_base.specs.declared.value.Value.{Value};
 ghost use Rattle.wm_index.specs.Sought.{keyed_at, placed, without};
-ghost use Rattle.wm_index.specs.Versioned.{ChangedOn, ChangedWhere, FitsAt, HasLess, HasMore, IsPieceAt, IsSpanned, StandsAt, VersionsFall, has_ids, ids_under, used, versions_in, versions_on};
-ghost use Rattle.wm_spec.specs.declared.record.stored.Stored.{Stored};
+ghost use Rattle.wm_index.specs.Versioned.{AreNested, ChangedOn, ChangedWhere, FitsAt, HasLess, HasMore, IsWithin, StandsAt, VersionsRise, Widens, has_ids, ids_under, used, versions_in, versions_on, widened, widened_from};
+ghost use Rattle.wm_index.specs.declared.versioned.Versioned.{Versioned};
 
 use crate::ids::{add_id, drop_id};
 use std::alloc::Global;
@@ -18,8 +18,8 @@ use std::collections::BTreeMap;
 use wm_base::{Key, Memory};
 use wm_spec::record::PieceRecord;
 
-/// The ids of the pieces that a version has of one key, in ascending order, with a period in which all their cells lie
-/// (in seconds).
+/// The ids of the pieces that a version has of one key, in ascending order, with a period in which all their cells lie,
+/// and those of all older versions too (in seconds).
 #[derive(Drop)]
 pub struct Versioned {
     pub version: u64,
@@ -28,10 +28,10 @@ pub struct Versioned {
     pub ids: Vec<u64>,
 }
 
-/// By key: what each version has that has pieces there, the newest version first.
+/// By key: what each version has that has pieces there, the oldest version first.
 pub type KeyVersions = BTreeMap<Key, Vec<Versioned>>;
 
-/// By table and key: what each version has that has pieces there, the newest version first.
+/// By table and key: what each version has that has pieces there, the oldest version first.
 pub type PieceIds = BTreeMap<u16, KeyVersions>;
 
 /// What each version has of a key.
@@ -44,7 +44,7 @@ fn versions_of<'a>(keys: &'a KeyVersions, key: &Key) -> &'a [Versioned]
     }
 }
 
-/// What each version has of a key of a table, the newest version first.
+/// What each version has of a key of a table, the oldest version first.
 pub fn versions_of_key<'a>(tables: &'a PieceIds, table: u16, key: &Key) -> &'a [Versioned]
     ensures { result.now ≡ versions_on tables.now.entries table key.now }
 {
@@ -54,20 +54,42 @@ pub fn versions_of_key<'a>(tables: &'a PieceIds, table: u16, key: &Key) -> &'a [
     }
 }
 
-/// Where a version stands among those that fall, or else where it may be put.
-fn find_version(versions: &[Versioned], version: u64) -> Result<usize, usize>
-    requires { VersionsFall versions.now }
+/// Where a version stands among those that rise, or else where it may be put, by halving.
+fn search_version(versions: &[Versioned], version: u64) -> Result<usize, usize>
+    requires { VersionsRise versions.now }
     ensures found { IfOk result (λ place. StandsAt version versions.now place) }
     ensures within { IfOk result (λ place. place < length versions.now) }
     ensures fits { IfErr result (λ place. FitsAt version versions.now place) }
     ensures between { IfErr result (λ place. place ≤ length versions.now) }
 {
-    versions.binary_search_by(|one| version.cmp(&one.version))
+    versions.binary_search_by(|one| one.version.cmp(&version))
+}
+
+/// Where a version stands among those that rise, or else where it may be put. Most are the newest, or newer.
+fn find_version(versions: &[Versioned], version: u64) -> Result<usize, usize>
+    requires { VersionsRise versions.now }
+    ensures found { IfOk result (λ place. StandsAt version versions.now place) }
+    ensures within { IfOk result (λ place. place < length versions.now) }
+    ensures fits { IfErr result (λ place. FitsAt version versions.now place) }
+    ensures between { IfErr result (λ place. place ≤ length versions.now) }
+{
+    if versions.is_empty() {
+        return Err(0);
+    }
+    let last = versions.len() - 1;
+    let newest = versions[last].version;
+    if newest < version {
+        return Err(versions.len());
+    }
+    if newest == version {
+        return Ok(last);
+    }
+    search_version(versions, version)
 }
 
 /// The ids of the pieces that a version has of a key of a table.
 pub fn ids_of_version<'a>(tables: &'a PieceIds, table: u16, key: &Key, version: u64) -> &'a [u64]
-    requires { VersionsFall (versions_on tables.now.entries table key.now) }
+    requires { VersionsRise (versions_on tables.now.entries table key.now) }
     ensures { result.now ≡ ids_under (versions_on tables.now.entries table key.now) version }
 {
     let versions = versions_of_key(tables, table, key);
@@ -77,33 +99,81 @@ pub fn ids_of_version<'a>(tables: &'a PieceIds, table: u16, key: &Key, version: 
     }
 }
 
-/// What a version has with one piece.
-fn with_one(alloc: Global, id: u64, piece: &PieceRecord) -> Result<Versioned, Memory>
-    ensures version { IfOk result (λ one. one.version ≡ piece.now.version) }
+/// A period that holds the cells of a piece and those of the versions before a place, and no more than each version
+/// from there on holds with the cells.
+fn span_at(versions: &[Versioned], place: usize, piece: &PieceRecord) -> (u64, u64)
+    requires widens { Widens versions.now }
+    requires within { place ≤ length versions.now }
+    ensures older { AllByRecursion (λ (e : Versioned). (result.0 ≤ e.from) × (e.till ≤ result.1)) (take place versions.now) }
+    ensures newer { AllByRecursion (IsWithin piece.now result.0 result.1) (drop place versions.now) }
+    ensures from { result.0 ≤ piece.now.cells.from }
+    ensures till { piece.now.cells.till ≤ result.1 }
+{
+    let cells = &piece.cells;
+    if place == 0 {
+        return (cells.from, cells.till);
+    }
+    let before = &versions[place - 1];
+    let from = before.from.min(cells.from);
+    let till = before.till.max(cells.till);
+    (from, till)
+}
+
+/// What a version has with one piece, in a period.
+fn with_one(alloc: Global, id: u64, version: u64, span: (u64, u64)) -> Result<Versioned, Memory>
+    ensures version { IfOk result (λ one. one.version ≡ version) }
+    ensures from { IfOk result (λ one. one.from ≡ span.0) }
+    ensures till { IfOk result (λ one. one.till ≡ span.1) }
     ensures ids { IfOk result (λ one. one.ids.items ≡ id ∷ []) }
-    ensures spanned { IfOk result (λ one. (ss : List Stored) → IsPieceAt ss id piece.now → AllByRecursion (IsSpanned ss one.from one.till) one.ids.items) }
 {
     let mut ids = Vec::with_capacity(alloc, 1)?;
     ids.push(id)?;
     Ok(Versioned {
-        version: piece.version,
-        from: piece.cells.from,
-        till: piece.cells.till,
+        version,
+        from: span.0,
+        till: span.1,
         ids,
     })
 }
 
-/// Puts the id of a piece among those of its version, whose period grows to hold its cells.
-fn widen(one: &mut Versioned, id: u64, piece: &PieceRecord) -> Result<(), Memory>
+/// Puts an id among those of a version.
+fn add_own(one: &mut Versioned, id: u64) -> Result<(), Memory>
     requires { IsStrictlySortedBy nat_cmp one.old.ids.items }
     ensures version { OnOk result (one.new.version ≡ one.old.version) }
+    ensures from { OnOk result (one.new.from ≡ one.old.from) }
+    ensures till { OnOk result (one.new.till ≡ one.old.till) }
     ensures ids { OnOk result (one.new.ids.items ≡ placed id one.old.ids.items) }
-    ensures spanned { OnOk result ((ss : List Stored) → IsPieceAt ss id piece.now → AllByRecursion (IsSpanned ss one.old.from one.old.till) one.old.ids.items → AllByRecursion (IsSpanned ss one.new.from one.new.till) one.new.ids.items) }
 {
-    add_id(&mut one.ids, id)?;
+    add_id(&mut one.ids, id)
+}
+
+/// Whether the period of a version holds the cells of a piece.
+fn holds(one: &Versioned, piece: &PieceRecord) -> bool
+    ensures { result ≡ (nat_le one.now.from piece.now.cells.from && nat_le piece.now.cells.till one.now.till) }
+{
+    one.from <= piece.cells.from && piece.cells.till <= one.till
+}
+
+/// Widens the period of a version by the cells of a piece.
+fn widen(one: &mut Versioned, piece: &PieceRecord)
+    ensures { one.new ≡ widened piece.now one.old }
+{
     one.from = one.from.min(piece.cells.from);
     one.till = one.till.max(piece.cells.till);
-    Ok(())
+}
+
+/// Widens the periods of the versions from a place on by the cells of a piece. Each holds all those before it, so
+/// behind one that holds the cells each does.
+fn widen_from(versions: &mut [Versioned], place: usize, piece: &PieceRecord)
+    requires { Widens (drop place versions.old) }
+    ensures { versions.new ≡ widened_from piece.now place versions.old }
+{
+    for index in place..versions.len() {
+        if holds(&versions[index], piece) {
+            return;
+        }
+        widen(&mut versions[index], piece);
+    }
 }
 
 /// Puts the id of a piece among those of its version.
@@ -113,18 +183,21 @@ fn add_version_id(
     id: u64,
     piece: &PieceRecord,
 ) -> Result<(), Memory>
-    requires falls { VersionsFall versions.old.items }
+    requires nested { AreNested versions.old.items }
     requires ascend { IsStrictlySortedBy nat_cmp (ids_under versions.old.items piece.now.version) }
     ensures { OnOk result (HasMore id piece.now versions.old.items versions.new.items) }
 {
     match find_version(versions.as_slice(), piece.version) {
         Ok(place) => {
-            widen(&mut versions[place], id, piece)?;
+            add_own(&mut versions[place], id)?;
+            widen_from(versions.as_mut_slice(), place, piece);
             Ok(())
         }
         Err(place) => {
-            let one = with_one(alloc, id, piece)?;
+            let span = span_at(versions.as_slice(), place, piece);
+            let one = with_one(alloc, id, piece.version, span)?;
             versions.insert(place, one)?;
+            widen_from(versions.as_mut_slice(), place + 1, piece);
             Ok(())
         }
     }
@@ -145,7 +218,7 @@ fn empties(one: &mut Versioned, id: u64) -> bool
 
 /// Takes an id from those of a version. A version that has none left goes.
 fn drop_version_id(versions: &mut Vec<Versioned>, version: u64, id: u64)
-    requires falls { VersionsFall versions.old.items }
+    requires nested { AreNested versions.old.items }
     requires ascend { IsStrictlySortedBy nat_cmp (ids_under versions.old.items version) }
     ensures { HasLess id version versions.old.items versions.new.items }
 {
@@ -178,7 +251,7 @@ fn add_key_id(
     id: u64,
     piece: &PieceRecord,
 ) -> Result<(), Memory>
-    requires falls { VersionsFall (versions_in keys.old.entries piece.now.cells.key) }
+    requires nested { AreNested (versions_in keys.old.entries piece.now.cells.key) }
     requires ascend { IsStrictlySortedBy nat_cmp (ids_under (versions_in keys.old.entries piece.now.cells.key) piece.now.version) }
     ensures { OnOk result ((k : List Value) → ChangedWhere (HasMore id piece.now) (is_eq (key_order piece.now.cells.key k)) (versions_in keys.old.entries k) (versions_in keys.new.entries k)) }
 {
@@ -196,7 +269,7 @@ fn drop_key_id(
     id: u64,
     piece: &PieceRecord,
 ) -> Result<(), Memory>
-    requires falls { VersionsFall (versions_in keys.old.entries piece.now.cells.key) }
+    requires nested { AreNested (versions_in keys.old.entries piece.now.cells.key) }
     requires ascend { IsStrictlySortedBy nat_cmp (ids_under (versions_in keys.old.entries piece.now.cells.key) piece.now.version) }
     ensures { OnOk result ((k : List Value) → ChangedWhere (HasLess id piece.now.version) (is_eq (key_order piece.now.cells.key k)) (versions_in keys.old.entries k) (versions_in keys.new.entries k)) }
 {
@@ -218,7 +291,7 @@ pub fn add_piece_id(
     id: u64,
     piece: &PieceRecord,
 ) -> Result<(), Memory>
-    requires falls { VersionsFall (versions_on tables.old.entries piece.now.cells.table piece.now.cells.key) }
+    requires nested { AreNested (versions_on tables.old.entries piece.now.cells.table piece.now.cells.key) }
     requires ascend { IsStrictlySortedBy nat_cmp (ids_under (versions_on tables.old.entries piece.now.cells.table piece.now.cells.key) piece.now.version) }
     ensures { OnOk result (ChangedOn (HasMore id piece.now) tables.old.entries tables.new.entries piece.now.cells.table piece.now.cells.key) }
 {
@@ -236,7 +309,7 @@ pub fn drop_piece_id(
     id: u64,
     piece: &PieceRecord,
 ) -> Result<(), Memory>
-    requires falls { VersionsFall (versions_on tables.old.entries piece.now.cells.table piece.now.cells.key) }
+    requires nested { AreNested (versions_on tables.old.entries piece.now.cells.table piece.now.cells.key) }
     requires ascend { IsStrictlySortedBy nat_cmp (ids_under (versions_on tables.old.entries piece.now.cells.table piece.now.cells.key) piece.now.version) }
     ensures { OnOk result (ChangedOn (HasLess id piece.now.version) tables.old.entries tables.new.entries piece.now.cells.table piece.now.cells.key) }
 {

@@ -1,18 +1,13 @@
 use Rattle.std.proofs.Common.{ℕ, List, sym, ap, ◌∙◌}
 use Rattle.std.specs.Option.{option_or}
 use Rattle.wm_graph.specs.Parts.{as_piece, parts_of}
-use Rattle.wm_image.proofs.Along.{is_on, not_on, passed_over}
+use Rattle.wm_image.proofs.Along.{is_on, not_on}
 use Rattle.wm_image.specs.Shown.{first_held}
 use Rattle.wm_index.specs.Kinds.{kind_at}
 use Rattle.wm_period.specs.Pieces.{held_at}
 use Rattle.wm_state.specs.Standing.{newest_first}
 use Rattle.wm_tree.specs.Versions.{path_in}
 use Rattle.wm_image.proofs.laying.lay_entry.Goals as goal
-
-pub returns-then-covers_all : goal.returns-then-covers_all
-returns-then-covers_all c = λ t less.
-    passed_over c.args.image.now (path_in (newest_first (parts_of c.args.image.now).versions) c.args.top) c.args.entry.now t (held_at c.args.upper t) c.requires.spanned
-    (c.covers_all.ensures c.if-covers_all.true t)
 
 pub returns-then-not-stands_under : goal.returns-then-not-stands_under
 returns-then-not-stands_under c = λ t less.

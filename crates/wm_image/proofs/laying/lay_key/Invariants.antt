@@ -1,9 +1,9 @@
-use Rattle.std.proofs.Common.{◌≡◌, ◌<◌, ℕ, drop}
+use Rattle.std.proofs.Common.{◌≡◌, ◌<◌, ℕ, length}
 use Rattle.std.specs.Option.{option_or}
 use Rattle.wm_base.specs.declared.instant.TheConstants.{END}
 use Rattle.wm_graph.specs.Parts.{parts_of}
 use Rattle.wm_image.proofs.Along.{newest_held}
-use Rattle.wm_index.specs.Versioned.{AreSpanned}
+use Rattle.wm_index.specs.Versioned.{AreSpanned, Widens}
 use Rattle.wm_period.specs.Pieces.{held_at}
 use Rattle.wm_state.specs.Standing.{newest_first}
 use Rattle.wm_tree.specs.Versions.{path_in}
@@ -11,7 +11,11 @@ use Rattle.wm_image.proofs.laying.lay_key.Given as goal
 
 abbrev pub invariant-loop-entry : goal.invariant-loop-entry
 invariant-loop-entry l = record {
-  held : (t : ℕ) → t < END → option_or (held_at l.laid t) (newest_held l.image (path_in (newest_first (parts_of l.image).versions) l.top) (drop l.entry-index l.versions) t)
+  held : (t : ℕ) → t < END → option_or (held_at l.laid t) (newest_held l.image (path_in (newest_first (parts_of l.image).versions) l.top) l.left t)
       ≡ newest_held l.image (path_in (newest_first (parts_of l.image).versions) l.top) l.versions t;
-  spanned : AreSpanned l.image (drop l.entry-index l.versions);
+  widens : Widens l.left;
+  spanned : AreSpanned l.image l.left;
 }
+
+abbrev pub decreases-loop-entry : goal.decreases-loop-entry
+decreases-loop-entry l = length l.left

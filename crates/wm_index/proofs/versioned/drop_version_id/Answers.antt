@@ -11,8 +11,8 @@ use Rattle.wm_index.proofs.versioned.drop_version_id.Goals as goal
 
 pub returns-in_default : goal.returns-in_default
 returns-in_default c =
-    less_none c.args.versions.now.items c.args.version c.args.id c.requires.falls
-    (fits_under c.args.versions.now.items c.args.version c.in_default.field-0 (subst (λ (es : List Versioned). FitsAt c.args.version es c.in_default.field-0) c.as_slice.ensures.value c.in_default.ensures.fits) c.requires.falls)
+    less_none c.args.versions.now.items c.args.version c.args.id c.requires.nested
+    (fits_under 0 c.args.versions.now.items c.args.version c.in_default.field-0 (subst (λ (es : List Versioned). FitsAt c.args.version es c.in_default.field-0) c.as_slice.ensures.value c.in_default.ensures.fits) c.requires.nested.rises)
 
 pub empties-requires : goal.empties-requires
 empties-requires c =
@@ -24,13 +24,14 @@ empties-requires c =
 pub returns-then-empties : goal.returns-then-empties
 returns-then-empties c =
     subst (HasLess c.args.id c.args.version c.args.versions.now.items) (sym (c.remove.ensures.items ∙ remove-set c.args.versions.now.items c.in-Ok.place c.empties.new.one))
-    (less_gone c.args.versions.now.items c.args.version c.in-Ok.place c.args.id c.index_mut.result.now c.requires.falls
-    (subst (λ (es : List Versioned). StandsAt c.args.version es c.in-Ok.place) c.as_slice.ensures.value c.in-Ok.ensures.found) c.index_mut.ensures.value
+    (less_gone c.args.versions.now.items c.args.version c.in-Ok.place c.args.id c.index_mut.result.now c.requires.nested
+    (subst (λ (es : List Versioned). StandsAt c.args.version es c.in-Ok.place) c.as_slice.ensures.value c.in-Ok.ensures.found)
+    (subst (λ (es : List Versioned). c.in-Ok.place < length es) c.as_slice.ensures.value c.in-Ok.ensures.within) c.index_mut.ensures.value
     (sym c.empties.ensures.ids ∙ nil_from_length c.empties.new.one.ids.items (eqb-true (length c.empties.new.one.ids.items) 0 (sym c.empties.ensures.empty ∙ c.if-empties.true))))
 
 pub returns-else-empties : goal.returns-else-empties
 returns-else-empties c =
-    less_there c.args.versions.now.items c.args.version c.in-Ok.place c.args.id c.index_mut.result.now c.empties.new.one c.requires.falls
+    less_there c.args.versions.now.items c.args.version c.in-Ok.place c.args.id c.index_mut.result.now c.empties.new.one c.requires.nested
     (subst (λ (es : List Versioned). StandsAt c.args.version es c.in-Ok.place) c.as_slice.ensures.value c.in-Ok.ensures.found)
     (subst (λ (es : List Versioned). c.in-Ok.place < length es) c.as_slice.ensures.value c.in-Ok.ensures.within) c.index_mut.ensures.value c.empties.ensures.version c.empties.ensures.from c.empties.ensures.till
     c.empties.ensures.ids

@@ -1,22 +1,14 @@
-use Rattle.std.proofs.Common.{length, rules}
-use Rattle.std.proofs.lemmas.Fn.{always_returns_same}
-use Rattle.std.specs.Ordering.{nat_cmp}
-use Rattle.wm_index.proofs.Placing.{fitting_version, found_version, found_within}
-use Rattle.wm_index.specs.declared.versioned.Versioned.{Versioned}
+use Rattle.std.proofs.Common.{◌≡◌, ◌<◌, ◌+◌, ◌-◌, length, arith}
+use Rattle.wm_index.proofs.Placing.{fits_behind, last_place, stands_from}
 use Rattle.wm_index.proofs.versioned.find_version.Goals as goal
 
-pub returns-clause-found : goal.returns-clause-found
-returns-clause-found c =
-    found_version c.args.versions.now c.args.version c.binary_search_by.result c.requires c.binary_search_by.ensures.bound
-    (c.binary_search_by.ensures.position (λ (e : Versioned). nat_cmp c.args.version e.version) (always_returns_same _ _ _ (λ a r q e. search rules)))
+pub returns-then-newest-version-clause-fits : goal.returns-then-newest-version-clause-fits
+returns-then-newest-version-clause-fits c =
+    fits_behind 0 c.args.versions.now c.args.version (length c.args.versions.now - 1) c.index-versions-last.result c.requires
+    (last_place (length c.args.versions.now) c.is_empty.result c.is_empty.ensures c.if-is_empty.false) c.if-newest-version.true
 
-pub returns-clause-within : goal.returns-clause-within
-returns-clause-within c = (found_within (length c.args.versions.now) c.binary_search_by.result c.binary_search_by.ensures.bound).0
-
-pub returns-clause-fits : goal.returns-clause-fits
-returns-clause-fits c =
-    fitting_version c.args.versions.now c.args.version c.binary_search_by.result c.requires c.binary_search_by.ensures.bound
-    (c.binary_search_by.ensures.position (λ (e : Versioned). nat_cmp c.args.version e.version) (always_returns_same _ _ _ (λ a r q e. search rules)))
-
-pub returns-clause-between : goal.returns-clause-between
-returns-clause-between c = (found_within (length c.args.versions.now) c.binary_search_by.result c.binary_search_by.ensures.bound).1
+pub returns-then-newest-version-2-clause-found : goal.returns-then-newest-version-2-clause-found
+returns-then-newest-version-2-clause-found c =
+    let last : length c.args.versions.now - 1 + 1 ≡ length c.args.versions.now = last_place (length c.args.versions.now) c.is_empty.result c.is_empty.ensures c.if-is_empty.false in
+    let within : length c.args.versions.now - 1 < length c.args.versions.now = omega (arith, last) in
+    stands_from 0 c.args.versions.now c.args.version (length c.args.versions.now - 1) c.index-versions-last.result c.requires within c.if-newest-version-2.true

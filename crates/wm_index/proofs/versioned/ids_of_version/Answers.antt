@@ -1,6 +1,6 @@
 use Rattle.std.proofs.Common.{List, sym, ap, subst, ◌∙◌}
 use Rattle.wm_index.proofs.Placing.{fits_under, stands_under}
-use Rattle.wm_index.specs.Versioned.{VersionsFall, ids_under}
+use Rattle.wm_index.specs.Versioned.{VersionsRise, ids_under}
 use Rattle.wm_index.specs.declared.versioned.Versioned.{Versioned}
 use Rattle.wm_index.proofs.versioned.ids_of_version.Goals as goal
 
@@ -12,5 +12,5 @@ returns-in-Ok c =
 
 pub returns-in-Err : goal.returns-in-Err
 returns-in-Err c =
-    sym (fits_under c.versions_of_key-versions.result.now c.args.version c.in-Err.field-0 c.in-Err.ensures.fits (subst VersionsFall (sym c.versions_of_key-versions.ensures) c.requires))
+    sym (fits_under 0 c.versions_of_key-versions.result.now c.args.version c.in-Err.field-0 c.in-Err.ensures.fits (subst VersionsRise (sym c.versions_of_key-versions.ensures) c.requires))
     ∙ ap (λ (es : List Versioned). ids_under es c.args.version) c.versions_of_key-versions.ensures

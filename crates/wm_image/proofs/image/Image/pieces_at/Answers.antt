@@ -4,7 +4,7 @@ use Rattle.wm_spec.specs.declared.record.stored.Stored.{Stored}
 use Rattle.wm_image.proofs.image.Image.pieces_at.Goals as goal
 
 pub ids_of_version-requires : goal.ids_of_version-requires
-ids_of_version-requires c = c.self.invariant.0.falls c.args.table c.args.key.now
+ids_of_version-requires c = (c.self.invariant.0.nested c.args.table c.args.key.now).rises
 
 pub returns : goal.returns
 returns c =

@@ -5,15 +5,15 @@ use Rattle.wm_image.specs.Shown.{first_held}
 use Rattle.wm_index.specs.Indexed.{ids_at, listed}
 use Rattle.wm_index.specs.Kinds.{kind_at}
 use Rattle.wm_index.specs.Sought.{PieceAt}
-use Rattle.wm_index.specs.Versioned.{AreSpanned, VersionsFall, ids_under}
+use Rattle.wm_index.specs.Versioned.{AreNested, AreSpanned, ids_under}
 use Rattle.wm_index.specs.declared.versioned.Versioned.{Versioned}
 use Rattle.wm_spec.specs.Lists.{Cell}
 use Rattle.wm_spec.specs.declared.record.stored.Stored.{Stored}
 use Rattle.wm_state.specs.Standing.{stored_at}
 use Rattle.wm_image.proofs.image.Image.versions_of.Goals as goal
 
-pub returns-clause-falls : goal.returns-clause-falls
-returns-clause-falls c = subst VersionsFall (sym c.versions_of_key.ensures) (c.self.invariant.0.falls c.args.table c.args.key.now)
+pub returns-clause-nested : goal.returns-clause-nested
+returns-clause-nested c = subst AreNested (sym c.versions_of_key.ensures) (c.self.invariant.0.nested c.args.table c.args.key.now)
 
 pub returns-clause-spanned : goal.returns-clause-spanned
 returns-clause-spanned c =
