@@ -77,7 +77,7 @@ found_marks : (ss : List Stored) → Ascend ss → (n table : ℕ) (key : List V
 found_marks ss sorted n table key =
     ap (filter_map (mark_in n)) (taken-with (is_sought (MarksAt table key)) ss sorted)
     ∙ drawn-filter (mark_in n) (at_key table key) (is_sought (MarksAt table key))
-      (λ r x some. once (is_sought (MarksAt table key) r) (at_key table key x) (x.version == x.version) (eq-eqb x.version x.version refl) (layer_placed (layers.Marks n) x.version table key r x some)) (all_of ss)
+    (λ r x some. once (is_sought (MarksAt table key) r) (at_key table key x) (x.version == x.version) (eq-eqb x.version x.version refl) (layer_placed (layers.Marks n) x.version table key r x some)) (all_of ss)
     ∙ ap (filter (at_key table key)) (marks_seen n ss)
 
 -- those of the table and the key of a new mark are all that cover one of its cells

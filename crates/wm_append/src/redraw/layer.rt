@@ -124,13 +124,7 @@ pub fn is_own(found: Option<&Record>, version: u64, layer: Layer) -> bool
 }
 
 /// The ids of the records that are drawn for a key of a table as pieces of a version, and maybe of others.
-pub fn ids_in<'a>(
-    image: &'a Image,
-    layer: Layer,
-    version: u64,
-    table: u16,
-    key: &Key,
-) -> &'a [u64]
+pub fn ids_in<'a>(image: &'a Image, layer: Layer, version: u64, table: u16, key: &Key) -> &'a [u64]
     ensures { result.now ≡ ids_with (is_sought (sought_in layer version table key.now)) image.now }
 {
     match layer {
