@@ -1,5 +1,6 @@
 //! Reading a record.
-ghost use Rattle.std.specs.Prelude.{◌≡◌, ◌↔◌, ◌==◌, if◌then◌else◌, length, IfOk, Ok, None, Some};
+ghost use Rattle.std.specs.Prelude.{◌≡◌, ◌↔◌, ◌==◌, if◌then◌else◌, ℕ, List, length, IfOk, Ok, Option, None, Some};
+ghost use Rattle.std.specs.Option.{option_and_then};
 ghost use Rattle.wm_codec.specs.Reading.{Gives, record_of, record_of_kind};
 ghost use Rattle.wm_codec.specs.Spelling.{HasSpelling, spelling};
 ghost use Rattle.wm_spec.specs.declared.record.Record.{Record};
@@ -14,11 +15,12 @@ use std::alloc::Global;
 use wm_base::Memory;
 use wm_spec::record::Record;
 
-/// What was read, where nothing is behind it.
-fn alone<T: Drop>(read: (T, &[u8])) -> Result<T, ReadFault>
-    ensures { Gives (λ x. x) result (if length read.entry.1.now == 0 then Some read.entry.0 else None) }
+/// What was read, where nothing is behind it, for the record that is made of it.
+fn only<T: Drop>(read: Result<(T, &[u8]), ReadFault>) -> Result<T, ReadFault>
+    ensures { (make : T → Record) (found : Option (T × List ℕ)) → Gives (λ x. (x.0, x.1.now)) read.entry found
+        → Gives make result (option_and_then (λ x. if length x.1 == 0 then Some (make x.0) else None) found) }
 {
-    let (value, rest) = read;
+    let (value, rest) = read?;
     if rest.is_empty() {
         Ok(value)
     } else {
@@ -31,22 +33,21 @@ fn alone<T: Drop>(read: (T, &[u8])) -> Result<T, ReadFault>
 fn record_of_fields(alloc: Global, tag: u8, bytes: &[u8]) -> Result<Record, ReadFault>
     ensures { Gives (λ x. x) result (record_of_kind tag bytes.now) }
 {
-    let record = match tag {
-        1 => Record::Counters(alone(counters_at(bytes)?)?),
-        2 => Record::Table(alone(table_of(alloc, bytes)?)?),
-        3 => Record::Space(alone(space_of(alloc, bytes)?)?),
-        4 => Record::Version(alone(version_at(bytes)?)?),
-        5 => Record::Savepoint(alone(savepoint_of(alloc, bytes)?)?),
-        6 => Record::Row(alone(row_of(alloc, bytes)?)?),
-        7 => Record::Piece(alone(piece_of(alloc, bytes)?)?),
-        8 => Record::Touch(alone(trace_of(alloc, bytes)?)?),
-        9 => Record::Lock(alone(lock_of(alloc, bytes)?)?),
-        10 => Record::Hist(alone(hist_of(alloc, bytes)?)?),
-        11 => Record::Mark(alone(trace_of(alloc, bytes)?)?),
-        12 => Record::Turn(alone(turn_at(bytes)?)?),
-        _ => return Err(ReadFault::NoRecord),
-    };
-    Ok(record)
+    match tag {
+        1 => only(counters_at(bytes)).map(Record::Counters),
+        2 => only(table_of(alloc, bytes)).map(Record::Table),
+        3 => only(space_of(alloc, bytes)).map(Record::Space),
+        4 => only(version_at(bytes)).map(Record::Version),
+        5 => only(savepoint_of(alloc, bytes)).map(Record::Savepoint),
+        6 => only(row_of(alloc, bytes)).map(Record::Row),
+        7 => only(piece_of(alloc, bytes)).map(Record::Piece),
+        8 => only(trace_of(alloc, bytes)).map(Record::Touch),
+        9 => only(lock_of(alloc, bytes)).map(Record::Lock),
+        10 => only(hist_of(alloc, bytes)).map(Record::Hist),
+        11 => only(trace_of(alloc, bytes)).map(Record::Mark),
+        12 => only(turn_at(bytes)).map(Record::Turn),
+        _ => Err(ReadFault::NoRecord),
+    }
 }
 
 /// The record, as it is read from left to right.
