@@ -1,5 +1,5 @@
 -- What is held along a path by the pieces of one key, laid version by version.
-use Rattle.std.proofs.Common.{◌≡◌, ◌≢◌, ◌<◌, ◌≤◌, ◌+◌, ◌++◌, ◌&&◌, ◌||◌, ℕ, zero, suc, max, length, get_or, Bool, true, false, cond, nat_eq, ◌==◌, nat_le, nat_lt, List, [], ◌∷◌, Option, Some, None, is_some, refl, sym, ap, ◌∙◌, subst, arith, ◌⊎◌, inl, inr}
+use Rattle.std.proofs.Common.{◌≡◌, ◌≢◌, ◌<◌, ◌≤◌, ◌+◌, ◌++◌, ◌&&◌, ◌||◌, ℕ, zero, suc, max, length, get_or, take, drop, Bool, true, false, cond, nat_eq, ◌==◌, nat_le, nat_lt, List, [], ◌∷◌, Option, Some, None, is_some, refl, sym, ap, ◌∙◌, subst, arith, ◌⊎◌, inl, inr}
 use Rattle.std.proofs.lemmas.Bool.{cases_lt, cases_eq, eq-eqb, leb-false, ne_eqb}
 use Rattle.std.proofs.lemmas.List.{nil_from_length}
 use Rattle.std.specs.Bool.{then_some}
@@ -85,6 +85,26 @@ or_assoc (Some h) b c = refl
 pub or_none : (o : Option Held) → o ≡ option_or o None
 or_none None = refl
 or_none (Some h) = refl
+
+-- what the front of some ids has, or the rest
+held-halves : (ss : List Stored) (n : ℕ) (ids : List ℕ) (v t : ℕ)
+    → option_or (first_held (kind_at as_piece ss (take n ids)) v t) (first_held (kind_at as_piece ss (drop n ids)) v t) ≡ first_held (kind_at as_piece ss ids) v t
+held-halves ss zero [] v t = refl
+held-halves ss (suc n) [] v t = refl
+held-halves ss zero (id ∷ ids) v t = refl
+held-halves ss (suc n) (id ∷ ids) v t =
+    ap (λ o. option_or o (first_held (kind_at as_piece ss (drop n ids)) v t)) (held-cons ss id (take n ids) v t)
+    ∙ or_assoc (held_here (option_and_then as_piece (record_at ss id)) v t) (first_held (kind_at as_piece ss (take n ids)) v t) (first_held (kind_at as_piece ss (drop n ids)) v t)
+    ∙ ap (option_or (held_here (option_and_then as_piece (record_at ss id)) v t)) (held-halves ss n ids v t)
+    ∙ sym (held-cons ss id ids v t)
+
+pub held-both : (ss : List Stored) (n : ℕ) (ids front back : List ℕ) (v t : ℕ) (upper lower both : Option Held) → front ≡ take n ids → back ≡ drop n ids
+    → upper ≡ first_held (kind_at as_piece ss front) v t → lower ≡ first_held (kind_at as_piece ss back) v t → both ≡ option_or upper lower → both ≡ first_held (kind_at as_piece ss ids) v t
+held-both ss n ids front back v t upper lower both first rest over under laid =
+    laid
+    ∙ ap (λ o. option_or o lower) (over ∙ ap (λ (l : List ℕ). first_held (kind_at as_piece ss l) v t) first)
+    ∙ ap (option_or (first_held (kind_at as_piece ss (take n ids)) v t)) (under ∙ ap (λ (l : List ℕ). first_held (kind_at as_piece ss l) v t) rest)
+    ∙ held-halves ss n ids v t
 
 -- what the last of the entries has whose version stands on a path
 abbrev pub newest_held : List Stored → List ℕ → List Versioned → ℕ → Option Held

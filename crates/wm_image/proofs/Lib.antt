@@ -9,6 +9,7 @@ pub mod Falling
 pub mod Descending
 pub mod Hopping
 pub mod Rising
+pub mod Onward
 pub mod Along
 pub mod Naming
 pub mod Cataloguing

@@ -9,9 +9,18 @@ use Rattle.wm_spec.specs.declared.record.stored.Stored.{Stored}
 
 -- ---- the last, and those before
 
-all_last : (P : Versioned → Type 0) (xs : List Versioned) (e : Versioned) → AllByRecursion P (xs ++ e ∷ []) → AllByRecursion P xs × P e
+pub all_last : (P : Versioned → Type 0) (xs : List Versioned) (e : Versioned) → AllByRecursion P (xs ++ e ∷ []) → AllByRecursion P xs × P e
 all_last P [] e all = (tt, all.0)
 all_last P (x ∷ xs) e all = let rest = all_last P xs e all.1 in ((all.0, rest.0), rest.1)
+
+-- the last is newer than all before, which rise
+pub last_newest : (b : ℕ) (xs : List Versioned) (e : Versioned) → VersionsFrom b (xs ++ e ∷ []) → (b ≤ e.version) × AllByRecursion (λ (d : Versioned). d.version < e.version) xs × VersionsFrom b xs
+last_newest b [] e up = (up.0, tt, tt)
+last_newest b (x ∷ xs) e up =
+    let rest = last_newest (x.version + 1) xs e up.1 in
+    let first = up.0 in
+    let more = rest.0 in
+    (omega (arith, first, more), (omega (arith, more), rest.1), (first, rest.2))
 
 -- the period of the last holds those of all before
 pub last_widest : (xs : List Versioned) (e : Versioned) → Widens (xs ++ e ∷ []) → AllByRecursion (Encloses e) xs × Widens xs
@@ -35,6 +44,18 @@ all_kept P p (e ∷ es) all = by_test (p e) (all_kept P p es all.1)
     by_test : (b : Bool) → AllByRecursion P (filter p es) → AllByRecursion P (cond b (e ∷ filter p es) (filter p es))
     by_test true rest = (all.0, rest)
     by_test false rest = rest
+
+from_lower : (b c : ℕ) (es : List Versioned) → b ≤ c → VersionsFrom c es → VersionsFrom b es
+from_lower b c [] low up = tt
+from_lower b c (e ∷ es) low up = let first = up.0 in (omega (arith, low, first), up.1)
+
+pub up_to_rises : (b top : ℕ) (es : List Versioned) → VersionsFrom b es → VersionsFrom b (up_to top es)
+up_to_rises b top [] up = tt
+up_to_rises b top (e ∷ es) up = by_test (nat_le e.version top) (up_to_rises (e.version + 1) top es up.1)
+  where
+    by_test : (t : Bool) → VersionsFrom (e.version + 1) (up_to top es) → VersionsFrom b (cond t (e ∷ up_to top es) (up_to top es))
+    by_test true rest = (up.0, rest)
+    by_test false rest = let first = up.0 in from_lower b (e.version + 1) (up_to top es) (omega (arith, first)) rest
 
 pub up_to_widens : (top : ℕ) (es : List Versioned) → Widens es → Widens (up_to top es)
 up_to_widens top [] wide = tt

@@ -122,7 +122,7 @@ seen_at-along pieces c (x ∷ older) v = by_test (x.number == v) (seen_at-along 
     by_test false up rest = rest
 
 -- only the version's own pieces of the cell's table and key are looked at
-stored_at-sought : (c : Cell) (v : ℕ) (rs : List Record) → stored_at (filter_map as_piece rs) v c ≡ first_held (filter_map as_piece (filter (is_sought (PieceAt c.table c.key v)) rs)) v c.time
+pub stored_at-sought : (c : Cell) (v : ℕ) (rs : List Record) → stored_at (filter_map as_piece rs) v c ≡ first_held (filter_map as_piece (filter (is_sought (PieceAt c.table c.key v)) rs)) v c.time
 stored_at-sought c v [] = refl
 stored_at-sought c v (records.Piece x ∷ rs) =
     one (x.version == v) (x.cells.table == c.table) (is_eq (key_order x.cells.key c.key)) (nat_le x.cells.from c.time && nat_lt c.time x.cells.till) (stored_at (filter_map as_piece rs) v c)

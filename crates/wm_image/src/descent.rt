@@ -1,6 +1,6 @@
 //! The way down from a version to the older ones on its path.
 
-ghost use Rattle.std.specs.Prelude.{◌≡◌, ◌<◌, true, nat_eq};
+ghost use Rattle.std.specs.Prelude.{◌≡◌, ◌<◌, ◌≤◌, ℕ, true, nat_eq};
 ghost use Rattle.std.specs.List.{list_any};
 ghost use Rattle.wm_graph.specs.Parts.{parts_of};
 ghost use Rattle.wm_graph.specs.Rules.{keep_rules};
@@ -9,13 +9,13 @@ ghost use Rattle.wm_tree.specs.Versions.{path_in};
 
 use crate::image::Image;
 
-/// A version further down the path of one that is newer than the sought, with that still before it where it stands on
-/// the path; 0 where the path ends.
+/// A version further down the path of one that is newer than the sought, with all still before it that stand on the path
+/// and are not newer than the sought; 0 where the path ends.
 fn step_down(image: &Image, number: u64, sought: u64) -> u64
     requires rules { keep_rules (parts_of image.now) ≡ true }
     requires newer { sought < number }
     ensures older { result < number }
-    ensures path { list_any (nat_eq sought) (path_in (newest_first (parts_of image.now).versions) result) ≡ list_any (nat_eq sought) (path_in (newest_first (parts_of image.now).versions) number) }
+    ensures path { (v : ℕ) → v ≤ sought → list_any (nat_eq v) (path_in (newest_first (parts_of image.now).versions) result) ≡ list_any (nat_eq v) (path_in (newest_first (parts_of image.now).versions) number) }
 {
     if let Some(hop) = image.hop(number) {
         if sought <= hop.far {
@@ -29,14 +29,25 @@ fn step_down(image: &Image, number: u64, sought: u64) -> u64
     }
 }
 
-/// Whether a version stands on the path of another: is it itself, its parent, its parent's parent, and so on.
-pub fn stands_under(image: &Image, top: u64, version: u64) -> bool
+/// The way down the path of a version to where it is not newer than another: that other itself where it stands on the path.
+/// What is older still stands on the path from there on, so the way to it can go on from there.
+pub fn descend(image: &Image, from: u64, version: u64) -> u64
     requires { keep_rules (parts_of image.now) ≡ true }
-    ensures { result ≡ list_any (nat_eq version) (path_in (newest_first (parts_of image.now).versions) top) }
+    ensures down { result ≤ version }
+    ensures path { (v : ℕ) → v ≤ version → list_any (nat_eq v) (path_in (newest_first (parts_of image.now).versions) result) ≡ list_any (nat_eq v) (path_in (newest_first (parts_of image.now).versions) from) }
 {
-    let mut number = top;
+    let mut number = from;
     while version < number {
         number = step_down(image, number, version);
     }
-    version == number && image.version(number).is_some()
+    number
+}
+
+/// Whether a version stands on the path of one that is not newer: it is that one, and is there.
+pub fn is_reached(image: &Image, at: u64, version: u64) -> bool
+    requires rules { keep_rules (parts_of image.now) ≡ true }
+    requires down { at ≤ version }
+    ensures { result ≡ list_any (nat_eq version) (path_in (newest_first (parts_of image.now).versions) at) }
+{
+    version == at && image.version(at).is_some()
 }

@@ -33,7 +33,7 @@ ghost use Rattle.wm_state.specs.State.{next_table};
 use crate::children::{Behind, any_behind, least_child};
 use crate::hops::{Hop, Hops};
 use crate::laying::lay_key;
-use crate::load::{ImageFault, put_all, sorted};
+use crate::load::{ImageFault, put_with_catalog, sorted};
 use crate::records::apply_all;
 use crate::shown::latest_of;
 use crate::tables::{after_last, catalog_of};
@@ -121,14 +121,20 @@ impl Image {
         let mut kept = BTreeMap::new(alloc);
         let mut index = Index::new(alloc);
         let mut hops = Hops::new(alloc);
-        put_all(alloc, &mut kept, &mut index, &mut hops, records)?;
-        let catalog = catalog_of(alloc, &kept, &index)?;
-        Ok(Image {
-            kept,
-            index,
-            hops,
-            catalog,
-        })
+        match put_with_catalog(alloc, &mut kept, &mut index, &mut hops, records) {
+            Ok(catalog) => Ok(Image {
+                kept,
+                index,
+                hops,
+                catalog,
+            }),
+            Err(fault) => {
+                drop(kept);
+                drop(index);
+                drop(hops);
+                Err(fault)
+            }
+        }
     }
 
     /// The counters of the store.

@@ -13,7 +13,7 @@ ghost use Rattle.wm_period.specs.Pieces.{held_at};
 ghost use Rattle.wm_state.specs.Standing.{newest_first};
 ghost use Rattle.wm_tree.specs.Versions.{path_in};
 
-use crate::descent::stands_under;
+use crate::descent::{descend, is_reached};
 use crate::image::Image;
 use std::alloc::Global;
 use wm_base::{Instant, Memory, Period, Stamp};
@@ -33,7 +33,7 @@ fn instant_of(seconds: u64) -> Instant
 }
 
 /// The period of cells, or None where they have no moment.
-fn period_of(cells: &CellRange) -> Option<Period>
+pub fn period_of(cells: &CellRange) -> Option<Period>
     ensures { (t : ℕ) → t < END → option_map_or (λ p. covers p t) result false ≡ (nat_le cells.now.from t && nat_lt t cells.now.till) }
 {
     Period::new(instant_of(cells.from), instant_of(cells.till))
@@ -58,25 +58,40 @@ fn own_piece(found: Option<&Record>, version: u64) -> Option<Piece>
     })
 }
 
-/// Lays a record under pieces, where it is a piece of a version.
-fn lay_record(
-    alloc: Global,
-    upper: Pieces,
-    found: Option<&Record>,
-    version: u64,
-) -> Result<Pieces, Memory>
-    ensures { IfOk result (λ both. (t : ℕ) → t < END → held_at both t ≡ option_or (held_at upper t) (held_here (option_and_then as_piece (option_copied found.entry)) version t)) }
+/// What a record is of a version, as pieces: one where it is a piece of it and has a moment, else none.
+fn pieces_of(alloc: Global, found: Option<&Record>, version: u64) -> Result<Pieces, Memory>
+    ensures { IfOk result (λ own. (t : ℕ) → t < END → held_at own t ≡ held_here (option_and_then as_piece (option_copied found.entry)) version t) }
 {
-    let Some(piece) = own_piece(found, version) else {
-        return Ok(upper);
-    };
-    let mut lower = Pieces::new(alloc);
-    lower.put(alloc, piece)?;
-    Pieces::over(alloc, &lower, &upper)
+    let mut own = Pieces::new(alloc);
+    if let Some(piece) = own_piece(found, version) {
+        own.put(alloc, piece)?;
+    }
+    Ok(own)
+}
+
+/// What a version has by some pieces of one table and key. The two halves of them are laid over one another, each made so
+/// itself, so that of n pieces each is copied as often as n can be halved.
+fn lay_halves(alloc: Global, image: &Image, ids: &[u64], version: u64) -> Result<Pieces, Memory>
+    ensures { IfOk result (λ own. (t : ℕ) → t < END → held_at own t ≡ first_held (kind_at as_piece image.now ids.now) version t) }
+{
+    match ids {
+        [] => Ok(Pieces::new(alloc)),
+        [id] => {
+            let own = pieces_of(alloc, image.record(*id), version)?;
+            Ok(own)
+        }
+        _ => {
+            let (front, back) = ids.split_at(ids.len() / 2);
+            let upper = lay_halves(alloc, image, front, version)?;
+            let lower = lay_halves(alloc, image, back, version)?;
+            let both = Pieces::over(alloc, &lower, &upper)?;
+            Ok(both)
+        }
+    }
 }
 
 /// Lays the pieces of a version under others, of some pieces of one table and key.
-fn lay_version(
+pub fn lay_version(
     alloc: Global,
     image: &Image,
     ids: &[u64],
@@ -85,11 +100,9 @@ fn lay_version(
 ) -> Result<Pieces, Memory>
     ensures { IfOk result (λ both. (t : ℕ) → t < END → held_at both t ≡ option_or (held_at upper t) (first_held (kind_at as_piece image.now ids.now) version t)) }
 {
-    let mut laid = upper;
-    for id in ids {
-        laid = lay_record(alloc, laid, image.record(*id), version)?;
-    }
-    Ok(laid)
+    let lower = lay_halves(alloc, image, ids, version)?;
+    let both = Pieces::over(alloc, &lower, &upper)?;
+    Ok(both)
 }
 
 /// The moment before which pieces cover all from another on. They are gone through until one begins behind it.
@@ -113,18 +126,19 @@ fn covers_all(pieces: &Pieces, from: u64, till: u64) -> bool
     till <= covered_till(pieces.list(), from)
 }
 
-/// Lays the pieces that a version has of a key under others, where the version stands on the path of `top`.
+/// Lays the pieces that a version has of a key under others, where the version stands on the path of one that is not newer.
 fn lay_entry(
     alloc: Global,
     image: &Image,
     entry: &Versioned,
-    top: u64,
+    at: u64,
     upper: Pieces,
 ) -> Result<Pieces, Memory>
-    requires { keep_rules (parts_of image.now) ≡ true }
-    ensures { IfOk result (λ both. (t : ℕ) → t < END → held_at both t ≡ option_or (held_at upper t) (entry_held image.now (path_in (newest_first (parts_of image.now).versions) top) entry.now t)) }
+    requires rules { keep_rules (parts_of image.now) ≡ true }
+    requires down { at ≤ entry.now.version }
+    ensures { IfOk result (λ both. (t : ℕ) → t < END → held_at both t ≡ option_or (held_at upper t) (entry_held image.now (path_in (newest_first (parts_of image.now).versions) at) entry.now t)) }
 {
-    if !stands_under(image, top, entry.version) {
+    if !is_reached(image, at, entry.version) {
         return Ok(upper);
     }
     let both = lay_version(alloc, image, entry.ids.as_slice(), entry.version, upper)?;
@@ -141,7 +155,8 @@ fn up_to(versions: &[Versioned], top: u64) -> &[Versioned]
 }
 
 /// Lays the pieces of the versions on the path of `top` over one another, those of the newest uppermost, until they cover
-/// the period of the next version: it holds the periods of all older ones, so then nothing that is left shows.
+/// the period of the next version: it holds the periods of all older ones, so then nothing that is left shows. The path is
+/// gone down once, from each version to the next.
 pub fn lay_key(
     alloc: Global,
     image: &Image,
@@ -155,11 +170,13 @@ pub fn lay_key(
 {
     let mut laid = Pieces::new(alloc);
     let mut left = up_to(versions, top);
+    let mut at = top;
     while let Some((entry, rest)) = left.split_last() {
         if covers_all(&laid, entry.from, entry.till) {
             return Ok(laid);
         }
-        laid = lay_entry(alloc, image, entry, top, laid)?;
+        at = descend(image, at, entry.version);
+        laid = lay_entry(alloc, image, entry, at, laid)?;
         left = rest;
     }
     Ok(laid)

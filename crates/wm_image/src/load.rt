@@ -4,6 +4,7 @@ ghost use Rattle.std.specs.BTreeMap.{IsOrdered};
 ghost use Rattle.std.specs.Ordering.{nat_cmp};
 ghost use Rattle.wm_index.specs.Indexed.{IsIndexed, listed};
 ghost use Rattle.wm_graph.specs.Parts.{parts_of};
+ghost use Rattle.wm_image.specs.Cataloged.{IsCatalog};
 ghost use Rattle.wm_image.specs.Hops.{AreHops};
 ghost use Rattle.wm_image.specs.declared.load.ImageFault.TheVariants.{Memory as OutOfMemory};
 ghost use Rattle.wm_spec.specs.Records.{AreRecords, ids_differ, record_at};
@@ -12,9 +13,11 @@ ghost use Rattle.wm_state.specs.ById.{Ascend, by_id, set_at};
 
 use crate::hops::Hops;
 use crate::records::{change_one, set};
+use crate::tables::catalog_of;
 use std::alloc::Global;
 use std::collections::BTreeMap;
 use wm_base::Memory;
+use wm_catalog::Catalog;
 use wm_index::index::Index;
 use wm_index::records::{Kept, at};
 use wm_spec::record::{Records, Stored};
@@ -44,6 +47,7 @@ fn put_new(kept: &mut Kept, one: Stored) -> Result<(), ImageFault>
     ensures twice { IfErr result (λ fault. fault ≡ ImageFault.Graph → is_some (record_at (listed kept.old.entries) one.id) ≡ true) }
 {
     if at(kept, one.id).is_some() {
+        drop(one);
         return Err(ImageFault::Graph);
     }
     set(kept, one.id, Some(one.record))?;
@@ -93,7 +97,7 @@ fn list_of(alloc: Global, kept: Kept) -> Result<Records, Memory>
 
 /// Puts records that stand by id under their ids, with an index of them and the hops of their versions: from the first
 /// on, so that each comes last among those in the index.
-pub fn put_all(
+fn put_all(
     alloc: Global,
     kept: &mut Kept,
     index: &mut Index,
@@ -112,4 +116,27 @@ pub fn put_all(
         change_one(alloc, kept, index, hops, one.id, Some(one.record))?;
     }
     Ok(())
+}
+
+/// Puts records that stand by id under their ids, with an index of them and the hops of their versions, and makes the
+/// catalog of their tables.
+pub fn put_with_catalog(
+    alloc: Global,
+    kept: &mut Kept,
+    index: &mut Index,
+    hops: &mut Hops,
+    records: Records,
+) -> Result<Catalog, Memory>
+    requires indexed { IsIndexed kept.old index.old }
+    requires hops { AreHops (parts_of (listed kept.old.entries)).versions hops.old }
+    requires empty { listed kept.old.entries ≡ [] }
+    requires ascend { Ascend records }
+    ensures listed { OnOk result (listed kept.new.entries ≡ records) }
+    ensures indexed { OnOk result (IsIndexed kept.new index.new) }
+    ensures hops { OnOk result (AreHops (parts_of (listed kept.new.entries)).versions hops.new) }
+    ensures tables { IfOk result (λ catalog. IsCatalog (listed kept.new.entries) catalog) }
+{
+    put_all(alloc, kept, index, hops, records)?;
+    let catalog = catalog_of(alloc, kept, index)?;
+    Ok(catalog)
 }

@@ -1,13 +1,14 @@
 //! Records under their ids, with the index of them, changed one by one and by batches.
 
-ghost use Rattle.std.specs.Prelude.{◌≡◌, false, IfOk, OnOk};
-ghost use Rattle.std.specs.BTreeMap.{IsOrdered};
+ghost use Rattle.std.specs.Prelude.{◌≡◌, ℕ, false, IfOk, OnOk};
+ghost use Rattle.std.specs.BTreeMap.{BTreeMap, IsOrdered};
 ghost use Rattle.std.specs.Ordering.{nat_cmp};
 ghost use Rattle.wm_graph.specs.Parts.{parts_of};
 ghost use Rattle.wm_state.specs.ById.{applied, set_at};
 ghost use Rattle.wm_index.specs.Indexed.{listed, IsIndexed};
 ghost use Rattle.wm_image.specs.Cataloged.{IsCatalog};
 ghost use Rattle.wm_image.specs.Hops.{AreHops};
+ghost use Rattle.wm_spec.specs.declared.record.Record.{Record as OneRecord};
 
 use crate::hops::Hops;
 use crate::tables::catalog_of;
@@ -27,13 +28,32 @@ pub fn set(kept: &mut Kept, id: u64, becomes: Option<Record>) -> Result<(), Memo
 {
     match becomes {
         Some(new) => {
-            kept.insert(id, new)?;
+            let before = kept.insert(id, new)?;
+            drop(before);
         }
         None => {
-            kept.remove(&id);
+            drop(kept.remove(&id));
         }
     }
     Ok(())
+}
+
+/// Makes the index that of the records that stand when one comes under an id, or none: the old one goes from it, the new
+/// one comes. Tells whether a table was or is there.
+fn reindex(
+    alloc: Global,
+    kept: &Kept,
+    index: &mut Index,
+    id: u64,
+    becomes: &Option<Record>,
+) -> Result<bool, Memory>
+    requires { IsIndexed kept.now index.old }
+    ensures indexed { OnOk result ((next : BTreeMap ℕ OneRecord) → IsOrdered nat_cmp next → listed next.entries ≡ set_at id becomes.now (listed kept.now.entries) → IsIndexed next index.new) }
+    ensures tables { IfOk result (λ touched. touched ≡ false → (parts_of (set_at id becomes.now (listed kept.now.entries))).tables ≡ (parts_of (listed kept.now.entries)).tables) }
+{
+    let stood = drop_old(alloc, kept, index, id)?;
+    let stands = add_new(alloc, index, id, becomes)?;
+    Ok(is_either(stood, stands))
 }
 
 /// Changes what stands under an id, and the index with it, and tells whether a table was or is there.
@@ -49,10 +69,16 @@ fn change(
     ensures indexed { OnOk result (IsIndexed kept.new index.new) }
     ensures tables { IfOk result (λ touched. touched ≡ false → (parts_of (listed kept.new.entries)).tables ≡ (parts_of (listed kept.old.entries)).tables) }
 {
-    let stood = drop_old(alloc, kept, index, id)?;
-    let stands = add_new(alloc, index, id, &becomes)?;
-    set(kept, id, becomes)?;
-    Ok(is_either(stood, stands))
+    match reindex(alloc, kept, index, id, &becomes) {
+        Ok(touched) => {
+            set(kept, id, becomes)?;
+            Ok(touched)
+        }
+        Err(fault) => {
+            drop(becomes);
+            Err(fault)
+        }
+    }
 }
 
 /// Changes what stands under an id, and the index and the hops with it, and tells whether a table was or is there.

@@ -12,6 +12,7 @@ use Rattle.wm_graph.specs.Parts.{Parts, parts_of, as_piece, row_of, table_of, ve
 use Rattle.wm_graph.specs.Rules.{are_cells, collide, differ, is_key_of, is_piece, is_row_at, keep_rules}
 use Rattle.wm_index.proofs.Finding.{Tests, all_of, filter-kind}
 use Rattle.wm_image.proofs.Lists.{taken-with}
+use Rattle.wm_image.proofs.Walking.{stored_at-sought}
 use Rattle.wm_image.specs.Shown.{first_held, has_at}
 use Rattle.wm_index.specs.Kinds.{kind_at}
 use Rattle.wm_index.specs.Sought.{PieceAt, PiecesIn, ids_with, is_sought}
@@ -31,31 +32,6 @@ use Rattle.wm_state.specs.Standing.{held_by, stored_at}
 use Rattle.wm_pending.specs.Keys.{has_piece_of, is_piece_of}
 
 -- ---- the pieces of a key
-
--- only the version's pieces of the cell's table and key are looked at
-stored_at-sought : (c : Cell) (v : ℕ) (rs : List Record) → stored_at (filter_map as_piece rs) v c ≡ first_held (filter_map as_piece (filter (is_sought (PieceAt c.table c.key v)) rs)) v c.time
-stored_at-sought c v [] = refl
-stored_at-sought c v (records.Piece x ∷ rs) =
-    one (x.version == v) (x.cells.table == c.table) (is_eq (key_order x.cells.key c.key)) (nat_le x.cells.from c.time && nat_lt c.time x.cells.till) (stored_at (filter_map as_piece rs) v c)
-    (first_held (filter_map as_piece (filter (is_sought (PieceAt c.table c.key v)) rs)) v c.time) (stored_at-sought c v rs)
-    ∙ pushed ((x.cells.table == c.table) && (is_eq (key_order x.cells.key c.key) && (x.version == v)))
-  where
-    one : (a b k t : Bool) (all some : Option Held) → all ≡ some
-        → option_or (then_some (a && ((b && k) && t)) (held_by x)) all ≡ cond (b && (k && a)) (option_or (then_some (a && t) (held_by x)) some) some
-    one true true true true all some same = refl
-    one true true true false all some same = same
-    one true true false t all some same = same
-    one true false k t all some same = same
-    one false true true t all some same = same
-    one false true false t all some same = same
-    one false false k t all some same = same
-
-    pushed : (b : Bool) → cond b (option_or (then_some (has_at x v c.time) (held_by x)) (first_held (filter_map as_piece (filter (is_sought (PieceAt c.table c.key v)) rs)) v c.time))
-        (first_held (filter_map as_piece (filter (is_sought (PieceAt c.table c.key v)) rs)) v c.time)
-        ≡ first_held (filter_map as_piece (cond b (records.Piece x ∷ filter (is_sought (PieceAt c.table c.key v)) rs) (filter (is_sought (PieceAt c.table c.key v)) rs))) v c.time
-    pushed true = refl
-    pushed false = refl
-stored_at-sought c v (_ ∷ rs) = stored_at-sought c v rs
 
 -- what a version has at a cell, told by the pieces of its table and key
 pub stored_by_key : (ss : List Stored) (ids : List ℕ) (v : ℕ) (c : Cell) → Ascend ss → ids ≡ ids_with (is_sought (PieceAt c.table c.key v)) ss

@@ -13,11 +13,11 @@ ghost use Rattle.wm_period.specs.Pieces.{held_at};
 
 use crate::erasing::erase_all;
 use crate::own::OwnKey;
-use crate::path::period_of;
 use crate::touched::{Since, erase_touched, is_since, over_period};
 use std::alloc::Global;
 use wm_base::Memory;
 use wm_image::Image;
+use wm_image::laying::period_of;
 use wm_period::Pieces;
 use wm_spec::record::{Record, Trace};
 

@@ -13,11 +13,11 @@ ghost use Rattle.wm_pending.specs.Touched.{covers_since, has_touch_of, has_touch
 ghost use Rattle.wm_period.specs.Pieces.{held_at};
 
 use crate::keys::TableKeys;
-use crate::path::period_of;
 use std::alloc::Global;
 use std::collections::BTreeSet;
 use wm_base::{Key, Kind, Memory, Period, Stamp};
 use wm_image::Image;
+use wm_image::laying::period_of;
 use wm_period::{Piece, Pieces};
 use wm_spec::record::{Record, Space, Trace};
 

@@ -9,14 +9,14 @@ use Rattle.wm_state.specs.Standing.{newest_first}
 use Rattle.wm_tree.specs.Versions.{path_in}
 use Rattle.wm_image.proofs.laying.lay_entry.Goals as goal
 
-pub returns-then-not-stands_under : goal.returns-then-not-stands_under
-returns-then-not-stands_under c = λ t less.
-    not_on c.args.image.now (path_in (newest_first (parts_of c.args.image.now).versions) c.args.top) c.args.entry.now t (held_at c.args.upper t)
-    (sym c.stands_under.ensures ∙ c.if-not-stands_under.true)
+pub returns-then-not-is_reached : goal.returns-then-not-is_reached
+returns-then-not-is_reached c = λ t less.
+    not_on c.args.image.now (path_in (newest_first (parts_of c.args.image.now).versions) c.args.at) c.args.entry.now t (held_at c.args.upper t)
+    (sym c.is_reached.ensures ∙ c.if-not-is_reached.true)
 
 pub returns : goal.returns
 returns c = λ t less.
     c.in_ok-both.ensures t less
     ∙ ap (λ (ids : List ℕ). option_or (held_at c.args.upper t) (first_held (kind_at as_piece c.args.image.now ids) c.args.entry.now.version t)) c.as_slice.ensures.value
     ∙ ap (option_or (held_at c.args.upper t))
-    (is_on c.args.image.now (path_in (newest_first (parts_of c.args.image.now).versions) c.args.top) c.args.entry.now t (sym c.stands_under.ensures ∙ c.if-not-stands_under.false))
+    (is_on c.args.image.now (path_in (newest_first (parts_of c.args.image.now).versions) c.args.at) c.args.entry.now t (sym c.is_reached.ensures ∙ c.if-not-is_reached.false))

@@ -2,10 +2,10 @@ use Rattle.std.proofs.Common.{Some, None}
 use Rattle.wm_image.proofs.Listed.{listed-set}
 use Rattle.wm_image.proofs.records.set.Goals as goal
 
-pub returns-in_ok-insert-in-Some-clause-listed : goal.returns-in_ok-insert-in-Some-clause-listed
-returns-in_ok-insert-in-Some-clause-listed c =
+pub returns-in_ok-before-in-Some-clause-listed : goal.returns-in_ok-before-in-Some-clause-listed
+returns-in_ok-before-in-Some-clause-listed c =
     rw c.in-Some.is
-    (listed-set c.args.kept.now.entries c.insert.new.self.entries c.args.id (Some c.in-Some.new) c.requires c.in_ok-insert-in-Some.ensures.ordered c.in_ok-insert-in-Some.ensures.updates.0)
+    (listed-set c.args.kept.now.entries c.insert.new.self.entries c.args.id (Some c.in-Some.new) c.requires c.in_ok-before-in-Some.ensures.ordered c.in_ok-before-in-Some.ensures.updates.0)
 
 pub returns-in-None-clause-listed : goal.returns-in-None-clause-listed
 returns-in-None-clause-listed c =

@@ -5,10 +5,10 @@ use Rattle.wm_image.proofs.Hopping.{no_hops}
 use Rattle.wm_image.proofs.Pieced.{none_indexed}
 use Rattle.wm_image.proofs.image.Image.of.Goals as goal
 
-pub put_all-requires-clause-indexed : goal.put_all-requires-clause-indexed
-put_all-requires-clause-indexed c =
+pub put_with_catalog-requires-clause-indexed : goal.put_with_catalog-requires-clause-indexed
+put_with_catalog-requires-clause-indexed c =
     let ordered : IsOrdered nat_cmp c.new-kept.result = search rules in
     none_indexed c.new-kept.result c.new-index.result ordered c.new-kept.ensures.empty c.new-index.ensures.ids c.new-index.ensures.pieces
 
-pub put_all-requires-clause-hops : goal.put_all-requires-clause-hops
-put_all-requires-clause-hops c = no_hops c.new-kept.result.entries c.new-hops.result c.new-kept.ensures.empty c.new-hops.ensures
+pub put_with_catalog-requires-clause-hops : goal.put_with_catalog-requires-clause-hops
+put_with_catalog-requires-clause-hops c = no_hops c.new-kept.result.entries c.new-hops.result c.new-kept.ensures.empty c.new-hops.ensures

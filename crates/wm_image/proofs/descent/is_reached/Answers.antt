@@ -1,0 +1,16 @@
+use Rattle.std.proofs.Common.{Option, is_some, ap, ◌∙◌}
+use Rattle.wm_graph.specs.Parts.{parts_of}
+use Rattle.wm_image.proofs.Descending.{reached, missed}
+use Rattle.wm_image.proofs.Walking.{ruled}
+use Rattle.wm_spec.specs.declared.record.version.Version.{Version}
+use Rattle.wm_image.proofs.descent.is_reached.Goals as goal
+
+pub returns-then-version-at : goal.returns-then-version-at
+returns-then-version-at c =
+    c.is_some.ensures
+    ∙ ap (λ (o : Option Version). is_some o) c.version.ensures
+    ∙ reached (parts_of c.args.image.now).versions c.args.at c.args.version (ruled (parts_of c.args.image.now) c.requires.rules) c.if-version-at.true
+
+pub returns-else-version-at : goal.returns-else-version-at
+returns-else-version-at c =
+    missed (parts_of c.args.image.now).versions c.args.at c.args.version (ruled (parts_of c.args.image.now) c.requires.rules) c.requires.down c.if-version-at.false
