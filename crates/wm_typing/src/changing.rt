@@ -213,8 +213,9 @@ pub fn update_fault(
     ensures typed { IfOk result (λ refusal. refusal ≡ None → is_filter_typed (columns_of_table table.now.name table.now) (filter_view filter.now) ≡ true) }
 {
     let columns = columns_of_table(alloc, &table.name, table)?;
-    let refusal = update_fault_in(alloc, columns.as_slice(), table, sets, filter)?;
-    Ok(refusal)
+    let refusal = update_fault_in(alloc, columns.as_slice(), table, sets, filter);
+    drop(columns);
+    refusal
 }
 
 fn delete_fault_in(
@@ -245,6 +246,7 @@ pub fn delete_fault(
     ensures typed { IfOk result (λ refusal. refusal ≡ None → is_filter_typed (columns_of_table table.now.name table.now) (filter_view filter.now) ≡ true) }
 {
     let columns = columns_of_table(alloc, &table.name, table)?;
-    let refusal = delete_fault_in(alloc, columns.as_slice(), table, filter)?;
-    Ok(refusal)
+    let refusal = delete_fault_in(alloc, columns.as_slice(), table, filter);
+    drop(columns);
+    refusal
 }
