@@ -29,6 +29,8 @@ fn kept<F: Fn(&Row) -> Truth + Judge>(
     for row in rows {
         if test.keep(&row) {
             kept.push(row)?;
+        } else {
+            drop(row);
         }
     }
     Ok(kept)

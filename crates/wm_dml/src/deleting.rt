@@ -1,5 +1,5 @@
 //! What DELETE writes.
-ghost use Rattle.std.specs.Prelude.{◌≡◌, true, map, IfOk};
+ghost use Rattle.std.specs.Prelude.{◌≡◌, ◌∷◌, ◌++◌, [], true, map, IfOk, OnOk};
 ghost use Rattle.std.specs.List.{list_all};
 ghost use Rattle.wm_base.specs.Period.{overlaps};
 ghost use Rattle.wm_dml.specs.Changing.{all_overlap, row_period as period_of_row, gone as gone_of};
@@ -12,19 +12,26 @@ use std::alloc::Global;
 use wm_base::{Kind, Memory, Period, Row};
 use wm_spec::record::Table;
 
-/// The row is gone over what its period shares with that of the session.
-fn gone(alloc: Global, table: &Table, within: &Period, row: &Row) -> Result<RowChange, Memory>
+/// The row is gone over what its period shares with that of the session, behind other changes.
+fn push_gone(
+    alloc: Global,
+    changes: &mut Vec<RowChange>,
+    table: &Table,
+    within: &Period,
+    row: &Row,
+) -> Result<(), Memory>
     requires { overlaps (period_of_row table.now row.now) within.now ≡ true }
-    ensures { IfOk result (λ change. change ≡ gone_of table.now within.now row.now) }
+    ensures { OnOk result (changes.new.items ≡ changes.old.items ++ gone_of table.now within.now row.now ∷ []) }
 {
     let values = declared_values(table, row.values.as_slice());
     let period = row_period(table, row);
-    Ok(RowChange {
+    changes.push(RowChange {
         key: row_key(alloc, table, values)?,
         period: shared(&period, within),
         row: None,
         kind: Kind::Delete,
-    })
+    })?;
+    Ok(())
 }
 
 /// The rows are gone, in order.
@@ -39,7 +46,7 @@ fn all_gone(
 {
     let mut changes = Vec::new(alloc);
     for row in rows {
-        changes.push(gone(alloc, table, within, row)?)?;
+        push_gone(alloc, &mut changes, table, within, row)?;
     }
     Ok(changes)
 }

@@ -87,45 +87,48 @@ fn new_period(
     }
 }
 
-/// The row in the place of the old one, with where that one stood and where it will stand.
-fn move_of(
+/// The row in the place of the old one, with where that one stood and where it will stand, behind others.
+fn push_move(
     alloc: Global,
+    moves: &mut Vec<Move>,
     table: &Table,
     columns: &Columns,
     sets: &[Set],
     old: &Row,
     row: Values,
-) -> Result<Move, Memory>
+) -> Result<(), Memory>
     requires lasting { list_all (λ (s : SetTree). has_no_empty_period s.becomes) (sets_view sets.now) ≡ true }
     requires own { columns.now ≡ own_columns table.now }
-    ensures { IfOk result (λ one. one ≡ move_of_row table.now (sets_view sets.now) old.now row) }
+    ensures { OnOk result (moves.new.items ≡ moves.old.items ++ move_of_row table.now (sets_view sets.now) old.now row ∷ []) }
 {
     let shift = Shift {
         old: row_period(table, old),
         new: new_period(alloc, table, columns, sets, old)?,
     };
-    Ok(Move {
+    moves.push(Move {
         key: row_key(alloc, table, row.as_slice())?,
         shift,
         row,
-    })
+    })?;
+    Ok(())
 }
 
 /// Each row in the place of the old one that stands where it stands, in order.
 fn all_moves(
     alloc: Global,
     table: &Table,
+    columns: &Columns,
     sets: &[Set],
     olds: &[Row],
     rows: Vec<Values>,
 ) -> Result<Vec<Move>, Memory>
-    requires { list_all (λ (s : SetTree). has_no_empty_period s.becomes) (sets_view sets.now) ≡ true }
+    requires own { columns.now ≡ own_columns table.now }
+    requires lasting { list_all (λ (s : SetTree). has_no_empty_period s.becomes) (sets_view sets.now) ≡ true }
     ensures { IfOk result (λ moves. moves.items ≡ moves_of_rows table.now (sets_view sets.now) olds.now rows.items) }
 {
-    let columns = columns_of_table(alloc, &table.name, table)?;
     let mut moves = Vec::new(alloc);
     for (old, row) in olds.iter().zip(rows) {
-        moves.push(move_of(alloc, table, &columns, sets, old, row)?)?;
+        push_move(alloc, &mut moves, table, columns, sets, old, row)?;
     }
     Ok(moves)
 }
@@ -142,7 +145,10 @@ pub fn moves_of(
     ensures exact { IfOk result (λ moves. moves.items ≡ moves_of_rows table.now (sets_view sets.now) olds.now rows.items) }
     ensures fit { IfOk result (λ moves. list_all (stands_in table.now) rows.items ≡ true → list_all (λ (m : MoveOf). is_change table.now (moved_row m)) moves.items ≡ true) }
 {
-    let moves = all_moves(alloc, table, sets, olds, rows)?;
+    let columns = columns_of_table(alloc, &table.name, table)?;
+    let moves = all_moves(alloc, table, &columns, sets, olds, rows);
+    drop(columns);
+    let moves = moves?;
     Ok(moves)
 }
 
@@ -256,19 +262,28 @@ fn parts_left(alloc: Global, shifts: &[Shift], one: &Move) -> Result<Vec<Period>
     Ok(parts)
 }
 
-/// No row of the key stands over a part of its old period.
-fn gone_from(alloc: Global, one: &Move, part: Period) -> Result<RowChange, Memory>
-    ensures exact { IfOk result (λ change. change ≡ left_part one.now part) }
-    ensures lasting { IfOk result (λ change. change_lasts change ≡ true) }
+/// Writes that no row of the key stands over parts of its old period.
+fn push_parts(
+    alloc: Global,
+    changes: &mut Vec<RowChange>,
+    one: &Move,
+    parts: &[Period],
+) -> Result<(), Memory>
+    requires { list_all change_lasts changes.old.items ≡ true }
+    ensures exact { OnOk result (changes.new.items ≡ changes.old.items ++ map (left_part one.now) parts.now) }
+    ensures lasting { OnOk result (list_all change_lasts changes.new.items ≡ true) }
 {
-    // Its end is at most END: the type says so.
-    let _till = part.till();
-    Ok(RowChange {
-        key: one.key.copy(alloc)?,
-        period: part,
-        row: None,
-        kind: Kind::Delete,
-    })
+    for part in parts {
+        // Its end is at most END: the type says so.
+        let _till = part.till();
+        changes.push(RowChange {
+            key: one.key.copy(alloc)?,
+            period: *part,
+            row: None,
+            kind: Kind::Delete,
+        })?;
+    }
+    Ok(())
 }
 
 /// Writes that no row stands over what the new periods of the key leave of an old one.
@@ -283,10 +298,9 @@ fn push_left(
     ensures lasting { OnOk result (list_all change_lasts changes.new.items ≡ true) }
 {
     let parts = parts_left(alloc, shifts, one)?;
-    for part in parts.as_slice() {
-        changes.push(gone_from(alloc, one, *part)?)?;
-    }
-    Ok(())
+    let pushed = push_parts(alloc, changes, one, parts.as_slice());
+    drop(parts);
+    pushed
 }
 
 /// Writes for each row that moves that no row stands over what the new periods of its key leave of its old one.

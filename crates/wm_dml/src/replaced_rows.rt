@@ -1,5 +1,5 @@
 //! What UPDATE writes.
-ghost use Rattle.std.specs.Prelude.{◌≡◌, true, length, map, IfOk};
+ghost use Rattle.std.specs.Prelude.{◌≡◌, ◌∷◌, ◌++◌, [], true, length, map, IfOk, OnOk};
 ghost use Rattle.std.specs.List.{list_all};
 ghost use Rattle.wm_base.specs.Period.{overlaps};
 ghost use Rattle.wm_dml.specs.Changing.{all_overlap, row_key as key_of_row, row_period as period_of_row, replaced as replaced_of, replacing as replacing_of};
@@ -12,24 +12,27 @@ use std::alloc::Global;
 use wm_base::{Kind, Memory, Period, Row, Values};
 use wm_spec::record::Table;
 
-/// The row in the place of the old one of its key, over what the period of that one shares with that of the session.
-fn replaced(
+/// The row in the place of the old one of its key, over what the period of that one shares with that of the session,
+/// behind others.
+fn push_replaced(
     alloc: Global,
+    changes: &mut Vec<RowChange>,
     table: &Table,
     within: &Period,
     old: &Row,
     row: Values,
-) -> Result<RowChange, Memory>
+) -> Result<(), Memory>
     requires { overlaps (period_of_row table.now old.now) within.now ≡ true }
-    ensures { IfOk result (λ change. change ≡ replaced_of table.now within.now old.now row) }
+    ensures { OnOk result (changes.new.items ≡ changes.old.items ++ replaced_of table.now within.now old.now row ∷ []) }
 {
     let period = row_period(table, old);
-    Ok(RowChange {
+    changes.push(RowChange {
         key: row_key(alloc, table, row.as_slice())?,
         period: shared(&period, within),
         row: Some(row),
         kind: Kind::Update,
-    })
+    })?;
+    Ok(())
 }
 
 /// Each row in the place of the old one that stands where it stands, in order.
@@ -45,7 +48,7 @@ fn all_replaced(
 {
     let mut changes = Vec::new(alloc);
     for (old, row) in olds.iter().zip(rows) {
-        changes.push(replaced(alloc, table, within, old, row)?)?;
+        push_replaced(alloc, &mut changes, table, within, old, row)?;
     }
     Ok(changes)
 }

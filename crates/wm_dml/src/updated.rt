@@ -122,18 +122,19 @@ fn set_values(
 fn all_updated(
     alloc: Global,
     table: &Table,
+    columns: &Columns,
     sets: &[Set],
     rows: &[Row],
 ) -> Result<Vec<Values>, ValueFault>
-    requires { list_all (λ (s : SetTree). has_no_empty_period s.becomes) (sets_view sets.now) ≡ true }
+    requires own { columns.now ≡ own_columns table.now }
+    requires lasting { list_all (λ (s : SetTree). has_no_empty_period s.becomes) (sets_view sets.now) ≡ true }
     ensures ok { IfOk result (λ made. rows_of table.now (sets_view sets.now) rows.now ≡ Some made.items) }
     ensures out_of_range { IsErrOf result ValueFault.OutOfRange → rows_of table.now (sets_view sets.now) rows.now ≡ None }
 {
-    let columns = columns_of_table(alloc, &table.name, table).map_err(|_| ValueFault::Memory)?;
     let declared = table.columns.as_slice();
     let mut made = Vec::new(alloc);
     for row in rows {
-        let one = set_values(alloc, &columns, sets, row, declared)?;
+        let one = set_values(alloc, columns, sets, row, declared)?;
         made.push(Values::from_vec(one))
             .map_err(|_| ValueFault::Memory)?;
     }
@@ -153,6 +154,9 @@ pub fn updated_rows(
     ensures out_of_range { IsErrOf result ValueFault.OutOfRange → rows_of table.now (sets_view sets.now) rows.now ≡ None }
     ensures as_many { IfOk result (λ made. length rows.now ≡ length made.items) }
 {
-    let made = all_updated(alloc, table, sets, rows)?;
+    let columns = columns_of_table(alloc, &table.name, table).map_err(|_| ValueFault::Memory)?;
+    let made = all_updated(alloc, table, &columns, sets, rows);
+    drop(columns);
+    let made = made?;
     Ok(made)
 }

@@ -1,4 +1,4 @@
-use Rattle.std.proofs.Common.{inl, inr, rules}
+use Rattle.std.proofs.Common.{inl, inr, refl, rules}
 use Rattle.wm_dml.proofs.Shifted.{moving_begins, moving_more, moving_ends, moving_stops}
 use Rattle.wm_dml.proofs.moving.all_moves.Goals as goal
 
@@ -7,7 +7,7 @@ loop-old-init c = moving_begins c.new-moves.ensures.items (search rules) (search
 
 pub loop-old-preserved : goal.loop-old-preserved
 loop-old-preserved c =
-    moving_more c.loop-old.invariant c.in-Some.ensures.steps.0 c.in-Some.ensures.steps.1.0 c.in-Some.ensures.steps.1.1 c.in_ok-move_of.ensures c.in_ok-push.ensures.items
+    moving_more c.loop-old.invariant c.in-Some.ensures.steps.0 c.in-Some.ensures.steps.1.0 c.in-Some.ensures.steps.1.1 refl c.in_ok-push_move.ensures
 
 pub returns : goal.returns
 returns c =
