@@ -9,8 +9,8 @@ ghost use Rattle.wm_dml.specs.Changing.{first_some, updated_rows, rows_fault as 
 ghost use Rattle.wm_dml.specs.Standing.{all_stand, MayReplace};
 
 use std::alloc::Global;
-use wm_base::{CellRefusal, Memory, Name, Refusal, Text, Value, Values};
-use wm_making::{first_heavy, first_lacking, is_light};
+use wm_base::{CellRefusal, Memory, Name, Refusal, Values};
+use wm_making::{first_lacking, heavy_part};
 use wm_spec::record::Table;
 
 /// The first column that lacks a value in one of the rows.
@@ -23,20 +23,6 @@ fn lacking<'a>(table: &'a Table, rows: &[Values]) -> Option<&'a Name>
         }
     }
     None
-}
-
-/// The first column whose value is too heavy, or ROW where all of them together are.
-fn heavy_part(alloc: Global, table: &Table, row: &[Value]) -> Result<Option<Name>, Memory>
-    ensures { IfOk result (λ part. part ≡ heavy_of table.now row.now) }
-{
-    if let Some(name) = first_heavy(table, row) {
-        return Ok(Some(name.copy(alloc)?));
-    }
-    if is_light(row) {
-        Ok(None)
-    } else {
-        Ok(Some(Text::copy_of(alloc, b"ROW")?))
-    }
 }
 
 /// The first such part of the rows.

@@ -302,13 +302,8 @@ row_stands t names xs row fine made light order keyed =
 
 -- ---- as it is found
 
-lighter : (n : ℕ) → nat_le n 2000 ≡ true → nat_lt 2000 n ≡ false
-lighter n light = grind (arith, nat_tests)
-
 -- a row in which nothing is found is not refused
-pub nothing_found : (t : Table) (row : List Value) → first_column (lacks_value t) 0 t.columns row ≡ None → first_column (is_heavy t) 0 t.columns row ≡ None → nat_le (weight row) 2000 ≡ true → row_fault t row ≡ None
+pub nothing_found : (t : Table) (row : List Value) → first_column (lacks_value t) 0 t.columns row ≡ None → heavy_part t row ≡ None → row_fault t row ≡ None
 unfolding row_fault
-nothing_found t row full short light =
-    ap (λ o. option_or (option_map null_in o) (option_map too_heavy (heavy_part t row))) full
-    ∙ ap (λ o. option_map too_heavy (option_or o (cond (nat_lt 2000 (weight row)) (Some (codes "ROW")) None))) short
-    ∙ ap (λ b. option_map too_heavy (cond b (Some (codes "ROW")) None)) (lighter (weight row) light)
+nothing_found t row full light =
+    ap (λ o. option_or (option_map null_in o) (option_map too_heavy (heavy_part t row))) full ∙ ap (λ o. option_map too_heavy o) light

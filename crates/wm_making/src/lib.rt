@@ -13,7 +13,7 @@ mod values;
 pub use insert::insert_fault;
 pub use names::names_fault;
 pub use period::{period_given, value_for_period};
-pub use row::{first_heavy, first_lacking, is_light, row_fault};
+pub use row::{first_lacking, heavy_part, row_fault};
 pub use shape::shape_fault;
 pub use table::table_of;
 pub use values::{row_of, stored};

@@ -3,7 +3,7 @@ ghost use Rattle.std.specs.Prelude.{◌≡◌, ℕ, List, Option, Some, None, tr
 ghost use Rattle.wm_base.specs.Trees.{Expr as Tree};
 ghost use Rattle.wm_graph.specs.Rules.{weight, has_key, is_table};
 ghost use Rattle.wm_spec.specs.Conditions.{is_null as null};
-ghost use Rattle.wm_making.specs.Rows.{is_key_at as key_at, first_column, lacks_value as lacks_a_value, is_long as long_in, is_heavy as heavy_in, row_fault as fault_of_row, row_of, MayStand};
+ghost use Rattle.wm_making.specs.Rows.{is_key_at as key_at, first_column, lacks_value as lacks_a_value, is_long as long_in, is_heavy as heavy_in, heavy_part as heavy_of, row_fault as fault_of_row, row_of, MayStand};
 ghost use Rattle.wm_making.specs.Inserting.{insert_fault};
 
 use std::alloc::Global;
@@ -74,7 +74,7 @@ pub fn first_lacking<'a>(table: &'a Table, row: &[Value]) -> Option<&'a Name>
 }
 
 /// The first column whose value is too heavy.
-pub fn first_heavy<'a>(table: &'a Table, row: &[Value]) -> Option<&'a Name>
+fn first_heavy<'a>(table: &'a Table, row: &[Value]) -> Option<&'a Name>
     ensures { option_copied result ≡ first_column (heavy_in table.now) 0 table.now.columns row.now }
 {
     for (place, column) in table.columns.as_slice().iter().enumerate() {
@@ -91,7 +91,7 @@ pub fn first_heavy<'a>(table: &'a Table, row: &[Value]) -> Option<&'a Name>
 }
 
 /// Whether the values weigh no more than a row may.
-pub fn is_light(row: &[Value]) -> bool
+fn is_light(row: &[Value]) -> bool
     ensures { result ≡ nat_le (weight row.now) HEAVIEST_ROW }
 {
     let mut left = HEAVIEST_ROW;
@@ -103,6 +103,20 @@ pub fn is_light(row: &[Value]) -> bool
         left -= weight;
     }
     true
+}
+
+/// The first column whose value is too heavy, or ROW where all of them together are.
+pub fn heavy_part(alloc: Global, table: &Table, row: &[Value]) -> Result<Option<Name>, Memory>
+    ensures { IfOk result (λ part. part ≡ heavy_of table.now row.now) }
+{
+    if let Some(name) = first_heavy(table, row) {
+        return Ok(Some(name.copy(alloc)?));
+    }
+    if is_light(row) {
+        Ok(None)
+    } else {
+        Ok(Some(Text::copy_of(alloc, b"ROW")?))
+    }
 }
 
 /// What a row of the table is refused for by its values: NULL where none may be, a text or a key that is too heavy, or
@@ -117,12 +131,8 @@ pub fn row_fault(alloc: Global, table: &Table, row: &[Value]) -> Result<Option<R
     if let Some(name) = first_lacking(table, row) {
         return Ok(Some(Refusal::Cell(CellRefusal::Wm061(name.copy(alloc)?))));
     }
-    if let Some(name) = first_heavy(table, row) {
-        return Ok(Some(Refusal::Cell(CellRefusal::Wm063(name.copy(alloc)?))));
+    match heavy_part(alloc, table, row)? {
+        Some(part) => Ok(Some(Refusal::Cell(CellRefusal::Wm063(part)))),
+        None => Ok(None),
     }
-    if !is_light(row) {
-        let name = Text::copy_of(alloc, b"ROW")?;
-        return Ok(Some(Refusal::Cell(CellRefusal::Wm063(name))));
-    }
-    Ok(None)
 }
