@@ -1,11 +1,15 @@
-ghost use Rattle.std.specs.Prelude.{◌≡◌, ◌≤◌, List, IfOk};
+ghost use Rattle.std.specs.Prelude.{◌≡◌, ℕ, ◌≤◌, ◌∷◌, [], List, IfOk};
+ghost use Rattle.wm_base.specs.Trees.{Expr as ExprTree, Statement as StatementTree};
 ghost use Rattle.wm_base.specs.Views.{expr_view, exprs_view, set_view, sets_view, statement_view, line_view};
+ghost use Rattle.wm_grammar.specs.Sorts as sorts;
+ghost use Rattle.wm_grammar.specs.Reading.{optional_at};
 ghost use Rattle.wm_grammar.specs.Symbols.{next_in};
 ghost use Rattle.wm_grammar.specs.OperandReaders.{plain_name_at, name_at};
 ghost use Rattle.wm_grammar.specs.ExpressionReaders.{expr_at};
 ghost use Rattle.wm_grammar.specs.QueryReaders.{next_at, list_of_at};
 ghost use Rattle.wm_grammar.specs.Statements.{also, is_key, keyed_by};
 ghost use Rattle.wm_grammar.specs.StatementReaders.{no_scale_at, size_at, precision_at, column_type_at, column_option_at, option_sorts, column_options_at, column_item_at, key_columns_at, create_item_at, next_item_at, create_items_at, create_at, name_list_at, insert_at, set_at, update_at, delete_at};
+ghost use Rattle.wm_statements.specs.Parts.{primary_key_at, never_null_at, key_list_at, row_at, row_of_at};
 ghost use Rattle.wm_terms.specs.Telling.{Told};
 
 use std::alloc::Global;
@@ -64,6 +68,24 @@ fn column_type(cursor: &mut Cursor) -> Result<ColumnType, ParseError>
     Ok(ColumnType::Time)
 }
 
+/// PRIMARY KEY, which is true.
+fn primary_key(cursor: &mut Cursor) -> Result<bool, ParseError>
+    ensures { Told (λ o. o) result cursor.new (primary_key_at cursor.old) }
+{
+    cursor.mark(Sort::Primary)?;
+    cursor.mark(Sort::Key)?;
+    Ok(true)
+}
+
+/// NOT NULL, which is false.
+fn never_null(cursor: &mut Cursor) -> Result<bool, ParseError>
+    ensures { Told (λ o. o) result cursor.new (never_null_at cursor.old) }
+{
+    cursor.mark(Sort::Not)?;
+    cursor.mark(Sort::Null)?;
+    Ok(false)
+}
+
 /// PRIMARY KEY, which is true, or NOT NULL, where each may be given once.
 #[tactic(auto, unfolding(wm_grammar::specs::StatementReaders::column_option_at))]
 fn column_option(cursor: &mut Cursor, primary: bool, not_null: bool) -> Result<bool, ParseError>
@@ -71,25 +93,13 @@ fn column_option(cursor: &mut Cursor, primary: bool, not_null: bool) -> Result<b
 {
     match (primary, not_null) {
         (true, true) => Err(cursor.fault()),
-        (false, true) => {
-            cursor.mark(Sort::Primary)?;
-            cursor.mark(Sort::Key)?;
-            Ok(true)
-        }
-        (true, false) => {
-            cursor.mark(Sort::Not)?;
-            cursor.mark(Sort::Null)?;
-            Ok(false)
-        }
+        (false, true) => primary_key(cursor),
+        (true, false) => never_null(cursor),
         (false, false) => {
             if cursor.is(Sort::Primary) {
-                cursor.mark(Sort::Primary)?;
-                cursor.mark(Sort::Key)?;
-                return Ok(true);
+                return primary_key(cursor);
             }
-            cursor.mark(Sort::Not)?;
-            cursor.mark(Sort::Null)?;
-            Ok(false)
+            never_null(cursor)
         }
     }
 }
@@ -137,6 +147,18 @@ fn plain_names(cursor: &mut Cursor, alloc: Global) -> Result<Vec<Name>, ParseErr
     Ok(list)
 }
 
+/// The columns of a key, for the item that is made of them.
+fn key_list(cursor: &mut Cursor, alloc: Global) -> Result<Names, ParseError>
+    ensures { (make : List (List ℕ) → CreateItem) → Told (λ n. make n) result cursor.new (key_list_at make cursor.old) }
+{
+    cursor.mark(Sort::Primary)?;
+    cursor.mark(Sort::Key)?;
+    cursor.mark(Sort::Open)?;
+    let list = plain_names(cursor, alloc)?;
+    cursor.mark(Sort::Close)?;
+    Ok(Names::from_vec(list))
+}
+
 /// The columns of a key, in a table that has none yet.
 #[tactic(auto, unfolding(wm_grammar::specs::StatementReaders::key_columns_at))]
 fn key_columns(
@@ -150,14 +172,10 @@ fn key_columns(
     if keyed {
         return Err(cursor.fault());
     }
-    cursor.mark(Sort::Primary)?;
-    cursor.mark(Sort::Key)?;
-    cursor.mark(Sort::Open)?;
-    let list = plain_names(cursor, alloc)?;
-    cursor.mark(Sort::Close)?;
+    let columns = key_list(cursor, alloc)?;
     Ok(CreateItem::Primary {
         constraint,
-        columns: Names::from_vec(list),
+        columns,
     })
 }
 
@@ -306,6 +324,45 @@ fn exprs(cursor: &mut Cursor, alloc: Global) -> Result<Exprs, ParseError>
     Ok(list)
 }
 
+/// The columns that are named, if any.
+fn named_columns(cursor: &mut Cursor, alloc: Global) -> Result<Option<Names>, ParseError>
+    ensures { Told (λ n. n) result cursor.new (optional_at (sorts.OPEN ∷ []) name_list_at cursor.old) }
+{
+    if cursor.is(Sort::Open) {
+        return Ok(Some(name_list(cursor, alloc)?));
+    }
+    Ok(None)
+}
+
+/// The values of a row, for the statement that is made of them.
+fn row(cursor: &mut Cursor, alloc: Global) -> Result<Exprs, ParseError>
+    ensures { (make : List ExprTree → StatementTree) → Told (λ v. make (exprs_view v.items)) result cursor.new (row_at make cursor.old) }
+{
+    cursor.mark(Sort::Values)?;
+    cursor.mark(Sort::Open)?;
+    let values = exprs(cursor, alloc)?;
+    match cursor.mark(Sort::Close) {
+        Ok(()) => Ok(values),
+        Err(fault) => {
+            drop(values);
+            Err(fault)
+        }
+    }
+}
+
+/// What stands behind the table of an INSERT. One function for all of it is long to prove.
+fn row_of(cursor: &mut Cursor, alloc: Global, table: Name) -> Result<Statement, ParseError>
+    ensures { Told statement_view result cursor.new (row_of_at table cursor.old) }
+{
+    let names = named_columns(cursor, alloc)?;
+    let values = row(cursor, alloc)?;
+    Ok(Statement::Insert {
+        table,
+        names,
+        values,
+    })
+}
+
 #[tactic(auto, unfolding(wm_grammar::specs::StatementReaders::insert_at))]
 pub fn insert(cursor: &mut Cursor, alloc: Global) -> Result<Statement, ParseError>
     ensures { Told statement_view result cursor.new (insert_at 64 cursor.old) }
@@ -313,19 +370,7 @@ pub fn insert(cursor: &mut Cursor, alloc: Global) -> Result<Statement, ParseErro
     cursor.mark(Sort::Insert)?;
     cursor.mark(Sort::Into)?;
     let table = cursor.name(alloc, Sort::Id)?;
-    let mut names = None;
-    if cursor.is(Sort::Open) {
-        names = Some(name_list(cursor, alloc)?);
-    }
-    cursor.mark(Sort::Values)?;
-    cursor.mark(Sort::Open)?;
-    let values = exprs(cursor, alloc)?;
-    cursor.mark(Sort::Close)?;
-    Ok(Statement::Insert {
-        table,
-        names,
-        values,
-    })
+    row_of(cursor, alloc, table)
 }
 
 #[tactic(auto, unfolding(wm_grammar::specs::StatementReaders::set_at))]
