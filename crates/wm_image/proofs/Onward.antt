@@ -1,6 +1,6 @@
 -- The way down a path, gone on from version to version.
-use Rattle.std.proofs.Common.{◌≡◌, ℕ, ◌<◌, ◌≤◌, ◌++◌, cond, nat_eq, List, [], ◌∷◌, None, refl, ap, ◌∙◌, subst, arith}
-use Rattle.std.specs.List.{AllByRecursion, list_any}
+use Rattle.std.proofs.Common.{◌≡◌, ℕ, ◌<◌, ◌≤◌, ◌++◌, cond, List, [], ◌∷◌, None, refl, ap, ◌∙◌, subst, arith}
+use Rattle.std.specs.List.{AllByRecursion}
 use Rattle.wm_graph.specs.Parts.{as_piece, parts_of}
 use Rattle.wm_image.proofs.Descending.{is_on}
 use Rattle.wm_image.proofs.Rising.{all_last, last_newest}

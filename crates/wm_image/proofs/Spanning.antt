@@ -30,7 +30,8 @@ earlier-twice : (from middle : ℕ) (ss : List Stretch) → earlier from (earlie
 earlier-twice from middle [] = refl
 earlier-twice from middle (s ∷ ss) = refl
 
--- what a function makes of pieces: the stretches; where the row of the first began earlier, with the first of them beginning there
+-- what a function makes of pieces: the stretches; where the row of the first began earlier, with the first of them
+-- beginning there
 record Makes (ps : List Piece) : Type 0 where
   whole : stretches_on ps ≡ spans ps
   begun : (from : ℕ) → StandsFirst ps → stretches_from from ps ≡ earlier from (spans ps)

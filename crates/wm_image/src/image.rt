@@ -34,7 +34,7 @@ use crate::children::{Behind, any_behind, least_child};
 use crate::hops::{Hop, Hops};
 use crate::laying::lay_key;
 use crate::load::{ImageFault, put_with_catalog, sorted};
-use crate::records::apply_all;
+use crate::records::{apply_all, clear_all};
 use crate::shown::latest_of;
 use crate::tables::{after_last, catalog_of};
 use std::alloc::Global;
@@ -487,10 +487,13 @@ impl Image {
             batch.changes,
         );
         if made.is_err() {
-            self.kept = BTreeMap::new(alloc);
-            self.index = Index::new(alloc);
-            self.hops = Hops::new(alloc);
-            self.catalog = Catalog::new(alloc);
+            clear_all(
+                alloc,
+                &mut self.kept,
+                &mut self.index,
+                &mut self.hops,
+                &mut self.catalog,
+            );
         }
         made
     }

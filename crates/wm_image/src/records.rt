@@ -1,7 +1,7 @@
 //! Records under their ids, with the index of them, changed one by one and by batches.
 
-ghost use Rattle.std.specs.Prelude.{◌≡◌, ℕ, false, IfOk, OnOk};
-ghost use Rattle.std.specs.BTreeMap.{BTreeMap, IsOrdered};
+ghost use Rattle.std.specs.Prelude.{◌≡◌, ℕ, [], false, IfOk, OnOk};
+ghost use Rattle.std.specs.BTreeMap.{BTreeMap as Map, IsOrdered};
 ghost use Rattle.std.specs.Ordering.{nat_cmp};
 ghost use Rattle.wm_graph.specs.Parts.{parts_of};
 ghost use Rattle.wm_state.specs.ById.{applied, set_at};
@@ -13,6 +13,8 @@ ghost use Rattle.wm_spec.specs.declared.record.Record.{Record as OneRecord};
 use crate::hops::Hops;
 use crate::tables::catalog_of;
 use std::alloc::Global;
+use std::collections::BTreeMap;
+use std::mem::replace;
 use wm_base::Memory;
 use wm_catalog::Catalog;
 use wm_index::index::Index;
@@ -48,7 +50,7 @@ fn reindex(
     becomes: &Option<Record>,
 ) -> Result<bool, Memory>
     requires { IsIndexed kept.now index.old }
-    ensures indexed { OnOk result ((next : BTreeMap ℕ OneRecord) → IsOrdered nat_cmp next → listed next.entries ≡ set_at id becomes.now (listed kept.now.entries) → IsIndexed next index.new) }
+    ensures indexed { OnOk result ((next : Map ℕ OneRecord) → IsOrdered nat_cmp next → listed next.entries ≡ set_at id becomes.now (listed kept.now.entries) → IsIndexed next index.new) }
     ensures tables { IfOk result (λ touched. touched ≡ false → (parts_of (set_at id becomes.now (listed kept.now.entries))).tables ≡ (parts_of (listed kept.now.entries)).tables) }
 {
     let stood = drop_old(alloc, kept, index, id)?;
@@ -149,4 +151,23 @@ pub fn apply_all(
         *catalog = catalog_of(alloc, kept, index)?;
     }
     Ok(())
+}
+
+/// Takes all records out, with all that is known of them.
+pub fn clear_all(
+    alloc: Global,
+    kept: &mut Kept,
+    index: &mut Index,
+    hops: &mut Hops,
+    catalog: &mut Catalog,
+)
+    ensures empty { listed kept.new.entries ≡ [] }
+    ensures indexed { IsIndexed kept.new index.new }
+    ensures hops { AreHops (parts_of (listed kept.new.entries)).versions hops.new }
+    ensures tables { IsCatalog (listed kept.new.entries) catalog.new }
+{
+    drop(replace(kept, BTreeMap::new(alloc)));
+    drop(replace(index, Index::new(alloc)));
+    drop(replace(hops, Hops::new(alloc)));
+    drop(replace(catalog, Catalog::new(alloc)));
 }

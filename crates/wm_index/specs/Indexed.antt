@@ -51,8 +51,8 @@ Drops old new id r = (q : Sought) → ids_at new q ≡ (if is_sought q r then wi
 abbrev pub listed : List (ℕ × Record) → List Stored
 listed entries = map (λ (e : ℕ × Record). let s : Stored = record { id = e.0; «record» = e.1 } in s) entries
 
--- the records stand by their ids, and the index has the ids of whatever is sought among them; of each key the versions rise that have
--- pieces of it, and so do the periods that are kept beside them, in which the cells of these pieces lie
+-- the records stand by their ids, and the index has the ids of whatever is sought among them; of each key the versions
+-- rise that have pieces of it, and so do the periods that are kept beside them, in which the cells of these pieces lie
 pub record IsIndexed (kept : BTreeMap ℕ Record) (x : Index) : Type 0 where
   pub ordered : IsOrdered nat_cmp kept
   pub told : (q : Sought) → ids_at x q ≡ ids_with (is_sought q) (listed kept.entries)

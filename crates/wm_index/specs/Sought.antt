@@ -16,12 +16,13 @@ use Rattle.wm_spec.specs.declared.record.Record.TheVariants as records
 use Rattle.wm_spec.specs.declared.record.stored.Stored.{Stored}
 use Rattle.wm_spec.specs.Records.{record_at}
 
--- counters; tables; workspaces; a workspace or a version by its number; a workspace's version of a number, or the versions under one;
--- the savepoints of a workspace, one by its making, those that keep a version, or those of workspaces with a number above 0 that see
--- a version under their workspace's own; workspaces with a number above 0 that were born from a version, or see it under their own; a
--- row by its stamp; the pieces of a version on a table and a key; the touches on a table and a key, or the marks; the pieces of a version; whatever is a workspace's own:
--- itself, its versions, savepoints, touches, locks, entries of its log, marks and turns; its marks alone; the touches of a workspace at a
--- position of its log, its turns of a number, or the entries of its log on a table
+-- counters; tables; workspaces; a workspace or a version by its number; a workspace's version of a number, or the
+-- versions under one; the savepoints of a workspace, one by its making, those that keep a version, or those of
+-- workspaces with a number above 0 that see a version under their workspace's own; workspaces with a number above 0
+-- that were born from a version, or see it under their own; a row by its stamp; the pieces of a version on a table and
+-- a key; the touches on a table and a key, or the marks; the pieces of a version; whatever is a workspace's own:
+-- itself, its versions, savepoints, touches, locks, entries of its log, marks and turns; its marks alone; the touches
+-- of a workspace at a position of its log, its turns of a number, or the entries of its log on a table
 pub data Sought : Type 0 where
   TheCounters : Sought
   Tables : Sought

@@ -105,7 +105,8 @@ meant_since s (Some (records.Touch x)) = by_tests (x.space == s.space) (nat_lt x
     by_tests false b c = refl
 meant_since s (Some _) = refl
 
--- those whose touch is meant, of the ids of the workspace's touches from the position on, are the ids of all that are meant
+-- those whose touch is meant, of the ids of the workspace's touches from the position on, are the ids of all that are
+-- meant
 pub meant_kept : (s : Since) (ss : List Stored) (found kept : List ℕ)
     → ((id : ℕ) → list_any (λ k. k == id) found ≡ passes_at (is_touch_since s.space s.from) ss id) → kept ≡ filter (passes_at (is_meant s) ss) found
     → (id : ℕ) → list_any (λ k. k == id) kept ≡ passes_at (is_meant s) ss id

@@ -10,7 +10,6 @@ use Rattle.wm_index.specs.declared.versioned.Versioned.{Versioned}
 use Rattle.wm_period.specs.Pieces.{held_at}
 use Rattle.wm_period.specs.declared.piece.Piece.{Piece}
 use Rattle.wm_spec.specs.declared.record.stored.Stored.{Stored}
-use Rattle.wm_spec.specs.declared.record.version.Version.{Version}
 use Rattle.wm_state.specs.Standing.{newest_first}
 use Rattle.wm_tree.specs.Versions.{path_in}
 use Rattle.wm_image.proofs.laying.lay_key.Goals as goal

@@ -1,4 +1,4 @@
-use Rattle.std.proofs.Common.{◌∙◌, nat_le, rules}
+use Rattle.std.proofs.Common.{nat_le, rules}
 use Rattle.std.proofs.lemmas.Fn.{always_returns_same}
 use Rattle.std.proofs.lemmas.List.Sorted.{IsPartitionedBy-leb}
 use Rattle.wm_image.proofs.Rising.{front_passes, in_order}
