@@ -59,8 +59,8 @@ pub fn lesser<'a>(one: Option<&'a Space>, other: Option<&'a Space>) -> Option<&'
     }
 }
 
-/// Of the children of the workspace among some that were born at the place or behind it, or with so much of its log, the
-/// one of the least number.
+/// Of the children of the workspace among some that were born at the place or behind it, or with so much of its log,
+/// the one of the least number.
 pub fn least_child<'a>(kept: &'a Kept, ids: &[u64], behind: Behind) -> Option<&'a Space>
     ensures { option_copied result ≡ least (is_child_from behind.space behind.place behind.log_length) (kind_at as_space (listed kept.now.entries) ids.now) }
 {

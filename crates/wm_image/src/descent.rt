@@ -9,8 +9,8 @@ ghost use Rattle.wm_tree.specs.Versions.{path_in};
 
 use crate::image::Image;
 
-/// A version further down the path of one that is newer than the sought, with all still before it that stand on the path
-/// and are not newer than the sought; 0 where the path ends.
+/// A version further down the path of one that is newer than the sought, with all still before it that stand on the
+/// path and are not newer than the sought; 0 where the path ends.
 fn step_down(image: &Image, number: u64, sought: u64) -> u64
     requires rules { keep_rules (parts_of image.now) ≡ true }
     requires newer { sought < number }
@@ -29,8 +29,8 @@ fn step_down(image: &Image, number: u64, sought: u64) -> u64
     }
 }
 
-/// The way down the path of a version to where it is not newer than another: that other itself where it stands on the path.
-/// What is older still stands on the path from there on, so the way to it can go on from there.
+/// The way down the path of a version to where it is not newer than another: that other itself where it stands on the
+/// path. What is older still stands on the path from there on, so the way to it can go on from there.
 pub fn descend(image: &Image, from: u64, version: u64) -> u64
     requires { keep_rules (parts_of image.now) ≡ true }
     ensures down { result ≤ version }

@@ -107,9 +107,9 @@ impl Hops {
         Ok(())
     }
 
-    /// The hops when what stands under an id changes: a version goes, or comes, or both. A version that comes in its own
-    /// place, as where a batch is applied to records that its front was applied to, is no change. A hop that passes over
-    /// one that goes is left, since by the rules the versions above that go with it.
+    /// The hops when what stands under an id changes: a version goes, or comes, or both. A version that comes in its
+    /// own place, as where a batch is applied to records that its front was applied to, is no change. A hop that passes
+    /// over one that goes is left, since by the rules the versions above that go with it.
     pub fn follow(&mut self, goes: Option<Version>, comes: Option<Version>) -> Result<(), Memory>
         ensures { OnOk result ((ss : List Stored) (id : ℕ) (becomes : Option Record) → Ascend ss → goes ≡ option_and_then as_version (record_at ss id) → comes ≡ option_and_then as_version becomes → AreHops (parts_of ss).versions self.old → AreHops (parts_of (set_at id becomes ss)).versions self.new) }
     {

@@ -59,8 +59,8 @@ use wm_spec::record::{
     Batch, Counters, Record, Records, RowRecord, Savepoint, Space, Table, Version,
 };
 
-/// All records of a store, in the order of their ids, with an index of them, the hops of the versions (the long steps down
-/// their paths) and a catalog of the tables.
+/// All records of a store, in the order of their ids, with an index of them, the hops of the versions (the long steps
+/// down their paths) and a catalog of the tables.
 #[derive(Drop)]
 pub struct Image {
     kept: Kept,
@@ -175,7 +175,7 @@ impl Image {
         table_of_number(&self.kept, self.index.tables.as_slice(), number)
     }
 
-    /// The id after the greatest of a record, 1 where there is none, or None where the greatest id that there is has a record.
+    /// The id after the greatest of a record, 1 where there is none; None where the greatest id of all has a record.
     pub fn next_id(&self) -> Option<u64>
         ensures above { IfSome result (λ next. (id : ℕ) → next ≤ id → record_at self.now id ≡ None) }
         ensures lowest { IfSome result (λ next. (id : ℕ) → next ≡ id + 1 → 0 < id → IsSome (record_at self.now id)) }
@@ -247,8 +247,8 @@ impl Image {
         number_after(last_key(&self.index.spaces))
     }
 
-    /// Of the children of a workspace that were born at a place of it from this one on, or whose copy of it has so much of
-    /// its log: the one of the least number.
+    /// Of the children of a workspace that were born at a place of it from this one on, or whose copy of it has so much
+    /// of its log: the one of the least number.
     pub fn child_from(&self, parent: u32, place: u64, log_length: u64) -> Option<&Space>
         requires { keep_rules (parts_of self.now) ≡ true }
         ensures { option_copied result ≡ first_recorded (is_child_from parent place log_length) (parts_of self.now).spaces }
@@ -292,11 +292,8 @@ impl Image {
             place: u64::from(place),
             log_length,
         };
-        any_behind(
-            &self.kept,
-            ids_of(&self.index.savepoints_of, &space),
-            behind,
-        )
+        let ids = ids_of(&self.index.savepoints_of, &space);
+        any_behind(&self.kept, ids, behind)
     }
 
     /// The making after the greatest of a savepoint, 1 where there is none.
@@ -411,8 +408,8 @@ impl Image {
         ids_of(&self.index.pieces_in, &version)
     }
 
-    /// The ids of the records of a workspace, in order: itself, its versions, savepoints, touches, locks, entries of its
-    /// log, marks and turns.
+    /// The ids of the records of a workspace, in order: itself, its versions, savepoints, touches, locks, entries of
+    /// its log, marks and turns.
     pub fn records_of(&self, space: u32) -> &[u64]
         ensures { result.now ≡ ids_with (is_sought (OwnedBy space)) self.now }
     {

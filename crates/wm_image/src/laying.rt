@@ -69,8 +69,8 @@ fn pieces_of(alloc: Global, found: Option<&Record>, version: u64) -> Result<Piec
     Ok(own)
 }
 
-/// What a version has by some pieces of one table and key. The two halves of them are laid over one another, each made so
-/// itself, so that of n pieces each is copied as often as n can be halved.
+/// What a version has by some pieces of one table and key. The two halves of them are laid over one another, each made
+/// so itself, so that of n pieces each is copied as often as n can be halved.
 fn lay_halves(alloc: Global, image: &Image, ids: &[u64], version: u64) -> Result<Pieces, Memory>
     ensures { IfOk result (λ own. (t : ℕ) → t < END → held_at own t ≡ first_held (kind_at as_piece image.now ids.now) version t) }
 {
@@ -126,7 +126,8 @@ fn covers_all(pieces: &Pieces, from: u64, till: u64) -> bool
     till <= covered_till(pieces.list(), from)
 }
 
-/// Lays the pieces that a version has of a key under others, where the version stands on the path of one that is not newer.
+/// Lays the pieces that a version has of a key under others, where the version stands on the path of one that is not
+/// newer.
 fn lay_entry(
     alloc: Global,
     image: &Image,
@@ -154,9 +155,9 @@ fn up_to(versions: &[Versioned], top: u64) -> &[Versioned]
     &versions[..count]
 }
 
-/// Lays the pieces of the versions on the path of `top` over one another, those of the newest uppermost, until they cover
-/// the period of the next version: it holds the periods of all older ones, so then nothing that is left shows. The path is
-/// gone down once, from each version to the next.
+/// Lays the pieces of the versions on the path of `top` over one another, those of the newest uppermost, until they
+/// cover the period of the next version: it holds the periods of all older ones, so then nothing that is left shows.
+/// The path is gone down once, from each version to the next.
 pub fn lay_key(
     alloc: Global,
     image: &Image,

@@ -175,7 +175,8 @@ impl Image {
         list_rows(alloc, self, &asked)
     }
 
-    /// What is shown of the rows of a key of a table that a version holds, by from. The rest of the table is not looked at.
+    /// What is shown of the rows of a key of a table that a version holds, by from. The rest of the table is not looked
+    /// at.
     pub fn showing_of_key(
         &self,
         alloc: Global,

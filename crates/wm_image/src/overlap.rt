@@ -87,8 +87,8 @@ fn push_spans(spans: &mut Vec<Period>, pieces: &[Piece]) -> Result<(), Memory>
     Ok(())
 }
 
-/// The periods over which the rows of a key stand, of those that a version holds. Only the pieces of that key are looked
-/// at.
+/// The periods over which the rows of a key stand, of those that a version holds. Only the pieces of that key are
+/// looked at.
 pub fn find_spans(
     alloc: Global,
     image: &Image,
@@ -122,8 +122,8 @@ impl Image {
         find_shared(alloc, self, version, table, key, period)
     }
 
-    /// The periods over which the rows of a key of a table stand, of those that a version holds, by from. The rest of the
-    /// table is not looked at.
+    /// The periods over which the rows of a key of a table stand, of those that a version holds, by from. The rest of
+    /// the table is not looked at.
     pub fn spans_of_key(
         &self,
         alloc: Global,

@@ -40,8 +40,8 @@ pub fn set(kept: &mut Kept, id: u64, becomes: Option<Record>) -> Result<(), Memo
     Ok(())
 }
 
-/// Makes the index that of the records that stand when one comes under an id, or none: the old one goes from it, the new
-/// one comes. Tells whether a table was or is there.
+/// Makes the index that of the records that stand when one comes under an id, or none: the old one goes from it, the
+/// new one comes. Tells whether a table was or is there.
 fn reindex(
     alloc: Global,
     kept: &Kept,
@@ -129,7 +129,8 @@ fn change_all(
     Ok(touched)
 }
 
-/// Makes the changes of a batch, one after another, and then the catalog anew where a table was or is under one of their ids.
+/// Makes the changes of a batch, one after another, and then the catalog anew where a table was or is under one of
+/// their ids.
 pub fn apply_all(
     alloc: Global,
     kept: &mut Kept,

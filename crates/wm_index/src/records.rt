@@ -34,7 +34,8 @@ pub fn first<'a>(kept: &'a Kept, ids: &[u64]) -> Option<&'a Record>
     }
 }
 
-/// The id after the greatest of a record, 1 where there is none, or None where the greatest id that there is has a record.
+/// The id after the greatest of a record, 1 where there is none, or None where the greatest id that there is has a
+/// record.
 pub fn next_id(kept: &Kept) -> Option<u64>
     ensures above { IfSome result (λ next. (id : ℕ) → next ≤ id → record_at (listed kept.now.entries) id ≡ None) }
     ensures lowest { IfSome result (λ next. (id : ℕ) → next ≡ id + 1 → 0 < id → IsSome (record_at (listed kept.now.entries) id)) }

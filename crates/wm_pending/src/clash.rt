@@ -180,8 +180,8 @@ fn push_conflicts(
     Ok(())
 }
 
-/// All stretches of a table on which a workspace and its parent are in conflict, by key and from. Only the keys of which
-/// the workspace has something of its own are looked at.
+/// All stretches of a table on which a workspace and its parent are in conflict, by key and from. Only the keys of
+/// which the workspace has something of its own are looked at.
 pub fn conflicts(
     alloc: Global,
     image: &Image,

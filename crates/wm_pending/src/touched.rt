@@ -21,8 +21,8 @@ use wm_image::laying::period_of;
 use wm_period::{Piece, Pieces};
 use wm_spec::record::{Record, Space, Trace};
 
-/// Which touches or marks are meant: those of a workspace that were made at a place below one, and whose position is one
-/// or behind it.
+/// Which touches or marks are meant: those of a workspace that were made at a place below one, and whose position is
+/// one or behind it.
 #[derive(Clone, Copy)]
 pub struct Since {
     pub space: u32,
