@@ -66,10 +66,12 @@ pub fn seat(alloc: Global, sessions: &mut Vec<Session>, seating: Seating) -> Res
     ensures { OnOk result (sessions.new.items ≡ seated sessions.old.items (seating_view seating)) }
 {
     match seating {
-        Seating::Stay => {}
-        Seating::Open(session) => sessions.push(session)?,
-        Seating::Close(name) => close(sessions, &name),
-        Seating::Set { name, setting } => alter(alloc, sessions, &name, &setting)?,
+        Seating::Stay => Ok(()),
+        Seating::Open(session) => Ok(sessions.push(session)?),
+        Seating::Close(name) => {
+            close(sessions, &name);
+            Ok(())
+        }
+        Seating::Set { name, setting } => alter(alloc, sessions, &name, &setting),
     }
-    Ok(())
 }

@@ -14,7 +14,7 @@ use wm_base::{Memory, Name, Period};
 use wm_decided::decision::{Decision, Resolve};
 
 /// Where a session stands in its workspace.
-#[derive(Clone, Copy, Debug, PartialEq)]
+#[derive(Clone, Copy)]
 pub enum Stand {
     /// At what is newest.
     Latest,
@@ -163,7 +163,7 @@ impl Session {
             Setting::Period(period) => self.period = *period,
             Setting::Conflict(workspace) => self.conflict = Some(workspace.copy(alloc)?),
             Setting::Begin(space) => self.resolve = Some(Resolve::new(alloc, *space)),
-            Setting::Decide(decisions) => self.decide(alloc, decisions.as_slice())?,
+            Setting::Decide(decisions) => return self.decide(alloc, decisions.as_slice()),
             Setting::End => self.resolve = None,
         }
         Ok(())
