@@ -1,5 +1,5 @@
 -- How the pages of a change, and the places of the ids in them, stand after each step.
-use Rattle.std.proofs.Common.{◌≡◌, ℕ, suc, ◌+◌, ◌<◌, ◌≤◌, max, ◌⊎◌, inl, inr, ⊎_elim, Bool, true, false, cond, not, eqb, List, [], ◌∷◌, ◌++◌, length, filter, Option, Some, None, is_some, unwrap_or, refl, sym, ap, subst, ◌∙◌, arith}
+use Rattle.std.proofs.Common.{◌≡◌, ℕ, suc, ◌+◌, ◌<◌, ◌≤◌, max, ◌⊎◌, inl, inr, ⊎_elim, Bool, true, false, cond, not, eqb, List, [], ◌∷◌, ◌++◌, length, filter, Option, Some, None, is_some, unwrap_or, Result, Ok, Err, OnOk, refl, sym, ap, subst, ◌∙◌, arith}
 use Rattle.std.specs.Option.{option_and_then}
 use Rattle.std.proofs.lemmas.Bool.{cases_lt, eqb-true}
 use Rattle.wm_base.proofs.Plain.{none_since}
@@ -8,7 +8,7 @@ use Rattle.wm_heap.specs.declared.heap.Heap.{Heap}
 use Rattle.wm_heap.specs.Slots.{used}
 use Rattle.wm_heap.specs.Content.{bytes_at, slots_in}
 use Rattle.wm_heap.specs.Places.{at, ids_on, ids_of, place_of, page_count, Once, IsPlaced}
-use Rattle.wm_heap.specs.Draft.{slots_now, bytes_now, HasRoom, IsThere, Stands, Puts, Grows, Goes, Done}
+use Rattle.wm_heap.specs.Draft.{slots_now, bytes_now, HasRoom, IsThere, Stands, Puts, Grows, Goes, Done, slots_with, place_with}
 use Rattle.wm_heap.proofs.Finding.{none_is, bytes_at-push, bytes_at-without, Once-push, Once-without}
 use Rattle.wm_heap.proofs.Upto.{away}
 
@@ -382,6 +382,17 @@ dropped old new was now held in_use in_file page id base stands here base_is put
     let moves = moves_out (slots_now was held) (page_count old) (place_of old) page id base stands.placed here base_is in
     let all = done old new was now held in_use in_file page id base None stands moves puts in
     subst (λ o. Done old new was now held in_use in_file id o) none all
+
+-- other bytes for an id on its page, or none
+pub changed_here : (old new : Heap) (was now : List (ℕ × List Slot)) (held : ℕ → List ℕ) (in_use in_file page id : ℕ) (base : List Slot) (what : Option (List ℕ)) → Stands old was held in_use in_file → place_of old id ≡ Some page → base ≡ filter (λ s. not (eqb s.id id)) (slots_now was held page)
+    → Puts page (slots_with base id what) id (place_with page what) old new was now → Done old new was now held in_use in_file id what
+changed_here old new was now held in_use in_file page id base None stands here base_is puts = dropped old new was now held in_use in_file page id base stands here base_is puts
+changed_here old new was now held in_use in_file page id base (Some bytes) stands here base_is puts = replaced old new was now held in_use in_file page id base bytes stands here base_is puts
+
+-- what follows from what holds where all went well
+pub then_ok : {T E : Type 0} (r : Result T E) (P Q : Type 0) → (P → Q) → OnOk r P → OnOk r Q
+then_ok (Ok x) P Q f p = f p
+then_ok (Err e) P Q f p = p
 
 -- nothing done
 pub nothing_goes : (heap : Heap) (was : List (ℕ × List Slot)) (id : ℕ) → HasRoom was → Goes heap heap was was id false

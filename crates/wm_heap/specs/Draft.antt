@@ -1,5 +1,5 @@
 -- A change of the heap on its way: the pages put so far lie over those that the store holds.
-use Rattle.std.specs.Prelude.{◌≡◌, ℕ, suc, ◌<◌, ◌≤◌, ◌⊎◌, max, Bool, true, false, ◌==◌, nat_lt, if◌then◌else◌, List, [], ◌∷◌, ◌++◌, map, length, Option, Some, is_some, unwrap_or}
+use Rattle.std.specs.Prelude.{◌≡◌, ℕ, suc, ◌<◌, ◌≤◌, ◌⊎◌, max, Bool, true, false, ◌==◌, nat_lt, if◌then◌else◌, List, [], ◌∷◌, ◌++◌, map, length, Option, Some, None, is_some, unwrap_or}
 use Rattle.std.specs.Option.{option_and_then}
 use Rattle.wm_heap.specs.declared.heap.Heap.{Heap}
 use Rattle.wm_heap.specs.declared.slot.Slot.{Slot}
@@ -29,6 +29,16 @@ pub record Stands (heap : Heap) (changed : List (ℕ × List Slot)) (held : ℕ 
   pub there : (p : ℕ) → 2 ≤ p → p < page_count heap → IsThere changed held in_use in_file p
   pub placed : IsPlaced (slots_now changed held) (page_count heap) (place_of heap)
   pub ids : (p : ℕ) → 2 ≤ p → p < page_count heap → ids_on heap.ids.items p ≡ ids_of (slots_now changed held p)
+
+-- the slots of a page, and behind them these bytes under an id, if any
+abbrev pub slots_with : List Slot → ℕ → Option (List ℕ) → List Slot
+slots_with slots id None = slots
+slots_with slots id (Some bytes) = slots ++ record { id = id; bytes = bytes } ∷ []
+
+-- the place of an id that has these bytes on a page, if any
+abbrev pub place_with : ℕ → Option (List ℕ) → Option ℕ
+place_with page None = None
+place_with page (Some bytes) = Some page
 
 -- the slots were put on a page, which may be a new one behind the last, and this is the place of an id now
 pub record Puts (page : ℕ) (slots : List Slot) (id : ℕ) (place : Option ℕ) (old new : Heap) (was now : List (ℕ × List Slot)) : Type 0 where

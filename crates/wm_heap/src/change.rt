@@ -1,9 +1,10 @@
 //! One change of a heap: what is under an id is put where there is room, or taken out.
-ghost use Rattle.std.specs.Prelude.{◌≡◌, ℕ, ◌+◌, ◌<◌, ◌≤◌, true, false, ◌||◌, ◌==◌, if◌then◌else◌, ◌++◌, ◌∷◌, [], length, Some, None, is_some, OnOk, IsErrOf, IfSome};
+ghost use Rattle.std.specs.Prelude.{◌≡◌, ℕ, ◌+◌, ◌<◌, ◌≤◌, true, false, ◌||◌, ◌==◌, if◌then◌else◌, ◌++◌, ◌∷◌, [], length, Some, None, is_some, IfOk, OnOk, IsErrOf, IfSome};
 ghost use Rattle.wm_base.specs.declared.fault.StoreFault.TheVariants as faults;
 ghost use Rattle.wm_page.specs.Cause.{StoreCause};
-ghost use Rattle.wm_heap.specs.Draft.{HasRoom, Stands, Puts, Goes, Done};
+ghost use Rattle.wm_heap.specs.Draft.{HasRoom, Stands, Puts, Goes, Done, slots_with, place_with};
 ghost use Rattle.wm_heap.specs.Places.{place_of, page_count};
+ghost use Rattle.wm_heap.specs.Slots.{used};
 
 use crate::blob::Blob;
 use crate::draft::{Changed, take_slots};
@@ -119,6 +120,35 @@ impl Heap {
         Ok(())
     }
 
+    /// Puts bytes under an id behind the slots of a page, which have none under it, where the page has room for them;
+    /// else nothing is under the id. Whether that is all of the change.
+    fn change_here(
+        &mut self,
+        alloc: Global,
+        changed: &mut Changed,
+        page: u64,
+        slots: Slots,
+        blob: &Blob,
+    ) -> Result<bool, Memory>
+        requires from { 2 ≤ page }
+        requires till { page ≤ page_count self.old }
+        requires fits { used slots ≤ 4096 }
+        ensures room { IfOk result (λ all. used (slots_with slots blob.now.id (if all then blob.now.bytes else None)) ≤ 4096) }
+        ensures puts { IfOk result (λ all. Puts page (slots_with slots blob.now.id (if all then blob.now.bytes else None)) blob.now.id (place_with page (if all then blob.now.bytes else None)) self.old self.new changed.old.entries changed.new.entries) }
+        ensures few { OnOk result (length changed.new.entries ≤ length changed.old.entries + 1) }
+    {
+        let Some(bytes) = &blob.bytes else {
+            self.take_out(alloc, changed, page, slots, blob.id)?;
+            return Ok(true);
+        };
+        if slots.fit_with(bytes.len()) {
+            self.put_behind(alloc, changed, page, slots, blob.id, bytes)?;
+            return Ok(true);
+        }
+        self.take_out(alloc, changed, page, slots, blob.id)?;
+        Ok(false)
+    }
+
     /// Puts or drops what is under an id of a page: on the same page where there is room.
     fn change_on<G: Pages>(
         &mut self,
@@ -148,17 +178,14 @@ impl Heap {
         }
         let found = take_slots(alloc, changed, pages, page)?;
         let slots = found.without(blob.id);
-        let Some(bytes) = &blob.bytes else {
-            self.take_out(alloc, changed, page, slots, blob.id)?;
-            return Ok(());
-        };
-        if slots.fit_with(bytes.len()) {
-            self.put_behind(alloc, changed, page, slots, blob.id, bytes)?;
+        let all = self.change_here(alloc, changed, page, slots, blob)?;
+        if all {
             return Ok(());
         }
-        self.take_out(alloc, changed, page, slots, blob.id)?;
-        self.add(alloc, changed, pages, blob.id, bytes)?;
-        Ok(())
+        let Some(bytes) = &blob.bytes else {
+            return Ok(());
+        };
+        self.add(alloc, changed, pages, blob.id, bytes)
     }
 
     /// Puts or drops what is under an id.

@@ -1,10 +1,10 @@
 //! How a heap is read from the pages of a store, or put on the first of them.
-ghost use Rattle.std.specs.Prelude.{◌≡◌, ℕ, ◌+◌, ◌-◌, ◌<◌, ◌≤◌, Bool, false, nat_lt, if◌then◌else◌, List, [], ◌∷◌, length, Some, None, is_some, IfOk, OnOk, IfErr, IsErrOf};
+ghost use Rattle.std.specs.Prelude.{◌≡◌, ℕ, ◌+◌, ◌-◌, ◌<◌, ◌≤◌, Bool, false, nat_lt, if◌then◌else◌, List, [], ◌∷◌, ◌++◌, length, Some, None, is_some, IfOk, OnOk, IfErr, IsErrOf};
 ghost use Rattle.wm_base.specs.declared.fault.OpenFault.TheVariants as faults;
 ghost use Rattle.wm_heap.specs.Asking.{Finds, FindsTwice};
 ghost use Rattle.wm_heap.specs.Content.{bytes_at, is_twice, damage_on, fault_of};
 ghost use Rattle.wm_heap.specs.Loading.{LoadsPage};
-ghost use Rattle.wm_heap.specs.Places.{at, IsHeapOf};
+ghost use Rattle.wm_heap.specs.Places.{at, ids_of, IsHeapOf};
 ghost use Rattle.wm_heap.specs.Slots.{slots_of, page_of, used};
 ghost use Rattle.wm_heap.specs.Blobs.{AreBlobs, slots_put};
 ghost use Rattle.wm_heap.specs.Plan.{root_of};
@@ -78,7 +78,28 @@ fn place_all(places: &mut Places, page: u64, slots: &[Slot]) -> Result<(), OpenF
     Ok(())
 }
 
-/// Keeps the ids of a page, the page of each, and how much room it has.
+/// Keeps the ids of the slots of a page, the page of each, and how much room it has.
+fn keep_slots(
+    alloc: Global,
+    places: &mut Places,
+    ids: &mut Vec<Ids>,
+    room: &mut Room,
+    page: u64,
+    slots: &Slots,
+) -> Result<(), OpenFault>
+    ensures ok { OnOk result (is_twice (λ id. is_some (at places.old.entries id)) slots.now ≡ false) }
+    ensures placed { OnOk result ((id : ℕ) → at places.new.entries id ≡ (if is_some (bytes_at slots.now id) then Some page else at places.old.entries id)) }
+    ensures ids { OnOk result (ids.new.items ≡ ids.old.items ++ ids_of slots.now ∷ []) }
+    ensures twice { IfErr result (λ e. FindsTwice e page (is_twice (λ id. is_some (at places.old.entries id)) slots.now)) }
+{
+    place_all(places, page, slots.as_slice())?;
+    ids.push(ids_of_slots(alloc, slots.as_slice())?)?;
+    room.prefer(page);
+    room.keep(page, slots.left())?;
+    Ok(())
+}
+
+/// Keeps what a page says of its ids and its room.
 fn load_page<G: Pages>(
     alloc: Global,
     places: &mut Places,
@@ -101,10 +122,9 @@ fn load_page<G: Pages>(
     ensures cause { OpenCause (G.faults pages.old) (G.faults pages.new) result }
 {
     let slots = load_slots(alloc, pages, page)?;
-    place_all(places, page, slots.as_slice())?;
-    ids.push(ids_of_slots(alloc, slots.as_slice())?)?;
-    room.prefer(page);
-    room.keep(page, slots.left())?;
+    let kept = keep_slots(alloc, places, ids, room, page, &slots);
+    drop(slots);
+    kept?;
     Ok(())
 }
 
