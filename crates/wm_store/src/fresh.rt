@@ -1,9 +1,20 @@
-//! The records of a store that was just made.
-ghost use Rattle.std.specs.Prelude.{◌≡◌, IfOk};
+//! The records of a store that was just made, and its heap.
+ghost use Rattle.std.specs.Prelude.{◌≡◌, ℕ, ◌≤◌, ◌∷◌, [], List, Some, None, IfOk, OnOk};
+ghost use Rattle.wm_page.specs.Batch.{entries};
+ghost use Rattle.wm_page.specs.Fields.{number_at};
+ghost use Rattle.wm_heap.specs.Blobs.{slots_put};
+ghost use Rattle.wm_heap.specs.Content.{fault_of};
+ghost use Rattle.wm_heap.specs.Places.{IsHeapOf};
+ghost use Rattle.wm_heap.specs.Plan.{root_of};
+ghost use Rattle.wm_heap.specs.Slots.{slots_of, page_of};
 ghost use Rattle.wm_store.specs.Fresh.{fresh_changes, live};
+ghost use Rattle.wm_store.specs.Spelled.{HaveSpellings, blobs_of};
 
+use crate::blobs::spell_changes;
 use std::alloc::Global;
 use wm_base::{Memory, Name};
+use wm_heap::Heap;
+use wm_page::PageBatch;
 use wm_spec::record::{Change, Changes, Counters, FreezeMode, Record, Space, Version};
 
 /// The workspace LIVE, with nothing in it.
@@ -31,7 +42,7 @@ fn live_space(alloc: Global) -> Result<Space, Memory>
 }
 
 /// What is put in a store that takes so many changes: counters, LIVE and its version.
-pub fn fresh(alloc: Global, limit: u32) -> Result<Changes, Memory>
+fn fresh(alloc: Global, limit: u32) -> Result<Changes, Memory>
     ensures { IfOk result (λ changes. changes ≡ fresh_changes limit) }
 {
     let counters = Counters {
@@ -61,4 +72,19 @@ pub fn fresh(alloc: Global, limit: u32) -> Result<Changes, Memory>
         becomes: Some(Record::Version(version)),
     })?;
     Ok(changes)
+}
+
+/// The heap of a store that takes so many changes, and its pages. No station is asked for them.
+pub fn fresh_heap(alloc: Global, limit: u32) -> Result<(Heap, PageBatch), Memory>
+    ensures spelled { OnOk result (HaveSpellings (fresh_changes limit)) }
+    ensures pages { IfOk result (λ r. entries r.1.pages ≡ (1, root_of 3) ∷ (2, page_of (slots_put (blobs_of (fresh_changes limit)))) ∷ []) }
+    ensures root { OnOk result (number_at (root_of 3) 0 ≡ 3) }
+    ensures again { OnOk result (slots_of (page_of (slots_put (blobs_of (fresh_changes limit)))) ≡ Some (slots_put (blobs_of (fresh_changes limit)))) }
+    ensures heap { IfOk result (λ r. (held : ℕ → List ℕ) → held 2 ≡ page_of (slots_put (blobs_of (fresh_changes limit))) → IsHeapOf r.0 held 3) }
+    ensures sound { OnOk result ((held : ℕ → List ℕ) (whole : ℕ) → held 2 ≡ page_of (slots_put (blobs_of (fresh_changes limit))) → 3 ≤ whole → fault_of held 3 whole ≡ None) }
+{
+    let changes = fresh(alloc, limit)?;
+    let blobs = spell_changes(alloc, changes.as_slice())?;
+    let (heap, pages) = Heap::first(alloc, &blobs)?;
+    Ok((heap, pages))
 }

@@ -1,31 +1,21 @@
-use Rattle.std.proofs.Common.{◌≤◌, sym, ap, subst, ◌∙◌, lit≤}
+use Rattle.std.proofs.Common.{◌≤◌, refl, sym, subst, ◌∙◌, lit≤}
 use Rattle.wm_page.specs.Batch.{entries}
 use Rattle.wm_station.specs.History.{now}
 use Rattle.wm_journal.specs.Disk.{page}
-use Rattle.wm_heap.specs.Blobs.{AreBlobs, slots_put}
+use Rattle.wm_heap.specs.Blobs.{slots_put}
 use Rattle.wm_heap.specs.Places.{IsHeapOf}
 use Rattle.wm_heap.specs.Plan.{root_of}
-use Rattle.wm_heap.specs.Slots.{used, page_of}
+use Rattle.wm_heap.specs.Slots.{page_of}
 use Rattle.wm_store.specs.Fresh.{fresh_changes, fresh_records}
-use Rattle.wm_store.specs.Spelled.{FitPages, HaveSpellings, blobs_of}
-use Rattle.wm_store.proofs.Committing.{blobs_once}
-use Rattle.wm_store.proofs.Freshly.{fresh_fit, fresh_once, fresh_room, made_opens, second_page}
+use Rattle.wm_store.specs.Spelled.{blobs_of}
+use Rattle.wm_store.proofs.Freshly.{made_opens, second_page}
 use Rattle.wm_store.proofs.Storing.{rests_hold, count_held}
 use Rattle.wm_store.proofs.store.Store.make.Goals as goal
-
-pub spell_changes-requires : goal.spell_changes-requires
-spell_changes-requires g c = subst FitPages (sym (c.as_slice.ensures ∙ c.in_ok-changes.ensures)) (fresh_fit c.args.limit)
-
-pub first-requires-clause-once : goal.first-requires-clause-once
-first-requires-clause-once g c = subst AreBlobs (sym (c.in_ok-blobs.ensures.blobs ∙ ap blobs_of (c.as_slice.ensures ∙ c.in_ok-changes.ensures))) (blobs_once (fresh_changes c.args.limit) (fresh_once c.args.limit))
-
-pub first-requires-clause-room : goal.first-requires-clause-room
-first-requires-clause-room g c = subst (λ b. used (slots_put b) ≤ 4096) (sym (c.in_ok-blobs.ensures.blobs ∙ ap blobs_of (c.as_slice.ensures ∙ c.in_ok-changes.ensures))) (fresh_room c.args.limit)
 
 pub returns-clause-held : goal.returns-clause-held
 returns-clause-held g c = λ t.
     rests_hold (g.P.Station.history c.make.new.station) c.in_ok-journal.journal (fresh_records c.args.limit) (c.in_ok-journal.ensures.rests t) (subst (λ n. 3 ≤ n) (sym c.in_ok-journal.ensures.count) (lit≤ tt))
-    (made_opens (g.P.Station.history c.make.new.station) c.in_ok-journal.journal c.in_ok-blobs.blobs (entries c.in_ok-heap.pages.pages) c.args.limit (subst HaveSpellings (c.as_slice.ensures ∙ c.in_ok-changes.ensures) c.in_ok-blobs.ensures.spelled) (c.in_ok-blobs.ensures.blobs ∙ ap blobs_of (c.as_slice.ensures ∙ c.in_ok-changes.ensures)) c.in_ok-heap.ensures.pages c.in_ok-heap.ensures.again c.in_ok-heap.ensures.sound (c.in_ok-journal.ensures.pages t) c.in_ok-journal.ensures.count)
+    (made_opens (g.P.Station.history c.make.new.station) c.in_ok-journal.journal (blobs_of (fresh_changes c.args.limit)) (entries c.in_ok-heap.pages.pages) c.args.limit c.in_ok-heap.ensures.spelled refl c.in_ok-heap.ensures.pages c.in_ok-heap.ensures.again c.in_ok-heap.ensures.sound (c.in_ok-journal.ensures.pages t) c.in_ok-journal.ensures.count)
 
 pub returns-clause-store : goal.returns-clause-store
 returns-clause-store g c = λ t. record {
@@ -33,11 +23,11 @@ returns-clause-store g c = λ t. record {
   heap =
       subst (λ n. IsHeapOf c.in_ok-heap.heap (page (now (g.P.Station.history c.make.new.station))) n) (sym c.in_ok-journal.ensures.count)
       (c.in_ok-heap.ensures.heap (page (now (g.P.Station.history c.make.new.station)))
-      (c.in_ok-journal.ensures.pages t 2 (lit≤ tt) (lit≤ tt) ∙ second_page (entries c.in_ok-heap.pages.pages) (root_of 3) (page_of (slots_put c.in_ok-blobs.blobs)) c.in_ok-heap.ensures.pages));
+      (c.in_ok-journal.ensures.pages t 2 (lit≤ tt) (lit≤ tt) ∙ second_page (entries c.in_ok-heap.pages.pages) (root_of 3) (page_of (slots_put (blobs_of (fresh_changes c.args.limit)))) c.in_ok-heap.ensures.pages));
   opens = (
     fresh_records c.args.limit,
     (rests_hold (g.P.Station.history c.make.new.station) c.in_ok-journal.journal (fresh_records c.args.limit) (c.in_ok-journal.ensures.rests t) (subst (λ n. 3 ≤ n) (sym c.in_ok-journal.ensures.count) (lit≤ tt))
-        (made_opens (g.P.Station.history c.make.new.station) c.in_ok-journal.journal c.in_ok-blobs.blobs (entries c.in_ok-heap.pages.pages) c.args.limit (subst HaveSpellings (c.as_slice.ensures ∙ c.in_ok-changes.ensures) c.in_ok-blobs.ensures.spelled) (c.in_ok-blobs.ensures.blobs ∙ ap blobs_of (c.as_slice.ensures ∙ c.in_ok-changes.ensures)) c.in_ok-heap.ensures.pages c.in_ok-heap.ensures.again c.in_ok-heap.ensures.sound (c.in_ok-journal.ensures.pages t) c.in_ok-journal.ensures.count)).here.opens,
+        (made_opens (g.P.Station.history c.make.new.station) c.in_ok-journal.journal (blobs_of (fresh_changes c.args.limit)) (entries c.in_ok-heap.pages.pages) c.args.limit c.in_ok-heap.ensures.spelled refl c.in_ok-heap.ensures.pages c.in_ok-heap.ensures.again c.in_ok-heap.ensures.sound (c.in_ok-journal.ensures.pages t) c.in_ok-journal.ensures.count)).here.opens,
   );
 }
 
