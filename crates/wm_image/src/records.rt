@@ -149,7 +149,8 @@ pub fn apply_all(
 {
     let touched = change_all(alloc, kept, index, hops, changes)?;
     if touched {
-        *catalog = catalog_of(alloc, kept, index)?;
+        let made = catalog_of(alloc, kept, index)?;
+        drop(replace(catalog, made));
     }
     Ok(())
 }
