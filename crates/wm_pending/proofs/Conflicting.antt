@@ -6,6 +6,7 @@ use Rattle.wm_net.proofs.Owing.{lists_all, lists_more}
 use Rattle.wm_net.specs.Conflicts.{Stamps, grouped, in_table, same_stamps}
 use Rattle.wm_net.specs.Groups.{Group, cell, has_group}
 use Rattle.wm_net.specs.Listed.{IsBlock, ListsGroups, Stretch}
+use Rattle.wm_spec.specs.Lists.{Cell}
 use Rattle.wm_spec.specs.declared.record.space.Space.{Space}
 use Rattle.wm_telling.specs.Telling.{AreOwn, clash_held, own_held}
 use Rattle.wm_pending.proofs.Chaining.{AreFirsts, Lists, first_alike, firsts_list, firsts_more}
@@ -20,6 +21,7 @@ use Rattle.wm_pending.specs.Walks.{IsNext, IsReady, left_in}
 use Rattle.wm_pending.specs.declared.clash.Asked.{Asked}
 use Rattle.wm_pending.specs.declared.clash.Conflict.{Conflict}
 use Rattle.wm_pending.specs.declared.own.OwnKey.{OwnKey}
+use Rattle.wm_pending.specs.declared.sides.Sides.{Sides}
 use Rattle.wm_pending.specs.declared.walk.Walk.{Walk}
 
 -- ---- one key
@@ -72,15 +74,22 @@ in_it : (p : Parts) (q : Asked) (k : OwnKey) (table t : ℕ) → k.table ≡ tab
 in_it p q k table t is = ap (λ b. cond b (asked_clash p q k t) None) (eq-eqb k.table table is)
 
 -- all of them
-pub walked_all : (p : Parts) (q : Asked) (k : OwnKey) (table : ℕ) (old now : List Conflict) (walk : Walk) → k.table ≡ table → Walked (asked_clash p q k) (group_own k) table old now walk
-    → ((t : ℕ) → walk.at ≤ t → contest_at (left_in walk) t ≡ None) → GainsBlock (asked_in p q table k) (group_own k) table old now
-walked_all p q k table old now walk is so none =
-    let list : Lists (asked_clash p q k) 0 so.stretches = firsts_list (asked_clash p q k) 0 so.stretches walk.at so.firsts (λ t le. sym (so.contests t le) ∙ none t le) in
-    record {
+pub walked_all : (f : ℕ → Option Stamps) (g : Group) (table : ℕ) (old now : List Conflict) (walk : Walk) → Walked f g table old now walk → ((t : ℕ) → walk.at ≤ t → contest_at (left_in walk) t ≡ None)
+    → GainsBlock (λ (c : Cell). f c.time) g table old now
+walked_all f g table old now walk so none =
+    let list : Lists f 0 so.stretches = firsts_list f 0 so.stretches walk.at so.firsts (λ t le. sym (so.contests t le) ∙ none t le) in
+    record { stretches = so.stretches; block = record { ordered = list.ordered; joined = list.joined; holds = λ t. list.holds t (omega arith) }; is = so.is }
+
+-- what the sides of a key tell is what is asked of it
+pub told_block : (p : Parts) (q : Asked) (k : OwnKey) (s : Sides) (table : ℕ) (old now : List Conflict) → k.table ≡ table → ((t : ℕ) → contest_at s t ≡ asked_clash p q k t)
+    → GainsBlock (λ (c : Cell). contest_at s c.time) (group_own k) k.table old now → GainsBlock (asked_in p q table k) (group_own k) table old now
+told_block p q k s table old now is told so =
+    subst (λ (n : ℕ). GainsBlock (asked_in p q n k) (group_own k) n old now) is
+    (record {
       stretches = so.stretches;
-      block = record { ordered = list.ordered; joined = list.joined; holds = λ t. list.holds t (omega arith) ∙ sym (in_it p q k table t is) };
+      block = record { ordered = so.block.ordered; joined = so.block.joined; holds = λ t. so.block.holds t ∙ told t ∙ sym (in_it p q k k.table t refl) };
       is = so.is;
-    }
+    })
 
 -- ---- all keys
 

@@ -13,12 +13,10 @@ use Rattle.wm_graph.specs.Rules.{are_cells, collide, differ, is_key_of, is_piece
 use Rattle.wm_index.proofs.Finding.{Tests, all_of, filter-kind}
 use Rattle.wm_image.proofs.Lists.{taken-with}
 use Rattle.wm_image.proofs.Walking.{stored_at-sought}
-use Rattle.wm_image.specs.Shown.{first_held, has_at}
+use Rattle.wm_image.specs.Shown.{first_held}
 use Rattle.wm_index.specs.Kinds.{kind_at}
 use Rattle.wm_index.specs.Sought.{PieceAt, PiecesIn, ids_with, is_sought}
-use Rattle.wm_period.specs.Pieces.{Held}
 use Rattle.wm_spec.specs.Lists.{Cell}
-use Rattle.wm_spec.specs.declared.record.Record.{Record}
 use Rattle.wm_spec.specs.declared.record.Record.TheVariants as records
 use Rattle.wm_spec.specs.declared.record.piece.PieceRecord.{PieceRecord}
 use Rattle.wm_spec.specs.declared.record.row.RowRecord.{RowRecord}

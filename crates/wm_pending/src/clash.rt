@@ -151,6 +151,27 @@ pub fn first_clash(
     Ok(None)
 }
 
+/// Adds the stretches of conflict of a key of own pieces, by what stands on its sides.
+fn push_stretches(
+    alloc: Global,
+    sides: &Sides,
+    own: &OwnKey,
+    found: &mut Vec<Conflict>,
+) -> Result<(), Memory>
+    ensures { OnOk result (GainsBlock (λ (c : Cell). contest_at sides.now c.time) (group_own own.now) own.now.table found.old.items found.new.items) }
+{
+    let mut walk = Walk::over(sides);
+    while let Some((contest, rest)) = walk.next_contest() {
+        found.push(Conflict {
+            key: own.key.copy(alloc)?,
+            period: contest.period,
+            stamps: contest.stamps,
+        })?;
+        walk = rest;
+    }
+    Ok(())
+}
+
 /// Adds the stretches of conflict of a key of own pieces, where that is of a table.
 fn push_conflicts(
     alloc: Global,
@@ -168,15 +189,9 @@ fn push_conflicts(
         return Ok(());
     }
     let sides = sides_of(alloc, image, asked, own)?;
-    let mut walk = Walk::over(&sides);
-    while let Some((contest, rest)) = walk.next_contest() {
-        found.push(Conflict {
-            key: own.key.copy(alloc)?,
-            period: contest.period,
-            stamps: contest.stamps,
-        })?;
-        walk = rest;
-    }
+    let said = push_stretches(alloc, &sides, own, found);
+    drop(sides);
+    said?;
     Ok(())
 }
 

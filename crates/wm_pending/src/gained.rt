@@ -79,6 +79,32 @@ fn gained_pieces(
     Ok(pieces)
 }
 
+/// What a workspace gains for a key of a table, with the key.
+fn gained_with_key(
+    alloc: Global,
+    image: &Image,
+    since: Since,
+    version: u64,
+    table: u16,
+    key: Key,
+    own: &[Piece],
+) -> Result<OwnKey, Memory>
+    requires { keep_rules (parts_of image.now) ≡ true }
+    ensures table { IfOk result (λ gain. gain.table ≡ table) }
+    ensures key { IfOk result (λ gain. gain.key ≡ key) }
+    ensures lie { IfOk result (λ gain. Between 0 gain.pieces END) }
+    ensures joined { IfOk result (λ gain. IsJoined gain.pieces) }
+    ensures holds { IfOk result (λ gain. (t : ℕ) → t < END → held_at gain.pieces t ≡ (if is_some (held_at own.now t) then None else (if is_touched (parts_of image.now).touches since (record { table = gain.table; key = gain.key; time = t }) then seen (parts_of image.now) version (record { table = gain.table; key = gain.key; time = t }) else None))) }
+{
+    match gained_pieces(alloc, image, since, version, table, &key, own) {
+        Ok(pieces) => Ok(OwnKey { table, key, pieces }),
+        Err(fault) => {
+            drop(key);
+            Err(fault)
+        }
+    }
+}
+
 /// What a workspace gains of its parent, by table, key and from: what the parent holds where it changed something since
 /// the workspace took its log, and the workspace has nothing of its own. Only keys that the parent touched since are
 /// looked at. Each entry keeps its row, its stamp and its kind, and takes the moment and the user of the line.
@@ -101,9 +127,10 @@ pub fn gained(
     let mut entries = Vec::new(alloc);
     for (table, key) in touched_keys(alloc, image, since)? {
         let others = own_on(own, table, &key);
-        let pieces = gained_pieces(alloc, image, since, version, table, &key, others)?;
-        let gain = OwnKey { table, key, pieces };
-        push_entries(alloc, image, &mut entries, &gain, moment, user)?;
+        let gain = gained_with_key(alloc, image, since, version, table, key, others)?;
+        let said = push_entries(alloc, image, &mut entries, &gain, moment, user);
+        drop(gain);
+        said?;
     }
     Ok(entries)
 }

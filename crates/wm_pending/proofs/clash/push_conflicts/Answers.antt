@@ -1,28 +1,10 @@
-use Rattle.std.proofs.Common.{◌≡◌, ap, ◌∙◌, arith}
+use Rattle.std.proofs.Common.{◌≡◌, arith}
 use Rattle.wm_graph.specs.Parts.{parts_of}
-use Rattle.wm_pending.proofs.Conflicting.{pair_made, walked_all, walked_more, walked_none}
-use Rattle.wm_pending.specs.Lookups.{group_own}
-use Rattle.wm_pending.specs.Sides.{asked_clash, contest_at}
-use Rattle.wm_pending.specs.Walks.{stretch_in}
-use Rattle.wm_pending.specs.declared.clash.Conflict.{Conflict}
-use Rattle.wm_pending.specs.declared.sides.Sides.{Sides}
+use Rattle.wm_pending.proofs.Conflicting.{told_block}
 use Rattle.wm_pending.proofs.clash.push_conflicts.Goals as goal
-
-pub loop-contest-init : goal.loop-contest-init
-loop-contest-init c =
-    walked_none (asked_clash (parts_of c.args.image.now) c.args.asked c.args.own.now) (group_own c.args.own.now) c.args.table c.args.found.now.items c.over-walk.result c.over-walk.ensures.ready
-    c.over-walk.ensures.begins (λ t. ap (λ (s : Sides). contest_at s t) c.over-walk.ensures.all ∙ c.in_ok-sides.ensures t)
-
-pub loop-contest-preserved : goal.loop-contest-preserved
-loop-contest-preserved c =
-    let table : c.args.own.now.table ≡ c.args.table = omega (arith, c.if-own-table.false) in
-    let conflict : Conflict = record { key = c.in_ok-copy.field-0; period = c.in-Some.contest.period; stamps = c.in-Some.contest.stamps } in
-    walked_more (asked_clash (parts_of c.args.image.now) c.args.asked c.args.own.now) (group_own c.args.own.now) c.args.table c.args.found.now.items c.loop-contest.found.items c.push.new.self.items
-    c.loop-contest.walk c.in-Some.rest conflict (stretch_in c.in-Some.contest) c.loop-contest.invariant c.in-Some.ensures.some
-    (pair_made c.args.own.now c.args.table conflict table c.in_ok-copy.ensures) c.in_ok-push.ensures.items
 
 pub returns : goal.returns
 returns c =
     let table : c.args.own.now.table ≡ c.args.table = omega (arith, c.if-own-table.false) in
-    walked_all (parts_of c.args.image.now) c.args.asked c.args.own.now c.args.table c.args.found.now.items c.loop-contest.found.items c.loop-contest.walk table c.loop-contest.invariant
-    c.in_default.ensures.none
+    told_block (parts_of c.args.image.now) c.args.asked c.args.own.now c.in_ok-sides.sides c.args.table c.args.found.now.items c.push_stretches-said.new.found.items table c.in_ok-sides.ensures
+    c.in_ok-said.ensures

@@ -1,4 +1,4 @@
-use Rattle.std.proofs.Common.{List, map, subst, sym, ap, ◌∙◌}
+use Rattle.std.proofs.Common.{◌≡◌, List, [], ◌∷◌, ◌++◌, map, subst, sym, ap, ◌∙◌}
 use Rattle.std.proofs.lemmas.List.{map-id}
 use Rattle.std.proofs.lemmas.Map.Iter.{iter_end}
 use Rattle.wm_graph.specs.Parts.{parts_of}
@@ -13,7 +13,7 @@ use Rattle.wm_pending.proofs.Gaining.{gain, gained_all, gained_more, key_gained}
 use Rattle.wm_pending.proofs.Keyed.{group_in}
 use Rattle.wm_pending.proofs.Looking.{groups_own}
 use Rattle.wm_pending.specs.Keys.{Place}
-use Rattle.wm_pending.specs.Lookups.{group_own}
+use Rattle.wm_pending.specs.Lookups.{group_own, pieces_on}
 use Rattle.wm_pending.specs.Touched.{is_touched}
 use Rattle.wm_pending.specs.declared.own.OwnKey.{OwnKey}
 use Rattle.wm_pending.proofs.gained.gained.Goals as goal
@@ -24,16 +24,21 @@ own_on-others-requires c = subst (λ (gs : List Group). GroupsAscend gs) (groups
 pub loop-table-preserved : goal.loop-table-preserved
 loop-table-preserved c =
     let p = parts_of c.args.image.now in
-    let k : OwnKey = record { table = c.in-Some.table; key = c.in-Some.key; pieces = c.in_ok-pieces.pieces } in
+    let k : OwnKey = c.in_ok-gain.gain in
     let s = c.of-since.result in
     let version = c.latest-version.result in
-    gained_more p c.args.moment c.args.user.now (gained_held p c.args.space.now c.args.parent.now) c.loop-table.yielded (map entry_of c.loop-table.entries.items) (map entry_of c.push_entries.new.entries.items) k
-    c.loop-table.invariant
-    (key_gained p c.args.space.now c.args.parent.now c.args.own.now k s version c.requires.rules c.requires.own c.of-since.ensures c.latest-version.ensures c.in_ok-pieces.ensures.lie c.in_ok-pieces.ensures.joined
+    let after = map entry_of c.push_entries-said.new.entries.items in
+    let place : (k.table, k.key) ≡ (c.in-Some.table, c.in-Some.key) = λ i. (c.in_ok-gain.ensures.table i, c.in_ok-gain.ensures.key i) in
+    let group : group_own k ≡ group_in (c.in-Some.table, c.in-Some.key) = λ i. record { table = c.in_ok-gain.ensures.table i; key = c.in_ok-gain.ensures.key i } in
+    subst
+    (λ (q : Place). ListsGroups same_held (replayed_by p c.args.moment c.args.user.now) (gained_held p c.args.space.now c.args.parent.now) (map group_in (c.loop-table.yielded ++ q ∷ [])) after) place
+    (gained_more p c.args.moment c.args.user.now (gained_held p c.args.space.now c.args.parent.now) c.loop-table.yielded (map entry_of c.loop-table.entries.items) after k c.loop-table.invariant
+    (key_gained p c.args.space.now c.args.parent.now c.args.own.now k s version c.requires.rules c.requires.own c.of-since.ensures c.latest-version.ensures c.in_ok-gain.ensures.lie c.in_ok-gain.ensures.joined
     (λ t less.
-    c.in_ok-pieces.ensures.holds t less
-    ∙ ap (λ (ps : List Piece). gain (held_at ps t) (is_touched p.touches s (cell (group_own k) t)) (seen p version (cell (group_own k) t))) c.own_on-others.ensures))
-    c.in_ok-push_entries.ensures
+    c.in_ok-gain.ensures.holds t less
+    ∙ ap (λ (ps : List Piece). gain (held_at ps t) (is_touched p.touches s (cell (group_own k) t)) (seen p version (cell (group_own k) t)))
+    (c.own_on-others.ensures ∙ ap (λ (g : Group). pieces_on g c.args.own.now) (sym group))))
+    c.in_ok-said.ensures)
 
 pub returns : goal.returns
 returns c =

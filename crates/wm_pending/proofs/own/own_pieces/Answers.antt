@@ -1,16 +1,19 @@
-use Rattle.std.proofs.Common.{List, [], ◌∷◌, ◌++◌, subst, sym, ◌∙◌}
+use Rattle.std.proofs.Common.{◌≡◌, List, [], ◌∷◌, ◌++◌, subst, sym, ◌∙◌}
 use Rattle.std.proofs.lemmas.List.{map-id}
 use Rattle.std.proofs.lemmas.Map.Iter.{iter_end}
 use Rattle.wm_graph.specs.Parts.{parts_of}
 use Rattle.wm_pending.proofs.Keyed.{Gathered, are_own, gathered_more}
 use Rattle.wm_pending.specs.Keys.{Place}
+use Rattle.wm_pending.specs.declared.own.OwnKey.{OwnKey}
 use Rattle.wm_pending.proofs.own.own_pieces.Goals as goal
 
 pub loop-table-preserved : goal.loop-table-preserved
 loop-table-preserved c =
-    subst (Gathered (parts_of c.args.image.now) c.args.space.now (c.loop-table.yielded ++ (c.in-Some.table, c.in-Some.key) ∷ [])) (sym c.in_ok-push.ensures.items)
-    (gathered_more (parts_of c.args.image.now) c.args.space.now c.loop-table.yielded c.loop-table.own.items (record { table = c.in-Some.table; key = c.in-Some.key; pieces = c.in_ok-pieces.pieces })
-    c.loop-table.invariant c.in_ok-pieces.ensures)
+    let one : OwnKey = c.in_ok-one.one in
+    let place : (one.table, one.key) ≡ (c.in-Some.table, c.in-Some.key) = λ i. (c.in_ok-one.ensures.table i, c.in_ok-one.ensures.key i) in
+    subst (λ (q : Place). Gathered (parts_of c.args.image.now) c.args.space.now (c.loop-table.yielded ++ q ∷ []) c.push.new.self.items) place
+    (subst (Gathered (parts_of c.args.image.now) c.args.space.now (c.loop-table.yielded ++ (one.table, one.key) ∷ [])) (sym c.in_ok-push.ensures.items)
+    (gathered_more (parts_of c.args.image.now) c.args.space.now c.loop-table.yielded c.loop-table.own.items one c.loop-table.invariant c.in_ok-one.ensures.holds))
 
 pub returns : goal.returns
 returns c =
