@@ -14,11 +14,10 @@ ghost use Rattle.wm_period.specs.Pieces.{Between, held_at};
 ghost use Rattle.wm_spec.specs.Lists.{Cell};
 ghost use Rattle.wm_telling.specs.Telling.{AreFamily, AreOwn, IsFirstClash, clash_held};
 
-use crate::erasing::erase_all;
 use crate::own::OwnKey;
 use crate::settled::erase_settled;
 use crate::sides::{SideStamps, Sides};
-use crate::touched::{Since, untouched};
+use crate::touched::{Since, erase_untouched};
 use crate::walk::{Contest, Walk};
 use std::alloc::Global;
 use wm_base::{Key, Memory, Period};
@@ -71,9 +70,8 @@ fn asked_about(image: &Image, space: &Space, parent: &Space) -> Asked
 fn contested(alloc: Global, image: &Image, asked: Asked, own: &OwnKey) -> Result<Pieces, Memory>
     ensures { IfOk result (λ pieces. (t : ℕ) → t < END → is_some (held_at pieces t) ≡ are_contested (parts_of image.now) asked own.now t) }
 {
-    let quiet = untouched(alloc, image, asked.since, own.table, &own.key)?;
     let mut pieces = own.pieces.copy(alloc)?;
-    erase_all(alloc, &mut pieces, quiet.list())?;
+    erase_untouched(alloc, image, &mut pieces, asked.since, own.table, &own.key)?;
     erase_settled(alloc, image, &mut pieces, asked.marks, asked.since, own)?;
     Ok(pieces)
 }

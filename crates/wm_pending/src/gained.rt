@@ -16,7 +16,7 @@ ghost use Rattle.wm_telling.specs.Telling.{AreFamily, AreOwn, IsHeldListing, gai
 use crate::entries::push_entries;
 use crate::erasing::erase_all;
 use crate::own::OwnKey;
-use crate::touched::{Since, touched_keys, untouched};
+use crate::touched::{Since, erase_untouched, touched_keys};
 use std::alloc::Global;
 use std::cmp::Ordering;
 use wm_base::{Key, Memory, Name};
@@ -70,9 +70,8 @@ fn gained_pieces(
     ensures joined { IfOk result (λ pieces. IsJoined pieces) }
     ensures holds { IfOk result (λ pieces. (t : ℕ) → t < END → held_at pieces t ≡ (if is_some (held_at own.now t) then None else (if is_touched (parts_of image.now).touches since (record { table = table; key = key.now; time = t }) then seen (parts_of image.now) version (record { table = table; key = key.now; time = t }) else None))) }
 {
-    let quiet = untouched(alloc, image, since, table, key)?;
     let mut pieces = image.shown(alloc, version, table, key)?;
-    erase_all(alloc, &mut pieces, quiet.list())?;
+    erase_untouched(alloc, image, &mut pieces, since, table, key)?;
     erase_all(alloc, &mut pieces, own)?;
     pieces.join_same_stamp();
     let _order = pieces.list();
@@ -124,8 +123,9 @@ pub fn gained(
 {
     let since = Since::of(space, parent);
     let version = image.latest(parent.number);
+    let keys = touched_keys(alloc, image, since)?;
     let mut entries = Vec::new(alloc);
-    for (table, key) in touched_keys(alloc, image, since)? {
+    for (table, key) in keys {
         let others = own_on(own, table, &key);
         let gain = gained_with_key(alloc, image, since, version, table, key, others)?;
         let said = push_entries(alloc, image, &mut entries, &gain, moment, user);

@@ -52,8 +52,9 @@ pub fn own_pieces(alloc: Global, image: &Image, space: &Space) -> Result<Vec<Own
     requires there { space_of (parts_of image.now).spaces space.now.number ≡ Some space.now }
     ensures { IfOk result (λ own. AreOwn (parts_of image.now) space.now (map key_pieces own.items)) }
 {
+    let keys = own_keys(alloc, image, space)?;
     let mut own = Vec::new(alloc);
-    for (table, key) in own_keys(alloc, image, space)? {
+    for (table, key) in keys {
         let one = own_with_key(alloc, image, space, table, key)?;
         own.push(one)?;
     }

@@ -1,6 +1,6 @@
 //! What a workspace touched since a position of its log.
 
-ghost use Rattle.std.specs.Prelude.{◌≡◌, ℕ, ◌<◌, ◌&&◌, ◌||◌, ◌==◌, not, false, is_some, IfOk, OnOk};
+ghost use Rattle.std.specs.Prelude.{◌≡◌, ℕ, ◌<◌, ◌&&◌, ◌||◌, ◌==◌, not, false, is_some, None, if◌then◌else◌, IfOk, OnOk};
 ghost use Rattle.std.specs.BTreeSet.{contains};
 ghost use Rattle.std.specs.List.{list_any};
 ghost use Rattle.std.specs.Option.{option_and_then, option_copied, option_map_or, option_to_list};
@@ -12,6 +12,7 @@ ghost use Rattle.wm_pending.specs.Keys.{Place, place_order};
 ghost use Rattle.wm_pending.specs.Touched.{covers_since, has_touch_of, has_touched, is_meant, is_since, is_touched, marks_since, passes_at, since_of, since_position};
 ghost use Rattle.wm_period.specs.Pieces.{held_at};
 
+use crate::erasing::erase_all;
 use crate::keys::TableKeys;
 use std::alloc::Global;
 use std::collections::BTreeSet;
@@ -184,7 +185,7 @@ pub fn over_period(alloc: Global, period: Period) -> Result<Pieces, Memory>
 }
 
 /// The periods of a key that no touch that is meant covers. What its pieces say means nothing.
-pub fn untouched(
+fn untouched(
     alloc: Global,
     image: &Image,
     since: Since,
@@ -196,4 +197,22 @@ pub fn untouched(
     let mut quiet = over_period(alloc, Period::always())?;
     erase_touched(alloc, image, &mut quiet, since, table, key)?;
     Ok(quiet)
+}
+
+/// Takes out of pieces of a key what they have where no touch that is meant covers it.
+pub fn erase_untouched(
+    alloc: Global,
+    image: &Image,
+    pieces: &mut Pieces,
+    since: Since,
+    table: u16,
+    key: &Key,
+) -> Result<(), Memory>
+    ensures { OnOk result ((t : ℕ) → t < END → held_at pieces.new t ≡ (if is_touched (parts_of image.now).touches since (record { table = table; key = key.now; time = t }) then held_at pieces.old t else None)) }
+{
+    let quiet = untouched(alloc, image, since, table, key)?;
+    let said = erase_all(alloc, pieces, quiet.list());
+    drop(quiet);
+    said?;
+    Ok(())
 }

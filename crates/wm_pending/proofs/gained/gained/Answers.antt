@@ -43,11 +43,11 @@ loop-table-preserved c =
 pub returns : goal.returns
 returns c =
     let p = parts_of c.args.image.now in
-    let keys = c.in_ok-items.items.keys in
+    let keys = c.in_ok-keys.keys.keys in
     let gives = c.into_iter-table-iterator.ensures.into_iter_gives in
     let all = iter_end (λ (q : Place). q) keys c.loop-table.yielded c.into_iter-table-iterator.result c.loop-table.table-iterator c.next.new.self c.next.result gives.0
     c.loop-table.yielded_by c.in-None.is c.next.ensures.steps in
-    gained_all p c.args.space.now c.args.parent.now c.args.moment c.args.user.now c.of-since.result keys (map entry_of c.loop-table.entries.items) c.of-since.ensures gives.4 c.in_ok-items.ensures
+    gained_all p c.args.space.now c.args.parent.now c.args.moment c.args.user.now c.of-since.result keys (map entry_of c.loop-table.entries.items) c.of-since.ensures gives.4 c.in_ok-keys.ensures
     (subst
     (λ (qs : List Place). ListsGroups same_held (replayed_by p c.args.moment c.args.user.now) (gained_held p c.args.space.now c.args.parent.now) (map group_in qs) (map entry_of c.loop-table.entries.items))
     (sym (map-id c.loop-table.yielded) ∙ all.0) c.loop-table.invariant)

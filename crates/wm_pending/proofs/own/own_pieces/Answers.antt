@@ -18,7 +18,7 @@ loop-table-preserved c =
 pub returns : goal.returns
 returns c =
     let gives = c.into_iter-table-iterator.ensures.into_iter_gives in
-    let all = iter_end (λ (q : Place). q) c.in_ok-items.items.keys c.loop-table.yielded c.into_iter-table-iterator.result c.loop-table.table-iterator c.next.new.self c.next.result gives.0
+    let all = iter_end (λ (q : Place). q) c.in_ok-keys.keys.keys c.loop-table.yielded c.into_iter-table-iterator.result c.loop-table.table-iterator c.next.new.self c.next.result gives.0
     c.loop-table.yielded_by c.in-None.is c.next.ensures.steps in
-    are_own (parts_of c.args.image.now) c.args.space.now c.in_ok-items.items.keys c.loop-table.own.items gives.4 c.in_ok-items.ensures
+    are_own (parts_of c.args.image.now) c.args.space.now c.in_ok-keys.keys.keys c.loop-table.own.items gives.4 c.in_ok-keys.ensures
     (subst (λ (qs : List Place). Gathered (parts_of c.args.image.now) c.args.space.now qs c.loop-table.own.items) (sym (map-id c.loop-table.yielded) ∙ all.0) c.loop-table.invariant)
